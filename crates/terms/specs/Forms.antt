@@ -1,0 +1,88 @@
+-- The forms of ids, names and other values.
+use Rattle.std.specs.Prelude.{◌≡◌, ◌≢◌, ◌≤◌, ◌+◌, ◌*◌, ◌-◌, ◌↔◌, ℕ, Bool, true, false, List, [], ◌∷◌, ◌++◌, length, reverse, All, AllPairs, Contains, slice_index, IsTrue, nat_lt, nat_le, ◌&&◌, ◌||◌, ◌==◌}
+use Rattle.terms.specs.declared.kinds.HoldKind.{HoldKind}
+use Rattle.terms.specs.declared.kinds.HoldKind.TheVariants.{Error, System, User}
+use Rattle.terms.specs.Types.{Text}
+
+-- A to Z, 0 to 9, and the characters of ids and names: these and $ # @
+abbrev pub is_letter : ℕ → Bool
+is_letter b = nat_le 65 b && nat_le b 90
+
+abbrev pub is_digit : ℕ → Bool
+is_digit b = nat_le 48 b && nat_le b 57
+
+abbrev pub is_id_byte : ℕ → Bool
+is_id_byte b = is_letter b || is_digit b || b == 36 || b == 35 || b == 64
+
+-- a character of a word: these and +
+abbrev pub is_word_byte : ℕ → Bool
+is_word_byte b = is_id_byte b || b == 43
+
+-- so many characters, each of which passes the test
+abbrev pub IsRun : (ℕ → Bool) → ℕ → ℕ → Text → Type 0
+IsRun test least most text = (least ≤ length text) × (length text ≤ most) × All (λ b. IsTrue (test b)) text
+
+abbrev pub IsId : Text → Type 0
+IsId text = IsRun is_id_byte 7 7 text
+
+abbrev pub IsClass : Text → Type 0
+IsClass text = IsRun is_id_byte 1 7 text
+
+-- an id where the hold is an ERROR hold
+abbrev pub IsReason : HoldKind → Text → Type 0
+IsReason Error text = IsId text
+IsReason System text = IsClass text
+IsReason User text = IsClass text
+
+abbrev pub IsSource : Text → Type 0
+IsSource text = IsRun is_id_byte 1 8 text
+
+-- one letter and three digits
+abbrev pub IsSrel : Text → Type 0
+IsSrel [] = ⊥
+IsSrel (b ∷ bs) = IsTrue (is_letter b) × IsRun is_digit 3 3 bs
+
+-- an element's or a library's name
+abbrev pub IsName : Text → Type 0
+IsName text = IsRun is_id_byte 1 8 text × (is_digit (slice_index text 0) ≡ false)
+
+abbrev pub IsZoneName : Text → Type 0
+IsZoneName text = IsRun is_id_byte 1 7 text × IsTrue (is_letter (slice_index text 0))
+
+-- the number that digits spell, behind a number that was read
+abbrev pub number_from : ℕ → Text → ℕ
+number_from n [] = n
+number_from n (b ∷ bs) = number_from (n * 10 + (b - 48)) bs
+
+abbrev pub number : Text → ℕ
+number text = number_from 0 text
+
+-- yyddd: two digits of a year, and a day from 001 to 366
+abbrev pub IsDate : Text → Type 0
+IsDate text = (year day : Text) × (text ≡ year ++ day) × IsRun is_digit 2 2 year × IsRun is_digit 3 3 day
+    × (1 ≤ number day) × (number day ≤ 366)
+
+abbrev pub AreBlanks : Text → Type 0
+AreBlanks text = All (λ b. b ≡ 32) text
+
+-- there is a first byte, and it is no blank
+abbrev pub BeginsDark : Text → Type 0
+BeginsDark [] = ⊥
+BeginsDark (b ∷ bs) = b ≢ 32
+
+-- the text with the blanks at both ends cut, one character or more
+abbrev pub IsTrimmed : Text → Text → Type 0
+IsTrimmed text cut = (left right : Text) × (text ≡ left ++ cut ++ right) × AreBlanks left × AreBlanks right
+    × BeginsDark cut × BeginsDark (reverse cut)
+
+-- the order of ids, names and reasons: by their bytes
+abbrev pub is_below : Text → Text → Bool
+is_below [] [] = false
+is_below [] (y ∷ ys) = true
+is_below (x ∷ xs) [] = false
+is_below (x ∷ xs) (y ∷ ys) = nat_lt x y || (x == y && is_below xs ys)
+
+-- the texts in rising order, each once
+pub record AreSorted (texts sorted : List Text) : Type 0 where
+  pub rising : AllPairs (λ a b. IsTrue (is_below a b)) sorted
+  pub same : (x : Text) → Contains texts x ↔ Contains sorted x

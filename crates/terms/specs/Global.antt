@@ -1,0 +1,165 @@
+-- What RECEIVE, its holds, releases and assignments, and REJECT do to the global zone.
+use Rattle.std.specs.Prelude.{◌≡◌, ◌≤◌, ◌<◌, ◌+◌, ◌^◌, ◌&&◌, ◌||◌, ◌==◌, nat_lt, Bool, false, not, List, [], ◌∷◌, ◌++◌, length, map, fold, filter, find, All, AllPairs, Option, None, Some, is_some, Result, Ok, Err, IsTrue, if◌then◌else◌}
+use Rattle.std.specs.List.{list_any, flat_map}
+use Rattle.std.specs.Option.{option_map_or}
+use Rattle.std.specs.Str.{bytes_eq}
+use Rattle.terms.specs.declared.kinds.HoldKind.{HoldKind}
+use Rattle.terms.specs.declared.kinds.HoldKind.TheVariants.{System}
+use Rattle.terms.specs.Types.{Text, Id, hold_number, Ver, Hold, Sysmod, Global, Release, NamedZone}
+use Rattle.terms.specs.Lookups.{IsRising, at_most_one, is_before, is_received, is_function, is_applied}
+use Rattle.terms.specs.Choice.{vers_of}
+use Rattle.terms.specs.Over.{Leads}
+
+-- what all its ++VERs for one SREL name in PRE, SUP and FMID
+abbrev pub names_for : Global → Text → Id → List Id
+names_for g srel x = flat_map (λ v. v.pre ++ v.sup ++ at_most_one v.fmid) (vers_of g srel x)
+
+-- In the ++VERs of some SREL a SYSMOD leads to itself. Loops of REQ are none of these.
+abbrev pub HasLoop : Global → Type 0
+HasLoop g = (srel : Text) × (x : Id) × (between : List Id) × Leads (names_for g srel) x between x
+
+-- whether it is received and no function
+abbrev pub is_service : Global → Id → Bool
+is_service g x = is_received g x && not (is_function g x)
+
+-- It supersedes no function, and names in DELETE, FMID and ++IF FMID only functions or what is not received.
+abbrev pub fits_roles : Global → Ver → Bool
+fits_roles g v =
+    not (list_any (is_function g) v.sup)
+    && not (list_any (is_service g) (v.del ++ at_most_one v.fmid ++ map (λ i. i.function) v.ifs))
+
+-- each received ++VER does
+abbrev pub RolesFit : Global → Type 0
+RolesFit g = All (λ s. All (λ v. IsTrue (fits_roles g v)) s.vers) g.sysmods
+
+-- the key of a hold: id, kind and reason
+abbrev pub has_key : Id → HoldKind → Text → Hold → Bool
+has_key x kind reason h = bytes_eq h.id x && (hold_number h.kind == hold_number kind) && bytes_eq h.reason reason
+
+-- whether a hold's kind and reason come before another's
+abbrev pub is_kind_before : Hold → Hold → Bool
+is_kind_before a b =
+    nat_lt (hold_number a.kind) (hold_number b.kind)
+    || ((hold_number a.kind == hold_number b.kind) && is_before a.reason b.reason)
+
+-- whether a hold comes before another by its key: id, then kind, then reason
+abbrev pub is_hold_before : Hold → Hold → Bool
+is_hold_before a b = is_before a.id b.id || (bytes_eq a.id b.id && is_kind_before a b)
+
+-- SYSMODs and holds are in order, none twice, there is no loop, and roles fit.
+-- An internal hold is a SYSTEM hold of a received SYSMOD.
+pub record IsGlobal (g : Global) : Type 0 where
+  pub sysmods : IsRising (map (λ s. s.id) g.sysmods)
+  pub holds : AllPairs (λ a b. IsTrue (is_hold_before a b)) g.holds
+  pub no_loop : ¬ HasLoop g
+  pub roles : RolesFit g
+  pub internal : All (λ h. IsTrue h.internal → (h.kind ≡ System) × IsTrue (is_received g h.id)) g.holds
+  pub none_carried : All (λ s. s.holds ≡ []) g.sysmods
+  pub size : length g.sysmods < 2 ^ 16
+
+abbrev pub hold_of : Global → Id → HoldKind → Text → Option Hold
+hold_of g x kind reason = find (has_key x kind reason) g.holds
+
+-- whether the key is there already, so that a hold on it is REPLACED and not HELD
+abbrev pub is_replacing : Global → Hold → Bool
+is_replacing g h = is_some (hold_of g h.id h.kind h.reason)
+
+-- The hold takes its place by its key. Where one was there it is replaced, and its mark as internal stays.
+abbrev pub hold : Global → Hold → Global
+hold g h =
+    let was : Bool = option_map_or (λ old. old.internal) (hold_of g h.id h.kind h.reason) false in
+    record g {
+      holds =
+          filter (λ o. is_hold_before o h) g.holds
+          ++ record h { internal = h.internal || was } ∷ []
+          ++ filter (λ o. is_hold_before h o) g.holds;
+    }
+
+-- Rl1: there is no such hold. Rl2: it is internal.
+pub data ReleaseFault : Type 0 where
+  Rl1 : ReleaseFault
+  Rl2 : ReleaseFault
+
+-- the global zone less the hold of this key
+abbrev pub without_hold : Global → Release → Global
+without_hold g r = record g { holds = filter (λ h. not (has_key r.id r.kind r.reason h)) g.holds }
+
+abbrev pub release_found : Global → Release → Option Hold → Result Global ReleaseFault
+release_found g r None = Err Rl1
+release_found g r (Some h) = if h.internal then Err Rl2 else Ok (without_hold g r)
+
+-- ++RELEASE takes a hold away that is not internal.
+abbrev pub release : Global → Release → Result Global ReleaseFault
+release g r = release_found g r (hold_of g r.id r.kind r.reason)
+
+-- the list with x at its place, once
+abbrev pub with_id : List Id → Id → List Id
+with_id xs x = filter (λ y. is_before y x) xs ++ x ∷ [] ++ filter (is_before x) xs
+
+-- a SYSMOD gains a source
+abbrev pub with_source : Text → Sysmod → Sysmod
+with_source source s = record s { sources = with_id s.sources source }
+
+-- ++ASSIGN gives a received SYSMOD the source; of an id that is not received it changes nothing.
+abbrev pub assign : Global → Text → Id → Global
+assign g source x =
+    record g { sysmods = map (λ s. if bytes_eq s.id x then with_source source s else s) g.sysmods }
+
+-- the SYSMOD at its place among the others, with its holds laid aside
+abbrev pub with_sysmod : Global → Sysmod → Global
+with_sysmod g s =
+    record g {
+      sysmods =
+          filter (λ r. is_before r.id s.id) g.sysmods
+          ++ record s { holds = [] } ∷ []
+          ++ filter (λ r. is_before s.id r.id) g.sysmods;
+    }
+
+-- Rc1: it is there already. Rc2: a loop. Rc3: a role does not fit. Rc4: there are 65,535 already.
+pub data ReceiveFault : Type 0 where
+  Rc1 : ReceiveFault
+  Rc2 : ReceiveFault
+  Rc3 : ReceiveFault
+  Rc4 : ReceiveFault
+
+-- the fault applies, whatever others do
+abbrev pub HasFault : Global → Sysmod → ReceiveFault → Type 0
+HasFault g s Rc1 = IsTrue (is_received g s.id)
+HasFault g s Rc2 = HasLoop (with_sysmod g s)
+HasFault g s Rc3 = ¬ RolesFit (with_sysmod g s)
+HasFault g s Rc4 = 2 ^ 16 ≤ length g.sysmods + 1
+
+-- It is the first fault that applies. RECEIVE refuses the SYSMOD with it.
+abbrev pub RefusedBy : Global → Sysmod → ReceiveFault → Type 0
+RefusedBy g s Rc1 = HasFault g s Rc1
+RefusedBy g s Rc2 = (¬ HasFault g s Rc1) × HasFault g s Rc2
+RefusedBy g s Rc3 = (¬ HasFault g s Rc1) × (¬ HasFault g s Rc2) × HasFault g s Rc3
+RefusedBy g s Rc4 = (¬ HasFault g s Rc1) × (¬ HasFault g s Rc2) × (¬ HasFault g s Rc3) × HasFault g s Rc4
+
+-- the global zone with the SYSMOD and its internal holds
+abbrev pub received : Global → Sysmod → Global
+received g s = fold hold (with_sysmod g s) s.holds
+
+-- what RECEIVE of one SYSMOD answers: the global zone with it where no fault applies, else the first
+abbrev pub Receives : Global → Sysmod → Result Global ReceiveFault → Type 0
+Receives g s (Ok new) = ((f : ReceiveFault) → ¬ HasFault g s f) × (new ≡ received g s)
+Receives g s (Err f) = RefusedBy g s f
+
+-- Rj1: some zone has it applied. Rj2: it is not received.
+pub data RejectFault : Type 0 where
+  Rj1 : RejectFault
+  Rj2 : RejectFault
+
+-- the global zone less the SYSMOD and the internal holds on it
+abbrev pub without_sysmod : Global → Id → Global
+without_sysmod g x = record g {
+  sysmods = filter (λ s. not (bytes_eq s.id x)) g.sysmods;
+  holds = filter (λ h. not (h.internal && bytes_eq h.id x)) g.holds;
+}
+
+-- REJECT takes a received SYSMOD out that no zone, of any SREL, has applied.
+abbrev pub reject : Global → List NamedZone → Id → Result Global RejectFault
+reject g zones x =
+    if not (is_received g x) then Err Rj2
+    else if list_any (λ z. is_applied z.zone x) zones then Err Rj1
+    else Ok (without_sysmod g x)

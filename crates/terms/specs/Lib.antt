@@ -1,0 +1,13 @@
+pub mod Types
+pub mod Lookups
+pub mod Choice
+pub mod Over
+pub mod Global
+pub mod Problem
+pub mod Causes
+pub mod Forms
+pub mod Records
+pub mod Groups
+pub mod Statement
+pub mod Words
+pub mod Texts

@@ -1,0 +1,118 @@
+-- Finding things in the global zone and in a zone, and what is supplied in a zone.
+use Rattle.std.specs.Prelude.{◌&&◌, ◌||◌, ◌==◌, nat_lt, IsTrue, All, AllPairs, ℕ, Bool, true, false, not, List, [], ◌∷◌, Option, None, Some, find, filter, map, is_some}
+use Rattle.std.specs.List.{list_any}
+use Rattle.std.specs.Option.{option_map_or, option_and_then}
+use Rattle.std.specs.Ordering.{is_lt, nat_cmp}
+use Rattle.std.specs.Cmp.Lexicographic.{slice_cmp}
+use Rattle.std.specs.Str.{bytes_eq}
+use Rattle.terms.specs.declared.kinds.ElemType.{ElemType}
+use Rattle.terms.specs.declared.kinds.HoldKind.{HoldKind}
+use Rattle.terms.specs.Types.{Text, Id, type_number, kind_number, hold_number, Hold, Change, Sysmod, Global, Entry, Element, Zone}
+
+abbrev pub is_nil : {X : Type 0} → List X → Bool
+is_nil [] = true
+is_nil (x ∷ xs) = false
+
+-- the value as a list
+abbrev pub at_most_one : {X : Type 0} → Option X → List X
+at_most_one None = []
+at_most_one (Some x) = x ∷ []
+
+-- whether the id stands in the list
+abbrev pub is_in : List Id → Id → Bool
+is_in xs x = list_any (bytes_eq x) xs
+
+-- whether some id stands in both lists
+abbrev pub meets : List Id → List Id → Bool
+meets xs ys = list_any (λ x. is_in ys x) xs
+
+-- whether x comes before y by its bytes
+abbrev pub is_before : List ℕ → List ℕ → Bool
+is_before x y = is_lt (slice_cmp nat_cmp x y)
+
+-- the ids rise by their bytes, none twice
+abbrev pub IsRising : List Id → Type 0
+IsRising xs = AllPairs (λ x y. IsTrue (is_before x y)) xs
+
+-- the received SYSMOD of this id
+abbrev pub sysmod_of : Global → Id → Option Sysmod
+sysmod_of g x = find (λ s. bytes_eq s.id x) g.sysmods
+
+abbrev pub is_received : Global → Id → Bool
+is_received g x = is_some (sysmod_of g x)
+
+-- whether it is a received function
+abbrev pub is_function : Global → Id → Bool
+is_function g x = option_map_or (λ s. kind_number s.kind == 0) (sysmod_of g x) false
+
+-- the element statements of a received SYSMOD
+abbrev pub changes_of : Global → Id → List Change
+changes_of g x = option_map_or (λ s. s.changes) (sysmod_of g x) []
+
+-- what it does to the element of this type and name
+abbrev pub change_of : Global → Id → ElemType → Text → Option Change
+change_of g x type name = find (λ h. (type_number h.elem_type == type_number type) && bytes_eq h.name name) (changes_of g x)
+
+-- whether it replaces or updates the element
+abbrev pub has_change : Global → Id → ElemType → Text → Bool
+has_change g x type name = is_some (change_of g x type name)
+
+-- the holds of one kind on an id, which need not be received
+abbrev pub holds_of : Global → HoldKind → Id → List Hold
+holds_of g kind x = filter (λ h. bytes_eq h.id x && (hold_number h.kind == hold_number kind)) g.holds
+
+-- An entry is there for a date, for SUPBY or for DELBY.
+abbrev pub is_held : Entry → Bool
+is_held e = is_some e.applied || not (is_nil e.supby) || is_some e.delby
+
+-- whether an element comes before another, by type and then by name
+abbrev pub is_element_before : Element → Element → Bool
+is_element_before a b =
+    nat_lt (type_number a.elem_type) (type_number b.elem_type)
+    || ((type_number a.elem_type == type_number b.elem_type) && is_before a.name b.name)
+
+-- entries and elements are in order, none twice, and no entry is empty
+pub record IsZone (zone : Zone) : Type 0 where
+  pub entries : IsRising (map (λ e. e.id) zone.entries)
+  pub held : All (λ e. IsTrue (is_held e)) zone.entries
+  pub elements : AllPairs (λ a b. IsTrue (is_element_before a b)) zone.elements
+
+-- the SYSMOD entry of this id
+abbrev pub entry_of : Zone → Id → Option Entry
+entry_of zone x = find (λ e. bytes_eq e.id x) zone.entries
+
+-- the element entry of this type and name
+abbrev pub element_of : Zone → ElemType → Text → Option Element
+element_of zone type name = find (λ e. (type_number e.elem_type == type_number type) && bytes_eq e.name name) zone.elements
+
+-- whether it is applied, in a distribution zone accepted. An id that is looked for as an FMID is supplied only so.
+abbrev pub is_applied : Zone → Id → Bool
+is_applied zone x = option_map_or (λ e. is_some e.applied) (entry_of zone x) false
+
+-- the date of APPLY or ACCEPT
+abbrev pub applied_of : Zone → Id → Option Text
+applied_of zone x = option_and_then (λ e. e.applied) (entry_of zone x)
+
+-- the applied SYSMODs that supersede it
+abbrev pub supby_of : Zone → Id → List Id
+supby_of zone x = option_map_or (λ e. e.supby) (entry_of zone x) []
+
+-- the function that deleted it
+abbrev pub delby_of : Zone → Id → Option Id
+delby_of zone x = option_and_then (λ e. e.delby) (entry_of zone x)
+
+-- the requisites of it that were bypassed
+abbrev pub waived_of : Zone → Id → List Id
+waived_of zone x = option_map_or (λ e. e.waived) (entry_of zone x) []
+
+-- An id is supplied if it is applied or superseded.
+abbrev pub is_supplied : Zone → Id → Bool
+is_supplied zone x = is_applied zone x || not (is_nil (supby_of zone x))
+
+-- The SYSMOD p supplies z: p is applied, and it is z or supersedes z.
+abbrev pub supplies : Zone → Id → Id → Bool
+supplies zone p z = is_applied zone p && (bytes_eq p z || is_in (supby_of zone z) p)
+
+-- the ids that are applied
+abbrev pub applied_ids : Zone → List Id
+applied_ids zone = map (λ e. e.id) (filter (λ e. is_some e.applied) zone.entries)

@@ -1,0 +1,7 @@
+//! The words of the subject: the plain data types that code and contracts share, and in `specs/`
+//! the definitions that contracts cite. It has no functions.
+#![tactic(auto)]
+
+mod kinds;
+
+pub use kinds::{ElemType, HoldKind, Kind, ZoneKind};
