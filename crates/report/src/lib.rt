@@ -1,0 +1,6 @@
+//! Reports, and the sinks that they are written to.
+#![tactic(auto)]
+
+mod sink;
+
+pub use sink::{Out, Sink, WriteFault, put, write_all};
