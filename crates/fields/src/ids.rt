@@ -2,6 +2,7 @@
 ghost use Rattle.std.specs.Prelude.{◌≡◌, ◌≤◌, ◌↔◌, length, IsTrue, IsSome, IfSome, All};
 ghost use Rattle.terms.specs.Forms.{is_id_byte, IsId, IsRun};
 
+use crate::lists::Field;
 use crate::padded::Short;
 use std::marker::Model;
 
@@ -35,6 +36,12 @@ impl Model for Id {
     ghost invariant = { λ a. IsId a.text };
 
     ghost inverse = { λ text. record { text = text } };
+}
+
+impl Field for Id {
+    ghost use Rattle.std.proofs.lemmas.Map.Lookups.{exact_bytes};
+
+    ghost exact = { exact_bytes };
 }
 
 impl Id {

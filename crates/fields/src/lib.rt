@@ -2,6 +2,11 @@
 #![tactic(auto)]
 
 mod ids;
+mod lists;
 mod padded;
 
 pub use ids::Id;
+pub use lists::{Field, Rising};
+
+/// Ids in rising order.
+pub type IdList = Rising<Id>;
