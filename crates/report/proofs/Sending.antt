@@ -67,3 +67,7 @@ sends-then a false b false c true xs ys s t = record {
   text_is = ap (λ y. xs ++ y) t.text_is ∙ sym (append_assoc xs t.piece t.lost);
   bytes = Appends-trans a b c xs t.piece s t.bytes;
 }
+
+-- the same text, written otherwise
+pub sends-as : (a : Option (List ℕ)) (f : Bool) (b : Option (List ℕ)) (g : Bool) (xs ys : List ℕ) → xs ≡ ys → Sends a f b g xs → Sends a f b g ys
+sends-as a f b g xs ys is s = subst (Sends a f b g) is s

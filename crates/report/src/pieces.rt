@@ -41,11 +41,10 @@ fn put_rest<W: Sink>(ids: &[Id], w: &mut W)
 pub(crate) fn put_list<W: Sink>(ids: &[Id], w: &mut W)
     ensures { Sends (W.taken w.old) (W.has_failed w.old) (W.taken w.new) (W.has_failed w.new) (list_text ids.now) }
 {
-    match ids.split_first() {
-        None => put(b"-", w),
-        Some((first, rest)) => {
-            put(first.as_bytes(), w);
-            put_rest(rest, w);
-        }
+    if ids.is_empty() {
+        put(b"-", w);
+        return;
     }
+    put(ids[0].as_bytes(), w);
+    put_rest(&ids[1..], w);
 }
