@@ -23,11 +23,14 @@ sending-start a false text = (refl, record { sent = []; text_is = refl; bytes = 
 pub sending-more : (a : Option (List ℕ)) (f : Bool) (b : Option (List ℕ)) (g : Bool) (c : Option (List ℕ)) (h : Bool) (text rest front back : List ℕ)
     → Sending a f b g text rest → rest ≡ front ++ back → g ≡ false → h ≡ false → Appends b c front → Sending a f c h text back
 sending-more a true b g c h text rest front back s rest_is before after grown = let is : true ≡ false = sym s.0 ∙ before in absurd (cc is)
-sending-more a false b g c h text rest front back s rest_is before after grown = (after, record {
-  sent = s.1.sent ++ front;
-  text_is = s.1.text_is ∙ ap (λ r. s.1.sent ++ r) rest_is ∙ sym (append_assoc s.1.sent front back);
-  bytes = Appends-trans a b c s.1.sent front s.1.bytes grown;
-})
+sending-more a false b g c h text rest front back s rest_is before after grown = (
+  after,
+  record {
+    sent = s.1.sent ++ front;
+    text_is = s.1.text_is ∙ ap (λ r. s.1.sent ++ r) rest_is ∙ sym (append_assoc s.1.sent front back);
+    bytes = Appends-trans a b c s.1.sent front s.1.bytes grown;
+  },
+)
 
 -- a failed write takes nothing, so a beginning went out
 pub sending-stop : (a : Option (List ℕ)) (f : Bool) (b : Option (List ℕ)) (g : Bool) (c : Option (List ℕ)) (h : Bool) (text rest : List ℕ)

@@ -6,9 +6,9 @@ ghost use Rattle.terms.specs.declared.kinds.Kind.{Kind};
 ghost use Rattle.terms.specs.declared.kinds.HoldKind.{HoldKind};
 ghost use Rattle.terms.specs.declared.kinds.ElemType.{ElemType};
 ghost use Rattle.terms.specs.declared.kinds.ZoneKind.{ZoneKind};
-ghost use Rattle.terms.specs.Spelling.{kind_text, hold_text, type_text, zone_kind_text, mc_text, cn_text, word_text, test_text, need_text};
+ghost use Rattle.terms.specs.Spelling.{kind_text, hold_text, type_text, zone_kind_text, mc_text, cn_text, word_text, test_text, need_text, refusal_text};
 
-use terms::{CnCode, CommandWord, ElemType, HoldKind, Kind, McCode, NeedKind, Test, ZoneKind};
+use terms::{CnCode, CommandWord, ElemType, HoldKind, IdRefusal, Kind, McCode, NeedKind, Test, ZoneKind};
 
 /// A SYSMOD's type, as it is spelled.
 pub fn kind_text(kind: Kind) -> &'static [u8]
@@ -192,5 +192,20 @@ pub fn need_text(need: NeedKind) -> &'static [u8]
         NeedKind::Orphan => b"ORPHAN",
         NeedKind::Elem => b"ELEM",
         NeedKind::Dep => b"DEP",
+    }
+}
+
+/// Why an id was refused, as it is spelled.
+pub fn refusal_text(refusal: IdRefusal) -> &'static [u8]
+    ensures { result.now ≡ refusal_text refusal }
+{
+    match refusal {
+        IdRefusal::Rc2 => b"Rc2",
+        IdRefusal::Rc3 => b"Rc3",
+        IdRefusal::Rc4 => b"Rc4",
+        IdRefusal::Rl1 => b"Rl1",
+        IdRefusal::Rl2 => b"Rl2",
+        IdRefusal::Rj1 => b"Rj1",
+        IdRefusal::Rj2 => b"Rj2",
     }
 }
