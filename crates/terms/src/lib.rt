@@ -5,5 +5,5 @@
 mod codes;
 mod kinds;
 
-pub use codes::{CnCode, CommandWord, McCode, NeedKind, Test};
+pub use codes::{CnCode, CommandWord, IdRefusal, McCode, NeedKind, Test};
 pub use kinds::{ElemType, HoldKind, Kind, ZoneKind};
