@@ -1,4 +1,5 @@
 pub mod Types
+pub mod Rising
 pub mod Lookups
 pub mod Choice
 pub mod Over
