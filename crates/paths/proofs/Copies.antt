@@ -7,11 +7,6 @@ use Rattle.std.proofs.lemmas.Result.{IfOk-weaker}
 use Rattle.terms.specs.Types.{Id}
 use Rattle.terms.specs.Lookups.{IsRising}
 
--- it has the items of the list, where a clone is its source
-pub copies : (IsClone : Id → Id → Type 0) → ((x y : Id) → IsClone x y → y ≡ x) → (xs : List Id) (r : Result (Vec Id Global) AllocError)
-    → IfOk r (λ v. ((x y : Id) → IsClone x y → y ≡ x) → v.items ≡ xs) → IfOk r (λ v. v.items ≡ xs)
-copies IsClone same xs r = IfOk-weaker r _ _ (λ v copied. copied same)
-
 -- it has what the list was before it was sorted
 pub copies_contain : (P : Id → Type 0) (keys sorted : List Id) → ((z : Id) → Contains keys z ↔ P z) → IsPermutation keys sorted
     → (r : Result (Vec Id Global) AllocError) → IfOk r (λ v. v.items ≡ sorted) → IfOk r (λ v. (z : Id) → Contains v.items z ↔ P z)
