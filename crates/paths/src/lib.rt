@@ -2,5 +2,7 @@
 #![tactic(auto)]
 
 mod search;
+#[cfg(test)]
+mod tests;
 
 pub use search::{Names, ends, leads};
