@@ -27,5 +27,5 @@ returns g c =
     let moved = c.sort_unstable.ensures.permutation in
     λ x. (
       λ h. Contains-permutation sorted items x (IsPermutation-sym items sorted moved) (Contains-from_dedup eq sorted x (rw is at h)),
-      λ h. rw is (Contains-dedup g.met.T.Eq.laws (λ a b e. g.met.T.Field.exact a b (Equal-from_is_eq (g.T.Ord.cmp a b) (sym (g.met.T.Ord.matches_eq a b) ∙ e))) sorted x (Contains-permutation items sorted x moved h))
+      λ h. rw is (Contains-dedup g.met.T.Eq.laws (λ a b e. g.met.T.Field.exact a b (Equal-from_is_eq (g.T.Ord.cmp a b) (sym (g.met.T.Ord.matches_eq a b) ∙ e))) sorted x (Contains-permutation items sorted x moved h)),
     )
