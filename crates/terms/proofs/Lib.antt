@@ -1,3 +1,4 @@
 pub mod Greatest
 pub mod Ids
 pub mod Texts
+pub mod Controls
