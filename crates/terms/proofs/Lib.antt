@@ -1,2 +1,4 @@
 pub mod Greatest
+pub mod Least
 pub mod Ids
+pub mod Rising
