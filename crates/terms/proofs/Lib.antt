@@ -1,4 +1,5 @@
 pub mod Greatest
+pub mod Least
 pub mod Ids
 pub mod Leads
 pub mod RisingLists
@@ -6,3 +7,4 @@ pub mod TextKeys
 pub mod Texts
 pub mod Controls
 pub mod Updates
+pub mod Rising

@@ -6,6 +6,7 @@ pub mod Over
 pub mod Global
 pub mod Problem
 pub mod Causes
+pub mod Least
 pub mod Forms
 pub mod Records
 pub mod Groups
