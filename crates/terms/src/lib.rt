@@ -2,8 +2,10 @@
 //! the definitions that contracts cite. It has no functions.
 #![tactic(auto)]
 
+mod codes;
 mod kinds;
 mod text_faults;
 
+pub use codes::{CnCode, CommandWord, McCode, NeedKind, Test};
 pub use kinds::{ElemType, HoldKind, Kind, ZoneKind};
 pub use text_faults::{TextCode, TextFault};
