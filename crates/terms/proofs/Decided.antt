@@ -1,5 +1,5 @@
 -- Whether one id leads to another is decided, where only the ids of a list name anything.
-use Rattle.std.proofs.Common.{◌≡◌, ◌≢◌, ◌⊎◌, inl, inr, ◌<◌, ℕ, zero, suc, Bool, true, false, Option, None, Some, List, [], ◌∷◌, ◌++◌, Contains, length, get_or, refl, sym, subst, ap, ◌∙◌, true≢false, arith}
+use Rattle.std.proofs.Common.{◌≡◌, ◌≢◌, ◌⊎◌, inl, inr, zero, suc, Bool, true, false, Option, None, Some, List, [], ◌∷◌, ◌++◌, Contains, refl, sym, subst, ◌∙◌, true≢false, arith}
 use Rattle.terms.specs.Types.{Id, Ver}
 use Rattle.std.specs.Option.{option_map_or, option_and_then}
 use Rattle.terms.specs.Lookups.{is_in, at_most_one}
