@@ -1,6 +1,6 @@
-//! Ids of SYSMODs and of sources.
+//! Ids of SYSMODs, source ids and classes of holds.
 ghost use Rattle.std.specs.Prelude.{◌≡◌, ◌↔◌, IsSome, IfSome};
-ghost use Rattle.terms.specs.Forms.{IsId, IsSource};
+ghost use Rattle.terms.specs.Forms.{IsId, IsSource, IsClass};
 
 use crate::forms::is_run;
 use crate::lists::Field;
@@ -94,6 +94,52 @@ impl Source {
     pub fn as_bytes(&self) -> &[u8]
         ensures same { result.now ≡ self.now }
         ensures form { IsSource result.now }
+    {
+        self.text.as_bytes()
+    }
+}
+
+/// The class of a hold. A contract sees it as its bytes.
+#[derive(Clone, Copy, Debug, PartialEq, Eq, PartialOrd, Ord, Hash)]
+pub struct Class {
+    text: Short<7>,
+}
+
+impl Model for Class {
+    ghost use Rattle.std.specs.Prelude.{ℕ, List};
+    ghost use Rattle.terms.specs.Forms.{IsClass};
+
+    ghost Value = { List ℕ };
+
+    ghost view = { λ a. a.text };
+
+    ghost invariant = { λ a. IsClass a.text };
+
+    ghost inverse = { λ text. record { text = text } };
+}
+
+impl Field for Class {
+    ghost use Rattle.std.proofs.lemmas.Map.Lookups.{exact_bytes};
+
+    ghost exact = { exact_bytes };
+}
+
+impl Class {
+    pub fn read(text: &[u8]) -> Option<Class>
+        ensures form { IsSome result ↔ IsClass text.now }
+        ensures same { IfSome result (λ read. read ≡ text.now) }
+    {
+        if !is_run(text, 1, 7) {
+            return None;
+        }
+        Some(Class {
+            text: Short::new(text),
+        })
+    }
+
+    pub fn as_bytes(&self) -> &[u8]
+        ensures same { result.now ≡ self.now }
+        ensures form { IsClass result.now }
     {
         self.text.as_bytes()
     }

@@ -10,8 +10,8 @@ mod names;
 mod padded;
 
 pub use dates::YyDdd;
-pub use holds::{Class, HoldDate, Reason};
-pub use ids::{Id, Source};
+pub use holds::{HoldDate, Reason};
+pub use ids::{Class, Id, Source};
 pub use lists::{Field, Rising};
 pub use names::{Name, Srel, ZoneName};
 
@@ -20,3 +20,6 @@ pub type IdList = Rising<Id>;
 
 /// Source ids in rising order.
 pub type SourceList = Rising<Source>;
+
+#[cfg(test)]
+mod tests;
