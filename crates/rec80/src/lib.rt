@@ -1,0 +1,12 @@
+//! Files of 80-byte records: their statements and commands, and the words of these, as slices of the file. Nothing here takes memory.
+#![tactic(auto)]
+
+mod errors;
+mod files;
+
+mod read;
+
+pub use errors::RecError;
+pub use files::{Record, Records};
+
+pub use read::records;
