@@ -3,10 +3,10 @@
 
 mod errors;
 mod files;
-
+mod groups;
 mod read;
 
 pub use errors::RecError;
 pub use files::{Record, Records};
-
+pub use groups::{Group, Groups, StartsOutside};
 pub use read::records;
