@@ -1,3 +1,4 @@
 pub mod Chunks
 pub mod Cuts
 pub mod GroupCuts
+pub mod Places

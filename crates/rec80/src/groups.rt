@@ -26,23 +26,23 @@ pub struct Groups<'a> {
     ghost room: { number + length rest.now < 2 ^ 64 },
 }
 
-fn is_first(record: &Record) -> bool
-    ensures { result ≡ begins_statement record.now }
+fn is_first(card: &Record) -> bool
+    ensures { result ≡ begins_statement card.now }
 {
-    record[0] == b'+' && record[1] == b'+'
+    card[0] == b'+' && card[1] == b'+'
 }
 
-fn is_later(record: &Record) -> bool
-    ensures { result ≡ not (begins_statement record.now) }
+fn is_later(card: &Record) -> bool
+    ensures { result ≡ not (begins_statement card.now) }
 {
-    !is_first(record)
+    !is_first(card)
 }
 
 /// How many records come before the next statement.
 fn later_len(records: &[Record]) -> usize
     ensures { result ≡ prefix_len (λ r. not (begins_statement r)) records.now }
 {
-    records.iter().take_while(|record| is_later(record)).count()
+    records.iter().take_while(|card| is_later(card)).count()
 }
 
 /// The first statement's records, and the rest.
@@ -62,7 +62,7 @@ impl<'a> Records<'a> {
         ensures ok { IfOk result (λ groups. (groups.number ≡ 1) × (groups.rest.now ≡ self.now.all.now)) }
         ensures outside { IsErr result ↔ IsTrue (starts_outside self.now.all.now) }
     {
-        if let Some(record) = self.all.first() && !is_first(record) {
+        if let Some(card) = self.all.first() && !is_first(card) {
             return Err(StartsOutside);
         }
         Ok(Groups { number: 1, rest: self.all })

@@ -1,12 +1,17 @@
 //! Files of 80-byte records: their statements and commands, and the words of these, as slices of the file. Nothing here takes memory.
 #![tactic(auto)]
 
+mod cursor;
 mod errors;
 mod files;
 mod groups;
 mod read;
+mod scan;
+mod text;
 
 pub use errors::RecError;
 pub use files::{Record, Records};
 pub use groups::{Group, Groups, StartsOutside};
 pub use read::records;
+pub use text::Text;
+pub use cursor::Cursor;

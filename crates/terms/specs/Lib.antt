@@ -10,4 +10,5 @@ pub mod Records
 pub mod Groups
 pub mod Statement
 pub mod Words
+pub mod CommandCuts
 pub mod Texts
