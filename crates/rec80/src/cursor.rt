@@ -1,4 +1,4 @@
-ghost use Rattle.std.specs.Prelude.{◌≡◌, ◌≤◌, ◌+◌, [], ◌∷◌, ◌++◌, length, take, MatchOption, IfSome};
+ghost use Rattle.std.specs.Prelude.{◌≡◌, ◌≤◌, ◌+◌, [], ◌∷◌, ◌++◌, true, false, length, take, MatchOption, IfSome};
 ghost use Rattle.terms.specs.Records.{front};
 ghost use Rattle.rec80.specs.Cursors.{rest_of, IsAhead, text_of};
 
@@ -30,6 +30,14 @@ impl<'a> Cursor<'a> {
         }
         let (card, later) = self.later.split_first()?;
         Some((b' ', Cursor { line: columns(card), later }))
+    }
+
+    /// Whether nothing follows.
+    pub fn is_end(&self) -> bool
+        ensures end { result ≡ true → rest_of self.now ≡ [] }
+        ensures more { result ≡ false → rest_of self.now ≡ [] → ⊥ }
+    {
+        self.next_byte().is_none()
     }
 
     /// The text of so many bytes from here on.

@@ -26,3 +26,19 @@ impl RecError {
         }
     }
 }
+
+/// What is wrong with the form of a statement or a command.
+#[derive(Clone, Copy, Debug, PartialEq, Eq, Error)]
+pub enum StmtError {
+    /// It ends without its period.
+    #[error("no period")]
+    NoPeriod,
+    #[error("a comment is not closed")]
+    OpenComment,
+    /// Parentheses do not pair, or nest deeper than two.
+    #[error("parentheses do not pair or nest too deep")]
+    BadParens,
+    /// In the record of the period more than blanks and comments follows it.
+    #[error("text after the period")]
+    TextAfterPeriod,
+}

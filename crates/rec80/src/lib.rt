@@ -5,13 +5,16 @@ mod cursor;
 mod errors;
 mod files;
 mod groups;
+mod piece;
 mod read;
 mod scan;
 mod text;
+mod walk;
 
-pub use errors::RecError;
+pub use errors::{RecError, StmtError};
 pub use files::{Record, Records};
 pub use groups::{Group, Groups, StartsOutside};
+pub use piece::Piece;
 pub use read::records;
 pub use text::Text;
 pub use cursor::Cursor;

@@ -1,3 +1,6 @@
 pub mod Greatest
 pub mod Ids
 pub mod Closings
+pub mod Gaps
+pub mod Pieces
+pub mod Lengths
