@@ -5,3 +5,6 @@ pub mod Places
 pub mod Cutting
 pub mod Walking
 pub mod Ending
+pub mod Reading
+pub mod Stating
+pub mod Commanding

@@ -7,7 +7,7 @@ use crate::text::Text;
 
 /// A place in columns 1 to 72 of records, between which one blank stands: what is left of a line, and the later records.
 #[derive(Clone, Copy, Debug)]
-pub struct Cursor<'a> {
+pub(crate) struct Cursor<'a> {
     pub line: &'a [u8],
     pub later: &'a [Record],
 }

@@ -4,3 +4,4 @@ pub mod Closings
 pub mod Gaps
 pub mod Pieces
 pub mod Lengths
+pub mod Solids

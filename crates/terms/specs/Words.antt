@@ -1,9 +1,9 @@
 -- The words of a statement or a command, and the members of their lists.
-use Rattle.std.specs.Prelude.{◌≡◌, ◌≤◌, ◌≢◌, ◌<◌, ℕ, List, [], ◌∷◌, ◌++◌, length, map, All, AllPairs, ◌⊎◌, Option, Some, None, take_while, slice_index}
+use Rattle.std.specs.Prelude.{◌≡◌, ◌≤◌, ◌≢◌, ◌<◌, ℕ, List, [], ◌∷◌, ◌++◌, length, map, All, AllPairs, ◌⊎◌, Option, Some, None}
 use Rattle.std.specs.List.{flat_map}
 use Rattle.terms.specs.Types.{Text}
-use Rattle.terms.specs.Statement.{Piece, TheWord, TheList, HasPieces, HasSolid, solid}
-use Rattle.terms.specs.Forms.{is_word_byte, AreBlanks}
+use Rattle.terms.specs.Statement.{Piece, TheWord, TheList}
+use Rattle.terms.specs.Forms.{AreBlanks}
 
 -- a word, and the text in the parentheses after it, if there are any
 pub record Word : Type 0 where
@@ -21,20 +21,22 @@ word_pieces w = TheWord w.word ∷ list_pieces w.list
 abbrev pub HasWords : List Piece → List Word → Type 0
 HasWords pieces words = pieces ≡ flat_map word_pieces words
 
--- Up to its first period the text has these words.
-abbrev pub SpellsWords : Text → List Word → Type 0
-SpellsWords text words = HasSolid text (flat_map word_pieces words)
+-- no list comes first
+abbrev pub BeginsNoList : List Piece → Type 0
+BeginsNoList [] = Unit {0}
+BeginsNoList (TheList list ∷ ps) = ⊥
+BeginsNoList (_ ∷ ps) = Unit {0}
 
--- The text begins with the word, with gaps round it and before its list. What follows is no list of it.
-pub record TakesWord (text : Text) (w : Word) (after : Text) : Type 0 where
-  pub pieces : List Piece
-  pub has_pieces : HasPieces text pieces after
-  pub pieces_are : solid pieces ≡ word_pieces w
-  pub ends : w.list ≡ None → slice_index after 0 ≢ 40
+-- The pieces begin with the word and its list. Where it has none, none follows.
+pub record TakesWord (pieces : List Piece) (w : Word) (rest : List Piece) : Type 0 where
+  pub pieces_are : pieces ≡ word_pieces w ++ rest
+  pub ends : w.list ≡ None → BeginsNoList rest
 
--- the first word of a text: its longest run of word characters, which may be empty
-abbrev pub first_word : Text → Text
-first_word text = take_while is_word_byte text
+-- They begin with no word: with a list, or with another character.
+abbrev pub BeginsNoWords : List Piece → Type 0
+BeginsNoWords [] = ⊥
+BeginsNoWords (TheWord word ∷ ps) = ⊥
+BeginsNoWords (_ ∷ ps) = Unit {0}
 
 -- a character of a list's member
 abbrev pub IsMemberByte : ℕ → Type 0
