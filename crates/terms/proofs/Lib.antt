@@ -12,3 +12,8 @@ pub mod Rising
 pub mod Numbered
 pub mod Eligible
 mod Examples
+pub mod Closings
+pub mod Gaps
+pub mod Pieces
+pub mod Lengths
+pub mod Solids

@@ -13,6 +13,7 @@ pub mod Records
 pub mod Groups
 pub mod Statement
 pub mod Words
+pub mod CommandCuts
 pub mod Texts
 pub mod Changes
 pub mod Deleted

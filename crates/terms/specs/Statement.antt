@@ -1,74 +1,107 @@
--- A statement in its records: pieces of text, the period that ends it, what stands after it, and its faults.
-use Rattle.std.specs.Prelude.{◌≡◌, ◌≢◌, ◌+◌, ◌-◌, ℕ, Bool, List, [], ◌∷◌, ◌++◌, map, All, ◌⊎◌, slice_index, if◌then◌else◌, IsTrue, nat_lt, ◌&&◌, ◌==◌}
-use Rattle.std.specs.List.{flat_map, join_with_byte}
+-- A statement in its records: the pieces of its text, the period that ends it, and its faults.
+use Rattle.std.specs.Prelude.{◌≡◌, ◌≢◌, ℕ, Bool, true, false, List, [], ◌∷◌, ◌++◌, length, drop, Option, Some, None, All, filter, not, ◌⊎◌, slice_index, if◌then◌else◌, IsTrue, ◌&&◌, ◌||◌, ◌==◌, ◌<◌}
+use Rattle.std.specs.List.{flat_map}
+use Rattle.terms.specs.Types.{Text}
 use Rattle.terms.specs.Records.{front}
+use Rattle.terms.specs.Forms.{is_word_byte}
+
+-- Columns 1 to 72 of the records, each behind one blank.
+abbrev pub followed : List (List ℕ) → Text
+followed records = flat_map (λ r. 32 ∷ front r) records
 
 -- Columns 1 to 72 of the records, with one blank between two records.
-abbrev pub joined : List (List ℕ) → List ℕ
-joined records = join_with_byte 32 (map front records)
+abbrev pub joined : List (List ℕ) → Text
+joined [] = []
+joined (r ∷ rs) = front r ++ followed rs
 
--- Text outside parentheses: a comment, parentheses with what is in them, or one byte.
+-- A part of a text outside parentheses: a word, parentheses with what is in them, a blank or a comma, a comment, or any other character.
 pub data Piece : Type 0 where
-  Comment : List ℕ → Piece
-  Parens : List ℕ → Piece
-  Byte : ℕ → Piece
+  TheWord : Text → Piece
+  TheList : Text → Piece
+  Blank : Piece
+  Comment : Piece
+  Stray : ℕ → Piece
 
-abbrev pub piece_text : Piece → List ℕ
-piece_text (Comment text) = 47 ∷ 42 ∷ text ++ 42 ∷ 47 ∷ []
-piece_text (Parens text) = 40 ∷ text ++ 41 ∷ []
-piece_text (Byte b) = b ∷ []
+-- a comma counts as a blank
+abbrev pub is_blank : ℕ → Bool
+is_blank b = b == 32 || b == 44
 
-abbrev pub pieces_text : List Piece → List ℕ
-pieces_text ps = flat_map piece_text ps
+-- a character that stands in no word and is no blank, parenthesis or period
+abbrev pub is_stray : ℕ → Bool
+is_stray b = not (is_word_byte b || is_blank b || b == 40 || b == 41 || b == 46)
 
--- no `*/` stands in the text
-abbrev pub HasNoClose : List ℕ → Type 0
-HasNoClose [] = Unit {0}
-HasNoClose (b ∷ bs) = (b ≡ 42 → slice_index bs 0 ≢ 47) × HasNoClose bs
+-- one word character or more
+abbrev pub IsWord : Text → Type 0
+IsWord text = (0 < length text) × All (λ b. IsTrue (is_word_byte b)) text
 
--- Whether each parenthesis in the text pairs, where so many stand open before it and at most one may.
-abbrev pub pairs : ℕ → List ℕ → Bool
-pairs depth [] = depth == 0
-pairs depth (b ∷ bs) =
-    if b == 40 then depth == 0 && pairs (depth + 1) bs
-    else if b == 41 then nat_lt 0 depth && pairs (depth - 1) bs
-    else pairs depth bs
+-- no word character comes first
+abbrev pub BeginsNoWord : Text → Type 0
+BeginsNoWord [] = Unit {0}
+BeginsNoWord (b ∷ bs) = is_word_byte b ≡ false
 
--- A piece before the rest of the text. A slash before an asterisk is no byte of its own: it opens a comment.
-abbrev pub IsPiece : Piece → List ℕ → Type 0
-IsPiece (Comment text) rest = HasNoClose text
-IsPiece (Parens text) rest = IsTrue (pairs 0 text)
-IsPiece (Byte b) rest = (b ≢ 40) × (b ≢ 41) × (b ≢ 46) × (b ≡ 47 → slice_index rest 0 ≢ 42)
+-- What follows the first `*/`, if there is one.
+abbrev pub behind_close : Text → Option Text
+behind_close [] = None
+behind_close (b ∷ bs) = if b == 42 && slice_index bs 0 == 47 then Some (drop 1 bs) else behind_close bs
 
--- The text begins with these pieces, and the rest follows. It has no period outside comments and parentheses.
-abbrev pub HasPieces : List ℕ → List Piece → List ℕ → Type 0
+-- What follows the parenthesis that closes a list, inside which one more may be open. None: there is none, or a third one opens.
+abbrev pub behind_list : Bool → Text → Option Text
+behind_list inner [] = None
+behind_list inner (b ∷ bs) =
+    if b == 40 then (if inner then None else behind_list true bs)
+    else if b == 41 then (if inner then behind_list false bs else Some bs)
+    else behind_list inner bs
+
+-- The text begins with the piece, which goes as far as it can. Inside parentheses `/*` is plain text.
+abbrev pub TakesPiece : Text → Piece → Text → Type 0
+TakesPiece text (TheWord word) after = (text ≡ word ++ after) × IsWord word × BeginsNoWord after
+TakesPiece text (TheList list) after = (text ≡ 40 ∷ list ++ 41 ∷ after) × (behind_list false (list ++ 41 ∷ after) ≡ Some after)
+TakesPiece text Blank after = (b : ℕ) × (text ≡ b ∷ after) × IsTrue (is_blank b)
+TakesPiece text Comment after = (inside : Text) × (text ≡ 47 ∷ 42 ∷ inside) × (behind_close inside ≡ Some after)
+TakesPiece text (Stray b) after = (text ≡ b ∷ after) × IsTrue (is_stray b) × (b ≡ 47 → slice_index after 0 ≢ 42)
+
+-- The text begins with these pieces, and the rest follows. No period is among them.
+abbrev pub HasPieces : Text → List Piece → Text → Type 0
 HasPieces text [] rest = text ≡ rest
-HasPieces text (p ∷ ps) rest =
-    (after : List ℕ) × (text ≡ piece_text p ++ after) × IsPiece p after × HasPieces after ps rest
+HasPieces text (p ∷ ps) rest = (after : Text) × TakesPiece text p after × HasPieces after ps rest
 
--- a blank, or a comma, which counts as one
-abbrev pub IsGap : Piece → Type 0
-IsGap (Comment text) = Unit {0}
-IsGap (Parens text) = ⊥
-IsGap (Byte b) = (b ≡ 32) ⊎ (b ≡ 44)
+-- blanks, commas and comments are gaps, the others are not
+abbrev pub is_solid : Piece → Bool
+is_solid (TheWord word) = true
+is_solid (TheList list) = true
+is_solid Blank = false
+is_solid Comment = false
+is_solid (Stray b) = true
 
--- only blanks and whole comments
-abbrev pub IsIdle : List ℕ → Type 0
-IsIdle text = (ps : List Piece) × HasPieces text ps [] × All IsGap ps
+-- the pieces without the gaps
+abbrev pub solid : List Piece → List Piece
+solid ps = filter is_solid ps
 
--- The first period is in the last of the statement's records. The records after it are inline text.
-pub record Ends (records : List (List ℕ)) (pieces : List Piece) (inline : List (List ℕ)) : Type 0 where
+-- only blanks, commas and whole comments
+abbrev pub IsIdle : Text → Type 0
+IsIdle text = (ps : List Piece) × HasPieces text ps [] × (solid ps ≡ [])
+
+-- Up to its first period the text has these pieces, the gaps left out.
+abbrev pub HasSolid : Text → List Piece → Type 0
+HasSolid text pieces = (ps : List Piece) × (rest : Text) × HasPieces text ps (46 ∷ rest) × (pieces ≡ solid ps)
+
+-- A place in the records: behind these ones it is in one whose columns 1 to 72 end in the line, and the later ones follow.
+pub record IsPlace (records before : List (List ℕ)) (line : Text) (later : List (List ℕ)) : Type 0 where
+  pub at : List ℕ
+  pub head : Text
+  pub records_are : records ≡ before ++ at ∷ later
+  pub line_is : front at ≡ head ++ line
+
+-- The pieces go up to the first period. The tail stands behind it in its record, and the later records are inline text.
+pub record Ends (records : List (List ℕ)) (pieces : List Piece) (tail : Text) (inline : List (List ℕ)) : Type 0 where
   pub before : List (List ℕ)
-  pub last : List ℕ
-  pub head : List ℕ
-  pub tail : List ℕ
-  pub records_are : records ≡ before ++ last ∷ inline
-  pub last_is : front last ≡ head ++ 46 ∷ tail
-  pub has_pieces : HasPieces (join_with_byte 32 (map front before ++ head ∷ [])) pieces []
+  pub place : IsPlace records before (46 ∷ tail) inline
+  pub has_pieces : HasPieces (joined records) pieces (46 ∷ tail ++ followed inline)
 
--- The records are a statement of these pieces, and its inline text.
+-- The records are a statement of these pieces, the gaps left out, and its inline text.
 abbrev pub IsStatement : List (List ℕ) → List Piece → List (List ℕ) → Type 0
-IsStatement records pieces inline = (e : Ends records pieces inline) × IsIdle e.tail
+IsStatement records pieces inline =
+    (ps : List Piece) × (tail : Text) × Ends records ps tail inline × IsIdle tail × (pieces ≡ solid ps)
 
 -- St1: no period. St2: an open comment. St3: parentheses that do not pair or are too deep. St4: text after the period.
 pub data StFault : Type 0 where
@@ -78,21 +111,19 @@ pub data StFault : Type 0 where
   St4 : StFault
 
 -- A comment begins and is not closed.
-abbrev pub OpensComment : List ℕ → Type 0
-OpensComment text = (after : List ℕ) × (text ≡ 47 ∷ 42 ∷ after) × HasNoClose after
+abbrev pub OpensComment : Text → Type 0
+OpensComment text = (inside : Text) × (text ≡ 47 ∷ 42 ∷ inside) × (behind_close inside ≡ None)
 
 -- A closing parenthesis comes that none opened, or an opening one that has no good closing one.
-abbrev pub BreaksPairs : List ℕ → Type 0
-BreaksPairs [] = ⊥
-BreaksPairs (b ∷ bs) =
-    (b ≡ 41) ⊎ ((b ≡ 40) × ((text after : List ℕ) → bs ≡ text ++ 41 ∷ after → IsTrue (pairs 0 text) → ⊥))
+abbrev pub BreaksPairs : Text → Type 0
+BreaksPairs text = (after : Text) × ((text ≡ 41 ∷ after) ⊎ ((text ≡ 40 ∷ after) × (behind_list false after ≡ None)))
 
 -- After these pieces the records have no period, an open comment, or bad parentheses. Or their period has text after it.
 abbrev pub BreaksOff : List (List ℕ) → List Piece → StFault → Type 0
 BreaksOff records ps St1 = HasPieces (joined records) ps []
-BreaksOff records ps St2 = (rest : List ℕ) × HasPieces (joined records) ps rest × OpensComment rest
-BreaksOff records ps St3 = (rest : List ℕ) × HasPieces (joined records) ps rest × BreaksPairs rest
-BreaksOff records ps St4 = (later : List (List ℕ)) × (e : Ends records ps later) × (IsIdle e.tail → ⊥)
+BreaksOff records ps St2 = (rest : Text) × HasPieces (joined records) ps rest × OpensComment rest
+BreaksOff records ps St3 = (rest : Text) × HasPieces (joined records) ps rest × BreaksPairs rest
+BreaksOff records ps St4 = (tail : Text) × (inline : List (List ℕ)) × Ends records ps tail inline × (IsIdle tail → ⊥)
 
 -- the fault of the records, behind good pieces
 abbrev pub IsStFault : List (List ℕ) → StFault → Type 0

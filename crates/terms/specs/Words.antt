@@ -1,57 +1,42 @@
 -- The words of a statement or a command, and the members of their lists.
-use Rattle.std.specs.Prelude.{◌≡◌, ◌≤◌, ◌≢◌, ◌<◌, ℕ, false, List, [], ◌∷◌, ◌++◌, length, map, All, AllPairs, Any, ◌⊎◌, Option, Some, None, IsTrue, take_while}
+use Rattle.std.specs.Prelude.{◌≡◌, ◌≤◌, ◌≢◌, ◌<◌, ℕ, List, [], ◌∷◌, ◌++◌, length, map, All, AllPairs, ◌⊎◌, Option, Some, None}
+use Rattle.std.specs.List.{flat_map}
 use Rattle.terms.specs.Types.{Text}
-use Rattle.terms.specs.Statement.{Piece, Byte, Parens, Comment, IsGap}
-use Rattle.terms.specs.Forms.{is_word_byte, AreBlanks}
+use Rattle.terms.specs.Statement.{Piece, TheWord, TheList}
+use Rattle.terms.specs.Forms.{AreBlanks}
 
 -- a word, and the text in the parentheses after it, if there are any
 pub record Word : Type 0 where
   pub word : Text
   pub list : Option Text
 
--- one word character or more
-abbrev pub IsWord : Text → Type 0
-IsWord text = (0 < length text) × All (λ b. IsTrue (is_word_byte b)) text
+abbrev pub list_pieces : Option Text → List Piece
+list_pieces None = []
+list_pieces (Some list) = TheList list ∷ []
 
--- no word character comes first
-abbrev pub BeginsNoWord : List Piece → Type 0
-BeginsNoWord [] = Unit {0}
-BeginsNoWord (Byte b ∷ ps) = is_word_byte b ≡ false
-BeginsNoWord (Comment text ∷ ps) = Unit {0}
-BeginsNoWord (Parens text ∷ ps) = Unit {0}
+abbrev pub word_pieces : Word → List Piece
+word_pieces w = TheWord w.word ∷ list_pieces w.list
 
--- The pieces begin with the word, and with its list where it has one. Blanks and comments may stand before a list.
-abbrev pub TakesWord : Text → Option Text → List Piece → List Piece → Type 0
-TakesWord word None ps rest = (ps ≡ map (λ b. Byte b) word ++ rest) × BeginsNoWord rest
-TakesWord word (Some list) ps rest =
-    (between : List Piece) × All IsGap between × (ps ≡ map (λ b. Byte b) word ++ between ++ Parens list ∷ rest)
-
--- The pieces are these words, with blanks, commas and comments between them.
+-- The pieces, gaps left out, are these words and nothing else: no other character, and no list without a word before it.
 abbrev pub HasWords : List Piece → List Word → Type 0
-HasWords ps [] = All IsGap ps
-HasWords ps (w ∷ ws) =
-    (gap after rest : List Piece) × All IsGap gap × (ps ≡ gap ++ after) × IsWord w.word
-    × TakesWord w.word w.list after rest × HasWords rest ws
+HasWords pieces words = pieces ≡ flat_map word_pieces words
 
--- a character that stands in no word and is no blank
-abbrev pub IsStray : Piece → Type 0
-IsStray (Comment text) = ⊥
-IsStray (Parens text) = ⊥
-IsStray (Byte b) = (is_word_byte b ≡ false) × (b ≢ 32) × (b ≢ 44)
+-- no list comes first
+abbrev pub BeginsNoList : List Piece → Type 0
+BeginsNoList [] = Unit {0}
+BeginsNoList (TheList list ∷ ps) = ⊥
+BeginsNoList (_ ∷ ps) = Unit {0}
 
--- nothing, or a list at the end
-abbrev pub EndsWithList : List Piece → Type 0
-EndsWithList ps = (ps ≡ []) ⊎ ((front : List Piece) × (text : Text) × (ps ≡ front ++ Parens text ∷ []))
+-- The pieces begin with the word and its list. Where it has none, none follows.
+pub record TakesWord (pieces : List Piece) (w : Word) (rest : List Piece) : Type 0 where
+  pub pieces_are : pieces ≡ word_pieces w ++ rest
+  pub ends : w.list ≡ None → BeginsNoList rest
 
--- The pieces are no words: a stray character, or a list without a word before it. It is Mc3, and in a command Cn2.
-abbrev pub HasNoWords : List Piece → Type 0
-HasNoWords ps = Any IsStray ps
-    ⊎ ((front gap rest : List Piece) × (text : Text) × (ps ≡ front ++ gap ++ Parens text ∷ rest)
-        × EndsWithList front × All IsGap gap)
-
--- the first word of a text: its longest run of word characters, which may be empty
-abbrev pub first_word : Text → Text
-first_word text = take_while is_word_byte text
+-- They begin with no word: with a list, or with another character.
+abbrev pub BeginsNoWords : List Piece → Type 0
+BeginsNoWords [] = ⊥
+BeginsNoWords (TheWord word ∷ ps) = ⊥
+BeginsNoWords (_ ∷ ps) = Unit {0}
 
 -- a character of a list's member
 abbrev pub IsMemberByte : ℕ → Type 0

@@ -1,0 +1,10 @@
+pub mod Chunks
+pub mod Cuts
+pub mod GroupCuts
+pub mod Places
+pub mod Cutting
+pub mod Walking
+pub mod Ending
+pub mod Reading
+pub mod Stating
+pub mod Commanding

@@ -1,0 +1,21 @@
+-- Places in records, and the texts from there on.
+use Rattle.std.specs.Prelude.{◌≡◌, ℕ, List, ◌∷◌, ◌++◌, take, length}
+use Rattle.terms.specs.Statement.{followed, IsPlace}
+use Rattle.rec80.specs.declared.cursor.Cursor.{Cursor}
+use Rattle.rec80.specs.declared.text.Text.{Text}
+
+-- all that follows
+abbrev pub rest_of : Cursor → List ℕ
+rest_of c = c.line.now ++ followed c.later.now
+
+-- What is left of the line, and so many bytes behind it.
+abbrev pub text_of : Text → List ℕ
+text_of t = t.line.now ++ take t.more (followed t.later.now)
+
+-- The cursor is at a place in the records, behind so many of them.
+abbrev pub IsIn : List (List ℕ) → Cursor → Type 0
+IsIn records c = (before : List (List ℕ)) × IsPlace records before c.line.now c.later.now
+
+-- In whatever records the first cursor is, the second is too.
+pub record IsAhead (old new : Cursor) : Type 0 where
+  pub stays : (records : List (List ℕ)) → IsIn records old → IsIn records new

@@ -1,0 +1,5 @@
+pub mod Faults
+pub mod Views
+pub mod Cursors
+pub mod Pieces
+pub mod Walks

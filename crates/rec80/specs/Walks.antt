@@ -1,0 +1,39 @@
+-- Ways over the pieces of a text: over gaps, to where no piece begins, and over a whole statement.
+use Rattle.std.specs.Prelude.{◌≡◌, ℕ, List, [], ◌∷◌, ◌++◌}
+use Rattle.terms.specs.Records.{front}
+use Rattle.terms.specs.Statement.{Piece, HasPieces, solid, followed, IsPlace, IsIdle, OpensComment, BreaksPairs, StFault, St1, St2, St3, St4}
+use Rattle.terms.specs.CommandCuts.{BeginsNoGap}
+use Rattle.rec80.specs.declared.cursor.Cursor.{Cursor}
+use Rattle.rec80.specs.declared.errors.StmtError.{StmtError}
+use Rattle.rec80.specs.declared.errors.StmtError.TheVariants.{NoPeriod, OpenComment, BadParens, TextAfterPeriod}
+use Rattle.rec80.specs.Cursors.{rest_of, IsIn}
+
+-- all the gaps that the text begins with
+pub record SkipsGaps (text after : List ℕ) : Type 0 where
+  pub gap : List Piece
+  pub has_pieces : HasPieces text gap after
+  pub is_gap : solid gap ≡ []
+  pub no_gap : BeginsNoGap after
+
+abbrev pub Walks : List ℕ → List ℕ → Type 0
+Walks text after = (ps : List Piece) × HasPieces text ps after
+
+-- Behind these pieces the period comes, and the tail and the inline text behind it.
+pub record EndsFrom (from : Cursor) (pieces : List Piece) (tail : List ℕ) (inline : List (List ℕ)) : Type 0 where
+  pub has_pieces : HasPieces (rest_of from) pieces (46 ∷ tail ++ followed inline)
+  pub place : (records : List (List ℕ)) → IsIn records from → (before : List (List ℕ)) × IsPlace records before (46 ∷ tail) inline
+
+-- why no statement begins there
+abbrev pub BreaksFrom : Cursor → StmtError → Type 0
+BreaksFrom from NoPeriod = (ps : List Piece) × HasPieces (rest_of from) ps []
+BreaksFrom from OpenComment = (ps : List Piece) × (rest : List ℕ) × HasPieces (rest_of from) ps rest × OpensComment rest
+BreaksFrom from BadParens = (ps : List Piece) × (rest : List ℕ) × HasPieces (rest_of from) ps rest × BreaksPairs rest
+BreaksFrom from TextAfterPeriod =
+    (ps : List Piece) × (tail : List ℕ) × (inline : List (List ℕ)) × EndsFrom from ps tail inline × (IsIdle tail → ⊥)
+
+-- the faults by their names
+abbrev pub st_fault : StmtError → StFault
+st_fault NoPeriod = St1
+st_fault OpenComment = St2
+st_fault BadParens = St3
+st_fault TextAfterPeriod = St4

@@ -1,0 +1,76 @@
+ghost use Rattle.std.specs.Prelude.{◌≡◌, ◌<◌, ◌+◌, ◌^◌, ℕ, List, [], length, IfOk, IfErr, IfSome, IfNone, OnErr};
+ghost use Rattle.terms.specs.Statement.{Piece, HasSolid, IsIdle, joined};
+ghost use Rattle.terms.specs.CommandCuts.{TakesCommand, IsCutFault};
+ghost use Rattle.rec80.specs.Walks.{st_fault};
+
+use crate::errors::StmtError;
+use crate::files::{Record, Records};
+use crate::statements::start;
+use crate::walk::{behind_gaps, inline_behind};
+use crate::words::Words;
+use thiserror::Error;
+
+/// The words of one command. Its number is that of the record where it begins, and counts from 1 in the file.
+#[derive(Clone, Copy, Debug)]
+pub struct Command<'a> {
+    pub number: usize,
+    pub words: Words<'a>,
+}
+
+/// The command that begins in this record is at fault, or a comment between commands that is left open there.
+#[derive(Clone, Copy, Debug, PartialEq, Eq, Error)]
+#[error("the command in record {number}: {why}")]
+pub struct CommandError {
+    pub number: usize,
+    pub why: StmtError,
+}
+
+/// The commands that are left, in records the first of which has this number.
+#[derive(Clone, Copy, Debug)]
+pub struct Commands<'a> {
+    pub number: usize,
+    pub rest: &'a [Record],
+    ghost room: { number + length rest.now < 2 ^ 64 },
+}
+
+impl<'a> Records<'a> {
+    /// Walks the commands of a command file.
+    pub fn commands(&self) -> Commands<'a>
+        ensures number { result.number ≡ 1 }
+        ensures rest { result.rest.now ≡ self.now.all.now }
+    {
+        Commands { number: 1, rest: self.all }
+    }
+}
+
+impl<'a> Commands<'a> {
+    ghost use Rattle.rec80.specs.Views.{left_of};
+
+    /// Takes the next command. Behind the last one there is none. An `Err` changes nothing.
+    pub fn next_command(&mut self) -> Result<Option<Command<'a>>, CommandError>
+        ensures command { IfOk result (λ found. IfSome found (λ x. (pieces : List Piece)
+            × TakesCommand self.old.number self.old.rest.now pieces x.number self.new.number self.new.rest.now
+            × HasSolid (left_of x.words) pieces)) }
+        ensures inline { IfOk result (λ found. IfSome found (λ x. x.words.inline.now ≡ [])) }
+        ensures end { IfOk result (λ found. IfNone found (IsIdle (joined self.old.rest.now))) }
+        ensures fault { IfErr result (λ e. IsCutFault self.old.number self.old.rest.now e.number (st_fault e.why)) }
+        ensures err { OnErr result (self.new.rest.now ≡ self.old.rest.now) }
+    {
+        let Some(first) = start(self.rest) else {
+            return Ok(None);
+        };
+        let from = behind_gaps(&first);
+        if from.is_end() {
+            return Ok(None);
+        }
+        let number = self.number + (self.rest.len() - from.later.len() - 1);
+        let later = match inline_behind(&from) {
+            Ok(later) => later,
+            Err(why) => return Err(CommandError { number, why }),
+        };
+        self.number += self.rest.len() - later.len();
+        self.rest = later;
+        let words = Words { rest: from, inline: &[] };
+        Ok(Some(Command { number, words }))
+    }
+}

@@ -1,0 +1,44 @@
+ghost use Rattle.std.specs.Prelude.{◌≡◌};
+ghost use Rattle.terms.specs.Records.{rec_fault_record};
+ghost use Rattle.rec80.specs.Faults.{rec_fault};
+
+use thiserror::Error;
+
+/// The first fault of a file's records. Records and columns count from 1.
+#[derive(Clone, Copy, Debug, PartialEq, Eq, Error)]
+pub enum RecError {
+    /// The file ends inside this record.
+    #[error("record {record} is cut short")]
+    Rec1 { record: usize },
+    /// A byte there is none of 0x20 to 0x7E.
+    #[error("record {record} has a bad byte in column {column}")]
+    Rec2 { record: usize, column: usize },
+}
+
+impl RecError {
+    /// The record at fault.
+    pub fn record(&self) -> usize
+        ensures { result ≡ rec_fault_record (rec_fault self.now) }
+    {
+        match *self {
+            RecError::Rec1 { record } => record,
+            RecError::Rec2 { record, .. } => record,
+        }
+    }
+}
+
+/// What is wrong with the form of a statement or a command.
+#[derive(Clone, Copy, Debug, PartialEq, Eq, Error)]
+pub enum StmtError {
+    /// It ends without its period.
+    #[error("no period")]
+    NoPeriod,
+    #[error("a comment is not closed")]
+    OpenComment,
+    /// Parentheses do not pair, or nest deeper than two.
+    #[error("parentheses do not pair or nest too deep")]
+    BadParens,
+    /// In the record of the period more than blanks and comments follows it.
+    #[error("text after the period")]
+    TextAfterPeriod,
+}

@@ -1,0 +1,98 @@
+ghost use Rattle.std.specs.Prelude.{◌≡◌, IfOk, IfErr, IfSome, IfNone, slice_index, true, false};
+ghost use Rattle.terms.specs.Statement.{TakesPiece, TheWord, is_solid};
+ghost use Rattle.terms.specs.CommandCuts.{BeginsNoGap};
+ghost use Rattle.terms.specs.Forms.{is_word_byte};
+ghost use Rattle.std.specs.List.{prefix_len};
+ghost use Rattle.rec80.specs.Cursors.{rest_of, IsAhead};
+ghost use Rattle.rec80.specs.Pieces.{TakesGap, piece_of, StopsAt};
+
+use crate::cursor::Cursor;
+use crate::scan::{behind_both, behind_comment, behind_parens};
+use crate::text::Text;
+
+/// A part of a statement or a command: a word, a list in parentheses, or any other character but a blank or a comma.
+#[derive(Clone, Copy, Debug)]
+pub enum Piece<'a> {
+    Word(&'a [u8]),
+    List(Text<'a>),
+    Stray(u8),
+}
+
+/// Why no piece begins at a place.
+#[derive(Clone, Copy, Debug)]
+pub enum Stop {
+    End,
+    Period,
+    OpenComment,
+    BadParens,
+}
+
+/// The place behind one blank, comma or comment.
+#[tactic(auto, using(crate::proofs::Places::ahead_trans))]
+pub fn behind_gap<'a>(at: &Cursor<'a>) -> Option<Cursor<'a>>
+    ensures gap { IfSome result (λ x. TakesGap (rest_of at.now) (rest_of x)) }
+    ensures end { IfNone result (BeginsNoGap (rest_of at.now)) }
+    ensures ahead { IfSome result (λ x. IsAhead at.now x) }
+{
+    let (byte, next) = at.next_byte()?;
+    if byte == b' ' || byte == b',' {
+        return Some(next);
+    }
+    let inside = behind_both(byte, &next, b'/', b'*')?;
+    behind_comment(&inside)
+}
+
+fn is_part_of_word(byte: u8) -> bool
+    ensures { result ≡ is_word_byte byte }
+{
+    byte.is_ascii_uppercase() || byte.is_ascii_digit() || byte == b'$' || byte == b'#' || byte == b'@' || byte == b'+'
+}
+
+/// How many bytes of a word come first.
+fn word_len(line: &[u8]) -> usize
+    ensures { result ≡ prefix_len is_word_byte line.now }
+{
+    line.iter().take_while(|byte| is_part_of_word(**byte)).count()
+}
+
+/// The word that begins here, and the place behind it. No word runs over the end of a record.
+fn split_word<'a>(at: &Cursor<'a>) -> (&'a [u8], Cursor<'a>)
+    requires { is_word_byte (slice_index (rest_of at.now) 0) ≡ true }
+    ensures word { TakesPiece (rest_of at.now) (TheWord result.0.now) (rest_of result.1) }
+    ensures ahead { IsAhead at.now result.1 }
+{
+    let (word, line) = at.line.split_at(word_len(at.line));
+    (word, Cursor { line, later: at.later })
+}
+
+/// The piece that begins here, and the place behind it.
+pub fn solid_piece<'a>(at: &Cursor<'a>) -> Result<(Piece<'a>, Cursor<'a>), Stop>
+    requires { BeginsNoGap (rest_of at.now) }
+    ensures piece { IfOk result (λ x. TakesPiece (rest_of at.now) (piece_of x.0) (rest_of x.1)) }
+    ensures stop { IfErr result (λ s. StopsAt s (rest_of at.now)) }
+    ensures ahead { IfOk result (λ x. IsAhead at.now x.1) }
+{
+    let Some((byte, next)) = at.next_byte() else {
+        return Err(Stop::End);
+    };
+    if is_part_of_word(byte) {
+        let (word, after) = split_word(at);
+        return Ok((Piece::Word(word), after));
+    }
+    if byte == b'.' {
+        return Err(Stop::Period);
+    }
+    if byte == b')' {
+        return Err(Stop::BadParens);
+    }
+    if byte == b'(' {
+        return match behind_parens(&next) {
+            Some((list, after)) => Ok((Piece::List(list), after)),
+            None => Err(Stop::BadParens),
+        };
+    }
+    if behind_both(byte, &next, b'/', b'*').is_some() {
+        return Err(Stop::OpenComment);
+    }
+    Ok((Piece::Stray(byte), next))
+}

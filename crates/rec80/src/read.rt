@@ -1,0 +1,34 @@
+ghost use Rattle.std.specs.Prelude.{◌≡◌, IfOk, IfErr, IsTrue, ◌↔◌};
+ghost use Rattle.terms.specs.Records.{HasRecords, IsPrintable, IsRecFault};
+ghost use Rattle.rec80.specs.Faults.{rec_fault};
+
+use crate::errors::RecError;
+use crate::files::Records;
+
+fn is_printable(byte: u8) -> bool
+    ensures { IsTrue result ↔ IsPrintable byte }
+{
+    0x20 <= byte && byte <= 0x7E
+}
+
+/// The records of a file, or its first fault.
+pub fn records(bytes: &[u8]) -> Result<Records<'_>, RecError>
+    ensures ok { IfOk result (λ found. HasRecords bytes.now found.all.now) }
+    ensures fault { IfErr result (λ e. IsRecFault bytes.now (rec_fault e)) }
+{
+    let (all, rest) = bytes.as_chunks::<80>();
+    for (i, byte) in all.as_flattened().iter().enumerate() {
+        if !is_printable(*byte) {
+            return Err(RecError::Rec2 {
+                record: i / 80 + 1,
+                column: i % 80 + 1,
+            });
+        }
+    }
+    if !rest.is_empty() {
+        return Err(RecError::Rec1 {
+            record: all.len() + 1,
+        });
+    }
+    Ok(Records { all })
+}

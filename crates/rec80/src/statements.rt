@@ -1,0 +1,34 @@
+ghost use Rattle.std.specs.Prelude.{◌≡◌, ℕ, List, [], length, IfOk, IfErr, IfSome, IfNone, MatchOption};
+ghost use Rattle.terms.specs.Statement.{Piece, IsStatement, IsStFault, HasSolid, joined};
+ghost use Rattle.rec80.specs.Cursors.{rest_of, IsIn};
+ghost use Rattle.rec80.specs.Walks.{st_fault};
+ghost use Rattle.rec80.specs.Views.{left_of};
+
+use crate::cursor::{Cursor, columns};
+use crate::errors::StmtError;
+use crate::files::Record;
+use crate::groups::Group;
+use crate::walk::inline_behind;
+use crate::words::Words;
+
+/// The place where the records begin, if there are any.
+pub fn start<'a>(records: &'a [Record]) -> Option<Cursor<'a>>
+    ensures text { IfSome result (λ x. rest_of x ≡ joined records.now) }
+    ensures place { IfSome result (λ x. IsIn records.now x) }
+    ensures none { IfNone result (records.now ≡ []) }
+{
+    let (first, later) = records.split_first()?;
+    Some(Cursor { line: columns(first), later })
+}
+
+/// The words and the inline records of a statement, or what is wrong with its form.
+pub fn statement<'a>(group: &Group<'a>) -> Result<Words<'a>, StmtError>
+    ensures ok { IfOk result (λ words. (pieces : List Piece) × IsStatement group.now.records.now pieces words.inline.now × HasSolid (left_of words) pieces) }
+    ensures fault { IfErr result (λ e. IsStFault group.now.records.now (st_fault e)) }
+{
+    let Some(rest) = start(group.records) else {
+        return Err(StmtError::NoPeriod);
+    };
+    let inline = inline_behind(&rest)?;
+    Ok(Words { rest, inline })
+}

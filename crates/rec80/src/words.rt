@@ -1,0 +1,86 @@
+ghost use Rattle.std.specs.Prelude.{◌≡◌, ℕ, List, [], ◌∷◌, IfOk, IfErr, IfSome, IfNone, OnErr, MatchOption};
+ghost use Rattle.terms.specs.Statement.{Piece as AnyPiece, HasSolid, TakesPiece, TheList};
+ghost use Rattle.terms.specs.Words.{TakesWord, BeginsNoWords};
+ghost use Rattle.rec80.specs.Cursors.{rest_of, text_of};
+ghost use Rattle.rec80.specs.Pieces.{piece_of};
+ghost use Rattle.rec80.specs.Views.{left_of, word_of};
+
+use crate::cursor::Cursor;
+use crate::files::Record;
+use crate::piece::{Piece, solid_piece};
+use crate::scan::behind_parens;
+use crate::text::Text;
+use crate::walk::behind_gaps;
+use thiserror::Error;
+
+/// A word, and the text in the parentheses after it, if there are any.
+#[derive(Clone, Copy, Debug)]
+pub struct Word<'a> {
+    pub word: &'a [u8],
+    pub list: Option<Text<'a>>,
+}
+
+/// A character that stands in no word, or a list without a word before it.
+#[derive(Clone, Copy, Debug, PartialEq, Eq, Error)]
+#[error("a stray character, or a list without a word")]
+pub struct NoWord;
+
+/// The words of a statement or a command that are left, and its inline records.
+#[derive(Clone, Copy, Debug)]
+pub struct Words<'a> {
+    pub(crate) rest: Cursor<'a>,
+    pub inline: &'a [Record],
+}
+
+/// The list that begins here, and the place behind it.
+fn own_list<'a>(at: &Cursor<'a>) -> Option<(Text<'a>, Cursor<'a>)>
+    ensures list { IfSome result (λ x. TakesPiece (rest_of at.now) (TheList (text_of x.0)) (rest_of x.1)) }
+    ensures none { IfNone result ((list after : List ℕ) → TakesPiece (rest_of at.now) (TheList list) after → ⊥) }
+{
+    let (byte, next) = at.next_byte()?;
+    if byte != b'(' {
+        return None;
+    }
+    behind_parens(&next)
+}
+
+impl<'a> Words<'a> {
+    /// Takes the next word, with its list. Behind the last one there is none. An `Err` changes nothing.
+    pub fn next_word(&mut self) -> Result<Option<Word<'a>>, NoWord>
+        ensures word { (pieces : List AnyPiece) → HasSolid (left_of self.old) pieces
+            → IfOk result (λ found. IfSome found (λ w. (rest : List AnyPiece) × TakesWord pieces (word_of w) rest × HasSolid (left_of self.new) rest)) }
+        ensures end { (pieces : List AnyPiece) → HasSolid (left_of self.old) pieces → IfOk result (λ found. IfNone found (pieces ≡ [])) }
+        ensures bad { (pieces : List AnyPiece) → HasSolid (left_of self.old) pieces → OnErr result (BeginsNoWords pieces) }
+        ensures err { OnErr result (self.new ≡ self.old) }
+        ensures inline { self.new.inline.now ≡ self.old.inline.now }
+    {
+        let at = behind_gaps(&self.rest);
+        let Ok((piece, next)) = solid_piece(&at) else {
+            return Ok(None);
+        };
+        let Piece::Word(word) = piece else {
+            return Err(NoWord);
+        };
+        let behind = behind_gaps(&next);
+        if let Some((list, after)) = own_list(&behind) {
+            self.rest = after;
+            return Ok(Some(Word { word, list: Some(list) }));
+        }
+        self.rest = behind;
+        Ok(Some(Word { word, list: None }))
+    }
+
+    /// Takes the next word, list or other character. Behind the last one there is none.
+    pub fn next_piece(&mut self) -> Option<Piece<'a>>
+        ensures piece { (pieces : List AnyPiece) → HasSolid (left_of self.old) pieces
+            → MatchOption result (pieces ≡ []) (λ p. (rest : List AnyPiece) × (pieces ≡ piece_of p ∷ rest) × HasSolid (left_of self.new) rest) }
+        ensures inline { self.new.inline.now ≡ self.old.inline.now }
+    {
+        let at = behind_gaps(&self.rest);
+        let Ok((piece, next)) = solid_piece(&at) else {
+            return None;
+        };
+        self.rest = next;
+        Some(piece)
+    }
+}
