@@ -1,3 +1,5 @@
 pub mod Need
 pub mod System
 pub mod Parts
+pub mod Rows
+pub mod Marks

@@ -1,6 +1,8 @@
 //! The greatest set of candidates that supports itself, and why the others are not in it.
 #![tactic(auto)]
 
+mod causes;
+mod rows;
 mod sets;
 mod sweep;
 mod system;
@@ -8,6 +10,7 @@ mod system;
 ghost use Rattle.std.specs.Prelude.{IfOk};
 ghost use Rattle.terms.specs.Problem.{AreKept};
 
+pub use causes::causers;
 pub use sets::Kept;
 use std::alloc::{AllocError, Global};
 pub use sweep::Sweep;
