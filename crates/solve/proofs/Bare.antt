@@ -22,31 +22,6 @@ bare_to x n h = let both = and_parts (n.of == x) (length n.any.items == 0) h in 
 bare_from : (x : ℕ) (n : Need) → ((demand n).of ≡ x) × ((demand n).any ≡ []) → is_bare x n ≡ true
 bare_from x n h = and_from (n.of == x) (length n.any.items == 0) (eq-eqb n.of x h.0) (ap (λ xs. length xs == 0) h.1)
 
--- a need with an empty list, and one without
-pub bare-add : (bare : List Bool) (needs : List Need) (i : ℕ) (n : Need) → i < length needs → n ≡ get_or needs i n → n.of < length bare → (length n.any.items == 0) ≡ true
-    → ((x : ℕ) → holds bare x ≡ list_any (is_bare x) (take i needs))
-    → (x : ℕ) → holds (set bare n.of true) x ≡ list_any (is_bare x) (take (i + 1) needs)
-bare-add bare needs i n below at small empty so_far x =
-    let more : list_any (is_bare x) (take (i + 1) needs) ≡ (list_any (is_bare x) (take i needs) || is_bare x n) =
-        list_any_more (is_bare x) needs i n below ∙ ap (λ m. list_any (is_bare x) (take i needs) || is_bare x m) (sym at) in
-    elim (cases_eq x n.of) [
-      | inl same ↦ ap (holds (set bare n.of true)) same ∙ holds-same bare n.of true small
-          ∙ sym (more ∙ or_true (list_any (is_bare x) (take i needs)) (is_bare x n) (and_from (n.of == x) (length n.any.items == 0) (eq-eqb n.of x (sym same)) empty))
-      | inr other ↦ holds-other bare n.of true x other ∙ so_far x
-          ∙ sym (more ∙ or_false (list_any (is_bare x) (take i needs)) (is_bare x n) (ap (λ b. b && (length n.any.items == 0)) (eqb-other n.of x (λ same. other (sym same)))))
-    ]
-
-pub bare-skip : (bare : List Bool) (needs : List Need) (i : ℕ) (n : Need) → i < length needs → n ≡ get_or needs i n → (length n.any.items == 0) ≡ false
-    → ((x : ℕ) → holds bare x ≡ list_any (is_bare x) (take i needs))
-    → (x : ℕ) → holds bare x ≡ list_any (is_bare x) (take (i + 1) needs)
-bare-skip bare needs i n below at full so_far x =
-    so_far x ∙ sym (list_any_more (is_bare x) needs i n below ∙ ap (λ m. list_any (is_bare x) (take i needs) || is_bare x m) (sym at)
-    ∙ or_false (list_any (is_bare x) (take i needs)) (is_bare x n) (and_false (n.of == x) (length n.any.items == 0) full))
-  where
-    and_false : (b c : Bool) → c ≡ false → (b && c) ≡ false
-    and_false true c h = h
-    and_false false c h = refl
-
 pub bare_exact : (ds : List Demand) (needs : List Need) (x : ℕ) → map demand needs ≡ ds → (list_any (is_bare x) needs ≡ true) ↔ Any (λ d. (d.of ≡ x) × (d.any ≡ [])) ds
 bare_exact ds needs x maps = (
   λ some.

@@ -4,7 +4,7 @@ use Rattle.std.specs.Prelude.{Vec, IsTrue, ◌↔◌, ◌⊎◌}
 use Rattle.std.specs.declared.alloc.Global.{Global}
 use Rattle.std.specs.List.{All, Any, Contains}
 use Rattle.std.proofs.lemmas.List.{take_all, map_more}
-use Rattle.std.proofs.lemmas.List.Elements.{Contains-append_left, Contains-append_right, Contains-append_cases, Contains-push, Contains-push_cases}
+use Rattle.std.proofs.lemmas.List.Elements.{Contains-append_left, Contains-append_right, Contains-append_cases, Contains-push, Contains-push_cases, Contains-get_or}
 use Rattle.terms.specs.Problem.{Problem, Demand, holds}
 use Rattle.terms.specs.Causes.{HasFailed, LeadsBy, LeadsTo}
 use Rattle.solve.specs.Rows.{row_at, times}
@@ -62,3 +62,9 @@ leads-add p kept seen d old new failed unmet added so_far x y = (
         (subst (Contains (replicate (times y d.any) d.of)) here.0 (replicate-Contains (times y d.any) d.of (times-from_Contains y d.any here.2)))
   ]),
 )
+
+-- what leads to a candidate is a candidate
+pub leads-small : (p : Problem) (kept : List Bool) (leads : List (Vec ℕ Global)) → AreLeads p kept leads → (z : ℕ) → All (λ x. x < length leads) (row_at leads z)
+leads-small p kept leads is z k d below =
+    let lead = (is.exact (get_or (row_at leads z) k d) z).0 (Contains-get_or (row_at leads z) k d below) in
+    omega (arith, is.size, lead.0.0)

@@ -7,3 +7,6 @@ pub mod Marked
 pub mod Spread
 pub mod Bare
 pub mod Leads
+pub mod CauserRows
+pub mod Sums
+pub mod Searches

@@ -3,3 +3,4 @@ pub mod System
 pub mod Parts
 pub mod Rows
 pub mod Marks
+pub mod Board

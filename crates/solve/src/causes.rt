@@ -23,6 +23,18 @@ fn bare_needs(alloc: Global, s: &System) -> Result<Vec<bool>, AllocError>
     Ok(bare)
 }
 
+/// Whether a candidate has failed and is not eligible or has a need that no candidate serves.
+fn is_root(s: &System, kept: &[bool], bare: &[bool], x: u32) -> bool
+    requires x { x < s.now.size }
+    requires kept { length kept.now ≡ s.now.size }
+    requires bare { length bare.now ≡ s.now.size }
+    requires exact { (y : ℕ) → IsTrue (holds bare.now y) ↔ HasBareNeed s.now y }
+    ensures { IsTrue result ↔ IsRoot s.now kept.now x }
+{
+    let at = x as usize;
+    !kept[at] && (!s.eligible()[at] || bare[at])
+}
+
 /// For each candidate those that lead to it.
 fn leads_to(alloc: Global, s: &System, kept: &[bool]) -> Result<Vec<Vec<u32>>, AllocError>
     requires { length kept.now ≡ s.now.size }
@@ -104,8 +116,7 @@ pub fn causers(alloc: Global, s: &System, kept: &Kept) -> Result<Vec<Vec<u32>>, 
     let mut marks = vec![in alloc; false; s.size() as usize]?;
     let mut rows = empty_rows(alloc, s.size())?;
     for y in 0..s.size() {
-        let at = y as usize;
-        if !flags[at] && (!s.eligible()[at] || bare[at]) {
+        if is_root(s, flags, &bare, y) {
             let list = reaching(alloc, &leads, y, &mut marks)?;
             add_under(&mut rows, &list, y)?;
         }

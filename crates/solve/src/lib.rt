@@ -6,6 +6,7 @@ mod rows;
 mod sets;
 mod sweep;
 mod system;
+mod worklist;
 
 ghost use Rattle.std.specs.Prelude.{IfOk};
 ghost use Rattle.terms.specs.Problem.{AreKept};
@@ -15,6 +16,7 @@ pub use sets::Kept;
 use std::alloc::{AllocError, Global};
 pub use sweep::Sweep;
 pub use system::{Need, System};
+pub use worklist::{Count, Worklist};
 
 /// Gives the kept set of a system.
 pub trait Solver {
