@@ -1,17 +1,20 @@
 -- The steps of a search that counts, over plain lists.
-use Rattle.std.proofs.Common.{◌≡◌, ◌<◌, ◌≤◌, ◌+◌, ◌-◌, ℕ, zero, suc, Bool, true, false, List, [], ◌∷◌, ◌++◌, length, map, get_or, set, refl, sym, ◌∙◌, subst, ap, arith, inl, inr, eq-eqb}
+use Rattle.std.proofs.Common.{◌≡◌, ◌<◌, ◌≤◌, ◌+◌, ◌-◌, ℕ, zero, suc, Bool, true, false, List, [], ◌∷◌, ◌++◌, length, map, get_or, set, refl, sym, ◌∙◌, subst, ap, arith, inl, inr, eq-eqb, zero-add, mul-one, mul-zero, ◌*◌, ◌^◌, take, replicate}
 use Rattle.std.specs.Prelude.{IsTrue, ◌==◌, ◌&&◌, not, ◌⊎◌, Vec, count_by, sum}
 use Rattle.std.specs.declared.alloc.Global.{Global}
 use Rattle.std.specs.List.{All, Any, Contains, list_any, sum_by}
-use Rattle.std.proofs.lemmas.List.{get_or-set_same, get_or-set_other, get_or-map, get_or_default, length-set, length-map, length_push, same_lists, get_or_append_left, get_or_past}
+use Rattle.std.proofs.lemmas.List.{get_or-set_same, get_or-set_other, get_or-map, get_or_default, length-set, length-map, length_push, same_lists, get_or_append_left, get_or_past, get_or_push, map_more, map_push, take-map, length-take-le}
 use Rattle.std.proofs.lemmas.List.Elements.{All-nil, All-push, All-contains, Contains-get_or, Contains-push}
-use Rattle.std.proofs.lemmas.List.Folds.{Any-from_list_any}
-use Rattle.std.proofs.lemmas.List.Sums.{sum_by-set, sum_by-cons, sum-map, get_or-le-sum_by, count_by-le-length, sum_by-le-sum_by}
+use Rattle.std.proofs.lemmas.List.Folds.{Any-from_list_any, sum_by-replicate}
+use Rattle.std.proofs.lemmas.List.Sums.{sum_by-set, sum_by-cons, sum-map, get_or-le-sum_by, count_by-le-length, sum_by-le-sum_by, sum_by-le, sum_by-take-le, sum_by_push, sum_by-append}
 use Rattle.std.proofs.lemmas.Bool.{cases_Bool, cases_eq, cases_lt}
 use Rattle.terms.specs.Problem.{Problem, Demand, IsDemand, IsProblem, IsSelfSupporting, AreKept, holds, strikes_of, pairs_of}
 use Rattle.solve.specs.Parts.{HasEvery, IsWithin, IsServed, count_of}
+use Rattle.solve.specs.declared.system.Need.{Need}
+use Rattle.solve.specs.Need.{demand}
 use Rattle.solve.specs.Rows.{row_at, times, one_if}
 use Rattle.solve.specs.Board.{demand_at, AreServed, eligible_in, weight, IsDrop, IsSearch}
+use Rattle.terms.proofs.Rising.{rising-length}
 use Rattle.solve.proofs.Tests.{none_passes}
 use Rattle.solve.proofs.Times.{eqb-other, times-push_same, times-push_other, times-from_Contains}
 use Rattle.solve.proofs.Sums.{sum_by-same, sum_by-split, count-part, count-none}
@@ -71,18 +74,18 @@ unserved standing dropped any none some =
 
 -- the candidate of a demand with no living member is dropped
 pub search-drop : (p : Problem) (due : List ℕ) (settled settled' : ℕ → Type 0) (standing standing' : List Bool) (living dropped dropped' : List ℕ) (strikes room k : ℕ)
-    → k < length p.demands → get_or living k 0 ≡ 0 → IsProblem p → ((j : ℕ) → settled' j → settled j ⊎ (j ≡ k))
+    → k < length p.demands → (demand_at p.demands k).of < p.size → get_or living k 0 ≡ 0 → ((j : ℕ) → settled' j → settled j ⊎ (j ≡ k))
     → IsDrop (demand_at p.demands k).of standing dropped standing' dropped'
     → IsSearch p due settled standing living dropped strikes room → IsSearch p due settled' standing' living dropped' strikes room
-search-drop p due settled settled' standing standing' living dropped dropped' strikes room k below none valid more drop search =
+search-drop p due settled settled' standing standing' living dropped dropped' strikes room k below small_of none more drop search =
     let d = demand_at p.demands k in
     let part = drop-within d.of standing dropped standing' dropped' drop in
     record {
       size = drop.size ∙ search.size;
       needs = search.needs;
-      members = drop.members p.size (All-contains (IsDemand p.size) p.demands d valid.demands (demand-in p k below)).of search.members;
+      members = drop.members p.size small_of search.members;
       total = omega (arith, drop.total, search.total);
-      room = search.room;
+      fits = search.fits;
       every = record {
         part = λ set supported x member. elim (cases_eq x d.of) [
           | inl same ↦ absurd (
@@ -110,7 +113,7 @@ search-pass p due settled settled' standing living dropped strikes room k some m
   needs = search.needs;
   members = search.members;
   total = search.total;
-  room = search.room;
+  fits = search.fits;
   every = search.every;
   within = search.within;
   counts = search.counts;
@@ -149,7 +152,7 @@ search-strike p k rest settled standing living dropped strikes room below search
       needs = length-set living k less ∙ search.needs;
       members = search.members;
       total = search.total;
-      room = search.room;
+      fits = search.fits;
       every = search.every;
       within = search.within;
       counts = λ j low. elim (cases_eq j k) [
@@ -168,6 +171,67 @@ search-strike p k rest settled standing living dropped strikes room below search
       struck = omega (arith, search.struck, sum_by-set (λ (n : ℕ). n) living k less 0 small, some);
     }
 
+-- a demand that is read
+pub demand_at-read : (needs : List Need) (demands : List Demand) (k : ℕ) (n : Need) → map demand needs ≡ demands → k < length needs → n ≡ get_or needs k n → demand_at demands k ≡ demand n
+demand_at-read needs demands k n maps below is =
+    ap (λ ds. demand_at ds k) (sym maps) ∙ get_or-map demand needs k n (record { of = 0; any = [] }) below ∙ ap demand (sym is)
+
+either : (k j : ℕ) → (Unit {0} × (j ≡ k → ⊥)) ⊎ (j ≡ k)
+either k j = elim (cases_eq j k) [ | inl same ↦ inr same | inr other ↦ inl (tt, other) ]
+
+-- a strike that takes the last living member, and one that does not
+pub strike-drop : (p : Problem) (k : ℕ) (rest : List ℕ) (standing standing' : List Bool) (living dropped dropped' : List ℕ) (strikes room : ℕ)
+    → k < length p.demands → (demand_at p.demands k).of < p.size → get_or living k 0 - 1 ≡ 0 → IsDrop (demand_at p.demands k).of standing dropped standing' dropped'
+    → IsSearch p (k ∷ rest) (λ j. Unit {0}) standing living dropped strikes room
+    → IsSearch p rest (λ j. Unit {0}) standing' (set living k (get_or living k 0 - 1)) dropped' (strikes + 1) room
+strike-drop p k rest standing standing' living dropped dropped' strikes room below small none drop search =
+    search-drop p rest (λ j. Unit {0} × (j ≡ k → ⊥)) (λ j. Unit {0}) standing standing' (set living k (get_or living k 0 - 1)) dropped dropped' (strikes + 1) room k below small
+    (get_or-set_same living k (get_or living k 0 - 1) 0 (omega (arith, search.needs, below)) ∙ none)
+    (λ j _. either k j) drop
+    (search-strike p k rest (λ j. Unit {0}) standing living dropped strikes room below search)
+
+pub strike-pass : (p : Problem) (k : ℕ) (rest : List ℕ) (standing : List Bool) (living dropped : List ℕ) (strikes room : ℕ)
+    → k < length p.demands → (get_or living k 0 - 1 ≡ 0 → ⊥)
+    → IsSearch p (k ∷ rest) (λ j. Unit {0}) standing living dropped strikes room
+    → IsSearch p rest (λ j. Unit {0}) standing (set living k (get_or living k 0 - 1)) dropped (strikes + 1) room
+strike-pass p k rest standing living dropped strikes room below some search =
+    let same = get_or-set_same living k (get_or living k 0 - 1) 0 (omega (arith, search.needs, below)) in
+    search-pass p rest (λ j. Unit {0} × (j ≡ k → ⊥)) (λ j. Unit {0}) standing (set living k (get_or living k 0 - 1)) dropped (strikes + 1) room k
+    (λ none. some (sym same ∙ none))
+    (λ j _. either k j)
+    (search-strike p k rest (λ j. Unit {0}) standing living dropped strikes room below search)
+
+below-next : (k j : ℕ) → j < k + 1 → (j < k) ⊎ (j ≡ k)
+below-next k j less = elim (cases_eq j k) [ | inl same ↦ inr same | inr other ↦ inl (omega (arith, less, other)) ]
+
+-- one more demand of the start
+pub settle-drop : (p : Problem) (standing standing' : List Bool) (living dropped dropped' : List ℕ) (strikes room k : ℕ)
+    → k < length p.demands → (demand_at p.demands k).of < p.size → get_or living k 0 ≡ 0 → IsDrop (demand_at p.demands k).of standing dropped standing' dropped'
+    → IsSearch p [] (λ j. j < k) standing living dropped strikes room → IsSearch p [] (λ j. j < k + 1) standing' living dropped' strikes room
+settle-drop p standing standing' living dropped dropped' strikes room k below small none drop search =
+    search-drop p [] (λ j. j < k) (λ j. j < k + 1) standing standing' living dropped dropped' strikes room k below small none (below-next k) drop search
+
+pub settle-pass : (p : Problem) (standing : List Bool) (living dropped : List ℕ) (strikes room k : ℕ)
+    → (get_or living k 0 ≡ 0 → ⊥)
+    → IsSearch p [] (λ j. j < k) standing living dropped strikes room → IsSearch p [] (λ j. j < k + 1) standing living dropped strikes room
+settle-pass p standing living dropped strikes room k some search =
+    search-pass p [] (λ j. j < k) (λ j. j < k + 1) standing living dropped strikes room k some (below-next k) search
+
+pub settled-all : (p : Problem) (standing : List Bool) (living dropped : List ℕ) (strikes room k : ℕ)
+    → length p.demands ≤ k → IsSearch p [] (λ j. j < k) standing living dropped strikes room → IsSearch p [] (λ j. Unit {0}) standing living dropped strikes room
+settled-all p standing living dropped strikes room k all search = record {
+  size = search.size;
+  needs = search.needs;
+  members = search.members;
+  total = search.total;
+  fits = search.fits;
+  every = search.every;
+  within = search.within;
+  counts = search.counts;
+  bare = λ j low _ zero_left. search.bare j low (omega (arith, low, all)) zero_left;
+  struck = search.struck;
+}
+
 times-push : (x y : ℕ) (dropped : List ℕ) → times y (dropped ++ x ∷ []) ≡ times y dropped + one_if (y == x)
 times-push x y dropped = elim (cases_eq y x) [
   | inl same ↦ let one : one_if (y == x) ≡ one_if true = ap one_if (eq-eqb y x same) in omega (arith, one, times-push_same y dropped x same)
@@ -182,7 +246,7 @@ search-take p served x settled standing living dropped strikes room are search =
   needs = search.needs;
   members = λ k d below. subst (λ n. n < p.size) (get_or_append_left dropped (x ∷ []) d k below) (search.members k d (omega (arith, below, length_push dropped x)));
   total = omega (arith, search.total, length_push dropped x);
-  room = search.room;
+  fits = search.fits;
   every = search.every;
   within = search.within;
   counts = λ k below.
@@ -219,14 +283,14 @@ search-start p living room valid enough counted = record {
   needs = ap length counted ∙ length-map p.demands (eligible_in p);
   members = All-nil _;
   total = omega (arith, valid.flags, count_by-le-length (λ (b : Bool). b) p.eligible);
-  room = enough;
+  fits = enough;
   every = record { part = λ set supported x member. supported.eligible x member };
   within = λ x stands. stands;
   counts = λ k below.
       let here : get_or living k 0 ≡ eligible_in p (demand_at p.demands k) = ap (λ xs. get_or xs k 0) counted ∙ get_or-map (eligible_in p) p.demands k (record { of = 0; any = [] }) 0 below in
       omega (arith, here, no_weight p.eligible (demand_at p.demands k).any);
   bare = λ k below never. absurd (omega (arith, never));
-  struck = ap sum counted ∙ sum-map (eligible_in p) p.demands;
+  struck = zero-add (sum living) ∙ ap sum counted ∙ sum-map (eligible_in p) p.demands;
 }
 
 -- Where no strike is due and none waits, what stands is the union of all self-supporting sets.
@@ -261,3 +325,67 @@ search_strikes p standing living strikes room search =
 -- there are no more eligible members than pairs
 pub eligible-le-pairs : (p : Problem) → sum_by (eligible_in p) p.demands ≤ pairs_of p.demands
 eligible-le-pairs p = sum_by-le-sum_by (eligible_in p) (λ d. length d.any) p.demands (λ d. count_by-le-length (holds p.eligible) d.any)
+
+-- pairs, one more need at a time
+pub pairs-more : (needs : List Need) (k : ℕ) (n : Need) → k < length needs → n ≡ get_or needs k n → pairs_of (map demand (take (k + 1) needs)) ≡ pairs_of (map demand (take k needs)) + length n.any.items
+pairs-more needs k n below is =
+    ap pairs_of (map_more demand needs k n below) ∙ sum_by_push (λ d. length d.any) (map demand (take k needs)) (demand (get_or needs k n))
+    ∙ ap (λ m. pairs_of (map demand (take k needs)) + length m.any.items) (sym is)
+
+pub pairs-part : (needs : List Need) (k : ℕ) → pairs_of (map demand (take k needs)) ≤ pairs_of (map demand needs)
+pairs-part needs k = subst (λ ds. pairs_of ds ≤ pairs_of (map demand needs)) (take-map demand k needs) (sum_by-take-le (λ d. length d.any) (map demand needs) k)
+
+-- a list of candidates that rises has at most as many members as there are candidates
+pub pairs-few : (p : Problem) → IsProblem p → p.size < 2 ^ 32 → length p.demands < 2 ^ 64 → pairs_of p.demands < 2 ^ 96
+pairs-few p valid small few =
+    let all = sum_by-le (λ d. length d.any) 4294967295 p.demands (λ k d below. omega (arith, small, rising-length (get_or p.demands k d).any p.size (valid.demands k d below).rising (valid.demands k d below).any)) in
+    omega (arith, all, few)
+
+-- a row has the demands of before, and the new one as often as it names the row's candidate
+pub served-more : (seen : List Demand) (d : Demand) (k : ℕ) (old new : List (Vec ℕ Global)) → length seen ≡ k
+    → ((x : ℕ) → row_at new x ≡ row_at old x ++ replicate (times x d.any) k) → AreServed seen old → AreServed (seen ++ d ∷ []) new
+served-more seen d k old new place added so_far x j =
+    let empty : Demand = record { of = 0; any = [] } in
+    let part : times j (row_at new x) ≡ times j (row_at old x) + times x d.any * one_if (k == j) =
+        ap (times j) (added x) ∙ sum_by-append (λ y. one_if (y == j)) (row_at old x) (replicate (times x d.any) k)
+        ∙ ap (λ n. times j (row_at old x) + n) (sum_by-replicate (λ y. one_if (y == j)) (times x d.any) k) in
+    elim (cases_eq j k) [
+      | inl same ↦
+          let one : one_if (k == j) ≡ 1 = ap one_if (eq-eqb k j (sym same)) in
+          let past : demand_at seen j ≡ empty = get_or_past seen j empty (omega (arith, same, place)) in
+          let none : times x (demand_at seen j).any ≡ 0 = ap (λ e. times x e.any) past in
+          let here : demand_at (seen ++ d ∷ []) j ≡ d = get_or_push seen d empty j (place ∙ sym same) in
+          let want : times x (demand_at (seen ++ d ∷ []) j).any ≡ times x d.any = ap (λ e. times x e.any) here in
+          let whole : times x d.any * one_if (k == j) ≡ times x d.any = ap (λ n. times x d.any * n) one ∙ mul-one (times x d.any) in
+          omega (arith, part, whole, want, none, so_far x j)
+      | inr other ↦
+          let zero_more : times x d.any * one_if (k == j) ≡ 0 = ap (λ b. times x d.any * one_if b) (eqb-other k j (λ same. other (sym same))) ∙ mul-zero (times x d.any) in
+          let stays : demand_at (seen ++ d ∷ []) j ≡ demand_at seen j = elim (cases_lt j (length seen)) [
+            | inl before ↦ get_or_append_left seen (d ∷ []) empty j before
+            | inr behind ↦ get_or_past (seen ++ d ∷ []) j empty (omega (arith, behind, other, place, length_push seen d)) ∙ sym (get_or_past seen j empty behind)
+          ] in
+          let want : times x (demand_at (seen ++ d ∷ []) j).any ≡ times x (demand_at seen j).any = ap (λ e. times x e.any) stays in
+          omega (arith, part, zero_more, want, so_far x j)
+    ]
+
+-- the turns of the start fit
+pub start-room : (p : Problem) (needs : List Need) (k : ℕ) (n : Need) → map demand needs ≡ p.demands → IsProblem p → p.size < 2 ^ 32 → length needs < 2 ^ 64
+    → k < length needs → n ≡ get_or needs k n → p.size + k + 2 * pairs_of (map demand (take k needs)) + (1 + 2 * length n.any.items) < 2 ^ 128
+start-room p needs k n maps valid small short below is =
+    let all : pairs_of (map demand needs) ≡ pairs_of p.demands = ap pairs_of maps in
+    let few : length p.demands < 2 ^ 64 = omega (arith, ap length maps, length-map needs demand, short) in
+    omega (arith, pairs-few p valid small few, all, pairs-more needs k n below is, pairs-part needs (k + 1), small, below, short)
+
+pub living-more : (p : Problem) (needs : List Need) (k : ℕ) (n : Need) (living : List ℕ) (count : ℕ) → k < length needs → n ≡ get_or needs k n → count ≡ eligible_in p (demand n)
+    → living ≡ map (eligible_in p) (map demand (take k needs)) → living ++ count ∷ [] ≡ map (eligible_in p) (map demand (take (k + 1) needs))
+living-more p needs k n living count below is counted so_far =
+    ap (λ xs. xs ++ count ∷ []) so_far ∙ ap (λ m. map (eligible_in p) (map demand (take k needs)) ++ m ∷ []) (counted ∙ ap (λ m. eligible_in p (demand m)) is)
+    ∙ sym (ap (map (eligible_in p)) (map_more demand needs k n below) ∙ map_push (eligible_in p) (map demand (take k needs)) (demand (get_or needs k n)))
+
+pub served-next : (needs : List Need) (k : ℕ) (n : Need) (old new : List (Vec ℕ Global)) → k < length needs → n ≡ get_or needs k n
+    → ((x : ℕ) → row_at new x ≡ row_at old x ++ replicate (times x n.any.items) k) → AreServed (map demand (take k needs)) old → AreServed (map demand (take (k + 1) needs)) new
+served-next needs k n old new below is added so_far =
+    let seen : List Demand = map demand (take k needs) in
+    let place : length seen ≡ k = length-map (take k needs) demand ∙ length-take-le k needs (omega arith) in
+    let next : seen ++ demand n ∷ [] ≡ map demand (take (k + 1) needs) = ap (λ m. map demand (take k needs) ++ demand m ∷ []) is ∙ sym (map_more demand needs k n below) in
+    subst (λ ds. AreServed ds new) next (served-more (map demand (take k needs)) (demand n) k old new place added so_far)

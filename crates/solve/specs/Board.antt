@@ -38,7 +38,7 @@ pub record IsSearch (p : Problem) (due : List ℕ) (settled : ℕ → Type 0) (s
   pub needs : length living ≡ length p.demands
   pub members : All (λ x. x < p.size) dropped
   pub total : count_of standing + length dropped ≤ p.size
-  pub room : p.size ≤ room
+  pub fits : p.size ≤ room
   pub every : HasEvery p standing
   pub within : IsWithin standing p.eligible
   pub counts : (k : ℕ) → k < length p.demands → slice_index_or living k 0 ≡ sum_by (weight standing dropped) (demand_at p.demands k).any + times k due
