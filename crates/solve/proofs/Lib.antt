@@ -1,3 +1,12 @@
 pub mod Maps
 pub mod Tests
 pub mod Drops
+pub mod Added
+pub mod Times
+pub mod Marked
+pub mod Spread
+pub mod Bare
+pub mod Leads
+pub mod CauserRows
+pub mod Sums
+pub mod Searches

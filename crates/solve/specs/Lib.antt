@@ -1,3 +1,6 @@
 pub mod Need
 pub mod System
 pub mod Parts
+pub mod Rows
+pub mod Marks
+pub mod Board

@@ -1,17 +1,22 @@
 //! The greatest set of candidates that supports itself, and why the others are not in it.
 #![tactic(auto)]
 
+mod causes;
+mod rows;
 mod sets;
 mod sweep;
 mod system;
+mod worklist;
 
 ghost use Rattle.std.specs.Prelude.{IfOk};
 ghost use Rattle.terms.specs.Problem.{AreKept};
 
+pub use causes::causers;
 pub use sets::Kept;
 use std::alloc::{AllocError, Global};
 pub use sweep::Sweep;
 pub use system::{Need, System};
+pub use worklist::{Count, Worklist};
 
 /// Gives the kept set of a system.
 pub trait Solver {

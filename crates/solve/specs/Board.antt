@@ -1,0 +1,58 @@
+-- A search for the greatest set that counts, for each demand, its living members.
+use Rattle.std.specs.Prelude.{◌≡◌, ◌<◌, ◌≤◌, ◌+◌, ℕ, Bool, false, List, [], map, length, All, IsTrue, Vec, count_by, sum}
+use Rattle.std.specs.List.{slice_index_or, sum_by}
+use Rattle.std.specs.declared.alloc.Global.{Global}
+use Rattle.terms.specs.Problem.{Problem, Demand, holds}
+use Rattle.solve.specs.declared.worklist.Board.{Board}
+use Rattle.solve.specs.Parts.{HasEvery, IsWithin, count_of}
+use Rattle.solve.specs.Rows.{row_at, times, one_if}
+
+-- a demand that nothing serves stands past the end
+abbrev pub demand_at : List Demand → ℕ → Demand
+demand_at demands k = slice_index_or demands k (record { of = 0; any = [] })
+
+-- row x names a demand as often as the demand's list names x
+abbrev pub AreServed : List Demand → List (Vec ℕ Global) → Type 0
+AreServed demands served = (x k : ℕ) → times k (row_at served x) ≡ times x (demand_at demands k).any
+
+-- how many of the demand's members are eligible
+abbrev pub eligible_in : Problem → Demand → ℕ
+eligible_in p d = count_by (holds p.eligible) d.any
+
+-- a candidate that stands, and each strike of it that waits, count as one
+abbrev pub weight : List Bool → List ℕ → ℕ → ℕ
+weight standing dropped x = one_if (holds standing x) + times x dropped
+
+-- x does not stand any more, and waits for its strikes if it stood
+pub record IsDrop (x : ℕ) (standing : List Bool) (dropped : List ℕ) (standing' : List Bool) (dropped' : List ℕ) : Type 0 where
+  pub size : length standing' ≡ length standing
+  pub out : holds standing' x ≡ false
+  pub others : (y : ℕ) → (y ≡ x → ⊥) → holds standing' y ≡ holds standing y
+  pub weights : (y : ℕ) → weight standing' dropped' y ≡ weight standing dropped y
+  pub total : count_of standing' + length dropped' ≡ count_of standing + length dropped
+  pub members : (n : ℕ) → x < n → All (λ y. y < n) dropped → All (λ y. y < n) dropped'
+
+-- The strikes still due are on these demands. Of a settled demand with no living member the candidate does not stand.
+pub record IsSearch (p : Problem) (due : List ℕ) (settled : ℕ → Type 0) (standing : List Bool) (living dropped : List ℕ) (strikes room : ℕ) : Type 0 where
+  pub size : length standing ≡ p.size
+  pub needs : length living ≡ length p.demands
+  pub members : All (λ x. x < p.size) dropped
+  pub total : count_of standing + length dropped ≤ p.size
+  pub fits : p.size ≤ room
+  pub every : HasEvery p standing
+  pub within : IsWithin standing p.eligible
+  pub counts : (k : ℕ) → k < length p.demands → slice_index_or living k 0 ≡ sum_by (weight standing dropped) (demand_at p.demands k).any + times k due
+  pub bare : (k : ℕ) → k < length p.demands → settled k → slice_index_or living k 0 ≡ 0 → holds standing (demand_at p.demands k).of ≡ false
+  pub struck : strikes + sum living ≡ sum_by (eligible_in p) p.demands
+
+-- all demands are settled
+abbrev pub AtRest : Problem → List ℕ → Board → Type 0
+AtRest p due b = IsSearch p due (λ k. Unit {0}) b.standing.items b.living.items b.dropped.items b.count.strikes b.dropped.cap
+
+-- the demands below k are settled
+abbrev pub SettledBelow : Problem → ℕ → Board → Type 0
+SettledBelow p k b = IsSearch p [] (λ j. j < k) b.standing.items b.living.items b.dropped.items b.count.strikes b.dropped.cap
+
+-- how many candidates stand or wait for their strikes
+abbrev pub open_in : Board → ℕ
+open_in b = count_of b.standing.items + length b.dropped.items
