@@ -2,3 +2,4 @@ pub mod Numbers
 pub mod Cuts
 pub mod ControlCuts
 pub mod Reading
+pub mod Splitting

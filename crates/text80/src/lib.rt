@@ -2,8 +2,13 @@
 #![tactic(auto)]
 
 mod control;
+mod error;
 mod line;
 mod numbered;
+mod update;
 
+pub use control::Range;
+pub use error::TextError;
 pub use line::{Line, RECORD, bytes_of, lines_of};
 pub use numbered::Numbered;
+pub use update::Update;
