@@ -3,3 +3,5 @@ pub mod Cuts
 pub mod ControlCuts
 pub mod Reading
 pub mod Splitting
+pub mod Merges
+pub mod Sweeping

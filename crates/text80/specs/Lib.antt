@@ -2,3 +2,4 @@ pub mod Rising
 pub mod Cuts
 pub mod Ranges
 pub mod Updates
+pub mod Merging

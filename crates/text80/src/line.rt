@@ -50,6 +50,14 @@ impl Line {
         number_in(number)
     }
 
+    /// The number of a numbered record.
+    pub(crate) fn known_number(&self) -> u32
+        requires { IsNumberedLine self.now }
+        ensures { result ≡ number_of self.now }
+    {
+        self.number().unwrap()
+    }
+
     /// Whether the record begins with `./`, as CHANGE and DELETE records do.
     pub fn is_control(&self) -> bool
         ensures { result ≡ is_control self.now }
