@@ -1,6 +1,16 @@
 //! Texts of elements as records of 80 bytes: numbered texts, updates of them, and their merge.
 #![tactic(auto)]
 
+mod control;
+mod error;
 mod line;
+mod merging;
+mod numbered;
+mod update;
 
+pub use control::Range;
+pub use error::TextError;
 pub use line::{Line, RECORD, bytes_of, lines_of};
+pub use merging::merge;
+pub use numbered::Numbered;
+pub use update::Update;

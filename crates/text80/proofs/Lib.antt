@@ -1,0 +1,7 @@
+pub mod Numbers
+pub mod Cuts
+pub mod ControlCuts
+pub mod Reading
+pub mod Splitting
+pub mod Merges
+pub mod Sweeping

@@ -1,0 +1,5 @@
+pub mod Rising
+pub mod Cuts
+pub mod Ranges
+pub mod Updates
+pub mod Merging
