@@ -3,5 +3,7 @@
 #![tactic(auto)]
 
 mod kinds;
+mod text_faults;
 
 pub use kinds::{ElemType, HoldKind, Kind, ZoneKind};
+pub use text_faults::{TextCode, TextFault};

@@ -1,0 +1,4 @@
+pub mod Rising
+pub mod Cuts
+pub mod Ranges
+pub mod Updates

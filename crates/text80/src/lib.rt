@@ -1,0 +1,14 @@
+//! Texts of elements as records of 80 bytes: numbered texts, updates of them, and their merge.
+#![tactic(auto)]
+
+mod control;
+mod error;
+mod line;
+mod numbered;
+mod update;
+
+pub use control::Range;
+pub use error::TextError;
+pub use line::{Line, RECORD, bytes_of, lines_of};
+pub use numbered::Numbered;
+pub use update::Update;

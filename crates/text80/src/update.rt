@@ -1,0 +1,137 @@
+ghost use Rattle.std.specs.Prelude.{◌≡◌, ℕ, List, IfOk, IfErr};
+ghost use Rattle.std.specs.List.Sorted.{IsNonDecreasingBy};
+ghost use Rattle.terms.specs.Texts.{given as given_of, IsUpdate, IsUpdateFault};
+ghost use Rattle.text80.specs.Ranges.{AreRangesOf};
+ghost use Rattle.text80.specs.Updates.{AreParts, IsUpdateError, IsRestError, StandsBefore};
+
+use crate::control::{Range, changed, deleted};
+use crate::error::TextError;
+use crate::line::Line;
+use crate::numbered::{Numbered, rising_number};
+use std::alloc::Global;
+use std::marker::Model;
+use terms::{TextCode, TextFault};
+
+/// An update of a numbered text, with all its records as they stand.
+#[derive(Debug, Drop)]
+pub struct Update {
+    records: Vec<Line>,
+    given: Numbered,
+    ranges: Vec<Range>,
+}
+
+impl Model for Update {
+    ghost use Rattle.std.specs.Prelude.{List, ℕ};
+    ghost use Rattle.text80.specs.Updates.{IsSound};
+
+    ghost Value = { List (List ℕ) };
+
+    ghost view = { λ u. u.records.items };
+
+    ghost invariant = { λ u. IsSound u.records.items u.given u.ranges.items };
+}
+
+impl Update {
+    /// The records as an update of the element of this name.
+    pub fn read(alloc: Global, records: Vec<Line>, name: &[u8]) -> Result<Update, TextError>
+        ensures update { IfOk result (λ update. (update ≡ records.items) × IsUpdate name.now records.items) }
+        ensures fault { IfErr result (IsUpdateError name.now records.items) }
+    {
+        let rest = behind_change(&records, name)?;
+        let Parts { given, ranges } = parts_of(alloc, rest)?;
+        Ok(Update {
+            records,
+            given,
+            ranges,
+        })
+    }
+
+    /// All records, from CHANGE on.
+    pub fn records(&self) -> &[Line]
+        ensures records { result.now ≡ self.now }
+        ensures update { (name : List ℕ) × IsUpdate name self.now }
+    {
+        &self.records
+    }
+
+    /// The records that the update gives.
+    pub fn given(&self) -> &Numbered
+        ensures { result.now ≡ given_of self.now }
+    {
+        &self.given
+    }
+
+    /// The ranges that the update deletes, by their lower numbers. They may overlap.
+    pub fn ranges(&self) -> &[Range]
+        ensures rising { IsNonDecreasingBy (λ r. r.low) result.now }
+        ensures ranges { AreRangesOf self.now result.now }
+    {
+        &self.ranges
+    }
+}
+
+/// What the records behind a CHANGE record give and delete.
+#[derive(Drop)]
+struct Parts {
+    given: Numbered,
+    ranges: Vec<Range>,
+}
+
+/// The records behind a CHANGE record of this name.
+fn behind_change<'a>(records: &'a [Line], name: &[u8]) -> Result<&'a [Line], TextFault>
+    ensures rest { IfOk result (λ rest. StandsBefore name.now records.now rest.now) }
+    ensures fault { IfErr result (IsUpdateFault name.now records.now) }
+{
+    let Some((first, rest)) = records.split_first() else {
+        return Err(TextFault {
+            number: 1,
+            code: TextCode::Tx3,
+        });
+    };
+    match changed(first) {
+        None => Err(TextFault {
+            number: 1,
+            code: TextCode::Tx3,
+        }),
+        Some(found) if found != name => Err(TextFault {
+            number: 1,
+            code: TextCode::Tx4,
+        }),
+        Some(_) => Ok(rest),
+    }
+}
+
+/// The records and ranges of the records behind the CHANGE record, which count from 2.
+fn parts_of(alloc: Global, lines: &[Line]) -> Result<Parts, TextError>
+    ensures parts { IfOk result (λ parts. AreParts lines.now parts.given parts.ranges.items) }
+    ensures fault { IfErr result (IsRestError lines.now) }
+{
+    let mut given = Vec::new(alloc);
+    let mut ranges = Vec::new(alloc);
+    let mut least = 0;
+    for (i, line) in lines.iter().enumerate() {
+        let number = i + 2;
+        if line.is_control() {
+            match deleted(line) {
+                Some(range) => ranges.push(range)?,
+                None => {
+                    let code = TextCode::Tx5;
+                    return Err(TextError::Fault(TextFault { number, code }));
+                }
+            }
+        } else {
+            match rising_number(line, least, TextCode::Tx6) {
+                Ok(found) => {
+                    given.push(*line)?;
+                    least = found + 1;
+                }
+                Err(code) => return Err(TextError::Fault(TextFault { number, code })),
+            }
+        }
+    }
+    ranges.sort_unstable_by_key(|range| range.low);
+    Ok(Parts {
+        given: Numbered { lines: given },
+        ranges,
+    })
+}
