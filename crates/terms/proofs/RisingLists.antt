@@ -17,7 +17,8 @@ use Rattle.std.proofs.lemmas.List.Folds.{list_any_at, list_any_none, list_any-ap
 use Rattle.std.proofs.lemmas.List.Elements.{All-cons, All-head, All-tail, All-append, filter-append}
 use Rattle.std.proofs.lemmas.List.Kept.{AllPairs-cons}
 use Rattle.std.proofs.lemmas.List.Sorted.{searchable_from_sorted}
-use Rattle.terms.specs.Rising.{Rises, before, behind, with_item, without_key, Splits, Stands}
+use Rattle.terms.specs.Rising.{Rises, before, behind, with_item, without_key}
+pub use Rattle.terms.specs.Rising.{Splits, Stands}
 
 -- a test that answers so is that order
 pub Less-from_is_lt : (r : Ordering) → is_lt r ≡ true → r ≡ Less

@@ -1,6 +1,7 @@
 pub mod Types
 pub mod Rising
 pub mod Lookups
+pub mod Delta
 pub mod Choice
 pub mod Over
 pub mod Global

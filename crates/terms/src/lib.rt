@@ -5,5 +5,5 @@
 mod kinds;
 mod text_faults;
 
-pub use kinds::{ElemType, HoldKind, Kind, ZoneKind};
+pub use kinds::{Edit, ElemType, HoldKind, Kind, ZoneKind};
 pub use text_faults::{TextCode, TextFault};

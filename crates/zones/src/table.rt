@@ -67,12 +67,15 @@ impl<T: Keyed> Table<T> {
         ensures err { OnErr result (self.new ≡ self.old) }
     {
         match place(self.items.as_slice(), item.key()) {
-            Ok(place) => self.items[place] = item,
+            Ok(place) => {
+                self.items[place] = item;
+                Ok(())
+            }
             Err(place) => {
                 self.items.insert(place, item)?;
+                Ok(())
             }
         }
-        Ok(())
     }
 
     /// Adds an item whose key is behind all others, and answers whether it is.
