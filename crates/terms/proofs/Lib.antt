@@ -17,3 +17,5 @@ pub mod Gaps
 pub mod Pieces
 pub mod Lengths
 pub mod Solids
+pub mod TypeOrder
+pub mod Edits

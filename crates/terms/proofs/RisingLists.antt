@@ -1,8 +1,8 @@
 -- How a list that rises by a key falls apart at a key, and stays in order when an item comes in between.
-use Rattle.std.proofs.Common.{◌≡◌, ◌<◌, ◌≤◌, ◌+◌, ℕ, suc, Bool, true, false, IsTrue, List, [], ◌∷◌, ◌++◌, length, get_or, take, drop, refl, sym, ap, ◌∙◌, arith, cond, length-drop, append_assoc, inl, inr, ◌-◌}
+use Rattle.std.proofs.Common.{◌≡◌, ◌<◌, ◌≤◌, ◌+◌, ℕ, suc, Bool, true, false, IsTrue, List, [], ◌∷◌, ◌++◌, length, get_or, take, drop, refl, sym, ap, ◌∙◌, arith, cond, length-drop, append_assoc, inl, inr, ◌-◌, zero, set}
 use Rattle.std.specs.Prelude.{All, AllPairs, filter, Contains, find, Option, Some, None}
 use Rattle.std.specs.List.{HoldsAt, list_any}
-use Rattle.std.specs.Prelude.{Result, Ok, Err, is_ok}
+use Rattle.std.specs.Prelude.{Result, Ok, Err, is_ok, IfOk, IfErr}
 use Rattle.std.specs.List.Sorted.{IsNonDecreasingBy, IsSortedBy, IsPartitionPoint, IsSearchInRange, IsBinarySearchResult, IsStrictlySortedBy}
 use Rattle.std.proofs.lemmas.Map.Keys.{Less-from_sorted}
 use Rattle.std.specs.declared.cmp.Ordering.{Ordering}
@@ -18,6 +18,7 @@ use Rattle.std.proofs.lemmas.List.Elements.{All-cons, All-head, All-tail, All-ap
 use Rattle.std.proofs.lemmas.List.Kept.{AllPairs-cons}
 use Rattle.std.proofs.lemmas.List.Sorted.{searchable_from_sorted}
 use Rattle.terms.specs.Rising.{Rises, before, behind, with_item, without_key}
+pub use Rattle.terms.specs.Rising.{Splits, Stands}
 
 -- a test that answers so is that order
 pub Less-from_is_lt : (r : Ordering) → is_lt r ≡ true → r ≡ Less
@@ -41,6 +42,18 @@ pub All-between : {X : Type 0} (P : X → Type 0) (xs ys : List X) (x : X) → A
 All-between P [] ys x h p = All-cons P x ys p h
 All-between P (y ∷ xs) ys x h p =
     All-cons P y (xs ++ x ∷ ys) (All-head P y (xs ++ ys) h) (All-between P xs ys x (All-tail P y (xs ++ ys) h) p)
+
+-- a write at a place
+pub set-parts : {X : Type 0} (xs : List X) (i : ℕ) (y : X) → i < length xs → set xs i y ≡ take i xs ++ y ∷ drop (suc i) xs
+set-parts [] i y below = absurd (omega arith)
+set-parts (x ∷ xs) zero y below = refl
+set-parts (x ∷ xs) (suc i) y below = ap (λ ys. x ∷ ys) (set-parts xs i y (omega arith))
+
+-- a search passes over what fails its test
+pub find-over : {X : Type 0} (p : X → Bool) (xs ys : List X) → All (λ x. p x ≡ false) xs → find p (xs ++ ys) ≡ find p ys
+find-over p [] ys h = refl
+find-over p (x ∷ xs) ys h =
+    rw (All-head (λ x. p x ≡ false) x xs h) (find-over p xs ys (All-tail (λ x. p x ≡ false) x xs h))
 
 pub AllPairs-first : {X : Type 0} (R : X → X → Type 0) (x : X) (xs : List X) → AllPairs R (x ∷ xs) → All (R x) xs
 AllPairs-first R x xs h = λ k d below. h 0 (suc k) d (omega arith) (omega arith)
@@ -79,11 +92,6 @@ AllPairs-parts R (y ∷ xs) ys x h =
 -- keys that are strictly sorted rise
 pub Rises-from_sorted : {K : Type 0} (R : K → K → Ordering) (ks : List K) → IsStrictlySortedBy R ks → Rises R (λ k. k) ks
 Rises-from_sorted R ks s = λ i j d less below. ap is_lt (Less-from_sorted R ks i j d s less below)
-
--- what stands before a key, and what stands behind it
-pub record Splits {X K : Type 0} (R : K → K → Ordering) (key : X → K) (k : K) (front back : List X) : Type 0 where
-  pub low : All (λ y. R (key y) k ≡ Less) front
-  pub high : All (λ y. R k (key y) ≡ Less) back
 
 module _ {X K : Type 0} {R : K → K → Ordering} (o : IsTotalOrder R) (key : X → K) where
   -- of two keys one is below, or they tie
@@ -167,14 +175,8 @@ module _ {X K : Type 0} {R : K → K → Ordering} (o : IsTotalOrder R) (key : X
   Rises-between front back x rises s =
       AllPairs-between (λ a b. is_lt (R (key a) (key b)) ≡ true) front back x rises (λ i d h. ap is_lt (s.low i d h)) (λ i d h. ap is_lt (s.high i d h))
 
-  -- the item at a place ties with the key, and the list falls apart there
-  pub record Stands (k : K) (xs : List X) (i : ℕ) (x : X) : Type 0 where
-    pub tie : R (key x) k ≡ Equal
-    pub parts : xs ≡ take i xs ++ x ∷ drop (suc i) xs
-    pub at : (d : X) → get_or xs i d ≡ x
-
   -- where a binary search finds the key
-  pub Stands-at : (k : K) (xs : List X) (i : ℕ) → i < length xs → HoldsAt (λ y. R (key y) k ≡ Equal) xs i → (x : X) × Stands k xs i x
+  pub Stands-at : (k : K) (xs : List X) (i : ℕ) → i < length xs → HoldsAt (λ y. R (key y) k ≡ Equal) xs i → (x : X) × Stands R key k xs i x
   Stands-at k [] i below h = absurd (omega arith)
   Stands-at k (x ∷ xs) i below h = (get_or (x ∷ xs) i x, record {
     tie = h x;
@@ -183,7 +185,7 @@ module _ {X K : Type 0} {R : K → K → Ordering} (o : IsTotalOrder R) (key : X
   })
 
   -- whether some item has the key, by a test that ties with the order
-  pub list_any-there : (E : K → K → Bool) → ((a b : K) → E a b ≡ is_eq (R a b)) → (k : K) (xs : List X) (i : ℕ) (x : X) → i < length xs → Stands k xs i x → list_any (λ y. E k (key y)) xs ≡ true
+  pub list_any-there : (E : K → K → Bool) → ((a b : K) → E a b ≡ is_eq (R a b)) → (k : K) (xs : List X) (i : ℕ) (x : X) → i < length xs → Stands R key k xs i x → list_any (λ y. E k (key y)) xs ≡ true
   list_any-there E ties k xs i x below s =
       list_any_at (λ y. E k (key y)) xs i x below (ap (λ y. E k (key y)) (s.at x) ∙ ties k (key x) ∙ ap is_eq (tied_back o (key x) k s.tie))
 
@@ -211,13 +213,13 @@ module _ {X K : Type 0} {R : K → K → Ordering} (o : IsTotalOrder R) (key : X
       Rises-between (take i xs) (drop i xs) x whole (Splits-at (key x) xs i within p)
 
   -- an item that is there already changes nothing
-  pub with_item-same : (xs : List X) (i : ℕ) (x : X) → Rises R key xs → Stands (key x) xs i x → with_item R key xs x ≡ xs
+  pub with_item-same : (xs : List X) (i : ℕ) (x : X) → Rises R key xs → Stands R key (key x) xs i x → with_item R key xs x ≡ xs
   with_item-same xs i x rises s =
       let whole : Rises R key (take i xs ++ x ∷ drop (suc i) xs) = rw (← s.parts) rises in
       ap (λ ys. with_item R key ys x) s.parts ∙ with_item-there (take i xs) (drop (suc i) xs) x x whole s.tie ∙ sym s.parts
 
   -- what goes when a key goes
-  pub without_key-there : (k : K) (xs : List X) (i : ℕ) (x : X) → Rises R key xs → Stands k xs i x → without_key R key xs k ≡ take i xs ++ drop (suc i) xs
+  pub without_key-there : (k : K) (xs : List X) (i : ℕ) (x : X) → Rises R key xs → Stands R key k xs i x → without_key R key xs k ≡ take i xs ++ drop (suc i) xs
   without_key-there k xs i x rises s =
       let whole : Rises R key (take i xs ++ x ∷ drop (suc i) xs) = rw (← s.parts) rises in
       let apart = Splits-around k (take i xs) (drop (suc i) xs) x whole s.tie in
@@ -251,3 +253,58 @@ module _ {X K : Type 0} {R : K → K → Ordering} (o : IsTotalOrder R) (key : X
   AllPairs-last xs x rises low =
       let whole : Rises R key (xs ++ []) = rw (append-nil xs) rises in
       AllPairs-between (λ a b. is_lt (R (key a) (key b)) ≡ true) xs [] x whole low (λ i d below. absurd (omega arith))
+
+  -- what a search for the key finds, by a test that ties with the order
+  pub find-there : (E : K → K → Bool) → ((a b : K) → E a b ≡ is_eq (R a b)) → (k : K) (front back : List X) (x : X) → Splits R key k front back → R (key x) k ≡ Equal → find (λ y. E (key y) k) (front ++ x ∷ back) ≡ Some x
+  find-there E ties k front back x s e =
+      find-over (λ y. E (key y) k) front (x ∷ back) (λ i d h. ties (key (get_or front i d)) k ∙ ap is_eq (s.low i d h))
+      ∙ ap (λ b. cond b (Some x) (find (λ y. E (key y) k) back)) (ties (key x) k ∙ ap is_eq e)
+
+  pub find-apart : (E : K → K → Bool) → ((a b : K) → E a b ≡ is_eq (R a b)) → (k : K) (front back : List X) → Splits R key k front back → find (λ y. E (key y) k) (front ++ back) ≡ None
+  find-apart E ties k front back s =
+      find-over (λ y. E (key y) k) front back (λ i d h. ties (key (get_or front i d)) k ∙ ap is_eq (s.low i d h))
+      ∙ ap (find (λ y. E (key y) k)) (sym (append-nil back))
+      ∙ find-over (λ y. E (key y) k) back [] (λ i d h. ties (key (get_or back i d)) k ∙ unequal k (key (get_or back i d)) (s.high i d h))
+
+  pub find-stands : (E : K → K → Bool) → ((a b : K) → E a b ≡ is_eq (R a b)) → (k : K) (xs : List X) (i : ℕ) (x : X) → Rises R key xs → Stands R key k xs i x → find (λ y. E (key y) k) xs ≡ Some x
+  find-stands E ties k xs i x rises s =
+      let whole : Rises R key (take i xs ++ x ∷ drop (suc i) xs) = rw (← s.parts) rises in
+      ap (find (λ y. E (key y) k)) s.parts ∙ find-there E ties k (take i xs) (drop (suc i) xs) x (Splits-around k (take i xs) (drop (suc i) xs) x whole s.tie) s.tie
+
+  -- the list stays in order when an item takes the place of one of its key
+  pub Rises-there : (front back : List X) (x y : X) → Rises R key (front ++ x ∷ back) → R (key x) (key y) ≡ Equal → Rises R key (front ++ y ∷ back)
+  Rises-there front back x y rises e =
+      Rises-between front back y (AllPairs-without (λ a b. is_lt (R (key a) (key b)) ≡ true) front back x rises) (Splits-around (key y) front back x rises e)
+
+  pub with_item-set : (xs : List X) (i : ℕ) (x y : X) → Rises R key xs → i < length xs → Stands R key (key y) xs i x → with_item R key xs y ≡ set xs i y
+  with_item-set xs i x y rises below s =
+      let whole : Rises R key (take i xs ++ x ∷ drop (suc i) xs) = rw (← s.parts) rises in
+      ap (λ ys. with_item R key ys y) s.parts ∙ with_item-there (take i xs) (drop (suc i) xs) y x whole s.tie ∙ sym (set-parts xs i y below)
+
+  pub Rises-set : (xs : List X) (i : ℕ) (x y : X) → Rises R key xs → i < length xs → Stands R key (key y) xs i x → Rises R key (set xs i y)
+  Rises-set xs i x y rises below s =
+      let whole : Rises R key (take i xs ++ x ∷ drop (suc i) xs) = rw (← s.parts) rises in
+      rw (set-parts xs i y below) (Rises-there (take i xs) (drop (suc i) xs) x y whole s.tie)
+
+  -- what a binary search answers
+  pub found-search : (k : K) (xs : List X) → Rises R key xs → (r : Result ℕ ℕ) → IsSearchInRange r (length xs) → IsBinarySearchResult (λ y. R (key y) k) xs r → IfOk r (λ i. (i < length xs) × ((x : X) × Stands R key k xs i x))
+  found-search k xs rises (Ok i) within p = (within, Stands-at k xs i within p)
+  found-search k xs rises (Err i) within p = tt
+
+  pub missing-search : (k : K) (xs : List X) → Rises R key xs → (r : Result ℕ ℕ) → IsSearchInRange r (length xs) → IsBinarySearchResult (λ y. R (key y) k) xs r → IfErr r (λ i. (i ≤ length xs) × Splits R key k (take i xs) (drop i xs))
+  missing-search k xs rises (Ok i) within p = tt
+  missing-search k xs rises (Err i) within p = (within, Splits-at k xs i within (p (searchable k xs rises)))
+
+  -- an item comes in where its key parts the list
+  pub with_item-parted : (xs : List X) (i : ℕ) (x : X) → Splits R key (key x) (take i xs) (drop i xs) → with_item R key xs x ≡ take i xs ++ x ∷ drop i xs
+  with_item-parted xs i x s =
+      ap (λ ys. with_item R key ys x) (sym (take-append-drop i xs)) ∙ with_item-new (take i xs) (drop i xs) x s
+
+  pub Rises-parted : (xs : List X) (i : ℕ) (x : X) → Rises R key xs → Splits R key (key x) (take i xs) (drop i xs) → Rises R key (take i xs ++ x ∷ drop i xs)
+  Rises-parted xs i x rises s =
+      let whole : Rises R key (take i xs ++ drop i xs) = rw (take-append-drop i xs) rises in
+      Rises-between (take i xs) (drop i xs) x whole s
+
+  pub find-parted : (E : K → K → Bool) → ((a b : K) → E a b ≡ is_eq (R a b)) → (k : K) (xs : List X) (i : ℕ) → Splits R key k (take i xs) (drop i xs) → find (λ y. E (key y) k) xs ≡ None
+  find-parted E ties k xs i s =
+      ap (find (λ y. E (key y) k)) (sym (take-append-drop i xs)) ∙ find-apart E ties k (take i xs) (drop i xs) s

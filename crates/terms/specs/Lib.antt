@@ -2,6 +2,7 @@ pub mod Types
 pub mod Rising
 pub mod Spelling
 pub mod Lookups
+pub mod Delta
 pub mod Choice
 pub mod Over
 pub mod Global

@@ -1,13 +1,15 @@
 -- Finding things in the global zone and in a zone, and what is supplied in a zone.
-use Rattle.std.specs.Prelude.{◌&&◌, ◌||◌, ◌==◌, nat_lt, IsTrue, All, AllPairs, ℕ, Bool, true, false, not, List, [], ◌∷◌, Option, None, Some, find, filter, map, is_some}
+use Rattle.std.specs.Prelude.{◌≡◌, ◌&&◌, ◌||◌, ◌==◌, IsTrue, All, AllPairs, ℕ, Bool, true, false, not, List, [], ◌∷◌, Option, None, Some, find, filter, map, is_some}
 use Rattle.std.specs.List.{list_any}
 use Rattle.std.specs.Option.{option_map_or, option_and_then}
-use Rattle.std.specs.Ordering.{is_lt, nat_cmp}
+use Rattle.std.specs.declared.cmp.Ordering.{Ordering}
+use Rattle.std.specs.Ordering.{is_lt, nat_cmp, ordering_then}
 use Rattle.std.specs.Cmp.Lexicographic.{slice_cmp}
 use Rattle.std.specs.Str.{bytes_eq}
 use Rattle.terms.specs.declared.kinds.ElemType.{ElemType}
 use Rattle.terms.specs.declared.kinds.HoldKind.{HoldKind}
-use Rattle.terms.specs.Types.{Text, Id, type_number, kind_number, hold_number, Hold, Change, Sysmod, Global, Entry, Element, Zone}
+use Rattle.terms.specs.Rising.{Rises}
+use Rattle.terms.specs.Types.{Text, Id, type_number, kind_number, hold_number, zone_number, Hold, Change, Sysmod, Global, Entry, Element, Zone}
 
 abbrev pub is_nil : {X : Type 0} → List X → Bool
 is_nil [] = true
@@ -65,17 +67,25 @@ holds_of g kind x = filter (λ h. bytes_eq h.id x && (hold_number h.kind == hold
 abbrev pub is_held : Entry → Bool
 is_held e = is_some e.applied || not (is_nil e.supby) || is_some e.delby
 
--- whether an element comes before another, by type and then by name
-abbrev pub is_element_before : Element → Element → Bool
-is_element_before a b =
-    nat_lt (type_number a.elem_type) (type_number b.elem_type)
-    || ((type_number a.elem_type == type_number b.elem_type) && is_before a.name b.name)
+-- A waived list stands only where the id is applied.
+abbrev pub waives_applied : Entry → Bool
+waives_applied e = is_some e.applied || is_nil e.waived
 
--- entries and elements are in order, none twice, and no entry is empty
+-- the type and the name of an element
+abbrev pub element_key : Element → ElemType × Text
+element_key e = (e.elem_type, e.name)
+
+-- the order of elements: by type and then by name
+abbrev pub element_cmp : ElemType × Text → ElemType × Text → Ordering
+element_cmp a b = ordering_then (nat_cmp (type_number a.0) (type_number b.0)) (slice_cmp nat_cmp a.1 b.1)
+
+-- Entries and elements are in order, none twice. No entry is empty. A target zone alone names a related zone.
 pub record IsZone (zone : Zone) : Type 0 where
-  pub entries : IsRising (map (λ e. e.id) zone.entries)
+  pub entries : Rises (slice_cmp nat_cmp) (λ e. e.id) zone.entries
   pub held : All (λ e. IsTrue (is_held e)) zone.entries
-  pub elements : AllPairs (λ a b. IsTrue (is_element_before a b)) zone.elements
+  pub waived : All (λ e. IsTrue (waives_applied e)) zone.entries
+  pub elements : Rises element_cmp element_key zone.elements
+  pub related : is_some zone.related ≡ (zone_number zone.kind == 0)
 
 -- the SYSMOD entry of this id
 abbrev pub entry_of : Zone → Id → Option Entry

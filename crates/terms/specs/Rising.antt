@@ -1,6 +1,7 @@
 -- Lists that rise by a key, no key twice: lists of ids, the entries of a zone, and the like.
-use Rattle.std.specs.Prelude.{ℕ, List, [], ◌∷◌, ◌++◌, AllPairs, filter, IsTrue}
+use Rattle.std.specs.Prelude.{◌≡◌, ℕ, suc, List, [], ◌∷◌, ◌++◌, take, drop, All, AllPairs, filter, IsTrue, slice_index_or}
 use Rattle.std.specs.declared.cmp.Ordering.{Ordering}
+use Rattle.std.specs.declared.cmp.Ordering.TheVariants.{Less, Equal}
 use Rattle.std.specs.Ordering.{is_lt}
 
 -- the keys rise, none twice
@@ -22,3 +23,14 @@ with_item cmp key xs x = before cmp key (key x) xs ++ x ∷ [] ++ behind cmp key
 -- the list without the item of the key
 abbrev pub without_key : {X K : Type 0} → (K → K → Ordering) → (X → K) → List X → K → List X
 without_key cmp key xs k = before cmp key k xs ++ behind cmp key k xs
+
+-- the front stands before the key, and the back behind it
+pub record Splits {X K : Type 0} (cmp : K → K → Ordering) (key : X → K) (k : K) (front back : List X) : Type 0 where
+  pub low : All (λ x. cmp (key x) k ≡ Less) front
+  pub high : All (λ x. cmp k (key x) ≡ Less) back
+
+-- x stands at the place and has the key
+pub record Stands {X K : Type 0} (cmp : K → K → Ordering) (key : X → K) (k : K) (xs : List X) (i : ℕ) (x : X) : Type 0 where
+  pub tie : cmp (key x) k ≡ Equal
+  pub parts : xs ≡ take i xs ++ x ∷ drop (suc i) xs
+  pub at : (d : X) → slice_index_or xs i d ≡ x

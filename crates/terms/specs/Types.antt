@@ -8,6 +8,7 @@ use Rattle.terms.specs.declared.kinds.HoldKind.TheVariants.{Error, System, User}
 use Rattle.terms.specs.declared.kinds.ElemType.{ElemType}
 use Rattle.terms.specs.declared.kinds.ElemType.TheVariants.{Mac, Src, Clist, Data, Exec, Parm, Proc}
 use Rattle.terms.specs.declared.kinds.ZoneKind.{ZoneKind}
+use Rattle.terms.specs.declared.kinds.ZoneKind.TheVariants.{Target, Distribution}
 
 -- a text, as bytes
 abbrev pub Text : Type 0
@@ -41,6 +42,10 @@ type_number Data = 3
 type_number Exec = 4
 type_number Parm = 5
 type_number Proc = 6
+
+abbrev pub zone_number : ZoneKind → ℕ
+zone_number Target = 0
+zone_number Distribution = 1
 
 -- ++IF: if this function is installed, these SYSMODs are required too
 pub record IfReq : Type 0 where

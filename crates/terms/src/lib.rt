@@ -8,6 +8,6 @@ mod not_chosen;
 mod text_faults;
 
 pub use codes::{CnCode, CommandWord, IdRefusal, McCode, NeedKind, Test};
-pub use kinds::{ElemType, HoldKind, Kind, ZoneKind};
+pub use kinds::{Edit, ElemType, HoldKind, Kind, ZoneKind};
 pub use not_chosen::NotChosen;
 pub use text_faults::{TextCode, TextFault};

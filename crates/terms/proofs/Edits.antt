@@ -1,0 +1,206 @@
+-- Edits of a list that rises by a key: what is found afterwards, and what stays true of the items.
+use Rattle.std.proofs.Common.{◌≡◌, ◌<◌, ℕ, suc, Bool, true, false, List, [], ◌∷◌, ◌++◌, length, get_or, take, drop, refl, sym, ap, ◌∙◌, cond, arith, append_assoc, inl, inr}
+use Rattle.std.specs.Prelude.{All, filter, find, fold, Option, Some, None, IfSome}
+use Rattle.std.specs.Option.{option_map_or}
+use Rattle.std.specs.declared.cmp.Ordering.{Ordering}
+use Rattle.std.specs.declared.cmp.Ordering.TheVariants.{Less, Equal, Greater}
+use Rattle.std.specs.Ordering.{is_lt, is_eq, ordering_reverse}
+use Rattle.std.specs.Cmp.{IsTotalOrder}
+use Rattle.std.proofs.lemmas.Cmp.{alike_right, tied_back}
+use Rattle.std.proofs.lemmas.Bool.{false≢true}
+use Rattle.std.proofs.lemmas.List.Elements.{All-head, All-tail, All-cons, All-append, All-filter, filter_passes, filter-append}
+use Rattle.std.proofs.lemmas.List.Kept.{AllPairs-filter, AllPairs-cons}
+use Rattle.std.proofs.lemmas.List.{append-nil}
+use Rattle.terms.specs.declared.kinds.Edit.{Edit}
+use Rattle.terms.specs.declared.kinds.Edit.TheVariants.{Put, Remove}
+use Rattle.terms.specs.Rising.{Rises, before, behind, with_item, without_key, Splits}
+use Rattle.terms.specs.Delta.{edit_key, edit_put, after_edit, edited, after_edits}
+use Rattle.terms.proofs.RisingLists.{Less-from_is_lt, filter-all, filter-none, find-over, find-there, find-apart, AllPairs-first, AllPairs-rest, AllPairs-between}
+
+-- a filter that lets through what a search looks for changes nothing for it, and one that does not leaves nothing
+pub find-filter_all : {X : Type 0} (p q : X → Bool) → ((x : X) → p x ≡ true → q x ≡ true) → (xs : List X) → find p (filter q xs) ≡ find p xs
+find-filter_all p q h [] = refl
+find-filter_all {X} p q h (x ∷ xs) = by_found (find-filter_all p q h xs) (p x) (q x) refl refl
+  where
+    by_found : find p (filter q xs) ≡ find p xs → (found passes : Bool) → p x ≡ found → q x ≡ passes → find p (filter q (x ∷ xs)) ≡ find p (x ∷ xs)
+    by_found rest true true e f = rw (f, e) refl
+    by_found rest true false e f = absurd (false≢true (sym f ∙ h x e))
+    by_found rest false true e f = rw (f, e) rest
+    by_found rest false false e f = rw (f, e) rest
+
+pub find-filter_none : {X : Type 0} (p q : X → Bool) → ((x : X) → p x ≡ true → q x ≡ false) → (xs : List X) → find p (filter q xs) ≡ None
+find-filter_none p q h [] = refl
+find-filter_none {X} p q h (x ∷ xs) = by_found (find-filter_none p q h xs) (p x) (q x) refl refl
+  where
+    by_found : find p (filter q xs) ≡ None → (found passes : Bool) → p x ≡ found → q x ≡ passes → find p (filter q (x ∷ xs)) ≡ None
+    by_found rest true true e f = absurd (false≢true (sym (h x e) ∙ f))
+    by_found rest true false e f = rw f rest
+    by_found rest false true e f = rw (f, e) rest
+    by_found rest false false e f = rw f rest
+
+-- where one of two lists has nothing, the other one decides
+pub find-second : {X : Type 0} (p : X → Bool) (xs ys : List X) → find p xs ≡ None → find p (xs ++ ys) ≡ find p ys
+find-second p [] ys e = refl
+find-second p (x ∷ xs) ys e = by_found (find-second p xs ys) (p x) refl
+  where
+    by_found : (find p xs ≡ None → find p (xs ++ ys) ≡ find p ys) → (found : Bool) → p x ≡ found → find p ((x ∷ xs) ++ ys) ≡ find p ys
+    by_found rest true f = let impossible : Some x ≡ None = rw f at e in cc
+    by_found rest false f = let none : find p xs ≡ None = rw f at e in rw f (rest none)
+
+pub find-first : {X : Type 0} (p : X → Bool) (xs ys : List X) → find p ys ≡ None → find p (xs ++ ys) ≡ find p xs
+find-first p [] ys e = e
+find-first p (x ∷ xs) ys e = ap (λ found. cond (p x) (Some x) found) (find-first p xs ys e)
+
+module _ {X K : Type 0} {R : K → K → Ordering} (o : IsTotalOrder R) (key : X → K) where
+  -- what stands before a key and behind it, cut by the key
+  pub Splits-cut : (k : K) (xs : List X) → Splits R key k (before R key k xs) (behind R key k xs)
+  Splits-cut k xs = record {
+    low = λ i d h. Less-from_is_lt (R (key (get_or (before R key k xs) i d)) k) (filter_passes (λ x. is_lt (R (key x) k)) xs i d h);
+    high = λ i d h. Less-from_is_lt (R k (key (get_or (behind R key k xs) i d))) (filter_passes (λ x. is_lt (R k (key x))) xs i d h);
+  }
+
+  -- and by a key that ties with it
+  Splits-tied : (k l : K) (front back : List X) → R k l ≡ Equal → Splits R key k front back → Splits R key l front back
+  Splits-tied k l front back e s = record {
+    low = λ i d h. sym (alike_right o k l (key (get_or front i d)) e) ∙ s.low i d h;
+    high = λ i d h. sym (o.congr k l (key (get_or back i d)) e) ∙ s.high i d h;
+  }
+
+  -- two lists in order around a key
+  AllPairs-joined : (k : K) (front back : List X) → Rises R key front → Rises R key back → Splits R key k front back → Rises R key (front ++ back)
+  AllPairs-joined k [] back low high s = high
+  AllPairs-joined k (x ∷ front) back low high s =
+      let T : X → X → Type 0 = λ a b. is_lt (R (key a) (key b)) ≡ true in
+      let first = All-head (λ y. R (key y) k ≡ Less) x front s.low in
+      let rest = AllPairs-joined k front back (AllPairs-rest T x front low) high record { low = All-tail (λ y. R (key y) k ≡ Less) x front s.low; high = s.high } in
+      AllPairs-cons T x (front ++ back) (All-append (T x) front back (AllPairs-first T x front low) (λ i d h. ap is_lt (o.trans (key x) k (key (get_or back i d)) first (s.high i d h)))) rest
+
+  pub Rises-without_key : (xs : List X) (k : K) → Rises R key xs → Rises R key (without_key R key xs k)
+  Rises-without_key xs k rises =
+      let T : X → X → Type 0 = λ a b. is_lt (R (key a) (key b)) ≡ true in
+      AllPairs-joined k (before R key k xs) (behind R key k xs) (AllPairs-filter T (λ x. is_lt (R (key x) k)) xs rises) (AllPairs-filter T (λ x. is_lt (R k (key x))) xs rises) (Splits-cut k xs)
+
+  pub Rises-with_item : (xs : List X) (x : X) → Rises R key xs → Rises R key (with_item R key xs x)
+  Rises-with_item xs x rises =
+      let s = Splits-cut (key x) xs in
+      let T : X → X → Type 0 = λ a b. is_lt (R (key a) (key b)) ≡ true in
+      rw (append_assoc (before R key (key x) xs) (x ∷ []) (behind R key (key x) xs)) (AllPairs-between T (before R key (key x) xs) (behind R key (key x) xs) x (Rises-without_key xs (key x) rises) (λ i d h. ap is_lt (s.low i d h)) (λ i d h. ap is_lt (s.high i d h)))
+
+  -- an edit keeps the order
+  pub Rises-after_edit : (xs : List X) (e : Edit X K) → Rises R key xs → Rises R key (after_edit R key xs e)
+  Rises-after_edit xs (Put x) rises = Rises-with_item xs x rises
+  Rises-after_edit xs (Remove k) rises = Rises-without_key xs k rises
+
+  pub Rises-edited : (edits : List (Edit X K)) (xs : List X) → Rises R key xs → Rises R key (edited R key xs edits)
+  Rises-edited [] xs rises = rises
+  Rises-edited (e ∷ edits) xs rises = Rises-edited edits (after_edit R key xs e) (Rises-after_edit xs e rises)
+
+  -- a fact of all items and of all that are put holds afterwards
+  pub All-edited : (P : X → Type 0) (edits : List (Edit X K)) (xs : List X) → All P xs → All (λ e. IfSome (edit_put e) P) edits → All P (edited R key xs edits)
+  All-edited P [] xs all put = all
+  All-edited P (Put x ∷ edits) xs all put =
+      let front = All-filter (λ y. is_lt (R (key y) (key x))) P xs all in
+      let back = All-filter (λ y. is_lt (R (key x) (key y))) P xs all in
+      let one = All-cons P x [] (All-head (λ e. IfSome (edit_put e) P) (Put x) edits put) (λ i d h. absurd (omega arith)) in
+      All-edited P edits (with_item R key xs x) (All-append P (before R key (key x) xs ++ x ∷ []) (behind R key (key x) xs) (All-append P (before R key (key x) xs) (x ∷ []) front one) back) (All-tail (λ e. IfSome (edit_put e) P) (Put x) edits put)
+  All-edited P (Remove k ∷ edits) xs all put =
+      let front = All-filter (λ y. is_lt (R (key y) k)) P xs all in
+      let back = All-filter (λ y. is_lt (R k (key y))) P xs all in
+      All-edited P edits (without_key R key xs k) (All-append P (before R key k xs) (behind R key k xs) front back) (All-tail (λ e. IfSome (edit_put e) P) (Remove k) edits put)
+
+  -- Items below the key stay in front, and of the others those go over that stand behind it.
+  pub before-below : (k : K) (front rest : List X) → All (λ x. R (key x) k ≡ Less) front → before R key k (front ++ rest) ≡ front ++ before R key k rest
+  before-below k front rest low =
+      let p : X → Bool = λ x. is_lt (R (key x) k) in
+      filter-append p front rest ∙ ap (λ ys. ys ++ filter p rest) (filter-all p front (λ i d h. ap is_lt (low i d h)))
+
+  pub behind-below : (k : K) (front rest : List X) → All (λ x. R (key x) k ≡ Less) front → behind R key k (front ++ rest) ≡ behind R key k rest
+  behind-below k front rest low =
+      let p : X → Bool = λ x. is_lt (R k (key x)) in
+      filter-append p front rest ∙ ap (λ ys. ys ++ filter p rest) (filter-none p front (λ i d h. rw (o.antisymm k (key (get_or front i d)), low i d h) refl))
+
+  -- the items between those before an edit's key and those behind it
+  abbrev pub put_list : Edit X K → List X
+  put_list (Put x) = x ∷ []
+  put_list (Remove k) = []
+
+  pub after_edit-below : (front rest : List X) (e : Edit X K) → All (λ x. R (key x) (edit_key key e) ≡ Less) front → after_edit R key (front ++ rest) e ≡ (front ++ before R key (edit_key key e) rest) ++ put_list e ++ behind R key (edit_key key e) rest
+  after_edit-below front rest (Put x) low =
+      ap (λ ys. (ys ++ x ∷ []) ++ behind R key (key x) (front ++ rest)) (before-below (key x) front rest low)
+      ∙ ap (λ ys. ((front ++ before R key (key x) rest) ++ x ∷ []) ++ ys) (behind-below (key x) front rest low)
+  after_edit-below front rest (Remove k) low =
+      ap (λ ys. ys ++ behind R key k (front ++ rest)) (before-below k front rest low)
+      ∙ ap (λ ys. (front ++ before R key k rest) ++ ys) (behind-below k front rest low)
+      ∙ ap (λ ys. ys ++ behind R key k rest) (sym (append-nil (front ++ before R key k rest)))
+
+  -- At an edit's key stands afterwards what it puts there, and at other keys what stood there.
+  module _ (E : K → K → Bool) (ties : (a b : K) → E a b ≡ is_eq (R a b)) where
+    tied : (a b : K) → E a b ≡ true → R a b ≡ Equal
+    tied a b e = by_order (R a b) (sym (ties a b) ∙ e)
+      where
+        by_order : (r : Ordering) → is_eq r ≡ true → r ≡ Equal
+        by_order Less e = cc
+        by_order Equal e = refl
+        by_order Greater e = cc
+
+    find-put : (xs : List X) (x : X) (k : K) → E (key x) k ≡ true → find (λ y. E (key y) k) (with_item R key xs x) ≡ Some x
+    find-put xs x k e =
+        let s = Splits-tied (key x) k (before R key (key x) xs) (behind R key (key x) xs) (tied (key x) k e) (Splits-cut (key x) xs) in
+        rw (append_assoc (before R key (key x) xs) (x ∷ []) (behind R key (key x) xs)) (find-there o key E ties k (before R key (key x) xs) (behind R key (key x) xs) x s (tied (key x) k e))
+
+    find-removed : (xs : List X) (l k : K) → E l k ≡ true → find (λ y. E (key y) k) (without_key R key xs l) ≡ None
+    find-removed xs l k e =
+        find-apart o key E ties k (before R key l xs) (behind R key l xs) (Splits-tied l k (before R key l xs) (behind R key l xs) (tied l k e) (Splits-cut l xs))
+
+    -- the other keys are all before an edit's key or all behind it
+    find-around : (mid : List X) (xs : List X) (l k : K) → find (λ y. E (key y) k) mid ≡ None → E l k ≡ false → find (λ y. E (key y) k) (before R key l xs ++ mid ++ behind R key l xs) ≡ find (λ y. E (key y) k) xs
+    find-around mid xs l k none e = by_order (R l k) refl
+      where
+        by_order : (r : Ordering) → R l k ≡ r → find (λ y. E (key y) k) (before R key l xs ++ mid ++ behind R key l xs) ≡ find (λ y. E (key y) k) xs
+        by_order Less f =
+            let up : find (λ y. E (key y) k) (behind R key l xs) ≡ find (λ y. E (key y) k) xs = find-filter_all (λ y. E (key y) k) (λ x. is_lt (R l (key x))) (λ x t. ap is_lt (alike_right o (key x) k l (tied (key x) k t) ∙ f)) xs in
+            let down : find (λ y. E (key y) k) (before R key l xs) ≡ None = find-filter_none (λ y. E (key y) k) (λ x. is_lt (R (key x) l)) (λ x t. ap is_lt (o.congr (key x) k l (tied (key x) k t) ∙ o.antisymm k l ∙ ap ordering_reverse f)) xs in
+            let front : find (λ y. E (key y) k) (before R key l xs ++ mid) ≡ None = find-second (λ y. E (key y) k) (before R key l xs) mid down ∙ none in
+            find-second (λ y. E (key y) k) (before R key l xs ++ mid) (behind R key l xs) front ∙ up
+        by_order Equal f = absurd (false≢true (sym e ∙ ties l k ∙ ap is_eq f))
+        by_order Greater f =
+            let up : find (λ y. E (key y) k) (behind R key l xs) ≡ None = find-filter_none (λ y. E (key y) k) (λ x. is_lt (R l (key x))) (λ x t. ap is_lt (alike_right o (key x) k l (tied (key x) k t) ∙ f)) xs in
+            let down : find (λ y. E (key y) k) (before R key l xs) ≡ find (λ y. E (key y) k) xs = find-filter_all (λ y. E (key y) k) (λ x. is_lt (R (key x) l)) (λ x t. ap is_lt (o.congr (key x) k l (tied (key x) k t) ∙ o.antisymm k l ∙ ap ordering_reverse f)) xs in
+            find-first (λ y. E (key y) k) (before R key l xs ++ mid) (behind R key l xs) up ∙ find-first (λ y. E (key y) k) (before R key l xs) mid none ∙ down
+
+    pub find-after_edit : (xs : List X) (e : Edit X K) (k : K) → find (λ y. E (key y) k) (after_edit R key xs e) ≡ cond (E (edit_key key e) k) (edit_put e) (find (λ y. E (key y) k) xs)
+    find-after_edit xs (Put x) k = by_test (E (key x) k) refl
+      where
+        by_test : (t : Bool) → E (key x) k ≡ t → find (λ y. E (key y) k) (with_item R key xs x) ≡ cond (E (key x) k) (Some x) (find (λ y. E (key y) k) xs)
+        by_test true t = find-put xs x k t ∙ ap (λ b. cond b (Some x) (find (λ y. E (key y) k) xs)) (sym t)
+        by_test false t =
+            find-around (x ∷ []) xs (key x) k (ap (λ b. cond b (Some x) None) t) t ∙ ap (λ b. cond b (Some x) (find (λ y. E (key y) k) xs)) (sym t)
+    find-after_edit xs (Remove l) k = by_test (E l k) refl
+      where
+        by_test : (t : Bool) → E l k ≡ t → find (λ y. E (key y) k) (without_key R key xs l) ≡ cond (E l k) None (find (λ y. E (key y) k) xs)
+        by_test true t = find-removed xs l k t ∙ ap (λ b. cond b None (find (λ y. E (key y) k) xs)) (sym t)
+        by_test false t =
+            ap (λ ys. find (λ y. E (key y) k) (ys ++ behind R key l xs)) (sym (append-nil (before R key l xs)))
+            ∙ find-around [] xs l k refl t ∙ ap (λ b. cond b None (find (λ y. E (key y) k) xs)) (sym t)
+
+    -- what stands at a key after edits that rise
+    pub find-edited : (edits : List (Edit X K)) → Rises R (edit_key key) edits → (xs : List X) (k : K) → find (λ y. E (key y) k) (edited R key xs edits) ≡ after_edits E key edits xs k
+    find-edited [] rises xs k = refl
+    find-edited (e ∷ edits) rises xs k = 
+        by_test (find-edited edits (AllPairs-rest (λ a b. is_lt (R (edit_key key a) (edit_key key b)) ≡ true) e edits rises) (after_edit R key xs e) k) (E (edit_key key e) k) refl
+      where
+        by_test : find (λ y. E (key y) k) (edited R key (after_edit R key xs e) edits) ≡ after_edits E key edits (after_edit R key xs e) k → (t : Bool) → E (edit_key key e) k ≡ t → find (λ y. E (key y) k) (edited R key (after_edit R key xs e) edits) ≡ after_edits E key (e ∷ edits) xs k
+        by_test rest true t =
+            let later = AllPairs-first (λ a b. is_lt (R (edit_key key a) (edit_key key b)) ≡ true) e edits rises in
+            let none : find (λ d. E (edit_key key d) k) edits ≡ None =
+                ap (find (λ d. E (edit_key key d) k)) (sym (append-nil edits))
+                ∙ find-over (λ d. E (edit_key key d) k) edits [] (λ i d h.
+                    let l = edit_key key (get_or edits i d) in
+                    let above : R k l ≡ Less = sym (o.congr (edit_key key e) k l (tied (edit_key key e) k t)) ∙ Less-from_is_lt (R (edit_key key e) l) (later i d h) in
+                    ties l k ∙ ap is_eq (o.antisymm l k ∙ ap ordering_reverse above)) in
+            rest ∙ ap (λ found. option_map_or edit_put found (find (λ y. E (key y) k) (after_edit R key xs e))) none
+            ∙ find-after_edit xs e k ∙ ap (λ b. cond b (edit_put e) (find (λ y. E (key y) k) xs)) t
+            ∙ ap (λ b. option_map_or edit_put (cond b (Some e) (find (λ d. E (edit_key key d) k) edits)) (find (λ y. E (key y) k) xs)) (sym t)
+        by_test rest false t =
+            rest ∙ ap (λ found. option_map_or edit_put (find (λ d. E (edit_key key d) k) edits) found) (find-after_edit xs e k ∙ ap (λ b. cond b (edit_put e) (find (λ y. E (key y) k) xs)) t)
+            ∙ ap (λ b. option_map_or edit_put (cond b (Some e) (find (λ d. E (edit_key key d) k) edits)) (find (λ y. E (key y) k) xs)) (sym t)

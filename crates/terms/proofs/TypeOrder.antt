@@ -1,0 +1,112 @@
+-- The order of the types of elements is that of their numbers.
+use Rattle.std.proofs.Common.{◌≡◌, ◌==◌, Bool, refl}
+use Rattle.std.specs.Ordering.{nat_cmp}
+use Rattle.terms.specs.declared.kinds.ElemType.{ElemType}
+use Rattle.terms.specs.declared.kinds.ElemType.TheVariants.{Mac, Src, Clist, Data, Exec, Parm, Proc}
+use Rattle.terms.specs.contracts.kinds.ElemTypeOrd.TheImpl as type_order
+use Rattle.terms.specs.contracts.kinds.ElemTypePartialEq.TheImpl as type_equality
+use Rattle.terms.specs.Types.{type_number}
+
+-- what `cmp` of two types answers
+pub cmp-types : (a b : ElemType) → type_order.ghosts.cmp a b ≡ nat_cmp (type_number a) (type_number b)
+cmp-types Mac Mac = refl
+cmp-types Mac Src = refl
+cmp-types Mac Clist = refl
+cmp-types Mac Data = refl
+cmp-types Mac Exec = refl
+cmp-types Mac Parm = refl
+cmp-types Mac Proc = refl
+cmp-types Src Mac = refl
+cmp-types Src Src = refl
+cmp-types Src Clist = refl
+cmp-types Src Data = refl
+cmp-types Src Exec = refl
+cmp-types Src Parm = refl
+cmp-types Src Proc = refl
+cmp-types Clist Mac = refl
+cmp-types Clist Src = refl
+cmp-types Clist Clist = refl
+cmp-types Clist Data = refl
+cmp-types Clist Exec = refl
+cmp-types Clist Parm = refl
+cmp-types Clist Proc = refl
+cmp-types Data Mac = refl
+cmp-types Data Src = refl
+cmp-types Data Clist = refl
+cmp-types Data Data = refl
+cmp-types Data Exec = refl
+cmp-types Data Parm = refl
+cmp-types Data Proc = refl
+cmp-types Exec Mac = refl
+cmp-types Exec Src = refl
+cmp-types Exec Clist = refl
+cmp-types Exec Data = refl
+cmp-types Exec Exec = refl
+cmp-types Exec Parm = refl
+cmp-types Exec Proc = refl
+cmp-types Parm Mac = refl
+cmp-types Parm Src = refl
+cmp-types Parm Clist = refl
+cmp-types Parm Data = refl
+cmp-types Parm Exec = refl
+cmp-types Parm Parm = refl
+cmp-types Parm Proc = refl
+cmp-types Proc Mac = refl
+cmp-types Proc Src = refl
+cmp-types Proc Clist = refl
+cmp-types Proc Data = refl
+cmp-types Proc Exec = refl
+cmp-types Proc Parm = refl
+cmp-types Proc Proc = refl
+
+-- whether two types are `==`
+pub eq-types : (a b : ElemType) → type_equality.ghosts.eq a b ≡ (type_number a == type_number b)
+eq-types Mac Mac = refl
+eq-types Mac Src = refl
+eq-types Mac Clist = refl
+eq-types Mac Data = refl
+eq-types Mac Exec = refl
+eq-types Mac Parm = refl
+eq-types Mac Proc = refl
+eq-types Src Mac = refl
+eq-types Src Src = refl
+eq-types Src Clist = refl
+eq-types Src Data = refl
+eq-types Src Exec = refl
+eq-types Src Parm = refl
+eq-types Src Proc = refl
+eq-types Clist Mac = refl
+eq-types Clist Src = refl
+eq-types Clist Clist = refl
+eq-types Clist Data = refl
+eq-types Clist Exec = refl
+eq-types Clist Parm = refl
+eq-types Clist Proc = refl
+eq-types Data Mac = refl
+eq-types Data Src = refl
+eq-types Data Clist = refl
+eq-types Data Data = refl
+eq-types Data Exec = refl
+eq-types Data Parm = refl
+eq-types Data Proc = refl
+eq-types Exec Mac = refl
+eq-types Exec Src = refl
+eq-types Exec Clist = refl
+eq-types Exec Data = refl
+eq-types Exec Exec = refl
+eq-types Exec Parm = refl
+eq-types Exec Proc = refl
+eq-types Parm Mac = refl
+eq-types Parm Src = refl
+eq-types Parm Clist = refl
+eq-types Parm Data = refl
+eq-types Parm Exec = refl
+eq-types Parm Parm = refl
+eq-types Parm Proc = refl
+eq-types Proc Mac = refl
+eq-types Proc Src = refl
+eq-types Proc Clist = refl
+eq-types Proc Data = refl
+eq-types Proc Exec = refl
+eq-types Proc Parm = refl
+eq-types Proc Proc = refl

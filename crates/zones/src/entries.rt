@@ -1,0 +1,93 @@
+//! What a zone knows of a SYSMOD and of an element.
+ghost use Rattle.std.specs.Prelude.{◌≡◌, IfOk};
+
+use crate::table::Keyed;
+use fields::{Id, IdList, Name, YyDdd};
+use std::alloc::{AllocError, Global};
+use std::marker::Model;
+use terms::ElemType;
+use text80::Line;
+
+/// A SYSMOD entry: when it was applied, which applied SYSMODs supersede it, which function deleted
+/// it, and which of its requisites were bypassed.
+#[derive(Drop)]
+pub struct Entry {
+    pub id: Id,
+    pub applied: Option<YyDdd>,
+    pub supby: IdList,
+    pub delby: Option<Id>,
+    pub waived: IdList,
+}
+
+impl Model for Entry {
+    ghost use Rattle.terms.specs.Types.{Entry as SysmodEntry};
+
+    ghost Value = { SysmodEntry };
+
+    ghost view = { λ e. record { id = e.id; applied = e.applied; supby = e.supby; delby = e.delby; waived = e.waived } };
+}
+
+impl Keyed for Entry {
+    type Key = Id;
+
+    ghost key_of = { λ e. e.id };
+
+    fn key(&self) -> Id {
+        self.id
+    }
+
+    fn try_clone(&self, alloc: Global) -> Result<Self, AllocError> {
+        Ok(Entry {
+            id: self.id,
+            applied: self.applied,
+            supby: self.supby.try_clone(alloc)?,
+            delby: self.delby,
+            waived: self.waived.try_clone(alloc)?,
+        })
+    }
+}
+
+/// An element entry: the function that owns it, the SYSMOD that last replaced it, those that updated
+/// it since, its libraries and its records.
+#[derive(Drop)]
+pub struct Element {
+    pub elem_type: ElemType,
+    pub name: Name,
+    pub fmid: Id,
+    pub rmid: Id,
+    pub umids: IdList,
+    pub distlib: Name,
+    pub syslib: Name,
+    pub text: Vec<Line>,
+}
+
+impl Model for Element {
+    ghost use Rattle.terms.specs.Types.{Element as ElementEntry};
+
+    ghost Value = { ElementEntry };
+
+    ghost view = { λ e. record { elem_type = e.elem_type; name = e.name; fmid = e.fmid; rmid = e.rmid; umids = e.umids; distlib = e.distlib; syslib = e.syslib; text = e.text.items } };
+}
+
+impl Keyed for Element {
+    type Key = (ElemType, Name);
+
+    ghost key_of = { λ e. (e.elem_type, e.name) };
+
+    fn key(&self) -> (ElemType, Name) {
+        (self.elem_type, self.name)
+    }
+
+    fn try_clone(&self, alloc: Global) -> Result<Self, AllocError> {
+        Ok(Element {
+            elem_type: self.elem_type,
+            name: self.name,
+            fmid: self.fmid,
+            rmid: self.rmid,
+            umids: self.umids.try_clone(alloc)?,
+            distlib: self.distlib,
+            syslib: self.syslib,
+            text: Vec::from_slice(alloc, self.text.as_slice())?,
+        })
+    }
+}

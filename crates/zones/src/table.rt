@@ -1,0 +1,119 @@
+//! Items in the order of their keys, no key twice.
+ghost use Rattle.std.specs.Prelude.{◌≡◌, ◌<◌, ◌≤◌, ◌↔◌, ◌++◌, [], ◌∷◌, length, take, drop, IsTrue, All, IfOk, IfErr, OnOk, OnErr, find, option_copied, if◌then◌else◌};
+ghost use Rattle.std.specs.Ordering.{is_lt};
+ghost use Rattle.terms.specs.Rising.{Rises, with_item, Splits, Stands};
+
+use std::alloc::{AllocError, Global};
+use std::marker::Model;
+
+/// What stands under a key, and can be copied.
+pub trait Keyed: Drop {
+    type Key: Ord + Copy;
+
+    ghost key_of: { Self → Self.Key };
+
+    fn key(&self) -> Self::Key
+        ensures { result ≡ key_of self.now };
+
+    fn try_clone(&self, alloc: Global) -> Result<Self, AllocError>
+        ensures { IfOk result (λ copy. copy ≡ self.now) };
+}
+
+/// Items that rise by their keys, no key twice. A contract sees them as their list.
+#[derive(Drop)]
+pub struct Table<T: Keyed> {
+    items: Vec<T>,
+}
+
+impl<T: Keyed> Model for Table<T> {
+    ghost use Rattle.std.specs.Prelude.{List};
+    ghost use Rattle.terms.specs.Rising.{Rises};
+
+    ghost Value = { List T };
+
+    ghost view = { λ a. a.items.items };
+
+    ghost invariant = { λ a. Rises T.Key.cmp T.key_of a.items.items };
+}
+
+impl<T: Keyed> Table<T> {
+    pub fn new(alloc: Global) -> Self
+        ensures { result ≡ [] }
+    {
+        Table {
+            items: Vec::new(alloc),
+        }
+    }
+
+    pub fn as_slice(&self) -> &[T]
+        ensures items { result.now ≡ self.now }
+        ensures rising { Rises T.Key.cmp T.key_of result.now }
+    {
+        self.items.as_slice()
+    }
+
+    pub fn get(&self, key: T::Key) -> Option<&T>
+        ensures { option_copied result ≡ find (λ x. T.Key.eq (T.key_of x) key) self.now }
+    {
+        match place(self.items.as_slice(), key) {
+            Ok(place) => Some(&self.items[place]),
+            Err(_) => None,
+        }
+    }
+
+    /// The item comes in at its place, where it takes the place of one of its key.
+    pub fn put(&mut self, item: T) -> Result<(), AllocError>
+        ensures ok { OnOk result (self.new ≡ with_item T.Key.cmp T.key_of self.old item) }
+        ensures err { OnErr result (self.new ≡ self.old) }
+    {
+        match place(self.items.as_slice(), item.key()) {
+            Ok(place) => {
+                self.items[place] = item;
+                Ok(())
+            }
+            Err(place) => {
+                self.items.insert(place, item)?;
+                Ok(())
+            }
+        }
+    }
+
+    /// Adds an item whose key is behind all others, and answers whether it is.
+    pub fn push_last(&mut self, item: T) -> Result<bool, AllocError>
+        ensures fits { IfOk result
+            (λ fits. IsTrue fits
+                ↔ All (λ x. IsTrue (is_lt (T.Key.cmp (T.key_of x) (T.key_of item)))) self.old) }
+        ensures ok { IfOk result
+            (λ fits. self.new ≡ (if fits then self.old ++ item ∷ [] else self.old)) }
+        ensures err { OnErr result (self.new ≡ self.old) }
+    {
+        let fits = stands_last(self.items.as_slice(), item.key());
+        if fits {
+            self.items.push(item)?;
+        }
+        Ok(fits)
+    }
+}
+
+// Where the key is, or where it would come in.
+fn place<T: Keyed>(items: &[T], key: T::Key) -> Result<usize, usize>
+    requires { Rises T.Key.cmp T.key_of items.now }
+    ensures found { IfOk result
+        (λ i. (i < length items.now) × ((x : T) × Stands T.Key.cmp T.key_of key items.now i x)) }
+    ensures missing { IfErr result
+        (λ i. (i ≤ length items.now)
+            × Splits T.Key.cmp T.key_of key (take i items.now) (drop i items.now)) }
+{
+    items.binary_search_by_key(&key, |item| item.key())
+}
+
+// Whether all items stand before the key.
+fn stands_last<T: Keyed>(items: &[T], key: T::Key) -> bool
+    requires { Rises T.Key.cmp T.key_of items.now }
+    ensures { IsTrue result ↔ All (λ x. IsTrue (is_lt (T.Key.cmp (T.key_of x) key))) items.now }
+{
+    match items.last() {
+        Some(last) => last.key() < key,
+        None => true,
+    }
+}

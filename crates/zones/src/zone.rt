@@ -1,0 +1,118 @@
+//! A zone: a map from ids to entries, and one from types and names to elements.
+ghost use Rattle.std.specs.Prelude.{◌≡◌, ◌==◌, ◌↔◌, [], All, IsTrue, IsSome, IfSome, is_some, option_copied};
+ghost use Rattle.terms.specs.Types.{zone_number, Zone as AZone};
+ghost use Rattle.terms.specs.Lookups.{IsZone, entry_of, element_of, is_applied, is_supplied, is_held, waives_applied};
+
+use crate::entries::{Element, Entry};
+use crate::table::Table;
+use fields::{Id, Name, Srel, ZoneName};
+use std::alloc::Global;
+use std::marker::Model;
+use terms::{ElemType, ZoneKind};
+
+/// A target zone, with its related distribution zone, or a distribution zone.
+#[derive(Drop)]
+pub struct Zone {
+    kind: ZoneKind,
+    srel: Srel,
+    related: Option<ZoneName>,
+    entries: Table<Entry>,
+    elements: Table<Element>,
+}
+
+impl Model for Zone {
+    ghost use Rattle.std.specs.Prelude.{◌≡◌, ◌==◌, All, IsTrue, is_some};
+    ghost use Rattle.terms.specs.Types.{zone_number, Zone as AZone};
+    ghost use Rattle.terms.specs.Lookups.{is_held, waives_applied};
+
+    ghost Value = { AZone };
+
+    ghost view = { λ z. record { kind = z.kind; srel = z.srel; related = z.related; entries = z.entries; elements = z.elements } };
+
+    ghost invariant = { λ z. All (λ e. IsTrue (is_held e)) z.entries × All (λ e. IsTrue (waives_applied e)) z.entries × (is_some z.related ≡ (zone_number z.kind == 0)) };
+}
+
+impl Zone {
+    /// An empty zone. A target zone alone names a related zone.
+    pub fn new(alloc: Global, kind: ZoneKind, srel: Srel, related: Option<ZoneName>) -> Self
+        requires { is_some related ≡ (zone_number kind == 0) }
+        ensures kind { result.kind ≡ kind }
+        ensures srel { result.srel ≡ srel }
+        ensures related { result.related ≡ related }
+        ensures entries { result.entries ≡ [] }
+        ensures elements { result.elements ≡ [] }
+    {
+        Zone {
+            kind,
+            srel,
+            related,
+            entries: Table::new(alloc),
+            elements: Table::new(alloc),
+        }
+    }
+
+    pub fn kind(&self) -> ZoneKind
+        ensures { result ≡ self.now.kind }
+    {
+        self.kind
+    }
+
+    pub fn srel(&self) -> Srel
+        ensures { result ≡ self.now.srel }
+    {
+        self.srel
+    }
+
+    pub fn related(&self) -> Option<ZoneName>
+        ensures { result ≡ self.now.related }
+    {
+        self.related
+    }
+
+    pub fn entries(&self) -> &[Entry]
+        ensures entries { result.now ≡ self.now.entries }
+        ensures form { IsZone self.now }
+    {
+        self.entries.as_slice()
+    }
+
+    pub fn elements(&self) -> &[Element]
+        ensures elements { result.now ≡ self.now.elements }
+        ensures form { IsZone self.now }
+    {
+        self.elements.as_slice()
+    }
+
+    pub fn entry(&self, id: Id) -> Option<&Entry>
+        ensures { option_copied result ≡ entry_of self.now id }
+    {
+        self.entries.get(id)
+    }
+
+    pub fn element(&self, elem_type: ElemType, name: Name) -> Option<&Element>
+        ensures { option_copied result ≡ element_of self.now elem_type name }
+    {
+        self.elements.get((elem_type, name))
+    }
+
+    /// Whether the id is applied, in a distribution zone accepted. An id that is looked for as an
+    /// FMID is supplied only so.
+    pub fn is_applied(&self, id: Id) -> bool
+        ensures { result ≡ is_applied self.now id }
+    {
+        match self.entry(id) {
+            Some(entry) => entry.applied.is_some(),
+            None => false,
+        }
+    }
+
+    /// Whether the id is applied or superseded.
+    pub fn supplies(&self, id: Id) -> bool
+        ensures { result ≡ is_supplied self.now id }
+    {
+        match self.entry(id) {
+            Some(entry) => entry.applied.is_some() || !entry.supby.is_empty(),
+            None => false,
+        }
+    }
+}
