@@ -8,7 +8,7 @@ use Rattle.terms.specs.declared.kinds.HoldKind.TheVariants.{System}
 use Rattle.terms.specs.Types.{Text, Id, hold_number, Ver, Hold, Sysmod, Global, Release, NamedZone}
 use Rattle.terms.specs.Lookups.{IsRising, at_most_one, is_before, is_received, is_function, is_applied}
 use Rattle.terms.specs.Choice.{vers_of}
-use Rattle.terms.specs.Over.{Leads}
+use Rattle.terms.specs.Over.{Reaches}
 
 -- what all its ++VERs for one SREL name in PRE, SUP and FMID
 abbrev pub names_for : Global → Text → Id → List Id
@@ -16,7 +16,7 @@ names_for g srel x = flat_map (λ v. v.pre ++ v.sup ++ at_most_one v.fmid) (vers
 
 -- In the ++VERs of some SREL a SYSMOD leads to itself. Loops of REQ are none of these.
 abbrev pub HasLoop : Global → Type 0
-HasLoop g = (srel : Text) × (x : Id) × (between : List Id) × Leads (names_for g srel) x between x
+HasLoop g = (srel : Text) × (x : Id) × Reaches (names_for g srel) x x
 
 -- whether it is received and no function
 abbrev pub is_service : Global → Id → Bool
