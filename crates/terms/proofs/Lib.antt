@@ -1,3 +1,4 @@
 pub mod Greatest
+pub mod GlobalGroups
 pub mod Ids
 pub mod Leads
