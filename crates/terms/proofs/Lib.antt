@@ -2,3 +2,4 @@ pub mod Greatest
 pub mod GlobalGroups
 pub mod Ids
 pub mod Leads
+pub mod RisingLists

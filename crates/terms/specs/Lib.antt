@@ -1,5 +1,6 @@
 pub mod Types
 pub mod Spelling
+pub mod Rising
 pub mod Lookups
 pub mod Choice
 pub mod Over
