@@ -13,7 +13,7 @@ use Rattle.std.proofs.lemmas.List.Elements.{filter-append}
 use Rattle.std.proofs.lemmas.Map.{lookup-none, NonePasses}
 use Rattle.std.proofs.lemmas.Map.Lookups.{CmpEqualImpliesEq}
 use Rattle.std.proofs.lemmas.Map.Keys.{sorted_head, sorted_tail}
-use Rattle.terms.specs.Lookups.{placed}
+use Rattle.terms.specs.Rising.{with_item}
 
 -- what all pass a filter keeps, what none pass it drops
 pub filter_all : {X : Type 0} (p : X → Bool) (xs : List X) → AllByRecursion (λ x. p x ≡ true) xs → filter p xs ≡ xs
@@ -46,20 +46,24 @@ find-append_first p [] ys none = find-none p ys none
 find-append_first p (x ∷ xs) ys none = ap (cond (p x) (Some x)) (find-append_first p xs ys none)
 
 -- An element takes its place behind those before it, and ahead of those after it.
-module _ {X : Type 0} (before : X → X → Bool) where
-  pub placed-after : (xs ys : List X) (y : X)
-      → AllByRecursion (λ x. before x y ≡ true) xs → AllByRecursion (λ x. before y x ≡ false) xs
-      → placed before (xs ++ ys) y ≡ xs ++ placed before ys y
-  placed-after xs ys y ahead apart =
-      rw (filter-append (λ x. before x y) xs ys, filter-append (before y) xs ys, filter_all (λ x. before x y) xs ahead, filter_none (before y) xs apart)
-          (append_assoc xs (filter (λ x. before x y) ys) (y ∷ filter (before y) ys))
+module _ {X : Type 0} (R : X → X → Ordering) where
+  -- the list with y at its place
+  abbrev pub put : List X → X → List X
+  put xs y = with_item R (λ x. x) xs y
 
-  pub placed-before : (xs ys : List X) (y : X)
-      → AllByRecursion (λ x. before x y ≡ false) ys → AllByRecursion (λ x. before y x ≡ true) ys
-      → placed before (xs ++ ys) y ≡ placed before xs y ++ ys
-  placed-before xs ys y apart behind =
-      rw (filter-append (λ x. before x y) xs ys, filter-append (before y) xs ys, filter_none (λ x. before x y) ys apart, filter_all (before y) ys behind, append-nil)
-          (sym (append_assoc (filter (λ x. before x y) xs) (y ∷ filter (before y) xs) ys))
+  pub put-ahead : (xs ys : List X) (y : X)
+      → AllByRecursion (λ x. is_lt (R x y) ≡ true) xs → AllByRecursion (λ x. is_lt (R y x) ≡ false) xs
+      → put (xs ++ ys) y ≡ xs ++ put ys y
+  put-ahead xs ys y ahead apart =
+      rw (filter-append (λ x. is_lt (R x y)) xs ys, filter-append (λ x. is_lt (R y x)) xs ys, filter_all (λ x. is_lt (R x y)) xs ahead, filter_none (λ x. is_lt (R y x)) xs apart)
+          (simp append_assoc)
+
+  pub put-behind : (xs ys : List X) (y : X)
+      → AllByRecursion (λ x. is_lt (R x y) ≡ false) ys → AllByRecursion (λ x. is_lt (R y x) ≡ true) ys
+      → put (xs ++ ys) y ≡ put xs y ++ ys
+  put-behind xs ys y apart behind =
+      rw (filter-append (λ x. is_lt (R x y)) xs ys, filter-append (λ x. is_lt (R y x)) xs ys, filter_none (λ x. is_lt (R x y)) ys apart, filter_all (λ x. is_lt (R y x)) ys behind, append-nil)
+          (simp append_assoc)
 
 module _ {X K V : Type 0} {C : K → K → Ordering} (o : IsTotalOrder C) (key : X → K) (items : V → List X) where
   -- each group's elements have its key
@@ -160,23 +164,20 @@ module _ {X K V : Type 0} {C : K → K → Ordering} (o : IsTotalOrder C) (key :
       (less : (a b : X) → C (key a) (key b) ≡ Less → R a b ≡ Less)
       (greater : (a b : X) → C (key a) (key b) ≡ Greater → R a b ≡ Greater) where
 
-    abbrev pub put : List X → X → List X
-    put xs y = placed (λ a b. is_lt (R a b)) xs y
-
-    put-behind : (xs ys : List X) (y : X) → AllByRecursion (λ x. C (key y) (key x) ≡ Less) ys → put (xs ++ ys) y ≡ put xs y ++ ys
-    put-behind xs ys y behind =
-        placed-before (λ a b. is_lt (R a b)) xs ys y
+    behind-key : (xs ys : List X) (y : X) → AllByRecursion (λ x. C (key y) (key x) ≡ Less) ys → put R (xs ++ ys) y ≡ put R xs y ++ ys
+    behind-key xs ys y behind =
+        put-behind R xs ys y
         (recursion_weaker (λ x. C (key y) (key x) ≡ Less) (λ x. is_lt (R x y) ≡ false) (λ x h. ap is_lt (greater x y (back (key y) (key x) h))) ys behind)
         (recursion_weaker (λ x. C (key y) (key x) ≡ Less) (λ x. is_lt (R y x) ≡ true) (λ x h. ap is_lt (less y x h)) ys behind)
 
-    put-ahead : (xs ys : List X) (y : X) → AllByRecursion (λ x. C (key y) (key x) ≡ Greater) xs → put (xs ++ ys) y ≡ xs ++ put ys y
-    put-ahead xs ys y ahead =
-        placed-after (λ a b. is_lt (R a b)) xs ys y
+    ahead-key : (xs ys : List X) (y : X) → AllByRecursion (λ x. C (key y) (key x) ≡ Greater) xs → put R (xs ++ ys) y ≡ xs ++ put R ys y
+    ahead-key xs ys y ahead =
+        put-ahead R xs ys y
         (recursion_weaker (λ x. C (key y) (key x) ≡ Greater) (λ x. is_lt (R x y) ≡ true) (λ x h. ap is_lt (less x y (forth (key y) (key x) h))) xs ahead)
         (recursion_weaker (λ x. C (key y) (key x) ≡ Greater) (λ x. is_lt (R y x) ≡ false) (λ x h. ap is_lt (greater y x h)) xs ahead)
 
     pub flat-insert_entry : (es : List (K × V)) (y : X) (w : V) → HasKeys es → IsStrictlySortedBy C (keys_of es)
-        → items w ≡ put (items_at es (key y)) y → flat (insert_entry C es (key y) w) ≡ put (flat es) y
+        → items w ≡ put R (items_at es (key y)) y → flat (insert_entry C es (key y) w) ≡ put R (flat es) y
     flat-insert_entry [] y w keyed sorted is = rw append-nil is
     flat-insert_entry (e ∷ es) y w keyed sorted is =
         by (flat-insert_entry es y w keyed.1 (sorted_tail C e.0 (keys_of es) sorted)) (C (key y) e.0) refl
@@ -184,20 +185,20 @@ module _ {X K V : Type 0} {C : K → K → Ordering} (o : IsTotalOrder C) (key :
         higher : AllByRecursion (λ q. C e.0 q ≡ Less) (keys_of es)
         higher = sorted_head C e.0 (keys_of es) sorted
 
-        by : (items w ≡ put (items_at es (key y)) y → flat (insert_entry C es (key y) w) ≡ put (flat es) y)
-            → (c : Ordering) → C (key y) e.0 ≡ c → flat (insert_entry C (e ∷ es) (key y) w) ≡ put (flat (e ∷ es)) y
+        by : (items w ≡ put R (items_at es (key y)) y → flat (insert_entry C es (key y) w) ≡ put R (flat es) y)
+            → (c : Ordering) → C (key y) e.0 ≡ c → flat (insert_entry C (e ∷ es) (key y) w) ≡ put R (flat (e ∷ es)) y
         by again Less c =
             let above : AllByRecursion (λ q. C (key y) q ≡ Less) (keys_of (e ∷ es)) = (c, above_lower (key y) e.0 (keys_of es) c higher) in
             let now = rw (none_equal (key y) (e ∷ es) above) at is in
-            rw c (ap (λ xs. xs ++ flat (e ∷ es)) now ∙ sym (put-behind [] (flat (e ∷ es)) y (flat_above (λ q. C (key y) q ≡ Less) (e ∷ es) keyed above)))
+            rw c (ap (λ xs. xs ++ flat (e ∷ es)) now ∙ sym (behind-key [] (flat (e ∷ es)) y (flat_above (λ q. C (key y) q ≡ Less) (e ∷ es) keyed above)))
         by again Equal c =
             let now = rw c at is in
             rw c (ap (λ xs. xs ++ flat es) now
-                ∙ sym (put-behind (items e.1) (flat es) y (flat_above (λ q. C (key y) q ≡ Less) es keyed.1 (above_same (key y) e.0 (keys_of es) c higher))))
+                ∙ sym (behind-key (items e.1) (flat es) y (flat_above (λ q. C (key y) q ≡ Less) es keyed.1 (above_same (key y) e.0 (keys_of es) c higher))))
         by again Greater c =
             let now = rw c at is in
             rw c (ap (λ xs. items e.1 ++ xs) (again now)
-                ∙ sym (put-ahead (items e.1) (flat es) y (recursion_weaker (λ x. key x ≡ e.0) (λ x. C (key y) (key x) ≡ Greater) (λ x same. ap (C (key y)) same ∙ c) (items e.1) keyed.0)))
+                ∙ sym (ahead-key (items e.1) (flat es) y (recursion_weaker (λ x. key x ≡ e.0) (λ x. C (key y) (key x) ≡ Greater) (λ x same. ap (C (key y)) same ∙ c) (items e.1) keyed.0)))
 
   -- keys stay with their groups
   pub HasKeys-insert_entry : CmpEqualImpliesEq C → (es : List (K × V)) (k : K) (w : V) → HasKeys es → AllByRecursion (λ x. key x ≡ k) (items w)

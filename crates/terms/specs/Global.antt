@@ -1,15 +1,16 @@
 -- What RECEIVE, its holds, releases and assignments, and REJECT do to the global zone.
-use Rattle.std.specs.Prelude.{◌≡◌, ◌≤◌, ◌<◌, ◌+◌, ◌^◌, ◌&&◌, ◌||◌, ◌==◌, nat_lt, Bool, false, not, List, [], ◌∷◌, ◌++◌, length, map, fold, filter, find, All, AllPairs, Option, None, Some, is_some, Result, Ok, Err, IsTrue, if◌then◌else◌}
+use Rattle.std.specs.Prelude.{◌≡◌, ◌≤◌, ◌<◌, ◌+◌, ◌^◌, ◌&&◌, ◌||◌, ◌==◌, Bool, false, not, List, [], ◌∷◌, ◌++◌, length, map, fold, filter, find, All, Option, None, Some, is_some, Result, Ok, Err, IsTrue, if◌then◌else◌}
 use Rattle.std.specs.List.{list_any, flat_map}
 use Rattle.std.specs.Option.{option_map_or}
 use Rattle.std.specs.declared.cmp.Ordering.{Ordering}
-use Rattle.std.specs.Ordering.{is_lt, nat_cmp, ordering_then}
+use Rattle.std.specs.Ordering.{nat_cmp, ordering_then}
 use Rattle.std.specs.Cmp.Lexicographic.{slice_cmp}
 use Rattle.std.specs.Str.{bytes_eq}
 use Rattle.terms.specs.declared.kinds.HoldKind.{HoldKind}
 use Rattle.terms.specs.declared.kinds.HoldKind.TheVariants.{System}
 use Rattle.terms.specs.Types.{Text, Id, hold_number, Ver, Hold, Sysmod, Global, Release, NamedZone}
-use Rattle.terms.specs.Lookups.{IsRising, at_most_one, is_before, placed, is_received, is_function, is_applied}
+use Rattle.terms.specs.Rising.{Rises, with_item}
+use Rattle.terms.specs.Lookups.{at_most_one, is_received, is_function, is_applied}
 use Rattle.terms.specs.Choice.{vers_of}
 use Rattle.terms.specs.Over.{Reaches}
 
@@ -45,14 +46,11 @@ hold_cmp a b =
     ordering_then (slice_cmp nat_cmp a.id b.id)
         (ordering_then (nat_cmp (hold_number a.kind) (hold_number b.kind)) (slice_cmp nat_cmp a.reason b.reason))
 
-abbrev pub is_hold_before : Hold → Hold → Bool
-is_hold_before a b = is_lt (hold_cmp a b)
-
 -- SYSMODs and holds are in order, none twice, there is no loop, and roles fit.
 -- An internal hold is a SYSTEM hold of a received SYSMOD.
 pub record IsGlobal (g : Global) : Type 0 where
-  pub sysmods : IsRising (map (λ s. s.id) g.sysmods)
-  pub holds : AllPairs (λ a b. IsTrue (is_hold_before a b)) g.holds
+  pub sysmods : Rises (slice_cmp nat_cmp) (λ s. s.id) g.sysmods
+  pub holds : Rises hold_cmp (λ h. h) g.holds
   pub no_loop : ¬ HasLoop g
   pub roles : RolesFit g
   pub internal : All (λ h. IsTrue h.internal → (h.kind ≡ System) × IsTrue (is_received g h.id)) g.holds
@@ -72,7 +70,7 @@ marked was h = record h { internal = h.internal || option_map_or (λ old. old.in
 
 -- The hold takes its place by its key. Where one was there it is replaced, and its mark as internal stays.
 abbrev pub hold : Global → Hold → Global
-hold g h = record g { holds = placed is_hold_before g.holds (marked (hold_of g h.id h.kind h.reason) h) }
+hold g h = record g { holds = with_item hold_cmp (λ o. o) g.holds (marked (hold_of g h.id h.kind h.reason) h) }
 
 -- Rl1: there is no such hold. Rl2: it is internal.
 pub data ReleaseFault : Type 0 where
@@ -93,20 +91,16 @@ release g r = release_found g r (hold_of g r.id r.kind r.reason)
 
 -- a SYSMOD gains a source
 abbrev pub with_source : Text → Sysmod → Sysmod
-with_source source s = record s { sources = placed is_before s.sources source }
+with_source source s = record s { sources = with_item (slice_cmp nat_cmp) (λ t. t) s.sources source }
 
 -- ++ASSIGN gives a received SYSMOD the source; of an id that is not received it changes nothing.
 abbrev pub assign : Global → Text → Id → Global
 assign g source x =
     record g { sysmods = map (λ s. if bytes_eq s.id x then with_source source s else s) g.sysmods }
 
--- whether a SYSMOD comes before another, by id
-abbrev pub is_sysmod_before : Sysmod → Sysmod → Bool
-is_sysmod_before a b = is_before a.id b.id
-
 -- the SYSMOD at its place among the others, with its holds laid aside
 abbrev pub with_sysmod : Global → Sysmod → Global
-with_sysmod g s = record g { sysmods = placed is_sysmod_before g.sysmods (record s { holds = [] }) }
+with_sysmod g s = record g { sysmods = with_item (slice_cmp nat_cmp) (λ r. r.id) g.sysmods (record s { holds = [] }) }
 
 -- Rc1: it is there already. Rc2: a loop. Rc3: a role does not fit. Rc4: there are 65,535 already.
 pub data ReceiveFault : Type 0 where

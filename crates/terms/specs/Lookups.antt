@@ -1,5 +1,5 @@
 -- Finding things in the global zone and in a zone, and what is supplied in a zone.
-use Rattle.std.specs.Prelude.{◌&&◌, ◌||◌, ◌==◌, nat_lt, IsTrue, All, AllPairs, ℕ, Bool, true, false, not, List, [], ◌∷◌, ◌++◌, Option, None, Some, find, filter, map, is_some}
+use Rattle.std.specs.Prelude.{◌&&◌, ◌||◌, ◌==◌, nat_lt, IsTrue, All, AllPairs, ℕ, Bool, true, false, not, List, [], ◌∷◌, Option, None, Some, find, filter, map, is_some}
 use Rattle.std.specs.List.{list_any}
 use Rattle.std.specs.Option.{option_map_or, option_and_then}
 use Rattle.std.specs.Ordering.{is_lt, nat_cmp}
@@ -33,10 +33,6 @@ is_before x y = is_lt (slice_cmp nat_cmp x y)
 -- the ids rise by their bytes, none twice
 abbrev pub IsRising : List Id → Type 0
 IsRising xs = AllPairs (λ x y. IsTrue (is_before x y)) xs
-
--- the list with x at its place, where x takes the place of what is neither before nor after it
-abbrev pub placed : {X : Type 0} → (X → X → Bool) → List X → X → List X
-placed before xs x = filter (λ y. before y x) xs ++ x ∷ filter (before x) xs
 
 -- the received SYSMOD of this id
 abbrev pub sysmod_of : Global → Id → Option Sysmod
