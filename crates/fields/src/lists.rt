@@ -1,7 +1,6 @@
 //! Lists that rise by their bytes, none twice, as statements and tables have them.
-ghost use Rattle.std.specs.Prelude.{◌≡◌, ◌↔◌, ◌++◌, [], ◌∷◌, length, not, IsTrue, All, Contains, IfOk, OnOk, OnErr, filter, if◌then◌else◌};
+ghost use Rattle.std.specs.Prelude.{◌≡◌, ◌↔◌, [], length, not, IsTrue, IfOk, OnOk, OnErr};
 ghost use Rattle.std.specs.List.{list_any};
-ghost use Rattle.std.specs.Ordering.{is_lt};
 ghost use Rattle.terms.specs.Rising.{Rises, with_item};
 
 use std::alloc::{AllocError, Global};
@@ -78,5 +77,13 @@ impl<T: Field> Rising<T> {
                 Ok(true)
             }
         }
+    }
+
+    pub fn try_clone(&self, alloc: Global) -> Result<Self, AllocError>
+        ensures { IfOk result (λ copy. copy ≡ self.now) }
+    {
+        Ok(Rising {
+            items: Vec::from_slice(alloc, self.items.as_slice())?,
+        })
     }
 }

@@ -1,14 +1,17 @@
 -- How a list that rises by a key falls apart at a key, and stays in order when an item comes in between.
 use Rattle.std.proofs.Common.{◌≡◌, ◌<◌, ◌≤◌, ◌+◌, ℕ, suc, Bool, true, false, IsTrue, List, [], ◌∷◌, ◌++◌, length, get_or, take, drop, refl, sym, ap, ◌∙◌, arith, cond, length-drop, append_assoc}
 use Rattle.std.specs.Prelude.{All, AllPairs, filter, Contains, find, Option, Some, None}
-use Rattle.std.specs.List.{AllWithin, list_any}
-use Rattle.std.specs.List.Sorted.{IsNonDecreasingBy, IsSortedBy, IsPartitionPoint}
+use Rattle.std.specs.List.{HoldsAt, list_any}
+use Rattle.std.specs.Prelude.{Result, Ok, Err, is_ok}
+use Rattle.std.specs.List.Sorted.{IsNonDecreasingBy, IsSortedBy, IsPartitionPoint, IsSearchInRange, IsBinarySearchResult}
 use Rattle.std.specs.declared.cmp.Ordering.{Ordering}
 use Rattle.std.specs.declared.cmp.Ordering.TheVariants.{Less, Equal, Greater}
 use Rattle.std.specs.Ordering.{is_lt, is_eq, ordering_index, ordering_reverse}
 use Rattle.std.specs.Cmp.{IsTotalOrder}
 use Rattle.std.proofs.lemmas.Cmp.{alike_right, tied_back, tied_itself}
-use Rattle.std.proofs.lemmas.List.{take-append-drop, get_or-take, get_or-drop, length-take-le, append-nil}
+use Rattle.std.proofs.lemmas.List.{take-append-drop, get_or-take, get_or-drop, length-take-le, append-nil, get_or_default}
+use Rattle.std.proofs.Math.Seq.{drop-cons}
+use Rattle.std.proofs.lemmas.List.Folds.{list_any_at, list_any_none, list_any-append}
 use Rattle.std.proofs.lemmas.List.Elements.{All-cons, All-head, All-tail, All-append, filter-append}
 use Rattle.std.proofs.lemmas.List.Kept.{AllPairs-cons}
 use Rattle.std.proofs.lemmas.List.Sorted.{searchable_from_sorted}
@@ -157,3 +160,52 @@ module _ {X K : Type 0} {R : K → K → Ordering} (o : IsTotalOrder R) (key : X
   pub Rises-between : (front back : List X) (x : X) → Rises R key (front ++ back) → Splits R key (key x) front back → Rises R key (front ++ x ∷ back)
   Rises-between front back x rises s =
       AllPairs-between (λ a b. is_lt (R (key a) (key b)) ≡ true) front back x rises (λ i d h. ap is_lt (s.low i d h)) (λ i d h. ap is_lt (s.high i d h))
+
+  -- the item at a place ties with the key, and the list falls apart there
+  pub record Stands (k : K) (xs : List X) (i : ℕ) (x : X) : Type 0 where
+    pub tie : R (key x) k ≡ Equal
+    pub parts : xs ≡ take i xs ++ x ∷ drop (suc i) xs
+    pub at : (d : X) → get_or xs i d ≡ x
+
+  -- where a binary search finds the key
+  pub Stands-at : (k : K) (xs : List X) (i : ℕ) → i < length xs → HoldsAt (λ y. R (key y) k ≡ Equal) xs i → (x : X) × Stands k xs i x
+  Stands-at k [] i below h = absurd (omega arith)
+  Stands-at k (x ∷ xs) i below h = (get_or (x ∷ xs) i x, record {
+    tie = h x;
+    parts = sym (take-append-drop i (x ∷ xs)) ∙ ap (λ ys. take i (x ∷ xs) ++ ys) (drop-cons (x ∷ xs) i x below);
+    at = λ d. get_or_default (x ∷ xs) i d x below;
+  })
+
+  -- whether some item has the key, by a test that ties with the order
+  pub list_any-there : (E : K → K → Bool) → ((a b : K) → E a b ≡ is_eq (R a b)) → (k : K) (xs : List X) (i : ℕ) (x : X) → i < length xs → Stands k xs i x → list_any (λ y. E k (key y)) xs ≡ true
+  list_any-there E ties k xs i x below s =
+      list_any_at (λ y. E k (key y)) xs i x below (ap (λ y. E k (key y)) (s.at x) ∙ ties k (key x) ∙ ap is_eq (tied_back o (key x) k s.tie))
+
+  pub list_any-apart : (E : K → K → Bool) → ((a b : K) → E a b ≡ is_eq (R a b)) → (k : K) (front back : List X) → Splits R key k front back → list_any (λ y. E k (key y)) (front ++ back) ≡ false
+  list_any-apart E ties k front back s =
+      let low : All (λ y. E k (key y) ≡ false) front = λ i d h. ties k (key (get_or front i d)) ∙ unequal (key (get_or front i d)) k (s.low i d h) in
+      let high : All (λ y. E k (key y) ≡ false) back = λ i d h. ties k (key (get_or back i d)) ∙ ap is_eq (s.high i d h) in
+      list_any_none (λ y. E k (key y)) (front ++ back) (All-append (λ y. E k (key y) ≡ false) front back low high)
+
+  -- whether a binary search finds the key
+  pub is_ok-search : (E : K → K → Bool) → ((a b : K) → E a b ≡ is_eq (R a b)) → (k : K) (xs : List X) → Rises R key xs → (r : Result ℕ ℕ) → IsSearchInRange r (length xs) → IsBinarySearchResult (λ y. R (key y) k) xs r → is_ok r ≡ list_any (λ y. E k (key y)) xs
+  is_ok-search E ties k xs rises (Ok i) within p =
+      sym (list_any-there E ties k xs i (Stands-at k xs i within p).0 within (Stands-at k xs i within p).1)
+  is_ok-search E ties k xs rises (Err i) within p =
+      sym (ap (list_any (λ y. E k (key y))) (sym (take-append-drop i xs)) ∙ list_any-apart E ties k (take i xs) (drop i xs) (Splits-at k xs i within (p (searchable k xs rises))))
+
+  -- where a binary search ends without the item's key the item comes in
+  pub with_item-at : (xs : List X) (i : ℕ) (x : X) → Rises R key xs → i ≤ length xs → IsPartitionPoint (λ y. R (key y) (key x) ≡ Less) (λ y. R (key y) (key x) ≡ Greater) xs i → with_item R key xs x ≡ take i xs ++ x ∷ drop i xs
+  with_item-at xs i x rises within p =
+      ap (λ ys. with_item R key ys x) (sym (take-append-drop i xs)) ∙ with_item-new (take i xs) (drop i xs) x (Splits-at (key x) xs i within p)
+
+  pub Rises-at : (xs : List X) (i : ℕ) (x : X) → Rises R key xs → i ≤ length xs → IsPartitionPoint (λ y. R (key y) (key x) ≡ Less) (λ y. R (key y) (key x) ≡ Greater) xs i → Rises R key (take i xs ++ x ∷ drop i xs)
+  Rises-at xs i x rises within p =
+      let whole : Rises R key (take i xs ++ drop i xs) = rw (take-append-drop i xs) rises in
+      Rises-between (take i xs) (drop i xs) x whole (Splits-at (key x) xs i within p)
+
+  -- an item that is there already changes nothing
+  pub with_item-same : (xs : List X) (i : ℕ) (x : X) → Rises R key xs → Stands (key x) xs i x → with_item R key xs x ≡ xs
+  with_item-same xs i x rises s =
+      let whole : Rises R key (take i xs ++ x ∷ drop (suc i) xs) = rw (← s.parts) rises in
+      ap (λ ys. with_item R key ys x) s.parts ∙ with_item-there (take i xs) (drop (suc i) xs) x x whole s.tie ∙ sym s.parts
