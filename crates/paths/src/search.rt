@@ -1,0 +1,88 @@
+ghost use Rattle.std.specs.Prelude.{◌≡◌, ◌++◌, ◌↔◌, List, ℕ, OnOk, IfOk, IfSome, IsSomeAnd, Contains, IsTrue};
+ghost use Rattle.terms.specs.Over.{Reaches};
+ghost use Rattle.terms.specs.Lookups.{IsRising};
+ghost use Rattle.paths.specs.Seen.{AddsAll};
+
+use crate::Id;
+use indexmap::IndexSet;
+use std::alloc::{AllocError, Global};
+
+/// A graph of ids: what each names.
+pub trait Names {
+    ghost named: { Self → List ℕ → List (List ℕ) };
+
+    /// Appends what the id names.
+    fn append_named(&self, id: Id, found: &mut Vec<Id>) -> Result<(), AllocError>
+        ensures { OnOk result (found.new.items ≡ found.old.items ++ named self.now id) };
+}
+
+/// Adds what the id names to the ids that are seen.
+fn see_named<N: Names>(
+    alloc: Global,
+    names: &N,
+    id: Id,
+    seen: &mut IndexSet<Id>,
+) -> Result<(), AllocError>
+    ensures { OnOk result (AddsAll seen.old.keys (N.named names.now id) seen.new.keys) }
+{
+    let mut found = Vec::new(alloc);
+    names.append_named(id, &mut found)?;
+    for next in &found {
+        seen.insert(*next)?;
+    }
+    Ok(())
+}
+
+/// Whether there is an id to stop at and it is seen.
+fn is_met(seen: &IndexSet<Id>, stop: Option<&Id>) -> bool
+    ensures { IsTrue result → IsSomeAnd stop.entry (λ z. Contains seen.now.keys z.now) }
+{
+    match stop {
+        Some(z) => seen.contains(z),
+        None => false,
+    }
+}
+
+/// The ids that x reaches, in the order in which they are first seen. Where it sees the one to stop
+/// at, it stops.
+fn reached<N: Names>(
+    alloc: Global,
+    names: &N,
+    x: Id,
+    stop: Option<&Id>,
+) -> Result<IndexSet<Id>, AllocError>
+    ensures sound { IfOk result (λ seen. (z : List ℕ) → Contains seen.keys z → Reaches (N.named names.now) x z) }
+    ensures all { IfOk result (λ seen. ¬ IsSomeAnd stop.entry (λ z. Contains seen.keys z.now) →
+        (z : List ℕ) → Reaches (N.named names.now) x z → Contains seen.keys z) }
+{
+    let mut seen = IndexSet::new(alloc);
+    see_named(alloc, names, x, &mut seen)?;
+    let mut i = 0;
+    while i < seen.len() {
+        if is_met(&seen, stop) {
+            return Ok(seen);
+        }
+        let y = seen.as_slice()[i];
+        see_named(alloc, names, y, &mut seen)?;
+        i += 1;
+    }
+    Ok(seen)
+}
+
+/// Whether x leads to z: some list of ids does, each naming the next, in one step or more.
+pub fn leads<N: Names>(alloc: Global, names: &N, x: Id, z: Id) -> Result<bool, AllocError>
+    ensures { IfOk result (λ found. IsTrue found ↔ Reaches (N.named names.now) x z) }
+{
+    let seen = reached(alloc, names, x, Some(&z))?;
+    Ok(seen.contains(&z))
+}
+
+/// The ids that x leads to.
+pub fn ends<N: Names>(alloc: Global, names: &N, x: Id) -> Result<Vec<Id>, AllocError>
+    ensures ends { IfOk result (λ ends. (z : List ℕ) → Contains ends.items z ↔ Reaches (N.named names.now) x z) }
+    ensures rising { IfOk result (λ ends. IsRising ends.items) }
+{
+    let mut seen = reached(alloc, names, x, None)?;
+    seen.sort()?;
+    seen.as_slice().to_vec(alloc)
+}
