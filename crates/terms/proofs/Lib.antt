@@ -1,5 +1,7 @@
 pub mod Greatest
 pub mod GlobalGroups
+pub mod GlobalLookups
+pub mod GlobalRoles
 pub mod Ids
 pub mod Leads
 pub mod RisingLists

@@ -8,15 +8,19 @@ use Rattle.std.specs.Cmp.Lexicographic.{slice_cmp}
 use Rattle.std.specs.Str.{bytes_eq}
 use Rattle.terms.specs.declared.kinds.HoldKind.{HoldKind}
 use Rattle.terms.specs.declared.kinds.HoldKind.TheVariants.{System}
-use Rattle.terms.specs.Types.{Text, Id, hold_number, Ver, Hold, Sysmod, Global, Release, NamedZone}
+use Rattle.terms.specs.Types.{Text, Id, hold_number, type_number, Ver, Hold, Change, Sysmod, Global, Release, NamedZone}
 use Rattle.terms.specs.Rising.{Rises, with_item}
 use Rattle.terms.specs.Lookups.{at_most_one, is_received, is_function, is_applied}
 use Rattle.terms.specs.Choice.{vers_of}
 use Rattle.terms.specs.Over.{Reaches}
 
--- what all its ++VERs for one SREL name in PRE, SUP and FMID
+-- what a ++VER names in PRE, SUP and FMID
+abbrev pub named : Ver → List Id
+named v = v.pre ++ v.sup ++ at_most_one v.fmid
+
+-- what all its ++VERs for one SREL name so
 abbrev pub names_for : Global → Text → Id → List Id
-names_for g srel x = flat_map (λ v. v.pre ++ v.sup ++ at_most_one v.fmid) (vers_of g srel x)
+names_for g srel x = flat_map named (vers_of g srel x)
 
 -- In the ++VERs of some SREL a SYSMOD leads to itself. Loops of REQ are none of these.
 abbrev pub HasLoop : Global → Type 0
@@ -26,11 +30,13 @@ HasLoop g = (srel : Text) × (x : Id) × Reaches (names_for g srel) x x
 abbrev pub is_service : Global → Id → Bool
 is_service g x = is_received g x && not (is_function g x)
 
--- It supersedes no function, and names in DELETE, FMID and ++IF FMID only functions or what is not received.
+-- what a ++VER names as functions: in DELETE, FMID and ++IF FMID
+abbrev pub named_functions : Ver → List Id
+named_functions v = v.del ++ at_most_one v.fmid ++ map (λ i. i.function) v.ifs
+
+-- It supersedes no function, and what it names as functions is no other received SYSMOD.
 abbrev pub fits_roles : Global → Ver → Bool
-fits_roles g v =
-    not (list_any (is_function g) v.sup)
-    && not (list_any (is_service g) (v.del ++ at_most_one v.fmid ++ map (λ i. i.function) v.ifs))
+fits_roles g v = not (list_any (is_function g) v.sup) && not (list_any (is_service g) (named_functions v))
 
 -- each received ++VER does
 abbrev pub RolesFit : Global → Type 0
@@ -46,11 +52,24 @@ hold_cmp a b =
     ordering_then (slice_cmp nat_cmp a.id b.id)
         (ordering_then (nat_cmp (hold_number a.kind) (hold_number b.kind)) (slice_cmp nat_cmp a.reason b.reason))
 
--- SYSMODs and holds are in order, none twice, there is no loop, and roles fit.
+-- Element statements are ordered by type and name.
+abbrev pub change_cmp : Change → Change → Ordering
+change_cmp a b = ordering_then (nat_cmp (type_number a.elem_type) (type_number b.elem_type)) (slice_cmp nat_cmp a.name b.name)
+
+-- Sources rise, ++VERs rise by SREL, and element statements by type and name, none twice.
+-- The holds that it carries are internal ones of its own.
+pub record IsSysmod (s : Sysmod) : Type 0 where
+  pub sources : Rises (slice_cmp nat_cmp) (λ t. t) s.sources
+  pub vers : Rises (slice_cmp nat_cmp) (λ v. v.srel) s.vers
+  pub changes : Rises change_cmp (λ c. c) s.changes
+  pub holds : All (λ h. IsTrue h.internal × (h.kind ≡ System) × (h.id ≡ s.id)) s.holds
+
+-- SYSMODs and holds are in order, none twice, and each SYSMOD is. There is no loop, and roles fit.
 -- An internal hold is a SYSTEM hold of a received SYSMOD.
 pub record IsGlobal (g : Global) : Type 0 where
   pub sysmods : Rises (slice_cmp nat_cmp) (λ s. s.id) g.sysmods
   pub holds : Rises hold_cmp (λ h. h) g.holds
+  pub formed : All IsSysmod g.sysmods
   pub no_loop : ¬ HasLoop g
   pub roles : RolesFit g
   pub internal : All (λ h. IsTrue h.internal → (h.kind ≡ System) × IsTrue (is_received g h.id)) g.holds
