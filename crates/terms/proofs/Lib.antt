@@ -1,9 +1,11 @@
 pub mod Greatest
 pub mod GlobalGroups
+pub mod GlobalKept
 pub mod GlobalLookups
 pub mod GlobalRoles
 pub mod Ids
 pub mod Leads
+pub mod Loops
 pub mod RisingLists
 pub mod Texts
 pub mod Controls
