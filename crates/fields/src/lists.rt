@@ -1,10 +1,14 @@
 //! Lists that rise by their bytes, none twice, as statements and tables have them.
-ghost use Rattle.std.specs.Prelude.{◌≡◌, ◌↔◌, [], length, not, IsTrue, IfOk, OnOk, OnErr};
+ghost use Rattle.std.specs.Prelude.{◌≡◌, ◌↔◌, ◌++◌, [], ◌∷◌, length, not, IsTrue, All, Contains, IfOk, OnOk, OnErr, filter, if◌then◌else◌};
 ghost use Rattle.std.specs.List.{list_any};
-ghost use Rattle.terms.specs.Rising.{Rises, with_item};
+ghost use Rattle.std.specs.Ordering.{is_lt};
+ghost use Rattle.std.specs.Slice.Iter.{iter_rest};
+ghost use Rattle.std.specs.Iterator.Adapters.{IterYieldsInOrder};
+ghost use Rattle.terms.specs.Rising.{Rises, with_item, without_key};
 
 use std::alloc::{AllocError, Global};
 use std::marker::Model;
+use std::slice::Iter;
 
 /// A value whose order tells it apart from every other.
 pub trait Field: Ord + Copy {
@@ -58,6 +62,13 @@ impl<T: Field> Rising<T> {
         self.items.as_slice()
     }
 
+    pub fn iter(&self) -> Iter<'_, T>
+        ensures rest { iter_rest result ≡ self.now }
+        ensures runs { IterYieldsInOrder T }
+    {
+        self.items.as_slice().iter()
+    }
+
     pub fn contains(&self, item: T) -> bool
         ensures { result ≡ list_any (T.eq item) self.now }
     {
@@ -79,11 +90,60 @@ impl<T: Field> Rising<T> {
         }
     }
 
+    /// Answers whether the item was there.
+    pub fn remove(&mut self, item: T) -> bool
+        ensures found { result ≡ list_any (T.eq item) self.old }
+        ensures after { self.new ≡ without_key T.cmp (λ x. x) self.old item }
+    {
+        match self.items.binary_search(&item) {
+            Ok(place) => {
+                self.items.remove(place);
+                true
+            }
+            Err(_) => false,
+        }
+    }
+
+    /// Adds an item that all others stand before, and answers whether it is one.
+    pub fn push_last(&mut self, item: T) -> Result<bool, AllocError>
+        ensures fits { IfOk result
+            (λ fits. IsTrue fits ↔ All (λ x. IsTrue (is_lt (T.cmp x item))) self.old) }
+        ensures ok { IfOk result
+            (λ fits. self.new ≡ (if fits then self.old ++ item ∷ [] else self.old)) }
+        ensures err { OnErr result (self.new ≡ self.old) }
+    {
+        let fits = stands_last(self.items.as_slice(), item);
+        if fits {
+            self.items.push(item)?;
+        }
+        Ok(fits)
+    }
+
     pub fn try_clone(&self, alloc: Global) -> Result<Self, AllocError>
         ensures { IfOk result (λ copy. copy ≡ self.now) }
     {
         Ok(Rising {
             items: Vec::from_slice(alloc, self.items.as_slice())?,
         })
+    }
+
+    /// Sorts the items and drops doubles.
+    pub fn from_vec(mut items: Vec<T>) -> Self
+        ensures { (x : T) → Contains result x ↔ Contains items.items x }
+    {
+        items.sort_unstable();
+        items.dedup();
+        Rising { items }
+    }
+}
+
+// Whether all items, which rise, stand before this one.
+fn stands_last<T: Field>(items: &[T], item: T) -> bool
+    requires { Rises T.cmp (λ x. x) items.now }
+    ensures { IsTrue result ↔ All (λ x. IsTrue (is_lt (T.cmp x item))) items.now }
+{
+    match items.last() {
+        Some(last) => *last < item,
+        None => true,
     }
 }

@@ -10,3 +10,4 @@ pub mod RisingLists
 pub mod Texts
 pub mod Controls
 pub mod Updates
+pub mod TextKeys

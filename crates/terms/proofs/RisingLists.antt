@@ -1,9 +1,10 @@
 -- How a list that rises by a key falls apart at a key, and stays in order when an item comes in between.
-use Rattle.std.proofs.Common.{◌≡◌, ◌<◌, ◌≤◌, ◌+◌, ℕ, suc, Bool, true, false, IsTrue, List, [], ◌∷◌, ◌++◌, length, get_or, take, drop, refl, sym, ap, ◌∙◌, arith, cond, length-drop, append_assoc}
+use Rattle.std.proofs.Common.{◌≡◌, ◌<◌, ◌≤◌, ◌+◌, ℕ, suc, Bool, true, false, IsTrue, List, [], ◌∷◌, ◌++◌, length, get_or, take, drop, refl, sym, ap, ◌∙◌, arith, cond, length-drop, append_assoc, inl, inr, ◌-◌}
 use Rattle.std.specs.Prelude.{All, AllPairs, filter, Contains, find, Option, Some, None}
 use Rattle.std.specs.List.{HoldsAt, list_any}
 use Rattle.std.specs.Prelude.{Result, Ok, Err, is_ok}
-use Rattle.std.specs.List.Sorted.{IsNonDecreasingBy, IsSortedBy, IsPartitionPoint, IsSearchInRange, IsBinarySearchResult}
+use Rattle.std.specs.List.Sorted.{IsNonDecreasingBy, IsSortedBy, IsPartitionPoint, IsSearchInRange, IsBinarySearchResult, IsStrictlySortedBy}
+use Rattle.std.proofs.lemmas.Map.Keys.{Less-from_sorted}
 use Rattle.std.specs.declared.cmp.Ordering.{Ordering}
 use Rattle.std.specs.declared.cmp.Ordering.TheVariants.{Less, Equal, Greater}
 use Rattle.std.specs.Ordering.{is_lt, is_eq, ordering_index, ordering_reverse}
@@ -11,6 +12,7 @@ use Rattle.std.specs.Cmp.{IsTotalOrder}
 use Rattle.std.proofs.lemmas.Cmp.{alike_right, tied_back, tied_itself}
 use Rattle.std.proofs.lemmas.List.{take-append-drop, get_or-take, get_or-drop, length-take-le, append-nil, get_or_default}
 use Rattle.std.proofs.Math.Seq.{drop-cons}
+use Rattle.std.proofs.lemmas.Bool.{cases_lt}
 use Rattle.std.proofs.lemmas.List.Folds.{list_any_at, list_any_none, list_any-append}
 use Rattle.std.proofs.lemmas.List.Elements.{All-cons, All-head, All-tail, All-append, filter-append}
 use Rattle.std.proofs.lemmas.List.Kept.{AllPairs-cons}
@@ -73,6 +75,10 @@ AllPairs-parts R (y ∷ xs) ys x h =
     All-middle : {X : Type 0} (P : X → Type 0) (xs ys : List X) (x : X) → All P (xs ++ x ∷ ys) → P x
     All-middle P [] ys x h = All-head P x ys h
     All-middle P (y ∷ xs) ys x h = All-middle P xs ys x (All-tail P y (xs ++ x ∷ ys) h)
+
+-- keys that are strictly sorted rise
+pub Rises-from_sorted : {K : Type 0} (R : K → K → Ordering) (ks : List K) → IsStrictlySortedBy R ks → Rises R (λ k. k) ks
+Rises-from_sorted R ks s = λ i j d less below. ap is_lt (Less-from_sorted R ks i j d s less below)
 
 -- what stands before a key, and what stands behind it
 pub record Splits {X K : Type 0} (R : K → K → Ordering) (key : X → K) (k : K) (front back : List X) : Type 0 where
@@ -209,3 +215,39 @@ module _ {X K : Type 0} {R : K → K → Ordering} (o : IsTotalOrder R) (key : X
   with_item-same xs i x rises s =
       let whole : Rises R key (take i xs ++ x ∷ drop (suc i) xs) = rw (← s.parts) rises in
       ap (λ ys. with_item R key ys x) s.parts ∙ with_item-there (take i xs) (drop (suc i) xs) x x whole s.tie ∙ sym s.parts
+
+  -- what goes when a key goes
+  pub without_key-there : (k : K) (xs : List X) (i : ℕ) (x : X) → Rises R key xs → Stands k xs i x → without_key R key xs k ≡ take i xs ++ drop (suc i) xs
+  without_key-there k xs i x rises s =
+      let whole : Rises R key (take i xs ++ x ∷ drop (suc i) xs) = rw (← s.parts) rises in
+      let apart = Splits-around k (take i xs) (drop (suc i) xs) x whole s.tie in
+      ap (λ ys. without_key R key ys k) s.parts
+      ∙ ap (λ ys. ys ++ behind R key k (take i xs ++ x ∷ drop (suc i) xs)) (before-around k (take i xs) (drop (suc i) xs) x apart s.tie)
+      ∙ ap (λ ys. take i xs ++ ys) (behind-around k (take i xs) (drop (suc i) xs) x apart s.tie)
+
+  pub without_key-apart : (k : K) (front back : List X) → Splits R key k front back → without_key R key (front ++ back) k ≡ front ++ back
+  without_key-apart k front back s =
+      ap (λ ys. ys ++ behind R key k (front ++ back)) (before-apart k front back s) ∙ ap (λ ys. front ++ ys) (behind-apart k front back s)
+
+  pub without_key-at : (k : K) (xs : List X) (i : ℕ) → i ≤ length xs → IsPartitionPoint (λ y. R (key y) k ≡ Less) (λ y. R (key y) k ≡ Greater) xs i → without_key R key xs k ≡ xs
+  without_key-at k xs i within p =
+      rw (take-append-drop i xs) at (without_key-apart k (take i xs) (drop i xs) (Splits-at k xs i within p))
+
+  -- a key behind the last is behind all
+  pub All-before_last : (k : K) (xs : List X) (last : X) → Rises R key xs → 0 < length xs → last ≡ get_or xs (length xs - 1) last → R (key last) k ≡ Less → All (λ x. is_lt (R (key x) k) ≡ true) xs
+  All-before_last k xs last rises some is low =
+      λ i d below. elim (cases_lt i (length xs - 1)) [
+        inl less ↦
+            let e = get_or_default xs (length xs - 1) d last (omega arith) in
+            let step = Less-from_is_lt _ (rises i (length xs - 1) d less (omega arith)) in
+            ap is_lt (o.trans _ _ k step (rw (e ∙ sym is) low))
+      | inr more ↦
+            let here : i ≡ length xs - 1 = omega arith in
+            let e = get_or_default xs (length xs - 1) d last (omega arith) in
+            rw (here, e ∙ sym is) (ap is_lt low)
+      ]
+
+  pub AllPairs-last : (xs : List X) (x : X) → Rises R key xs → All (λ y. is_lt (R (key y) (key x)) ≡ true) xs → Rises R key (xs ++ x ∷ [])
+  AllPairs-last xs x rises low =
+      let whole : Rises R key (xs ++ []) = rw (append-nil xs) rises in
+      AllPairs-between (λ a b. is_lt (R (key a) (key b)) ≡ true) xs [] x whole low (λ i d below. absurd (omega arith))

@@ -1,5 +1,5 @@
 -- The forms of ids, names and other values.
-use Rattle.std.specs.Prelude.{◌≡◌, ◌≢◌, ◌≤◌, ℕ, Bool, false, [], ◌∷◌, ◌++◌, length, reverse, All, slice_index, IsTrue, nat_le, ◌&&◌, ◌||◌, ◌==◌}
+use Rattle.std.specs.Prelude.{◌≡◌, ◌≢◌, ◌≤◌, ◌+◌, ◌/◌, ◌%◌, ℕ, Bool, false, [], ◌∷◌, ◌++◌, length, take, drop, reverse, All, slice_index, IsTrue, nat_le, ◌&&◌, ◌||◌, ◌==◌}
 use Rattle.std.specs.Str.Parse.{digits_value}
 use Rattle.terms.specs.declared.kinds.HoldKind.{HoldKind}
 use Rattle.terms.specs.declared.kinds.HoldKind.TheVariants.{Error, System, User}
@@ -50,10 +50,26 @@ IsName text = IsRun is_id_byte 1 8 text × (is_digit (slice_index text 0) ≡ fa
 abbrev pub IsZoneName : Text → Type 0
 IsZoneName text = IsRun is_id_byte 1 7 text × IsTrue (is_letter (slice_index text 0))
 
--- yyddd: two digits of a year, and a day from 001 to 366
+-- a day of the year, from 001 to 366
+abbrev pub IsDayOfYear : Text → Type 0
+IsDayOfYear text = IsRun is_digit 3 3 text × (1 ≤ digits_value 10 text) × (digits_value 10 text ≤ 366)
+
+-- yyddd, the date of a hold: two digits of a year and a day
 abbrev pub IsDate : Text → Type 0
-IsDate text = (year day : Text) × (text ≡ year ++ day) × IsRun is_digit 2 2 year × IsRun is_digit 3 3 day
-    × (1 ≤ digits_value 10 day) × (digits_value 10 day ≤ 366)
+IsDate text = IsRun is_digit 2 2 (take 2 text) × IsDayOfYear (drop 2 text)
+
+-- yy.ddd, the date of APPLY or ACCEPT
+abbrev pub IsDottedDate : Text → Type 0
+IsDottedDate text = IsRun is_digit 2 2 (take 2 text) × (slice_index text 2 ≡ 46) × IsDayOfYear (drop 3 text)
+
+-- the last digit of a number
+abbrev pub last_digit : ℕ → ℕ
+last_digit n = 48 + n % 10
+
+-- a year's last two digits, a period, and the day of the year in three
+abbrev pub dotted_date : ℕ → ℕ → Text
+dotted_date year day =
+    last_digit (year / 10) ∷ last_digit year ∷ 46 ∷ last_digit (day / 100) ∷ last_digit (day / 10) ∷ last_digit day ∷ []
 
 abbrev pub AreBlanks : Text → Type 0
 AreBlanks text = All (λ b. b ≡ 32) text
