@@ -7,17 +7,13 @@ use Rattle.std.proofs.lemmas.Result.{IfOk-weaker}
 use Rattle.terms.specs.Types.{Id}
 use Rattle.terms.specs.Lookups.{IsRising}
 
--- it has the items of the list, where a clone is its source
-pub copies : (IsClone : Id → Id → Type 0) → ((x y : Id) → IsClone x y → y ≡ x) → (xs : List Id) (r : Result (Vec Id Global) AllocError)
-    → IfOk r (λ v. ((x y : Id) → IsClone x y → y ≡ x) → v.items ≡ xs) → IfOk r (λ v. v.items ≡ xs)
-copies IsClone same xs r = IfOk-weaker r _ _ (λ v copied. copied same)
-
 -- it has what the list was before it was sorted
 pub copies_contain : (P : Id → Type 0) (keys sorted : List Id) → ((z : Id) → Contains keys z ↔ P z) → IsPermutation keys sorted
     → (r : Result (Vec Id Global) AllocError) → IfOk r (λ v. v.items ≡ sorted) → IfOk r (λ v. (z : Id) → Contains v.items z ↔ P z)
-copies_contain P keys sorted exact moved r = IfOk-weaker r _ _ (λ v same z.
-    (λ in_v. (exact z).0 (Contains-permutation sorted keys z (IsPermutation-sym keys sorted moved) (subst (λ xs. Contains xs z) same in_v)),
-        λ p. subst (λ xs. Contains xs z) (sym same) (Contains-permutation keys sorted z moved ((exact z).1 p))))
+copies_contain P keys sorted exact moved r = IfOk-weaker r _ _ (λ v same z. (
+  λ in_v. (exact z).0 (Contains-permutation sorted keys z (IsPermutation-sym keys sorted moved) (subst (λ xs. Contains xs z) same in_v)),
+  λ p. subst (λ xs. Contains xs z) (sym same) (Contains-permutation keys sorted z moved ((exact z).1 p)),
+))
 
 -- it rises where the list does
 pub copies_rise : (sorted : List Id) → IsRising sorted

@@ -30,14 +30,17 @@ module _ (next : Id → List Id) (x : Id) where
       → AddsAll old (next (get_or old n d)) new → IsSearch next x old n → IsSearch next x new (n + 1)
   search-more old new n d below adds s = record {
     within = omega (arith, ap length adds.kept ∙ length-append old adds.added);
-    sound = λ z h. elim (adds-cases old _ new adds z h) [ inl was ↦ s.sound z was
-        | inr named ↦ reaches_last next x _ z (s.sound _ (Contains-get_or old n d below)) named ];
+    sound = λ z h. elim (adds-cases old _ new adds z h) [
+      | inl was ↦ s.sound z was
+      | inr named ↦ reaches_last next x _ z (s.sound _ (Contains-get_or old n d below)) named
+    ];
     first = λ z named. adds-keeps old _ new adds z (s.first z named);
     closed = λ y z gone named.
         let gone_old : Contains (take (n + 1) old) y = subst (λ ks. Contains ks y) (take-adds old _ new (n + 1) adds (omega arith)) gone in
-        elim (Contains-push_cases (take n old) (get_or old n d) y (subst (λ ks. Contains ks y) (take_more old n d below) gone_old))
-        [ inl before ↦ adds-keeps old _ new adds z (s.closed y z before named)
-        | inr this ↦ adds.has z (subst (λ w. Contains (next w) z) (sym this) named) ];
+        elim (Contains-push_cases (take n old) (get_or old n d) y (subst (λ ks. Contains ks y) (take_more old n d below) gone_old)) [
+          | inl before ↦ adds-keeps old _ new adds z (s.closed y z before named)
+          | inr this ↦ adds.has z (subst (λ w. Contains (next w) z) (sym this) named)
+        ];
   }
 
   -- the same, of the one that stands next

@@ -1,8 +1,8 @@
 //! The one search for lists of ids that lead from one to another.
 #![tactic(auto)]
 
-mod id;
 mod search;
+#[cfg(test)]
+mod tests;
 
-pub use id::Id;
 pub use search::{Names, ends, leads};

@@ -111,3 +111,12 @@ module _ (next more : Id → List Id) (x : Id) (others : (y : Id) → y ≢ x �
       by : Leads next y between y ⊎ Passes y y → Reaches more x x
       by (inl was) = absurd (none y (between, was))
       by (inr passes) = round y passes
+
+-- Where `back` gives for each id those that name it, z leads back to x as x leads to z.
+module _ (next back : Id → List Id) (turned : (y z : Id) → Contains (next y) z → Contains (back z) y) where
+  pub reaches_back : (x z : Id) → Reaches next x z → Reaches back z x
+  reaches_back x z (between, leads) = by x between leads
+    where
+      by : (x : Id) (between : List Id) → Leads next x between z → Reaches back z x
+      by x [] named = reaches_named back z x (turned x z named)
+      by x (y ∷ ys) leads = reaches_last back z y x (by y ys leads.1) (turned x y leads.0)

@@ -10,4 +10,12 @@ pub mod RisingLists
 pub mod Texts
 pub mod Controls
 pub mod Updates
+pub mod Least
+pub mod Ids
+pub mod Leads
+pub mod RisingLists
 pub mod TextKeys
+pub mod Texts
+pub mod Controls
+pub mod Updates
+pub mod Rising

@@ -1,12 +1,13 @@
 pub mod Types
-pub mod Spelling
 pub mod Rising
+pub mod Spelling
 pub mod Lookups
 pub mod Choice
 pub mod Over
 pub mod Global
 pub mod Problem
 pub mod Causes
+pub mod Least
 pub mod Forms
 pub mod Records
 pub mod Groups
