@@ -1,4 +1,4 @@
-ghost use Rattle.std.specs.Prelude.{◌≡◌, ◌%◌, length, IfOk, IfSome, IfNone};
+ghost use Rattle.std.specs.Prelude.{◌≡◌, ◌<◌, ◌%◌, length, IfOk, IfSome, IfNone};
 ghost use Rattle.std.specs.Str.Parse.{digits_value};
 ghost use Rattle.terms.specs.Texts.{HasLines, IsNumber, IsNumberedLine, number_of, is_control};
 
@@ -43,9 +43,11 @@ impl Line {
     /// The number in columns 73 to 80, if eight digits stand there.
     pub fn number(&self) -> Option<u32>
         ensures some { IfSome result (λ n. IsNumberedLine self.now × (n ≡ number_of self.now)) }
+        ensures bound { IfSome result (λ n. n < 100000000) }
         ensures none { IfNone result (¬ IsNumberedLine self.now) }
     {
-        number_in(&self.0[FRONT..])
+        let (_, number) = self.0.split_at(FRONT);
+        number_in(number)
     }
 
     /// Whether the record begins with `./`, as CHANGE and DELETE records do.
@@ -59,6 +61,7 @@ impl Line {
 /// The number that eight digits spell.
 pub(crate) fn number_in(text: &[u8]) -> Option<u32>
     ensures some { IfSome result (λ n. IsNumber text.now × (n ≡ digits_value 10 text.now)) }
+    ensures bound { IfSome result (λ n. n < 100000000) }
     ensures none { IfNone result (¬ IsNumber text.now) }
 {
     if text.len() != 8 {
