@@ -1,8 +1,8 @@
 //! Element statements.
-use crate::Name;
+use fields::Name;
 use std::marker::Model;
 use terms::ElemType;
-use crate::Line;
+use text80::Line;
 
 /// What an element statement does. The records of an update are all those behind `++MACUPD` or
 /// `++SRCUPD`, `./` records too.

@@ -2,8 +2,8 @@
 ghost use Rattle.std.specs.Prelude.{◌≡◌};
 ghost use Rattle.terms.specs.Global.{hold_cmp};
 
-use crate::{Class, HoldDate, Reason};
-use fields::Id;
+
+use fields::{Class, HoldDate, Id, Reason};
 use std::cmp::Ordering;
 use std::marker::Model;
 use terms::HoldKind;

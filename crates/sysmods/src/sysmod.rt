@@ -2,8 +2,8 @@
 ghost use Rattle.std.specs.Prelude.{◌≡◌, OnOk, OnErr};
 ghost use Rattle.terms.specs.Global.{with_source};
 
-use crate::{ElemChange, Hold, Source, Ver};
-use fields::{Id, Rising};
+use crate::{ElemChange, Hold, Ver};
+use fields::{Id, Source, SourceList};
 use std::alloc::AllocError;
 use std::marker::Model;
 use terms::Kind;
@@ -14,7 +14,7 @@ use terms::Kind;
 pub struct Sysmod {
     pub id: Id,
     pub kind: Kind,
-    pub sources: Rising<Source>,
+    pub sources: SourceList,
     pub vers: Vec<Ver>,
     pub changes: Vec<ElemChange>,
     pub holds: Vec<Hold>,

@@ -1,6 +1,6 @@
 //! `++VER` with its `++IF`s.
-use crate::Srel;
-use fields::{Id, IdList};
+
+use fields::{Id, IdList, Srel};
 use std::marker::Model;
 
 /// `++IF`: where the function is installed, these SYSMODs are required too.
