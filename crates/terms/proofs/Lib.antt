@@ -1,8 +1,14 @@
 pub mod Greatest
-pub mod Least
+pub mod GlobalGroups
+pub mod GlobalKept
+pub mod GlobalLookups
+pub mod GlobalRoles
 pub mod Ids
 pub mod Leads
 pub mod Decided
+pub mod Least
+pub mod Loops
+pub mod Rising
 pub mod RisingLists
 pub mod TextKeys
 pub mod Texts
