@@ -1,0 +1,4 @@
+pub mod RowLemmas
+pub mod Statements
+pub mod ContentsLemmas
+pub mod Writing
