@@ -2,3 +2,4 @@ pub mod RowLemmas
 pub mod Statements
 pub mod ContentsLemmas
 pub mod Writing
+pub mod InsideLemmas

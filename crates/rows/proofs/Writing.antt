@@ -27,7 +27,7 @@ use Rattle.sqlite.proofs.Callers.{statement_of, runs_as, one_step}
 use Rattle.sqlite_trees.proofs.ListLemmas.{map-map}
 use Rattle.sqlite_rules.specs.Calls.{ids_of}
 use Rattle.sqlite_schema.specs.declared.program.Program.{Program}
-use Rattle.rows.specs.Rows.{shown, has_key, without, with_row, AreRows, Contents, HasRows, in_table}
+use Rattle.rows.specs.Rows.{shown, has_key, without, with_row, AreRows, Contents, HasContents, in_table}
 use Rattle.rows.specs.Texts.{key_tests, scan_by, IsTableOf, AreKept, PutsIn, TakesOut}
 
 use Rattle.rows.proofs.RowLemmas.{filter_same}
@@ -69,7 +69,7 @@ length_terms : (n : ℕ) → length (lit Null ∷ map (col 0) (range_with_len 0 
 length_terms n = omega (arith, length-map-range_with_len (col 0) 0 n)
 
 pub put_in : (schema : Schema) (at : ℕ) (table : Table) (sql : List ℕ) (row : Row) (old new : State) (count : ℕ) (contents : Contents) → PutsIn schema at table sql → AreKept table.columns row
-    → HasRows schema contents old.now → Executes sql row old new (Ok count) → HasRows schema (in_table table (with_row row) contents) new.now
+    → HasContents schema contents old.now → Executes sql row old new (Ok count) → HasContents schema (in_table table (with_row row) contents) new.now
 put_in schema at table sql row old new count contents text kept was h =
     let width = length table.columns in
     let terms = lit Null ∷ map (col 0) (range_with_len 0 width) in
@@ -96,7 +96,7 @@ pub found_by_key : (table : Table) (width : ℕ) (key : Row) → width ≡ lengt
 found_by_key table width key e le rows = filter_same _ _ rows (λ r h. meets_from key r 0 width (length table.columns) (omega (arith, e)) le)
 
 pub take_out : (schema : Schema) (at : ℕ) (table : Table) (width : ℕ) (sql : List ℕ) (key : Row) (old new : State) (count : ℕ) (contents : Contents) → TakesOut schema at table width sql → width ≡ length key
-    → HasRows schema contents old.now → Executes sql key old new (Ok count) → HasRows schema (in_table table (without key) contents) new.now
+    → HasContents schema contents old.now → Executes sql key old new (Ok count) → HasContents schema (in_table table (without key) contents) new.now
 take_out schema at table width sql key old new count contents text e was h =
     let q : Program = record { lets = []; body = scan_by table.tree (key_tests 0 width) (col 1 0 ∷ []) [] } in
     let w = runs_as sql key old new schema was.schema_is (Delete at q) text.command text.plain count h in

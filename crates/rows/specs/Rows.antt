@@ -24,7 +24,7 @@ abbrev pub Contents : Type 0
 Contents = ℕ → List Row
 
 -- The schema is this one, and each of its tables holds these rows.
-pub record HasRows (schema : Schema) (contents : Contents) (db : Database) : Type 0 where
+pub record HasContents (schema : Schema) (contents : Contents) (db : Database) : Type 0 where
   pub schema_is : db.schema ≡ schema
   pub tables : AllByRecursion (λ t. AreRows t (contents t.tree) (db.trees t.tree)) schema.tables
 

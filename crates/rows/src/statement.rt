@@ -6,7 +6,7 @@ ghost use Rattle.sqlite.specs.Values.{bound};
 ghost use Rattle.sqlite.specs.Schema.{Schema};
 ghost use Rattle.sqlite.specs.Table.{Table};
 ghost use Rattle.rows.specs.Inside.{StaysInside, Turns};
-ghost use Rattle.rows.specs.Rows.{HasRows, in_table, with_row, without};
+ghost use Rattle.rows.specs.Rows.{HasContents, in_table, with_row, without};
 ghost use Rattle.rows.specs.Texts.{PutsIn, TakesOut, AreKept};
 
 use sqlite::{Alter, Error, Transaction};
@@ -21,7 +21,7 @@ pub fn insert<S: Alter>(
     ensures same_reference { tx.new.conn.ghost_name ≡ tx.old.conn.ghost_name }
     ensures inside { StaysInside S.Store tx.old.conn.now tx.new.conn.now }
     ensures ok { OnOk result ((schema : Schema) (at : ℕ) (table : Table) → PutsIn schema at table sql.now → AreKept table.columns (bound row.now)
-        → Turns S.Store tx.old.conn.now tx.new.conn.now (HasRows schema) (in_table table (with_row (bound row.now)))) }
+        → Turns S.Store tx.old.conn.now tx.new.conn.now (HasContents schema) (in_table table (with_row (bound row.now)))) }
 {
     tx.execute(sql, row)?;
     Ok(())
@@ -36,7 +36,7 @@ pub fn remove<S: Alter>(
     ensures same_reference { tx.new.conn.ghost_name ≡ tx.old.conn.ghost_name }
     ensures inside { StaysInside S.Store tx.old.conn.now tx.new.conn.now }
     ensures ok { OnOk result ((schema : Schema) (at : ℕ) (table : Table) → TakesOut schema at table (length key.now) sql.now
-        → Turns S.Store tx.old.conn.now tx.new.conn.now (HasRows schema) (in_table table (without (bound key.now)))) }
+        → Turns S.Store tx.old.conn.now tx.new.conn.now (HasContents schema) (in_table table (without (bound key.now)))) }
 {
     tx.execute(sql, key)?;
     Ok(())
