@@ -1,7 +1,7 @@
 -- What the texts mean: each makes its table over those before it.
 use Rattle.std.proofs.Common.{◌≡◌, List, ℕ, [], ◌∷◌, codes, Ok, refl}
 use Rattle.schema.specs.Tables.{meta, sysmod, ver, ifreq, hold, elem, zone, entry, zelem}
-use Rattle.schema.specs.Create.{Makes}
+use Rattle.schema.proofs.Making.{Makes}
 use Rattle.sqlite.specs.Listing.{understood}
 use Rattle.sqlite_tied.specs.Compute.{everything}
 
