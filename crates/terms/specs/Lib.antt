@@ -1,4 +1,5 @@
 pub mod Types
+pub mod Spelling
 pub mod Lookups
 pub mod Choice
 pub mod Over

@@ -2,6 +2,8 @@
 //! the definitions that contracts cite. It has no functions.
 #![tactic(auto)]
 
+mod codes;
 mod kinds;
 
+pub use codes::{CnCode, CommandWord, McCode, NeedKind, Test};
 pub use kinds::{ElemType, HoldKind, Kind, ZoneKind};

@@ -1,0 +1,140 @@
+-- The text of an outcome.
+use Rattle.std.specs.Prelude.{ℕ, ◌+◌, ◌-◌, ◌/◌, ◌%◌, Bool, true, false, List, [], ◌∷◌, ◌++◌, length, replicate, Option, Some, None, codes, decimal, if◌then◌else◌}
+use Rattle.std.specs.List.{flat_map, join_with_byte}
+use Rattle.terms.specs.declared.kinds.ZoneKind.{ZoneKind}
+use Rattle.terms.specs.declared.kinds.ZoneKind.TheVariants.{Target, Distribution}
+use Rattle.terms.specs.Types.{Text, Id, Entry}
+use Rattle.terms.specs.Spelling.{word_text, kind_text, hold_text, type_text, mc_text, cn_text, test_text, need_text}
+use Rattle.machine.specs.Outcome.{Header, Refusal, Cm1, Cm2, Cm3, Cm4, Cm5, Place, OfKind, OfHold, NotReceived, IdRefusal, Rc2, Rc3, Rc4, Rl1, Rl2, Rj1, Rj2, Failure, Status, Received, Already, RefusedId, Assigned, Unknown, Held, Replaced, Released, Rejected, Applied, Accepted, Superseded, Failed, Deleted, Missing, NoVer, Restored, NotApplied, ElementRow, Line, StatusLine, NothingLine, SysmodLine, HoldLine, EntryLine, ElementLine, TextLine, ErrsysmodLine, Outcome, Ran, Refused, Control, lines_code}
+
+-- words with one blank between them, and the newline
+abbrev pub words_line : List Text → Text
+words_line words = join_with_byte 32 words ++ 10 ∷ []
+
+-- the same with two blanks before
+abbrev pub detail_line : List Text → Text
+detail_line words = 32 ∷ 32 ∷ words_line words
+
+-- the text left in so many places
+abbrev pub left_in : ℕ → Text → Text
+left_in n text = text ++ replicate (n - length text) 32
+
+-- the members joined by commas, or -
+abbrev pub list_text : List Text → Text
+list_text [] = codes "-"
+list_text (x ∷ xs) = join_with_byte 44 (x ∷ xs)
+
+abbrev pub optional_text : Option Text → Text
+optional_text None = codes "-"
+optional_text (Some text) = text
+
+abbrev pub header_text : Header → Text
+header_text h =
+    words_line (word_text h.word ∷ optional_text h.boundary ∷ (if h.check then codes "CHECK" ∷ [] else []))
+
+-- the one line of a refused command
+abbrev pub refusal_text : Refusal → Text
+refusal_text Cm1 = words_line (codes "REFUSED" ∷ codes "Cm1" ∷ [])
+refusal_text Cm2 = words_line (codes "REFUSED" ∷ codes "Cm2" ∷ [])
+refusal_text Cm3 = words_line (codes "REFUSED" ∷ codes "Cm3" ∷ [])
+refusal_text (Cm4 n code) =
+    words_line (codes "REFUSED" ∷ codes "Cm4" ∷ codes "RECORD" ∷ decimal n ∷ mc_text code ∷ [])
+refusal_text (Cm5 n code) =
+    words_line (codes "REFUSED" ∷ codes "Cm5" ∷ codes "RECORD" ∷ decimal n ∷ mc_text code ∷ [])
+
+abbrev pub place_text : Place → Text
+place_text (OfKind kind) = kind_text kind
+place_text (OfHold kind) = hold_text kind
+place_text NotReceived = codes "-"
+
+abbrev pub id_refusal_text : IdRefusal → Text
+id_refusal_text Rc2 = codes "Rc2"
+id_refusal_text Rc3 = codes "Rc3"
+id_refusal_text Rc4 = codes "Rc4"
+id_refusal_text Rl1 = codes "Rl1"
+id_refusal_text Rl2 = codes "Rl2"
+id_refusal_text Rj1 = codes "Rj1"
+id_refusal_text Rj2 = codes "Rj2"
+
+-- the words of a status
+abbrev pub status_words : Status → List Text
+status_words Received = codes "RECEIVED" ∷ []
+status_words Already = codes "ALREADY" ∷ []
+status_words (RefusedId why) = codes "REFUSED" ∷ id_refusal_text why ∷ []
+status_words (Assigned source) = codes "ASSIGNED" ∷ source ∷ []
+status_words Unknown = codes "UNKNOWN" ∷ []
+status_words (Held reason) = codes "HELD" ∷ reason ∷ []
+status_words (Replaced reason) = codes "REPLACED" ∷ reason ∷ []
+status_words (Released reason) = codes "RELEASED" ∷ reason ∷ []
+status_words Rejected = codes "REJECTED" ∷ []
+status_words Applied = codes "APPLIED" ∷ []
+status_words Accepted = codes "ACCEPTED" ∷ []
+status_words Superseded = codes "SUPERSEDED" ∷ []
+status_words (Failed why) = codes "FAILED" ∷ []
+status_words Deleted = codes "DELETED" ∷ []
+status_words Missing = codes "MISSING" ∷ []
+status_words NoVer = codes "NOVER" ∷ []
+status_words Restored = codes "RESTORED" ∷ []
+status_words NotApplied = codes "NOTAPPLIED" ∷ []
+
+-- the lines after FAILED: tests, needs, causers
+abbrev pub failure_text : Failure → Text
+failure_text f =
+    flat_map (λ t. detail_line (codes "TEST" ∷ test_text t ∷ [])) f.tests
+    ++ flat_map (λ n. detail_line (codes "NEED" ∷ need_text n.kind ∷ n.id ∷ [])) f.needs
+    ++ flat_map (λ id. detail_line (codes "CAUSER" ∷ id ∷ [])) f.causers
+
+abbrev pub details : Status → Text
+details (Failed why) = failure_text why
+details _ = []
+
+abbrev pub mark_text : Bool → Text
+mark_text true = codes "INTERNAL"
+mark_text false = codes "EXTERNAL"
+
+-- the word and the date of an applied entry, or -
+abbrev pub applied_words : ZoneKind → Option Text → List Text
+applied_words kind None = codes "-" ∷ []
+applied_words Target (Some date) = codes "APPLIED" ∷ date ∷ []
+applied_words Distribution (Some date) = codes "ACCEPTED" ∷ date ∷ []
+
+abbrev pub entry_text : ZoneKind → Entry → Text
+entry_text kind e =
+    words_line (codes "ENTRY" ∷ e.id ∷ applied_words kind e.applied
+        ++ codes "SUPBY" ∷ list_text e.supby ∷ codes "DELBY" ∷ optional_text e.delby ∷ codes "WAIVED" ∷ list_text e.waived ∷ [])
+
+abbrev pub element_text : ElementRow → Text
+element_text e =
+    words_line (codes "ELEM" ∷ left_in 5 (type_text e.elem_type) ∷ left_in 8 e.name
+        ∷ codes "FMID" ∷ e.fmid ∷ codes "RMID" ∷ e.rmid ∷ codes "UMID" ∷ list_text e.umids
+        ∷ codes "DISTLIB" ∷ e.distlib ∷ codes "SYSLIB" ∷ e.syslib ∷ [])
+
+-- the resolvers of a held SYSMOD, or -
+abbrev pub resolver_text : List Id → Text
+resolver_text [] = detail_line (codes "RESOLVER" ∷ codes "-" ∷ [])
+resolver_text (y ∷ ys) = flat_map (λ id. detail_line (codes "RESOLVER" ∷ id ∷ [])) (y ∷ ys)
+
+-- a line with the lines that belong to it
+abbrev pub line_text : Line → Text
+line_text (StatusLine id place status) =
+    words_line (id ∷ left_in 8 (place_text place) ∷ status_words status) ++ details status
+line_text NothingLine = words_line (codes "NOTHING" ∷ [])
+line_text (SysmodLine id kind sources) =
+    words_line (codes "SYSMOD" ∷ id ∷ left_in 8 (kind_text kind) ∷ codes "SOURCEID" ∷ list_text sources ∷ [])
+line_text (HoldLine id kind reason internal) =
+    words_line (codes "HOLD" ∷ id ∷ left_in 6 (hold_text kind) ∷ reason ∷ mark_text internal ∷ [])
+line_text (EntryLine kind entry) = entry_text kind entry
+line_text (ElementLine row) = element_text row
+line_text (TextLine r) = 32 ∷ 32 ∷ r ++ 10 ∷ []
+line_text (ErrsysmodLine id reason resolvers) =
+    words_line (codes "ERRSYSMOD" ∷ id ∷ reason ∷ []) ++ resolver_text resolvers
+
+-- RC and two digits
+abbrev pub code_text : ℕ → Text
+code_text n = words_line (codes "RC" ∷ ((48 + n / 10) ∷ (48 + n % 10) ∷ []) ∷ [])
+
+unfoldable pub text : Outcome → Text
+text (Ran h lines) = header_text h ++ flat_map line_text lines ++ code_text (lines_code lines)
+text (Refused h why) = header_text h ++ refusal_text why ++ code_text 12
+text (Control fault) =
+    words_line (codes "CONTROL" ∷ codes "RECORD" ∷ decimal fault.number ∷ cn_text fault.code ∷ [])

@@ -1,0 +1,3 @@
+pub mod Create
+pub mod Numbered
+pub mod Tables

@@ -1,0 +1,6 @@
+//! The tables.
+#![tactic(auto)]
+
+pub fn nothing(x: usize) -> usize {
+    x
+}
