@@ -34,12 +34,12 @@ columns_from r at zero e = sym (drop_all at r (omega arith))
 columns_from r at (suc n) e = ap (λ vs. column r at ∷ vs) (columns_from r (at + 1) n (omega arith)) ∙ sym (dropped r at (omega arith))
 
 -- the tests of a key are those of the columns that it gives
-pub meets_from : (params r : Row) (at n m : ℕ) → at + n ≡ length params → n ≤ m → list_all (holds (params ∷ r ∷ [])) (key_tests at n) ≡ has_key (drop at params) (map (column r) (range_with_len (at + 1) m))
-meets_from params r at zero m e le = rw (drop_all at params (omega arith)) refl
+pub meets_from : (params r : Row) (at n m : ℕ) → at + n ≤ length params → n ≤ m → list_all (holds (params ∷ r ∷ [])) (key_tests at n) ≡ has_key (take n (drop at params)) (map (column r) (range_with_len (at + 1) m))
+meets_from params r at zero m e le = refl
 meets_from params r at (suc n) zero e le = absurd (omega arith)
 meets_from params r at (suc n) (suc m) e le =
     ap (λ b. equal Binary (column r (at + 1)) (column params at) && b) (meets_from params r (at + 1) n m (omega arith) (omega arith))
-    ∙ ap (λ key. has_key key (map (column r) (range_with_len (at + 1) (suc m)))) (sym (dropped params at (omega arith)))
+    ∙ ap (λ key. has_key (take (suc n) key) (map (column r) (range_with_len (at + 1) (suc m)))) (sym (dropped params at (omega arith)))
 
 -- ---- one table
 

@@ -3,3 +3,4 @@ pub mod Statements
 pub mod ContentsLemmas
 pub mod Writing
 pub mod InsideLemmas
+pub mod Parents

@@ -135,14 +135,18 @@ module _ (shown : Row → Row) (rows : List Row) (numbered : AreNumbered (map (w
     ]
   ]
 
+  -- A row that has one of the rowids that a test of what is shown found passes the test.
+  pub found_meets : (p : Row → Bool) (found : List Row) → IsPermutation (map (λ r. rowid r ∷ []) (filter (λ r. p (shown r)) rows)) found
+      → (r : Row) → Has rows r → list_any (λ id. has_rowid id r) (ids_of found) ≡ p (shown r)
+  found_meets p found same r h =
+      let ids : IsPermutation (ids_by p) (ids_of found) =
+      subst (λ l. IsPermutation l (ids_of found)) (map-map (λ r. id_in (rowid r)) (λ r. rowid r ∷ []) (filter (λ r. p (shown r)) rows)) (IsPermutation-map (λ r. id_in (rowid r)) _ _ same) in
+      sym (list_any-IsPermutation (λ id. has_rowid id r) (ids_by p) (ids_of found) ids) ∙ found_by p r h
+
   -- what is left when the rows that a test of what is shown found are deleted by their rowids
   pub deleted : (p : Row → Bool) (found : List Row) → IsPermutation (map (λ r. rowid r ∷ []) (filter (λ r. p (shown r)) rows)) found
       → without_all rows (ids_of found) ≡ filter (λ r. not (p (shown r))) rows
-  deleted p found same =
-      let ids : IsPermutation (ids_by p) (ids_of found) =
-      subst (λ l. IsPermutation l (ids_of found)) (map-map (λ r. id_in (rowid r)) (λ r. rowid r ∷ []) (filter (λ r. p (shown r)) rows)) (IsPermutation-map (λ r. id_in (rowid r)) _ _ same) in
-      left_by_all (ids_of found) rows
-      ∙ filter_same _ _ rows (λ r h. ap not (sym (list_any-IsPermutation (λ id. has_rowid id r) (ids_by p) (ids_of found) ids) ∙ found_by p r h))
+  deleted p found same = left_by_all (ids_of found) rows ∙ filter_same _ _ rows (λ r h. ap not (found_meets p found same r h))
 
   pub filter_numbered : (p : Row → Bool) → AreNumbered (map (whole shown) (filter (λ r. p (shown r)) rows))
   filter_numbered p =
@@ -154,24 +158,3 @@ module _ (shown : Row → Row) (rows : List Row) (numbered : AreNumbered (map (w
         rise = shaped.0;
         keyed = shaped.1;
       }
-
--- the same for rowids that are known to be those of the rows that pass a test, as of the children of an action
-module _ (shown : Row → Row) (rows : List Row) (numbered : AreNumbered (map (whole shown) rows)) (p : Row → Bool) (ids : List ℤ)
-    (sound : (id : ℤ) → Has ids id → (r : Row) × Has rows r × (p (shown r) ≡ true) × (rowid r ≡ Int id))
-    (complete : (r : Row) (id : ℤ) → Has rows r → p (shown r) ≡ true → rowid r ≡ Int id → Has ids id) where
-  listed : (r : Row) → Has rows r → list_any (λ id. has_rowid id r) ids ≡ p (shown r)
-  listed r h = elim (cases_Bool (p (shown r))) [
-    | inl e ↦ some_from (λ id. has_rowid id r) ids (id_in (rowid r)) (complete r (id_in (rowid r)) h e (keyed shown rows numbered r h)) (meets_itself shown rows numbered r h) ∙ sym e
-    | inr e ↦ elim (cases_Bool (list_any (λ id. has_rowid id r) ids)) [
-      | inl some ↦
-          let it = some_has (λ id. has_rowid id r) ids some in
-          let from = sound it.0 it.1 in
-          let tie : value_cmp (rowid r) (rowid from.0) ≡ Equal = equal_is _ (ap (λ v. is_eq (value_cmp (rowid r) v)) from.3 ∙ it.2) in
-          let same = same_shown shown rows numbered r from.0 h from.1 tie in
-          absurd (let wrong : p (shown r) ≡ true = ap p same ∙ from.2 in cc)
-      | inr none ↦ none ∙ sym e
-    ]
-  ]
-
-  pub deleted_children : without_all rows ids ≡ filter (λ r. not (p (shown r))) rows
-  deleted_children = left_by_all ids rows ∙ filter_same _ _ rows (λ r h. ap not (listed r h))

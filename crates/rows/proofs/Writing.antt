@@ -91,9 +91,9 @@ put_in schema at table sql row old new count contents text kept was h =
 -- ---- DELETE
 
 -- the rows of a table that have a key, as the tests of a statement find them
-pub found_by_key : (table : Table) (width : ℕ) (key : Row) → width ≡ length key → width ≤ length table.columns → (rows : List Row)
-    → filter (λ r. list_all (holds (key ∷ r ∷ [])) (key_tests 0 width)) rows ≡ filter (λ r. has_key key (shown table r)) rows
-found_by_key table width key e le rows = filter_same _ _ rows (λ r h. meets_from key r 0 width (length table.columns) (omega (arith, e)) le)
+pub found_by_key : (table : Table) (width : ℕ) (params : Row) → width ≤ length params → width ≤ length table.columns → (rows : List Row)
+    → filter (λ r. list_all (holds (params ∷ r ∷ [])) (key_tests 0 width)) rows ≡ filter (λ r. has_key (take width params) (shown table r)) rows
+found_by_key table width params e le rows = filter_same _ _ rows (λ r h. meets_from params r 0 width (length table.columns) (omega (arith, e)) le)
 
 pub take_out : (schema : Schema) (at : ℕ) (table : Table) (width : ℕ) (sql : List ℕ) (key : Row) (old new : State) (count : ℕ) (contents : Contents) → TakesOut schema at table width sql → width ≡ length key
     → HasContents schema contents old.now → Executes sql key old new (Ok count) → HasContents schema (in_table table (without key) contents) new.now
@@ -104,7 +104,7 @@ take_out schema at table width sql key old new count contents text e was h =
     let db = old.now.trees in
     let rows = db table.tree in
     let done = one_step schema Enforced db new.now.trees (edit_of db table (ids_of it.0) Given 0 []) (text.free _) it.3 in
-    let found = subst (λ l. IsPermutation (map (λ r. column r 0 ∷ []) l) it.0) (found_by_key table width key e text.narrow rows)
+    let found = subst (λ l. IsPermutation (map (λ r. column r 0 ∷ []) l) it.0) (found_by_key table width key (omega (arith, e)) text.narrow rows ∙ ap (λ k. filter (λ r. has_key k (shown table r)) rows) (take_all width key (omega (arith, e))))
     (scans table.tree (key_tests 0 width) (col 1 0 ∷ []) [] db key it.0 it.1.answer) in
     let left = takes table (contents table.tree) rows (has_key key) it.0 found (held_at schema at table contents db text.there was.tables) in
     record { schema_is = it.2; tables = each_table table (without key) contents db new.now.trees (rw done.rows left) schema.tables text.there.alone was.tables done.tables }

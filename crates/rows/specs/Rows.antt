@@ -45,3 +45,11 @@ has_key (k ∷ key) (c ∷ cells) = equal Binary c k && has_key key cells
 -- the rows that have not the key
 abbrev pub without : Row → List Row → List Row
 without key rows = filter (λ r. not (has_key key r)) rows
+
+-- the rows, with this one in place of each that has the key
+abbrev pub in_place : Row → Row → List Row → List Row
+in_place key row rows = map (λ r. if has_key key r then row else r) rows
+
+-- none of these tables holds a row that has the key
+abbrev pub HaveNone : List Table → Row → Contents → Type 0
+HaveNone tables key contents = AllByRecursion (λ t. without key (contents t.tree) ≡ contents t.tree) tables
