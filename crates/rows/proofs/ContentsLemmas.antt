@@ -1,5 +1,5 @@
 -- The columns of rows, and what a statement's edit makes of what the tables hold.
-use Rattle.std.proofs.Common.{◌≡◌, ◌≢◌, ◌⊎◌, inl, inr, ℕ, zero, suc, ◌+◌, ◌/◌, ◌<◌, ◌≤◌, ◌==◌, length, drop, take, if◌then◌else◌, List, [], ◌∷◌, map, filter, Bool, true, false, not, ◌&&◌, ◌||◌, Some, IsPermutation, arith, refl, sym, ap, ap₂, subst, ◌∙◌, drop-cons, add-one, slice_get}
+use Rattle.std.proofs.Common.{◌≡◌, ◌≢◌, ◌⊎◌, inl, inr, ℕ, ℤ, zero, suc, ◌+◌, ◌/◌, ◌<◌, ◌≤◌, ◌==◌, length, drop, take, if◌then◌else◌, List, [], ◌∷◌, map, filter, Bool, true, false, not, ◌&&◌, ◌||◌, Some, IsPermutation, arith, refl, sym, ap, ap₂, subst, ◌∙◌, drop-cons, add-one, slice_get}
 use Rattle.std.specs.List.{AllByRecursion, list_all, range_with_len}
 use Rattle.std.proofs.lemmas.List.{drop_all}
 use Rattle.std.proofs.lemmas.List.Sorted.{IsPermutation-trans, IsPermutation-cons, IsPermutation-map}
@@ -12,7 +12,7 @@ use Rattle.sqlite.specs.Order.{Row, column}
 use Rattle.sqlite.specs.Term.{Term, holds}
 use Rattle.sqlite.specs.Tree.{Trees, rowid, put_row}
 use Rattle.sqlite.specs.View.{is_int}
-use Rattle.sqlite.specs.Edit.{is_taken, without_all}
+use Rattle.sqlite.specs.Edit.{id_in, is_taken, without_all}
 use Rattle.sqlite.specs.Table.{Table}
 use Rattle.sqlite.specs.Schema.{Schema}
 use Rattle.sqlite_schema.specs.Rules.{equal}
@@ -49,10 +49,10 @@ puts table held rows new free keyed h = record {
   numbered = put_numbered (shown table) new rows free keyed h.numbered;
 }
 
-pub takes : (table : Table) (held rows : List Row) (p : Row → Bool) (found : List Row) → IsPermutation (map (λ r. rowid r ∷ []) (filter (λ r. p (shown table r)) rows)) found
-    → AreRows table held rows → AreRows table (filter (λ c. not (p c)) held) (without_all rows (ids_of found))
-takes table held rows p found found_are h =
-    rw (deleted (shown table) rows h.numbered p found found_are) (record {
+pub takes : (table : Table) (held rows : List Row) (p : Row → Bool) (ids : List ℤ) → IsPermutation (map (λ r. id_in (rowid r)) (filter (λ r. p (shown table r)) rows)) ids
+    → AreRows table held rows → AreRows table (filter (λ c. not (p c)) held) (without_all rows ids)
+takes table held rows p ids found h =
+    rw (deleted (shown table) rows h.numbered p ids found) (record {
       same = subst (IsPermutation (filter (λ c. not (p c)) held)) (filter-map (λ c. not (p c)) (shown table) rows) (IsPermutation-filter (λ c. not (p c)) _ _ h.same);
       numbered = filter_numbered (shown table) rows h.numbered (λ c. not (p c));
     })

@@ -9,7 +9,7 @@ use Rattle.sqlite.specs.Order.{Row, column}
 use Rattle.sqlite.specs.Tree.{Trees, rowid, has_rowid}
 use Rattle.sqlite.specs.Schema.{Schema}
 use Rattle.sqlite.specs.Table.{Table}
-use Rattle.sqlite.specs.Edit.{Edit, Applies, edit_of, row_at, taken_by}
+use Rattle.sqlite.specs.Edit.{Edit, Applies, id_in, row_at, taken_by}
 use Rattle.sqlite.specs.Rowids.TheVariants.{Given}
 use Rattle.sqlite_schema.specs.declared.schema.Keys.{Keys}
 use Rattle.sqlite_schema.specs.declared.schema.Keys.TheVariants.{Enforced}
@@ -70,6 +70,11 @@ module _ (P : Work → Type 0) where
       | inr later ↦ of_tables tables all.1 w later
     ]
 
+-- what holds of each action that a reference of a table may set off holds of those that are
+pub cascades_from : (schema : Schema) (keys : Keys) (depth tree : ℕ) (olds news : List Row) (P : Work → Type 0)
+    → AllByRecursion (λ child. AllByRecursion (λ ref. IfSome (work_for schema keys depth tree olds news child ref) P) child.references) schema.tables → (w : Work) → Has (works schema keys depth tree olds news) w → P w
+cascades_from schema keys depth tree olds news P all w h = of_tables P schema keys depth tree olds news schema.tables all w h
+
 -- what an action of a foreign key is, if it is set off
 pub if_set_off : (P : Work → Type 0) (b : Bool) (w : Work) → P w → IfSome (if b then Some w else None) P
 if_set_off P true w h = h
@@ -85,20 +90,20 @@ found_or_none None = inl refl
 found_or_none (Some r) = inr (r, refl)
 
 -- the row of a rowid that was found is none, or passes the test
-taken_meets : (table : Table) (held rows : List Row) (p : Row → Bool) (found : List Row) → AreRows table held rows → IsPermutation (map (λ r. rowid r ∷ []) (filter (λ r. p (shown table r)) rows)) found
-    → (old : Row) → Has (map (row_at rows) (ids_of found)) old → (old ≡ []) ⊎ (p (shown table old) ≡ true)
-taken_meets table held rows p found are same old h =
-    let it = unmapped (row_at rows) (ids_of found) old h in
+pub taken_meets : (table : Table) (held rows : List Row) (p : Row → Bool) (ids : List ℤ) → AreRows table held rows → IsPermutation (map (λ r. id_in (rowid r)) (filter (λ r. p (shown table r)) rows)) ids
+    → (old : Row) → Has (map (row_at rows) ids) old → (old ≡ []) ⊎ (p (shown table old) ≡ true)
+taken_meets table held rows p ids are same old h =
+    let it = unmapped (row_at rows) ids old h in
     go it.0 it.1 it.2
   where
-    go : (id : ℤ) → Has (ids_of found) id → old ≡ row_at rows id → (old ≡ []) ⊎ (p (shown table old) ≡ true)
+    go : (id : ℤ) → Has ids id → old ≡ row_at rows id → (old ≡ []) ⊎ (p (shown table old) ≡ true)
     go id has is = elim (found_or_none (find (has_rowid id) rows)) [
       | inl none ↦ inl (is ∙ ap (λ (f : Option Row). unwrap_or f []) none)
       | inr some ↦
         let there = has_found (has_rowid id) rows some.0 some.1 in
         let same_row : old ≡ some.0 = is ∙ ap (λ (f : Option Row). unwrap_or f []) some.1 in
-        let any : list_any (λ i. has_rowid i some.0) (ids_of found) ≡ true = some_from (λ i. has_rowid i some.0) (ids_of found) id has there.1 in
-        inr (ap (λ r. p (shown table r)) same_row ∙ sym (found_meets (shown table) rows are.numbered p found same some.0 there.0) ∙ any)
+        let any : list_any (λ i. has_rowid i some.0) ids ≡ true = some_from (λ i. has_rowid i some.0) ids id has there.1 in
+        inr (ap (λ r. p (shown table r)) same_row ∙ sym (found_meets (shown table) rows are.numbered p ids same some.0 there.0) ∙ any)
     ]
 
 -- a row that has the key of a table that holds none

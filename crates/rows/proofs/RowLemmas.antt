@@ -98,6 +98,12 @@ left_by_all (id ∷ ids) rows =
     left_by_all ids (without_rowid id rows) ∙ filter_twice (λ r. not (list_any (λ i. has_rowid i r) ids)) (λ r. not (has_rowid id r)) rows
     ∙ filter_same _ _ rows (λ r h. neither (has_rowid id r) (list_any (λ i. has_rowid i r) ids))
 
+-- the rowids of what a query shows of rows, with each rowid in front
+pub ids_shown : (f : Row → Row) → ((r : Row) → rowid (f r) ≡ rowid r) → (rows found : List Row) → IsPermutation (map f rows) found → IsPermutation (map (λ r. id_in (rowid r)) rows) (ids_of found)
+ids_shown f same rows found h =
+    let ids : map (λ r. id_in (rowid r)) (map f rows) ≡ map (λ r. id_in (rowid r)) rows = map-map (λ r. id_in (rowid r)) f rows ∙ (λ i. map (λ r. id_in (same r i)) rows) in
+    subst (λ l. IsPermutation l (ids_of found)) ids (IsPermutation-map (λ r. id_in (rowid r)) _ _ h)
+
 equal_is : (o : Ordering) → is_eq o ≡ true → o ≡ Equal
 equal_is Less h = absurd (cc)
 equal_is Equal h = refl
@@ -116,7 +122,7 @@ module _ (shown : Row → Row) (rows : List Row) (numbered : AreNumbered (map (w
   meets_itself : (r : Row) → Has rows r → has_rowid (id_in (rowid r)) r ≡ true
   meets_itself r h = ap (λ v. is_eq (value_cmp (rowid r) v)) (sym (keyed r h)) ∙ ap is_eq (tied_itself value_cmp_total (rowid r))
 
-  abbrev ids_by : (Row → Bool) → List ℤ
+  abbrev pub ids_by : (Row → Bool) → List ℤ
   ids_by p = map (λ y. id_in (rowid y)) (filter (λ y. p (shown y)) rows)
 
   found_by : (p : Row → Bool) (r : Row) → Has rows r → list_any (λ id. has_rowid id r) (ids_by p) ≡ p (shown r)
@@ -136,17 +142,12 @@ module _ (shown : Row → Row) (rows : List Row) (numbered : AreNumbered (map (w
   ]
 
   -- A row that has one of the rowids that a test of what is shown found passes the test.
-  pub found_meets : (p : Row → Bool) (found : List Row) → IsPermutation (map (λ r. rowid r ∷ []) (filter (λ r. p (shown r)) rows)) found
-      → (r : Row) → Has rows r → list_any (λ id. has_rowid id r) (ids_of found) ≡ p (shown r)
-  found_meets p found same r h =
-      let ids : IsPermutation (ids_by p) (ids_of found) =
-      subst (λ l. IsPermutation l (ids_of found)) (map-map (λ r. id_in (rowid r)) (λ r. rowid r ∷ []) (filter (λ r. p (shown r)) rows)) (IsPermutation-map (λ r. id_in (rowid r)) _ _ same) in
-      sym (list_any-IsPermutation (λ id. has_rowid id r) (ids_by p) (ids_of found) ids) ∙ found_by p r h
+  pub found_meets : (p : Row → Bool) (ids : List ℤ) → IsPermutation (ids_by p) ids → (r : Row) → Has rows r → list_any (λ id. has_rowid id r) ids ≡ p (shown r)
+  found_meets p ids same r h = sym (list_any-IsPermutation (λ id. has_rowid id r) (ids_by p) ids same) ∙ found_by p r h
 
   -- what is left when the rows that a test of what is shown found are deleted by their rowids
-  pub deleted : (p : Row → Bool) (found : List Row) → IsPermutation (map (λ r. rowid r ∷ []) (filter (λ r. p (shown r)) rows)) found
-      → without_all rows (ids_of found) ≡ filter (λ r. not (p (shown r))) rows
-  deleted p found same = left_by_all (ids_of found) rows ∙ filter_same _ _ rows (λ r h. ap not (found_meets p found same r h))
+  pub deleted : (p : Row → Bool) (ids : List ℤ) → IsPermutation (ids_by p) ids → without_all rows ids ≡ filter (λ r. not (p (shown r))) rows
+  deleted p ids same = left_by_all ids rows ∙ filter_same _ _ rows (λ r h. ap not (found_meets p ids same r h))
 
   pub filter_numbered : (p : Row → Bool) → AreNumbered (map (whole shown) (filter (λ r. p (shown r)) rows))
   filter_numbered p =

@@ -1,6 +1,6 @@
 -- What one INSERT or DELETE makes of the trees.
 use Rattle.std.proofs.Common.{◌≡◌, ◌⊎◌, inl, inr, ℕ, ◌<◌, ◌≤◌, ◌/◌, length, ◌-◌, ◌+◌, ◌^◌, drop, if◌then◌else◌, MatchBool, filter, pos, negsuc, IsPermutation, List, [], ◌∷◌, ◌++◌, map, slice_get, unwrap_or, Bool, true, false, not, ◌&&◌, Some, None, Ok, Err, Result, IsTrue, arith, refl, sym, ap, subst, ◌∙◌, append-nil}
-use Rattle.std.proofs.lemmas.Bool.{cases_Bool}
+use Rattle.std.proofs.lemmas.Bool.{cases_Bool, and_parts}
 use Rattle.std.specs.List.{flat_map, list_all}
 use Rattle.std.proofs.lemmas.List.Sorted.{IsPermutation-map}
 use Rattle.sqlite.specs.declared.error.Error.{Error}
@@ -17,7 +17,7 @@ use Rattle.sqlite.specs.Tree.{Trees, put_row}
 use Rattle.sqlite.specs.Table.{Table}
 use Rattle.sqlite.specs.Schema.{Schema}
 use Rattle.sqlite.specs.Source.TheVariants.{Values}
-use Rattle.sqlite.specs.Command.TheVariants.{Insert, Delete}
+use Rattle.sqlite.specs.Command.TheVariants.{Insert, Update, Delete}
 use Rattle.sqlite.specs.Edit.{is_taken, put_all, edit_of, are_fresh, Applies}
 use Rattle.sqlite.specs.Rowids.TheVariants.{Chosen, Given, Above}
 use Rattle.sqlite.specs.Effect.{Database, Answers, value_rows}
@@ -98,7 +98,20 @@ module _ (old new : State) (schema : Schema) (has : old.now.schema ≡ schema) (
       let edit = edit_of db table (ids_of given.0) Given 0 [] in
       (given.0, given.1, ap (λ (d : Database). d.schema) now, subst (λ (t : Trees). action.Writes schema Enforced db edit (Ok t)) (sym (ap (λ (d : Database). d.trees) now ∙ trees)) written.1)
 
-was_free : (b : Bool) → (not b && true) ≡ true → b ≡ false
+  -- the rows that the query gives take the place of those whose rowids it gives
+  pub updates : (q : Program) → Writes old new None (Update at q) text params count
+      → (rows : List Row) × Answers (record { schema = schema; trees = db }) q params rows × (new.now.schema ≡ schema) × action.Writes schema Enforced db (edit_of db table (ids_of rows) Given 1 rows) (Ok new.now.trees)
+  updates q w =
+      let on_schema = subst (λ s. Does old.step_limit (mode_of old) params (record old.now { schema = s }) text None (Update at q) (Ok (w.tally, new.now))) has w.changed in
+      let done = went (rw found at on_schema) in
+      let now : new.now ≡ record { schema = schema; trees = done.0.trees } = ap (λ (p : Tally × Database). p.1) (same_value (went (went done.2).2).2) in
+      let given = went done.1 in
+      let written = went given.2 in
+      let trees : done.0.trees ≡ written.0 = ap (λ (it : Written). it.trees) (same_value written.2) in
+      let edit = edit_of db table (ids_of given.0) Given 1 given.0 in
+      (given.0, given.1, ap (λ (d : Database). d.schema) now, subst (λ (t : Trees). action.Writes schema Enforced db edit (Ok t)) (sym (ap (λ (d : Database). d.trees) now ∙ trees)) written.1)
+
+pub was_free : (b : Bool) → not b ≡ true → b ≡ false
 was_free true h = absurd cc
 was_free false h = refl
 
@@ -109,7 +122,7 @@ pub puts_one : (schema : Schema) (table : Table) (db next : Trees) (sources : Li
 puts_one schema table db next sources new is w =
     let edit = edit_of db table [] Chosen 0 sources in
     let a = one_step schema Enforced db next edit (no_works schema Enforced 0 table.tree edit.news) w in
-    (was_free _ (subst (λ news. are_fresh (db table.tree) news ≡ true) is a.fresh), a.rows ∙ ap (put_all (db table.tree)) is, a)
+    (was_free _ (and_parts _ _ (subst (λ news. are_fresh (db table.tree) news ≡ true) is a.fresh)).0, a.rows ∙ ap (put_all (db table.tree)) is, a)
 
 scanned : {A B : Type 0} (p : A → Bool) (f : A → B) (xs : List A) → flat_map (λ x. if p x then f x ∷ [] else []) xs ≡ map f (filter p xs)
 scanned p f [] = refl
