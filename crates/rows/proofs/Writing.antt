@@ -117,9 +117,9 @@ take_out schema at table width sql key old new count contents text e was h =
 
 -- ---- DELETE of a parent
 
-pub take_out_parent : (schema : Schema) (at : ℕ) (table : Table) (children : List Table) (sql : List ℕ) (k : Value) (old new : State) (count : ℕ) (contents : Contents) → TakesOutParent schema at table children sql
+take_out_row : (schema : Schema) (at : ℕ) (table : Table) (children : List Table) (sql : List ℕ) (k : Value) (old new : State) (count : ℕ) (contents : Contents) → TakesOutParent schema at table children sql
     → HaveNone children (k ∷ []) contents → HasContents schema contents old.now → Executes sql (k ∷ []) old new (Ok count) → HasContents schema (in_table table (without (k ∷ [])) contents) new.now
-take_out_parent schema at table children sql k old new count contents text none was h =
+take_out_row schema at table children sql k old new count contents text none was h =
     let key = k ∷ [] in
     let q : Program = record { lets = []; body = scan_by table.tree (key_tests 0 1) (col 1 0 ∷ []) [] } in
     let w = runs_as sql key old new schema was.schema_is (Delete at q) text.command text.plain count h in
@@ -135,6 +135,12 @@ take_out_parent schema at table children sql k old new count contents text none 
         (cascades_from schema Enforced 0 table.tree (taken_by db edit) [] (IsCascade children (taken_by db edit)) (text.acts (taken_by db edit)) work has)) it.3 in
     let left = takes table (contents table.tree) rows (has_key key) (ids_of it.0) found holds_now in
     record { schema_is = it.2; tables = each_table table (without key) contents db new.now.trees (rw done.rows left) schema.tables text.there.alone was.tables done.tables }
+
+pub take_out_parent : (schema : Schema) (at : ℕ) (table : Table) (children : List Table) (sql : List ℕ) (key : Row) (old new : State) (count : ℕ) (contents : Contents) → length key ≡ 1 → TakesOutParent schema at table children sql
+    → HaveNone children key contents → HasContents schema contents old.now → Executes sql key old new (Ok count) → HasContents schema (in_table table (without key) contents) new.now
+take_out_parent schema at table children sql [] old new count contents one text none was h = absurd (omega arith)
+take_out_parent schema at table children sql (k ∷ []) old new count contents one text none was h = take_out_row schema at table children sql k old new count contents text none was h
+take_out_parent schema at table children sql (k ∷ l ∷ key) old new count contents one text none was h = absurd (omega arith)
 
 -- ---- UPDATE
 

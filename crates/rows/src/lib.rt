@@ -3,4 +3,4 @@
 
 mod statement;
 
-pub use statement::{insert, remove};
+pub use statement::{insert, remove, remove_parent, replace};
