@@ -4,3 +4,4 @@ pub mod ContentsLemmas
 pub mod Writing
 pub mod InsideLemmas
 pub mod Parents
+pub mod ReadLemmas

@@ -14,6 +14,12 @@ use Rattle.rows.specs.Numbered.{AreNumbered}
 abbrev pub shown : Table → Row → Row
 shown table r = map (column r) (range_with_len 1 (length table.columns))
 
+-- whether the first columns are those of the key, by SQL's `=`
+abbrev pub has_key : Row → Row → Bool
+has_key [] cells = true
+has_key (k ∷ key) [] = false
+has_key (k ∷ key) (c ∷ cells) = equal Binary c k && has_key key cells
+
 -- The table holds these rows in some order, and no two of its rows have one rowid.
 pub record AreRows (table : Table) (held rows : List Row) : Type 0 where
   pub same : IsPermutation held (map (shown table) rows)
@@ -32,15 +38,13 @@ pub record HasContents (schema : Schema) (contents : Contents) (db : Database) :
 abbrev pub in_table : Table → (List Row → List Row) → Contents → Contents
 in_table table make contents t = if t == table.tree then make (contents t) else contents t
 
+-- A query found these: the rows of the table that have the key, in some order.
+abbrev pub AreFound : Table → Row → List Row → List Row → Type 0
+AreFound table key found rows = IsPermutation found (filter (has_key key) (map (shown table) rows))
+
 -- one more row
 abbrev pub with_row : Row → List Row → List Row
 with_row row rows = row ∷ rows
-
--- whether the first columns are those of the key, by SQL's `=`
-abbrev pub has_key : Row → Row → Bool
-has_key [] cells = true
-has_key (k ∷ key) [] = false
-has_key (k ∷ key) (c ∷ cells) = equal Binary c k && has_key key cells
 
 -- the rows that have not the key
 abbrev pub without : Row → List Row → List Row

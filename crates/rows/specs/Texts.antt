@@ -15,8 +15,8 @@ use Rattle.sqlite.specs.Table.{Table}
 use Rattle.sqlite_schema.specs.declared.schema.Column.{Column}
 use Rattle.sqlite_schema.specs.declared.schema.Keys.TheVariants.{Enforced}
 use Rattle.sqlite.specs.Source.TheVariants.{Values}
-use Rattle.sqlite.specs.Command.TheVariants.{Insert, Update, Delete}
-use Rattle.sqlite.specs.Listing.{understood}
+use Rattle.sqlite.specs.Command.TheVariants.{Select, Insert, Update, Delete}
+use Rattle.sqlite.specs.Listing.{understood, reads_listing}
 use Rattle.sqlite.specs.Given.{IsPlain}
 use Rattle.sqlite.proofs.Callers.{command_of}
 use Rattle.sqlite_rules.specs.Action.{Work, works, work_for, pairs}
@@ -96,3 +96,12 @@ pub record TakesOutParent (schema : Schema) (at : ℕ) (table : Table) (children
   pub narrow : 1 ≤ length table.columns
   pub children_there : AllByRecursion (λ t. Has schema.tables t × (t.tree ≢ table.tree) × (1 ≤ length t.columns)) children
   pub acts : (olds : List Row) → AllByRecursion (λ child. AllByRecursion (λ ref. IfSome (work_for schema Enforced 0 table.tree olds [] child ref) (IsCascade children olds)) child.references) schema.tables
+
+-- SELECT of all columns of the rows whose first columns are so many parameters, in any order
+pub record ReadsRows (schema : Schema) (table : Table) (width : ℕ) (sql : List ℕ) : Type 0 where
+  pub names : List (List ℕ)
+  pub order : List (Term × Key)
+  pub command : command_of (understood schema sql) ≡ Select (record { lets = []; body = scan_by table.tree (key_tests 0 width) (map (col 1) (range_with_len 1 (length table.columns))) order }) names
+  pub plain : IsPlain (understood schema sql)
+  pub unlisted : reads_listing schema sql ≡ false
+  pub narrow : width ≤ length table.columns
