@@ -1,2 +1,15 @@
 pub mod Greatest
+pub mod GlobalGroups
+pub mod GlobalKept
+pub mod GlobalLookups
+pub mod GlobalRoles
 pub mod Ids
+pub mod Leads
+pub mod Least
+pub mod Loops
+pub mod Rising
+pub mod RisingLists
+pub mod TextKeys
+pub mod Texts
+pub mod Controls
+pub mod Updates

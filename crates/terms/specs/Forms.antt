@@ -1,5 +1,6 @@
 -- The forms of ids, names and other values.
-use Rattle.std.specs.Prelude.{◌≡◌, ◌≢◌, ◌≤◌, ◌+◌, ◌*◌, ◌-◌, ◌↔◌, ℕ, Bool, true, false, List, [], ◌∷◌, ◌++◌, length, reverse, All, AllPairs, Contains, slice_index, IsTrue, nat_lt, nat_le, ◌&&◌, ◌||◌, ◌==◌}
+use Rattle.std.specs.Prelude.{◌≡◌, ◌≢◌, ◌≤◌, ◌+◌, ◌/◌, ◌%◌, ℕ, Bool, false, [], ◌∷◌, ◌++◌, length, take, drop, reverse, All, slice_index, IsTrue, nat_le, ◌&&◌, ◌||◌, ◌==◌}
+use Rattle.std.specs.Str.Parse.{digits_value}
 use Rattle.terms.specs.declared.kinds.HoldKind.{HoldKind}
 use Rattle.terms.specs.declared.kinds.HoldKind.TheVariants.{Error, System, User}
 use Rattle.terms.specs.Types.{Text}
@@ -49,18 +50,26 @@ IsName text = IsRun is_id_byte 1 8 text × (is_digit (slice_index text 0) ≡ fa
 abbrev pub IsZoneName : Text → Type 0
 IsZoneName text = IsRun is_id_byte 1 7 text × IsTrue (is_letter (slice_index text 0))
 
--- the number that digits spell, behind a number that was read
-abbrev pub number_from : ℕ → Text → ℕ
-number_from n [] = n
-number_from n (b ∷ bs) = number_from (n * 10 + (b - 48)) bs
+-- a day of the year, from 001 to 366
+abbrev pub IsDayOfYear : Text → Type 0
+IsDayOfYear text = IsRun is_digit 3 3 text × (1 ≤ digits_value 10 text) × (digits_value 10 text ≤ 366)
 
-abbrev pub number : Text → ℕ
-number text = number_from 0 text
-
--- yyddd: two digits of a year, and a day from 001 to 366
+-- yyddd, the date of a hold: two digits of a year and a day
 abbrev pub IsDate : Text → Type 0
-IsDate text = (year day : Text) × (text ≡ year ++ day) × IsRun is_digit 2 2 year × IsRun is_digit 3 3 day
-    × (1 ≤ number day) × (number day ≤ 366)
+IsDate text = IsRun is_digit 2 2 (take 2 text) × IsDayOfYear (drop 2 text)
+
+-- yy.ddd, the date of APPLY or ACCEPT
+abbrev pub IsDottedDate : Text → Type 0
+IsDottedDate text = IsRun is_digit 2 2 (take 2 text) × (slice_index text 2 ≡ 46) × IsDayOfYear (drop 3 text)
+
+-- the last digit of a number
+abbrev pub last_digit : ℕ → ℕ
+last_digit n = 48 + n % 10
+
+-- a year's last two digits, a period, and the day of the year in three
+abbrev pub dotted_date : ℕ → ℕ → Text
+dotted_date year day =
+    last_digit (year / 10) ∷ last_digit year ∷ 46 ∷ last_digit (day / 100) ∷ last_digit (day / 10) ∷ last_digit day ∷ []
 
 abbrev pub AreBlanks : Text → Type 0
 AreBlanks text = All (λ b. b ≡ 32) text
@@ -74,15 +83,3 @@ BeginsDark (b ∷ bs) = b ≢ 32
 abbrev pub IsTrimmed : Text → Text → Type 0
 IsTrimmed text cut = (left right : Text) × (text ≡ left ++ cut ++ right) × AreBlanks left × AreBlanks right
     × BeginsDark cut × BeginsDark (reverse cut)
-
--- the order of ids, names and reasons: by their bytes
-abbrev pub is_below : Text → Text → Bool
-is_below [] [] = false
-is_below [] (y ∷ ys) = true
-is_below (x ∷ xs) [] = false
-is_below (x ∷ xs) (y ∷ ys) = nat_lt x y || (x == y && is_below xs ys)
-
--- the texts in rising order, each once
-pub record AreSorted (texts sorted : List Text) : Type 0 where
-  pub rising : AllPairs (λ a b. IsTrue (is_below a b)) sorted
-  pub same : (x : Text) → Contains texts x ↔ Contains sorted x

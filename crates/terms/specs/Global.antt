@@ -1,32 +1,42 @@
 -- What RECEIVE, its holds, releases and assignments, and REJECT do to the global zone.
-use Rattle.std.specs.Prelude.{◌≡◌, ◌≤◌, ◌<◌, ◌+◌, ◌^◌, ◌&&◌, ◌||◌, ◌==◌, nat_lt, Bool, false, not, List, [], ◌∷◌, ◌++◌, length, map, fold, filter, find, All, AllPairs, Option, None, Some, is_some, Result, Ok, Err, IsTrue, if◌then◌else◌}
+use Rattle.std.specs.Prelude.{◌≡◌, ◌≤◌, ◌<◌, ◌+◌, ◌^◌, ◌&&◌, ◌||◌, ◌==◌, Bool, false, not, List, [], ◌∷◌, ◌++◌, length, map, fold, filter, find, All, Option, None, Some, is_some, Result, Ok, Err, IsTrue, if◌then◌else◌}
 use Rattle.std.specs.List.{list_any, flat_map}
 use Rattle.std.specs.Option.{option_map_or}
+use Rattle.std.specs.declared.cmp.Ordering.{Ordering}
+use Rattle.std.specs.Ordering.{nat_cmp, ordering_then}
+use Rattle.std.specs.Cmp.Lexicographic.{slice_cmp}
 use Rattle.std.specs.Str.{bytes_eq}
 use Rattle.terms.specs.declared.kinds.HoldKind.{HoldKind}
 use Rattle.terms.specs.declared.kinds.HoldKind.TheVariants.{System}
-use Rattle.terms.specs.Types.{Text, Id, hold_number, Ver, Hold, Sysmod, Global, Release, NamedZone}
-use Rattle.terms.specs.Lookups.{IsRising, at_most_one, is_before, is_received, is_function, is_applied}
+use Rattle.terms.specs.Types.{Text, Id, hold_number, type_number, Ver, Hold, Change, Sysmod, Global, Release, NamedZone}
+use Rattle.terms.specs.Rising.{Rises, with_item}
+use Rattle.terms.specs.Lookups.{at_most_one, is_received, is_function, is_applied}
 use Rattle.terms.specs.Choice.{vers_of}
-use Rattle.terms.specs.Over.{Leads}
+use Rattle.terms.specs.Over.{Reaches}
 
--- what all its ++VERs for one SREL name in PRE, SUP and FMID
+-- what a ++VER names in PRE, SUP and FMID
+abbrev pub named : Ver → List Id
+named v = v.pre ++ v.sup ++ at_most_one v.fmid
+
+-- what all its ++VERs for one SREL name so
 abbrev pub names_for : Global → Text → Id → List Id
-names_for g srel x = flat_map (λ v. v.pre ++ v.sup ++ at_most_one v.fmid) (vers_of g srel x)
+names_for g srel x = flat_map named (vers_of g srel x)
 
 -- In the ++VERs of some SREL a SYSMOD leads to itself. Loops of REQ are none of these.
 abbrev pub HasLoop : Global → Type 0
-HasLoop g = (srel : Text) × (x : Id) × (between : List Id) × Leads (names_for g srel) x between x
+HasLoop g = (srel : Text) × (x : Id) × Reaches (names_for g srel) x x
 
 -- whether it is received and no function
 abbrev pub is_service : Global → Id → Bool
 is_service g x = is_received g x && not (is_function g x)
 
--- It supersedes no function, and names in DELETE, FMID and ++IF FMID only functions or what is not received.
+-- what a ++VER names as functions: in DELETE, FMID and ++IF FMID
+abbrev pub named_functions : Ver → List Id
+named_functions v = v.del ++ at_most_one v.fmid ++ map (λ i. i.function) v.ifs
+
+-- It supersedes no function, and what it names as functions is no other received SYSMOD.
 abbrev pub fits_roles : Global → Ver → Bool
-fits_roles g v =
-    not (list_any (is_function g) v.sup)
-    && not (list_any (is_service g) (v.del ++ at_most_one v.fmid ++ map (λ i. i.function) v.ifs))
+fits_roles g v = not (list_any (is_function g) v.sup) && not (list_any (is_service g) (named_functions v))
 
 -- each received ++VER does
 abbrev pub RolesFit : Global → Type 0
@@ -36,21 +46,30 @@ RolesFit g = All (λ s. All (λ v. IsTrue (fits_roles g v)) s.vers) g.sysmods
 abbrev pub has_key : Id → HoldKind → Text → Hold → Bool
 has_key x kind reason h = bytes_eq h.id x && (hold_number h.kind == hold_number kind) && bytes_eq h.reason reason
 
--- whether a hold's kind and reason come before another's
-abbrev pub is_kind_before : Hold → Hold → Bool
-is_kind_before a b =
-    nat_lt (hold_number a.kind) (hold_number b.kind)
-    || ((hold_number a.kind == hold_number b.kind) && is_before a.reason b.reason)
+-- Holds are ordered by their keys: by id, then kind, then reason.
+abbrev pub hold_cmp : Hold → Hold → Ordering
+hold_cmp a b =
+    ordering_then (slice_cmp nat_cmp a.id b.id)
+        (ordering_then (nat_cmp (hold_number a.kind) (hold_number b.kind)) (slice_cmp nat_cmp a.reason b.reason))
 
--- whether a hold comes before another by its key: id, then kind, then reason
-abbrev pub is_hold_before : Hold → Hold → Bool
-is_hold_before a b = is_before a.id b.id || (bytes_eq a.id b.id && is_kind_before a b)
+-- Element statements are ordered by type and name.
+abbrev pub change_cmp : Change → Change → Ordering
+change_cmp a b = ordering_then (nat_cmp (type_number a.elem_type) (type_number b.elem_type)) (slice_cmp nat_cmp a.name b.name)
 
--- SYSMODs and holds are in order, none twice, there is no loop, and roles fit.
+-- Sources rise, ++VERs rise by SREL, and element statements by type and name, none twice.
+-- The holds that it carries are internal ones of its own.
+pub record IsSysmod (s : Sysmod) : Type 0 where
+  pub sources : Rises (slice_cmp nat_cmp) (λ t. t) s.sources
+  pub vers : Rises (slice_cmp nat_cmp) (λ v. v.srel) s.vers
+  pub changes : Rises change_cmp (λ c. c) s.changes
+  pub holds : All (λ h. IsTrue h.internal × (h.kind ≡ System) × (h.id ≡ s.id)) s.holds
+
+-- SYSMODs and holds are in order, none twice, and each SYSMOD is. There is no loop, and roles fit.
 -- An internal hold is a SYSTEM hold of a received SYSMOD.
 pub record IsGlobal (g : Global) : Type 0 where
-  pub sysmods : IsRising (map (λ s. s.id) g.sysmods)
-  pub holds : AllPairs (λ a b. IsTrue (is_hold_before a b)) g.holds
+  pub sysmods : Rises (slice_cmp nat_cmp) (λ s. s.id) g.sysmods
+  pub holds : Rises hold_cmp (λ h. h) g.holds
+  pub formed : All IsSysmod g.sysmods
   pub no_loop : ¬ HasLoop g
   pub roles : RolesFit g
   pub internal : All (λ h. IsTrue h.internal → (h.kind ≡ System) × IsTrue (is_received g h.id)) g.holds
@@ -64,16 +83,13 @@ hold_of g x kind reason = find (has_key x kind reason) g.holds
 abbrev pub is_replacing : Global → Hold → Bool
 is_replacing g h = is_some (hold_of g h.id h.kind h.reason)
 
+-- the hold with its mark as internal, which a hold that was marked so hands on
+abbrev pub marked : Option Hold → Hold → Hold
+marked was h = record h { internal = h.internal || option_map_or (λ old. old.internal) was false }
+
 -- The hold takes its place by its key. Where one was there it is replaced, and its mark as internal stays.
 abbrev pub hold : Global → Hold → Global
-hold g h =
-    let was : Bool = option_map_or (λ old. old.internal) (hold_of g h.id h.kind h.reason) false in
-    record g {
-      holds =
-          filter (λ o. is_hold_before o h) g.holds
-          ++ record h { internal = h.internal || was } ∷ []
-          ++ filter (λ o. is_hold_before h o) g.holds;
-    }
+hold g h = record g { holds = with_item hold_cmp (λ o. o) g.holds (marked (hold_of g h.id h.kind h.reason) h) }
 
 -- Rl1: there is no such hold. Rl2: it is internal.
 pub data ReleaseFault : Type 0 where
@@ -92,13 +108,9 @@ release_found g r (Some h) = if h.internal then Err Rl2 else Ok (without_hold g 
 abbrev pub release : Global → Release → Result Global ReleaseFault
 release g r = release_found g r (hold_of g r.id r.kind r.reason)
 
--- the list with x at its place, once
-abbrev pub with_id : List Id → Id → List Id
-with_id xs x = filter (λ y. is_before y x) xs ++ x ∷ [] ++ filter (is_before x) xs
-
 -- a SYSMOD gains a source
 abbrev pub with_source : Text → Sysmod → Sysmod
-with_source source s = record s { sources = with_id s.sources source }
+with_source source s = record s { sources = with_item (slice_cmp nat_cmp) (λ t. t) s.sources source }
 
 -- ++ASSIGN gives a received SYSMOD the source; of an id that is not received it changes nothing.
 abbrev pub assign : Global → Text → Id → Global
@@ -107,13 +119,7 @@ assign g source x =
 
 -- the SYSMOD at its place among the others, with its holds laid aside
 abbrev pub with_sysmod : Global → Sysmod → Global
-with_sysmod g s =
-    record g {
-      sysmods =
-          filter (λ r. is_before r.id s.id) g.sysmods
-          ++ record s { holds = [] } ∷ []
-          ++ filter (λ r. is_before s.id r.id) g.sysmods;
-    }
+with_sysmod g s = record g { sysmods = with_item (slice_cmp nat_cmp) (λ r. r.id) g.sysmods (record s { holds = [] }) }
 
 -- Rc1: it is there already. Rc2: a loop. Rc3: a role does not fit. Rc4: there are 65,535 already.
 pub data ReceiveFault : Type 0 where

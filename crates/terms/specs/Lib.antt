@@ -1,4 +1,5 @@
 pub mod Types
+pub mod Rising
 pub mod Spelling
 pub mod Lookups
 pub mod Choice
@@ -6,6 +7,7 @@ pub mod Over
 pub mod Global
 pub mod Problem
 pub mod Causes
+pub mod Least
 pub mod Forms
 pub mod Records
 pub mod Groups

@@ -4,6 +4,8 @@
 
 mod codes;
 mod kinds;
+mod text_faults;
 
 pub use codes::{CnCode, CommandWord, McCode, NeedKind, Test};
 pub use kinds::{ElemType, HoldKind, Kind, ZoneKind};
+pub use text_faults::{TextCode, TextFault};

@@ -1,0 +1,31 @@
+use Rattle.std.proofs.Common.{◌≡◌, ◌∙◌, true, sym, refl}
+use Rattle.std.specs.Ordering.{is_eq}
+use Rattle.std.specs.declared.cmp.Ordering.{Ordering}
+use Rattle.std.specs.declared.cmp.Ordering.TheVariants.{Less, Equal, Greater}
+use Rattle.std.proofs.lemmas.List.Filters.{dedup_is}
+use Rattle.std.proofs.lemmas.List.Kept.{IsStrictlySortedBy-dedup, Contains-dedup, Contains-from_dedup}
+use Rattle.std.proofs.lemmas.List.Sorted.{Contains-permutation, IsPermutation-sym}
+use Rattle.terms.proofs.RisingLists.{Rises-from_sorted}
+use Rattle.fields.proofs.lists.Rising.from_vec.Goals as goal
+
+Equal-from_is_eq : (r : Ordering) → is_eq r ≡ true → r ≡ Equal
+Equal-from_is_eq Less e = cc
+Equal-from_is_eq Equal e = refl
+Equal-from_is_eq Greater e = cc
+
+pub invariant_of-result : goal.invariant_of-result
+invariant_of-result g c =
+    let sorted = c.sort_unstable.new.self.items in
+    rw (dedup_is g.T.PartialEq.eq sorted c.dedup.new.self.items c.dedup.ensures.filtered) (Rises-from_sorted g.T.Ord.cmp _ (IsStrictlySortedBy-dedup g.met.T.Ord.total g.met.T.Ord.matches_eq sorted c.sort_unstable.ensures.sorted))
+
+pub returns : goal.returns
+returns g c =
+    let eq = g.T.PartialEq.eq in
+    let items = c.args.items.items in
+    let sorted = c.sort_unstable.new.self.items in
+    let is = dedup_is eq sorted c.dedup.new.self.items c.dedup.ensures.filtered in
+    let moved = c.sort_unstable.ensures.permutation in
+    λ x. (
+      λ h. Contains-permutation sorted items x (IsPermutation-sym items sorted moved) (Contains-from_dedup eq sorted x (rw is at h)),
+      λ h. rw is (Contains-dedup g.met.T.Eq.laws (λ a b e. g.met.T.Field.exact a b (Equal-from_is_eq (g.T.Ord.cmp a b) (sym (g.met.T.Ord.matches_eq a b) ∙ e))) sorted x (Contains-permutation items sorted x moved h)),
+    )

@@ -1,0 +1,146 @@
+//! Ids of SYSMODs, source ids and classes of holds.
+ghost use Rattle.std.specs.Prelude.{◌≡◌, ◌↔◌, IsSome, IfSome};
+ghost use Rattle.terms.specs.Forms.{IsId, IsSource, IsClass};
+
+use crate::forms::is_run;
+use crate::lists::Field;
+use crate::padded::Short;
+use std::marker::Model;
+
+/// A SYSMOD's id. A contract sees it as its seven bytes.
+#[derive(Clone, Copy, Debug, PartialEq, Eq, PartialOrd, Ord, Hash)]
+pub struct Id {
+    text: Short<7>,
+}
+
+impl Model for Id {
+    ghost use Rattle.std.specs.Prelude.{ℕ, List};
+    ghost use Rattle.terms.specs.Forms.{IsId};
+
+    ghost Value = { List ℕ };
+
+    ghost view = { λ a. a.text };
+
+    ghost invariant = { λ a. IsId a.text };
+
+    ghost inverse = { λ text. record { text = text } };
+}
+
+impl Field for Id {
+    ghost use Rattle.std.proofs.lemmas.Map.Lookups.{exact_bytes};
+
+    ghost exact = { exact_bytes };
+}
+
+impl Id {
+    pub fn read(text: &[u8]) -> Option<Id>
+        ensures form { IsSome result ↔ IsId text.now }
+        ensures same { IfSome result (λ read. read ≡ text.now) }
+    {
+        if !is_run(text, 7, 7) {
+            return None;
+        }
+        Some(Id {
+            text: Short::new(text),
+        })
+    }
+
+    pub fn as_bytes(&self) -> &[u8]
+        ensures same { result.now ≡ self.now }
+        ensures form { IsId result.now }
+    {
+        self.text.as_bytes()
+    }
+}
+
+/// A source id, by which SYSMODs are chosen. A contract sees it as its bytes.
+#[derive(Clone, Copy, Debug, PartialEq, Eq, PartialOrd, Ord, Hash)]
+pub struct Source {
+    text: Short<8>,
+}
+
+impl Model for Source {
+    ghost use Rattle.std.specs.Prelude.{ℕ, List};
+    ghost use Rattle.terms.specs.Forms.{IsSource};
+
+    ghost Value = { List ℕ };
+
+    ghost view = { λ a. a.text };
+
+    ghost invariant = { λ a. IsSource a.text };
+
+    ghost inverse = { λ text. record { text = text } };
+}
+
+impl Field for Source {
+    ghost use Rattle.std.proofs.lemmas.Map.Lookups.{exact_bytes};
+
+    ghost exact = { exact_bytes };
+}
+
+impl Source {
+    pub fn read(text: &[u8]) -> Option<Source>
+        ensures form { IsSome result ↔ IsSource text.now }
+        ensures same { IfSome result (λ read. read ≡ text.now) }
+    {
+        if !is_run(text, 1, 8) {
+            return None;
+        }
+        Some(Source {
+            text: Short::new(text),
+        })
+    }
+
+    pub fn as_bytes(&self) -> &[u8]
+        ensures same { result.now ≡ self.now }
+        ensures form { IsSource result.now }
+    {
+        self.text.as_bytes()
+    }
+}
+
+/// The class of a hold. A contract sees it as its bytes.
+#[derive(Clone, Copy, Debug, PartialEq, Eq, PartialOrd, Ord, Hash)]
+pub struct Class {
+    text: Short<7>,
+}
+
+impl Model for Class {
+    ghost use Rattle.std.specs.Prelude.{ℕ, List};
+    ghost use Rattle.terms.specs.Forms.{IsClass};
+
+    ghost Value = { List ℕ };
+
+    ghost view = { λ a. a.text };
+
+    ghost invariant = { λ a. IsClass a.text };
+
+    ghost inverse = { λ text. record { text = text } };
+}
+
+impl Field for Class {
+    ghost use Rattle.std.proofs.lemmas.Map.Lookups.{exact_bytes};
+
+    ghost exact = { exact_bytes };
+}
+
+impl Class {
+    pub fn read(text: &[u8]) -> Option<Class>
+        ensures form { IsSome result ↔ IsClass text.now }
+        ensures same { IfSome result (λ read. read ≡ text.now) }
+    {
+        if !is_run(text, 1, 7) {
+            return None;
+        }
+        Some(Class {
+            text: Short::new(text),
+        })
+    }
+
+    pub fn as_bytes(&self) -> &[u8]
+        ensures same { result.now ≡ self.now }
+        ensures form { IsClass result.now }
+    {
+        self.text.as_bytes()
+    }
+}

@@ -1,0 +1,25 @@
+//! The small values that records hold, as ids and names: each is checked once, where it is read.
+#![tactic(auto)]
+
+mod dates;
+mod forms;
+mod holds;
+mod ids;
+mod lists;
+mod names;
+mod padded;
+
+pub use dates::YyDdd;
+pub use holds::{HoldDate, Reason};
+pub use ids::{Class, Id, Source};
+pub use lists::{Field, Rising};
+pub use names::{Name, Srel, ZoneName};
+
+/// Ids in rising order.
+pub type IdList = Rising<Id>;
+
+/// Source ids in rising order.
+pub type SourceList = Rising<Source>;
+
+#[cfg(test)]
+mod tests;

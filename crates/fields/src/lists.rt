@@ -1,0 +1,149 @@
+//! Lists that rise by their bytes, none twice, as statements and tables have them.
+ghost use Rattle.std.specs.Prelude.{◌≡◌, ◌↔◌, ◌++◌, [], ◌∷◌, length, not, IsTrue, All, Contains, IfOk, OnOk, OnErr, filter, if◌then◌else◌};
+ghost use Rattle.std.specs.List.{list_any};
+ghost use Rattle.std.specs.Ordering.{is_lt};
+ghost use Rattle.std.specs.Slice.Iter.{iter_rest};
+ghost use Rattle.std.specs.Iterator.Adapters.{IterYieldsInOrder};
+ghost use Rattle.terms.specs.Rising.{Rises, with_item, without_key};
+
+use std::alloc::{AllocError, Global};
+use std::marker::Model;
+use std::slice::Iter;
+
+/// A value whose order tells it apart from every other.
+pub trait Field: Ord + Copy {
+    ghost use Rattle.std.specs.declared.cmp.Ordering.TheVariants.{Equal};
+
+    ghost exact: { (x y : Self) → Self.cmp x y ≡ Equal → x ≡ y };
+}
+
+/// Values in rising order, none twice. A contract sees them as their list.
+#[derive(Drop)]
+pub struct Rising<T: Field> {
+    items: Vec<T>,
+}
+
+impl<T: Field> Model for Rising<T> {
+    ghost use Rattle.std.specs.Prelude.{List};
+    ghost use Rattle.terms.specs.Rising.{Rises};
+
+    ghost Value = { List T };
+
+    ghost view = { λ a. a.items.items };
+
+    ghost invariant = { λ a. Rises T.cmp (λ x. x) a.items.items };
+}
+
+impl<T: Field> Rising<T> {
+    pub fn new(alloc: Global) -> Self
+        ensures { result ≡ [] }
+    {
+        Rising {
+            items: Vec::new(alloc),
+        }
+    }
+
+    pub fn len(&self) -> usize
+        ensures { result ≡ length self.now }
+    {
+        self.items.len()
+    }
+
+    pub fn is_empty(&self) -> bool
+        ensures { IsTrue result ↔ (self.now ≡ []) }
+    {
+        self.items.is_empty()
+    }
+
+    pub fn as_slice(&self) -> &[T]
+        ensures items { result.now ≡ self.now }
+        ensures rising { Rises T.cmp (λ x. x) result.now }
+    {
+        self.items.as_slice()
+    }
+
+    pub fn iter(&self) -> Iter<'_, T>
+        ensures rest { iter_rest result ≡ self.now }
+        ensures runs { IterYieldsInOrder T }
+    {
+        self.items.as_slice().iter()
+    }
+
+    pub fn contains(&self, item: T) -> bool
+        ensures { result ≡ list_any (T.eq item) self.now }
+    {
+        self.items.binary_search(&item).is_ok()
+    }
+
+    /// Answers whether the item is new.
+    pub fn insert(&mut self, item: T) -> Result<bool, AllocError>
+        ensures added { IfOk result (λ added. added ≡ not (list_any (T.eq item) self.old)) }
+        ensures ok { OnOk result (self.new ≡ with_item T.cmp (λ x. x) self.old item) }
+        ensures err { OnErr result (self.new ≡ self.old) }
+    {
+        match self.items.binary_search(&item) {
+            Ok(_) => Ok(false),
+            Err(place) => {
+                self.items.insert(place, item)?;
+                Ok(true)
+            }
+        }
+    }
+
+    /// Answers whether the item was there.
+    pub fn remove(&mut self, item: T) -> bool
+        ensures found { result ≡ list_any (T.eq item) self.old }
+        ensures after { self.new ≡ without_key T.cmp (λ x. x) self.old item }
+    {
+        match self.items.binary_search(&item) {
+            Ok(place) => {
+                self.items.remove(place);
+                true
+            }
+            Err(_) => false,
+        }
+    }
+
+    /// Adds an item that all others stand before, and answers whether it is one.
+    pub fn push_last(&mut self, item: T) -> Result<bool, AllocError>
+        ensures fits { IfOk result
+            (λ fits. IsTrue fits ↔ All (λ x. IsTrue (is_lt (T.cmp x item))) self.old) }
+        ensures ok { IfOk result
+            (λ fits. self.new ≡ (if fits then self.old ++ item ∷ [] else self.old)) }
+        ensures err { OnErr result (self.new ≡ self.old) }
+    {
+        let fits = stands_last(self.items.as_slice(), item);
+        if fits {
+            self.items.push(item)?;
+        }
+        Ok(fits)
+    }
+
+    pub fn try_clone(&self, alloc: Global) -> Result<Self, AllocError>
+        ensures { IfOk result (λ copy. copy ≡ self.now) }
+    {
+        Ok(Rising {
+            items: Vec::from_slice(alloc, self.items.as_slice())?,
+        })
+    }
+
+    /// Sorts the items and drops doubles.
+    pub fn from_vec(mut items: Vec<T>) -> Self
+        ensures { (x : T) → Contains result x ↔ Contains items.items x }
+    {
+        items.sort_unstable();
+        items.dedup();
+        Rising { items }
+    }
+}
+
+// Whether all items, which rise, stand before this one.
+fn stands_last<T: Field>(items: &[T], item: T) -> bool
+    requires { Rises T.cmp (λ x. x) items.now }
+    ensures { IsTrue result ↔ All (λ x. IsTrue (is_lt (T.cmp x item))) items.now }
+{
+    match items.last() {
+        Some(last) => *last < item,
+        None => true,
+    }
+}

@@ -1,0 +1,106 @@
+//! A text of a few bytes that lies in its value, with equality and order by its bytes.
+ghost use Rattle.std.specs.Prelude.{◌≡◌, ◌<◌, ◌≤◌, ◌^◌, length, Some, nat_eq, List, ℕ, refl};
+ghost use Rattle.std.specs.Hash as fed;
+ghost use Rattle.std.specs.Ordering.{nat_cmp};
+ghost use Rattle.std.specs.Cmp.Lexicographic.{slice_cmp, nat_list_eq_equiv, nat_list_cmp_total, texts_ties, texts_po};
+ghost use Rattle.std.specs.Cmp.{partial_equiv_from_equiv};
+ghost use Rattle.std.specs.Cmp.Rules.{hashing};
+ghost use Rattle.std.specs.Str.{bytes_eq};
+ghost use Rattle.std.proofs.Common.{rules};
+
+use std::cmp::Ordering;
+use std::hash::{Hash, Hasher};
+use std::marker::Model;
+
+/// A text of at most `N` bytes. A contract sees it as its bytes.
+#[derive(Clone, Copy, Debug)]
+pub(crate) struct Short<const N: usize> {
+    // The text, and zeros behind it.
+    bytes: [u8; N],
+    len: u8,
+}
+
+impl<const N: usize> Model for Short<N> {
+    ghost use Rattle.std.specs.Prelude.{ℕ, List, take, length, refl};
+
+    ghost Value = { List ℕ };
+
+    ghost use Rattle.fields.specs.Padded.{padded, IsPadded, padded-take, length-text};
+
+    ghost view = { λ s. take s.len s.bytes };
+
+    ghost invariant = { λ s. IsPadded N s.bytes s.len };
+
+    ghost inverse = { λ text. record { bytes = padded N text; len = length text } };
+
+    ghost inverse_ok = { λ a h. Prim.rw (padded-take N a.len a.bytes h, length-text N a.len a.bytes h) refl };
+}
+
+impl<const N: usize> Short<N> {
+    pub(crate) fn new(text: &[u8]) -> Self
+        requires fits { length text.now ≤ N }
+        requires short { N < 2 ^ 8 }
+        ensures { result ≡ text.now }
+    {
+        let mut bytes = [0; N];
+        bytes[..text.len()].copy_from_slice(text);
+        Short {
+            bytes,
+            len: text.len() as u8,
+        }
+    }
+
+    pub(crate) fn as_bytes(&self) -> &[u8]
+        ensures { result.now ≡ self.now }
+    {
+        &self.bytes[..usize::from(self.len)]
+    }
+}
+
+impl<const N: usize> PartialEq for Short<N> {
+    ghost eq = { bytes_eq };
+
+    ghost laws = { partial_equiv_from_equiv nat_list_eq_equiv };
+
+    fn eq(&self, other: &Self) -> bool {
+        self.as_bytes() == other.as_bytes()
+    }
+}
+
+impl<const N: usize> Eq for Short<N> {
+    ghost laws = { nat_list_eq_equiv };
+}
+
+impl<const N: usize> PartialOrd for Short<N> {
+    ghost partial_cmp = { λ x y. Some (slice_cmp nat_cmp x y) };
+
+    ghost laws = { texts_po };
+
+    fn partial_cmp(&self, other: &Self) -> Option<Ordering> {
+        Some(self.cmp(other))
+    }
+}
+
+impl<const N: usize> Ord for Short<N> {
+    ghost cmp = { slice_cmp nat_cmp };
+
+    ghost total = { nat_list_cmp_total };
+
+    ghost matches_partial_cmp = { λ x y. refl };
+
+    ghost matches_eq = { texts_ties };
+
+    fn cmp(&self, other: &Self) -> Ordering {
+        self.as_bytes().cmp(other.as_bytes())
+    }
+}
+
+impl<const N: usize> Hash for Short<N> {
+    ghost hash_input = { fed.slice fed.u8 };
+
+    ghost respects_eq = { Prim.search (hashing, rules) };
+
+    fn hash<H: Hasher>(&self, state: &mut H) {
+        self.as_bytes().hash(state);
+    }
+}

@@ -1,0 +1,55 @@
+-- A search: all that is seen is reached, and what the first ones name is seen.
+use Rattle.std.proofs.Common.{◌≡◌, ℕ, ◌<◌, ◌≤◌, ◌+◌, inl, inr, List, [], length, take, get_or, Contains, sym, subst, ap, ◌∙◌, length-append, arith}
+use Rattle.std.proofs.lemmas.List.{take_more, take_all}
+use Rattle.std.proofs.lemmas.List.Elements.{Contains-push_cases, Contains-get_or}
+use Rattle.terms.specs.Types.{Id}
+use Rattle.terms.specs.Over.{Reaches}
+use Rattle.terms.proofs.Leads.{reaches_named, reaches_last, all_reached}
+use Rattle.paths.specs.Seen.{AddsAll}
+use Rattle.paths.proofs.Growth.{adds-keeps, adds-cases, take-adds}
+
+-- x's search has seen these ids and gone through the first n of them
+pub record IsSearch (next : Id → List Id) (x : Id) (seen : List Id) (n : ℕ) : Type 0 where
+  pub within : n ≤ length seen
+  pub sound : (z : Id) → Contains seen z → Reaches next x z
+  pub first : (z : Id) → Contains (next x) z → Contains seen z
+  pub closed : (y z : Id) → Contains (take n seen) y → Contains (next y) z → Contains seen z
+
+module _ (next : Id → List Id) (x : Id) where
+  -- it begins with what x names
+  pub search-start : (seen : List Id) → AddsAll [] (next x) seen → IsSearch next x seen 0
+  search-start seen adds = record {
+    within = omega arith;
+    sound = λ z h. elim (adds-cases [] (next x) seen adds z h) [ inl none ↦ absurd (omega (arith, none.1)) | inr named ↦ reaches_named next x z named ];
+    first = adds.has;
+    closed = λ y z none named. absurd (omega (arith, none.1));
+  }
+
+  -- it goes through one more
+  pub search-more : (old new : List Id) (n : ℕ) (d : Id) → n < length old
+      → AddsAll old (next (get_or old n d)) new → IsSearch next x old n → IsSearch next x new (n + 1)
+  search-more old new n d below adds s = record {
+    within = omega (arith, ap length adds.kept ∙ length-append old adds.added);
+    sound = λ z h. elim (adds-cases old _ new adds z h) [
+      | inl was ↦ s.sound z was
+      | inr named ↦ reaches_last next x _ z (s.sound _ (Contains-get_or old n d below)) named
+    ];
+    first = λ z named. adds-keeps old _ new adds z (s.first z named);
+    closed = λ y z gone named.
+        let gone_old : Contains (take (n + 1) old) y = subst (λ ks. Contains ks y) (take-adds old _ new (n + 1) adds (omega arith)) gone in
+        elim (Contains-push_cases (take n old) (get_or old n d) y (subst (λ ks. Contains ks y) (take_more old n d below) gone_old)) [
+          | inl before ↦ adds-keeps old _ new adds z (s.closed y z before named)
+          | inr this ↦ adds.has z (subst (λ w. Contains (next w) z) (sym this) named)
+        ];
+  }
+
+  -- the same, of the one that stands next
+  pub search-next : (old new : List Id) (n : ℕ) (y : Id) → n < length old → y ≡ get_or old n y
+      → AddsAll old (next y) new → IsSearch next x old n → IsSearch next x new (n + 1)
+  search-next old new n y below at adds = search-more old new n y below (subst (λ w. AddsAll old (next w) new) at adds)
+
+  -- having gone through all, it has seen all that x reaches
+  pub search-end : (seen : List Id) (n : ℕ) → length seen ≤ n → IsSearch next x seen n → (z : Id) → Reaches next x z → Contains seen z
+  search-end seen n all s z reached =
+      all_reached next (Contains seen) x s.first
+      (λ y w there named. s.closed y w (subst (λ ks. Contains ks y) (sym (take_all n seen all)) there) named) z reached

@@ -1,0 +1,4 @@
+pub mod Growth
+pub mod Going
+pub mod Rising
+pub mod Copies

@@ -1,0 +1,8 @@
+//! The one search for lists of ids that lead from one to another.
+#![tactic(auto)]
+
+mod search;
+#[cfg(test)]
+mod tests;
+
+pub use search::{Names, ends, leads};

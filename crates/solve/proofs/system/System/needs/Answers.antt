@@ -1,0 +1,9 @@
+use Rattle.std.specs.List.{All}
+use Rattle.terms.specs.Problem.{IsDemand}
+use Rattle.solve.proofs.Maps.{All-unmap}
+use Rattle.solve.specs.Need.{demand}
+use Rattle.solve.proofs.system.System.needs.Goals as goal
+
+pub returns-clause-valid : goal.returns-clause-valid
+returns-clause-valid c =
+    rw (c.deref.ensures.value, ← c.self.view_is) (All-unmap (IsDemand c.self.inside.size) demand c.self.inside.needs.items c.self.invariant.demands)

@@ -1,0 +1,21 @@
+//! The greatest set of candidates that supports itself, and why the others are not in it.
+#![tactic(auto)]
+
+mod sets;
+mod sweep;
+mod system;
+
+ghost use Rattle.std.specs.Prelude.{IfOk};
+ghost use Rattle.terms.specs.Problem.{AreKept};
+
+pub use sets::Kept;
+use std::alloc::{AllocError, Global};
+pub use sweep::Sweep;
+pub use system::{Need, System};
+
+/// Gives the kept set of a system.
+pub trait Solver {
+    /// The union of all self-supporting sets.
+    fn greatest(&self, alloc: Global, s: &System) -> Result<Kept, AllocError>
+        ensures { IfOk result (λ kept. AreKept s.now kept) };
+}

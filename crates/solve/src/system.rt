@@ -1,0 +1,103 @@
+ghost use Rattle.std.specs.Prelude.{◌≡◌, ◌<◌, ◌^◌, ◌+◌, ◌++◌, ◌∷◌, [], ◌↔◌, length, map, All, AllPairs, OnOk, OnErr, IsTrue};
+ghost use Rattle.solve.specs.Need.{demand};
+ghost use Rattle.terms.specs.Problem.{IsDemand, IsProblem};
+
+use std::alloc::{AllocError, Global};
+use std::marker::Model;
+
+/// One need of the candidate `of`: each number in `any` serves it.
+#[derive(Drop)]
+pub struct Need {
+    pub of: u32,
+    pub any: Vec<u32>,
+}
+
+/// Whether each number is above the one before it.
+fn rises(list: &[u32]) -> bool
+    ensures { IsTrue result ↔ AllPairs (λ a b. a < b) list.now }
+{
+    for i in 1..list.len() {
+        if list[i - 1] >= list[i] {
+            return false;
+        }
+    }
+    true
+}
+
+/// Candidates below a number, which of them are eligible, and what they need.
+#[derive(Drop)]
+pub struct System {
+    size: u32,
+    eligible: Vec<bool>,
+    needs: Vec<Need>,
+}
+
+impl Model for System {
+    ghost use Rattle.terms.specs.Problem.{Problem, IsProblem};
+
+    ghost Value = { Problem };
+
+    ghost use Rattle.solve.specs.System.{problem};
+
+    ghost view = { problem };
+
+    ghost invariant = { λ s. IsProblem (problem s) };
+}
+
+impl System {
+    /// A system with these flags and no needs yet.
+    pub fn new(alloc: Global, eligible: Vec<bool>) -> System
+        requires { length eligible.items < 2 ^ 32 }
+        ensures { result ≡ record { size = length eligible.items; eligible = eligible.items; demands = [] } }
+    {
+        System {
+            size: eligible.len() as u32,
+            eligible,
+            needs: Vec::new(alloc),
+        }
+    }
+
+    /// How many candidates there are.
+    pub fn size(&self) -> u32
+        ensures size { result ≡ self.now.size }
+        ensures valid { IsProblem self.now }
+    {
+        self.size
+    }
+
+    /// Which candidates are eligible.
+    pub fn eligible(&self) -> &[bool]
+        ensures flags { result.now ≡ self.now.eligible }
+        ensures len { length result.now ≡ self.now.size }
+    {
+        &self.eligible
+    }
+
+    /// The needs.
+    pub fn needs(&self) -> &[Need]
+        ensures needs { map demand result.now ≡ self.now.demands }
+        ensures valid { All (λ need. IsDemand self.now.size (demand need)) result.now }
+    {
+        &self.needs
+    }
+
+    /// Whether a need may be added: it is about candidates, and its list rises.
+    pub fn admits(&self, need: &Need) -> bool
+        ensures { IsTrue result ↔ IsDemand self.now.size (demand need.now) }
+    {
+        need.of < self.size
+            && need.any.iter().all(|y| *y < self.size)
+            && rises(&need.any)
+    }
+
+    /// Adds a need. `admits` tests what is asked of it.
+    pub fn add_need(&mut self, need: Need) -> Result<(), AllocError>
+        requires { IsDemand self.old.size (demand need) }
+        ensures ok { OnOk result (self.new
+            ≡ record self.old { demands = self.old.demands ++ demand need ∷ [] }) }
+        ensures err { OnErr result (self.new ≡ self.old) }
+    {
+        self.needs.push(need)?;
+        Ok(())
+    }
+}

@@ -1,0 +1,253 @@
+-- How a list that rises by a key falls apart at a key, and stays in order when an item comes in between.
+use Rattle.std.proofs.Common.{◌≡◌, ◌<◌, ◌≤◌, ◌+◌, ℕ, suc, Bool, true, false, IsTrue, List, [], ◌∷◌, ◌++◌, length, get_or, take, drop, refl, sym, ap, ◌∙◌, arith, cond, length-drop, append_assoc, inl, inr, ◌-◌}
+use Rattle.std.specs.Prelude.{All, AllPairs, filter, Contains, find, Option, Some, None}
+use Rattle.std.specs.List.{HoldsAt, list_any}
+use Rattle.std.specs.Prelude.{Result, Ok, Err, is_ok}
+use Rattle.std.specs.List.Sorted.{IsNonDecreasingBy, IsSortedBy, IsPartitionPoint, IsSearchInRange, IsBinarySearchResult, IsStrictlySortedBy}
+use Rattle.std.proofs.lemmas.Map.Keys.{Less-from_sorted}
+use Rattle.std.specs.declared.cmp.Ordering.{Ordering}
+use Rattle.std.specs.declared.cmp.Ordering.TheVariants.{Less, Equal, Greater}
+use Rattle.std.specs.Ordering.{is_lt, is_eq, ordering_index, ordering_reverse}
+use Rattle.std.specs.Cmp.{IsTotalOrder}
+use Rattle.std.proofs.lemmas.Cmp.{alike_right, tied_back, tied_itself}
+use Rattle.std.proofs.lemmas.List.{take-append-drop, get_or-take, get_or-drop, length-take-le, append-nil, get_or_default}
+use Rattle.std.proofs.Math.Seq.{drop-cons}
+use Rattle.std.proofs.lemmas.Bool.{cases_lt}
+use Rattle.std.proofs.lemmas.List.Folds.{list_any_at, list_any_none, list_any-append}
+use Rattle.std.proofs.lemmas.List.Elements.{All-cons, All-head, All-tail, All-append, filter-append}
+use Rattle.std.proofs.lemmas.List.Kept.{AllPairs-cons}
+use Rattle.std.proofs.lemmas.List.Sorted.{searchable_from_sorted}
+use Rattle.terms.specs.Rising.{Rises, before, behind, with_item, without_key}
+
+-- a test that answers so is that order
+pub Less-from_is_lt : (r : Ordering) → is_lt r ≡ true → r ≡ Less
+Less-from_is_lt Less e = refl
+Less-from_is_lt Equal e = cc
+Less-from_is_lt Greater e = cc
+
+-- a filter that each item passes, or none
+pub filter-all : {X : Type 0} (p : X → Bool) (xs : List X) → All (λ x. p x ≡ true) xs → filter p xs ≡ xs
+filter-all p [] h = refl
+filter-all p (x ∷ xs) h =
+    rw (All-head (λ x. p x ≡ true) x xs h) (ap (λ ys. x ∷ ys) (filter-all p xs (All-tail (λ x. p x ≡ true) x xs h)))
+
+pub filter-none : {X : Type 0} (p : X → Bool) (xs : List X) → All (λ x. p x ≡ false) xs → filter p xs ≡ []
+filter-none p [] h = refl
+filter-none p (x ∷ xs) h =
+    rw (All-head (λ x. p x ≡ false) x xs h) (filter-none p xs (All-tail (λ x. p x ≡ false) x xs h))
+
+-- a fact of all items stays when one comes in between that has it
+pub All-between : {X : Type 0} (P : X → Type 0) (xs ys : List X) (x : X) → All P (xs ++ ys) → P x → All P (xs ++ x ∷ ys)
+All-between P [] ys x h p = All-cons P x ys p h
+All-between P (y ∷ xs) ys x h p =
+    All-cons P y (xs ++ x ∷ ys) (All-head P y (xs ++ ys) h) (All-between P xs ys x (All-tail P y (xs ++ ys) h) p)
+
+pub AllPairs-first : {X : Type 0} (R : X → X → Type 0) (x : X) (xs : List X) → AllPairs R (x ∷ xs) → All (R x) xs
+AllPairs-first R x xs h = λ k d below. h 0 (suc k) d (omega arith) (omega arith)
+
+pub AllPairs-rest : {X : Type 0} (R : X → X → Type 0) (x : X) (xs : List X) → AllPairs R (x ∷ xs) → AllPairs R xs
+AllPairs-rest R x xs h = λ i j d less below. h (suc i) (suc j) d (omega arith) (omega arith)
+
+-- a list in order stays so when an item comes in between that fits
+pub AllPairs-between : {X : Type 0} (R : X → X → Type 0) (xs ys : List X) (x : X) → AllPairs R (xs ++ ys) → All (λ y. R y x) xs → All (R x) ys → AllPairs R (xs ++ x ∷ ys)
+AllPairs-between R [] ys x h low high = AllPairs-cons R x ys high h
+AllPairs-between R (y ∷ xs) ys x h low high =
+    AllPairs-cons R y (xs ++ x ∷ ys) (All-between (R y) xs ys x (AllPairs-first R y (xs ++ ys) h) (All-head (λ y. R y x) y xs low)) (AllPairs-between R xs ys x (AllPairs-rest R y (xs ++ ys) h) (All-tail (λ y. R y x) y xs low) high)
+
+-- and when one goes
+pub AllPairs-without : {X : Type 0} (R : X → X → Type 0) (xs ys : List X) (x : X) → AllPairs R (xs ++ x ∷ ys) → AllPairs R (xs ++ ys)
+AllPairs-without R [] ys x h = AllPairs-rest R x ys h
+AllPairs-without R (y ∷ xs) ys x h =
+    AllPairs-cons R y (xs ++ ys) (All-skip (R y) xs ys x (AllPairs-first R y (xs ++ x ∷ ys) h)) (AllPairs-without R xs ys x (AllPairs-rest R y (xs ++ x ∷ ys) h))
+  where
+    All-skip : {X : Type 0} (P : X → Type 0) (xs ys : List X) (x : X) → All P (xs ++ x ∷ ys) → All P (xs ++ ys)
+    All-skip P [] ys x h = All-tail P x ys h
+    All-skip P (y ∷ xs) ys x h =
+        All-cons P y (xs ++ ys) (All-head P y (xs ++ x ∷ ys) h) (All-skip P xs ys x (All-tail P y (xs ++ x ∷ ys) h))
+
+-- what stands before the first of two parts, and behind the second
+pub AllPairs-parts : {X : Type 0} (R : X → X → Type 0) (xs ys : List X) (x : X) → AllPairs R (xs ++ x ∷ ys) → All (λ y. R y x) xs × All (R x) ys
+AllPairs-parts R [] ys x h = (λ k d below. absurd (omega arith), AllPairs-first R x ys h)
+AllPairs-parts R (y ∷ xs) ys x h =
+    let rest = AllPairs-parts R xs ys x (AllPairs-rest R y (xs ++ x ∷ ys) h) in
+    (All-cons (λ y. R y x) y xs (All-middle (R y) xs ys x (AllPairs-first R y (xs ++ x ∷ ys) h)) rest.0, rest.1)
+  where
+    All-middle : {X : Type 0} (P : X → Type 0) (xs ys : List X) (x : X) → All P (xs ++ x ∷ ys) → P x
+    All-middle P [] ys x h = All-head P x ys h
+    All-middle P (y ∷ xs) ys x h = All-middle P xs ys x (All-tail P y (xs ++ x ∷ ys) h)
+
+-- keys that are strictly sorted rise
+pub Rises-from_sorted : {K : Type 0} (R : K → K → Ordering) (ks : List K) → IsStrictlySortedBy R ks → Rises R (λ k. k) ks
+Rises-from_sorted R ks s = λ i j d less below. ap is_lt (Less-from_sorted R ks i j d s less below)
+
+-- what stands before a key, and what stands behind it
+pub record Splits {X K : Type 0} (R : K → K → Ordering) (key : X → K) (k : K) (front back : List X) : Type 0 where
+  pub low : All (λ y. R (key y) k ≡ Less) front
+  pub high : All (λ y. R k (key y) ≡ Less) back
+
+module _ {X K : Type 0} {R : K → K → Ordering} (o : IsTotalOrder R) (key : X → K) where
+  -- of two keys one is below, or they tie
+  turned : (a b : K) → R a b ≡ Less → is_lt (R b a) ≡ false
+  turned a b e = rw (o.antisymm b a, e) refl
+
+  tied : (a b : K) → R a b ≡ Equal → is_lt (R b a) ≡ false
+  tied a b e = rw (tied_back o a b e) refl
+
+  unequal : (a b : K) → R a b ≡ Less → is_eq (R b a) ≡ false
+  unequal a b e = rw (o.antisymm b a, e) refl
+
+  pub before-apart : (k : K) (front back : List X) → Splits R key k front back → before R key k (front ++ back) ≡ front
+  before-apart k front back s =
+      let p : X → Bool = λ x. is_lt (R (key x) k) in
+      filter-append p front back
+      ∙ ap (λ ys. ys ++ filter p back) (filter-all p front (λ i d h. ap is_lt (s.low i d h)))
+      ∙ ap (λ ys. front ++ ys) (filter-none p back (λ i d h. turned k (key (get_or back i d)) (s.high i d h)))
+      ∙ append-nil front
+
+  pub behind-apart : (k : K) (front back : List X) → Splits R key k front back → behind R key k (front ++ back) ≡ back
+  behind-apart k front back s =
+      let p : X → Bool = λ x. is_lt (R k (key x)) in
+      filter-append p front back
+      ∙ ap (λ ys. ys ++ filter p back) (filter-none p front (λ i d h. turned (key (get_or front i d)) k (s.low i d h)))
+      ∙ filter-all p back (λ i d h. ap is_lt (s.high i d h))
+
+  pub before-around : (k : K) (front back : List X) (x : X) → Splits R key k front back → R (key x) k ≡ Equal → before R key k (front ++ x ∷ back) ≡ front
+  before-around k front back x s e =
+      let p : X → Bool = λ y. is_lt (R (key y) k) in
+      filter-append p front (x ∷ back)
+      ∙ ap (λ b. filter p front ++ cond b (x ∷ filter p back) (filter p back)) (ap is_lt e)
+      ∙ sym (filter-append p front back) ∙ before-apart k front back s
+
+  pub behind-around : (k : K) (front back : List X) (x : X) → Splits R key k front back → R (key x) k ≡ Equal → behind R key k (front ++ x ∷ back) ≡ back
+  behind-around k front back x s e =
+      let p : X → Bool = λ y. is_lt (R k (key y)) in
+      filter-append p front (x ∷ back)
+      ∙ ap (λ b. filter p front ++ cond b (x ∷ filter p back) (filter p back)) (tied (key x) k e)
+      ∙ sym (filter-append p front back) ∙ behind-apart k front back s
+
+  -- around an item of the key all others are before and behind
+  pub Splits-around : (k : K) (front back : List X) (x : X) → Rises R key (front ++ x ∷ back) → R (key x) k ≡ Equal → Splits R key k front back
+  Splits-around k front back x rises e =
+      let parts = AllPairs-parts (λ a b. is_lt (R (key a) (key b)) ≡ true) front back x rises in
+      record {
+        low = λ i d h. sym (alike_right o (key x) k (key (get_or front i d)) e) ∙ Less-from_is_lt (R (key (get_or front i d)) (key x)) (parts.0 i d h);
+        high = λ i d h. sym (o.congr (key x) k (key (get_or back i d)) e) ∙ Less-from_is_lt (R (key x) (key (get_or back i d))) (parts.1 i d h);
+      }
+
+  -- keys in order are what a binary search asks for
+  pub searchable : (k : K) (xs : List X) → Rises R key xs → IsNonDecreasingBy (λ y. ordering_index (R (key y) k)) xs
+  searchable k xs rises =
+      searchable_from_sorted o key xs k (λ i d low below. turned (key (get_or xs i d)) (key (get_or xs (i + 1) d)) (Less-from_is_lt (R (key (get_or xs i d)) (key (get_or xs (i + 1) d))) (rises i (i + 1) d (omega arith) below)))
+
+  -- where a binary search ends without the key
+  pub Splits-at : (k : K) (xs : List X) (i : ℕ) → i ≤ length xs → IsPartitionPoint (λ y. R (key y) k ≡ Less) (λ y. R (key y) k ≡ Greater) xs i → Splits R key k (take i xs) (drop i xs)
+  Splits-at k xs i within p = record {
+    low = λ j d h. rw (get_or-take i xs j d (omega (arith, length-take-le i xs within))) (p.0 j d (omega arith) (omega (arith, length-take-le i xs within)));
+    high = λ j d h.
+        rw (get_or-drop i xs j d) (o.antisymm k (key (get_or xs (i + j) d)) ∙ ap ordering_reverse (p.1 (i + j) d (omega arith) (omega (arith, length-drop i xs))));
+  }
+
+  -- an item whose key is new comes in between
+  pub with_item-new : (front back : List X) (x : X) → Splits R key (key x) front back → with_item R key (front ++ back) x ≡ front ++ x ∷ back
+  with_item-new front back x s =
+      ap (λ ys. (ys ++ x ∷ []) ++ behind R key (key x) (front ++ back)) (before-apart (key x) front back s)
+      ∙ ap (λ ys. (front ++ x ∷ []) ++ ys) (behind-apart (key x) front back s)
+      ∙ append_assoc front (x ∷ []) back
+
+  -- an item takes the place of the one of its key
+  pub with_item-there : (front back : List X) (x y : X) → Rises R key (front ++ y ∷ back) → R (key y) (key x) ≡ Equal → with_item R key (front ++ y ∷ back) x ≡ front ++ x ∷ back
+  with_item-there front back x y rises e =
+      let s = Splits-around (key x) front back y rises e in
+      ap (λ ys. (ys ++ x ∷ []) ++ behind R key (key x) (front ++ y ∷ back)) (before-around (key x) front back y s e)
+      ∙ ap (λ ys. (front ++ x ∷ []) ++ ys) (behind-around (key x) front back y s e)
+      ∙ append_assoc front (x ∷ []) back
+
+  -- the list stays in order with a new item
+  pub Rises-between : (front back : List X) (x : X) → Rises R key (front ++ back) → Splits R key (key x) front back → Rises R key (front ++ x ∷ back)
+  Rises-between front back x rises s =
+      AllPairs-between (λ a b. is_lt (R (key a) (key b)) ≡ true) front back x rises (λ i d h. ap is_lt (s.low i d h)) (λ i d h. ap is_lt (s.high i d h))
+
+  -- the item at a place ties with the key, and the list falls apart there
+  pub record Stands (k : K) (xs : List X) (i : ℕ) (x : X) : Type 0 where
+    pub tie : R (key x) k ≡ Equal
+    pub parts : xs ≡ take i xs ++ x ∷ drop (suc i) xs
+    pub at : (d : X) → get_or xs i d ≡ x
+
+  -- where a binary search finds the key
+  pub Stands-at : (k : K) (xs : List X) (i : ℕ) → i < length xs → HoldsAt (λ y. R (key y) k ≡ Equal) xs i → (x : X) × Stands k xs i x
+  Stands-at k [] i below h = absurd (omega arith)
+  Stands-at k (x ∷ xs) i below h = (get_or (x ∷ xs) i x, record {
+    tie = h x;
+    parts = sym (take-append-drop i (x ∷ xs)) ∙ ap (λ ys. take i (x ∷ xs) ++ ys) (drop-cons (x ∷ xs) i x below);
+    at = λ d. get_or_default (x ∷ xs) i d x below;
+  })
+
+  -- whether some item has the key, by a test that ties with the order
+  pub list_any-there : (E : K → K → Bool) → ((a b : K) → E a b ≡ is_eq (R a b)) → (k : K) (xs : List X) (i : ℕ) (x : X) → i < length xs → Stands k xs i x → list_any (λ y. E k (key y)) xs ≡ true
+  list_any-there E ties k xs i x below s =
+      list_any_at (λ y. E k (key y)) xs i x below (ap (λ y. E k (key y)) (s.at x) ∙ ties k (key x) ∙ ap is_eq (tied_back o (key x) k s.tie))
+
+  pub list_any-apart : (E : K → K → Bool) → ((a b : K) → E a b ≡ is_eq (R a b)) → (k : K) (front back : List X) → Splits R key k front back → list_any (λ y. E k (key y)) (front ++ back) ≡ false
+  list_any-apart E ties k front back s =
+      let low : All (λ y. E k (key y) ≡ false) front = λ i d h. ties k (key (get_or front i d)) ∙ unequal (key (get_or front i d)) k (s.low i d h) in
+      let high : All (λ y. E k (key y) ≡ false) back = λ i d h. ties k (key (get_or back i d)) ∙ ap is_eq (s.high i d h) in
+      list_any_none (λ y. E k (key y)) (front ++ back) (All-append (λ y. E k (key y) ≡ false) front back low high)
+
+  -- whether a binary search finds the key
+  pub is_ok-search : (E : K → K → Bool) → ((a b : K) → E a b ≡ is_eq (R a b)) → (k : K) (xs : List X) → Rises R key xs → (r : Result ℕ ℕ) → IsSearchInRange r (length xs) → IsBinarySearchResult (λ y. R (key y) k) xs r → is_ok r ≡ list_any (λ y. E k (key y)) xs
+  is_ok-search E ties k xs rises (Ok i) within p =
+      sym (list_any-there E ties k xs i (Stands-at k xs i within p).0 within (Stands-at k xs i within p).1)
+  is_ok-search E ties k xs rises (Err i) within p =
+      sym (ap (list_any (λ y. E k (key y))) (sym (take-append-drop i xs)) ∙ list_any-apart E ties k (take i xs) (drop i xs) (Splits-at k xs i within (p (searchable k xs rises))))
+
+  -- where a binary search ends without the item's key the item comes in
+  pub with_item-at : (xs : List X) (i : ℕ) (x : X) → Rises R key xs → i ≤ length xs → IsPartitionPoint (λ y. R (key y) (key x) ≡ Less) (λ y. R (key y) (key x) ≡ Greater) xs i → with_item R key xs x ≡ take i xs ++ x ∷ drop i xs
+  with_item-at xs i x rises within p =
+      ap (λ ys. with_item R key ys x) (sym (take-append-drop i xs)) ∙ with_item-new (take i xs) (drop i xs) x (Splits-at (key x) xs i within p)
+
+  pub Rises-at : (xs : List X) (i : ℕ) (x : X) → Rises R key xs → i ≤ length xs → IsPartitionPoint (λ y. R (key y) (key x) ≡ Less) (λ y. R (key y) (key x) ≡ Greater) xs i → Rises R key (take i xs ++ x ∷ drop i xs)
+  Rises-at xs i x rises within p =
+      let whole : Rises R key (take i xs ++ drop i xs) = rw (take-append-drop i xs) rises in
+      Rises-between (take i xs) (drop i xs) x whole (Splits-at (key x) xs i within p)
+
+  -- an item that is there already changes nothing
+  pub with_item-same : (xs : List X) (i : ℕ) (x : X) → Rises R key xs → Stands (key x) xs i x → with_item R key xs x ≡ xs
+  with_item-same xs i x rises s =
+      let whole : Rises R key (take i xs ++ x ∷ drop (suc i) xs) = rw (← s.parts) rises in
+      ap (λ ys. with_item R key ys x) s.parts ∙ with_item-there (take i xs) (drop (suc i) xs) x x whole s.tie ∙ sym s.parts
+
+  -- what goes when a key goes
+  pub without_key-there : (k : K) (xs : List X) (i : ℕ) (x : X) → Rises R key xs → Stands k xs i x → without_key R key xs k ≡ take i xs ++ drop (suc i) xs
+  without_key-there k xs i x rises s =
+      let whole : Rises R key (take i xs ++ x ∷ drop (suc i) xs) = rw (← s.parts) rises in
+      let apart = Splits-around k (take i xs) (drop (suc i) xs) x whole s.tie in
+      ap (λ ys. without_key R key ys k) s.parts
+      ∙ ap (λ ys. ys ++ behind R key k (take i xs ++ x ∷ drop (suc i) xs)) (before-around k (take i xs) (drop (suc i) xs) x apart s.tie)
+      ∙ ap (λ ys. take i xs ++ ys) (behind-around k (take i xs) (drop (suc i) xs) x apart s.tie)
+
+  pub without_key-apart : (k : K) (front back : List X) → Splits R key k front back → without_key R key (front ++ back) k ≡ front ++ back
+  without_key-apart k front back s =
+      ap (λ ys. ys ++ behind R key k (front ++ back)) (before-apart k front back s) ∙ ap (λ ys. front ++ ys) (behind-apart k front back s)
+
+  pub without_key-at : (k : K) (xs : List X) (i : ℕ) → i ≤ length xs → IsPartitionPoint (λ y. R (key y) k ≡ Less) (λ y. R (key y) k ≡ Greater) xs i → without_key R key xs k ≡ xs
+  without_key-at k xs i within p =
+      rw (take-append-drop i xs) at (without_key-apart k (take i xs) (drop i xs) (Splits-at k xs i within p))
+
+  -- a key behind the last is behind all
+  pub All-before_last : (k : K) (xs : List X) (last : X) → Rises R key xs → 0 < length xs → last ≡ get_or xs (length xs - 1) last → R (key last) k ≡ Less → All (λ x. is_lt (R (key x) k) ≡ true) xs
+  All-before_last k xs last rises some is low =
+      λ i d below. elim (cases_lt i (length xs - 1)) [
+        inl less ↦
+            let e = get_or_default xs (length xs - 1) d last (omega arith) in
+            let step = Less-from_is_lt _ (rises i (length xs - 1) d less (omega arith)) in
+            ap is_lt (o.trans _ _ k step (rw (e ∙ sym is) low))
+      | inr more ↦
+            let here : i ≡ length xs - 1 = omega arith in
+            let e = get_or_default xs (length xs - 1) d last (omega arith) in
+            rw (here, e ∙ sym is) (ap is_lt low)
+      ]
+
+  pub AllPairs-last : (xs : List X) (x : X) → Rises R key xs → All (λ y. is_lt (R (key y) (key x)) ≡ true) xs → Rises R key (xs ++ x ∷ [])
+  AllPairs-last xs x rises low =
+      let whole : Rises R key (xs ++ []) = rw (append-nil xs) rises in
+      AllPairs-between (λ a b. is_lt (R (key a) (key b)) ≡ true) xs [] x whole low (λ i d below. absurd (omega arith))

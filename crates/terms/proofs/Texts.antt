@@ -1,0 +1,121 @@
+-- Texts of elements: records of bytes, equal texts, what an update touches, and that no good text has a fault.
+use Rattle.std.proofs.Common.{◌≡◌, ◌≢◌, ◌<◌, ◌≤◌, ◌+◌, ◌⊎◌, ℕ, suc, Bool, true, false, not, List, [], ◌∷◌, ◌++◌, length, take, drop, map, get_or, slice_index, codes, refl, sym, ◌∙◌, ap, subst, cond, arith, inl, inr, zero, add-one, append_assoc, Option, None, Some}
+use Rattle.std.specs.List.{All, Any, AllByRecursion, flat_map, filter, find}
+use Rattle.std.specs.Prelude.{IsTrue, IsSome, is_some}
+use Rattle.std.specs.List.Sorted.{IsStrictlyIncreasing}
+use Rattle.std.proofs.lemmas.List.{append-nil, append_cancel_left, length-append, take_at, drop_at, nil_from_length}
+use Rattle.std.proofs.lemmas.List.Elements.{All-nil, All-cons, All-head, All-tail, All-push, recursion_from_All}
+use Rattle.std.proofs.lemmas.Grind.{flat_map-append}
+use Rattle.std.proofs.lemmas.Bool.{cases_eq, cases_order, cases_Bool, eq-eqb, ne_eqb, eqb-true}
+use Rattle.terms.specs.Types.{Text, Lines}
+use Rattle.terms.specs.Texts.{HasLines, IsNumberedLine, number_of, IsNumbered, line_at}
+
+-- records of bytes
+
+pub lines_none : HasLines [] []
+lines_none = record { bytes_are = refl; each = All-nil _; }
+
+pub lines_more : (bytes : List ℕ) (lines : Lines) (line : List ℕ) → HasLines bytes lines → length line ≡ 80 → HasLines (bytes ++ line) (lines ++ line ∷ [])
+lines_more bytes lines line h len = record {
+  bytes_are = ap (λ b. b ++ line) h.bytes_are ∙ sym (flat_map-append (λ (l : List ℕ). l) lines (line ∷ []) ∙ ap (λ l. flat_map (λ (k : List ℕ). k) lines ++ l) (append-nil line));
+  each = All-push (λ l. length l ≡ 80) lines line h.each len;
+}
+
+same_joined : (a b : Lines) → All (λ line. length line ≡ 80) a → All (λ line. length line ≡ 80) b → flat_map (λ line. line) a ≡ flat_map (λ line. line) b → a ≡ b
+same_joined [] [] h k e = refl
+same_joined [] (y ∷ ys) h k e =
+    let len : length y ≡ 80 = All-head (λ line. length line ≡ 80) y ys k in
+    let lens = ap length e ∙ length-append y (flat_map (λ line. line) ys) in
+    absurd (omega (arith, len, lens))
+same_joined (x ∷ xs) [] h k e =
+    let len : length x ≡ 80 = All-head (λ line. length line ≡ 80) x xs h in
+    let lens = ap length (sym e) ∙ length-append x (flat_map (λ line. line) xs) in
+    absurd (omega (arith, len, lens))
+same_joined (x ∷ xs) (y ∷ ys) h k e =
+    let len_x : length x ≡ 80 = All-head (λ line. length line ≡ 80) x xs h in
+    let len_y : length y ≡ 80 = All-head (λ line. length line ≡ 80) y ys k in
+    let heads : x ≡ y = sym (take_at x (flat_map (λ line. line) xs) 80 len_x) ∙ ap (take 80) e ∙ take_at y (flat_map (λ line. line) ys) 80 len_y in
+    let tails = sym (drop_at x (flat_map (λ line. line) xs) 80 len_x) ∙ ap (drop 80) e ∙ drop_at y (flat_map (λ line. line) ys) 80 len_y in
+    let rest = same_joined xs ys (All-tail (λ line. length line ≡ 80) x xs h) (All-tail (λ line. length line ≡ 80) y ys k) tails in
+    cc
+
+-- The bytes determine their records.
+pub same_lines : (bytes : List ℕ) (a b : Lines) → HasLines bytes a → HasLines bytes b → a ≡ b
+same_lines bytes a b h k = same_joined a b h.each k.each (sym h.bytes_are ∙ k.bytes_are)
+
+-- numbers that rise, from a least one on
+
+abbrev pub Rises : ℕ → Lines → Type 0
+Rises least [] = Unit {0}
+Rises least (x ∷ xs) = (least ≤ number_of x) × Rises (number_of x + 1) xs
+
+increasing_rest : (n : ℕ) (ns : List ℕ) → IsStrictlyIncreasing (n ∷ ns) → IsStrictlyIncreasing ns
+increasing_rest n ns h k below =
+    let e : suc k + 1 ≡ suc (k + 1) = omega arith in
+    (rw e at (h (suc k))) (omega (arith, below))
+
+rises_from : (least : ℕ) (x : List ℕ) (xs : Lines) → IsStrictlyIncreasing (map number_of (x ∷ xs)) → least ≤ number_of x → Rises least (x ∷ xs)
+rises_from least x [] h from = (from, tt)
+rises_from least x (y ∷ ys) h from =
+    (from, rises_from (number_of x + 1) y ys (increasing_rest (number_of x) (map number_of (y ∷ ys)) h) (omega (arith, h 0 (omega arith))))
+
+-- Numbers that rise do so from any number that is not above the first.
+pub Rises-from_increasing : (text : Lines) → IsStrictlyIncreasing (map number_of text) → Rises 0 text
+Rises-from_increasing [] h = tt
+Rises-from_increasing (x ∷ xs) h = rises_from 0 x xs h (omega arith)
+
+pub increasing_from_Rises : (least : ℕ) (text : Lines) → Rises least text → IsStrictlyIncreasing (map number_of text)
+increasing_from_Rises least [] h k below = absurd (omega (arith, below))
+increasing_from_Rises least (x ∷ []) h k below = absurd (omega (arith, below))
+increasing_from_Rises least (x ∷ y ∷ ys) h zero below = omega (arith, h.1.0)
+increasing_from_Rises least (x ∷ y ∷ ys) h (suc k) below =
+    let e : suc k + 1 ≡ suc (k + 1) = omega arith in
+    let rest = increasing_from_Rises (number_of x + 1) (y ∷ ys) h.1 k (omega (arith, below)) in
+    rw e rest
+
+pub Rises-numbered : (text : Lines) → IsNumbered text → Rises 0 text
+Rises-numbered text h = Rises-from_increasing text h.rising
+
+pub Rises-lower : (low least : ℕ) (text : Lines) → low ≤ least → Rises least text → Rises low text
+Rises-lower low least [] below h = tt
+Rises-lower low least (x ∷ xs) below h = (omega (arith, h.0), h.1)
+
+-- looking up
+
+pub line_at-head : (x : List ℕ) (xs : Lines) → line_at (x ∷ xs) (number_of x) ≡ Some x
+line_at-head x xs = ap (λ b. cond b (Some x) (line_at xs (number_of x))) (eq-eqb (number_of x) (number_of x) refl)
+
+pub line_at-tail : (x : List ℕ) (xs : Lines) (n : ℕ) → (number_of x ≡ n → ⊥) → line_at (x ∷ xs) n ≡ line_at xs n
+line_at-tail x xs n other = ap (λ b. cond b (Some x) (line_at xs n)) (ne_eqb (number_of x) n other)
+
+-- no record stands below the least number
+pub line_at-below : (least : ℕ) (text : Lines) (n : ℕ) → Rises least text → n < least → line_at text n ≡ None
+line_at-below least [] n h below = refl
+line_at-below least (x ∷ xs) n h below =
+    let above : least ≤ number_of x = h.0 in
+    line_at-tail x xs n (λ e. omega (arith, e, above)) ∙ line_at-below (number_of x + 1) xs n h.1 (omega (arith, above))
+
+same_rising : (j k : ℕ) (a b : Lines) → Rises j a → Rises k b → ((n : ℕ) → line_at a n ≡ line_at b n) → a ≡ b
+same_rising j k [] [] h i same = refl
+same_rising j k [] (y ∷ ys) h i same = let e = same (number_of y) ∙ line_at-head y ys in absurd (cc e)
+same_rising j k (x ∷ xs) [] h i same = let e = sym (same (number_of x)) ∙ line_at-head x xs in absurd (cc e)
+same_rising j k (x ∷ xs) (y ∷ ys) h i same =
+    elim (cases_order (number_of x) (number_of y)) [
+      | inl e ↦
+          let at_x = sym (line_at-head x xs) ∙ same (number_of x) ∙ ap (line_at (y ∷ ys)) e ∙ line_at-head y ys in
+          let heads : x ≡ y = cc at_x in
+          let tails = same_rising (number_of x + 1) (number_of y + 1) xs ys h.1 i.1 (λ n.
+            elim (cases_eq (number_of x) n) [
+              | inl here ↦ line_at-below (number_of x + 1) xs n h.1 (omega (arith, here)) ∙ sym (line_at-below (number_of y + 1) ys n i.1 (omega (arith, here, e)))
+              | inr other ↦ sym (line_at-tail x xs n other) ∙ same n ∙ line_at-tail y ys n (λ there. other (e ∙ there))
+            ]) in
+          cc (heads, tails)
+      | inr apart ↦ elim apart [
+          | inl less ↦ absurd (let none = line_at-below (number_of y) (y ∷ ys) (number_of x) (omega arith, i.1) less in cc (none, same (number_of x), line_at-head x xs))
+          | inr more ↦ absurd (let none = line_at-below (number_of x) (x ∷ xs) (number_of y) (omega arith, h.1) more in cc (none, same (number_of y), line_at-head y ys))
+        ]
+    ]
+
+-- Two numbered texts that are the same map are the same text.
+pub same_text : (a b : Lines) → IsNumbered a → IsNumbered b → ((n : ℕ) → line_at a n ≡ line_at b n) → a ≡ b
+same_text a b h k same = same_rising 0 0 a b (Rises-numbered a h) (Rises-numbered b k) same

@@ -1,0 +1,24 @@
+-- Lists that rise by a key, no key twice: lists of ids, the entries of a zone, and the like.
+use Rattle.std.specs.Prelude.{ℕ, List, [], ◌∷◌, ◌++◌, AllPairs, filter, IsTrue}
+use Rattle.std.specs.declared.cmp.Ordering.{Ordering}
+use Rattle.std.specs.Ordering.{is_lt}
+
+-- the keys rise, none twice
+abbrev pub Rises : {X K : Type 0} → (K → K → Ordering) → (X → K) → List X → Type 0
+Rises cmp key xs = AllPairs (λ x y. IsTrue (is_lt (cmp (key x) (key y)))) xs
+
+-- what stands before a key
+abbrev pub before : {X K : Type 0} → (K → K → Ordering) → (X → K) → K → List X → List X
+before cmp key k xs = filter (λ x. is_lt (cmp (key x) k)) xs
+
+-- what stands behind a key
+abbrev pub behind : {X K : Type 0} → (K → K → Ordering) → (X → K) → K → List X → List X
+behind cmp key k xs = filter (λ x. is_lt (cmp k (key x))) xs
+
+-- the list with the item at its place, where it takes the place of one of its key
+abbrev pub with_item : {X K : Type 0} → (K → K → Ordering) → (X → K) → List X → X → List X
+with_item cmp key xs x = before cmp key (key x) xs ++ x ∷ [] ++ behind cmp key (key x) xs
+
+-- the list without the item of the key
+abbrev pub without_key : {X K : Type 0} → (K → K → Ordering) → (X → K) → List X → K → List X
+without_key cmp key xs k = before cmp key k xs ++ behind cmp key k xs

@@ -1,0 +1,73 @@
+ghost use Rattle.std.specs.Prelude.{◌≡◌, ◌<◌, ◌≤◌, [], IfOk, IfErr};
+ghost use Rattle.terms.specs.Texts.{IsNumbered, IsNumberedLine, IsNumberedFault, number_of};
+ghost use Rattle.text80.specs.Rising.{IsNumberFault};
+
+use crate::line::Line;
+use std::alloc::Global;
+use std::marker::Model;
+use terms::{TextCode, TextFault};
+
+/// A numbered text: eight digits in columns 73 to 80 of each record, and the numbers rise.
+#[derive(Debug, Drop)]
+pub struct Numbered {
+    pub(crate) lines: Vec<Line>,
+}
+
+impl Model for Numbered {
+    ghost use Rattle.std.specs.Prelude.{List, ℕ};
+    ghost use Rattle.terms.specs.Texts.{IsNumbered};
+
+    ghost Value = { List (List ℕ) };
+
+    ghost view = { λ text. text.lines.items };
+
+    ghost invariant = { λ text. IsNumbered text.lines.items };
+}
+
+impl Numbered {
+    /// The text of no records.
+    pub fn empty(alloc: Global) -> Numbered
+        ensures { result ≡ [] }
+    {
+        Numbered {
+            lines: Vec::new(alloc),
+        }
+    }
+
+    /// The records as a numbered text, or the first fault.
+    pub fn read(lines: Vec<Line>) -> Result<Numbered, TextFault>
+        ensures text { IfOk result (λ text. text ≡ lines.items) }
+        ensures fault { IfErr result (IsNumberedFault lines.items) }
+    {
+        let mut least = 0;
+        for (i, line) in lines.iter().enumerate() {
+            match rising_number(line, least, TextCode::Tx2) {
+                Ok(number) => least = number + 1,
+                Err(code) => return Err(TextFault { number: i + 1, code }),
+            }
+        }
+        Ok(Numbered { lines })
+    }
+
+    /// The records.
+    pub fn lines(&self) -> &[Line]
+        ensures lines { result.now ≡ self.now }
+        ensures numbered { IsNumbered self.now }
+    {
+        &self.lines
+    }
+}
+
+/// The number of a record, which is not to be below the least one that may come.
+pub(crate) fn rising_number(line: &Line, least: u32, disorder: TextCode) -> Result<u32, TextCode>
+    ensures numbered { IfOk result (λ n. IsNumberedLine line.now × (n ≡ number_of line.now)) }
+    ensures from { IfOk result (λ n. least ≤ n) }
+    ensures bound { IfOk result (λ n. n < 100000000) }
+    ensures fault { IfErr result (IsNumberFault line.now least disorder) }
+{
+    match line.number() {
+        None => Err(TextCode::Tx1),
+        Some(number) if number < least => Err(disorder),
+        Some(number) => Ok(number),
+    }
+}
