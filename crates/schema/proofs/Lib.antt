@@ -1,2 +1,6 @@
-pub mod Texts
 pub mod Making
+pub mod Meta
+pub mod Number
+pub mod Plain
+pub mod Statements
+pub mod Texts

@@ -1,0 +1,120 @@
+//! The tables that a database has already.
+
+ghost use Rattle.std.specs.Prelude.{◌≡◌, ◌≢◌, ◌↔◌, ℤ, false, ◌∷◌, [], Contains, pos, codes, Some, IsTrue, OnOk, OnErr, IfOk, IfErr, IfSome, IsErrOf};
+ghost use Rattle.sqlite.specs.Held.{state};
+ghost use Rattle.sqlite.specs.State.{HasCleanDisk, IsUnchanged, KeepsCommit, Shown, Survives};
+ghost use Rattle.schema.specs.Create.{IsBlank};
+ghost use Rattle.schema.specs.Inventory.{Inventory, empty_inventory};
+ghost use Rattle.schema.specs.Inside.{IsMade};
+ghost use Rattle.schema.specs.Known.{select_meta, number_is, HasOtherNumber, HasOwnTables};
+ghost use Rattle.schema.specs.Rows.{number_row};
+ghost use Rattle.schema.specs.Stands.{StandsFor, IsStateOf, Holds};
+ghost use Rattle.schema.specs.Tables.{store_schema};
+
+use crate::error::StoreError;
+use crate::tables::{create, is_blank, is_ours};
+use sqlite::{Alter, Connection, Error, Row};
+use sqlite_schema::schema::Schema;
+use sqlite_value::value::ValueRef;
+use std::alloc::Global;
+
+/// All rows of `meta`, whatever the other tables are.
+fn meta_rows<S: Alter>(conn: &mut Connection<S>) -> Result<Vec<Row>, Error>
+    ensures shown { HasCleanDisk (state S.Store conn.new) → IfOk result (λ rows. Shown select_meta [] (state S.Store conn.old) (state S.Store conn.new) rows.items) }
+    ensures same { HasCleanDisk (state S.Store conn.new) → OnOk result (IsUnchanged (state S.Store conn.old) (state S.Store conn.new)) }
+    ensures kept { HasCleanDisk (state S.Store conn.new) → KeepsCommit (state S.Store conn.old) (state S.Store conn.new) }
+    ensures crash { Survives (state S.Store conn.old) (state S.Store conn.new) (λ _. ⊥) }
+    ensures mode { conn.old.in_transaction ≡ false → conn.new.in_transaction ≡ false }
+{
+    conn.query_all("SELECT k, v FROM meta", &[])
+}
+
+fn is_schema_word(word: &[u8]) -> bool
+    ensures { IsTrue result ↔ (word.now ≡ codes "schema") }
+{
+    word == b"schema".as_slice()
+}
+
+/// The number that a row of `meta` gives to the schema.
+fn number_of(row: &Row) -> Option<i64>
+    ensures some { IfSome result (λ n. row.now ≡ number_is n) }
+    ensures one { row.now ≡ number_row → result ≡ Some (pos 1) }
+{
+    if row.column_count() != 2 {
+        return None;
+    }
+    match (row.get_ref(0), row.get_ref(1)) {
+        (Ok(ValueRef::Text(word)), Ok(ValueRef::Int(number))) if is_schema_word(word) => {
+            Some(number)
+        }
+        _ => None,
+    }
+}
+
+/// The number of the schema, if a row of `meta` gives one.
+fn number_in(rows: &[Row]) -> Option<i64>
+    ensures { IfSome result (λ n. Contains rows.now (number_is n)) }
+{
+    for row in rows {
+        let number = number_of(row);
+        if number.is_some() {
+            return number;
+        }
+    }
+    None
+}
+
+/// Whether `meta` has one row, with the number 1.
+fn is_number(rows: &[Row]) -> bool
+    ensures { IsTrue result ↔ (rows.now ≡ number_row ∷ []) }
+{
+    rows.len() == 1 && number_of(&rows[0]) == Some(1)
+}
+
+/// Knows the store's tables by their number, and then by all that they are.
+fn judge(alloc: Global, schema: &Schema, rows: &[Row]) -> Result<(), StoreError>
+    ensures ours { OnOk result ((schema.now ≡ store_schema) × (rows.now ≡ number_row ∷ [])) }
+    ensures other { IsErrOf result StoreError.OtherSchema → (n : ℤ) × Contains rows.now (number_is n) × (n ≢ pos 1) }
+    ensures none { IsErrOf result StoreError.NoState → schema.now ≡ store_schema → rows.now ≢ number_row ∷ [] }
+{
+    match number_in(rows) {
+        None | Some(1) => {}
+        Some(_) => return Err(StoreError::OtherSchema),
+    }
+    if !is_ours(alloc, schema)? || !is_number(rows) {
+        return Err(StoreError::NoState);
+    }
+    Ok(())
+}
+
+fn check<S: Alter>(alloc: Global, conn: &mut Connection<S>) -> Result<(), StoreError>
+    ensures ours { HasCleanDisk (state S.Store conn.new) → OnOk result (HasOwnTables (state S.Store conn.old).now) }
+    ensures other { HasCleanDisk (state S.Store conn.new) → IsErrOf result StoreError.OtherSchema → HasOtherNumber (state S.Store conn.old) }
+    ensures none { HasCleanDisk (state S.Store conn.new) → IsErrOf result StoreError.NoState → ¬ HasOwnTables (state S.Store conn.old).now }
+    ensures same { HasCleanDisk (state S.Store conn.new) → OnOk result (IsUnchanged (state S.Store conn.old) (state S.Store conn.new)) }
+    ensures kept { HasCleanDisk (state S.Store conn.new) → KeepsCommit (state S.Store conn.old) (state S.Store conn.new) }
+    ensures crash { Survives (state S.Store conn.old) (state S.Store conn.new) (λ _. ⊥) }
+    ensures mode { conn.old.in_transaction ≡ false → conn.new.in_transaction ≡ false }
+{
+    let rows = meta_rows(conn)?;
+    judge(alloc, conn.schema(), rows.as_slice())
+}
+
+/// Makes the tables in a database that has none, and knows those of another. It changes nothing
+/// where they are the store's, and nothing where it fails.
+pub fn set_up<S: Alter>(alloc: Global, conn: &mut Connection<S>) -> Result<(), StoreError>
+    requires { conn.old.in_transaction ≡ false }
+    ensures made { HasCleanDisk (state S.Store conn.new) → OnOk result (IsBlank (state S.Store conn.old).now → Holds (state S.Store conn.new) empty_inventory) }
+    ensures ours { HasCleanDisk (state S.Store conn.new) → OnOk result (¬ IsBlank (state S.Store conn.old).now → HasOwnTables (state S.Store conn.old).now × IsUnchanged (state S.Store conn.old) (state S.Store conn.new)) }
+    ensures other { HasCleanDisk (state S.Store conn.new) → IsErrOf result StoreError.OtherSchema → HasOtherNumber (state S.Store conn.old) }
+    ensures none { HasCleanDisk (state S.Store conn.new) → IsErrOf result StoreError.NoState → (i : Inventory) → ¬ IsStateOf (state S.Store conn.old).now i }
+    ensures unchanged { HasCleanDisk (state S.Store conn.new) → IsTrue (state S.Store conn.new).is_open → OnErr result ((state S.Store conn.new).committed ≡ (state S.Store conn.old).committed) }
+    ensures crash { Survives (state S.Store conn.old) (state S.Store conn.new) (IsMade S.Store conn.old IsBlank (λ db. StandsFor db empty_inventory)) }
+    ensures mode { conn.new.in_transaction ≡ false }
+{
+    if !is_blank(conn.schema()) {
+        return check(alloc, conn);
+    }
+    create(conn)?;
+    Ok(())
+}
