@@ -26,7 +26,8 @@ use Rattle.sqlite.proofs.StateLemmas.{survives_weaker}
 use Rattle.sqlite.proofs.Callers.{IsPlain, command_of, reads_as, one_permutation}
 use Rattle.sqlite_tied.specs.Compute.{everything}
 use Rattle.schema.specs.Tables.{meta, store_schema}
-use Rattle.schema.specs.Known.{select_meta, number_is, HasOtherNumber, HasOwnTables}
+use Rattle.schema.specs.Known.{select_meta, GiveOther, HasOtherNumber, HasNoState, HasOwnTables}
+use Rattle.schema.specs.Create.{IsBlank}
 use Rattle.schema.specs.Rows.{number_row}
 use Rattle.schema.specs.Stands.{shown, HasNumber}
 use Rattle.schema.proofs.Statements.{filter_all, scan_by, scans}
@@ -137,8 +138,8 @@ meta_commits_nothing old new = survives_weaker old new _ _ (λ _ db showing. nev
 
 -- ---- what its rows say
 
-pub other_number : (old new : State) (rows : List Row) (n : ℤ) → Shown select_meta [] old new rows → Contains rows (number_is n) → n ≢ pos 1 → HasOtherNumber old
-other_number old new rows n h row other = record { rows = rows; shown = again old new rows h; number = n; row = row; other = other }
+pub other_number : (old new : State) (rows : List Row) → Shown select_meta [] old new rows → GiveOther rows → HasOtherNumber old
+other_number old new rows h other = record { rows = rows; shown = again old new rows h; other = other }
 
 abbrev meta_columns : List Term
 meta_columns = col 1 1 ∷ col 1 2 ∷ []
@@ -166,9 +167,18 @@ own_tables old new rows h has one = record {
   number = one_permutation number_row (map (shown meta) (old.now.trees 0)) (IsPermutation-sym _ _ (subst (IsPermutation (map (shown meta) (old.now.trees 0))) one (meta_rows old new rows has h)));
 }
 
-pub not_own : (old new : State) (rows : List Row) → Shown select_meta [] old new rows → (old.now.schema ≡ store_schema → rows ≢ number_row ∷ []) → ¬ HasOwnTables old.now
+not_own : (old new : State) (rows : List Row) → Shown select_meta [] old new rows → (old.now.schema ≡ store_schema → rows ≢ number_row ∷ []) → ¬ HasOwnTables old.now
 not_own old new rows h none own =
     none own.schema (one_permutation number_row rows (subst (λ l. IsPermutation l rows) own.number (meta_rows old new rows own.schema h)))
+
+pub no_state : (old new : State) (rows : List Row) → Shown select_meta [] old new rows → ¬ IsBlank old.now → (old.now.schema ≡ store_schema → rows ≢ number_row ∷ []) → ¬ GiveOther rows → HasNoState old
+no_state old new rows h tables none no_other = record {
+  not_blank = tables;
+  not_own = not_own old new rows h none;
+  rows = rows;
+  shown = again old new rows h;
+  none_other = no_other;
+}
 
 pub kept_either : (r : Result (Vec Row Global) Error) (old new : State) → IfOk r (λ rows. Shown select_meta [] old new rows.items) → IfErr r (FailsToQuery select_meta [] old new) → KeepsCommit old new
 kept_either (Ok rows) old new shown failed = unchanged_keeps old new (meta_unchanged old new rows.items shown)

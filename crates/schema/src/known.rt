@@ -1,12 +1,12 @@
 //! The tables that a database has already.
 
-ghost use Rattle.std.specs.Prelude.{◌≡◌, ◌≢◌, ◌↔◌, ℤ, false, ◌∷◌, [], Contains, pos, codes, Some, IsTrue, OnOk, OnErr, IfOk, IfErr, IfSome, IsErrOf};
+ghost use Rattle.std.specs.Prelude.{◌≡◌, ◌≢◌, ◌↔◌, ℤ, false, ◌∷◌, [], pos, codes, IsTrue, OnOk, OnErr, IfOk, IfSome, IfNone, IsErrOf};
 ghost use Rattle.sqlite.specs.Held.{state};
 ghost use Rattle.sqlite.specs.State.{HasCleanDisk, IsUnchanged, KeepsCommit, Shown, Survives};
 ghost use Rattle.schema.specs.Create.{IsBlank};
 ghost use Rattle.schema.specs.Inventory.{Inventory, empty_inventory};
 ghost use Rattle.schema.specs.Inside.{IsMade};
-ghost use Rattle.schema.specs.Known.{select_meta, number_is, HasOtherNumber, HasOwnTables};
+ghost use Rattle.schema.specs.Known.{select_meta, number_is, GiveOther, HasOtherNumber, HasNoState, HasOwnTables};
 ghost use Rattle.schema.specs.Rows.{number_row};
 ghost use Rattle.schema.specs.Stands.{StandsFor, IsStateOf, Holds};
 ghost use Rattle.schema.specs.Tables.{store_schema};
@@ -38,7 +38,7 @@ fn is_schema_word(word: &[u8]) -> bool
 /// The number that a row of `meta` gives to the schema.
 fn number_of(row: &Row) -> Option<i64>
     ensures some { IfSome result (λ n. row.now ≡ number_is n) }
-    ensures one { row.now ≡ number_row → result ≡ Some (pos 1) }
+    ensures none { IfNone result ((n : ℤ) → row.now ≢ number_is n) }
 {
     if row.column_count() != 2 {
         return None;
@@ -51,17 +51,25 @@ fn number_of(row: &Row) -> Option<i64>
     }
 }
 
-/// The number of the schema, if a row of `meta` gives one.
-fn number_in(rows: &[Row]) -> Option<i64>
-    ensures { IfSome result (λ n. Contains rows.now (number_is n)) }
+fn gives_other_number(row: &Row) -> bool
+    ensures yes { IsTrue result → (n : ℤ) × (row.now ≡ number_is n) × (n ≢ pos 1) }
+    ensures no { result ≡ false → (n : ℤ) → row.now ≡ number_is n → n ≡ pos 1 }
+{
+    match number_of(row) {
+        Some(number) => number != 1,
+        None => false,
+    }
+}
+
+fn has_other_number(rows: &[Row]) -> bool
+    ensures { IsTrue result ↔ GiveOther rows.now }
 {
     for row in rows {
-        let number = number_of(row);
-        if number.is_some() {
-            return number;
+        if gives_other_number(row) {
+            return true;
         }
     }
-    None
+    false
 }
 
 /// Whether `meta` has one row, with the number 1.
@@ -74,12 +82,12 @@ fn is_number(rows: &[Row]) -> bool
 /// Knows the store's tables by their number, and then by all that they are.
 fn judge(alloc: Global, schema: &Schema, rows: &[Row]) -> Result<(), StoreError>
     ensures ours { OnOk result ((schema.now ≡ store_schema) × (rows.now ≡ number_row ∷ [])) }
-    ensures other { IsErrOf result StoreError.OtherSchema → (n : ℤ) × Contains rows.now (number_is n) × (n ≢ pos 1) }
+    ensures other { IsErrOf result StoreError.OtherSchema → GiveOther rows.now }
     ensures none { IsErrOf result StoreError.NoState → schema.now ≡ store_schema → rows.now ≢ number_row ∷ [] }
+    ensures later { IsErrOf result StoreError.NoState → ¬ GiveOther rows.now }
 {
-    match number_in(rows) {
-        None | Some(1) => {}
-        Some(_) => return Err(StoreError::OtherSchema),
+    if has_other_number(rows) {
+        return Err(StoreError::OtherSchema);
     }
     if !is_ours(alloc, schema)? || !is_number(rows) {
         return Err(StoreError::NoState);
@@ -90,7 +98,7 @@ fn judge(alloc: Global, schema: &Schema, rows: &[Row]) -> Result<(), StoreError>
 fn check<S: Alter>(alloc: Global, conn: &mut Connection<S>) -> Result<(), StoreError>
     ensures ours { HasCleanDisk (state S.Store conn.new) → OnOk result (HasOwnTables (state S.Store conn.old).now) }
     ensures other { HasCleanDisk (state S.Store conn.new) → IsErrOf result StoreError.OtherSchema → HasOtherNumber (state S.Store conn.old) }
-    ensures none { HasCleanDisk (state S.Store conn.new) → IsErrOf result StoreError.NoState → ¬ HasOwnTables (state S.Store conn.old).now }
+    ensures none { HasCleanDisk (state S.Store conn.new) → IsErrOf result StoreError.NoState → ¬ IsBlank (state S.Store conn.old).now → HasNoState (state S.Store conn.old) }
     ensures same { HasCleanDisk (state S.Store conn.new) → OnOk result (IsUnchanged (state S.Store conn.old) (state S.Store conn.new)) }
     ensures kept { HasCleanDisk (state S.Store conn.new) → KeepsCommit (state S.Store conn.old) (state S.Store conn.new) }
     ensures crash { Survives (state S.Store conn.old) (state S.Store conn.new) (λ _. ⊥) }
@@ -104,14 +112,16 @@ fn check<S: Alter>(alloc: Global, conn: &mut Connection<S>) -> Result<(), StoreE
 /// where they are the store's, and nothing where it fails.
 pub fn set_up<S: Alter>(alloc: Global, conn: &mut Connection<S>) -> Result<(), StoreError>
     requires { conn.old.in_transaction ≡ false }
-    ensures made { HasCleanDisk (state S.Store conn.new) → OnOk result (IsBlank (state S.Store conn.old).now → Holds (state S.Store conn.new) empty_inventory) }
-    ensures ours { HasCleanDisk (state S.Store conn.new) → OnOk result (¬ IsBlank (state S.Store conn.old).now → HasOwnTables (state S.Store conn.old).now × IsUnchanged (state S.Store conn.old) (state S.Store conn.new)) }
+    ensures stands { HasCleanDisk (state S.Store conn.new) → OnOk result ((i : Inventory) → IsStateOf (state S.Store conn.old).now i → Holds (state S.Store conn.new) i) }
+    ensures ours { HasCleanDisk (state S.Store conn.new) → OnOk result (HasOwnTables (state S.Store conn.new).now) }
+    ensures same { HasCleanDisk (state S.Store conn.new) → OnOk result (¬ IsBlank (state S.Store conn.old).now → IsUnchanged (state S.Store conn.old) (state S.Store conn.new)) }
     ensures other { HasCleanDisk (state S.Store conn.new) → IsErrOf result StoreError.OtherSchema → HasOtherNumber (state S.Store conn.old) }
-    ensures none { HasCleanDisk (state S.Store conn.new) → IsErrOf result StoreError.NoState → (i : Inventory) → ¬ IsStateOf (state S.Store conn.old).now i }
+    ensures none { HasCleanDisk (state S.Store conn.new) → IsErrOf result StoreError.NoState → HasNoState (state S.Store conn.old) }
     ensures unchanged { HasCleanDisk (state S.Store conn.new) → IsTrue (state S.Store conn.new).is_open → OnErr result ((state S.Store conn.new).committed ≡ (state S.Store conn.old).committed) }
     ensures crash { Survives (state S.Store conn.old) (state S.Store conn.new) (IsMade S.Store conn.old IsBlank (λ db. StandsFor db empty_inventory)) }
     ensures mode { conn.new.in_transaction ≡ false }
 {
+    prove!(conn.is_autocommit());
     if !is_blank(conn.schema()) {
         return check(alloc, conn);
     }

@@ -1,7 +1,7 @@
 use Rattle.std.proofs.Common.{◌≡◌, ◌∙◌, sym, ap}
 use Rattle.sqlite.specs.Effect.{Database}
 use Rattle.sqlite.specs.Held.{state}
-use Rattle.schema.proofs.Meta.{other_number, own_tables, not_own}
+use Rattle.schema.proofs.Meta.{other_number, own_tables, no_state}
 use Rattle.schema.proofs.Statements.{on_ok}
 use Rattle.schema.proofs.known.check.Goals as goal
 
@@ -14,12 +14,13 @@ returns-clause-ours g c clean =
 
 pub returns-clause-other : goal.returns-clause-other
 returns-clause-other g c clean is =
-    let it = rw c.as_slice.ensures.value at (c.judge.ensures.other is) in
-    other_number (state g.S.Store c.args.conn.now) (state g.S.Store c.meta_rows.new.conn) c.in_ok-rows.rows.items it.0 (c.in_ok-rows.ensures.shown clean) it.1 it.2
+    other_number (state g.S.Store c.args.conn.now) (state g.S.Store c.meta_rows.new.conn) c.in_ok-rows.rows.items (c.in_ok-rows.ensures.shown clean) (rw c.as_slice.ensures.value at (c.judge.ensures.other is))
 
 pub returns-clause-none : goal.returns-clause-none
-returns-clause-none g c clean is =
+returns-clause-none g c clean is tables =
     let old = state g.S.Store c.args.conn.now in
     let new = state g.S.Store c.meta_rows.new.conn in
     let has : c.schema.result.now ≡ old.now.schema = c.schema.ensures.value ∙ ap (λ (d : Database). d.schema) (c.in_ok-rows.ensures.same clean).0.now_is in
-    not_own old new c.in_ok-rows.rows.items (c.in_ok-rows.ensures.shown clean) (λ own one. c.judge.ensures.none is (has ∙ own) (c.as_slice.ensures.value ∙ one))
+    no_state old new c.in_ok-rows.rows.items (c.in_ok-rows.ensures.shown clean) tables
+    (λ own one. c.judge.ensures.none is (has ∙ own) (c.as_slice.ensures.value ∙ one))
+    (rw c.as_slice.ensures.value at (c.judge.ensures.later is))
