@@ -1,0 +1,6 @@
+//! The table of holds.
+#![tactic(auto)]
+
+pub fn nothing(x: usize) -> usize {
+    x
+}
