@@ -2,5 +2,4 @@ pub mod Making
 pub mod Meta
 pub mod Number
 pub mod Plain
-pub mod Statements
 pub mod Texts

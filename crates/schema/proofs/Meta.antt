@@ -1,5 +1,5 @@
 -- The rows of meta, as a query shows them over any tables.
-use Rattle.std.proofs.Common.{◌≡◌, ◌≢◌, ◌⊎◌, inl, inr, ℕ, ℤ, pos, List, [], ◌∷◌, ◌++◌, map, Bool, true, false, Option, Some, None, Ok, Err, Result, Contains, IsPermutation, IsTrue, IfOk, IfErr, Vec, MatchBool, if◌then◌else◌, codes, refl, sym, ap, subst, ◌∙◌}
+use Rattle.std.proofs.Common.{◌≡◌, ◌≢◌, ◌⊎◌, inl, inr, ℕ, ℤ, pos, List, [], ◌∷◌, ◌++◌, map, Bool, true, false, Option, Some, None, Ok, Err, Result, Contains, IsPermutation, IsTrue, IfOk, IfErr, Vec, MatchBool, if◌then◌else◌, codes, refl, sym, ap, ap₂, subst, ◌∙◌}
 use Rattle.std.proofs.lemmas.Bool.{cases_Bool}
 use Rattle.std.proofs.lemmas.List.Sorted.{IsPermutation-sym}
 use Rattle.std.specs.declared.alloc.Global.{Global}
@@ -26,11 +26,16 @@ use Rattle.sqlite.proofs.StateLemmas.{survives_weaker}
 use Rattle.sqlite.proofs.Callers.{IsPlain, command_of, reads_as, one_permutation}
 use Rattle.sqlite_tied.specs.Compute.{everything}
 use Rattle.schema.specs.Tables.{meta, store_schema}
-use Rattle.schema.specs.Known.{select_meta, GiveOther, HasOtherNumber, HasNoState, HasOwnTables}
+use Rattle.schema.specs.Known.{select_meta, GivesOther, IsNumber, HasOtherNumber, HasNoState, HasOwnTables}
 use Rattle.schema.specs.Create.{IsBlank}
 use Rattle.schema.specs.Rows.{number_row}
-use Rattle.schema.specs.Stands.{shown, HasNumber}
-use Rattle.schema.proofs.Statements.{filter_all, scan_by, scans}
+use Rattle.std.specs.List.{Any}
+use Rattle.rows.specs.Rows.{shown, AreRows}
+use Rattle.rows.specs.Texts.{scan_by}
+use Rattle.rows.proofs.RowLemmas.{whole, filter_all, keyed}
+use Rattle.rows.proofs.Statements.{scans}
+use Rattle.sqlite_rules.specs.Lists.{Has}
+use Rattle.schema.proofs.Number.{one_setting}
 
 -- ---- the query returns nothing of a write, whatever the schema is
 
@@ -138,13 +143,13 @@ meta_commits_nothing old new = survives_weaker old new _ _ (λ _ db showing. nev
 
 -- ---- what its rows say
 
-pub other_number : (old new : State) (rows : List Row) → Shown select_meta [] old new rows → GiveOther rows → HasOtherNumber old
+pub other_number : (old new : State) (rows : List Row) → Shown select_meta [] old new rows → Any GivesOther rows → HasOtherNumber old
 other_number old new rows h other = record { rows = rows; shown = again old new rows h; other = other }
 
 abbrev meta_columns : List Term
-meta_columns = col 1 1 ∷ col 1 2 ∷ []
+meta_columns = col 1 0 ∷ col 1 1 ∷ col 1 2 ∷ []
 
-meta_is : command_of (understood store_schema select_meta) ≡ Select (record { lets = []; body = scan_by 0 [] meta_columns [] }) (codes "k" ∷ codes "v" ∷ [])
+meta_is : command_of (understood store_schema select_meta) ≡ Select (record { lets = []; body = scan_by 0 [] meta_columns [] }) (codes "rowid" ∷ codes "k" ∷ codes "v" ∷ [])
 unfolding understood everything
 meta_is = refl
 
@@ -156,28 +161,43 @@ meta_unlisted : reads_listing store_schema select_meta ≡ false
 unfolding understood everything
 meta_unlisted = refl
 
-meta_rows : (old new : State) (rows : List Row) → old.now.schema ≡ store_schema → Shown select_meta [] old new rows → IsPermutation (map (shown meta) (old.now.trees 0)) rows
+meta_rows : (old new : State) (rows : List Row) → old.now.schema ≡ store_schema → Shown select_meta [] old new rows → IsPermutation (map (whole (shown meta)) (old.now.trees 0)) rows
 meta_rows old new rows has h =
     let read = reads_as select_meta [] old new store_schema has _ meta_is meta_plain meta_unlisted rows h in
-    rw filter_all at (scans 0 [] meta_columns [] old.now.trees [] rows refl read.answer)
+    rw filter_all at (scans 0 [] meta_columns [] old.now.trees [] rows read.answer)
 
-pub own_tables : (old new : State) (rows : List Row) → Shown select_meta [] old new rows → old.now.schema ≡ store_schema → rows ≡ number_row ∷ [] → HasOwnTables old.now
-own_tables old new rows h has one = record {
-  schema = has;
-  number = one_permutation number_row (map (shown meta) (old.now.trees 0)) (IsPermutation-sym _ _ (subst (IsPermutation (map (shown meta) (old.now.trees 0))) one (meta_rows old new rows has h)));
-}
+pub own_tables : (old new : State) (rows : List Row) → Shown select_meta [] old new rows → old.now.schema ≡ store_schema → IsNumber rows → HasOwnTables old.now
+own_tables old new rows h has one =
+    let row = one.0 in
+    let same = rw one.1 at (meta_rows old new rows has h) in
+    record {
+      schema = has;
+      number = one_setting (pos 1) one.2.0 (old.now.trees 0) (one_permutation row _ (IsPermutation-sym _ _ same) ∙ ap (λ r. r ∷ []) one.2.1);
+    }
 
-not_own : (old new : State) (rows : List Row) → Shown select_meta [] old new rows → (old.now.schema ≡ store_schema → rows ≢ number_row ∷ []) → ¬ HasOwnTables old.now
-not_own old new rows h none own =
-    none own.schema (one_permutation number_row rows (subst (λ l. IsPermutation l rows) own.number (meta_rows old new rows own.schema h)))
+-- a list whose image has one element has one
+one_mapped : {A B : Type 0} (f : A → B) (xs : List A) (y : B) → map f xs ≡ y ∷ [] → (x : A) × (xs ≡ x ∷ []) × (f x ≡ y)
+one_mapped f [] y is = absurd cc
+one_mapped f (x ∷ []) y is = (x, refl, cc)
+one_mapped f (x ∷ z ∷ more) y is = absurd (omega (Rattle.std.proofs.Common.arith, ap Rattle.std.proofs.Common.length is))
 
-pub no_state : (old new : State) (rows : List Row) → Shown select_meta [] old new rows → ¬ IsBlank old.now → (old.now.schema ≡ store_schema → rows ≢ number_row ∷ []) → ¬ GiveOther rows → HasNoState old
+is_number : (rows : List Row) → AreRows meta (number_row ∷ []) rows → (found : List Row) → IsPermutation (map (whole (shown meta)) rows) found → IsNumber found
+is_number rows own found same =
+    let one = one_mapped (shown meta) rows number_row (one_permutation number_row _ own.same) in
+    let keyed = keyed (shown meta) rows own.numbered one.0 (subst (λ l. Has l one.0) (sym one.1) (inl refl)) in
+    let row = whole (shown meta) one.0 in
+    (row, one_permutation row found (subst (λ l. IsPermutation (map (whole (shown meta)) l) found) one.1 same), (_, ap₂ ◌∷◌ keyed one.2))
+
+not_own : (old new : State) (rows : List Row) → Shown select_meta [] old new rows → (old.now.schema ≡ store_schema → ¬ IsNumber rows) → ¬ HasOwnTables old.now
+not_own old new rows h none own = none own.schema (is_number (old.now.trees 0) own.number rows (meta_rows old new rows own.schema h))
+
+pub no_state : (old new : State) (rows : List Row) → Shown select_meta [] old new rows → ¬ IsBlank old.now → (old.now.schema ≡ store_schema → ¬ IsNumber rows) → ¬ Any GivesOther rows → HasNoState old
 no_state old new rows h tables none no_other = record {
   not_blank = tables;
   not_own = not_own old new rows h none;
   rows = rows;
   shown = again old new rows h;
-  none_other = no_other;
+  no_other = no_other;
 }
 
 pub kept_either : (r : Result (Vec Row Global) Error) (old new : State) → IfOk r (λ rows. Shown select_meta [] old new rows.items) → IfErr r (FailsToQuery select_meta [] old new) → KeepsCommit old new

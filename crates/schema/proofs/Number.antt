@@ -1,5 +1,5 @@
 -- The number of the schema: what writing it makes of the empty tables, and what reading it says.
-use Rattle.std.proofs.Common.{◌≡◌, ℕ, ◌<◌, List, [], ◌∷◌, Bool, true, false, cond, codes, None, pos, negsuc, All, AllPairs, IsPermutation, arith, refl, ap, ◌∙◌}
+use Rattle.std.proofs.Common.{◌≡◌, ℕ, ◌<◌, List, [], ◌∷◌, Bool, true, false, cond, codes, None, pos, negsuc, All, AllPairs, IsPermutation, IsTrue, ℤ, map, drop, arith, refl, sym, ap, subst, ◌∙◌}
 use Rattle.std.proofs.lemmas.List.Sorted.{IsPermutation-refl}
 use Rattle.sqlite.specs.declared.types.Value.{Value}
 use Rattle.sqlite.specs.declared.types.Value.TheVariants.{Null, Int, Text}
@@ -24,9 +24,16 @@ use Rattle.schema.specs.Tables.{meta, sysmod, ver, ifreq, hold, elem, zone, entr
 use Rattle.schema.specs.Create.{HasTables}
 use Rattle.schema.specs.Inventory.{IsInventory, empty_inventory}
 use Rattle.schema.specs.Known.{HasRun}
-use Rattle.schema.specs.Numbered.{AreNumbered}
-use Rattle.schema.specs.Stands.{HasRows, StandsFor}
-use Rattle.schema.proofs.Statements.{inserts, puts_one}
+use Rattle.schema.specs.Stands.{StandsFor}
+use Rattle.rows.specs.Numbered.{AreNumbered}
+use Rattle.rows.specs.Rows.{shown, AreRows}
+use Rattle.rows.proofs.RowLemmas.{whole, none_numbered}
+use Rattle.rows.proofs.Statements.{inserts, puts_one}
+use Rattle.sqlite_trees.proofs.ListLemmas.{map-map}
+use Rattle.sqlite.specs.Order.{Row}
+use Rattle.sqlite.specs.Tree.{rowid}
+use Rattle.sqlite.specs.View.{is_int}
+use Rattle.schema.specs.Rows.{setting_row, number_row}
 
 abbrev pub insert_meta : List ℕ
 insert_meta = codes "INSERT INTO meta (k, v) VALUES ('schema', 1)"
@@ -54,11 +61,11 @@ cast_one : cast Integer (Int (pos 1)) ≡ Int (pos 1)
 unfolding unary
 cast_one = either _ (Int (pos 1))
 
-none_numbered : AreNumbered []
-none_numbered = record { sorted = []; same = IsPermutation-refl []; rise = tt; keyed = tt }
+one_numbered : (row : Row) → IsTrue (is_int (rowid row)) → AreNumbered (row ∷ [])
+one_numbered row keyed = record { sorted = row ∷ []; same = IsPermutation-refl (row ∷ []); rise = (tt, tt); keyed = (keyed, tt) }
 
-no_rows : (table : Table) (trees : Trees) → trees table.tree ≡ [] → HasRows table [] trees
-no_rows table trees none = record { same = rw none (IsPermutation-refl []); numbered = rw none none_numbered }
+no_rows : (table : Table) (rows : List Row) → rows ≡ [] → AreRows table [] rows
+no_rows table rows none = record { same = rw none (IsPermutation-refl []); numbered = rw none none_numbered }
 
 -- no SYSMOD names anything
 no_step : (srel : Bytes) (x : Id) (between : List Id) (z : Id) → ¬ Leads (names_for empty_inventory.global srel) x between z
@@ -84,27 +91,52 @@ empty_is_inventory = record {
   apart = λ i j d less within. absurd (omega arith);
 }
 
-pub makes_number : (old new : State) → HasTables all_tables old.now → HasRun insert_meta old new → StandsFor new.now empty_inventory
+-- meta has this row, and its rowid
+pub one_setting : (n id : ℤ) (rows : List Row) → map (whole (shown meta)) rows ≡ (Int id ∷ setting_row n) ∷ [] → AreRows meta (setting_row n ∷ []) rows
+one_setting n id rows is = record {
+  same = subst (IsPermutation (setting_row n ∷ [])) (sym (sym (map-map (drop 1) (whole (shown meta)) rows) ∙ ap (map (drop 1)) is)) (IsPermutation-refl (setting_row n ∷ []));
+  numbered = rw is (one_numbered (Int id ∷ setting_row n) refl);
+}
+
+pub makes_number : (old new : State) → HasTables all_tables old.now → HasRun insert_meta old new → StandsFor empty_inventory new.now
 makes_number old new was ran =
     let command = Insert 0 (Values meta_terms 3) in
     let w = runs_as insert_meta [] old new store_schema was.schema command insert_is insert_plain ran.0 ran.1 in
     let it = inserts old new store_schema was.schema 0 meta refl (statement_of insert_meta (understood store_schema insert_meta)) [] ran.0 meta_terms 3 refl refl w in
-    let row = Int (pos 1) ∷ Text (codes "schema") ∷ Int (pos 1) ∷ [] in
+    let row = Int (pos 1) ∷ number_row in
     let is : (edit_of old.now.trees meta [] Chosen 0 it.0).news ≡ row ∷ [] =
     ap (λ all. (edit_of old.now.trees meta [] Chosen 0 all).news) it.1 ∙ rw (was.empty.0, cast_null, cast_one) refl in
-    let put = puts_one store_schema meta old.now.trees new.now.trees it.0 row is refl it.3 in
+    let put = puts_one store_schema meta old.now.trees new.now.trees it.0 row is it.3 in
     let others = put.2.tables.1 in
     let empty = was.empty.1 in
     record {
-      schema = it.2;
-      number = rw (put.1, was.empty.0) refl;
-      sysmods = no_rows sysmod new.now.trees (others.0 (λ e. omega (arith, e)) ∙ empty.0);
-      vers = no_rows ver new.now.trees (others.1.0 (λ e. omega (arith, e)) ∙ empty.1.0);
-      ifreqs = no_rows ifreq new.now.trees (others.1.1.0 (λ e. omega (arith, e)) ∙ empty.1.1.0);
-      holds = no_rows hold new.now.trees (others.1.1.1.0 (λ e. omega (arith, e)) ∙ empty.1.1.1.0);
-      elems = no_rows elem new.now.trees (others.1.1.1.1.0 (λ e. omega (arith, e)) ∙ empty.1.1.1.1.0);
-      zones = no_rows zone new.now.trees (others.1.1.1.1.1.0 (λ e. omega (arith, e)) ∙ empty.1.1.1.1.1.0);
-      entries = no_rows entry new.now.trees (others.1.1.1.1.1.1.0 (λ e. omega (arith, e)) ∙ empty.1.1.1.1.1.1.0);
-      zelems = no_rows zelem new.now.trees (others.1.1.1.1.1.1.1.0 (λ e. omega (arith, e)) ∙ empty.1.1.1.1.1.1.1.0);
+      tables = record {
+        schema_is = it.2;
+        tables = (
+          rw (put.1, was.empty.0) (one_setting (pos 1) (pos 1) (row ∷ []) refl),
+          (
+            no_rows sysmod _ (others.0 (λ e. omega (arith, e)) ∙ empty.0),
+            (
+              no_rows ver _ (others.1.0 (λ e. omega (arith, e)) ∙ empty.1.0),
+              (
+                no_rows ifreq _ (others.1.1.0 (λ e. omega (arith, e)) ∙ empty.1.1.0),
+                (
+                  no_rows hold _ (others.1.1.1.0 (λ e. omega (arith, e)) ∙ empty.1.1.1.0),
+                  (
+                    no_rows elem _ (others.1.1.1.1.0 (λ e. omega (arith, e)) ∙ empty.1.1.1.1.0),
+                    (
+                      no_rows zone _ (others.1.1.1.1.1.0 (λ e. omega (arith, e)) ∙ empty.1.1.1.1.1.0),
+                      (
+                        no_rows entry _ (others.1.1.1.1.1.1.0 (λ e. omega (arith, e)) ∙ empty.1.1.1.1.1.1.0),
+                        (no_rows zelem _ (others.1.1.1.1.1.1.1.0 (λ e. omega (arith, e)) ∙ empty.1.1.1.1.1.1.1.0), tt),
+                      ),
+                    ),
+                  ),
+                ),
+              ),
+            ),
+          ),
+        );
+      };
       inventory = empty_is_inventory;
     }

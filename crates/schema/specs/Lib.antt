@@ -1,9 +1,7 @@
 pub mod Create
 pub mod Forms
-pub mod Inside
 pub mod Inventory
 pub mod Known
-pub mod Numbered
 pub mod Rows
 pub mod Stands
 pub mod Tables

@@ -1,5 +1,5 @@
 -- The rows that an inventory is written as.
-use Rattle.std.specs.Prelude.{ℕ, ◌+◌, Bool, List, [], ◌∷◌, ◌++◌, map, Option, codes, pos, if◌then◌else◌}
+use Rattle.std.specs.Prelude.{ℕ, ℤ, Bool, List, [], ◌∷◌, map, Option, codes, pos, if◌then◌else◌}
 use Rattle.std.specs.List.{concat, flat_map, enumerate_from, join_with_byte}
 use Rattle.sqlite.specs.declared.types.Value.{Value}
 use Rattle.sqlite.specs.declared.types.Value.TheVariants as value
@@ -20,9 +20,12 @@ flag b = value.Int (pos (if b then 1 else 0))
 abbrev pub records : Lines → Value
 records lines = value.Blob (concat lines)
 
--- the number of the schema
+-- the number of a schema, and that of this one
+abbrev pub setting_row : ℤ → Row
+setting_row n = value.Text (codes "schema") ∷ value.Int n ∷ []
+
 abbrev pub number_row : Row
-number_row = value.Text (codes "schema") ∷ value.Int (pos 1) ∷ []
+number_row = setting_row (pos 1)
 
 abbrev pub sysmod_row : Sysmod → Row
 sysmod_row s = value.Text s.id ∷ value.Text (kind_text s.kind) ∷ ids s.sources ∷ []

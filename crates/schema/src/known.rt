@@ -1,14 +1,14 @@
 //! The tables that a database has already.
 
-ghost use Rattle.std.specs.Prelude.{◌≡◌, ◌≢◌, ◌↔◌, ℤ, false, ◌∷◌, [], pos, codes, IsTrue, OnOk, OnErr, IfOk, IfSome, IfNone, IsErrOf};
+ghost use Rattle.std.specs.Prelude.{◌≡◌, ◌↔◌, ℤ, false, [], codes, pos, IsTrue, OnOk, OnErr, IfOk, IfSome, IfNone, IsErrOf};
+ghost use Rattle.std.specs.List.{Any};
 ghost use Rattle.sqlite.specs.Held.{state};
 ghost use Rattle.sqlite.specs.State.{HasCleanDisk, IsUnchanged, KeepsCommit, Shown, Survives};
 ghost use Rattle.schema.specs.Create.{IsBlank};
 ghost use Rattle.schema.specs.Inventory.{Inventory, empty_inventory};
-ghost use Rattle.schema.specs.Inside.{IsMade};
-ghost use Rattle.schema.specs.Known.{select_meta, number_is, GiveOther, HasOtherNumber, HasNoState, HasOwnTables};
-ghost use Rattle.schema.specs.Rows.{number_row};
-ghost use Rattle.schema.specs.Stands.{StandsFor, IsStateOf, Holds};
+ghost use Rattle.rows.specs.Inside.{IsMade, Holds};
+ghost use Rattle.schema.specs.Known.{select_meta, Gives, GivesOther, IsNumber, HasOtherNumber, HasNoState, HasOwnTables};
+ghost use Rattle.schema.specs.Stands.{StandsFor, IsStateOf};
 ghost use Rattle.schema.specs.Tables.{store_schema};
 
 use crate::error::StoreError;
@@ -26,7 +26,7 @@ fn meta_rows<S: Alter>(conn: &mut Connection<S>) -> Result<Vec<Row>, Error>
     ensures crash { Survives (state S.Store conn.old) (state S.Store conn.new) (λ _. ⊥) }
     ensures mode { conn.old.in_transaction ≡ false → conn.new.in_transaction ≡ false }
 {
-    conn.query_all("SELECT k, v FROM meta", &[])
+    conn.query_all("SELECT rowid, k, v FROM meta", &[])
 }
 
 fn is_schema_word(word: &[u8]) -> bool
@@ -37,23 +37,21 @@ fn is_schema_word(word: &[u8]) -> bool
 
 /// The number that a row of `meta` gives to the schema.
 fn number_of(row: &Row) -> Option<i64>
-    ensures some { IfSome result (λ n. row.now ≡ number_is n) }
-    ensures none { IfNone result ((n : ℤ) → row.now ≢ number_is n) }
+    ensures some { IfSome result (λ n. Gives n row.now) }
+    ensures none { IfNone result ((n : ℤ) → ¬ Gives n row.now) }
 {
-    if row.column_count() != 2 {
+    if row.column_count() != 3 {
         return None;
     }
-    match (row.get_ref(0), row.get_ref(1)) {
-        (Ok(ValueRef::Text(word)), Ok(ValueRef::Int(number))) if is_schema_word(word) => {
-            Some(number)
-        }
+    match (row.get_ref(0), row.get_ref(1), row.get_ref(2)) {
+        (Ok(ValueRef::Int(_)), Ok(ValueRef::Text(word)), Ok(ValueRef::Int(number)))
+            if is_schema_word(word) => { Some(number) }
         _ => None,
     }
 }
 
 fn gives_other_number(row: &Row) -> bool
-    ensures yes { IsTrue result → (n : ℤ) × (row.now ≡ number_is n) × (n ≢ pos 1) }
-    ensures no { result ≡ false → (n : ℤ) → row.now ≡ number_is n → n ≡ pos 1 }
+    ensures { IsTrue result ↔ GivesOther row.now }
 {
     match number_of(row) {
         Some(number) => number != 1,
@@ -61,8 +59,17 @@ fn gives_other_number(row: &Row) -> bool
     }
 }
 
+fn gives_own_number(row: &Row) -> bool
+    ensures { IsTrue result ↔ Gives (pos 1) row.now }
+{
+    match number_of(row) {
+        Some(number) => number == 1,
+        None => false,
+    }
+}
+
 fn has_other_number(rows: &[Row]) -> bool
-    ensures { IsTrue result ↔ GiveOther rows.now }
+    ensures { IsTrue result ↔ Any GivesOther rows.now }
 {
     for row in rows {
         if gives_other_number(row) {
@@ -74,17 +81,17 @@ fn has_other_number(rows: &[Row]) -> bool
 
 /// Whether `meta` has one row, with the number 1.
 fn is_number(rows: &[Row]) -> bool
-    ensures { IsTrue result ↔ (rows.now ≡ number_row ∷ []) }
+    ensures { IsTrue result ↔ IsNumber rows.now }
 {
-    rows.len() == 1 && number_of(&rows[0]) == Some(1)
+    rows.len() == 1 && gives_own_number(&rows[0])
 }
 
 /// Knows the store's tables by their number, and then by all that they are.
 fn judge(alloc: Global, schema: &Schema, rows: &[Row]) -> Result<(), StoreError>
-    ensures ours { OnOk result ((schema.now ≡ store_schema) × (rows.now ≡ number_row ∷ [])) }
-    ensures other { IsErrOf result StoreError.OtherSchema → GiveOther rows.now }
-    ensures none { IsErrOf result StoreError.NoState → schema.now ≡ store_schema → rows.now ≢ number_row ∷ [] }
-    ensures later { IsErrOf result StoreError.NoState → ¬ GiveOther rows.now }
+    ensures ours { OnOk result ((schema.now ≡ store_schema) × IsNumber rows.now) }
+    ensures other { IsErrOf result StoreError.OtherSchema → Any GivesOther rows.now }
+    ensures none { IsErrOf result StoreError.NoState → schema.now ≡ store_schema → ¬ IsNumber rows.now }
+    ensures later { IsErrOf result StoreError.NoState → ¬ Any GivesOther rows.now }
 {
     if has_other_number(rows) {
         return Err(StoreError::OtherSchema);
@@ -112,13 +119,13 @@ fn check<S: Alter>(alloc: Global, conn: &mut Connection<S>) -> Result<(), StoreE
 /// where they are the store's, and nothing where it fails.
 pub fn set_up<S: Alter>(alloc: Global, conn: &mut Connection<S>) -> Result<(), StoreError>
     requires { conn.old.in_transaction ≡ false }
-    ensures stands { HasCleanDisk (state S.Store conn.new) → OnOk result ((i : Inventory) → IsStateOf (state S.Store conn.old).now i → Holds (state S.Store conn.new) i) }
+    ensures stands { HasCleanDisk (state S.Store conn.new) → OnOk result ((i : Inventory) → IsStateOf i (state S.Store conn.old).now → Holds StandsFor (state S.Store conn.new) i) }
     ensures ours { HasCleanDisk (state S.Store conn.new) → OnOk result (HasOwnTables (state S.Store conn.new).now) }
     ensures same { HasCleanDisk (state S.Store conn.new) → OnOk result (¬ IsBlank (state S.Store conn.old).now → IsUnchanged (state S.Store conn.old) (state S.Store conn.new)) }
     ensures other { HasCleanDisk (state S.Store conn.new) → IsErrOf result StoreError.OtherSchema → HasOtherNumber (state S.Store conn.old) }
     ensures none { HasCleanDisk (state S.Store conn.new) → IsErrOf result StoreError.NoState → HasNoState (state S.Store conn.old) }
     ensures unchanged { HasCleanDisk (state S.Store conn.new) → IsTrue (state S.Store conn.new).is_open → OnErr result ((state S.Store conn.new).committed ≡ (state S.Store conn.old).committed) }
-    ensures crash { Survives (state S.Store conn.old) (state S.Store conn.new) (IsMade S.Store conn.old IsBlank (λ db. StandsFor db empty_inventory)) }
+    ensures crash { Survives (state S.Store conn.old) (state S.Store conn.new) (IsMade S.Store conn.old IsBlank (StandsFor empty_inventory)) }
     ensures mode { conn.new.in_transaction ≡ false }
 {
     prove!(conn.is_autocommit());

@@ -6,8 +6,8 @@ ghost use Rattle.sqlite.specs.State.{HasCleanDisk, Survives};
 ghost use Rattle.schema.specs.Create.{IsBlank, HasTables};
 ghost use Rattle.schema.specs.Inventory.{empty_inventory};
 ghost use Rattle.schema.specs.Known.{HasRun};
-ghost use Rattle.schema.specs.Stands.{StandsFor, Holds};
-ghost use Rattle.schema.specs.Inside.{StaysInside, Leads, IsMade};
+ghost use Rattle.schema.specs.Stands.{StandsFor};
+ghost use Rattle.rows.specs.Inside.{StaysInside, Leads, IsMade, Holds};
 ghost use Rattle.schema.specs.Tables.{meta, global_tables, all_tables, store_schema, schema_of};
 
 use same_schema::same_schema;
@@ -75,7 +75,7 @@ fn make_zones<S: Alter>(tx: &mut Transaction<'_, S>) -> Result<(), Error>
 fn make_all<S: Alter>(tx: &mut Transaction<'_, S>) -> Result<(), Error>
     ensures same_reference { tx.new.conn.ghost_name ≡ tx.old.conn.ghost_name }
     ensures inside { StaysInside S.Store tx.old.conn.now tx.new.conn.now }
-    ensures ok { OnOk result (Leads S.Store tx.old.conn.now tx.new.conn.now IsBlank (λ db. StandsFor db empty_inventory)) }
+    ensures ok { OnOk result (Leads S.Store tx.old.conn.now tx.new.conn.now IsBlank (StandsFor empty_inventory)) }
 {
     run(
         tx,
@@ -89,9 +89,9 @@ fn make_all<S: Alter>(tx: &mut Transaction<'_, S>) -> Result<(), Error>
 /// Makes the tables, and writes the number of their schema, in a database that has none.
 pub fn create<S: Alter>(conn: &mut Connection<S>) -> Result<(), Error>
     requires { conn.old.in_transaction ≡ false }
-    ensures made { HasCleanDisk (state S.Store conn.new) → OnOk result (IsBlank (state S.Store conn.old).now → StandsFor (state S.Store conn.new).now empty_inventory × Holds (state S.Store conn.new) empty_inventory) }
+    ensures made { HasCleanDisk (state S.Store conn.new) → OnOk result (IsBlank (state S.Store conn.old).now → StandsFor empty_inventory (state S.Store conn.new).now × Holds StandsFor (state S.Store conn.new) empty_inventory) }
     ensures unchanged { HasCleanDisk (state S.Store conn.new) → IsTrue (state S.Store conn.new).is_open → OnErr result ((state S.Store conn.new).committed ≡ (state S.Store conn.old).committed) }
-    ensures crash { Survives (state S.Store conn.old) (state S.Store conn.new) (IsMade S.Store conn.old IsBlank (λ db. StandsFor db empty_inventory)) }
+    ensures crash { Survives (state S.Store conn.old) (state S.Store conn.new) (IsMade S.Store conn.old IsBlank (StandsFor empty_inventory)) }
     ensures mode { conn.new.in_transaction ≡ false }
 {
     let mut tx = conn.transaction();

@@ -1,7 +1,7 @@
 use Rattle.std.proofs.Common.{[], Ok, Err}
 use Rattle.sqlite.specs.Held.{state}
 use Rattle.schema.proofs.Meta.{meta_unchanged, kept_either, meta_commits_nothing}
-use Rattle.schema.proofs.Statements.{on_ok_if}
+use Rattle.schema.proofs.Making.{on_ok_if}
 use Rattle.schema.proofs.known.meta_rows.Goals as goal
 
 pub returns-clause-same : goal.returns-clause-same

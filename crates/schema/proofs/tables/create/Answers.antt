@@ -5,14 +5,14 @@ use Rattle.sqlite.specs.Effect.{Database}
 use Rattle.schema.specs.Create.{IsBlank}
 use Rattle.schema.specs.Inventory.{empty_inventory}
 use Rattle.schema.specs.Stands.{StandsFor}
-use Rattle.schema.specs.Inside.{IsMade}
-use Rattle.schema.proofs.Statements.{making}
+use Rattle.rows.specs.Inside.{IsMade}
+use Rattle.rows.proofs.InsideLemmas.{making}
 use Rattle.schema.proofs.tables.create.Goals as goal
 
 pub returns-clause-crash : goal.returns-clause-crash
 returns-clause-crash g c =
     let s = g.S.Store in
-    let empty = λ (db : Database). StandsFor db empty_inventory in
+    let empty = StandsFor empty_inventory in
     let old = c.args.conn.now in
     let last = c.make_all.new.tx.conn.now in
     let last_now = c.commit.new.self.0 in

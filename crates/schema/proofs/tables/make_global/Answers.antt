@@ -2,8 +2,7 @@ use Rattle.std.proofs.Common.{[], ◌∷◌}
 use Rattle.schema.specs.Create.{HasTables}
 use Rattle.schema.specs.Tables.{meta, sysmod, ver, ifreq, hold, elem}
 use Rattle.schema.proofs.Texts.{create_sysmod, create_ver, create_ifreq, create_hold, create_elem, makes_sysmod, makes_ver, makes_ifreq, makes_hold, makes_elem}
-use Rattle.schema.proofs.Statements.{on_ok_under}
-use Rattle.schema.proofs.Making.{leads_table, leads_more}
+use Rattle.schema.proofs.Making.{on_ok_under, leads_table, leads_more}
 use Rattle.schema.proofs.tables.make_global.Goals as goal
 
 pub returns-clause-ok : goal.returns-clause-ok

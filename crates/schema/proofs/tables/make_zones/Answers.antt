@@ -2,8 +2,7 @@ use Rattle.std.proofs.Common.{[], ◌∷◌}
 use Rattle.schema.specs.Create.{HasTables}
 use Rattle.schema.specs.Tables.{meta, sysmod, ver, ifreq, hold, elem, zone, entry, zelem}
 use Rattle.schema.proofs.Texts.{create_zone, create_entry, create_zelem, makes_zone, makes_entry, makes_zelem}
-use Rattle.schema.proofs.Statements.{on_ok_under}
-use Rattle.schema.proofs.Making.{leads_table, leads_more}
+use Rattle.schema.proofs.Making.{on_ok_under, leads_table, leads_more}
 use Rattle.schema.proofs.tables.make_zones.Goals as goal
 
 pub returns-clause-ok : goal.returns-clause-ok
