@@ -67,4 +67,3 @@ create_zelem = codes "CREATE TABLE zelem (zone TEXT NOT NULL, type TEXT NOT NULL
 pub makes_zelem : Makes create_zelem (meta ∷ sysmod ∷ ver ∷ ifreq ∷ hold ∷ elem ∷ zone ∷ entry ∷ []) zelem
 unfolding understood everything
 makes_zelem = record { is = refl; plain = (refl, refl); whole = refl; defines = refl; makes = refl; place = refl; uncounted = refl }
-
