@@ -1,6 +1,7 @@
-//! The table of holds.
+//! The table of holds: `++HOLD`s that were received, external ones and those of SYSMODs.
 #![tactic(auto)]
 
-pub fn nothing(x: usize) -> usize {
-    x
-}
+mod kinds;
+mod writing;
+
+pub use writing::{put_hold, remove_hold};

@@ -2,7 +2,7 @@
 use Rattle.std.proofs.Common.{◌≡◌, ◌≢◌, ◌⊎◌, inl, inr, ℕ, ℤ, zero, suc, ◌+◌, ◌/◌, ◌<◌, ◌≤◌, ◌==◌, length, drop, take, if◌then◌else◌, List, [], ◌∷◌, map, filter, Bool, true, false, not, ◌&&◌, ◌||◌, Some, IsPermutation, arith, refl, sym, ap, ap₂, subst, ◌∙◌, drop-cons, add-one, slice_get}
 use Rattle.std.specs.List.{AllByRecursion, list_all, range_with_len}
 use Rattle.std.proofs.lemmas.List.{drop_all}
-use Rattle.std.proofs.lemmas.List.Sorted.{IsPermutation-trans, IsPermutation-cons, IsPermutation-map}
+use Rattle.std.proofs.lemmas.List.Sorted.{IsPermutation-sym, IsPermutation-trans, IsPermutation-cons, IsPermutation-map}
 use Rattle.std.proofs.lemmas.Bool.Decides.{eqb_tells}
 use Rattle.std.proofs.lemmas.Bool.{eqb-true}
 use Rattle.sqlite.specs.declared.types.Value.{Value}
@@ -21,9 +21,15 @@ use Rattle.sqlite_rules.specs.Calls.{ids_of}
 use Rattle.sqlite_trees.proofs.ListLemmas.{filter-map, IsPermutation-filter}
 use Rattle.sqlite_rules.proofs.ListLemmas.{all_has}
 use Rattle.sqlite.proofs.RunLemmas.{has_got}
-use Rattle.rows.specs.Rows.{shown, has_key, AreRows, Contents, in_table}
+use Rattle.rows.specs.Rows.{shown, has_key, AreRows, AreFound, Contents, in_table}
 use Rattle.rows.specs.Texts.{key_tests, IsTableOf}
 use Rattle.rows.proofs.RowLemmas.{put_adds, put_numbered, deleted, filter_numbered}
+
+-- past its end a row has NULL
+pub past_end : (r : Row) (at : ℕ) → length r ≤ at → column r at ≡ Null
+past_end [] at le = refl
+past_end (v ∷ r) zero le = absurd (omega arith)
+past_end (v ∷ r) (suc at) le = past_end r at (omega arith)
 
 dropped : (r : Row) (at : ℕ) → at < length r → drop at r ≡ column r at ∷ drop (at + 1) r
 dropped r at h = let e : suc at ≡ at + 1 = omega arith in drop-cons r at Null h ∙ ap (λ k. column r at ∷ drop k r) e
@@ -85,3 +91,7 @@ module _ (table : Table) (make : List Row → List Row) (contents : Contents) (d
 
 pub held_at : (schema : Schema) (at : ℕ) (table : Table) (contents : Contents) (db : Trees) → IsTableOf schema at table → AllByRecursion (λ t. AreRows t (contents t.tree) (db t.tree)) schema.tables → AreRows table (contents table.tree) (db table.tree)
 held_at schema at table contents db there h = all_has (λ t. AreRows t (contents t.tree) (db t.tree)) schema.tables table h (has_got schema.tables at table there.found)
+
+-- what a query found is what the table holds with the key
+pub found_are : (table : Table) (key : Row) (held found rows : List Row) → AreRows table held rows → AreFound table key found rows → IsPermutation found (filter (has_key key) held)
+found_are table key held found rows are h = IsPermutation-trans _ _ _ h (IsPermutation-filter (has_key key) _ _ (IsPermutation-sym _ _ are.same))

@@ -5,3 +5,4 @@ pub mod Writing
 pub mod InsideLemmas
 pub mod Parents
 pub mod ReadLemmas
+pub mod Values

@@ -50,6 +50,10 @@ with_row row rows = row ∷ rows
 abbrev pub without : Row → List Row → List Row
 without key rows = filter (λ r. not (has_key key r)) rows
 
+-- the table's rows without those that have the key, and one more
+abbrev pub with_put : Table → Row → Row → Contents → Contents
+with_put table key row contents = in_table table (with_row row) (in_table table (without key) contents)
+
 -- the rows, with this one in place of each that has the key
 abbrev pub in_place : Row → Row → List Row → List Row
 in_place key row rows = map (λ r. if has_key key r then row else r) rows

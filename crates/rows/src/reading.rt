@@ -29,13 +29,13 @@ pub trait FromRow {
     ghost has_form: { Self.Item → Type 0 };
 
     fn read(alloc: Global, row: &Row) -> Result<Self::Item, ReadError>
-        ensures read { IfOk result (λ item. row.now ≡ row_of item) }
+        ensures read { IfOk result (λ item. (row.now ≡ row_of item) × has_form item) }
         ensures none { IsErrOf result ReadError.BadRow → (item : Self.Item) → has_form item → row.now ≢ row_of item };
 }
 
 /// What the rows stand for, in their order.
 fn read_all<T: FromRow>(alloc: Global, rows: &[Row]) -> Result<Vec<T::Item>, ReadError>
-    ensures read { IfOk result (λ items. rows.now ≡ map T.row_of items.items) }
+    ensures read { IfOk result (λ items. (rows.now ≡ map T.row_of items.items) × AllByRecursion T.has_form items.items) }
     ensures none { IsErrOf result ReadError.BadRow → (items : List T.Item) → AllByRecursion T.has_form items → ¬ IsPermutation (map T.row_of items) rows.now }
 {
     let mut items = Vec::new(alloc);
@@ -57,6 +57,7 @@ pub fn load<S: Alter, T: FromRow>(
 ) -> Result<Vec<T::Item>, ReadError>
     ensures found { HasCleanDisk (state S.Store conn.new) → IfOk result (λ items. (schema : Schema) (table : Table) → ReadsRows schema table (length key.now) sql.now → conn.old.schema ≡ schema
         → AreFound table (bound key.now) (map T.row_of items.items) ((state S.Store conn.old).now.trees table.tree)) }
+    ensures forms { IfOk result (λ items. AllByRecursion T.has_form items.items) }
     ensures none { HasCleanDisk (state S.Store conn.new) → IsErrOf result ReadError.BadRow → (schema : Schema) (table : Table) → ReadsRows schema table (length key.now) sql.now → conn.old.schema ≡ schema
         → (items : List T.Item) → AllByRecursion T.has_form items → ¬ AreFound table (bound key.now) (map T.row_of items) ((state S.Store conn.old).now.trees table.tree) }
     ensures same { HasCleanDisk (state S.Store conn.new) → IsPlain (understood conn.old.schema sql.now) → OnOk result (IsUnchanged (state S.Store conn.old) (state S.Store conn.new)) }

@@ -7,7 +7,7 @@ ghost use Rattle.sqlite.specs.Values.{bound};
 ghost use Rattle.sqlite.specs.Schema.{Schema};
 ghost use Rattle.sqlite.specs.Table.{Table};
 ghost use Rattle.rows.specs.Inside.{StaysInside, Turns};
-ghost use Rattle.rows.specs.Rows.{Contents, HasContents, HaveNone, in_table, with_row, in_place, without};
+ghost use Rattle.rows.specs.Rows.{Contents, HasContents, HaveNone, in_table, with_row, with_put, in_place, without};
 ghost use Rattle.rows.specs.Texts.{AreKept, PutsIn, PutsInPlace, TakesOut, TakesOutParent};
 
 use sqlite::{Alter, Error, Transaction};
@@ -41,6 +41,23 @@ pub fn remove<S: Alter>(
 {
     tx.execute(sql, key)?;
     Ok(())
+}
+
+/// Puts a row in place of those that have its key, by the texts of `remove` and `insert`.
+pub fn put<S: Alter>(
+    tx: &mut Transaction<'_, S>,
+    removes: &str,
+    key: &[ValueRef<'_>],
+    inserts: &str,
+    row: &[ValueRef<'_>],
+) -> Result<(), Error>
+    ensures same_reference { tx.new.conn.ghost_name ≡ tx.old.conn.ghost_name }
+    ensures inside { StaysInside S.Store tx.old.conn.now tx.new.conn.now }
+    ensures ok { OnOk result ((schema : Schema) (at : ℕ) (table : Table) → TakesOut schema at table (length key.now) removes.now → PutsIn schema at table inserts.now → AreKept table.columns (bound row.now)
+        → Turns S.Store tx.old.conn.now tx.new.conn.now (HasContents schema) (with_put table (bound key.now) (bound row.now))) }
+{
+    remove(tx, removes, key)?;
+    insert(tx, inserts, row)
 }
 
 /// Puts the parameters, as the columns of a row, in place of each row of the table that the text
