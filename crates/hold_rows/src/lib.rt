@@ -1,0 +1,7 @@
+//! The table of holds: `++HOLD`s that were received, external ones and those of SYSMODs.
+#![tactic(auto)]
+
+mod kinds;
+mod writing;
+
+pub use writing::{put_hold, remove_hold};

@@ -1,0 +1,4 @@
+pub mod Numbered
+pub mod Rows
+pub mod Inside
+pub mod Texts

@@ -1,0 +1,107 @@
+-- What a statement's text means under a schema, where it writes the rows of one table or reads them.
+use Rattle.std.specs.Prelude.{◌≡◌, ◌≢◌, ◌≤◌, ◌+◌, ◌==◌, ◌||◌, ℕ, zero, suc, Bool, true, false, not, pos, negsuc, List, [], ◌∷◌, map, length, slice_get, Some, None, IfSome}
+use Rattle.std.specs.List.{AllByRecursion, list_all, range_with_len}
+use Rattle.sqlite.specs.declared.types.Value.TheVariants.{Null, Int}
+use Rattle.sqlite.specs.Order.{Row}
+use Rattle.sqlite.specs.Collation.TheVariants.{Binary}
+use Rattle.sqlite_sql.specs.declared.ops.CompareOp.TheVariants.{Eq}
+use Rattle.sqlite_sql.specs.declared.ops.BinaryOp.TheVariants.{Compare}
+use Rattle.sqlite_value.specs.declared.keys.Key.{Key}
+use Rattle.sqlite.specs.Term.{Term, lit, col, op2}
+use Rattle.sqlite.specs.Query.{Query, inner, end}
+use Rattle.sqlite.specs.Cast.{cast}
+use Rattle.sqlite.specs.Schema.{Schema}
+use Rattle.sqlite.specs.Table.{Table}
+use Rattle.sqlite_schema.specs.declared.schema.Column.{Column}
+use Rattle.sqlite_schema.specs.declared.schema.Keys.TheVariants.{Enforced}
+use Rattle.sqlite.specs.Source.TheVariants.{Values}
+use Rattle.sqlite.specs.Command.TheVariants.{Select, Insert, Update, Delete}
+use Rattle.sqlite.specs.Listing.{understood, reads_listing}
+use Rattle.sqlite.specs.Given.{IsPlain}
+use Rattle.sqlite.proofs.Callers.{command_of}
+use Rattle.sqlite_rules.specs.Action.{Work, works, work_for, pairs}
+use Rattle.sqlite_rules.specs.Lists.{Has}
+use Rattle.sqlite_value.specs.Keys.{first_key}
+
+-- each value is one that its column keeps as it is
+abbrev pub AreKept : List Column → Row → Type 0
+AreKept [] [] = Unit {0}
+AreKept [] (v ∷ values) = ⊥
+AreKept (c ∷ columns) [] = ⊥
+AreKept (c ∷ columns) (v ∷ values) = (cast c.kind v ≡ v) × AreKept columns values
+
+-- the first columns are the parameters
+abbrev pub key_tests : ℕ → ℕ → List Term
+key_tests from zero = []
+key_tests from (suc n) = op2 (Compare Eq Binary) (col 1 (from + 1)) (col 0 from) ∷ key_tests (from + 1) n
+
+-- the rows of one table that pass the tests, with a cut at no row
+abbrev pub scan_by : ℕ → List Term → List Term → List (Term × Key) → Query
+scan_by tree tests project order = record {
+  from = inner tree end;
+  filter = tests;
+  group = None;
+  project = project;
+  distinct = false;
+  collations = [];
+  order = order;
+  limit = lit (Int (negsuc 0));
+  offset = lit (Int (pos 0));
+}
+
+-- the table is there, and its tree is no other table's
+pub record IsTableOf (schema : Schema) (at : ℕ) (table : Table) : Type 0 where
+  pub found : slice_get schema.tables at ≡ Some table
+  pub alone : list_all (λ (t : Table). not (t.tree == table.tree) || (length t.columns == length table.columns)) schema.tables ≡ true
+
+-- INSERT of one row, whose columns are the parameters
+pub record PutsIn (schema : Schema) (at : ℕ) (table : Table) (sql : List ℕ) : Type 0 where
+  pub there : IsTableOf schema at table
+  pub command : command_of (understood schema sql) ≡ Insert at (Values (lit Null ∷ map (col 0) (range_with_len 0 (length table.columns))) (length table.columns + 1))
+  pub plain : IsPlain (understood schema sql)
+  pub uncounted : table.is_counted ≡ false
+  pub timeless : table.stamps.terms ≡ []
+
+-- DELETE of the rows whose first columns are so many parameters, which sets off no action of a foreign key
+pub record TakesOut (schema : Schema) (at : ℕ) (table : Table) (width : ℕ) (sql : List ℕ) : Type 0 where
+  pub there : IsTableOf schema at table
+  pub command : command_of (understood schema sql) ≡ Delete at (record { lets = []; body = scan_by table.tree (key_tests 0 width) (col 1 0 ∷ []) [] })
+  pub narrow : width ≤ length table.columns
+  pub plain : IsPlain (understood schema sql)
+  pub free : (olds : List Row) → works schema Enforced 0 table.tree olds [] ≡ []
+
+-- UPDATE of the rows whose first columns are so many parameters, where the parameters are the new row
+pub record PutsInPlace (schema : Schema) (at : ℕ) (table : Table) (width : ℕ) (sql : List ℕ) : Type 0 where
+  pub there : IsTableOf schema at table
+  pub command : command_of (understood schema sql)
+      ≡ Update at (record { lets = []; body = scan_by table.tree (key_tests 0 width) (col 1 0 ∷ col 1 0 ∷ map (col 0) (range_with_len 0 (length table.columns))) [] })
+  pub plain : IsPlain (understood schema sql)
+  pub narrow : width ≤ length table.columns
+  pub free : (olds : List Row) (new : Row) (news : List Row) → works schema Enforced 0 table.tree olds (new ∷ news) ≡ []
+
+-- a foreign key's action on these old rows: it deletes the rows of one of these tables whose first column is an old row's
+pub record IsCascade (children : List Table) (olds : List Row) (w : Work) : Type 0 where
+  pub child : Has children w.child
+  pub columns : w.ref.columns ≡ 1 ∷ []
+  pub places : w.places ≡ 1 ∷ []
+  pub collation : (first_key w.order).collation ≡ Binary
+  pub shallow : w.depth ≡ 0
+  pub moves : w.moves ≡ pairs olds []
+
+-- DELETE of the rows whose first column is the parameter, which sets off the deletion of rows of other tables that refer to it
+pub record TakesOutParent (schema : Schema) (at : ℕ) (table : Table) (children : List Table) (sql : List ℕ) : Type 0 where
+  pub there : IsTableOf schema at table
+  pub command : command_of (understood schema sql) ≡ Delete at (record { lets = []; body = scan_by table.tree (key_tests 0 1) (col 1 0 ∷ []) [] })
+  pub plain : IsPlain (understood schema sql)
+  pub narrow : 1 ≤ length table.columns
+  pub children_there : AllByRecursion (λ t. Has schema.tables t × (t.tree ≢ table.tree) × (1 ≤ length t.columns)) children
+  pub acts : (olds : List Row) → AllByRecursion (λ child. AllByRecursion (λ ref. IfSome (work_for schema Enforced 0 table.tree olds [] child ref) (IsCascade children olds)) child.references) schema.tables
+
+-- SELECT of all columns of the rows whose first columns are so many parameters, in any order
+pub record ReadsRows (schema : Schema) (table : Table) (width : ℕ) (sql : List ℕ) : Type 0 where
+  pub names : List (List ℕ)
+  pub order : List (Term × Key)
+  pub command : command_of (understood schema sql) ≡ Select (record { lets = []; body = scan_by table.tree (key_tests 0 width) (map (col 1) (range_with_len 1 (length table.columns))) order }) names
+  pub plain : IsPlain (understood schema sql)
+  pub unlisted : reads_listing schema sql ≡ false
+  pub narrow : width ≤ length table.columns

@@ -1,0 +1,12 @@
+//! The rows of tables as lists in any order, and what statements make of them. It names no table.
+#![tactic(auto)]
+
+mod columns;
+mod error;
+mod reading;
+mod statement;
+
+pub use columns::{blob, optional_text, text, whole};
+pub use error::ReadError;
+pub use reading::{FromRow, load};
+pub use statement::{insert, put, remove, remove_parent, replace};

@@ -1,0 +1,133 @@
+-- The forms of what is kept: of a SYSMOD's fields as its statements have them, and of a zone's entries.
+use Rattle.std.specs.Prelude.{◌≡◌, ◌≢◌, ◌≤◌, ◌<◌, ℕ, Bool, true, false, List, [], ◌∷◌, ◌++◌, length, map, reverse, All, AllPairs, Contains, IfSome, OnSome, Option, None, Some, IsSome, IsTrue, ◌&&◌, ◌||◌, ◌==◌, nat_lt, nat_le}
+use Rattle.terms.specs.declared.kinds.Kind.{Kind}
+use Rattle.terms.specs.declared.kinds.Kind.TheVariants.{Function, Ptf, Apar, Usermod}
+use Rattle.terms.specs.declared.kinds.ElemType.{ElemType}
+use Rattle.terms.specs.declared.kinds.ElemType.TheVariants.{Mac, Src, Clist, Data, Exec, Parm, Proc}
+use Rattle.terms.specs.Types.{Text, Id, Lines, type_number, Ver, IfReq, Hold, Action, Replaces, Updates, Change, Sysmod, Entry, Element, Zone}
+use Rattle.terms.specs.Lookups.{is_before, IsRising}
+use Rattle.terms.specs.Forms.{IsRun, IsId, IsClass, IsReason, IsSource, IsSrel, IsName, IsDate, is_digit, number, BeginsDark}
+use Rattle.terms.specs.Texts.{IsNumbered, Update, IsUpdateText}
+
+-- ids of this form, rising
+pub record AreListed (form : Text → Type 0) (ids : List Text) : Type 0 where
+  pub each : All form ids
+  pub rising : IsRising ids
+
+-- rising ids, among which the SYSMOD's own is not
+pub record AreOthers (x : Id) (ids : List Id) : Type 0 where
+  pub listed : AreListed IsId ids
+  pub others : ¬ Contains ids x
+
+-- 80-byte records
+abbrev pub AreRecords : Lines → Type 0
+AreRecords lines = All (λ line. (length line ≡ 80) × All (λ b. b < 256) line) lines
+
+-- The records of ++MAC and ++SRC are numbered; those of data elements are free.
+abbrev pub IsTextOf : ElemType → Lines → Type 0
+IsTextOf Mac text = AreRecords text × IsNumbered text
+IsTextOf Src text = AreRecords text × IsNumbered text
+IsTextOf _ text = AreRecords text
+
+-- there is ++MACUPD and ++SRCUPD
+abbrev pub IsUpdated : ElemType → Type 0
+IsUpdated Mac = Unit {0}
+IsUpdated Src = Unit {0}
+IsUpdated _ = ⊥
+
+-- ++IF: at least one requisite, none of them the SYSMOD itself
+pub record HasIfForms (x : Id) (i : IfReq) : Type 0 where
+  pub function : IsId i.function
+  pub req : AreOthers x i.req
+  pub some : i.req ≢ []
+
+-- FMID may be absent in a function alone, and NPRE and DELETE stand there alone.
+abbrev pub SuitsKind : Kind → Ver → Type 0
+SuitsKind Function v = Unit {0}
+SuitsKind _ v = IsSome v.fmid × (v.npre ≡ []) × (v.del ≡ [])
+
+-- ++VER
+pub record HasVerForms (kind : Kind) (x : Id) (v : Ver) : Type 0 where
+  pub srel : IsSrel v.srel
+  pub fmid : IfSome v.fmid (λ f. IsId f × (f ≢ x))
+  pub pre : AreOthers x v.pre
+  pub req : AreOthers x v.req
+  pub sup : AreOthers x v.sup
+  pub npre : AreOthers x v.npre
+  pub del : AreOthers x v.del
+  pub ifs : All (HasIfForms x) v.ifs
+  pub suits : SuitsKind kind v
+
+-- a replacement has a record at least; no function has an update
+abbrev pub HasActionForms : Kind → ElemType → Text → Action → Type 0
+HasActionForms kind type name (Replaces distlib syslib text) = IsName distlib × IsName syslib × IsTextOf type text × (text ≢ [])
+HasActionForms kind type name (Updates lines) =
+    (kind ≢ Function) × IsUpdated type × AreRecords lines × ((u : Update) × IsUpdateText name lines u)
+
+-- an element statement
+pub record HasChangeForms (kind : Kind) (c : Change) : Type 0 where
+  pub name : IsName c.name
+  pub action : HasActionForms kind c.elem_type c.name c.action
+
+-- an element comes before another by type, and then by name
+abbrev pub is_change_before : Change → Change → Bool
+is_change_before a b =
+    nat_lt (type_number a.elem_type) (type_number b.elem_type)
+    || ((type_number a.elem_type == type_number b.elem_type) && is_before a.name b.name)
+
+-- A SYSMOD has a ++VER at least, one for each SREL, rising; its element statements rise by type and name.
+pub record HasSysmodForms (s : Sysmod) : Type 0 where
+  pub id : IsId s.id
+  pub sources : AreListed IsSource s.sources
+  pub some : s.vers ≢ []
+  pub vers : All (HasVerForms s.kind s.id) s.vers
+  pub srels : IsRising (map (λ v. v.srel) s.vers)
+  pub changes : All (HasChangeForms s.kind) s.changes
+  pub elements : AllPairs (λ a b. IsTrue (is_change_before a b)) s.changes
+
+-- 1 to 200 characters, with no blank at an end
+pub record IsComment (text : Text) : Type 0 where
+  pub least : 1 ≤ length text
+  pub most : length text ≤ 200
+  pub characters : All (λ b. IsTrue (nat_le 32 b && nat_le b 126)) text
+  pub front : BeginsDark text
+  pub back : BeginsDark (reverse text)
+
+-- ++HOLD
+pub record HasHoldForms (h : Hold) : Type 0 where
+  pub id : IsId h.id
+  pub reason : IsReason h.kind h.reason
+  pub fmid : IsId h.fmid
+  pub class : IfSome h.class IsClass
+  pub date : IfSome h.date IsDate
+  pub comment : IfSome h.comment IsComment
+
+-- yy.ddd: a year's last two digits, and a day from 001 to 366
+abbrev pub IsDay : Text → Type 0
+IsDay text = (year day : Text) × (text ≡ year ++ 46 ∷ day) × IsRun is_digit 2 2 year × IsRun is_digit 3 3 day
+    × (1 ≤ number day) × (number day ≤ 366)
+
+-- a SYSMOD entry; only what is applied has waived requisites
+pub record HasEntryForms (e : Entry) : Type 0 where
+  pub id : IsId e.id
+  pub applied : IfSome e.applied IsDay
+  pub supby : AreListed IsId e.supby
+  pub delby : IfSome e.delby IsId
+  pub waived : AreListed IsId e.waived
+  pub waived_if_applied : e.waived ≢ [] → IsSome e.applied
+
+-- an element entry, whose text may have no records
+pub record HasElementForms (e : Element) : Type 0 where
+  pub name : IsName e.name
+  pub fmid : IsId e.fmid
+  pub rmid : IsId e.rmid
+  pub umids : AreListed IsId e.umids
+  pub distlib : IsName e.distlib
+  pub syslib : IsName e.syslib
+  pub text : IsTextOf e.elem_type e.text
+
+-- a zone's SREL and entries; the names of related zones are the inventory's
+pub record HasZoneForms (z : Zone) : Type 0 where
+  pub srel : IsSrel z.srel
+  pub entries : All HasEntryForms z.entries
+  pub elements : All HasElementForms z.elements

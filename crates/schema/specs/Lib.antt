@@ -1,0 +1,7 @@
+pub mod Create
+pub mod Forms
+pub mod Inventory
+pub mod Known
+pub mod Rows
+pub mod Stands
+pub mod Tables

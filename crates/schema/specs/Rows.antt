@@ -1,0 +1,83 @@
+-- The rows that an inventory is written as.
+use Rattle.std.specs.Prelude.{ℕ, ℤ, Bool, List, [], ◌∷◌, map, Option, codes, pos, if◌then◌else◌}
+use Rattle.std.specs.List.{concat, flat_map, enumerate_from, join_with_byte}
+use Rattle.sqlite.specs.declared.types.Value.{Value}
+use Rattle.sqlite.specs.declared.types.Value.TheVariants as value
+use Rattle.sqlite.specs.Values.{or_null}
+use Rattle.sqlite.specs.Order.{Row}
+use Rattle.terms.specs.Types.{Text, Id, Lines, IfReq, Ver, Hold, Action, Replaces, Updates, Change, Sysmod, Entry, Element, NamedZone}
+use Rattle.terms.specs.Spelling.{kind_text, hold_text, type_text, zone_kind_text}
+use Rattle.schema.specs.Inventory.{Inventory}
+
+-- a list of ids as a text: joined by commas, and the empty text where there is none
+abbrev pub ids : List Id → Value
+ids list = value.Text (join_with_byte 44 list)
+
+abbrev pub flag : Bool → Value
+flag b = value.Int (pos (if b then 1 else 0))
+
+-- the records one after the other
+abbrev pub records : Lines → Value
+records lines = value.Blob (concat lines)
+
+-- the number of a schema, and that of this one
+abbrev pub setting_row : ℤ → Row
+setting_row n = value.Text (codes "schema") ∷ value.Int n ∷ []
+
+abbrev pub number_row : Row
+number_row = setting_row (pos 1)
+
+abbrev pub sysmod_row : Sysmod → Row
+sysmod_row s = value.Text s.id ∷ value.Text (kind_text s.kind) ∷ ids s.sources ∷ []
+
+abbrev pub ver_row : Id → Ver → Row
+ver_row x v =
+    value.Text x ∷ value.Text v.srel ∷ or_null value.Text v.fmid ∷ ids v.pre ∷ ids v.req ∷ ids v.sup ∷ ids v.npre ∷ ids v.del ∷ []
+
+-- a ++IF and its number
+abbrev pub ifreq_row : Id → Text → ℕ × IfReq → Row
+ifreq_row x srel i =
+    value.Text x ∷ value.Text srel ∷ value.Int (pos i.0) ∷ value.Text i.1.function ∷ ids i.1.req ∷ []
+
+abbrev pub hold_row : Hold → Row
+hold_row h =
+    value.Text h.id ∷ value.Text (hold_text h.kind) ∷ value.Text h.reason ∷ value.Text h.fmid
+    ∷ or_null value.Text h.class ∷ or_null value.Text h.date ∷ or_null value.Text h.comment ∷ flag h.internal ∷ []
+
+-- whether it is an update, its libraries and its text
+abbrev pub action_cells : Action → Row
+action_cells (Replaces distlib syslib text) = value.Int (pos 0) ∷ value.Text distlib ∷ value.Text syslib ∷ records text ∷ []
+action_cells (Updates lines) = value.Int (pos 1) ∷ value.Null ∷ value.Null ∷ records lines ∷ []
+
+abbrev pub elem_row : Id → Change → Row
+elem_row x c = value.Text x ∷ value.Text (type_text c.elem_type) ∷ value.Text c.name ∷ action_cells c.action
+
+abbrev pub zone_row : NamedZone → Row
+zone_row z =
+    value.Text z.name ∷ value.Text (zone_kind_text z.zone.kind) ∷ value.Text z.zone.srel ∷ or_null value.Text z.zone.related ∷ []
+
+abbrev pub entry_row : Text → Entry → Row
+entry_row zone e =
+    value.Text zone ∷ value.Text e.id ∷ or_null value.Text e.applied ∷ ids e.supby ∷ or_null value.Text e.delby ∷ ids e.waived ∷ []
+
+abbrev pub zelem_row : Text → Element → Row
+zelem_row zone e =
+    value.Text zone ∷ value.Text (type_text e.elem_type) ∷ value.Text e.name ∷ value.Text e.fmid ∷ value.Text e.rmid
+    ∷ ids e.umids ∷ value.Text e.distlib ∷ value.Text e.syslib ∷ records e.text ∷ []
+
+-- the rows of a SYSMOD in the tables that refer to it; the ++IFs of a ++VER count from 1
+abbrev pub vers_of : Sysmod → List Row
+vers_of s = map (ver_row s.id) s.vers
+
+abbrev pub ifreqs_of : Sysmod → List Row
+ifreqs_of s = flat_map (λ v. map (ifreq_row s.id v.srel) (enumerate_from 1 v.ifs)) s.vers
+
+abbrev pub elems_of : Sysmod → List Row
+elems_of s = map (elem_row s.id) s.changes
+
+-- the rows of a zone in the tables that refer to it
+abbrev pub entries_of : NamedZone → List Row
+entries_of z = map (entry_row z.name) z.zone.entries
+
+abbrev pub zelems_of : NamedZone → List Row
+zelems_of z = map (zelem_row z.name) z.zone.elements

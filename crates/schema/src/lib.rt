@@ -1,0 +1,11 @@
+//! The tables of the store in a SQL database: what they are, what their rows stand for, and the
+//! calls that make them in an empty database and know them in another.
+#![tactic(auto)]
+
+mod error;
+mod known;
+mod tables;
+
+pub use error::StoreError;
+pub use known::set_up;
+pub use tables::create;
