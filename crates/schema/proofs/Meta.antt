@@ -10,18 +10,16 @@ use Rattle.sqlite_resolve.specs.declared.compiled.Compiled.{Compiled}
 use Rattle.sqlite_resolve.specs.declared.error.CompileError.{CompileError}
 use Rattle.sqlite_resolve.specs.declared.error.CompileError.TheVariants.{NoSuchTable}
 use Rattle.sqlite_resolve.specs.Lowering.{Checked, and_then}
-use Rattle.sqlite_resolve.specs.Compile.{first, compiled, planned, meaning, returning, command, timed, small, with_command}
+use Rattle.sqlite_resolve.specs.Compile.{first, compiled, planned, meaning, returning, command, timed, with_command}
 use Rattle.sqlite_schema.specs.declared.command.Command.{Command}
-use Rattle.sqlite_schema.specs.declared.command.Returning.{Returning}
 use Rattle.sqlite.specs.Command.TheVariants.{Select}
 use Rattle.sqlite.specs.declared.error.Error.{Error}
-use Rattle.sqlite.specs.declared.types.Value.TheVariants.{Int}
 use Rattle.sqlite.specs.Order.{Row}
 use Rattle.sqlite.specs.Schema.{Schema}
 use Rattle.sqlite.specs.Tree.{Trees}
-use Rattle.sqlite.specs.Term.{Term, lit, col}
+use Rattle.sqlite.specs.Term.{Term, col}
 use Rattle.sqlite.specs.Listing.{understood, listing_schema, if_select, is_select, reads_listing}
-use Rattle.sqlite.specs.State.{State, HasCleanDisk, IsUnchanged, KeepsCommit, KeepsCounts, Shows, IsRolledBack, Survives, Shown, ShowsRows, CommitsShowing, FailsToQuery, FailsToShow, IsNotRun}
+use Rattle.sqlite.specs.State.{State, IsUnchanged, KeepsCommit, IsRolledBack, Survives, Shown, CommitsShowing, FailsToQuery, IsNotRun}
 use Rattle.sqlite.proofs.StateLemmas.{survives_weaker}
 use Rattle.sqlite.proofs.Callers.{IsPlain, command_of, reads_as, one_permutation}
 use Rattle.sqlite_tied.specs.Compute.{everything}

@@ -9,3 +9,6 @@ mod tables;
 pub use error::StoreError;
 pub use known::set_up;
 pub use tables::create;
+
+#[cfg(test)]
+mod tests;
