@@ -40,3 +40,7 @@ pub record StandsFor (i : Inventory) (db : Database) : Type 0 where
 -- A database without tables is an empty inventory.
 abbrev pub IsStateOf : Inventory → Database → Type 0
 IsStateOf i db = (IsBlank db × (i ≡ empty_inventory)) ⊎ StandsFor i db
+
+-- A database has one state at most.
+abbrev pub HasOneState : Type 0
+HasOneState = (db : Database) (i j : Inventory) → IsStateOf i db → IsStateOf j db → i ≡ j

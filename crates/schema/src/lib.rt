@@ -4,10 +4,12 @@
 
 mod error;
 mod known;
+mod law;
 mod tables;
 
 pub use error::StoreError;
 pub use known::set_up;
+pub use law::one_state;
 pub use tables::create;
 
 #[cfg(test)]
