@@ -10,7 +10,6 @@ mod tables;
 pub use error::StoreError;
 pub use known::set_up;
 pub use law::one_state;
-pub use tables::create;
 
 #[cfg(test)]
 mod tests;
