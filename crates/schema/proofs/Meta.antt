@@ -10,24 +10,25 @@ use Rattle.sqlite_resolve.specs.declared.compiled.Compiled.{Compiled}
 use Rattle.sqlite_resolve.specs.declared.error.CompileError.{CompileError}
 use Rattle.sqlite_resolve.specs.declared.error.CompileError.TheVariants.{NoSuchTable}
 use Rattle.sqlite_resolve.specs.Lowering.{Checked, and_then}
-use Rattle.sqlite_resolve.specs.Compile.{first, compiled, planned, meaning, returning, command, timed, small, with_command}
+use Rattle.sqlite_resolve.specs.Compile.{first, compiled, planned, meaning, returning, command, timed, with_command}
 use Rattle.sqlite_schema.specs.declared.command.Command.{Command}
-use Rattle.sqlite_schema.specs.declared.command.Returning.{Returning}
 use Rattle.sqlite.specs.Command.TheVariants.{Select}
 use Rattle.sqlite.specs.declared.error.Error.{Error}
-use Rattle.sqlite.specs.declared.types.Value.TheVariants.{Int}
 use Rattle.sqlite.specs.Order.{Row}
 use Rattle.sqlite.specs.Schema.{Schema}
 use Rattle.sqlite.specs.Tree.{Trees}
-use Rattle.sqlite.specs.Term.{Term, lit, col}
+use Rattle.sqlite.specs.Term.{Term, col}
 use Rattle.sqlite.specs.Listing.{understood, listing_schema, if_select, is_select, reads_listing}
-use Rattle.sqlite.specs.State.{State, HasCleanDisk, IsUnchanged, KeepsCommit, KeepsCounts, Shows, IsRolledBack, Survives, Shown, ShowsRows, CommitsShowing, FailsToQuery, FailsToShow, IsNotRun}
+use Rattle.sqlite.specs.State.{State, IsUnchanged, KeepsCommit, IsRolledBack, Survives, Shown, CommitsShowing, FailsToQuery, IsNotRun}
 use Rattle.sqlite.proofs.StateLemmas.{survives_weaker}
 use Rattle.sqlite.proofs.Callers.{IsPlain, command_of, reads_as, one_permutation}
 use Rattle.sqlite_tied.specs.Compute.{everything}
 use Rattle.schema.specs.Tables.{meta, store_schema}
 use Rattle.schema.specs.Known.{select_meta, GivesOther, IsNumber, HasOtherNumber, HasNoState, HasOwnTables}
+use Rattle.sqlite.specs.Effect.{Database}
 use Rattle.schema.specs.Create.{IsBlank}
+use Rattle.schema.specs.Inventory.{Inventory}
+use Rattle.schema.specs.Stands.{IsStateOf}
 use Rattle.schema.specs.Rows.{number_row}
 use Rattle.std.specs.List.{Any}
 use Rattle.rows.specs.Rows.{shown, AreRows}
@@ -191,9 +192,13 @@ is_number rows own found same =
 not_own : (old new : State) (rows : List Row) → Shown select_meta [] old new rows → (old.now.schema ≡ store_schema → ¬ IsNumber rows) → ¬ HasOwnTables old.now
 not_own old new rows h none own = none own.schema (is_number (old.now.trees 0) own.number rows (meta_rows old new rows own.schema h))
 
+no_state_of : (db : Database) → ¬ IsBlank db → ¬ HasOwnTables db → (i : Inventory) → ¬ IsStateOf i db
+no_state_of db tables none i (inl blank) = tables blank.0
+no_state_of db tables none i (inr stands) = none (record { schema = stands.tables.schema_is; number = stands.tables.tables.0 })
+
 pub no_state : (old new : State) (rows : List Row) → Shown select_meta [] old new rows → ¬ IsBlank old.now → (old.now.schema ≡ store_schema → ¬ IsNumber rows) → ¬ Any GivesOther rows → HasNoState old
 no_state old new rows h tables none no_other = record {
-  not_blank = tables;
+  none = no_state_of old.now tables (not_own old new rows h none);
   not_own = not_own old new rows h none;
   rows = rows;
   shown = again old new rows h;

@@ -1,5 +1,5 @@
 -- What the texts mean: each makes its table over those before it.
-use Rattle.std.proofs.Common.{◌≡◌, List, ℕ, [], ◌∷◌, codes, Ok, refl}
+use Rattle.std.proofs.Common.{List, ℕ, [], ◌∷◌, codes, refl}
 use Rattle.schema.specs.Tables.{meta, sysmod, ver, ifreq, hold, elem, zone, entry, zelem}
 use Rattle.schema.proofs.Making.{Makes}
 use Rattle.sqlite.specs.Listing.{understood}

@@ -1,9 +1,9 @@
 -- The forms of what is kept: of a SYSMOD's fields as its statements have them, and of a zone's entries.
-use Rattle.std.specs.Prelude.{◌≡◌, ◌≢◌, ◌≤◌, ◌<◌, ℕ, Bool, true, false, List, [], ◌∷◌, ◌++◌, length, map, reverse, All, AllPairs, Contains, IfSome, OnSome, Option, None, Some, IsSome, IsTrue, ◌&&◌, ◌||◌, ◌==◌, nat_lt, nat_le}
+use Rattle.std.specs.Prelude.{◌≡◌, ◌≢◌, ◌≤◌, ◌<◌, Bool, List, [], ◌∷◌, ◌++◌, length, map, reverse, All, AllPairs, Contains, IfSome, IsSome, IsTrue, ◌&&◌, ◌||◌, ◌==◌, nat_lt, nat_le}
 use Rattle.terms.specs.declared.kinds.Kind.{Kind}
-use Rattle.terms.specs.declared.kinds.Kind.TheVariants.{Function, Ptf, Apar, Usermod}
+use Rattle.terms.specs.declared.kinds.Kind.TheVariants.{Function}
 use Rattle.terms.specs.declared.kinds.ElemType.{ElemType}
-use Rattle.terms.specs.declared.kinds.ElemType.TheVariants.{Mac, Src, Clist, Data, Exec, Parm, Proc}
+use Rattle.terms.specs.declared.kinds.ElemType.TheVariants.{Mac, Src}
 use Rattle.terms.specs.Types.{Text, Id, Lines, type_number, Ver, IfReq, Hold, Action, Replaces, Updates, Change, Sysmod, Entry, Element, Zone}
 use Rattle.terms.specs.Lookups.{is_before, IsRising}
 use Rattle.terms.specs.Forms.{IsRun, IsId, IsClass, IsReason, IsSource, IsSrel, IsName, IsDate, is_digit, number, BeginsDark}

@@ -12,7 +12,8 @@ use Rattle.rows.specs.Rows.{AreRows}
 use Rattle.schema.specs.declared.error.StoreError.{StoreError}
 use Rattle.schema.specs.declared.error.StoreError.TheVariants.{Fault, Memory}
 use Rattle.schema.specs.Tables.{meta, store_schema}
-use Rattle.schema.specs.Create.{IsBlank}
+use Rattle.schema.specs.Inventory.{Inventory}
+use Rattle.schema.specs.Stands.{IsStateOf}
 use Rattle.schema.specs.Rows.{setting_row, number_row}
 
 -- how an error of the database is told
@@ -47,9 +48,9 @@ pub record HasOwnTables (db : Database) : Type 0 where
   pub schema : db.schema ≡ store_schema
   pub number : AreRows meta (number_row ∷ []) (db.trees meta.tree)
 
--- There are tables and they are not the store's, though meta gives `schema` no other number.
+-- There are tables and they are not the store's, though meta gives `schema` no other number. They stand for no state.
 pub record HasNoState (at : State) : Type 0 where
-  pub not_blank : ¬ IsBlank at.now
+  pub none : (i : Inventory) → ¬ IsStateOf i at.now
   pub not_own : ¬ HasOwnTables at.now
   pub rows : List Row
   pub shown : Shown select_meta [] at at rows

@@ -1,5 +1,5 @@
 -- The rows that an inventory is written as.
-use Rattle.std.specs.Prelude.{ℕ, ℤ, Bool, List, [], ◌∷◌, map, Option, codes, pos, if◌then◌else◌}
+use Rattle.std.specs.Prelude.{ℕ, ℤ, Bool, List, [], ◌∷◌, map, codes, pos, if◌then◌else◌}
 use Rattle.std.specs.List.{concat, flat_map, enumerate_from, join_with_byte}
 use Rattle.sqlite.specs.declared.types.Value.{Value}
 use Rattle.sqlite.specs.declared.types.Value.TheVariants as value
@@ -7,7 +7,6 @@ use Rattle.sqlite.specs.Values.{or_null}
 use Rattle.sqlite.specs.Order.{Row}
 use Rattle.terms.specs.Types.{Text, Id, Lines, IfReq, Ver, Hold, Action, Replaces, Updates, Change, Sysmod, Entry, Element, NamedZone}
 use Rattle.terms.specs.Spelling.{kind_text, hold_text, type_text, zone_kind_text}
-use Rattle.schema.specs.Inventory.{Inventory}
 
 -- a list of ids as a text: joined by commas, and the empty text where there is none
 abbrev pub ids : List Id → Value

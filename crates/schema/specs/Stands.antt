@@ -1,5 +1,5 @@
 -- When the rows of a database stand for an inventory.
-use Rattle.std.specs.Prelude.{◌≡◌, ◌⊎◌, ◌==◌, ℕ, List, [], ◌∷◌, map, if◌then◌else◌}
+use Rattle.std.specs.Prelude.{◌≡◌, ◌⊎◌, ◌==◌, List, [], ◌∷◌, map, if◌then◌else◌}
 use Rattle.std.specs.List.{flat_map}
 use Rattle.sqlite.specs.Order.{Row}
 use Rattle.sqlite.specs.Table.{Table}
@@ -40,3 +40,7 @@ pub record StandsFor (i : Inventory) (db : Database) : Type 0 where
 -- A database without tables is an empty inventory.
 abbrev pub IsStateOf : Inventory → Database → Type 0
 IsStateOf i db = (IsBlank db × (i ≡ empty_inventory)) ⊎ StandsFor i db
+
+-- A database has one state at most.
+abbrev pub HasOneState : Type 0
+HasOneState = (db : Database) (i j : Inventory) → IsStateOf i db → IsStateOf j db → i ≡ j

@@ -4,8 +4,12 @@
 
 mod error;
 mod known;
+mod law;
 mod tables;
 
 pub use error::StoreError;
 pub use known::set_up;
-pub use tables::create;
+pub use law::one_state;
+
+#[cfg(test)]
+mod tests;

@@ -87,7 +87,7 @@ fn make_all<S: Alter>(tx: &mut Transaction<'_, S>) -> Result<(), Error>
 }
 
 /// Makes the tables, and writes the number of their schema, in a database that has none.
-pub fn create<S: Alter>(conn: &mut Connection<S>) -> Result<(), Error>
+pub(crate) fn create<S: Alter>(conn: &mut Connection<S>) -> Result<(), Error>
     requires { conn.old.in_transaction ≡ false }
     ensures made { HasCleanDisk (state S.Store conn.new) → OnOk result (IsBlank (state S.Store conn.old).now → StandsFor empty_inventory (state S.Store conn.new).now × Holds StandsFor (state S.Store conn.new) empty_inventory) }
     ensures unchanged { HasCleanDisk (state S.Store conn.new) → IsTrue (state S.Store conn.new).is_open → OnErr result ((state S.Store conn.new).committed ≡ (state S.Store conn.old).committed) }

@@ -1,4 +1,3 @@
-use Rattle.std.proofs.Common.{[], Ok, Err}
 use Rattle.sqlite.specs.Held.{state}
 use Rattle.schema.proofs.Meta.{meta_unchanged, kept_either, meta_commits_nothing}
 use Rattle.schema.proofs.Making.{on_ok_if}

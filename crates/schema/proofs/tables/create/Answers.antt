@@ -1,7 +1,6 @@
-use Rattle.std.proofs.Common.{◌≡◌, [], rules, subst}
+use Rattle.std.proofs.Common.{◌≡◌, rules, subst}
 use Rattle.sqlite.specs.Held.{state}
 use Rattle.sqlite.specs.State.{Survives}
-use Rattle.sqlite.specs.Effect.{Database}
 use Rattle.schema.specs.Create.{IsBlank}
 use Rattle.schema.specs.Inventory.{empty_inventory}
 use Rattle.schema.specs.Stands.{StandsFor}

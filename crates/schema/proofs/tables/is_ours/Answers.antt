@@ -1,4 +1,4 @@
-use Rattle.std.proofs.Common.{◌≡◌, ◌∙◌, refl, sym, subst}
+use Rattle.std.proofs.Common.{◌≡◌, ◌∙◌, sym, subst}
 use Rattle.sqlite.proofs.Callers.{memory_is_clean}
 use Rattle.same_schema.specs.Plain.{IsPlain}
 use Rattle.schema.specs.Tables.{store_schema}

@@ -1,6 +1,5 @@
 use Rattle.std.proofs.Common.{[], ◌∷◌}
-use Rattle.sqlite.specs.Effect.{Database}
-use Rattle.schema.specs.Create.{IsBlank, HasTables}
+use Rattle.schema.specs.Create.{HasTables}
 use Rattle.schema.specs.Tables.{meta, global_tables, all_tables}
 use Rattle.schema.specs.Inventory.{empty_inventory}
 use Rattle.schema.specs.Stands.{StandsFor}
