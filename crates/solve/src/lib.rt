@@ -2,6 +2,7 @@
 #![tactic(auto)]
 
 mod causes;
+mod growth;
 mod rows;
 mod sets;
 mod sweep;
@@ -12,6 +13,7 @@ ghost use Rattle.std.specs.Prelude.{IfOk};
 ghost use Rattle.terms.specs.Problem.{AreKept};
 
 pub use causes::causers;
+pub use growth::{Rule, Rules, least};
 pub use sets::Kept;
 use std::alloc::{AllocError, Global};
 pub use sweep::Sweep;

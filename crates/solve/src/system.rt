@@ -81,13 +81,26 @@ impl System {
         &self.needs
     }
 
+    /// Adds a candidate, the next number, with no need yet.
+    pub fn add_candidate(&mut self, eligible: bool) -> Result<(), AllocError>
+        requires { self.old.size + 1 < 2 ^ 32 }
+        ensures ok { OnOk result (self.new ≡ record {
+          size = self.old.size + 1;
+          eligible = self.old.eligible ++ eligible ∷ [];
+          demands = self.old.demands;
+        }) }
+        ensures err { OnErr result (self.new ≡ self.old) }
+    {
+        self.eligible.push(eligible)?;
+        self.size += 1;
+        Ok(())
+    }
+
     /// Whether a need may be added: it is about candidates, and its list rises.
     pub fn admits(&self, need: &Need) -> bool
         ensures { IsTrue result ↔ IsDemand self.now.size (demand need.now) }
     {
-        need.of < self.size
-            && need.any.iter().all(|y| *y < self.size)
-            && rises(&need.any)
+        need.of < self.size && need.any.iter().all(|y| *y < self.size) && rises(&need.any)
     }
 
     /// Adds a need. `admits` tests what is asked of it.
