@@ -1,4 +1,4 @@
-ghost use Rattle.std.specs.Prelude.{◌≡◌, ◌<◌, ◌^◌, ◌+◌, ◌++◌, ◌∷◌, [], IfOk, OnOk, OnErr, length, map, not};
+ghost use Rattle.std.specs.Prelude.{◌≡◌, ◌<◌, ◌^◌, ◌+◌, ◌++◌, ◌∷◌, [], ◌↔◌, IfOk, OnOk, OnErr, IsTrue, length, map, not};
 ghost use Rattle.terms.specs.Least.{IsRule, IsLeast};
 ghost use Rattle.solve.specs.Rules.{as_rule};
 
@@ -70,7 +70,14 @@ impl Rules {
         self.outside.add_candidate(!starts)
     }
 
-    /// Adds a rule on numbers that are there, with a list that rises.
+    /// Whether a rule may be added: it is about numbers that are there, and its list rises.
+    pub fn admits(&self, these: &[u32], that: u32) -> bool
+        ensures { IsTrue result ↔ IsRule (length self.now.start) (record { these = these.now; that = that }) }
+    {
+        self.outside.admits(that, these)
+    }
+
+    /// Adds a rule. `admits` tests what is asked of it.
     pub fn add_rule(&mut self, rule: Rule) -> Result<(), AllocError>
         requires { IsRule (length self.old.start) (as_rule rule) }
         ensures ok { OnOk result (self.new ≡ record self.old { rules = self.old.rules ++ as_rule rule ∷ [] }) }

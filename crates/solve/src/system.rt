@@ -97,10 +97,10 @@ impl System {
     }
 
     /// Whether a need may be added: it is about candidates, and its list rises.
-    pub fn admits(&self, need: &Need) -> bool
-        ensures { IsTrue result ↔ IsDemand self.now.size (demand need.now) }
+    pub fn admits(&self, of: u32, any: &[u32]) -> bool
+        ensures { IsTrue result ↔ IsDemand self.now.size (record { of = of; any = any.now }) }
     {
-        need.of < self.size && need.any.iter().all(|y| *y < self.size) && rises(&need.any)
+        of < self.size && any.iter().all(|y| *y < self.size) && rises(any)
     }
 
     /// Adds a need. `admits` tests what is asked of it.
