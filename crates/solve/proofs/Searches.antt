@@ -177,7 +177,7 @@ demand_at-read needs demands k n maps below is =
     ap (λ ds. demand_at ds k) (sym maps) ∙ get_or-map demand needs k n (record { of = 0; any = [] }) below ∙ ap demand (sym is)
 
 either : (k j : ℕ) → (Unit {0} × (j ≡ k → ⊥)) ⊎ (j ≡ k)
-either k j = elim (cases_eq j k) [ | inl same ↦ inr same | inr other ↦ inl (tt, other) ]
+either k j = elim (cases_eq j k) [ inl same ↦ inr same | inr other ↦ inl (tt, other) ]
 
 -- a strike that takes the last living member, and one that does not
 pub strike-drop : (p : Problem) (k : ℕ) (rest : List ℕ) (standing standing' : List Bool) (living dropped dropped' : List ℕ) (strikes room : ℕ)
@@ -202,7 +202,7 @@ strike-pass p k rest standing living dropped strikes room below some search =
     (search-strike p k rest (λ j. Unit {0}) standing living dropped strikes room below search)
 
 below-next : (k j : ℕ) → j < k + 1 → (j < k) ⊎ (j ≡ k)
-below-next k j less = elim (cases_eq j k) [ | inl same ↦ inr same | inr other ↦ inl (omega (arith, less, other)) ]
+below-next k j less = elim (cases_eq j k) [ inl same ↦ inr same | inr other ↦ inl (omega (arith, less, other)) ]
 
 -- one more demand of the start
 pub settle-drop : (p : Problem) (standing standing' : List Bool) (living dropped dropped' : List ℕ) (strikes room k : ℕ)
@@ -312,14 +312,14 @@ pub search_strikes : (p : Problem) (standing : List Bool) (living : List ℕ) (s
 search_strikes p standing living strikes room search =
     let left : Demand → ℕ = λ d. count_by (holds standing) d.any in
     let counted : living ≡ map left p.demands = same_lists living (map left p.demands) (search.needs ∙ sym (length-map p.demands left)) (λ k d below.
-        let low : k < length p.demands = omega (arith, search.needs, below) in
-        let here : get_or living k d ≡ get_or living k 0 = get_or_default living k d 0 below in
-        let there : get_or (map left p.demands) k d ≡ left (demand_at p.demands k) = get_or-map left p.demands k (record { of = 0; any = [] }) d low in
-        omega (arith, here, there, search.counts k low, no_weight standing (demand_at p.demands k).any)) in
+    let low : k < length p.demands = omega (arith, search.needs, below) in
+    let here : get_or living k d ≡ get_or living k 0 = get_or_default living k d 0 below in
+    let there : get_or (map left p.demands) k d ≡ left (demand_at p.demands k) = get_or-map left p.demands k (record { of = 0; any = [] }) d low in
+    omega (arith, here, there, search.counts k low, no_weight standing (demand_at p.demands k).any)) in
     let total : sum living ≡ sum_by left p.demands = ap sum counted ∙ sum-map left p.demands in
     let parts : sum_by (eligible_in p) p.demands ≡ strikes_of p standing + sum_by left p.demands =
-        sum_by-split (eligible_in p) (λ d. count_by (λ y. holds p.eligible y && not (holds standing y)) d.any) left p.demands
-        (λ d. count-part (holds p.eligible) (holds standing) d.any search.within) in
+    sum_by-split (eligible_in p) (λ d. count_by (λ y. holds p.eligible y && not (holds standing y)) d.any) left p.demands
+    (λ d. count-part (holds p.eligible) (holds standing) d.any search.within) in
     omega (arith, search.struck, total, parts)
 
 -- there are no more eligible members than pairs
@@ -347,8 +347,8 @@ pub served-more : (seen : List Demand) (d : Demand) (k : ℕ) (old new : List (V
 served-more seen d k old new place added so_far x j =
     let empty : Demand = record { of = 0; any = [] } in
     let part : times j (row_at new x) ≡ times j (row_at old x) + times x d.any * one_if (k == j) =
-        ap (times j) (added x) ∙ sum_by-append (λ y. one_if (y == j)) (row_at old x) (replicate (times x d.any) k)
-        ∙ ap (λ n. times j (row_at old x) + n) (sum_by-replicate (λ y. one_if (y == j)) (times x d.any) k) in
+    ap (times j) (added x) ∙ sum_by-append (λ y. one_if (y == j)) (row_at old x) (replicate (times x d.any) k)
+    ∙ ap (λ n. times j (row_at old x) + n) (sum_by-replicate (λ y. one_if (y == j)) (times x d.any) k) in
     elim (cases_eq j k) [
       | inl same ↦
           let one : one_if (k == j) ≡ 1 = ap one_if (eq-eqb k j (sym same)) in

@@ -49,8 +49,10 @@ spread-start leads y old size below clear =
   where
     length-set_is : (l : List Bool) (i : ℕ) → length (set l i true) ≡ length l
     length-set_is l i = simp length-set
+
     one : (b : Bool) → b ≡ true → 0 + 1 ≡ one_if b
     one b h = ap one_if (sym h)
+
     none : (b : Bool) → b ≡ false → one_if false ≡ one_if b
     none b h = ap one_if (sym h)
 
@@ -64,9 +66,9 @@ spread-more leads y marks new list more next below size marked so_far =
     let within : Contains list z = Contains-get_or list next 0 below in
     let z_marked = listed-marked marks list so_far.listed z within in
     let front : take next more ≡ take next list =
-        sym (take-take next (length list) more (omega arith)) ∙ ap (take next) marked.front in
+    sym (take-take next (length list) more (omega arith)) ∙ ap (take next) marked.front in
     let here : get_or more next 0 ≡ z =
-        sym (get_or-take (length list) more next 0 below) ∙ ap (λ xs. get_or xs next 0) marked.front in
+    sym (get_or-take (length list) more next 0 below) ∙ ap (λ xs. get_or xs next 0) marked.front in
     let long : length list ≤ length more = omega (arith, ap length marked.front, length-take (length list) more) in
     record {
       size = size ∙ so_far.size;
@@ -82,9 +84,9 @@ spread-more leads y marks new list more next below size marked so_far =
             (z ∷ further.0, (lead, further.1))
       ];
       done = All-more (λ w. AllMarked new (row_at leads w)) more next 0 (omega (arith, long))
-        (subst (All (λ w. AllMarked new (row_at leads w))) (sym front)
+          (subst (All (λ w. AllMarked new (row_at leads w))) (sym front)
           (All-weaker (λ w. AllMarked marks (row_at leads w)) (λ w. AllMarked new (row_at leads w)) (λ w all k d in_row. stays _ (all k d in_row)) (take next list) so_far.done))
-        (subst (λ w. AllMarked new (row_at leads w)) (sym here)
+          (subst (λ w. AllMarked new (row_at leads w)) (sym here)
           (λ k d in_row. marked.marks (get_or row k d) ∙ or_true (holds marks (get_or row k d)) (is_in row (get_or row k d)) (is_in-from_Contains row (get_or row k d) (Contains-get_or row k d in_row))));
     }
 
@@ -112,7 +114,8 @@ pub spread_exact : (leads : List (Vec ℕ Global)) (y : ℕ) (marks : List Bool)
     → (p : Problem) (kept : List Bool) → AreLeads p kept leads → (x : ℕ) → Contains list x ↔ Reaches p kept x y
 spread_exact leads y marks list next end spread p kept is x =
     let closed : (z : ℕ) → IsTrue (holds marks z) → AllMarked marks (row_at leads z) = λ z marked.
-        All-contains (λ w. AllMarked marks (row_at leads w)) list z
-        (subst (All (λ w. AllMarked marks (row_at leads w))) (take_all next list end) spread.done) (marked-listed marks list spread.listed z marked) in
-    (λ c. spread.reach p kept is x (listed-marked marks list spread.listed x c),
-      λ led. marked-listed marks list spread.listed x (marked-steps p kept leads marks is closed x led.0 y led.1 spread.start))
+    All-contains (λ w. AllMarked marks (row_at leads w)) list z
+    (subst (All (λ w. AllMarked marks (row_at leads w))) (take_all next list end) spread.done) (marked-listed marks list spread.listed z marked) in (
+      λ c. spread.reach p kept is x (listed-marked marks list spread.listed x c),
+      λ led. marked-listed marks list spread.listed x (marked-steps p kept leads marks is closed x led.0 y led.1 spread.start),
+    )

@@ -26,6 +26,7 @@ count-part whole part xs within = sum_by-split (λ x. one_if (whole x)) (λ x. o
     yes_part true true a h = refl
     yes_part true false a h = cc
     yes_part false b a h = cc
+
     no_part : (w b : Bool) → b ≡ false → one_if w ≡ one_if (w && not b) + one_if b
     no_part true true h = cc
     no_part true false h = refl

@@ -45,7 +45,6 @@ pub is_in-miss : (list : List ℕ) (i x : ℕ) → i < length list → (x ≡ ge
 is_in-miss list i x below other =
     list_any_more (λ y. y == x) list i 0 below ∙ or_false (is_in (take i list) x) (get_or list i 0 == x) (eqb-other (get_or list i 0) x (λ same. other (sym same)))
 
-
 pub times-push_same : (x : ℕ) (list : List ℕ) (y : ℕ) → x ≡ y → times x (list ++ y ∷ []) ≡ times x list + 1
 times-push_same x list y same =
     let weight : Bool → ℕ = λ b. cond b 1 0 in

@@ -4,3 +4,4 @@ pub mod Parts
 pub mod Rows
 pub mod Marks
 pub mod Board
+pub mod Rules

@@ -74,7 +74,12 @@ fn clear(marks: &mut [bool], list: &[u32])
 }
 
 /// The candidates that reach y, each once: a search from y backwards.
-fn reaching(alloc: Global, leads: &[Vec<u32>], y: u32, marks: &mut [bool]) -> Result<Vec<u32>, AllocError>
+fn reaching(
+    alloc: Global,
+    leads: &[Vec<u32>],
+    y: u32,
+    marks: &mut [bool],
+) -> Result<Vec<u32>, AllocError>
     requires y { y < length leads.now }
     requires marks { length marks.old ≡ length leads.now }
     requires clear { AreClear marks.old }

@@ -2,16 +2,20 @@
 #![tactic(auto)]
 
 mod causes;
+mod growth;
 mod rows;
 mod sets;
 mod sweep;
 mod system;
+#[cfg(test)]
+mod tests;
 mod worklist;
 
 ghost use Rattle.std.specs.Prelude.{IfOk};
 ghost use Rattle.terms.specs.Problem.{AreKept};
 
 pub use causes::causers;
+pub use growth::{Rule, Rules, least};
 pub use sets::Kept;
 use std::alloc::{AllocError, Global};
 pub use sweep::Sweep;

@@ -81,13 +81,26 @@ impl System {
         &self.needs
     }
 
-    /// Whether a need may be added: it is about candidates, and its list rises.
-    pub fn admits(&self, need: &Need) -> bool
-        ensures { IsTrue result ↔ IsDemand self.now.size (demand need.now) }
+    /// Adds a candidate, the next number, with no need yet.
+    pub fn add_candidate(&mut self, eligible: bool) -> Result<(), AllocError>
+        requires { self.old.size + 1 < 2 ^ 32 }
+        ensures ok { OnOk result (self.new ≡ record {
+          size = self.old.size + 1;
+          eligible = self.old.eligible ++ eligible ∷ [];
+          demands = self.old.demands;
+        }) }
+        ensures err { OnErr result (self.new ≡ self.old) }
     {
-        need.of < self.size
-            && need.any.iter().all(|y| *y < self.size)
-            && rises(&need.any)
+        self.eligible.push(eligible)?;
+        self.size += 1;
+        Ok(())
+    }
+
+    /// Whether a need may be added: it is about candidates, and its list rises.
+    pub fn admits(&self, of: u32, any: &[u32]) -> bool
+        ensures { IsTrue result ↔ IsDemand self.now.size (record { of = of; any = any.now }) }
+    {
+        of < self.size && any.iter().all(|y| *y < self.size) && rises(any)
     }
 
     /// Adds a need. `admits` tests what is asked of it.

@@ -7,7 +7,7 @@ use Rattle.std.proofs.lemmas.List.Elements.{All-contains, All-map, All-get_or, C
 use Rattle.std.proofs.lemmas.List.Sums.{list_all-from_AllPass, AllPass-from_list_all}
 use Rattle.std.proofs.lemmas.Bool.{cases_Bool, cases_lt, and_parts, and_from, ltb-true, lt-ltb}
 use Rattle.terms.specs.Problem.{Problem, Demand, IsDemand, IsProblem, IsSelfSupporting, AreKept, IsGreatest, holds}
-use Rattle.terms.specs.Least.{Rule, Growth, IsClosed, IsGrown, IsLeast}
+use Rattle.terms.specs.Least.{Rule, Growth, IsClosed, IsGrown, IsLeast, rule_of, growth_of}
 use Rattle.terms.proofs.Greatest.{greatest_from_kept}
 
 -- the least closed set is closed, and part of every closed set
@@ -24,14 +24,6 @@ least_from_closed g flags size closed part = record {
   size = size;
   members = λ x. (λ member set others. part set others x member, λ grown. grown (holds flags) closed);
 }
-
--- a demand read as a rule: the candidate is out where all that serve the demand are out
-abbrev pub rule_of : Demand → Rule
-rule_of d = record { these = d.any; that = d.of }
-
--- what is out by itself is what is not eligible
-abbrev pub growth_of : Problem → Growth
-growth_of p = record { start = map not p.eligible; rules = map rule_of p.demands }
 
 not_true : (b : Bool) → not b ≡ true → b ≡ false
 not_true true contra = cc
@@ -57,6 +49,12 @@ member-not flags x member = elim (cases_lt x (length flags)) [
 
 pub not-member : (flags : List Bool) (x : ℕ) → x < length flags → holds flags x ≡ false → IsTrue (holds (map not flags) x)
 not-member flags x below out = holds-not flags x below ∙ ap not out
+
+-- flags turned round twice
+pub turned_twice : (flags : List Bool) → map not (map not flags) ≡ flags
+turned_twice [] = refl
+turned_twice (true ∷ bs) = ap (λ cs. true ∷ cs) (turned_twice bs)
+turned_twice (false ∷ bs) = ap (λ cs. false ∷ cs) (turned_twice bs)
 
 -- the numbers that are candidates and outside of a set
 abbrev outside : Problem → (ℕ → Bool) → ℕ → Bool

@@ -30,16 +30,16 @@ loop-y-preserved c =
           let reached = rw w.deref-then-is_root.ensures.value at w.in_ok-list.ensures.exact in
           rw (w.rows-is, w.marks-is, whole_rows, whole_marks) (record {
             rows = causers-add p kept rows new list c.loop-y.y (root_iff.0 w.if-is_root.true)
-              (omega (arith, w.add_under.auto.rows, w.deref_mut-then-is_root.ensures.len))
-              w.in_ok-list.ensures.once (reached p kept leads) added c.loop-y.invariant.rows;
+                (omega (arith, w.add_under.auto.rows, w.deref_mut-then-is_root.ensures.len))
+                w.in_ok-list.ensures.once (reached p kept leads) added c.loop-y.invariant.rows;
             size = omega (arith, w.reaching.auto.marks, w.deref_mut.ensures.len, c.loop-y.invariant.size);
             clear = w.in_ok-list.ensures.clear;
           })
       | else-is_root w ↦ rw (w.rows-is, w.marks-is) (record {
-          rows = causers-skip p kept rows c.loop-y.y (λ root. cc (root_iff.1 root, w.if-is_root.false)) c.loop-y.invariant.rows;
-          size = c.loop-y.invariant.size;
-          clear = c.loop-y.invariant.clear;
-        })
+        rows = causers-skip p kept rows c.loop-y.y (λ root. cc (root_iff.1 root, w.if-is_root.false)) c.loop-y.invariant.rows;
+        size = c.loop-y.invariant.size;
+        clear = c.loop-y.invariant.clear;
+      })
     ]
 
 pub returns-clause-exact : goal.returns-clause-exact

@@ -30,20 +30,20 @@ loop-need-preserved c =
           rw (w.leads-is, whole) (record {
             size = omega (arith, w.add_under.auto.rows, w.deref_mut.ensures.len, c.loop-need.invariant.size);
             exact = subst (λ ds. AreLeadsBy p kept ds new) (sym more) (leads-add p kept seen (demand n) rows new
-              (in_size, w.if-not-kept-need.true)
-              (rw w.deref.ensures.value at (w.serves.ensures.none w.if-not-serves.true))
-              (rw (w.deref_mut.ensures.value, w.deref-then-not-serves.ensures.value) at w.in_ok-add_under.ensures)
-              c.loop-need.invariant.exact);
+                (in_size, w.if-not-kept-need.true)
+                (rw w.deref.ensures.value at (w.serves.ensures.none w.if-not-serves.true))
+                (rw (w.deref_mut.ensures.value, w.deref-then-not-serves.ensures.value) at w.in_ok-add_under.ensures)
+                c.loop-need.invariant.exact);
           })
       | else-not-kept-need w ↦ rw w.leads-is (record {
-          size = c.loop-need.invariant.size;
-          exact = subst (λ ds. AreLeadsBy p kept ds rows) (sym more) (leads-skip p kept seen (demand n) rows
+        size = c.loop-need.invariant.size;
+        exact = subst (λ ds. AreLeadsBy p kept ds rows) (sym more) (leads-skip p kept seen (demand n) rows
             (elim w.else-not-kept-need.branch [
               | else-not-kept-need-via-then-not-kept-need+else-not-serves v ↦ λ _ unmet. clash (holds kept) n.any.items (rw v.deref.ensures.value at (v.serves.ensures.some v.if-not-serves.false)) unmet
               | else-not-kept-need-via-else-not-kept-need v ↦ λ failed _. cc (failed.1, v.if-not-kept-need.false)
             ])
             c.loop-need.invariant.exact);
-        })
+      })
     ]
 
 pub returns : goal.returns

@@ -26,9 +26,9 @@ loop-k-preserved c =
     let whole : take c.loop-k.served.len (new ++ drop (length new) old) ≡ new = grind (arith, common_steps) in
     record {
       living = c.in_ok-push.ensures.items ∙ living-more p needs k n c.loop-k.living.items c.count_living.result c.loop-k-test.true c.index-needs-k.is
-        (rw (c.eligible-in-loop-k.ensures.flags, c.deref.ensures.value) at c.count_living.ensures) c.loop-k.invariant.living;
+          (rw (c.eligible-in-loop-k.ensures.flags, c.deref.ensures.value) at c.count_living.ensures) c.loop-k.invariant.living;
       served = rw whole (served-next needs k n old new c.loop-k-test.true c.index-needs-k.is
-        (rw (c.deref_mut.ensures.value, c.deref-in-loop-k.ensures.value) at c.in_ok-add_under.ensures) c.loop-k.invariant.served);
+          (rw (c.deref_mut.ensures.value, c.deref-in-loop-k.ensures.value) at c.in_ok-add_under.ensures) c.loop-k.invariant.served);
       size = ap length whole ∙ (omega (arith, c.add_under.auto.rows, c.deref_mut.ensures.len, c.loop-k.invariant.size));
       turns = omega (arith, c.loop-k.invariant.turns, pairs-more needs k n c.loop-k-test.true c.index-needs-k.is);
     }

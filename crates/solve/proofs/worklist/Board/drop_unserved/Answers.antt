@@ -25,15 +25,15 @@ loop-k-preserved c =
           let drop = subst (λ x. IsDrop x b.standing.items b.dropped.items new.standing.items new.dropped.items) (ap (λ d. d.of) (sym at)) w.drop_candidate.ensures.drop in
           rw (w.self-is) (record {
             board = rw (w.drop_candidate.ensures.living, w.drop_candidate.ensures.count, w.drop_candidate.ensures.room)
-              (settle-drop p b.standing.items new.standing.items b.living.items b.dropped.items new.dropped.items b.count.strikes b.dropped.cap k below small (sym read ∙ w.if-index-eq0.true) drop before);
+                (settle-drop p b.standing.items new.standing.items b.living.items b.dropped.items new.dropped.items b.count.strikes b.dropped.cap k below small (sym read ∙ w.if-index-eq0.true) drop before);
             total = drop.total ∙ c.loop-k.invariant.total;
             strikes = ap (λ count. count.strikes) w.drop_candidate.ensures.count ∙ c.loop-k.invariant.strikes;
             turns = omega (arith, ap (λ count. count.turns) w.drop_candidate.ensures.count, c.loop-k.invariant.turns);
           })
       | else-index-eq0 w ↦ rw (w.self-is) (record {
-            board = settle-pass p b.standing.items b.living.items b.dropped.items b.count.strikes b.dropped.cap k (λ none. w.if-index-eq0.false (read ∙ none)) before;
-            total = c.loop-k.invariant.total;
-            strikes = c.loop-k.invariant.strikes;
-            turns = omega (arith, c.loop-k.invariant.turns);
-          })
+        board = settle-pass p b.standing.items b.living.items b.dropped.items b.count.strikes b.dropped.cap k (λ none. w.if-index-eq0.false (read ∙ none)) before;
+        total = c.loop-k.invariant.total;
+        strikes = c.loop-k.invariant.strikes;
+        turns = omega (arith, c.loop-k.invariant.turns);
+      })
     ]

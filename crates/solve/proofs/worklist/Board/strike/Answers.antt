@@ -29,10 +29,10 @@ returns-then-left-eq0-clause-board c rest before =
     let small : n.of < p.size = rw (← c.index-needs-need.is) at (c.needs.ensures.valid k n in_needs).of in
     rw (c.drop_candidate.ensures.living, c.drop_candidate.ensures.count, c.drop_candidate.ensures.room, read)
     (strike-drop p k rest b.standing.items new.standing.items living b.dropped.items new.dropped.items b.count.strikes b.dropped.cap c.requires.need
-      (subst (λ d. d.of < p.size) (sym at) small)
-      (ap (λ m. m - 1) (sym read) ∙ c.if-left-eq0.true)
-      (subst (λ x. IsDrop x b.standing.items b.dropped.items new.standing.items new.dropped.items) of_is c.drop_candidate.ensures.drop)
-      before)
+    (subst (λ d. d.of < p.size) (sym at) small)
+    (ap (λ m. m - 1) (sym read) ∙ c.if-left-eq0.true)
+    (subst (λ x. IsDrop x b.standing.items b.dropped.items new.standing.items new.dropped.items) of_is c.drop_candidate.ensures.drop)
+    before)
 
 pub returns-else-left-eq0-clause-board : goal.returns-else-left-eq0-clause-board
 returns-else-left-eq0-clause-board c rest before =

@@ -1,0 +1,11 @@
+use Rattle.std.proofs.Common.{◌≡◌, List, Bool, [], ◌∙◌, ap, map}
+use Rattle.std.specs.Prelude.{not}
+use Rattle.terms.specs.Least.{Rule, Growth}
+use Rattle.terms.proofs.Least.{turned_twice}
+use Rattle.solve.proofs.growth.Rules.new.Goals as goal
+
+pub returns : goal.returns
+returns c =
+    let start = c.args.start.now in
+    let grown : List Bool → Growth = λ flags. record { start = flags; rules = [] } in
+    rw (c.new.ensures, c.in_ok-eligible.ensures) (ap grown (turned_twice start))
