@@ -25,4 +25,4 @@ ends test text =
     ]
 
 pub cut_prefix : (test : ℕ → Bool) (text : List ℕ) → IsCut test text (take (prefix_len test text) text) (drop (prefix_len test text) text)
-cut_prefix test text = record { text_is = sym (take-append-drop (prefix_len test text) text); passes = passes test text; ends = ends test text; }
+cut_prefix test text = record { text_is = sym (take-append-drop (prefix_len test text) text); passes = passes test text; ends = ends test text }

@@ -81,16 +81,16 @@ lookup {D} least (stays {o = o} {os = os} {gs = gs} {ms = ms} above d m) h k n =
     elim (cases_eq (number_of o) n) [
       | inl e ↦ subst (λ i. line_at (o ∷ ms) i ≡ pick (line_at gs i) (D i) (line_at (o ∷ os) i)) e
           (line_at-head o ms ∙ sym (
-            ap (λ x. pick x (D (number_of o)) (line_at (o ∷ os) (number_of o))) (line_at-below (number_of o + 1) gs (number_of o) above (omega arith))
-            ∙ ap (λ b. pick None b (line_at (o ∷ os) (number_of o))) d ∙ line_at-head o os))
+          ap (λ x. pick x (D (number_of o)) (line_at (o ∷ os) (number_of o))) (line_at-below (number_of o + 1) gs (number_of o) above (omega arith))
+          ∙ ap (λ b. pick None b (line_at (o ∷ os) (number_of o))) d ∙ line_at-head o os))
       | inr ne ↦ line_at-tail o ms n ne ∙ lookup (number_of o + 1) m h.1 above n ∙ ap (λ x. pick (line_at gs n) (D n) x) (sym (line_at-tail o os n ne))
     ]
 lookup {D} least (goes {o = o} {os = os} {gs = gs} {ms = ms} above d m) h k n =
     elim (cases_eq (number_of o) n) [
       | inl e ↦ subst (λ i. line_at ms i ≡ pick (line_at gs i) (D i) (line_at (o ∷ os) i)) e
           (line_at-below (number_of o + 1) ms (number_of o) (rising (number_of o + 1) m h.1 above) (omega arith) ∙ sym (
-            ap (λ x. pick x (D (number_of o)) (line_at (o ∷ os) (number_of o))) (line_at-below (number_of o + 1) gs (number_of o) above (omega arith))
-            ∙ ap (λ b. pick None b (line_at (o ∷ os) (number_of o))) d))
+          ap (λ x. pick x (D (number_of o)) (line_at (o ∷ os) (number_of o))) (line_at-below (number_of o + 1) gs (number_of o) above (omega arith))
+          ∙ ap (λ b. pick None b (line_at (o ∷ os) (number_of o))) d))
       | inr ne ↦ lookup (number_of o + 1) m h.1 above n ∙ ap (λ x. pick (line_at gs n) (D n) x) (sym (line_at-tail o os n ne))
     ]
 
@@ -103,13 +103,13 @@ merge_numbered ranges old givens new m h k = record {
 pub merge_from : (ranges : List Range) (old update givens new : Lines) → Merges (covers ranges) old givens new → IsNumbered old → IsNumbered givens → givens ≡ given update → AreRangesOf update ranges → IsMerge old update new
 merge_from ranges old update givens new m h k g r =
     let at : (n : ℕ) → line_at new n ≡ pick (line_at (given update) n) (covers ranges n) (line_at old n) = λ n.
-        lookup 0 m (Rises-numbered old h) (Rises-numbered givens k) n ∙ ap (λ l. pick (line_at l n) (covers ranges n) (line_at old n)) g in
+    lookup 0 m (Rises-numbered old h) (Rises-numbered givens k) n ∙ ap (λ l. pick (line_at l n) (covers ranges n) (line_at old n)) g in
     record {
       numbered = merge_numbered ranges old givens new m h k;
       touched = λ n t. at n ∙ elim t [
-          | inl gives ↦ pick-given (line_at (given update) n) (covers ranges n) (line_at old n) gives
-          | inr deletes ↦ pick-deleted (line_at (given update) n) (covers ranges n) (line_at old n) ((r n).1 deletes)
-        ];
+        | inl gives ↦ pick-given (line_at (given update) n) (covers ranges n) (line_at old n) gives
+        | inr deletes ↦ pick-deleted (line_at (given update) n) (covers ranges n) (line_at old n) ((r n).1 deletes)
+      ];
       others = λ n none. at n ∙ pick-old (line_at (given update) n) (covers ranges n) (line_at old n) (λ gives. none (inl gives))
           (false_from_ne_true (covers ranges n) (λ e. none (inr ((r n).0 e))));
     }

@@ -22,7 +22,7 @@ pub record IsRead (seen : Lines) (least : ℕ) : Type 0 where
 
 pub read_none : IsRead [] 0
 read_none = record {
-  numbered = record { numbers = All-nil _; rising = λ k below. absurd (omega (arith, below)); };
+  numbered = record { numbers = All-nil _; rising = λ k below. absurd (omega (arith, below)) };
   below = All-nil _;
   reached = λ n low. absurd (omega (arith, low));
 }

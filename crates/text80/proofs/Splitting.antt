@@ -29,11 +29,11 @@ any_append P xs ys a =
     (a.0, a.1, omega (arith, len, below), get_or_append_left xs ys a.1 a.0 below ∙ a.3, a.4)
 
 any_push_cases : {X : Type 0} (P : X → Type 0) (xs : List X) (y : X) → Any P (xs ++ y ∷ []) → Any P xs ⊎ P y
-any_push_cases P [] y a = elim (any_cases P y [] a) [ | inl here ↦ inr here | inr none ↦ absurd (any_none P none) ]
+any_push_cases P [] y a = elim (any_cases P y [] a) [ inl here ↦ inr here | inr none ↦ absurd (any_none P none) ]
 any_push_cases P (x ∷ xs) y a =
     elim (any_cases P x (xs ++ y ∷ []) a) [
       | inl here ↦ inl (any_here P x xs here)
-      | inr rest ↦ elim (any_push_cases P xs y rest) [ | inl later ↦ inl (any_later P x xs later) | inr last ↦ inr last ]
+      | inr rest ↦ elim (any_push_cases P xs y rest) [ inl later ↦ inl (any_later P x xs later) | inr last ↦ inr last ]
     ]
 
 abbrev Hits : ℕ → List ℕ → Type 0
@@ -59,16 +59,15 @@ split_none = record {
 
 ranges_push : (seen : Lines) (line : List ℕ) (ranges : List Range) (r : Range) → IsDelete r.low r.high line → AreRangesOf seen ranges → AreRangesOf (seen ++ line ∷ []) (ranges ++ r ∷ [])
 ranges_push seen line ranges r d h n =
-    let parts = list_any-append (holds_number n) ranges (r ∷ []) in
-    (
+    let parts = list_any-append (holds_number n) ranges (r ∷ []) in (
       λ e. elim (or_cases (covers ranges n) (list_any (holds_number n) (r ∷ [])) (sym parts ∙ e)) [
         | inl before ↦ any_append (Hits n) seen (line ∷ []) ((h n).0 before)
         | inr here ↦ elim (or_cases (holds_number n r) false here) [
-            | inl holds ↦
-                let p = and_parts (nat_le r.low n) (nat_le n r.high) holds in
-                Any-push (Hits n) seen line (r.low, r.high, d, leb-true r.low n p.0, leb-true n r.high p.1)
-            | inr none ↦ absurd (cc none)
-          ]
+          | inl holds ↦
+              let p = and_parts (nat_le r.low n) (nat_le n r.high) holds in
+              Any-push (Hits n) seen line (r.low, r.high, d, leb-true r.low n p.0, leb-true n r.high p.1)
+          | inr none ↦ absurd (cc none)
+        ]
       ],
       λ a. parts ∙ elim (any_push_cases (Hits n) seen line a) [
         | inl before ↦ or_left (covers ranges n) (list_any (holds_number n) (r ∷ [])) ((h n).1 before)
@@ -78,7 +77,7 @@ ranges_push seen line ranges r d h n =
             let to = hit.4 in
             or_right (covers ranges n) (list_any (holds_number n) (r ∷ []))
             (or_left (holds_number n r) false
-              (and_from (nat_le r.low n) (nat_le n r.high) (le-leb r.low n (omega (arith, same.0, from))) (le-leb n r.high (omega (arith, same.1, to)))))
+            (and_from (nat_le r.low n) (nat_le n r.high) (le-leb r.low n (omega (arith, same.0, from))) (le-leb n r.high (omega (arith, same.1, to)))))
       ],
     )
 
@@ -118,7 +117,7 @@ split_given_at lines givens new ranges least i n line below at h no' numbered is
     rw (take_more lines i line below, ← at, e) (split_given (take i lines) givens ranges least n line h no' numbered is from)
 
 pub follow : (lines givens : Lines) (ranges : List Range) (least : ℕ) → IsSplit lines givens ranges least → FollowChange lines
-follow lines givens ranges least h = record { controls = h.controls; numbered = subst IsNumbered h.given_is h.read.numbered; }
+follow lines givens ranges least h = record { controls = h.controls; numbered = subst IsNumbered h.given_is h.read.numbered }
 
 -- all records are split, and the ranges sorted
 pub parts_from : (lines givens : Lines) (ranges sorted : List Range) (least i : ℕ) → IsSplit (take i lines) givens ranges least → length lines ≤ i → IsPermutation ranges sorted → IsNonDecreasingBy (λ r. r.low) sorted → AreParts lines givens sorted

@@ -19,10 +19,10 @@ use Rattle.text80.proofs.Merges.{Merges, ends, below, same, stays, goes}
 -- ranges
 
 pub swept_none : (all : List Range) → IsNonDecreasingBy (λ r. r.low) all → IsSwept all 0 all 0
-swept_none all h = record { rising = h; covered = λ n _. ap (λ b. b || covers all n) (sym (le-ltb n 0 (omega arith))); }
+swept_none all h = record { rising = h; covered = λ n _. ap (λ b. b || covers all n) (sym (le-ltb n 0 (omega arith))) }
 
 pub swept_later : (all : List Range) (from later : ℕ) (left : List Range) (reach : ℕ) → from ≤ later → IsSwept all from left reach → IsSwept all later left reach
-swept_later all from later left reach h s = record { rising = s.rising; covered = λ n above. s.covered n (omega (arith, h, above)); }
+swept_later all from later left reach h s = record { rising = s.rising; covered = λ n above. s.covered n (omega (arith, h, above)) }
 
 joins : (b c d : Bool) → (b || (c || d)) ≡ ((b || c) || d)
 joins true c d = refl
@@ -33,9 +33,9 @@ reaches n reach high =
     elim (cases_lt n reach) [
       | inl in' ↦ ap (λ b. b || nat_le n high) (lt-ltb n reach in') ∙ sym (lt-ltb n (max reach (high + 1)) (omega (arith, in')))
       | inr out ↦ ap (λ b. b || nat_le n high) (le-ltb n reach out) ∙ elim (cases_lt high n) [
-          | inl past ↦ lt-leb n high past ∙ sym (le-ltb n (max reach (high + 1)) (omega (arith, past, out)))
-          | inr within ↦ le-leb n high within ∙ sym (lt-ltb n (max reach (high + 1)) (omega (arith, within)))
-        ]
+        | inl past ↦ lt-leb n high past ∙ sym (le-ltb n (max reach (high + 1)) (omega (arith, past, out)))
+        | inr within ↦ le-leb n high within ∙ sym (lt-ltb n (max reach (high + 1)) (omega (arith, within)))
+      ]
     ]
 
 swept_step : (all : List Range) (from : ℕ) (r : Range) (rs : List Range) (reach : ℕ) → r.low ≤ from → IsSwept all from (r ∷ rs) reach → IsSwept all from rs (max reach (r.high + 1))
@@ -57,8 +57,8 @@ none_covers : (n : ℕ) (left : List Range) → IsNonDecreasingBy (λ r. r.low) 
 none_covers n [] h above = refl
 none_covers n (r ∷ rs) h above =
     list_any_none (λ (q : Range). nat_le q.low n && nat_le n q.high) (r ∷ rs) (λ k d inside.
-      let later : r.low ≤ (get_or (r ∷ rs) k d).low = h 0 k d (omega arith) inside in
-      and_left (nat_le (get_or (r ∷ rs) k d).low n) (nat_le n (get_or (r ∷ rs) k d).high) (lt-leb (get_or (r ∷ rs) k d).low n (omega (arith, later, above))))
+    let later : r.low ≤ (get_or (r ∷ rs) k d).low = h 0 k d (omega arith) inside in
+    and_left (nat_le (get_or (r ∷ rs) k d).low n) (nat_le n (get_or (r ∷ rs) k d).high) (lt-leb (get_or (r ∷ rs) k d).low n (omega (arith, later, above))))
 
 no_more : (b : Bool) → (b || false) ≡ b
 no_more true = refl
@@ -197,8 +197,8 @@ kept_at all old givens rest merged left reach i n o inside at e s front back mor
     let covered = covered_by_reach all n left' reach' swept above ∙ le-ltb n reach' past in
     subst (λ l. IsMerging all old givens (drop (i + 1) old) l ((merged ++ front) ++ o ∷ []) left' reach') (sym nowhere.lines_are)
     (merging_kept all old givens (drop (i + 1) old) rest merged o left reach (merging_start all old givens rest merged left reach i o inside at s) front back left' reach'
-      (subst (λ m. IsSplitBelow m rest front back) e cut) (subst (λ m. IfSome (slice_get back 0) (λ g. number_of g ≡ m → ⊥)) e nowhere.other)
-      (subst (λ m. IsSwept all m left' reach') e swept) (ap (covers all) (sym e) ∙ covered))
+    (subst (λ m. IsSplitBelow m rest front back) e cut) (subst (λ m. IfSome (slice_get back 0) (λ g. number_of g ≡ m → ⊥)) e nowhere.other)
+    (subst (λ m. IsSwept all m left' reach') e swept) (ap (covers all) (sym e) ∙ covered))
 
 pub gone_at : (all : List Range) (old givens rest merged : Lines) (left : List Range) (reach i n : ℕ) (o : List ℕ) → i < length old → o ≡ get_or old i o → n ≡ number_of o → IsMerging all old givens (drop i old) rest merged left reach →
     (front back more : Lines) (left' : List Range) (reach' : ℕ) → IsSplitBelow n rest front back → StandsNowhere n back more → IsSwept all n left' reach' → IfSome (slice_get left' 0) (λ r. n < r.low) → n < reach' →
@@ -207,8 +207,8 @@ gone_at all old givens rest merged left reach i n o inside at e s front back mor
     let covered = covered_by_reach all n left' reach' swept above ∙ lt-ltb n reach' short in
     subst (λ l. IsMerging all old givens (drop (i + 1) old) l (merged ++ front) left' reach') (sym nowhere.lines_are)
     (merging_gone all old givens (drop (i + 1) old) rest merged o left reach (merging_start all old givens rest merged left reach i o inside at s) front back left' reach'
-      (subst (λ m. IsSplitBelow m rest front back) e cut) (subst (λ m. IfSome (slice_get back 0) (λ g. number_of g ≡ m → ⊥)) e nowhere.other)
-      (subst (λ m. IsSwept all m left' reach') e swept) (ap (covers all) (sym e) ∙ covered))
+    (subst (λ m. IsSplitBelow m rest front back) e cut) (subst (λ m. IfSome (slice_get back 0) (λ g. number_of g ≡ m → ⊥)) e nowhere.other)
+    (subst (λ m. IsSwept all m left' reach') e swept) (ap (covers all) (sym e) ∙ covered))
 
 -- all old records are merged
 pub merged_all : (all : List Range) (old givens rest merged : Lines) (left : List Range) (reach i : ℕ) → length old ≤ i → IsMerging all old givens (drop i old) rest merged left reach → Merges (covers all) old givens (merged ++ rest)

@@ -50,7 +50,11 @@ fn control(line: &Line) -> Option<(&[u8], &[u8])>
     let (gap2, text) = split_blanks(text);
     let (operand, text) = split_solid(text);
     let (_, end) = split_blanks(text);
-    if gap.is_empty() || word.is_empty() || gap2.is_empty() || operand.is_empty() || !end.is_empty()
+    if gap.is_empty()
+        || word.is_empty()
+        || gap2.is_empty()
+        || operand.is_empty()
+        || !end.is_empty()
     {
         return None;
     }

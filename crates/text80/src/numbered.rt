@@ -3,7 +3,7 @@ ghost use Rattle.terms.specs.Texts.{IsNumbered, IsNumberedLine, IsNumberedFault,
 ghost use Rattle.text80.specs.Rising.{IsNumberFault};
 
 use crate::line::Line;
-use std::alloc::Global;
+use std::alloc::{AllocError, Global};
 use std::marker::Model;
 use terms::{TextCode, TextFault};
 
@@ -43,7 +43,10 @@ impl Numbered {
         for (i, line) in lines.iter().enumerate() {
             match rising_number(line, least, TextCode::Tx2) {
                 Ok(number) => least = number + 1,
-                Err(code) => return Err(TextFault { number: i + 1, code }),
+                Err(code) => return Err(TextFault {
+                    number: i + 1,
+                    code,
+                }),
             }
         }
         Ok(Numbered { lines })
@@ -55,6 +58,15 @@ impl Numbered {
         ensures numbered { IsNumbered self.now }
     {
         &self.lines
+    }
+}
+
+impl Clone for Numbered {
+    ghost is_clone = { λ text copy. copy ≡ text };
+
+    fn clone(&self) -> Result<Numbered, AllocError> {
+        let lines = self.lines.clone()?;
+        Ok(Numbered { lines })
     }
 }
 

@@ -8,7 +8,7 @@ use crate::control::{Range, changed, deleted};
 use crate::error::TextError;
 use crate::line::Line;
 use crate::numbered::{Numbered, rising_number};
-use std::alloc::Global;
+use std::alloc::{AllocError, Global};
 use std::marker::Model;
 use terms::{TextCode, TextFault};
 
@@ -67,6 +67,21 @@ impl Update {
         ensures ranges { AreRangesOf self.now result.now }
     {
         &self.ranges
+    }
+}
+
+impl Clone for Update {
+    ghost is_clone = { λ update copy. copy ≡ update };
+
+    fn clone(&self) -> Result<Update, AllocError> {
+        let records = self.records.clone()?;
+        let given = self.given.clone()?;
+        let ranges = self.ranges.clone()?;
+        Ok(Update {
+            records,
+            given,
+            ranges,
+        })
     }
 }
 

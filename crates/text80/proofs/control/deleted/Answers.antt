@@ -16,5 +16,5 @@ pub returns-clause-none : goal.returns-clause-none
 returns-clause-none c =
     none_then c.range_in.result ((low high : ℕ) → ¬ IsRange c.in_ok-word.operand.now low high) (¬ IsSomeDelete c.args.line.now)
     c.range_in.ensures.none (λ none h.
-      let same = same_control _ _ _ _ c.args.line.now c.in_ok-word.ensures.some h.2.1 in
-      none h.0 h.1 (subst (λ o. IsRange o h.0 h.1) (sym same.1) h.2.2))
+    let same = same_control _ _ _ _ c.args.line.now c.in_ok-word.ensures.some h.2.1 in
+    none h.0 h.1 (subst (λ o. IsRange o h.0 h.1) (sym same.1) h.2.2))

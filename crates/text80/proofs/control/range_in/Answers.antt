@@ -7,13 +7,13 @@ use Rattle.text80.proofs.control.range_in.Goals as goal
 pub returns-in_err-to-clause-none : goal.returns-in_err-to-clause-none
 returns-in_err-to-clause-none c =
     rw c.from_residual-in_err-to.ensures (λ low high r.
-      c.in_err-to.ensures.none r.to (c.split_at.ensures.back ∙ (range_parts c.args.operand.now c.in_ok-text.text.now low high r c.in_ok-text.ensures.some).1))
+    c.in_err-to.ensures.none r.to (c.split_at.ensures.back ∙ (range_parts c.args.operand.now c.in_ok-text.text.now low high r c.in_ok-text.ensures.some).1))
 
 pub returns-in_err-high-clause-none : goal.returns-in_err-high-clause-none
 returns-in_err-high-clause-none c =
     rw c.from_residual-in_err-high.ensures (λ low high r.
-      let to = range_end c.args.operand.now c.in_ok-text.text.now c.split_at.result.1.now c.in_ok-to.to.now low high r c.in_ok-text.ensures.some c.split_at.ensures.back c.in_ok-to.ensures.some in
-      c.in_err-high.ensures.none (subst IsNumber (sym to) r.numbers.1))
+    let to = range_end c.args.operand.now c.in_ok-text.text.now c.split_at.result.1.now c.in_ok-to.to.now low high r c.in_ok-text.ensures.some c.split_at.ensures.back c.in_ok-to.ensures.some in
+    c.in_err-high.ensures.none (subst IsNumber (sym to) r.numbers.1))
 
 pub returns-then-low-high-clause-none : goal.returns-then-low-high-clause-none
 returns-then-low-high-clause-none c low high r =
