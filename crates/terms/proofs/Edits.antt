@@ -53,6 +53,12 @@ pub find-first : {X : Type 0} (p : X → Bool) (xs ys : List X) → find p ys �
 find-first p [] ys e = e
 find-first p (x ∷ xs) ys e = ap (λ found. cond (p x) (Some x) found) (find-first p xs ys e)
 
+-- Some edits are done: `new` has the items that no later edit is about, and `rest` those that one may be about.
+pub record IsEditing {X K : Type 0} (R : K → K → Ordering) (key : X → K) (items : List X) (edits : List (Edit X K)) (done : ℕ) (new rest : List X) : Type 0 where
+  pub kept : edited R key items (take done edits) ≡ new ++ rest
+  pub rises : Rises R key rest
+  pub low : All (λ x. All (λ e. R (key x) (edit_key key e) ≡ Less) (drop done edits)) new
+
 module _ {X K : Type 0} {R : K → K → Ordering} (o : IsTotalOrder R) (key : X → K) where
   -- what stands before a key and behind it, cut by the key
   pub Splits-cut : (k : K) (xs : List X) → Splits R key k (before R key k xs) (behind R key k xs)
@@ -135,19 +141,13 @@ module _ {X K : Type 0} {R : K → K → Ordering} (o : IsTotalOrder R) (key : X
   put-low (Put x) fs up = All-cons (λ x. All (λ f. R (key x) (edit_key key f) ≡ Less) fs) x [] up (λ i d h. absurd (omega arith))
   put-low (Remove k) fs up = λ i d h. absurd (omega arith)
 
-  -- Some edits are done: `new` has the items that no later edit is about, and `rest` those that one may be about.
-  pub record IsEditing (items : List X) (edits : List (Edit X K)) (done : ℕ) (new rest : List X) : Type 0 where
-    pub kept : edited R key items (take done edits) ≡ new ++ rest
-    pub rises : Rises R key rest
-    pub low : All (λ x. All (λ e. R (key x) (edit_key key e) ≡ Less) (drop done edits)) new
-
-  pub editing-starts : (items : List X) (edits : List (Edit X K)) → Rises R key items → IsEditing items edits 0 [] items
+  pub editing-starts : (items : List X) (edits : List (Edit X K)) → Rises R key items → IsEditing R key items edits 0 [] items
   editing-starts items edits rises = record { kept = refl; rises = rises; low = λ i d h. absurd (omega arith) }
 
-  pub editing-ends : (items : List X) (edits : List (Edit X K)) (done : ℕ) (new rest : List X) → length edits ≤ done → IsEditing items edits done new rest → new ++ rest ≡ edited R key items edits
+  pub editing-ends : (items : List X) (edits : List (Edit X K)) (done : ℕ) (new rest : List X) → length edits ≤ done → IsEditing R key items edits done new rest → new ++ rest ≡ edited R key items edits
   editing-ends items edits done new rest all s = sym s.kept ∙ ap (edited R key items) (take_all done edits all)
 
-  pub editing-goes_on : (items : List X) (edits : List (Edit X K)) (done : ℕ) (new rest : List X) (e : Edit X K) → Rises R (edit_key key) edits → done < length edits → e ≡ get_or edits done e → IsEditing items edits done new rest → IsEditing items edits (done + 1) ((new ++ before R key (edit_key key e) rest) ++ option_to_list (edit_put e)) (behind R key (edit_key key e) rest)
+  pub editing-goes_on : (items : List X) (edits : List (Edit X K)) (done : ℕ) (new rest : List X) (e : Edit X K) → Rises R (edit_key key) edits → done < length edits → e ≡ get_or edits done e → IsEditing R key items edits done new rest → IsEditing R key items edits (done + 1) ((new ++ before R key (edit_key key e) rest) ++ option_to_list (edit_put e)) (behind R key (edit_key key e) rest)
   editing-goes_on items edits done new rest e rises below is s =
       let parts : drop done edits ≡ e ∷ drop (done + 1) edits = rw add-one (rw (← is) at (drop-cons edits done e below)) in
       let now : All (λ x. R (key x) (edit_key key e) ≡ Less) new =
@@ -262,3 +262,15 @@ with_item-agree R S same key xs x =
 pub find-agree : {X : Type 0} (p q : X → Bool) → ((x : X) → p x ≡ q x) → (xs : List X) → find p xs ≡ find q xs
 find-agree p q same [] = refl
 find-agree p q same (x ∷ xs) = ap (λ b. cond b (Some x) (find p xs)) (same x) ∙ ap (λ found. cond (q x) (Some x) found) (find-agree p q same xs)
+
+pub without_key-agree : {X K : Type 0} (R S : K → K → Ordering) → ((a b : K) → R a b ≡ S a b) → (key : X → K) (xs : List X) (k : K) → without_key R key xs k ≡ without_key S key xs k
+without_key-agree R S same key xs k =
+    ap (λ ys. ys ++ behind R key k xs) (filter_agree (λ y. is_lt (R (key y) k)) (λ y. is_lt (S (key y) k)) (λ y. ap is_lt (same (key y) k)) xs)
+    ∙ ap (λ ys. before S key k xs ++ ys) (filter_agree (λ y. is_lt (R k (key y))) (λ y. is_lt (S k (key y))) (λ y. ap is_lt (same k (key y))) xs)
+
+pub edited-agree : {X K : Type 0} (R S : K → K → Ordering) → ((a b : K) → R a b ≡ S a b) → (key : X → K) (edits : List (Edit X K)) (xs : List X) → edited R key xs edits ≡ edited S key xs edits
+edited-agree R S same key [] xs = refl
+edited-agree R S same key (Put x ∷ edits) xs =
+    edited-agree R S same key edits (with_item R key xs x) ∙ ap (λ ys. edited S key ys edits) (with_item-agree R S same key xs x)
+edited-agree R S same key (Remove k ∷ edits) xs =
+    edited-agree R S same key edits (without_key R key xs k) ∙ ap (λ ys. edited S key ys edits) (without_key-agree R S same key xs k)

@@ -5,5 +5,5 @@ pub mod TextKeys
 pub mod Texts
 pub mod Controls
 pub mod Updates
-pub mod TypeOrder
+pub mod ElementOrder
 pub mod Edits

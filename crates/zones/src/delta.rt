@@ -86,7 +86,8 @@ impl ZoneDelta {
             }) }
         ensures err { OnErr result (self.new ≡ self.old) }
     {
-        self.entries.put(Edit::Put(entry))
+        self.entries.put(Edit::Put(entry))?;
+        Ok(())
     }
 
     pub fn remove_entry(&mut self, id: Id) -> Result<(), AllocError>
@@ -96,7 +97,8 @@ impl ZoneDelta {
             }) }
         ensures err { OnErr result (self.new ≡ self.old) }
     {
-        self.entries.put(Edit::Remove(id))
+        self.entries.put(Edit::Remove(id))?;
+        Ok(())
     }
 
     /// Puts an element in place of the one of its type and name.
@@ -107,7 +109,8 @@ impl ZoneDelta {
             }) }
         ensures err { OnErr result (self.new ≡ self.old) }
     {
-        self.elements.put(Edit::Put(element))
+        self.elements.put(Edit::Put(element))?;
+        Ok(())
     }
 
     pub fn remove_element(&mut self, elem_type: ElemType, name: Name) -> Result<(), AllocError>
@@ -117,6 +120,7 @@ impl ZoneDelta {
             }) }
         ensures err { OnErr result (self.new ≡ self.old) }
     {
-        self.elements.put(Edit::Remove((elem_type, name)))
+        self.elements.put(Edit::Remove((elem_type, name)))?;
+        Ok(())
     }
 }

@@ -129,12 +129,14 @@ impl Zone {
         ensures { IfOk result (IsChanged delta.now self.now) }
     {
         delta.known();
-        Ok(Zone {
+        let zone = Zone {
             kind: self.kind,
             srel: self.srel,
             related: self.related,
             entries: self.entries.edited(alloc, delta.entry_edits())?,
             elements: self.elements.edited(alloc, delta.element_edits())?,
-        })
+        };
+        zone.known();
+        Ok(zone)
     }
 }
