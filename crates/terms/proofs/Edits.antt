@@ -1,16 +1,18 @@
 -- Edits of a list that rises by a key: what is found afterwards, and what stays true of the items.
-use Rattle.std.proofs.Common.{◌≡◌, ◌<◌, ℕ, suc, Bool, true, false, List, [], ◌∷◌, ◌++◌, length, get_or, take, drop, refl, sym, ap, ◌∙◌, cond, arith, append_assoc, inl, inr}
+use Rattle.std.proofs.Common.{◌≡◌, ◌<◌, ℕ, suc, Bool, true, false, List, [], ◌∷◌, ◌++◌, length, get_or, take, drop, refl, sym, ap, ◌∙◌, cond, arith, append_assoc, inl, inr, ◌+◌, ◌≤◌, add-one, length-drop}
 use Rattle.std.specs.Prelude.{All, filter, find, fold, Option, Some, None, IfSome}
-use Rattle.std.specs.Option.{option_map_or}
+use Rattle.std.specs.Option.{option_map_or, option_to_list}
 use Rattle.std.specs.declared.cmp.Ordering.{Ordering}
 use Rattle.std.specs.declared.cmp.Ordering.TheVariants.{Less, Equal, Greater}
 use Rattle.std.specs.Ordering.{is_lt, is_eq, ordering_reverse}
 use Rattle.std.specs.Cmp.{IsTotalOrder}
 use Rattle.std.proofs.lemmas.Cmp.{alike_right, tied_back}
 use Rattle.std.proofs.lemmas.Bool.{false≢true}
-use Rattle.std.proofs.lemmas.List.Elements.{All-head, All-tail, All-cons, All-append, All-filter, filter_passes, filter-append}
+use Rattle.std.proofs.lemmas.List.Elements.{All-head, All-tail, All-cons, All-append, All-filter, filter_passes, filter-append, filter_agree}
 use Rattle.std.proofs.lemmas.List.Kept.{AllPairs-filter, AllPairs-cons}
-use Rattle.std.proofs.lemmas.List.{append-nil}
+use Rattle.std.proofs.lemmas.List.{append-nil, take_all, get_or-drop, get_or_default}
+use Rattle.std.proofs.lemmas.List.Sums.{fold_more}
+use Rattle.std.proofs.Math.Seq.{drop-cons}
 use Rattle.terms.specs.declared.kinds.Edit.{Edit}
 use Rattle.terms.specs.declared.kinds.Edit.TheVariants.{Put, Remove}
 use Rattle.terms.specs.Rising.{Rises, before, behind, with_item, without_key, Splits}
@@ -50,6 +52,12 @@ find-second p (x ∷ xs) ys e = by_found (find-second p xs ys) (p x) refl
 pub find-first : {X : Type 0} (p : X → Bool) (xs ys : List X) → find p ys ≡ None → find p (xs ++ ys) ≡ find p xs
 find-first p [] ys e = e
 find-first p (x ∷ xs) ys e = ap (λ found. cond (p x) (Some x) found) (find-first p xs ys e)
+
+-- Some edits are done: `new` has the items that no later edit is about, and `rest` those that one may be about.
+pub record IsEditing {X K : Type 0} (R : K → K → Ordering) (key : X → K) (items : List X) (edits : List (Edit X K)) (done : ℕ) (new rest : List X) : Type 0 where
+  pub kept : edited R key items (take done edits) ≡ new ++ rest
+  pub rises : Rises R key rest
+  pub low : All (λ x. All (λ e. R (key x) (edit_key key e) ≡ Less) (drop done edits)) new
 
 module _ {X K : Type 0} {R : K → K → Ordering} (o : IsTotalOrder R) (key : X → K) where
   -- what stands before a key and behind it, cut by the key
@@ -119,12 +127,7 @@ module _ {X K : Type 0} {R : K → K → Ordering} (o : IsTotalOrder R) (key : X
       let p : X → Bool = λ x. is_lt (R k (key x)) in
       filter-append p front rest ∙ ap (λ ys. ys ++ filter p rest) (filter-none p front (λ i d h. rw (o.antisymm k (key (get_or front i d)), low i d h) refl))
 
-  -- the items between those before an edit's key and those behind it
-  abbrev pub put_list : Edit X K → List X
-  put_list (Put x) = x ∷ []
-  put_list (Remove k) = []
-
-  pub after_edit-below : (front rest : List X) (e : Edit X K) → All (λ x. R (key x) (edit_key key e) ≡ Less) front → after_edit R key (front ++ rest) e ≡ (front ++ before R key (edit_key key e) rest) ++ put_list e ++ behind R key (edit_key key e) rest
+  pub after_edit-below : (front rest : List X) (e : Edit X K) → All (λ x. R (key x) (edit_key key e) ≡ Less) front → after_edit R key (front ++ rest) e ≡ (front ++ before R key (edit_key key e) rest) ++ option_to_list (edit_put e) ++ behind R key (edit_key key e) rest
   after_edit-below front rest (Put x) low =
       ap (λ ys. (ys ++ x ∷ []) ++ behind R key (key x) (front ++ rest)) (before-below (key x) front rest low)
       ∙ ap (λ ys. ((front ++ before R key (key x) rest) ++ x ∷ []) ++ ys) (behind-below (key x) front rest low)
@@ -132,6 +135,46 @@ module _ {X K : Type 0} {R : K → K → Ordering} (o : IsTotalOrder R) (key : X
       ap (λ ys. ys ++ behind R key k (front ++ rest)) (before-below k front rest low)
       ∙ ap (λ ys. (front ++ before R key k rest) ++ ys) (behind-below k front rest low)
       ∙ ap (λ ys. ys ++ behind R key k rest) (sym (append-nil (front ++ before R key k rest)))
+
+  -- what an edit puts stands before the keys that its own stands before
+  put-low : (e : Edit X K) (fs : List (Edit X K)) → All (λ f. R (edit_key key e) (edit_key key f) ≡ Less) fs → All (λ x. All (λ f. R (key x) (edit_key key f) ≡ Less) fs) (option_to_list (edit_put e))
+  put-low (Put x) fs up = All-cons (λ x. All (λ f. R (key x) (edit_key key f) ≡ Less) fs) x [] up (λ i d h. absurd (omega arith))
+  put-low (Remove k) fs up = λ i d h. absurd (omega arith)
+
+  pub editing-starts : (items : List X) (edits : List (Edit X K)) → Rises R key items → IsEditing R key items edits 0 [] items
+  editing-starts items edits rises = record { kept = refl; rises = rises; low = λ i d h. absurd (omega arith) }
+
+  pub editing-ends : (items : List X) (edits : List (Edit X K)) (done : ℕ) (new rest : List X) → length edits ≤ done → IsEditing R key items edits done new rest → new ++ rest ≡ edited R key items edits
+  editing-ends items edits done new rest all s = sym s.kept ∙ ap (edited R key items) (take_all done edits all)
+
+  pub editing-goes_on : (items : List X) (edits : List (Edit X K)) (done : ℕ) (new rest : List X) (e : Edit X K) → Rises R (edit_key key) edits → done < length edits → e ≡ get_or edits done e → IsEditing R key items edits done new rest → IsEditing R key items edits (done + 1) ((new ++ before R key (edit_key key e) rest) ++ option_to_list (edit_put e)) (behind R key (edit_key key e) rest)
+  editing-goes_on items edits done new rest e rises below is s =
+      let parts : drop done edits ≡ e ∷ drop (done + 1) edits = rw add-one (rw (← is) at (drop-cons edits done e below)) in
+      let now : All (λ x. R (key x) (edit_key key e) ≡ Less) new =
+          λ i d h. All-head (λ f. R (key (get_or new i d)) (edit_key key f) ≡ Less) e (drop (done + 1) edits) (rw parts at (s.low i d h)) in
+      let later : All (λ x. All (λ f. R (key x) (edit_key key f) ≡ Less) (drop (done + 1) edits)) new =
+          λ i d h. All-tail (λ f. R (key (get_or new i d)) (edit_key key f) ≡ Less) e (drop (done + 1) edits) (rw parts at (s.low i d h)) in
+      let up : All (λ f. R (edit_key key e) (edit_key key f) ≡ Less) (drop (done + 1) edits) =
+          λ i d h.
+              let here : get_or edits done d ≡ e = get_or_default edits done d e below ∙ sym is in
+              let there = get_or-drop (done + 1) edits i d in
+              let step = Less-from_is_lt (R (edit_key key (get_or edits done d)) (edit_key key (get_or edits (done + 1 + i) d))) (rises done (done + 1 + i) d (omega arith) (omega (arith, length-drop (done + 1) edits))) in
+              ap (λ f. R (edit_key key f) (edit_key key (get_or (drop (done + 1) edits) i d))) (sym here)
+              ∙ ap (λ f. R (edit_key key (get_or edits done d)) (edit_key key f)) there ∙ step in
+      let k = edit_key key e in
+      let cut = Splits-cut k rest in
+      let between : All (λ x. All (λ f. R (key x) (edit_key key f) ≡ Less) (drop (done + 1) edits)) (before R key k rest) =
+          λ i d h. λ j f below. o.trans (key (get_or (before R key k rest) i d)) k (edit_key key (get_or (drop (done + 1) edits) j f)) (cut.low i d h) (up j f below) in
+      let P : X → Type 0 = λ x. All (λ f. R (key x) (edit_key key f) ≡ Less) (drop (done + 1) edits) in
+      record {
+        kept =
+            fold_more (after_edit R key) items edits done e below
+            ∙ ap (λ ys. after_edit R key ys (get_or edits done e)) s.kept
+            ∙ ap (λ f. after_edit R key (new ++ rest) f) (sym is)
+            ∙ after_edit-below new rest e now;
+        rises = AllPairs-filter (λ a b. is_lt (R (key a) (key b)) ≡ true) (λ x. is_lt (R k (key x))) rest s.rises;
+        low = All-append P (new ++ before R key k rest) (option_to_list (edit_put e)) (All-append P new (before R key k rest) later between) (put-low e (drop (done + 1) edits) up);
+      }
 
   -- At an edit's key stands afterwards what it puts there, and at other keys what stood there.
   module _ (E : K → K → Bool) (ties : (a b : K) → E a b ≡ is_eq (R a b)) where
@@ -204,3 +247,30 @@ module _ {X K : Type 0} {R : K → K → Ordering} (o : IsTotalOrder R) (key : X
         by_test rest false t =
             rest ∙ ap (λ found. option_map_or edit_put (find (λ d. E (edit_key key d) k) edits) found) (find-after_edit xs e k ∙ ap (λ b. cond b (edit_put e) (find (λ y. E (key y) k) xs)) t)
             ∙ ap (λ b. option_map_or edit_put (cond b (Some e) (find (λ d. E (edit_key key d) k) edits)) (find (λ y. E (key y) k) xs)) (sym t)
+
+-- a fact of all items and of one more
+pub All-with_item : {X K : Type 0} (R : K → K → Ordering) (key : X → K) (P : X → Type 0) (xs : List X) (x : X) → All P xs → P x → All P (with_item R key xs x)
+All-with_item R key P xs x all one =
+    All-append P (before R key (key x) xs ++ x ∷ []) (behind R key (key x) xs) (All-append P (before R key (key x) xs) (x ∷ []) (All-filter (λ y. is_lt (R (key y) (key x))) P xs all) (All-cons P x [] one (λ i d h. absurd (omega arith)))) (All-filter (λ y. is_lt (R (key x) (key y))) P xs all)
+
+-- orders and tests that answer alike
+pub with_item-agree : {X K : Type 0} (R S : K → K → Ordering) → ((a b : K) → R a b ≡ S a b) → (key : X → K) (xs : List X) (x : X) → with_item R key xs x ≡ with_item S key xs x
+with_item-agree R S same key xs x =
+    ap (λ ys. (ys ++ x ∷ []) ++ behind R key (key x) xs) (filter_agree (λ y. is_lt (R (key y) (key x))) (λ y. is_lt (S (key y) (key x))) (λ y. ap is_lt (same (key y) (key x))) xs)
+    ∙ ap (λ ys. (before S key (key x) xs ++ x ∷ []) ++ ys) (filter_agree (λ y. is_lt (R (key x) (key y))) (λ y. is_lt (S (key x) (key y))) (λ y. ap is_lt (same (key x) (key y))) xs)
+
+pub find-agree : {X : Type 0} (p q : X → Bool) → ((x : X) → p x ≡ q x) → (xs : List X) → find p xs ≡ find q xs
+find-agree p q same [] = refl
+find-agree p q same (x ∷ xs) = ap (λ b. cond b (Some x) (find p xs)) (same x) ∙ ap (λ found. cond (q x) (Some x) found) (find-agree p q same xs)
+
+pub without_key-agree : {X K : Type 0} (R S : K → K → Ordering) → ((a b : K) → R a b ≡ S a b) → (key : X → K) (xs : List X) (k : K) → without_key R key xs k ≡ without_key S key xs k
+without_key-agree R S same key xs k =
+    ap (λ ys. ys ++ behind R key k xs) (filter_agree (λ y. is_lt (R (key y) k)) (λ y. is_lt (S (key y) k)) (λ y. ap is_lt (same (key y) k)) xs)
+    ∙ ap (λ ys. before S key k xs ++ ys) (filter_agree (λ y. is_lt (R k (key y))) (λ y. is_lt (S k (key y))) (λ y. ap is_lt (same k (key y))) xs)
+
+pub edited-agree : {X K : Type 0} (R S : K → K → Ordering) → ((a b : K) → R a b ≡ S a b) → (key : X → K) (edits : List (Edit X K)) (xs : List X) → edited R key xs edits ≡ edited S key xs edits
+edited-agree R S same key [] xs = refl
+edited-agree R S same key (Put x ∷ edits) xs =
+    edited-agree R S same key edits (with_item R key xs x) ∙ ap (λ ys. edited S key ys edits) (with_item-agree R S same key xs x)
+edited-agree R S same key (Remove k ∷ edits) xs =
+    edited-agree R S same key edits (without_key R key xs k) ∙ ap (λ ys. edited S key ys edits) (without_key-agree R S same key xs k)

@@ -23,4 +23,5 @@ pub mod Pieces
 pub mod Lengths
 pub mod Solids
 pub mod TypeOrder
+pub mod ElementOrder
 pub mod Edits

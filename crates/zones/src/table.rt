@@ -2,9 +2,12 @@
 ghost use Rattle.std.specs.Prelude.{◌≡◌, ◌<◌, ◌≤◌, ◌↔◌, ◌++◌, [], ◌∷◌, length, take, drop, IsTrue, All, IfOk, IfErr, OnOk, OnErr, find, option_copied, if◌then◌else◌};
 ghost use Rattle.std.specs.Ordering.{is_lt};
 ghost use Rattle.terms.specs.Rising.{Rises, with_item, Splits, Stands};
+ghost use Rattle.terms.specs.Delta.{edited};
 
+use crate::edits::{copy_all, edited};
 use std::alloc::{AllocError, Global};
 use std::marker::Model;
+use terms::Edit;
 
 /// What stands under a key, and can be copied.
 pub trait Keyed: Drop {
@@ -61,6 +64,23 @@ impl<T: Keyed> Table<T> {
         }
     }
 
+    pub fn try_clone(&self, alloc: Global) -> Result<Self, AllocError>
+        ensures { IfOk result (λ copy. copy ≡ self.now) }
+    {
+        let mut items = Vec::new(alloc);
+        copy_all(alloc, &mut items, self.items.as_slice())?;
+        Ok(Table { items })
+    }
+
+    /// The table after these edits. It goes over the items once.
+    pub fn edited(&self, alloc: Global, edits: &Table<Edit<T, T::Key>>) -> Result<Self, AllocError>
+        ensures { IfOk result (λ new. new ≡ edited T.Key.cmp T.key_of self.now edits.now) }
+    {
+        Ok(Table {
+            items: edited(alloc, self.items.as_slice(), edits.as_slice())?,
+        })
+    }
+
     /// The item comes in at its place, where it takes the place of one of its key.
     pub fn put(&mut self, item: T) -> Result<(), AllocError>
         ensures ok { OnOk result (self.new ≡ with_item T.Key.cmp T.key_of self.old item) }
@@ -82,7 +102,7 @@ impl<T: Keyed> Table<T> {
     pub fn push_last(&mut self, item: T) -> Result<bool, AllocError>
         ensures fits { IfOk result
             (λ fits. IsTrue fits
-                ↔ All (λ x. IsTrue (is_lt (T.Key.cmp (T.key_of x) (T.key_of item)))) self.old) }
+            ↔ All (λ x. IsTrue (is_lt (T.Key.cmp (T.key_of x) (T.key_of item)))) self.old) }
         ensures ok { IfOk result
             (λ fits. self.new ≡ (if fits then self.old ++ item ∷ [] else self.old)) }
         ensures err { OnErr result (self.new ≡ self.old) }
@@ -96,13 +116,13 @@ impl<T: Keyed> Table<T> {
 }
 
 // Where the key is, or where it would come in.
-fn place<T: Keyed>(items: &[T], key: T::Key) -> Result<usize, usize>
+pub(crate) fn place<T: Keyed>(items: &[T], key: T::Key) -> Result<usize, usize>
     requires { Rises T.Key.cmp T.key_of items.now }
     ensures found { IfOk result
         (λ i. (i < length items.now) × ((x : T) × Stands T.Key.cmp T.key_of key items.now i x)) }
     ensures missing { IfErr result
         (λ i. (i ≤ length items.now)
-            × Splits T.Key.cmp T.key_of key (take i items.now) (drop i items.now)) }
+        × Splits T.Key.cmp T.key_of key (take i items.now) (drop i items.now)) }
 {
     items.binary_search_by_key(&key, |item| item.key())
 }

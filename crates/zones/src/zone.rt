@@ -1,12 +1,14 @@
 //! A zone: a map from ids to entries, and one from types and names to elements.
-ghost use Rattle.std.specs.Prelude.{◌≡◌, ◌==◌, ◌↔◌, [], All, IsTrue, IsSome, IfSome, is_some, option_copied};
+ghost use Rattle.std.specs.Prelude.{◌≡◌, ◌==◌, ◌↔◌, [], All, IsTrue, IsSome, IfSome, IfOk, is_some, option_copied};
+ghost use Rattle.terms.specs.Delta.{IsChanged};
 ghost use Rattle.terms.specs.Types.{zone_number, Zone as AZone};
 ghost use Rattle.terms.specs.Lookups.{IsZone, entry_of, element_of, is_applied, is_supplied, is_held, waives_applied};
 
+use crate::delta::ZoneDelta;
 use crate::entries::{Element, Entry};
 use crate::table::Table;
 use fields::{Id, Name, Srel, ZoneName};
-use std::alloc::Global;
+use std::alloc::{AllocError, Global};
 use std::marker::Model;
 use terms::{ElemType, ZoneKind};
 
@@ -69,16 +71,22 @@ impl Zone {
         self.related
     }
 
+    /// What holds of each zone. The call does nothing.
+    pub fn known(&self)
+        ensures { IsZone self.now }
+    {
+        let _ = self.entries.as_slice();
+        let _ = self.elements.as_slice();
+    }
+
     pub fn entries(&self) -> &[Entry]
-        ensures entries { result.now ≡ self.now.entries }
-        ensures form { IsZone self.now }
+        ensures { result.now ≡ self.now.entries }
     {
         self.entries.as_slice()
     }
 
     pub fn elements(&self) -> &[Element]
-        ensures elements { result.now ≡ self.now.elements }
-        ensures form { IsZone self.now }
+        ensures { result.now ≡ self.now.elements }
     {
         self.elements.as_slice()
     }
@@ -114,5 +122,21 @@ impl Zone {
             Some(entry) => entry.applied.is_some() || !entry.supby.is_empty(),
             None => false,
         }
+    }
+
+    /// The zone with what the delta puts and without what it removes. It goes over both once.
+    pub fn changed(&self, alloc: Global, delta: &ZoneDelta) -> Result<Zone, AllocError>
+        ensures { IfOk result (IsChanged delta.now self.now) }
+    {
+        delta.known();
+        let zone = Zone {
+            kind: self.kind,
+            srel: self.srel,
+            related: self.related,
+            entries: self.entries.edited(alloc, delta.entry_edits())?,
+            elements: self.elements.edited(alloc, delta.element_edits())?,
+        };
+        zone.known();
+        Ok(zone)
     }
 }

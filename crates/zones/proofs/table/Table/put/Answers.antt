@@ -2,7 +2,7 @@ use Rattle.std.proofs.Common.{◌∙◌, sym}
 use Rattle.terms.proofs.RisingLists.{with_item-set, Rises-set, with_item-parted, Rises-parted}
 use Rattle.zones.proofs.table.Table.put.Goals as goal
 
-pub invariant_of-self : goal.invariant_of-self-in-Ok
+pub invariant_of-self : goal.invariant_of-self
 invariant_of-self g c =
     let found = rw (c.as_slice.ensures.value, c.key.ensures) at c.in-Ok.ensures.found in
     Rises-set g.met.T.Key.Ord.total g.T.Keyed.key_of c.self.inside.items.items c.in-Ok.place found.1.0 c.args.item c.self.invariant found.0 found.1.1

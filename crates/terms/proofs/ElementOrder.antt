@@ -1,11 +1,19 @@
--- The order of the types of elements is that of their numbers.
-use Rattle.std.proofs.Common.{◌≡◌, ◌==◌, Bool, refl}
-use Rattle.std.specs.Ordering.{nat_cmp}
+-- The order of elements, by type and name, and the derived order of types, which is that of their numbers.
+use Rattle.std.proofs.Common.{◌≡◌, ◌==◌, ◌&&◌, ◌∙◌, sym, ap, Bool, refl}
+use Rattle.std.specs.declared.cmp.Ordering.{Ordering}
+use Rattle.std.specs.declared.cmp.Ordering.TheVariants.{Less, Equal, Greater}
+use Rattle.std.specs.Ordering.{nat_cmp, ordering_then, is_eq}
+use Rattle.std.specs.Cmp.{IsTotalOrder, unsigned_ties}
+use Rattle.std.specs.Cmp.Lexicographic.{slice_cmp, texts_ties}
+use Rattle.std.specs.Str.{bytes_eq}
+use Rattle.std.proofs.lemmas.Cmp.{then_total, on_total, nat_cmp_total, nat_list_cmp_total}
 use Rattle.terms.specs.declared.kinds.ElemType.{ElemType}
 use Rattle.terms.specs.declared.kinds.ElemType.TheVariants.{Mac, Src, Clist, Data, Exec, Parm, Proc}
 use Rattle.terms.specs.contracts.kinds.ElemTypeOrd.TheImpl as type_order
 use Rattle.terms.specs.contracts.kinds.ElemTypePartialEq.TheImpl as type_equality
-use Rattle.terms.specs.Types.{type_number}
+use Rattle.terms.specs.Types.{Text, type_number}
+use Rattle.terms.specs.Lookups.{element_cmp}
+use Rattle.terms.specs.Delta.{element_eq}
 
 -- what `cmp` of two types answers
 pub cmp-types : (a b : ElemType) → type_order.ghosts.cmp a b ≡ nat_cmp (type_number a) (type_number b)
@@ -110,3 +118,21 @@ eq-types Proc Data = refl
 eq-types Proc Exec = refl
 eq-types Proc Parm = refl
 eq-types Proc Proc = refl
+
+-- the derived order of types and names
+pub cmp-keys : (a b : ElemType × Text) → ordering_then (type_order.ghosts.cmp a.0 b.0) (slice_cmp nat_cmp a.1 b.1) ≡ element_cmp a b
+cmp-keys a b = ap (λ r. ordering_then r (slice_cmp nat_cmp a.1 b.1)) (cmp-types a.0 b.0)
+
+pub element_cmp_total : IsTotalOrder element_cmp
+element_cmp_total = then_total (on_total (λ (k : ElemType × Text). type_number k.0) nat_cmp_total) (on_total (λ (k : ElemType × Text). k.1) nat_list_cmp_total)
+
+is_eq-then : (r s : Ordering) → is_eq (ordering_then r s) ≡ (is_eq r && is_eq s)
+is_eq-then Less s = refl
+is_eq-then Equal s = refl
+is_eq-then Greater s = refl
+
+pub element_ties : (a b : ElemType × Text) → element_eq a b ≡ is_eq (element_cmp a b)
+element_ties a b =
+    ap (λ t. t && bytes_eq a.1 b.1) (unsigned_ties (type_number a.0) (type_number b.0))
+    ∙ ap (λ t. is_eq (nat_cmp (type_number a.0) (type_number b.0)) && t) (texts_ties a.1 b.1)
+    ∙ sym (is_eq-then (nat_cmp (type_number a.0) (type_number b.0)) (slice_cmp nat_cmp a.1 b.1))

@@ -1,0 +1,15 @@
+use Rattle.std.proofs.Common.{◌∙◌, ap, List}
+use Rattle.terms.specs.declared.kinds.ElemType.{ElemType}
+use Rattle.terms.specs.declared.kinds.Edit.{Edit}
+use Rattle.terms.specs.declared.kinds.Edit.TheVariants.{Put, Remove}
+use Rattle.terms.specs.Types.{Text, Element}
+use Rattle.terms.specs.Lookups.{element_cmp, element_key}
+use Rattle.terms.specs.Delta.{ZoneDelta, edit_key}
+use Rattle.terms.proofs.Edits.{with_item-agree}
+use Rattle.terms.proofs.ElementOrder.{cmp-keys}
+use Rattle.zones.proofs.delta.ZoneDelta.put_element.Goals as goal
+
+pub returns-clause-ok : goal.returns-clause-ok
+returns-clause-ok c =
+    let with_elements : List (Edit Element (ElemType × Text)) → ZoneDelta = λ es. record { entries = c.self.inside.entries; elements = es } in
+    rw (← c.self.view_is) (ap with_elements (c.in_ok-put.ensures.ok ∙ with_item-agree _ element_cmp cmp-keys (edit_key element_key) c.self.inside.elements (Put c.args.element)))

@@ -1,0 +1,126 @@
+//! How a command changes a zone.
+ghost use Rattle.std.specs.Prelude.{◌≡◌, [], IsTrue, OnOk, OnErr};
+ghost use Rattle.std.specs.Ordering.{nat_cmp};
+ghost use Rattle.std.specs.Cmp.Lexicographic.{slice_cmp};
+ghost use Rattle.terms.specs.declared.kinds.Edit.TheVariants.{Put, Remove};
+ghost use Rattle.terms.specs.Lookups.{element_cmp, element_key, is_held, waives_applied};
+ghost use Rattle.terms.specs.Rising.{with_item};
+ghost use Rattle.terms.specs.Delta.{IsDelta, edit_key};
+
+use crate::entries::{Element, Entry};
+use crate::table::Table;
+use fields::{Id, Name};
+use std::alloc::{AllocError, Global};
+use std::marker::Model;
+use terms::{Edit, ElemType};
+
+/// Entries and elements that are put and removed, one edit at a key.
+#[derive(Drop)]
+pub struct ZoneDelta {
+    entries: Table<Edit<Entry, Id>>,
+    elements: Table<Edit<Element, (ElemType, Name)>>,
+}
+
+impl Model for ZoneDelta {
+    ghost use Rattle.std.specs.Prelude.{All, IfSome, IsTrue};
+    ghost use Rattle.terms.specs.Delta.{ZoneDelta as AZoneDelta, edit_put};
+    ghost use Rattle.terms.specs.Lookups.{is_held, waives_applied};
+
+    ghost Value = { AZoneDelta };
+
+    ghost view = { λ d. record { entries = d.entries; elements = d.elements } };
+
+    ghost invariant = { λ d. All (λ e. IfSome (edit_put e) (λ x. IsTrue (is_held x))) d.entries × All (λ e. IfSome (edit_put e) (λ x. IsTrue (waives_applied x))) d.entries };
+}
+
+impl ZoneDelta {
+    pub fn new(alloc: Global) -> Self
+        ensures entries { result.entries ≡ [] }
+        ensures elements { result.elements ≡ [] }
+    {
+        ZoneDelta {
+            entries: Table::new(alloc),
+            elements: Table::new(alloc),
+        }
+    }
+
+    /// What holds of each delta. The call does nothing.
+    pub fn known(&self)
+        ensures { IsDelta self.now }
+    {
+        let _ = self.entries.as_slice();
+        let _ = self.elements.as_slice();
+    }
+
+    pub fn entries(&self) -> &[Edit<Entry, Id>]
+        ensures { result.now ≡ self.now.entries }
+    {
+        self.entries.as_slice()
+    }
+
+    pub fn elements(&self) -> &[Edit<Element, (ElemType, Name)>]
+        ensures { result.now ≡ self.now.elements }
+    {
+        self.elements.as_slice()
+    }
+
+    pub(crate) fn entry_edits(&self) -> &Table<Edit<Entry, Id>>
+        ensures { result.now ≡ self.now.entries }
+    {
+        &self.entries
+    }
+
+    pub(crate) fn element_edits(&self) -> &Table<Edit<Element, (ElemType, Name)>>
+        ensures { result.now ≡ self.now.elements }
+    {
+        &self.elements
+    }
+
+    /// Puts an entry in place of the one of its id. At ids that rise it takes the least time.
+    pub fn put_entry(&mut self, entry: Entry) -> Result<(), AllocError>
+        requires held { IsTrue (is_held entry) }
+        requires waived { IsTrue (waives_applied entry) }
+        ensures ok { OnOk result
+            (self.new ≡ record self.old {
+              entries = with_item (slice_cmp nat_cmp) (edit_key (λ e. e.id)) self.old.entries (Put entry);
+            }) }
+        ensures err { OnErr result (self.new ≡ self.old) }
+    {
+        self.entries.put(Edit::Put(entry))?;
+        Ok(())
+    }
+
+    pub fn remove_entry(&mut self, id: Id) -> Result<(), AllocError>
+        ensures ok { OnOk result
+            (self.new ≡ record self.old {
+              entries = with_item (slice_cmp nat_cmp) (edit_key (λ e. e.id)) self.old.entries (Remove id);
+            }) }
+        ensures err { OnErr result (self.new ≡ self.old) }
+    {
+        self.entries.put(Edit::Remove(id))?;
+        Ok(())
+    }
+
+    /// Puts an element in place of the one of its type and name.
+    pub fn put_element(&mut self, element: Element) -> Result<(), AllocError>
+        ensures ok { OnOk result
+            (self.new ≡ record self.old {
+              elements = with_item element_cmp (edit_key element_key) self.old.elements (Put element);
+            }) }
+        ensures err { OnErr result (self.new ≡ self.old) }
+    {
+        self.elements.put(Edit::Put(element))?;
+        Ok(())
+    }
+
+    pub fn remove_element(&mut self, elem_type: ElemType, name: Name) -> Result<(), AllocError>
+        ensures ok { OnOk result
+            (self.new ≡ record self.old {
+              elements = with_item element_cmp (edit_key element_key) self.old.elements (Remove (elem_type, name));
+            }) }
+        ensures err { OnErr result (self.new ≡ self.old) }
+    {
+        self.elements.put(Edit::Remove((elem_type, name)))?;
+        Ok(())
+    }
+}
