@@ -1,5 +1,5 @@
 -- A text that is a SELECT commits nothing, whatever the schema is under which it runs.
-use Rattle.std.proofs.Common.{◌≡◌, ◌⊎◌, inl, inr, ℕ, List, [], ◌∷◌, Bool, true, false, Option, Some, None, Ok, Err, Result, IsTrue, IfOk, IfErr, Vec, if◌then◌else◌, refl, ◌∙◌}
+use Rattle.std.proofs.Common.{◌≡◌, inl, inr, ℕ, List, Bool, true, false, None, Ok, Err, Result, IsTrue, IfOk, IfErr, Vec, if◌then◌else◌, refl}
 use Rattle.std.proofs.lemmas.Bool.{cases_Bool}
 use Rattle.std.specs.declared.alloc.Global.{Global}
 use Rattle.sqlite_ast.specs.declared.Statement.{Statement}
