@@ -1,7 +1,6 @@
 -- The rows of a database stand for one inventory at most.
-use Rattle.std.proofs.Common.{◌≡◌, ◌≢◌, ◌⊎◌, inl, inr, ℕ, ◌+◌, ◌<◌, Bool, ◌&&◌, ◌||◌, ◌==◌, nat_lt, List, [], ◌∷◌, map, pos, Option, Some, None, IsTrue, All, AllPairs, IsPermutation, arith, refl, sym, ap, ap₂, subst, ◌∙◌}
-use Rattle.std.specs.List.{AllByRecursion, flat_map, enumerate_from}
-use Rattle.std.specs.Str.{bytes_eq}
+use Rattle.std.proofs.Common.{◌≡◌, inl, inr, ℕ, List, [], map, IsTrue, AllPairs, arith, sym, ap, ap₂, subst, ◌∙◌}
+use Rattle.std.specs.List.{flat_map, enumerate_from}
 use Rattle.std.proofs.lemmas.Bool.{or_cases, and_parts}
 use Rattle.std.proofs.lemmas.Slice.Eq.{bytes_eq-Decides}
 use Rattle.std.proofs.lemmas.List.Sorted.{IsPermutation-sym}
@@ -20,16 +19,14 @@ use Rattle.terms.specs.Types.{Text, Id, Lines, hold_number, type_number, IfReq, 
 use Rattle.terms.specs.Lookups.{is_before, is_element_before}
 use Rattle.terms.specs.Global.{is_kind_before, is_hold_before}
 use Rattle.terms.specs.Forms.{IsId}
-use Rattle.schema.specs.Forms.{AreListed, AreRecords, IsTextOf, HasIfForms, HasVerForms, HasActionForms, HasChangeForms, is_change_before, HasSysmodForms, HasHoldForms, HasEntryForms, HasElementForms}
+use Rattle.schema.specs.Forms.{AreListed, AreRecords, IsTextOf, HasIfForms, HasVerForms, HasActionForms, HasChangeForms, is_change_before, HasSysmodForms, HasEntryForms, HasElementForms}
 use Rattle.schema.specs.Inventory.{Inventory, IsInventory, IsZoneNamed}
-use Rattle.schema.specs.Rows.{sysmod_row, ver_row, vers_of, ifreq_row, ifreqs_of, hold_row, action_cells, elem_row, elems_of, zone_row, entry_row, entries_of, zelem_row, zelems_of, ids, records, flag}
+use Rattle.schema.specs.Rows.{sysmod_row, ver_row, vers_of, ifreq_row, ifreqs_of, hold_row, action_cells, elem_row, elems_of, zone_row, entry_row, entries_of, zelem_row, zelems_of, ids}
 use Rattle.schema.specs.Tables.{all_tables}
 use Rattle.schema.specs.Create.{IsBlank}
 use Rattle.schema.specs.Stands.{StandsFor, HasOneState}
 use Rattle.schema.proofs.Lists.{same_sorted, one_place, has_all, ascending, ascending_by, flat_has, flat_had, IsLower, numbers_rise, values}
 use Rattle.schema.proofs.Spelled.{kind_same, hold_same, type_same, zone_same, or_null_same, flag_same, ids_are_words, sources_are_words, ids_same, text_same, before_once, not_before_same, pair_once}
-use Rattle.sqlite.specs.Values.{or_null}
-use Rattle.sqlite.specs.declared.types.Value.TheVariants as value
 
 -- ---- what one row says
 
@@ -292,8 +289,8 @@ module _ (i j : Inventory) (p : IsInventory i) (q : IsInventory j) (to : IsWithi
       let it = ver_in i j p q to s t hs ht same v hv in
       let w = it.0 in
       let listed : enumerate_from 1 v.ifs ≡ enumerate_from 1 w.ifs =
-          same_sorted IsLower (λ a b low high. absurd (omega arith)) _ _ (numbers_rise 1 v.ifs) (numbers_rise 1 w.ifs)
-          (if_in i j p q to s t hs ht same v w hv it.1 it.2.srel) (if_in j i q p from t s ht hs (sym same) w v it.1 hv (sym it.2.srel)) in
+      same_sorted IsLower (λ a b low high. absurd (omega arith)) _ _ (numbers_rise 1 v.ifs) (numbers_rise 1 w.ifs)
+      (if_in i j p q to s t hs ht same v w hv it.1 it.2.srel) (if_in j i q p from t s ht hs (sym same) w v it.1 hv (sym it.2.srel)) in
       let ifs : v.ifs ≡ w.ifs = sym (values 1 v.ifs) ∙ ap (map (λ (f : ℕ × IfReq). f.1)) listed ∙ values 1 w.ifs in
       subst (Has t.vers) (sym (ver_is v w it.2 ifs)) it.1
 
@@ -308,7 +305,7 @@ module _ (i j : Inventory) (p : IsInventory i) (q : IsInventory j) (to : IsWithi
       let kind : s.kind ≡ t.kind = kind_same s.kind t.kind cc in
       let sources : s.sources ≡ t.sources = ids_same s.sources t.sources (sources_are_words _ (forms i p s hs).sources) (sources_are_words _ (forms j q t ht).sources) cc in
       let vers : s.vers ≡ t.vers = same_sorted (IsBelow (λ (v : Ver). v.srel)) (below_once (λ (v : Ver). v.srel)) _ _ (vers_rise s (forms i p s hs)) (vers_rise t (forms j q t ht))
-          (ver_kept i j p q to from s t hs ht id) (ver_kept j i q p from to t s ht hs (sym id)) in
+      (ver_kept i j p q to from s t hs ht id) (ver_kept j i q p from to t s ht hs (sym id)) in
       let changes : s.changes ≡ t.changes = changes_same i j p q to from s t hs ht id in
       let holds : s.holds ≡ t.holds = has_all (λ (x : Sysmod). x.holds ≡ []) i.global.sysmods s p.global.none_carried hs ∙ sym (has_all (λ (x : Sysmod). x.holds ≡ []) j.global.sysmods t q.global.none_carried ht) in
       ap (λ x. record s { id = x }) id
@@ -371,19 +368,19 @@ module _ (i j : Inventory) (p : IsInventory i) (q : IsInventory j) (to : IsWithi
       let srel : y.zone.srel ≡ z.zone.srel = cc in
       let related : y.zone.related ≡ z.zone.related = or_null_same y.zone.related z.zone.related cc in
       let entries : y.zone.entries ≡ z.zone.entries =
-          same_sorted (IsBelow (λ (x : Entry). x.id)) (below_once (λ (x : Entry). x.id)) _ _ (rise_by (λ (x : Entry). x.id) _ a.zone.entries) (rise_by (λ (x : Entry). x.id) _ b.zone.entries)
-          (entry_in i j p q to y z hy hz name) (entry_in j i q p from z y hz hy (sym name)) in
+      same_sorted (IsBelow (λ (x : Entry). x.id)) (below_once (λ (x : Entry). x.id)) _ _ (rise_by (λ (x : Entry). x.id) _ a.zone.entries) (rise_by (λ (x : Entry). x.id) _ b.zone.entries)
+      (entry_in i j p q to y z hy hz name) (entry_in j i q p from z y hz hy (sym name)) in
       let elements : y.zone.elements ≡ z.zone.elements =
-          same_sorted (λ x w. IsTrue (is_element_before x w)) element_once _ _ (ascending _ _ a.zone.elements) (ascending _ _ b.zone.elements)
-          (element_in i j p q to y z hy hz name) (element_in j i q p from z y hz hy (sym name)) in
+      same_sorted (λ x w. IsTrue (is_element_before x w)) element_once _ _ (ascending _ _ a.zone.elements) (ascending _ _ b.zone.elements)
+      (element_in i j p q to y z hy hz name) (element_in j i q p from z y hz hy (sym name)) in
       let v = y.zone in
       let w = z.zone in
       let zone : v ≡ w =
-          ap (λ x. record v { kind = x }) kind
-          ∙ ap (λ x. record v { kind = w.kind; srel = x }) srel
-          ∙ ap (λ x. record v { kind = w.kind; srel = w.srel; related = x }) related
-          ∙ ap (λ x. record w { entries = x; elements = v.elements }) entries
-          ∙ ap (λ x. record w { elements = x }) elements in
+      ap (λ x. record v { kind = x }) kind
+      ∙ ap (λ x. record v { kind = w.kind; srel = x }) srel
+      ∙ ap (λ x. record v { kind = w.kind; srel = w.srel; related = x }) related
+      ∙ ap (λ x. record w { entries = x; elements = v.elements }) entries
+      ∙ ap (λ x. record w { elements = x }) elements in
       ap₂ (λ (n : Text) (x : Zone). record { name = n; zone = x }) name zone
 
   zone_kept : (y : NamedZone) → Has i.zones y → Has j.zones y
@@ -398,11 +395,11 @@ one_inventory db i j si sj =
     let to = within i j db si sj in
     let from = within j i db sj si in
     let sysmods : i.global.sysmods ≡ j.global.sysmods =
-        same_sorted (IsBelow (λ (s : Sysmod). s.id)) (below_once (λ (s : Sysmod). s.id)) _ _ (sysmods_rise i p) (sysmods_rise j q) (sysmod_kept i j p q to from) (sysmod_kept j i q p from to) in
+    same_sorted (IsBelow (λ (s : Sysmod). s.id)) (below_once (λ (s : Sysmod). s.id)) _ _ (sysmods_rise i p) (sysmods_rise j q) (sysmod_kept i j p q to from) (sysmod_kept j i q p from to) in
     let holds : i.global.holds ≡ j.global.holds =
-        same_sorted (λ a b. IsTrue (is_hold_before a b)) hold_once _ _ (ascending _ _ p.global.holds) (ascending _ _ q.global.holds) (hold_kept i j p q to from) (hold_kept j i q p from to) in
+    same_sorted (λ a b. IsTrue (is_hold_before a b)) hold_once _ _ (ascending _ _ p.global.holds) (ascending _ _ q.global.holds) (hold_kept i j p q to from) (hold_kept j i q p from to) in
     let zones : i.zones ≡ j.zones =
-        same_sorted (IsBelow (λ (z : NamedZone). z.name)) (below_once (λ (z : NamedZone). z.name)) _ _ (zones_rise i p) (zones_rise j q) (zone_kept i j p q to from) (zone_kept j i q p from to) in
+    same_sorted (IsBelow (λ (z : NamedZone). z.name)) (below_once (λ (z : NamedZone). z.name)) _ _ (zones_rise i p) (zones_rise j q) (zone_kept i j p q to from) (zone_kept j i q p from to) in
     ap (λ x. record i { global = record { sysmods = x; holds = i.global.holds } }) sysmods
     ∙ ap (λ x. record i { global = record { sysmods = j.global.sysmods; holds = x } }) holds
     ∙ ap (λ x. record j { zones = x }) zones

@@ -5,5 +5,4 @@ ghost use Rattle.schema.specs.Stands.{HasOneState};
 /// What is loaded from a database is what was committed: no two states have the same rows.
 pub fn one_state()
     ensures { HasOneState }
-{
-}
+{}

@@ -1,5 +1,5 @@
 use Rattle.sqlite.specs.Held.{state}
-use Rattle.schema.proofs.Meta.{meta_unchanged, kept_either, meta_commits_nothing}
+use Rattle.schema.proofs.Meta.{meta_unchanged, meta_keeps, meta_survives}
 use Rattle.schema.proofs.Making.{on_ok_if}
 use Rattle.schema.proofs.known.meta_rows.Goals as goal
 
@@ -8,7 +8,7 @@ returns-clause-same g c clean = on_ok_if c.query_all.result _ _ (λ rows. meta_u
 
 pub returns-clause-kept : goal.returns-clause-kept
 returns-clause-kept g c clean =
-    kept_either c.query_all.result (state g.S.Store c.args.conn.now) (state g.S.Store c.query_all.new.self) (c.query_all.ensures.ok clean) (c.query_all.ensures.err clean)
+    meta_keeps c.query_all.result (state g.S.Store c.args.conn.now) (state g.S.Store c.query_all.new.self) (c.query_all.ensures.ok clean) (c.query_all.ensures.err clean)
 
 pub returns-clause-crash : goal.returns-clause-crash
-returns-clause-crash g c = meta_commits_nothing _ _ c.query_all.ensures.survives
+returns-clause-crash g c = meta_survives _ _ c.query_all.ensures.survives
