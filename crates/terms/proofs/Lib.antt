@@ -22,6 +22,5 @@ pub mod Gaps
 pub mod Pieces
 pub mod Lengths
 pub mod Solids
-pub mod TypeOrder
 pub mod ElementOrder
 pub mod Edits
