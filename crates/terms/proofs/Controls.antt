@@ -1,16 +1,16 @@
 -- Control records of updates: their word and operand are determined, and so are the numbers of a DELETE record.
-use Rattle.std.proofs.Common.{◌≡◌, ◌≢◌, ◌<◌, ◌≤◌, ◌+◌, ◌⊎◌, ℕ, suc, Bool, true, false, not, List, [], ◌∷◌, ◌++◌, length, take, drop, codes, refl, sym, ◌∙◌, ap, subst, arith, inl, inr, append_assoc, slice_get, IfSome}
-use Rattle.std.specs.List.{All, AllByRecursion, starts_with}
-use Rattle.std.specs.Prelude.{IsTrue, nat_eq, ◌==◌}
+use Rattle.std.proofs.Common.{◌≡◌, ◌≢◌, ℕ, Bool, true, false, not, [], ◌∷◌, ◌++◌, take, drop, codes, refl, sym, ◌∙◌, ap, subst, append_assoc, slice_get, IfSome}
+use Rattle.std.specs.List.{All, AllByRecursion}
+use Rattle.std.specs.Prelude.{IsTrue, ◌==◌}
 use Rattle.std.specs.Str.Parse.{digits_value}
 use Rattle.std.proofs.lemmas.List.{append-nil, append_cancel_left, take_at, drop_at}
 use Rattle.std.proofs.lemmas.List.Elements.{All-weaker, All-head, recursion_from_All}
 use Rattle.std.specs.Str.{bytes_eq}
-use Rattle.std.proofs.lemmas.Bool.{true≢false, cases_Bool, eq-eqb, ne_eqb, eqb-true, eqb-false, not-true, not-false, not_from_false}
+use Rattle.std.proofs.lemmas.Bool.{true≢false, eq-eqb, ne_eqb, eqb-true, eqb-false, not-true, not_from_false}
 use Rattle.terms.specs.Types.{Text}
 use Rattle.terms.specs.Forms.{AreBlanks}
 use Rattle.terms.specs.Records.{front}
-use Rattle.terms.specs.Texts.{IsNumber, IsGap, IsSolid, IsControl, IsChange, IsRange, IsDelete, is_control}
+use Rattle.terms.specs.Texts.{IsGap, IsSolid, IsControl, IsChange, IsRange, IsDelete, is_control}
 
 abbrev pub is_blank : ℕ → Bool
 is_blank b = b == 32
@@ -64,7 +64,7 @@ same_cuts text g w h o r t g' w' h' o' r' t' c d =
     let three = same_cut is_blank h h' _ _ (recursion_from_All Blank h c.gap2_blank) (recursion_from_All Blank h' d.gap2_blank) c.gap2_ends d.gap2_ends two.1 in
     let four = same_cut is_solid o o' _ _ (recursion_from_All Solid o c.operand_solid) (recursion_from_All Solid o' d.operand_solid) c.operand_ends d.operand_ends three.1 in
     let five = same_cut is_blank r r' _ _ (recursion_from_All Blank r c.rest_blank) (recursion_from_All Blank r' d.rest_blank) c.rest_ends d.rest_ends four.1 in
-    record { gap = one.0; word = two.0; gap2 = three.0; operand = four.0; end = five.1; }
+    record { gap = one.0; word = two.0; gap2 = three.0; operand = four.0; end = five.1 }
 
 blanks_from : (text : Text) → AreBlanks text → All (λ b. is_blank b ≡ true) text
 blanks_from text h = All-weaker (λ b. b ≡ 32) (λ b. is_blank b ≡ true) (λ b e. eq-eqb b 32 e) text h

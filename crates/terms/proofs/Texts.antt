@@ -1,19 +1,18 @@
 -- Texts of elements: records of bytes, equal texts, what an update touches, and that no good text has a fault.
-use Rattle.std.proofs.Common.{◌≡◌, ◌≢◌, ◌<◌, ◌≤◌, ◌+◌, ◌⊎◌, ℕ, suc, Bool, true, false, not, List, [], ◌∷◌, ◌++◌, length, take, drop, map, get_or, slice_index, codes, refl, sym, ◌∙◌, ap, subst, cond, arith, inl, inr, zero, add-one, append_assoc, Option, None, Some}
-use Rattle.std.specs.List.{All, Any, AllByRecursion, flat_map, filter, find}
-use Rattle.std.specs.Prelude.{IsTrue, IsSome, is_some}
+use Rattle.std.proofs.Common.{◌≡◌, ◌<◌, ◌≤◌, ◌+◌, ℕ, suc, List, [], ◌∷◌, ◌++◌, length, take, drop, map, refl, sym, ◌∙◌, ap, cond, arith, inl, inr, zero, None, Some}
+use Rattle.std.specs.List.{All, flat_map}
 use Rattle.std.specs.List.Sorted.{IsStrictlyIncreasing}
-use Rattle.std.proofs.lemmas.List.{append-nil, append_cancel_left, length-append, take_at, drop_at, nil_from_length}
-use Rattle.std.proofs.lemmas.List.Elements.{All-nil, All-cons, All-head, All-tail, All-push, recursion_from_All}
+use Rattle.std.proofs.lemmas.List.{append-nil, length-append, take_at, drop_at}
+use Rattle.std.proofs.lemmas.List.Elements.{All-nil, All-head, All-tail, All-push}
 use Rattle.std.proofs.lemmas.Grind.{flat_map-append}
-use Rattle.std.proofs.lemmas.Bool.{cases_eq, cases_order, cases_Bool, eq-eqb, ne_eqb, eqb-true}
-use Rattle.terms.specs.Types.{Text, Lines}
-use Rattle.terms.specs.Texts.{HasLines, IsNumberedLine, number_of, IsNumbered, line_at}
+use Rattle.std.proofs.lemmas.Bool.{cases_eq, cases_order, eq-eqb, ne_eqb}
+use Rattle.terms.specs.Types.{Lines}
+use Rattle.terms.specs.Texts.{HasLines, number_of, IsNumbered, line_at}
 
 -- records of bytes
 
 pub lines_none : HasLines [] []
-lines_none = record { bytes_are = refl; each = All-nil _; }
+lines_none = record { bytes_are = refl; each = All-nil _ }
 
 pub lines_more : (bytes : List ℕ) (lines : Lines) (line : List ℕ) → HasLines bytes lines → length line ≡ 80 → HasLines (bytes ++ line) (lines ++ line ∷ [])
 lines_more bytes lines line h len = record {
@@ -105,15 +104,15 @@ same_rising j k (x ∷ xs) (y ∷ ys) h i same =
           let at_x = sym (line_at-head x xs) ∙ same (number_of x) ∙ ap (line_at (y ∷ ys)) e ∙ line_at-head y ys in
           let heads : x ≡ y = cc at_x in
           let tails = same_rising (number_of x + 1) (number_of y + 1) xs ys h.1 i.1 (λ n.
-            elim (cases_eq (number_of x) n) [
-              | inl here ↦ line_at-below (number_of x + 1) xs n h.1 (omega (arith, here)) ∙ sym (line_at-below (number_of y + 1) ys n i.1 (omega (arith, here, e)))
-              | inr other ↦ sym (line_at-tail x xs n other) ∙ same n ∙ line_at-tail y ys n (λ there. other (e ∙ there))
-            ]) in
+          elim (cases_eq (number_of x) n) [
+            | inl here ↦ line_at-below (number_of x + 1) xs n h.1 (omega (arith, here)) ∙ sym (line_at-below (number_of y + 1) ys n i.1 (omega (arith, here, e)))
+            | inr other ↦ sym (line_at-tail x xs n other) ∙ same n ∙ line_at-tail y ys n (λ there. other (e ∙ there))
+          ]) in
           cc (heads, tails)
       | inr apart ↦ elim apart [
-          | inl less ↦ absurd (let none = line_at-below (number_of y) (y ∷ ys) (number_of x) (omega arith, i.1) less in cc (none, same (number_of x), line_at-head x xs))
-          | inr more ↦ absurd (let none = line_at-below (number_of x) (x ∷ xs) (number_of y) (omega arith, h.1) more in cc (none, same (number_of y), line_at-head y ys))
-        ]
+        | inl less ↦ absurd (let none = line_at-below (number_of y) (y ∷ ys) (number_of x) (omega arith, i.1) less in cc (none, same (number_of x), line_at-head x xs))
+        | inr more ↦ absurd (let none = line_at-below (number_of x) (x ∷ xs) (number_of y) (omega arith, h.1) more in cc (none, same (number_of y), line_at-head y ys))
+      ]
     ]
 
 -- Two numbered texts that are the same map are the same text.

@@ -1,6 +1,6 @@
 -- Updates: what they touch, that a merge is determined, and that what is good has no fault.
-use Rattle.std.proofs.Common.{◌≡◌, ◌≢◌, ◌<◌, ◌≤◌, ◌+◌, ◌⊎◌, ℕ, zero, suc, Bool, true, false, not, List, [], ◌∷◌, ◌++◌, length, codes, refl, sym, ◌∙◌, ap, subst, arith, inl, inr, Option, None, Some, get_or}
-use Rattle.std.specs.List.{All, Any, filter}
+use Rattle.std.proofs.Common.{◌≡◌, ◌<◌, ◌≤◌, ◌+◌, ◌⊎◌, ℕ, zero, suc, false, not, List, [], ◌∷◌, ◌++◌, length, codes, refl, sym, ◌∙◌, ap, subst, arith, inl, inr, Option, None, Some, get_or}
+use Rattle.std.specs.List.{All, Any}
 use Rattle.std.specs.Prelude.{IsTrue, IsSome}
 use Rattle.std.proofs.lemmas.Bool.{true≢false, both_ways, cases_Bool, cases_lt, cond-true, cond-false, not_from_true, not_from_false, false_from_ne_true}
 use Rattle.std.proofs.lemmas.List.{append_cancel_left}
@@ -44,9 +44,9 @@ hits_cases n line h =
           elim (cases_lt n d.0) [
             | inl less ↦ inr (λ hit. let same = same_delete line d.0 d.1 hit.0 hit.1 d.2 hit.2 in let from = hit.3 in absurd (omega (arith, less, same.0, from)))
             | inr low ↦ elim (cases_lt d.1 n) [
-                | inl more ↦ inr (λ hit. let same = same_delete line d.0 d.1 hit.0 hit.1 d.2 hit.2 in let to = hit.4 in absurd (omega (arith, more, same.1, to)))
-                | inr high ↦ inl (d.0, d.1, d.2, low, high)
-              ]
+              | inl more ↦ inr (λ hit. let same = same_delete line d.0 d.1 hit.0 hit.1 d.2 hit.2 in let to = hit.4 in absurd (omega (arith, more, same.1, to)))
+              | inr high ↦ inl (d.0, d.1, d.2, low, high)
+            ]
           ]
       | inr no' ↦ inr (λ hit. both_ways (is_control line) no' (begins_control _ _ line hit.2.1))
     ]
@@ -57,9 +57,9 @@ deletes_cases n (line ∷ lines) h =
     elim (hits_cases n line (All-head (λ l. IsTrue (is_control l) → IsSomeDelete l) line lines h)) [
       | inl hit ↦ inl (any_here (Hits n) line lines hit)
       | inr miss ↦ elim (deletes_cases n lines (All-tail (λ l. IsTrue (is_control l) → IsSomeDelete l) line lines h)) [
-          | inl later ↦ inl (any_later (Hits n) line lines later)
-          | inr none ↦ inr (λ a. elim (any_cases (Hits n) line lines a) [ | inl hit ↦ miss hit | inr later ↦ none later ])
-        ]
+        | inl later ↦ inl (any_later (Hits n) line lines later)
+        | inr none ↦ inr (λ a. elim (any_cases (Hits n) line lines a) [ inl hit ↦ miss hit | inr later ↦ none later ])
+      ]
     ]
 
 some_cases : {X : Type 0} (o : Option X) → IsSome o ⊎ (IsSome o → ⊥)
@@ -69,7 +69,7 @@ some_cases (Some x) = inl refl
 -- the CHANGE record deletes nothing
 pub deletes-change : (name : Text) (n : ℕ) (line : List ℕ) (lines : Lines) → IsChange name line → Deletes (line ∷ lines) n → Deletes lines n
 deletes-change name n line lines c a =
-    elim (any_cases (Hits n) line lines a) [ | inl hit ↦ absurd (change-no_delete name line hit.0 hit.1 c hit.2) | inr later ↦ later ]
+    elim (any_cases (Hits n) line lines a) [ inl hit ↦ absurd (change-no_delete name line hit.0 hit.1 c hit.2) | inr later ↦ later ]
 
 -- and gives no record
 pub given-control : (line : List ℕ) (lines : Lines) → IsTrue (is_control line) → given (line ∷ lines) ≡ given lines
@@ -85,19 +85,19 @@ touches_cases name (line ∷ lines) n h =
     elim (some_cases (line_at (given (line ∷ lines)) n)) [
       | inl gives ↦ inl (inl gives)
       | inr none ↦ elim (deletes_cases n lines h.1.controls) [
-          | inl deletes ↦ inl (inr (any_later (Hits n) line lines deletes))
-          | inr keeps ↦ inr (λ t. elim t [ | inl gives ↦ none gives | inr deletes ↦ keeps (deletes-change name n line lines h.0 deletes) ])
-        ]
+        | inl deletes ↦ inl (inr (any_later (Hits n) line lines deletes))
+        | inr keeps ↦ inr (λ t. elim t [ inl gives ↦ none gives | inr deletes ↦ keeps (deletes-change name n line lines h.0 deletes) ])
+      ]
     ]
 
 -- There is one merge of a text and an update.
 pub same_merge : (name : Text) (old update a b : Lines) → IsUpdate name update → IsMerge old update a → IsMerge old update b → a ≡ b
 same_merge name old update a b h m k =
     same_text a b m.numbered k.numbered (λ n.
-      elim (touches_cases name update n h) [
-        | inl touched ↦ m.touched n touched ∙ sym (k.touched n touched)
-        | inr other ↦ m.others n other ∙ sym (k.others n other)
-      ])
+    elim (touches_cases name update n h) [
+      | inl touched ↦ m.touched n touched ∙ sym (k.touched n touched)
+      | inr other ↦ m.others n other ∙ sym (k.others n other)
+    ])
 
 -- what is good has no fault
 

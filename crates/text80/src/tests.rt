@@ -114,13 +114,19 @@ fn faults_have_records(rt: HostRuntime) -> Result<(), Fail> {
 #[test]
 fn records_are_bytes(rt: HostRuntime) -> Result<(), Fail> {
     let alloc = rt.alloc();
+    let bytes = [b'A'; 160];
+    let lines = lines_of(alloc, &bytes)?;
+    let record = Line::new([b'A'; RECORD]);
+    assert_eq!(rt; lines.as_slice(), [record, record].as_slice());
+    assert_eq!(rt; bytes_of(alloc, &lines)?.as_slice(), bytes.as_slice());
+    Ok(())
+}
+
+#[test]
+fn texts_are_copied(rt: HostRuntime) -> Result<(), Fail> {
+    let alloc = rt.alloc();
     let records = [plain(b"./ CHANGE NAME=M1"), numbered(b'A', b"00000010")];
-    let bytes = bytes_of(alloc, &records)?;
-    assert_eq!(rt; bytes.len(), 160);
-    assert_eq!(rt; bytes[80], b'A');
-    let lines = lines_of(alloc, &bytes[..160])?;
-    assert_eq!(rt; lines.as_slice(), records.as_slice());
-    let update = Update::read(alloc, lines, b"M1")?.clone()?;
+    let update = Update::read(alloc, records.to_vec(alloc)?, b"M1")?.clone()?;
     assert_eq!(rt; update.records(), records.as_slice());
     let given = update.given().clone()?;
     assert_eq!(rt; given.lines(), [records[1]].as_slice());
