@@ -1,5 +1,5 @@
 pub mod Maps
-pub mod Tests
+pub mod Passing
 pub mod Drops
 pub mod Added
 pub mod Times

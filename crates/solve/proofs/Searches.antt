@@ -15,7 +15,7 @@ use Rattle.solve.specs.Need.{demand}
 use Rattle.solve.specs.Rows.{row_at, times, one_if}
 use Rattle.solve.specs.Board.{demand_at, AreServed, eligible_in, weight, IsDrop, IsSearch}
 use Rattle.terms.proofs.Rising.{rising-length}
-use Rattle.solve.proofs.Tests.{none_passes}
+use Rattle.solve.proofs.Passing.{none_passes}
 use Rattle.solve.proofs.Times.{eqb-other, times-push_same, times-push_other, times-from_Contains}
 use Rattle.solve.proofs.Sums.{sum_by-same, sum_by-split, count-part, count-none}
 use Rattle.solve.proofs.Marked.{holds-same, holds-other}

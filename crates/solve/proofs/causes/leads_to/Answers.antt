@@ -6,7 +6,7 @@ use Rattle.std.proofs.lemmas.List.{map_more}
 use Rattle.std.proofs.lemmas.Grind.{common_steps}
 use Rattle.terms.specs.Problem.{Demand, holds}
 use Rattle.solve.specs.Need.{demand}
-use Rattle.solve.proofs.Tests.{clash}
+use Rattle.solve.proofs.Passing.{clash}
 use Rattle.solve.proofs.Leads.{AreLeadsBy, leads-none, leads-skip, leads-add}
 use Rattle.solve.proofs.causes.leads_to.Goals as goal
 use Rattle.solve.proofs.causes.leads_to.Goals.{then-not-kept-need+then-not-serves+in_ok-add_under, else-not-kept-need, else-not-kept-need-via-then-not-kept-need+else-not-serves, else-not-kept-need-via-else-not-kept-need}

@@ -4,7 +4,7 @@ use Rattle.std.proofs.lemmas.List.Elements.{All-map}
 use Rattle.solve.specs.Need.{demand}
 use Rattle.solve.specs.Parts.{IsServed}
 use Rattle.terms.specs.Problem.{holds}
-use Rattle.solve.proofs.Tests.{clash}
+use Rattle.solve.proofs.Passing.{clash}
 use Rattle.solve.proofs.Drops.{swept-stay, swept-drop, Contains-demand}
 use Rattle.solve.proofs.sweep.drop_unserved.Goals as goal
 use Rattle.solve.proofs.sweep.drop_unserved.Goals.{then-set-of+then-not-serves, else-set-of, else-set-of-via-then-set-of+else-not-serves, else-set-of-via-else-set-of}
