@@ -1,7 +1,9 @@
 //! The table of holds: `++HOLD`s that were received, external ones and those of SYSMODs.
 #![tactic(auto)]
 
+mod hold;
 mod kinds;
 mod writing;
 
+pub use hold::Hold;
 pub use writing::{put_hold, remove_hold};

@@ -11,12 +11,12 @@ ghost use Rattle.schema.specs.Rows.{hold_row, flag as flag_of};
 ghost use Rattle.schema.specs.Tables.{hold as hold_table, store_schema};
 ghost use Rattle.hold_rows.specs.Keys.{hold_key, key_row};
 
+use crate::hold::Hold;
 use crate::kinds::word_of;
 use fields::{Class, HoldDate, Id, Reason};
 use rows::{put, remove};
 use sqlite::{Alter, Error, Transaction};
 use sqlite_value::value::ValueRef;
-use sysmods::Hold;
 use terms::HoldKind;
 
 fn class_value(class: &Option<Class>) -> ValueRef<'_>

@@ -1,6 +1,6 @@
 -- What one statement makes of what the tables hold.
-use Rattle.std.proofs.Common.{◌≡◌, ℕ, zero, suc, ◌+◌, ◌/◌, ◌<◌, ◌≤◌, length, drop, take, List, [], ◌∷◌, ◌++◌, map, filter, Bool, true, false, not, cond, Ok, IsPermutation, arith, refl, sym, ap, ap₂, subst, ◌∙◌}
-use Rattle.std.specs.List.{AllByRecursion, range_with_len, list_all}
+use Rattle.std.proofs.Common.{◌≡◌, ℕ, zero, suc, ◌+◌, ◌/◌, ◌<◌, ◌≤◌, ◌==◌, length, drop, take, List, [], ◌∷◌, ◌++◌, map, filter, Bool, true, false, not, cond, Ok, IsPermutation, arith, refl, sym, ap, ap₂, subst, ◌∙◌}
+use Rattle.std.specs.List.{AllByRecursion, range_with_len, list_all, flat_map, filter_map}
 use Rattle.std.proofs.lemmas.List.{take_all}
 use Rattle.std.proofs.lemmas.List.FromFn.{length-map-range_with_len}
 use Rattle.std.proofs.Math.Nat.{div_self}
@@ -25,18 +25,19 @@ use Rattle.sqlite.specs.Source.TheVariants.{Values}
 use Rattle.sqlite.specs.State.{State, Executes}
 use Rattle.sqlite.proofs.Callers.{statement_of, runs_as, one_step}
 use Rattle.sqlite_trees.proofs.ListLemmas.{map-map, filter-map, IsPermutation-filter}
-use Rattle.sqlite_rules.specs.Action.{works}
+use Rattle.sqlite_rules.specs.Action.{works, work_by, deed_for, pairs}
+use Rattle.sqlite_schema.specs.Rules.{parent_key}
 use Rattle.sqlite_rules.proofs.ActionLemmas.{no_works}
 use Rattle.sqlite_rules.proofs.PlaceLemmas.{given}
 use Rattle.sqlite_rules.specs.Calls.{ids_of}
 use Rattle.sqlite_schema.specs.declared.program.Program.{Program}
 use Rattle.rows.specs.Rows.{shown, has_key, without, with_row, in_place, AreRows, Contents, HasContents, HaveNone, in_table}
-use Rattle.rows.specs.Texts.{key_tests, scan_by, IsTableOf, AreKept, PutsIn, PutsInPlace, TakesOut, TakesOutParent, IsCascade}
+use Rattle.rows.specs.Texts.{key_tests, scan_by, IsTableOf, AreKept, PutsIn, PutsInPlace, TakesOut, TakesOutParent, IsCascade, works_of_update}
 
 use Rattle.rows.proofs.RowLemmas.{filter_same, ids_shown}
 use Rattle.rows.proofs.Statements.{was_free, inserts, updates, deletes, puts_one, scans}
 use Rattle.rows.proofs.Parents.{step_then_idle, cascades_from, taken_meets, idle_cascade}
-use Rattle.std.proofs.lemmas.Bool.{and_parts}
+use Rattle.std.proofs.lemmas.Bool.{and_parts, ne_eqb}
 use Rattle.std.proofs.lemmas.List.Sorted.{IsPermutation-refl, IsPermutation-sym, IsPermutation-trans, IsPermutation-cons, IsPermutation-map, IsPermutation-append_left, IsPermutation-middle}
 use Rattle.rows.proofs.ContentsLemmas.{columns_from, meets_from, puts, takes, each_table, held_at}
 
@@ -164,13 +165,20 @@ in_place_parts key row (r ∷ rows) = go (has_key key r) refl (in_place_parts ke
     go false e later =
         rw e (IsPermutation-trans _ _ _ (IsPermutation-cons r _ _ later) (IsPermutation-sym _ _ (IsPermutation-middle (map (λ r. row) (filter (has_key key) rows)) r (without key rows))))
 
-free_of : (schema : Schema) (table : Table) (db : Trees) → ((olds : List Row) (new : Row) (news : List Row) → works schema Enforced 0 table.tree olds (new ∷ news) ≡ []) → (found : List Row)
+updates_free : (schema : Schema) (tree : ℕ) (olds : List Row) (new : Row) (news : List Row) → works_of_update schema tree olds (new ∷ news) ≡ [] → works schema Enforced 0 tree olds (new ∷ news) ≡ []
+updates_free schema tree olds new news free =
+    let some : (suc (length news) == 0) ≡ false = ne_eqb (suc (length news)) 0 (omega arith) in
+    subst (λ b. flat_map (λ child. filter_map (λ ref. work_by 0 tree (pairs olds (new ∷ news)) child ref (deed_for Enforced b ref) (parent_key schema.tables ref)) child.references) schema.tables ≡ []) (sym some) free
+
+free_of : (schema : Schema) (table : Table) (db : Trees) → ((olds news : List Row) → works_of_update schema table.tree olds news ≡ []) → (found : List Row)
     → works schema Enforced 0 table.tree (taken_by db (edit_of db table (ids_of found) Given 1 found)) (edit_of db table (ids_of found) Given 1 found).news ≡ []
 free_of schema table db free [] = no_works schema Enforced 0 table.tree []
 free_of schema table db free (x ∷ found) =
     let edit = edit_of db table (ids_of (x ∷ found)) Given 1 (x ∷ found) in
-    subst (λ news. works schema Enforced 0 table.tree (taken_by db edit) news ≡ []) (sym (given (without_all (db table.tree) (ids_of (x ∷ found))) (map (λ s. cast_row table (drop 1 s)) (x ∷ found))))
-    (free (taken_by db edit) (cast_row table (drop 1 x)) (map (λ s. cast_row table (drop 1 s)) found))
+    let one = cast_row table (drop 1 x) in
+    let more = map (λ s. cast_row table (drop 1 s)) found in
+    subst (λ news. works schema Enforced 0 table.tree (taken_by db edit) news ≡ []) (sym (given (without_all (db table.tree) (ids_of (x ∷ found))) (one ∷ more)))
+    (updates_free schema table.tree (taken_by db edit) one more (free (taken_by db edit) (one ∷ more)))
 
 pub put_in_place : (schema : Schema) (at : ℕ) (table : Table) (width : ℕ) (sql : List ℕ) (row : Row) (old new : State) (count : ℕ) (contents : Contents) → PutsInPlace schema at table width sql → AreKept table.columns row
     → HasContents schema contents old.now → Executes sql row old new (Ok count) → HasContents schema (in_table table (in_place (take width row) row) contents) new.now

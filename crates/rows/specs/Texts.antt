@@ -1,6 +1,6 @@
 -- What a statement's text means under a schema, where it writes the rows of one table or reads them.
 use Rattle.std.specs.Prelude.{◌≡◌, ◌≢◌, ◌≤◌, ◌+◌, ◌==◌, ◌||◌, ℕ, zero, suc, Bool, true, false, not, pos, negsuc, List, [], ◌∷◌, map, length, slice_get, Some, None, IfSome}
-use Rattle.std.specs.List.{AllByRecursion, list_all, range_with_len}
+use Rattle.std.specs.List.{AllByRecursion, list_all, flat_map, filter_map, range_with_len}
 use Rattle.sqlite.specs.declared.types.Value.TheVariants.{Null, Int}
 use Rattle.sqlite.specs.Order.{Row}
 use Rattle.sqlite.specs.Collation.TheVariants.{Binary}
@@ -19,7 +19,8 @@ use Rattle.sqlite.specs.Command.TheVariants.{Select, Insert, Update, Delete}
 use Rattle.sqlite.specs.Listing.{understood, reads_listing}
 use Rattle.sqlite.specs.Given.{IsPlain}
 use Rattle.sqlite.proofs.Callers.{command_of}
-use Rattle.sqlite_rules.specs.Action.{Work, works, work_for, pairs}
+use Rattle.sqlite_rules.specs.Action.{Work, works, work_by, work_for, deed_for, pairs}
+use Rattle.sqlite_schema.specs.Rules.{parent_key}
 use Rattle.sqlite_rules.specs.Lists.{Has}
 use Rattle.sqlite_value.specs.Keys.{first_key}
 
@@ -70,6 +71,11 @@ pub record TakesOut (schema : Schema) (at : ℕ) (table : Table) (width : ℕ) (
   pub plain : IsPlain (understood schema sql)
   pub free : (olds : List Row) → works schema Enforced 0 table.tree olds [] ≡ []
 
+-- what an UPDATE of a table's rows sets off
+abbrev pub works_of_update : Schema → ℕ → List Row → List Row → List Work
+works_of_update schema tree olds news =
+    flat_map (λ child. filter_map (λ ref. work_by 0 tree (pairs olds news) child ref (deed_for Enforced false ref) (parent_key schema.tables ref)) child.references) schema.tables
+
 -- UPDATE of the rows whose first columns are so many parameters, where the parameters are the new row
 pub record PutsInPlace (schema : Schema) (at : ℕ) (table : Table) (width : ℕ) (sql : List ℕ) : Type 0 where
   pub there : IsTableOf schema at table
@@ -77,7 +83,7 @@ pub record PutsInPlace (schema : Schema) (at : ℕ) (table : Table) (width : ℕ
       ≡ Update at (record { lets = []; body = scan_by table.tree (key_tests 0 width) (col 1 0 ∷ col 1 0 ∷ map (col 0) (range_with_len 0 (length table.columns))) [] })
   pub plain : IsPlain (understood schema sql)
   pub narrow : width ≤ length table.columns
-  pub free : (olds : List Row) (new : Row) (news : List Row) → works schema Enforced 0 table.tree olds (new ∷ news) ≡ []
+  pub free : (olds news : List Row) → works_of_update schema table.tree olds news ≡ []
 
 -- a foreign key's action on these old rows: it deletes the rows of one of these tables whose first column is an old row's
 pub record IsCascade (children : List Table) (olds : List Row) (w : Work) : Type 0 where

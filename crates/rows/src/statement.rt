@@ -65,14 +65,14 @@ pub fn put<S: Alter>(
 pub fn replace<S: Alter>(
     tx: &mut Transaction<'_, S>,
     sql: &str,
-    row: &[ValueRef<'_>],
+    columns: &[ValueRef<'_>],
 ) -> Result<(), Error>
     ensures same_reference { tx.new.conn.ghost_name ≡ tx.old.conn.ghost_name }
     ensures inside { StaysInside S.Store tx.old.conn.now tx.new.conn.now }
-    ensures ok { OnOk result ((schema : Schema) (at : ℕ) (table : Table) (width : ℕ) → PutsInPlace schema at table width sql.now → AreKept table.columns (bound row.now)
-        → Turns S.Store tx.old.conn.now tx.new.conn.now (HasContents schema) (in_table table (in_place (take width (bound row.now)) (bound row.now)))) }
+    ensures ok { OnOk result ((schema : Schema) (at : ℕ) (table : Table) (width : ℕ) → PutsInPlace schema at table width sql.now → AreKept table.columns (bound columns.now)
+        → Turns S.Store tx.old.conn.now tx.new.conn.now (HasContents schema) (in_table table (in_place (take width (bound columns.now)) (bound columns.now)))) }
 {
-    tx.execute(sql, row)?;
+    tx.execute(sql, columns)?;
     Ok(())
 }
 
@@ -81,14 +81,14 @@ pub fn replace<S: Alter>(
 pub fn remove_parent<S: Alter>(
     tx: &mut Transaction<'_, S>,
     sql: &str,
-    key: &[ValueRef<'_>],
+    parent: &[ValueRef<'_>],
 ) -> Result<(), Error>
     ensures same_reference { tx.new.conn.ghost_name ≡ tx.old.conn.ghost_name }
     ensures inside { StaysInside S.Store tx.old.conn.now tx.new.conn.now }
-    ensures ok { OnOk result ((schema : Schema) (at : ℕ) (table : Table) (children : List Table) → TakesOutParent schema at table children sql.now → length key.now ≡ 1
-        → HasCleanDisk (state S.Store tx.new.conn.now) → (contents : Contents) → HaveNone children (bound key.now) contents → HasContents schema contents (state S.Store tx.old.conn.now).now
-        → HasContents schema (in_table table (without (bound key.now)) contents) (state S.Store tx.new.conn.now).now) }
+    ensures ok { OnOk result ((schema : Schema) (at : ℕ) (table : Table) (children : List Table) → TakesOutParent schema at table children sql.now → length parent.now ≡ 1
+        → HasCleanDisk (state S.Store tx.new.conn.now) → (contents : Contents) → HaveNone children (bound parent.now) contents → HasContents schema contents (state S.Store tx.old.conn.now).now
+        → HasContents schema (in_table table (without (bound parent.now)) contents) (state S.Store tx.new.conn.now).now) }
 {
-    tx.execute(sql, key)?;
+    tx.execute(sql, parent)?;
     Ok(())
 }

@@ -1,0 +1,29 @@
+//! A hold as a row of the table has it.
+
+use fields::{Class, HoldDate, Id, Reason};
+use std::marker::Model;
+use terms::HoldKind;
+
+/// A hold on a SYSMOD. Its key is the id, the kind and the reason. It is internal if it came inside
+/// the SYSMOD.
+#[derive(Drop)]
+pub struct Hold {
+    pub id: Id,
+    pub kind: HoldKind,
+    pub reason: Reason,
+    pub fmid: Id,
+    pub class: Option<Class>,
+    pub date: Option<HoldDate>,
+    pub comment: Option<String>,
+    pub internal: bool,
+}
+
+impl Model for Hold {
+    ghost use Rattle.std.specs.Prelude.{option_map};
+    ghost use Rattle.std.specs.String.{string_bytes};
+    ghost use Rattle.terms.specs.Types as terms;
+
+    ghost Value = { terms.Hold };
+
+    ghost view = { λ a. record { id = a.id; kind = a.kind; reason = a.reason; fmid = a.fmid; class = a.class; date = a.date; comment = option_map string_bytes a.comment; internal = a.internal } };
+}
