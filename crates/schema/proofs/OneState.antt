@@ -1,5 +1,5 @@
 -- The rows of a database stand for one inventory at most.
-use Rattle.std.proofs.Common.{◌≡◌, inl, inr, ℕ, List, [], map, IsTrue, AllPairs, arith, sym, ap, ap₂, subst, ◌∙◌}
+use Rattle.std.proofs.Common.{◌≡◌, inl, inr, ℕ, List, [], map, IsTrue, AllPairs, false, true≢false, refl, arith, sym, ap, ap₂, subst, ◌∙◌}
 use Rattle.std.specs.List.{flat_map, enumerate_from}
 use Rattle.std.proofs.lemmas.Bool.{or_cases, and_parts}
 use Rattle.std.proofs.lemmas.Slice.Eq.{bytes_eq-Decides}
@@ -16,8 +16,14 @@ use Rattle.terms.specs.declared.kinds.Kind.{Kind}
 use Rattle.terms.specs.declared.kinds.ElemType.{ElemType}
 use Rattle.terms.specs.declared.kinds.ElemType.TheVariants.{Mac, Src, Clist, Data, Exec, Parm, Proc}
 use Rattle.terms.specs.Types.{Text, Id, Lines, hold_number, type_number, IfReq, Ver, Hold, Action, Replaces, Updates, Change, Sysmod, Entry, Element, Zone, NamedZone}
-use Rattle.terms.specs.Lookups.{is_before, is_element_before}
-use Rattle.terms.specs.Global.{is_kind_before, is_hold_before}
+use Rattle.std.specs.declared.cmp.Ordering.{Ordering}
+use Rattle.std.specs.Ordering.{is_lt}
+use Rattle.std.specs.Cmp.{IsTotalOrder}
+use Rattle.terms.specs.Lookups.{is_before, element_key, element_cmp}
+use Rattle.terms.specs.Global.{hold_cmp}
+use Rattle.terms.proofs.RisingLists.{Less-from_is_lt}
+use Rattle.terms.proofs.ElementOrder.{element_cmp_total}
+use Rattle.terms.proofs.GlobalKept.{hold_cmp_total}
 use Rattle.terms.specs.Forms.{IsId}
 use Rattle.schema.specs.Forms.{AreListed, AreRecords, IsTextOf, HasIfForms, HasVerForms, HasActionForms, HasChangeForms, is_change_before, HasSysmodForms, HasEntryForms, HasElementForms}
 use Rattle.schema.specs.Inventory.{Inventory, IsInventory, IsZoneNamed}
@@ -170,23 +176,17 @@ rise_by key xs h = ascending_by key (λ a b. IsTrue (is_before a b)) xs (ascendi
 change_once : (a b : Change) → IsTrue (is_change_before a b) → ¬ IsTrue (is_change_before b a)
 change_once a b = pair_once (type_number a.elem_type) (type_number b.elem_type) (is_before a.name b.name) (is_before b.name a.name) (before_once a.name b.name)
 
-element_once : (a b : Element) → IsTrue (is_element_before a b) → ¬ IsTrue (is_element_before b a)
-element_once a b = pair_once (type_number a.elem_type) (type_number b.elem_type) (is_before a.name b.name) (is_before b.name a.name) (before_once a.name b.name)
+-- what stands before another does not stand behind it
+lower_once : {K : Type 0} {R : K → K → Ordering} → IsTotalOrder R → (a b : K) → IsTrue (is_lt (R a b)) → ¬ IsTrue (is_lt (R b a))
+lower_once {R} o a b low high =
+    let not_high : is_lt (R b a) ≡ false = rw (o.antisymm b a, Less-from_is_lt (R a b) low) refl in
+    true≢false (sym high ∙ not_high)
 
-kind_once : (a b : Hold) → IsTrue (is_kind_before a b) → ¬ IsTrue (is_kind_before b a)
-kind_once a b = pair_once (hold_number a.kind) (hold_number b.kind) (is_before a.reason b.reason) (is_before b.reason a.reason) (before_once a.reason b.reason)
+element_once : (a b : Element) → IsTrue (is_lt (element_cmp (element_key a) (element_key b))) → ¬ IsTrue (is_lt (element_cmp (element_key b) (element_key a)))
+element_once a b = lower_once element_cmp_total (element_key a) (element_key b)
 
-hold_once : (a b : Hold) → IsTrue (is_hold_before a b) → ¬ IsTrue (is_hold_before b a)
-hold_once a b h k = elim (or_cases _ _ h) [
-  | inl low ↦ elim (or_cases _ _ k) [
-    | inl high ↦ before_once a.id b.id low high
-    | inr same ↦ not_before_same a.id b.id (sym ((bytes_eq-Decides b.id a.id).0 (and_parts _ _ same).0)) low
-  ]
-  | inr same ↦ elim (or_cases _ _ k) [
-    | inl high ↦ not_before_same b.id a.id (sym ((bytes_eq-Decides a.id b.id).0 (and_parts _ _ same).0)) high
-    | inr also ↦ kind_once a b (and_parts _ _ same).1 (and_parts _ _ also).1
-  ]
-]
+hold_once : (a b : Hold) → IsTrue (is_lt (hold_cmp a b)) → ¬ IsTrue (is_lt (hold_cmp b a))
+hold_once a b = lower_once hold_cmp_total a b
 
 -- ---- what the rows of one inventory say of another
 
@@ -219,7 +219,7 @@ within i j db p q =
     }
 
 sysmods_rise : (i : Inventory) → IsInventory i → IsAscending (IsBelow (λ (s : Sysmod). s.id)) i.global.sysmods
-sysmods_rise i p = rise_by (λ (s : Sysmod). s.id) i.global.sysmods p.global.sysmods
+sysmods_rise i p = ascending _ _ p.global.sysmods
 
 zones_rise : (i : Inventory) → IsInventory i → IsAscending (IsBelow (λ (z : NamedZone). z.name)) i.zones
 zones_rise i p = rise_by (λ (z : NamedZone). z.name) i.zones p.names
@@ -368,10 +368,10 @@ module _ (i j : Inventory) (p : IsInventory i) (q : IsInventory j) (to : IsWithi
       let srel : y.zone.srel ≡ z.zone.srel = cc in
       let related : y.zone.related ≡ z.zone.related = or_null_same y.zone.related z.zone.related cc in
       let entries : y.zone.entries ≡ z.zone.entries =
-      same_sorted (IsBelow (λ (x : Entry). x.id)) (below_once (λ (x : Entry). x.id)) _ _ (rise_by (λ (x : Entry). x.id) _ a.zone.entries) (rise_by (λ (x : Entry). x.id) _ b.zone.entries)
+      same_sorted (IsBelow (λ (x : Entry). x.id)) (below_once (λ (x : Entry). x.id)) _ _ (ascending _ _ a.zone.entries) (ascending _ _ b.zone.entries)
       (entry_in i j p q to y z hy hz name) (entry_in j i q p from z y hz hy (sym name)) in
       let elements : y.zone.elements ≡ z.zone.elements =
-      same_sorted (λ x w. IsTrue (is_element_before x w)) element_once _ _ (ascending _ _ a.zone.elements) (ascending _ _ b.zone.elements)
+      same_sorted (λ x w. IsTrue (is_lt (element_cmp (element_key x) (element_key w)))) element_once _ _ (ascending _ _ a.zone.elements) (ascending _ _ b.zone.elements)
       (element_in i j p q to y z hy hz name) (element_in j i q p from z y hz hy (sym name)) in
       let v = y.zone in
       let w = z.zone in
@@ -397,7 +397,7 @@ one_inventory db i j si sj =
     let sysmods : i.global.sysmods ≡ j.global.sysmods =
     same_sorted (IsBelow (λ (s : Sysmod). s.id)) (below_once (λ (s : Sysmod). s.id)) _ _ (sysmods_rise i p) (sysmods_rise j q) (sysmod_kept i j p q to from) (sysmod_kept j i q p from to) in
     let holds : i.global.holds ≡ j.global.holds =
-    same_sorted (λ a b. IsTrue (is_hold_before a b)) hold_once _ _ (ascending _ _ p.global.holds) (ascending _ _ q.global.holds) (hold_kept i j p q to from) (hold_kept j i q p from to) in
+    same_sorted (λ a b. IsTrue (is_lt (hold_cmp a b))) hold_once _ _ (ascending _ _ p.global.holds) (ascending _ _ q.global.holds) (hold_kept i j p q to from) (hold_kept j i q p from to) in
     let zones : i.zones ≡ j.zones =
     same_sorted (IsBelow (λ (z : NamedZone). z.name)) (below_once (λ (z : NamedZone). z.name)) _ _ (zones_rise i p) (zones_rise j q) (zone_kept i j p q to from) (zone_kept j i q p from to) in
     ap (λ x. record i { global = record { sysmods = x; holds = i.global.holds } }) sysmods
