@@ -54,7 +54,7 @@ impl<'a> Commands<'a> {
         ensures inline { IfOk result (λ found. IfSome found (λ x. x.words.inline.now ≡ [])) }
         ensures end { IfOk result (λ found. IfNone found (IsIdle (joined self.old.rest.now))) }
         ensures fault { IfErr result (λ e. IsCutFault self.old.number self.old.rest.now e.number (st_fault e.why)) }
-        ensures err { OnErr result (self.new.rest.now ≡ self.old.rest.now) }
+        ensures err { OnErr result (self.new ≡ self.old) }
     {
         let Some(first) = start(self.rest) else {
             return Ok(None);

@@ -40,9 +40,8 @@ impl<'a> Cursor<'a> {
         self.next_byte().is_none()
     }
 
-    /// The text of so many bytes from here on.
+    /// The text of so many bytes from here on, or as many as there are.
     pub fn text(&self, len: usize) -> Text<'a>
-        requires { len ≤ length (rest_of self.now) }
         ensures { text_of result ≡ take len (rest_of self.now) }
     {
         if len <= self.line.len() {

@@ -5,3 +5,4 @@ pub mod Gaps
 pub mod Pieces
 pub mod Lengths
 pub mod Solids
+pub mod Members
