@@ -83,10 +83,11 @@ only_first false text dark e s gap next text_is before member = absurd (false≢
 -- Where a later one begins, behind a comma.
 pub start_comma : (first : Bool) (text dark next dark' : Text) → first ≡ false → SkipsBlanks text dark → dark ≡ 44 ∷ next → SkipsBlanks next dark' → (gap : Text) × (text ≡ gap ++ dark') × IsBefore first gap
 start_comma true text dark next dark' e s comma s' = absurd (false≢true (sym e))
-start_comma false text dark next dark' e s comma s' =
-    (s.gap ++ 44 ∷ s'.gap,
-     s.text_is ∙ ap (λ d. s.gap ++ d) (comma ∙ ap (λ n. 44 ∷ n) s'.text_is) ∙ sym (append_assoc s.gap (44 ∷ s'.gap) dark'),
-     inr (s.gap, s'.gap, refl, s.blanks, s'.blanks))
+start_comma false text dark next dark' e s comma s' = (
+  s.gap ++ 44 ∷ s'.gap,
+  s.text_is ∙ ap (λ d. s.gap ++ d) (comma ∙ ap (λ n. 44 ∷ n) s'.text_is) ∙ sym (append_assoc s.gap (44 ∷ s'.gap) dark'),
+  inr (s.gap, s'.gap, refl, s.blanks, s'.blanks),
+)
 
 pub only_comma : (first : Bool) (text dark next dark' : Text) → first ≡ false → SkipsBlanks text dark → dark ≡ 44 ∷ next → SkipsBlanks next dark' → (gap start : Text) → text ≡ gap ++ start → IsBefore first gap → BeginsMember start → start ≡ dark'
 only_comma true text dark next dark' e s comma s' gap start text_is before member = absurd (false≢true (sym e))
@@ -174,7 +175,7 @@ pub no_run : (line : Text) (more : ℕ) (later : List (List ℕ)) (n : ℕ) → 
 no_run line more later n n_is none word after t =
     let all : drop (prefix_len is_member_byte line) line ≡ line = ap (λ k. drop k line) (sym n_is ∙ none) in
     stops_run (line ++ take more (followed later)) word after
-        (stops_behind line (take more (followed later)) (subst (BeginsOutside is_member_byte) all (back_fails is_member_byte line 0)) (tail_stops more later)) t
+    (stops_behind line (take more (followed later)) (subst (BeginsOutside is_member_byte) all (back_fails is_member_byte line 0)) (tail_stops more later)) t
 
 -- The members that are left, one by one.
 pub has_left : (first : Bool) (text : Text) (m : Word) (after : Text) (ms : List Word) → TakesNext first text m after → HasMore after ms → HasLeft first text (m ∷ ms)

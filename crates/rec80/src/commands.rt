@@ -39,7 +39,10 @@ impl<'a> Records<'a> {
         ensures number { result.number ≡ 1 }
         ensures rest { result.rest.now ≡ self.now.all.now }
     {
-        Commands { number: 1, rest: self.all }
+        Commands {
+            number: 1,
+            rest: self.all,
+        }
     }
 }
 
@@ -70,7 +73,10 @@ impl<'a> Commands<'a> {
         };
         self.number += self.rest.len() - later.len();
         self.rest = later;
-        let words = Words { rest: from, inline: &[] };
+        let words = Words {
+            rest: from,
+            inline: &[],
+        };
         Ok(Some(Command { number, words }))
     }
 }

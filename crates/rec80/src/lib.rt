@@ -12,6 +12,8 @@ mod piece;
 mod read;
 mod scan;
 mod statements;
+#[cfg(test)]
+mod tests;
 mod text;
 mod walk;
 mod words;
@@ -26,4 +28,3 @@ pub use read::records;
 pub use statements::statement;
 pub use text::Text;
 pub use words::{NoWord, Word, Words};
-

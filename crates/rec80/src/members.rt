@@ -32,7 +32,9 @@ fn is_part_of_member(byte: u8) -> bool
 fn member_len(line: &[u8]) -> usize
     ensures { result ≡ prefix_len is_member_byte line.now }
 {
-    line.iter().take_while(|byte| is_part_of_member(**byte)).count()
+    line.iter()
+        .take_while(|byte| is_part_of_member(**byte))
+        .count()
 }
 
 /// The member that begins here, and what follows it. No member runs over the end of a record.
@@ -45,7 +47,14 @@ pub(crate) fn split_member<'a>(text: &Text<'a>) -> Option<(&'a [u8], Text<'a>)>
         return None;
     }
     let (word, line) = text.line.split_at(len);
-    Some((word, Text { line, later: text.later, more: text.more }))
+    Some((
+        word,
+        Text {
+            line,
+            later: text.later,
+            more: text.more,
+        },
+    ))
 }
 
 impl<'a> Text<'a> {
@@ -56,6 +65,9 @@ impl<'a> Text<'a> {
         ensures all { (ms : List grammar.Word) → HasMembers (text_of self.now) ms → LeavesMembers result ms }
         ensures only { (ms : List grammar.Word) → LeavesMembers result ms → HasMembers (text_of self.now) ms }
     {
-        Members { rest: *self, first: true }
+        Members {
+            rest: *self,
+            first: true,
+        }
     }
 }

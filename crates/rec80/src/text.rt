@@ -28,7 +28,10 @@ impl<'a> Text<'a> {
             return None;
         }
         let (card, later) = self.later.split_first()?;
-        let next = Cursor { line: columns(card), later };
+        let next = Cursor {
+            line: columns(card),
+            later,
+        };
         Some(next.text(self.more - 1))
     }
 
@@ -37,7 +40,14 @@ impl<'a> Text<'a> {
         ensures { MatchOption result (text_of self.now ≡ []) (λ x. text_of self.now ≡ x.0 ∷ text_of x.1) }
     {
         if let Some((byte, line)) = self.line.split_first() {
-            return Some((*byte, Text { line, later: self.later, more: self.more }));
+            return Some((
+                *byte,
+                Text {
+                    line,
+                    later: self.later,
+                    more: self.more,
+                },
+            ));
         }
         let next = self.next_line()?;
         Some((b' ', next))
@@ -57,9 +67,17 @@ impl<'a> Text<'a> {
         ensures { text_of result ≡ take len (text_of self.now) }
     {
         if len <= self.line.len() {
-            Text { line: &self.line[..len], later: self.later, more: 0 }
+            Text {
+                line: &self.line[..len],
+                later: self.later,
+                more: 0,
+            }
         } else {
-            Text { line: self.line, later: self.later, more: len - self.line.len() }
+            Text {
+                line: self.line,
+                later: self.later,
+                more: len - self.line.len(),
+            }
         }
     }
 }

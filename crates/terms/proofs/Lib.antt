@@ -6,3 +6,4 @@ pub mod Pieces
 pub mod Lengths
 pub mod Solids
 pub mod Members
+pub mod Exact
