@@ -24,8 +24,8 @@ chunks_are_records zero bytes within printable = All-nil IsRecord
 chunks_are_records (suc k) bytes within printable =
     let more : k * 80 ≤ length (drop 80 bytes) = omega (arith, length-drop 80 bytes) in
     All-cons IsRecord (take 80 bytes) (first_chunks 80 k (drop 80 bytes))
-        (length-take-le 80 bytes (omega arith), All-take IsPrintable 80 bytes printable)
-        (chunks_are_records k (drop 80 bytes) more (All-drop IsPrintable 80 bytes printable))
+    (length-take-le 80 bytes (omega arith), All-take IsPrintable 80 bytes printable)
+    (chunks_are_records k (drop 80 bytes) more (All-drop IsPrintable 80 bytes printable))
 
 pub whole_file : (bytes : List ℕ) → length bytes % 80 ≡ 0 → All IsPrintable (joined_chunks (length bytes / 80) bytes) → HasRecords bytes (first_chunks 80 (length bytes / 80) bytes)
 whole_file bytes whole printable =

@@ -59,19 +59,20 @@ later_within records first from ps tail later s e =
 
 pub takes_command : (n : ℕ) (records : List (List ℕ)) (first from : Cursor) (ps : List Piece) (tail : Text) (later : List (List ℕ)) → StandsBehind records first from → EndsFrom from ps tail later → IsIdle tail
     → (pieces : List Piece) × TakesCommand n records pieces (n + (length records - length from.later.now - 1)) (n + (length records - length later)) later × HasSolid (rest_of from) pieces
-takes_command n records first from ps tail later s e idle =
-    (solid ps,
-     record {
-       gap = s.skips.gap;
-       own = ps;
-       tail = tail;
-       begins = begins n records first from s;
-       ends = ends records first from ps tail later s e;
-       idle = idle;
-       pieces_are = refl;
-       next_is = omega (arith, later_within records first from ps tail later s e);
-     },
-     (ps, tail ++ followed later, e.has_pieces, refl))
+takes_command n records first from ps tail later s e idle = (
+  solid ps,
+  record {
+    gap = s.skips.gap;
+    own = ps;
+    tail = tail;
+    begins = begins n records first from s;
+    ends = ends records first from ps tail later s e;
+    idle = idle;
+    pieces_are = refl;
+    next_is = omega (arith, later_within records first from ps tail later s e);
+  },
+  (ps, tail ++ followed later, e.has_pieces, refl),
+)
 
 breaks_off : (records : List (List ℕ)) (first from : Cursor) (why : StmtError) → (s : StandsBehind records first from) → BreaksFrom from why → (own : List Piece) × BreaksOff records (s.skips.gap ++ own) (st_fault why)
 breaks_off records first from NoPeriod s b = (b.0, behind_gap records first from b.0 [] s b.1)

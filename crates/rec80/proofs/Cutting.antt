@@ -32,18 +32,21 @@ takes_word_piece line word line' later n n_is word_is line'_is first =
     let some = some_word line later first in
     let cut : line ≡ word ++ line' = sym (take-append-drop n line) ∙ ap (λ w. w ++ drop n line) (sym word_is) ∙ ap (λ l. word ++ l) (sym line'_is) in
     let word_is' : take (prefix_len is_word_byte line) line ≡ word = ap (λ k. take k line) (sym n_is) ∙ sym word_is in
-    let line_is' : drop (prefix_len is_word_byte line) line ≡ line' = ap (λ k. drop k line) (sym n_is) ∙ sym line'_is in
-    (ap (λ l. l ++ followed later) cut ∙ append_assoc word line' (followed later),
-     (omega (arith, ap length word_is, len, some, n_is), subst (λ w. All (λ b. IsTrue (is_word_byte b)) w) word_is' (front_passes is_word_byte line)),
-     no_word_behind line' later (subst (BeginsOutside is_word_byte) line_is' (back_fails is_word_byte line 0)))
+    let line_is' : drop (prefix_len is_word_byte line) line ≡ line' = ap (λ k. drop k line) (sym n_is) ∙ sym line'_is in (
+      ap (λ l. l ++ followed later) cut ∙ append_assoc word line' (followed later),
+      (omega (arith, ap length word_is, len, some, n_is), subst (λ w. All (λ b. IsTrue (is_word_byte b)) w) word_is' (front_passes is_word_byte line)),
+      no_word_behind line' later (subst (BeginsOutside is_word_byte) line_is' (back_fails is_word_byte line 0)),
+    )
 
 pub ahead_cut : (old new : Cursor) (n : ℕ) (word : Text) → word ≡ take n old.line.now → new.line.now ≡ drop n old.line.now → new.later.now ≡ old.later.now → IsAhead old new
 ahead_cut old new n word word_is line_is same = record {
-  stays = λ records h.
-    (h.0, record {
+  stays = λ records h. (
+    h.0,
+    record {
       at = h.1.at;
       head = h.1.head ++ word;
       records_are = rw same h.1.records_are;
       line_is = h.1.line_is ∙ ap (λ l. h.1.head ++ l) (sym (take-append-drop n old.line.now) ∙ ap (λ w. w ++ drop n old.line.now) (sym word_is) ∙ ap (λ l. word ++ l) (sym line_is)) ∙ sym (append_assoc h.1.head word new.line.now);
-    });
+    },
+  );
 }

@@ -24,8 +24,10 @@ pub ends_from : (from at : Cursor) (stop : Stop) (tail : Text) → stop ≡ Peri
     → (ps : List Piece) × EndsFrom from ps tail at.later.now
 ends_from from at stop tail is stops w ahead tail_is =
     let p = at_period at stop is stops in
-    let line_is : at.line.now ≡ 46 ∷ tail = p.1 ∙ ap (λ t. 46 ∷ t) (sym (tail_is ∙ ap (drop 1) p.1)) in
-    (w.0, record {
-      has_pieces = subst (λ l. HasPieces (rest_of from) w.0 (l ++ followed at.later.now)) line_is w.1;
-      place = λ records h. let r = ahead.stays records h in (r.0, subst (λ l. IsPlace records r.0 l at.later.now) line_is r.1);
-    })
+    let line_is : at.line.now ≡ 46 ∷ tail = p.1 ∙ ap (λ t. 46 ∷ t) (sym (tail_is ∙ ap (drop 1) p.1)) in (
+      w.0,
+      record {
+        has_pieces = subst (λ l. HasPieces (rest_of from) w.0 (l ++ followed at.later.now)) line_is w.1;
+        place = λ records h. let r = ahead.stays records h in (r.0, subst (λ l. IsPlace records r.0 l at.later.now) line_is r.1);
+      },
+    )

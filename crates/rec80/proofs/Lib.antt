@@ -8,3 +8,4 @@ pub mod Ending
 pub mod Reading
 pub mod Stating
 pub mod Commanding
+pub mod Listing

@@ -30,11 +30,11 @@ ahead_trans a b c p q = record { stays = λ records h. q.stays records (p.stays 
 pub ahead_byte : (old new : Cursor) (b : ℕ) → old.line.now ≡ b ∷ new.line.now → new.later.now ≡ old.later.now → IsAhead old new
 ahead_byte old new b line_is same = record {
   stays = λ records h.
-    (h.0, rw same (next_place records h.0 old.line.now new.line.now b old.later.now line_is h.1));
+      (h.0, rw same (next_place records h.0 old.line.now new.line.now b old.later.now line_is h.1));
 }
 
 pub ahead_record : (old new : Cursor) (r : List ℕ) → old.later.now ≡ r ∷ new.later.now → new.line.now ≡ front r → IsAhead old new
 ahead_record old new r later_are line_is = record {
   stays = λ records h.
-    (h.0 ++ h.1.at ∷ [], rw line_is (next_record records h.0 old.later.now new.later.now old.line.now r later_are h.1));
+      (h.0 ++ h.1.at ∷ [], rw line_is (next_record records h.0 old.later.now new.later.now old.line.now r later_are h.1));
 }

@@ -12,6 +12,10 @@ rest_of c = c.line.now ++ followed c.later.now
 abbrev pub text_of : Text → List ℕ
 text_of t = t.line.now ++ take t.more (followed t.later.now)
 
+-- what of it stands in the first record
+abbrev pub line_of : Text → List ℕ
+line_of t = t.line.now
+
 -- The cursor is at a place in the records, behind so many of them.
 abbrev pub IsIn : List (List ℕ) → Cursor → Type 0
 IsIn records c = (before : List (List ℕ)) × IsPlace records before c.line.now c.later.now

@@ -3,3 +3,4 @@ pub mod Views
 pub mod Cursors
 pub mod Pieces
 pub mod Walks
+pub mod Lists

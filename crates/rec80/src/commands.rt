@@ -39,7 +39,10 @@ impl<'a> Records<'a> {
         ensures number { result.number ≡ 1 }
         ensures rest { result.rest.now ≡ self.now.all.now }
     {
-        Commands { number: 1, rest: self.all }
+        Commands {
+            number: 1,
+            rest: self.all,
+        }
     }
 }
 
@@ -54,7 +57,7 @@ impl<'a> Commands<'a> {
         ensures inline { IfOk result (λ found. IfSome found (λ x. x.words.inline.now ≡ [])) }
         ensures end { IfOk result (λ found. IfNone found (IsIdle (joined self.old.rest.now))) }
         ensures fault { IfErr result (λ e. IsCutFault self.old.number self.old.rest.now e.number (st_fault e.why)) }
-        ensures err { OnErr result (self.new.rest.now ≡ self.old.rest.now) }
+        ensures err { OnErr result (self.new ≡ self.old) }
     {
         let Some(first) = start(self.rest) else {
             return Ok(None);
@@ -70,7 +73,10 @@ impl<'a> Commands<'a> {
         };
         self.number += self.rest.len() - later.len();
         self.rest = later;
-        let words = Words { rest: from, inline: &[] };
+        let words = Words {
+            rest: from,
+            inline: &[],
+        };
         Ok(Some(Command { number, words }))
     }
 }

@@ -26,10 +26,22 @@ impl<'a> Cursor<'a> {
         ensures ahead { IfSome result (λ x. IsAhead self.now x.1) }
     {
         if let Some((byte, line)) = self.line.split_first() {
-            return Some((*byte, Cursor { line, later: self.later }));
+            return Some((
+                *byte,
+                Cursor {
+                    line,
+                    later: self.later,
+                },
+            ));
         }
         let (card, later) = self.later.split_first()?;
-        Some((b' ', Cursor { line: columns(card), later }))
+        Some((
+            b' ',
+            Cursor {
+                line: columns(card),
+                later,
+            },
+        ))
     }
 
     /// Whether nothing follows.
@@ -40,15 +52,22 @@ impl<'a> Cursor<'a> {
         self.next_byte().is_none()
     }
 
-    /// The text of so many bytes from here on.
+    /// The text of so many bytes from here on, or as many as there are.
     pub fn text(&self, len: usize) -> Text<'a>
-        requires { len ≤ length (rest_of self.now) }
         ensures { text_of result ≡ take len (rest_of self.now) }
     {
         if len <= self.line.len() {
-            Text { line: &self.line[..len], later: self.later, more: 0 }
+            Text {
+                line: &self.line[..len],
+                later: self.later,
+                more: 0,
+            }
         } else {
-            Text { line: self.line, later: self.later, more: len - self.line.len() }
+            Text {
+                line: self.line,
+                later: self.later,
+                more: len - self.line.len(),
+            }
         }
     }
 }

@@ -62,10 +62,15 @@ impl<'a> Records<'a> {
         ensures ok { IfOk result (λ groups. (groups.number ≡ 1) × (groups.rest.now ≡ self.now.all.now)) }
         ensures outside { IsErr result ↔ IsTrue (starts_outside self.now.all.now) }
     {
-        if let Some(card) = self.all.first() && !is_first(card) {
+        if let Some(card) = self.all.first()
+            && !is_first(card)
+        {
             return Err(StartsOutside);
         }
-        Ok(Groups { number: 1, rest: self.all })
+        Ok(Groups {
+            number: 1,
+            rest: self.all,
+        })
     }
 }
 

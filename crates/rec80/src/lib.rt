@@ -6,10 +6,14 @@ mod cursor;
 mod errors;
 mod files;
 mod groups;
+mod lists;
+mod members;
 mod piece;
 mod read;
 mod scan;
 mod statements;
+#[cfg(test)]
+mod tests;
 mod text;
 mod walk;
 mod words;
@@ -18,9 +22,9 @@ pub use commands::{Command, CommandError, Commands};
 pub use errors::{RecError, StmtError};
 pub use files::{Record, Records};
 pub use groups::{Group, Groups, StartsOutside};
+pub use members::{Members, NoMembers};
 pub use piece::Piece;
 pub use read::records;
 pub use statements::statement;
 pub use text::Text;
 pub use words::{NoWord, Word, Words};
-

@@ -45,14 +45,21 @@ pub fn behind_gap<'a>(at: &Cursor<'a>) -> Option<Cursor<'a>>
 fn is_part_of_word(byte: u8) -> bool
     ensures { result ≡ is_word_byte byte }
 {
-    byte.is_ascii_uppercase() || byte.is_ascii_digit() || byte == b'$' || byte == b'#' || byte == b'@' || byte == b'+'
+    byte.is_ascii_uppercase()
+        || byte.is_ascii_digit()
+        || byte == b'$'
+        || byte == b'#'
+        || byte == b'@'
+        || byte == b'+'
 }
 
 /// How many bytes of a word come first.
 fn word_len(line: &[u8]) -> usize
     ensures { result ≡ prefix_len is_word_byte line.now }
 {
-    line.iter().take_while(|byte| is_part_of_word(**byte)).count()
+    line.iter()
+        .take_while(|byte| is_part_of_word(**byte))
+        .count()
 }
 
 /// The word that begins here, and the place behind it. No word runs over the end of a record.
@@ -62,7 +69,13 @@ fn split_word<'a>(at: &Cursor<'a>) -> (&'a [u8], Cursor<'a>)
     ensures ahead { IsAhead at.now result.1 }
 {
     let (word, line) = at.line.split_at(word_len(at.line));
-    (word, Cursor { line, later: at.later })
+    (
+        word,
+        Cursor {
+            line,
+            later: at.later,
+        },
+    )
 }
 
 /// The piece that begins here, and the place behind it.

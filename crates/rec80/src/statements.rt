@@ -18,7 +18,10 @@ pub fn start<'a>(records: &'a [Record]) -> Option<Cursor<'a>>
     ensures none { IfNone result (records.now ≡ []) }
 {
     let (first, later) = records.split_first()?;
-    Some(Cursor { line: columns(first), later })
+    Some(Cursor {
+        line: columns(first),
+        later,
+    })
 }
 
 /// The words and the inline records of a statement, or what is wrong with its form.

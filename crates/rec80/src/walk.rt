@@ -41,7 +41,10 @@ fn is_idle(tail: &[u8]) -> bool
     ensures idle { IsTrue result → IsIdle tail.now }
     ensures text { result ≡ false → IsIdle tail.now → ⊥ }
 {
-    let end = behind_gaps(&Cursor { line: tail, later: &[] });
+    let end = behind_gaps(&Cursor {
+        line: tail,
+        later: &[],
+    });
     end.is_end()
 }
 

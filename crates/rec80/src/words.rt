@@ -64,7 +64,10 @@ impl<'a> Words<'a> {
         let behind = behind_gaps(&next);
         if let Some((list, after)) = own_list(&behind) {
             self.rest = after;
-            return Ok(Some(Word { word, list: Some(list) }));
+            return Ok(Some(Word {
+                word,
+                list: Some(list),
+            }));
         }
         self.rest = behind;
         Ok(Some(Word { word, list: None }))

@@ -24,3 +24,5 @@ pub mod Lengths
 pub mod Solids
 pub mod ElementOrder
 pub mod Edits
+pub mod Members
+pub mod Exact

@@ -1,5 +1,5 @@
 -- The words of a statement or a command, and the members of their lists.
-use Rattle.std.specs.Prelude.{◌≡◌, ◌≤◌, ◌≢◌, ◌<◌, ℕ, List, [], ◌∷◌, ◌++◌, length, map, All, AllPairs, ◌⊎◌, Option, Some, None}
+use Rattle.std.specs.Prelude.{◌≡◌, ◌≤◌, ◌≢◌, ◌<◌, ℕ, Bool, true, false, not, ◌==◌, ◌||◌, List, [], ◌∷◌, ◌++◌, length, map, All, AllPairs, ◌⊎◌, Option, Some, None}
 use Rattle.std.specs.List.{flat_map}
 use Rattle.terms.specs.Types.{Text}
 use Rattle.terms.specs.Statement.{Piece, TheWord, TheList}
@@ -38,32 +38,62 @@ BeginsNoWords [] = ⊥
 BeginsNoWords (TheWord word ∷ ps) = ⊥
 BeginsNoWords (_ ∷ ps) = Unit {0}
 
--- a character of a list's member
-abbrev pub IsMemberByte : ℕ → Type 0
-IsMemberByte b = (b ≢ 32) × (b ≢ 44) × (b ≢ 40) × (b ≢ 41)
+-- a character of a list's member, and one of a member's own list
+abbrev pub is_member_byte : ℕ → Bool
+is_member_byte b = not (b == 32 || b == 44 || b == 40 || b == 41)
 
-abbrev pub IsMember : Text → Type 0
-IsMember text = (0 < length text) × All IsMemberByte text
+abbrev pub is_inner_byte : ℕ → Bool
+is_inner_byte b = not (b == 40 || b == 41)
 
--- The text has the member after blanks, with its own list where it has one. Blanks may stand before that list.
-abbrev pub TakesMember : Text → Option Text → Text → Text → Type 0
-TakesMember word None text rest = (gap : Text) × AreBlanks gap × (text ≡ gap ++ word ++ rest)
-TakesMember word (Some list) text rest =
-    (gap between : Text) × AreBlanks gap × AreBlanks between × All (λ b. (b ≢ 40) × (b ≢ 41)) list
-    × (text ≡ gap ++ word ++ between ++ 40 ∷ list ++ 41 ∷ rest)
+-- nothing, or a character first that fails the test
+abbrev pub Stops : (ℕ → Bool) → Text → Type 0
+Stops test [] = Unit {0}
+Stops test (b ∷ bs) = test b ≡ false
+
+-- The text begins with the word, which goes as far as its characters do.
+pub record TakesRun (text word after : Text) : Type 0 where
+  pub text_is : text ≡ word ++ after
+  pub some : 0 < length word
+  pub each : All (λ b. is_member_byte b ≡ true) word
+  pub ends : Stops is_member_byte after
+
+-- A list comes, or blanks and a list.
+abbrev pub BeginsInner : Text → Type 0
+BeginsInner text = (gap rest : Text) × AreBlanks gap × (text ≡ gap ++ 40 ∷ rest)
+
+-- a member's own list, where it has one
+abbrev pub TakesInner : Text → Option Text → Text → Type 0
+TakesInner text None after = (text ≡ after) × (BeginsInner text → ⊥)
+TakesInner text (Some list) after =
+    (gap : Text) × AreBlanks gap × All (λ b. is_inner_byte b ≡ true) list × (text ≡ gap ++ (40 ∷ list ++ 41 ∷ after))
+
+-- a member with its own list, which is one of BYPASS alone
+abbrev pub TakesMember : Text → Word → Text → Type 0
+TakesMember text m after = (behind : Text) × TakesRun text m.word behind × TakesInner behind m.list after
 
 -- blanks, or one comma with blanks around it
 abbrev pub IsSeparator : Text → Type 0
-IsSeparator text = (0 < length text) × (AreBlanks text
-    ⊎ ((left right : Text) × (text ≡ left ++ 44 ∷ right) × AreBlanks left × AreBlanks right))
+IsSeparator text = ((0 < length text) × AreBlanks text)
+    ⊎ ((left right : Text) × (text ≡ left ++ 44 ∷ right) × AreBlanks left × AreBlanks right)
 
--- The text of a list has these members, at least one. A member of its own list is one of BYPASS alone.
+-- what stands before the first member, and before a later one
+abbrev pub IsBefore : Bool → Text → Type 0
+IsBefore true gap = AreBlanks gap
+IsBefore false gap = IsSeparator gap
+
+-- the first member, or a later one, with what stands before it
+abbrev pub TakesNext : Bool → Text → Word → Text → Type 0
+TakesNext first text m after = (gap next : Text) × (text ≡ gap ++ next) × IsBefore first gap × TakesMember next m after
+
+-- The text behind a member has these further ones.
+abbrev pub HasMore : Text → List Word → Type 0
+HasMore text [] = AreBlanks text
+HasMore text (m ∷ ms) = (after : Text) × TakesNext false text m after × HasMore after ms
+
+-- The text of a list has these members, at least one.
 abbrev pub HasMembers : Text → List Word → Type 0
 HasMembers text [] = ⊥
-HasMembers text (m ∷ []) = (rest : Text) × IsMember m.word × TakesMember m.word m.list text rest × AreBlanks rest
-HasMembers text (m ∷ n ∷ ms) =
-    (rest gap next : Text) × IsMember m.word × TakesMember m.word m.list text rest
-    × (rest ≡ gap ++ next) × IsSeparator gap × HasMembers next (n ∷ ms)
+HasMembers text (m ∷ ms) = (after : Text) × TakesNext true text m after × HasMore after ms
 
 -- a member without a list of its own
 abbrev pub plain : Text → Word

@@ -13,5 +13,5 @@ returns-then-is_some-clause-stop c =
 pub returns-clause-piece : goal.returns-clause-piece
 returns-clause-piece c =
     takes_stray _ (rest_of c.in-Some.next) c.in-Some.byte c.requires c.in-Some.ensures.text
-        (sym c.is_part_of_word.ensures ∙ c.if-is_part_of_word.false) c.if-byte-eq46.false c.if-byte-eq41.false c.if-byte-eq40.false
-        (sym c.behind_both.ensures.found ∙ sym c.is_some.ensures ∙ c.if-is_some.false)
+    (sym c.is_part_of_word.ensures ∙ c.if-is_part_of_word.false) c.if-byte-eq46.false c.if-byte-eq41.false c.if-byte-eq40.false
+    (sym c.behind_both.ensures.found ∙ sym c.is_some.ensures ∙ c.if-is_some.false)

@@ -15,7 +15,7 @@ returns-in_default-clause-end c = λ pieces h.
 pub returns-in_default-piece : goal.returns-in_default-piece
 returns-in_default-piece c =
     let bad : (pieces : List grammar.Piece) → HasSolid (left_of c.args.self.now) pieces → BeginsNoWords pieces =
-        λ pieces h. reads_no_word _ (rest_of c.behind_gaps-at.result) (rest_of c.in-Ok.next) c.in-Ok.piece pieces c.behind_gaps-at.ensures.gaps c.in-Ok.ensures.piece c.in_default-piece.not-Word h in
+    λ pieces h. reads_no_word _ (rest_of c.behind_gaps-at.result) (rest_of c.in-Ok.next) c.in-Ok.piece pieces c.behind_gaps-at.ensures.gaps c.in-Ok.ensures.piece c.in_default-piece.not-Word h in
     record { word = λ pieces h. tt; end = λ pieces h. tt; bad = bad; err = refl; inline = refl }
 
 pub returns-in-Some-clause-word : goal.returns-in-Some-clause-word

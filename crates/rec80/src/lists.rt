@@ -1,0 +1,134 @@
+ghost use Rattle.std.specs.Prelude.{◌≡◌, ◌++◌, ℕ, false, List, Option, [], ◌∷◌, All, true, IfOk, IfSome, IfNone, OnErr, MatchOption, option_map};
+ghost use Rattle.terms.specs.Words.{is_inner_byte, TakesInner, Stops, IsBefore, TakesNext};
+ghost use Rattle.terms.specs.Words as grammar;
+ghost use Rattle.terms.specs.Forms.{AreBlanks};
+ghost use Rattle.terms.proofs.Members.{BeginsMember};
+ghost use Rattle.rec80.specs.Cursors.{text_of};
+ghost use Rattle.rec80.specs.Lists.{SkipsBlanks, LeavesMembers};
+ghost use Rattle.rec80.specs.Views.{word_of};
+
+use crate::members::{Members, NoMembers, split_member};
+use crate::text::Text;
+use crate::words::Word;
+
+/// What follows the blanks.
+fn behind_blanks<'a>(text: &Text<'a>) -> Text<'a>
+    ensures { SkipsBlanks (text_of text.now) (text_of result) }
+{
+    let mut at = *text;
+    while let Some((byte, next)) = at.next_byte() {
+        if byte != b' ' {
+            return at;
+        }
+        at = next;
+    }
+    at
+}
+
+/// What comes before the first parenthesis, and what follows.
+fn split_inner<'a>(inside: &Text<'a>) -> (Text<'a>, Text<'a>)
+    ensures cut { text_of inside.now ≡ text_of result.0 ++ text_of result.1 }
+    ensures each { All (λ b. is_inner_byte b ≡ true) (text_of result.0) }
+    ensures stops { Stops is_inner_byte (text_of result.1) }
+{
+    let mut at = *inside;
+    let mut len = 0;
+    while let Some((byte, next)) = at.next_byte() {
+        if byte == b'(' || byte == b')' {
+            return (inside.front(len), at);
+        }
+        len += 1;
+        at = next;
+    }
+    (inside.front(len), at)
+}
+
+/// What follows the byte, if the text begins with it.
+fn behind_byte<'a>(text: &Text<'a>, byte: u8) -> Option<Text<'a>>
+    ensures found { IfSome result (λ next. text_of text.now ≡ byte ∷ text_of next) }
+    ensures none { IfNone result ((next : List ℕ) → text_of text.now ≡ byte ∷ next → ⊥) }
+{
+    let (first, next) = text.next_byte()?;
+    if first == byte { Some(next) } else { None }
+}
+
+/// A member's own list, if it has one, and what follows. None: a list begins and does not close.
+fn own_list<'a>(behind: &Text<'a>) -> Option<(Option<Text<'a>>, Text<'a>)>
+    ensures list { IfSome result (λ x. TakesInner (text_of behind.now) (option_map text_of x.0) (text_of x.1)) }
+    ensures none { IfNone result ((list : Option (List ℕ)) (after : List ℕ) → TakesInner (text_of behind.now) list after → ⊥) }
+{
+    let dark = behind_blanks(behind);
+    let Some(inside) = behind_byte(&dark, b'(') else {
+        return Some((None, *behind));
+    };
+    let (list, close) = split_inner(&inside);
+    let Some(after) = behind_byte(&close, b')') else {
+        return None;
+    };
+    Some((Some(list), after))
+}
+
+/// Where the next member begins, if one may begin there.
+fn member_start<'a>(rest: &Text<'a>, first: bool) -> Option<Text<'a>>
+    ensures start { IfSome result (λ t. (gap : List ℕ) × (text_of rest.now ≡ gap ++ text_of t) × IsBefore first gap) }
+    ensures only { (gap next : List ℕ) → text_of rest.now ≡ gap ++ next → IsBefore first gap → BeginsMember next → MatchOption result ⊥ (λ t. next ≡ text_of t) }
+{
+    let dark = behind_blanks(rest);
+    if first {
+        return Some(dark);
+    }
+    if let Some(next) = behind_byte(&dark, b',') {
+        return Some(behind_blanks(&next));
+    }
+    let Some(_) = behind_byte(rest, b' ') else {
+        return None;
+    };
+    Some(dark)
+}
+
+/// The next member, and what follows it.
+fn member_in<'a>(rest: &Text<'a>, first: bool) -> Option<(Word<'a>, Text<'a>)>
+    ensures member { IfSome result (λ x. TakesNext first (text_of rest.now) (word_of x.0) (text_of x.1)) }
+    ensures none { IfNone result ((m : grammar.Word) (after : List ℕ) → TakesNext first (text_of rest.now) m after → ⊥) }
+{
+    let Some(start) = member_start(rest, first) else {
+        return None;
+    };
+    let Some((word, behind)) = split_member(&start) else {
+        return None;
+    };
+    let Some((list, after)) = own_list(&behind) else {
+        return None;
+    };
+    Some((Word { word, list }, after))
+}
+
+/// Whether only blanks are left.
+fn is_blank(rest: &Text) -> bool
+    ensures blank { result ≡ true → AreBlanks (text_of rest.now) }
+    ensures dark { result ≡ false → AreBlanks (text_of rest.now) → ⊥ }
+{
+    behind_blanks(rest).is_end()
+}
+
+impl<'a> Members<'a> {
+    /// Takes the next member, with its own list. Behind the last one there is none. An `Err` changes nothing.
+    pub fn next_member(&mut self) -> Result<Option<Word<'a>>, NoMembers>
+        ensures member { IfOk result (λ found. IfSome found (λ m. (ms : List grammar.Word) → LeavesMembers self.new ms → LeavesMembers self.old (word_of m ∷ ms))) }
+        ensures only { IfOk result (λ found. IfSome found (λ m. (ms : List grammar.Word) → LeavesMembers self.old ms → (rest : List grammar.Word) × (ms ≡ word_of m ∷ rest) × LeavesMembers self.new rest)) }
+        ensures end { IfOk result (λ found. IfNone found (LeavesMembers self.old [])) }
+        ensures end_only { IfOk result (λ found. IfNone found ((ms : List grammar.Word) → LeavesMembers self.old ms → ms ≡ [])) }
+        ensures bad { OnErr result ((ms : List grammar.Word) → LeavesMembers self.old ms → ⊥) }
+        ensures err { OnErr result (self.new ≡ self.old) }
+    {
+        if !self.first && is_blank(&self.rest) {
+            return Ok(None);
+        }
+        let Some((member, after)) = member_in(&self.rest, self.first) else {
+            return Err(NoMembers);
+        };
+        self.rest = after;
+        self.first = false;
+        Ok(Some(member))
+    }
+}
