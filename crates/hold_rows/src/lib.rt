@@ -3,7 +3,9 @@
 
 mod hold;
 mod kinds;
+mod reading;
 mod writing;
 
 pub use hold::Hold;
+pub use reading::load_holds;
 pub use writing::{put_hold, remove_hold};

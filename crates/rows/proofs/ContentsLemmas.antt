@@ -23,7 +23,7 @@ use Rattle.sqlite_rules.proofs.ListLemmas.{all_has}
 use Rattle.sqlite.proofs.RunLemmas.{has_got}
 use Rattle.rows.specs.Rows.{shown, has_key, AreRows, AreFound, Contents, in_table}
 use Rattle.rows.specs.Texts.{key_tests, IsTableOf}
-use Rattle.rows.proofs.RowLemmas.{put_adds, put_numbered, deleted, filter_numbered}
+use Rattle.rows.proofs.RowLemmas.{put_adds, put_numbered, deleted, filter_numbered, filter_all}
 
 -- past its end a row has NULL
 pub past_end : (r : Row) (at : ℕ) → length r ≤ at → column r at ≡ Null
@@ -95,3 +95,10 @@ held_at schema at table contents db there h = all_has (λ t. AreRows t (contents
 -- what a query found is what the table holds with the key
 pub found_are : (table : Table) (key : Row) (held found rows : List Row) → AreRows table held rows → AreFound table key found rows → IsPermutation found (filter (has_key key) held)
 found_are table key held found rows are h = IsPermutation-trans _ _ _ h (IsPermutation-filter (has_key key) _ _ (IsPermutation-sym _ _ are.same))
+
+-- with no key a query finds what the table holds
+pub all_found : (table : Table) (held found rows : List Row) → AreRows table held rows → AreFound table [] found rows → IsPermutation found held
+all_found table held found rows are h = subst (IsPermutation found) (filter_all held) (found_are table [] held found rows are h)
+
+pub found_all : (table : Table) (held found rows : List Row) → AreRows table held rows → IsPermutation found held → AreFound table [] found rows
+found_all table held found rows are h = subst (IsPermutation found) (sym (filter_all (map (shown table) rows))) (IsPermutation-trans _ _ _ h are.same)

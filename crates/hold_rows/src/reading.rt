@@ -1,0 +1,172 @@
+//! All holds of the table.
+
+ghost use Rattle.std.specs.Prelude.{◌≡◌, ◌≢◌, ◌↔◌, ℕ, false, List, Option, Bool, map, option_map, IsTrue, IsUtf8, IfOk, IfSome, IfNone, OnOk, IsErrOf, IsPermutation};
+ghost use Rattle.std.specs.List.{AllByRecursion};
+ghost use Rattle.std.specs.String.{string_bytes};
+ghost use Rattle.sqlite.specs.declared.types.Value.TheVariants.{Text};
+ghost use Rattle.sqlite.specs.Held.{state};
+ghost use Rattle.sqlite.specs.Order.{column};
+ghost use Rattle.sqlite.specs.State.{HasCleanDisk, IsUnchanged, KeepsCommit, Survives};
+ghost use Rattle.sqlite.specs.Values.{or_null};
+ghost use Rattle.rows.specs.Rows.{Contents, HasContents};
+ghost use Rattle.schema.specs.Rows.{hold_row, flag as flag_of};
+ghost use Rattle.schema.specs.Tables.{hold as hold_table, store_schema};
+ghost use Rattle.terms.specs.Forms.{IsId, IsClass, IsDate, IsReason};
+ghost use Rattle.terms.specs.Spelling.{hold_text};
+ghost use Rattle.terms.specs.Types as terms;
+ghost use Rattle.hold_rows.specs.Read.{HasReadForms};
+
+use crate::hold::Hold;
+use crate::kinds::kind_of;
+use fields::{Class, HoldDate, Id, Reason};
+use rows::{FromRow, ReadError, load, optional_text, text, whole};
+use sqlite::{Alter, Connection, Row};
+use std::alloc::Global;
+use terms::HoldKind;
+
+fn id_in(row: &Row, at: usize) -> Option<Id>
+    ensures some { IfSome result (λ id. (column row.now at ≡ Text id) × IsId id) }
+    ensures none { IfNone result ((id : List ℕ) → IsId id → column row.now at ≢ Text id) }
+{
+    Id::read(text(row, at)?)
+}
+
+fn kind_in(row: &Row, at: usize) -> Option<HoldKind>
+    ensures some { IfSome result (λ kind. column row.now at ≡ Text (hold_text kind)) }
+    ensures none { IfNone result ((kind : HoldKind) → column row.now at ≢ Text (hold_text kind)) }
+{
+    kind_of(text(row, at)?)
+}
+
+/// Whether the reason suits the kind.
+fn suits(kind: HoldKind, reason: Reason) -> bool
+    ensures { IsTrue result ↔ IsReason kind reason }
+{
+    match kind {
+        HoldKind::Error => reason.is_id(),
+        _ => true,
+    }
+}
+
+fn reason_in(row: &Row, at: usize, kind: HoldKind) -> Option<Reason>
+    ensures some { IfSome result (λ reason. (column row.now at ≡ Text reason) × IsReason kind reason) }
+    ensures none { IfNone result ((reason : List ℕ) → IsReason kind reason → column row.now at ≢ Text reason) }
+{
+    let reason = Reason::read(text(row, at)?)?;
+    if !suits(kind, reason) {
+        return None;
+    }
+    Some(reason)
+}
+
+fn class_in(row: &Row, at: usize) -> Option<Option<Class>>
+    ensures some { IfSome result (λ class. (column row.now at ≡ or_null Text class) × IfSome class IsClass) }
+    ensures none { IfNone result ((class : Option (List ℕ)) → IfSome class IsClass → column row.now at ≢ or_null Text class) }
+{
+    match optional_text(row, at)? {
+        Some(text) => Some(Some(Class::read(text)?)),
+        None => Some(None),
+    }
+}
+
+fn date_in(row: &Row, at: usize) -> Option<Option<HoldDate>>
+    ensures some { IfSome result (λ date. (column row.now at ≡ or_null Text date) × IfSome date IsDate) }
+    ensures none { IfNone result ((date : Option (List ℕ)) → IfSome date IsDate → column row.now at ≢ or_null Text date) }
+{
+    match optional_text(row, at)? {
+        Some(text) => Some(Some(HoldDate::read(text)?)),
+        None => Some(None),
+    }
+}
+
+fn comment_in(alloc: Global, row: &Row, at: usize) -> Result<Option<String>, ReadError>
+    ensures some { IfOk result (λ comment. (column row.now at ≡ or_null Text (option_map string_bytes comment)) × IfSome (option_map string_bytes comment) IsUtf8) }
+    ensures none { IsErrOf result ReadError.BadRow → (comment : Option (List ℕ)) → IfSome comment IsUtf8 → column row.now at ≢ or_null Text comment }
+{
+    let bytes = match optional_text(row, at) {
+        Some(Some(bytes)) => bytes,
+        Some(None) => return Ok(None),
+        None => return Err(ReadError::BadRow),
+    };
+    match std::str::from_utf8(bytes) {
+        Ok(comment) => Ok(Some(String::from_str(alloc, comment)?)),
+        Err(_) => Err(ReadError::BadRow),
+    }
+}
+
+fn flag_in(row: &Row, at: usize) -> Option<bool>
+    ensures some { IfSome result (λ b. column row.now at ≡ flag_of b) }
+    ensures none { IfNone result ((b : Bool) → column row.now at ≢ flag_of b) }
+{
+    match whole(row, at)? {
+        0 => Some(false),
+        1 => Some(true),
+        _ => None,
+    }
+}
+
+/// Reads holds.
+struct Holds;
+
+impl FromRow for Holds {
+    ghost use Rattle.schema.specs.Rows.{hold_row};
+    ghost use Rattle.hold_rows.specs.Read.{HasReadForms};
+
+    type Item = Hold;
+
+    ghost row_of = { hold_row };
+
+    ghost has_form = { HasReadForms };
+
+    fn read(alloc: Global, row: &Row) -> Result<Hold, ReadError> {
+        if row.column_count() != 8 {
+            return Err(ReadError::BadRow);
+        }
+        let Some(id) = id_in(row, 0) else {
+            return Err(ReadError::BadRow);
+        };
+        let Some(kind) = kind_in(row, 1) else {
+            return Err(ReadError::BadRow);
+        };
+        let Some(reason) = reason_in(row, 2, kind) else {
+            return Err(ReadError::BadRow);
+        };
+        let Some(fmid) = id_in(row, 3) else {
+            return Err(ReadError::BadRow);
+        };
+        let Some(class) = class_in(row, 4) else {
+            return Err(ReadError::BadRow);
+        };
+        let Some(date) = date_in(row, 5) else {
+            return Err(ReadError::BadRow);
+        };
+        let comment = comment_in(alloc, row, 6)?;
+        let Some(internal) = flag_in(row, 7) else {
+            return Err(ReadError::BadRow);
+        };
+        Ok(Hold { id, kind, reason, fmid, class, date, comment, internal })
+    }
+}
+
+/// All holds, in the order of their keys.
+pub fn load_holds<S: Alter>(
+    alloc: Global,
+    conn: &mut Connection<S>,
+) -> Result<Vec<Hold>, ReadError>
+    ensures found { HasCleanDisk (state S.Store conn.new) → (contents : Contents) → HasContents store_schema contents (state S.Store conn.old).now
+        → IfOk result (λ holds. IsPermutation (map hold_row holds.items) (contents hold_table.tree)) }
+    ensures forms { IfOk result (λ holds. AllByRecursion HasReadForms holds.items) }
+    ensures none { HasCleanDisk (state S.Store conn.new) → IsErrOf result ReadError.BadRow → (contents : Contents) → HasContents store_schema contents (state S.Store conn.old).now
+        → (holds : List terms.Hold) → AllByRecursion HasReadForms holds → ¬ IsPermutation (map hold_row holds) (contents hold_table.tree) }
+    ensures same { HasCleanDisk (state S.Store conn.new) → conn.old.schema ≡ store_schema → OnOk result (IsUnchanged (state S.Store conn.old) (state S.Store conn.new)) }
+    ensures kept { HasCleanDisk (state S.Store conn.new) → conn.old.schema ≡ store_schema → KeepsCommit (state S.Store conn.old) (state S.Store conn.new) }
+    ensures crash { Survives (state S.Store conn.old) (state S.Store conn.new) (λ _. ¬ (conn.old.schema ≡ store_schema)) }
+    ensures mode { conn.old.in_transaction ≡ false → conn.new.in_transaction ≡ false }
+{
+    load::<S, Holds>(
+        alloc,
+        conn,
+        "SELECT id, kind, reason, fmid, class, date, comment, internal FROM hold ORDER BY id, kind, reason",
+        &[],
+    )
+}
