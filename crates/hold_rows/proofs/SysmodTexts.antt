@@ -41,8 +41,10 @@ takes_sysmod = record {
   narrow = omega arith;
   children_there = (
     (inr (inr (inl refl)), (λ e. omega (arith, e)), omega arith),
-    ((inr (inr (inr (inl refl))), (λ e. omega (arith, e)), omega arith),
-    ((inr (inr (inr (inr (inr (inl refl))))), (λ e. omega (arith, e)), omega arith), tt)),
+    (
+      (inr (inr (inr (inl refl))), (λ e. omega (arith, e)), omega arith),
+      ((inr (inr (inr (inr (inr (inl refl))))), (λ e. omega (arith, e)), omega arith), tt),
+    ),
   );
   acts = λ olds.
       let set_off = if_set_off (IsCascade sysmod_children olds) in

@@ -144,15 +144,21 @@ impl FromRow for Holds {
         let Some(internal) = flag_in(row, 7) else {
             return Err(ReadError::BadRow);
         };
-        Ok(Hold { id, kind, reason, fmid, class, date, comment, internal })
+        Ok(Hold {
+            id,
+            kind,
+            reason,
+            fmid,
+            class,
+            date,
+            comment,
+            internal,
+        })
     }
 }
 
 /// All holds, in the order of their keys.
-pub fn load_holds<S: Alter>(
-    alloc: Global,
-    conn: &mut Connection<S>,
-) -> Result<Vec<Hold>, ReadError>
+pub fn load_holds<S: Alter>(alloc: Global, conn: &mut Connection<S>) -> Result<Vec<Hold>, ReadError>
     ensures found { HasCleanDisk (state S.Store conn.new) → (contents : Contents) → HasContents store_schema contents (state S.Store conn.old).now
         → IfOk result (λ holds. IsPermutation (map hold_row holds.items) (contents hold_table.tree)) }
     ensures forms { IfOk result (λ holds. AllByRecursion HasReadForms holds.items) }

@@ -100,13 +100,13 @@ applied_words Distribution (Some date) = codes "ACCEPTED" ∷ date ∷ []
 abbrev pub entry_text : ZoneKind → Entry → Text
 entry_text kind e =
     words_line (codes "ENTRY" ∷ e.id ∷ applied_words kind e.applied
-        ++ codes "SUPBY" ∷ list_text e.supby ∷ codes "DELBY" ∷ optional_text e.delby ∷ codes "WAIVED" ∷ list_text e.waived ∷ [])
+    ++ codes "SUPBY" ∷ list_text e.supby ∷ codes "DELBY" ∷ optional_text e.delby ∷ codes "WAIVED" ∷ list_text e.waived ∷ [])
 
 abbrev pub element_text : ElementRow → Text
 element_text e =
     words_line (codes "ELEM" ∷ left_in 5 (type_text e.elem_type) ∷ left_in 8 e.name
-        ∷ codes "FMID" ∷ e.fmid ∷ codes "RMID" ∷ e.rmid ∷ codes "UMID" ∷ list_text e.umids
-        ∷ codes "DISTLIB" ∷ e.distlib ∷ codes "SYSLIB" ∷ e.syslib ∷ [])
+    ∷ codes "FMID" ∷ e.fmid ∷ codes "RMID" ∷ e.rmid ∷ codes "UMID" ∷ list_text e.umids
+    ∷ codes "DISTLIB" ∷ e.distlib ∷ codes "SYSLIB" ∷ e.syslib ∷ [])
 
 -- the resolvers of a held SYSMOD, or -
 abbrev pub resolver_text : List Id → Text

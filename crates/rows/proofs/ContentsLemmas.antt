@@ -76,8 +76,8 @@ module _ (table : Table) (make : List Row → List Row) (contents : Contents) (d
       → AreRows t (in_table table make contents t.tree) (next t.tree)
   one_table t apart was other = elim (eqb_tells t.tree table.tree) [
     | inl here ↦
-      let wide : (length t.columns == length table.columns) ≡ true = rw here.0 at apart in
-      rw here.0 (subst (λ k. AreRows t (make (contents k)) (next k)) (sym here.1) (as_wide t table _ _ (sym (eqb-true _ _ wide)) is))
+        let wide : (length t.columns == length table.columns) ≡ true = rw here.0 at apart in
+        rw here.0 (subst (λ k. AreRows t (make (contents k)) (next k)) (sym here.1) (as_wide t table _ _ (sym (eqb-true _ _ wide)) is))
     | inr away ↦ rw (away.0, other away.1) was
   ]
 

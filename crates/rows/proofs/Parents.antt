@@ -100,10 +100,10 @@ taken_meets table held rows p ids are same old h =
     go id has is = elim (found_or_none (find (has_rowid id) rows)) [
       | inl none ↦ inl (is ∙ ap (λ (f : Option Row). unwrap_or f []) none)
       | inr some ↦
-        let there = has_found (has_rowid id) rows some.0 some.1 in
-        let same_row : old ≡ some.0 = is ∙ ap (λ (f : Option Row). unwrap_or f []) some.1 in
-        let any : list_any (λ i. has_rowid i some.0) ids ≡ true = some_from (λ i. has_rowid i some.0) ids id has there.1 in
-        inr (ap (λ r. p (shown table r)) same_row ∙ sym (found_meets (shown table) rows are.numbered p ids same some.0 there.0) ∙ any)
+          let there = has_found (has_rowid id) rows some.0 some.1 in
+          let same_row : old ≡ some.0 = is ∙ ap (λ (f : Option Row). unwrap_or f []) some.1 in
+          let any : list_any (λ i. has_rowid i some.0) ids ≡ true = some_from (λ i. has_rowid i some.0) ids id has there.1 in
+          inr (ap (λ r. p (shown table r)) same_row ∙ sym (found_meets (shown table) rows are.numbered p ids same some.0 there.0) ∙ any)
     ]
 
 -- a row that has the key of a table that holds none
@@ -143,15 +143,15 @@ idle_cascade schema table children k contents db mid olds held others there none
         let agrees : agree w.order (1 ∷ []) r (1 ∷ []) move.0.0 ≡ true = subst (λ ps. agree w.order (1 ∷ []) r ps move.0.0 ≡ true) c.places (subst (λ cs. agree w.order cs r w.places move.0.0 ≡ true) c.columns parts.1) in
         elim (met move.0.0 old) [
           | inl empty ↦
-            let back = agree_back w.order (1 ∷ []) (1 ∷ []) r move.0.0 agrees in
-            let whole : has_null (1 ∷ []) move.0.0 ≡ false = agree_whole w.order (1 ∷ []) (1 ∷ []) move.0.0 r back in
-            true≢false (sym (ap (has_null (1 ∷ [])) empty) ∙ whole)
+              let back = agree_back w.order (1 ∷ []) (1 ∷ []) r move.0.0 agrees in
+              let whole : has_null (1 ∷ []) move.0.0 ≡ false = agree_whole w.order (1 ∷ []) (1 ∷ []) move.0.0 r back in
+              true≢false (sym (ap (has_null (1 ∷ [])) empty) ∙ whole)
           | inr key ↦
-            let parent : equal Binary (column move.0.0 1) k ≡ true = column_one table move.0.0 k wide key in
-            let given : agree w.order (1 ∷ []) move.0.0 (1 ∷ []) (Null ∷ k ∷ []) ≡ true = ap (λ b. b && true) (subst (λ how. equal how (column move.0.0 1) k ≡ true) (sym c.collation) parent) in
-            let chain = and_parts (equal (first_key w.order).collation (column r 1) k) true (agree_chain w.order (1 ∷ []) (1 ∷ []) (1 ∷ []) r move.0.0 (Null ∷ k ∷ []) agrees given) in
-            let child : equal Binary (column r 1) k ≡ true = subst (λ how. equal how (column r 1) k ≡ true) c.collation chain.0 in
-            no_row w.child (k ∷ []) (contents w.child.tree) (mid w.child.tree) rows_are (all_has (λ u. without (k ∷ []) (contents u.tree) ≡ contents u.tree) children w.child none c.child) r has (one_column w.child r k away.2 child)
+              let parent : equal Binary (column move.0.0 1) k ≡ true = column_one table move.0.0 k wide key in
+              let given : agree w.order (1 ∷ []) move.0.0 (1 ∷ []) (Null ∷ k ∷ []) ≡ true = ap (λ b. b && true) (subst (λ how. equal how (column move.0.0 1) k ≡ true) (sym c.collation) parent) in
+              let chain = and_parts (equal (first_key w.order).collation (column r 1) k) true (agree_chain w.order (1 ∷ []) (1 ∷ []) (1 ∷ []) r move.0.0 (Null ∷ k ∷ []) agrees given) in
+              let child : equal Binary (column r 1) k ≡ true = subst (λ how. equal how (column r 1) k ≡ true) c.collation chain.0 in
+              no_row w.child (k ∷ []) (contents w.child.tree) (mid w.child.tree) rows_are (all_has (λ u. without (k ∷ []) (contents u.tree) ≡ contents u.tree) children w.child none c.child) r has (one_column w.child r k away.2 child)
         ]
 
     all_none : (ids : List ℤ) → AreChildren mid w ids → ids ≡ []

@@ -33,7 +33,6 @@ use Rattle.sqlite_rules.specs.Calls.{ids_of}
 use Rattle.sqlite_schema.specs.declared.program.Program.{Program}
 use Rattle.rows.specs.Rows.{shown, has_key, without, with_row, in_place, AreRows, Contents, HasContents, HaveNone, in_table}
 use Rattle.rows.specs.Texts.{key_tests, scan_by, IsTableOf, AreKept, PutsIn, PutsInPlace, TakesOut, TakesOutParent, IsCascade, works_of_update}
-
 use Rattle.rows.proofs.RowLemmas.{filter_same, ids_shown}
 use Rattle.rows.proofs.Statements.{was_free, inserts, updates, deletes, puts_one, scans}
 use Rattle.rows.proofs.Parents.{step_then_idle, cascades_from, taken_meets, idle_cascade}
@@ -132,8 +131,8 @@ take_out_row schema at table children sql k old new count contents text none was
     (scans table.tree (key_tests 0 1) (col 1 0 ∷ []) [] db key it.0 it.1.answer)) in
     let edit = edit_of db table (ids_of it.0) Given 0 [] in
     let done = step_then_idle schema Enforced db new.now.trees edit (λ mid applied work has.
-        idle_cascade schema table children k contents db mid (taken_by db edit) was.tables applied.tables text.children_there none text.narrow (taken_meets table _ rows (has_key key) (ids_of it.0) holds_now found) work
-        (cascades_from schema Enforced 0 table.tree (taken_by db edit) [] (IsCascade children (taken_by db edit)) (text.acts (taken_by db edit)) work has)) it.3 in
+    idle_cascade schema table children k contents db mid (taken_by db edit) was.tables applied.tables text.children_there none text.narrow (taken_meets table _ rows (has_key key) (ids_of it.0) holds_now found) work
+    (cascades_from schema Enforced 0 table.tree (taken_by db edit) [] (IsCascade children (taken_by db edit)) (text.acts (taken_by db edit)) work has)) it.3 in
     let left = takes table (contents table.tree) rows (has_key key) (ids_of it.0) found holds_now in
     record { schema_is = it.2; tables = each_table table (without key) contents db new.now.trees (rw done.rows left) schema.tables text.there.alone was.tables done.tables }
 

@@ -8,7 +8,9 @@ ghost use Rattle.terms.specs.declared.kinds.ElemType.{ElemType};
 ghost use Rattle.terms.specs.declared.kinds.ZoneKind.{ZoneKind};
 ghost use Rattle.terms.specs.Spelling.{kind_text, hold_text, type_text, zone_kind_text, mc_text, cn_text, word_text, test_text, need_text, refusal_text};
 
-use terms::{CnCode, CommandWord, ElemType, HoldKind, IdRefusal, Kind, McCode, NeedKind, Test, ZoneKind};
+use terms::{
+    CnCode, CommandWord, ElemType, HoldKind, IdRefusal, Kind, McCode, NeedKind, Test, ZoneKind,
+};
 
 /// A SYSMOD's type, as it is spelled.
 pub fn kind_text(kind: Kind) -> &'static [u8]

@@ -2,7 +2,6 @@
 ghost use Rattle.std.specs.Prelude.{◌≡◌};
 ghost use Rattle.terms.specs.Global.{hold_cmp};
 
-
 use fields::{Class, HoldDate, Id, Reason};
 use std::cmp::Ordering;
 use std::marker::Model;

@@ -7,7 +7,9 @@ mod sysmod;
 mod ver;
 
 pub use change::{Action, ElemChange};
-pub use fields::{Class, HoldDate, Id, IdList, Name, Reason, Rising, Source, SourceList, Srel, ZoneName};
+pub use fields::{
+    Class, HoldDate, Id, IdList, Name, Reason, Rising, Source, SourceList, Srel, ZoneName,
+};
 pub use hold::Hold;
 pub use sysmod::Sysmod;
 pub use terms::{ElemType, HoldKind, Kind};

@@ -151,20 +151,20 @@ module _ {X K : Type 0} {R : K → K → Ordering} (o : IsTotalOrder R) (key : X
   editing-goes_on items edits done new rest e rises below is s =
       let parts : drop done edits ≡ e ∷ drop (done + 1) edits = rw add-one (rw (← is) at (drop-cons edits done e below)) in
       let now : All (λ x. R (key x) (edit_key key e) ≡ Less) new =
-          λ i d h. All-head (λ f. R (key (get_or new i d)) (edit_key key f) ≡ Less) e (drop (done + 1) edits) (rw parts at (s.low i d h)) in
+      λ i d h. All-head (λ f. R (key (get_or new i d)) (edit_key key f) ≡ Less) e (drop (done + 1) edits) (rw parts at (s.low i d h)) in
       let later : All (λ x. All (λ f. R (key x) (edit_key key f) ≡ Less) (drop (done + 1) edits)) new =
-          λ i d h. All-tail (λ f. R (key (get_or new i d)) (edit_key key f) ≡ Less) e (drop (done + 1) edits) (rw parts at (s.low i d h)) in
+      λ i d h. All-tail (λ f. R (key (get_or new i d)) (edit_key key f) ≡ Less) e (drop (done + 1) edits) (rw parts at (s.low i d h)) in
       let up : All (λ f. R (edit_key key e) (edit_key key f) ≡ Less) (drop (done + 1) edits) =
-          λ i d h.
-              let here : get_or edits done d ≡ e = get_or_default edits done d e below ∙ sym is in
-              let there = get_or-drop (done + 1) edits i d in
-              let step = Less-from_is_lt (R (edit_key key (get_or edits done d)) (edit_key key (get_or edits (done + 1 + i) d))) (rises done (done + 1 + i) d (omega arith) (omega (arith, length-drop (done + 1) edits))) in
-              ap (λ f. R (edit_key key f) (edit_key key (get_or (drop (done + 1) edits) i d))) (sym here)
-              ∙ ap (λ f. R (edit_key key (get_or edits done d)) (edit_key key f)) there ∙ step in
+      λ i d h.
+      let here : get_or edits done d ≡ e = get_or_default edits done d e below ∙ sym is in
+      let there = get_or-drop (done + 1) edits i d in
+      let step = Less-from_is_lt (R (edit_key key (get_or edits done d)) (edit_key key (get_or edits (done + 1 + i) d))) (rises done (done + 1 + i) d (omega arith) (omega (arith, length-drop (done + 1) edits))) in
+      ap (λ f. R (edit_key key f) (edit_key key (get_or (drop (done + 1) edits) i d))) (sym here)
+      ∙ ap (λ f. R (edit_key key (get_or edits done d)) (edit_key key f)) there ∙ step in
       let k = edit_key key e in
       let cut = Splits-cut k rest in
       let between : All (λ x. All (λ f. R (key x) (edit_key key f) ≡ Less) (drop (done + 1) edits)) (before R key k rest) =
-          λ i d h. λ j f below. o.trans (key (get_or (before R key k rest) i d)) k (edit_key key (get_or (drop (done + 1) edits) j f)) (cut.low i d h) (up j f below) in
+      λ i d h. λ j f below. o.trans (key (get_or (before R key k rest) i d)) k (edit_key key (get_or (drop (done + 1) edits) j f)) (cut.low i d h) (up j f below) in
       let P : X → Type 0 = λ x. All (λ f. R (key x) (edit_key key f) ≡ Less) (drop (done + 1) edits) in
       record {
         kept =
@@ -229,18 +229,18 @@ module _ {X K : Type 0} {R : K → K → Ordering} (o : IsTotalOrder R) (key : X
     -- what stands at a key after edits that rise
     pub find-edited : (edits : List (Edit X K)) → Rises R (edit_key key) edits → (xs : List X) (k : K) → find (λ y. E (key y) k) (edited R key xs edits) ≡ after_edits E key edits xs k
     find-edited [] rises xs k = refl
-    find-edited (e ∷ edits) rises xs k = 
+    find-edited (e ∷ edits) rises xs k =
         by_test (find-edited edits (AllPairs-rest (λ a b. is_lt (R (edit_key key a) (edit_key key b)) ≡ true) e edits rises) (after_edit R key xs e) k) (E (edit_key key e) k) refl
       where
         by_test : find (λ y. E (key y) k) (edited R key (after_edit R key xs e) edits) ≡ after_edits E key edits (after_edit R key xs e) k → (t : Bool) → E (edit_key key e) k ≡ t → find (λ y. E (key y) k) (edited R key (after_edit R key xs e) edits) ≡ after_edits E key (e ∷ edits) xs k
         by_test rest true t =
             let later = AllPairs-first (λ a b. is_lt (R (edit_key key a) (edit_key key b)) ≡ true) e edits rises in
             let none : find (λ d. E (edit_key key d) k) edits ≡ None =
-                ap (find (λ d. E (edit_key key d) k)) (sym (append-nil edits))
-                ∙ find-over (λ d. E (edit_key key d) k) edits [] (λ i d h.
-                    let l = edit_key key (get_or edits i d) in
-                    let above : R k l ≡ Less = sym (o.congr (edit_key key e) k l (tied (edit_key key e) k t)) ∙ Less-from_is_lt (R (edit_key key e) l) (later i d h) in
-                    ties l k ∙ ap is_eq (o.antisymm l k ∙ ap ordering_reverse above)) in
+            ap (find (λ d. E (edit_key key d) k)) (sym (append-nil edits))
+            ∙ find-over (λ d. E (edit_key key d) k) edits [] (λ i d h.
+            let l = edit_key key (get_or edits i d) in
+            let above : R k l ≡ Less = sym (o.congr (edit_key key e) k l (tied (edit_key key e) k t)) ∙ Less-from_is_lt (R (edit_key key e) l) (later i d h) in
+            ties l k ∙ ap is_eq (o.antisymm l k ∙ ap ordering_reverse above)) in
             rest ∙ ap (λ found. option_map_or edit_put found (find (λ y. E (key y) k) (after_edit R key xs e))) none
             ∙ find-after_edit xs e k ∙ ap (λ b. cond b (edit_put e) (find (λ y. E (key y) k) xs)) t
             ∙ ap (λ b. option_map_or edit_put (cond b (Some e) (find (λ d. E (edit_key key d) k) edits)) (find (λ y. E (key y) k) xs)) (sym t)

@@ -68,7 +68,8 @@ no_star : (b : ℕ) (next : Text) → (b == 47 && slice_index next 0 == 42) ≡ 
 no_star b next e b_is star = true≢false (sym (and_from (b == 47) (slice_index next 0 == 42) (eq-eqb b 47 b_is) (eq-eqb (slice_index next 0) 42 star)) ∙ e)
 
 pub takes_stray : (text next : Text) (b : ℕ) → BeginsNoGap text → text ≡ b ∷ next → is_word_byte b ≡ false → b ≢ 46 → b ≢ 41 → b ≢ 40 → (b == 47 && slice_index next 0 == 42) ≡ false → TakesPiece text (Stray b) next
-takes_stray text next b no_gap text_is no_word no_period no_close no_open no_comment =
-    (text_is,
-     stray_test (is_word_byte b) (is_blank b) (b == 40) (b == 41) (b == 46) no_word (dark_first text next b no_gap text_is) (ne_eqb b 40 no_open) (ne_eqb b 41 no_close) (ne_eqb b 46 no_period),
-     no_star b next no_comment)
+takes_stray text next b no_gap text_is no_word no_period no_close no_open no_comment = (
+  text_is,
+  stray_test (is_word_byte b) (is_blank b) (b == 40) (b == 41) (b == 46) no_word (dark_first text next b no_gap text_is) (ne_eqb b 40 no_open) (ne_eqb b 41 no_close) (ne_eqb b 46 no_period),
+  no_star b next no_comment,
+)

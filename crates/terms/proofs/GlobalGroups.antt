@@ -56,14 +56,14 @@ module _ {X : Type 0} (R : X → X → Ordering) where
       → put (xs ++ ys) y ≡ xs ++ put ys y
   put-ahead xs ys y ahead apart =
       rw (filter-append (λ x. is_lt (R x y)) xs ys, filter-append (λ x. is_lt (R y x)) xs ys, filter_all (λ x. is_lt (R x y)) xs ahead, filter_none (λ x. is_lt (R y x)) xs apart)
-          (simp append_assoc)
+      (simp append_assoc)
 
   pub put-behind : (xs ys : List X) (y : X)
       → AllByRecursion (λ x. is_lt (R x y) ≡ false) ys → AllByRecursion (λ x. is_lt (R y x) ≡ true) ys
       → put (xs ++ ys) y ≡ put xs y ++ ys
   put-behind xs ys y apart behind =
       rw (filter-append (λ x. is_lt (R x y)) xs ys, filter-append (λ x. is_lt (R y x)) xs ys, filter_none (λ x. is_lt (R x y)) ys apart, filter_all (λ x. is_lt (R y x)) ys behind, append-nil)
-          (simp append_assoc)
+      (simp append_assoc)
 
 module _ {X K V : Type 0} {C : K → K → Ordering} (o : IsTotalOrder C) (key : X → K) (items : V → List X) where
   -- each group's elements have its key
@@ -113,13 +113,12 @@ module _ {X K V : Type 0} {C : K → K → Ordering} (o : IsTotalOrder C) (key :
   module _ (f : List X → List X) (k : K) (at_end : f [] ≡ [])
       (joins : (xs ys : List X) → f (xs ++ ys) ≡ f xs ++ f ys)
       (others : (xs : List X) → AllByRecursion (λ x. is_eq (C k (key x)) ≡ false) xs → f xs ≡ xs) where
-
     rest_stays : (e : K × V) (es : List (K × V)) → HasKeys es → IsStrictlySortedBy C (keys_of (e ∷ es)) → is_at (C k) e.0 ≡ true
         → f (flat es) ≡ flat es
     rest_stays e es keyed sorted here =
         others (flat es) (recursion_weaker (λ x. C k (key x) ≡ Less) (λ x. is_eq (C k (key x)) ≡ false) (λ x less. ap is_eq less) (flat es)
-            (flat_above (λ q. C k q ≡ Less) es keyed
-            (above_same k e.0 (keys_of es) (equal_from (C k e.0) here) (sorted_head C e.0 (keys_of es) sorted))))
+        (flat_above (λ q. C k q ≡ Less) es keyed
+        (above_same k e.0 (keys_of es) (equal_from (C k e.0) here) (sorted_head C e.0 (keys_of es) sorted))))
 
     group_stays : (e : K × V) → AllByRecursion (λ x. key x ≡ e.0) (items e.1) → is_at (C k) e.0 ≡ false → f (items e.1) ≡ items e.1
     group_stays e keyed other =
@@ -140,7 +139,7 @@ module _ {X K V : Type 0} {C : K → K → Ordering} (o : IsTotalOrder C) (key :
         by again false other =
             let now = rw other at is in
             rw (other, joins (items e.1) (flat es), group_stays e keyed.0 other)
-                (ap (λ xs. items e.1 ++ xs) (again now))
+            (ap (λ xs. items e.1 ++ xs) (again now))
 
     -- and where none of this one's are left
     pub flat-remove_entry : (es : List (K × V)) → HasKeys es → IsStrictlySortedBy C (keys_of es)
@@ -157,13 +156,12 @@ module _ {X K V : Type 0} {C : K → K → Ordering} (o : IsTotalOrder C) (key :
         by again false other =
             let now = rw other at is in
             rw (other, joins (items e.1) (flat es), group_stays e keyed.0 other)
-                (ap (λ xs. items e.1 ++ xs) (again now))
+            (ap (λ xs. items e.1 ++ xs) (again now))
 
   -- y takes its place among all where it takes it in its group
   module _ (R : X → X → Ordering)
       (less : (a b : X) → C (key a) (key b) ≡ Less → R a b ≡ Less)
       (greater : (a b : X) → C (key a) (key b) ≡ Greater → R a b ≡ Greater) where
-
     behind-key : (xs ys : List X) (y : X) → AllByRecursion (λ x. C (key y) (key x) ≡ Less) ys → put R (xs ++ ys) y ≡ put R xs y ++ ys
     behind-key xs ys y behind =
         put-behind R xs ys y
@@ -194,11 +192,11 @@ module _ {X K V : Type 0} {C : K → K → Ordering} (o : IsTotalOrder C) (key :
         by again Equal c =
             let now = rw c at is in
             rw c (ap (λ xs. xs ++ flat es) now
-                ∙ sym (behind-key (items e.1) (flat es) y (flat_above (λ q. C (key y) q ≡ Less) es keyed.1 (above_same (key y) e.0 (keys_of es) c higher))))
+            ∙ sym (behind-key (items e.1) (flat es) y (flat_above (λ q. C (key y) q ≡ Less) es keyed.1 (above_same (key y) e.0 (keys_of es) c higher))))
         by again Greater c =
             let now = rw c at is in
             rw c (ap (λ xs. items e.1 ++ xs) (again now)
-                ∙ sym (ahead-key (items e.1) (flat es) y (recursion_weaker (λ x. key x ≡ e.0) (λ x. C (key y) (key x) ≡ Greater) (λ x same. ap (C (key y)) same ∙ c) (items e.1) keyed.0)))
+            ∙ sym (ahead-key (items e.1) (flat es) y (recursion_weaker (λ x. key x ≡ e.0) (λ x. C (key y) (key x) ≡ Greater) (λ x same. ap (C (key y)) same ∙ c) (items e.1) keyed.0)))
 
   -- keys stay with their groups
   pub HasKeys-insert_entry : CmpEqualImpliesEq C → (es : List (K × V)) (k : K) (w : V) → HasKeys es → AllByRecursion (λ x. key x ≡ k) (items w)
@@ -249,10 +247,10 @@ module _ {X K V : Type 0} {C : K → K → Ordering} (o : IsTotalOrder C) (key :
       by : find p (flat es) ≡ find p (items_at es k) → (b : Bool) → is_at (C k) e.0 ≡ b → find p (flat (e ∷ es)) ≡ find p (items_at (e ∷ es) k)
       by again true here =
           rw here (find-append_first p (items e.1) (flat es)
-              (none (flat es) (recursion_weaker (λ x. C k (key x) ≡ Less) (λ x. is_eq (C k (key x)) ≡ false) (λ x less. ap is_eq less) (flat es)
-                  (flat_above (λ q. C k q ≡ Less) es keyed.1
-                  (above_same k e.0 (keys_of es) (equal_from (C k e.0) here) (sorted_head C e.0 (keys_of es) sorted))))))
+          (none (flat es) (recursion_weaker (λ x. C k (key x) ≡ Less) (λ x. is_eq (C k (key x)) ≡ false) (λ x less. ap is_eq less) (flat es)
+          (flat_above (λ q. C k q ≡ Less) es keyed.1
+          (above_same k e.0 (keys_of es) (equal_from (C k e.0) here) (sorted_head C e.0 (keys_of es) sorted))))))
       by again false other =
           rw other (find-append_rest p (items e.1) (flat es)
-              (none (items e.1) (recursion_weaker (λ x. key x ≡ e.0) (λ x. is_eq (C k (key x)) ≡ false) (λ x same. ap (λ q. is_eq (C k q)) same ∙ other) (items e.1) keyed.0))
-              ∙ again)
+          (none (items e.1) (recursion_weaker (λ x. key x ≡ e.0) (λ x. is_eq (C k (key x)) ≡ false) (λ x same. ap (λ q. is_eq (C k q)) same ∙ other) (items e.1) keyed.0))
+          ∙ again)

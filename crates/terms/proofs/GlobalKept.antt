@@ -58,11 +58,11 @@ module _ {X K : Type 0} {R : K → K → Ordering} (o : IsTotalOrder R) (key : X
       let low : All (λ y. Below y x) front = filter_passes (λ y. is_lt (R (key y) (key x))) xs in
       let high : All (λ y. Below x y) back = filter_passes (λ y. is_lt (R (key x) (key y))) xs in
       let one : All (λ y. All (Below y) (x ∷ [])) front =
-          All-weaker (λ y. Below y x) (λ y. All (Below y) (x ∷ [])) (λ y h. All-cons (Below y) x [] h (All-nil (Below y))) front low in
+      All-weaker (λ y. Below y x) (λ y. All (Below y) (x ∷ [])) (λ y h. All-cons (Below y) x [] h (All-nil (Below y))) front low in
       let cross : All (λ y. All (Below y) back) (front ++ x ∷ []) =
-          All-append (λ y. All (Below y) back) front (x ∷ [])
-          (All-weaker (λ y. Below y x) (λ y. All (Below y) back) (λ y h. All-weaker (Below x) (Below y) (λ z k. below_trans y x z h k) back high) front low)
-          (All-cons (λ y. All (Below y) back) x [] high (All-nil (λ y. All (Below y) back))) in
+      All-append (λ y. All (Below y) back) front (x ∷ [])
+      (All-weaker (λ y. Below y x) (λ y. All (Below y) back) (λ y h. All-weaker (Below x) (Below y) (λ z k. below_trans y x z h k) back high) front low)
+      (All-cons (λ y. All (Below y) back) x [] high (All-nil (λ y. All (Below y) back))) in
       AllPairs-join Below (front ++ x ∷ []) back
       (AllPairs-join Below front (x ∷ []) (AllPairs-filter Below (λ y. is_lt (R (key y) (key x))) xs rises) (AllPairs-cons Below x [] (All-nil (Below x)) (λ i j d l b. absurd (omega arith))) one)
       (AllPairs-filter Below (λ y. is_lt (R (key x) (key y))) xs rises)
@@ -74,8 +74,8 @@ module _ {X K : Type 0} {R : K → K → Ordering} (o : IsTotalOrder R) (key : X
   Rises-map f same (x ∷ xs) rises =
       AllPairs-cons (λ a b. IsTrue (is_lt (R (key a) (key b)))) (f x) (map f xs)
       (All-map (λ y. IsTrue (is_lt (R (key (f x)) (key y)))) f xs
-          (All-weaker (λ y. IsTrue (is_lt (R (key x) (key y)))) (λ y. IsTrue (is_lt (R (key (f x)) (key (f y))))) (λ y h. rw (same x, same y) h) xs
-              (AllPairs-first (λ a b. IsTrue (is_lt (R (key a) (key b)))) x xs rises)))
+      (All-weaker (λ y. IsTrue (is_lt (R (key x) (key y)))) (λ y. IsTrue (is_lt (R (key (f x)) (key (f y))))) (λ y h. rw (same x, same y) h) xs
+      (AllPairs-first (λ a b. IsTrue (is_lt (R (key a) (key b)))) x xs rises)))
       (Rises-map f same xs (AllPairs-rest (λ a b. IsTrue (is_lt (R (key a) (key b)))) x xs rises))
 
 -- of two filters that no element passes both
@@ -94,8 +94,8 @@ length-with_item {R} o key xs x =
     let front = before R key (key x) xs in
     let back = behind R key (key x) xs in
     let apart : length front + length back ≤ length xs =
-        length-parts (λ y. is_lt (R (key y) (key x))) (λ y. is_lt (R (key x) (key y)))
-        (λ y e. ap is_lt (o.antisymm (key x) (key y) ∙ ap ordering_reverse (Less-from_is_lt (R (key y) (key x)) e))) xs in
+    length-parts (λ y. is_lt (R (key y) (key x))) (λ y. is_lt (R (key x) (key y)))
+    (λ y e. ap is_lt (o.antisymm (key x) (key y) ∙ ap ordering_reverse (Less-from_is_lt (R (key y) (key x)) e))) xs in
     omega (arith, apart, length-append (front ++ x ∷ []) back, length-append front (x ∷ []))
 
 -- the orders of holds and of SYSMODs
@@ -231,13 +231,16 @@ module _ (g : Global) (source : Text) (x : Id) where
     sysmods = Rises-map nat_list_cmp_total (λ s. s.id) (assigned source x) (assigned-same (λ s. s.id) source x (λ s. refl)) g.sysmods k.sysmods;
     holds = k.holds;
     formed = All-map IsSysmod (assigned source x) g.sysmods (All-weaker IsSysmod (λ s. IsSysmod (assigned source x s)) formed-assign g.sysmods k.formed);
-    no_loop = λ loop. k.no_loop (loop.0, loop.1,
-        reaches_more (names_for (assign g source x) loop.0) (names_for g loop.0)
-        (λ y z here. subst (λ vs. Contains (flat_map named vs) z) (vers-assign loop.0 y) here) loop.1 loop.1 loop.2);
+    no_loop = λ loop. k.no_loop (
+      loop.0,
+      loop.1,
+      reaches_more (names_for (assign g source x) loop.0) (names_for g loop.0)
+          (λ y z here. subst (λ vs. Contains (flat_map named vs) z) (vers-assign loop.0 y) here) loop.1 loop.1 loop.2,
+    );
     roles = All-map (λ s. All (λ v. IsTrue (fits_roles (assign g source x) v)) s.vers) (assigned source x) g.sysmods
         (All-weaker (λ s. All (λ v. IsTrue (fits_roles g v)) s.vers) (λ s. All (λ v. IsTrue (fits_roles (assign g source x) v)) (assigned source x s).vers)
-            (λ s fit. subst (λ vs. All (λ v. IsTrue (fits_roles (assign g source x) v)) vs) (sym (assigned-same (λ s. s.vers) source x (λ s. refl) s))
-                (All-weaker (λ v. IsTrue (fits_roles g v)) (λ v. IsTrue (fits_roles (assign g source x) v)) fits-assign s.vers fit)) g.sysmods k.roles);
+        (λ s fit. subst (λ vs. All (λ v. IsTrue (fits_roles (assign g source x) v)) vs) (sym (assigned-same (λ s. s.vers) source x (λ s. refl) s))
+        (All-weaker (λ v. IsTrue (fits_roles g v)) (λ v. IsTrue (fits_roles (assign g source x) v)) fits-assign s.vers fit)) g.sysmods k.roles);
     internal = All-weaker (IsOwned g) (IsOwned (assign g source x)) (λ h own internal. ((own internal).0, subst IsTrue (sym (received-assign h.id)) (own internal).1)) g.holds k.internal;
     none_carried = All-map (λ s. s.holds ≡ []) (assigned source x) g.sysmods
         (All-weaker (λ s. s.holds ≡ []) (λ s. (assigned source x s).holds ≡ []) (λ s none. assigned-same (λ s. s.holds) source x (λ s. refl) s ∙ none) g.sysmods k.none_carried);
@@ -294,7 +297,7 @@ module _ (g : Global) (x : Id) where
     no_loop = λ loop. k.no_loop (loop.0, loop.1, reaches_more (names_for (without_sysmod g x) loop.0) (names_for g loop.0) (names-without loop.0) loop.1 loop.1 loop.2);
     roles = All-filter (λ s. not (bytes_eq s.id x)) (λ s. All (λ v. IsTrue (fits_roles (without_sysmod g x) v)) s.vers) g.sysmods
         (All-weaker (λ s. All (λ v. IsTrue (fits_roles g v)) s.vers) (λ s. All (λ v. IsTrue (fits_roles (without_sysmod g x) v)) s.vers)
-            (λ s fit. All-weaker (λ v. IsTrue (fits_roles g v)) (λ v. IsTrue (fits_roles (without_sysmod g x) v)) (fits-fewer g (without_sysmod g x) function-without service-without) s.vers fit) g.sysmods k.roles);
+        (λ s fit. All-weaker (λ v. IsTrue (fits_roles g v)) (λ v. IsTrue (fits_roles (without_sysmod g x) v)) (fits-fewer g (without_sysmod g x) function-without service-without) s.vers fit) g.sysmods k.roles);
     internal = λ i d below. owned-without (get_or (filter p g.holds) i d) (All-filter p (IsOwned g) g.holds k.internal i d below) (filter_passes p g.holds i d below);
     none_carried = All-filter (λ s. not (bytes_eq s.id x)) (λ s. s.holds ≡ []) g.sysmods k.none_carried;
     size = omega (arith, k.size, length-parts (λ s. not (bytes_eq s.id x)) (λ s. false) (λ s e. refl) g.sysmods);
@@ -344,4 +347,4 @@ pub received-kept : (g : Global) (s : Sysmod) → is_received g s.id ≡ false �
 received-kept g s new k formed no_loop roles room =
     holds-kept s.holds (with_sysmod g s) (with_sysmod-kept g s new k formed no_loop roles room)
     (All-weaker (λ h. IsTrue h.internal × (h.kind ≡ System) × (h.id ≡ s.id)) (IsOwned (with_sysmod g s))
-        (λ h own internal. (own.1, subst (λ x. IsTrue (is_received (with_sysmod g s) x)) (sym own.2) (received-itself g s new))) s.holds formed.holds)
+    (λ h own internal. (own.1, subst (λ x. IsTrue (is_received (with_sysmod g s) x)) (sym own.2) (received-itself g s new))) s.holds formed.holds)

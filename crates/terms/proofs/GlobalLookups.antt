@@ -129,7 +129,7 @@ sysmod_of-with_sysmod g s y = parts ∙ by (bytes_eq s.id y) (slice_cmp nat_cmp 
         rw (find-filter_gone p ahead (ahead_is Equal same) g.sysmods, e) refl
     by false Less e f =
         rw (find-filter_kept p ahead (ahead_is Less f) g.sysmods, find-filter_gone p behind (behind_is Less f) g.sysmods, e)
-            (option_or-none (option_or (sysmod_of g y) None) ∙ option_or-none (sysmod_of g y))
+        (option_or-none (option_or (sysmod_of g y) None) ∙ option_or-none (sysmod_of g y))
     by false Equal e f = absurd (apart s.id y e (nat_list_cmp_total.antisymm s.id y ∙ ap ordering_reverse f))
     by false Greater e f =
         rw (find-filter_gone p ahead (ahead_is Greater f) g.sysmods, find-filter_kept p behind (behind_is Greater f) g.sysmods, e) refl

@@ -101,7 +101,7 @@ outside_supported p set valid closed = record {
   where
     rule_at : (p : Problem) (set : ℕ → Bool) → IsClosed (growth_of p) set → (d : Demand) → Contains p.demands d → All (λ y. IsTrue (set y)) d.any → IsTrue (set d.of)
     rule_at p set closed d among = All-contains (λ r. All (λ y. IsTrue (set y)) r.these → IsTrue (set r.that)) (map rule_of p.demands) (rule_of d) closed.rules
-      (among.0, rw length-map among.1, get_or-map rule_of p.demands among.0 d (rule_of d) among.1 ∙ ap rule_of among.2)
+        (among.0, rw length-map among.1, get_or-map rule_of p.demands among.0 d (rule_of d) among.1 ∙ ap rule_of among.2)
 
 -- What the greatest self-supporting set leaves out is the least closed set.
 pub least_from_kept : (p : Problem) (kept : List Bool) → IsProblem p → AreKept p kept → IsLeast (growth_of p) (map not kept)
@@ -117,7 +117,7 @@ least_from_kept p kept valid are_kept =
             | inr missing ↦ not-member kept x (omega (arith, are_kept.size, valid.flags, out.0)) missing
           ];
       rules = All-map (λ r. All (λ y. IsTrue (holds (map not kept) y)) r.these → IsTrue (holds (map not kept) r.that)) rule_of p.demands
-        (λ k e below all.
+          (λ k e below all.
           let d = get_or p.demands k e in
           let low : d.of < p.size = (valid.demands k e below).of in
           elim (cases_Bool (holds kept d.of)) [
@@ -129,9 +129,9 @@ least_from_kept p kept valid are_kept =
           ]);
     })
     (λ set closed x member.
-        let out = member-not kept x member in
-        elim (cases_Bool (set x)) [
-          | inl inside ↦ inside
-          | inr missing ↦ absurd (
-              cc (out.1, greatest.greatest (outside p set) (outside_supported p set valid closed) x (outside_from p set x (omega (arith, are_kept.size, out.0)) missing)))
-        ])
+    let out = member-not kept x member in
+    elim (cases_Bool (set x)) [
+      | inl inside ↦ inside
+      | inr missing ↦ absurd (
+          cc (out.1, greatest.greatest (outside p set) (outside_supported p set valid closed) x (outside_from p set x (omega (arith, are_kept.size, out.0)) missing)))
+    ])

@@ -109,7 +109,7 @@ gaps-only false text gap next gap' next' e (inr k) m e' (inl h') m' =
     absurd (no_comma next' (k.1 ++ next) m' (comma_start text k.0 k.1 next gap' next' (e ∙ ap (λ g. g ++ next) k.2) k.3 e' h'.1 (begins_dark next' m')))
 gaps-only false text gap next gap' next' e (inr k) m e' (inr l) m' =
     let whole : k.0 ++ (44 ∷ (k.1 ++ next)) ≡ l.0 ++ (44 ∷ (l.1 ++ next')) =
-        sym (comma_next k.0 k.1 next text (e ∙ ap (λ g. g ++ next) k.2)) ∙ comma_next l.0 l.1 next' text (e' ∙ ap (λ g. g ++ next') l.2) in
+    sym (comma_next k.0 k.1 next text (e ∙ ap (λ g. g ++ next) k.2)) ∙ comma_next l.0 l.1 next' text (e' ∙ ap (λ g. g ++ next') l.2) in
     let cut = cut-only is_space k.0 (44 ∷ (k.1 ++ next)) l.0 (44 ∷ (l.1 ++ next')) whole (blanks_each k.0 k.3) refl (blanks_each l.0 l.3) refl in
     let rests : k.1 ++ next ≡ l.1 ++ next' = cc (cut.1) in
     (cut-only is_space k.1 next l.1 next' rests (blanks_each k.1 k.4) (begins_dark next m) (blanks_each l.1 l.4) (begins_dark next' m')).1

@@ -48,15 +48,15 @@ word_cut : (word after : Text) → IsWord word → BeginsNoWord after → word_p
 word_cut word after is_word stops =
     let len = run_len word after is_word.1 stops in
     ap (λ n. Some (TheWord (take n (word ++ after)), drop n (word ++ after))) len
-        ∙ ap (λ w. Some (TheWord w, drop (length word) (word ++ after))) (take_at word after (length word) refl)
-        ∙ ap (λ a. Some (TheWord word, a)) (drop_at word after (length word) refl)
+    ∙ ap (λ w. Some (TheWord w, drop (length word) (word ++ after))) (take_at word after (length word) refl)
+    ∙ ap (λ a. Some (TheWord word, a)) (drop_at word after (length word) refl)
 
 first-word : (word after : Text) → IsWord word → BeginsNoWord after → first_piece (word ++ after) ≡ Some (TheWord word, after)
 first-word [] after is_word stops = absurd (omega (arith, is_word.0))
 first-word (b ∷ word) after is_word stops =
     let first : is_word_byte b ≡ true = All-head (λ b. IsTrue (is_word_byte b)) b word is_word.1 in
     ap (λ v. chosen v (is_blank b) (b == 40) (b == 47 && slice_index (word ++ after) 0 == 42) (b == 41 || b == 46) b (word ++ after)) first
-        ∙ word_cut (b ∷ word) after is_word stops
+    ∙ word_cut (b ∷ word) after is_word stops
 
 first-list : (list after : Text) → behind_list false (list ++ 41 ∷ after) ≡ Some after → first_piece (40 ∷ list ++ 41 ∷ after) ≡ Some (TheList list, after)
 first-list list after closes =
@@ -74,8 +74,8 @@ first-blank b after blank =
 no_opening : (b : ℕ) (after : Text) → (b ≡ 47 → slice_index after 0 ≢ 42) → (b == 47 && slice_index after 0 == 42) ≡ false
 no_opening b after no_star =
     false_from_ne_true _ (λ opens.
-        let parts = and_parts (b == 47) (slice_index after 0 == 42) opens in
-        no_star (eqb-true b 47 parts.0) (eqb-true (slice_index after 0) 42 parts.1))
+    let parts = and_parts (b == 47) (slice_index after 0 == 42) opens in
+    no_star (eqb-true b 47 parts.0) (eqb-true (slice_index after 0) 42 parts.1))
 
 first-stray : (b : ℕ) (after : Text) → IsTrue (is_stray b) → (b ≡ 47 → slice_index after 0 ≢ 42) → first_piece (b ∷ after) ≡ Some (Stray b, after)
 first-stray b after stray no_star =
@@ -87,10 +87,10 @@ first-stray b after stray no_star =
     let comment = no_opening b after no_star in
     let stop : (b == 41 || b == 46) ≡ false = or_from (b == 41) (b == 46) close.1 period.1 in
     ap (λ v. chosen v (is_blank b) (b == 40) (b == 47 && slice_index after 0 == 42) (b == 41 || b == 46) b after) blank.0
-        ∙ ap (λ v. chosen false v (b == 40) (b == 47 && slice_index after 0 == 42) (b == 41 || b == 46) b after) blank.1
-        ∙ ap (λ v. chosen false false v (b == 47 && slice_index after 0 == 42) (b == 41 || b == 46) b after) list.1
-        ∙ ap (λ v. chosen false false false v (b == 41 || b == 46) b after) comment
-        ∙ ap (λ v. chosen false false false false v b after) stop
+    ∙ ap (λ v. chosen false v (b == 40) (b == 47 && slice_index after 0 == 42) (b == 41 || b == 46) b after) blank.1
+    ∙ ap (λ v. chosen false false v (b == 47 && slice_index after 0 == 42) (b == 41 || b == 46) b after) list.1
+    ∙ ap (λ v. chosen false false false v (b == 41 || b == 46) b after) comment
+    ∙ ap (λ v. chosen false false false false v b after) stop
 
 pub takes-first : (text : Text) (p : Piece) (after : Text) → TakesPiece text p after → first_piece text ≡ Some (p, after)
 takes-first text (TheWord word) after t = ap first_piece t.0 ∙ first-word word after t.1 t.2

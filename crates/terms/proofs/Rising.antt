@@ -18,13 +18,13 @@ pub rises-more : (xs : List ℕ) (i : ℕ) → 0 < i → i < length xs → get_o
 rises-more xs i some below higher rises =
     subst Rises (sym (take_more xs i 0 below))
     (all_pairs_push (λ a b. a < b) (take i xs) (get_or xs i 0) rises (λ k d in_front.
-        let short : length (take i xs) ≡ i = length-take-le i xs (omega arith) in
-        let last : get_or (take i xs) (i - 1) d ≡ get_or xs (i - 1) d = get_or-take i xs (i - 1) d (omega arith) in
-        let same : get_or xs (i - 1) d ≡ get_or xs (i - 1) 0 = get_or_default xs (i - 1) d 0 (omega arith) in
-        elim (cases_eq k (i - 1)) [
-          | inl here ↦ subst (λ n. get_or (take i xs) n d < get_or xs i 0) (sym here) (omega (arith, last, same, higher))
-          | inr before ↦ omega (arith, rises k (i - 1) d (omega arith) (omega arith), last, same, higher)
-        ]))
+    let short : length (take i xs) ≡ i = length-take-le i xs (omega arith) in
+    let last : get_or (take i xs) (i - 1) d ≡ get_or xs (i - 1) d = get_or-take i xs (i - 1) d (omega arith) in
+    let same : get_or xs (i - 1) d ≡ get_or xs (i - 1) 0 = get_or_default xs (i - 1) d 0 (omega arith) in
+    elim (cases_eq k (i - 1)) [
+      | inl here ↦ subst (λ n. get_or (take i xs) n d < get_or xs i 0) (sym here) (omega (arith, last, same, higher))
+      | inr before ↦ omega (arith, rises k (i - 1) d (omega arith) (omega arith), last, same, higher)
+    ]))
 
 -- a number is no less than how many stand before it
 place-le : (xs : List ℕ) → Rises xs → (k : ℕ) → k < length xs → k ≤ get_or xs k 0

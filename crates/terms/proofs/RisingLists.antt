@@ -178,11 +178,14 @@ module _ {X K : Type 0} {R : K → K → Ordering} (o : IsTotalOrder R) (key : X
   -- where a binary search finds the key
   pub Stands-at : (k : K) (xs : List X) (i : ℕ) → i < length xs → HoldsAt (λ y. R (key y) k ≡ Equal) xs i → (x : X) × Stands R key k xs i x
   Stands-at k [] i below h = absurd (omega arith)
-  Stands-at k (x ∷ xs) i below h = (get_or (x ∷ xs) i x, record {
-    tie = h x;
-    parts = sym (take-append-drop i (x ∷ xs)) ∙ ap (λ ys. take i (x ∷ xs) ++ ys) (drop-cons (x ∷ xs) i x below);
-    at = λ d. get_or_default (x ∷ xs) i d x below;
-  })
+  Stands-at k (x ∷ xs) i below h = (
+    get_or (x ∷ xs) i x,
+    record {
+      tie = h x;
+      parts = sym (take-append-drop i (x ∷ xs)) ∙ ap (λ ys. take i (x ∷ xs) ++ ys) (drop-cons (x ∷ xs) i x below);
+      at = λ d. get_or_default (x ∷ xs) i d x below;
+    },
+  )
 
   -- whether some item has the key, by a test that ties with the order
   pub list_any-there : (E : K → K → Bool) → ((a b : K) → E a b ≡ is_eq (R a b)) → (k : K) (xs : List X) (i : ℕ) (x : X) → i < length xs → Stands R key k xs i x → list_any (λ y. E k (key y)) xs ≡ true
@@ -239,11 +242,11 @@ module _ {X K : Type 0} {R : K → K → Ordering} (o : IsTotalOrder R) (key : X
   pub All-before_last : (k : K) (xs : List X) (last : X) → Rises R key xs → 0 < length xs → last ≡ get_or xs (length xs - 1) last → R (key last) k ≡ Less → All (λ x. is_lt (R (key x) k) ≡ true) xs
   All-before_last k xs last rises some is low =
       λ i d below. elim (cases_lt i (length xs - 1)) [
-        inl less ↦
+        | inl less ↦
             let e = get_or_default xs (length xs - 1) d last (omega arith) in
             let step = Less-from_is_lt _ (rises i (length xs - 1) d less (omega arith)) in
             ap is_lt (o.trans _ _ k step (rw (e ∙ sym is) low))
-      | inr more ↦
+        | inr more ↦
             let here : i ≡ length xs - 1 = omega arith in
             let e = get_or_default xs (length xs - 1) d last (omega arith) in
             rw (here, e ∙ sym is) (ap is_lt low)

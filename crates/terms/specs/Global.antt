@@ -50,7 +50,7 @@ has_key x kind reason h = bytes_eq h.id x && (hold_number h.kind == hold_number 
 abbrev pub hold_cmp : Hold → Hold → Ordering
 hold_cmp a b =
     ordering_then (slice_cmp nat_cmp a.id b.id)
-        (ordering_then (nat_cmp (hold_number a.kind) (hold_number b.kind)) (slice_cmp nat_cmp a.reason b.reason))
+    (ordering_then (nat_cmp (hold_number a.kind) (hold_number b.kind)) (slice_cmp nat_cmp a.reason b.reason))
 
 -- Element statements are ordered by type and name.
 abbrev pub change_cmp : Change → Change → Ordering

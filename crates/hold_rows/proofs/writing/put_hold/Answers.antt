@@ -17,7 +17,19 @@ use Rattle.hold_rows.proofs.writing.put_hold.Goals as goal
 pub returns-clause-ok : goal.returns-clause-ok
 returns-clause-ok g c =
     let fields = c.hold.inside in
-    let put = rw (c.as_bytes.ensures.same, c.as_bytes-2.ensures.value, c.word_of.ensures, c.as_bytes-3.ensures.same, c.as_bytes-4.ensures.same, c.class_value-class.ensures, bound_optional fields.class,
-    c.date_value-date.ensures, bound_optional fields.date, c.comment_value-comment.ensures, bound_optional (option_map string_bytes fields.comment), c.flag_value-internal.ensures) at c.put.ensures.ok in
+    let put = rw (
+      c.as_bytes.ensures.same,
+      c.as_bytes-2.ensures.value,
+      c.word_of.ensures,
+      c.as_bytes-3.ensures.same,
+      c.as_bytes-4.ensures.same,
+      c.class_value-class.ensures,
+      bound_optional fields.class,
+      c.date_value-date.ensures,
+      bound_optional fields.date,
+      c.comment_value-comment.ensures,
+      bound_optional (option_map string_bytes fields.comment),
+      c.flag_value-internal.ensures,
+    ) at c.put.ensures.ok in
     subst (λ h. OnOk c.put.result (Turns g.S.Store c.args.tx.now.conn.now c.put.new.tx.conn.now (HasContents store_schema) (with_put hold (hold_key h) (hold_row h)))) c.hold.view_is
     (on_ok c.put.result _ _ (λ ran. ran store_schema 4 hold takes_hold puts_hold (kept_hold (the_view fields))) put)

@@ -21,8 +21,8 @@ returns-clause-found g c clean =
     let new = state g.S.Store c.query_all.new.self in
     let key = bound c.args.key.now in
     if_ok c.read_all.result _ _ (λ items read schema table text has.
-        subst (λ found. AreFound table key found (old.now.trees table.tree)) read.0
-        (found_in schema table _ c.args.sql.now key old new c.in_ok-rows.rows.items text (sym (length-map c.args.key.now _)) has (c.in_ok-rows.ensures.ok clean))) (rw c.as_slice.ensures.value at c.read_all.ensures.read)
+    subst (λ found. AreFound table key found (old.now.trees table.tree)) read.0
+    (found_in schema table _ c.args.sql.now key old new c.in_ok-rows.rows.items text (sym (length-map c.args.key.now _)) has (c.in_ok-rows.ensures.ok clean))) (rw c.as_slice.ensures.value at c.read_all.ensures.read)
 
 pub returns-clause-none : goal.returns-clause-none
 returns-clause-none g c clean bad schema table text has items forms found =
