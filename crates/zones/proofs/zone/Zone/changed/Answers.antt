@@ -11,11 +11,10 @@ use Rattle.zones.proofs.zone.Zone.changed.Goals as goal
 
 pub invariant_of-zone : goal.invariant_of-zone
 invariant_of-zone c =
-    let edits = c.args.delta.now.entries in
-    (
+    let edits = c.args.delta.now.entries in (
       rw (c.in_ok-edited.ensures, c.entry_edits.ensures) (All-edited nat_list_cmp_total (λ e. e.id) (λ e. IsTrue (is_held e)) edits c.self.inside.entries c.self.invariant.0 c.known.ensures.held),
       rw (c.in_ok-edited.ensures, c.entry_edits.ensures) (All-edited nat_list_cmp_total (λ e. e.id) (λ e. IsTrue (waives_applied e)) edits c.self.inside.entries c.self.invariant.1 c.known.ensures.waived),
-      c.self.invariant.2
+      c.self.invariant.2,
     )
 
 pub returns : goal.returns
