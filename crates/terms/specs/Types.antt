@@ -126,6 +126,10 @@ pub record Zone : Type 0 where
   pub entries : List Entry
   pub elements : List Element
 
+abbrev pub a_zone : ZoneKind → Text → Option Text → List Entry → List Element → Zone
+a_zone kind srel related entries elements =
+    record { kind = kind; srel = srel; related = related; entries = entries; elements = elements }
+
 -- a zone and its name
 pub record NamedZone : Type 0 where
   pub name : Text

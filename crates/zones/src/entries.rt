@@ -1,5 +1,6 @@
 //! What a zone knows of a SYSMOD and of an element.
-ghost use Rattle.std.specs.Prelude.{◌≡◌, IfOk};
+ghost use Rattle.std.specs.Prelude.{◌≡◌};
+ghost use Rattle.terms.specs.Lookups.{is_held, waives_applied};
 
 use crate::table::Keyed;
 use fields::{Id, IdList, Name, YyDdd};
@@ -25,6 +26,22 @@ impl Model for Entry {
     ghost Value = { SysmodEntry };
 
     ghost view = { λ e. record { id = e.id; applied = e.applied; supby = e.supby; delby = e.delby; waived = e.waived } };
+}
+
+impl Entry {
+    /// Whether it is there for a date, for SUPBY or for DELBY.
+    pub fn is_held(&self) -> bool
+        ensures { result ≡ is_held self.now }
+    {
+        self.applied.is_some() || !self.supby.is_empty() || self.delby.is_some()
+    }
+
+    /// Whether requisites are waived only of what is applied.
+    pub fn waives_applied(&self) -> bool
+        ensures { result ≡ waives_applied self.now }
+    {
+        self.applied.is_some() || self.waived.is_empty()
+    }
 }
 
 impl Keyed for Entry {

@@ -11,3 +11,6 @@ pub use delta::ZoneDelta;
 pub use entries::{Element, Entry};
 pub use table::{Keyed, Table};
 pub use zone::Zone;
+
+#[cfg(test)]
+mod tests;

@@ -1,7 +1,7 @@
 //! A zone: a map from ids to entries, and one from types and names to elements.
 ghost use Rattle.std.specs.Prelude.{◌≡◌, ◌==◌, ◌↔◌, [], All, IsTrue, IsSome, IfSome, IfOk, is_some, option_copied};
 ghost use Rattle.terms.specs.Delta.{IsChanged};
-ghost use Rattle.terms.specs.Types.{zone_number, Zone as AZone};
+ghost use Rattle.terms.specs.Types.{zone_number, a_zone};
 ghost use Rattle.terms.specs.Lookups.{IsZone, entry_of, element_of, is_applied, is_supplied, is_held, waives_applied};
 
 use crate::delta::ZoneDelta;
@@ -38,11 +38,7 @@ impl Zone {
     /// An empty zone. A target zone alone names a related zone.
     pub fn new(alloc: Global, kind: ZoneKind, srel: Srel, related: Option<ZoneName>) -> Self
         requires { is_some related ≡ (zone_number kind == 0) }
-        ensures kind { result.kind ≡ kind }
-        ensures srel { result.srel ≡ srel }
-        ensures related { result.related ≡ related }
-        ensures entries { result.entries ≡ [] }
-        ensures elements { result.elements ≡ [] }
+        ensures { result ≡ a_zone kind srel related [] [] }
     {
         Zone {
             kind,
@@ -51,6 +47,31 @@ impl Zone {
             entries: Table::new(alloc),
             elements: Table::new(alloc),
         }
+    }
+
+    /// The zone of these entries and elements, if they may stand in one.
+    pub fn from_tables(
+        kind: ZoneKind,
+        srel: Srel,
+        related: Option<ZoneName>,
+        entries: Table<Entry>,
+        elements: Table<Element>,
+    ) -> Option<Self>
+        ensures form { IsSome result
+            ↔ (All (λ e. IsTrue (is_held e)) entries × All (λ e. IsTrue (waives_applied e)) entries
+            × (is_some related ≡ (zone_number kind == 0))) }
+        ensures same { IfSome result (λ zone. zone ≡ a_zone kind srel related entries elements) }
+    {
+        if related.is_some() != (kind == ZoneKind::Target) || !may_stand(entries.as_slice()) {
+            return None;
+        }
+        Some(Zone {
+            kind,
+            srel,
+            related,
+            entries,
+            elements,
+        })
     }
 
     pub fn kind(&self) -> ZoneKind
@@ -139,4 +160,14 @@ impl Zone {
         zone.known();
         Ok(zone)
     }
+}
+
+// Whether each entry is there for something, and requisites are waived only of what is applied.
+fn may_stand(entries: &[Entry]) -> bool
+    ensures { IsTrue result
+        ↔ (All (λ e. IsTrue (is_held e)) entries.now
+        × All (λ e. IsTrue (waives_applied e)) entries.now) }
+{
+    entries.iter().all(|entry| entry.is_held())
+        && entries.iter().all(|entry| entry.waives_applied())
 }
