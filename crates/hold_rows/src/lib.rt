@@ -9,3 +9,6 @@ mod writing;
 pub use hold::Hold;
 pub use reading::load_holds;
 pub use writing::{put_hold, remove_hold};
+
+#[cfg(test)]
+mod tests;
