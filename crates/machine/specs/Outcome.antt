@@ -8,6 +8,8 @@ use Rattle.terms.specs.declared.kinds.ZoneKind.{ZoneKind}
 use Rattle.terms.specs.Types.{Text, Id, Global, Entry, Element, Zone, Command, Set, Receive, Reject, Apply, Accept, Restore, ListZone, Report}
 use Rattle.terms.specs.declared.codes.CommandWord.{CommandWord}
 use Rattle.terms.specs.declared.codes.CommandWord.TheVariants as word
+use Rattle.terms.specs.declared.codes.IdRefusal.{IdRefusal}
+use Rattle.terms.specs.declared.codes.IdRefusal.TheVariants.{Rc2, Rc3, Rc4, Rl1, Rl2, Rj1, Rj2}
 use Rattle.terms.specs.declared.codes.McCode.{McCode}
 use Rattle.terms.specs.declared.codes.CnCode.{CnCode}
 use Rattle.terms.specs.declared.codes.Test.{Test}
@@ -43,16 +45,6 @@ pub data Place : Type 0 where
   OfKind : Kind → Place
   OfHold : HoldKind → Place
   NotReceived : Place
-
--- why one id was refused: RECEIVE (Rc), ++RELEASE (Rl), REJECT (Rj)
-pub data IdRefusal : Type 0 where
-  Rc2 : IdRefusal
-  Rc3 : IdRefusal
-  Rc4 : IdRefusal
-  Rl1 : IdRefusal
-  Rl2 : IdRefusal
-  Rj1 : IdRefusal
-  Rj2 : IdRefusal
 
 -- a need that no kept candidate serves
 pub record OpenNeed : Type 0 where

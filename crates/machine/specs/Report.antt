@@ -4,8 +4,8 @@ use Rattle.std.specs.List.{flat_map, join_with_byte}
 use Rattle.terms.specs.declared.kinds.ZoneKind.{ZoneKind}
 use Rattle.terms.specs.declared.kinds.ZoneKind.TheVariants.{Target, Distribution}
 use Rattle.terms.specs.Types.{Text, Id, Entry}
-use Rattle.terms.specs.Spelling.{word_text, kind_text, hold_text, type_text, mc_text, cn_text, test_text, need_text}
-use Rattle.machine.specs.Outcome.{Header, Refusal, Cm1, Cm2, Cm3, Cm4, Cm5, Place, OfKind, OfHold, NotReceived, IdRefusal, Rc2, Rc3, Rc4, Rl1, Rl2, Rj1, Rj2, Failure, Status, Received, Already, RefusedId, Assigned, Unknown, Held, Replaced, Released, Rejected, Applied, Accepted, Superseded, Failed, Deleted, Missing, NoVer, Restored, NotApplied, ElementRow, Line, StatusLine, NothingLine, SysmodLine, HoldLine, EntryLine, ElementLine, TextLine, ErrsysmodLine, Outcome, Ran, Refused, Control, lines_code}
+use Rattle.terms.specs.Spelling.{word_text, kind_text, hold_text, type_text, mc_text, cn_text, test_text, need_text, refusal_text}
+use Rattle.machine.specs.Outcome.{Header, Refusal, Cm1, Cm2, Cm3, Cm4, Cm5, Place, OfKind, OfHold, NotReceived, Failure, Status, Received, Already, RefusedId, Assigned, Unknown, Held, Replaced, Released, Rejected, Applied, Accepted, Superseded, Failed, Deleted, Missing, NoVer, Restored, NotApplied, ElementRow, Line, StatusLine, NothingLine, SysmodLine, HoldLine, EntryLine, ElementLine, TextLine, ErrsysmodLine, Outcome, Ran, Refused, Control, lines_code}
 
 -- words with one blank between them, and the newline
 abbrev pub words_line : List Text → Text
@@ -33,13 +33,13 @@ header_text h =
     words_line (word_text h.word ∷ optional_text h.boundary ∷ (if h.check then codes "CHECK" ∷ [] else []))
 
 -- the one line of a refused command
-abbrev pub refusal_text : Refusal → Text
-refusal_text Cm1 = words_line (codes "REFUSED" ∷ codes "Cm1" ∷ [])
-refusal_text Cm2 = words_line (codes "REFUSED" ∷ codes "Cm2" ∷ [])
-refusal_text Cm3 = words_line (codes "REFUSED" ∷ codes "Cm3" ∷ [])
-refusal_text (Cm4 n code) =
+abbrev pub refused_text : Refusal → Text
+refused_text Cm1 = words_line (codes "REFUSED" ∷ codes "Cm1" ∷ [])
+refused_text Cm2 = words_line (codes "REFUSED" ∷ codes "Cm2" ∷ [])
+refused_text Cm3 = words_line (codes "REFUSED" ∷ codes "Cm3" ∷ [])
+refused_text (Cm4 n code) =
     words_line (codes "REFUSED" ∷ codes "Cm4" ∷ codes "RECORD" ∷ decimal n ∷ mc_text code ∷ [])
-refusal_text (Cm5 n code) =
+refused_text (Cm5 n code) =
     words_line (codes "REFUSED" ∷ codes "Cm5" ∷ codes "RECORD" ∷ decimal n ∷ mc_text code ∷ [])
 
 abbrev pub place_text : Place → Text
@@ -47,35 +47,34 @@ place_text (OfKind kind) = kind_text kind
 place_text (OfHold kind) = hold_text kind
 place_text NotReceived = codes "-"
 
-abbrev pub id_refusal_text : IdRefusal → Text
-id_refusal_text Rc2 = codes "Rc2"
-id_refusal_text Rc3 = codes "Rc3"
-id_refusal_text Rc4 = codes "Rc4"
-id_refusal_text Rl1 = codes "Rl1"
-id_refusal_text Rl2 = codes "Rl2"
-id_refusal_text Rj1 = codes "Rj1"
-id_refusal_text Rj2 = codes "Rj2"
+-- the word of a status, and what may stand behind it
+abbrev pub status_word : Status → Text
+status_word Received = codes "RECEIVED"
+status_word Already = codes "ALREADY"
+status_word (RefusedId why) = codes "REFUSED"
+status_word (Assigned source) = codes "ASSIGNED"
+status_word Unknown = codes "UNKNOWN"
+status_word (Held reason) = codes "HELD"
+status_word (Replaced reason) = codes "REPLACED"
+status_word (Released reason) = codes "RELEASED"
+status_word Rejected = codes "REJECTED"
+status_word Applied = codes "APPLIED"
+status_word Accepted = codes "ACCEPTED"
+status_word Superseded = codes "SUPERSEDED"
+status_word (Failed why) = codes "FAILED"
+status_word Deleted = codes "DELETED"
+status_word Missing = codes "MISSING"
+status_word NoVer = codes "NOVER"
+status_word Restored = codes "RESTORED"
+status_word NotApplied = codes "NOTAPPLIED"
 
--- the words of a status
-abbrev pub status_words : Status → List Text
-status_words Received = codes "RECEIVED" ∷ []
-status_words Already = codes "ALREADY" ∷ []
-status_words (RefusedId why) = codes "REFUSED" ∷ id_refusal_text why ∷ []
-status_words (Assigned source) = codes "ASSIGNED" ∷ source ∷ []
-status_words Unknown = codes "UNKNOWN" ∷ []
-status_words (Held reason) = codes "HELD" ∷ reason ∷ []
-status_words (Replaced reason) = codes "REPLACED" ∷ reason ∷ []
-status_words (Released reason) = codes "RELEASED" ∷ reason ∷ []
-status_words Rejected = codes "REJECTED" ∷ []
-status_words Applied = codes "APPLIED" ∷ []
-status_words Accepted = codes "ACCEPTED" ∷ []
-status_words Superseded = codes "SUPERSEDED" ∷ []
-status_words (Failed why) = codes "FAILED" ∷ []
-status_words Deleted = codes "DELETED" ∷ []
-status_words Missing = codes "MISSING" ∷ []
-status_words NoVer = codes "NOVER" ∷ []
-status_words Restored = codes "RESTORED" ∷ []
-status_words NotApplied = codes "NOTAPPLIED" ∷ []
+abbrev pub status_detail : Status → List Text
+status_detail (RefusedId why) = refusal_text why ∷ []
+status_detail (Assigned source) = source ∷ []
+status_detail (Held reason) = reason ∷ []
+status_detail (Replaced reason) = reason ∷ []
+status_detail (Released reason) = reason ∷ []
+status_detail _ = []
 
 -- the lines after FAILED: tests, needs, causers
 abbrev pub failure_text : Failure → Text
@@ -117,7 +116,7 @@ resolver_text (y ∷ ys) = flat_map (λ id. detail_line (codes "RESOLVER" ∷ id
 -- a line with the lines that belong to it
 abbrev pub line_text : Line → Text
 line_text (StatusLine id place status) =
-    words_line (id ∷ left_in 8 (place_text place) ∷ status_words status) ++ details status
+    words_line (id ∷ left_in 8 (place_text place) ∷ status_word status ∷ status_detail status) ++ details status
 line_text NothingLine = words_line (codes "NOTHING" ∷ [])
 line_text (SysmodLine id kind sources) =
     words_line (codes "SYSMOD" ∷ id ∷ left_in 8 (kind_text kind) ∷ codes "SOURCEID" ∷ list_text sources ∷ [])
@@ -135,6 +134,6 @@ code_text n = words_line (codes "RC" ∷ ((48 + n / 10) ∷ (48 + n % 10) ∷ []
 
 unfoldable pub text : Outcome → Text
 text (Ran h lines) = header_text h ++ flat_map line_text lines ++ code_text (lines_code lines)
-text (Refused h why) = header_text h ++ refusal_text why ++ code_text 12
+text (Refused h why) = header_text h ++ refused_text why ++ code_text 12
 text (Control fault) =
     words_line (codes "CONTROL" ∷ codes "RECORD" ∷ decimal fault.number ∷ cn_text fault.code ∷ [])

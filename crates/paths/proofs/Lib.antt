@@ -1,4 +1,2 @@
 pub mod Growth
 pub mod Going
-pub mod Rising
-pub mod Copies

@@ -1,9 +1,8 @@
 ghost use Rattle.std.specs.Prelude.{◌≡◌, ◌++◌, ◌↔◌, List, ℕ, OnOk, IfOk, IsSomeAnd, Contains, IsTrue};
 ghost use Rattle.terms.specs.Over.{Reaches};
-ghost use Rattle.terms.specs.Lookups.{IsRising};
 ghost use Rattle.paths.specs.Seen.{AddsAll};
 
-use fields::Id;
+use fields::{Id, IdList};
 use indexmap::IndexSet;
 use std::alloc::{AllocError, Global};
 
@@ -80,11 +79,10 @@ pub fn leads<N: Names>(alloc: Global, names: &N, x: Id, z: Id) -> Result<bool, A
 }
 
 /// The ids that x leads to by such lists.
-pub fn ends<N: Names>(alloc: Global, names: &N, x: Id) -> Result<Vec<Id>, AllocError>
-    ensures exact { IfOk result (λ ends. (z : List ℕ) → Contains ends.items z ↔ Reaches (N.named names.now) x z) }
-    ensures rising { IfOk result (λ ends. IsRising ends.items) }
+pub fn ends<N: Names>(alloc: Global, names: &N, x: Id) -> Result<IdList, AllocError>
+    ensures { IfOk result (λ ends. (z : List ℕ) → Contains ends z ↔ Reaches (N.named names.now) x z) }
 {
-    let mut seen = reached(alloc, names, x, None)?;
-    seen.sort()?;
-    Vec::from_slice(alloc, seen.as_slice())
+    let seen = reached(alloc, names, x, None)?;
+    let ends = Vec::from_slice(alloc, seen.as_slice())?;
+    Ok(IdList::from_vec(ends))
 }

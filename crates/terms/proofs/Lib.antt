@@ -8,8 +8,13 @@ pub mod Leads
 pub mod Least
 pub mod Loops
 pub mod Rising
+pub mod Decided
 pub mod RisingLists
 pub mod TextKeys
 pub mod Texts
 pub mod Controls
 pub mod Updates
+pub mod Rising
+pub mod Numbered
+pub mod Eligible
+mod Examples

@@ -14,3 +14,11 @@ pub mod Groups
 pub mod Statement
 pub mod Words
 pub mod Texts
+pub mod Changes
+pub mod Deleted
+pub mod Candidates
+pub mod Tests
+pub mod Needs
+pub mod Kept
+pub mod Judged
+pub mod Install

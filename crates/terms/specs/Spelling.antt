@@ -18,6 +18,8 @@ use Rattle.terms.specs.declared.codes.CommandWord.{CommandWord}
 use Rattle.terms.specs.declared.codes.CommandWord.TheVariants as word
 use Rattle.terms.specs.declared.codes.NeedKind.{NeedKind}
 use Rattle.terms.specs.declared.codes.NeedKind.TheVariants as need
+use Rattle.terms.specs.declared.codes.IdRefusal.{IdRefusal}
+use Rattle.terms.specs.declared.codes.IdRefusal.TheVariants.{Rc2, Rc3, Rc4, Rl1, Rl2, Rj1, Rj2}
 use Rattle.terms.specs.Types.{Text}
 
 abbrev pub kind_text : Kind → Text
@@ -92,3 +94,12 @@ need_text need.HoldError = codes "HOLDERROR"
 need_text need.Orphan = codes "ORPHAN"
 need_text need.Elem = codes "ELEM"
 need_text need.Dep = codes "DEP"
+
+abbrev pub refusal_text : IdRefusal → Text
+refusal_text Rc2 = codes "Rc2"
+refusal_text Rc3 = codes "Rc3"
+refusal_text Rc4 = codes "Rc4"
+refusal_text Rl1 = codes "Rl1"
+refusal_text Rl2 = codes "Rl2"
+refusal_text Rj1 = codes "Rj1"
+refusal_text Rj2 = codes "Rj2"

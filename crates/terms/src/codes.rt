@@ -65,3 +65,16 @@ pub enum NeedKind {
     Elem,
     Dep,
 }
+
+/// Why one id was refused: by RECEIVE (`Rc2` a loop, `Rc3` a role, `Rc4` the limit), by `++RELEASE`
+/// (`Rl1` no such hold, `Rl2` an internal hold) or by REJECT (`Rj1` applied somewhere, `Rj2` not received).
+#[derive(Clone, Copy, Debug, PartialEq, Eq, PartialOrd, Ord, Hash)]
+pub enum IdRefusal {
+    Rc2,
+    Rc3,
+    Rc4,
+    Rl1,
+    Rl2,
+    Rj1,
+    Rj2,
+}

@@ -4,8 +4,10 @@
 
 mod codes;
 mod kinds;
+mod not_chosen;
 mod text_faults;
 
-pub use codes::{CnCode, CommandWord, McCode, NeedKind, Test};
+pub use codes::{CnCode, CommandWord, IdRefusal, McCode, NeedKind, Test};
 pub use kinds::{ElemType, HoldKind, Kind, ZoneKind};
+pub use not_chosen::NotChosen;
 pub use text_faults::{TextCode, TextFault};

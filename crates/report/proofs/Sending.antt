@@ -1,0 +1,76 @@
+-- Texts that go out piece by piece.
+use Rattle.std.proofs.Common.{◌≡◌, ℕ, List, [], ◌++◌, Option, Bool, true, false, refl, sym, ◌∙◌, ap, subst, append_assoc}
+use Rattle.std.proofs.lemmas.List.{append-nil}
+use Rattle.std.specs.Io.KnownBytes.{Appends, Keeps}
+use Rattle.std.proofs.KnownBytes.{Appends-nil, Appends-trans, Appends-kept, Keeps-refl, Keeps-trans}
+use Rattle.report.specs.Sent.{WrotePart, Went, Sends}
+
+-- the bytes before the rest went out
+pub record IsSending (old new : Option (List ℕ)) (text rest : List ℕ) : Type 0 where
+  pub sent : List ℕ
+  pub text_is : text ≡ sent ++ rest
+  pub bytes : Appends old new sent
+
+-- Nothing has failed since and the bytes before the rest went out, or the sink had failed and nothing went out.
+abbrev pub Sending : Option (List ℕ) → Bool → Option (List ℕ) → Bool → List ℕ → List ℕ → Type 0
+Sending old true new failed text rest = (failed ≡ true) × Keeps old new
+Sending old false new failed text rest = (failed ≡ false) × IsSending old new text rest
+
+pub sending-start : (a : Option (List ℕ)) (f : Bool) (text : List ℕ) → Sending a f a f text text
+sending-start a true text = (refl, Keeps-refl a)
+sending-start a false text = (refl, record { sent = []; text_is = refl; bytes = Appends-nil a })
+
+pub sending-more : (a : Option (List ℕ)) (f : Bool) (b : Option (List ℕ)) (g : Bool) (c : Option (List ℕ)) (h : Bool) (text rest front back : List ℕ)
+    → Sending a f b g text rest → rest ≡ front ++ back → g ≡ false → h ≡ false → Appends b c front → Sending a f c h text back
+sending-more a true b g c h text rest front back s rest_is before after grown = let is : true ≡ false = sym s.0 ∙ before in absurd (cc is)
+sending-more a false b g c h text rest front back s rest_is before after grown = (
+  after,
+  record {
+    sent = s.1.sent ++ front;
+    text_is = s.1.text_is ∙ ap (λ r. s.1.sent ++ r) rest_is ∙ sym (append_assoc s.1.sent front back);
+    bytes = Appends-trans a b c s.1.sent front s.1.bytes grown;
+  },
+)
+
+-- a failed write takes nothing, so a beginning went out
+pub sending-stop : (a : Option (List ℕ)) (f : Bool) (b : Option (List ℕ)) (g : Bool) (c : Option (List ℕ)) (h : Bool) (text rest : List ℕ)
+    → Sending a f b g text rest → h ≡ true → Keeps b c → Sends a f c h text
+sending-stop a true b g c h text rest s failed kept = (failed, Keeps-trans a b c s.1 kept)
+sending-stop a false b g c h text rest s failed kept =
+    let part : WrotePart a c text = record { piece = s.1.sent; lost = rest; text_is = s.1.text_is; bytes = Appends-kept a b c s.1.sent s.1.bytes kept } in
+    subst (λ v. Went a c v text) (sym failed) part
+
+pub sending-end : (a : Option (List ℕ)) (f : Bool) (b : Option (List ℕ)) (g : Bool) (text rest : List ℕ)
+    → Sending a f b g text rest → rest ≡ [] → Sends a f b g text
+sending-end a true b g text rest s none = s
+sending-end a false b g text rest s none =
+    let all : Appends a b text = subst (Appends a b) (sym (s.1.text_is ∙ ap (λ r. s.1.sent ++ r) none ∙ append-nil s.1.sent)) s.1.bytes in
+    subst (λ v. Went a b v text) (sym s.0) all
+
+pub sends-nil : (a : Option (List ℕ)) (f : Bool) → Sends a f a f []
+sends-nil a true = (refl, Keeps-refl a)
+sends-nil a false = Appends-nil a
+
+-- one text, and then another
+pub sends-then : (a : Option (List ℕ)) (f : Bool) (b : Option (List ℕ)) (g : Bool) (c : Option (List ℕ)) (h : Bool) (xs ys : List ℕ)
+    → Sends a f b g xs → Sends b g c h ys → Sends a f c h (xs ++ ys)
+sends-then a true b true c h xs ys s t = (t.0, Keeps-trans a b c s.1 t.1)
+sends-then a true b false c h xs ys s t = let is : false ≡ true = s.0 in absurd (cc is)
+sends-then a false b true c h xs ys s t =
+    let part : WrotePart a c (xs ++ ys) = record {
+      piece = s.piece;
+      lost = s.lost ++ ys;
+      text_is = ap (λ x. x ++ ys) s.text_is ∙ append_assoc s.piece s.lost ys;
+      bytes = Appends-kept a b c s.piece s.bytes t.1;
+    } in subst (λ v. Went a c v (xs ++ ys)) (sym t.0) part
+sends-then a false b false c false xs ys s t = Appends-trans a b c xs ys s t
+sends-then a false b false c true xs ys s t = record {
+  piece = xs ++ t.piece;
+  lost = t.lost;
+  text_is = ap (λ y. xs ++ y) t.text_is ∙ sym (append_assoc xs t.piece t.lost);
+  bytes = Appends-trans a b c xs t.piece s t.bytes;
+}
+
+-- the same text, written otherwise
+pub sends-as : (a : Option (List ℕ)) (f : Bool) (b : Option (List ℕ)) (g : Bool) (xs ys : List ℕ) → xs ≡ ys → Sends a f b g xs → Sends a f b g ys
+sends-as a f b g xs ys is s = subst (Sends a f b g) is s

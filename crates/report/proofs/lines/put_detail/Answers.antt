@@ -1,0 +1,13 @@
+use Rattle.std.proofs.Common.{◌∷◌, ◌++◌, ◌≡◌, ap, sym, ◌∙◌, []}
+use Rattle.std.specs.Prelude.{option_map}
+use Rattle.std.specs.List.{flat_map}
+use Rattle.std.proofs.lemmas.List.{append-nil}
+use Rattle.terms.specs.Lookups.{at_most_one}
+use Rattle.report.proofs.Sending.{sends-then, sends-as}
+use Rattle.report.proofs.lines.put_detail.Goals as goal
+
+pub returns-in-Some : goal.returns-in-Some
+returns-in-Some g c =
+    rw c.in-Some.is
+    (sends-as _ _ _ _ _ _ (ap (λ t. 32 ∷ t) (sym (append-nil c.in-Some.text.now)))
+    (sends-then _ _ _ _ _ _ _ _ c.put.ensures c.put-in-Some.ensures))

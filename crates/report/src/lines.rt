@@ -1,0 +1,209 @@
+//! The text of lines.
+ghost use Rattle.std.specs.Prelude.{◌≡◌, ◌∷◌, [], ◌++◌, codes, decimal, option_map, if◌then◌else◌};
+ghost use Rattle.std.specs.List.{flat_map};
+ghost use Rattle.terms.specs.Spelling.{mc_text, test_text, need_text};
+ghost use Rattle.machine.specs.Outcome.{StatusLine};
+ghost use Rattle.machine.specs.Report.{words_line, optional_text, header_text, refused_text, place_text, status_word, status_detail, failure_text, details, line_text, detail_line};
+ghost use Rattle.terms.specs.Lookups.{at_most_one};
+ghost use Rattle.report.specs.Sent.{Sends};
+ghost use Rattle.report.specs.Views.{header_view, refusal_view, place_view, status_view, failure_view, line_view};
+
+use crate::outcome::{Failure, Header, Line, OpenNeed, Place, Refusal, Status};
+use crate::pieces::{put_left, put_number};
+use crate::sink::{Sink, put};
+use fields::{Id, ZoneName};
+use spelling::{hold_text, kind_text, mc_text, need_text, refusal_text, test_text, word_text};
+use terms::{McCode, Test};
+
+fn zone_text(zone: &Option<ZoneName>) -> &[u8]
+    ensures { result.now ≡ optional_text zone.now }
+{
+    match zone {
+        Some(name) => name.as_bytes(),
+        None => b"-",
+    }
+}
+
+fn check_text(check: bool) -> &'static [u8]
+    ensures { result.now ≡ (if check then codes " CHECK" else []) }
+{
+    if check { b" CHECK" } else { b"" }
+}
+
+/// A command's word, its boundary or `-`, and CHECK.
+pub(crate) fn put_header<W: Sink>(header: &Header, w: &mut W)
+    ensures { Sends (W.taken w.old) (W.has_failed w.old) (W.taken w.new) (W.has_failed w.new) (header_text (header_view header.now)) }
+{
+    put(word_text(header.word), w);
+    put(b" ", w);
+    put(zone_text(&header.boundary), w);
+    put(check_text(header.check), w);
+    put(b"\n", w);
+}
+
+/// The place of a fault, and its code.
+fn put_fault<W: Sink>(word: &[u8], number: usize, code: McCode, w: &mut W)
+    ensures { Sends (W.taken w.old) (W.has_failed w.old) (W.taken w.new) (W.has_failed w.new)
+        (words_line (codes "REFUSED" ∷ word.now ∷ codes "RECORD" ∷ decimal number ∷ mc_text code ∷ [])) }
+{
+    put(b"REFUSED ", w);
+    put(word, w);
+    put(b" RECORD ", w);
+    put_number(number, w);
+    put(b" ", w);
+    put(mc_text(code), w);
+    put(b"\n", w);
+}
+
+/// The one line of a refused command.
+pub(crate) fn put_refusal<W: Sink>(refusal: &Refusal, w: &mut W)
+    ensures { Sends (W.taken w.old) (W.has_failed w.old) (W.taken w.new) (W.has_failed w.new) (refused_text (refusal_view refusal.now)) }
+{
+    match refusal {
+        Refusal::NoBoundary => put(b"REFUSED Cm1\n", w),
+        Refusal::NoZone => put(b"REFUSED Cm2\n", w),
+        Refusal::WrongKind => put(b"REFUSED Cm3\n", w),
+        Refusal::Ptfin { number, code } => put_fault(b"Cm4", *number, *code, w),
+        Refusal::HoldFile { number, code } => put_fault(b"Cm5", *number, *code, w),
+    }
+}
+
+fn place_text(place: &Place) -> &[u8]
+    ensures { result.now ≡ place_text (place_view place.now) }
+{
+    match place {
+        Place::Kind(kind) => kind_text(*kind),
+        Place::Hold(kind) => hold_text(*kind),
+        Place::NotReceived => b"-",
+    }
+}
+
+fn status_word(status: &Status) -> &[u8]
+    ensures { result.now ≡ status_word (status_view status.now) }
+{
+    match status {
+        Status::Received => b"RECEIVED",
+        Status::Already => b"ALREADY",
+        Status::Refused(_) => b"REFUSED",
+        Status::Assigned(_) => b"ASSIGNED",
+        Status::Unknown => b"UNKNOWN",
+        Status::Held(_) => b"HELD",
+        Status::Replaced(_) => b"REPLACED",
+        Status::Released(_) => b"RELEASED",
+        Status::Rejected => b"REJECTED",
+        Status::Applied => b"APPLIED",
+        Status::Accepted => b"ACCEPTED",
+        Status::Superseded => b"SUPERSEDED",
+        Status::Failed(_) => b"FAILED",
+        Status::Deleted => b"DELETED",
+        Status::Missing => b"MISSING",
+        Status::NoVer => b"NOVER",
+        Status::Restored => b"RESTORED",
+        Status::NotApplied => b"NOTAPPLIED",
+    }
+}
+
+fn status_detail(status: &Status) -> Option<&[u8]>
+    ensures { at_most_one (option_map (λ t. t.now) result) ≡ status_detail (status_view status.now) }
+{
+    match status {
+        Status::Refused(why) => Some(refusal_text(*why)),
+        Status::Assigned(source) => Some(source.as_bytes()),
+        Status::Held(reason) => Some(reason.as_bytes()),
+        Status::Replaced(reason) => Some(reason.as_bytes()),
+        Status::Released(reason) => Some(reason.as_bytes()),
+        _ => None,
+    }
+}
+
+/// `TEST` lines.
+fn put_tests<W: Sink>(tests: &[Test], w: &mut W)
+    ensures { Sends (W.taken w.old) (W.has_failed w.old) (W.taken w.new) (W.has_failed w.new)
+        (flat_map (λ t. detail_line (codes "TEST" ∷ test_text t ∷ [])) tests.now) }
+{
+    for test in tests {
+        put(b"  TEST ", w);
+        put(test_text(*test), w);
+        put(b"\n", w);
+    }
+}
+
+/// `NEED` lines.
+fn put_needs<W: Sink>(needs: &[OpenNeed], w: &mut W)
+    ensures { Sends (W.taken w.old) (W.has_failed w.old) (W.taken w.new) (W.has_failed w.new)
+        (flat_map (λ n. detail_line (codes "NEED" ∷ need_text n.kind ∷ n.id ∷ [])) needs.now) }
+{
+    for need in needs {
+        put(b"  NEED ", w);
+        put(need_text(need.kind), w);
+        put(b" ", w);
+        put(need.id.as_bytes(), w);
+        put(b"\n", w);
+    }
+}
+
+/// `CAUSER` lines.
+fn put_causers<W: Sink>(causers: &[Id], w: &mut W)
+    ensures { Sends (W.taken w.old) (W.has_failed w.old) (W.taken w.new) (W.has_failed w.new)
+        (flat_map (λ id. detail_line (codes "CAUSER" ∷ id ∷ [])) causers.now) }
+{
+    for causer in causers {
+        put(b"  CAUSER ", w);
+        put(causer.as_bytes(), w);
+        put(b"\n", w);
+    }
+}
+
+/// The lines behind FAILED.
+fn put_failure<W: Sink>(failure: &Failure, w: &mut W)
+    ensures { Sends (W.taken w.old) (W.has_failed w.old) (W.taken w.new) (W.has_failed w.new) (failure_text (failure_view failure.now)) }
+{
+    put_tests(&failure.tests, w);
+    put_needs(&failure.needs, w);
+    put_causers(&failure.causers, w);
+}
+
+/// A status line, and the lines behind FAILED.
+fn put_status<W: Sink>(id: Id, place: &Place, status: &Status, w: &mut W)
+    ensures { Sends (W.taken w.old) (W.has_failed w.old) (W.taken w.new) (W.has_failed w.new)
+        (line_text (StatusLine id (place_view place.now) (status_view status.now))) }
+{
+    put(id.as_bytes(), w);
+    put(b" ", w);
+    put_left(place_text(place), 8, w);
+    put(b" ", w);
+    put(status_word(status), w);
+    put_detail(status_detail(status), w);
+    put(b"\n", w);
+    put_details(status, w);
+}
+
+/// A word behind a blank, if there is one.
+fn put_detail<W: Sink>(detail: Option<&[u8]>, w: &mut W)
+    ensures { Sends (W.taken w.old) (W.has_failed w.old) (W.taken w.new) (W.has_failed w.new)
+        (flat_map (λ t. 32 ∷ t) (at_most_one (option_map (λ t. t.now) detail.entry))) }
+{
+    if let Some(text) = detail {
+        put(b" ", w);
+        put(text, w);
+    }
+}
+
+/// The lines behind FAILED; behind another status there are none.
+fn put_details<W: Sink>(status: &Status, w: &mut W)
+    ensures { Sends (W.taken w.old) (W.has_failed w.old) (W.taken w.new) (W.has_failed w.new) (details (status_view status.now)) }
+{
+    if let Status::Failed(failure) = status {
+        put_failure(failure, w);
+    }
+}
+
+/// A line, with the lines that belong to it.
+pub(crate) fn put_line<W: Sink>(line: &Line, w: &mut W)
+    ensures { Sends (W.taken w.old) (W.has_failed w.old) (W.taken w.new) (W.has_failed w.new) (line_text (line_view line.now)) }
+{
+    match line {
+        Line::Status { id, place, status } => put_status(*id, place, status, w),
+        Line::Nothing => put(b"NOTHING\n", w),
+    }
+}

@@ -1,0 +1,93 @@
+//! What commands print, before it is text.
+
+use fields::{Id, Reason, Source, ZoneName};
+use terms::{CnCode, CommandWord, HoldKind, IdRefusal, Kind, McCode, NeedKind, Test};
+
+/// The first line of a report. Of SET the boundary is the zone that it names.
+#[derive(Clone, Copy, Debug)]
+pub struct Header {
+    pub word: CommandWord,
+    pub boundary: Option<ZoneName>,
+    pub check: bool,
+}
+
+/// Why a command was refused.
+#[derive(Clone, Copy, Debug)]
+pub enum Refusal {
+    /// `Cm1`: no boundary.
+    NoBoundary,
+    /// `Cm2`: SET names no zone.
+    NoZone,
+    /// `Cm3`: the boundary's kind is wrong.
+    WrongKind,
+    /// `Cm4`: a fault of PTFIN, at the record where the statement begins.
+    Ptfin { number: usize, code: McCode },
+    /// `Cm5`: the same of the hold file.
+    HoldFile { number: usize, code: McCode },
+}
+
+/// What stands behind the id of a status line.
+#[derive(Clone, Copy, Debug)]
+pub enum Place {
+    Kind(Kind),
+    Hold(HoldKind),
+    NotReceived,
+}
+
+/// A need that no kept candidate serves.
+#[derive(Clone, Copy, Debug)]
+pub struct OpenNeed {
+    pub kind: NeedKind,
+    pub id: Id,
+}
+
+/// Why a candidate failed: each list in print order.
+#[derive(Drop)]
+pub struct Failure {
+    pub tests: Vec<Test>,
+    pub needs: Vec<OpenNeed>,
+    pub causers: Vec<Id>,
+}
+
+/// What became of an id.
+#[derive(Drop)]
+pub enum Status {
+    Received,
+    Already,
+    Refused(IdRefusal),
+    Assigned(Source),
+    Unknown,
+    Held(Reason),
+    Replaced(Reason),
+    Released(Reason),
+    Rejected,
+    Applied,
+    Accepted,
+    Superseded,
+    Failed(Failure),
+    Deleted,
+    Missing,
+    NoVer,
+    Restored,
+    NotApplied,
+}
+
+/// A line of a report, with the lines that belong to it.
+#[derive(Drop)]
+pub enum Line {
+    Status {
+        id: Id,
+        place: Place,
+        status: Status,
+    },
+    /// RECEIVE, APPLY or ACCEPT had no status line.
+    Nothing,
+}
+
+/// What a command prints, or the one line of a job whose command file is at fault.
+#[derive(Drop)]
+pub enum Outcome {
+    Ran { header: Header, lines: Vec<Line> },
+    Refused { header: Header, refusal: Refusal },
+    Control { number: usize, code: CnCode },
+}

@@ -1,0 +1,88 @@
+ghost use Rattle.std.specs.Prelude.{◌≡◌, ◌<◌, ◌≤◌, List, ℕ, Bool, Option, true, false, length, take, IfOk, OnOk, OnErr, is_err};
+ghost use Rattle.std.specs.Io.KnownBytes.{Appends, Keeps};
+ghost use Rattle.report.specs.Sent.{Sends};
+
+use std::io::Write;
+use thiserror::Error;
+
+/// The sink takes no more bytes.
+#[derive(Clone, Copy, Debug, PartialEq, Eq, Error)]
+#[error("write")]
+pub struct WriteFault;
+
+/// Takes bytes until a write fails, and none from then on.
+pub trait Sink {
+    /// The bytes taken, where the sink tells them.
+    ghost taken: { Self → Option (List ℕ) };
+
+    /// Whether a write has failed.
+    ghost has_failed: { Self → Bool };
+
+    /// Takes the first bytes of a piece, one at least, and answers how many.
+    fn write(&mut self, piece: &[u8]) -> Result<usize, WriteFault>
+        requires { 0 < length piece.now }
+        ensures some { IfOk result (λ n. 0 < n) }
+        ensures within { IfOk result (λ n. n ≤ length piece.now) }
+        ensures bytes { IfOk result (λ n. Appends (taken self.old) (taken self.new) (take n piece.now)) }
+        ensures none { OnErr result (Keeps (taken self.old) (taken self.new)) }
+        ensures before { OnOk result (has_failed self.old ≡ false) }
+        ensures after { has_failed self.new ≡ is_err result };
+}
+
+/// A sink over any writer, whose bytes are those that the writer tells. An error of it, or 0 bytes taken, is a failure.
+#[derive(Drop)]
+pub struct Out<W> {
+    writer: W,
+    failed: bool,
+}
+
+impl<W> Out<W> {
+    /// A sink that has not failed.
+    pub fn new(writer: W) -> Out<W>
+        ensures { result ≡ record { writer = writer; failed = false } }
+    {
+        Out {
+            writer,
+            failed: false,
+        }
+    }
+}
+
+impl<W: Write> Sink for Out<W> {
+    ghost taken = { λ o. W.contents o.writer };
+
+    ghost has_failed = { λ o. o.failed };
+
+    fn write(&mut self, piece: &[u8]) -> Result<usize, WriteFault> {
+        if self.failed {
+            return Err(WriteFault);
+        }
+        match self.writer.write(piece) {
+            Ok(n) if n > 0 => Ok(n),
+            _ => {
+                self.failed = true;
+                Err(WriteFault)
+            }
+        }
+    }
+}
+
+/// Writes all of a piece, in as many writes as the sink needs.
+pub fn write_all<W: Sink>(piece: &[u8], w: &mut W) -> Result<(), WriteFault>
+    ensures sends { Sends (W.taken w.old) (W.has_failed w.old) (W.taken w.new) (W.has_failed w.new) piece.now }
+    ensures after { 0 < length piece.now → W.has_failed w.new ≡ is_err result }
+{
+    let mut rest = piece;
+    while !rest.is_empty() {
+        let n = w.write(rest)?;
+        rest = &rest[n..];
+    }
+    Ok(())
+}
+
+/// Writes a piece of a text. Whether it went out is told by the sink's next write, since a sink that has failed takes no more.
+pub fn put<W: Sink>(piece: &[u8], w: &mut W)
+    ensures { Sends (W.taken w.old) (W.has_failed w.old) (W.taken w.new) (W.has_failed w.new) piece.now }
+{
+    let _ = write_all(piece, w);
+}

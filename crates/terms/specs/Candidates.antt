@@ -1,0 +1,125 @@
+-- Which SYSMODs an APPLY or ACCEPT takes up.
+-- (IBM z/OS SMP/E Commands, the APPLY command and the ACCEPT command: FUNCTIONS, PTFS, APARS, USERMODS, SELECT, EXCLUDE,
+-- SOURCEID, FORFMID, GROUP and GROUPEXTEND. How these combine is this project's profile.)
+use Rattle.std.specs.Prelude.{◌≡◌, ◌⊎◌, ◌↔◌, ◌&&◌, ◌||◌, Bool, false, not, List, [], ◌∷◌, ◌++◌, Option, None, Some, filter, map, is_some, IsTrue, Contains, if◌then◌else◌}
+use Rattle.std.specs.List.{flat_map}
+use Rattle.std.specs.Option.{option_map_or}
+use Rattle.std.specs.Str.{bytes_eq}
+use Rattle.terms.specs.declared.kinds.Kind.{Kind}
+use Rattle.terms.specs.declared.kinds.Kind.TheVariants.{Function, Ptf, Apar, Usermod}
+use Rattle.terms.specs.declared.kinds.HoldKind.TheVariants.{Error}
+use Rattle.terms.specs.declared.not_chosen.NotChosen.{NotChosen}
+use Rattle.terms.specs.declared.not_chosen.NotChosen.TheVariants.{Already, Deleted, Missing, NoVer}
+use Rattle.terms.specs.Types.{Id, Sysmod, Global, Zone, Selection}
+use Rattle.terms.specs.Lookups.{IsRising, is_nil, at_most_one, is_in, meets, sysmod_of, is_received, is_function, holds_of, applied_ids, is_applied, is_supplied, delby_of}
+use Rattle.terms.specs.Choice.{Choice, vers_of, fmid_of, pre_of, req_of, ifs_of}
+use Rattle.terms.specs.Over.{Supersedes}
+
+-- It may be installed: it has a ++VER for the zone's SREL, stands not in EXCLUDE, and is neither supplied nor deleted.
+abbrev pub is_open : Global → Zone → Selection → Id → Bool
+is_open g zone sel x =
+    not (is_nil (vers_of g zone.srel x)) && not (is_in sel.exclude x)
+    && not (is_supplied zone x) && not (is_some (delby_of zone x))
+
+-- whether FUNCTIONS, PTFS, APARS or USERMODS takes the type; PTFS where none is given
+abbrev pub takes_kind : Selection → Kind → Bool
+takes_kind sel Function = sel.functions
+takes_kind sel Ptf = sel.ptfs || not (sel.functions || sel.apars || sel.usermods)
+takes_kind sel Apar = sel.apars
+takes_kind sel Usermod = sel.usermods
+
+-- what FORFMID looks at: the FMIDs for the zone's SREL, and a function's own id
+abbrev pub forfmid_ids : Global → Zone → Id → List Id
+forfmid_ids g zone x =
+    flat_map (λ v. at_most_one v.fmid) (vers_of g zone.srel x) ++ (if is_function g x then x ∷ [] else [])
+
+-- whether a SYSMOD passes all filters of the mass choice
+abbrev pub passes_filters : Global → Zone → Selection → Sysmod → Bool
+passes_filters g zone sel s =
+    takes_kind sel s.kind
+    && (is_nil sel.sourceid || meets s.sources sel.sourceid)
+    && (is_nil sel.forfmid || meets (forfmid_ids g zone s.id) sel.forfmid)
+
+-- The mass choice is made where a filter is given, or neither SELECT nor GROUP.
+abbrev pub has_mass_choice : Selection → Bool
+has_mass_choice sel =
+    sel.functions || sel.ptfs || sel.apars || sel.usermods
+    || not (is_nil sel.sourceid) || not (is_nil sel.forfmid)
+    || (is_nil sel.select && is_nil sel.group)
+
+-- whether the mass choice takes it, where there is one
+abbrev pub is_mass_chosen : Global → Zone → Selection → Id → Bool
+is_mass_chosen g zone sel x =
+    has_mass_choice sel && option_map_or (passes_filters g zone sel) (sysmod_of g x) false
+
+-- the start: the open ids that the mass choice, SELECT or GROUP names
+abbrev pub is_start : Global → Zone → Selection → Id → Bool
+is_start g zone sel x =
+    is_open g zone sel x && (is_in sel.select x || is_in sel.group x || is_mass_chosen g zone sel x)
+
+-- the start's ids that bring others in: those of GROUP, under GROUPEXTEND all
+abbrev pub is_growing_start : Global → Zone → Selection → Id → Bool
+is_growing_start g zone sel x = is_start g zone sel x && (sel.groupextend || is_in sel.group x)
+
+-- the requisites of its ++IFs whose function is there
+abbrev pub if_reqs : Choice → (Id → Bool) → Id → List Id
+if_reqs c is_there x = flat_map (λ i. i.req) (filter (λ i. is_there i.function) (ifs_of c x))
+
+-- the ++IF requisites that these SYSMODs state for a function
+abbrev pub stated_for : Choice → List Id → Id → List Id
+stated_for c xs function = flat_map (if_reqs c (bytes_eq function)) xs
+
+-- The requisites by ++IF: those of its own whose function is applied or a candidate, and for a function those that
+-- applied SYSMODs state for it.
+abbrev pub if_needed : Global → Choice → Zone → (Id → Bool) → Id → List Id
+if_needed g c zone cands x =
+    if_reqs c (λ f. is_applied zone f || cands f) x
+    ++ (if is_function g x then stated_for c (applied_ids zone) x else [])
+
+-- its needed ids: FMID, PRE, REQ and those by ++IF, less what the zone supplies; a FMID is supplied only if it is applied
+unfoldable pub needed_ids : Global → Choice → Zone → (Id → Bool) → Id → List Id
+needed_ids g c zone cands x =
+    filter (λ z. not (is_applied zone z)) (at_most_one (fmid_of c x))
+    ++ filter (λ z. not (is_supplied zone z)) (pre_of c x ++ req_of c x ++ if_needed g c zone cands x)
+
+-- the reasons of its ERROR holds that the zone does not supply: the APARs that would resolve them
+abbrev pub open_reasons : Global → Zone → Id → List Id
+open_reasons g zone x = filter (λ z. not (is_supplied zone z)) (map (λ h. h.reason) (holds_of g Error x))
+
+-- y is a needed id of x or the reason of an ERROR hold on it, or supersedes such an id
+abbrev pub Extends : Global → Choice → Zone → (Id → Bool) → Id → Id → Type 0
+Extends g c zone cands x y =
+    (z : Id) × Contains (needed_ids g c zone cands x ++ open_reasons g zone x) z × ((y ≡ z) ⊎ Supersedes c y z)
+
+-- x brings y in: y is open, and needed by x or under GROUPEXTEND one that extends x
+abbrev pub BringsIn : Global → Choice → Zone → Selection → (Id → Bool) → Id → Id → Type 0
+BringsIn g c zone sel cands x y =
+    IsTrue (is_open g zone sel y)
+    × (Contains (needed_ids g c zone cands x) y ⊎ (IsTrue sel.groupextend × Extends g c zone cands x y))
+
+-- The candidates hold the start, and the growing ones among them have what each of them brings in.
+pub record IsClosedPair (g : Global) (c : Choice) (zone : Zone) (sel : Selection) (cands growing : Id → Bool) : Type 0 where
+  pub start : (x : Id) → IsTrue (is_start g zone sel x) → IsTrue (cands x)
+  pub growing_start : (x : Id) → IsTrue (is_growing_start g zone sel x) → IsTrue (growing x)
+  pub part : (x : Id) → IsTrue (growing x) → IsTrue (cands x)
+  pub only_open : (x : Id) → IsTrue (growing x) → IsTrue (is_open g zone sel x)
+  pub grown : (x y : Id) → IsTrue (growing x) → BringsIn g c zone sel cands x y → IsTrue (growing y)
+
+-- It is in the first set of every closed pair.
+abbrev pub IsCandidate : Global → Choice → Zone → Selection → Id → Type 0
+IsCandidate g c zone sel x =
+    (cands growing : Id → Bool) → IsClosedPair g c zone sel cands growing → IsTrue (cands x)
+
+-- all candidates
+pub record AreCandidates (g : Global) (c : Choice) (zone : Zone) (sel : Selection) (cands : List Id) : Type 0 where
+  pub rising : IsRising cands
+  pub members : (x : Id) → Contains cands x ↔ IsCandidate g c zone sel x
+
+-- why an id of SELECT or GROUP that is neither excluded nor open is no candidate
+unfoldable pub not_chosen : Global → Zone → Selection → Id → Option NotChosen
+not_chosen g zone sel x =
+    if not (is_in (sel.select ++ sel.group) x) || is_in sel.exclude x || is_open g zone sel x then None
+    else if is_supplied zone x then Some Already
+    else if is_some (delby_of zone x) then Some Deleted
+    else if not (is_received g x) then Some Missing
+    else Some NoVer

@@ -1,0 +1,44 @@
+-- A zone less what DELETE takes out of it. The deletions are the ids that DELETE operands name.
+-- (IBM z/OS SMP/E Reference, ++VER, DELETE. What is taken out with them is this project's profile.)
+use Rattle.std.specs.Prelude.{◌&&◌, Bool, not, List, [], None, filter, map, if◌then◌else◌}
+use Rattle.std.specs.List.{flat_map}
+use Rattle.terms.specs.Types.{Id, Global, Entry, Zone}
+use Rattle.terms.specs.Lookups.{is_held, is_in, meets, is_applied}
+use Rattle.terms.specs.Choice.{Choice, del_of}
+use Rattle.terms.specs.Over.{chain}
+
+-- what these SYSMODs name in DELETE
+abbrev pub deletions : Choice → List Id → List Id
+deletions c xs = flat_map (del_of c) xs
+
+-- whether its chain meets the deletions
+abbrev pub is_deleted : Global → Choice → List Id → Id → Bool
+is_deleted g c dels x = meets (chain g c x) dels
+
+-- whether it is applied and the deletions take it out
+abbrev pub is_taken_out : Global → Choice → List Id → Zone → Id → Bool
+is_taken_out g c dels zone x = is_applied zone x && is_deleted g c dels x
+
+-- An entry where some SYSMODs are gone: such a one is applied no more, waives nothing and leaves every SUPBY.
+-- Its own SUPBY and its DELBY stand.
+abbrev pub entry_less : (Id → Bool) → Entry → Entry
+entry_less is_gone e = record e {
+  applied = if is_gone e.id then None else e.applied;
+  supby = filter (λ y. not (is_gone y)) e.supby;
+  waived = if is_gone e.id then [] else e.waived;
+}
+
+-- the entries without those SYSMODs; an entry that is left with no date, SUPBY and DELBY goes
+abbrev pub entries_less : (Id → Bool) → List Entry → List Entry
+entries_less is_gone es = filter is_held (map (entry_less is_gone) es)
+
+-- the zone less these deletions: SYSMODs are taken out, and elements go by their owner's chain
+unfoldable pub zone_less : Global → Choice → List Id → Zone → Zone
+zone_less g c dels zone = record zone {
+  entries = entries_less (is_taken_out g c dels zone) zone.entries;
+  elements = filter (λ e. not (is_deleted g c dels e.fmid)) zone.elements;
+}
+
+-- a candidate's view of the zone: less what the candidates in its chain delete
+abbrev pub view : Global → Choice → List Id → Zone → Id → Zone
+view g c cands zone x = zone_less g c (deletions c (filter (is_in cands) (chain g c x))) zone

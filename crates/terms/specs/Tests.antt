@@ -1,0 +1,152 @@
+-- The tests that a candidate of APPLY or ACCEPT passes or fails before any need of it is looked at.
+-- (IBM z/OS SMP/E Commands, APPLY and ACCEPT processing, and BYPASS; Reference, ++HOLD, NPRE and DELETE of ++VER.
+-- Their order and numbers are this project's profile.)
+use Rattle.std.specs.Prelude.{◌≡◌, ◌≢◌, ◌⊎◌, ◌↔◌, ◌&&◌, ◌||◌, Bool, true, false, not, List, [], ◌∷◌, Option, None, Some, filter, IsTrue, IsFalse, Contains}
+use Rattle.std.specs.Option.{option_map_or}
+use Rattle.terms.specs.declared.kinds.HoldKind.{HoldKind}
+use Rattle.terms.specs.declared.kinds.HoldKind.TheVariants.{Error, System, User}
+use Rattle.terms.specs.declared.kinds.ElemType.{ElemType}
+use Rattle.terms.specs.declared.kinds.ZoneKind.TheVariants.{Distribution}
+use Rattle.terms.specs.declared.codes.Test.{Test}
+use Rattle.terms.specs.declared.codes.Test.TheVariants.{J1, J2, J3, J4, J5, J6, J7, J8, J9}
+use Rattle.terms.specs.Types.{Text, Id, Hold, Global, Element, Zone, Reasons, NoReason, AnyReason, TheseReasons, Bypass}
+use Rattle.terms.specs.Lookups.{IsRising, is_in, has_change, holds_of, element_of, is_applied, is_function}
+use Rattle.terms.specs.Choice.{Choice, fmid_of, npre_of, del_of}
+use Rattle.terms.specs.Over.{IsOver, owner}
+use Rattle.terms.specs.Changes.{has_replacement, has_update}
+use Rattle.terms.specs.Deleted.{is_deleted, view}
+
+-- what an APPLY or ACCEPT looks at: for ACCEPT the related target zone too, where there is one
+pub record Setting : Type 0 where
+  pub global : Global
+  pub choice : Choice
+  pub zone : Zone
+  pub related : Option Zone
+  pub cands : List Id
+  pub bypass : Bypass
+
+-- a candidate's view of the zone
+abbrev pub view_of : Setting → Id → Zone
+view_of s x = view s.global s.choice s.cands s.zone x
+
+abbrev pub owner_of : Setting → Id → Id
+owner_of s x = owner s.global s.choice x
+
+abbrev pub covers : Reasons → Text → Bool
+covers NoReason reason = false
+covers AnyReason reason = true
+covers (TheseReasons reasons) reason = is_in reasons reason
+
+-- HOLDERROR, HOLDSYSTEM or HOLDUSER
+abbrev pub reasons_of : Bypass → HoldKind → Reasons
+reasons_of b Error = b.holderror
+reasons_of b System = b.holdsystem
+reasons_of b User = b.holduser
+
+-- whether BYPASS covers the hold, by its reason or by its class
+abbrev pub is_bypassed_hold : Bypass → Hold → Bool
+is_bypassed_hold b h = covers (reasons_of b h.kind) h.reason || option_map_or (is_in b.holdclass) h.class false
+
+-- the holds of a kind that stand against it
+abbrev pub standing_holds : Setting → HoldKind → Id → List Hold
+standing_holds s kind x = filter (λ h. not (is_bypassed_hold s.bypass h)) (holds_of s.global kind x)
+
+-- J1: it has a SYSTEM hold that is not bypassed
+abbrev pub FailsJ1 : Setting → Id → Type 0
+FailsJ1 s x = standing_holds s System x ≢ []
+
+-- J2: it has a USER hold that is not bypassed
+abbrev pub FailsJ2 : Setting → Id → Type 0
+FailsJ2 s x = standing_holds s User x ≢ []
+
+-- J3 (NPRE): in its view an applied SYSMOD stands in its NPRE, or an applied function names it in NPRE
+abbrev pub FailsJ3 : Setting → Id → Type 0
+FailsJ3 s x = (y : Id) × IsTrue (is_applied (view_of s x) y)
+    × (Contains (npre_of s.choice x) y ⊎ (IsTrue (is_function s.global y) × Contains (npre_of s.choice y) x))
+
+-- x replaces or updates this element of its view
+abbrev pub ChangesInView : Setting → Id → Element → Type 0
+ChangesInView s x e = (type : ElemType) × (name : Text)
+    × IsTrue (has_change s.global x type name) × (element_of (view_of s x) type name ≡ Some e)
+
+-- J4: it changes an element that its view holds under another owner
+abbrev pub FailsJ4 : Setting → Id → Type 0
+FailsJ4 s x = (e : Element) × ChangesInView s x e × (e.fmid ≢ owner_of s x)
+
+-- J5: it changes an element of its view and is not over its RMID and each UMID, unless BYPASS(ID)
+abbrev pub FailsJ5 : Setting → Id → Type 0
+FailsJ5 s x = IsFalse s.bypass.same_id
+    × ((e : Element) × (z : Id) × ChangesInView s x e × Contains (e.rmid ∷ e.umids) z × ¬ IsOver s.choice x z)
+
+-- whether its FMID is a candidate that replaces the element
+abbrev pub has_candidate_base : Setting → Id → ElemType → Text → Bool
+has_candidate_base s x type name =
+    option_map_or (λ f. is_in s.cands f && has_replacement s.global f type name) (fmid_of s.choice x) false
+
+-- J6: it updates an element that its view lacks, and its FMID is no candidate that replaces it
+abbrev pub FailsJ6 : Setting → Id → Type 0
+FailsJ6 s x = (type : ElemType) × (name : Text) × IsTrue (has_update s.global x type name)
+    × (element_of (view_of s x) type name ≡ None) × IsFalse (has_candidate_base s x type name)
+
+-- J7: for ACCEPT it is not applied in the related target zone, or there is none, unless BYPASS(APPLYCHECK)
+abbrev pub FailsJ7 : Setting → Id → Type 0
+FailsJ7 s x =
+    (s.zone.kind ≡ Distribution)
+    × IsFalse s.bypass.applycheck
+    × IsFalse (option_map_or (λ target. is_applied target x) s.related false)
+
+-- It fails a test that looks at it alone: one of J1 to J7.
+abbrev pub FailsAlone : Setting → Id → Test → Type 0
+FailsAlone s x J1 = FailsJ1 s x
+FailsAlone s x J2 = FailsJ2 s x
+FailsAlone s x J3 = FailsJ3 s x
+FailsAlone s x J4 = FailsJ4 s x
+FailsAlone s x J5 = FailsJ5 s x
+FailsAlone s x J6 = FailsJ6 s x
+FailsAlone s x J7 = FailsJ7 s x
+FailsAlone s x _ = ⊥
+
+-- a candidate that passes these
+abbrev pub PassesAlone : Setting → Id → Type 0
+PassesAlone s x = Contains s.cands x × ((test : Test) → ¬ FailsAlone s x test)
+
+-- J8 (DELETE): it passes these, and its chain meets the DELETE of one that does, which may be its own
+abbrev pub FailsJ8 : Setting → Id → Type 0
+FailsJ8 s x = PassesAlone s x
+    × ((y : Id) × PassesAlone s y × IsTrue (is_deleted s.global s.choice (del_of s.choice y) x))
+
+-- a survivor: it passes J1 to J8
+abbrev pub Survives : Setting → Id → Type 0
+Survives s x = PassesAlone s x × ¬ FailsJ8 s x
+
+-- all survivors
+pub record AreSurvivors (s : Setting) (ids : List Id) : Type 0 where
+  pub rising : IsRising ids
+  pub members : (x : Id) → Contains ids x ↔ Survives s x
+
+-- both change one element
+abbrev pub ShareElement : Global → Id → Id → Type 0
+ShareElement g x y = (type : ElemType) × (name : Text) × IsTrue (has_change g x type name) × IsTrue (has_change g y type name)
+
+-- their owners differ, or neither is over the other
+abbrev pub AreApart : Setting → Id → Id → Type 0
+AreApart s x y = (owner_of s x ≢ owner_of s y) ⊎ ((¬ IsOver s.choice x y) × (¬ IsOver s.choice y x))
+
+-- one names the other in NPRE, or they stand apart and share an element
+abbrev pub Clash : Setting → Id → Id → Type 0
+Clash s x y =
+    Contains (npre_of s.choice x) y ⊎ Contains (npre_of s.choice y) x ⊎ (ShareElement s.global x y × AreApart s x y)
+
+-- J9: it is a survivor and clashes with another one
+abbrev pub FailsJ9 : Setting → Id → Type 0
+FailsJ9 s x = Survives s x × ((y : Id) × Survives s y × (x ≢ y) × Clash s x y)
+
+-- a survivor that passes J9
+abbrev pub IsEligible : Setting → Id → Type 0
+IsEligible s x = Survives s x × ¬ FailsJ9 s x
+
+-- a candidate of APPLY or ACCEPT fails the test; J10 to J12 are RESTORE's
+abbrev pub Fails : Setting → Id → Test → Type 0
+Fails s x J8 = FailsJ8 s x
+Fails s x J9 = FailsJ9 s x
+Fails s x test = FailsAlone s x test
