@@ -77,10 +77,11 @@ empty_is_inventory = record {
   global = record {
     sysmods = λ i j d less within. absurd (omega arith);
     holds = λ i j d less within. absurd (omega arith);
-    no_loop = λ loop. no_step loop.0 loop.1 loop.2 loop.1 loop.3;
+    no_loop = λ loop. no_step loop.0 loop.1 loop.2.0 loop.1 loop.2.1;
     roles = λ i d within. absurd (omega arith);
     internal = λ i d within. absurd (omega arith);
     none_carried = λ i d within. absurd (omega arith);
+    formed = λ i d within. absurd (omega arith);
     size = omega arith;
   };
   sysmods = λ i d within. absurd (omega arith);

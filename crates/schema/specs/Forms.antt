@@ -6,8 +6,8 @@ use Rattle.terms.specs.declared.kinds.ElemType.{ElemType}
 use Rattle.terms.specs.declared.kinds.ElemType.TheVariants.{Mac, Src, Clist, Data, Exec, Parm, Proc}
 use Rattle.terms.specs.Types.{Text, Id, Lines, type_number, Ver, IfReq, Hold, Action, Replaces, Updates, Change, Sysmod, Entry, Element, Zone}
 use Rattle.terms.specs.Lookups.{is_before, IsRising}
-use Rattle.terms.specs.Forms.{IsRun, IsId, IsClass, IsReason, IsSource, IsSrel, IsName, IsDate, is_digit, number, BeginsDark}
-use Rattle.terms.specs.Texts.{IsNumbered, Update, IsUpdateText}
+use Rattle.terms.specs.Forms.{IsRun, IsId, IsClass, IsReason, IsSource, IsSrel, IsName, IsDate, is_digit, IsDottedDate, BeginsDark}
+use Rattle.terms.specs.Texts.{IsNumbered, IsUpdate}
 
 -- ids of this form, rising
 pub record AreListed (form : Text → Type 0) (ids : List Text) : Type 0 where
@@ -62,7 +62,7 @@ pub record HasVerForms (kind : Kind) (x : Id) (v : Ver) : Type 0 where
 abbrev pub HasActionForms : Kind → ElemType → Text → Action → Type 0
 HasActionForms kind type name (Replaces distlib syslib text) = IsName distlib × IsName syslib × IsTextOf type text × (text ≢ [])
 HasActionForms kind type name (Updates lines) =
-    (kind ≢ Function) × IsUpdated type × AreRecords lines × ((u : Update) × IsUpdateText name lines u)
+    (kind ≢ Function) × IsUpdated type × AreRecords lines × IsUpdate name lines
 
 -- an element statement
 pub record HasChangeForms (kind : Kind) (c : Change) : Type 0 where
@@ -102,15 +102,10 @@ pub record HasHoldForms (h : Hold) : Type 0 where
   pub date : IfSome h.date IsDate
   pub comment : IfSome h.comment IsComment
 
--- yy.ddd: a year's last two digits, and a day from 001 to 366
-abbrev pub IsDay : Text → Type 0
-IsDay text = (year day : Text) × (text ≡ year ++ 46 ∷ day) × IsRun is_digit 2 2 year × IsRun is_digit 3 3 day
-    × (1 ≤ number day) × (number day ≤ 366)
-
 -- a SYSMOD entry; only what is applied has waived requisites
 pub record HasEntryForms (e : Entry) : Type 0 where
   pub id : IsId e.id
-  pub applied : IfSome e.applied IsDay
+  pub applied : IfSome e.applied IsDottedDate
   pub supby : AreListed IsId e.supby
   pub delby : IfSome e.delby IsId
   pub waived : AreListed IsId e.waived

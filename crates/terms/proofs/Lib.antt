@@ -14,7 +14,6 @@ pub mod TextKeys
 pub mod Texts
 pub mod Controls
 pub mod Updates
-pub mod Rising
 pub mod Numbered
 pub mod Eligible
 mod Examples
