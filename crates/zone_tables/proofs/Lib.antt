@@ -1,0 +1,5 @@
+pub mod Texts
+pub mod RowForms
+pub mod Changes
+pub mod ZoneLemmas
+pub mod Put

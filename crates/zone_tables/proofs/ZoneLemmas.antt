@@ -1,0 +1,254 @@
+-- What the tables hold when a zone's entries or elements change.
+use Rattle.std.proofs.Common.{◌≡◌, ◌≢◌, ◌⊎◌, inl, inr, List, [], ◌∷◌, ◌++◌, map, filter, Bool, true, false, not, ◌&&◌, ◌==◌, Some, IsPermutation, refl, sym, ap, ap₂, subst, subst₂, ◌∙◌}
+use Rattle.std.specs.List.{AllByRecursion, flat_map}
+use Rattle.std.specs.Ordering.{is_eq}
+use Rattle.std.specs.Str.{bytes_eq}
+use Rattle.std.proofs.lemmas.Map.Text.{is_eq-slice_cmp}
+use Rattle.std.proofs.lemmas.Slice.Eq.{bytes_eq-Decides}
+use Rattle.std.proofs.lemmas.Bool.{cases_Bool}
+use Rattle.std.proofs.lemmas.List.{map-append}
+use Rattle.std.proofs.lemmas.List.Sorted.{IsPermutation-refl, IsPermutation-trans, IsPermutation-map, IsPermutation-middle}
+use Rattle.sqlite.specs.declared.types.Value.TheVariants.{Text}
+use Rattle.sqlite.specs.Collation.TheVariants.{Binary}
+use Rattle.sqlite.specs.Order.{Row, value_cmp}
+use Rattle.sqlite.specs.Ops.{binary, is_true, from_truth}
+use Rattle.sqlite.specs.Effect.{Database}
+use Rattle.sqlite.specs.Schema.{Schema}
+use Rattle.sqlite.specs.Table.{Table}
+use Rattle.sqlite.specs.Tree.{Trees}
+use Rattle.sqlite_value.proofs.OrderLemmas.{value_cmp-Text}
+use Rattle.sqlite_schema.specs.Rules.{equal}
+use Rattle.sqlite_trees.proofs.ListLemmas.{filter-map}
+use Rattle.terms.specs.declared.kinds.ElemType.{ElemType}
+use Rattle.terms.specs.declared.kinds.ElemType.TheVariants.{Mac, Src, Clist, Data, Exec, Parm, Proc}
+use Rattle.terms.specs.Types as terms
+use Rattle.terms.specs.Types.{type_number, Entry, Element, Zone, NamedZone}
+use Rattle.terms.specs.Spelling.{type_text}
+use Rattle.rows.specs.Rows.{has_key, without, with_row, with_put, in_table, AreRows, Contents, HasContents}
+use Rattle.rows.proofs.RowLemmas.{filter_same, filter_all}
+use Rattle.schema.specs.Inventory.{Inventory}
+use Rattle.schema.specs.Rows.{zone_row, entry_row, zelem_row, entries_of, zelems_of}
+use Rattle.schema.specs.Stands.{rows_of}
+use Rattle.schema.specs.Tables.{store_schema, entry, zelem, zone as zone_table}
+use Rattle.zone_tables.specs.Keys.{entry_key, element_key}
+use Rattle.zone_tables.specs.Zones.{IsZoneChange, entries_but, is_element, elements_but, HasPutEntry, HasRemovedEntry, HasPutElement, HasRemovedElement}
+use Rattle.zone_tables.proofs.Changes.{map_same, flat_same, changed}
+
+-- ---- keys
+
+told : (b : Bool) → is_true (from_truth (Some b)) ≡ b
+told true = refl
+told false = refl
+
+equals : (a b : terms.Text) → equal Binary (Text a) (Text b) ≡ bytes_eq a b
+unfolding binary
+equals a b = told (is_eq (value_cmp (Text a) (Text b))) ∙ ap is_eq (value_cmp-Text a b) ∙ is_eq-slice_cmp a b
+
+and_true : (b : Bool) → (b && true) ≡ b
+and_true true = refl
+and_true false = refl
+
+same_text : (a : terms.Text) → bytes_eq a a ≡ true
+same_text a = (bytes_eq-Decides a a).1 refl
+
+other_text : (a b : terms.Text) → a ≢ b → bytes_eq a b ≡ false
+other_text a b other = elim (cases_Bool (bytes_eq a b)) [
+  | inl e ↦ absurd (other ((bytes_eq-Decides a b).0 e))
+  | inr e ↦ e
+]
+
+types_alike : (a b : ElemType) → bytes_eq (type_text a) (type_text b) ≡ (type_number a == type_number b)
+types_alike Mac Mac = refl
+types_alike Mac Src = refl
+types_alike Mac Clist = refl
+types_alike Mac Data = refl
+types_alike Mac Exec = refl
+types_alike Mac Parm = refl
+types_alike Mac Proc = refl
+types_alike Src Mac = refl
+types_alike Src Src = refl
+types_alike Src Clist = refl
+types_alike Src Data = refl
+types_alike Src Exec = refl
+types_alike Src Parm = refl
+types_alike Src Proc = refl
+types_alike Clist Mac = refl
+types_alike Clist Src = refl
+types_alike Clist Clist = refl
+types_alike Clist Data = refl
+types_alike Clist Exec = refl
+types_alike Clist Parm = refl
+types_alike Clist Proc = refl
+types_alike Data Mac = refl
+types_alike Data Src = refl
+types_alike Data Clist = refl
+types_alike Data Data = refl
+types_alike Data Exec = refl
+types_alike Data Parm = refl
+types_alike Data Proc = refl
+types_alike Exec Mac = refl
+types_alike Exec Src = refl
+types_alike Exec Clist = refl
+types_alike Exec Data = refl
+types_alike Exec Exec = refl
+types_alike Exec Parm = refl
+types_alike Exec Proc = refl
+types_alike Parm Mac = refl
+types_alike Parm Src = refl
+types_alike Parm Clist = refl
+types_alike Parm Data = refl
+types_alike Parm Exec = refl
+types_alike Parm Parm = refl
+types_alike Parm Proc = refl
+types_alike Proc Mac = refl
+types_alike Proc Src = refl
+types_alike Proc Clist = refl
+types_alike Proc Data = refl
+types_alike Proc Exec = refl
+types_alike Proc Parm = refl
+types_alike Proc Proc = refl
+
+entry_meets : (other name : terms.Text) (id : terms.Id) (e : Entry) → has_key (entry_key name id) (entry_row other e) ≡ (bytes_eq other name && bytes_eq e.id id)
+entry_meets other name id e = ap₂ ◌&&◌ (equals other name) (and_true _ ∙ equals e.id id)
+
+element_meets : (other name : terms.Text) (type : ElemType) (x : terms.Text) (e : Element) → has_key (element_key name type x) (zelem_row other e) ≡ (bytes_eq other name && is_element type x e)
+element_meets other name type x e = ap₂ ◌&&◌ (equals other name) (ap₂ ◌&&◌ (equals (type_text e.elem_type) (type_text type) ∙ types_alike e.elem_type type) (and_true _ ∙ equals e.name x))
+
+-- ---- rows of one zone
+
+module _ {X : Type 0} (row : terms.Text → X → Row) (name : terms.Text) (key : Row) (test : X → Bool) (meets : (other : terms.Text) (x : X) → has_key key (row other x) ≡ (bytes_eq other name && test x)) where
+  -- of the zone's own rows those go that pass the test
+  own_left : (xs : List X) → without key (map (row name) xs) ≡ map (row name) (filter (λ x. not (test x)) xs)
+  own_left xs =
+      filter-map (λ r. not (has_key key r)) (row name) xs
+      ∙ ap (map (row name)) (filter_same _ _ xs (λ x h. ap not (meets name x ∙ ap (λ b. b && test x) (same_text name))))
+
+  -- and none of another zone's
+  others_left : (other : terms.Text) → other ≢ name → (xs : List X) → without key (map (row other) xs) ≡ map (row other) xs
+  others_left other apart xs =
+      filter-map (λ r. not (has_key key r)) (row other) xs
+      ∙ ap (map (row other)) (filter_same _ _ xs (λ x h. ap not (meets other x ∙ ap (λ b. b && test x) (other_text other name apart))) ∙ filter_all xs)
+
+  pub all_left : (items : Zone → List X) (zones : List NamedZone) → AllByRecursion (λ z. z.name ≢ name) zones → AllByRecursion (λ z. without key (map (row z.name) (items z.zone)) ≡ map (row z.name) (items z.zone)) zones
+  all_left items [] h = tt
+  all_left items (z ∷ zones) h = (others_left z.name h.0 (items z.zone), all_left items zones h.1)
+
+  pub rows_changed : (items : Zone → List X) (before after : List NamedZone) (old new : Zone) (news : List X) → AllByRecursion (λ z. z.name ≢ name) (before ++ after)
+      → IsPermutation (items new) (news ++ filter (λ x. not (test x)) (items old))
+      → IsPermutation (flat_map (λ z. map (row z.name) (items z.zone)) (before ++ record { name = name; zone = new } ∷ after))
+      (map (row name) news ++ without key (flat_map (λ z. map (row z.name) (items z.zone)) (before ++ record { name = name; zone = old } ∷ after)))
+  rows_changed items before after old new news others same =
+      let mapped = IsPermutation-map (row name) _ _ same in
+      let left : map (row name) (news ++ filter (λ x. not (test x)) (items old)) ≡ map (row name) news ++ without key (map (row name) (items old)) =
+      map-append (row name) news _ ∙ ap (λ rs. map (row name) news ++ rs) (sym (own_left (items old))) in
+      changed (λ (z : NamedZone). map (row z.name) (items z.zone)) (λ r. not (has_key key r)) before (record { name = name; zone = old }) (record { name = name; zone = new }) after (map (row name) news)
+      (all_left items (before ++ after) others) (subst (IsPermutation (map (row name) (items new))) left mapped)
+
+-- ---- all tables
+
+permuted_by : (tables : List Table) (c d : Contents) (trees : Trees) → AllByRecursion (λ t. IsPermutation (d t.tree) (c t.tree)) tables
+    → AllByRecursion (λ t. AreRows t (c t.tree) (trees t.tree)) tables → AllByRecursion (λ t. AreRows t (d t.tree) (trees t.tree)) tables
+permuted_by [] c d trees same h = tt
+permuted_by (t ∷ tables) c d trees same h =
+    (record { same = IsPermutation-trans _ _ _ same.0 h.0.same; numbered = h.0.numbered }, permuted_by tables c d trees same.1 h.1)
+
+-- the order in which the rows are told is free
+pub permuted : (schema : Schema) (c d : Contents) (db : Database) → AllByRecursion (λ t. IsPermutation (d t.tree) (c t.tree)) schema.tables → HasContents schema c db → HasContents schema d db
+permuted schema c d db same h = record { schema_is = h.schema_is; tables = permuted_by schema.tables c d db.trees same h.tables }
+
+-- two inventories whose rows are those of the first in all tables but entry or zelem
+module _ (i j : Inventory) (global : j.global ≡ i.global) (zones : map zone_row j.zones ≡ map zone_row i.zones) where
+  pub with_entries : (make : List Row → List Row) → flat_map zelems_of j.zones ≡ flat_map zelems_of i.zones → IsPermutation (flat_map entries_of j.zones) (make (flat_map entries_of i.zones))
+      → AllByRecursion (λ t. IsPermutation (rows_of j t.tree) (in_table entry make (rows_of i) t.tree)) store_schema.tables
+  with_entries make elements entries =
+      rw (global, zones, elements) (IsPermutation-refl _, (IsPermutation-refl _, (IsPermutation-refl _, (IsPermutation-refl _, (IsPermutation-refl _, (IsPermutation-refl _, (IsPermutation-refl _, (entries, (IsPermutation-refl _, tt)))))))))
+
+  pub with_elements : (make : List Row → List Row) → flat_map entries_of j.zones ≡ flat_map entries_of i.zones → IsPermutation (flat_map zelems_of j.zones) (make (flat_map zelems_of i.zones))
+      → AllByRecursion (λ t. IsPermutation (rows_of j t.tree) (in_table zelem make (rows_of i) t.tree)) store_schema.tables
+  with_elements make entries elements =
+      rw (global, zones, entries) (IsPermutation-refl _, (IsPermutation-refl _, (IsPermutation-refl _, (IsPermutation-refl _, (IsPermutation-refl _, (IsPermutation-refl _, (IsPermutation-refl _, (IsPermutation-refl _, (elements, tt)))))))))
+
+-- ---- one zone becomes another
+
+module _ (i j : Inventory) (name : terms.Text) (was is : Zone) (c : IsZoneChange name was is i j) where
+  abbrev old_zone : NamedZone
+  old_zone = record { name = name; zone = was }
+
+  abbrev new_zone : NamedZone
+  new_zone = record { name = name; zone = is }
+
+  globals : j.global ≡ i.global
+  globals = ap (λ (k : Inventory). k.global) c.is
+
+  same_zones : zone_row new_zone ≡ zone_row old_zone → map zone_row j.zones ≡ map zone_row i.zones
+  same_zones e = ap (λ (k : Inventory). map zone_row k.zones) c.is ∙ map_same zone_row c.before new_zone old_zone c.after e ∙ ap (map zone_row) (sym c.was)
+
+  same_in : (f : NamedZone → List Row) → f new_zone ≡ f old_zone → flat_map f j.zones ≡ flat_map f i.zones
+  same_in f e = ap (λ (k : Inventory). flat_map f k.zones) c.is ∙ flat_same f c.before new_zone old_zone c.after e ∙ ap (flat_map f) (sym c.was)
+
+  changed_in : (f : NamedZone → List Row) (make : List Row → List Row) → IsPermutation (flat_map f (c.before ++ new_zone ∷ c.after)) (make (flat_map f (c.before ++ old_zone ∷ c.after)))
+      → IsPermutation (flat_map f j.zones) (make (flat_map f i.zones))
+  changed_in f make h = subst₂ IsPermutation (sym (ap (λ (k : Inventory). flat_map f k.zones) c.is)) (ap (λ zs. make (flat_map f zs)) (sym c.was)) h
+
+  by_entries : (make : List Row → List Row) → is ≡ record was { entries = is.entries }
+      → IsPermutation (flat_map entries_of (c.before ++ new_zone ∷ c.after)) (make (flat_map entries_of (c.before ++ old_zone ∷ c.after)))
+      → AllByRecursion (λ t. IsPermutation (rows_of j t.tree) (in_table entry make (rows_of i) t.tree)) store_schema.tables
+  by_entries make rest h =
+      with_entries i j globals (same_zones (ap (λ z. zone_row (record { name = name; zone = z })) rest)) make
+      (same_in zelems_of (ap (λ z. zelems_of (record { name = name; zone = z })) rest)) (changed_in entries_of make h)
+
+  by_elements : (make : List Row → List Row) → is ≡ record was { elements = is.elements }
+      → IsPermutation (flat_map zelems_of (c.before ++ new_zone ∷ c.after)) (make (flat_map zelems_of (c.before ++ old_zone ∷ c.after)))
+      → AllByRecursion (λ t. IsPermutation (rows_of j t.tree) (in_table zelem make (rows_of i) t.tree)) store_schema.tables
+  by_elements make rest h =
+      with_elements i j globals (same_zones (ap (λ z. zone_row (record { name = name; zone = z })) rest)) make
+      (same_in entries_of (ap (λ z. entries_of (record { name = name; zone = z })) rest)) (changed_in zelems_of make h)
+
+  pub entry_put : (e : Entry) (db : Database) → HasPutEntry e was is → HasContents store_schema (with_put entry (entry_key name e.id) (entry_row name e) (rows_of i)) db → HasContents store_schema (rows_of j) db
+  entry_put e db p =
+      let key = entry_key name e.id in
+      permuted store_schema (with_put entry key (entry_row name e) (rows_of i)) (rows_of j) db
+      (by_entries (λ rows. with_row (entry_row name e) (without key rows)) p.rest
+      (rows_changed entry_row name key (λ x. bytes_eq x.id e.id) (λ other x. entry_meets other name e.id x) (λ z. z.entries) c.before c.after was is (e ∷ []) c.others p.entries))
+
+  pub entry_removed : (id : terms.Id) (db : Database) → HasRemovedEntry id was is → HasContents store_schema (in_table entry (without (entry_key name id)) (rows_of i)) db → HasContents store_schema (rows_of j) db
+  entry_removed id db p =
+      let key = entry_key name id in
+      permuted store_schema (in_table entry (without key) (rows_of i)) (rows_of j) db
+      (by_entries (without key) p.rest
+      (rows_changed entry_row name key (λ x. bytes_eq x.id id) (λ other x. entry_meets other name id x) (λ z. z.entries) c.before c.after was is [] c.others p.entries))
+
+  pub element_put : (e : Element) (db : Database) → HasPutElement e was is → HasContents store_schema (with_put zelem (element_key name e.elem_type e.name) (zelem_row name e) (rows_of i)) db
+      → HasContents store_schema (rows_of j) db
+  element_put e db p =
+      let key = element_key name e.elem_type e.name in
+      permuted store_schema (with_put zelem key (zelem_row name e) (rows_of i)) (rows_of j) db
+      (by_elements (λ rows. with_row (zelem_row name e) (without key rows)) p.rest
+      (rows_changed zelem_row name key (is_element e.elem_type e.name) (λ other x. element_meets other name e.elem_type e.name x) (λ z. z.elements) c.before c.after was is (e ∷ []) c.others p.elements))
+
+  pub element_removed : (type : ElemType) (x : terms.Text) (db : Database) → HasRemovedElement type x was is → HasContents store_schema (in_table zelem (without (element_key name type x)) (rows_of i)) db
+      → HasContents store_schema (rows_of j) db
+  element_removed type x db p =
+      let key = element_key name type x in
+      permuted store_schema (in_table zelem (without key) (rows_of i)) (rows_of j) db
+      (by_elements (without key) p.rest
+      (rows_changed zelem_row name key (is_element type x) (λ other y. element_meets other name type x y) (λ z. z.elements) c.before c.after was is [] c.others p.elements))
+
+-- ---- one more zone
+
+module _ (global : terms.Global) (zone : NamedZone) where
+  abbrev with_zones : List NamedZone → Inventory
+  with_zones zones = record { global = global; zones = zones }
+
+  flat_none : (f : NamedZone → List Row) → f zone ≡ [] → (before after : List NamedZone) → flat_map f (before ++ zone ∷ after) ≡ flat_map f (before ++ after)
+  flat_none f e [] after = ap (λ rows. rows ++ flat_map f after) e
+  flat_none f e (z ∷ before) after = ap (λ rows. f z ++ rows) (flat_none f e before after)
+
+  pub zone_added : (before after : List NamedZone) (db : Database) → entries_of zone ≡ [] → zelems_of zone ≡ [] → HasContents store_schema (in_table zone_table (with_row (zone_row zone)) (rows_of (with_zones (before ++ after)))) db
+      → HasContents store_schema (rows_of (with_zones (before ++ zone ∷ after))) db
+  zone_added before after db no_entries no_elements =
+      let zones : IsPermutation (map zone_row (before ++ zone ∷ after)) (zone_row zone ∷ map zone_row (before ++ after)) =
+      IsPermutation-map zone_row _ _ (IsPermutation-middle before zone after) in
+      permuted store_schema (in_table zone_table (with_row (zone_row zone)) (rows_of (with_zones (before ++ after)))) (rows_of (with_zones (before ++ zone ∷ after))) db
+      (rw (flat_none entries_of no_entries before after, flat_none zelems_of no_elements before after)
+      (IsPermutation-refl _, (IsPermutation-refl _, (IsPermutation-refl _, (IsPermutation-refl _, (IsPermutation-refl _, (IsPermutation-refl _, (zones, (IsPermutation-refl _, (IsPermutation-refl _, tt))))))))))
