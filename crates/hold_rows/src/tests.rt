@@ -36,7 +36,9 @@ fn hold(alloc: Global, on: &str, kind: HoldKind, why: &str, comment: &str) -> Re
 fn keeps_holds_by_their_keys(rt: HostRuntime) -> Result<(), Fail> {
     let alloc = rt.alloc();
     let mut conn = Connection::open_in_memory(alloc)?;
-    schema::create(&mut conn)?;
+    if !conn.is_autocommit() || schema::set_up(alloc, &mut conn).is_err() {
+        return Err(Fail::from("set up"));
+    }
     let error = hold(alloc, "UAA0001", HoldKind::Error, "AAA0009", "first")?;
     let user = hold(alloc, "UAA0001", HoldKind::User, "WAIT", "x")?;
     let again = hold(alloc, "UAA0001", HoldKind::Error, "AAA0009", "second")?;
