@@ -14,6 +14,7 @@ pub mod Records
 pub mod Groups
 pub mod Statement
 pub mod Words
+pub mod Operands
 pub mod CommandCuts
 pub mod Texts
 pub mod Changes
