@@ -15,13 +15,14 @@ use Rattle.sqlite.specs.View.{is_int}
 use Rattle.sqlite.specs.Edit.{id_in, is_taken, without_all}
 use Rattle.sqlite.specs.Table.{Table}
 use Rattle.sqlite.specs.Schema.{Schema}
+use Rattle.sqlite.specs.Effect.{Database}
 use Rattle.sqlite_schema.specs.Rules.{equal}
 use Rattle.sqlite_schema.specs.declared.schema.Column.{Column}
 use Rattle.sqlite_rules.specs.Calls.{ids_of}
 use Rattle.sqlite_trees.proofs.ListLemmas.{filter-map, IsPermutation-filter}
 use Rattle.sqlite_rules.proofs.ListLemmas.{all_has}
 use Rattle.sqlite.proofs.RunLemmas.{has_got}
-use Rattle.rows.specs.Rows.{shown, has_key, AreRows, AreFound, Contents, in_table}
+use Rattle.rows.specs.Rows.{shown, has_key, AreRows, AreFound, Contents, HasContents, in_table}
 use Rattle.rows.specs.Texts.{key_tests, IsTableOf}
 use Rattle.rows.proofs.RowLemmas.{put_adds, put_numbered, deleted, filter_numbered, filter_all}
 
@@ -102,3 +103,13 @@ all_found table held found rows are h = subst (IsPermutation found) (filter_all 
 
 pub found_all : (table : Table) (held found rows : List Row) → AreRows table held rows → IsPermutation found held → AreFound table [] found rows
 found_all table held found rows are h = subst (IsPermutation found) (sym (filter_all (map (shown table) rows))) (IsPermutation-trans _ _ _ h are.same)
+
+permuted_by : (tables : List Table) (c d : Contents) (trees : Trees) → AllByRecursion (λ t. IsPermutation (d t.tree) (c t.tree)) tables
+    → AllByRecursion (λ t. AreRows t (c t.tree) (trees t.tree)) tables → AllByRecursion (λ t. AreRows t (d t.tree) (trees t.tree)) tables
+permuted_by [] c d trees same h = tt
+permuted_by (t ∷ tables) c d trees same h =
+    (record { same = IsPermutation-trans _ _ _ same.0 h.0.same; numbered = h.0.numbered }, permuted_by tables c d trees same.1 h.1)
+
+-- the order in which the rows are told is free
+pub permuted : (schema : Schema) (c d : Contents) (db : Database) → AllByRecursion (λ t. IsPermutation (d t.tree) (c t.tree)) schema.tables → HasContents schema c db → HasContents schema d db
+permuted schema c d db same h = record { schema_is = h.schema_is; tables = permuted_by schema.tables c d db.trees same h.tables }

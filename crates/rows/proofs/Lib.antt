@@ -6,3 +6,7 @@ pub mod InsideLemmas
 pub mod Parents
 pub mod ReadLemmas
 pub mod Values
+pub mod Keys
+pub mod Parts
+pub mod Pieces
+pub mod Bound

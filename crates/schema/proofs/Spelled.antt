@@ -18,7 +18,7 @@ use Rattle.terms.specs.declared.kinds.ElemType.TheVariants.{Mac, Src, Clist, Dat
 use Rattle.terms.specs.declared.kinds.ZoneKind.{ZoneKind}
 use Rattle.terms.specs.declared.kinds.ZoneKind.TheVariants.{Target, Distribution}
 use Rattle.terms.specs.Spelling.{kind_text, hold_text, type_text, zone_kind_text}
-use Rattle.terms.specs.Types.{Text, Id, Lines}
+use Rattle.terms.specs.Types.{Text, Id, Lines, type_number}
 use Rattle.terms.specs.Forms.{is_id_byte, IsRun, IsId, IsSource}
 use Rattle.terms.specs.Lookups.{is_before}
 use Rattle.schema.specs.Forms.{AreListed, AreRecords}
@@ -81,6 +81,58 @@ type_read Proc = refl
 
 pub type_same : (a b : ElemType) → type_text a ≡ type_text b → a ≡ b
 type_same a b e = let both = sym (type_read a) ∙ ap read_type e ∙ type_read b in cc
+
+-- and are told apart as their numbers are
+pub types_alike : (a b : ElemType) → bytes_eq (type_text a) (type_text b) ≡ (type_number a == type_number b)
+types_alike Mac Mac = refl
+types_alike Mac Src = refl
+types_alike Mac Clist = refl
+types_alike Mac Data = refl
+types_alike Mac Exec = refl
+types_alike Mac Parm = refl
+types_alike Mac Proc = refl
+types_alike Src Mac = refl
+types_alike Src Src = refl
+types_alike Src Clist = refl
+types_alike Src Data = refl
+types_alike Src Exec = refl
+types_alike Src Parm = refl
+types_alike Src Proc = refl
+types_alike Clist Mac = refl
+types_alike Clist Src = refl
+types_alike Clist Clist = refl
+types_alike Clist Data = refl
+types_alike Clist Exec = refl
+types_alike Clist Parm = refl
+types_alike Clist Proc = refl
+types_alike Data Mac = refl
+types_alike Data Src = refl
+types_alike Data Clist = refl
+types_alike Data Data = refl
+types_alike Data Exec = refl
+types_alike Data Parm = refl
+types_alike Data Proc = refl
+types_alike Exec Mac = refl
+types_alike Exec Src = refl
+types_alike Exec Clist = refl
+types_alike Exec Data = refl
+types_alike Exec Exec = refl
+types_alike Exec Parm = refl
+types_alike Exec Proc = refl
+types_alike Parm Mac = refl
+types_alike Parm Src = refl
+types_alike Parm Clist = refl
+types_alike Parm Data = refl
+types_alike Parm Exec = refl
+types_alike Parm Parm = refl
+types_alike Parm Proc = refl
+types_alike Proc Mac = refl
+types_alike Proc Src = refl
+types_alike Proc Clist = refl
+types_alike Proc Data = refl
+types_alike Proc Exec = refl
+types_alike Proc Parm = refl
+types_alike Proc Proc = refl
 
 read_zone : Text → Option ZoneKind
 read_zone t = if bytes_eq t (codes "target") then Some Target else Some Distribution

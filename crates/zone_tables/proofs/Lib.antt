@@ -1,5 +1,3 @@
 pub mod Texts
 pub mod RowForms
-pub mod Changes
 pub mod ZoneLemmas
-pub mod Put

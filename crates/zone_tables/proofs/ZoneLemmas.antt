@@ -1,112 +1,30 @@
 -- What the tables hold when a zone's entries or elements change.
-use Rattle.std.proofs.Common.{◌≡◌, ◌≢◌, ◌⊎◌, inl, inr, List, [], ◌∷◌, ◌++◌, map, filter, Bool, true, false, not, ◌&&◌, ◌==◌, Some, IsPermutation, refl, sym, ap, ap₂, subst, subst₂, ◌∙◌}
+use Rattle.std.proofs.Common.{◌≡◌, ◌≢◌, List, [], ◌∷◌, ◌++◌, map, filter, Bool, not, ◌&&◌, IsPermutation, refl, sym, ap, ap₂, subst, subst₂, ◌∙◌}
 use Rattle.std.specs.List.{AllByRecursion, flat_map}
-use Rattle.std.specs.Ordering.{is_eq}
 use Rattle.std.specs.Str.{bytes_eq}
-use Rattle.std.proofs.lemmas.Map.Text.{is_eq-slice_cmp}
-use Rattle.std.proofs.lemmas.Slice.Eq.{bytes_eq-Decides}
-use Rattle.std.proofs.lemmas.Bool.{cases_Bool}
 use Rattle.std.proofs.lemmas.List.{map-append}
-use Rattle.std.proofs.lemmas.List.Sorted.{IsPermutation-refl, IsPermutation-trans, IsPermutation-map, IsPermutation-middle}
-use Rattle.sqlite.specs.declared.types.Value.TheVariants.{Text}
-use Rattle.sqlite.specs.Collation.TheVariants.{Binary}
-use Rattle.sqlite.specs.Order.{Row, value_cmp}
-use Rattle.sqlite.specs.Ops.{binary, is_true, from_truth}
+use Rattle.std.proofs.lemmas.List.Sorted.{IsPermutation-refl, IsPermutation-map, IsPermutation-middle}
+use Rattle.sqlite.specs.Order.{Row}
 use Rattle.sqlite.specs.Effect.{Database}
-use Rattle.sqlite.specs.Schema.{Schema}
-use Rattle.sqlite.specs.Table.{Table}
-use Rattle.sqlite.specs.Tree.{Trees}
-use Rattle.sqlite_value.proofs.OrderLemmas.{value_cmp-Text}
-use Rattle.sqlite_schema.specs.Rules.{equal}
 use Rattle.sqlite_trees.proofs.ListLemmas.{filter-map}
 use Rattle.terms.specs.declared.kinds.ElemType.{ElemType}
-use Rattle.terms.specs.declared.kinds.ElemType.TheVariants.{Mac, Src, Clist, Data, Exec, Parm, Proc}
 use Rattle.terms.specs.Types as terms
-use Rattle.terms.specs.Types.{type_number, Entry, Element, Zone, NamedZone}
+use Rattle.terms.specs.Types.{Entry, Element, Zone, NamedZone}
 use Rattle.terms.specs.Spelling.{type_text}
-use Rattle.rows.specs.Rows.{has_key, without, with_row, with_put, in_table, AreRows, Contents, HasContents}
+use Rattle.rows.specs.Rows.{has_key, without, with_row, with_put, in_table, HasContents}
 use Rattle.rows.proofs.RowLemmas.{filter_same, filter_all}
+use Rattle.rows.proofs.ContentsLemmas.{permuted}
+use Rattle.rows.proofs.Keys.{equals, and_true, same_text, other_text}
+use Rattle.rows.proofs.Parts.{map_same, flat_same, changed}
 use Rattle.schema.specs.Inventory.{Inventory}
 use Rattle.schema.specs.Rows.{zone_row, entry_row, zelem_row, entries_of, zelems_of}
 use Rattle.schema.specs.Stands.{rows_of}
 use Rattle.schema.specs.Tables.{store_schema, entry, zelem, zone as zone_table}
+use Rattle.schema.proofs.Spelled.{types_alike}
 use Rattle.zone_tables.specs.Keys.{entry_key, element_key}
 use Rattle.zone_tables.specs.Zones.{IsZoneChange, entries_but, is_element, elements_but, HasPutEntry, HasRemovedEntry, HasPutElement, HasRemovedElement}
-use Rattle.zone_tables.proofs.Changes.{map_same, flat_same, changed}
 
 -- ---- keys
-
-told : (b : Bool) → is_true (from_truth (Some b)) ≡ b
-told true = refl
-told false = refl
-
-equals : (a b : terms.Text) → equal Binary (Text a) (Text b) ≡ bytes_eq a b
-unfolding binary
-equals a b = told (is_eq (value_cmp (Text a) (Text b))) ∙ ap is_eq (value_cmp-Text a b) ∙ is_eq-slice_cmp a b
-
-and_true : (b : Bool) → (b && true) ≡ b
-and_true true = refl
-and_true false = refl
-
-same_text : (a : terms.Text) → bytes_eq a a ≡ true
-same_text a = (bytes_eq-Decides a a).1 refl
-
-other_text : (a b : terms.Text) → a ≢ b → bytes_eq a b ≡ false
-other_text a b other = elim (cases_Bool (bytes_eq a b)) [
-  | inl e ↦ absurd (other ((bytes_eq-Decides a b).0 e))
-  | inr e ↦ e
-]
-
-types_alike : (a b : ElemType) → bytes_eq (type_text a) (type_text b) ≡ (type_number a == type_number b)
-types_alike Mac Mac = refl
-types_alike Mac Src = refl
-types_alike Mac Clist = refl
-types_alike Mac Data = refl
-types_alike Mac Exec = refl
-types_alike Mac Parm = refl
-types_alike Mac Proc = refl
-types_alike Src Mac = refl
-types_alike Src Src = refl
-types_alike Src Clist = refl
-types_alike Src Data = refl
-types_alike Src Exec = refl
-types_alike Src Parm = refl
-types_alike Src Proc = refl
-types_alike Clist Mac = refl
-types_alike Clist Src = refl
-types_alike Clist Clist = refl
-types_alike Clist Data = refl
-types_alike Clist Exec = refl
-types_alike Clist Parm = refl
-types_alike Clist Proc = refl
-types_alike Data Mac = refl
-types_alike Data Src = refl
-types_alike Data Clist = refl
-types_alike Data Data = refl
-types_alike Data Exec = refl
-types_alike Data Parm = refl
-types_alike Data Proc = refl
-types_alike Exec Mac = refl
-types_alike Exec Src = refl
-types_alike Exec Clist = refl
-types_alike Exec Data = refl
-types_alike Exec Exec = refl
-types_alike Exec Parm = refl
-types_alike Exec Proc = refl
-types_alike Parm Mac = refl
-types_alike Parm Src = refl
-types_alike Parm Clist = refl
-types_alike Parm Data = refl
-types_alike Parm Exec = refl
-types_alike Parm Parm = refl
-types_alike Parm Proc = refl
-types_alike Proc Mac = refl
-types_alike Proc Src = refl
-types_alike Proc Clist = refl
-types_alike Proc Data = refl
-types_alike Proc Exec = refl
-types_alike Proc Parm = refl
-types_alike Proc Proc = refl
 
 entry_meets : (other name : terms.Text) (id : terms.Id) (e : Entry) → has_key (entry_key name id) (entry_row other e) ≡ (bytes_eq other name && bytes_eq e.id id)
 entry_meets other name id e = ap₂ ◌&&◌ (equals other name) (and_true _ ∙ equals e.id id)
@@ -145,16 +63,6 @@ module _ {X : Type 0} (row : terms.Text → X → Row) (name : terms.Text) (key 
       (all_left items (before ++ after) others) (subst (IsPermutation (map (row name) (items new))) left mapped)
 
 -- ---- all tables
-
-permuted_by : (tables : List Table) (c d : Contents) (trees : Trees) → AllByRecursion (λ t. IsPermutation (d t.tree) (c t.tree)) tables
-    → AllByRecursion (λ t. AreRows t (c t.tree) (trees t.tree)) tables → AllByRecursion (λ t. AreRows t (d t.tree) (trees t.tree)) tables
-permuted_by [] c d trees same h = tt
-permuted_by (t ∷ tables) c d trees same h =
-    (record { same = IsPermutation-trans _ _ _ same.0 h.0.same; numbered = h.0.numbered }, permuted_by tables c d trees same.1 h.1)
-
--- the order in which the rows are told is free
-pub permuted : (schema : Schema) (c d : Contents) (db : Database) → AllByRecursion (λ t. IsPermutation (d t.tree) (c t.tree)) schema.tables → HasContents schema c db → HasContents schema d db
-permuted schema c d db same h = record { schema_is = h.schema_is; tables = permuted_by schema.tables c d db.trees same h.tables }
 
 -- two inventories whose rows are those of the first in all tables but entry or zelem
 module _ (i j : Inventory) (global : j.global ≡ i.global) (zones : map zone_row j.zones ≡ map zone_row i.zones) where

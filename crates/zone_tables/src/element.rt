@@ -11,37 +11,15 @@ ghost use Rattle.zone_tables.specs.Keys.{element_key};
 ghost use Rattle.zone_tables.specs.Zones.{ChangesZone, HasPutElement, HasRemovedElement};
 
 use crate::values::joined;
-use fields::{Id, IdList, Name, ZoneName};
+use fields::{Name, ZoneName};
 use rows::{put, remove};
 use spelling::type_text;
 use sqlite::{Alter, Error, Transaction};
 use sqlite_value::value::ValueRef;
 use std::alloc::Global;
-use std::marker::Model;
 use terms::ElemType;
-use text80::{Line, bytes_of};
-
-/// An element entry: the function that owns it, the SYSMOD that last replaced it, those that updated
-/// it since, its libraries and its records.
-#[derive(Drop)]
-pub struct Element {
-    pub elem_type: ElemType,
-    pub name: Name,
-    pub fmid: Id,
-    pub rmid: Id,
-    pub umids: IdList,
-    pub distlib: Name,
-    pub syslib: Name,
-    pub text: Vec<Line>,
-}
-
-impl Model for Element {
-    ghost use Rattle.terms.specs.Types.{Element as ElementEntry};
-
-    ghost Value = { ElementEntry };
-
-    ghost view = { λ e. record { elem_type = e.elem_type; name = e.name; fmid = e.fmid; rmid = e.rmid; umids = e.umids; distlib = e.distlib; syslib = e.syslib; text = e.text.items } };
-}
+use text80::bytes_of;
+use zones::Element;
 
 /// Puts the element into the zone, in place of the one of its type and name, if there is one.
 pub fn put_element<S: Alter>(

@@ -10,31 +10,12 @@ ghost use Rattle.zone_tables.specs.Keys.{entry_key};
 ghost use Rattle.zone_tables.specs.Zones.{ChangesZone, HasPutEntry, HasRemovedEntry};
 
 use crate::values::{date_value, id_value, joined};
-use fields::{Id, IdList, YyDdd, ZoneName};
+use fields::{Id, ZoneName};
 use rows::{put, remove};
 use sqlite::{Alter, Error, Transaction};
 use sqlite_value::value::ValueRef;
 use std::alloc::Global;
-use std::marker::Model;
-
-/// A SYSMOD entry: when it was applied, which applied SYSMODs supersede it, which function deleted
-/// it, and which of its requisites were bypassed.
-#[derive(Drop)]
-pub struct Entry {
-    pub id: Id,
-    pub applied: Option<YyDdd>,
-    pub supby: IdList,
-    pub delby: Option<Id>,
-    pub waived: IdList,
-}
-
-impl Model for Entry {
-    ghost use Rattle.terms.specs.Types.{Entry as SysmodEntry};
-
-    ghost Value = { SysmodEntry };
-
-    ghost view = { λ e. record { id = e.id; applied = e.applied; supby = e.supby; delby = e.delby; waived = e.waived } };
-}
+use zones::Entry;
 
 /// Puts the entry into the zone, in place of the one of its id, if there is one.
 pub fn put_entry<S: Alter>(

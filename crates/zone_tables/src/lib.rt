@@ -6,6 +6,6 @@ mod entry;
 mod values;
 mod zone;
 
-pub use element::{Element, put_element, remove_element};
-pub use entry::{Entry, put_entry, remove_entry};
+pub use element::{put_element, remove_element};
+pub use entry::{put_entry, remove_entry};
 pub use zone::insert_zone;

@@ -7,10 +7,11 @@ use Rattle.terms.specs.Types.{Element}
 use Rattle.schema.specs.Rows.{zelem_row}
 use Rattle.schema.specs.Tables.{store_schema, zelem}
 use Rattle.zone_tables.specs.Keys.{element_key}
-use Rattle.zone_tables.specs.contracts.element.Element.{the_view}
+use Rattle.zones.specs.contracts.entries.Element.{the_view}
 use Rattle.zone_tables.proofs.Texts.{takes_element, puts_element}
-use Rattle.zone_tables.proofs.RowForms.{kept_element, element_bound, element_key_bound, flat_concat}
-use Rattle.zone_tables.proofs.Put.{as_put, kept_as}
+use Rattle.rows.proofs.Pieces.{flat_concat}
+use Rattle.zone_tables.proofs.RowForms.{kept_element, element_bound, element_key_bound}
+use Rattle.rows.proofs.Bound.{as_put, kept_as}
 use Rattle.zone_tables.proofs.element.put_row.Goals as goal
 
 pub returns-clause-ok : goal.returns-clause-ok
@@ -25,5 +26,5 @@ returns-clause-ok g c =
     c.as_bytes.ensures.same c.type_text.ensures c.as_bytes-2.ensures.same c.as_bytes-3.ensures.same c.as_bytes-4.ensures.same umids c.as_bytes-5.ensures.same c.as_bytes-6.ensures.same text in
     subst (λ (x : Element). OnOk c.put.result (Turns g.S.Store c.args.tx.now.conn.now c.put.new.tx.conn.now (HasContents store_schema) (with_put zelem (element_key zone x.elem_type x.name) (zelem_row zone x)))) view
     (on_ok c.put.result _ _ (λ ran.
-    as_put g.S.Store c.args.tx.now.conn.now c.put.new.tx.conn.now zelem (element_key zone e.elem_type e.name) _ (zelem_row zone e) _ key row
+    as_put g.S.Store c.args.tx.now.conn.now c.put.new.tx.conn.now store_schema zelem (element_key zone e.elem_type e.name) _ (zelem_row zone e) _ key row
     (ran store_schema 8 zelem takes_element puts_element (kept_as zelem (zelem_row zone e) _ row (kept_element zone e)))) c.put.ensures.ok)

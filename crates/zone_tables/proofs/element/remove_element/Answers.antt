@@ -4,7 +4,7 @@ use Rattle.schema.specs.Tables.{store_schema, zelem}
 use Rattle.zone_tables.specs.Keys.{element_key}
 use Rattle.zone_tables.proofs.Texts.{takes_element}
 use Rattle.zone_tables.proofs.RowForms.{element_key_bound}
-use Rattle.zone_tables.proofs.Put.{as_removed}
+use Rattle.rows.proofs.Bound.{as_removed}
 use Rattle.zone_tables.proofs.ZoneLemmas.{element_removed}
 use Rattle.zone_tables.proofs.element.remove_element.Goals as goal
 
@@ -12,7 +12,7 @@ pub returns-clause-ok : goal.returns-clause-ok
 returns-clause-ok g c =
     let is = element_key_bound _ _ _ c.args.zone c.args.name c.args.elem_type c.as_bytes.ensures.same c.type_text.ensures c.as_bytes-2.ensures.same in
     on_ok c.remove.result _ _ (λ removed.
-    as_removed g.S.Store c.args.tx.now.conn.now c.remove.new.tx.conn.now zelem (element_key c.args.zone c.args.elem_type c.args.name) _ is (removed store_schema 8 zelem takes_element)) c.remove.ensures.ok
+    as_removed g.S.Store c.args.tx.now.conn.now c.remove.new.tx.conn.now store_schema zelem (element_key c.args.zone c.args.elem_type c.args.name) _ is (removed store_schema 8 zelem takes_element)) c.remove.ensures.ok
 
 pub returns-clause-stands : goal.returns-clause-stands
 returns-clause-stands g c =

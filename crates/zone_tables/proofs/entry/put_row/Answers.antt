@@ -8,10 +8,10 @@ use Rattle.rows.proofs.InsideLemmas.{on_ok}
 use Rattle.schema.specs.Rows.{entry_row}
 use Rattle.schema.specs.Tables.{store_schema, entry}
 use Rattle.zone_tables.specs.Keys.{entry_key}
-use Rattle.zone_tables.specs.contracts.entry.Entry.{the_view}
+use Rattle.zones.specs.contracts.entries.Entry.{the_view}
 use Rattle.zone_tables.proofs.Texts.{takes_entry, puts_entry}
 use Rattle.zone_tables.proofs.RowForms.{kept_entry, entry_bound}
-use Rattle.zone_tables.proofs.Put.{as_put, kept_as}
+use Rattle.rows.proofs.Bound.{as_put, kept_as}
 use Rattle.zone_tables.proofs.entry.put_row.Goals as goal
 
 pub returns-clause-ok : goal.returns-clause-ok
@@ -24,5 +24,5 @@ returns-clause-ok g c =
     c.date_value-date.ensures (c.requires.supby ∙ sym (ap (λ (x : Entry). join_with_byte 44 x.supby) view)) c.id_value-delby.ensures (c.requires.waived ∙ sym (ap (λ (x : Entry). join_with_byte 44 x.waived) view)) in
     subst (λ (x : Entry). OnOk c.put.result (Turns g.S.Store c.args.tx.now.conn.now c.put.new.tx.conn.now (HasContents store_schema) (with_put entry (entry_key zone x.id) (entry_row zone x)))) view
     (on_ok c.put.result _ _ (λ ran.
-    as_put g.S.Store c.args.tx.now.conn.now c.put.new.tx.conn.now entry (entry_key zone e.id) _ (entry_row zone e) _ key row
+    as_put g.S.Store c.args.tx.now.conn.now c.put.new.tx.conn.now store_schema entry (entry_key zone e.id) _ (entry_row zone e) _ key row
     (ran store_schema 7 entry takes_entry puts_entry (kept_as entry (entry_row zone e) _ row (kept_entry zone e)))) c.put.ensures.ok)

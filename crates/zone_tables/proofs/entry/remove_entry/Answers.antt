@@ -5,14 +5,14 @@ use Rattle.schema.specs.Stands.{rows_of}
 use Rattle.schema.specs.Tables.{store_schema, entry}
 use Rattle.zone_tables.specs.Keys.{entry_key}
 use Rattle.zone_tables.proofs.Texts.{takes_entry}
-use Rattle.zone_tables.proofs.Put.{as_removed}
+use Rattle.rows.proofs.Bound.{as_removed}
 use Rattle.zone_tables.proofs.ZoneLemmas.{entry_removed}
 use Rattle.zone_tables.proofs.entry.remove_entry.Goals as goal
 
 pub returns-clause-ok : goal.returns-clause-ok
 returns-clause-ok g c =
     on_ok c.remove.result _ _ (λ removed.
-    as_removed g.S.Store c.args.tx.now.conn.now c.remove.new.tx.conn.now entry (entry_key c.args.zone c.args.id) _
+    as_removed g.S.Store c.args.tx.now.conn.now c.remove.new.tx.conn.now store_schema entry (entry_key c.args.zone c.args.id) _
     (ap₂ (λ zone id. Text zone ∷ Text id ∷ []) c.as_bytes.ensures.same c.as_bytes-2.ensures.same) (removed store_schema 7 entry takes_entry)) c.remove.ensures.ok
 
 pub returns-clause-stands : goal.returns-clause-stands

@@ -1,7 +1,7 @@
 use Rattle.std.proofs.Common.{◌≡◌, ◌∷◌, ◌++◌, take, rules, arith, sym, ap, ap₂, ◌∙◌}
 use Rattle.std.specs.List.{flat_map, join_with_byte}
 use Rattle.std.proofs.lemmas.List.{take_all}
-use Rattle.zone_tables.proofs.RowForms.{joined_is}
+use Rattle.rows.proofs.Pieces.{joined_is}
 use Rattle.zone_tables.proofs.values.joined.Goals as goal
 
 pub returns : goal.returns

@@ -6,7 +6,7 @@ use Rattle.schema.specs.Tables.{store_schema, zone}
 use Rattle.zone_tables.specs.Zones.{empty_zone}
 use Rattle.zone_tables.proofs.Texts.{puts_zone}
 use Rattle.zone_tables.proofs.RowForms.{kept_zone, zone_bound}
-use Rattle.zone_tables.proofs.Put.{as_inserted, kept_as}
+use Rattle.rows.proofs.Bound.{as_inserted, kept_as}
 use Rattle.zone_tables.proofs.ZoneLemmas.{zone_added}
 use Rattle.zone_tables.proofs.zone.insert_zone.Goals as goal
 
@@ -15,7 +15,7 @@ returns-clause-ok g c =
     let made = empty_zone c.args.name c.args.kind c.args.srel c.args.related in
     let is = zone_bound c.as_bytes.result.now c.zone_kind_text.result.now c.as_bytes-2.result.now c.name_value-related.result made c.as_bytes.ensures.same c.zone_kind_text.ensures c.as_bytes-2.ensures.same c.name_value-related.ensures in
     on_ok c.insert.result _ _ (λ inserted.
-    as_inserted g.S.Store c.args.tx.now.conn.now c.insert.new.tx.conn.now zone (zone_row made) _ is (inserted store_schema 6 zone puts_zone (kept_as zone (zone_row made) _ is (kept_zone made)))) c.insert.ensures.ok
+    as_inserted g.S.Store c.args.tx.now.conn.now c.insert.new.tx.conn.now store_schema zone (zone_row made) _ is (inserted store_schema 6 zone puts_zone (kept_as zone (zone_row made) _ is (kept_zone made)))) c.insert.ensures.ok
 
 pub returns-clause-stands : goal.returns-clause-stands
 returns-clause-stands g c =
