@@ -27,3 +27,5 @@ pub mod Edits
 pub mod Members
 pub mod Exact
 pub mod NumberedCauses
+pub mod SameLists
+pub mod SameZones
