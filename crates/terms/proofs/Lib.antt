@@ -25,4 +25,8 @@ pub mod Solids
 pub mod ElementOrder
 pub mod Edits
 pub mod Members
+pub mod Longest
 pub mod Exact
+pub mod ExactFiles
+pub mod ExactWords
+pub mod ExactCommands
