@@ -14,7 +14,10 @@ pub mod Records
 pub mod Groups
 pub mod Statement
 pub mod Words
+pub mod Operands
 pub mod CommandCuts
+pub mod CommandForms
+pub mod Commands
 pub mod Texts
 pub mod Changes
 pub mod Deleted
