@@ -25,7 +25,11 @@ pub mod Solids
 pub mod ElementOrder
 pub mod Edits
 pub mod Members
+pub mod Longest
 pub mod Exact
 pub mod NumberedCauses
 pub mod SameLists
 pub mod SameZones
+pub mod ExactFiles
+pub mod ExactWords
+pub mod ExactCommands

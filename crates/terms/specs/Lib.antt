@@ -16,6 +16,8 @@ pub mod Statement
 pub mod Words
 pub mod Operands
 pub mod CommandCuts
+pub mod CommandForms
+pub mod Commands
 pub mod Texts
 pub mod Changes
 pub mod Deleted
