@@ -1,5 +1,6 @@
 pub mod Greatest
 pub mod GlobalGroups
+pub mod KeyedMaps
 pub mod GlobalKept
 pub mod GlobalLookups
 pub mod GlobalRoles
