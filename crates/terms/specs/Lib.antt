@@ -24,3 +24,4 @@ pub mod Needs
 pub mod Kept
 pub mod Judged
 pub mod Install
+pub mod KeyedMaps
