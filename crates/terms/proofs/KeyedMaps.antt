@@ -13,6 +13,7 @@ use Rattle.std.proofs.lemmas.Cmp.{tied_itself}
 use Rattle.std.proofs.lemmas.List.Elements.{All-cons, All-nil}
 use Rattle.std.proofs.lemmas.List.Kept.{AllPairs-cons}
 use Rattle.std.proofs.lemmas.Map.Keys.{sorted_head, sorted_tail}
+use Rattle.terms.specs.KeyedMaps.{KnowKeys}
 use Rattle.terms.specs.Rising.{Rises, with_item}
 use Rattle.terms.proofs.GlobalGroups.{put-ahead, put-behind, filter_all, recursion_weaker}
 
@@ -21,10 +22,6 @@ abbrev pub Ties : {X K : Type 0} → (K → Bool) → (X → K) → (X → Bool)
 Ties {X} test key p = (x : X) → test (key x) ≡ p x
 
 module _ {X K : Type 0} {C : K → K → Ordering} (o : IsTotalOrder C) (key : X → K) where
-  -- each value has its key
-  abbrev pub KnowKeys : List (K × X) → Type 0
-  KnowKeys es = AllByRecursion (λ e. key e.1 ≡ e.0) es
-
   turned : (a b : K) → C a b ≡ Less → C b a ≡ Greater
   turned a b less = o.antisymm b a ∙ ap ordering_reverse less
 
@@ -35,7 +32,7 @@ module _ {X K : Type 0} {C : K → K → Ordering} (o : IsTotalOrder C) (key : X
   tied a b e = o.antisymm b a ∙ ap ordering_reverse e
 
   -- what is known of the keys is known of the values
-  pub values_have : (P : K → Type 0) (es : List (K × X)) → KnowKeys es → AllByRecursion P (keys_of es) → AllByRecursion (λ x. P (key x)) (values_of es)
+  pub values_have : (P : K → Type 0) (es : List (K × X)) → KnowKeys key es → AllByRecursion P (keys_of es) → AllByRecursion (λ x. P (key x)) (values_of es)
   values_have P [] known all = tt
   values_have P (e ∷ es) known all = (subst P (sym known.0) all.0, values_have P es known.1 all.1)
 
@@ -49,7 +46,7 @@ module _ {X K : Type 0} {C : K → K → Ordering} (o : IsTotalOrder C) (key : X
   R : X → X → Ordering
   R a b = C (key a) (key b)
 
-  all_behind : (y : X) (es : List (K × X)) → KnowKeys es → AllByRecursion (λ q. C (key y) q ≡ Less) (keys_of es)
+  all_behind : (y : X) (es : List (K × X)) → KnowKeys key es → AllByRecursion (λ q. C (key y) q ≡ Less) (keys_of es)
       → (xs : List X) → with_item C key (xs ++ values_of es) y ≡ with_item C key xs y ++ values_of es
   unfolding R
   all_behind y es known above xs =
@@ -59,7 +56,7 @@ module _ {X K : Type 0} {C : K → K → Ordering} (o : IsTotalOrder C) (key : X
       (recursion_weaker (λ x. C (key y) (key x) ≡ Less) (λ x. is_lt (R y x) ≡ true) (λ x h. ap is_lt h) (values_of es) behind)
 
   -- a value takes its place by its key
-  pub values-insert_entry : (es : List (K × X)) (y : X) → KnowKeys es → IsStrictlySortedBy C (keys_of es)
+  pub values-insert_entry : (es : List (K × X)) (y : X) → KnowKeys key es → IsStrictlySortedBy C (keys_of es)
       → values_of (insert_entry C es (key y) y) ≡ with_item C key (values_of es) y
   unfolding R
   values-insert_entry [] y known sorted = refl
@@ -82,25 +79,25 @@ module _ {X K : Type 0} {C : K → K → Ordering} (o : IsTotalOrder C) (key : X
           let second : is_lt (R y e.1) ≡ false = ap is_lt (at Greater c) in
           rw c (ap (λ xs. e.1 ∷ xs) again ∙ sym (put-ahead R (e.1 ∷ []) (values_of es) y (first, tt) (second, tt)))
 
-  pub KnowKeys-insert_entry : (es : List (K × X)) (y : X) → ((k : K) → C (key y) k ≡ Equal → key y ≡ k) → KnowKeys es → KnowKeys (insert_entry C es (key y) y)
+  pub KnowKeys-insert_entry : (es : List (K × X)) (y : X) → ((k : K) → C (key y) k ≡ Equal → key y ≡ k) → KnowKeys key es → KnowKeys key (insert_entry C es (key y) y)
   KnowKeys-insert_entry [] y exact known = (refl, tt)
   KnowKeys-insert_entry (e ∷ es) y exact known = by (KnowKeys-insert_entry es y exact known.1) (C (key y) e.0) refl
     where
-      by : KnowKeys (insert_entry C es (key y) y) → (c : Ordering) → C (key y) e.0 ≡ c → KnowKeys (insert_entry C (e ∷ es) (key y) y)
+      by : KnowKeys key (insert_entry C es (key y) y) → (c : Ordering) → C (key y) e.0 ≡ c → KnowKeys key (insert_entry C (e ∷ es) (key y) y)
       by again Less c = rw c (refl, known)
       by again Equal c = rw c (exact e.0 c, known.1)
       by again Greater c = rw c (known.0, again)
 
-  pub KnowKeys-remove_entry : (test : K → Bool) (es : List (K × X)) → KnowKeys es → KnowKeys (remove_entry test es)
+  pub KnowKeys-remove_entry : (test : K → Bool) (es : List (K × X)) → KnowKeys key es → KnowKeys key (remove_entry test es)
   KnowKeys-remove_entry test [] known = tt
   KnowKeys-remove_entry test (e ∷ es) known = by (KnowKeys-remove_entry test es known.1) (test e.0) refl
     where
-      by : KnowKeys (remove_entry test es) → (b : Bool) → test e.0 ≡ b → KnowKeys (remove_entry test (e ∷ es))
+      by : KnowKeys key (remove_entry test es) → (b : Bool) → test e.0 ≡ b → KnowKeys key (remove_entry test (e ∷ es))
       by again true here = rw here known.1
       by again false other = rw other (known.0, again)
 
   -- the value of a key goes
-  pub values-remove_entry : (k : K) (p : X → Bool) → Ties (is_at (C k)) key p → (es : List (K × X)) → KnowKeys es → IsStrictlySortedBy C (keys_of es)
+  pub values-remove_entry : (k : K) (p : X → Bool) → Ties (is_at (C k)) key p → (es : List (K × X)) → KnowKeys key es → IsStrictlySortedBy C (keys_of es)
       → values_of (remove_entry (is_at (C k)) es) ≡ filter (λ x. not (p x)) (values_of es)
   values-remove_entry k p ties [] known sorted = refl
   values-remove_entry k p ties (e ∷ es) known sorted =
@@ -127,14 +124,14 @@ module _ {X K : Type 0} {C : K → K → Ordering} (o : IsTotalOrder C) (key : X
       by again false other = rw (other, at false other) (ap (λ xs. e.1 ∷ xs) again)
 
   -- what a look-up finds
-  pub lookup-values : (test : K → Bool) (p : X → Bool) → Ties test key p → (es : List (K × X)) → KnowKeys es → lookup test es ≡ find p (values_of es)
+  pub lookup-values : (test : K → Bool) (p : X → Bool) → Ties test key p → (es : List (K × X)) → KnowKeys key es → lookup test es ≡ find p (values_of es)
   lookup-values test p ties [] known = refl
   lookup-values test p ties (e ∷ es) known =
       let here : test e.0 ≡ p e.1 = ap test (sym known.0) ∙ ties e.1 in
       rw here (ap (cond (p e.1) (Some e.1)) (lookup-values test p ties es known.1))
 
   -- what lies in a range of keys
-  pub values-filter : (test : K → Bool) (p : X → Bool) → Ties test key p → (es : List (K × X)) → KnowKeys es → values_of (filter (λ e. test e.0) es) ≡ filter p (values_of es)
+  pub values-filter : (test : K → Bool) (p : X → Bool) → Ties test key p → (es : List (K × X)) → KnowKeys key es → values_of (filter (λ e. test e.0) es) ≡ filter p (values_of es)
   values-filter test p ties [] known = refl
   values-filter test p ties (e ∷ es) known = by (values-filter test p ties es known.1) (test e.0) refl
     where
@@ -143,7 +140,7 @@ module _ {X K : Type 0} {C : K → K → Ordering} (o : IsTotalOrder C) (key : X
       by again false other = let there : p e.1 ≡ false = sym (ties e.1) ∙ ap test known.0 ∙ other in rw (other, there) again
 
   -- the values rise
-  pub Rises-values : (es : List (K × X)) → KnowKeys es → IsStrictlySortedBy C (keys_of es) → Rises C key (values_of es)
+  pub Rises-values : (es : List (K × X)) → KnowKeys key es → IsStrictlySortedBy C (keys_of es) → Rises C key (values_of es)
   Rises-values [] known sorted = λ i j d less below. absurd (omega arith)
   Rises-values (e ∷ es) known sorted =
       AllPairs-cons (λ x y. IsTrue (is_lt (C (key x) (key y)))) e.1 (values_of es)

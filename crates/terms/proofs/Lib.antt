@@ -1,6 +1,7 @@
 pub mod Greatest
 pub mod GlobalGroups
 pub mod KeyedMaps
+pub mod HoldOrder
 pub mod GlobalKept
 pub mod GlobalLookups
 pub mod GlobalRoles

@@ -30,3 +30,4 @@ pub mod Kept
 pub mod Judged
 pub mod Install
 pub mod Failures
+pub mod KeyedMaps
