@@ -26,3 +26,4 @@ pub mod ElementOrder
 pub mod Edits
 pub mod Members
 pub mod Exact
+pub mod Permuted
