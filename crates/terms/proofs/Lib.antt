@@ -35,3 +35,4 @@ pub mod SameZones
 pub mod ExactFiles
 pub mod ExactWords
 pub mod ExactCommands
+pub mod Permuted
