@@ -1,0 +1,63 @@
+-- From the rows that are written to what is committed, and what a crash leaves.
+use Rattle.std.proofs.Common.{◌≡◌, ◌≤◌, ◌++◌, IsTrue, Option, Bool, true, false, arith, sym, ap, subst}
+use Rattle.sqlite.specs.Store.{Ghosts}
+use Rattle.sqlite.specs.View.{doubt}
+use Rattle.sqlite.specs.Effect.{Database}
+use Rattle.sqlite.specs.Tree.{Trees}
+use Rattle.sqlite.specs.Held.{Held, state}
+use Rattle.sqlite.specs.State.{HasCleanDisk, Survives, Shows}
+use Rattle.sqlite.proofs.StateLemmas.{survives_then}
+use Rattle.sqlite.proofs.Callers.{survives_begin}
+use Rattle.terms.specs.declared.kinds.ZoneKind.{ZoneKind}
+use Rattle.terms.specs.Types.{Text}
+use Rattle.terms.specs.Delta.{ZoneDelta, IsDelta}
+use Rattle.rows.specs.Inside.{StaysInside}
+use Rattle.rows.specs.Rows.{HasContents}
+use Rattle.schema.specs.Inventory.{Inventory, IsInventory}
+use Rattle.schema.specs.Stands.{StandsFor, rows_of}
+use Rattle.schema.specs.Tables.{store_schema}
+use Rattle.zone_tables.specs.Zones.{ChangesZone, AddsZone, empty_zone}
+use Rattle.store.specs.declared.change.Change.{Change}
+use Rattle.store.specs.declared.change.Change.TheVariants.{NewZone, Zone}
+use Rattle.store.specs.Changes.{Makes}
+use Rattle.store.specs.Writes.{HasEdited, Writes, HasCommitted, IsOutcome}
+use Rattle.store.proofs.DeltaLemmas.{is_edited, zone_was}
+
+module _ {S : Type 0} (g : Ghosts S) (old new : Held S) where
+  pub zone_written : (name : Text) (kind : ZoneKind) (srel : Text) (related : Option Text) → AddsZone g old new (empty_zone name kind srel related) → Writes g old (NewZone name kind srel related) new
+  zone_written name kind srel related adds i j added inventory clean contents =
+      let was : i ≡ record { global = i.global; zones = added.before ++ added.after } = ap (λ zs. record { global = i.global; zones = zs }) added.was in
+      subst (λ (k : Inventory). HasContents store_schema (rows_of k) (state g new).now) (sym added.is)
+      (adds i.global added.before added.after clean (subst (λ (k : Inventory). HasContents store_schema (rows_of k) (state g old).now) was contents))
+
+  pub delta_written : (name : Text) (delta : ZoneDelta) → IsDelta delta → ChangesZone g old new name (HasEdited delta) → Writes g old (Zone name delta) new
+  delta_written name delta is_delta changes i j made inventory =
+      changes i j made.0 made.1 made.2 (is_edited delta made.0 made.1 is_delta (zone_was name made.0 made.1 i j inventory made.2) made.3)
+
+-- `old` outside a transaction, `last` at its end, and `done` after the commit
+module _ {S : Type 0} (g : Ghosts S) (old last done : Held S) (change : Change) (settled : IsTrue (state g old).is_open → (state g old).now ≡ (state g old).committed)
+    (inside : StaysInside g (record old { in_transaction = true }) last) (written : Writes g (record old { in_transaction = true }) change last) where
+  made : (i j : Inventory) → Makes change i j → IsInventory j → HasCleanDisk (state g last) → IsTrue (state g old).is_open → StandsFor i (state g old).committed → StandsFor j (state g last).now
+  made i j makes inventory clean is_open stands =
+      let was : StandsFor i (state g old).now = subst (λ (db : Database). StandsFor i db) (sym (settled is_open)) stands in
+      record { tables = written i j makes was.inventory clean was.tables; inventory = inventory }
+
+  pub crashed : Survives (state g last) (state g done) (λ db. db ≡ (state g last).now.trees) → Survives (state g old) (state g done) (IsOutcome g old change)
+  crashed commit =
+      survives_then (state g old) (state g last) (state g done) (λ _. ⊥) _ (IsOutcome g old change) (λ _ db none. absurd none)
+      (λ clean db is. (
+        last.schema,
+        λ i j makes inventory is_open stands.
+            subst (λ (trees : Trees). StandsFor j (record { schema = last.schema; trees = trees })) (sym is) (made i j makes inventory (omega (arith, commit.clean)) is_open stands),
+      ))
+      (survives_begin g old (state g last) (λ _. ⊥) inside.survives) commit
+
+  pub committed : doubt (state g last).is_clean ≤ doubt (state g done).is_clean → HasCleanDisk (state g done) → Shows (state g last) (state g done) (state g last).now (state g last).now false → HasCommitted g old change done
+  committed falls late shows =
+      let clean : HasCleanDisk (state g last) = omega (arith, falls, late) in
+      let was_open = (inside.kept clean).was_open shows.was_open in
+      record {
+        was_open = was_open;
+        is_open = shows.is_open;
+        stands = λ i j makes inventory stands. subst (λ (db : Database). StandsFor j db) (sym shows.committed_is) (made i j makes inventory clean was_open stands);
+      }

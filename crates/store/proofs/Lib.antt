@@ -1,0 +1,4 @@
+mod Committing
+mod DeltaLemmas
+mod Found
+mod ViewLemmas

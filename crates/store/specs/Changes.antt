@@ -1,0 +1,20 @@
+-- What a change makes of the inventory for which the tables stand.
+use Rattle.std.specs.Prelude.{◌≡◌, List, ◌∷◌, ◌++◌}
+use Rattle.terms.specs.Types.{Zone as AZone, NamedZone}
+use Rattle.terms.specs.Delta.{IsChanged}
+use Rattle.schema.specs.Inventory.{Inventory}
+use Rattle.zone_tables.specs.Zones.{IsZoneChange, empty_zone}
+use Rattle.store.specs.declared.change.Change.{Change}
+use Rattle.store.specs.declared.change.Change.TheVariants.{NewZone, Zone}
+
+-- There is one more zone, at any place.
+pub record IsZoneAdded (zone : NamedZone) (i j : Inventory) : Type 0 where
+  pub before : List NamedZone
+  pub after : List NamedZone
+  pub was : i.zones ≡ before ++ after
+  pub is : j ≡ record { global = i.global; zones = before ++ zone ∷ after }
+
+-- the second is what the change makes of the first
+abbrev pub Makes : Change → Inventory → Inventory → Type 0
+Makes (NewZone name kind srel related) i j = IsZoneAdded (empty_zone name kind srel related) i j
+Makes (Zone name delta) i j = (was : AZone) × (is : AZone) × IsZoneChange name was is i j × IsChanged delta was is

@@ -1,0 +1,59 @@
+-- What is written in the transaction of a commit, and what the commit makes of the database.
+use Rattle.std.specs.Prelude.{◌≡◌, List, IsTrue}
+use Rattle.std.specs.Ordering.{nat_cmp}
+use Rattle.std.specs.Cmp.Lexicographic.{slice_cmp}
+use Rattle.sqlite.specs.Store.{Ghosts}
+use Rattle.sqlite.specs.Tree.{Trees}
+use Rattle.sqlite.specs.Schema.{Schema}
+use Rattle.sqlite.specs.Held.{Held, state}
+use Rattle.terms.specs.declared.kinds.ElemType.{ElemType}
+use Rattle.terms.specs.declared.kinds.Edit.{Edit}
+use Rattle.terms.specs.Types.{Text, Id, Entry, Element, Zone}
+use Rattle.terms.specs.Lookups.{element_cmp, element_key}
+use Rattle.terms.specs.Delta.{ZoneDelta, edited}
+use Rattle.rows.specs.Inside.{Leads}
+use Rattle.rows.specs.Rows.{HasContents}
+use Rattle.schema.specs.Inventory.{Inventory, IsInventory}
+use Rattle.schema.specs.Stands.{StandsFor, rows_of}
+use Rattle.schema.specs.Tables.{store_schema}
+use Rattle.store.specs.declared.change.Change.{Change}
+use Rattle.store.specs.Changes.{Makes}
+
+-- the zone's entries after the edits, the first of them first
+abbrev pub entries_after : List Entry → List (Edit Entry Id) → List Entry
+entries_after entries edits = edited (slice_cmp nat_cmp) (λ (e : Entry). e.id) entries edits
+
+abbrev pub elements_after : List Element → List (Edit Element (ElemType × Text)) → List Element
+elements_after elements edits = edited element_cmp element_key elements edits
+
+-- the zone's entries are edited so
+abbrev pub HasEditedEntries : List (Edit Entry Id) → Zone → Zone → Type 0
+HasEditedEntries edits old new = new ≡ record old { entries = entries_after old.entries edits }
+
+-- and so its elements
+abbrev pub HasEditedElements : List (Edit Element (ElemType × Text)) → Zone → Zone → Type 0
+HasEditedElements edits old new = new ≡ record old { elements = elements_after old.elements edits }
+
+-- and so both
+abbrev pub HasEdited : ZoneDelta → Zone → Zone → Type 0
+HasEdited delta old new =
+    new ≡ record old { entries = entries_after old.entries delta.entries; elements = elements_after old.elements delta.elements }
+
+module _ {S : Type 0} (g : Ghosts S) (old : Held S) (change : Change) where
+  -- the rows of an inventory become those of the changed one
+  abbrev pub Writes : Held S → Type 0
+  Writes new =
+      (i j : Inventory) → Makes change i j → IsInventory i
+      → Leads g old new (HasContents store_schema (rows_of i)) (HasContents store_schema (rows_of j))
+
+  -- The last commit stands for the changed inventory.
+  pub record HasCommitted (new : Held S) : Type 0 where
+    pub was_open : IsTrue (state g old).is_open
+    pub is_open : IsTrue (state g new).is_open
+    pub stands : (i j : Inventory) → Makes change i j → IsInventory j → StandsFor i (state g old).committed → StandsFor j (state g new).committed
+
+  -- trees that stand for the changed inventory
+  abbrev pub IsOutcome : Trees → Type 0
+  IsOutcome db =
+      (schema : Schema)
+      × ((i j : Inventory) → Makes change i j → IsInventory j → IsTrue (state g old).is_open → StandsFor i (state g old).committed → StandsFor j (record { schema = schema; trees = db }))

@@ -1,0 +1,11 @@
+//! The store: a connection whose tables stand for an inventory, and changes of it, each in one
+//! transaction.
+#![tactic(auto)]
+
+mod change;
+mod delta;
+mod open;
+mod write;
+
+pub use change::Change;
+pub use open::Store;

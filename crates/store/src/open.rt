@@ -1,0 +1,91 @@
+//! A store, from a connection and back.
+
+ghost use Rattle.std.specs.Prelude.{◌≡◌, ◌⊎◌, false, IsTrue, IfOk, IfErr, OnOk, OnErr};
+ghost use Rattle.sqlite.specs.Held.{state};
+ghost use Rattle.sqlite.specs.State.{HasCleanDisk, IsUnchanged, Survives};
+ghost use Rattle.rows.specs.Inside.{IsMade};
+ghost use Rattle.schema.specs.Create.{IsBlank};
+ghost use Rattle.schema.specs.Inventory.{Inventory, IsInventory, empty_inventory};
+ghost use Rattle.schema.specs.Known.{HasOtherNumber, HasNoState, HasOwnTables};
+ghost use Rattle.schema.specs.Stands.{StandsFor};
+ghost use Rattle.store.specs.Changes.{Makes};
+ghost use Rattle.store.specs.View.{Tables, TablesIfOpen, IsFound, Leaves};
+
+use crate::change::Change;
+use crate::write::commit_change;
+use schema::{StoreError, set_up};
+use sqlite::{Alter, Connection};
+use std::alloc::Global;
+use std::marker::Model;
+
+/// A connection to a database whose tables are the store's. No transaction is under way.
+pub struct Store<S: Alter> {
+    conn: Connection<S>,
+    alloc: Global,
+}
+
+impl<S: Alter + Drop> Drop for Store<S> {
+    fn drop(self) {
+        let Store { conn: _, alloc: _ } = self;
+    }
+}
+
+impl<S: Alter> Model for Store<S> {
+    ghost use Rattle.std.specs.Prelude.{◌≡◌, false};
+    ghost use Rattle.sqlite.specs.Held.{Held, held_code};
+
+    ghost Value = { Held S };
+
+    ghost coded = { held_code S.code };
+
+    ghost view = { λ s. s.conn };
+
+    ghost invariant = { λ s. s.conn.in_transaction ≡ false };
+}
+
+impl<S: Alter> Store<S> {
+    /// Makes the tables in a database that has none, and knows those of another schema.
+    pub fn open(
+        alloc: Global,
+        mut conn: Connection<S>,
+    ) -> Result<Store<S>, (Connection<S>, StoreError)>
+        requires { conn.in_transaction ≡ false }
+        ensures tables { IfOk result (λ store. (i : Inventory) → IsFound S.Store conn i → Tables S.Store store i) }
+        ensures leaves { IfOk result (λ store. (i : Inventory) → IsFound S.Store conn i → (c : Inventory) → Leaves S.Store store c → i ≡ c) }
+        ensures ours { IfOk result (λ store. HasCleanDisk (state S.Store store) → HasOwnTables (state S.Store store).now) }
+        ensures same { IfOk result (λ store. HasCleanDisk (state S.Store store) → ¬ IsBlank (state S.Store conn).now → IsUnchanged (state S.Store conn) (state S.Store store)) }
+        ensures crash { IfOk result (λ store. Survives (state S.Store conn) (state S.Store store) (IsMade S.Store conn IsBlank (StandsFor empty_inventory))) }
+        ensures other { IfErr result (λ e. HasCleanDisk (state S.Store e.0) → e.1 ≡ StoreError.OtherSchema → HasOtherNumber (state S.Store conn)) }
+        ensures none { IfErr result (λ e. HasCleanDisk (state S.Store e.0) → e.1 ≡ StoreError.NoState → HasNoState (state S.Store conn)) }
+        ensures unchanged { IfErr result (λ e. HasCleanDisk (state S.Store e.0) → IsTrue (state S.Store e.0).is_open → (state S.Store e.0).committed ≡ (state S.Store conn).committed) }
+        ensures crash_err { IfErr result (λ e. Survives (state S.Store conn) (state S.Store e.0) (IsMade S.Store conn IsBlank (StandsFor empty_inventory))) }
+        ensures mode { IfErr result (λ e. e.0.in_transaction ≡ false) }
+    {
+        // So what the connection shows is what it last committed.
+        prove!(conn.is_autocommit());
+        match set_up(alloc, &mut conn) {
+            Ok(()) => Ok(Store { conn, alloc }),
+            Err(error) => Err((conn, error)),
+        }
+    }
+
+    /// Makes the change in one transaction. It writes the rows that change, and loads none.
+    pub fn commit(&mut self, change: Change) -> Result<(), StoreError>
+        ensures ok { OnOk result ((i j : Inventory) → Makes change i j → IsInventory j → Tables S.Store self.old i → Tables S.Store self.new j) }
+        ensures durable { OnOk result ((i j : Inventory) → Makes change i j → IsInventory j → Tables S.Store self.old i → (c : Inventory) → Leaves S.Store self.new c → j ≡ c) }
+        ensures err { OnErr result ((i : Inventory) → Tables S.Store self.old i → TablesIfOpen S.Store self.new i) }
+        ensures crash { (i j : Inventory) → Makes change i j → IsInventory j → Tables S.Store self.old i → (c : Inventory) → Leaves S.Store self.new c → Leaves S.Store self.old c ⊎ (j ≡ c) }
+        ensures which { IfErr result (λ e. (e ≡ StoreError.Fault) ⊎ (e ≡ StoreError.Memory)) }
+    {
+        commit_change(self.alloc, &mut self.conn, &change)?;
+        Ok(())
+    }
+
+    pub fn close(self) -> Connection<S>
+        ensures same { result ≡ self }
+        ensures mode { result.in_transaction ≡ false }
+    {
+        let Store { conn, alloc: _ } = self;
+        conn
+    }
+}

@@ -1,0 +1,48 @@
+//! A change in one transaction.
+
+ghost use Rattle.std.specs.Prelude.{◌≡◌, false, OnOk, OnErr};
+ghost use Rattle.sqlite.specs.Held.{state};
+ghost use Rattle.sqlite.specs.State.{HasCleanDisk, KeepsCommit, Survives};
+ghost use Rattle.rows.specs.Inside.{StaysInside};
+ghost use Rattle.store.specs.Writes.{Writes, HasCommitted, IsOutcome};
+
+use crate::change::Change;
+use crate::delta::write_delta;
+use sqlite::{Alter, Connection, Error, Transaction};
+use std::alloc::Global;
+use zone_tables::insert_zone;
+
+fn write<S: Alter>(alloc: Global, tx: &mut Transaction<'_, S>, change: &Change) -> Result<(), Error>
+    ensures same_reference { tx.new.conn.ghost_name ≡ tx.old.conn.ghost_name }
+    ensures inside { StaysInside S.Store tx.old.conn.now tx.new.conn.now }
+    ensures ok { OnOk result (Writes S.Store tx.old.conn.now change.now tx.new.conn.now) }
+{
+    match change {
+        Change::NewZone(name, kind, srel, related) => {
+            insert_zone(tx, *name, *kind, *srel, *related)
+        }
+        Change::Zone(name, delta) => {
+            delta.known();
+            write_delta(alloc, tx, *name, delta)
+        }
+    }
+}
+
+/// Makes the change, or fails and leaves what was last committed.
+pub(crate) fn commit_change<S: Alter>(
+    alloc: Global,
+    conn: &mut Connection<S>,
+    change: &Change,
+) -> Result<(), Error>
+    requires { conn.old.in_transaction ≡ false }
+    ensures made { HasCleanDisk (state S.Store conn.new) → OnOk result (HasCommitted S.Store conn.old change.now conn.new) }
+    ensures kept { HasCleanDisk (state S.Store conn.new) → OnErr result (KeepsCommit (state S.Store conn.old) (state S.Store conn.new)) }
+    ensures crash { Survives (state S.Store conn.old) (state S.Store conn.new) (IsOutcome S.Store conn.old change.now) }
+    ensures mode { conn.new.in_transaction ≡ false }
+{
+    // So what the connection shows is what it last committed.
+    prove!(conn.is_autocommit());
+    let mut tx = conn.transaction();
+    write(alloc, &mut tx, change)?;
+    tx.commit()
+}
