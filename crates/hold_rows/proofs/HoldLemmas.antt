@@ -1,11 +1,7 @@
 -- The row of a hold.
-use Rattle.std.proofs.Common.{◌≡◌, ℕ, List, [], ◌∷◌, length, map, codes, Bool, true, false, pos, Option, Some, None, refl, sym, ap, ◌∙◌}
-use Rattle.sqlite.specs.declared.types.Value.TheVariants.{Int, Text}
+use Rattle.std.proofs.Common.{◌≡◌, [], ◌∷◌, length, refl, sym}
 use Rattle.sqlite.specs.Order.{Row, column}
-use Rattle.terms.specs.declared.kinds.HoldKind.{HoldKind}
-use Rattle.terms.specs.declared.kinds.HoldKind.TheVariants.{Error, System, User}
 use Rattle.terms.specs.Types.{Hold}
-use Rattle.terms.specs.Spelling.{hold_text}
 use Rattle.rows.specs.Texts.{AreKept}
 use Rattle.rows.proofs.Values.{kept_optional, kept_whole}
 use Rattle.rows.proofs.ContentsLemmas.{columns_from}
@@ -15,18 +11,6 @@ use Rattle.schema.specs.Tables.{hold}
 -- its columns keep it
 pub kept_hold : (h : Hold) → AreKept hold.columns (hold_row h)
 kept_hold h = (refl, (refl, (refl, (refl, (kept_optional h.class, (kept_optional h.date, (kept_optional h.comment, (kept_whole _, tt))))))))
-
--- kinds that are spelled alike are the same
-pub same_kind : (a b : HoldKind) → hold_text a ≡ hold_text b → a ≡ b
-same_kind Error Error e = refl
-same_kind Error System e = absurd cc
-same_kind Error User e = absurd cc
-same_kind System Error e = absurd cc
-same_kind System System e = refl
-same_kind System User e = absurd cc
-same_kind User Error e = absurd cc
-same_kind User System e = absurd cc
-same_kind User User e = refl
 
 -- a row of eight columns is these columns
 pub eight : (row : Row) → length row ≡ 8 → row ≡ column row 0 ∷ column row 1 ∷ column row 2 ∷ column row 3 ∷ column row 4 ∷ column row 5 ∷ column row 6 ∷ column row 7 ∷ []

@@ -1,13 +1,11 @@
 //! The table of holds: `++HOLD`s that were received, external ones and those of SYSMODs.
 #![tactic(auto)]
 
-mod hold;
-mod kinds;
 mod reading;
 mod writing;
 
-pub use hold::Hold;
 pub use reading::load_holds;
+pub use sysmods::Hold;
 pub use writing::{put_hold, remove_hold};
 
 #[cfg(test)]

@@ -1,6 +1,6 @@
 //! All holds of the table.
 
-ghost use Rattle.std.specs.Prelude.{◌≡◌, ◌≢◌, ◌↔◌, ℕ, false, List, Option, Bool, map, option_map, IsTrue, IsUtf8, IfOk, IfSome, IfNone, OnOk, IsErrOf, IsPermutation};
+ghost use Rattle.std.specs.Prelude.{◌≡◌, ◌≢◌, ◌↔◌, ℕ, false, List, Option, map, option_map, IsTrue, IsUtf8, IfOk, IfSome, IfNone, OnOk, IsErrOf, IsPermutation};
 ghost use Rattle.std.specs.List.{AllByRecursion};
 ghost use Rattle.std.specs.String.{string_bytes};
 ghost use Rattle.sqlite.specs.declared.types.Value.TheVariants.{Text};
@@ -9,34 +9,19 @@ ghost use Rattle.sqlite.specs.Order.{column};
 ghost use Rattle.sqlite.specs.State.{HasCleanDisk, IsUnchanged, KeepsCommit, Survives};
 ghost use Rattle.sqlite.specs.Values.{or_null};
 ghost use Rattle.rows.specs.Rows.{Contents, HasContents};
-ghost use Rattle.schema.specs.Rows.{hold_row, flag as flag_of};
+ghost use Rattle.schema.specs.Rows.{hold_row};
 ghost use Rattle.schema.specs.Tables.{hold as hold_table, store_schema};
-ghost use Rattle.terms.specs.Forms.{IsId, IsClass, IsDate, IsReason};
-ghost use Rattle.terms.specs.Spelling.{hold_text};
+ghost use Rattle.terms.specs.Forms.{IsReason};
 ghost use Rattle.terms.specs.Types as terms;
 ghost use Rattle.hold_rows.specs.Read.{HasReadForms};
 
-use crate::hold::Hold;
-use crate::kinds::kind_of;
-use fields::{Class, HoldDate, Id, Reason};
-use rows::{FromRow, ReadError, load, optional_text, text, whole};
+use columns::{class_in, flag_in, hold_date_in, hold_kind_in, id_in};
+use fields::Reason;
+use rows::{FromRow, ReadError, load, optional_text, text};
 use sqlite::{Alter, Connection, Row};
 use std::alloc::Global;
+use sysmods::Hold;
 use terms::HoldKind;
-
-fn id_in(row: &Row, at: usize) -> Option<Id>
-    ensures some { IfSome result (λ id. (column row.now at ≡ Text id) × IsId id) }
-    ensures none { IfNone result ((id : List ℕ) → IsId id → column row.now at ≢ Text id) }
-{
-    Id::read(text(row, at)?)
-}
-
-fn kind_in(row: &Row, at: usize) -> Option<HoldKind>
-    ensures some { IfSome result (λ kind. column row.now at ≡ Text (hold_text kind)) }
-    ensures none { IfNone result ((kind : HoldKind) → column row.now at ≢ Text (hold_text kind)) }
-{
-    kind_of(text(row, at)?)
-}
 
 /// Whether the reason suits the kind.
 fn suits(kind: HoldKind, reason: Reason) -> bool
@@ -59,26 +44,6 @@ fn reason_in(row: &Row, at: usize, kind: HoldKind) -> Option<Reason>
     Some(reason)
 }
 
-fn class_in(row: &Row, at: usize) -> Option<Option<Class>>
-    ensures some { IfSome result (λ class. (column row.now at ≡ or_null Text class) × IfSome class IsClass) }
-    ensures none { IfNone result ((class : Option (List ℕ)) → IfSome class IsClass → column row.now at ≢ or_null Text class) }
-{
-    match optional_text(row, at)? {
-        Some(text) => Some(Some(Class::read(text)?)),
-        None => Some(None),
-    }
-}
-
-fn date_in(row: &Row, at: usize) -> Option<Option<HoldDate>>
-    ensures some { IfSome result (λ date. (column row.now at ≡ or_null Text date) × IfSome date IsDate) }
-    ensures none { IfNone result ((date : Option (List ℕ)) → IfSome date IsDate → column row.now at ≢ or_null Text date) }
-{
-    match optional_text(row, at)? {
-        Some(text) => Some(Some(HoldDate::read(text)?)),
-        None => Some(None),
-    }
-}
-
 fn comment_in(alloc: Global, row: &Row, at: usize) -> Result<Option<String>, ReadError>
     ensures some { IfOk result (λ comment. (column row.now at ≡ or_null Text (option_map string_bytes comment)) × IfSome (option_map string_bytes comment) IsUtf8) }
     ensures none { IsErrOf result ReadError.BadRow → (comment : Option (List ℕ)) → IfSome comment IsUtf8 → column row.now at ≢ or_null Text comment }
@@ -91,17 +56,6 @@ fn comment_in(alloc: Global, row: &Row, at: usize) -> Result<Option<String>, Rea
     match std::str::from_utf8(bytes) {
         Ok(comment) => Ok(Some(String::from_str(alloc, comment)?)),
         Err(_) => Err(ReadError::BadRow),
-    }
-}
-
-fn flag_in(row: &Row, at: usize) -> Option<bool>
-    ensures some { IfSome result (λ b. column row.now at ≡ flag_of b) }
-    ensures none { IfNone result ((b : Bool) → column row.now at ≢ flag_of b) }
-{
-    match whole(row, at)? {
-        0 => Some(false),
-        1 => Some(true),
-        _ => None,
     }
 }
 
@@ -125,7 +79,7 @@ impl FromRow for Holds {
         let Some(id) = id_in(row, 0) else {
             return Err(ReadError::BadRow);
         };
-        let Some(kind) = kind_in(row, 1) else {
+        let Some(kind) = hold_kind_in(row, 1) else {
             return Err(ReadError::BadRow);
         };
         let Some(reason) = reason_in(row, 2, kind) else {
@@ -137,7 +91,7 @@ impl FromRow for Holds {
         let Some(class) = class_in(row, 4) else {
             return Err(ReadError::BadRow);
         };
-        let Some(date) = date_in(row, 5) else {
+        let Some(date) = hold_date_in(row, 5) else {
             return Err(ReadError::BadRow);
         };
         let comment = comment_in(alloc, row, 6)?;

@@ -11,12 +11,12 @@ ghost use Rattle.schema.specs.Rows.{hold_row, flag as flag_of};
 ghost use Rattle.schema.specs.Tables.{hold as hold_table, store_schema};
 ghost use Rattle.hold_rows.specs.Keys.{hold_key, key_row};
 
-use crate::hold::Hold;
-use crate::kinds::word_of;
 use fields::{Class, HoldDate, Id, Reason};
 use rows::{put, remove};
+use spelling::hold_text;
 use sqlite::{Alter, Error, Transaction};
 use sqlite_value::value::ValueRef;
+use sysmods::Hold;
 use terms::HoldKind;
 
 fn class_value(class: &Option<Class>) -> ValueRef<'_>
@@ -68,7 +68,7 @@ pub fn remove_hold<S: Alter>(
 {
     let key = [
         ValueRef::Text(id.as_bytes()),
-        ValueRef::Text(word_of(kind).as_bytes()),
+        ValueRef::Text(hold_text(kind)),
         ValueRef::Text(reason.as_bytes()),
     ];
     remove(
@@ -85,7 +85,7 @@ pub fn put_hold<S: Alter>(tx: &mut Transaction<'_, S>, hold: &Hold) -> Result<()
     ensures ok { OnOk result (Turns S.Store tx.old.conn.now tx.new.conn.now (HasContents store_schema) (with_put hold_table (hold_key hold.now) (hold_row hold.now))) }
 {
     let id = ValueRef::Text(hold.id.as_bytes());
-    let kind = ValueRef::Text(word_of(hold.kind).as_bytes());
+    let kind = ValueRef::Text(hold_text(hold.kind));
     let reason = ValueRef::Text(hold.reason.as_bytes());
     let fmid = ValueRef::Text(hold.fmid.as_bytes());
     let class = class_value(&hold.class);

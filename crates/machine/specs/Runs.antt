@@ -3,11 +3,11 @@
 use Rattle.std.specs.Prelude.{◌≡◌, ℕ, List, [], ◌∷◌, ◌++◌, Option, ◌⊎◌}
 use Rattle.std.specs.Io.KnownBytes.{Appends}
 
--- The acts lead from s to t, and print these bytes.
-abbrev pub Runs : {S A : Type 0} → (S → A → S → List ℕ → Type 0) → S → List A → S → List ℕ → Type 0
-Runs Steps s [] t bytes = (t ≡ s) × (bytes ≡ [])
-Runs {S} Steps s (a ∷ more) t bytes =
-    (m : S) × (front back : List ℕ) × Steps s a m front × Runs Steps m more t back × (bytes ≡ front ++ back)
+-- The acts lead from s to t, and print all this: bytes, or lines.
+abbrev pub Runs : {S A B : Type 0} → (S → A → S → List B → Type 0) → S → List A → S → List B → Type 0
+Runs Steps s [] t printed = (t ≡ s) × (printed ≡ [])
+Runs {S} {A} {B} Steps s (a ∷ more) t printed =
+    (m : S) × (front back : List B) × Steps s a m front × Runs Steps m more t back × (printed ≡ front ++ back)
 
 -- the tables stand for this, and a crash leaves nothing else
 pub record Stands {C : Type 0} (Tables Leaves : C → Type 0) (c : C) : Type 0 where

@@ -211,6 +211,14 @@ end_only false text e blanks (m ∷ ms) h = absurd (blanks_none false text m h.0
 pub takes_next : (first : Bool) (text start behind after word : Text) (list : Option Text) → ((gap : Text) × (text ≡ gap ++ start) × IsBefore first gap) → TakesRun start word behind → TakesInner behind list after → TakesNext first text (record { word = word; list = list }) after
 takes_next first text start behind after word list s run inner = (s.0, start, s.1, s.2, (behind, run, inner))
 
+inner_shorter : (text : Text) (list : Option Text) (after : Text) → TakesInner text list after → length after ≤ length text
+inner_shorter text None after t = omega (arith, ap length t.0)
+inner_shorter text (Some list) after t = omega (arith, ap length t.3, length-append t.0 (40 ∷ list ++ 41 ∷ after), length-append (40 ∷ list) (41 ∷ after))
+
+pub next_shorter : (first : Bool) (text : Text) (m : Word) (after : Text) → TakesNext first text m after → length after < length text
+next_shorter first text m after t =
+    omega (arith, ap length t.2, length-append t.0 t.1, t.4.1.some, ap length t.4.1.text_is, length-append m.word t.4.0, inner_shorter t.4.0 m.list after t.4.2)
+
 -- Why none follows: none begins, or its word or its own list is none.
 pub none_begins : (first : Bool) (text : Text) → ((gap next : Text) → text ≡ gap ++ next → IsBefore first gap → BeginsMember next → ⊥) → (m : Word) (after : Text) → TakesNext first text m after → ⊥
 none_begins first text none m after t = none t.0 t.1 t.2 t.3 (member_first t.1 m after t.4)

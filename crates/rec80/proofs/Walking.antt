@@ -34,6 +34,13 @@ walks_more text mid next after p w t s = (w.0 ++ (p ∷ s.gap), pieces-append te
 pub walk_shorter : (mid next after : Text) (p : Piece) → TakesPiece mid p next → SkipsGaps next after → length after < length mid
 walk_shorter mid next after p t s = omega (arith, piece_shorter mid p next t, pieces_shorter next s.gap after s.has_pieces)
 
+pub gaps_shorter : (text after : Text) → SkipsGaps text after → length after ≤ length text
+gaps_shorter text after s = pieces_shorter text s.gap after s.has_pieces
+
+-- a piece behind gaps, and gaps behind it
+pub behind_shorter : (text at next : Text) (p : Piece) → SkipsGaps text at → TakesPiece at p next → length next < length text
+behind_shorter text at next p s t = omega (arith, gaps_shorter text at s, piece_shorter at p next t)
+
 pub idle_text : (text after : Text) → SkipsGaps text after → after ≡ [] → IsIdle text
 idle_text text after s none = (s.gap, subst (HasPieces text s.gap) none s.has_pieces, s.is_gap)
 

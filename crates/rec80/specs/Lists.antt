@@ -17,6 +17,10 @@ abbrev pub HasLeft : Bool → List ℕ → List grammar.Word → Type 0
 HasLeft true text ms = HasMembers text ms
 HasLeft false text ms = HasMore text ms
 
+-- the text that is left
+abbrev pub members_text : Members → List ℕ
+members_text m = text_of m.rest
+
 -- These members are left.
 abbrev pub LeavesMembers : Members → List grammar.Word → Type 0
 LeavesMembers m ms = HasLeft m.first (text_of m.rest) ms

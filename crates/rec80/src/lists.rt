@@ -1,10 +1,10 @@
-ghost use Rattle.std.specs.Prelude.{◌≡◌, ◌++◌, ℕ, false, List, Option, [], ◌∷◌, All, true, IfOk, IfSome, IfNone, OnErr, MatchOption, option_map};
+ghost use Rattle.std.specs.Prelude.{◌≡◌, ◌<◌, length, ◌++◌, ℕ, false, List, Option, [], ◌∷◌, All, true, IfOk, IfSome, IfNone, OnErr, MatchOption, option_map};
 ghost use Rattle.terms.specs.Words.{is_inner_byte, TakesInner, Stops, IsBefore, TakesNext};
 ghost use Rattle.terms.specs.Words as grammar;
 ghost use Rattle.terms.specs.Forms.{AreBlanks};
 ghost use Rattle.terms.proofs.Members.{BeginsMember};
 ghost use Rattle.rec80.specs.Cursors.{text_of};
-ghost use Rattle.rec80.specs.Lists.{SkipsBlanks, LeavesMembers};
+ghost use Rattle.rec80.specs.Lists.{SkipsBlanks, LeavesMembers, members_text};
 ghost use Rattle.rec80.specs.Views.{word_of};
 
 use crate::members::{Members, NoMembers, split_member};
@@ -120,6 +120,7 @@ impl<'a> Members<'a> {
         ensures end_only { IfOk result (λ found. IfNone found ((ms : List grammar.Word) → LeavesMembers self.old ms → ms ≡ [])) }
         ensures bad { OnErr result ((ms : List grammar.Word) → LeavesMembers self.old ms → ⊥) }
         ensures err { OnErr result (self.new ≡ self.old) }
+        ensures shorter { IfOk result (λ found. IfSome found (λ m. length (members_text self.new) < length (members_text self.old))) }
     {
         if !self.first && is_blank(&self.rest) {
             return Ok(None);

@@ -1,4 +1,4 @@
-ghost use Rattle.std.specs.Prelude.{◌≡◌, ℕ, List, [], ◌∷◌, IfOk, IfErr, IfSome, IfNone, OnErr, MatchOption};
+ghost use Rattle.std.specs.Prelude.{◌≡◌, ◌<◌, ℕ, List, [], ◌∷◌, length, IfOk, IfErr, IfSome, IfNone, OnErr, MatchOption};
 ghost use Rattle.terms.specs.Statement.{Piece as AnyPiece, HasSolid, TakesPiece, TheList};
 ghost use Rattle.terms.specs.Words.{TakesWord, BeginsNoWords};
 ghost use Rattle.rec80.specs.Cursors.{rest_of, text_of};
@@ -53,6 +53,7 @@ impl<'a> Words<'a> {
         ensures bad { (pieces : List AnyPiece) → HasSolid (left_of self.old) pieces → OnErr result (BeginsNoWords pieces) }
         ensures err { OnErr result (self.new ≡ self.old) }
         ensures inline { self.new.inline.now ≡ self.old.inline.now }
+        ensures shorter { IfOk result (λ found. IfSome found (λ w. length (left_of self.new) < length (left_of self.old))) }
     {
         let at = behind_gaps(&self.rest);
         let Ok((piece, next)) = solid_piece(&at) else {
@@ -78,6 +79,7 @@ impl<'a> Words<'a> {
         ensures piece { (pieces : List AnyPiece) → HasSolid (left_of self.old) pieces
             → MatchOption result (pieces ≡ []) (λ p. (rest : List AnyPiece) × (pieces ≡ piece_of p ∷ rest) × HasSolid (left_of self.new) rest) }
         ensures inline { self.new.inline.now ≡ self.old.inline.now }
+        ensures shorter { IfSome result (λ p. length (left_of self.new) < length (left_of self.old)) }
     {
         let at = behind_gaps(&self.rest);
         let Ok((piece, next)) = solid_piece(&at) else {

@@ -97,6 +97,9 @@ held_at schema at table contents db there h = all_has (λ t. AreRows t (contents
 pub found_are : (table : Table) (key : Row) (held found rows : List Row) → AreRows table held rows → AreFound table key found rows → IsPermutation found (filter (has_key key) held)
 found_are table key held found rows are h = IsPermutation-trans _ _ _ h (IsPermutation-filter (has_key key) _ _ (IsPermutation-sym _ _ are.same))
 
+pub found_with : (table : Table) (key : Row) (held found rows : List Row) → AreRows table held rows → IsPermutation found (filter (has_key key) held) → AreFound table key found rows
+found_with table key held found rows are h = IsPermutation-trans _ _ _ h (IsPermutation-filter (has_key key) _ _ are.same)
+
 -- with no key a query finds what the table holds
 pub all_found : (table : Table) (held found rows : List Row) → AreRows table held rows → AreFound table [] found rows → IsPermutation found held
 all_found table held found rows are h = subst (IsPermutation found) (filter_all held) (found_are table [] held found rows are h)

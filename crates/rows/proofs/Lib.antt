@@ -10,3 +10,5 @@ pub mod Keys
 pub mod Parts
 pub mod Pieces
 pub mod Bound
+pub mod Unmapped
+pub mod Queries

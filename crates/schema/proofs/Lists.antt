@@ -1,9 +1,16 @@
 -- Lists in order that have the same members, and lists that are put together of parts.
-use Rattle.std.proofs.Common.{◌≡◌, ◌≢◌, inl, inr, ℕ, suc, ◌+◌, ◌<◌, ◌≤◌, List, [], ◌∷◌, ◌++◌, map, length, length-append, All, AllPairs, arith, refl, sym, ap, ap₂, subst, ◌∙◌}
+use Rattle.std.proofs.Common.{◌≡◌, ◌≢◌, inl, inr, ℕ, suc, ◌+◌, ◌<◌, ◌≤◌, List, [], ◌∷◌, ◌++◌, map, length, length-append, All, AllPairs, IsTrue, IsPermutation, false, true≢false, arith, refl, sym, ap, ap₂, subst, ◌∙◌}
 use Rattle.std.specs.List.{AllByRecursion, flat_map, enumerate_from, concat, join_with_byte}
+use Rattle.std.specs.declared.cmp.Ordering.{Ordering}
+use Rattle.std.specs.Ordering.{is_lt}
+use Rattle.std.specs.Cmp.{IsTotalOrder}
+use Rattle.std.proofs.lemmas.List.Sorted.{IsPermutation-sym}
 use Rattle.sqlite.specs.Tree.{IsAscending}
 use Rattle.sqlite_rules.specs.Lists.{Has}
 use Rattle.sqlite_rules.proofs.ListLemmas.{all_has, all_from, has_left, has_right, has_either, contains_had}
+use Rattle.rows.proofs.RowLemmas.{has_permuted}
+use Rattle.terms.specs.Rising.{Rises}
+use Rattle.terms.proofs.RisingLists.{Less-from_is_lt}
 
 -- ---- in order
 
@@ -56,6 +63,18 @@ all_mapped f P (x ∷ xs) h = (h.0, all_mapped f P xs h.1)
 pub ascending_by : {X Y : Type 0} (f : X → Y) (R : Y → Y → Type 0) (xs : List X) → IsAscending R (map f xs) → IsAscending (λ a b. R (f a) (f b)) xs
 ascending_by f R [] h = tt
 ascending_by f R (x ∷ xs) h = (all_mapped f (R (f x)) xs h.0, ascending_by f R xs h.1)
+
+-- what stands before another does not stand behind it
+pub lower_once : {K : Type 0} {R : K → K → Ordering} → IsTotalOrder R → (a b : K) → IsTrue (is_lt (R a b)) → ¬ IsTrue (is_lt (R b a))
+lower_once {R} o a b low high =
+    let not_high : is_lt (R b a) ≡ false = rw (o.antisymm b a, Less-from_is_lt (R a b) low) refl in
+    true≢false (sym high ∙ not_high)
+
+-- lists that rise by a key are one where they have the same items
+pub rising_same : {X K : Type 0} {R : K → K → Ordering} → IsTotalOrder R → (key : X → K) (xs ys : List X) → IsPermutation xs ys → Rises R key xs → Rises R key ys → xs ≡ ys
+rising_same {R = R} o key xs ys same p q =
+    same_sorted (λ a b. IsTrue (is_lt (R (key a) (key b)))) (λ a b. lower_once o (key a) (key b)) xs ys (ascending _ xs p) (ascending _ ys q)
+    (λ x. has_permuted xs ys x same) (λ y. has_permuted ys xs y (IsPermutation-sym xs ys same))
 
 -- ---- of parts
 

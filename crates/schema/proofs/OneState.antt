@@ -31,7 +31,7 @@ use Rattle.schema.specs.Rows.{sysmod_row, ver_row, vers_of, ifreq_row, ifreqs_of
 use Rattle.schema.specs.Tables.{all_tables}
 use Rattle.schema.specs.Create.{IsBlank}
 use Rattle.schema.specs.Stands.{StandsFor, HasOneState}
-use Rattle.schema.proofs.Lists.{same_sorted, one_place, has_all, ascending, ascending_by, flat_has, flat_had, IsLower, numbers_rise, values}
+use Rattle.schema.proofs.Lists.{same_sorted, lower_once, one_place, has_all, ascending, ascending_by, flat_has, flat_had, IsLower, numbers_rise, values}
 use Rattle.schema.proofs.Spelled.{kind_same, hold_same, type_same, zone_same, or_null_same, flag_same, ids_are_words, sources_are_words, ids_same, text_same, before_once, not_before_same, pair_once}
 
 -- ---- what one row says
@@ -126,20 +126,20 @@ change_is j k x y a b p q e =
     ∙ ap (λ z. record b { name = z; action = a.action }) name
     ∙ ap (λ z. record b { action = z }) action
 
-entry_is : (x y : Text) (a b : Entry) → HasEntryForms a → HasEntryForms b → entry_row x a ≡ entry_row y b → a ≡ b
-entry_is x y a b p q e =
+pub entry_is : (x y : Text) (a b : Entry) → AreListed IsId a.supby → AreListed IsId b.supby → AreListed IsId a.waived → AreListed IsId b.waived → entry_row x a ≡ entry_row y b → a ≡ b
+entry_is x y a b sup_a sup_b waived_a waived_b e =
     let id : a.id ≡ b.id = cc in
     let applied : a.applied ≡ b.applied = or_null_same a.applied b.applied cc in
-    let supby : a.supby ≡ b.supby = same_ids a.supby b.supby p.supby q.supby cc in
+    let supby : a.supby ≡ b.supby = same_ids a.supby b.supby sup_a sup_b cc in
     let delby : a.delby ≡ b.delby = or_null_same a.delby b.delby cc in
-    let waived : a.waived ≡ b.waived = same_ids a.waived b.waived p.waived q.waived cc in
+    let waived : a.waived ≡ b.waived = same_ids a.waived b.waived waived_a waived_b cc in
     ap (λ z. record a { id = z }) id
     ∙ ap (λ z. record a { id = b.id; applied = z }) applied
     ∙ ap (λ z. record b { supby = z; delby = a.delby; waived = a.waived }) supby
     ∙ ap (λ z. record b { delby = z; waived = a.waived }) delby
     ∙ ap (λ z. record b { waived = z }) waived
 
-element_is : (x y : Text) (a b : Element) → HasElementForms a → HasElementForms b → zelem_row x a ≡ zelem_row y b → a ≡ b
+pub element_is : (x y : Text) (a b : Element) → HasElementForms a → HasElementForms b → zelem_row x a ≡ zelem_row y b → a ≡ b
 element_is x y a b p q e =
     let type : a.elem_type ≡ b.elem_type = type_same a.elem_type b.elem_type cc in
     let name : a.name ≡ b.name = cc in
@@ -160,7 +160,7 @@ element_is x y a b p q e =
 
 -- ---- the orders of members
 
-abbrev IsBelow : {X : Type 0} → (X → Text) → X → X → Type 0
+abbrev pub IsBelow : {X : Type 0} → (X → Text) → X → X → Type 0
 IsBelow key a b = IsTrue (is_before (key a) (key b))
 
 below_once : {X : Type 0} (key : X → Text) (a b : X) → IsBelow key a b → ¬ IsBelow key b a
@@ -175,12 +175,6 @@ rise_by key xs h = ascending_by key (λ a b. IsTrue (is_before a b)) xs (ascendi
 
 change_once : (a b : Change) → IsTrue (is_change_before a b) → ¬ IsTrue (is_change_before b a)
 change_once a b = pair_once (type_number a.elem_type) (type_number b.elem_type) (is_before a.name b.name) (is_before b.name a.name) (before_once a.name b.name)
-
--- what stands before another does not stand behind it
-lower_once : {K : Type 0} {R : K → K → Ordering} → IsTotalOrder R → (a b : K) → IsTrue (is_lt (R a b)) → ¬ IsTrue (is_lt (R b a))
-lower_once {R} o a b low high =
-    let not_high : is_lt (R b a) ≡ false = rw (o.antisymm b a, Less-from_is_lt (R a b) low) refl in
-    true≢false (sym high ∙ not_high)
 
 element_once : (a b : Element) → IsTrue (is_lt (element_cmp (element_key a) (element_key b))) → ¬ IsTrue (is_lt (element_cmp (element_key b) (element_key a)))
 element_once a b = lower_once element_cmp_total (element_key a) (element_key b)
@@ -221,7 +215,7 @@ within i j db p q =
 sysmods_rise : (i : Inventory) → IsInventory i → IsAscending (IsBelow (λ (s : Sysmod). s.id)) i.global.sysmods
 sysmods_rise i p = ascending _ _ p.global.sysmods
 
-zones_rise : (i : Inventory) → IsInventory i → IsAscending (IsBelow (λ (z : NamedZone). z.name)) i.zones
+pub zones_rise : (i : Inventory) → IsInventory i → IsAscending (IsBelow (λ (z : NamedZone). z.name)) i.zones
 zones_rise i p = rise_by (λ (z : NamedZone). z.name) i.zones p.names
 
 forms : (i : Inventory) → IsInventory i → (s : Sysmod) → Has i.global.sysmods s → HasSysmodForms s
@@ -335,7 +329,7 @@ module _ (i j : Inventory) (p : IsInventory i) (q : IsInventory j) (to : IsWithi
       let is : u ≡ z = own_zone u hu cc in
       let f = has_all HasEntryForms y.zone.entries a (has_all IsZoneNamed i.zones y p.zones hy).forms.entries ha in
       let g = has_all HasEntryForms u.zone.entries b (has_all IsZoneNamed j.zones u q.zones hu).forms.entries hb in
-      let equal : a ≡ b = entry_is y.name u.name a b f g e in
+      let equal : a ≡ b = entry_is y.name u.name a b f.supby g.supby f.waived g.waived e in
       subst (λ (x : NamedZone). Has x.zone.entries a) is (subst (Has u.zone.entries) (sym equal) hb)
 
   entry_in : (a : Entry) → Has y.zone.entries a → Has z.zone.entries a

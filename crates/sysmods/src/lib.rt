@@ -14,3 +14,6 @@ pub use hold::Hold;
 pub use sysmod::Sysmod;
 pub use terms::{ElemType, HoldKind, Kind};
 pub use ver::{IfReq, Ver};
+
+#[cfg(test)]
+mod tests;

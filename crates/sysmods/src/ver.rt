@@ -1,6 +1,10 @@
 //! `++VER` with its `++IF`s.
+ghost use Rattle.std.specs.Prelude.{◌≡◌, ◌++◌, map, OnOk};
+ghost use Rattle.terms.specs.Lookups.{at_most_one, is_in};
+ghost use Rattle.terms.specs.Global.{named, named_functions};
 
 use fields::{Id, IdList, Srel};
+use std::alloc::AllocError;
 use std::marker::Model;
 
 /// `++IF`: where the function is installed, these SYSMODs are required too.
@@ -37,4 +41,62 @@ impl Model for Ver {
     ghost Value = { terms.Ver };
 
     ghost view = { λ a. record { srel = a.srel; fmid = a.fmid; pre = a.pre; req = a.req; sup = a.sup; npre = a.npre; del = a.del; ifs = a.ifs.items } };
+}
+
+impl Ver {
+    /// Appends the ids that it names in PRE, SUP and FMID.
+    pub fn append_named(&self, found: &mut Vec<Id>) -> Result<(), AllocError>
+        ensures { OnOk result (found.new.items ≡ found.old.items ++ named self.now) }
+    {
+        found.extend_from_slice(self.pre.as_slice())?;
+        found.extend_from_slice(self.sup.as_slice())?;
+        if let Some(fmid) = self.fmid {
+            found.push(fmid)?;
+        }
+        Ok(())
+    }
+
+    fn has_fmid(&self, id: Id) -> bool
+        ensures { result ≡ is_in (at_most_one self.now.fmid) id }
+    {
+        self.fmid == Some(id)
+    }
+
+    fn lists(&self, id: Id) -> bool
+        ensures { result ≡ is_in (self.now.pre ++ self.now.sup) id }
+    {
+        self.pre.contains(id) || self.sup.contains(id)
+    }
+
+    fn has_condition(&self, id: Id) -> bool
+        ensures { result ≡ is_in (map (λ i. i.function) self.now.ifs) id }
+    {
+        self.ifs
+            .iter()
+            .map(|condition| condition.function)
+            .any(|function| id == function)
+    }
+
+    /// Whether it names the id in PRE, SUP or FMID.
+    #[tactic(auto, using(crate::proofs::Naming::named_parts))]
+    pub fn names(&self, id: Id) -> bool
+        ensures { result ≡ is_in (named self.now) id }
+    {
+        self.lists(id) || self.has_fmid(id)
+    }
+
+    /// Whether the id stands in its SUP.
+    pub fn supersedes(&self, id: Id) -> bool
+        ensures { result ≡ is_in self.now.sup id }
+    {
+        self.sup.contains(id)
+    }
+
+    /// Whether it names the id as a function: in DELETE, in FMID or as the function of an `++IF`.
+    #[tactic(auto, using(crate::proofs::Naming::function_parts))]
+    pub fn names_function(&self, id: Id) -> bool
+        ensures { result ≡ is_in (named_functions self.now) id }
+    {
+        self.del.contains(id) || self.has_fmid(id) || self.has_condition(id)
+    }
 }

@@ -1,5 +1,7 @@
 pub mod Greatest
 pub mod GlobalGroups
+pub mod KeyedMaps
+pub mod HoldOrder
 pub mod GlobalKept
 pub mod GlobalLookups
 pub mod GlobalRoles
@@ -25,4 +27,12 @@ pub mod Solids
 pub mod ElementOrder
 pub mod Edits
 pub mod Members
+pub mod Longest
 pub mod Exact
+pub mod NumberedCauses
+pub mod SameLists
+pub mod SameZones
+pub mod ExactFiles
+pub mod ExactWords
+pub mod ExactCommands
+pub mod Permuted

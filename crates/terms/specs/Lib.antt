@@ -14,8 +14,13 @@ pub mod Records
 pub mod Groups
 pub mod Statement
 pub mod Words
+pub mod Operands
 pub mod CommandCuts
+pub mod CommandForms
+pub mod Commands
 pub mod Texts
+pub mod Statements
+pub mod Ptfin
 pub mod Changes
 pub mod Deleted
 pub mod Candidates
@@ -24,3 +29,5 @@ pub mod Needs
 pub mod Kept
 pub mod Judged
 pub mod Install
+pub mod Failures
+pub mod KeyedMaps

@@ -52,6 +52,13 @@ impl Numbered {
         Ok(Numbered { lines })
     }
 
+    pub fn into_lines(self) -> Vec<Line>
+        ensures lines { result.items ≡ self }
+        ensures numbered { IsNumbered result.items }
+    {
+        self.lines
+    }
+
     /// The records.
     pub fn lines(&self) -> &[Line]
         ensures lines { result.now ≡ self.now }

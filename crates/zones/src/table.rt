@@ -1,5 +1,5 @@
 //! Items in the order of their keys, no key twice.
-ghost use Rattle.std.specs.Prelude.{◌≡◌, ◌<◌, ◌≤◌, ◌↔◌, ◌++◌, [], ◌∷◌, length, take, drop, IsTrue, All, IfOk, IfErr, OnOk, OnErr, find, option_copied, if◌then◌else◌};
+ghost use Rattle.std.specs.Prelude.{◌≡◌, ◌<◌, ◌≤◌, ◌↔◌, ◌++◌, [], ◌∷◌, length, take, drop, IsTrue, All, IfOk, IfErr, IfSome, IfNone, OnOk, OnErr, List, IsPermutation, find, option_copied, if◌then◌else◌};
 ghost use Rattle.std.specs.Ordering.{is_lt};
 ghost use Rattle.terms.specs.Rising.{Rises, with_item, Splits, Stands};
 ghost use Rattle.terms.specs.Delta.{edited};
@@ -46,6 +46,27 @@ impl<T: Keyed> Table<T> {
         Table {
             items: Vec::new(alloc),
         }
+    }
+
+    /// The table of these items, if no two of them have one key. It sorts them.
+    pub fn from_vec(mut items: Vec<T>) -> Option<Self>
+        ensures same { IfSome result (λ table. IsPermutation items.items table) }
+        ensures rising { IfSome result (λ table. Rises T.Key.cmp T.key_of table) }
+        ensures none { IfNone result
+            ((other : List T) → IsPermutation items.items other → ¬ Rises T.Key.cmp T.key_of other) }
+    {
+        items.sort_unstable_by_key(|item| item.key());
+        if !are_rising(items.as_slice()) {
+            return None;
+        }
+        Some(Table { items })
+    }
+
+    pub fn into_vec(self) -> Vec<T>
+        ensures items { result.items ≡ self }
+        ensures rising { Rises T.Key.cmp T.key_of result.items }
+    {
+        self.items
     }
 
     pub fn as_slice(&self) -> &[T]
@@ -136,4 +157,16 @@ fn stands_last<T: Keyed>(items: &[T], key: T::Key) -> bool
         Some(last) => last.key() < key,
         None => true,
     }
+}
+
+// Whether the keys rise, none twice.
+fn are_rising<T: Keyed>(items: &[T]) -> bool
+    ensures { IsTrue result ↔ Rises T.Key.cmp T.key_of items.now }
+{
+    for i in 0..items.len() {
+        if !stands_last(&items[..i], items[i].key()) {
+            return false;
+        }
+    }
+    true
 }

@@ -85,6 +85,11 @@ fn a_loaded_zone(rt: HostRuntime) -> Result<(), Fail> {
     entries.put(applied(alloc, id(b"HAA1100")?))?;
     let copy = entries.try_clone(alloc)?;
     assert_eq!(rt; copy.as_slice().len(), 2);
+    let mut items = Vec::new(alloc);
+    items.push(applied(alloc, id(b"UA00003")?))?;
+    items.push(applied(alloc, id(b"HAA1100")?))?;
+    let sorted = Table::from_vec(items).ok_or("no table")?;
+    assert!(rt; sorted.get(id(b"UA00003")?).is_some());
     let elements = Table::<Element>::new(alloc);
     let zone = Zone::from_tables(ZoneKind::Distribution, srel, None, entries, elements);
     let zone = zone.ok_or("no zone")?;

@@ -1,7 +1,6 @@
-use Rattle.std.proofs.Common.{OnOk, ap, subst, ◌∙◌}
+use Rattle.std.proofs.Common.{OnOk, subst}
 use Rattle.std.specs.Prelude.{option_map}
 use Rattle.std.specs.String.{string_bytes}
-use Rattle.sqlite.specs.Values.{bound_value}
 use Rattle.rows.specs.Inside.{Turns}
 use Rattle.rows.specs.Rows.{HasContents, with_put}
 use Rattle.rows.proofs.InsideLemmas.{on_ok}
@@ -9,7 +8,7 @@ use Rattle.rows.proofs.Values.{bound_optional}
 use Rattle.schema.specs.Rows.{hold_row}
 use Rattle.schema.specs.Tables.{store_schema, hold}
 use Rattle.hold_rows.specs.Keys.{hold_key}
-use Rattle.hold_rows.specs.contracts.hold.Hold.{the_view}
+use Rattle.sysmods.specs.contracts.hold.Hold.{the_view}
 use Rattle.hold_rows.proofs.HoldLemmas.{kept_hold}
 use Rattle.hold_rows.proofs.Texts.{takes_hold, puts_hold}
 use Rattle.hold_rows.proofs.writing.put_hold.Goals as goal
@@ -19,10 +18,9 @@ returns-clause-ok g c =
     let fields = c.hold.inside in
     let put = rw (
       c.as_bytes.ensures.same,
-      c.as_bytes-2.ensures.value,
-      c.word_of.ensures,
+      c.hold_text.ensures,
+      c.as_bytes-2.ensures.same,
       c.as_bytes-3.ensures.same,
-      c.as_bytes-4.ensures.same,
       c.class_value-class.ensures,
       bound_optional fields.class,
       c.date_value-date.ensures,

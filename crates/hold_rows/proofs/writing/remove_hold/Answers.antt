@@ -5,4 +5,4 @@ use Rattle.hold_rows.proofs.writing.remove_hold.Goals as goal
 
 pub returns-clause-ok : goal.returns-clause-ok
 returns-clause-ok g c =
-    on_ok c.remove.result _ _ (λ removed. rw (c.as_bytes.ensures.same, c.as_bytes-2.ensures.value, c.word_of.ensures, c.as_bytes-3.ensures.same) at (removed store_schema 4 hold takes_hold)) c.remove.ensures.ok
+    on_ok c.remove.result _ _ (λ removed. rw (c.as_bytes.ensures.same, c.hold_text.ensures, c.as_bytes-2.ensures.same) at (removed store_schema 4 hold takes_hold)) c.remove.ensures.ok

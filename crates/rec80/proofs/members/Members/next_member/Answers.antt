@@ -3,7 +3,7 @@ use Rattle.std.proofs.lemmas.Bool.{true≢false}
 use Rattle.terms.specs.Forms.{AreBlanks}
 use Rattle.rec80.specs.Cursors.{text_of}
 use Rattle.rec80.specs.Views.{word_of}
-use Rattle.rec80.proofs.Listing.{has_left, left_only, no_left, end_left, end_only}
+use Rattle.rec80.proofs.Listing.{has_left, left_only, no_left, end_left, end_only, next_shorter}
 use Rattle.rec80.proofs.members.Members.next_member.Goals as goal
 use Rattle.rec80.proofs.members.Members.next_member.Goals.{else-not-self-via-then-not-self+else-is_blank, else-not-self-via-else-not-self}
 
@@ -25,3 +25,6 @@ returns-clause-member c = λ ms h. has_left c.args.self.now.first (text_of c.arg
 
 pub returns-clause-only : goal.returns-clause-only
 returns-clause-only c = λ ms h. left_only c.args.self.now.first (text_of c.args.self.now.rest) (word_of c.in-Some.member) (text_of c.in-Some.after) ms c.in-Some.ensures.member h
+
+pub returns-clause-shorter : goal.returns-clause-shorter
+returns-clause-shorter c = next_shorter c.args.self.now.first (text_of c.args.self.now.rest) (word_of c.in-Some.member) (text_of c.in-Some.after) c.in-Some.ensures.member

@@ -1,4 +1,6 @@
 use Rattle.rec80.specs.Cursors.{rest_of}
+use Rattle.rec80.specs.Pieces.{piece_of}
+use Rattle.rec80.proofs.Walking.{behind_shorter}
 use Rattle.rec80.proofs.Reading.{reads_piece, reads_end}
 use Rattle.rec80.proofs.words.Words.next_piece.Goals as goal
 
@@ -9,3 +11,6 @@ returns-in_default-clause-piece c = λ pieces h.
 pub returns-clause-piece : goal.returns-clause-piece
 returns-clause-piece c = λ pieces h.
     reads_piece _ (rest_of c.behind_gaps-at.result) (rest_of c.in-Ok.next) c.in-Ok.piece pieces c.behind_gaps-at.ensures.gaps c.in-Ok.ensures.piece h
+
+pub returns-clause-shorter : goal.returns-clause-shorter
+returns-clause-shorter c = behind_shorter _ (rest_of c.behind_gaps-at.result) (rest_of c.in-Ok.next) (piece_of c.in-Ok.piece) c.behind_gaps-at.ensures.gaps c.in-Ok.ensures.piece

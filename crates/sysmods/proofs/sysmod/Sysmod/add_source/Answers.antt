@@ -1,5 +1,4 @@
 -- Sources stay in order with one more.
-use Rattle.std.proofs.Common.{rules}
 use Rattle.std.proofs.lemmas.Cmp.{nat_list_cmp_total}
 use Rattle.terms.proofs.GlobalKept.{Rises-with_item}
 use Rattle.sysmods.proofs.sysmod.Sysmod.add_source.Goals as goal

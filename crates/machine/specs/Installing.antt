@@ -1,0 +1,100 @@
+-- What APPLY and ACCEPT make of a zone, and what they print of each id.
+-- (IBM z/OS SMP/E Commands, APPLY and ACCEPT processing. The lines are this project's.)
+use Rattle.std.specs.Prelude.{◌≡◌, ◌≢◌, ◌⊎◌, ◌↔◌, Bool, List, [], ◌∷◌, Option, None, Some, IsTrue, Contains, filter, map}
+use Rattle.std.specs.List.{flat_map}
+use Rattle.terms.specs.declared.kinds.ZoneKind.{ZoneKind}
+use Rattle.terms.specs.declared.kinds.ZoneKind.TheVariants.{Target, Distribution}
+use Rattle.terms.specs.declared.codes.Test.{Test}
+use Rattle.terms.specs.declared.codes.Test.TheVariants as test
+use Rattle.terms.specs.declared.codes.NeedKind.{NeedKind}
+use Rattle.terms.specs.declared.codes.NeedKind.TheVariants as need
+use Rattle.terms.specs.declared.not_chosen.NotChosen.{NotChosen}
+use Rattle.terms.specs.declared.not_chosen.NotChosen.TheVariants as out
+use Rattle.terms.specs.Types.{Text, Id, Global, Zone, Bypass, Selection}
+use Rattle.terms.specs.Lookups.{IsRising}
+use Rattle.terms.specs.Choice.{by_srel}
+use Rattle.terms.specs.Tests.{Setting, Fails, IsEligible, AreSurvivors}
+use Rattle.terms.specs.Needs.{Needs, Serves, bypassed_ids}
+use Rattle.terms.specs.Candidates.{AreCandidates, not_chosen}
+use Rattle.terms.specs.Judged.{setting, IsKeptSet}
+use Rattle.terms.specs.Failures.{IsOpenNeed, IsCauser}
+use Rattle.terms.specs.Install.{Installing, IsInstalled, Installs}
+use Rattle.machine.specs.Outcome.{Status, Already, Applied, Accepted, Superseded, Failed, Failure, OpenNeed, Deleted, Missing, NoVer, NotApplied, Line, StatusLine}
+use Rattle.machine.specs.Receiving.{place_of}
+
+-- the tests by their numbers, and the kinds of needs, in the order of reports
+abbrev pub all_tests : List Test
+all_tests =
+    test.J1 ∷ test.J2 ∷ test.J3 ∷ test.J4 ∷ test.J5 ∷ test.J6 ∷ test.J7 ∷ test.J8 ∷ test.J9 ∷ test.J10 ∷ test.J11 ∷ test.J12 ∷ []
+
+abbrev pub all_needs : List NeedKind
+all_needs = need.Fmid ∷ need.Pre ∷ need.Req ∷ need.Ifreq ∷ need.HoldError ∷ need.Orphan ∷ need.Elem ∷ need.Dep ∷ []
+
+-- Why a candidate is not kept: its failed tests, its open needs by kind and id, and its causers.
+-- Given are the candidates and the kept ones, the tests they fail, which are eligible, and the needs.
+module _ (cands kept : List Id) (FailsTest : Id → Test → Type 0) (Eligible : Id → Type 0) (Wants : Id → NeedKind → Id → Type 0) (ServedBy : NeedKind → Id → Id → Type 0) where
+  pub record IsFailure (x : Id) (f : Failure) : Type 0 where
+    pub fails : Test → Bool
+    pub tests : f.tests ≡ filter fails all_tests
+    pub failed : (t : Test) → IsTrue (fails t) ↔ FailsTest x t
+    pub ids_of : NeedKind → List Id
+    pub needs : f.needs ≡ flat_map (λ kind. map (λ z. record { kind = kind; id = z }) (ids_of kind)) all_needs
+    pub ids_rising : (kind : NeedKind) → IsRising (ids_of kind)
+    pub are_open : (kind : NeedKind) (z : Id) → Contains (ids_of kind) z ↔ IsOpenNeed cands kept Eligible Wants ServedBy x kind z
+    pub causers_rising : IsRising f.causers
+    pub causers : (y : Id) → Contains f.causers y ↔ IsCauser cands kept Eligible Wants ServedBy x y
+
+-- what APPLY or ACCEPT decides: its setting, the survivors of its tests, the kept set, and what is installed
+pub record Decision : Type 0 where
+  pub setting : Setting
+  pub survivors : List Id
+  pub kept : List Id
+  pub installing : Installing
+
+-- They are those of the selection and BYPASS in this zone, with the related target zone of ACCEPT.
+pub record IsDecision (g : Global) (zone : Zone) (related : Option Zone) (sel : Selection) (bypass : Bypass) (date : Text) (d : Decision) : Type 0 where
+  pub cands : List Id
+  pub candidates : AreCandidates g (by_srel g zone.srel) zone sel cands
+  pub setting : d.setting ≡ setting g zone related cands bypass
+  pub survivors : AreSurvivors d.setting d.survivors
+  pub kept : IsKeptSet d.setting d.kept
+  pub bypassed : List (Id × Id)
+  pub are_bypassed : (x z : Id) → Contains bypassed (x, z) ↔ (Contains d.kept x × Contains (bypassed_ids d.setting x) z)
+  pub installing : d.installing ≡ record { global = g; choice = by_srel g zone.srel; zone = zone; kept = d.kept; bypassed = bypassed; date = date }
+
+-- the status of what is installed
+abbrev pub installed_status : ZoneKind → Status
+installed_status Target = Applied
+installed_status Distribution = Accepted
+
+abbrev pub not_chosen_status : NotChosen → Status
+not_chosen_status out.Already = Already
+not_chosen_status out.Deleted = Deleted
+not_chosen_status out.Missing = Missing
+not_chosen_status out.NoVer = NoVer
+not_chosen_status out.NotApplied = NotApplied
+
+-- The status of an id: installed, kept and superseded, failed, or named by the command and no candidate.
+pub data HasStatus (d : Decision) (sel : Selection) (x : Id) : Status → Type 0 where
+  IsIn : IsInstalled d.installing x → HasStatus d sel x (installed_status d.setting.zone.kind)
+  IsUnder : Contains d.kept x → (¬ IsInstalled d.installing x) → HasStatus d sel x Superseded
+  IsOff : (f : Failure) → Contains d.setting.cands x → (¬ Contains d.kept x)
+      → IsFailure d.setting.cands d.kept (Fails d.setting) (IsEligible d.setting) (Needs d.setting d.survivors) (Serves d.setting.choice) x f
+      → HasStatus d sel x (Failed f)
+  IsOut : (why : NotChosen) → not_chosen d.setting.global d.setting.zone sel x ≡ Some why → HasStatus d sel x (not_chosen_status why)
+
+-- The lines by id: one for each id that has a status.
+pub record AreInstallLines (d : Decision) (sel : Selection) (lines : List Line) : Type 0 where
+  pub ids : List Id
+  pub rising : IsRising ids
+  pub status : Id → Status
+  pub lines_are : lines ≡ map (λ x. StatusLine x (place_of d.setting.global x) (status x)) ids
+  pub each : (x : Id) → Contains ids x → HasStatus d sel x (status x)
+  pub all : (x : Id) (s : Status) → HasStatus d sel x s → Contains ids x
+
+-- the new zone and the lines; CHECK comes to the same lines
+pub record InstallsSelected (g : Global) (zone : Zone) (related : Option Zone) (sel : Selection) (bypass : Bypass) (date : Text) (new : Zone) (lines : List Line) : Type 0 where
+  pub decision : Decision
+  pub decides : IsDecision g zone related sel bypass date decision
+  pub lines_are : AreInstallLines decision sel lines
+  pub installs : Installs decision.installing new

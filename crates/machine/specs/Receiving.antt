@@ -1,0 +1,60 @@
+-- What RECEIVE makes of the items of its files, one after the other, and what it prints of each.
+-- (IBM z/OS SMP/E Commands, the RECEIVE command; Reference, ++HOLD, ++RELEASE and ++ASSIGN.)
+use Rattle.std.specs.Prelude.{◌≡◌, List, [], ◌∷◌, Option, None, Some, Result, Ok, Err, if◌then◌else◌}
+use Rattle.std.specs.Option.{option_map_or}
+use Rattle.terms.specs.declared.codes.IdRefusal.{IdRefusal}
+use Rattle.terms.specs.declared.codes.IdRefusal.TheVariants as refusal
+use Rattle.terms.specs.Types.{Text, Id, Hold, Sysmod, Global, Assign, Release, Item, ASysmod, AnAssign, HoldItem, AHold, ARelease}
+use Rattle.terms.specs.Lookups.{sysmod_of, is_received}
+use Rattle.terms.specs.Global.{hold, is_replacing, ReleaseFault, Rl1, Rl2, release, assign, with_source, ReceiveFault, Rc1, Rc2, Rc3, Rc4, Receives}
+use Rattle.machine.specs.Outcome.{Place, OfKind, OfHold, NotReceived, Status, Received, Already, RefusedId, Assigned, Unknown, Held, Replaced, Released, Line, StatusLine}
+use Rattle.machine.specs.Runs.{Runs}
+
+-- the zone that is answered, or else the one that was there
+abbrev pub or_same : {E : Type 0} → Global → Result Global E → Global
+or_same g (Ok new) = new
+or_same g (Err why) = g
+
+-- the type of a received SYSMOD
+abbrev pub place_of : Global → Id → Place
+place_of g x = option_map_or (λ s. OfKind s.kind) (sysmod_of g x) NotReceived
+
+-- the SYSMOD with the source that the command adds, if it adds one
+abbrev pub sourced : Option Text → Sysmod → Sysmod
+sourced None s = s
+sourced (Some source) s = with_source source s
+
+abbrev pub receive_status : Result Global ReceiveFault → Status
+receive_status (Ok new) = Received
+receive_status (Err Rc1) = Already
+receive_status (Err Rc2) = RefusedId refusal.Rc2
+receive_status (Err Rc3) = RefusedId refusal.Rc3
+receive_status (Err Rc4) = RefusedId refusal.Rc4
+
+-- one id of an ++ASSIGN: the source is added where it is received
+abbrev pub AssignsId : Text → Global → Id → Global → List Line → Type 0
+AssignsId source g x new lines =
+    (new ≡ assign g source x)
+    × (lines ≡ StatusLine x (place_of g x) (if is_received g x then Assigned source else Unknown) ∷ [])
+
+-- an item of PTFIN. The line of a SYSMOD has its own type, also where it is refused.
+abbrev pub TakesItem : Option Text → Global → Item → Global → List Line → Type 0
+TakesItem source g (ASysmod s) new lines =
+    (answer : Result Global ReceiveFault) × Receives g (sourced source s) answer
+    × (new ≡ or_same g answer) × (lines ≡ StatusLine s.id (OfKind s.kind) (receive_status answer) ∷ [])
+TakesItem source g (AnAssign a) new lines = Runs (AssignsId a.source) g a.to new lines
+
+abbrev pub hold_status : Global → Hold → Status
+hold_status g h = if is_replacing g h then Replaced h.reason else Held h.reason
+
+abbrev pub release_status : Release → Result Global ReleaseFault → Status
+release_status r (Ok new) = Released r.reason
+release_status r (Err Rl1) = RefusedId refusal.Rl1
+release_status r (Err Rl2) = RefusedId refusal.Rl2
+
+-- an item of the hold file, in whose line the hold's kind stands in place of the type
+abbrev pub TakesHoldItem : Global → HoldItem → Global → List Line → Type 0
+TakesHoldItem g (AHold h) new lines =
+    (new ≡ hold g h) × (lines ≡ StatusLine h.id (OfHold h.kind) (hold_status g h) ∷ [])
+TakesHoldItem g (ARelease r) new lines =
+    (new ≡ or_same g (release g r)) × (lines ≡ StatusLine r.id (OfHold r.kind) (release_status r (release g r)) ∷ [])

@@ -1,0 +1,114 @@
+-- The form of each command: its word, its operands and its value (SMP/E Commands: SET, RECEIVE, REJECT, APPLY, ACCEPT, RESTORE, LIST, REPORT).
+use Rattle.std.specs.Prelude.{◌≡◌, ◌≤◌, Bool, true, false, List, [], ◌∷◌, Option, Some, None, IsSomeAnd, codes}
+use Rattle.terms.specs.declared.codes.CommandWord.{CommandWord}
+use Rattle.terms.specs.declared.codes.CommandWord.TheVariants as word
+use Rattle.terms.specs.Types.{Text, NoReason, Bypass, Selection, Install, RestoreList, RestoreSelect, RestoreGroup, ReceiveWhat, Command, Set, Receive, Reject, Apply, Accept, Restore, ListZone, Report}
+use Rattle.terms.specs.Statement.{Piece, TheWord}
+use Rattle.terms.specs.Spelling.{word_text}
+use Rattle.terms.specs.Forms.{IsId, IsSource, IsZoneName}
+use Rattle.terms.specs.Words.{IsShort, Word, HasWords}
+use Rattle.terms.specs.Operands.{operand, AreOperands, HasSorted, HasRequired, HasOptional, HasTexts, HasFlag}
+
+-- the operands of APPLY and ACCEPT
+abbrev pub install_operands : List Text
+install_operands =
+    codes "FUNCTIONS" ∷ codes "PTFS" ∷ codes "APARS" ∷ codes "USERMODS" ∷ codes "SELECT" ∷ codes "EXCLUDE"
+    ∷ codes "SOURCEID" ∷ codes "FORFMID" ∷ codes "GROUP" ∷ codes "GROUPEXTEND" ∷ codes "CHECK" ∷ []
+
+-- the operands that a command may have
+abbrev pub operands_of : CommandWord → List Text
+operands_of word.Set = codes "BDY" ∷ []
+operands_of word.Receive = codes "SYSMODS" ∷ codes "HOLDDATA" ∷ codes "SOURCEID" ∷ []
+operands_of word.Reject = codes "SELECT" ∷ []
+operands_of word.Apply = install_operands
+operands_of word.Accept = install_operands
+operands_of word.Restore = codes "SELECT" ∷ codes "GROUP" ∷ codes "CHECK" ∷ []
+operands_of word.List = codes "TEXT" ∷ []
+operands_of word.Report = codes "ERRSYSMODS" ∷ []
+
+-- the word that a command begins with
+abbrev pub command_word : Command → CommandWord
+command_word (Set zone) = word.Set
+command_word (Receive what) = word.Receive
+command_word (Reject ids) = word.Reject
+command_word (Apply i) = word.Apply
+command_word (Accept i) = word.Accept
+command_word (Restore ids check) = word.Restore
+command_word (ListZone text) = word.List
+command_word Report = word.Report
+
+-- an operand with a list that is no longer than the limit; where it is absent, the list is empty
+abbrev pub HasShort : (Text → Type 0) → Option Word → List Text → Type 0
+HasShort form found values = HasTexts form found values × IsShort values
+
+-- an operand with such a list that must be there
+abbrev pub HasSome : (Text → Type 0) → Option Word → List Text → Type 0
+HasSome form found values = IsSomeAnd found (λ w. HasSorted form w values) × IsShort values
+
+-- SYSMODS and HOLDDATA of RECEIVE; neither of them means both
+abbrev pub BothOrNamed : Option Word → Option Word → Bool → Bool → Type 0
+BothOrNamed None None sysmods holddata = (sysmods ≡ true) × (holddata ≡ true)
+BothOrNamed (Some w) holds sysmods holddata = HasFlag (Some w) sysmods × HasFlag holds holddata
+BothOrNamed None (Some w) sysmods holddata = HasFlag None sysmods × HasFlag (Some w) holddata
+
+pub record HasReceive (words : List Word) (what : ReceiveWhat) : Type 0 where
+  pub both : BothOrNamed (operand (codes "SYSMODS") words) (operand (codes "HOLDDATA") words) what.sysmods what.holddata
+  pub source : HasOptional IsSource (operand (codes "SOURCEID") words) what.source
+
+-- the operands by which APPLY and ACCEPT choose
+pub record HasSelection (words : List Word) (s : Selection) : Type 0 where
+  pub functions : HasFlag (operand (codes "FUNCTIONS") words) s.functions
+  pub ptfs : HasFlag (operand (codes "PTFS") words) s.ptfs
+  pub apars : HasFlag (operand (codes "APARS") words) s.apars
+  pub usermods : HasFlag (operand (codes "USERMODS") words) s.usermods
+  pub select : HasShort IsId (operand (codes "SELECT") words) s.select
+  pub exclude : HasShort IsId (operand (codes "EXCLUDE") words) s.exclude
+  pub sourceid : HasShort IsSource (operand (codes "SOURCEID") words) s.sourceid
+  pub forfmid : HasShort IsId (operand (codes "FORFMID") words) s.forfmid
+  pub group : HasShort IsId (operand (codes "GROUP") words) s.group
+  pub groupextend : HasFlag (operand (codes "GROUPEXTEND") words) s.groupextend
+
+-- nothing is bypassed
+abbrev pub no_bypass : Bypass
+no_bypass = record {
+  pre = false;
+  req = false;
+  ifreq = false;
+  same_id = false;
+  applycheck = false;
+  holderror = NoReason;
+  holdsystem = NoReason;
+  holduser = NoReason;
+  holdclass = [];
+}
+
+-- APPLY and ACCEPT. BYPASS is no operand yet.
+pub record HasInstall (words : List Word) (i : Install) : Type 0 where
+  pub selection : HasSelection words i.selection
+  pub bypass : i.bypass ≡ no_bypass
+  pub check : HasFlag (operand (codes "CHECK") words) i.check
+
+-- SELECT or GROUP of RESTORE, and not both
+abbrev pub HasRestoreList : List Word → RestoreList → Type 0
+HasRestoreList words (RestoreSelect ids) = (operand (codes "GROUP") words ≡ None) × HasSome IsId (operand (codes "SELECT") words) ids
+HasRestoreList words (RestoreGroup ids) = (operand (codes "SELECT") words ≡ None) × HasSome IsId (operand (codes "GROUP") words) ids
+
+-- the command has the values that these operands give it
+abbrev pub HasOperands : List Word → Command → Type 0
+HasOperands words (Set zone) = HasRequired IsZoneName (operand (codes "BDY") words) zone
+HasOperands words (Receive what) = HasReceive words what
+HasOperands words (Reject ids) = HasSome IsId (operand (codes "SELECT") words) ids
+HasOperands words (Apply i) = HasInstall words i
+HasOperands words (Accept i) = HasInstall words i
+HasOperands words (Restore ids check) = HasRestoreList words ids × HasFlag (operand (codes "CHECK") words) check
+HasOperands words (ListZone text) = HasFlag (operand (codes "TEXT") words) text
+HasOperands words Report = HasFlag (operand (codes "ERRSYSMODS") words) true
+
+-- The pieces are a command: its word, which has no list, and known operands, each at most once.
+pub record IsCommand (pieces : List Piece) (c : Command) : Type 0 where
+  pub rest : List Piece
+  pub words : List Word
+  pub begins : pieces ≡ TheWord (word_text (command_word c)) ∷ rest
+  pub has_words : HasWords rest words
+  pub are_operands : AreOperands (operands_of (command_word c)) words
+  pub has_operands : HasOperands words c

@@ -1,0 +1,80 @@
+-- The commands of a command file, and its first fault.
+use Rattle.std.specs.Prelude.{◌≡◌, ℕ, Bool, true, false, List, [], ◌∷◌, not, if◌then◌else◌, count_by, nat_le, codes, ◌⊎◌}
+use Rattle.std.specs.List.{list_any}
+use Rattle.std.specs.Str.{bytes_eq}
+use Rattle.terms.specs.declared.codes.CommandWord.{CommandWord}
+use Rattle.terms.specs.declared.codes.CommandWord.TheVariants as word
+use Rattle.terms.specs.declared.codes.CnCode.{CnCode}
+use Rattle.terms.specs.declared.codes.CnCode.TheVariants.{Cn1, Cn2, Cn3, Cn4, Cn5}
+use Rattle.terms.specs.Types.{Text, Command}
+use Rattle.terms.specs.Lookups.{is_in}
+use Rattle.terms.specs.Spelling.{word_text}
+use Rattle.terms.specs.Records.{HasRecords, IsRecFault, RecFault, rec_fault_record}
+use Rattle.terms.specs.Statement.{Piece, TheWord, joined, IsIdle, StFault}
+use Rattle.terms.specs.CommandCuts.{TakesCommand, IsCutFault}
+use Rattle.terms.specs.CommandForms.{operands_of, IsCommand}
+
+-- a fault of the command file, with the number of the record where the command begins
+pub record CntlFault : Type 0 where
+  pub number : ℕ
+  pub code : CnCode
+
+-- The records, which count from n, begin with these commands, and the rest follows, which counts from m.
+abbrev pub BeginsWithCommands : ℕ → List (List ℕ) → List Command → ℕ → List (List ℕ) → Type 0
+BeginsWithCommands n records [] m rest = (n ≡ m) × (records ≡ rest)
+BeginsWithCommands n records (c ∷ cs) m rest =
+    (pieces : List Piece) × (number next : ℕ) × (after : List (List ℕ))
+    × TakesCommand n records pieces number next after × IsCommand pieces c × BeginsWithCommands next after cs m rest
+
+-- The file is these commands, with blanks and comments behind the last one.
+abbrev pub IsCommandFile : List ℕ → List Command → Type 0
+IsCommandFile bytes cs = (records rest : List (List ℕ)) × (m : ℕ)
+    × HasRecords bytes records × BeginsWithCommands 1 records cs m rest × IsIdle (joined rest)
+
+-- the words outside parentheses
+abbrev pub words_in : List Piece → List Text
+words_in [] = []
+words_in (TheWord text ∷ ps) = text ∷ words_in ps
+words_in (_ ∷ ps) = words_in ps
+
+-- whether the word is there twice or more often
+abbrev pub is_twice : List Piece → Text → Bool
+is_twice pieces name = nat_le 2 (count_by (bytes_eq name) (words_in pieces))
+
+-- whether a known operand of the command is there twice
+abbrev pub has_double : CommandWord → List Piece → Bool
+has_double w pieces = list_any (is_twice pieces) (operands_of w)
+
+-- RESTORE has both SELECT and GROUP, or none of them.
+abbrev pub is_unchosen : CommandWord → List Piece → Bool
+is_unchosen word.Restore pieces =
+    if is_in (words_in pieces) (codes "SELECT") then is_in (words_in pieces) (codes "GROUP") else not (is_in (words_in pieces) (codes "GROUP"))
+is_unchosen _ pieces = false
+
+-- the pieces begin with that command's word
+abbrev pub BeginsWith : List Piece → CommandWord → List Piece → Type 0
+BeginsWith pieces w rest = pieces ≡ TheWord (word_text w) ∷ rest
+
+-- What is wrong with a command that ends well. The first that applies of Cn1, Cn3, Cn4 and Cn2 is answered.
+abbrev pub IsCommandFault : List Piece → CnCode → Type 0
+IsCommandFault pieces Cn1 = (w : CommandWord) (rest : List Piece) → BeginsWith pieces w rest → ⊥
+IsCommandFault pieces Cn3 = (w : CommandWord) × (rest : List Piece) × BeginsWith pieces w rest × (has_double w rest ≡ true)
+IsCommandFault pieces Cn4 = (w : CommandWord) × (rest : List Piece) × BeginsWith pieces w rest × (has_double w rest ≡ false)
+    × (is_unchosen w rest ≡ true)
+IsCommandFault pieces Cn2 = (w : CommandWord) × (rest : List Piece) × BeginsWith pieces w rest × (has_double w rest ≡ false)
+    × (is_unchosen w rest ≡ false) × ((c : Command) → IsCommand pieces c → ⊥)
+IsCommandFault pieces Cn5 = ⊥
+
+-- The first command of the records, which count from n, is at fault.
+abbrev pub IsNextFault : ℕ → List (List ℕ) → CntlFault → Type 0
+IsNextFault n records fault =
+    ((fault.code ≡ Cn5) × (why : StFault) × IsCutFault n records fault.number why)
+    ⊎ ((pieces : List Piece) × (m : ℕ) × (rest : List (List ℕ)) × TakesCommand n records pieces fault.number m rest
+    × IsCommandFault pieces fault.code)
+
+-- The first fault of a command file: of its records, or of the command behind good ones.
+abbrev pub IsCommandFileFault : List ℕ → CntlFault → Type 0
+IsCommandFileFault bytes fault =
+    ((fault.code ≡ Cn5) × (r : RecFault) × IsRecFault bytes r × (fault.number ≡ rec_fault_record r))
+    ⊎ ((records rest : List (List ℕ)) × (cs : List Command) × (m : ℕ)
+    × HasRecords bytes records × BeginsWithCommands 1 records cs m rest × IsNextFault m rest fault)

@@ -1,0 +1,42 @@
+-- Why candidates that are not kept are not: the needs that stay open, and the causers. APPLY and ACCEPT, and RESTORE, each have
+-- their own eligible ids, needs and what serves a need. (Causers are this project's; SMP/E's CAUSER SYSMOD report is their model.)
+use Rattle.std.specs.Prelude.{◌≡◌, ◌⊎◌, List, [], ◌∷◌, Contains}
+use Rattle.terms.specs.declared.codes.NeedKind.{NeedKind}
+use Rattle.terms.specs.Types.{Id}
+
+module _ (cands kept : List Id) (Eligible : Id → Type 0) (Needs : Id → NeedKind → Id → Type 0) (Serves : NeedKind → Id → Id → Type 0) where
+  -- x is a candidate and not kept
+  pub record HasFailed (x : Id) : Type 0 where
+    pub cand : Contains cands x
+    pub not_kept : ¬ Contains kept x
+
+  -- x needs z, and nothing kept serves that
+  pub record IsOpenNeed (x : Id) (kind : NeedKind) (z : Id) : Type 0 where
+    pub needs : Needs x kind z
+    pub unserved : (y : Id) → Contains kept y → ¬ Serves kind y z
+
+  -- x has failed, and the candidate y serves an open need of it
+  pub record LeadsTo (x y : Id) : Type 0 where
+    pub failed : HasFailed x
+    pub cand : Contains cands y
+    pub serves : (kind : NeedKind) × (z : Id) × IsOpenNeed x kind z × Serves kind y z
+
+  -- the steps lead from x to y
+  abbrev pub Steps : Id → List Id → Id → Type 0
+  Steps x [] y = x ≡ y
+  Steps x (w ∷ ws) y = LeadsTo x w × Steps w ws y
+
+  -- x has a need that no candidate serves
+  abbrev pub HasBareNeed : Id → Type 0
+  HasBareNeed x = (kind : NeedKind) × (z : Id) × Needs x kind z × ((y : Id) → Contains cands y → ¬ Serves kind y z)
+
+  -- a root has failed, and is not eligible or has a need that no candidate serves
+  pub record IsRoot (x : Id) : Type 0 where
+    pub failed : HasFailed x
+    pub why : (¬ Eligible x) ⊎ HasBareNeed x
+
+  -- y is a root that x reaches, perhaps by no step
+  pub record IsCauser (x y : Id) : Type 0 where
+    pub root : IsRoot y
+    pub steps : List Id
+    pub reaches : Steps x steps y

@@ -1,0 +1,51 @@
+-- Operands of statements and commands: each a word, most with a list (SMP/E Reference and Commands: syntax of MCS and commands).
+use Rattle.std.specs.Prelude.{◌≡◌, ◌≢◌, ◌↔◌, Bool, true, false, List, [], All, AllPairs, Contains, Option, Some, None, IsSomeAnd, IsTrue, find}
+use Rattle.std.specs.Str.{bytes_eq}
+use Rattle.terms.specs.Types.{Text}
+use Rattle.terms.specs.Lookups.{is_in, IsRising}
+use Rattle.terms.specs.Words.{Word, IsListOf, IsOneOf}
+
+-- the operand of that name, if it is there
+abbrev pub operand : Text → List Word → Option Word
+operand name words = find (λ w. bytes_eq w.word name) words
+
+-- operands of these names alone, each at most once, in any order
+pub record AreOperands (names : List Text) (words : List Word) : Type 0 where
+  pub known : All (λ w. IsTrue (is_in names w.word)) words
+  pub once : AllPairs (λ a b. a.word ≢ b.word) words
+
+-- the same texts in rising order, each once
+pub record AreSorted (texts sorted : List Text) : Type 0 where
+  pub rising : IsRising sorted
+  pub same : (x : Text) → Contains sorted x ↔ Contains texts x
+
+-- the word's list has this one member
+abbrev pub HasOne : (Text → Type 0) → Word → Text → Type 0
+HasOne form w value = IsSomeAnd w.list (λ text. IsOneOf form text value)
+
+-- the word's list has these members, in the list's order
+abbrev pub HasListed : (Text → Type 0) → Word → List Text → Type 0
+HasListed form w values = IsSomeAnd w.list (λ text. IsListOf form text values)
+
+-- the word's list has these members, which rise here
+abbrev pub HasSorted : (Text → Type 0) → Word → List Text → Type 0
+HasSorted form w values = (listed : List Text) × HasListed form w listed × AreSorted listed values
+
+-- an operand that must be there
+abbrev pub HasRequired : (Text → Type 0) → Option Word → Text → Type 0
+HasRequired form found value = IsSomeAnd found (λ w. HasOne form w value)
+
+-- an operand with one value, which may be absent
+abbrev pub HasOptional : (Text → Type 0) → Option Word → Option Text → Type 0
+HasOptional form None value = value ≡ None
+HasOptional form (Some w) value = IsSomeAnd value (λ text. HasOne form w text)
+
+-- an operand with a list; where it is absent, the list is empty
+abbrev pub HasTexts : (Text → Type 0) → Option Word → List Text → Type 0
+HasTexts form None values = values ≡ []
+HasTexts form (Some w) values = HasSorted form w values
+
+-- an operand without a list
+abbrev pub HasFlag : Option Word → Bool → Type 0
+HasFlag None flag = flag ≡ false
+HasFlag (Some w) flag = (flag ≡ true) × (w.list ≡ None)
