@@ -1,0 +1,52 @@
+//! Values of columns.
+
+ghost use Rattle.std.specs.Prelude.{◌≡◌, IfOk};
+ghost use Rattle.std.specs.List.{join_with_byte};
+ghost use Rattle.sqlite.specs.Values.{or_null};
+ghost use Rattle.sqlite.specs.declared.types.Value.TheVariants.{Text};
+ghost use Rattle.sqlite_value.specs.Value.{owned};
+
+use fields::{Id, Source};
+use sqlite_value::value::ValueRef;
+use std::alloc::{AllocError, Global};
+
+/// The ids, with a comma between each two.
+pub(crate) fn joined_ids(alloc: Global, ids: &[Id]) -> Result<Vec<u8>, AllocError>
+    ensures { IfOk result (λ text. text.items ≡ join_with_byte 44 ids.now) }
+{
+    let mut text = Vec::new(alloc);
+    let Some((first, rest)) = ids.split_first() else {
+        return Ok(text);
+    };
+    text.extend_from_slice(first.as_bytes())?;
+    for id in rest {
+        text.push(b',')?;
+        text.extend_from_slice(id.as_bytes())?;
+    }
+    Ok(text)
+}
+
+/// The sources, with a comma between each two.
+pub(crate) fn joined_sources(alloc: Global, sources: &[Source]) -> Result<Vec<u8>, AllocError>
+    ensures { IfOk result (λ text. text.items ≡ join_with_byte 44 sources.now) }
+{
+    let mut text = Vec::new(alloc);
+    let Some((first, rest)) = sources.split_first() else {
+        return Ok(text);
+    };
+    text.extend_from_slice(first.as_bytes())?;
+    for source in rest {
+        text.push(b',')?;
+        text.extend_from_slice(source.as_bytes())?;
+    }
+    Ok(text)
+}
+
+pub(crate) fn id_value(id: &Option<Id>) -> ValueRef<'_>
+    ensures { owned result ≡ or_null Text id.now }
+{
+    match id {
+        Some(id) => ValueRef::Text(id.as_bytes()),
+        None => ValueRef::Null,
+    }
+}
