@@ -9,3 +9,6 @@ mod write;
 
 pub use change::Change;
 pub use open::Store;
+
+#[cfg(test)]
+mod tests;
