@@ -30,4 +30,6 @@ pub mod Kept
 pub mod Judged
 pub mod Install
 pub mod Failures
+pub mod Restore
+pub mod Closed
 pub mod KeyedMaps
