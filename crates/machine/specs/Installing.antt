@@ -1,6 +1,6 @@
 -- What APPLY and ACCEPT make of a zone, and what they print of each id.
 -- (IBM z/OS SMP/E Commands, APPLY and ACCEPT processing. The lines are this project's.)
-use Rattle.std.specs.Prelude.{◌≡◌, ◌≢◌, ◌⊎◌, ◌↔◌, Bool, List, [], ◌∷◌, Option, None, Some, IsTrue, Contains, filter, map}
+use Rattle.std.specs.Prelude.{◌≡◌, ◌↔◌, Bool, List, [], ◌∷◌, Option, Some, IsTrue, Contains, filter, map}
 use Rattle.std.specs.List.{flat_map}
 use Rattle.terms.specs.declared.kinds.ZoneKind.{ZoneKind}
 use Rattle.terms.specs.declared.kinds.ZoneKind.TheVariants.{Target, Distribution}
@@ -19,7 +19,7 @@ use Rattle.terms.specs.Candidates.{AreCandidates, not_chosen}
 use Rattle.terms.specs.Judged.{setting, IsKeptSet}
 use Rattle.terms.specs.Failures.{IsOpenNeed, IsCauser}
 use Rattle.terms.specs.Install.{Installing, IsInstalled, Installs}
-use Rattle.machine.specs.Outcome.{Status, Already, Applied, Accepted, Superseded, Failed, Failure, OpenNeed, Deleted, Missing, NoVer, NotApplied, Line, StatusLine}
+use Rattle.machine.specs.Outcome.{Status, Already, Applied, Accepted, Superseded, Failed, Failure, Deleted, Missing, NoVer, NotApplied, Line, StatusLine}
 use Rattle.machine.specs.Receiving.{place_of}
 
 -- the tests by their numbers, and the kinds of needs, in the order of reports

@@ -1,6 +1,6 @@
 -- The machine's state, where a command may run, and how zones are defined.
 -- (IBM z/OS SMP/E Commands, the SET command; Reference, the GLOBALZONE, TARGETZONE and DLIBZONE entries.)
-use Rattle.std.specs.Prelude.{◌≡◌, ◌≤◌, ◌&&◌, ◌||◌, ◌==◌, ℕ, Bool, false, not, List, [], ◌∷◌, length, find, map, option_map, Option, None, Some, is_some, Result, Ok, Err, codes, nat_le, if◌then◌else◌}
+use Rattle.std.specs.Prelude.{◌&&◌, ◌||◌, ◌==◌, Bool, false, not, List, [], length, find, option_map, Option, None, Some, is_some, Result, Ok, Err, codes, nat_le, if◌then◌else◌}
 use Rattle.std.specs.List.{list_any}
 use Rattle.std.specs.Option.{option_map_or, option_and_then}
 use Rattle.std.specs.Str.{bytes_eq}
