@@ -18,7 +18,7 @@ is_eq-then Less s = refl
 is_eq-then Equal s = refl
 is_eq-then Greater s = refl
 
-number_back : (a b : HoldKind) → is_eq (nat_cmp (hold_number a) (hold_number b)) ≡ (hold_number b == hold_number a)
+pub number_back : (a b : HoldKind) → is_eq (nat_cmp (hold_number a) (hold_number b)) ≡ (hold_number b == hold_number a)
 number_back a b = by (hold_number a) (hold_number b)
   where
     by : (m n : ℕ) → is_eq (nat_cmp m n) ≡ (n == m)

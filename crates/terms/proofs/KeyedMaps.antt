@@ -190,3 +190,13 @@ module _ {X K : Type 0} {C : K → K → Ordering} (o : IsTotalOrder C) (key : X
           let same : e.1 ≡ old = cc in
           rw (c, c) (ap (λ v. (e.0, v) ∷ es) (sym same))
       by again Greater c = let rest = rw c at some in rw (c, c) (ap (λ fs. e ∷ fs) (again rest))
+
+  -- what was put is found
+  pub lookup-inserted : (es : List (K × X)) (k : K) (v : X) → lookup (is_at (C k)) (insert_entry C es k v) ≡ Some v
+  lookup-inserted [] k v = rw (tied_itself o k) refl
+  lookup-inserted (e ∷ es) k v = by (lookup-inserted es k v) (C k e.0) refl
+    where
+      by : lookup (is_at (C k)) (insert_entry C es k v) ≡ Some v → (c : Ordering) → C k e.0 ≡ c → lookup (is_at (C k)) (insert_entry C (e ∷ es) k v) ≡ Some v
+      by again Less c = rw (c, tied_itself o k) refl
+      by again Equal c = rw (c, c) refl
+      by again Greater c = rw (c, c) again

@@ -66,7 +66,7 @@ module _ (ids kept : List Id) (E : Id → Type 0) (N : Id → NeedKind → Id �
       let there : Contains d.any (slice_index_or d.any k m) = contains_at d.any k (slice_index_or d.any k m) (slice_get-get_or d.any k m below) in
       let y = id_of d i at (slice_index_or d.any k m) there in
       not_true (holds flags (slice_index_or d.any k m)) (λ t.
-          unserved y.0 ((same (slice_index_or d.any k m) y.0 y.1).1 t) (((h.demands i d (kind, z) at need).any (slice_index_or d.any k m) y.0 y.1).0 there))
+      unserved y.0 ((same (slice_index_or d.any k m) y.0 y.1).1 t) (((h.demands i d (kind, z) at need).any (slice_index_or d.any k m) y.0 y.1).0 there))
 
   unserved_ids : (d : Demand) (i : ℕ) (kind : NeedKind) (z : Id) → slice_get p.demands i ≡ Some d → slice_get needed i ≡ Some (kind, z)
       → ((y : Id) → Contains kept y → Contains ids y) → All (λ k. holds flags k ≡ false) d.any → (y : Id) → Contains kept y → ¬ S kind y z
@@ -93,9 +93,10 @@ module _ (ids kept : List Id) (E : Id → Type 0) (N : Id → NeedKind → Id �
   leads_number n m x y at_x at_y leads =
       let s = leads.serves in
       let a = h.all n x s.1 s.0 at_x s.2.needs in
-      let listed = ((h.demands a.0 a.1 (s.0, s.1) a.2 a.3).any m y at_y).1 s.3 in
-      (failed_number n x at_x leads.failed,
-       any_at (numbered.LeadsBy flags n m) p.demands a.0 a.1 a.2 (a.4, unserved_numbers a.1 a.0 s.0 s.1 a.2 a.3 s.2.unserved, listed))
+      let listed = ((h.demands a.0 a.1 (s.0, s.1) a.2 a.3).any m y at_y).1 s.3 in (
+        failed_number n x at_x leads.failed,
+        any_at (numbered.LeadsBy flags n m) p.demands a.0 a.1 a.2 (a.4, unserved_numbers a.1 a.0 s.0 s.1 a.2 a.3 s.2.unserved, listed),
+      )
 
   module _ (within : (y : Id) → Contains kept y → Contains ids y) where
     pub leads_id : (n m : ℕ) (x y : Id) → slice_get ids n ≡ Some x → slice_get ids m ≡ Some y → numbered.LeadsTo p flags n m → LeadsTo ids kept E N S x y
@@ -105,12 +106,15 @@ module _ (ids kept : List Id) (E : Id → Type 0) (N : Id → NeedKind → Id �
         record {
           failed = failed_id n x at_x leads.0;
           cand = contains_at ids m y at_y;
-          serves = (need.0, need.1,
+          serves = (
+            need.0,
+            need.1,
             record {
               needs = need_is a.1 a.0 n x need.1 need.0 a.2 need.2 a.3.0 at_x;
               unserved = unserved_ids a.1 a.0 need.0 need.1 a.2 need.2 within a.3.1;
             },
-            ((h.demands a.0 a.1 (need.0, need.1) a.2 need.2).any m y at_y).0 a.3.2);
+            ((h.demands a.0 a.1 (need.0, need.1) a.2 need.2).any m y at_y).0 a.3.2,
+          );
         }
 
     -- the number that a number leads to has an id
@@ -128,20 +132,25 @@ module _ (ids kept : List Id) (E : Id → Type 0) (N : Id → NeedKind → Id �
     bare_id : (n : ℕ) (x : Id) → slice_get ids n ≡ Some x → numbered.HasBareNeed p n → HasBareNeed ids kept E N S x
     bare_id n x at_x bare =
         let a = any_found (λ d. (d.of ≡ n) × (d.any ≡ [])) p.demands bare in
-        let need = need_of a.1 a.0 a.2 in
-        (need.0, need.1, need_is a.1 a.0 n x need.1 need.0 a.2 need.2 a.3.0 at_x,
-         λ y there serves.
-             let place = found_at ids y there in
-             let listed = ((h.demands a.0 a.1 (need.0, need.1) a.2 need.2).any place.0 y place.1).1 serves in
-             absurd (omega (arith, subst (λ l. listed.0 < length l) a.3.1 listed.1)))
+        let need = need_of a.1 a.0 a.2 in (
+          need.0,
+          need.1,
+          need_is a.1 a.0 n x need.1 need.0 a.2 need.2 a.3.0 at_x,
+          λ y there serves.
+              let place = found_at ids y there in
+              let listed = ((h.demands a.0 a.1 (need.0, need.1) a.2 need.2).any place.0 y place.1).1 serves in
+              absurd (omega (arith, subst (λ l. listed.0 < length l) a.3.1 listed.1)),
+        )
 
     bare_number : (n : ℕ) (x : Id) → slice_get ids n ≡ Some x → HasBareNeed ids kept E N S x → numbered.HasBareNeed p n
     bare_number n x at_x bare =
         let a = h.all n x bare.1 bare.0 at_x bare.2 in
-        any_at (λ d. (d.of ≡ n) × (d.any ≡ [])) p.demands a.0 a.1 a.2
-            (a.4, none_within a.1.any (λ m there.
-                let y = id_of a.1 a.0 a.2 m there in
-                bare.3 y.0 (contains_at ids m y.0 y.1) (((h.demands a.0 a.1 (bare.0, bare.1) a.2 a.3).any m y.0 y.1).0 there)))
+        any_at (λ d. (d.of ≡ n) × (d.any ≡ [])) p.demands a.0 a.1 a.2 (
+          a.4,
+          none_within a.1.any (λ m there.
+              let y = id_of a.1 a.0 a.2 m there in
+              bare.3 y.0 (contains_at ids m y.0 y.1) (((h.demands a.0 a.1 (bare.0, bare.1) a.2 a.3).any m y.0 y.1).0 there)),
+        )
 
     root_id : (n : ℕ) (x : Id) → slice_get ids n ≡ Some x → numbered.IsRoot p flags n → IsRoot ids kept E N S x
     root_id n x at root = record {

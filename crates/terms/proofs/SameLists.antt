@@ -69,8 +69,10 @@ module _ {X K : Type 0} {R : K → K → Ordering} (o : IsTotalOrder R) (key : X
     where
       at_x : find (λ v. E (key v) (key x)) (y ∷ ys) ≡ Some x
       at_x = sym (same (key x)) ∙ first x xs
+
       at_y : find (λ v. E (key v) (key y)) (x ∷ xs) ≡ Some y
       at_y = same (key y) ∙ first y ys
+
       by_tie : (b : Bool) → E (key y) (key x) ≡ b → (c : Bool) → E (key x) (key y) ≡ c → x ≡ y
       by_tie true e c f = let is : Some y ≡ Some x = sym (ap (λ b. cond b (Some y) (find (λ v. E (key v) (key x)) ys)) e) ∙ at_x in cc is
       by_tie false e true f = let is : Some x ≡ Some y = sym (ap (λ b. cond b (Some x) (find (λ v. E (key v) (key y)) xs)) f) ∙ at_y in cc is

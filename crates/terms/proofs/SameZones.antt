@@ -70,7 +70,7 @@ same_entry a b za zb x date supby delby waived = by_found (entry_of a x) refl (e
         let id_e = same_from e.id x (find-gives (λ v. bytes_eq v.id x) a.entries e at).0 in
         let id_f = same_from f.id x (find-gives (λ v. bytes_eq v.id x) b.entries f to).0 in
         at ∙ ap (λ v. Some v) (entry_fields e f (id_e ∙ sym id_f)
-            (sym (ap (option_and_then (λ v. v.applied)) at) ∙ date ∙ ap (option_and_then (λ v. v.applied)) to)
-            (sym (ap (λ o. option_map_or (λ v. v.supby) o []) at) ∙ supby ∙ ap (λ o. option_map_or (λ v. v.supby) o []) to)
-            (sym (ap (option_and_then (λ v. v.delby)) at) ∙ delby ∙ ap (option_and_then (λ v. v.delby)) to)
-            (sym (ap (λ o. option_map_or (λ v. v.waived) o []) at) ∙ waived ∙ ap (λ o. option_map_or (λ v. v.waived) o []) to)) ∙ sym to
+        (sym (ap (option_and_then (λ v. v.applied)) at) ∙ date ∙ ap (option_and_then (λ v. v.applied)) to)
+        (sym (ap (λ o. option_map_or (λ v. v.supby) o []) at) ∙ supby ∙ ap (λ o. option_map_or (λ v. v.supby) o []) to)
+        (sym (ap (option_and_then (λ v. v.delby)) at) ∙ delby ∙ ap (option_and_then (λ v. v.delby)) to)
+        (sym (ap (λ o. option_map_or (λ v. v.waived) o []) at) ∙ waived ∙ ap (λ o. option_map_or (λ v. v.waived) o []) to)) ∙ sym to

@@ -1,0 +1,4 @@
+pub mod Internal
+pub mod Keys
+pub mod Lists
+pub mod Undone

@@ -1,0 +1,72 @@
+//! SYSMODs that come in, are named and go.
+ghost use Rattle.std.specs.Prelude.{◌≤◌, length};
+
+use crate::Received;
+use std::alloc::Global;
+use std::test::Fail;
+use sysmods::{Id, IdList, Kind, Source, SourceList, Srel, Sysmod, Ver};
+
+fn id(text: &[u8]) -> Result<Id, &'static str> {
+    Id::read(text).ok_or("no id")
+}
+
+fn sysmod(alloc: Global, id: Id, kind: Kind, vers: Vec<Ver>) -> Sysmod
+    requires { length vers.items ≤ 1 }
+{
+    Sysmod {
+        id,
+        kind,
+        sources: SourceList::new(alloc),
+        vers,
+        changes: Vec::new(alloc),
+        holds: Vec::new(alloc),
+    }
+}
+
+fn ver(alloc: Global, srel: Srel, fmid: Option<Id>, pre: IdList) -> Ver {
+    Ver {
+        srel,
+        fmid,
+        pre,
+        req: IdList::new(alloc),
+        sup: IdList::new(alloc),
+        npre: IdList::new(alloc),
+        del: IdList::new(alloc),
+        ifs: Vec::new(alloc),
+    }
+}
+
+/// A PTF with one prerequisite.
+fn fix(alloc: Global, name: Id, fmid: Id, before: Id) -> Result<Sysmod, Fail> {
+    let srel = Srel::read(b"Z038").ok_or("no SREL")?;
+    let mut pre = IdList::new(alloc);
+    pre.insert(before)?;
+    let mut vers = Vec::new(alloc);
+    vers.push(ver(alloc, srel, Some(fmid), pre))?;
+    Ok(sysmod(alloc, name, Kind::Ptf, vers))
+}
+
+#[test]
+fn in_and_out(rt: HostRuntime) -> Result<(), Fail> {
+    let alloc = rt.alloc();
+    let (function, first, second) = (id(b"HAA1100")?, id(b"UA00001")?, id(b"UA00002")?);
+    let mut received = Received::new(alloc);
+    let none = received.insert(fix(alloc, second, function, first)?)?;
+    assert!(rt; none.is_none());
+    let base = sysmod(alloc, function, Kind::Function, Vec::new(alloc));
+    assert!(rt; received.insert(base)?.is_none());
+    let back = received.insert(fix(alloc, second, function, first)?)?;
+    assert!(rt; back.is_some());
+    assert_eq!(rt; received.len(), 2);
+    assert!(rt; received.is_named(first) && received.is_named(function));
+    assert!(rt; !received.is_named(second) && !received.is_superseded(first));
+    assert!(rt; received.is_named_as_function(function));
+    assert!(rt; !received.is_named_as_function(first));
+    received.add_source(second, Source::read(b"RSU2404").ok_or("no source")?)?;
+    let sources = received.get(second).map(|s| s.sources.len());
+    assert_eq!(rt; sources, Some(1));
+    assert!(rt; received.remove(second).is_some());
+    assert!(rt; !received.is_named(first) && received.get(second).is_none());
+    assert_eq!(rt; received.iter().count(), 1);
+    Ok(())
+}
