@@ -1,5 +1,6 @@
 -- From the rows that are written to what is committed, and what a crash leaves.
-use Rattle.std.proofs.Common.{◌≡◌, ◌≤◌, ◌++◌, IsTrue, Option, Bool, true, false, arith, sym, ap, subst}
+use Rattle.std.proofs.Common.{◌≡◌, ◌≤◌, ◌++◌, Vec, IsTrue, Option, true, false, arith, sym, ap, subst}
+use Rattle.std.specs.declared.alloc.Global.{Global as AnyGlobal}
 use Rattle.sqlite.specs.Store.{Ghosts}
 use Rattle.sqlite.specs.View.{doubt}
 use Rattle.sqlite.specs.Effect.{Database}
@@ -16,10 +17,12 @@ use Rattle.rows.specs.Rows.{HasContents}
 use Rattle.schema.specs.Inventory.{Inventory, IsInventory}
 use Rattle.schema.specs.Stands.{StandsFor, rows_of}
 use Rattle.schema.specs.Tables.{store_schema}
+use Rattle.sysmod_tables.specs.Sysmods.{ChangesGlobal}
 use Rattle.zone_tables.specs.Zones.{ChangesZone, AddsZone, empty_zone}
 use Rattle.store.specs.declared.change.Change.{Change}
-use Rattle.store.specs.declared.change.Change.TheVariants.{NewZone, Zone}
-use Rattle.store.specs.Changes.{Makes}
+use Rattle.store.specs.declared.change.Change.TheVariants.{NewZone, Zone, Global}
+use Rattle.store.specs.declared.change.GlobalEdit.{GlobalEdit}
+use Rattle.store.specs.Changes.{EachFits, after_edits, Makes}
 use Rattle.store.specs.Writes.{HasEdited, Writes, HasCommitted, IsOutcome}
 use Rattle.store.proofs.DeltaLemmas.{is_edited, zone_was}
 
@@ -33,6 +36,10 @@ module _ {S : Type 0} (g : Ghosts S) (old new : Held S) where
   pub delta_written : (name : Text) (delta : ZoneDelta) → IsDelta delta → ChangesZone g old new name (HasEdited delta) → Writes g old (Zone name delta) new
   delta_written name delta is_delta changes i j made inventory =
       changes i j made.0 made.1 made.2 (is_edited delta made.0 made.1 is_delta (zone_was name made.0 made.1 i j inventory made.2) made.3)
+
+  pub edits_written : (edits : Vec GlobalEdit AnyGlobal) → ChangesGlobal g old new (EachFits edits.items) (after_edits edits.items) → Writes g old (Global edits) new
+  edits_written edits changes i j makes inventory clean was =
+      subst (λ (k : Inventory). HasContents store_schema (rows_of k) (state g new).now) (sym makes.1) (changes i makes.0 clean was)
 
 -- `old` outside a transaction, `last` at its end, and `done` after the commit
 module _ {S : Type 0} (g : Ghosts S) (old last done : Held S) (change : Change) (settled : IsTrue (state g old).is_open → (state g old).now ≡ (state g old).committed)

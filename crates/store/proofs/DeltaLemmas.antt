@@ -1,6 +1,6 @@
 -- The edits of a zone, one after the other, and what they make of the inventory.
-use Rattle.std.proofs.Common.{◌≡◌, ℕ, ◌+◌, ◌<◌, take, length, get_or, List, [], ◌∷◌, ◌++◌, Result, OnOk, IsPermutation, refl, sym, ap, ap₂, subst, ◌∙◌}
-use Rattle.std.specs.Prelude.{All, filter, not}
+use Rattle.std.proofs.Common.{◌≡◌, ℕ, ◌+◌, ◌<◌, take, length, get_or, List, [], ◌∷◌, ◌++◌, IsPermutation, refl, sym, ap, ap₂, subst, ◌∙◌}
+use Rattle.std.specs.Prelude.{All}
 use Rattle.std.specs.Ordering.{nat_cmp}
 use Rattle.std.specs.Str.{bytes_eq}
 use Rattle.std.specs.Cmp.Lexicographic.{slice_cmp, texts_ties}
@@ -12,20 +12,21 @@ use Rattle.sqlite.specs.Held.{Held, state}
 use Rattle.terms.specs.declared.kinds.ElemType.{ElemType}
 use Rattle.terms.specs.declared.kinds.Edit.{Edit}
 use Rattle.terms.specs.declared.kinds.Edit.TheVariants.{Put, Remove}
-use Rattle.terms.specs.Types.{Text, Id, Entry, Element, Zone, NamedZone}
+use Rattle.terms.specs.Types.{Text, Id, Entry, Element, Zone}
 use Rattle.terms.specs.Lookups.{IsZone, element_cmp, element_key}
 use Rattle.terms.specs.Delta.{ZoneDelta, IsDelta, IsChanged, element_eq, after_edit}
 use Rattle.terms.proofs.Edits.{find-edited, Rises-edited}
 use Rattle.terms.proofs.ElementOrder.{element_cmp_total, element_ties}
+use Rattle.terms.proofs.SameLists.{rising_same}
 use Rattle.rows.specs.Inside.{StaysInside}
 use Rattle.rows.specs.Rows.{HasContents}
-use Rattle.rows.proofs.InsideLemmas.{leads_then, on_ok}
+use Rattle.rows.proofs.InsideLemmas.{leads_then}
 use Rattle.schema.specs.Inventory.{Inventory, IsInventory, IsZoneNamed}
 use Rattle.schema.specs.Stands.{rows_of}
 use Rattle.schema.specs.Tables.{store_schema}
 use Rattle.zone_tables.specs.Zones.{IsZoneChange, ChangesZone, HasPutEntry, HasRemovedEntry, HasPutElement, HasRemovedElement, entries_but, elements_but}
 use Rattle.store.specs.Writes.{entries_after, elements_after, HasEditedEntries, HasEditedElements, HasEdited}
-use Rattle.store.proofs.Found.{same_found, left_parts, put_parts}
+use Rattle.store.proofs.Parts.{left_parts, put_parts}
 
 -- ---- one edit
 
@@ -123,10 +124,10 @@ pub is_edited : (delta : ZoneDelta) (was is : Zone) → IsDelta delta → IsZone
 is_edited delta was is d zone c =
     let id : Entry → Id = λ e. e.id in
     let entries : is.entries ≡ entries_after was.entries delta.entries =
-    same_found nat_list_cmp_total id bytes_eq texts_ties is.entries (entries_after was.entries delta.entries) c.is_zone.entries (Rises-edited nat_list_cmp_total id delta.entries was.entries zone.entries)
+    rising_same nat_list_cmp_total id bytes_eq texts_ties is.entries (entries_after was.entries delta.entries) c.is_zone.entries (Rises-edited nat_list_cmp_total id delta.entries was.entries zone.entries)
     (λ k. c.entries k ∙ sym (find-edited nat_list_cmp_total id bytes_eq texts_ties delta.entries d.entries was.entries k)) in
     let elements : is.elements ≡ elements_after was.elements delta.elements =
-    same_found element_cmp_total element_key element_eq element_ties is.elements (elements_after was.elements delta.elements) c.is_zone.elements (Rises-edited element_cmp_total element_key delta.elements was.elements zone.elements)
+    rising_same element_cmp_total element_key element_eq element_ties is.elements (elements_after was.elements delta.elements) c.is_zone.elements (Rises-edited element_cmp_total element_key delta.elements was.elements zone.elements)
     (λ k. c.elements k.0 k.1 ∙ sym (find-edited element_cmp_total element_key element_eq element_ties delta.elements d.elements was.elements k)) in
     c.rest ∙ ap₂ (λ xs ys. record was { entries = xs; elements = ys }) entries elements
 

@@ -1,4 +1,5 @@
 mod Committing
 mod DeltaLemmas
-mod Found
+mod GlobalLemmas
+mod Parts
 mod ViewLemmas

@@ -4,10 +4,11 @@
 
 mod change;
 mod delta;
+mod global;
 mod open;
 mod write;
 
-pub use change::Change;
+pub use change::{Change, GlobalEdit};
 pub use open::Store;
 
 #[cfg(test)]

@@ -70,14 +70,14 @@ impl<S: Alter> Store<S> {
     }
 
     /// Makes the change in one transaction. It writes the rows that change, and loads none.
-    pub fn commit(&mut self, change: Change) -> Result<(), StoreError>
-        ensures ok { OnOk result ((i j : Inventory) → Makes change i j → IsInventory j → Tables S.Store self.old i → Tables S.Store self.new j) }
-        ensures durable { OnOk result ((i j : Inventory) → Makes change i j → IsInventory j → Tables S.Store self.old i → (c : Inventory) → Leaves S.Store self.new c → j ≡ c) }
+    pub fn commit(&mut self, change: &Change) -> Result<(), StoreError>
+        ensures ok { OnOk result ((i j : Inventory) → Makes change.now i j → IsInventory j → Tables S.Store self.old i → Tables S.Store self.new j) }
+        ensures durable { OnOk result ((i j : Inventory) → Makes change.now i j → IsInventory j → Tables S.Store self.old i → (c : Inventory) → Leaves S.Store self.new c → j ≡ c) }
         ensures err { OnErr result ((i : Inventory) → Tables S.Store self.old i → TablesIfOpen S.Store self.new i) }
-        ensures crash { (i j : Inventory) → Makes change i j → IsInventory j → Tables S.Store self.old i → (c : Inventory) → Leaves S.Store self.new c → Leaves S.Store self.old c ⊎ (j ≡ c) }
+        ensures crash { (i j : Inventory) → Makes change.now i j → IsInventory j → Tables S.Store self.old i → (c : Inventory) → Leaves S.Store self.new c → Leaves S.Store self.old c ⊎ (j ≡ c) }
         ensures which { IfErr result (λ e. (e ≡ StoreError.Fault) ⊎ (e ≡ StoreError.Memory)) }
     {
-        commit_change(self.alloc, &mut self.conn, &change)?;
+        commit_change(self.alloc, &mut self.conn, change)?;
         Ok(())
     }
 

@@ -4,13 +4,14 @@ ghost use Rattle.std.specs.Prelude.{◌≡◌, false, IsTrue, IfOk};
 ghost use Rattle.sqlite_disk.specs.Memory.{memory_is_usable};
 
 use super::*;
-use fields::{Id, IdList, Name, Srel, YyDdd, ZoneName};
+use fields::{Id, IdList, Name, Reason, Source, SourceList, Srel, YyDdd, ZoneName};
 use schema::StoreError;
 use sqlite::{Alter, Connection, Error, FileStore, Files, Options};
 use sqlite_disk::Memory;
 use std::alloc::Global;
 use std::test::Fail;
-use terms::{ElemType, ZoneKind};
+use sysmods::{Hold, Sysmod};
+use terms::{ElemType, HoldKind, Kind, ZoneKind};
 use text80::Line;
 use zones::{Element, Entry, ZoneDelta};
 
@@ -75,6 +76,54 @@ fn removed(alloc: Global) -> Result<ZoneDelta, Fail> {
     Ok(delta)
 }
 
+/// A PTF, from this source if there is one.
+fn ptf(alloc: Global, sysmod: &[u8], source: Option<Source>) -> Result<Sysmod, Fail> {
+    let mut sources = SourceList::new(alloc);
+    if let Some(source) = source {
+        sources.insert(source)?;
+    }
+    Ok(Sysmod {
+        id: id(sysmod)?,
+        kind: Kind::Ptf,
+        sources,
+        vers: Vec::new(alloc),
+        changes: Vec::new(alloc),
+        holds: Vec::new(alloc),
+    })
+}
+
+fn hold(sysmod: &[u8], why: &[u8]) -> Result<Hold, Fail> {
+    Ok(Hold {
+        id: id(sysmod)?,
+        kind: HoldKind::Error,
+        reason: Reason::read(why).ok_or("no reason")?,
+        fmid: id(b"HAA1100")?,
+        class: None,
+        date: None,
+        comment: None,
+        internal: false,
+    })
+}
+
+fn received(alloc: Global) -> Result<Change, Fail> {
+    let source = Source::read(b"PUT2401");
+    Ok(Change::Global(vec![in alloc;
+        GlobalEdit::InsertSysmod(ptf(alloc, b"UAA0001", None)?),
+        GlobalEdit::InsertSysmod(ptf(alloc, b"UAA0002", None)?),
+        GlobalEdit::PutHold(hold(b"UAA0001", b"AAA0009")?),
+        GlobalEdit::PutHold(hold(b"UAA0003", b"AAA0009")?),
+        GlobalEdit::ReplaceSources(ptf(alloc, b"UAA0002", source)?),
+    ]?))
+}
+
+fn rejected(alloc: Global) -> Result<Change, Fail> {
+    let reason = Reason::read(b"AAA0009").ok_or("no reason")?;
+    Ok(Change::Global(vec![in alloc;
+        GlobalEdit::RemoveHold(id(b"UAA0001")?, HoldKind::Error, reason),
+        GlobalEdit::RemoveSysmod(id(b"UAA0001")?),
+    ]?))
+}
+
 fn opened<S: Alter + Drop>(
     alloc: Global,
     conn: Connection<S>,
@@ -91,13 +140,15 @@ fn changed<S: Alter + Drop>(alloc: Global, conn: Connection<S>) -> Result<Connec
         return Err(Fail::from("open"));
     };
     let distribution = new_zone(b"DLB1", ZoneKind::Distribution, None)?;
-    committed(store.commit(distribution))?;
+    committed(store.commit(&distribution))?;
     let related = Some(zone_name(b"DLB1")?);
-    committed(store.commit(new_zone(b"TGT1", ZoneKind::Target, related)?))?;
+    committed(store.commit(&new_zone(b"TGT1", ZoneKind::Target, related)?))?;
     let target = zone_name(b"TGT1")?;
-    committed(store.commit(Change::Zone(target, installed(alloc)?)))?;
-    committed(store.commit(Change::Zone(target, removed(alloc)?)))?;
-    committed(store.commit(Change::Zone(target, ZoneDelta::new(alloc))))?;
+    committed(store.commit(&Change::Zone(target, installed(alloc)?)))?;
+    committed(store.commit(&Change::Zone(target, removed(alloc)?)))?;
+    committed(store.commit(&Change::Zone(target, ZoneDelta::new(alloc))))?;
+    committed(store.commit(&received(alloc)?))?;
+    committed(store.commit(&rejected(alloc)?))?;
     Ok(store.close())
 }
 
@@ -124,6 +175,10 @@ const ZONES: &str =
 
 const ENTRIES: &str = "SELECT zone || '/' || id || '/' || date FROM entry ORDER BY id";
 
+const SYSMODS: &str = "SELECT id || '/' || kind || '/' || sources FROM sysmod ORDER BY id";
+
+const HOLDS: &str = "SELECT id || '/' || kind || '/' || reason FROM hold ORDER BY id";
+
 const ELEMENTS: &str =
     "SELECT zone || '/' || type || '/' || name || '/' || distlib || '/' || syslib FROM zelem ORDER BY name";
 
@@ -134,6 +189,14 @@ fn in_memory(rt: HostRuntime) -> Result<(), Fail> {
     assert_eq!(rt;
         texts(alloc, &mut conn, ZONES)?.as_str(),
         "DLB1/distribution/Z038/- TGT1/target/Z038/DLB1 "
+    );
+    assert_eq!(rt;
+        texts(alloc, &mut conn, SYSMODS)?.as_str(),
+        "UAA0002/PTF/PUT2401 "
+    );
+    assert_eq!(rt;
+        texts(alloc, &mut conn, HOLDS)?.as_str(),
+        "UAA0003/ERROR/AAA0009 "
     );
     assert_eq!(rt;
         texts(alloc, &mut conn, ENTRIES)?.as_str(),
@@ -209,7 +272,7 @@ fn a_zone_that_is_not_there(rt: HostRuntime) -> Result<(), Fail> {
         return Err(Fail::from("open"));
     };
     let change = Change::Zone(zone_name(b"TGT1")?, installed(alloc)?);
-    assert_eq!(rt; store.commit(change), Err(StoreError::Fault));
+    assert_eq!(rt; store.commit(&change), Err(StoreError::Fault));
     let mut conn = store.close();
     assert_eq!(rt; texts(alloc, &mut conn, ENTRIES)?.as_str(), "");
     Ok(())

@@ -8,6 +8,7 @@ ghost use Rattle.store.specs.Writes.{Writes, HasCommitted, IsOutcome};
 
 use crate::change::Change;
 use crate::delta::write_delta;
+use crate::global::write_edits;
 use sqlite::{Alter, Connection, Error, Transaction};
 use std::alloc::Global;
 use zone_tables::insert_zone;
@@ -25,6 +26,7 @@ fn write<S: Alter>(alloc: Global, tx: &mut Transaction<'_, S>, change: &Change) 
             delta.known();
             write_delta(alloc, tx, *name, delta)
         }
+        Change::Global(edits) => write_edits(alloc, tx, edits.as_slice()),
     }
 }
 

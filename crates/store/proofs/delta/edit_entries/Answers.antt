@@ -1,8 +1,7 @@
-use Rattle.std.proofs.Common.{◌≡◌, ◌∙◌, take, arith, refl}
+use Rattle.std.proofs.Common.{◌≡◌, ◌∙◌, take, arith}
 use Rattle.std.proofs.lemmas.List.{take_all}
 use Rattle.rows.proofs.InsideLemmas.{stays_then}
-use Rattle.store.specs.Writes.{HasEditedEntries}
-use Rattle.store.proofs.DeltaLemmas.{changes_none, entries_go_on}
+use Rattle.store.proofs.DeltaLemmas.{entries_go_on}
 use Rattle.store.proofs.delta.edit_entries.Goals as goal
 
 pub loop-edit-preserved : goal.loop-edit-preserved

@@ -1,4 +1,4 @@
-use Rattle.std.proofs.Common.{◌≡◌, subst, subst₂}
+use Rattle.std.proofs.Common.{subst}
 use Rattle.rows.proofs.InsideLemmas.{on_ok}
 use Rattle.zone_tables.specs.Zones.{ChangesZone}
 use Rattle.store.specs.Writes.{HasEditedEntries, HasEditedElements}

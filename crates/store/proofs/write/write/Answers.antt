@@ -1,5 +1,5 @@
 use Rattle.rows.proofs.InsideLemmas.{on_ok}
-use Rattle.store.proofs.Committing.{zone_written, delta_written}
+use Rattle.store.proofs.Committing.{zone_written, delta_written, edits_written}
 use Rattle.store.proofs.write.write.Goals as goal
 
 pub returns-in-NewZone-clause-ok : goal.returns-in-NewZone-clause-ok
@@ -13,3 +13,9 @@ returns-in-Zone-clause-ok g c =
     let z = c.in-Zone in
     rw z.is (on_ok c.write_delta.result _ _
     (delta_written g.S.Store c.args.tx.now.conn.now c.write_delta.new.tx.conn.now z.name z.delta c.known.ensures) c.write_delta.ensures.ok)
+
+pub returns-in-Global-clause-ok : goal.returns-in-Global-clause-ok
+returns-in-Global-clause-ok g c =
+    let e = c.in-Global in
+    rw e.is (on_ok c.write_edits.result _ _
+    (λ changes. edits_written g.S.Store c.args.tx.now.conn.now c.write_edits.new.tx.conn.now e.edits (rw c.as_slice.ensures.value at changes)) c.write_edits.ensures.ok)

@@ -1,0 +1,21 @@
+use Rattle.rows.proofs.InsideLemmas.{on_ok}
+use Rattle.store.proofs.GlobalLemmas.{hold_put, hold_removed}
+use Rattle.store.proofs.global.write_edit.Goals as goal
+
+pub returns-in-PutHold-clause-ok : goal.returns-in-PutHold-clause-ok
+returns-in-PutHold-clause-ok g c =
+    rw c.in-PutHold.is (on_ok c.put_hold.result _ _ (hold_put g.S.Store c.args.tx.now.conn.now c.put_hold.new.tx.conn.now c.in-PutHold.hold) c.put_hold.ensures.ok)
+
+pub returns-in-RemoveHold-clause-ok : goal.returns-in-RemoveHold-clause-ok
+returns-in-RemoveHold-clause-ok g c =
+    let k = c.in-RemoveHold in
+    rw k.is (on_ok c.remove_hold.result _ _ (hold_removed g.S.Store c.args.tx.now.conn.now c.remove_hold.new.tx.conn.now k.id k.kind k.reason) c.remove_hold.ensures.ok)
+
+pub returns-in-InsertSysmod-clause-ok : goal.returns-in-InsertSysmod-clause-ok
+returns-in-InsertSysmod-clause-ok g c = rw c.in-InsertSysmod.is c.insert_sysmod.ensures.stands
+
+pub returns-in-ReplaceSources-clause-ok : goal.returns-in-ReplaceSources-clause-ok
+returns-in-ReplaceSources-clause-ok g c = rw c.in-ReplaceSources.is c.replace_sources.ensures.stands
+
+pub returns-in-RemoveSysmod-clause-ok : goal.returns-in-RemoveSysmod-clause-ok
+returns-in-RemoveSysmod-clause-ok g c = rw c.in-RemoveSysmod.is c.remove_sysmod.ensures.stands

@@ -1,0 +1,12 @@
+use Rattle.std.proofs.Common.{◌≡◌, take}
+use Rattle.rows.specs.Inside.{StaysInside}
+use Rattle.sysmod_tables.specs.Sysmods.{ChangesGlobal}
+use Rattle.store.specs.Changes.{EachFits, after_edits}
+use Rattle.store.proofs.global.write_edits.Given as goal
+
+abbrev pub invariant-loop-edit : goal.invariant-loop-edit
+invariant-loop-edit g l = record {
+  same_reference : l.tx.conn.ghost_name ≡ l.fn.tx.conn.ghost_name;
+  inside : StaysInside g.S.Store l.fn.tx.conn.now l.tx.conn.now;
+  changes : ChangesGlobal g.S.Store l.fn.tx.conn.now l.tx.conn.now (EachFits l.edits) (after_edits (take l.edit-index l.edits));
+}

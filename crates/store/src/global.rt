@@ -1,0 +1,45 @@
+//! Edits of the global zone, written in a transaction that is open.
+
+ghost use Rattle.std.specs.Prelude.{◌≡◌, OnOk};
+ghost use Rattle.rows.specs.Inside.{StaysInside};
+ghost use Rattle.sysmod_tables.specs.Sysmods.{ChangesGlobal};
+ghost use Rattle.store.specs.Changes.{Fits, after_edit, EachFits, after_edits};
+
+use crate::change::GlobalEdit;
+use hold_rows::{put_hold, remove_hold};
+use sqlite::{Alter, Error, Transaction};
+use std::alloc::Global;
+use sysmod_tables::{insert_sysmod, remove_sysmod, replace_sources};
+
+fn write_edit<S: Alter>(
+    alloc: Global,
+    tx: &mut Transaction<'_, S>,
+    edit: &GlobalEdit,
+) -> Result<(), Error>
+    ensures same_reference { tx.new.conn.ghost_name ≡ tx.old.conn.ghost_name }
+    ensures inside { StaysInside S.Store tx.old.conn.now tx.new.conn.now }
+    ensures ok { OnOk result (ChangesGlobal S.Store tx.old.conn.now tx.new.conn.now (λ g. Fits g edit.now) (λ g. after_edit g edit.now)) }
+{
+    match edit {
+        GlobalEdit::PutHold(hold) => put_hold(tx, hold),
+        GlobalEdit::RemoveHold(id, kind, reason) => remove_hold(tx, *id, *kind, *reason),
+        GlobalEdit::InsertSysmod(sysmod) => insert_sysmod(alloc, tx, sysmod),
+        GlobalEdit::ReplaceSources(sysmod) => replace_sources(alloc, tx, sysmod),
+        GlobalEdit::RemoveSysmod(id) => remove_sysmod(tx, *id),
+    }
+}
+
+pub(crate) fn write_edits<S: Alter>(
+    alloc: Global,
+    tx: &mut Transaction<'_, S>,
+    edits: &[GlobalEdit],
+) -> Result<(), Error>
+    ensures same_reference { tx.new.conn.ghost_name ≡ tx.old.conn.ghost_name }
+    ensures inside { StaysInside S.Store tx.old.conn.now tx.new.conn.now }
+    ensures ok { OnOk result (ChangesGlobal S.Store tx.old.conn.now tx.new.conn.now (EachFits edits.now) (after_edits edits.now)) }
+{
+    for edit in edits {
+        write_edit(alloc, tx, edit)?;
+    }
+    Ok(())
+}
