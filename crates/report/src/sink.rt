@@ -71,6 +71,7 @@ impl<W: Write> Sink for Out<W> {
 pub fn write_all<W: Sink>(piece: &[u8], w: &mut W) -> Result<(), WriteFault>
     ensures sends { Sends (W.taken w.old) (W.has_failed w.old) (W.taken w.new) (W.has_failed w.new) piece.now }
     ensures after { 0 < length piece.now → W.has_failed w.new ≡ is_err result }
+    ensures some { OnErr result (0 < length piece.now) }
 {
     let mut rest = piece;
     while !rest.is_empty() {

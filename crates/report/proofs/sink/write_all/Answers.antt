@@ -9,4 +9,5 @@ loop-rest-preserved g c = record {
       (g.W.Sink.taken c.write.new.self) (g.W.Sink.has_failed c.write.new.self) c.args.piece.now c.loop-rest.rest.now (take c.in_ok-n.n c.loop-rest.rest.now) _
       c.loop-rest.invariant.sending (grind (arith, common_steps)) c.in_ok-n.ensures.before c.in_ok-n.ensures.after c.in_ok-n.ensures.bytes;
   sound = λ _. c.in_ok-n.ensures.after;
+  within = grind (arith, common_steps, c.loop-rest.invariant.within);
 }
