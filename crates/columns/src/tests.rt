@@ -25,3 +25,19 @@ fn lists_are_read(rt: HostRuntime) -> Result<(), Fail> {
     assert_eq!(rt; lines.len(), 1);
     Ok(())
 }
+
+#[test]
+fn lists_are_written(rt: HostRuntime) -> Result<(), Fail> {
+    let alloc = rt.alloc();
+    let (Some(first), Some(second)) = (Id::read(b"UAA0001"), Id::read(b"UAA0002")) else {
+        return Err(Fail::from("ids"));
+    };
+    let ids = joined_ids(alloc, &[first, second])?;
+    assert_eq!(rt; ids.as_slice(), b"UAA0001,UAA0002".as_slice());
+    let (Some(first), Some(second)) = (Source::read(b"A"), Source::read(b"SRC1")) else {
+        return Err(Fail::from("sources"));
+    };
+    let sources = joined_sources(alloc, &[first, second])?;
+    assert_eq!(rt; sources.as_slice(), b"A,SRC1".as_slice());
+    Ok(())
+}

@@ -7,7 +7,7 @@ ghost use Rattle.schema.specs.Rows.{ifreq_row};
 ghost use Rattle.schema.specs.Tables.{ifreq as ifreq_table};
 ghost use Rattle.sysmod_tables.specs.Sysmods.{Adds};
 
-use crate::values::joined_ids;
+use columns::joined_ids;
 use fields::{Id, Srel};
 use rows::insert;
 use sqlite::{Alter, Error, Transaction};

@@ -5,7 +5,6 @@
 mod elem;
 mod ifreq;
 mod sysmod;
-mod values;
 mod ver;
 
 pub use sysmod::{insert_sysmod, remove_sysmod, replace_sources};

@@ -10,8 +10,8 @@ ghost use Rattle.sysmod_tables.specs.Sysmods.{Adds, AddsSysmod, ReplacesSources,
 
 use crate::elem::insert_changes;
 use crate::ifreq::insert_all_ifs;
-use crate::values::joined_sources;
 use crate::ver::insert_vers;
+use columns::joined_sources;
 use fields::Id;
 use rows::{insert, remove, remove_parent, replace};
 use spelling::kind_text;

@@ -7,7 +7,7 @@ ghost use Rattle.schema.specs.Tables.{ver as ver_table};
 ghost use Rattle.sysmod_tables.specs.Lists.{AreLists};
 ghost use Rattle.sysmod_tables.specs.Sysmods.{Adds};
 
-use crate::values::{id_value, joined_ids};
+use columns::{id_value, joined_ids};
 use fields::Id;
 use rows::insert;
 use sqlite::{Alter, Error, Transaction};

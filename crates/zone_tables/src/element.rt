@@ -10,7 +10,7 @@ ghost use Rattle.schema.specs.Tables.{zelem, store_schema};
 ghost use Rattle.zone_tables.specs.Keys.{element_key};
 ghost use Rattle.zone_tables.specs.Zones.{ChangesZone, HasPutElement, HasRemovedElement};
 
-use crate::values::joined;
+use columns::joined_ids;
 use fields::{Name, ZoneName};
 use rows::{put, remove};
 use spelling::type_text;
@@ -33,7 +33,7 @@ pub fn put_element<S: Alter>(
     ensures ok { OnOk result (Turns S.Store tx.old.conn.now tx.new.conn.now (HasContents store_schema) (with_put zelem (element_key zone element.now.elem_type element.now.name) (zelem_row zone element.now))) }
     ensures stands { OnOk result (ChangesZone S.Store tx.old.conn.now tx.new.conn.now zone (HasPutElement element.now)) }
 {
-    let umids = joined(alloc, element.umids.as_slice())?;
+    let umids = joined_ids(alloc, element.umids.as_slice())?;
     let text = bytes_of(alloc, element.text.as_slice())?;
     put_row(tx, &zone, element, umids.as_slice(), text.as_slice())
 }

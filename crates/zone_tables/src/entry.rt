@@ -9,7 +9,8 @@ ghost use Rattle.schema.specs.Tables.{entry as entry_table, store_schema};
 ghost use Rattle.zone_tables.specs.Keys.{entry_key};
 ghost use Rattle.zone_tables.specs.Zones.{ChangesZone, HasPutEntry, HasRemovedEntry};
 
-use crate::values::{date_value, id_value, joined};
+use crate::values::date_value;
+use columns::{id_value, joined_ids};
 use fields::{Id, ZoneName};
 use rows::{put, remove};
 use sqlite::{Alter, Error, Transaction};
@@ -29,8 +30,8 @@ pub fn put_entry<S: Alter>(
     ensures ok { OnOk result (Turns S.Store tx.old.conn.now tx.new.conn.now (HasContents store_schema) (with_put entry_table (entry_key zone entry.now.id) (entry_row zone entry.now))) }
     ensures stands { OnOk result (ChangesZone S.Store tx.old.conn.now tx.new.conn.now zone (HasPutEntry entry.now)) }
 {
-    let supby = joined(alloc, entry.supby.as_slice())?;
-    let waived = joined(alloc, entry.waived.as_slice())?;
+    let supby = joined_ids(alloc, entry.supby.as_slice())?;
+    let waived = joined_ids(alloc, entry.waived.as_slice())?;
     put_row(tx, &zone, entry, supby.as_slice(), waived.as_slice())
 }
 

@@ -1,4 +1,4 @@
-//! Values of columns.
+//! Values as columns have them.
 
 ghost use Rattle.std.specs.Prelude.{◌≡◌, IfOk};
 ghost use Rattle.std.specs.List.{join_with_byte};
@@ -11,7 +11,7 @@ use sqlite_value::value::ValueRef;
 use std::alloc::{AllocError, Global};
 
 /// The ids, with a comma between each two.
-pub(crate) fn joined_ids(alloc: Global, ids: &[Id]) -> Result<Vec<u8>, AllocError>
+pub fn joined_ids(alloc: Global, ids: &[Id]) -> Result<Vec<u8>, AllocError>
     ensures { IfOk result (λ text. text.items ≡ join_with_byte 44 ids.now) }
 {
     let mut text = Vec::new(alloc);
@@ -27,7 +27,7 @@ pub(crate) fn joined_ids(alloc: Global, ids: &[Id]) -> Result<Vec<u8>, AllocErro
 }
 
 /// The sources, with a comma between each two.
-pub(crate) fn joined_sources(alloc: Global, sources: &[Source]) -> Result<Vec<u8>, AllocError>
+pub fn joined_sources(alloc: Global, sources: &[Source]) -> Result<Vec<u8>, AllocError>
     ensures { IfOk result (λ text. text.items ≡ join_with_byte 44 sources.now) }
 {
     let mut text = Vec::new(alloc);
@@ -42,7 +42,8 @@ pub(crate) fn joined_sources(alloc: Global, sources: &[Source]) -> Result<Vec<u8
     Ok(text)
 }
 
-pub(crate) fn id_value(id: &Option<Id>) -> ValueRef<'_>
+/// The id, or NULL.
+pub fn id_value(id: &Option<Id>) -> ValueRef<'_>
     ensures { owned result ≡ or_null Text id.now }
 {
     match id {

@@ -2,7 +2,7 @@ use Rattle.std.proofs.Common.{◌≡◌, ◌∷◌, ◌++◌, take, rules, arith
 use Rattle.std.specs.List.{flat_map, join_with_byte}
 use Rattle.std.proofs.lemmas.List.{take_all}
 use Rattle.rows.proofs.Pieces.{joined_is}
-use Rattle.sysmod_tables.proofs.values.joined_sources.Goals as goal
+use Rattle.columns.proofs.values.joined_sources.Goals as goal
 
 pub returns : goal.returns
 returns c =
