@@ -1,0 +1,12 @@
+//! The global zone: the received SYSMODs and the holds.
+#![tactic(auto)]
+
+mod choice;
+mod zone;
+
+pub use choice::VerChoice;
+pub use holds::{Placed, ReleaseError};
+pub use zone::{Global, RejectError};
+
+#[cfg(test)]
+mod tests;
