@@ -2,10 +2,12 @@
 #![tactic(auto)]
 
 mod choice;
+mod receive;
 mod zone;
 
 pub use choice::VerChoice;
 pub use holds::{Placed, ReleaseError};
+pub use received::ReceiveFault;
 pub use zone::{Global, RejectError};
 
 #[cfg(test)]

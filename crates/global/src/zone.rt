@@ -5,11 +5,12 @@ ghost use Rattle.terms.specs.declared.kinds.HoldKind.TheVariants.{System};
 ghost use Rattle.terms.specs.Types.{Id as AnId};
 ghost use Rattle.terms.specs.Lookups.{sysmod_of, is_received, is_function, holds_of};
 ghost use Rattle.terms.specs.Global.{IsGlobal, hold_of, is_replacing, hold as with_hold, release as released, assign as assigned, without_sysmod};
-ghost use Rattle.global.specs.Faults.{a_release, release_fault};
+ghost use Rattle.global.specs.Faults.{IsReceived, a_release, release_fault};
 
 use fields::{Id, Reason, Source};
 use holds::{Holds, Placed, ReleaseError};
-use received::Received;
+use crate::receive::take_in;
+use received::{ReceiveFault, Received, refusal};
 use std::alloc::{AllocError, Global as Heap};
 use std::collections::btree_map::Values;
 use std::marker::Model;
@@ -125,6 +126,26 @@ impl Global {
         ensures fits { length result < 2 ^ 63 }
     {
         self.holds.of(id, kind)
+    }
+
+    /// RECEIVE of one SYSMOD, whose holds come in among the others. Answers the first fault by which it
+    /// is refused, if there is one.
+    pub fn receive(
+        &mut self,
+        alloc: Heap,
+        sysmod: Sysmod,
+    ) -> Result<Option<ReceiveFault>, AllocError>
+        ensures answer { IfOk result (IsReceived self.old sysmod self.new) }
+        ensures err { OnErr result (self.new ≡ self.old) }
+    {
+        match refusal(alloc, &self.sysmods, &sysmod)? {
+            Some(fault) => Ok(Some(fault)),
+            None => {
+                sysmod.known();
+                take_in(&mut self.sysmods, &mut self.holds, alloc, sysmod)?;
+                Ok(None)
+            }
+        }
     }
 
     /// Puts a hold in place of the one of its key, whose mark as internal stays.
