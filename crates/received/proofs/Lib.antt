@@ -1,4 +1,6 @@
 pub mod Entries
 pub mod Holding
 pub mod Indexed
+pub mod Joined
+pub mod Named
 pub mod Namers

@@ -59,7 +59,7 @@ any_at p y (k ∷ ks) here passes = by (any_at p y ks) (bytes_eq y k) refl (p k)
     by again true e false f = absurd (true≢false (sym passes ∙ ap p (same_from y k e) ∙ f))
     by again false e false f = let rest = rw e at here in rw f (again rest passes)
 
-any_found : (p q : Sysmod → Bool) (xs : List Sysmod) (s : Sysmod) → find q xs ≡ Some s → p s ≡ true → list_any p xs ≡ true
+pub any_found : (p q : Sysmod → Bool) (xs : List Sysmod) (s : Sysmod) → find q xs ≡ Some s → p s ≡ true → list_any p xs ≡ true
 any_found p q [] s e passes = absurd (none_some e)
   where
     none_some : None ≡ Some s → ⊥

@@ -1,3 +1,4 @@
 pub mod Index
 pub mod Held
 pub mod Ways
+pub mod Refused

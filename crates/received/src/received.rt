@@ -71,6 +71,12 @@ impl Received {
         self.by_id.get(&id)
     }
 
+    pub fn contains(&self, id: Id) -> bool
+        ensures { result ≡ is_some (found self.now id) }
+    {
+        self.by_id.contains_key(&id)
+    }
+
     /// The SYSMODs in order.
     pub fn iter(&self) -> Values<'_, Id, Sysmod>
         ensures rest { result ≡ self.now }

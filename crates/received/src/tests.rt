@@ -1,7 +1,9 @@
 //! SYSMODs that come in, are named and go.
 ghost use Rattle.std.specs.Prelude.{◌≤◌, length};
+ghost use Rattle.terms.specs.Global.{HasLoop, RolesFit};
+ghost use Rattle.received.specs.Held.{zone_of};
 
-use crate::Received;
+use crate::{ReceiveFault, Received, refusal};
 use std::alloc::Global;
 use std::test::Fail;
 use sysmods::{Id, IdList, Kind, Source, SourceList, Srel, Sysmod, Ver};
@@ -68,5 +70,28 @@ fn in_and_out(rt: HostRuntime) -> Result<(), Fail> {
     assert!(rt; received.remove(second).is_some());
     assert!(rt; !received.is_named(first) && received.get(second).is_none());
     assert_eq!(rt; received.iter().count(), 1);
+    Ok(())
+}
+
+/// No loop yet, and no roles.
+fn empty(alloc: Global) -> Received
+    ensures loop_free { ¬ HasLoop (zone_of result) }
+    ensures roles { RolesFit (zone_of result) }
+{
+    Received::new(alloc)
+}
+
+#[test]
+fn faults(rt: HostRuntime) -> Result<(), Fail> {
+    let alloc = rt.alloc();
+    let (function, first) = (id(b"HAA1100")?, id(b"UA00001")?);
+    let received = empty(alloc);
+    let itself = fix(alloc, first, function, first)?;
+    assert_eq!(rt;
+        refusal(alloc, &received, &itself)?,
+        Some(ReceiveFault::Rc2)
+    );
+    let good = fix(alloc, first, function, id(b"UA00002")?)?;
+    assert_eq!(rt; refusal(alloc, &received, &good)?, None);
     Ok(())
 }

@@ -1,0 +1,48 @@
+//! Whether one more SYSMOD makes a loop of PRE, SUP and FMID.
+ghost use Rattle.std.specs.Prelude.{◌↔◌, IsTrue, IfOk};
+ghost use Rattle.terms.specs.Over.{Reaches};
+ghost use Rattle.terms.specs.Global.{HasLoop, names_for, with_sysmod};
+ghost use Rattle.received.specs.Held.{zone_of};
+
+use crate::naming::Naming;
+use crate::received::Received;
+use paths::leads;
+use std::alloc::{AllocError, Global};
+use sysmods::{Srel, Sysmod};
+
+fn leads_back(
+    alloc: Global,
+    received: &Received,
+    sysmod: &Sysmod,
+    srel: Srel,
+) -> Result<bool, AllocError>
+    ensures { IfOk result (λ found. IsTrue found ↔ Reaches (names_for (with_sysmod (zone_of received.now) sysmod.now) srel) sysmod.now.id sysmod.now.id) }
+{
+    let naming = Naming {
+        received,
+        sysmod,
+        srel,
+    };
+    leads(alloc, &naming, sysmod.id, sysmod.id)
+}
+
+/// Whether there is a loop with the SYSMOD, where there was none. It searches only where the SYSMOD is
+/// named by a received one, or by itself.
+pub(crate) fn makes_loop(
+    alloc: Global,
+    received: &Received,
+    sysmod: &Sysmod,
+) -> Result<bool, AllocError>
+    requires { ¬ HasLoop (zone_of received.now) }
+    ensures { IfOk result (λ found. IsTrue found ↔ HasLoop (with_sysmod (zone_of received.now) sysmod.now)) }
+{
+    if !received.is_named(sysmod.id) && !sysmod.names(sysmod.id) {
+        return Ok(false);
+    }
+    for ver in sysmod.vers.iter() {
+        if leads_back(alloc, received, sysmod, ver.srel)? {
+            return Ok(true);
+        }
+    }
+    Ok(false)
+}
