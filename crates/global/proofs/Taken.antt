@@ -1,5 +1,5 @@
 -- A SYSMOD that is taken in with its holds, and one that is taken out again.
-use Rattle.std.proofs.Common.{◌≡◌, ◌<◌, ◌≤◌, ◌+◌, ◌^◌, Bool, true, false, not, List, [], ◌∷◌, ◌++◌, length, filter, find, fold, cond, refl, sym, ap, ◌∙◌, subst, Option, None, Some, All, IsTrue, true≢false, arith, get_or, inl, inr}
+use Rattle.std.proofs.Common.{if◌then◌else◌, is_some, ap₂, ◌≡◌, ◌<◌, ◌≤◌, ◌+◌, ◌^◌, Bool, true, false, not, List, [], ◌∷◌, ◌++◌, length, filter, find, fold, cond, refl, sym, ap, ◌∙◌, subst, Option, None, Some, All, IsTrue, true≢false, arith, get_or, inl, inr}
 use Rattle.std.specs.declared.cmp.Ordering.{Ordering}
 use Rattle.std.specs.declared.cmp.Ordering.TheVariants.{Less, Equal, Greater}
 use Rattle.std.specs.Ordering.{is_lt, is_eq, nat_cmp, ordering_reverse}
@@ -15,6 +15,7 @@ use Rattle.terms.specs.Lookups.{is_received}
 use Rattle.terms.specs.Global.{hold, fits_roles, RolesFit, with_sysmod}
 use Rattle.terms.proofs.GlobalLookups.{same_itself}
 use Rattle.terms.proofs.RisingLists.{AllPairs-first, AllPairs-rest, Less-from_is_lt, with_item-new, filter-all}
+use Rattle.received.specs.Held.{found}
 use Rattle.holds.specs.Lists.{with_hold, with_holds}
 
 other : (x y : Id) → slice_cmp nat_cmp x y ≡ Less → bytes_eq x y ≡ false
@@ -60,6 +61,15 @@ taken_out (y ∷ ys) s rises none =
       where
         behind_other : (x : Id) → slice_cmp nat_cmp s.id x ≡ Less → bytes_eq x s.id ≡ false
         behind_other x less = sym (is_eq-slice_cmp x s.id) ∙ ap is_eq (turned s.id x less)
+
+pub put_back : (xs ys zs : List Sysmod) (s t : Sysmod) (x : Id) → Rises (slice_cmp nat_cmp) (λ r. r.id) xs → found xs s.id ≡ None → t ≡ record s { holds = [] } → x ≡ s.id
+    → ys ≡ (if is_some (found xs t.id) then xs else with_item (slice_cmp nat_cmp) (λ r. r.id) xs t) → zs ≡ filter (λ r. not (bytes_eq r.id x)) ys → zs ≡ xs
+put_back xs ys zs s t x rises none t_is x_is ys_is zs_is =
+    let now : Sysmod = record s { holds = [] } in
+    let came : ys ≡ with_item (slice_cmp nat_cmp) (λ r. r.id) xs now =
+    ys_is ∙ ap (λ r. if is_some (found xs r.id) then xs else with_item (slice_cmp nat_cmp) (λ r. r.id) xs r) t_is
+    ∙ ap (λ o. if is_some o then xs else with_item (slice_cmp nat_cmp) (λ r. r.id) xs now) none in
+    zs_is ∙ ap₂ (λ y rs. filter (λ r. not (bytes_eq r.id y)) rs) x_is came ∙ taken_out xs now rises none
 
 -- the holds of a SYSMOD come in one after another
 pub folded : (hs : List Hold) (g : Global) → fold hold g hs ≡ a_global g.sysmods (with_holds g.holds hs)

@@ -7,9 +7,9 @@ ghost use Rattle.terms.specs.Lookups.{sysmod_of, is_received, is_function, holds
 ghost use Rattle.terms.specs.Global.{IsGlobal, hold_of, is_replacing, hold as with_hold, release as released, assign as assigned, without_sysmod};
 ghost use Rattle.global.specs.Faults.{IsReceived, a_release, release_fault};
 
+use crate::receive::take_in;
 use fields::{Id, Reason, Source};
 use holds::{Holds, Placed, ReleaseError};
-use crate::receive::take_in;
 use received::{ReceiveFault, Received, refusal};
 use std::alloc::{AllocError, Global as Heap};
 use std::collections::btree_map::Values;
