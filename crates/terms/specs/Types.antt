@@ -99,6 +99,9 @@ pub record Global : Type 0 where
   pub sysmods : List Sysmod
   pub holds : List Hold
 
+abbrev pub a_global : List Sysmod → List Hold → Global
+a_global sysmods holds = record { sysmods = sysmods; holds = holds }
+
 -- a zone's SYSMOD entry: the date of APPLY or ACCEPT, SUPBY, DELBY, and the requisites that were bypassed
 pub record Entry : Type 0 where
   pub id : Id
