@@ -26,3 +26,5 @@ pub mod ElementOrder
 pub mod Edits
 pub mod Members
 pub mod Exact
+pub mod Apart
+pub mod OperandWords
