@@ -1,0 +1,17 @@
+//! Operands of statements and commands: they are found among the words, and their values are read.
+#![tactic(auto)]
+
+mod errors;
+mod find;
+mod lists;
+mod member;
+mod members;
+#[cfg(test)]
+mod tests;
+mod values;
+
+pub use errors::{BadOperand, OperandError};
+pub use find::operand;
+pub use lists::{ids, rising, sources};
+pub use member::Member;
+pub use values::{flag, one_member};

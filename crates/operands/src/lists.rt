@@ -1,0 +1,45 @@
+ghost use Rattle.std.specs.Prelude.{◌≡◌, ℕ, List, map, IfOk, IfErr};
+ghost use Rattle.terms.specs.Forms.{IsId, IsSource};
+ghost use Rattle.terms.specs.Operands.{HasSorted};
+ghost use Rattle.rec80.specs.Views.{word_of};
+ghost use Rattle.operands.specs.Failing.{Excludes};
+
+use crate::errors::OperandError;
+use crate::member::Member;
+use crate::members::read_members;
+use fields::{Id, IdList, Rising, Source, SourceList};
+use rec80::Word;
+use std::alloc::Global;
+
+/// The members of the word's list in rising order. One that stands there twice is a bad operand.
+pub fn rising<T: Member>(alloc: Global, word: &Word<'_>) -> Result<Rising<T>, OperandError>
+    ensures sorted { IfOk result (λ list. HasSorted T.form (word_of word.now) (map T.text list)) }
+    ensures bad { IfErr result (λ e. Excludes e ((values : List (List ℕ)) × HasSorted T.form (word_of word.now) values)) }
+{
+    let Some(list) = word.list else {
+        return Err(OperandError::Bad);
+    };
+    let read: Vec<T> = read_members(alloc, &list)?;
+    let len = read.len();
+    let rising = Rising::from_vec(read);
+    if rising.as_slice().len() != len {
+        return Err(OperandError::Bad);
+    }
+    Ok(rising)
+}
+
+/// The ids of the word's list in rising order.
+pub fn ids(alloc: Global, word: &Word<'_>) -> Result<IdList, OperandError>
+    ensures sorted { IfOk result (λ list. HasSorted IsId (word_of word.now) list) }
+    ensures bad { IfErr result (λ e. Excludes e ((values : List (List ℕ)) × HasSorted IsId (word_of word.now) values)) }
+{
+    rising::<Id>(alloc, word)
+}
+
+/// The sources of the word's list in rising order.
+pub fn sources(alloc: Global, word: &Word<'_>) -> Result<SourceList, OperandError>
+    ensures sorted { IfOk result (λ list. HasSorted IsSource (word_of word.now) list) }
+    ensures bad { IfErr result (λ e. Excludes e ((values : List (List ℕ)) × HasSorted IsSource (word_of word.now) values)) }
+{
+    rising::<Source>(alloc, word)
+}
