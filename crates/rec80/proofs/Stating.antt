@@ -2,6 +2,7 @@
 use Rattle.std.proofs.Common.{◌≡◌, ℕ, List, [], ◌∷◌, ◌++◌, refl, sym, subst}
 use Rattle.terms.specs.Types.{Text}
 use Rattle.terms.specs.Statement.{Piece, HasPieces, followed, joined, solid, HasSolid, IsIdle, Ends, IsStatement, IsStFault, BreaksOff}
+use Rattle.terms.proofs.Exact.{fault-no_statement}
 use Rattle.rec80.specs.declared.cursor.Cursor.{Cursor}
 use Rattle.rec80.specs.declared.errors.StmtError.{StmtError}
 use Rattle.rec80.specs.declared.errors.StmtError.TheVariants.{NoPeriod, OpenComment, BadParens, TextAfterPeriod}
@@ -24,3 +25,6 @@ is_fault records from NoPeriod text_is h b = (b.0, subst (λ t. HasPieces t b.0 
 is_fault records from OpenComment text_is h b = (b.0, (b.1, subst (λ t. HasPieces t b.0 b.1) text_is b.2, b.3))
 is_fault records from BadParens text_is h b = (b.0, (b.1, subst (λ t. HasPieces t b.0 b.1) text_is b.2, b.3))
 is_fault records from TextAfterPeriod text_is h b = (b.0, (b.1, b.2, ends records from b.0 b.1 b.2 text_is h b.3, b.4))
+
+pub no_statement : (records : List (List ℕ)) (from : Cursor) (why : StmtError) → rest_of from ≡ joined records → IsIn records from → BreaksFrom from why → (pieces : List Piece) (inline : List (List ℕ)) → IsStatement records pieces inline → ⊥
+no_statement records from why text_is h b pieces inline s = fault-no_statement records (st_fault why) pieces inline (is_fault records from why text_is h b) s

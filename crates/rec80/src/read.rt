@@ -1,4 +1,4 @@
-ghost use Rattle.std.specs.Prelude.{◌≡◌, IfOk, IfErr, IsTrue, ◌↔◌};
+ghost use Rattle.std.specs.Prelude.{◌≡◌, ℕ, List, IfOk, IfErr, IsOk, IsTrue, ◌↔◌};
 ghost use Rattle.terms.specs.Records.{HasRecords, IsPrintable, IsRecFault};
 ghost use Rattle.rec80.specs.Faults.{rec_fault};
 
@@ -14,6 +14,7 @@ fn is_printable(byte: u8) -> bool
 /// The records of a file, or its first fault.
 pub fn records(bytes: &[u8]) -> Result<Records<'_>, RecError>
     ensures ok { IfOk result (λ found. HasRecords bytes.now found.all.now) }
+    ensures good { (records : List (List ℕ)) → HasRecords bytes.now records → IsOk result }
     ensures fault { IfErr result (λ e. IsRecFault bytes.now (rec_fault e)) }
 {
     let (all, rest) = bytes.as_chunks::<80>();

@@ -25,6 +25,10 @@ pub mod Solids
 pub mod ElementOrder
 pub mod Edits
 pub mod Members
+pub mod Longest
 pub mod Exact
 pub mod Apart
 pub mod OperandWords
+pub mod ExactFiles
+pub mod ExactWords
+pub mod ExactCommands

@@ -4,27 +4,21 @@ use Rattle.std.proofs.Common.{◌≡◌, ◌≤◌, ◌<◌, ◌+◌, ℕ, Bool,
 use Rattle.std.proofs.lemmas.Bool.{true≢false, false≢true, eqb-true, not-true, or_parts}
 use Rattle.std.proofs.lemmas.List.Elements.{All-head, All-tail, All-weaker, All-append, All-cons, All-nil}
 use Rattle.terms.specs.Types.{Text}
+use Rattle.terms.proofs.Longest.{StartsWithout, longest-only}
 use Rattle.terms.specs.Forms.{AreBlanks}
 use Rattle.terms.specs.Words.{Word, is_member_byte, is_inner_byte, TakesRun, Stops, BeginsInner, TakesInner, TakesMember, IsSeparator, IsBefore, TakesNext, HasMore, HasMembers}
 
 abbrev Each : (ℕ → Bool) → Text → Type 0
 Each test text = All (λ b. test b ≡ true) text
 
+without : (test : ℕ → Bool) (text : Text) → Stops test text → StartsWithout (λ b. test b ≡ true) text
+without test [] stops = tt
+without test (b ∷ bs) stops = λ passes. true≢false (sym passes ∙ stops)
+
 -- A longest front that passes a test is determined.
 pub cut-only : (test : ℕ → Bool) (front back front' back' : Text) → front ++ back ≡ front' ++ back' → Each test front → Stops test back → Each test front' → Stops test back' → (front ≡ front') × (back ≡ back')
-cut-only test [] back [] back' e each stops each' stops' = (refl, e)
-cut-only test [] [] (c ∷ front') back' e each stops each' stops' = absurd (cc (e))
-cut-only test [] (b ∷ back) (c ∷ front') back' e each stops each' stops' =
-    let same : b ≡ c = cc (e) in
-    absurd (true≢false (sym (All-head (λ b. test b ≡ true) c front' each') ∙ ap test (sym same) ∙ stops))
-cut-only test (b ∷ front) back [] [] e each stops each' stops' = absurd (cc (e))
-cut-only test (b ∷ front) back [] (c ∷ back') e each stops each' stops' =
-    let same : b ≡ c = cc (e) in
-    absurd (true≢false (sym (All-head (λ b. test b ≡ true) b front each) ∙ ap test same ∙ stops'))
-cut-only test (b ∷ front) back (c ∷ front') back' e each stops each' stops' =
-    let more = cut-only test front back front' back' (cc (e)) (All-tail (λ b. test b ≡ true) b front each) stops (All-tail (λ b. test b ≡ true) c front' each') stops' in
-    let same : b ≡ c = cc (e) in
-    (cc (same, more.0), more.1)
+cut-only test front back front' back' e each stops each' stops' =
+    longest-only (λ b. test b ≡ true) front back front' back' e each (without test back stops) each' (without test back' stops')
 
 abbrev pub is_space : ℕ → Bool
 is_space b = b == 32

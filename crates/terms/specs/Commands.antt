@@ -69,11 +69,11 @@ abbrev pub IsNextFault : ℕ → List (List ℕ) → CntlFault → Type 0
 IsNextFault n records fault =
     ((fault.code ≡ Cn5) × (why : StFault) × IsCutFault n records fault.number why)
     ⊎ ((pieces : List Piece) × (m : ℕ) × (rest : List (List ℕ)) × TakesCommand n records pieces fault.number m rest
-        × IsCommandFault pieces fault.code)
+    × IsCommandFault pieces fault.code)
 
 -- The first fault of a command file: of its records, or of the command behind good ones.
 abbrev pub IsCommandFileFault : List ℕ → CntlFault → Type 0
 IsCommandFileFault bytes fault =
     ((fault.code ≡ Cn5) × (r : RecFault) × IsRecFault bytes r × (fault.number ≡ rec_fault_record r))
     ⊎ ((records rest : List (List ℕ)) × (cs : List Command) × (m : ℕ)
-        × HasRecords bytes records × BeginsWithCommands 1 records cs m rest × IsNextFault m rest fault)
+    × HasRecords bytes records × BeginsWithCommands 1 records cs m rest × IsNextFault m rest fault)

@@ -19,6 +19,8 @@ pub mod CommandCuts
 pub mod CommandForms
 pub mod Commands
 pub mod Texts
+pub mod Statements
+pub mod Ptfin
 pub mod Changes
 pub mod Deleted
 pub mod Candidates
