@@ -1,5 +1,6 @@
 //! How often operands stand in a command, whatever else is wrong in it.
 ghost use Rattle.std.specs.Prelude.{◌≡◌, ◌+◌, ℕ, List, map, IfSome, IfNone};
+ghost use Rattle.std.specs.List.{list_any};
 ghost use Rattle.terms.specs.Statement.{Piece as AnyPiece};
 ghost use Rattle.terms.specs.Commands.{words_in, is_often, has_double, is_unchosen};
 ghost use Rattle.terms.proofs.OperandWords.{count, is_named};
@@ -49,16 +50,23 @@ fn is_twice(words: &Words<'_>, name: &[u8]) -> bool
     behind_word(&after, name).is_some()
 }
 
-/// Whether a known operand of the command is there twice.
-pub fn has_double(word: CommandWord, words: &Words<'_>) -> bool
-    ensures { (pieces : List AnyPiece) → LeavesPieces words.now pieces → result ≡ has_double word pieces }
+/// Whether one of the names is there twice.
+fn any_twice(names: &[&[u8]], words: &Words<'_>) -> bool
+    ensures { (pieces : List AnyPiece) → LeavesPieces words.now pieces → result ≡ list_any (λ name. is_often 2 pieces name.now) names.now }
 {
-    for name in operands_of(word) {
+    for name in names {
         if is_twice(words, name) {
             return true;
         }
     }
     false
+}
+
+/// Whether a known operand of the command is there twice.
+pub fn has_double(word: CommandWord, words: &Words<'_>) -> bool
+    ensures { (pieces : List AnyPiece) → LeavesPieces words.now pieces → result ≡ has_double word pieces }
+{
+    any_twice(operands_of(word), words)
 }
 
 /// Whether RESTORE has both SELECT and GROUP, or none of them.

@@ -1,4 +1,6 @@
 ghost use Rattle.std.specs.Prelude.{◌≡◌, true, false, List};
+ghost use Rattle.std.specs.List.{list_any};
+ghost use Rattle.std.specs.Str.{bytes_eq};
 ghost use Rattle.terms.specs.Lookups.{is_in};
 ghost use Rattle.terms.specs.Statement.{Piece};
 ghost use Rattle.terms.specs.Words as grammar;
@@ -10,10 +12,16 @@ use crate::tables::operands_of;
 use rec80::Words;
 use terms::CommandWord;
 
+fn is_among(names: &[&[u8]], text: &[u8]) -> bool
+    ensures { result ≡ list_any (λ name. bytes_eq text.now name.now) names.now }
+{
+    names.iter().any(|name| text == *name)
+}
+
 fn is_operand(word: CommandWord, text: &[u8]) -> bool
     ensures { result ≡ is_in (operands_of word) text.now }
 {
-    operands_of(word).iter().any(|name| text == *name)
+    is_among(operands_of(word), text)
 }
 
 /// Whether words that the command may have as operands are left, and nothing else.

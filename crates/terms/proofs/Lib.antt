@@ -29,6 +29,8 @@ pub mod Longest
 pub mod Exact
 pub mod Apart
 pub mod OperandWords
+pub mod ExactOperands
+pub mod CommandLines
 pub mod ExactFiles
 pub mod ExactWords
 pub mod ExactCommands

@@ -1,6 +1,6 @@
 -- How often words stand among pieces, and words that are known operands, each at most once.
 use Rattle.std.proofs.Common.{◌≡◌, ◌≢◌, ◌≤◌, ◌<◌, ◌+◌, ℕ, zero, suc, Bool, true, false, IsTrue, List, [], ◌∷◌, ◌++◌, length, map, get_or, Option, Some, None, refl, sym, ◌∙◌, ap, subst, arith, cond, append_assoc, inl, inr}
-use Rattle.std.specs.Prelude.{All, AllPairs, Contains, count_by, nat_le}
+use Rattle.std.specs.Prelude.{All, AllPairs, Contains, count_by, nat_le, ◌||◌}
 use Rattle.std.specs.List.{list_any, flat_map}
 use Rattle.std.specs.Str.{bytes_eq}
 use Rattle.std.proofs.lemmas.Bool.{leb-true, leb-false, false_from_ne_true, true_from_ne_false, true≢false}
@@ -137,3 +137,16 @@ taken_more pieces before rest after w is t =
     is ∙ ap (λ r. flat_map word_pieces before ++ r) (t.pieces_are ∙ ap (λ f. f ++ after) (sym (append-nil (word_pieces w))))
     ∙ sym (append_assoc (flat_map word_pieces before) (flat_map word_pieces (w ∷ [])) after)
     ∙ ap (λ f. f ++ after) (sym (flat_map-append word_pieces before (w ∷ [])))
+
+-- a test over what a function makes of each item
+pub any_map : {X Y : Type 0} (p : Y → Bool) (f : X → Y) (xs : List X) → list_any p (map f xs) ≡ list_any (λ x. p (f x)) xs
+any_map p f [] = refl
+any_map p f (x ∷ xs) = ap (λ b. p (f x) || b) (any_map p f xs)
+
+-- Behind one of a name the next makes it twice.
+pub again : (pieces rest : List Piece) (name : Text) → count name (words_in pieces) ≡ 1 + count name (words_in rest) → is_often 1 rest name ≡ is_often 2 pieces name
+again pieces rest name one = at (is_often 1 rest name) refl
+  where
+    at : (b : Bool) → is_often 1 rest name ≡ b → is_often 1 rest name ≡ is_often 2 pieces name
+    at true e = e ∙ sym (often 2 pieces name (omega (arith, leb-true 1 (count name (words_in rest)) e, one)))
+    at false e = e ∙ sym (seldom 2 pieces name (omega (arith, leb-false 1 (count name (words_in rest)) e, one)))
