@@ -1,5 +1,5 @@
 -- How often a word stands, by what stands behind the first one.
-use Rattle.std.proofs.Common.{◌≡◌, ◌+◌, ◌≤◌, ◌<◌, List, Option, Some, None, sym, arith}
+use Rattle.std.proofs.Common.{◌≡◌, ◌+◌, List, Option, Some, None, sym, arith}
 use Rattle.std.specs.Prelude.{is_some, IfSome, IfNone}
 use Rattle.terms.specs.Types.{Text}
 use Rattle.terms.specs.Statement.{Piece, HasSolid}

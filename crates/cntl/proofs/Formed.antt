@@ -1,5 +1,5 @@
 -- The parts of what a command has, and why it has none.
-use Rattle.std.proofs.Common.{◌≡◌, Bool, true, false, List, Option, Some, None, refl, sym, ◌∙◌, subst}
+use Rattle.std.proofs.Common.{◌≡◌, Bool, false, List, Option, Some, None, refl, sym}
 use Rattle.std.specs.Prelude.{is_some, option_map, codes, Result, Ok, Err, IfErr}
 use Rattle.terms.specs.declared.codes.CommandWord.TheVariants as word
 use Rattle.terms.specs.Types.{Text, Install, RestoreList, RestoreSelect, RestoreGroup, Command, Set, Receive, Reject, Apply, Accept, Restore, ListZone, Report}

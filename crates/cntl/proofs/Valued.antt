@@ -1,6 +1,6 @@
 -- The value of an operand that was found.
-use Rattle.std.proofs.Common.{◌≡◌, ◌∙◌, ◌≤◌, ◌<◌, ℕ, List, [], ◌∷◌, length, Option, Some, None, sym, ap, subst, arith}
-use Rattle.std.specs.Prelude.{IsSomeAnd, IsSome, option_map, ◌↔◌}
+use Rattle.std.proofs.Common.{◌≡◌, ◌∙◌, ◌<◌, List, [], ◌∷◌, length, Option, Some, None, sym, ap, subst, arith}
+use Rattle.std.specs.Prelude.{IsSomeAnd, option_map}
 use Rattle.terms.specs.Types.{Text}
 use Rattle.terms.specs.Words.{Word, HasMembers, plain}
 use Rattle.terms.specs.Operands.{HasOne, HasSorted, HasRequired, HasOptional}

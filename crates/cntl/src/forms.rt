@@ -96,7 +96,11 @@ fn report(words: &Words<'_>) -> Result<Command, BadOperand>
 }
 
 /// The command of this word and of the operands that are left, which are known ones.
-pub fn read_operands(alloc: Global, word: CommandWord, words: &Words<'_>) -> Result<Command, OperandError>
+pub fn read_operands(
+    alloc: Global,
+    word: CommandWord,
+    words: &Words<'_>,
+) -> Result<Command, OperandError>
     ensures word { IfOk result (λ c. command_word (command_of c) ≡ word) }
     ensures ok { (ws : List grammar.Word) → LeavesWords words.now ws → IfOk result (λ c. HasOperands ws (command_of c)) }
     ensures bad { (ws : List grammar.Word) → LeavesWords words.now ws → IfErr result (λ e. Excludes e ((c : terms.Command) × ((command_word c ≡ word) × HasOperands ws c))) }

@@ -88,6 +88,12 @@ fn commands(rt: HostRuntime) -> Result<(), Fail> {
     let none = read_cntl(rt.alloc(), &[]).map_err(|_| "none")?;
     assert!(rt; none.is_empty());
     let bad = read_cntl(rt.alloc(), b"SET");
-    assert!(rt; bad.is_err_and(|e| e == CntlError::Fault { number: 1, code: CnCode::Cn5 }));
+    assert!(rt;
+        bad.is_err_and(|e| e
+            == CntlError::Fault {
+                number: 1,
+                code: CnCode::Cn5
+            })
+    );
     Ok(())
 }

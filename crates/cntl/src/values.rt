@@ -88,7 +88,11 @@ pub fn id_list(alloc: Global, words: &Words<'_>, name: &[u8]) -> Result<IdList, 
 }
 
 /// The sources of an operand, none where it is absent.
-pub fn source_list(alloc: Global, words: &Words<'_>, name: &[u8]) -> Result<SourceList, OperandError>
+pub fn source_list(
+    alloc: Global,
+    words: &Words<'_>,
+    name: &[u8],
+) -> Result<SourceList, OperandError>
     ensures ok { (ws : List grammar.Word) → LeavesWords words.now ws → IfOk result (λ list. HasShort IsSource (operand name.now ws) list) }
     ensures bad { (ws : List grammar.Word) → LeavesWords words.now ws → IfErr result (λ e. Excludes e ((list : List (List ℕ)) × HasShort IsSource (operand name.now ws) list)) }
 {

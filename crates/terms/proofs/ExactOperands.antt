@@ -1,9 +1,8 @@
 -- The values of operands are determined.
-use Rattle.std.proofs.Common.{◌≡◌, ◌≢◌, ◌≤◌, ◌<◌, ℕ, zero, suc, Bool, true, false, IsTrue, List, [], ◌∷◌, length, get_or, Option, Some, None, refl, sym, ◌∙◌, ap, subst, arith, inl, inr, ◌⊎◌}
-use Rattle.std.specs.Prelude.{All, AllPairs, Contains, IsSomeAnd, ◌↔◌}
-use Rattle.std.specs.Ordering.{is_lt, nat_cmp}
-use Rattle.std.specs.declared.cmp.Ordering.{Ordering}
-use Rattle.std.specs.declared.cmp.Ordering.TheVariants.{Less, Equal, Greater}
+use Rattle.std.proofs.Common.{◌≡◌, Bool, true, IsTrue, List, [], ◌∷◌, Option, Some, None, refl, sym, ◌∙◌, ap, subst, inl, inr}
+use Rattle.std.specs.Prelude.{Contains, IsSomeAnd}
+use Rattle.std.specs.Ordering.{nat_cmp}
+use Rattle.std.specs.declared.cmp.Ordering.TheVariants.{Less, Greater}
 use Rattle.std.specs.Cmp.{IsTotalOrder}
 use Rattle.std.proofs.lemmas.Cmp.{nat_list_cmp_total}
 use Rattle.std.specs.Ordering.{ordering_reverse}
@@ -11,9 +10,9 @@ use Rattle.std.specs.Cmp.Lexicographic.{slice_cmp}
 use Rattle.terms.specs.Types.{Text}
 use Rattle.terms.specs.Lookups.{is_before, IsRising}
 use Rattle.terms.specs.Words.{Word, HasMembers, IsListOf, IsOneOf, plain}
-use Rattle.terms.specs.Operands.{operand, AreSorted, HasOne, HasListed, HasSorted, HasRequired, HasOptional, HasTexts, HasFlag}
+use Rattle.terms.specs.Operands.{AreSorted, HasOne, HasSorted, HasRequired, HasOptional, HasTexts, HasFlag}
 use Rattle.terms.proofs.Apart.{here, here_or, there, none_in}
-use Rattle.terms.proofs.ExactWords.{members-only, list-only, one-only}
+use Rattle.terms.proofs.ExactWords.{members-only, list-only}
 use Rattle.terms.proofs.RisingLists.{AllPairs-first, AllPairs-rest, Less-from_is_lt}
 
 texts_total : IsTotalOrder (slice_cmp nat_cmp)

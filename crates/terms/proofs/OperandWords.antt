@@ -1,17 +1,16 @@
 -- How often words stand among pieces, and words that are known operands, each at most once.
-use Rattle.std.proofs.Common.{◌≡◌, ◌≢◌, ◌≤◌, ◌<◌, ◌+◌, ℕ, zero, suc, Bool, true, false, IsTrue, List, [], ◌∷◌, ◌++◌, length, map, get_or, Option, Some, None, refl, sym, ◌∙◌, ap, subst, arith, cond, append_assoc, inl, inr}
-use Rattle.std.specs.Prelude.{All, AllPairs, Contains, count_by, nat_le, ◌||◌}
+use Rattle.std.proofs.Common.{◌≡◌, ◌≢◌, ◌≤◌, ◌<◌, ◌+◌, ℕ, Bool, true, false, IsTrue, List, [], ◌∷◌, ◌++◌, map, Option, Some, None, refl, sym, ◌∙◌, ap, subst, arith, cond, append_assoc, inl, inr}
+use Rattle.std.specs.Prelude.{All, AllPairs, Contains, count_by, ◌||◌}
 use Rattle.std.specs.List.{list_any, flat_map}
 use Rattle.std.specs.Str.{bytes_eq}
 use Rattle.std.proofs.lemmas.Bool.{leb-true, leb-false, false_from_ne_true, true_from_ne_false, true≢false}
 use Rattle.std.proofs.lemmas.List.{append-nil, get_or_default}
 use Rattle.std.proofs.lemmas.List.Sums.{sum_by-cons}
-use Rattle.std.proofs.lemmas.List.Folds.{list_any_at, list_any_none}
-use Rattle.std.proofs.lemmas.List.Elements.{All-nil, All-cons, All-head, All-tail}
+use Rattle.std.proofs.lemmas.List.Folds.{list_any_at}
+use Rattle.std.proofs.lemmas.List.Elements.{All-head, All-tail}
 use Rattle.std.proofs.lemmas.List.Kept.{AllPairs-cons}
 use Rattle.std.proofs.lemmas.Grind.{flat_map-append}
 use Rattle.std.proofs.lemmas.Cmp.{nat_list_eq_equiv}
-use Rattle.std.proofs.lemmas.Slice.Eq.{bytes_eq-Decides}
 use Rattle.terms.specs.declared.codes.CommandWord.{CommandWord}
 use Rattle.terms.specs.Types.{Text}
 use Rattle.terms.specs.Lookups.{is_in}
@@ -20,9 +19,8 @@ use Rattle.terms.specs.Words.{Word, HasWords, TakesWord, word_pieces, list_piece
 use Rattle.terms.specs.Operands.{AreOperands}
 use Rattle.terms.specs.CommandForms.{operands_of}
 use Rattle.terms.specs.Commands.{words_in, is_often, has_double}
-use Rattle.terms.proofs.Apart.{pairs_map, pairs_unmap, here, here_or, there}
+use Rattle.terms.proofs.Apart.{pairs_unmap, here, here_or, there}
 use Rattle.terms.proofs.Ids.{Contains-from_is_in}
-use Rattle.terms.proofs.RisingLists.{AllPairs-first, AllPairs-rest}
 
 -- how often a word stands in a list
 abbrev pub count : Text → List Text → ℕ
@@ -100,9 +98,9 @@ are_operands word pieces ws h known single =
     record {
       known = known;
       once = pairs_unmap (λ a b. a.word ≢ b.word) (λ s t. s ≢ t) (λ (w : Word). w.word) (λ a b n. n) ws
-      (apart_once texts (λ t there'.
-      let few = leb-false 2 (count t (words_in pieces)) (none_of (is_often 2 pieces) (operands_of word) t single (known_text word ws t known there')) in
-      omega (arith, few, ap (count t) is)));
+          (apart_once texts (λ t there'.
+          let few = leb-false 2 (count t (words_in pieces)) (none_of (is_often 2 pieces) (operands_of word) t single (known_text word ws t known there')) in
+          omega (arith, few, ap (count t) is)));
     }
 
 -- whether a word is there, by how often it is

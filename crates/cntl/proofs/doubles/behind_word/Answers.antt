@@ -1,4 +1,4 @@
-use Rattle.std.proofs.Common.{◌≡◌, ◌∙◌, sym, ap}
+use Rattle.std.proofs.Common.{◌∙◌, sym, ap}
 use Rattle.terms.specs.Commands.{words_in}
 use Rattle.terms.proofs.OperandWords.{count, named, not_named}
 use Rattle.rec80.specs.Pieces.{piece_of}

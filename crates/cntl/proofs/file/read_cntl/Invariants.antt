@@ -1,4 +1,4 @@
-use Rattle.std.proofs.Common.{◌≡◌, List, map, length}
+use Rattle.std.proofs.Common.{map, length}
 use Rattle.terms.specs.Commands.{BeginsWithCommands}
 use Rattle.cntl.specs.Views.{command_of}
 use Rattle.cntl.proofs.file.read_cntl.Given as goal

@@ -1,8 +1,5 @@
-use Rattle.std.proofs.Common.{◌≡◌, ◌∙◌, sym, subst, refl, true, false}
-use Rattle.std.specs.Prelude.{codes}
+use Rattle.std.proofs.Common.{refl}
 use Rattle.std.proofs.lemmas.Result.{err_from_is_err_and}
-use Rattle.terms.specs.Operands.{operand}
-use Rattle.rec80.specs.Views.{word_of}
 use Rattle.cntl.proofs.Formed.{excludes_more}
 use Rattle.cntl.proofs.forms.install.Goals as goal
 

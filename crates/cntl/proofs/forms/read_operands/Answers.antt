@@ -1,8 +1,5 @@
-use Rattle.std.proofs.Common.{◌≡◌, ◌∙◌, sym, subst, refl, true, false}
-use Rattle.std.specs.Prelude.{codes}
+use Rattle.std.proofs.Common.{◌∙◌}
 use Rattle.std.proofs.lemmas.Result.{err_from_is_err_and}
-use Rattle.terms.specs.Operands.{operand}
-use Rattle.rec80.specs.Views.{word_of}
 use Rattle.cntl.proofs.Formed.{excludes_more, if_err_more, of_reject, of_apply, of_accept, of_restore, of_report}
 use Rattle.cntl.proofs.forms.read_operands.Goals as goal
 

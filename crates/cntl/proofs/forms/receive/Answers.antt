@@ -1,8 +1,6 @@
-use Rattle.std.proofs.Common.{◌≡◌, ◌∙◌, sym, subst, true, false}
 use Rattle.std.specs.Prelude.{codes}
 use Rattle.std.proofs.lemmas.Result.{err_from_is_err_and}
-use Rattle.terms.specs.Operands.{operand, HasFlag}
-use Rattle.rec80.specs.Views.{word_of}
+use Rattle.terms.specs.Operands.{operand}
 use Rattle.cntl.proofs.Formed.{both_flags}
 use Rattle.cntl.proofs.forms.receive.Goals as goal
 

@@ -1,8 +1,7 @@
-use Rattle.std.proofs.Common.{◌≡◌, ◌∙◌, sym, subst, true, false}
+use Rattle.std.proofs.Common.{◌∙◌, subst, true}
 use Rattle.std.specs.Prelude.{codes}
 use Rattle.std.proofs.lemmas.Result.{err_from_is_err_and}
 use Rattle.terms.specs.Operands.{operand, HasFlag}
-use Rattle.rec80.specs.Views.{word_of}
 use Rattle.std.proofs.lemmas.Bool.{true≢false}
 use Rattle.terms.proofs.ExactOperands.{flag-only}
 use Rattle.cntl.proofs.forms.report.Goals as goal

@@ -1,4 +1,4 @@
-use Rattle.std.proofs.Common.{◌≡◌, ◌∙◌, sym, ap, false, IsTrue, List, [], ◌∷◌, ◌++◌}
+use Rattle.std.proofs.Common.{◌∙◌, sym, ap, IsTrue, [], ◌∷◌, ◌++◌}
 use Rattle.std.specs.List.{flat_map}
 use Rattle.std.proofs.lemmas.Bool.{true≢false}
 use Rattle.std.proofs.lemmas.List.{append-nil}
@@ -7,7 +7,7 @@ use Rattle.terms.specs.Lookups.{is_in}
 use Rattle.terms.specs.CommandForms.{operands_of}
 use Rattle.terms.specs.Words.{Word, word_pieces}
 use Rattle.terms.proofs.Solids.{words_first, no_words}
-use Rattle.terms.proofs.OperandWords.{AreKnown, taken_more}
+use Rattle.terms.proofs.OperandWords.{taken_more}
 use Rattle.rec80.specs.Views.{word_of}
 use Rattle.cntl.proofs.known.are_operands.Goals as goal
 

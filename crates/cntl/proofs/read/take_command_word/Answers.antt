@@ -1,4 +1,4 @@
-use Rattle.std.proofs.Common.{◌≡◌, ◌∙◌, sym}
+use Rattle.std.proofs.Common.{◌∙◌, sym}
 use Rattle.terms.specs.Spelling.{word_text}
 use Rattle.rec80.specs.Views.{left_of}
 use Rattle.cntl.proofs.Worded.{no_piece, no_word, word_taken, word_unknown}

@@ -1,4 +1,4 @@
-use Rattle.std.proofs.Common.{◌≡◌, ◌≤◌, ◌<◌, arith}
+use Rattle.std.proofs.Common.{arith}
 use Rattle.terms.specs.Forms.{IsSource}
 use Rattle.terms.specs.Operands.{operand}
 use Rattle.rec80.specs.Views.{word_of}
