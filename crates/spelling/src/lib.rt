@@ -6,6 +6,7 @@ ghost use Rattle.terms.specs.declared.kinds.Kind.{Kind};
 ghost use Rattle.terms.specs.declared.kinds.HoldKind.{HoldKind};
 ghost use Rattle.terms.specs.declared.kinds.ElemType.{ElemType};
 ghost use Rattle.terms.specs.declared.kinds.ZoneKind.{ZoneKind};
+ghost use Rattle.terms.specs.declared.codes.CommandWord.{CommandWord};
 ghost use Rattle.terms.specs.Spelling.{kind_text, hold_text, type_text, zone_kind_text, mc_text, cn_text, word_text, test_text, need_text, refusal_text};
 
 use terms::{
@@ -158,6 +159,24 @@ pub fn word_text(word: CommandWord) -> &'static [u8]
         CommandWord::Restore => b"RESTORE",
         CommandWord::List => b"LIST",
         CommandWord::Report => b"REPORT",
+    }
+}
+
+/// The command that begins with this word.
+pub fn read_word(text: &[u8]) -> Option<CommandWord>
+    ensures found { IfSome result (λ found. word_text found ≡ text.now) }
+    ensures none { IfNone result ((other : CommandWord) → word_text other ≢ text.now) }
+{
+    match text {
+        b"SET" => Some(CommandWord::Set),
+        b"RECEIVE" => Some(CommandWord::Receive),
+        b"REJECT" => Some(CommandWord::Reject),
+        b"APPLY" => Some(CommandWord::Apply),
+        b"ACCEPT" => Some(CommandWord::Accept),
+        b"RESTORE" => Some(CommandWord::Restore),
+        b"LIST" => Some(CommandWord::List),
+        b"REPORT" => Some(CommandWord::Report),
+        _ => None,
     }
 }
 

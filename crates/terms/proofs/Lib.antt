@@ -32,6 +32,10 @@ pub mod Exact
 pub mod NumberedCauses
 pub mod SameLists
 pub mod SameZones
+pub mod Apart
+pub mod OperandWords
+pub mod ExactOperands
+pub mod CommandLines
 pub mod ExactFiles
 pub mod ExactWords
 pub mod ExactCommands

@@ -7,7 +7,6 @@ use Rattle.terms.specs.declared.codes.CommandWord.TheVariants as word
 use Rattle.terms.specs.declared.codes.CnCode.{CnCode}
 use Rattle.terms.specs.declared.codes.CnCode.TheVariants.{Cn1, Cn2, Cn3, Cn4, Cn5}
 use Rattle.terms.specs.Types.{Text, Command}
-use Rattle.terms.specs.Lookups.{is_in}
 use Rattle.terms.specs.Spelling.{word_text}
 use Rattle.terms.specs.Records.{HasRecords, IsRecFault, RecFault, rec_fault_record}
 use Rattle.terms.specs.Statement.{Piece, TheWord, joined, IsIdle, StFault}
@@ -37,18 +36,18 @@ words_in [] = []
 words_in (TheWord text ∷ ps) = text ∷ words_in ps
 words_in (_ ∷ ps) = words_in ps
 
--- whether the word is there twice or more often
-abbrev pub is_twice : List Piece → Text → Bool
-is_twice pieces name = nat_le 2 (count_by (bytes_eq name) (words_in pieces))
+-- whether the word is there so often, or more often
+abbrev pub is_often : ℕ → List Piece → Text → Bool
+is_often n pieces name = nat_le n (count_by (bytes_eq name) (words_in pieces))
 
 -- whether a known operand of the command is there twice
 abbrev pub has_double : CommandWord → List Piece → Bool
-has_double w pieces = list_any (is_twice pieces) (operands_of w)
+has_double w pieces = list_any (is_often 2 pieces) (operands_of w)
 
 -- RESTORE has both SELECT and GROUP, or none of them.
 abbrev pub is_unchosen : CommandWord → List Piece → Bool
 is_unchosen word.Restore pieces =
-    if is_in (words_in pieces) (codes "SELECT") then is_in (words_in pieces) (codes "GROUP") else not (is_in (words_in pieces) (codes "GROUP"))
+    if is_often 1 pieces (codes "SELECT") then is_often 1 pieces (codes "GROUP") else not (is_often 1 pieces (codes "GROUP"))
 is_unchosen _ pieces = false
 
 -- the pieces begin with that command's word

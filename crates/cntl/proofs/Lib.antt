@@ -1,0 +1,4 @@
+pub mod Doubling
+pub mod Valued
+pub mod Formed
+pub mod Worded

@@ -1,0 +1,77 @@
+use fields::{IdList, Source, SourceList, ZoneName};
+use std::marker::Model;
+
+/// What RECEIVE takes in, and the source that it adds to SYSMODs.
+#[derive(Drop)]
+pub struct ReceiveWhat {
+    pub sysmods: bool,
+    pub holddata: bool,
+    pub source: Option<Source>,
+}
+
+impl Model for ReceiveWhat {
+    ghost use Rattle.terms.specs.Types as terms;
+
+    ghost Value = { terms.ReceiveWhat };
+
+    ghost view = { λ a. record { sysmods = a.sysmods; holddata = a.holddata; source = a.source } };
+}
+
+/// What APPLY or ACCEPT chooses. An operand that is absent is an empty list.
+#[derive(Drop)]
+pub struct Selection {
+    pub functions: bool,
+    pub ptfs: bool,
+    pub apars: bool,
+    pub usermods: bool,
+    pub select: IdList,
+    pub exclude: IdList,
+    pub sourceid: SourceList,
+    pub forfmid: IdList,
+    pub group: IdList,
+    pub groupextend: bool,
+}
+
+impl Model for Selection {
+    ghost use Rattle.terms.specs.Types as terms;
+
+    ghost Value = { terms.Selection };
+
+    ghost view = { λ a. record { functions = a.functions; ptfs = a.ptfs; apars = a.apars; usermods = a.usermods; select = a.select; exclude = a.exclude; sourceid = a.sourceid; forfmid = a.forfmid; group = a.group; groupextend = a.groupextend } };
+}
+
+/// The operands of APPLY and ACCEPT.
+#[derive(Drop)]
+pub struct Install {
+    pub selection: Selection,
+    pub check: bool,
+}
+
+impl Model for Install {
+    ghost use Rattle.terms.specs.Types as terms;
+    ghost use Rattle.terms.specs.CommandForms.{no_bypass};
+
+    ghost Value = { terms.Install };
+
+    ghost view = { λ a. record { selection = a.selection; bypass = no_bypass; check = a.check } };
+}
+
+/// The SYSMODs that RESTORE takes off.
+#[derive(Drop)]
+pub enum RestoreList {
+    Select(IdList),
+    Group(IdList),
+}
+
+/// A command. RESTORE has CHECK beside its list, and LIST has TEXT.
+#[derive(Drop)]
+pub enum Command {
+    Set(ZoneName),
+    Receive(ReceiveWhat),
+    Reject(IdList),
+    Apply(Install),
+    Accept(Install),
+    Restore(RestoreList, bool),
+    ListZone(bool),
+    Report,
+}

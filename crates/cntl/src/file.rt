@@ -1,0 +1,66 @@
+//! Whole files.
+ghost use Rattle.std.specs.Prelude.{◌≡◌, ◌<◌, ℕ, List, length, map, IfOk, IfErr, IfSome, IfNone};
+ghost use Rattle.terms.specs.Statement.{Piece, IsIdle, joined};
+ghost use Rattle.terms.specs.CommandCuts.{TakesCommand};
+ghost use Rattle.terms.specs.CommandForms.{IsCommand};
+ghost use Rattle.terms.specs.Commands.{IsCommandFile};
+ghost use Rattle.cntl.specs.Views.{command_of};
+ghost use Rattle.cntl.specs.Faults.{FailsNext, FailsFile};
+
+use crate::command::Command;
+use crate::errors::{CntlError, CommandError};
+use crate::read::read_command;
+use rec80::{Commands, records};
+use std::alloc::Global;
+use terms::CnCode;
+
+/// Takes the next command. Behind the last one there is none.
+fn read_next(alloc: Global, left: &mut Commands<'_>) -> Result<Option<Command>, CntlError>
+    ensures command { IfOk result (λ found. IfSome found (λ c. (pieces : List Piece) × (number : ℕ) × TakesCommand left.old.number left.old.rest.now pieces number left.new.number left.new.rest.now × IsCommand pieces (command_of c))) }
+    ensures end { IfOk result (λ found. IfNone found (IsIdle (joined left.old.rest.now))) }
+    ensures fault { IfErr result (λ e. FailsNext left.old.number left.old.rest.now e) }
+    ensures shorter { IfOk result (λ found. IfSome found (λ c. length left.new.rest.now < length left.old.rest.now)) }
+{
+    let found = match left.next_command() {
+        Ok(found) => found,
+        Err(fault) => {
+            return Err(CntlError::Fault {
+                number: fault.number,
+                code: CnCode::Cn5,
+            });
+        }
+    };
+    let Some(command) = found else {
+        return Ok(None);
+    };
+    match read_command(alloc, &command.words) {
+        Ok(read) => Ok(Some(read)),
+        Err(CommandError::Memory) => Err(CntlError::Memory),
+        Err(CommandError::Fault(code)) => Err(CntlError::Fault {
+            number: command.number,
+            code,
+        }),
+    }
+}
+
+/// The commands of a command file, or its first fault.
+pub fn read_cntl(alloc: Global, bytes: &[u8]) -> Result<Vec<Command>, CntlError>
+    ensures commands { IfOk result (λ read. IsCommandFile bytes.now (map command_of read.items)) }
+    ensures fault { IfErr result (λ e. FailsFile bytes.now e) }
+{
+    let file = match records(bytes) {
+        Ok(file) => file,
+        Err(fault) => {
+            return Err(CntlError::Fault {
+                number: fault.record(),
+                code: CnCode::Cn5,
+            });
+        }
+    };
+    let mut left = file.commands();
+    let mut read = Vec::new(alloc);
+    while let Some(command) = read_next(alloc, &mut left)? {
+        read.push(command)?;
+    }
+    Ok(read)
+}

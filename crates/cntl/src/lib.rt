@@ -1,0 +1,19 @@
+//! Command files: their commands, or the first fault.
+#![tactic(auto)]
+
+mod command;
+mod doubles;
+mod errors;
+mod file;
+mod forms;
+mod known;
+mod read;
+mod tables;
+#[cfg(test)]
+mod tests;
+mod values;
+
+pub use command::{Command, Install, ReceiveWhat, RestoreList, Selection};
+pub use errors::{CntlError, CommandError};
+pub use file::read_cntl;
+pub use read::read_command;

@@ -1,0 +1,99 @@
+use crate::{CntlError, Command, RestoreList, read_cntl};
+use rec80::Record;
+use std::alloc::Global;
+use std::test::Fail;
+use terms::CnCode;
+
+fn card(text: &str) -> Record {
+    let mut card = [b' '; 80];
+    for (to, from) in card.iter_mut().zip(text.bytes()) {
+        *to = from;
+    }
+    card
+}
+
+/// The first fault of two cards: its record and its code. 0 and `Cn5` where there is none.
+fn fault(alloc: Global, first: &str, second: &str) -> Result<(usize, CnCode), Fail> {
+    let cards = [card(first), card(second)];
+    match read_cntl(alloc, cards.as_flattened()) {
+        Ok(_) => Ok((0, CnCode::Cn5)),
+        Err(CntlError::Fault { number, code }) => Ok((number, code)),
+        Err(CntlError::Memory) => Err("memory".into()),
+    }
+}
+
+#[test]
+fn faults(rt: HostRuntime) -> Result<(), Fail> {
+    for (first, second, number, code) in [
+        ("SET BDY(TGT1).", "LIST TEXT.", 0, CnCode::Cn5),
+        (" , RECEIVE /* , */ ,(A).", "", 1, CnCode::Cn2),
+        ("SET BDY(TGT1).", "LIST!.", 2, CnCode::Cn2),
+        ("SET BDY(1).", "", 1, CnCode::Cn2),
+        ("SET BDY(A) BDY.", "", 1, CnCode::Cn3),
+        ("APPLY CHECK - CHECK.", "", 1, CnCode::Cn3),
+        ("APPLY NEW NEW.", "", 1, CnCode::Cn2),
+        ("APPLY SELECT(UA00001 UA00001).", "", 1, CnCode::Cn2),
+        ("APPLY SELECT(UA0001).", "", 1, CnCode::Cn2),
+        ("APPLY SELECT.", "", 1, CnCode::Cn2),
+        ("APPLY CHECK(A).", "", 1, CnCode::Cn2),
+        ("APPLY(A) CHECK.", "", 1, CnCode::Cn2),
+        ("/* between", "*/ APPLY NO.", 2, CnCode::Cn2),
+        ("UNDO NO.", "LIST", 1, CnCode::Cn1),
+        (".", "", 1, CnCode::Cn1),
+        ("(LIST).", "", 1, CnCode::Cn1),
+        ("LIST. LIST.", "", 1, CnCode::Cn5),
+        ("LIST.", "/* open", 2, CnCode::Cn5),
+        ("LIST.", "APPLY NO", 2, CnCode::Cn5),
+        ("RESTORE SELECT(A) GROUP.", "", 1, CnCode::Cn4),
+        ("RESTORE CHECK.", "", 1, CnCode::Cn4),
+        ("RESTORE GROUP(A).", "", 1, CnCode::Cn2),
+        ("REPORT.", "", 1, CnCode::Cn2),
+        ("REJECT.", "", 1, CnCode::Cn2),
+    ] {
+        let found = fault(rt.alloc(), first, second)?;
+        assert_eq!(rt; found.0, number, "{first}");
+        assert!(rt; found.1 == code, "{first}");
+    }
+    Ok(())
+}
+
+#[test]
+fn commands(rt: HostRuntime) -> Result<(), Fail> {
+    let cards = [
+        card("SET BDY(GLOBAL)."),
+        card("RECEIVE SYSMODS SOURCEID(PUT2401)."),
+        card("APPLY SELECT(UA00002,"),
+        card("UA00001) CHECK."),
+        card("RESTORE GROUP(UA00003)."),
+    ];
+    let read = read_cntl(rt.alloc(), cards.as_flattened()).map_err(|_| "read")?;
+    match read.as_slice() {
+        [
+            Command::Set(zone),
+            Command::Receive(what),
+            Command::Apply(install),
+            Command::Restore(RestoreList::Group(ids), check),
+        ] => {
+            assert!(rt; zone.is_global());
+            assert!(rt; what.sysmods && !what.holddata && what.source.is_some());
+            assert!(rt; install.check && !install.selection.ptfs);
+            assert_eq!(rt; install.selection.select.len(), 2);
+            let first = install.selection.select.as_slice().first().ok_or("first")?;
+            assert_eq!(rt; first.as_bytes(), b"UA00001".as_slice());
+            assert_eq!(rt; ids.len(), 1);
+            assert!(rt; !*check);
+        }
+        _ => assert!(rt; false),
+    }
+    let none = read_cntl(rt.alloc(), &[]).map_err(|_| "none")?;
+    assert!(rt; none.is_empty());
+    let bad = read_cntl(rt.alloc(), b"SET");
+    assert!(rt;
+        bad.is_err_and(|e| e
+            == CntlError::Fault {
+                number: 1,
+                code: CnCode::Cn5
+            })
+    );
+    Ok(())
+}

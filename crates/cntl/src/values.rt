@@ -1,0 +1,107 @@
+//! The values of single operands.
+ghost use Rattle.std.specs.Prelude.{◌≡◌, ◌≤◌, ℕ, Bool, List, Option, codes, IfOk, IfErr, OnErr};
+ghost use Rattle.terms.specs.Forms.{IsId, IsSource, IsZoneName};
+ghost use Rattle.terms.specs.Words as grammar;
+ghost use Rattle.terms.specs.Operands.{operand, HasFlag, HasRequired, HasOptional};
+ghost use Rattle.terms.specs.CommandForms.{HasShort, HasSome};
+ghost use Rattle.operands.specs.Left.{LeavesWords};
+ghost use Rattle.operands.specs.Failing.{Excludes};
+
+use fields::{IdList, Source, SourceList, ZoneName};
+use operands::{BadOperand, OperandError, flag, ids, one_member, operand, sources};
+use rec80::Words;
+use std::alloc::Global;
+
+/// How many members a list may have.
+const MOST: usize = 1000;
+
+/// Whether the operand of that name is there, which has no list.
+pub fn flag_of(words: &Words<'_>, name: &[u8]) -> Result<bool, BadOperand>
+    ensures ok { (ws : List grammar.Word) → LeavesWords words.now ws → IfOk result (λ flag. HasFlag (operand name.now ws) flag) }
+    ensures bad { (ws : List grammar.Word) → LeavesWords words.now ws → OnErr result ((flag : Bool) → HasFlag (operand name.now ws) flag → ⊥) }
+{
+    flag(&operand(words, name))
+}
+
+/// The zone that SET names.
+pub fn zone(words: &Words<'_>) -> Result<ZoneName, BadOperand>
+    ensures ok { (ws : List grammar.Word) → LeavesWords words.now ws → IfOk result (λ zone. HasRequired IsZoneName (operand (codes "BDY") ws) zone) }
+    ensures bad { (ws : List grammar.Word) → LeavesWords words.now ws → OnErr result ((zone : List ℕ) → HasRequired IsZoneName (operand (codes "BDY") ws) zone → ⊥) }
+{
+    let Some(word) = operand(words, b"BDY") else {
+        return Err(BadOperand);
+    };
+    let Some(member) = one_member(&word) else {
+        return Err(BadOperand);
+    };
+    let Some(zone) = ZoneName::read(member) else {
+        return Err(BadOperand);
+    };
+    Ok(zone)
+}
+
+/// The source that RECEIVE adds, if it names one.
+pub fn source(words: &Words<'_>) -> Result<Option<Source>, BadOperand>
+    ensures ok { (ws : List grammar.Word) → LeavesWords words.now ws → IfOk result (λ source. HasOptional IsSource (operand (codes "SOURCEID") ws) source) }
+    ensures bad { (ws : List grammar.Word) → LeavesWords words.now ws → OnErr result ((source : Option (List ℕ)) → HasOptional IsSource (operand (codes "SOURCEID") ws) source → ⊥) }
+{
+    let Some(word) = operand(words, b"SOURCEID") else {
+        return Ok(None);
+    };
+    let Some(member) = one_member(&word) else {
+        return Err(BadOperand);
+    };
+    let Some(source) = Source::read(member) else {
+        return Err(BadOperand);
+    };
+    Ok(Some(source))
+}
+
+/// The ids of an operand that must be there.
+pub fn some_ids(alloc: Global, words: &Words<'_>, name: &[u8]) -> Result<IdList, OperandError>
+    ensures ok { (ws : List grammar.Word) → LeavesWords words.now ws → IfOk result (λ list. HasSome IsId (operand name.now ws) list) }
+    ensures bad { (ws : List grammar.Word) → LeavesWords words.now ws → IfErr result (λ e. Excludes e ((list : List (List ℕ)) × HasSome IsId (operand name.now ws) list)) }
+{
+    let Some(word) = operand(words, name) else {
+        return Err(OperandError::Bad);
+    };
+    let list = ids(alloc, &word)?;
+    if list.len() > MOST {
+        return Err(OperandError::Bad);
+    }
+    Ok(list)
+}
+
+/// The ids of an operand, none where it is absent.
+pub fn id_list(alloc: Global, words: &Words<'_>, name: &[u8]) -> Result<IdList, OperandError>
+    ensures ok { (ws : List grammar.Word) → LeavesWords words.now ws → IfOk result (λ list. HasShort IsId (operand name.now ws) list) }
+    ensures bad { (ws : List grammar.Word) → LeavesWords words.now ws → IfErr result (λ e. Excludes e ((list : List (List ℕ)) × HasShort IsId (operand name.now ws) list)) }
+{
+    let Some(word) = operand(words, name) else {
+        return Ok(IdList::new(alloc));
+    };
+    let list = ids(alloc, &word)?;
+    if list.len() > MOST {
+        return Err(OperandError::Bad);
+    }
+    Ok(list)
+}
+
+/// The sources of an operand, none where it is absent.
+pub fn source_list(
+    alloc: Global,
+    words: &Words<'_>,
+    name: &[u8],
+) -> Result<SourceList, OperandError>
+    ensures ok { (ws : List grammar.Word) → LeavesWords words.now ws → IfOk result (λ list. HasShort IsSource (operand name.now ws) list) }
+    ensures bad { (ws : List grammar.Word) → LeavesWords words.now ws → IfErr result (λ e. Excludes e ((list : List (List ℕ)) × HasShort IsSource (operand name.now ws) list)) }
+{
+    let Some(word) = operand(words, name) else {
+        return Ok(SourceList::new(alloc));
+    };
+    let list = sources(alloc, &word)?;
+    if list.len() > MOST {
+        return Err(OperandError::Bad);
+    }
+    Ok(list)
+}
