@@ -30,3 +30,4 @@ pub mod Exact
 pub mod ExactFiles
 pub mod ExactWords
 pub mod ExactCommands
+pub mod ExactOperands
