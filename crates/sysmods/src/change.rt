@@ -1,5 +1,9 @@
 //! Element statements.
+ghost use Rattle.std.specs.Prelude.{◌≡◌};
+ghost use Rattle.terms.specs.Global.{change_cmp};
+
 use fields::Name;
+use std::cmp::Ordering;
 use std::marker::Model;
 use terms::ElemType;
 use text80::Line;
@@ -37,4 +41,15 @@ impl Model for ElemChange {
     ghost view = { λ a. record { elem_type = a.elem_type; name = a.name; action = action_of a.action } };
 
     ghost invariant = { λ a. IsActionOf a.elem_type a.name (action_of a.action) };
+}
+
+impl ElemChange {
+    /// How their elements are ordered, by type and name.
+    pub fn order(&self, other: &ElemChange) -> Ordering
+        ensures { result ≡ change_cmp self.now other.now }
+    {
+        self.elem_type
+            .cmp(&other.elem_type)
+            .then(self.name.cmp(&other.name))
+    }
 }

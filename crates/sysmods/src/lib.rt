@@ -1,6 +1,7 @@
 //! SYSMODs as they are received: their `++VER`s with `++IF`s, their holds and what they change.
 #![tactic(auto)]
 
+mod adding;
 mod change;
 mod hold;
 mod sysmod;

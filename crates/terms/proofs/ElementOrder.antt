@@ -1,5 +1,5 @@
 -- The order of elements, by type and name, and the derived order of types, which is that of their numbers.
-use Rattle.std.proofs.Common.{◌≡◌, ◌==◌, ◌&&◌, ◌∙◌, sym, ap, Bool, refl}
+use Rattle.std.proofs.Common.{◌≡◌, ◌==◌, ◌&&◌, ◌∙◌, sym, ap, Bool, refl, arith}
 use Rattle.std.specs.declared.cmp.Ordering.{Ordering}
 use Rattle.std.specs.declared.cmp.Ordering.TheVariants.{Less, Equal, Greater}
 use Rattle.std.specs.Ordering.{nat_cmp, ordering_then, is_eq}
@@ -11,7 +11,8 @@ use Rattle.terms.specs.declared.kinds.ElemType.{ElemType}
 use Rattle.terms.specs.declared.kinds.ElemType.TheVariants.{Mac, Src, Clist, Data, Exec, Parm, Proc}
 use Rattle.terms.specs.contracts.kinds.ElemTypeOrd.TheImpl as type_order
 use Rattle.terms.specs.contracts.kinds.ElemTypePartialEq.TheImpl as type_equality
-use Rattle.terms.specs.Types.{Text, type_number}
+use Rattle.terms.specs.Types.{Text, type_number, Change}
+use Rattle.terms.specs.Global.{change_cmp}
 use Rattle.terms.specs.Lookups.{element_cmp}
 use Rattle.terms.specs.Delta.{element_eq}
 
@@ -136,3 +137,58 @@ element_ties a b =
     ap (λ t. t && bytes_eq a.1 b.1) (unsigned_ties (type_number a.0) (type_number b.0))
     ∙ ap (λ t. is_eq (nat_cmp (type_number a.0) (type_number b.0)) && t) (texts_ties a.1 b.1)
     ∙ sym (is_eq-then (nat_cmp (type_number a.0) (type_number b.0)) (slice_cmp nat_cmp a.1 b.1))
+
+-- the same of element statements
+pub change_cmp_total : IsTotalOrder change_cmp
+change_cmp_total = then_total (on_total (λ (c : Change). type_number c.elem_type) nat_cmp_total) (on_total (λ (c : Change). c.name) nat_list_cmp_total)
+
+pub type_from_number : (a b : ElemType) → type_number a ≡ type_number b → a ≡ b
+type_from_number Mac Mac e = refl
+type_from_number Mac Src e = absurd (omega (arith, e))
+type_from_number Mac Clist e = absurd (omega (arith, e))
+type_from_number Mac Data e = absurd (omega (arith, e))
+type_from_number Mac Exec e = absurd (omega (arith, e))
+type_from_number Mac Parm e = absurd (omega (arith, e))
+type_from_number Mac Proc e = absurd (omega (arith, e))
+type_from_number Src Mac e = absurd (omega (arith, e))
+type_from_number Src Src e = refl
+type_from_number Src Clist e = absurd (omega (arith, e))
+type_from_number Src Data e = absurd (omega (arith, e))
+type_from_number Src Exec e = absurd (omega (arith, e))
+type_from_number Src Parm e = absurd (omega (arith, e))
+type_from_number Src Proc e = absurd (omega (arith, e))
+type_from_number Clist Mac e = absurd (omega (arith, e))
+type_from_number Clist Src e = absurd (omega (arith, e))
+type_from_number Clist Clist e = refl
+type_from_number Clist Data e = absurd (omega (arith, e))
+type_from_number Clist Exec e = absurd (omega (arith, e))
+type_from_number Clist Parm e = absurd (omega (arith, e))
+type_from_number Clist Proc e = absurd (omega (arith, e))
+type_from_number Data Mac e = absurd (omega (arith, e))
+type_from_number Data Src e = absurd (omega (arith, e))
+type_from_number Data Clist e = absurd (omega (arith, e))
+type_from_number Data Data e = refl
+type_from_number Data Exec e = absurd (omega (arith, e))
+type_from_number Data Parm e = absurd (omega (arith, e))
+type_from_number Data Proc e = absurd (omega (arith, e))
+type_from_number Exec Mac e = absurd (omega (arith, e))
+type_from_number Exec Src e = absurd (omega (arith, e))
+type_from_number Exec Clist e = absurd (omega (arith, e))
+type_from_number Exec Data e = absurd (omega (arith, e))
+type_from_number Exec Exec e = refl
+type_from_number Exec Parm e = absurd (omega (arith, e))
+type_from_number Exec Proc e = absurd (omega (arith, e))
+type_from_number Parm Mac e = absurd (omega (arith, e))
+type_from_number Parm Src e = absurd (omega (arith, e))
+type_from_number Parm Clist e = absurd (omega (arith, e))
+type_from_number Parm Data e = absurd (omega (arith, e))
+type_from_number Parm Exec e = absurd (omega (arith, e))
+type_from_number Parm Parm e = refl
+type_from_number Parm Proc e = absurd (omega (arith, e))
+type_from_number Proc Mac e = absurd (omega (arith, e))
+type_from_number Proc Src e = absurd (omega (arith, e))
+type_from_number Proc Clist e = absurd (omega (arith, e))
+type_from_number Proc Data e = absurd (omega (arith, e))
+type_from_number Proc Exec e = absurd (omega (arith, e))
+type_from_number Proc Parm e = absurd (omega (arith, e))
+type_from_number Proc Proc e = refl

@@ -66,6 +66,14 @@ impl Numbered {
     {
         &self.lines
     }
+
+    /// The records, no longer as a text.
+    pub fn into_lines(self) -> Vec<Line>
+        ensures lines { result.items ≡ self }
+        ensures numbered { IsNumbered self }
+    {
+        self.lines
+    }
 }
 
 impl Clone for Numbered {

@@ -1,0 +1,10 @@
+pub mod Beginning
+pub mod Owning
+pub mod Ordering
+pub mod Remaining
+pub mod Excluding
+pub mod Saying
+pub mod Changing
+pub mod Versions
+pub mod Judging
+pub mod Filing

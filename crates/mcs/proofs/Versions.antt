@@ -1,0 +1,84 @@
+-- What a ++VER says, and why one says nothing.
+use Rattle.std.proofs.Common.{◌≡◌, ◌≢◌, ℕ, List, [], ◌∷◌, Option, Some, None, refl, sym, ◌∙◌, ap, subst}
+use Rattle.std.specs.Prelude.{All, Contains, IsSomeAnd, IfSome, codes, length, ◌<◌}
+use Rattle.terms.specs.declared.statement_words.StatementWord.{StatementWord}
+use Rattle.terms.specs.declared.statement_words.StatementWord.TheVariants as word
+use Rattle.terms.specs.Types.{Text, Id, Lines, Ver, Sysmod}
+use Rattle.terms.specs.Forms.{IsId, IsSrel}
+use Rattle.terms.specs.Statement.{Piece}
+use Rattle.terms.specs.Words.{Word, HasWords, IsShort}
+use Rattle.terms.specs.Operands.{operand, AreOperands, HasOptional}
+use Rattle.terms.specs.Statements.{SaysVer, HasOwn, SuitsKind, ver_operands, lists_of, IsVerOf}
+use Rattle.terms.specs.Ptfin.{HasValue, IsWithin}
+use Rattle.terms.proofs.ExactOperands.{optional-only, texts-only}
+use Rattle.terms.proofs.ExactWords.{words-only}
+use Rattle.operands.specs.declared.errors.OperandError.{OperandError}
+use Rattle.operands.specs.declared.errors.OperandError.TheVariants.{Memory, Bad}
+use Rattle.operands.specs.Failing.{Excludes}
+use Rattle.mcs.specs.VerOperands.{HasLists}
+use Rattle.mcs.specs.Said.{IsSaid, IsSaidError}
+use Rattle.mcs.specs.Statements.{value_error}
+use Rattle.mcs.proofs.Saying.{ver_excludes}
+
+pub a_ver : Text → Option Id → List Id → List Id → List Id → List Id → List Id → Ver
+a_ver srel fmid pre req sup npre del = record { srel = srel; fmid = fmid; pre = pre; req = req; sup = sup; npre = npre; del = del; ifs = [] }
+
+-- the operands of a ++VER, before any is compared with the SYSMOD
+pub record HasVer (own : Option Text) (ws : List Word) (v : Ver) : Type 0 where
+  pub has_srel : HasOwn IsSrel own v.srel
+  pub has_fmid : HasOptional IsId (operand (codes "FMID") ws) v.fmid
+  pub has_lists : HasLists ws v.pre v.req v.sup v.npre v.del
+  pub no_ifs : v.ifs ≡ []
+
+pub ver_is : (s : Sysmod) (own : Option Text) (ws : List Word) (v : Ver) → HasVer own ws v → AreOperands ver_operands ws → SuitsKind s.kind ws → v.fmid ≢ Some s.id → All (λ ids. Contains ids s.id → ⊥) (lists_of v) → IsVerOf s own ws v
+ver_is s own ws v h are suits fmid others = record {
+  srel = h.has_srel;
+  are_operands = are;
+  fmid = h.has_fmid;
+  pre = h.has_lists.has_pre;
+  req = h.has_lists.has_req;
+  sup = h.has_lists.has_sup;
+  npre = h.has_lists.has_npre;
+  del = h.has_lists.has_del;
+  suits = suits;
+  other_fmid = fmid;
+  others = others;
+  no_ifs = h.no_ifs;
+}
+
+pub lists_in : (s : Sysmod) (own : Option Text) (ws : List Word) (v : Ver) → IsVerOf s own ws v → HasLists ws v.pre v.req v.sup v.npre v.del
+lists_in s own ws v i = record { has_pre = i.pre; has_req = i.req; has_sup = i.sup; has_npre = i.npre; has_del = i.del }
+
+-- The FMID is determined.
+pub fmid_is : (s : Sysmod) (own : Option Text) (ws : List Word) (v w : Ver) → IsVerOf s own ws v → HasVer own ws w → w.fmid ≡ v.fmid
+fmid_is s own ws v w i h = optional-only IsId (operand (codes "FMID") ws) w.fmid v.fmid h.has_fmid i.fmid
+
+-- So are the lists.
+pub lists_are : (s : Sysmod) (own : Option Text) (ws : List Word) (v w : Ver) → IsVerOf s own ws v → HasVer own ws w → lists_of w ≡ lists_of v
+lists_are s own ws v w i h =
+    let a = texts-only IsId (operand (codes "PRE") ws) w.pre v.pre h.has_lists.has_pre i.pre in
+    let b = texts-only IsId (operand (codes "REQ") ws) w.req v.req h.has_lists.has_req i.req in
+    let c = texts-only IsId (operand (codes "SUP") ws) w.sup v.sup h.has_lists.has_sup i.sup in
+    let d = texts-only IsId (operand (codes "NPRE") ws) w.npre v.npre h.has_lists.has_npre i.npre in
+    let e = texts-only IsId (operand (codes "DELETE") ws) w.del v.del h.has_lists.has_del i.del in
+    cc (a, b, c, d, e)
+
+pub ver_value : (current : Option Sysmod) (s : Sysmod) (w : StatementWord) (own : Option Text) (rest : List Piece) (inline : Lines) (ws : List Word) (v : Ver) → current ≡ Some s → w ≡ word.Ver → HasWords rest ws → IsVerOf s own ws v → HasValue current w own rest inline (SaysVer v)
+ver_value current s w own rest inline ws v at is h i = (ws, h, (is, subst (λ c. IsSomeAnd c (λ x. IsVerOf x own ws v)) (sym at) i))
+
+pub ver_error : (current : Option Sysmod) (s : Sysmod) (w : StatementWord) (own : Option Text) (rest : List Piece) (inline : Lines) (ws : List Word) (error : OperandError) → current ≡ Some s → w ≡ word.Ver → HasWords rest ws → Excludes error ((v : Ver) × IsVerOf s own ws v) → IsSaidError current w own rest inline (value_error error)
+ver_error current s w own rest inline ws Memory at is h x = tt
+ver_error current s w own rest inline ws Bad at is h x =
+    ver_excludes current w own rest inline is (λ ws' v h' i.
+    let here : IsVerOf s own ws' v = subst (λ c. IsSomeAnd c (λ y. IsVerOf y own ws' v)) at i in
+    x (v, subst (λ l. IsVerOf s own l v) (words-only rest ws' ws h' h) here))
+
+pub ver_said : (current : Option Sysmod) (s : Sysmod) (w : StatementWord) (own : Option Text) (rest : List Piece) (inline : Lines) (ws : List Word) (v : Ver) → current ≡ Some s → w ≡ word.Ver → HasWords rest ws → IsVerOf s own ws v → (length s.vers < 8) × All IsShort (lists_of v) → IsSaid current w own rest inline (SaysVer v)
+ver_said current s w own rest inline ws v at is h i within = record {
+  value = ver_value current s w own rest inline ws v at is h i;
+  within = (subst (λ c. IfSome c (λ x. length x.vers < 8)) (sym at) within.0, within.1);
+  text = tt;
+}
+
+pub ver_within : (current : Option Sysmod) (s : Sysmod) (v : Ver) (inline : Lines) → current ≡ Some s → IsWithin current (SaysVer v) inline → (length s.vers < 8) × All IsShort (lists_of v)
+ver_within current s v inline at h = (subst (λ c. IfSome c (λ x. length x.vers < 8)) at h.0, h.1)

@@ -1,0 +1,23 @@
+-- The operands and the text of a replacement.
+use Rattle.std.specs.Prelude.{◌≡◌, ℕ, List, [], ◌∷◌, Option, codes}
+use Rattle.terms.specs.declared.kinds.ElemType.{ElemType}
+use Rattle.terms.specs.declared.codes.McCode.TheVariants.{Mc5}
+use Rattle.terms.specs.Types.{Text, Lines}
+use Rattle.terms.specs.Forms.{IsName}
+use Rattle.terms.specs.Words.{Word}
+use Rattle.terms.specs.Operands.{operand, AreOperands, HasRequired}
+use Rattle.terms.specs.Statements.{HasOwn}
+use Rattle.terms.specs.Texts.{IsReplacement}
+use Rattle.mcs.specs.declared.said.StatementError.{StatementError}
+use Rattle.mcs.specs.declared.said.StatementError.TheVariants.{Memory, Fault}
+
+-- DISTLIB and SYSLIB alone, and these names
+pub record HasNames (own : Option Text) (ws : List Word) (element distlib syslib : Text) : Type 0 where
+  pub name : HasOwn IsName own element
+  pub are_operands : AreOperands (codes "DISTLIB" ∷ codes "SYSLIB" ∷ []) ws
+  pub has_distlib : HasRequired IsName (operand (codes "DISTLIB") ws) distlib
+  pub has_syslib : HasRequired IsName (operand (codes "SYSLIB") ws) syslib
+
+abbrev pub IsTextError : ElemType → Lines → StatementError → Type 0
+IsTextError type inline Memory = Unit {0}
+IsTextError type inline (Fault code) = (code ≡ Mc5) × ¬ IsReplacement type inline

@@ -1,0 +1,7 @@
+pub mod Forms
+pub mod KnownWords
+pub mod Said
+pub mod Statements
+pub mod Elements
+pub mod VerOperands
+pub mod Files

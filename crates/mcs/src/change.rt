@@ -1,0 +1,143 @@
+ghost use Rattle.std.specs.Prelude.{◌≡◌, ◌↔◌, ◌≤◌, ◌<◌, ℕ, List, length, IsTrue, IfOk, IfErr, IfSome, IfNone};
+ghost use Rattle.terms.specs.declared.statement_words.StatementWord.TheVariants as word;
+ghost use Rattle.terms.specs.Words as grammar;
+ghost use Rattle.terms.specs.Statement.{Piece, HasSolid};
+ghost use Rattle.terms.specs.Texts.{IsReplacement};
+ghost use Rattle.rec80.specs.Views.{left_of};
+ghost use Rattle.mcs.specs.KnownWords.{own_list};
+ghost use Rattle.mcs.specs.Elements.{HasNames, IsTextError};
+ghost use Rattle.mcs.specs.Said.{IsSaid, IsSaidError};
+ghost use Rattle.mcs.specs.Statements.{statement_of};
+
+use crate::begin::Known;
+use crate::own::one_name;
+use crate::said::{Statement, StatementError};
+use crate::values::{are_operands, required_name};
+use rec80::Record;
+use std::alloc::{AllocError, Global};
+use sysmods::{Action, ElemChange, ElemType, Name, Sysmod};
+use terms::McCode;
+use text80::{Line, Numbered};
+
+/// The operands of a replacement.
+const OPERANDS: &[&[u8]] = &[b"DISTLIB", b"SYSLIB"];
+
+/// The names of an element and its libraries.
+#[derive(Clone, Copy, Debug)]
+struct Names {
+    name: Name,
+    distlib: Name,
+    syslib: Name,
+}
+
+fn read_names(known: &Known<'_>) -> Option<Names>
+    ensures some { (rest : List Piece) → HasSolid (left_of known.now.rest) rest
+        → IfSome result (λ n. (ws : List grammar.Word) × grammar.HasWords rest ws × HasNames (own_list known.now) ws n.name n.distlib n.syslib) }
+    ensures none { (rest : List Piece) → HasSolid (left_of known.now.rest) rest
+        → IfNone result ((ws : List grammar.Word) (name distlib syslib : List ℕ) → grammar.HasWords rest ws → HasNames (own_list known.now) ws name distlib syslib → ⊥) }
+{
+    if !are_operands(&known.rest, OPERANDS) {
+        return None;
+    }
+    let Some(name) = one_name(&known.first) else {
+        return None;
+    };
+    let Some(distlib) = required_name(&known.rest, b"DISTLIB") else {
+        return None;
+    };
+    let Some(syslib) = required_name(&known.rest, b"SYSLIB") else {
+        return None;
+    };
+    Some(Names {
+        name,
+        distlib,
+        syslib,
+    })
+}
+
+fn lines(alloc: Global, inline: &[Record]) -> Result<Vec<Line>, AllocError>
+    ensures { IfOk result (λ lines. lines.items ≡ inline.now) }
+{
+    let mut lines = Vec::with_capacity(alloc, inline.len())?;
+    for card in inline {
+        lines.push(Line::new(*card))?;
+    }
+    Ok(lines)
+}
+
+/// The records as the text of a replacement.
+fn text_of(
+    alloc: Global,
+    elem_type: ElemType,
+    inline: &[Record],
+) -> Result<Vec<Line>, StatementError>
+    ensures text { IfOk result (λ lines. lines.items ≡ inline.now) }
+    ensures good { IfOk result (λ lines. IsReplacement elem_type inline.now) }
+    ensures bad { IfErr result (IsTextError elem_type inline.now) }
+{
+    if inline.is_empty() {
+        return Err(StatementError::Fault(McCode::Mc5));
+    }
+    let lines = lines(alloc, inline)?;
+    match elem_type {
+        ElemType::Mac | ElemType::Src => match Numbered::read(lines) {
+            Ok(text) => Ok(text.into_lines()),
+            Err(_) => Err(StatementError::Fault(McCode::Mc5)),
+        },
+        ElemType::Clist | ElemType::Data | ElemType::Exec | ElemType::Parm | ElemType::Proc => {
+            Ok(lines)
+        }
+    }
+}
+
+/// What a replacement says.
+pub fn change_statement(
+    alloc: Global,
+    current: &Option<Sysmod>,
+    elem_type: ElemType,
+    known: &Known<'_>,
+) -> Result<Statement, StatementError>
+    requires { known.now.word ≡ word.Replace elem_type }
+    ensures said { (rest : List Piece) → HasSolid (left_of known.now.rest) rest
+        → IfOk result (λ s. IsSaid current.now known.now.word (own_list known.now) rest known.now.rest.inline.now (statement_of s)) }
+    ensures fault { (rest : List Piece) → HasSolid (left_of known.now.rest) rest
+        → IfErr result (IsSaidError current.now known.now.word (own_list known.now) rest known.now.rest.inline.now) }
+{
+    let Some(names) = read_names(known) else {
+        return Err(StatementError::Fault(McCode::Mc3));
+    };
+    let inline = known.rest.inline;
+    if !is_within(current, inline) {
+        return Err(StatementError::Fault(McCode::Mc6));
+    }
+    let lines = match text_of(alloc, elem_type, inline) {
+        Ok(lines) => lines,
+        Err(error) => return Err(error),
+    };
+    let Names {
+        name,
+        distlib,
+        syslib,
+    } = names;
+    let action = Action::Replaces {
+        distlib,
+        syslib,
+        lines,
+    };
+    Ok(Statement::Change(ElemChange {
+        elem_type,
+        name,
+        action,
+    }))
+}
+
+/// Whether the SYSMOD may have one element more, and the text is no longer than the limit.
+fn is_within(current: &Option<Sysmod>, inline: &[Record]) -> bool
+    ensures { IsTrue result ↔ (IfSome current.now (λ s. length s.changes < 999) × (length inline.now ≤ 99999)) }
+{
+    let fits = match current {
+        Some(sysmod) => sysmod.changes.len() < 999,
+        None => true,
+    };
+    fits && inline.len() <= 99999
+}

@@ -1,0 +1,37 @@
+ghost use Rattle.std.specs.Prelude.{◌≡◌, List, IfOk, IfErr};
+ghost use Rattle.terms.specs.declared.statement_words.StatementWord.TheVariants as word;
+ghost use Rattle.terms.specs.Statement.{Piece, HasSolid};
+ghost use Rattle.rec80.specs.Views.{left_of};
+ghost use Rattle.mcs.specs.KnownWords.{own_list};
+ghost use Rattle.mcs.specs.Said.{IsSaid, IsSaidError};
+ghost use Rattle.mcs.specs.Statements.{statement_of};
+
+use crate::begin::Known;
+use crate::own::one_id;
+use crate::said::{Statement, StatementError};
+use sysmods::Sysmod;
+use terms::{Kind, McCode};
+
+/// What a header says.
+pub fn header_statement(
+    current: &Option<Sysmod>,
+    kind: Kind,
+    known: &Known<'_>,
+) -> Result<Statement, StatementError>
+    requires { known.now.word ≡ word.Header kind }
+    ensures said { (rest : List Piece) → HasSolid (left_of known.now.rest) rest
+        → IfOk result (λ s. IsSaid current.now known.now.word (own_list known.now) rest known.now.rest.inline.now (statement_of s)) }
+    ensures fault { (rest : List Piece) → HasSolid (left_of known.now.rest) rest
+        → IfErr result (IsSaidError current.now known.now.word (own_list known.now) rest known.now.rest.inline.now) }
+{
+    let mut words = known.rest;
+    match words.next_word() {
+        Ok(None) => {}
+        Ok(Some(_)) => return Err(StatementError::Fault(McCode::Mc3)),
+        Err(_) => return Err(StatementError::Fault(McCode::Mc3)),
+    }
+    match one_id(&known.first) {
+        Some(id) => Ok(Statement::Header(kind, id)),
+        None => Err(StatementError::Fault(McCode::Mc3)),
+    }
+}

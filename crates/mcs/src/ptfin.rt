@@ -1,0 +1,63 @@
+ghost use Rattle.std.specs.Prelude.{◌≡◌, ℕ, List, [], IfOk, IfErr};
+ghost use Rattle.terms.specs.Statements.{Statement as AnyStatement};
+ghost use Rattle.terms.specs.Ptfin.{SoFar as AnySoFar, nothing, items_of, BeginsWithStatements, IsPtfin};
+ghost use Rattle.mcs.specs.Files.{items, so_far, IsPtfinError, IsRestError};
+
+use crate::error::McsError;
+use crate::file::{Item, SoFar};
+use crate::said::StatementError;
+use crate::statement::read_statement;
+use rec80::{Groups, records};
+use std::alloc::Global;
+use terms::McCode;
+
+/// What the statements make.
+fn read_statements(alloc: Global, groups: Groups<'_>) -> Result<SoFar, McsError>
+    ensures good { IfOk result (λ d. (ss : List AnyStatement) × (m : ℕ)
+        × BeginsWithStatements nothing groups.entry.number groups.entry.rest.now ss (so_far d) m []) }
+    ensures fault { IfErr result (IsRestError nothing groups.entry.number groups.entry.rest.now) }
+{
+    let mut left = groups;
+    let mut made = SoFar::new(alloc);
+    while let Some(group) = left.next_group() {
+        match read_statement(alloc, &made.current, left.rest, &group) {
+            Ok(statement) => made = made.and(alloc, statement)?,
+            Err(StatementError::Memory) => return Err(McsError::Memory),
+            Err(StatementError::Fault(code)) => {
+                return Err(McsError::Fault {
+                    record: group.number,
+                    code,
+                });
+            }
+        }
+    }
+    Ok(made)
+}
+
+/// The SYSMODs of a PTFIN, or its first fault.
+pub fn read_ptfin(alloc: Global, bytes: &[u8]) -> Result<Vec<Item>, McsError>
+    ensures items { IfOk result (λ found. IsPtfin bytes.now (items found.items)) }
+    ensures fault { IfErr result (IsPtfinError bytes.now) }
+{
+    let file = match records(bytes) {
+        Ok(file) => file,
+        Err(error) => {
+            return Err(McsError::Fault {
+                record: error.record(),
+                code: McCode::Mc1,
+            });
+        }
+    };
+    let Ok(groups) = file.groups() else {
+        return Err(McsError::Fault {
+            record: 1,
+            code: McCode::Mc4,
+        });
+    };
+    let made = match read_statements(alloc, groups) {
+        Ok(made) => made,
+        Err(error) => return Err(error),
+    };
+    let found = made.into_items()?;
+    Ok(found)
+}

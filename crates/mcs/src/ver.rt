@@ -1,0 +1,201 @@
+ghost use Rattle.std.specs.Prelude.{◌≡◌, ◌↔◌, ◌<◌, ℕ, length, List, [], not, All, IsTrue, IfOk, IfErr, Some};
+ghost use Rattle.terms.specs.declared.statement_words.StatementWord.TheVariants as word;
+ghost use Rattle.terms.specs.Types.{Ver as AnyVer};
+ghost use Rattle.std.specs.List.{list_all};
+ghost use Rattle.terms.specs.Lookups.{is_in};
+ghost use Rattle.terms.specs.Words as grammar;
+ghost use Rattle.terms.specs.Statement.{Piece, HasSolid};
+ghost use Rattle.terms.specs.Statements.{IsVerOf, SuitsKind, ver_operands, lists_of};
+ghost use Rattle.terms.specs.Operands.{AreOperands};
+ghost use Rattle.terms.specs.Words.{IsShort};
+ghost use Rattle.operands.specs.Left.{LeavesWords};
+ghost use Rattle.operands.specs.Failing.{Excludes};
+ghost use Rattle.rec80.specs.Views.{left_of};
+ghost use Rattle.mcs.specs.KnownWords.{own_list};
+ghost use Rattle.mcs.specs.VerOperands.{HasLists};
+ghost use Rattle.mcs.specs.Said.{IsSaid, IsSaidError};
+ghost use Rattle.mcs.specs.Statements.{statement_of};
+
+use crate::begin::Known;
+use crate::own::one_srel;
+use crate::said::{Statement, StatementError, no_value};
+use crate::values::{are_operands, listed_ids, optional_id};
+use fields::{Id, IdList, Srel};
+use operands::{OperandError, operand};
+use rec80::Words;
+use std::alloc::Global;
+use sysmods::{Kind, Sysmod, Ver};
+use terms::McCode;
+
+/// The operands of `++VER`.
+const OPERANDS: &[&[u8]] = &[b"FMID", b"PRE", b"REQ", b"SUP", b"NPRE", b"DELETE"];
+
+/// Whether the operands are those of a SYSMOD of the kind.
+fn suits_kind(kind: Kind, words: &Words<'_>) -> bool
+    ensures { (ws : List grammar.Word) → LeavesWords words.now ws → IsTrue result ↔ SuitsKind kind ws }
+{
+    match kind {
+        Kind::Function => true,
+        Kind::Ptf | Kind::Apar | Kind::Usermod => {
+            operand(words, b"FMID").is_some()
+                && operand(words, b"NPRE").is_none()
+                && operand(words, b"DELETE").is_none()
+        }
+    }
+}
+
+/// Whether the list does not name the SYSMOD.
+fn is_free_of(own: Id, ids: &IdList) -> bool
+    ensures { result ≡ not (is_in ids.now own) }
+{
+    !ids.contains(own)
+}
+
+/// Whether no list names the SYSMOD.
+fn names_others(own: Id, ver: &Ver) -> bool
+    ensures { result ≡ list_all (λ ids. not (is_in ids own)) (lists_of ver.now) }
+{
+    is_free_of(own, &ver.pre)
+        && is_free_of(own, &ver.req)
+        && is_free_of(own, &ver.sup)
+        && is_free_of(own, &ver.npre)
+        && is_free_of(own, &ver.del)
+}
+
+/// The lists of a `++VER`.
+#[derive(Drop)]
+struct VerLists {
+    pre: IdList,
+    req: IdList,
+    sup: IdList,
+    npre: IdList,
+    del: IdList,
+}
+
+/// Whether its FMID is this id.
+fn has_fmid(ver: &Ver, id: Id) -> bool
+    ensures { IsTrue result ↔ (ver.now.fmid ≡ Some id) }
+{
+    match ver.fmid {
+        Some(other) => other == id,
+        None => false,
+    }
+}
+
+fn read_lists(alloc: Global, words: &Words<'_>) -> Result<VerLists, OperandError>
+    ensures ok { (ws : List grammar.Word) → LeavesWords words.now ws → IfOk result (λ lists. HasLists ws lists.pre lists.req lists.sup lists.npre lists.del) }
+    ensures bad { (ws : List grammar.Word) → LeavesWords words.now ws
+        → IfErr result (λ e. Excludes e ((pre req sup npre del : List (List ℕ)) × HasLists ws pre req sup npre del)) }
+{
+    let pre = listed_ids(alloc, words, b"PRE")?;
+    let req = listed_ids(alloc, words, b"REQ")?;
+    let sup = listed_ids(alloc, words, b"SUP")?;
+    let npre = listed_ids(alloc, words, b"NPRE")?;
+    let del = listed_ids(alloc, words, b"DELETE")?;
+    Ok(VerLists {
+        pre,
+        req,
+        sup,
+        npre,
+        del,
+    })
+}
+
+fn made_of(alloc: Global, srel: Srel, fmid: Option<Id>, lists: VerLists) -> Ver
+    ensures { result ≡ record { srel = srel; fmid = fmid; pre = lists.pre; req = lists.req; sup = lists.sup; npre = lists.npre; del = lists.del; ifs = [] } }
+{
+    let VerLists {
+        pre,
+        req,
+        sup,
+        npre,
+        del,
+    } = lists;
+    Ver {
+        srel,
+        fmid,
+        pre,
+        req,
+        sup,
+        npre,
+        del,
+        ifs: Vec::new(alloc),
+    }
+}
+
+/// The `++VER`, whose operands are known ones.
+fn read_ver(alloc: Global, sysmod: &Sysmod, known: &Known<'_>) -> Result<Ver, OperandError>
+    ensures ok { (ws : List grammar.Word) → LeavesWords known.now.rest ws → AreOperands ver_operands ws
+        → IfOk result (λ v. IsVerOf sysmod.now (own_list known.now) ws v) }
+    ensures bad { (ws : List grammar.Word) → LeavesWords known.now.rest ws
+        → IfErr result (λ e. Excludes e ((v : AnyVer) × IsVerOf sysmod.now (own_list known.now) ws v)) }
+{
+    let Some(srel) = one_srel(&known.first) else {
+        return Err(OperandError::Bad);
+    };
+    if !suits_kind(sysmod.kind, &known.rest) {
+        return Err(OperandError::Bad);
+    }
+    let fmid = match optional_id(&known.rest, b"FMID") {
+        Ok(fmid) => fmid,
+        Err(_) => return Err(OperandError::Bad),
+    };
+    let lists = match read_lists(alloc, &known.rest) {
+        Ok(lists) => lists,
+        Err(error) => return Err(error),
+    };
+    let ver = made_of(alloc, srel, fmid, lists);
+    if has_fmid(&ver, sysmod.id) {
+        return Err(OperandError::Bad);
+    }
+    if !names_others(sysmod.id, &ver) {
+        return Err(OperandError::Bad);
+    }
+    Ok(ver)
+}
+
+/// Whether no list is longer than the limit.
+fn are_short(ver: &Ver) -> bool
+    ensures { IsTrue result ↔ All IsShort (lists_of ver.now) }
+{
+    ver.pre.len() <= 1000
+        && ver.req.len() <= 1000
+        && ver.sup.len() <= 1000
+        && ver.npre.len() <= 1000
+        && ver.del.len() <= 1000
+}
+
+/// Whether the SYSMOD may have this `++VER` too.
+fn is_within(sysmod: &Sysmod, ver: &Ver) -> bool
+    ensures { IsTrue result ↔ ((length sysmod.now.vers < 8) × All IsShort (lists_of ver.now)) }
+{
+    sysmod.vers.len() < 8 && are_short(ver)
+}
+
+/// What a `++VER` says.
+pub fn ver_statement(
+    alloc: Global,
+    current: &Option<Sysmod>,
+    known: &Known<'_>,
+) -> Result<Statement, StatementError>
+    requires { known.now.word ≡ word.Ver }
+    ensures said { (rest : List Piece) → HasSolid (left_of known.now.rest) rest
+        → IfOk result (λ s. IsSaid current.now known.now.word (own_list known.now) rest known.now.rest.inline.now (statement_of s)) }
+    ensures fault { (rest : List Piece) → HasSolid (left_of known.now.rest) rest
+        → IfErr result (IsSaidError current.now known.now.word (own_list known.now) rest known.now.rest.inline.now) }
+{
+    let Some(sysmod) = current else {
+        return Err(StatementError::Fault(McCode::Mc3));
+    };
+    if !are_operands(&known.rest, OPERANDS) {
+        return Err(StatementError::Fault(McCode::Mc3));
+    }
+    let ver = match read_ver(alloc, sysmod, known) {
+        Ok(ver) => ver,
+        Err(error) => return Err(no_value(error)),
+    };
+    if !is_within(sysmod, &ver) {
+        return Err(StatementError::Fault(McCode::Mc6));
+    }
+    Ok(Statement::Ver(ver))
+}

@@ -1,0 +1,91 @@
+//! A SYSMOD grows by the statements behind its header.
+ghost use Rattle.std.specs.Prelude.{◌≡◌, ◌≤◌, ◌<◌, ◌↔◌, ◌&&◌, ◌==◌, length, take, drop, IsTrue, IfOk, IfErr, OnOk, OnErr};
+ghost use Rattle.std.specs.List.{list_any};
+ghost use Rattle.std.specs.Str.{bytes_eq};
+ghost use Rattle.std.specs.Ordering.{nat_cmp};
+ghost use Rattle.std.specs.Cmp.Lexicographic.{slice_cmp};
+ghost use Rattle.terms.specs.Types.{Ver as AnyVer, Change as AnyChange, type_number};
+ghost use Rattle.terms.specs.Rising.{Rises, Splits, Stands};
+ghost use Rattle.terms.specs.Global.{change_cmp};
+ghost use Rattle.terms.specs.Ptfin.{new_sysmod, with_ver, with_change};
+
+use crate::{ElemChange, Sysmod, Ver};
+use fields::{Id, Name, SourceList, Srel};
+use std::alloc::{AllocError, Global};
+use terms::{ElemType, Kind};
+
+impl Sysmod {
+    /// The SYSMOD of a header alone.
+    pub fn new(alloc: Global, kind: Kind, id: Id) -> Sysmod
+        ensures { result ≡ new_sysmod kind id }
+    {
+        Sysmod {
+            id,
+            kind,
+            sources: SourceList::new(alloc),
+            vers: Vec::new(alloc),
+            changes: Vec::new(alloc),
+            holds: Vec::new(alloc),
+        }
+    }
+
+    /// Whether it has a `++VER` for the release.
+    pub fn has_srel(&self, srel: Srel) -> bool
+        ensures { result ≡ list_any (λ v. bytes_eq v.srel srel) self.now.vers }
+    {
+        self.vers.iter().any(|ver| ver.srel == srel)
+    }
+
+    /// Whether it changes the element.
+    pub fn has_change(&self, elem_type: ElemType, name: Name) -> bool
+        ensures { result ≡ list_any (λ c. (type_number c.elem_type == type_number elem_type) && bytes_eq c.name name) self.now.changes }
+    {
+        self.changes.iter().any(|change| change.elem_type == elem_type && change.name == name)
+    }
+
+    /// The `++VER` comes in at its place, where it takes the place of one of its SREL.
+    pub fn add_ver(&mut self, ver: Ver) -> Result<(), AllocError>
+        ensures ok { OnOk result (self.new ≡ with_ver ver self.old) }
+        ensures err { OnErr result (self.new ≡ self.old) }
+    {
+        match ver_place(&self.vers, ver.srel) {
+            Ok(place) => self.vers[place] = ver,
+            Err(place) => self.vers.insert(place, ver)?,
+        }
+        Ok(())
+    }
+
+    /// The element statement comes in at its place, where it takes the place of one for its element.
+    pub fn add_change(&mut self, change: ElemChange) -> Result<(), AllocError>
+        ensures ok { OnOk result (self.new ≡ with_change change self.old) }
+        ensures err { OnErr result (self.new ≡ self.old) }
+    {
+        match change_place(&self.changes, &change) {
+            Ok(place) => self.changes[place] = change,
+            Err(place) => self.changes.insert(place, change)?,
+        }
+        Ok(())
+    }
+}
+
+/// Where the `++VER` of the SREL stands, or would come in.
+fn ver_place(vers: &[Ver], srel: Srel) -> Result<usize, usize>
+    requires { Rises (slice_cmp nat_cmp) (λ v. v.srel) vers.now }
+    ensures found { IfOk result
+        (λ i. (i < length vers.now) × ((x : AnyVer) × Stands (slice_cmp nat_cmp) (λ v. v.srel) srel vers.now i x)) }
+    ensures missing { IfErr result
+        (λ i. (i ≤ length vers.now) × Splits (slice_cmp nat_cmp) (λ v. v.srel) srel (take i vers.now) (drop i vers.now)) }
+{
+    vers.binary_search_by_key(&srel, |ver| ver.srel)
+}
+
+/// Where a statement for the element of this one stands, or would come in.
+fn change_place(changes: &[ElemChange], change: &ElemChange) -> Result<usize, usize>
+    requires { Rises change_cmp (λ c. c) changes.now }
+    ensures found { IfOk result
+        (λ i. (i < length changes.now) × ((x : AnyChange) × Stands change_cmp (λ c. c) change.now changes.now i x)) }
+    ensures missing { IfErr result
+        (λ i. (i ≤ length changes.now) × Splits change_cmp (λ c. c) change.now (take i changes.now) (drop i changes.now)) }
+{
+    changes.binary_search_by(|other| other.order(change))
+}
