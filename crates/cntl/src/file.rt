@@ -1,9 +1,10 @@
 //! Whole files.
-ghost use Rattle.std.specs.Prelude.{◌≡◌, ◌<◌, ℕ, List, length, map, IfOk, IfErr, IfSome, IfNone};
+ghost use Rattle.std.specs.Prelude.{◌≡◌, ◌<◌, ℕ, List, length, map, IfOk, IfErr, IfSome, IfNone, OnOk};
+ghost use Rattle.terms.specs.Types as terms;
 ghost use Rattle.terms.specs.Statement.{Piece, IsIdle, joined};
 ghost use Rattle.terms.specs.CommandCuts.{TakesCommand};
 ghost use Rattle.terms.specs.CommandForms.{IsCommand};
-ghost use Rattle.terms.specs.Commands.{IsCommandFile};
+ghost use Rattle.terms.specs.Commands.{CntlFault, IsCommandFile, IsCommandFileFault};
 ghost use Rattle.cntl.specs.Views.{command_of};
 ghost use Rattle.cntl.specs.Faults.{FailsNext, FailsFile};
 
@@ -43,8 +44,7 @@ fn read_next(alloc: Global, left: &mut Commands<'_>) -> Result<Option<Command>, 
     }
 }
 
-/// The commands of a command file, or its first fault.
-pub fn read_cntl(alloc: Global, bytes: &[u8]) -> Result<Vec<Command>, CntlError>
+fn read_all(alloc: Global, bytes: &[u8]) -> Result<Vec<Command>, CntlError>
     ensures commands { IfOk result (λ read. IsCommandFile bytes.now (map command_of read.items)) }
     ensures fault { IfErr result (λ e. FailsFile bytes.now e) }
 {
@@ -63,4 +63,14 @@ pub fn read_cntl(alloc: Global, bytes: &[u8]) -> Result<Vec<Command>, CntlError>
         read.push(command)?;
     }
     Ok(read)
+}
+
+/// The commands of a command file, or its first fault.
+pub fn read_cntl(alloc: Global, bytes: &[u8]) -> Result<Vec<Command>, CntlError>
+    ensures commands { IfOk result (λ read. IsCommandFile bytes.now (map command_of read.items)) }
+    ensures good { (cs : List terms.Command) → IsCommandFile bytes.now cs → IfErr result (λ e. e ≡ CntlError.Memory) }
+    ensures fault { IfErr result (λ e. FailsFile bytes.now e) }
+    ensures faulty { (fault : CntlFault) → IsCommandFileFault bytes.now fault → OnOk result ⊥ }
+{
+    read_all(alloc, bytes)
 }

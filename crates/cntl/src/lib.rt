@@ -14,6 +14,5 @@ mod tests;
 mod values;
 
 pub use command::{Command, Install, ReceiveWhat, RestoreList, Selection};
-pub use errors::{CntlError, CommandError};
+pub use errors::CntlError;
 pub use file::read_cntl;
-pub use read::read_command;

@@ -36,6 +36,8 @@ pub mod Apart
 pub mod OperandWords
 pub mod ExactOperands
 pub mod CommandLines
+pub mod ExactValues
+pub mod ExactCommandFiles
 pub mod ExactFiles
 pub mod ExactWords
 pub mod ExactCommands

@@ -1,0 +1,222 @@
+-- A command is determined by its pieces, and no pieces are both a command and at fault.
+use Rattle.std.proofs.Common.{◌≡◌, ◌≢◌, ◌≤◌, Bool, true, false, List, [], ◌∷◌, map, get_or, Option, Some, None, refl, sym, ◌∙◌, ap, subst, arith, cond}
+use Rattle.std.specs.Prelude.{All, AllPairs, IsSomeAnd, codes, not, if◌then◌else◌}
+use Rattle.std.specs.Str.{bytes_eq}
+use Rattle.std.proofs.lemmas.Bool.{true≢false, false_from_ne_true}
+use Rattle.std.proofs.lemmas.List.Folds.{list_any_none}
+use Rattle.std.proofs.lemmas.List.Elements.{All-head, All-tail}
+use Rattle.std.proofs.lemmas.Slice.Eq.{bytes_eq-Decides}
+use Rattle.std.proofs.lemmas.Cmp.{nat_list_eq_equiv}
+use Rattle.terms.specs.declared.codes.CommandWord.{CommandWord}
+use Rattle.terms.specs.declared.codes.CommandWord.TheVariants as word
+use Rattle.terms.specs.declared.codes.CnCode.{CnCode}
+use Rattle.terms.specs.declared.codes.CnCode.TheVariants.{Cn1, Cn2, Cn3, Cn4, Cn5}
+use Rattle.terms.specs.Types.{Text, Selection, Install, RestoreList, RestoreSelect, RestoreGroup, ReceiveWhat, Command, Set, Receive, Reject, Apply, Accept, Restore, ListZone, Report}
+use Rattle.terms.specs.Forms.{IsId, IsSource, IsZoneName}
+use Rattle.terms.specs.Statement.{Piece}
+use Rattle.terms.specs.Words.{Word, HasWords}
+use Rattle.terms.specs.Operands.{operand, HasSorted}
+use Rattle.terms.specs.CommandForms.{operands_of, command_word, BothOrNamed, HasSome, HasReceive, HasSelection, HasInstall, HasRestoreList, HasOperands, IsCommand}
+use Rattle.terms.specs.Commands.{words_in, is_often, has_double, is_unchosen, BeginsWith, IsCommandFault}
+use Rattle.terms.proofs.Apart.{pairs_map}
+use Rattle.terms.proofs.RisingLists.{AllPairs-first, AllPairs-rest}
+use Rattle.terms.proofs.ExactWords.{words-only}
+use Rattle.terms.proofs.ExactOperands.{required-only, optional-only, texts-only, some-only, flag-only}
+use Rattle.terms.proofs.OperandWords.{count, count_same, count_other, words_of, often, seldom}
+use Rattle.terms.proofs.CommandLines.{begins-only, of_command}
+
+both-only : (a b : Option Word) (s s' h h' : Bool) → BothOrNamed a b s h → BothOrNamed a b s' h' → (s ≡ s') × (h ≡ h')
+both-only None None s s' h h' x y = (x.0 ∙ sym y.0, x.1 ∙ sym y.1)
+both-only None (Some w) s s' h h' x y = (x.0 ∙ sym y.0, flag-only (Some w) h h' x.1 y.1)
+both-only (Some w) b s s' h h' x y = (flag-only (Some w) s s' x.0 y.0, flag-only b h h' x.1 y.1)
+
+abbrev what : Bool → Bool → Option Text → ReceiveWhat
+what s h source = record { sysmods = s; holddata = h; source = source }
+
+receive-only : (ws : List Word) (a b : ReceiveWhat) → HasReceive ws a → HasReceive ws b → a ≡ b
+receive-only ws a b h k =
+    let both = both-only (operand (codes "SYSMODS") ws) (operand (codes "HOLDDATA") ws) a.sysmods b.sysmods a.holddata b.holddata h.both k.both in
+    let source = optional-only IsSource (operand (codes "SOURCEID") ws) a.source b.source h.source k.source in
+    ap (λ x. what x a.holddata a.source) both.0 ∙ ap (λ x. what b.sysmods x a.source) both.1 ∙ ap (λ x. what b.sysmods b.holddata x) source
+
+abbrev make : Bool → Bool → Bool → Bool → List Text → List Text → List Text → List Text → List Text → Bool → Selection
+make x0 x1 x2 x3 x4 x5 x6 x7 x8 x9 = record { functions = x0; ptfs = x1; apars = x2; usermods = x3; select = x4; exclude = x5; sourceid = x6; forfmid = x7; group = x8; groupextend = x9 }
+
+selection-only : (ws : List Word) (s t : Selection) → HasSelection ws s → HasSelection ws t → s ≡ t
+selection-only ws s t h k =
+    let e0 : s.functions ≡ t.functions = flag-only (operand (codes "FUNCTIONS") ws) s.functions t.functions h.functions k.functions in
+    let e1 : s.ptfs ≡ t.ptfs = flag-only (operand (codes "PTFS") ws) s.ptfs t.ptfs h.ptfs k.ptfs in
+    let e2 : s.apars ≡ t.apars = flag-only (operand (codes "APARS") ws) s.apars t.apars h.apars k.apars in
+    let e3 : s.usermods ≡ t.usermods = flag-only (operand (codes "USERMODS") ws) s.usermods t.usermods h.usermods k.usermods in
+    let e4 : s.select ≡ t.select = texts-only IsId (operand (codes "SELECT") ws) s.select t.select h.select.0 k.select.0 in
+    let e5 : s.exclude ≡ t.exclude = texts-only IsId (operand (codes "EXCLUDE") ws) s.exclude t.exclude h.exclude.0 k.exclude.0 in
+    let e6 : s.sourceid ≡ t.sourceid = texts-only IsSource (operand (codes "SOURCEID") ws) s.sourceid t.sourceid h.sourceid.0 k.sourceid.0 in
+    let e7 : s.forfmid ≡ t.forfmid = texts-only IsId (operand (codes "FORFMID") ws) s.forfmid t.forfmid h.forfmid.0 k.forfmid.0 in
+    let e8 : s.group ≡ t.group = texts-only IsId (operand (codes "GROUP") ws) s.group t.group h.group.0 k.group.0 in
+    let e9 : s.groupextend ≡ t.groupextend = flag-only (operand (codes "GROUPEXTEND") ws) s.groupextend t.groupextend h.groupextend k.groupextend in
+    ap (λ x. make x s.ptfs s.apars s.usermods s.select s.exclude s.sourceid s.forfmid s.group s.groupextend) e0
+    ∙ ap (λ x. make t.functions x s.apars s.usermods s.select s.exclude s.sourceid s.forfmid s.group s.groupextend) e1
+    ∙ ap (λ x. make t.functions t.ptfs x s.usermods s.select s.exclude s.sourceid s.forfmid s.group s.groupextend) e2
+    ∙ ap (λ x. make t.functions t.ptfs t.apars x s.select s.exclude s.sourceid s.forfmid s.group s.groupextend) e3
+    ∙ ap (λ x. make t.functions t.ptfs t.apars t.usermods x s.exclude s.sourceid s.forfmid s.group s.groupextend) e4
+    ∙ ap (λ x. make t.functions t.ptfs t.apars t.usermods t.select x s.sourceid s.forfmid s.group s.groupextend) e5
+    ∙ ap (λ x. make t.functions t.ptfs t.apars t.usermods t.select t.exclude x s.forfmid s.group s.groupextend) e6
+    ∙ ap (λ x. make t.functions t.ptfs t.apars t.usermods t.select t.exclude t.sourceid x s.group s.groupextend) e7
+    ∙ ap (λ x. make t.functions t.ptfs t.apars t.usermods t.select t.exclude t.sourceid t.forfmid x s.groupextend) e8
+    ∙ ap (λ x. make t.functions t.ptfs t.apars t.usermods t.select t.exclude t.sourceid t.forfmid t.group x) e9
+
+install-only : (ws : List Word) (i j : Install) → HasInstall ws i → HasInstall ws j → i ≡ j
+install-only ws i j h k =
+    ap (λ x. record i { selection = x }) (selection-only ws i.selection j.selection h.selection k.selection)
+    ∙ ap (λ x. record i { selection = j.selection; bypass = x }) (h.bypass ∙ sym k.bypass)
+    ∙ ap (λ x. record j { check = x }) (flag-only (operand (codes "CHECK") ws) i.check j.check h.check k.check)
+
+none_some : (found : Option Word) (ids : List Text) → found ≡ None → HasSome IsId found ids → ⊥
+none_some None ids none h = h.0
+none_some (Some w) ids none h = cc (none)
+
+list-only : (ws : List Word) (a b : RestoreList) → HasRestoreList ws a → HasRestoreList ws b → a ≡ b
+list-only ws (RestoreSelect x) (RestoreSelect y) h k = ap (λ l. RestoreSelect l) (some-only IsId (operand (codes "SELECT") ws) x y h.1.0 k.1.0)
+list-only ws (RestoreSelect x) (RestoreGroup y) h k = absurd (none_some (operand (codes "GROUP") ws) y h.0 k.1)
+list-only ws (RestoreGroup x) (RestoreSelect y) h k = absurd (none_some (operand (codes "GROUP") ws) x k.0 h.1)
+list-only ws (RestoreGroup x) (RestoreGroup y) h k = ap (λ l. RestoreGroup l) (some-only IsId (operand (codes "GROUP") ws) x y h.1.0 k.1.0)
+
+values-only : (ws : List Word) (c d : Command) → command_word c ≡ command_word d → HasOperands ws c → HasOperands ws d → c ≡ d
+values-only ws (Set x) (Set y) e h k = ap (λ v. Set v) (required-only IsZoneName (operand (codes "BDY") ws) x y h k)
+values-only ws (Receive x) (Receive y) e h k = ap (λ v. Receive v) (receive-only ws x y h k)
+values-only ws (Reject x) (Reject y) e h k = ap (λ v. Reject v) (some-only IsId (operand (codes "SELECT") ws) x y h.0 k.0)
+values-only ws (Apply x) (Apply y) e h k = ap (λ v. Apply v) (install-only ws x y h k)
+values-only ws (Accept x) (Accept y) e h k = ap (λ v. Accept v) (install-only ws x y h k)
+values-only ws (Restore x a) (Restore y b) e h k = ap (λ v. Restore v a) (list-only ws x y h.0 k.0) ∙ ap (λ v. Restore y v) (flag-only (operand (codes "CHECK") ws) a b h.1 k.1)
+values-only ws (ListZone x) (ListZone y) e h k = ap (λ v. ListZone v) (flag-only (operand (codes "TEXT") ws) x y h k)
+values-only ws Report Report e h k = refl
+values-only ws c d e h k = absurd (cc (e))
+
+-- Pieces are one command at most.
+pub value-only : (pieces : List Piece) (c d : Command) → IsCommand pieces c → IsCommand pieces d → c ≡ d
+value-only pieces c d k l =
+    let o = of_command pieces (command_word c) k.rest d k.begins l in
+    let same = words-only k.rest k.words o.1.0 k.has_words o.1.1 in
+    values-only o.1.0 c d (sym o.0) (subst (λ ws. HasOperands ws c) same k.has_operands) o.1.3
+
+-- how often a word stands in a list without doubles
+count_none : (t : Text) (texts : List Text) → All (λ s. t ≢ s) texts → count t texts ≡ 0
+count_none t [] apart = refl
+count_none t (s ∷ texts) apart =
+    let other : bytes_eq t s ≡ false = false_from_ne_true (bytes_eq t s) (λ same. All-head (λ s. t ≢ s) s texts apart ((bytes_eq-Decides t s).0 same)) in
+    count_other t s texts other ∙ count_none t texts (All-tail (λ s. t ≢ s) s texts apart)
+
+count_once : (t : Text) (texts : List Text) → AllPairs (λ a b. a ≢ b) texts → count t texts ≤ 1
+count_once t [] apart = omega arith
+count_once t (s ∷ texts) apart = at (count_once t texts (AllPairs-rest (λ a b. a ≢ b) s texts apart)) (bytes_eq t s) refl
+  where
+    at : count t texts ≤ 1 → (b : Bool) → bytes_eq t s ≡ b → count t (s ∷ texts) ≤ 1
+    at more true same =
+        let is : t ≡ s = (bytes_eq-Decides t s).0 same in
+        let none = count_none t texts (subst (λ u. All (λ v. u ≢ v) texts) (sym is) (AllPairs-first (λ a b. a ≢ b) s texts apart)) in
+        omega (arith, count_same t s texts same, none)
+    at more false other = omega (arith, count_other t s texts other, more)
+
+abbrev texts_of : List Word → List Text
+texts_of ws = map (λ (w : Word). w.word) ws
+
+-- whether an operand is there, by how often its name is
+absent : (name : Text) (ws : List Word) → operand name ws ≡ None → count name (texts_of ws) ≡ 0
+absent name [] none = refl
+absent name (w ∷ ws) none = at (absent name ws) (bytes_eq w.word name) refl
+  where
+    at : (operand name ws ≡ None → count name (texts_of ws) ≡ 0) → (b : Bool) → bytes_eq w.word name ≡ b → count name (texts_of (w ∷ ws)) ≡ 0
+    at more true same =
+        let there' : operand name (w ∷ ws) ≡ Some w = ap (λ b. cond b (Some w) (operand name ws)) same in
+        let no' : Some w ≡ None = sym there' ∙ none in
+        absurd (cc (no'))
+    at more false other =
+        let later : operand name (w ∷ ws) ≡ operand name ws = ap (λ b. cond b (Some w) (operand name ws)) other in
+        count_other name w.word (texts_of ws) (nat_list_eq_equiv.symm name w.word ∙ other) ∙ more (sym later ∙ none)
+
+present : (name : Text) (ws : List Word) (P : Word → Type 0) → IsSomeAnd (operand name ws) P → 1 ≤ count name (texts_of ws)
+present name [] P some = absurd some
+present name (w ∷ ws) P some = at (present name ws P) (bytes_eq w.word name) refl
+  where
+    at : (IsSomeAnd (operand name ws) P → 1 ≤ count name (texts_of ws)) → (b : Bool) → bytes_eq w.word name ≡ b → 1 ≤ count name (texts_of (w ∷ ws))
+    at more true same = omega (arith, count_same name w.word (texts_of ws) (nat_list_eq_equiv.symm name w.word ∙ same))
+    at more false other =
+        let later : operand name (w ∷ ws) ≡ operand name ws = ap (λ b. cond b (Some w) (operand name ws)) other in
+        omega (arith, count_other name w.word (texts_of ws) (nat_list_eq_equiv.symm name w.word ∙ other), more (subst (λ o. IsSomeAnd o P) later some))
+
+-- A command has no operand twice, and RESTORE has one of SELECT and GROUP.
+single : (pieces : List Piece) (c : Command) (k : IsCommand pieces c) → has_double (command_word c) k.rest ≡ false
+single pieces c k =
+    let is : words_in k.rest ≡ texts_of k.words = ap words_in k.has_words ∙ words_of k.words in
+    let apart : AllPairs (λ a b. a ≢ b) (texts_of k.words) = pairs_map (λ a b. a.word ≢ b.word) (λ s t. s ≢ t) (λ (w : Word). w.word) (λ a b n. n) k.words k.are_operands.once in
+    list_any_none (is_often 2 k.rest) (operands_of (command_word c)) (λ i d below.
+    let name = get_or (operands_of (command_word c)) i d in
+    seldom 2 k.rest name (omega (arith, count_once name (texts_of k.words) apart, ap (count name) is)))
+
+chosen_list : (rest : List Piece) (ws : List Word) (list : RestoreList) → HasWords rest ws → HasRestoreList ws list → is_unchosen word.Restore rest ≡ false
+chosen_list rest ws (RestoreSelect ids) h r =
+    let is : words_in rest ≡ texts_of ws = ap words_in h ∙ words_of ws in
+    let there' : is_often 1 rest (codes "SELECT") ≡ true = often 1 rest (codes "SELECT") (omega (arith, present (codes "SELECT") ws (λ w. HasSorted IsId w ids) r.1.0, ap (count (codes "SELECT")) is)) in
+    let none : is_often 1 rest (codes "GROUP") ≡ false = seldom 1 rest (codes "GROUP") (omega (arith, absent (codes "GROUP") ws r.0, ap (count (codes "GROUP")) is)) in
+    ap (λ b. if b then is_often 1 rest (codes "GROUP") else not (is_often 1 rest (codes "GROUP"))) there' ∙ none
+chosen_list rest ws (RestoreGroup ids) h r =
+    let is : words_in rest ≡ texts_of ws = ap words_in h ∙ words_of ws in
+    let there' : is_often 1 rest (codes "GROUP") ≡ true = often 1 rest (codes "GROUP") (omega (arith, present (codes "GROUP") ws (λ w. HasSorted IsId w ids) r.1.0, ap (count (codes "GROUP")) is)) in
+    let none : is_often 1 rest (codes "SELECT") ≡ false = seldom 1 rest (codes "SELECT") (omega (arith, absent (codes "SELECT") ws r.0, ap (count (codes "SELECT")) is)) in
+    ap (λ b. if b then is_often 1 rest (codes "GROUP") else not (is_often 1 rest (codes "GROUP"))) none ∙ ap not there'
+
+chosen : (rest : List Piece) (ws : List Word) (c : Command) → HasWords rest ws → HasOperands ws c → is_unchosen (command_word c) rest ≡ false
+chosen rest ws (Set x) h v = refl
+chosen rest ws (Receive x) h v = refl
+chosen rest ws (Reject x) h v = refl
+chosen rest ws (Apply x) h v = refl
+chosen rest ws (Accept x) h v = refl
+chosen rest ws (Restore list check) h v = chosen_list rest ws list h v.0
+chosen rest ws (ListZone x) h v = refl
+chosen rest ws Report h v = refl
+
+-- No pieces are both a command and at fault.
+pub fault-no_value : (pieces : List Piece) (c : Command) (code : CnCode) → IsCommand pieces c → IsCommandFault pieces code → ⊥
+fault-no_value pieces c Cn1 k f = f (command_word c) k.rest k.begins
+fault-no_value pieces c Cn2 k f = f.5 c k
+fault-no_value pieces c Cn3 k f =
+    let s = begins-only pieces f.0 (command_word c) f.1 k.rest f.2 k.begins in
+    true≢false (sym f.3 ∙ ap (λ w. has_double w f.1) s.0 ∙ ap (has_double (command_word c)) s.1 ∙ single pieces c k)
+fault-no_value pieces c Cn4 k f =
+    let s = begins-only pieces f.0 (command_word c) f.1 k.rest f.2 k.begins in
+    true≢false (sym f.4 ∙ ap (λ w. is_unchosen w f.1) s.0 ∙ ap (is_unchosen (command_word c)) s.1 ∙ chosen k.rest k.words c k.has_words k.has_operands)
+fault-no_value pieces c Cn5 k f = f
+
+double_same : (pieces : List Piece) (v w : CommandWord) (rest rest' : List Piece) → BeginsWith pieces v rest → BeginsWith pieces w rest' → has_double v rest ≡ true → has_double w rest' ≡ false → ⊥
+double_same pieces v w rest rest' b b' yes' no' =
+    let s = begins-only pieces v w rest rest' b b' in
+    true≢false (sym yes' ∙ ap (λ w. has_double w rest) s.0 ∙ ap (has_double w) s.1 ∙ no')
+
+unchosen_same : (pieces : List Piece) (v w : CommandWord) (rest rest' : List Piece) → BeginsWith pieces v rest → BeginsWith pieces w rest' → is_unchosen v rest ≡ true → is_unchosen w rest' ≡ false → ⊥
+unchosen_same pieces v w rest rest' b b' yes' no' =
+    let s = begins-only pieces v w rest rest' b b' in
+    true≢false (sym yes' ∙ ap (λ w. is_unchosen w rest) s.0 ∙ ap (is_unchosen w) s.1 ∙ no')
+
+-- The first fault of a command is determined.
+pub fault-only : (pieces : List Piece) (a b : CnCode) → IsCommandFault pieces a → IsCommandFault pieces b → a ≡ b
+fault-only pieces Cn1 Cn1 f g = refl
+fault-only pieces Cn1 Cn2 f g = absurd (f g.0 g.1 g.2)
+fault-only pieces Cn1 Cn3 f g = absurd (f g.0 g.1 g.2)
+fault-only pieces Cn1 Cn4 f g = absurd (f g.0 g.1 g.2)
+fault-only pieces Cn2 Cn1 f g = absurd (g f.0 f.1 f.2)
+fault-only pieces Cn3 Cn1 f g = absurd (g f.0 f.1 f.2)
+fault-only pieces Cn4 Cn1 f g = absurd (g f.0 f.1 f.2)
+fault-only pieces Cn2 Cn2 f g = refl
+fault-only pieces Cn3 Cn3 f g = refl
+fault-only pieces Cn4 Cn4 f g = refl
+fault-only pieces Cn2 Cn3 f g = absurd (double_same pieces g.0 f.0 g.1 f.1 g.2 f.2 g.3 f.3)
+fault-only pieces Cn3 Cn2 f g = absurd (double_same pieces f.0 g.0 f.1 g.1 f.2 g.2 f.3 g.3)
+fault-only pieces Cn4 Cn3 f g = absurd (double_same pieces g.0 f.0 g.1 f.1 g.2 f.2 g.3 f.3)
+fault-only pieces Cn3 Cn4 f g = absurd (double_same pieces f.0 g.0 f.1 g.1 f.2 g.2 f.3 g.3)
+fault-only pieces Cn2 Cn4 f g = absurd (unchosen_same pieces g.0 f.0 g.1 f.1 g.2 f.2 g.4 f.4)
+fault-only pieces Cn4 Cn2 f g = absurd (unchosen_same pieces f.0 g.0 f.1 g.1 f.2 g.2 f.4 g.4)
+fault-only pieces Cn5 b f g = absurd f
+fault-only pieces Cn1 Cn5 f g = absurd g
+fault-only pieces Cn2 Cn5 f g = absurd g
+fault-only pieces Cn3 Cn5 f g = absurd g
+fault-only pieces Cn4 Cn5 f g = absurd g
