@@ -31,3 +31,5 @@ pub mod ExactFiles
 pub mod ExactWords
 pub mod ExactCommands
 pub mod ExactOperands
+pub mod ExactStatements
+pub mod ExactPtfin
