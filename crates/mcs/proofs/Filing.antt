@@ -6,6 +6,7 @@ use Rattle.terms.specs.Records.{HasRecords}
 use Rattle.terms.specs.Groups.{Group, IsGroup, TakesGroup}
 use Rattle.terms.specs.Statements.{Statement}
 use Rattle.terms.specs.Ptfin.{SoFar, nothing, items_of, after, IsGoodStatement, IsStatementFault, BeginsWithStatements, IsNextFault, IsPtfin, IsPtfinFault, McsFault}
+use Rattle.terms.proofs.ExactPtfin.{ptfin_fault-no_items}
 use Rattle.mcs.specs.declared.error.McsError.{McsError}
 use Rattle.mcs.specs.declared.error.McsError.TheVariants.{Memory, Fault}
 use Rattle.mcs.specs.Files.{IsPtfinError, IsRestError}
@@ -38,3 +39,8 @@ file_error bytes records (Fault number code) h r = inr (records, r.0, r.1, r.2, 
 
 pub file_items : (bytes : List ℕ) (records : Lines) (ss : List Statement) (d : SoFar) (m : ℕ) (items : List Item) → HasRecords bytes records → BeginsWithStatements nothing 1 records ss d m [] → items ≡ items_of d → IsPtfin bytes items
 file_items bytes records ss d m items h b e = (records, ss, d, m, h, b, e)
+
+-- What is a PTFIN is not read only where memory is wanting.
+pub error_is : (bytes : List ℕ) (error : McsError) (items : List Item) → IsPtfinError bytes error → IsPtfin bytes items → error ≡ Memory
+error_is bytes Memory items e p = refl
+error_is bytes (Fault number code) items e p = absurd (ptfin_fault-no_items bytes (record { number = number; code = code }) items e p)

@@ -1,6 +1,8 @@
 ghost use Rattle.std.specs.Prelude.{◌≡◌, ℕ, List, [], IfOk, IfErr};
 ghost use Rattle.terms.specs.Statements.{Statement as AnyStatement};
 ghost use Rattle.terms.specs.Ptfin.{SoFar as AnySoFar, nothing, items_of, BeginsWithStatements, IsPtfin};
+ghost use Rattle.terms.specs.Types.{Item as AnyItem};
+ghost use Rattle.mcs.specs.declared.error.McsError.TheVariants.{Memory};
 ghost use Rattle.mcs.specs.Files.{items, so_far, IsPtfinError, IsRestError};
 
 use crate::error::McsError;
@@ -37,6 +39,7 @@ fn read_statements(alloc: Global, groups: Groups<'_>) -> Result<SoFar, McsError>
 /// The SYSMODs of a PTFIN, or its first fault.
 pub fn read_ptfin(alloc: Global, bytes: &[u8]) -> Result<Vec<Item>, McsError>
     ensures items { IfOk result (λ found. IsPtfin bytes.now (items found.items)) }
+    ensures good { (found : List AnyItem) → IsPtfin bytes.now found → IfErr result (λ e. e ≡ Memory) }
     ensures fault { IfErr result (IsPtfinError bytes.now) }
 {
     let file = match records(bytes) {

@@ -91,7 +91,7 @@ empty_group : (front rest : List (List ℕ)) → [] ≡ front ++ rest → IsGrou
 empty_group [] rest e g = g
 empty_group (r ∷ front) rest e g = cc (e)
 
-no_group : (n m : ℕ) (rest : List (List ℕ)) (g : Group) → TakesGroup n [] g m rest → ⊥
+pub no_group : (n m : ℕ) (rest : List (List ℕ)) (g : Group) → TakesGroup n [] g m rest → ⊥
 no_group n m rest g t = empty_group g.records rest t.records_are t.is_group
 
 -- Records are one list of groups at most.
@@ -113,3 +113,11 @@ first_inside (r ∷ front) rest out g = true≢false (sym out ∙ ap not g.0)
 pub outside-no_groups : (n : ℕ) (records : List (List ℕ)) (gs : List Group) → starts_outside records ≡ true → HasGroups n records gs → ⊥
 outside-no_groups n records [] out h = true≢false (sym out ∙ ap starts_outside h)
 outside-no_groups n records (g ∷ gs) out h = first_inside g.records h.1 (subst (λ rs. starts_outside rs ≡ true) h.2.records_are out) h.2.is_group
+
+group_inside : (front rest : List (List ℕ)) → IsGroup front → starts_outside (front ++ rest) ≡ false
+group_inside [] rest g = absurd g
+group_inside (r ∷ front) rest g = ap not g.0
+
+-- Records that begin with a group begin no other way.
+pub begins_inside : (n m : ℕ) (records rest : List (List ℕ)) (g : Group) → TakesGroup n records g m rest → starts_outside records ≡ false
+begins_inside n m records rest g t = ap starts_outside t.records_are ∙ group_inside g.records rest t.is_group

@@ -42,3 +42,6 @@ pub mod ExactFiles
 pub mod ExactWords
 pub mod ExactCommands
 pub mod Permuted
+pub mod ExactOperands
+pub mod ExactStatements
+pub mod ExactPtfin
