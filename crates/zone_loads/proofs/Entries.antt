@@ -1,5 +1,5 @@
 -- The rows of a zone's entries.
-use Rattle.std.proofs.Common.{◌≡◌, List, [], ◌∷◌, map, filter, Option, None, Some, IfSome, IsPermutation, arith, refl, sym, ap, subst, ◌∙◌}
+use Rattle.std.proofs.Common.{◌≡◌, List, [], map, filter, Option, None, Some, IfSome, IsPermutation, arith, sym, ap, subst, ◌∙◌}
 use Rattle.std.specs.Option.{option_map_or}
 use Rattle.std.specs.List.{AllByRecursion, flat_map}
 use Rattle.std.specs.Ordering.{nat_cmp}

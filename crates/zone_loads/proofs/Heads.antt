@@ -1,6 +1,6 @@
 -- The rows of zones as heads.
-use Rattle.std.proofs.Common.{◌≡◌, inl, inr, ℕ, ◌<◌, List, [], ◌∷◌, length, map, filter, Option, None, Some, IfSome, IsTrue, IsPermutation, get_or, arith, refl, sym, ap, ap₂, subst, subst₂, ◌∙◌}
-use Rattle.std.specs.Prelude.{AllPairs, option_map}
+use Rattle.std.proofs.Common.{◌≡◌, inl, inr, List, [], ◌∷◌, map, filter, Option, None, Some, IfSome, IsTrue, IsPermutation, arith, refl, sym, ap, subst, subst₂, ◌∙◌}
+use Rattle.std.specs.Prelude.{option_map}
 use Rattle.std.specs.Option.{option_map_or, option_to_list}
 use Rattle.std.specs.List.{AllByRecursion, flat_map}
 use Rattle.std.specs.Ordering.{nat_cmp}
@@ -21,9 +21,9 @@ use Rattle.terms.specs.Types.{Text, Zone, NamedZone}
 use Rattle.terms.specs.Forms.{IsZoneName}
 use Rattle.terms.specs.Lookups.{is_before, IsRising}
 use Rattle.terms.specs.Rising.{Rises}
-use Rattle.schema.specs.Inventory.{Inventory, IsInventory, IsZoneNamed, IsRelated, HasDistribution}
+use Rattle.schema.specs.Inventory.{Inventory, IsInventory, IsZoneNamed, IsRelated}
 use Rattle.schema.specs.Rows.{zone_row}
-use Rattle.schema.proofs.Lists.{has_all, all_by}
+use Rattle.schema.proofs.Lists.{has_all}
 use Rattle.schema.proofs.OneState.{zones_rise}
 use Rattle.schema.proofs.Spelled.{zone_same, or_null_same}
 use Rattle.zone_loads.specs.declared.head.ZoneHead.{ZoneHead}

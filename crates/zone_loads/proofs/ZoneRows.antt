@@ -1,5 +1,5 @@
 -- The rows of one zone among those of all zones.
-use Rattle.std.proofs.Common.{◌≡◌, ◌≢◌, inl, inr, List, [], ◌∷◌, ◌++◌, map, filter, Bool, true, false, true≢false, IsTrue, append-nil, refl, sym, ap, ap₂, subst, ◌∙◌}
+use Rattle.std.proofs.Common.{◌≡◌, ◌≢◌, inl, inr, List, [], ◌∷◌, ◌++◌, map, filter, true, true≢false, IsTrue, append-nil, refl, sym, ap, ap₂, subst, ◌∙◌}
 use Rattle.std.specs.Prelude.{find, Option, option_map}
 use Rattle.std.specs.Option.{option_map_or}
 use Rattle.std.specs.List.{AllByRecursion, flat_map}
@@ -17,7 +17,6 @@ use Rattle.rows.proofs.RowLemmas.{filter_same, filter_all}
 use Rattle.terms.specs.Types.{Text, Zone, NamedZone}
 use Rattle.terms.specs.Lookups.{is_before}
 use Rattle.terms.proofs.GlobalGroups.{recursion_weaker}
-use Rattle.schema.specs.Inventory.{IsZoneNamed}
 use Rattle.schema.proofs.OneState.{IsBelow}
 use Rattle.schema.proofs.Spelled.{not_before_same}
 

@@ -9,7 +9,7 @@ use Rattle.std.proofs.lemmas.Option.{IfSome_then}
 use Rattle.std.proofs.lemmas.Slice.Eq.{bytes_eq-Decides}
 use Rattle.sqlite_rules.specs.Lists.{Has}
 use Rattle.terms.specs.Types.{Text, zone_number, a_zone, Entry, Element, Zone, NamedZone}
-use Rattle.terms.specs.Lookups.{IsZone, is_held, waives_applied}
+use Rattle.terms.specs.Lookups.{is_held, waives_applied}
 use Rattle.schema.specs.Inventory.{Inventory, IsInventory, IsZoneNamed}
 use Rattle.schema.proofs.Lists.{has_all}
 use Rattle.zone_loads.specs.Found.{zone_in, head_in}

@@ -8,3 +8,6 @@ mod zone;
 
 pub use head::{ZoneHead, zone_heads, zone_names};
 pub use zone::load_zone;
+
+#[cfg(test)]
+mod tests;

@@ -1,5 +1,4 @@
-use Rattle.std.proofs.Common.{◌≡◌, ◌∷◌, [], map, IsPermutation, sym, ap, subst, refl}
-use Rattle.sqlite.specs.declared.types.Value.TheVariants as value
+use Rattle.std.proofs.Common.{◌≡◌, map, sym, ap, subst}
 use Rattle.sqlite.specs.Held.{state}
 use Rattle.sqlite.specs.Given.{IsPlain}
 use Rattle.sqlite.specs.Listing.{understood}

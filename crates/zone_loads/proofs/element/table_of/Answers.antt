@@ -1,4 +1,3 @@
-use Rattle.std.specs.Prelude.{IfSome}
 use Rattle.terms.specs.Lookups.{element_cmp, element_key}
 use Rattle.terms.proofs.ElementOrder.{cmp-keys}
 use Rattle.std.proofs.Common.{sym}

@@ -1,22 +1,17 @@
-use Rattle.std.proofs.Common.{◌≡◌, ◌∷◌, [], map, IsPermutation, sym, ap, subst}
-use Rattle.std.specs.Prelude.{option_map}
-use Rattle.std.specs.Option.{option_to_list}
+use Rattle.std.proofs.Common.{map, sym, subst}
 use Rattle.sqlite.specs.Held.{state}
 use Rattle.sqlite.specs.Given.{IsPlain}
 use Rattle.sqlite.specs.Listing.{understood}
-use Rattle.sqlite.specs.Order.{Row}
 use Rattle.sqlite.proofs.StateLemmas.{survives_weaker}
-use Rattle.rows.specs.Rows.{AreFound}
 use Rattle.rows.proofs.RowLemmas.{same_rows}
-use Rattle.rows.proofs.ContentsLemmas.{held_at, found_are, found_with, all_found, found_all}
+use Rattle.rows.proofs.ContentsLemmas.{held_at, all_found, found_all}
 use Rattle.rows.proofs.InsideLemmas.{if_ok}
 use Rattle.schema.specs.Stands.{rows_of}
 use Rattle.schema.specs.Tables.{store_schema, zone}
-use Rattle.zone_loads.specs.Found.{head_in, head_of, zone_in}
+use Rattle.zone_loads.specs.Found.{head_of}
 use Rattle.zone_loads.specs.Read.{head_row}
 use Rattle.zone_loads.proofs.Texts.{select_heads, reads_heads, has_zone}
-use Rattle.zone_loads.proofs.ZoneRows.{name_key}
-use Rattle.zone_loads.proofs.Heads.{one_head, head_filtered, one_head_forms, all_heads, all_head_rows, all_head_forms}
+use Rattle.zone_loads.proofs.Heads.{all_heads, all_head_rows, all_head_forms}
 use Rattle.zone_loads.proofs.head.all_head_rows.Goals as goal
 
 pub returns-clause-found : goal.returns-clause-found

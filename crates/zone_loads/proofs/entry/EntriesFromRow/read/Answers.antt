@@ -1,7 +1,6 @@
 use Rattle.std.proofs.Common.{◌≡◌, ◌∷◌, [], length, rules, sym}
 use Rattle.sqlite.specs.Order.{column}
 use Rattle.rows.proofs.ContentsLemmas.{columns_from}
-use Rattle.zone_loads.specs.Read.{row_of_entry}
 use Rattle.zone_loads.proofs.entry.EntriesFromRow.read.Goals as goal
 
 pub returns-clause-read : goal.returns-clause-read
