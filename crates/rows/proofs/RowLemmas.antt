@@ -24,6 +24,9 @@ use Rattle.rows.specs.Numbered.{AreNumbered}
 pub has_permuted : {X : Type 0} (xs ys : List X) (x : X) → IsPermutation xs ys → Has xs x → Has ys x
 has_permuted xs ys x same h = has_contained ys x (Contains-permutation xs ys x same (contains_had xs x h))
 
+pub same_rows : {X : Type 0} {xs ys : List X} → xs ≡ ys → IsPermutation xs ys
+same_rows {xs = xs} e = subst (IsPermutation xs) e (IsPermutation-refl xs)
+
 pub mapped : {A B : Type 0} (f : A → B) (xs : List A) (x : A) → Has xs x → Has (map f xs) (f x)
 mapped f [] x h = h
 mapped f (y ∷ xs) x (inl e) = inl (ap f e)

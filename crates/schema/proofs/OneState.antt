@@ -98,7 +98,7 @@ hold_is a b e =
     ∙ ap (λ x. record b { comment = x; internal = a.internal }) comment
     ∙ ap (λ x. record b { internal = x }) internal
 
-are_records : (type : ElemType) (text : Lines) → IsTextOf type text → AreRecords text
+pub are_records : (type : ElemType) (text : Lines) → IsTextOf type text → AreRecords text
 are_records Mac text h = h.0
 are_records Src text h = h.0
 are_records Clist text h = h

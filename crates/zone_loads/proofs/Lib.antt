@@ -1,0 +1,7 @@
+pub mod Texts
+pub mod ZoneRows
+pub mod Zones
+pub mod Heads
+pub mod Entries
+pub mod Elements
+pub mod Forms
