@@ -1,3 +1,4 @@
 pub mod Changes
+pub mod Loads
 pub mod View
 pub mod Writes

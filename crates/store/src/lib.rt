@@ -5,6 +5,7 @@
 mod change;
 mod delta;
 mod global;
+mod load;
 mod open;
 mod write;
 

@@ -20,8 +20,8 @@ use std::marker::Model;
 
 /// A connection to a database whose tables are the store's. No transaction is under way.
 pub struct Store<S: Alter> {
-    conn: Connection<S>,
-    alloc: Global,
+    pub(crate) conn: Connection<S>,
+    pub(crate) alloc: Global,
 }
 
 impl<S: Alter + Drop> Drop for Store<S> {
@@ -83,6 +83,7 @@ impl<S: Alter> Store<S> {
 
     pub fn close(self) -> Connection<S>
         ensures same { result ≡ self }
+        ensures found { (i : Inventory) → TablesIfOpen S.Store self i → IsFound S.Store result i }
         ensures mode { result.in_transaction ≡ false }
     {
         let Store { conn, alloc: _ } = self;

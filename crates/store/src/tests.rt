@@ -227,15 +227,27 @@ fn close(conn: Connection<FileStore<Memory>>) -> Result<Files<Memory>, Error>
     }
 }
 
+/// How many zones there are, and how many entries and elements TGT1 has.
+fn loaded<S: Alter>(store: &mut Store<S>) -> Result<(usize, usize, usize), Fail> {
+    let Ok(names) = store.zone_names() else {
+        return Err(Fail::from("names"));
+    };
+    match store.load_zone(zone_name(b"TGT1")?) {
+        Ok(Some(zone)) => Ok((names.len(), zone.entries().len(), zone.elements().len())),
+        _ => Err(Fail::from("load")),
+    }
+}
+
 #[test]
 fn over_files(rt: HostRuntime) -> Result<(), Fail> {
     let alloc = rt.alloc();
     let fresh = files(alloc, Memory::new(alloc), Memory::new(alloc))?;
     let closed = close(changed(alloc, fresh)?)?;
     let again = files(alloc, closed.log, closed.db)?;
-    let Ok(store) = opened(alloc, again)? else {
+    let Ok(mut store) = opened(alloc, again)? else {
         return Err(Fail::from("open again"));
     };
+    assert_eq!(rt; loaded(&mut store)?, (2, 1, 1));
     let mut conn = store.close();
     assert_eq!(rt;
         texts(alloc, &mut conn, ENTRIES)?.as_str(),
@@ -276,4 +288,21 @@ fn a_zone_that_is_not_there(rt: HostRuntime) -> Result<(), Fail> {
     let mut conn = store.close();
     assert_eq!(rt; texts(alloc, &mut conn, ENTRIES)?.as_str(), "");
     Ok(())
+}
+
+#[test]
+fn a_zone_of_no_kind(rt: HostRuntime) -> Result<(), Fail> {
+    let alloc = rt.alloc();
+    let mut conn = changed(alloc, Connection::open_in_memory(alloc)?)?;
+    conn.execute("UPDATE zone SET kind = 'other' WHERE name = 'TGT1'", &[])?;
+    let Ok(mut store) = opened(alloc, conn)? else {
+        return Err(Fail::from("open again"));
+    };
+    match store.load_zone(zone_name(b"TGT1")?) {
+        Ok(_zone) => Err(Fail::from("loaded")),
+        Err(error) => {
+            assert_eq!(rt; error, StoreError::NoState);
+            Ok(())
+        }
+    }
 }

@@ -1,0 +1,11 @@
+-- How errors of reading are told.
+use Rattle.rows.specs.declared.error.ReadError.{ReadError}
+use Rattle.rows.specs.declared.error.ReadError.TheVariants as read
+use Rattle.schema.specs.declared.error.StoreError.{StoreError}
+use Rattle.schema.specs.declared.error.StoreError.TheVariants.{Fault, NoState, Memory}
+
+-- rows that stand for nothing stand for no state
+abbrev pub told : ReadError → StoreError
+told read.Memory = Memory
+told read.Fault = Fault
+told read.BadRow = NoState

@@ -1,0 +1,61 @@
+//! What a store's tables hold, read back.
+
+ghost use Rattle.std.specs.Prelude.{◌≡◌, map, IfOk, IsErrOf, OnOk, OnErr};
+ghost use Rattle.sqlite.specs.Held.{state};
+ghost use Rattle.sqlite.specs.State.{HasCleanDisk};
+ghost use Rattle.schema.specs.Inventory.{Inventory};
+ghost use Rattle.zone_loads.specs.Found.{zone_in};
+ghost use Rattle.store.specs.View.{Tables, TablesIfOpen, Leaves};
+ghost use Rattle.store.specs.Loads.{told};
+
+use crate::open::Store;
+use fields::ZoneName;
+use rows::ReadError;
+use schema::StoreError;
+use sqlite::Alter;
+use zones::Zone;
+
+/// How an error of reading is told: rows that stand for nothing stand for no state.
+fn told(error: ReadError) -> StoreError
+    ensures { result ≡ told error }
+{
+    match error {
+        ReadError::Memory => StoreError::Memory,
+        ReadError::Fault => StoreError::Fault,
+        ReadError::BadRow => StoreError::NoState,
+    }
+}
+
+impl<S: Alter> Store<S> {
+    /// The zone of this name, if there is one.
+    pub fn load_zone(&mut self, name: ZoneName) -> Result<Option<Zone>, StoreError>
+        ensures found { HasCleanDisk (state S.Store self.new) → (i : Inventory) → Tables S.Store self.old i → IfOk result (λ zone. zone ≡ zone_in i name) }
+        ensures none { HasCleanDisk (state S.Store self.new) → IsErrOf result StoreError.NoState → (i : Inventory) → ¬ Tables S.Store self.old i }
+        ensures same { OnOk result ((i : Inventory) → Tables S.Store self.old i → Tables S.Store self.new i) }
+        ensures err { OnErr result ((i : Inventory) → Tables S.Store self.old i → TablesIfOpen S.Store self.new i) }
+        ensures crash { (i : Inventory) → Tables S.Store self.old i → (c : Inventory) → Leaves S.Store self.new c → Leaves S.Store self.old c }
+    {
+        // So what the connection shows is what it last committed.
+        prove!(self.conn.is_autocommit());
+        match zone_loads::load_zone(self.alloc, &mut self.conn, name) {
+            Ok(zone) => Ok(zone),
+            Err(error) => Err(told(error)),
+        }
+    }
+
+    /// The names of all zones, rising.
+    pub fn zone_names(&mut self) -> Result<Vec<ZoneName>, StoreError>
+        ensures found { HasCleanDisk (state S.Store self.new) → (i : Inventory) → Tables S.Store self.old i → IfOk result (λ names. names.items ≡ map (λ z. z.name) i.zones) }
+        ensures none { HasCleanDisk (state S.Store self.new) → IsErrOf result StoreError.NoState → (i : Inventory) → ¬ Tables S.Store self.old i }
+        ensures same { OnOk result ((i : Inventory) → Tables S.Store self.old i → Tables S.Store self.new i) }
+        ensures err { OnErr result ((i : Inventory) → Tables S.Store self.old i → TablesIfOpen S.Store self.new i) }
+        ensures crash { (i : Inventory) → Tables S.Store self.old i → (c : Inventory) → Leaves S.Store self.new c → Leaves S.Store self.old c }
+    {
+        // So what the connection shows is what it last committed.
+        prove!(self.conn.is_autocommit());
+        match zone_loads::zone_names(self.alloc, &mut self.conn) {
+            Ok(names) => Ok(names),
+            Err(error) => Err(told(error)),
+        }
+    }
+}
