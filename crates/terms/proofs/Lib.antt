@@ -42,6 +42,5 @@ pub mod ExactFiles
 pub mod ExactWords
 pub mod ExactCommands
 pub mod Permuted
-pub mod ExactOperands
 pub mod ExactStatements
 pub mod ExactPtfin

@@ -52,13 +52,6 @@ impl Numbered {
         Ok(Numbered { lines })
     }
 
-    pub fn into_lines(self) -> Vec<Line>
-        ensures lines { result.items ≡ self }
-        ensures numbered { IsNumbered result.items }
-    {
-        self.lines
-    }
-
     /// The records.
     pub fn lines(&self) -> &[Line]
         ensures lines { result.now ≡ self.now }
@@ -70,7 +63,7 @@ impl Numbered {
     /// The records, no longer as a text.
     pub fn into_lines(self) -> Vec<Line>
         ensures lines { result.items ≡ self }
-        ensures numbered { IsNumbered self }
+        ensures numbered { IsNumbered result.items }
     {
         self.lines
     }
