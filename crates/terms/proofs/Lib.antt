@@ -33,3 +33,4 @@ pub mod ExactCommands
 pub mod ExactOperands
 pub mod ExactStatements
 pub mod ExactPtfin
+pub mod ExactFaults
