@@ -16,13 +16,13 @@ use Rattle.terms.proofs.ExactFiles.{records-only, rec_fault-no_records, group-on
 use Rattle.terms.proofs.ExactStatements.{spelled-only, takes-only, value-only}
 
 -- the parts of a statement that begins with a known word are the same
-record SameParts (w v : StatementWord) (own other : Option Text) (rest more : List Piece) (inline later : Lines) : Type 0 where
-  words : w ≡ v
-  owns : own ≡ other
-  rests : rest ≡ more
-  inlines : inline ≡ later
+pub record SameParts (w v : StatementWord) (own other : Option Text) (rest more : List Piece) (inline later : Lines) : Type 0 where
+  pub words : w ≡ v
+  pub owns : own ≡ other
+  pub rests : rest ≡ more
+  pub inlines : inline ≡ later
 
-known-only : (records : Lines) (w v : StatementWord) (own other : Option Text) (rest more : List Piece) (inline later : Lines) → IsKnown records w own rest inline → IsKnown records v other more later → SameParts w v own other rest more inline later
+pub known-only : (records : Lines) (w v : StatementWord) (own other : Option Text) (rest more : List Piece) (inline later : Lines) → IsKnown records w own rest inline → IsKnown records v other more later → SameParts w v own other rest more inline later
 known-only records w v own other rest more inline later h k =
     let same = statement-only records h.pieces k.pieces inline later h.statement k.statement in
     let begins = subst (λ p. TakesWord p (record { word = statement_text w; list = own }) rest) same.0 h.begins in
@@ -36,7 +36,7 @@ same_good current later w v own other rest more inline text s p g =
     (subst (λ o. IsGood current later v o rest inline s) p.owns
     (subst (λ x. IsGood current later x own rest inline s) p.words g)))
 
-good-only : (current : Option Sysmod) (later records : Lines) (s t : Statement) → IsGoodStatement current later records s → IsGoodStatement current later records t → s ≡ t
+pub good-only : (current : Option Sysmod) (later records : Lines) (s t : Statement) → IsGoodStatement current later records s → IsGoodStatement current later records t → s ≡ t
 good-only current later records s t h k =
     let parts = known-only records h.0 k.0 h.1 k.1 h.2 k.2 h.3 k.3 h.4 k.4 in
     let good = same_good current later h.0 k.0 h.1 k.1 h.2 k.2 h.3 k.3 s parts h.5 in
@@ -71,7 +71,7 @@ statement_fault-no_good current later records Mc5 s f g = known_excludes current
 statement_fault-no_good current later records Mc6 s f g = known_excludes current later records Mc6 s f g
 
 -- the first statement of two ways is the same, and so is what follows it
-same_step : (c : SoFar) (n next next' : ℕ) (records later later' : Lines) (g g' : Group) (s : Statement) → TakesGroup n records g next later → TakesGroup n records g' next' later' → IsGoodStatement c.current later g.records s → IsGoodStatement c.current later' g'.records s
+pub same_step : (c : SoFar) (n next next' : ℕ) (records later later' : Lines) (g g' : Group) (s : Statement) → TakesGroup n records g next later → TakesGroup n records g' next' later' → IsGoodStatement c.current later g.records s → IsGoodStatement c.current later' g'.records s
 same_step c n next next' records later later' g g' s t u good =
     let same = group-only n next next' records later later' g g' t u in
     subst (λ x. IsGoodStatement c.current later' x.records s) same.0 (subst (λ l. IsGoodStatement c.current l g.records s) same.2 good)

@@ -44,3 +44,4 @@ pub mod ExactCommands
 pub mod Permuted
 pub mod ExactStatements
 pub mod ExactPtfin
+pub mod ExactFaults
