@@ -80,8 +80,12 @@ pub one_of : (form : Text → Type 0) (list : Option Text) (m : Text) → IsSome
 one_of form None m h f = absurd h
 one_of form (Some text) m h f = record { has_member = h; form_is = f }
 
+-- Two forms take one and the same member.
+pub own-only : (form other : Text → Type 0) (own : Option Text) (m n : Text) → IsSomeAnd own (λ text. IsOneOf form text m) → IsSomeAnd own (λ text. IsOneOf other text n) → m ≡ n
+own-only form other own m n h k = members_one own m n (has_member form own m h).0 (has_member other own n k).0
+
 pub one_value : (form : Text → Type 0) (w : Word) (m n : Text) → HasOne form w m → HasOne form w n → m ≡ n
-one_value form w m n h k = members_one w.list m n (has_member form w.list m h).0 (has_member form w.list n k).0
+one_value form w m n h k = own-only form form w.list m n h k
 
 pub required-only : (form : Text → Type 0) (found : Option Word) (m n : Text) → HasRequired form found m → HasRequired form found n → m ≡ n
 required-only form None m n h k = absurd h
