@@ -1,0 +1,6 @@
+//! The SYSMODs of the global zone, from the tables that hold them.
+#![tactic(auto)]
+
+mod cells;
+mod flat;
+mod reading;
