@@ -1,1 +1,3 @@
 pub mod CellLemmas
+pub mod Texts
+pub mod Exact

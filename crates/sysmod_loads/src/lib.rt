@@ -3,4 +3,6 @@
 
 mod cells;
 mod flat;
+mod loading;
 mod reading;
+mod tables;
