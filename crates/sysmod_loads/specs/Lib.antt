@@ -1,1 +1,4 @@
 pub mod Flat
+pub mod Runs
+pub mod Built
+pub mod Flats

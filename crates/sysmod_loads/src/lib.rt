@@ -1,8 +1,11 @@
 //! The SYSMODs of the global zone, from the tables that hold them.
 #![tactic(auto)]
 
+mod building;
 mod cells;
 mod flat;
+mod gathering;
+mod keys;
 mod loading;
 mod reading;
 mod tables;
