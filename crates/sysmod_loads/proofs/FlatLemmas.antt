@@ -175,3 +175,10 @@ flat_taken (s ∷ ss) up built none =
       },
       flat_taken ss up.1 built.1 none.1,
     )
+
+-- ---- one by one
+
+pub taken_step : (x : HeadRow) (new : List HeadRow) (ss : List Sysmod) (vers : List VerRow) (ifs : List IfRow) (elems : List ElemRow) → AreTaken (x ∷ new) ss vers ifs elems
+    → (s : Sysmod) × (left : List Sysmod) × (vers' : List VerRow) × (ifs' : List IfRow) × (elems' : List ElemRow) × (ss ≡ s ∷ left) × IsTaken x s vers ifs elems vers' ifs' elems' × AreTaken new left vers' ifs' elems'
+taken_step x new [] vers ifs elems h = absurd h
+taken_step x new (s ∷ left) vers ifs elems h = (s, left, h.0, h.1, h.2, refl, h.3, h.4)

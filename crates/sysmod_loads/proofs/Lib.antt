@@ -4,3 +4,4 @@ pub mod Exact
 pub mod RunLemmas
 pub mod FlatLemmas
 pub mod RiseLemmas
+pub mod Chain

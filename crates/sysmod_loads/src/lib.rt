@@ -8,4 +8,5 @@ mod gathering;
 mod keys;
 mod loading;
 mod reading;
+mod rows_of;
 mod tables;
