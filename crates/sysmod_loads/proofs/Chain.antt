@@ -1,6 +1,5 @@
 -- Queries of the store, one after the other.
 use Rattle.std.proofs.Common.{◌≡◌, arith, sym, subst}
-use Rattle.sqlite.specs.Effect.{Database}
 use Rattle.sqlite.specs.State.{State, HasCleanDisk, IsUnchanged, KeepsCommit, Survives}
 use Rattle.rows.specs.Rows.{Contents, HasContents}
 use Rattle.rows.proofs.Queries.{same_then, kept_then, crash_then}

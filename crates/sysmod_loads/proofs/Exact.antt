@@ -1,8 +1,7 @@
 -- A row says all of what it stands for.
-use Rattle.std.proofs.Common.{◌≡◌, ℕ, ap, ap₂, sym, ◌∙◌}
+use Rattle.std.proofs.Common.{◌≡◌, ℕ, ap, sym, ◌∙◌}
 use Rattle.terms.specs.declared.kinds.Kind.TheVariants.{Function, Ptf}
-use Rattle.terms.specs.declared.kinds.Kind.{Kind}
-use Rattle.terms.specs.Types.{Text, Id, IfReq, Ver, Change}
+use Rattle.terms.specs.Types.{IfReq}
 use Rattle.schema.proofs.Spelled.{kind_same, ids_same, sources_are_words}
 use Rattle.schema.proofs.OneState.{if_same, one_head, ver_is, change_is}
 use Rattle.sysmod_loads.specs.declared.flat.HeadRow.{HeadRow}

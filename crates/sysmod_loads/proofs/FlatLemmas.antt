@@ -1,18 +1,9 @@
 -- The rows of SYSMODs, table by table: what is taken off the front of them, and that they rise.
-use Rattle.std.proofs.Common.{◌≡◌, ◌≢◌, ℕ, ◌+◌, List, [], ◌∷◌, ◌++◌, map, IsTrue, Less, Equal, Ordering, append_assoc, arith, refl, sym, ap, ap₂, subst, ◌∙◌}
-use Rattle.std.specs.Prelude.{All, AllPairs}
+use Rattle.std.proofs.Common.{◌≡◌, ◌≢◌, ℕ, ◌+◌, List, [], ◌∷◌, ◌++◌, map, IsTrue, append_assoc, refl, sym, ap, ap₂, subst, ◌∙◌}
 use Rattle.std.specs.List.{AllByRecursion, flat_map, enumerate_from}
-use Rattle.std.specs.Ordering.{is_lt, nat_cmp, ordering_then}
-use Rattle.std.specs.Cmp.{IsTotalOrder}
-use Rattle.std.specs.Cmp.Lexicographic.{slice_cmp}
-use Rattle.std.proofs.lemmas.Cmp.{nat_list_cmp_total, tied_itself}
-use Rattle.std.proofs.lemmas.List.Kept.{AllPairs-cons}
-use Rattle.std.proofs.lemmas.List.Elements.{All-from_recursion}
 use Rattle.sqlite.specs.Tree.{IsAscending}
-use Rattle.terms.proofs.RisingLists.{Less-from_is_lt}
-use Rattle.terms.specs.Types.{Text, Id, IfReq, Ver, Change, Sysmod, type_number}
+use Rattle.terms.specs.Types.{Text, Id, IfReq, Ver, Change, Sysmod}
 use Rattle.terms.specs.Lookups.{is_before}
-use Rattle.terms.specs.Rising.{Rises}
 use Rattle.schema.proofs.Lists.{ascending}
 use Rattle.schema.proofs.Spelled.{not_before_same}
 use Rattle.schema.specs.Rows.{sysmod_row, vers_of, ifreqs_of, elems_of, ifreq_row}
@@ -21,9 +12,9 @@ use Rattle.sysmod_loads.specs.declared.flat.VerRow.{VerRow}
 use Rattle.sysmod_loads.specs.declared.flat.IfRow.{IfRow}
 use Rattle.sysmod_loads.specs.declared.flat.ElemRow.{ElemRow}
 use Rattle.sysmod_loads.specs.Flat.{row_of_head, row_of_ver, row_of_if, row_of_elem}
-use Rattle.sysmod_loads.specs.Runs.{Begins, StandsApart, parent_of_ver, parent_of_if, parent_of_elem, if_rows, ver_rows, elem_rows, HasIfs, HasAllIfs, HasVers, HasChanges}
-use Rattle.sysmod_loads.specs.Built.{IsBuilt, sysmod_from, IsTaken, AreTaken}
-use Rattle.sysmod_loads.specs.Flats.{head_of, ifs_of, all_vers, all_ifs, all_elems, AreFormed}
+use Rattle.sysmod_loads.specs.Runs.{StandsApart, parent_of_ver, parent_of_if, parent_of_elem, if_rows, ver_rows, elem_rows, HasAllIfs}
+use Rattle.sysmod_loads.specs.Built.{IsBuilt, IsTaken, AreTaken}
+use Rattle.sysmod_loads.specs.Flats.{head_of, ifs_of, all_vers, all_ifs, all_elems}
 
 -- ---- rows of items
 
@@ -182,3 +173,7 @@ pub taken_step : (x : HeadRow) (new : List HeadRow) (ss : List Sysmod) (vers : L
     → (s : Sysmod) × (left : List Sysmod) × (vers' : List VerRow) × (ifs' : List IfRow) × (elems' : List ElemRow) × (ss ≡ s ∷ left) × IsTaken x s vers ifs elems vers' ifs' elems' × AreTaken new left vers' ifs' elems'
 taken_step x new [] vers ifs elems h = absurd h
 taken_step x new (s ∷ left) vers ifs elems h = (s, left, h.0, h.1, h.2, refl, h.3, h.4)
+
+pub taken_as : (ss : List Sysmod) (heads h : List HeadRow) (vers v : List VerRow) (ifs i : List IfRow) (elems e : List ElemRow) → heads ≡ h → vers ≡ v → ifs ≡ i → elems ≡ e → AreTaken h ss v i e → AreTaken heads ss vers ifs elems
+taken_as ss heads h vers v ifs i elems e p q r t taken =
+    subst (λ x. AreTaken x ss vers ifs elems) (sym p) (subst (λ x. AreTaken h ss x ifs elems) (sym q) (subst (λ x. AreTaken h ss v x elems) (sym r) (subst (λ x. AreTaken h ss v i x) (sym t) taken)))

@@ -5,3 +5,4 @@ pub mod RunLemmas
 pub mod FlatLemmas
 pub mod RiseLemmas
 pub mod Chain
+pub mod Standing

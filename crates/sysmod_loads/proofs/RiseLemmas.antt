@@ -1,5 +1,5 @@
 -- The rows of SYSMODs rise by their keys, table by table.
-use Rattle.std.proofs.Common.{◌≡◌, ◌≢◌, ◌<◌, ◌≤◌, ℕ, ◌+◌, List, [], ◌∷◌, ◌++◌, map, IsTrue, Less, Equal, Ordering, arith, refl, sym, ap, ap₂, subst, ◌∙◌}
+use Rattle.std.proofs.Common.{get_or, ◌≡◌, ◌<◌, ℕ, ◌+◌, List, [], ◌∷◌, ◌++◌, map, IsTrue, Less, Equal, Ordering, arith, refl, sym, ap, ap₂, subst, ◌∙◌}
 use Rattle.std.specs.Prelude.{AllPairs}
 use Rattle.std.specs.List.{AllByRecursion, flat_map}
 use Rattle.std.specs.Ordering.{is_lt, nat_cmp, ordering_then}
@@ -14,15 +14,18 @@ use Rattle.terms.specs.declared.kinds.ElemType.{ElemType}
 use Rattle.terms.specs.Types.{Text, Id, IfReq, Ver, Change, Sysmod, type_number}
 use Rattle.terms.specs.Lookups.{is_before}
 use Rattle.terms.specs.Rising.{Rises}
+use Rattle.terms.specs.Global.{change_cmp}
+use Rattle.terms.specs.contracts.kinds.ElemTypeOrd.TheImpl as type_order
+use Rattle.terms.proofs.ElementOrder.{cmp-keys}
 use Rattle.schema.proofs.Lists.{ascending}
 use Rattle.sysmod_loads.specs.declared.flat.HeadRow.{HeadRow}
 use Rattle.sysmod_loads.specs.declared.flat.VerRow.{VerRow}
 use Rattle.sysmod_loads.specs.declared.flat.IfRow.{IfRow}
 use Rattle.sysmod_loads.specs.declared.flat.ElemRow.{ElemRow}
-use Rattle.sysmod_loads.specs.Runs.{parent_of_ver, parent_of_if, parent_of_elem, if_rows, ver_rows, elem_rows}
+use Rattle.sysmod_loads.specs.Runs.{if_rows, ver_rows, elem_rows}
 use Rattle.sysmod_loads.specs.Built.{IsBuilt}
 use Rattle.sysmod_loads.specs.Flats.{head_of, ifs_of, all_vers, all_ifs, all_elems, AreFormed}
-use Rattle.sysmod_loads.proofs.FlatLemmas.{recursion_append, recursion_flat, recursion_weaker, ver_parents, if_parents, elem_parents, if_ids, BelowId}
+use Rattle.sysmod_loads.proofs.FlatLemmas.{recursion_append, recursion_flat, recursion_weaker, ver_parents, elem_parents, if_ids, BelowId}
 
 asc_append : {X : Type 0} (R : X → X → Type 0) (xs ys : List X) → IsAscending R xs → IsAscending R ys → AllByRecursion (λ x. AllByRecursion (R x) ys) xs → IsAscending R (xs ++ ys)
 asc_append R [] ys p q cross = q
@@ -99,8 +102,8 @@ vers_rise ss h =
 abbrev pub if_sub_cmp : Text × ℕ → Text × ℕ → Ordering
 if_sub_cmp a b = ordering_then (slice_cmp nat_cmp a.0 b.0) (nat_cmp a.1 b.1)
 
-abbrev pub if_key_cmp : Id × Text × ℕ → Id × Text × ℕ → Ordering
-if_key_cmp a b = ordering_then (slice_cmp nat_cmp a.0 b.0) (ordering_then (slice_cmp nat_cmp a.1 b.1) (nat_cmp a.2 b.2))
+abbrev pub if_key_cmp : Id × (Text × ℕ) → Id × (Text × ℕ) → Ordering
+if_key_cmp a b = ordering_then (slice_cmp nat_cmp a.0 b.0) (if_sub_cmp a.1 b.1)
 
 from_here : (x : Id) (srel : Text) (m n : ℕ) (ifs : List IfReq) → m < n → AllByRecursion (λ (b : IfRow). IsTrue (is_lt (nat_cmp m b.number))) (if_rows x srel n ifs)
 from_here x srel m n [] low = tt
@@ -123,7 +126,7 @@ sysmod_ifs_up s h =
     asc_flat nat_cmp (λ (v : Ver). if_rows s.id v.srel 1 v.ifs) (λ (v : Ver). v.srel) (λ (r : IfRow). r.srel) (λ (r : IfRow). r.number)
     (λ v. if_releases s.id v.srel 1 v.ifs) s.vers (ascending _ s.vers h.srels) (all_up s.id s.vers)
 
-pub ifs_rise : (ss : List Sysmod) → AreFormed ss → Rises if_key_cmp (λ (r : IfRow). (r.id, r.srel, r.number)) (all_ifs ss)
+pub ifs_rise : (ss : List Sysmod) → AreFormed ss → Rises if_key_cmp (λ (r : IfRow). (r.id, (r.srel, r.number))) (all_ifs ss)
 ifs_rise ss h =
     pairs_from _ (all_ifs ss)
     (asc_flat if_sub_cmp (λ (s : Sysmod). ifs_of s.id s.vers) (λ (s : Sysmod). s.id) (λ (r : IfRow). r.id) (λ (r : IfRow). (r.srel, r.number))
@@ -132,14 +135,40 @@ ifs_rise ss h =
 abbrev pub elem_sub_cmp : ElemType × Text → ElemType × Text → Ordering
 elem_sub_cmp a b = ordering_then (nat_cmp (type_number a.0) (type_number b.0)) (slice_cmp nat_cmp a.1 b.1)
 
-abbrev pub elem_key_cmp : Id × ElemType × Text → Id × ElemType × Text → Ordering
-elem_key_cmp a b = ordering_then (slice_cmp nat_cmp a.0 b.0) (ordering_then (nat_cmp (type_number a.1) (type_number b.1)) (slice_cmp nat_cmp a.2 b.2))
+abbrev pub elem_key_cmp : Id × (ElemType × Text) → Id × (ElemType × Text) → Ordering
+elem_key_cmp a b = ordering_then (slice_cmp nat_cmp a.0 b.0) (elem_sub_cmp a.1 b.1)
 
 elems_up : (s : Sysmod) → IsBuilt s → IsAscending (λ (a b : ElemRow). IsTrue (is_lt (elem_sub_cmp (a.change.elem_type, a.change.name) (b.change.elem_type, b.change.name)))) (elem_rows s.id s.changes)
 elems_up s h = asc_map _ _ s.changes (ascending _ s.changes h.changes)
 
-pub elems_rise : (ss : List Sysmod) → AreFormed ss → Rises elem_key_cmp (λ (r : ElemRow). (r.id, r.change.elem_type, r.change.name)) (all_elems ss)
+pub elems_rise : (ss : List Sysmod) → AreFormed ss → Rises elem_key_cmp (λ (r : ElemRow). (r.id, (r.change.elem_type, r.change.name))) (all_elems ss)
 elems_rise ss h =
     pairs_from _ (all_elems ss)
     (asc_flat elem_sub_cmp (λ (s : Sysmod). elem_rows s.id s.changes) (λ (s : Sysmod). s.id) (λ (r : ElemRow). r.id) (λ (r : ElemRow). (r.change.elem_type, r.change.name))
     (λ s. elem_parents s.id s.changes) ss (ids_up ss h) (recursion_weaker IsBuilt _ elems_up ss h.built))
+
+-- ---- the derived order of types
+
+abbrev pub derived_key_cmp : ElemType × Text → ElemType × Text → Ordering
+derived_key_cmp a b = ordering_then (type_order.ghosts.cmp a.0 b.0) (slice_cmp nat_cmp a.1 b.1)
+
+pub changes_derived : (xs : List Change) → Rises change_cmp (λ c. c) xs → Rises derived_key_cmp (λ (c : Change). (c.elem_type, c.name)) xs
+changes_derived xs h = λ i j d less within.
+    let a = get_or xs i d in
+    let b = get_or xs j d in
+    ap is_lt (cmp-keys (a.elem_type, a.name) (b.elem_type, b.name)) ∙ h i j d less within
+
+pub changes_by_number : (xs : List Change) → Rises derived_key_cmp (λ (c : Change). (c.elem_type, c.name)) xs → Rises change_cmp (λ c. c) xs
+changes_by_number xs h = λ i j d less within.
+    let a = get_or xs i d in
+    let b = get_or xs j d in
+    ap is_lt (sym (cmp-keys (a.elem_type, a.name) (b.elem_type, b.name))) ∙ h i j d less within
+
+abbrev pub derived_elem_cmp : Id × (ElemType × Text) → Id × (ElemType × Text) → Ordering
+derived_elem_cmp a b = ordering_then (slice_cmp nat_cmp a.0 b.0) (derived_key_cmp a.1 b.1)
+
+pub elems_derived : (xs : List ElemRow) → Rises elem_key_cmp (λ (r : ElemRow). (r.id, (r.change.elem_type, r.change.name))) xs → Rises derived_elem_cmp (λ (r : ElemRow). (r.id, (r.change.elem_type, r.change.name))) xs
+elems_derived xs h = λ i j d less within.
+    let a = get_or xs i d in
+    let b = get_or xs j d in
+    ap (λ o. is_lt (ordering_then (slice_cmp nat_cmp a.id b.id) o)) (cmp-keys (a.change.elem_type, a.change.name) (b.change.elem_type, b.change.name)) ∙ h i j d less within

@@ -3,8 +3,8 @@ use Rattle.std.specs.Prelude.{◌≡◌, ◌≢◌, List, [], ◌∷◌, All}
 use Rattle.std.specs.Ordering.{nat_cmp}
 use Rattle.std.specs.Cmp.Lexicographic.{slice_cmp}
 use Rattle.terms.specs.declared.kinds.Kind.{Kind}
-use Rattle.terms.specs.declared.kinds.Kind.TheVariants.{Function, Ptf, Apar, Usermod}
-use Rattle.terms.specs.Types.{Ver, Action, Replaces, Updates, Change, Sysmod}
+use Rattle.terms.specs.declared.kinds.Kind.TheVariants.{Function}
+use Rattle.terms.specs.Types.{Ver, Action, Updates, Change, Sysmod}
 use Rattle.terms.specs.Rising.{Rises}
 use Rattle.terms.specs.Global.{change_cmp}
 use Rattle.schema.specs.Forms.{SuitsKind}

@@ -6,7 +6,13 @@ mod cells;
 mod flat;
 mod gathering;
 mod keys;
+mod load;
 mod loading;
 mod reading;
 mod rows_of;
 mod tables;
+
+pub use load::load_sysmods;
+
+#[cfg(test)]
+mod tests;

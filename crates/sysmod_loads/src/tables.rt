@@ -49,16 +49,16 @@ impl Listed for Vers {
 impl Listed for Ifs {
     ghost use Rattle.schema.specs.Tables.{ifreq};
 
-    type Key = (Id, Srel, u64);
+    type Key = (Id, (Srel, u64));
 
     ghost table = { ifreq };
 
     ghost at = { 3 };
 
-    ghost key_of = { λ row. (row.id, row.srel, row.number) };
+    ghost key_of = { λ row. (row.id, (row.srel, row.number)) };
 
-    fn key(item: &IfRow) -> (Id, Srel, u64) {
-        (item.id, item.srel, item.number)
+    fn key(item: &IfRow) -> (Id, (Srel, u64)) {
+        (item.id, (item.srel, item.number))
     }
 
     fn query() -> &'static str {
@@ -69,16 +69,16 @@ impl Listed for Ifs {
 impl Listed for Elems {
     ghost use Rattle.schema.specs.Tables.{elem};
 
-    type Key = (Id, ElemType, Name);
+    type Key = (Id, (ElemType, Name));
 
     ghost table = { elem };
 
     ghost at = { 5 };
 
-    ghost key_of = { λ row. (row.id, row.change.elem_type, row.change.name) };
+    ghost key_of = { λ row. (row.id, (row.change.elem_type, row.change.name)) };
 
-    fn key(item: &ElemRow) -> (Id, ElemType, Name) {
-        (item.id, item.change.elem_type, item.change.name)
+    fn key(item: &ElemRow) -> (Id, (ElemType, Name)) {
+        (item.id, (item.change.elem_type, item.change.name))
     }
 
     fn query() -> &'static str {

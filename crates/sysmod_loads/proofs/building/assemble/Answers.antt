@@ -1,4 +1,4 @@
-use Rattle.std.proofs.Common.{◌≡◌, ◌++◌, ◌∷◌, [], List, length, IsErrOf, append-nil, append_assoc, arith, rules, sym, ap, subst, ◌∙◌}
+use Rattle.std.proofs.Common.{◌≡◌, ◌++◌, ◌∷◌, [], List, IsErrOf, append-nil, append_assoc, arith, rules, sym, ap, subst, ◌∙◌}
 use Rattle.std.proofs.lemmas.Grind.{common_steps}
 use Rattle.rows.specs.declared.error.ReadError.TheVariants.{BadRow}
 use Rattle.terms.specs.Types.{Sysmod}

@@ -1,4 +1,4 @@
-use Rattle.std.proofs.Common.{◌≡◌, ℕ, ◌+◌, List, ◌++◌, length}
+use Rattle.std.proofs.Common.{◌≡◌, ◌+◌, List, ◌++◌, length}
 use Rattle.terms.specs.Types.{IfReq}
 use Rattle.sysmod_loads.specs.declared.flat.IfRow.{IfRow}
 use Rattle.sysmod_loads.specs.Runs.{if_rows, HasIfs}

@@ -1,4 +1,4 @@
-use Rattle.std.proofs.Common.{◌≡◌, IsPermutation, rules}
+use Rattle.std.proofs.Common.{IsPermutation, rules}
 use Rattle.std.specs.List.Sorted.{IsSortedByKey}
 use Rattle.std.proofs.lemmas.List.Sorted.{answers_always, IsPermutation-sym, IsPermutation-trans}
 use Rattle.terms.proofs.Permuted.{rises_sorted}
