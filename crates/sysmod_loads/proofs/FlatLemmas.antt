@@ -153,8 +153,7 @@ flat_taken (s ∷ ss) up built none =
     (λ t other. recursion_weaker (λ (r : IfRow). r.id ≡ t.id) (λ r. r.id ≢ s.id) (λ r e. other_by s.id r.id t.id e other) _ (if_ids t.id t.vers)) ss others in
     let of_elems = recursion_flat (λ (t : Sysmod). elem_rows t.id t.changes) (λ t. t.id ≢ s.id) (λ r. parent_of_elem r ≢ s.id)
     (λ t other. recursion_weaker (λ r. parent_of_elem r ≡ t.id) (λ r. parent_of_elem r ≢ s.id) (λ r e. other_by s.id r.id t.id e other) _ (elem_parents t.id t.changes)) ss others in
-    let releases = weaker_pairs (λ (v w : Ver). IsTrue (is_before v.srel w.srel)) (λ v w. w.srel ≢ v.srel) (λ v w low same. not_before_same v.srel w.srel (sym same) low) s.vers (ascending _ s.vers built.0.srels) in
-    (
+    let releases = weaker_pairs (λ (v w : Ver). IsTrue (is_before v.srel w.srel)) (λ v w. w.srel ≢ v.srel) (λ v w low same. not_before_same v.srel w.srel (sym same) low) s.vers (ascending _ s.vers built.0.srels) in (
       all_vers ss,
       all_ifs ss,
       all_elems ss,

@@ -23,12 +23,7 @@ use terms::ElemType;
 use text80::{Line, Numbered, TextError, Update};
 
 /// Ids, of which the SYSMOD's own is none.
-pub(crate) fn others_in(
-    alloc: Global,
-    row: &Row,
-    at: usize,
-    id: Id,
-) -> Result<IdList, ReadError>
+pub(crate) fn others_in(alloc: Global, row: &Row, at: usize, id: Id) -> Result<IdList, ReadError>
     ensures some { IfOk result (λ list. (column row.now at ≡ ids list) × AreOthers id list) }
     ensures none { IsErrOf result ReadError.BadRow → (list : List (List ℕ)) → AreOthers id list → column row.now at ≢ ids list }
 {
@@ -74,12 +69,7 @@ fn is_updated(elem_type: ElemType) -> bool
 }
 
 /// The records of an element of this type: those of macros and sources are numbered.
-fn text_in(
-    alloc: Global,
-    row: &Row,
-    at: usize,
-    elem_type: ElemType,
-) -> Result<Vec<Line>, ReadError>
+fn text_in(alloc: Global, row: &Row, at: usize, elem_type: ElemType) -> Result<Vec<Line>, ReadError>
     ensures some { IfOk result (λ text. (column row.now at ≡ records text.items) × IsTextOf elem_type text.items) }
     ensures none { IsErrOf result ReadError.BadRow → (text : List (List ℕ)) → IsTextOf elem_type text → column row.now at ≢ records text }
 {
@@ -111,11 +101,7 @@ fn replacement_in(
 }
 
 /// The records as an update of the element of this name.
-fn checked_update(
-    alloc: Global,
-    records: Vec<Line>,
-    name: &[u8],
-) -> Result<Vec<Line>, ReadError>
+fn checked_update(alloc: Global, records: Vec<Line>, name: &[u8]) -> Result<Vec<Line>, ReadError>
     ensures some { IfOk result (λ text. (text.items ≡ records.items) × IsUpdate name.now records.items) }
     ensures none { IsErrOf result ReadError.BadRow → ¬ IsUpdate name.now records.items }
 {

@@ -121,12 +121,7 @@ fn with_ifs(ver: Ver, ifs: Vec<IfReq>) -> Ver
 }
 
 /// The `++VER` with its `++IF`s, which are taken.
-fn filled(
-    alloc: Global,
-    ifs: &mut VecDeque<IfRow>,
-    id: Id,
-    row: VerRow,
-) -> Result<Ver, ReadError>
+fn filled(alloc: Global, ifs: &mut VecDeque<IfRow>, id: Id, row: VerRow) -> Result<Ver, ReadError>
     ensures same { IfOk result (λ ver. ver ≡ record row.ver { ifs = ver.ifs }) }
     ensures told { IfOk result (λ ver. HasIfs id row.ver.srel 1 ifs.old.items ver.ifs ifs.new.items) }
     ensures only { IfOk result (λ ver. (others : List terms.IfReq) (rest : List IfLine) → HasIfs id row.ver.srel 1 ifs.old.items others rest → (others ≡ ver.ifs) × (rest ≡ ifs.new.items)) }

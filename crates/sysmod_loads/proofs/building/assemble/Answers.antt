@@ -45,12 +45,11 @@ loop-head-preserved c =
           let there = subst (λ (heads : List HeadRow). AreTaken heads it.0 vers ifs elems) c.in-Some.ensures.some it.2 in
           let step = taken_step c.in-Some.head new it.0 vers ifs elems there in
           let left = step.1 in
-          let one = c.in_ok-sysmod.ensures.only step.0 step.2 step.3 step.4 step.6 in
-          (
+          let one = c.in_ok-sysmod.ensures.only step.0 step.2 step.3 step.4 step.6 in (
             left,
             next_left others sysmods s it.0 left it.1 (step.5 ∙ ap (λ (t : Sysmod). t ∷ left) one.0) ∙ ap (λ (ss : List Sysmod). ss ++ left) (sym pushed),
             subst (λ (v : List VerRow). AreTaken new left v next_ifs next_elems) one.1
-            (subst (λ (i : List IfRow). AreTaken new left step.2 i next_elems) one.2 (subst (λ (e : List ElemRow). AreTaken new left step.2 step.3 e) one.3 step.7)),
+                (subst (λ (i : List IfRow). AreTaken new left step.2 i next_elems) one.2 (subst (λ (e : List ElemRow). AreTaken new left step.2 step.3 e) one.3 step.7)),
           );
     }
 
