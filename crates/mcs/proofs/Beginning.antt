@@ -1,9 +1,9 @@
 -- The word that a statement begins with.
-use Rattle.std.proofs.Common.{◌≡◌, ◌≢◌, ℕ, List, [], ◌∷◌, ◌++◌, Option, sym, ◌∙◌, subst}
+use Rattle.std.proofs.Common.{◌≡◌, ◌≢◌, List, [], ◌∷◌, ◌++◌, Option, sym, ◌∙◌, subst}
 use Rattle.terms.specs.declared.statement_words.StatementWord.{StatementWord}
 use Rattle.terms.specs.Types.{Text, Lines}
 use Rattle.terms.specs.Statement.{Piece, TheWord, IsStatement}
-use Rattle.terms.specs.Words.{Word, word_pieces, list_pieces, TakesWord, BeginsNoWords}
+use Rattle.terms.specs.Words.{Word, list_pieces, TakesWord, BeginsNoWords}
 use Rattle.terms.specs.Statements.{statement_text}
 use Rattle.terms.specs.Ptfin.{IsKnown, IsUnknown}
 

@@ -1,8 +1,7 @@
 -- What a replacement says, and its text.
-use Rattle.std.proofs.Common.{◌≡◌, ◌≤◌, ◌<◌, ℕ, Bool, true, false, List, [], ◌∷◌, Option, Some, None, refl, sym, ◌∙◌, ap, subst, inl, inr, ◌⊎◌}
+use Rattle.std.proofs.Common.{◌≡◌, List, Option, refl, sym, ap, subst, inl, inr, ◌⊎◌}
 use Rattle.terms.specs.declared.kinds.ElemType.{ElemType}
 use Rattle.terms.specs.declared.kinds.ElemType.TheVariants.{Mac, Src, Clist, Data, Exec, Parm, Proc}
-use Rattle.terms.specs.declared.codes.McCode.{McCode}
 use Rattle.terms.specs.declared.statement_words.StatementWord.{StatementWord}
 use Rattle.terms.specs.declared.statement_words.StatementWord.TheVariants as word
 use Rattle.terms.specs.declared.text_faults.TextFault.{TextFault}
@@ -16,7 +15,7 @@ use Rattle.terms.proofs.Updates.{numbered-no_fault}
 use Rattle.mcs.specs.declared.said.StatementError.{StatementError}
 use Rattle.mcs.specs.declared.said.StatementError.TheVariants.{Memory, Fault}
 use Rattle.mcs.specs.Elements.{HasNames, IsTextError}
-use Rattle.mcs.specs.Said.{IsSaid, IsSaidFault, IsSaidError}
+use Rattle.mcs.specs.Said.{IsSaidFault, IsSaidError}
 
 pub action_to : (type : ElemType) (name distlib syslib : Text) (text : Lines) → IsActionOf type name (Replaces distlib syslib text) → IsReplacement type text
 action_to Mac name d s text h = h

@@ -1,10 +1,10 @@
 -- Values that are read, and why none is.
-use Rattle.std.proofs.Common.{◌≡◌, ℕ, Bool, true, false, not, List, [], ◌∷◌, Option, Some, None, refl, sym, ◌∙◌, ap, subst}
-use Rattle.std.specs.Prelude.{IsTrue, Contains, option_map, is_some, ◌||◌, ◌&&◌, map, All}
+use Rattle.std.proofs.Common.{◌≡◌, Bool, true, false, not, List, [], ◌∷◌, Option, Some, None, refl, sym, ◌∙◌, ap}
+use Rattle.std.specs.Prelude.{Contains, option_map, is_some, ◌||◌, map, All}
 use Rattle.std.specs.List.{list_any, list_all}
 use Rattle.std.proofs.lemmas.List.Elements.{All-nil, All-cons, All-head, All-tail}
 use Rattle.std.proofs.lemmas.Bool.{true≢false, false≢true, not-true, not_from_false, false_from_ne_true, and_parts, and_from}
-use Rattle.terms.specs.Types.{Text, Id}
+use Rattle.terms.specs.Types.{Id}
 use Rattle.terms.specs.Lookups.{is_in}
 use Rattle.terms.specs.Words.{Word}
 use Rattle.terms.proofs.Ids.{is_in-from_Contains, Contains-from_is_in}

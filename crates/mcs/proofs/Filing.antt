@@ -1,11 +1,11 @@
 -- Statements, one by one.
-use Rattle.std.proofs.Common.{◌≡◌, ◌<◌, ◌≤◌, ◌+◌, ℕ, List, [], ◌∷◌, ◌++◌, length, refl, sym, ◌∙◌, ap, subst, arith, length-append, inl, inr}
+use Rattle.std.proofs.Common.{◌≡◌, ◌<◌, ℕ, List, [], ◌∷◌, ◌++◌, length, refl, sym, ap, subst, arith, length-append, inr}
 use Rattle.terms.specs.declared.codes.McCode.{McCode}
 use Rattle.terms.specs.Types.{Lines, Item}
 use Rattle.terms.specs.Records.{HasRecords}
 use Rattle.terms.specs.Groups.{Group, IsGroup, TakesGroup}
 use Rattle.terms.specs.Statements.{Statement}
-use Rattle.terms.specs.Ptfin.{SoFar, nothing, items_of, after, IsGoodStatement, IsStatementFault, BeginsWithStatements, IsNextFault, IsPtfin, IsPtfinFault, McsFault}
+use Rattle.terms.specs.Ptfin.{SoFar, nothing, items_of, after, IsGoodStatement, IsStatementFault, BeginsWithStatements, IsPtfin}
 use Rattle.terms.proofs.ExactPtfin.{ptfin_fault-no_items}
 use Rattle.mcs.specs.declared.error.McsError.{McsError}
 use Rattle.mcs.specs.declared.error.McsError.TheVariants.{Memory, Fault}

@@ -1,13 +1,11 @@
 -- Statements that stand in order, and what is said of them.
-use Rattle.std.proofs.Common.{◌≡◌, ℕ, Bool, true, false, List, Option, Result, Ok, Err, refl, sym, ◌∙◌}
+use Rattle.std.proofs.Common.{◌≡◌, Bool, false, List, Option, Result, Ok, Err, sym, ◌∙◌}
 use Rattle.std.specs.Prelude.{IfOk, IfErr, IsTrue, ◌↔◌}
 use Rattle.std.proofs.lemmas.Bool.{true≢false}
-use Rattle.terms.specs.declared.codes.McCode.{McCode}
 use Rattle.terms.specs.declared.codes.McCode.TheVariants.{Mc1, Mc2, Mc3, Mc4, Mc5, Mc6}
 use Rattle.terms.specs.declared.statement_words.StatementWord.{StatementWord}
 use Rattle.terms.specs.Types.{Text, Lines, Sysmod}
 use Rattle.terms.specs.Statement.{Piece}
-use Rattle.terms.specs.Statements.{Statement}
 use Rattle.terms.specs.Ptfin.{IsKnown, IsPlaced, IsMisplaced, Disorder, IsGoodStatement}
 use Rattle.mcs.specs.declared.said.Statement.{Statement as Read}
 use Rattle.mcs.specs.declared.said.StatementError.{StatementError}

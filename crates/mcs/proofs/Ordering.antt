@@ -1,5 +1,5 @@
 -- Second ++VERs and second changes.
-use Rattle.std.proofs.Common.{◌≡◌, ℕ, Bool, true, false, List, [], ◌∷◌, Option, Some, None, refl, sym, ◌∙◌, ap, subst, inl, inr, eq-eqb}
+use Rattle.std.proofs.Common.{◌≡◌, Bool, true, List, [], ◌∷◌, Option, sym, ◌∙◌, ap, subst, inl, inr, eq-eqb}
 use Rattle.std.specs.Prelude.{◌&&◌, ◌==◌, IsTrue, Any}
 use Rattle.std.specs.List.{list_any}
 use Rattle.std.specs.Str.{bytes_eq}
@@ -14,8 +14,8 @@ use Rattle.terms.specs.Statements.{HasOwn}
 use Rattle.terms.specs.Ptfin.{IsSecond}
 use Rattle.terms.proofs.GlobalLookups.{same_from, same_itself}
 use Rattle.terms.proofs.ElementOrder.{type_from_number}
+use Rattle.terms.proofs.ExactOperands.{own-only}
 use Rattle.terms.proofs.Updates.{any_here, any_later, any_cases, any_none}
-use Rattle.mcs.proofs.Owning.{own_only}
 
 any_weaker : {X : Type 0} (P Q : X → Type 0) → ((x : X) → P x → Q x) → (xs : List X) → Any P xs → Any Q xs
 any_weaker P Q imp [] h = absurd (any_none P h)
@@ -37,7 +37,7 @@ second_ver s w own srel has w_is h e =
     let by = any_by (λ (v : Ver). bytes_eq v.srel srel) (λ v. v.srel ≡ srel) (λ v t. same_from v.srel srel t) (λ v t. subst (λ x. bytes_eq v.srel x ≡ true) t (same_itself v.srel)) s.vers has e in
     rw w_is (
       λ t. (srel, h, by.0 t),
-      λ k. by.1 (subst (λ x. Any (λ v. v.srel ≡ x) s.vers) (own_only IsSrel IsSrel own k.0 srel k.1 h) k.2),
+      λ k. by.1 (subst (λ x. Any (λ v. v.srel ≡ x) s.vers) (own-only IsSrel IsSrel own k.0 srel k.1 h) k.2),
     )
 
 pub no_second_ver : (s : Sysmod) (w : StatementWord) (own : Option Text) → w ≡ word.Ver → ((srel : Text) → HasOwn IsSrel own srel → ⊥) → IsSecond s w own → ⊥
@@ -59,7 +59,7 @@ second_change s w own type name has w_is h e =
     let by = any_by (λ (c : Change). (type_number c.elem_type == type_number type) && bytes_eq c.name name) (λ c. (c.elem_type ≡ type) × (c.name ≡ name)) (λ c t. same_element c type name t) (λ c t. element_same c type name t) s.changes has e in
     rw w_is (
       λ t. (name, h, by.0 t),
-      λ k. by.1 (subst (λ x. Any (λ c. (c.elem_type ≡ type) × (c.name ≡ x)) s.changes) (own_only IsName IsName own k.0 name k.1 h) k.2),
+      λ k. by.1 (subst (λ x. Any (λ c. (c.elem_type ≡ type) × (c.name ≡ x)) s.changes) (own-only IsName IsName own k.0 name k.1 h) k.2),
     )
 
 pub no_second_change : (s : Sysmod) (w : StatementWord) (own : Option Text) (type : ElemType) → w ≡ word.Replace type → ((name : Text) → HasOwn IsName own name → ⊥) → IsSecond s w own → ⊥

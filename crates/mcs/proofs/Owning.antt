@@ -1,11 +1,11 @@
 -- A word's list with one member.
-use Rattle.std.proofs.Common.{◌≡◌, ℕ, Bool, true, false, List, [], ◌∷◌, Option, Some, None, refl, sym, ◌∙◌, ap, subst}
-use Rattle.std.specs.Prelude.{IsSomeAnd, IfSome, IfNone, IsSome, ◌↔◌, is_some}
+use Rattle.std.proofs.Common.{◌≡◌, [], ◌∷◌, Option, Some, None, refl, sym, ap, subst}
+use Rattle.std.specs.Prelude.{IsSomeAnd, IfSome, IfNone, IsSome, ◌↔◌}
 use Rattle.std.proofs.lemmas.Bool.{false≢true}
 use Rattle.terms.specs.Types.{Text}
-use Rattle.terms.specs.Words.{Word, HasMembers, plain, IsOneOf}
+use Rattle.terms.specs.Words.{Word, HasMembers, plain}
 use Rattle.terms.specs.Statements.{HasOwn}
-use Rattle.terms.proofs.ExactWords.{members-only, one-only}
+use Rattle.terms.proofs.ExactWords.{members-only}
 
 abbrev pub HasOneMember : Option Text → Text → Type 0
 HasOneMember own m = IsSomeAnd own (λ text. HasMembers text (plain m ∷ []))
@@ -30,10 +30,6 @@ first_plain m n e =
 member_only : (own : Option Text) (m n : Text) → HasOneMember own m → HasOneMember own n → m ≡ n
 member_only None m n h k = absurd h
 member_only (Some text) m n h k = first_plain m n (members-only text (plain m ∷ []) (plain n ∷ []) h k)
-
--- The only member is determined.
-pub own_only : (form other : Text → Type 0) (own : Option Text) (m n : Text) → HasOwn form own m → HasOwn other own n → m ≡ n
-own_only form other own m n h k = member_only own m n (own_member form own m h) (own_member other own n k)
 
 pub read_one : (form : Text → Type 0) (own : Option Text) (m : Text) (o : Option Text) → HasOneMember own m → (IsSome o ↔ form m) → IfSome o (λ r. r ≡ m) → IfSome o (λ r. HasOwn form own r)
 read_one form own m None h f s = tt

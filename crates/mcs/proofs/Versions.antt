@@ -1,5 +1,5 @@
 -- What a ++VER says, and why one says nothing.
-use Rattle.std.proofs.Common.{◌≡◌, ◌≢◌, ℕ, List, [], ◌∷◌, Option, Some, None, refl, sym, ◌∙◌, ap, subst}
+use Rattle.std.proofs.Common.{◌≡◌, ◌≢◌, List, [], Option, Some, sym, subst}
 use Rattle.std.specs.Prelude.{All, Contains, IsSomeAnd, IfSome, codes, length, ◌<◌}
 use Rattle.terms.specs.declared.statement_words.StatementWord.{StatementWord}
 use Rattle.terms.specs.declared.statement_words.StatementWord.TheVariants as word

@@ -1,5 +1,5 @@
 -- The operands and the text of a replacement.
-use Rattle.std.specs.Prelude.{◌≡◌, ℕ, List, [], ◌∷◌, Option, codes}
+use Rattle.std.specs.Prelude.{◌≡◌, List, [], ◌∷◌, Option, codes}
 use Rattle.terms.specs.declared.kinds.ElemType.{ElemType}
 use Rattle.terms.specs.declared.codes.McCode.TheVariants.{Mc5}
 use Rattle.terms.specs.Types.{Text, Lines}

@@ -1,5 +1,5 @@
 -- What a statement says that stands in order, and what is at fault with it.
-use Rattle.std.specs.Prelude.{ℕ, List, Option}
+use Rattle.std.specs.Prelude.{List, Option}
 use Rattle.terms.specs.declared.codes.McCode.{McCode}
 use Rattle.terms.specs.declared.codes.McCode.TheVariants.{Mc3, Mc5, Mc6}
 use Rattle.terms.specs.declared.statement_words.StatementWord.{StatementWord}

@@ -1,5 +1,5 @@
 -- The lists of a ++VER, as its operands have them.
-use Rattle.std.specs.Prelude.{List, [], ◌∷◌, codes}
+use Rattle.std.specs.Prelude.{List, codes}
 use Rattle.terms.specs.Types.{Id}
 use Rattle.terms.specs.Forms.{IsId}
 use Rattle.terms.specs.Words.{Word}

@@ -1,9 +1,8 @@
 -- Where a command begins, the command, and the fault of its form are determined, and no records have two of these.
-use Rattle.std.proofs.Common.{◌≡◌, ◌<◌, ◌+◌, ℕ, Bool, true, false, List, [], ◌∷◌, ◌++◌, length, refl, sym, ◌∙◌, ap, subst, arith, length-append}
-use Rattle.std.proofs.lemmas.Bool.{true≢false}
+use Rattle.std.proofs.Common.{◌≡◌, ◌+◌, ℕ, Bool, true, false, List, [], ◌∷◌, ◌++◌, length, refl, sym, ◌∙◌, ap, subst, arith, length-append}
 use Rattle.std.proofs.lemmas.List.{append_cancel_left}
 use Rattle.terms.specs.Types.{Text}
-use Rattle.terms.specs.Statement.{Piece, TakesPiece, HasPieces, is_solid, solid, joined, followed, Ends, IsIdle, StFault, BreaksOff}
+use Rattle.terms.specs.Statement.{Piece, TakesPiece, HasPieces, is_solid, solid, joined, followed, IsIdle, StFault}
 use Rattle.terms.specs.CommandCuts.{BeginsNoGap, BeginsBehind, TakesCommand, IsCutFault}
 use Rattle.terms.proofs.Pieces.{piece-only, idle_ends}
 use Rattle.terms.proofs.Exact.{place_only, ends-only, breaks-only, breaks-not_ends}

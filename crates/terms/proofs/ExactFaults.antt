@@ -1,5 +1,5 @@
 -- The first fault of a PTFIN is determined.
-use Rattle.std.proofs.Common.{◌≡◌, ℕ, Bool, true, false, List, [], ◌∷◌, Option, refl, sym, ◌∙◌, ap, ap₂, subst, inl, inr}
+use Rattle.std.proofs.Common.{◌≡◌, ℕ, true, false, List, [], ◌∷◌, Option, refl, sym, ◌∙◌, ap, ap₂, subst, inl, inr}
 use Rattle.std.proofs.lemmas.Bool.{true≢false}
 use Rattle.terms.specs.declared.codes.McCode.{McCode}
 use Rattle.terms.specs.declared.codes.McCode.TheVariants.{Mc1, Mc2, Mc3, Mc4, Mc5, Mc6}

@@ -1,16 +1,15 @@
 -- No file is both a PTFIN and at fault, and its items are determined.
-use Rattle.std.proofs.Common.{◌≡◌, ◌≢◌, ℕ, Bool, true, false, List, [], ◌∷◌, ◌++◌, Option, Some, None, refl, sym, ◌∙◌, ap, subst, inl, inr}
+use Rattle.std.proofs.Common.{◌≡◌, ℕ, false, List, [], ◌∷◌, Option, sym, ◌∙◌, ap, subst, inl, inr}
 use Rattle.std.proofs.lemmas.Bool.{true≢false}
 use Rattle.terms.specs.declared.codes.McCode.{McCode}
 use Rattle.terms.specs.declared.codes.McCode.TheVariants.{Mc1, Mc2, Mc3, Mc4, Mc5, Mc6}
 use Rattle.terms.specs.declared.statement_words.StatementWord.{StatementWord}
 use Rattle.terms.specs.Types.{Text, Lines, Item, Sysmod}
-use Rattle.terms.specs.Records.{HasRecords, IsRecFault, RecFault}
-use Rattle.terms.specs.Groups.{Group, IsGroup, TakesGroup, starts_outside}
-use Rattle.terms.specs.Statement.{Piece, IsStatement, IsStFault}
+use Rattle.terms.specs.Groups.{Group, TakesGroup, starts_outside}
+use Rattle.terms.specs.Statement.{Piece}
 use Rattle.terms.specs.Words.{TakesWord}
 use Rattle.terms.specs.Statements.{Statement, statement_text}
-use Rattle.terms.specs.Ptfin.{SoFar, nothing, items_of, after, IsKnown, IsUnknown, IsGood, IsPlaced, HasValue, IsWithin, HasGoodText, IsFault, IsGoodStatement, IsStatementFault, BeginsWithStatements, IsPtfin, McsFault, IsFileFault, IsNextFault, IsPtfinFault}
+use Rattle.terms.specs.Ptfin.{SoFar, nothing, items_of, after, IsKnown, IsGood, IsWithin, HasGoodText, IsFault, IsGoodStatement, IsStatementFault, BeginsWithStatements, IsPtfin, McsFault, IsNextFault, IsPtfinFault}
 use Rattle.terms.proofs.Exact.{statement-only, fault-no_statement}
 use Rattle.terms.proofs.ExactFiles.{records-only, rec_fault-no_records, group-only, no_group, begins_inside}
 use Rattle.terms.proofs.ExactStatements.{spelled-only, takes-only, value-only}

@@ -1,5 +1,5 @@
 -- What a statement of PTFIN says is determined.
-use Rattle.std.proofs.Common.{◌≡◌, ℕ, Bool, true, false, List, [], ◌∷◌, ◌++◌, Option, Some, None, refl, sym, ◌∙◌, ap, subst}
+use Rattle.std.proofs.Common.{◌≡◌, List, [], ◌∷◌, ◌++◌, Option, Some, None, refl, sym, ◌∙◌, ap, subst}
 use Rattle.std.specs.Prelude.{find, IsSomeAnd}
 use Rattle.std.specs.Str.{bytes_eq}
 use Rattle.terms.specs.declared.kinds.Kind.{Kind}
@@ -8,12 +8,11 @@ use Rattle.terms.specs.declared.kinds.ElemType.{ElemType}
 use Rattle.terms.specs.declared.kinds.ElemType.TheVariants.{Mac, Src, Clist, Data, Exec, Parm, Proc}
 use Rattle.terms.specs.declared.statement_words.StatementWord.{StatementWord}
 use Rattle.terms.specs.declared.statement_words.StatementWord.TheVariants as word
-use Rattle.terms.specs.Types.{Text, Id, Lines, Ver, Action, Replaces, Change, Sysmod}
+use Rattle.terms.specs.Types.{Text, Lines, Ver, Replaces, Change, Sysmod}
 use Rattle.terms.specs.Forms.{IsId, IsSrel, IsName}
 use Rattle.terms.specs.Statement.{Piece, TheWord, TheList}
-use Rattle.terms.specs.Words.{Word, word_pieces, list_pieces, HasWords, TakesWord, BeginsNoList}
-use Rattle.terms.specs.Operands.{operand}
-use Rattle.terms.specs.Statements.{statement_text, Statement, SaysHeader, SaysVer, SaysChange, HasOwn, IsVerOf, IsReplacementOf, Says}
+use Rattle.terms.specs.Words.{Word, list_pieces, TakesWord, BeginsNoList}
+use Rattle.terms.specs.Statements.{statement_text, Statement, SaysHeader, SaysVer, SaysChange, IsVerOf, IsReplacementOf, Says}
 use Rattle.terms.specs.Ptfin.{HasValue}
 use Rattle.terms.proofs.ExactWords.{words-only}
 use Rattle.terms.proofs.ExactOperands.{own-only, required-only, optional-only, texts-only}

@@ -1,10 +1,9 @@
 -- The words of a statement and the members of a list are determined.
-use Rattle.std.proofs.Common.{◌≡◌, ℕ, Bool, true, false, List, [], ◌∷◌, ◌++◌, Option, Some, None, map, refl, sym, ◌∙◌, ap, subst}
+use Rattle.std.proofs.Common.{◌≡◌, true, false, List, [], ◌∷◌, map, refl, sym, ◌∙◌, ap, subst}
 use Rattle.std.specs.List.{flat_map}
 use Rattle.terms.specs.Types.{Text}
-use Rattle.terms.specs.Forms.{AreBlanks}
 use Rattle.terms.specs.Statement.{Piece}
-use Rattle.terms.specs.Words.{Word, word_pieces, HasWords, TakesWord, BeginsNoList, TakesNext, HasMore, HasMembers, plain, IsListOf, IsOneOf}
+use Rattle.terms.specs.Words.{Word, word_pieces, HasWords, TakesWord, BeginsNoList, HasMore, HasMembers, plain, IsListOf, IsOneOf}
 use Rattle.terms.proofs.Solids.{words_first}
 use Rattle.terms.proofs.Members.{next-only, blanks_none}
 

@@ -1,12 +1,12 @@
 -- Members of a list are determined.
-use Rattle.std.specs.Prelude.{◌==◌, ◌||◌, not, All, ◌⊎◌}
-use Rattle.std.proofs.Common.{◌≡◌, ◌≤◌, ◌<◌, ◌+◌, ℕ, Bool, true, false, List, [], ◌∷◌, ◌++◌, length, Option, Some, None, refl, sym, ◌∙◌, ap, ap₂, subst, arith, inl, inr, append_assoc, eq-eqb, length-append}
-use Rattle.std.proofs.lemmas.Bool.{true≢false, false≢true, eqb-true, not-true, or_parts}
-use Rattle.std.proofs.lemmas.List.Elements.{All-head, All-tail, All-weaker, All-append, All-cons, All-nil}
+use Rattle.std.specs.Prelude.{◌==◌, ◌||◌, All}
+use Rattle.std.proofs.Common.{◌≡◌, ◌<◌, ℕ, Bool, true, false, [], ◌∷◌, ◌++◌, length, Option, Some, None, refl, sym, ◌∙◌, ap, ap₂, subst, arith, inl, inr, append_assoc, eq-eqb}
+use Rattle.std.proofs.lemmas.Bool.{true≢false, false≢true, not-true, or_parts}
+use Rattle.std.proofs.lemmas.List.Elements.{All-head, All-tail, All-weaker}
 use Rattle.terms.specs.Types.{Text}
 use Rattle.terms.proofs.Longest.{StartsWithout, longest-only}
 use Rattle.terms.specs.Forms.{AreBlanks}
-use Rattle.terms.specs.Words.{Word, is_member_byte, is_inner_byte, TakesRun, Stops, BeginsInner, TakesInner, TakesMember, IsSeparator, IsBefore, TakesNext, HasMore, HasMembers}
+use Rattle.terms.specs.Words.{Word, is_member_byte, is_inner_byte, TakesRun, Stops, TakesInner, TakesMember, IsBefore, TakesNext}
 
 abbrev Each : (ℕ → Bool) → Text → Type 0
 Each test text = All (λ b. test b ≡ true) text

@@ -1,5 +1,5 @@
 use Rattle.mcs.specs.KnownWords.{own_list}
-use Rattle.mcs.proofs.Ordering.{second_ver, no_second_ver, second_change, no_second_change}
+use Rattle.mcs.proofs.Ordering.{second_ver, second_change}
 use Rattle.mcs.proofs.order.is_second.Goals as goal
 
 pub returns-in-Some : goal.returns-in-Some

@@ -1,9 +1,9 @@
-use Rattle.std.proofs.Common.{sym, subst, List, [], ◌∷◌, ◌++◌}
+use Rattle.std.proofs.Common.{sym, subst, [], ◌∷◌, ◌++◌}
 use Rattle.terms.specs.Ptfin.{nothing, BeginsWithStatements}
 use Rattle.rec80.specs.Views.{group_of}
 use Rattle.mcs.specs.Statements.{statement_of}
 use Rattle.mcs.specs.Files.{so_far}
-use Rattle.mcs.proofs.Filing.{begins_more, group_shorter, rest_fault}
+use Rattle.mcs.proofs.Filing.{begins_more}
 use Rattle.mcs.proofs.ptfin.read_statements.Goals as goal
 
 pub loop-group-preserved : goal.loop-group-preserved

@@ -1,4 +1,3 @@
-use Rattle.terms.specs.Ptfin.{IsKnown}
 use Rattle.mcs.specs.KnownWords.{own_list}
 use Rattle.mcs.proofs.Judging.{Stands, stands, good_statement, bad_statement}
 use Rattle.mcs.proofs.statement.read_statement.Goals as goal

@@ -1,4 +1,4 @@
-use Rattle.std.proofs.Common.{ℕ, List, length, map}
+use Rattle.std.proofs.Common.{List, length, map}
 use Rattle.terms.specs.Statement.{Piece, HasSolid}
 use Rattle.rec80.specs.Views.{left_of}
 use Rattle.mcs.proofs.Remaining.{Remains}

@@ -1,4 +1,4 @@
-use Rattle.std.specs.Prelude.{ℕ, List, codes}
+use Rattle.std.specs.Prelude.{List, codes}
 use Rattle.std.proofs.lemmas.Result.{err_from_is_err_and}
 use Rattle.terms.specs.Types.{Id}
 use Rattle.terms.specs.Forms.{IsId}

@@ -1,5 +1,5 @@
-use Rattle.std.proofs.Common.{◌≡◌, ◌∙◌, sym, ap, subst, refl, Option, Some, true, false}
-use Rattle.std.specs.Prelude.{ℕ, List, not}
+use Rattle.std.proofs.Common.{◌≡◌, ◌∙◌, sym, ap, subst, refl, Some, true, false}
+use Rattle.std.specs.Prelude.{List, not}
 use Rattle.std.specs.List.{list_all}
 use Rattle.std.proofs.lemmas.Bool.{true≢false}
 use Rattle.terms.specs.Types.{Id, Ver, Sysmod}
@@ -10,7 +10,7 @@ use Rattle.operands.specs.Left.{LeavesWords}
 use Rattle.mcs.specs.KnownWords.{own_list}
 use Rattle.mcs.specs.VerOperands.{HasLists}
 use Rattle.mcs.proofs.Excluding.{excludes_map, free_all, all_free}
-use Rattle.mcs.proofs.Versions.{a_ver, HasVer, ver_is, lists_in, fmid_is, lists_are}
+use Rattle.mcs.proofs.Versions.{HasVer, ver_is, lists_in, fmid_is, lists_are}
 use Rattle.mcs.proofs.ver.read_ver.Goals as goal
 use Rattle.mcs.proofs.ver.read_ver.Goals.{After-made_of-ver}
 
