@@ -36,10 +36,10 @@ use Rattle.schema.proofs.Spelled.{kind_same, hold_same, type_same, zone_same, or
 
 -- ---- what one row says
 
-same_ids : (a b : List Id) → AreListed IsId a → AreListed IsId b → ids a ≡ ids b → a ≡ b
+pub same_ids : (a b : List Id) → AreListed IsId a → AreListed IsId b → ids a ≡ ids b → a ≡ b
 same_ids a b p q e = ids_same a b (ids_are_words a p) (ids_are_words b q) e
 
-if_same : (x y : Id) (a b : IfReq) → HasIfForms x a → HasIfForms y b → (n m : ℕ) (srel other : Text) → ifreq_row x srel (n, a) ≡ ifreq_row y other (m, b) → ◌≡◌ {A = ℕ × IfReq} (n, a) (m, b)
+pub if_same : (x y : Id) (a b : IfReq) → HasIfForms x a → HasIfForms y b → (n m : ℕ) (srel other : Text) → ifreq_row x srel (n, a) ≡ ifreq_row y other (m, b) → ◌≡◌ {A = ℕ × IfReq} (n, a) (m, b)
 if_same x y a b p q n m srel other e =
     let req = same_ids a.req b.req p.req.listed q.req.listed cc in
     let function : a.function ≡ b.function = cc in
@@ -48,16 +48,16 @@ if_same x y a b p q n m srel other e =
     ap₂ (λ (k : ℕ) (f : IfReq). (k, f)) number both
 
 -- all of a ++VER but its ++IFs
-record HaveOneHead (a b : Ver) : Type 0 where
-  srel : a.srel ≡ b.srel
-  fmid : a.fmid ≡ b.fmid
-  pre : a.pre ≡ b.pre
-  req : a.req ≡ b.req
-  sup : a.sup ≡ b.sup
-  npre : a.npre ≡ b.npre
-  del : a.del ≡ b.del
+pub record HaveOneHead (a b : Ver) : Type 0 where
+  pub srel : a.srel ≡ b.srel
+  pub fmid : a.fmid ≡ b.fmid
+  pub pre : a.pre ≡ b.pre
+  pub req : a.req ≡ b.req
+  pub sup : a.sup ≡ b.sup
+  pub npre : a.npre ≡ b.npre
+  pub del : a.del ≡ b.del
 
-one_head : (j k : Kind) (x y : Id) (a b : Ver) → HasVerForms j x a → HasVerForms k y b → ver_row x a ≡ ver_row y b → HaveOneHead a b
+pub one_head : (j k : Kind) (x y : Id) (a b : Ver) → HasVerForms j x a → HasVerForms k y b → ver_row x a ≡ ver_row y b → HaveOneHead a b
 one_head j k x y a b p q e = record {
   srel = cc;
   fmid = or_null_same a.fmid b.fmid cc;
@@ -68,7 +68,7 @@ one_head j k x y a b p q e = record {
   del = same_ids a.del b.del p.del.listed q.del.listed cc;
 }
 
-ver_is : (a b : Ver) → HaveOneHead a b → a.ifs ≡ b.ifs → a ≡ b
+pub ver_is : (a b : Ver) → HaveOneHead a b → a.ifs ≡ b.ifs → a ≡ b
 ver_is a b h ifs =
     ap (λ x. record a { srel = x }) h.srel
     ∙ ap (λ x. record a { srel = b.srel; fmid = x }) h.fmid
@@ -117,7 +117,7 @@ action_same j k s t n m (Replaces d l x) (Updates y) p q e = absurd cc
 action_same j k s t n m (Updates x) (Replaces f g y) p q e = absurd cc
 action_same j k s t n m (Updates x) (Updates y) p q e = ap Updates (text_same x y p.2 q.2 cc)
 
-change_is : (j k : Kind) (x y : Id) (a b : Change) → HasChangeForms j a → HasChangeForms k b → elem_row x a ≡ elem_row y b → a ≡ b
+pub change_is : (j k : Kind) (x y : Id) (a b : Change) → HasChangeForms j a → HasChangeForms k b → elem_row x a ≡ elem_row y b → a ≡ b
 change_is j k x y a b p q e =
     let type : a.elem_type ≡ b.elem_type = type_same a.elem_type b.elem_type cc in
     let name : a.name ≡ b.name = cc in

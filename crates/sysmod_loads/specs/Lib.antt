@@ -1,0 +1,5 @@
+pub mod Flat
+pub mod Runs
+pub mod Built
+pub mod Flats
+pub mod Gathered
