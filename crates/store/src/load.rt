@@ -1,6 +1,6 @@
 //! What a store's tables hold, read back.
 
-ghost use Rattle.std.specs.Prelude.{◌≡◌, map, IfOk, IsErrOf, OnOk, OnErr};
+ghost use Rattle.std.specs.Prelude.{◌≡◌, ◌≢◌, map, IfOk, IfErr, IsErrOf, OnOk, OnErr};
 ghost use Rattle.sqlite.specs.Held.{state};
 ghost use Rattle.sqlite.specs.State.{HasCleanDisk};
 ghost use Rattle.schema.specs.Inventory.{Inventory};
@@ -17,7 +17,8 @@ use zones::Zone;
 
 /// How an error of reading is told: rows that stand for nothing stand for no state.
 fn told(error: ReadError) -> StoreError
-    ensures { result ≡ told error }
+    ensures value { result ≡ told error }
+    ensures which { result ≢ StoreError.OtherSchema }
 {
     match error {
         ReadError::Memory => StoreError::Memory,
@@ -33,6 +34,7 @@ impl<S: Alter> Store<S> {
         ensures none { HasCleanDisk (state S.Store self.new) → IsErrOf result StoreError.NoState → (i : Inventory) → ¬ Tables S.Store self.old i }
         ensures same { OnOk result ((i : Inventory) → Tables S.Store self.old i → Tables S.Store self.new i) }
         ensures err { OnErr result ((i : Inventory) → Tables S.Store self.old i → TablesIfOpen S.Store self.new i) }
+        ensures which { IfErr result (λ e. e ≢ StoreError.OtherSchema) }
         ensures crash { (i : Inventory) → Tables S.Store self.old i → (c : Inventory) → Leaves S.Store self.new c → Leaves S.Store self.old c }
     {
         // So what the connection shows is what it last committed.
@@ -49,6 +51,7 @@ impl<S: Alter> Store<S> {
         ensures none { HasCleanDisk (state S.Store self.new) → IsErrOf result StoreError.NoState → (i : Inventory) → ¬ Tables S.Store self.old i }
         ensures same { OnOk result ((i : Inventory) → Tables S.Store self.old i → Tables S.Store self.new i) }
         ensures err { OnErr result ((i : Inventory) → Tables S.Store self.old i → TablesIfOpen S.Store self.new i) }
+        ensures which { IfErr result (λ e. e ≢ StoreError.OtherSchema) }
         ensures crash { (i : Inventory) → Tables S.Store self.old i → (c : Inventory) → Leaves S.Store self.new c → Leaves S.Store self.old c }
     {
         // So what the connection shows is what it last committed.
