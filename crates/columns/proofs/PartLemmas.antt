@@ -1,6 +1,6 @@
 -- Texts and their parts between commas, and records and their bytes.
 use Rattle.std.proofs.Common.{get_or, map, take, IsTrue, append-nil, subst, subst₂, length-take, Bor, ◌≡◌, ◌≢◌, ◌==◌, ◌<◌, ◌*◌, ◌%◌, ℕ, List, [], ◌∷◌, ◌++◌, length, length-append, All, false, arith, refl, sym, ap, ◌∙◌}
-use Rattle.std.specs.List.{AllByRecursion, slice_split, join_with_byte, flat_map, concat}
+use Rattle.std.specs.List.{AllByRecursion, slice_split, join_with_byte, concat}
 use Rattle.std.proofs.lemmas.List.Splits.{slice_split_none, slice_split_at, join_with_byte-slice_split}
 use Rattle.std.proofs.lemmas.List.Elements.{All-from_recursion, recursion_from_All}
 use Rattle.std.proofs.lemmas.List.{get_or_default, get_or-map, get_or-take, length-map, take-map}
@@ -9,6 +9,7 @@ use Rattle.terms.specs.Lookups.{is_before}
 use Rattle.terms.specs.Texts.{HasLines}
 use Rattle.schema.specs.Forms.{AreListed, AreRecords}
 use Rattle.terms.proofs.RisingLists.{All-between, AllPairs-between}
+use Rattle.rows.proofs.Pieces.{flat_concat}
 use Rattle.schema.proofs.Lists.{IsWord}
 use Rattle.columns.specs.Parts.{parts_of}
 
@@ -70,10 +71,6 @@ module _ (form : Text → Type 0) where
         let front : get_or (map (λ part. part.now) (take i parts)) k e ≡ get_or (map (λ part. part.now) parts) k e =
         ap (λ xs. get_or xs k e) (sym (take-map (λ (part : Bor Text). part.now) i parts)) ∙ get_or-take i (map (λ part. part.now) parts) k e less in
         subst₂ (λ y z. IsTrue (is_before y z)) (sym front) (at e) (h.rising k i e less (rw length-map within))
-
-pub flat_concat : (lines : List (List ℕ)) → flat_map (λ line. line) lines ≡ concat lines
-flat_concat [] = refl
-flat_concat (line ∷ lines) = ap (λ rest. line ++ rest) (flat_concat lines)
 
 whole_of : (lines : List (List ℕ)) → AllByRecursion (λ line. length line ≡ 80) lines → length (concat lines) ≡ length lines * 80
 whole_of [] h = refl

@@ -1,7 +1,9 @@
 -- The rows of SYSMODs, table by table: what is taken off the front of them, and that they rise.
 use Rattle.std.proofs.Common.{◌≡◌, ◌≢◌, ℕ, ◌+◌, List, [], ◌∷◌, ◌++◌, map, IsTrue, append_assoc, refl, sym, ap, ap₂, subst, ◌∙◌}
 use Rattle.std.specs.List.{AllByRecursion, flat_map, enumerate_from}
+use Rattle.std.proofs.lemmas.List.{map-append}
 use Rattle.sqlite.specs.Tree.{IsAscending}
+use Rattle.terms.proofs.GlobalGroups.{recursion-append}
 use Rattle.terms.specs.Types.{Text, Id, IfReq, Ver, Change, Sysmod}
 use Rattle.terms.specs.Lookups.{is_before}
 use Rattle.schema.proofs.Lists.{ascending}
@@ -18,13 +20,9 @@ use Rattle.sysmod_loads.specs.Flats.{head_of, ifs_of, all_vers, all_ifs, all_ele
 
 -- ---- rows of items
 
-map_append : {A B : Type 0} (g : A → B) (xs ys : List A) → map g (xs ++ ys) ≡ map g xs ++ map g ys
-map_append g [] ys = refl
-map_append g (x ∷ xs) ys = ap (λ zs. g x ∷ zs) (map_append g xs ys)
-
 map_flat : {A B C : Type 0} (g : B → C) (f : A → List B) (h : A → List C) → ((a : A) → map g (f a) ≡ h a) → (xs : List A) → map g (flat_map f xs) ≡ flat_map h xs
 map_flat g f h same [] = refl
-map_flat g f h same (x ∷ xs) = map_append g (f x) (flat_map f xs) ∙ ap₂ ◌++◌ (same x) (map_flat g f h same xs)
+map_flat g f h same (x ∷ xs) = map-append g (f x) (flat_map f xs) ∙ ap₂ ◌++◌ (same x) (map_flat g f h same xs)
 
 pub rows_of_heads : (ss : List Sysmod) → map row_of_head (map head_of ss) ≡ map sysmod_row ss
 rows_of_heads [] = refl
@@ -89,13 +87,9 @@ taken_flat (x ∷ heads) (s ∷ ss) vers ifs elems h =
 
 -- ---- all is taken
 
-pub recursion_append : {X : Type 0} (P : X → Type 0) (xs ys : List X) → AllByRecursion P xs → AllByRecursion P ys → AllByRecursion P (xs ++ ys)
-recursion_append P [] ys h k = k
-recursion_append P (x ∷ xs) ys h k = (h.0, recursion_append P xs ys h.1 k)
-
 pub recursion_flat : {A X : Type 0} (f : A → List X) (Q : A → Type 0) (P : X → Type 0) → ((a : A) → Q a → AllByRecursion P (f a)) → (xs : List A) → AllByRecursion Q xs → AllByRecursion P (flat_map f xs)
 recursion_flat f Q P each [] h = tt
-recursion_flat f Q P each (x ∷ xs) h = recursion_append P (f x) (flat_map f xs) (each x h.0) (recursion_flat f Q P each xs h.1)
+recursion_flat f Q P each (x ∷ xs) h = recursion-append P (f x) (flat_map f xs) (each x h.0) (recursion_flat f Q P each xs h.1)
 
 pub recursion_weaker : {X : Type 0} (P Q : X → Type 0) → ((x : X) → P x → Q x) → (xs : List X) → AllByRecursion P xs → AllByRecursion Q xs
 recursion_weaker P Q f [] h = tt
@@ -120,7 +114,7 @@ elem_parents x (d ∷ changes) = (refl, elem_parents x changes)
 pub if_ids : (x : Id) (vers : List Ver) → AllByRecursion (λ (r : IfRow). r.id ≡ x) (ifs_of x vers)
 if_ids x [] = tt
 if_ids x (v ∷ vers) =
-    recursion_append (λ (r : IfRow). r.id ≡ x) (if_rows x v.srel 1 v.ifs) (ifs_of x vers)
+    recursion-append (λ (r : IfRow). r.id ≡ x) (if_rows x v.srel 1 v.ifs) (ifs_of x vers)
     (recursion_weaker (λ r. parent_of_if r ≡ (x, v.srel)) (λ r. r.id ≡ x) (λ r e. ap (λ (k : Id × Text). k.0) e) _ (if_parents x v.srel 1 v.ifs)) (if_ids x vers)
 
 other_by : (x y z : Id) → y ≡ z → z ≢ x → y ≢ x
@@ -133,7 +127,7 @@ ifs_taken x (v ∷ vers) rest up others =
     let of_rest = recursion_weaker (λ (r : IfRow). r.id ≢ x) (λ r. parent_of_if r ≢ (x, v.srel)) (λ r other e. other (ap (λ (k : Id × Text). k.0) e)) rest others in
     let of_vers = recursion_flat (λ (w : Ver). if_rows x w.srel 1 w.ifs) (λ (w : Ver). w.srel ≢ v.srel) (λ r. parent_of_if r ≢ (x, v.srel))
     (λ w other. recursion_weaker (λ r. parent_of_if r ≡ (x, w.srel)) (λ r. parent_of_if r ≢ (x, v.srel)) (λ r e f. other (ap (λ (k : Id × Text). k.1) (sym e ∙ f))) _ (if_parents x w.srel 1 w.ifs)) vers up.0 in
-    let apart = stands_apart parent_of_if (x, v.srel) (ifs_of x vers ++ rest) (recursion_append _ (ifs_of x vers) rest of_vers of_rest) in
+    let apart = stands_apart parent_of_if (x, v.srel) (ifs_of x vers ++ rest) (recursion-append _ (ifs_of x vers) rest of_vers of_rest) in
     (ifs_of x vers ++ rest, (append_assoc (if_rows x v.srel 1 v.ifs) (ifs_of x vers) rest, apart), ifs_taken x vers rest up.1 others)
 
 weaker_pairs : {X : Type 0} (R S : X → X → Type 0) → ((x y : X) → R x y → S x y) → (xs : List X) → IsAscending R xs → IsAscending S xs

@@ -9,6 +9,7 @@ use Rattle.std.proofs.lemmas.Cmp.{nat_list_cmp_total, tied_itself}
 use Rattle.std.proofs.lemmas.List.Kept.{AllPairs-cons}
 use Rattle.std.proofs.lemmas.List.Elements.{All-from_recursion}
 use Rattle.sqlite.specs.Tree.{IsAscending}
+use Rattle.terms.proofs.GlobalGroups.{recursion-append}
 use Rattle.terms.proofs.RisingLists.{Less-from_is_lt}
 use Rattle.terms.specs.declared.kinds.ElemType.{ElemType}
 use Rattle.terms.specs.Types.{Text, Id, IfReq, Ver, Change, Sysmod, type_number}
@@ -25,11 +26,11 @@ use Rattle.sysmod_loads.specs.declared.flat.ElemRow.{ElemRow}
 use Rattle.sysmod_loads.specs.Runs.{if_rows, ver_rows, elem_rows}
 use Rattle.sysmod_loads.specs.Built.{IsBuilt}
 use Rattle.sysmod_loads.specs.Flats.{head_of, ifs_of, all_vers, all_ifs, all_elems, AreFormed}
-use Rattle.sysmod_loads.proofs.FlatLemmas.{recursion_append, recursion_flat, recursion_weaker, ver_parents, elem_parents, if_ids, BelowId}
+use Rattle.sysmod_loads.proofs.FlatLemmas.{recursion_flat, recursion_weaker, ver_parents, elem_parents, if_ids, BelowId}
 
 asc_append : {X : Type 0} (R : X → X → Type 0) (xs ys : List X) → IsAscending R xs → IsAscending R ys → AllByRecursion (λ x. AllByRecursion (R x) ys) xs → IsAscending R (xs ++ ys)
 asc_append R [] ys p q cross = q
-asc_append R (x ∷ xs) ys p q cross = (recursion_append (R x) xs ys p.0 cross.0, asc_append R xs ys p.1 q cross.1)
+asc_append R (x ∷ xs) ys p q cross = (recursion-append (R x) xs ys p.0 cross.0, asc_append R xs ys p.1 q cross.1)
 
 pub pairs_from : {X : Type 0} (R : X → X → Type 0) (xs : List X) → IsAscending R xs → AllPairs R xs
 pairs_from R [] h = λ i j d less within. absurd (omega (arith, within))
