@@ -1,13 +1,13 @@
 -- Small zones that show the definitions at work. Ids are single numbers here.
 use Rattle.std.specs.Prelude.{◌≡◌, true, false, List, [], ◌∷◌, None, Some, refl, map}
-use Rattle.std.proofs.Common.{inr, arith}
+use Rattle.std.proofs.Common.{inl, arith}
 use Rattle.terms.specs.declared.kinds.Kind.{Kind}
 use Rattle.terms.specs.declared.kinds.Kind.TheVariants.{Function, Ptf}
 use Rattle.terms.specs.declared.kinds.HoldKind.TheVariants.{Error, User}
 use Rattle.terms.specs.declared.kinds.ElemType.TheVariants.{Mac}
 use Rattle.terms.specs.declared.kinds.ZoneKind.TheVariants.{Target}
 use Rattle.terms.specs.declared.codes.NeedKind.TheVariants.{Fmid, Pre, Req, Ifreq, HoldError, Orphan}
-use Rattle.terms.specs.declared.not_chosen.NotChosen.TheVariants.{Already, Deleted, Missing}
+use Rattle.terms.specs.declared.not_chosen.NotChosen.TheVariants.{Already, Deleted, Missing, NoVer}
 use Rattle.terms.specs.Types.{Text, Id, Ver, Change, Replaces, Sysmod, Global, Entry, Zone, NoReason, AnyReason, Bypass, Selection}
 use Rattle.terms.specs.Lookups.{is_applied}
 use Rattle.terms.specs.Choice.{by_srel}
@@ -129,17 +129,24 @@ delby_after-deletion : map (delby_after installing) (haa ∷ hcc ∷ hdd ∷ ua2
 unfolding delby_after
 delby_after-deletion = refl
 
--- what is applied is not open
-is_start-select : map (is_start deleting full (select (hcc ∷ haa ∷ []))) (haa ∷ hcc ∷ hdd ∷ []) ≡ false ∷ true ∷ false ∷ []
+-- HAA1100 alone is applied
+abbrev base : Zone
+base = record full { entries = applied haa ∷ []; elements = [] }
+
+-- what is applied is not open, nor what has DELETE
+is_start-select : map (is_start deleting base (select (hcc ∷ haa ∷ hdd ∷ []))) (haa ∷ hcc ∷ hdd ∷ []) ≡ false ∷ false ∷ true ∷ []
 is_start-select = refl
 
--- without operands PTFs alone are taken
-is_start-mass : map (is_start deleting (record full { entries = [] }) (select [])) (haa ∷ hcc ∷ ua21 ∷ ua23 ∷ [])
-    ≡ false ∷ false ∷ true ∷ true ∷ []
+-- without operands PTFs alone are taken, and not one that has REQ
+is_start-mass : map (is_start deleting base (select [])) (haa ∷ hdd ∷ ua21 ∷ ua23 ∷ []) ≡ false ∷ false ∷ true ∷ false ∷ []
 is_start-mass = refl
 
+-- where something is applied that has REQ, nothing is open
+is_start-unserved : is_start deleting full (select (hdd ∷ [])) hdd ≡ false
+is_start-unserved = refl
+
 not_chosen-select : map (not_chosen deleting full (select (hcc ∷ haa ∷ (99 ∷ []) ∷ []))) (haa ∷ hcc ∷ hdd ∷ (99 ∷ []) ∷ [])
-    ≡ Some Already ∷ None ∷ None ∷ Some Missing ∷ []
+    ≡ Some Already ∷ Some NoVer ∷ None ∷ Some Missing ∷ []
 unfolding not_chosen
 not_chosen-select = refl
 
@@ -180,12 +187,6 @@ extending = record {
       ∷ [];
 }
 
-abbrev base : Zone
-base = record full { entries = applied haa ∷ []; elements = [] }
-
-abbrev extended : Selection
-extended = record (select (ua7 ∷ [])) { groupextend = true }
-
 needed_ids-missing : needed_ids extending (by_srel extending srel) base (λ x. false) ua7 ≡ ua8 ∷ []
 unfolding needed_ids
 needed_ids-missing = refl
@@ -193,12 +194,14 @@ needed_ids-missing = refl
 supersedes_missing : Supersedes (by_srel extending srel) ua10 ua8
 supersedes_missing = ([], (0, omega arith, refl))
 
--- under GROUPEXTEND what supersedes the needed id is a candidate
-extended_candidate : IsCandidate extending (by_srel extending srel) base extended ua10
+-- GROUP brings in the function of what it names
+abbrev grouped : Selection
+grouped = record (select []) { group = ua21 ∷ [] }
+
+grouped_candidate : IsCandidate deleting (by_srel deleting srel) (record full { entries = [] }) grouped haa
 unfolding needed_ids
-extended_candidate = λ cands growing pair.
-    pair.part ua10 (pair.grown ua7 ua10 (pair.growing_start ua7 refl)
-    (refl, inr (refl, (ua8, (0, omega arith, refl), inr supersedes_missing))))
+grouped_candidate = λ cands growing pair.
+    pair.part haa (pair.grown ua21 haa (pair.growing_start ua21 refl) (refl, inl (0, omega arith, refl)))
 
 -- UA00007 needs UA00008 as PRE
 needs_missing : Needs (setting extending base None (ua7 ∷ []) no_bypass) [] ua7 Pre ua8
