@@ -1,0 +1,38 @@
+ghost use Rattle.std.specs.Prelude.{◌≡◌, None, All, Some, IsTrue, IfOk, map};
+ghost use Rattle.terms.specs.Lookups.{IsRising};
+ghost use Rattle.terms.specs.CommandForms.{no_bypass};
+ghost use Rattle.terms.specs.Candidates.{is_installable};
+ghost use Rattle.terms.specs.Judged.{setting, IsInstallProblem};
+ghost use Rattle.judge.specs.Failed.{AreFailedTests};
+
+use fields::{Id, IdList};
+use global::Global;
+use solve::System;
+use std::alloc::{AllocError, Global as Heap};
+use terms::{NeedKind, Test};
+use zones::Zone;
+
+/// What is known of the candidates, which are numbered by their places: who is eligible and needs whom, the kind
+/// and the id of each need, and for each candidate the tests that it fails.
+#[derive(Drop)]
+pub struct Judged {
+    pub system: System,
+    pub needed: Vec<(NeedKind, Id)>,
+    pub tests: Vec<Vec<Test>>,
+}
+
+/// Judges the candidates of an APPLY in this zone.
+pub fn judge(
+    alloc: Heap,
+    global: &Global,
+    zone: &Zone,
+    ids: &IdList,
+) -> Result<Judged, AllocError>
+    requires { All (λ x. IsTrue (is_installable global.now zone.now x)) ids.now }
+    ensures problem { IfOk result (λ j. IsInstallProblem (setting global.now zone.now None ids.now no_bypass) j.system
+        (map (λ n. (n.0, n.1)) j.needed.items)) }
+    ensures tests { IfOk result (λ j. AreFailedTests (setting global.now zone.now None ids.now no_bypass)
+        (map (λ row. row.items) j.tests.items)) }
+{
+    Err(AllocError)
+}

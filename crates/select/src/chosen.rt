@@ -1,0 +1,23 @@
+ghost use Rattle.std.specs.Prelude.{All, IsTrue, IfOk};
+ghost use Rattle.terms.specs.Choice.{by_srel};
+ghost use Rattle.terms.specs.Candidates.{AreCandidates, is_installable};
+
+use cntl::Selection;
+use fields::IdList;
+use global::Global;
+use std::alloc::{AllocError, Global as Heap};
+use zones::Zone;
+
+/// The candidates, rising.
+pub fn candidates(
+    alloc: Heap,
+    global: &Global,
+    zone: &Zone,
+    selection: &Selection,
+) -> Result<IdList, AllocError>
+    ensures members { IfOk result (λ ids.
+        AreCandidates global.now (by_srel global.now zone.now.srel) zone.now selection.now ids) }
+    ensures installable { IfOk result (λ ids. All (λ x. IsTrue (is_installable global.now zone.now x)) ids) }
+{
+    Err(AllocError)
+}
