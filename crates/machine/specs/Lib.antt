@@ -1,5 +1,6 @@
 pub mod Errsysmods
 pub mod Installing
+pub mod Machine
 pub mod Outcome
 pub mod Receiving
 pub mod Report

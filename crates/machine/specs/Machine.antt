@@ -1,0 +1,118 @@
+-- The machine: what each act makes of the state and prints, and what a list of jobs does.
+-- (IBM z/OS SMP/E Commands: SET, RECEIVE and APPLY. The other commands are not known yet.)
+use Rattle.std.specs.Prelude.{◌≡◌, ◌⊎◌, ℕ, List, [], ◌∷◌, ◌++◌, map, Option, None, Some, Result, Ok, Err, if◌then◌else◌}
+use Rattle.std.specs.List.{flat_map}
+use Rattle.terms.specs.Types.{Text, Global, Zone, Item, ReceiveWhat, Install, Command, Set, Receive, Apply}
+use Rattle.terms.specs.Ptfin.{McsFault, IsPtfin, IsPtfinFault}
+use Rattle.terms.specs.Commands.{CntlFault, IsCommandFile, IsCommandFileFault}
+use Rattle.machine.specs.Outcome.{Line, Refusal, Cm4, ControlFault, Outcome, Ran, Refused, Control, header_of, or_nothing, job_code}
+use Rattle.machine.specs.Report.{text}
+use Rattle.machine.specs.State.{State, zone_named, with_zone, misplaced, ZoneDefinition, ZoneFault, define_zone}
+use Rattle.machine.specs.Receiving.{TakesItem}
+use Rattle.machine.specs.Installing.{InstallsSelected}
+use Rattle.machine.specs.Runs.{Runs}
+
+-- RECEIVE takes in the items of PTFIN, which is read before anything changes. Cm4 is PTFIN's first fault.
+pub data Takes (ptfin : List ℕ) (s : State) (what : ReceiveWhat) : State → Outcome → Type 0 where
+  TakesAll : (items : List Item) (g : Global) (lines : List Line) → IsPtfin ptfin items → Runs (TakesItem what.source) s.global items g lines
+      → Takes ptfin s what (record s { global = g }) (Ran (header_of (Receive what) s.boundary) (or_nothing lines))
+  TakesNone : (fault : McsFault) → IsPtfinFault ptfin fault
+      → Takes ptfin s what s (Refused (header_of (Receive what) s.boundary) (Cm4 fault.number fault.code))
+
+-- APPLY installs into the zone of the boundary. With CHECK it prints the same and changes nothing.
+pub record Applies (date : Text) (s : State) (i : Install) (t : State) (outcome : Outcome) : Type 0 where
+  pub name : Text
+  pub at : s.boundary ≡ Some name
+  pub zone : Zone
+  pub is_there : zone_named s.zones name ≡ Some zone
+  pub new : Zone
+  pub lines : List Line
+  pub installs : InstallsSelected s.global zone None i.selection i.bypass date new lines
+  pub state : t ≡ (if i.check then s else with_zone s name new)
+  pub prints : outcome ≡ Ran (header_of (Apply i) s.boundary) (or_nothing lines)
+
+-- a command where it can run
+abbrev pub RunsThere : Text → List ℕ → State → Command → State → Outcome → Type 0
+RunsThere date ptfin s (Set name) t outcome =
+    (t ≡ record s { boundary = Some name }) × (outcome ≡ Ran (header_of (Set name) s.boundary) [])
+RunsThere date ptfin s (Receive what) t outcome = Takes ptfin s what t outcome
+RunsThere date ptfin s (Apply i) t outcome = Applies date s i t outcome
+RunsThere date ptfin s _ t outcome = ⊥
+
+-- a command; where it can't run it is refused and changes nothing
+abbrev pub Performs : Text → List ℕ → State → Command → State → Outcome → Type 0
+Performs date ptfin s c t outcome =
+    ((why : Refusal) × (misplaced s c ≡ Some why) × (t ≡ s) × (outcome ≡ Refused (header_of c s.boundary) why))
+    ⊎ ((misplaced s c ≡ None) × RunsThere date ptfin s c t outcome)
+
+-- A job begins, and has no boundary; a command of it runs, on its date and over its PTFIN; or its command file is at fault.
+-- Or a zone is defined.
+pub data Act : Type 0 where
+  Begin : Act
+  Perform : Text → List ℕ → Command → Act
+  Faulty : ControlFault → Act
+  Define : ZoneDefinition → Act
+
+-- the state that is answered, or else the one that was there
+abbrev pub or_same : State → Result State ZoneFault → State
+or_same s (Ok new) = new
+or_same s (Err why) = s
+
+abbrev pub Steps : State → Act → State → List Outcome → Type 0
+Steps s Begin t outcomes = (t ≡ record s { boundary = None }) × (outcomes ≡ [])
+Steps s (Perform date ptfin c) t outcomes = (outcome : Outcome) × Performs date ptfin s c t outcome × (outcomes ≡ outcome ∷ [])
+Steps s (Faulty fault) t outcomes = (t ≡ s) × (outcomes ≡ Control fault ∷ [])
+Steps s (Define d) t outcomes = (t ≡ or_same s (define_zone s d)) × (outcomes ≡ [])
+
+-- an act with the text that it prints
+abbrev pub Prints : State → Act → State → List ℕ → Type 0
+Prints s a t bytes = (outcomes : List Outcome) × Steps s a t outcomes × (bytes ≡ flat_map text outcomes)
+
+-- a job's date, command file and PTFIN, or a zone to define
+pub data Job : Type 0 where
+  RunFiles : Text → List ℕ → List ℕ → Job
+  NewZone : ZoneDefinition → Job
+
+-- The acts of a job are its commands, or the fault of its command file.
+abbrev pub HasActs : Job → List Act → Type 0
+HasActs (RunFiles date cntl ptfin) acts =
+    ((cs : List Command) × IsCommandFile cntl cs × (acts ≡ Begin ∷ map (Perform date ptfin) cs))
+    ⊎ ((fault : CntlFault) × IsCommandFileFault cntl fault
+    × (acts ≡ Begin ∷ Faulty (record { number = fault.number; code = fault.code }) ∷ []))
+HasActs (NewZone d) acts = acts ≡ Define d ∷ []
+
+-- the return code of a job, or how the definition of a zone ended
+pub data Answer : Type 0 where
+  Code : ℕ → Answer
+  Defined : Answer
+  NotDefined : ZoneFault → Answer
+
+abbrev pub defined : Result State ZoneFault → Answer
+defined (Ok new) = Defined
+defined (Err why) = NotDefined why
+
+abbrev pub HasAnswer : State → Job → List Outcome → Answer → Type 0
+HasAnswer s (RunFiles date cntl ptfin) outcomes answer = answer ≡ Code (job_code outcomes)
+HasAnswer s (NewZone d) outcomes answer = answer ≡ defined (define_zone s d)
+
+-- A job leads from s to t, prints the bytes, and has the answer.
+pub record RunsJob (s : State) (job : Job) (t : State) (bytes : List ℕ) (answer : Answer) : Type 0 where
+  pub acts : List Act
+  pub has_acts : HasActs job acts
+  pub outcomes : List Outcome
+  pub runs : Runs Steps s acts t outcomes
+  pub bytes_are : bytes ≡ flat_map text outcomes
+  pub answers : HasAnswer s job outcomes answer
+
+-- So do the jobs one after the other.
+abbrev pub RunsJobs : State → List Job → State → List ℕ → List Answer → Type 0
+RunsJobs s [] t bytes answers = (t ≡ s) × (bytes ≡ []) × (answers ≡ [])
+RunsJobs s (job ∷ more) t bytes answers =
+    (m : State) × (front back : List ℕ) × (answer : Answer) × (later : List Answer)
+    × RunsJob s job m front answer × RunsJobs m more t back later × (bytes ≡ front ++ back) × (answers ≡ answer ∷ later)
+
+-- The acts are those of the first jobs: as many as a call has begun.
+abbrev pub AreFirstActs : List Job → List Act → Type 0
+AreFirstActs [] acts = acts ≡ []
+AreFirstActs (job ∷ more) acts =
+    (acts ≡ []) ⊎ ((front back : List Act) × HasActs job front × AreFirstActs more back × (acts ≡ front ++ back))
