@@ -1,1 +1,2 @@
 pub mod PtfinForms
+pub mod ReceivingForms
