@@ -1,2 +1,4 @@
+pub mod Defined
 pub mod PtfinForms
 pub mod ReceivingForms
+pub mod ZonesKept
