@@ -131,3 +131,44 @@ fn holds_and_releases(rt: HostRuntime) -> Result<(), Fail> {
     assert!(rt; !global.is_received(fix) && global.is_empty());
     Ok(())
 }
+
+fn functions(alloc: Heap, ids: &[Id]) -> Result<Vec<Sysmod>, AllocError> {
+    let mut list = Vec::new(alloc);
+    for id in ids {
+        let nothing = Vec::new(alloc);
+        let one = sysmod(alloc, *id, Kind::Function, Vec::new(alloc), nothing);
+        list.push(one)?;
+    }
+    Ok(list)
+}
+
+/// A PTF that needs another, without holds.
+fn bare(alloc: Heap, name: Id, pre: Id) -> Result<Sysmod, Fail> {
+    let mut one = fix(alloc, name, pre, id(b"UA00009")?)?;
+    drop(one.take_holds(alloc));
+    Ok(one)
+}
+
+#[test]
+fn made_of_parts(rt: HostRuntime) -> Result<(), Fail> {
+    let alloc = rt.alloc();
+    let (low, high) = (id(b"HAA1100")?, id(b"HAA1200")?);
+    let (first, second) = (id(b"UA00001")?, id(b"UA00002")?);
+    let action = Reason::read(b"ACTION").ok_or("no reason")?;
+    let mut sysmods = functions(alloc, &[low, high])?;
+    sysmods.push(bare(alloc, second, first)?)?;
+    let held = inside(alloc, second, action)?;
+    let made = Global::from_parts(alloc, sysmods, held)?;
+    let global = made.ok_or("no global zone")?;
+    assert_eq!(rt; (global.len(), global.holds().count()), (3, 1));
+    assert!(rt; global.is_function(high));
+    let mut ring = Vec::new(alloc);
+    ring.push(bare(alloc, first, second)?)?;
+    ring.push(bare(alloc, second, first)?)?;
+    assert!(rt; Global::from_parts(alloc, ring, Vec::new(alloc))?.is_none());
+    let falling = functions(alloc, &[high, low])?;
+    assert!(rt; Global::from_parts(alloc, falling, Vec::new(alloc))?.is_none());
+    let stray = inside(alloc, second, action)?;
+    assert!(rt; Global::from_parts(alloc, functions(alloc, &[low])?, stray)?.is_none());
+    Ok(())
+}
