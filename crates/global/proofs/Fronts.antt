@@ -1,8 +1,8 @@
 -- The front of a global zone's list of SYSMODs, and one more behind it.
-use Rattle.std.proofs.Common.{◌≡◌, ◌≢◌, ◌<◌, ◌≤◌, ◌+◌, ◌^◌, ◌∙◌, Bool, true, false, not, ◌&&◌, ◌==◌, List, [], ◌∷◌, ◌++◌, length, find, fold, filter, get_or, cond, refl, sym, ap, subst, Option, None, Some, is_some, IsTrue, All, Contains, true≢false, arith, append-nil, length-append}
+use Rattle.std.proofs.Common.{◌≡◌, ◌∙◌, Bool, true, false, not, ◌&&◌, ◌==◌, List, [], ◌∷◌, ◌++◌, fold, filter, get_or, refl, sym, ap, subst, Option, None, Some, is_some, IsTrue, All, Contains, true≢false, arith, append-nil, length-append}
 use Rattle.std.specs.Prelude.{AllPairs}
 use Rattle.std.specs.declared.cmp.Ordering.TheVariants.{Less}
-use Rattle.std.specs.Ordering.{is_lt, is_eq, nat_cmp, ordering_reverse}
+use Rattle.std.specs.Ordering.{is_lt, is_eq, nat_cmp}
 use Rattle.std.specs.Cmp.Lexicographic.{slice_cmp}
 use Rattle.std.specs.List.{flat_map}
 use Rattle.std.specs.Option.{option_map_or, option_or}
@@ -11,12 +11,11 @@ use Rattle.std.proofs.lemmas.Cmp.{nat_list_cmp_total}
 use Rattle.std.proofs.lemmas.Map.Text.{is_eq-slice_cmp}
 use Rattle.std.proofs.lemmas.List.{get_or_append_left}
 use Rattle.std.proofs.lemmas.List.Folds.{find-append}
-use Rattle.std.proofs.lemmas.List.Elements.{All-nil, All-cons, All-weaker, All-head}
-use Rattle.terms.specs.Types.{Text, Id, Hold, Sysmod, Global, Ver, a_global, kind_number}
+use Rattle.std.proofs.lemmas.List.Elements.{All-nil, All-weaker}
+use Rattle.terms.specs.Types.{Text, Id, Hold, Sysmod, Global, a_global, kind_number}
 use Rattle.terms.specs.Rising.{Rises, Splits, with_item}
-use Rattle.terms.specs.Lookups.{sysmod_of, is_received, is_function}
-use Rattle.terms.specs.Over.{Reaches}
-use Rattle.terms.specs.Global.{named, names_for, HasLoop, is_service, fits_roles, RolesFit, hold_cmp, hold, IsSysmod, IsGlobal, HasFault, ReceiveFault, Rc1, Rc2, Rc3, Rc4, with_sysmod, received}
+use Rattle.terms.specs.Lookups.{is_function}
+use Rattle.terms.specs.Global.{named, names_for, HasLoop, is_service, fits_roles, RolesFit, hold_cmp, hold, IsSysmod, IsGlobal, HasFault, ReceiveFault, Rc1, Rc2, Rc3, Rc4, with_sysmod}
 use Rattle.terms.proofs.Leads.{reaches_more}
 use Rattle.terms.proofs.GlobalKept.{IsOwned}
 use Rattle.terms.proofs.GlobalRoles.{fits-fewer}

@@ -132,14 +132,28 @@ fn holds_and_releases(rt: HostRuntime) -> Result<(), Fail> {
     Ok(())
 }
 
-fn functions(alloc: Heap, ids: &[Id]) -> Result<Vec<Sysmod>, AllocError> {
-    let mut list = Vec::new(alloc);
-    for id in ids {
-        let nothing = Vec::new(alloc);
-        let one = sysmod(alloc, *id, Kind::Function, Vec::new(alloc), nothing);
-        list.push(one)?;
+/// How many SYSMODs and holds the global zone of these lists has, if they are those of one.
+fn sizes(
+    alloc: Heap,
+    sysmods: Vec<Sysmod>,
+    holds: Vec<Hold>,
+) -> Result<Option<(usize, usize)>, AllocError> {
+    match Global::from_parts(alloc, sysmods, holds)? {
+        Some(global) => Ok(Some((global.len(), global.holds().count()))),
+        None => Ok(None),
     }
+}
+
+fn two(alloc: Heap, first: Sysmod, second: Sysmod) -> Result<Vec<Sysmod>, AllocError> {
+    let mut list = Vec::with_capacity(alloc, 2)?;
+    list.push_reserved(first);
+    list.push_reserved(second);
     Ok(list)
+}
+
+fn function(alloc: Heap, name: Id) -> Sysmod {
+    let nothing = Vec::new(alloc);
+    sysmod(alloc, name, Kind::Function, Vec::new(alloc), nothing)
 }
 
 /// A PTF that needs another, without holds.
@@ -153,22 +167,21 @@ fn bare(alloc: Heap, name: Id, pre: Id) -> Result<Sysmod, Fail> {
 fn made_of_parts(rt: HostRuntime) -> Result<(), Fail> {
     let alloc = rt.alloc();
     let (low, high) = (id(b"HAA1100")?, id(b"HAA1200")?);
-    let (first, second) = (id(b"UA00001")?, id(b"UA00002")?);
     let action = Reason::read(b"ACTION").ok_or("no reason")?;
-    let mut sysmods = functions(alloc, &[low, high])?;
-    sysmods.push(bare(alloc, second, first)?)?;
-    let held = inside(alloc, second, action)?;
-    let made = Global::from_parts(alloc, sysmods, held)?;
-    let global = made.ok_or("no global zone")?;
-    assert_eq!(rt; (global.len(), global.holds().count()), (3, 1));
-    assert!(rt; global.is_function(high));
-    let mut ring = Vec::new(alloc);
-    ring.push(bare(alloc, first, second)?)?;
-    ring.push(bare(alloc, second, first)?)?;
-    assert!(rt; Global::from_parts(alloc, ring, Vec::new(alloc))?.is_none());
-    let falling = functions(alloc, &[high, low])?;
-    assert!(rt; Global::from_parts(alloc, falling, Vec::new(alloc))?.is_none());
-    let stray = inside(alloc, second, action)?;
-    assert!(rt; Global::from_parts(alloc, functions(alloc, &[low])?, stray)?.is_none());
+    let holds = inside(alloc, high, action)?;
+    let rising = two(alloc, function(alloc, low), function(alloc, high))?;
+    assert_eq!(rt; sizes(alloc, rising, holds)?, Some((2, 1)));
+    let falling = two(alloc, function(alloc, high), function(alloc, low))?;
+    assert_eq!(rt; sizes(alloc, falling, Vec::new(alloc))?, None);
+    Ok(())
+}
+
+#[test]
+fn not_made_with_a_loop(rt: HostRuntime) -> Result<(), Fail> {
+    let alloc = rt.alloc();
+    let (first, second) = (id(b"UA00001")?, id(b"UA00002")?);
+    let back = bare(alloc, second, first)?;
+    let ring = two(alloc, bare(alloc, first, second)?, back)?;
+    assert_eq!(rt; sizes(alloc, ring, Vec::new(alloc))?, None);
     Ok(())
 }

@@ -1,8 +1,7 @@
-use Rattle.std.proofs.Common.{◌≡◌, ◌∙◌, [], ◌∷◌, ◌++◌, refl, sym, ap, is_some, if◌then◌else◌, true≢false, rules}
+use Rattle.std.proofs.Common.{◌≡◌, ◌∙◌, [], refl, sym, ap, is_some, if◌then◌else◌, true≢false}
 use Rattle.std.specs.Ordering.{nat_cmp}
 use Rattle.std.specs.Cmp.Lexicographic.{slice_cmp}
 use Rattle.terms.specs.Rising.{with_item}
-use Rattle.terms.specs.Global.{HasFault}
 use Rattle.received.specs.Held.{zone_of}
 use Rattle.global.proofs.Fronts.{none-refused, global-last, new-last, item-last, some-fault, no-fault}
 use Rattle.global.proofs.parts.add_last.Goals as goal

@@ -4,7 +4,7 @@ use Rattle.std.specs.Ordering.{nat_cmp}
 use Rattle.std.specs.Cmp.Lexicographic.{slice_cmp}
 use Rattle.terms.specs.Rising.{Rises}
 use Rattle.std.proofs.lemmas.Cmp.{nat_list_cmp_total}
-use Rattle.holds.proofs.Neighbours.{rises_short, rises_more, rises_next}
+use Rattle.holds.proofs.Neighbours.{rises_more, rises_next}
 use Rattle.global.proofs.parts.are_rising.Goals as goal
 
 pub returns-then-not-is_before : goal.returns-then-not-is_before

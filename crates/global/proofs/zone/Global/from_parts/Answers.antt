@@ -1,8 +1,7 @@
-use Rattle.std.proofs.Common.{◌≡◌, ◌∙◌, refl, sym, ap, ap₂, subst, is_some, Some}
+use Rattle.std.proofs.Common.{◌≡◌, sym, ap, ap₂, subst, is_some}
 use Rattle.std.specs.Prelude.{All, IfSome}
 use Rattle.terms.specs.Types.{a_global}
-use Rattle.terms.specs.Global.{IsGlobal, hold_cmp}
-use Rattle.terms.specs.Rising.{Rises}
+use Rattle.terms.specs.Global.{IsGlobal}
 use Rattle.terms.proofs.GlobalKept.{IsOwned}
 use Rattle.received.specs.Held.{zone_of}
 use Rattle.global.proofs.Fronts.{global-holds}
