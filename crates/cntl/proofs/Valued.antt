@@ -4,7 +4,7 @@ use Rattle.std.specs.Prelude.{IsSomeAnd, option_map}
 use Rattle.terms.specs.Types.{Text}
 use Rattle.terms.specs.Words.{Word, HasMembers, plain}
 use Rattle.terms.specs.Operands.{HasOne, HasSorted, HasRequired, HasOptional}
-use Rattle.terms.specs.CommandForms.{HasShort, HasSome}
+use Rattle.terms.specs.CommandForms.{HasShort}
 use Rattle.terms.proofs.ExactOperands.{members_one, has_member, one_of, has_sorted-only}
 
 -- the found operand is that word
@@ -45,9 +45,4 @@ module _ (form : Text → Type 0) (named : Option Word) (w : Word) (is : named �
   pub no_short : (list : List Text) → HasSorted form w list → 1000 < length list → ((others : List Text) × HasShort form named others) → ⊥
   no_short list h long x =
       let same = has_sorted-only form w x.0 list (subst (λ n. HasShort form n x.0) is x.1).0 h in
-      omega (arith, long, x.1.1, ap length same)
-
-  pub no_some : (list : List Text) → HasSorted form w list → 1000 < length list → ((others : List Text) × HasSome form named others) → ⊥
-  no_some list h long x =
-      let same = has_sorted-only form w x.0 list (subst (λ n. HasSome form n x.0) is x.1).0 h in
       omega (arith, long, x.1.1, ap length same)

@@ -1,20 +1,18 @@
 -- Commands as the definitions see them.
+use Rattle.terms.specs.declared.codes.CommandWord.{CommandWord}
+use Rattle.terms.specs.declared.codes.CommandWord.TheVariants as word
 use Rattle.terms.specs.Types as terms
 use Rattle.cntl.specs.declared.command.Command.{Command}
-use Rattle.cntl.specs.declared.command.Command.TheVariants.{Set, Receive, Reject, Apply, Accept, Restore, ListZone, Report}
-use Rattle.cntl.specs.declared.command.RestoreList.{RestoreList}
-use Rattle.cntl.specs.declared.command.RestoreList.TheVariants.{Select, Group}
+use Rattle.cntl.specs.declared.command.Command.TheVariants.{Set, Receive, Apply}
+use Rattle.cntl.specs.declared.known_word.KnownWord.{KnownWord}
+use Rattle.cntl.specs.declared.known_word.KnownWord.TheVariants as known
 
-abbrev pub restore_of : RestoreList → terms.RestoreList
-restore_of (Select ids) = terms.RestoreSelect ids
-restore_of (Group ids) = terms.RestoreGroup ids
+abbrev pub command_word_of : KnownWord → CommandWord
+command_word_of known.Set = word.Set
+command_word_of known.Receive = word.Receive
+command_word_of known.Apply = word.Apply
 
 abbrev pub command_of : Command → terms.Command
 command_of (Set zone) = terms.Set zone
 command_of (Receive what) = terms.Receive what
-command_of (Reject ids) = terms.Reject ids
 command_of (Apply install) = terms.Apply install
-command_of (Accept install) = terms.Accept install
-command_of (Restore list check) = terms.Restore (restore_of list) check
-command_of (ListZone text) = terms.ListZone text
-command_of Report = terms.Report

@@ -1,23 +1,22 @@
 use fields::{IdList, Source, SourceList, ZoneName};
 use std::marker::Model;
 
-/// What RECEIVE takes in, and the source that it adds to SYSMODs.
+/// What RECEIVE takes in: PTFIN alone as yet. It adds the source to SYSMODs.
 #[derive(Drop)]
 pub struct ReceiveWhat {
-    pub sysmods: bool,
-    pub holddata: bool,
     pub source: Option<Source>,
 }
 
 impl Model for ReceiveWhat {
+    ghost use Rattle.std.specs.Prelude.{true, false};
     ghost use Rattle.terms.specs.Types as terms;
 
     ghost Value = { terms.ReceiveWhat };
 
-    ghost view = { λ a. record { sysmods = a.sysmods; holddata = a.holddata; source = a.source } };
+    ghost view = { λ a. record { sysmods = true; holddata = false; source = a.source } };
 }
 
-/// What APPLY or ACCEPT chooses. An operand that is absent is an empty list.
+/// What APPLY chooses. An operand that is absent is an empty list.
 #[derive(Drop)]
 pub struct Selection {
     pub functions: bool,
@@ -40,7 +39,7 @@ impl Model for Selection {
     ghost view = { λ a. record { functions = a.functions; ptfs = a.ptfs; apars = a.apars; usermods = a.usermods; select = a.select; exclude = a.exclude; sourceid = a.sourceid; forfmid = a.forfmid; group = a.group; groupextend = a.groupextend } };
 }
 
-/// The operands of APPLY and ACCEPT.
+/// The operands of APPLY.
 #[derive(Drop)]
 pub struct Install {
     pub selection: Selection,
@@ -56,22 +55,10 @@ impl Model for Install {
     ghost view = { λ a. record { selection = a.selection; bypass = no_bypass; check = a.check } };
 }
 
-/// The SYSMODs that RESTORE takes off.
-#[derive(Drop)]
-pub enum RestoreList {
-    Select(IdList),
-    Group(IdList),
-}
-
-/// A command. RESTORE has CHECK beside its list, and LIST has TEXT.
+/// A command, of those that can be performed as yet.
 #[derive(Drop)]
 pub enum Command {
     Set(ZoneName),
     Receive(ReceiveWhat),
-    Reject(IdList),
     Apply(Install),
-    Accept(Install),
-    Restore(RestoreList, bool),
-    ListZone(bool),
-    Report,
 }

@@ -2,14 +2,15 @@
 ghost use Rattle.std.specs.Prelude.{◌≡◌, ◌+◌, ℕ, List, map, IfSome, IfNone};
 ghost use Rattle.std.specs.List.{list_any};
 ghost use Rattle.terms.specs.Statement.{Piece as AnyPiece};
-ghost use Rattle.terms.specs.Commands.{words_in, is_often, has_double, is_unchosen};
+ghost use Rattle.terms.specs.Commands.{words_in, is_often, has_double};
+ghost use Rattle.cntl.specs.Views.{command_word_of};
 ghost use Rattle.terms.proofs.OperandWords.{count, is_named};
 ghost use Rattle.rec80.specs.Pieces.{piece_of};
 ghost use Rattle.operands.specs.Left.{LeavesPieces};
 
+use crate::known_word::KnownWord;
 use crate::tables::operands_of;
 use rec80::{Piece, Words};
-use terms::CommandWord;
 
 fn is_named(piece: &Piece<'_>, name: &[u8]) -> bool
     ensures { result ≡ is_named name.now (piece_of piece.now) }
@@ -35,12 +36,6 @@ fn behind_word<'a>(words: &Words<'a>, name: &[u8]) -> Option<Words<'a>>
     None
 }
 
-fn is_there(words: &Words<'_>, name: &[u8]) -> bool
-    ensures { (pieces : List AnyPiece) → LeavesPieces words.now pieces → result ≡ is_often 1 pieces name.now }
-{
-    behind_word(words, name).is_some()
-}
-
 fn is_twice(words: &Words<'_>, name: &[u8]) -> bool
     ensures { (pieces : List AnyPiece) → LeavesPieces words.now pieces → result ≡ is_often 2 pieces name.now }
 {
@@ -63,22 +58,8 @@ fn any_twice(names: &[&[u8]], words: &Words<'_>) -> bool
 }
 
 /// Whether a known operand of the command is there twice.
-pub fn has_double(word: CommandWord, words: &Words<'_>) -> bool
-    ensures { (pieces : List AnyPiece) → LeavesPieces words.now pieces → result ≡ has_double word pieces }
+pub fn has_double(word: KnownWord, words: &Words<'_>) -> bool
+    ensures { (pieces : List AnyPiece) → LeavesPieces words.now pieces → result ≡ has_double (command_word_of word) pieces }
 {
     any_twice(operands_of(word), words)
-}
-
-/// Whether RESTORE has both SELECT and GROUP, or none of them.
-pub fn is_unchosen(word: CommandWord, words: &Words<'_>) -> bool
-    ensures { (pieces : List AnyPiece) → LeavesPieces words.now pieces → result ≡ is_unchosen word pieces }
-{
-    if word != CommandWord::Restore {
-        return false;
-    }
-    if is_there(words, b"SELECT") {
-        is_there(words, b"GROUP")
-    } else {
-        !is_there(words, b"GROUP")
-    }
 }

@@ -5,27 +5,24 @@ ghost use Rattle.terms.specs.Words as grammar;
 ghost use Rattle.terms.specs.CommandForms.{HasReceive, HasSelection, HasInstall, HasOperands, command_word};
 ghost use Rattle.operands.specs.Left.{LeavesWords};
 ghost use Rattle.operands.specs.Failing.{Excludes};
-ghost use Rattle.cntl.specs.Views.{command_of};
+ghost use Rattle.cntl.specs.Views.{command_word_of, command_of};
 
-use crate::command::{Command, Install, ReceiveWhat, RestoreList, Selection};
-use crate::values::{flag_of, id_list, some_ids, source, source_list, zone};
-use operands::{BadOperand, OperandError, operand};
+use crate::command::{Command, Install, ReceiveWhat, Selection};
+use crate::known_word::KnownWord;
+use crate::values::{flag_of, id_list, source, source_list, zone};
+use operands::{BadOperand, OperandError};
 use rec80::Words;
 use std::alloc::Global;
-use terms::CommandWord;
 
 fn receive(words: &Words<'_>) -> Result<ReceiveWhat, BadOperand>
     ensures ok { (ws : List grammar.Word) → LeavesWords words.now ws → IfOk result (λ what. HasReceive ws what) }
     ensures bad { (ws : List grammar.Word) → LeavesWords words.now ws → OnErr result ((what : terms.ReceiveWhat) → HasReceive ws what → ⊥) }
 {
-    let sysmods = flag_of(words, b"SYSMODS")?;
-    let holddata = flag_of(words, b"HOLDDATA")?;
-    let source = source(words)?;
-    let both = !(sysmods || holddata);
+    if !flag_of(words, b"SYSMODS")? {
+        return Err(BadOperand);
+    }
     Ok(ReceiveWhat {
-        sysmods: sysmods || both,
-        holddata: holddata || both,
-        source,
+        source: source(words)?,
     })
 }
 
@@ -66,53 +63,19 @@ fn install(alloc: Global, words: &Words<'_>) -> Result<Install, OperandError>
     Ok(Install { selection, check })
 }
 
-fn restore(alloc: Global, words: &Words<'_>) -> Result<Command, OperandError>
-    ensures word { IfOk result (λ c. command_word (command_of c) ≡ CommandWord.Restore) }
-    ensures ok { (ws : List grammar.Word) → LeavesWords words.now ws → IfOk result (λ c. HasOperands ws (command_of c)) }
-    ensures bad { (ws : List grammar.Word) → LeavesWords words.now ws → IfErr result (λ e. Excludes e ((list : terms.RestoreList) × ((check : Bool) × HasOperands ws (terms.Restore list check)))) }
-{
-    let check = flag_of(words, b"CHECK")?;
-    if operand(words, b"GROUP").is_some() {
-        if operand(words, b"SELECT").is_some() {
-            return Err(OperandError::Bad);
-        }
-        let ids = some_ids(alloc, words, b"GROUP")?;
-        return Ok(Command::Restore(RestoreList::Group(ids), check));
-    }
-    let ids = some_ids(alloc, words, b"SELECT")?;
-    Ok(Command::Restore(RestoreList::Select(ids), check))
-}
-
-fn report(words: &Words<'_>) -> Result<Command, BadOperand>
-    ensures word { IfOk result (λ c. command_word (command_of c) ≡ CommandWord.Report) }
-    ensures ok { (ws : List grammar.Word) → LeavesWords words.now ws → IfOk result (λ c. HasOperands ws (command_of c)) }
-    ensures bad { (ws : List grammar.Word) → LeavesWords words.now ws → OnErr result (HasOperands ws terms.Report → ⊥) }
-{
-    if flag_of(words, b"ERRSYSMODS")? {
-        Ok(Command::Report)
-    } else {
-        Err(BadOperand)
-    }
-}
-
 /// The command of this word and of the operands that are left, which are known ones.
 pub fn read_operands(
     alloc: Global,
-    word: CommandWord,
+    word: KnownWord,
     words: &Words<'_>,
 ) -> Result<Command, OperandError>
-    ensures word { IfOk result (λ c. command_word (command_of c) ≡ word) }
+    ensures word { IfOk result (λ c. command_word (command_of c) ≡ command_word_of word) }
     ensures ok { (ws : List grammar.Word) → LeavesWords words.now ws → IfOk result (λ c. HasOperands ws (command_of c)) }
-    ensures bad { (ws : List grammar.Word) → LeavesWords words.now ws → IfErr result (λ e. Excludes e ((c : terms.Command) × ((command_word c ≡ word) × HasOperands ws c))) }
+    ensures bad { (ws : List grammar.Word) → LeavesWords words.now ws → IfErr result (λ e. Excludes e ((c : terms.Command) × ((command_word c ≡ command_word_of word) × HasOperands ws c))) }
 {
     match word {
-        CommandWord::Set => Ok(Command::Set(zone(words)?)),
-        CommandWord::Receive => Ok(Command::Receive(receive(words)?)),
-        CommandWord::Reject => Ok(Command::Reject(some_ids(alloc, words, b"SELECT")?)),
-        CommandWord::Apply => Ok(Command::Apply(install(alloc, words)?)),
-        CommandWord::Accept => Ok(Command::Accept(install(alloc, words)?)),
-        CommandWord::Restore => restore(alloc, words),
-        CommandWord::List => Ok(Command::ListZone(flag_of(words, b"TEXT")?)),
-        CommandWord::Report => Ok(report(words)?),
+        KnownWord::Set => Ok(Command::Set(zone(words)?)),
+        KnownWord::Receive => Ok(Command::Receive(receive(words)?)),
+        KnownWord::Apply => Ok(Command::Apply(install(alloc, words)?)),
     }
 }

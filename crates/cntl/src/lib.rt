@@ -7,12 +7,13 @@ mod errors;
 mod file;
 mod forms;
 mod known;
+mod known_word;
 mod read;
 mod tables;
 #[cfg(test)]
 mod tests;
 mod values;
 
-pub use command::{Command, Install, ReceiveWhat, RestoreList, Selection};
+pub use command::{Command, Install, ReceiveWhat, Selection};
 pub use errors::CntlError;
 pub use file::read_cntl;

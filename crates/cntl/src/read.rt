@@ -5,33 +5,33 @@ ghost use Rattle.terms.specs.Statement.{Piece as AnyPiece};
 ghost use Rattle.terms.specs.CommandForms.{IsCommand};
 ghost use Rattle.terms.specs.Commands.{BeginsWith};
 ghost use Rattle.operands.specs.Left.{LeavesPieces};
-ghost use Rattle.cntl.specs.Views.{command_of};
+ghost use Rattle.cntl.specs.Views.{command_word_of, command_of};
 ghost use Rattle.cntl.specs.Faults.{FailsCommand};
 
 use crate::command::Command;
-use crate::doubles::{has_double, is_unchosen};
+use crate::doubles::has_double;
 use crate::errors::CommandError;
 use crate::forms::read_operands;
 use crate::known::are_operands;
+use crate::known_word::{KnownWord, read_known};
 use operands::OperandError;
 use rec80::{Piece, Words};
-use spelling::read_word;
 use std::alloc::Global;
-use terms::{CnCode, CommandWord};
+use terms::CnCode;
 
-/// Takes the word that a command begins with.
-fn take_command_word(left: &mut Words<'_>) -> Option<CommandWord>
-    ensures word { IfSome result (λ w. (pieces : List AnyPiece) → LeavesPieces left.old pieces → (rest : List AnyPiece) × BeginsWith pieces w rest × LeavesPieces left.new rest) }
+/// Takes the word that a known command begins with.
+fn take_command_word(left: &mut Words<'_>) -> Option<KnownWord>
+    ensures word { IfSome result (λ w. (pieces : List AnyPiece) → LeavesPieces left.old pieces → (rest : List AnyPiece) × BeginsWith pieces (command_word_of w) rest × LeavesPieces left.new rest) }
     ensures none { IfNone result ((pieces : List AnyPiece) → LeavesPieces left.old pieces → (w : CommandWord) (rest : List AnyPiece) → BeginsWith pieces w rest → ⊥) }
 {
     let piece = left.next_piece()?;
     let Piece::Word(text) = piece else {
         return None;
     };
-    read_word(text)
+    read_known(text)
 }
 
-/// The command of these words, or the first that applies of Cn1, Cn3, Cn4 and Cn2.
+/// The command of these words, or the first that applies of Cn1, Cn3 and Cn2. Cn4 is RESTORE's.
 pub fn read_command(alloc: Global, words: &Words<'_>) -> Result<Command, CommandError>
     ensures command { (pieces : List AnyPiece) → LeavesPieces words.now pieces → IfOk result (λ c. IsCommand pieces (command_of c)) }
     ensures fault { (pieces : List AnyPiece) → LeavesPieces words.now pieces → IfErr result (λ e. FailsCommand pieces e) }
@@ -42,9 +42,6 @@ pub fn read_command(alloc: Global, words: &Words<'_>) -> Result<Command, Command
     };
     if has_double(word, &rest) {
         return Err(CommandError::Fault(CnCode::Cn3));
-    }
-    if is_unchosen(word, &rest) {
-        return Err(CommandError::Fault(CnCode::Cn4));
     }
     if !are_operands(word, &rest) {
         return Err(CommandError::Fault(CnCode::Cn2));

@@ -1,9 +1,10 @@
 ghost use Rattle.std.specs.Prelude.{◌≡◌, map};
 ghost use Rattle.terms.specs.CommandForms.{operands_of};
+ghost use Rattle.cntl.specs.Views.{command_word_of};
 
-use terms::CommandWord;
+use crate::known_word::KnownWord;
 
-/// The operands of APPLY and ACCEPT.
+/// The operands of APPLY.
 const INSTALL: &[&[u8]] = &[
     b"FUNCTIONS",
     b"PTFS",
@@ -19,16 +20,12 @@ const INSTALL: &[&[u8]] = &[
 ];
 
 /// The operands that a command may have.
-pub fn operands_of(word: CommandWord) -> &'static [&'static [u8]]
-    ensures { map (λ name. name.now) result.now ≡ operands_of word }
+pub fn operands_of(word: KnownWord) -> &'static [&'static [u8]]
+    ensures { map (λ name. name.now) result.now ≡ operands_of (command_word_of word) }
 {
     match word {
-        CommandWord::Set => &[b"BDY"],
-        CommandWord::Receive => &[b"SYSMODS", b"HOLDDATA", b"SOURCEID"],
-        CommandWord::Reject => &[b"SELECT"],
-        CommandWord::Apply | CommandWord::Accept => INSTALL,
-        CommandWord::Restore => &[b"SELECT", b"GROUP", b"CHECK"],
-        CommandWord::List => &[b"TEXT"],
-        CommandWord::Report => &[b"ERRSYSMODS"],
+        KnownWord::Set => &[b"BDY"],
+        KnownWord::Receive => &[b"SYSMODS", b"SOURCEID"],
+        KnownWord::Apply => INSTALL,
     }
 }

@@ -1,4 +1,4 @@
-use crate::{CntlError, Command, RestoreList, read_cntl};
+use crate::{CntlError, Command, read_cntl};
 use rec80::Record;
 use std::alloc::Global;
 use std::test::Fail;
@@ -25,9 +25,11 @@ fn fault(alloc: Global, first: &str, second: &str) -> Result<(usize, CnCode), Fa
 #[test]
 fn faults(rt: HostRuntime) -> Result<(), Fail> {
     for (first, second, number, code) in [
-        ("SET BDY(TGT1).", "LIST TEXT.", 0, CnCode::Cn5),
+        ("SET BDY(TGT1).", "APPLY CHECK.", 0, CnCode::Cn5),
         (" , RECEIVE /* , */ ,(A).", "", 1, CnCode::Cn2),
-        ("SET BDY(TGT1).", "LIST!.", 2, CnCode::Cn2),
+        ("RECEIVE SOURCEID(A).", "", 1, CnCode::Cn2),
+        ("RECEIVE SYSMODS HOLDDATA.", "", 1, CnCode::Cn2),
+        ("SET BDY(TGT1).", "APPLY!.", 2, CnCode::Cn2),
         ("SET BDY(1).", "", 1, CnCode::Cn2),
         ("SET BDY(A) BDY.", "", 1, CnCode::Cn3),
         ("APPLY CHECK - CHECK.", "", 1, CnCode::Cn3),
@@ -40,15 +42,13 @@ fn faults(rt: HostRuntime) -> Result<(), Fail> {
         ("/* between", "*/ APPLY NO.", 2, CnCode::Cn2),
         ("UNDO NO.", "LIST", 1, CnCode::Cn1),
         (".", "", 1, CnCode::Cn1),
-        ("(LIST).", "", 1, CnCode::Cn1),
-        ("LIST. LIST.", "", 1, CnCode::Cn5),
-        ("LIST.", "/* open", 2, CnCode::Cn5),
-        ("LIST.", "APPLY NO", 2, CnCode::Cn5),
-        ("RESTORE SELECT(A) GROUP.", "", 1, CnCode::Cn4),
-        ("RESTORE CHECK.", "", 1, CnCode::Cn4),
-        ("RESTORE GROUP(A).", "", 1, CnCode::Cn2),
-        ("REPORT.", "", 1, CnCode::Cn2),
-        ("REJECT.", "", 1, CnCode::Cn2),
+        ("(APPLY).", "", 1, CnCode::Cn1),
+        ("APPLY. APPLY.", "", 1, CnCode::Cn5),
+        ("APPLY.", "/* open", 2, CnCode::Cn5),
+        ("APPLY.", "APPLY NO", 2, CnCode::Cn5),
+        ("ACCEPT CHECK CHECK.", "", 1, CnCode::Cn1),
+        ("APPLY.", "RESTORE SELECT(UA00001).", 2, CnCode::Cn1),
+        ("LIST.", "", 1, CnCode::Cn1),
     ] {
         let found = fault(rt.alloc(), first, second)?;
         assert_eq!(rt; found.0, number, "{first}");
@@ -64,7 +64,6 @@ fn commands(rt: HostRuntime) -> Result<(), Fail> {
         card("RECEIVE SYSMODS SOURCEID(PUT2401)."),
         card("APPLY SELECT(UA00002,"),
         card("UA00001) CHECK."),
-        card("RESTORE GROUP(UA00003)."),
     ];
     let read = read_cntl(rt.alloc(), cards.as_flattened()).map_err(|_| "read")?;
     match read.as_slice() {
@@ -72,16 +71,13 @@ fn commands(rt: HostRuntime) -> Result<(), Fail> {
             Command::Set(zone),
             Command::Receive(what),
             Command::Apply(install),
-            Command::Restore(RestoreList::Group(ids), check),
         ] => {
             assert!(rt; zone.is_global());
-            assert!(rt; what.sysmods && !what.holddata && what.source.is_some());
+            assert!(rt; what.source.is_some());
             assert!(rt; install.check && !install.selection.ptfs);
             assert_eq!(rt; install.selection.select.len(), 2);
             let first = install.selection.select.as_slice().first().ok_or("first")?;
             assert_eq!(rt; first.as_bytes(), b"UA00001".as_slice());
-            assert_eq!(rt; ids.len(), 1);
-            assert!(rt; !*check);
         }
         _ => assert!(rt; false),
     }

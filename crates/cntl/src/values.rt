@@ -3,7 +3,7 @@ ghost use Rattle.std.specs.Prelude.{◌≡◌, ◌≤◌, ℕ, Bool, List, Optio
 ghost use Rattle.terms.specs.Forms.{IsId, IsSource, IsZoneName};
 ghost use Rattle.terms.specs.Words as grammar;
 ghost use Rattle.terms.specs.Operands.{operand, HasFlag, HasRequired, HasOptional};
-ghost use Rattle.terms.specs.CommandForms.{HasShort, HasSome};
+ghost use Rattle.terms.specs.CommandForms.{HasShort};
 ghost use Rattle.operands.specs.Left.{LeavesWords};
 ghost use Rattle.operands.specs.Failing.{Excludes};
 
@@ -55,21 +55,6 @@ pub fn source(words: &Words<'_>) -> Result<Option<Source>, BadOperand>
         return Err(BadOperand);
     };
     Ok(Some(source))
-}
-
-/// The ids of an operand that must be there.
-pub fn some_ids(alloc: Global, words: &Words<'_>, name: &[u8]) -> Result<IdList, OperandError>
-    ensures ok { (ws : List grammar.Word) → LeavesWords words.now ws → IfOk result (λ list. HasSome IsId (operand name.now ws) list) }
-    ensures bad { (ws : List grammar.Word) → LeavesWords words.now ws → IfErr result (λ e. Excludes e ((list : List (List ℕ)) × HasSome IsId (operand name.now ws) list)) }
-{
-    let Some(word) = operand(words, name) else {
-        return Err(OperandError::Bad);
-    };
-    let list = ids(alloc, &word)?;
-    if list.len() > MOST {
-        return Err(OperandError::Bad);
-    }
-    Ok(list)
 }
 
 /// The ids of an operand, none where it is absent.

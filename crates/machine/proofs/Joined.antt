@@ -5,18 +5,19 @@ use Rattle.std.proofs.lemmas.List.{append-nil}
 use Rattle.std.proofs.KnownBytes.{Appends-nil, Appends-trans}
 use Rattle.machine.specs.Runs.{Runs, Stands, Ran, IsAfterNext, Stopped, BrokeOff}
 
-module _ {S A : Type 0} (Steps : S → A → S → List ℕ → Type 0) where
+module _ {S A B : Type 0} (Steps : S → A → S → List B → Type 0) where
   -- two runs are one
-  pub runs-append : (s t u : S) (xs ys : List A) (front back : List ℕ) → Runs Steps s xs t front → Runs Steps t ys u back → Runs Steps s (xs ++ ys) u (front ++ back)
+  pub runs-append : (s t u : S) (xs ys : List A) (front back : List B) → Runs Steps s xs t front → Runs Steps t ys u back → Runs Steps s (xs ++ ys) u (front ++ back)
   runs-append s t u [] ys front back r q =
-      subst (λ bytes. Runs Steps s ys u (bytes ++ back)) (sym r.1) (subst (λ v. Runs Steps v ys u back) r.0 q)
+      subst (λ printed. Runs Steps s ys u (printed ++ back)) (sym r.1) (subst (λ v. Runs Steps v ys u back) r.0 q)
   runs-append s t u (x ∷ xs) ys front back (m, first, later, step, r, is) q =
-      (m, first, later ++ back, step, runs-append m t u xs ys later back r q, ap (λ bytes. bytes ++ back) is ∙ append_assoc first later back)
+      (m, first, later ++ back, step, runs-append m t u xs ys later back r q, ap (λ printed. printed ++ back) is ∙ append_assoc first later back)
 
   -- one step is a run
-  pub runs-one : (s t : S) (a : A) (text : List ℕ) → Steps s a t text → Runs Steps s (a ∷ []) t text
-  runs-one s t a text step = (t, text, [], step, (refl, refl), sym (append-nil text))
+  pub runs-one : (s t : S) (a : A) (printed : List B) → Steps s a t printed → Runs Steps s (a ∷ []) t printed
+  runs-one s t a printed step = (t, printed, [], step, (refl, refl), sym (append-nil printed))
 
+module _ {S A : Type 0} (Steps : S → A → S → List ℕ → Type 0) where
   module _ {C : Type 0} (kept : S → C) where
     -- no act, and nothing printed
     pub ran-none : (s : S) (Tables Leaves : C → Type 0) (a : Option (List ℕ)) → Stands Tables Leaves (kept s) → Ran Steps kept s [] Tables Leaves a a
@@ -28,7 +29,7 @@ module _ {S A : Type 0} (Steps : S → A → S → List ℕ → Type 0) where
     ran-append s xs ys Tables Leaves Tables' Leaves' a b c front back = record {
       end = back.end;
       bytes = front.bytes ++ back.bytes;
-      runs = runs-append s front.end back.end xs ys front.bytes back.bytes front.runs back.runs;
+      runs = runs-append Steps s front.end back.end xs ys front.bytes back.bytes front.runs back.runs;
       stands = back.stands;
       appends = Appends-trans a b c front.bytes back.bytes front.appends back.appends;
     }
@@ -42,7 +43,7 @@ module _ {S A : Type 0} (Steps : S → A → S → List ℕ → Type 0) where
       acts_are = ap (λ zs. xs ++ zs) back.acts_are ∙ sym (append_assoc xs back.done back.rest);
       end = back.end;
       bytes = front.bytes ++ back.bytes;
-      runs = runs-append s front.end back.end xs back.done front.bytes back.bytes front.runs back.runs;
+      runs = runs-append Steps s front.end back.end xs back.done front.bytes back.bytes front.runs back.runs;
       now = back.now;
       crash = back.crash;
       appends = Appends-trans a b c front.bytes back.bytes front.appends back.appends;
@@ -80,7 +81,7 @@ module _ {S A : Type 0} (Steps : S → A → S → List ℕ → Type 0) where
       acts_are = ap (λ zs. xs ++ zs) back.acts_are ∙ sym (append_assoc xs back.done (back.last ∷ back.rest));
       before = back.before;
       bytes = front.bytes ++ back.bytes;
-      runs = runs-append s front.end back.before xs back.done front.bytes back.bytes front.runs back.runs;
+      runs = runs-append Steps s front.end back.before xs back.done front.bytes back.bytes front.runs back.runs;
       end = back.end;
       text = back.text;
       step = back.step;

@@ -3,6 +3,7 @@
 
 mod adding;
 mod change;
+mod cloning;
 mod hold;
 mod sysmod;
 mod ver;

@@ -1,5 +1,5 @@
 -- Commands one after the other, and the word that a command begins with.
-use Rattle.std.proofs.Common.{◌≡◌, ◌<◌, ℕ, false, List, [], ◌∷◌, ◌++◌, length, refl, sym, ◌∙◌, ap, subst, arith, length-append}
+use Rattle.std.proofs.Common.{◌≡◌, ◌<◌, ℕ, false, IsTrue, List, [], ◌∷◌, ◌++◌, length, refl, sym, ◌∙◌, ap, subst, arith, length-append}
 use Rattle.std.specs.Prelude.{codes, if◌then◌else◌}
 use Rattle.std.specs.Str.{bytes_eq}
 use Rattle.terms.specs.declared.codes.CommandWord.{CommandWord}
@@ -10,7 +10,7 @@ use Rattle.terms.specs.Statement.{Piece, TheWord}
 use Rattle.terms.specs.CommandCuts.{TakesCommand}
 use Rattle.terms.specs.Words.{Word, HasWords}
 use Rattle.terms.specs.Operands.{AreOperands}
-use Rattle.terms.specs.CommandForms.{operands_of, command_word, HasOperands, IsCommand}
+use Rattle.terms.specs.CommandForms.{is_known, operands_of, command_word, HasOperands, IsCommand}
 use Rattle.terms.specs.Commands.{has_double, BeginsWith, BeginsWithCommands}
 use Rattle.terms.proofs.OperandWords.{AreKnown, are_operands}
 
@@ -47,20 +47,21 @@ same_rest s t ps qs e = cc (e)
 
 pub begins-only : (pieces : List Piece) (v w : CommandWord) (rest rest' : List Piece) → BeginsWith pieces v rest → BeginsWith pieces w rest' → (v ≡ w) × (rest ≡ rest')
 begins-only pieces v w rest rest' b c =
-    let e : TheWord (word_text v) ∷ rest ≡ TheWord (word_text w) ∷ rest' = sym b ∙ c in
+    let e : TheWord (word_text v) ∷ rest ≡ TheWord (word_text w) ∷ rest' = sym b.0 ∙ c.0 in
     (word-only v w (same_text (word_text v) (word_text w) rest rest' e), same_rest (word_text v) (word_text w) rest rest' e)
 
 -- A command that begins with a word has its operands in what follows.
 pub of_command : (pieces : List Piece) (w : CommandWord) (rest : List Piece) (c : Command) → BeginsWith pieces w rest → IsCommand pieces c → (command_word c ≡ w) × ((ws : List Word) × HasWords rest ws × AreKnown w ws × HasOperands ws c)
 of_command pieces w rest c b k =
-    let s = begins-only pieces (command_word c) w k.rest rest k.begins b in
+    let s = begins-only pieces (command_word c) w k.rest rest (k.begins, k.known) b in
     (s.0, (k.words, subst (λ r. HasWords r k.words) s.1 k.has_words, subst (λ v. AreKnown v k.words) s.0 k.are_operands.known, k.has_operands))
 
 pub is_command : (pieces : List Piece) (w : CommandWord) (rest : List Piece) (ws : List Word) (c : Command) → BeginsWith pieces w rest → HasWords rest ws → AreKnown w ws → has_double w rest ≡ false → command_word c ≡ w → HasOperands ws c → IsCommand pieces c
 is_command pieces w rest ws c b has known single e values = record {
   rest = rest;
   words = ws;
-  begins = b ∙ ap (λ v. TheWord (word_text v) ∷ rest) (sym e);
+  known = subst (λ v. IsTrue (is_known v)) (sym e) b.1;
+  begins = b.0 ∙ ap (λ v. TheWord (word_text v) ∷ rest) (sym e);
   has_words = has;
   are_operands = subst (λ v. AreOperands (operands_of v) ws) (sym e) (are_operands w rest ws has known single);
   has_operands = values;

@@ -16,7 +16,7 @@ use Rattle.terms.specs.Forms.{IsId, IsSource, IsZoneName}
 use Rattle.terms.specs.Statement.{Piece}
 use Rattle.terms.specs.Words.{Word, HasWords}
 use Rattle.terms.specs.Operands.{operand, HasSorted}
-use Rattle.terms.specs.CommandForms.{operands_of, command_word, BothOrNamed, HasSome, HasReceive, HasSelection, HasInstall, HasRestoreList, HasOperands, IsCommand}
+use Rattle.terms.specs.CommandForms.{operands_of, command_word, HasSome, HasReceive, HasSelection, HasInstall, HasRestoreList, HasOperands, IsCommand}
 use Rattle.terms.specs.Commands.{words_in, is_often, has_double, is_unchosen, BeginsWith, IsCommandFault}
 use Rattle.terms.proofs.Apart.{pairs_map}
 use Rattle.terms.proofs.RisingLists.{AllPairs-first, AllPairs-rest}
@@ -25,19 +25,15 @@ use Rattle.terms.proofs.ExactOperands.{required-only, optional-only, texts-only,
 use Rattle.terms.proofs.OperandWords.{count, count_same, count_other, words_of, often, seldom}
 use Rattle.terms.proofs.CommandLines.{begins-only, of_command}
 
-both-only : (a b : Option Word) (s s' h h' : Bool) → BothOrNamed a b s h → BothOrNamed a b s' h' → (s ≡ s') × (h ≡ h')
-both-only None None s s' h h' x y = (x.0 ∙ sym y.0, x.1 ∙ sym y.1)
-both-only None (Some w) s s' h h' x y = (x.0 ∙ sym y.0, flag-only (Some w) h h' x.1 y.1)
-both-only (Some w) b s s' h h' x y = (flag-only (Some w) s s' x.0 y.0, flag-only b h h' x.1 y.1)
-
 abbrev what : Bool → Bool → Option Text → ReceiveWhat
 what s h source = record { sysmods = s; holddata = h; source = source }
 
 receive-only : (ws : List Word) (a b : ReceiveWhat) → HasReceive ws a → HasReceive ws b → a ≡ b
 receive-only ws a b h k =
-    let both = both-only (operand (codes "SYSMODS") ws) (operand (codes "HOLDDATA") ws) a.sysmods b.sysmods a.holddata b.holddata h.both k.both in
     let source = optional-only IsSource (operand (codes "SOURCEID") ws) a.source b.source h.source k.source in
-    ap (λ x. what x a.holddata a.source) both.0 ∙ ap (λ x. what b.sysmods x a.source) both.1 ∙ ap (λ x. what b.sysmods b.holddata x) source
+    ap (λ x. what x a.holddata a.source) (h.required ∙ sym k.required)
+    ∙ ap (λ x. what b.sysmods x a.source) (h.no_holds ∙ sym k.no_holds)
+    ∙ ap (λ x. what b.sysmods b.holddata x) source
 
 abbrev make : Bool → Bool → Bool → Bool → List Text → List Text → List Text → List Text → List Text → Bool → Selection
 make x0 x1 x2 x3 x4 x5 x6 x7 x8 x9 = record { functions = x0; ptfs = x1; apars = x2; usermods = x3; select = x4; exclude = x5; sourceid = x6; forfmid = x7; group = x8; groupextend = x9 }
@@ -95,7 +91,7 @@ values-only ws c d e h k = absurd (cc (e))
 -- Pieces are one command at most.
 pub value-only : (pieces : List Piece) (c d : Command) → IsCommand pieces c → IsCommand pieces d → c ≡ d
 value-only pieces c d k l =
-    let o = of_command pieces (command_word c) k.rest d k.begins l in
+    let o = of_command pieces (command_word c) k.rest d (k.begins, k.known) l in
     let same = words-only k.rest k.words o.1.0 k.has_words o.1.1 in
     values-only o.1.0 c d (sym o.0) (subst (λ ws. HasOperands ws c) same k.has_operands) o.1.3
 
@@ -177,13 +173,13 @@ chosen rest ws Report h v = refl
 
 -- No pieces are both a command and at fault.
 pub fault-no_value : (pieces : List Piece) (c : Command) (code : CnCode) → IsCommand pieces c → IsCommandFault pieces code → ⊥
-fault-no_value pieces c Cn1 k f = f (command_word c) k.rest k.begins
+fault-no_value pieces c Cn1 k f = f (command_word c) k.rest (k.begins, k.known)
 fault-no_value pieces c Cn2 k f = f.5 c k
 fault-no_value pieces c Cn3 k f =
-    let s = begins-only pieces f.0 (command_word c) f.1 k.rest f.2 k.begins in
+    let s = begins-only pieces f.0 (command_word c) f.1 k.rest f.2 (k.begins, k.known) in
     true≢false (sym f.3 ∙ ap (λ w. has_double w f.1) s.0 ∙ ap (has_double (command_word c)) s.1 ∙ single pieces c k)
 fault-no_value pieces c Cn4 k f =
-    let s = begins-only pieces f.0 (command_word c) f.1 k.rest f.2 k.begins in
+    let s = begins-only pieces f.0 (command_word c) f.1 k.rest f.2 (k.begins, k.known) in
     true≢false (sym f.4 ∙ ap (λ w. is_unchosen w f.1) s.0 ∙ ap (is_unchosen (command_word c)) s.1 ∙ chosen k.rest k.words c k.has_words k.has_operands)
 fault-no_value pieces c Cn5 k f = f
 

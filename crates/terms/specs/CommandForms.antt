@@ -1,5 +1,5 @@
 -- The form of each command: its word, its operands and its value (SMP/E Commands: SET, RECEIVE, REJECT, APPLY, ACCEPT, RESTORE, LIST, REPORT).
-use Rattle.std.specs.Prelude.{◌≡◌, Bool, true, false, List, [], ◌∷◌, Option, Some, None, IsSomeAnd, codes}
+use Rattle.std.specs.Prelude.{◌≡◌, Bool, true, false, List, [], ◌∷◌, Option, None, IsSomeAnd, IsTrue, codes}
 use Rattle.terms.specs.declared.codes.CommandWord.{CommandWord}
 use Rattle.terms.specs.declared.codes.CommandWord.TheVariants as word
 use Rattle.terms.specs.Types.{Text, NoReason, Bypass, Selection, Install, RestoreList, RestoreSelect, RestoreGroup, ReceiveWhat, Command, Set, Receive, Reject, Apply, Accept, Restore, ListZone, Report}
@@ -8,6 +8,13 @@ use Rattle.terms.specs.Spelling.{word_text}
 use Rattle.terms.specs.Forms.{IsId, IsSource, IsZoneName}
 use Rattle.terms.specs.Words.{IsShort, Word, HasWords}
 use Rattle.terms.specs.Operands.{operand, AreOperands, HasSorted, HasRequired, HasOptional, HasTexts, HasFlag}
+
+-- Whether the command can be performed as yet. Another one is no command.
+abbrev pub is_known : CommandWord → Bool
+is_known word.Set = true
+is_known word.Receive = true
+is_known word.Apply = true
+is_known _ = false
 
 -- the operands of APPLY and ACCEPT
 abbrev pub install_operands : List Text
@@ -18,7 +25,7 @@ install_operands =
 -- the operands that a command may have
 abbrev pub operands_of : CommandWord → List Text
 operands_of word.Set = codes "BDY" ∷ []
-operands_of word.Receive = codes "SYSMODS" ∷ codes "HOLDDATA" ∷ codes "SOURCEID" ∷ []
+operands_of word.Receive = codes "SYSMODS" ∷ codes "SOURCEID" ∷ []
 operands_of word.Reject = codes "SELECT" ∷ []
 operands_of word.Apply = install_operands
 operands_of word.Accept = install_operands
@@ -45,14 +52,11 @@ HasShort form found values = HasTexts form found values × IsShort values
 abbrev pub HasSome : (Text → Type 0) → Option Word → List Text → Type 0
 HasSome form found values = IsSomeAnd found (λ w. HasSorted form w values) × IsShort values
 
--- SYSMODS and HOLDDATA of RECEIVE; neither of them means both
-abbrev pub BothOrNamed : Option Word → Option Word → Bool → Bool → Type 0
-BothOrNamed None None sysmods holddata = (sysmods ≡ true) × (holddata ≡ true)
-BothOrNamed (Some w) holds sysmods holddata = HasFlag (Some w) sysmods × HasFlag holds holddata
-BothOrNamed None (Some w) sysmods holddata = HasFlag None sysmods × HasFlag (Some w) holddata
-
+-- RECEIVE. The hold file is not read yet: SYSMODS must be there, and HOLDDATA is no operand.
 pub record HasReceive (words : List Word) (what : ReceiveWhat) : Type 0 where
-  pub both : BothOrNamed (operand (codes "SYSMODS") words) (operand (codes "HOLDDATA") words) what.sysmods what.holddata
+  pub sysmods : HasFlag (operand (codes "SYSMODS") words) what.sysmods
+  pub required : what.sysmods ≡ true
+  pub no_holds : what.holddata ≡ false
   pub source : HasOptional IsSource (operand (codes "SOURCEID") words) what.source
 
 -- the operands by which APPLY and ACCEPT choose
@@ -104,10 +108,11 @@ HasOperands words (Restore ids check) = HasRestoreList words ids × HasFlag (ope
 HasOperands words (ListZone text) = HasFlag (operand (codes "TEXT") words) text
 HasOperands words Report = HasFlag (operand (codes "ERRSYSMODS") words) true
 
--- The pieces are a command: its word, which has no list, and known operands, each at most once.
+-- The pieces are a command: the word of a known one, which has no list, and known operands, each at most once.
 pub record IsCommand (pieces : List Piece) (c : Command) : Type 0 where
   pub rest : List Piece
   pub words : List Word
+  pub known : IsTrue (is_known (command_word c))
   pub begins : pieces ≡ TheWord (word_text (command_word c)) ∷ rest
   pub has_words : HasWords rest words
   pub are_operands : AreOperands (operands_of (command_word c)) words

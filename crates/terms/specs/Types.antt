@@ -202,7 +202,7 @@ pub data RestoreList : Type 0 where
   RestoreSelect : List Id → RestoreList
   RestoreGroup : List Id → RestoreList
 
--- what RECEIVE reads, and the source that it adds; without operands it reads both
+-- what RECEIVE reads (PTFIN, the hold file), and the source that it adds
 pub record ReceiveWhat : Type 0 where
   pub sysmods : Bool
   pub holddata : Bool

@@ -1,27 +1,10 @@
-use Rattle.std.proofs.Common.{◌∙◌}
+use Rattle.std.proofs.Common.{◌∙◌, ap}
 use Rattle.std.proofs.lemmas.Result.{err_from_is_err_and}
-use Rattle.cntl.proofs.Formed.{excludes_more, if_err_more, of_reject, of_apply, of_accept, of_restore, of_report}
+use Rattle.cntl.proofs.Formed.{excludes_more, of_apply}
+use Rattle.cntl.specs.Views.{command_word_of}
 use Rattle.cntl.proofs.forms.read_operands.Goals as goal
-
-pub returns-in_err-some_ids-in-Reject-clause-bad : goal.returns-in_err-some_ids-in-Reject-clause-bad
-returns-in_err-some_ids-in-Reject-clause-bad c = λ ws l.
-    let p = err_from_is_err_and c.from_residual-in_err-some_ids-in-Reject.result c.from_residual-in_err-some_ids-in-Reject.ensures.1 in
-    rw (p.1, p.2) (excludes_more c.in_err-some_ids-in-Reject.field-0.0 _ _ (λ x. of_reject ws x.0 (x.1.0 ∙ c.in-Reject.is) x.1.1) (c.in_err-some_ids-in-Reject.ensures.bad ws l))
 
 pub returns-in_err-install-in-Apply-clause-bad : goal.returns-in_err-install-in-Apply-clause-bad
 returns-in_err-install-in-Apply-clause-bad c = λ ws l.
     let p = err_from_is_err_and c.from_residual-in_err-install-in-Apply.result c.from_residual-in_err-install-in-Apply.ensures.1 in
-    rw (p.1, p.2) (excludes_more c.in_err-install-in-Apply.field-0.0 _ _ (λ x. of_apply ws x.0 (x.1.0 ∙ c.in-Apply.is) x.1.1) (c.in_err-install-in-Apply.ensures.bad ws l))
-
-pub returns-in_err-install-in-Accept-clause-bad : goal.returns-in_err-install-in-Accept-clause-bad
-returns-in_err-install-in-Accept-clause-bad c = λ ws l.
-    let p = err_from_is_err_and c.from_residual-in_err-install-in-Accept.result c.from_residual-in_err-install-in-Accept.ensures.1 in
-    rw (p.1, p.2) (excludes_more c.in_err-install-in-Accept.field-0.0 _ _ (λ x. of_accept ws x.0 (x.1.0 ∙ c.in-Accept.is) x.1.1) (c.in_err-install-in-Accept.ensures.bad ws l))
-
-pub returns-in_err-report-in-Report-clause-bad : goal.returns-in_err-report-in-Report-clause-bad
-returns-in_err-report-in-Report-clause-bad c = λ ws l.
-    let p = err_from_is_err_and c.from_residual-in_err-report-in-Report.result c.from_residual-in_err-report-in-Report.ensures.1 in
-    rw (p.1, p.2) (λ x. c.in_err-report-in-Report.ensures.bad ws l (of_report ws x.0 (x.1.0 ∙ c.in-Report.is) x.1.1))
-
-pub returns-in-Restore-clause-bad : goal.returns-in-Restore-clause-bad
-returns-in-Restore-clause-bad c = λ ws l. if_err_more c.restore.result _ _ (λ x. of_restore ws x.0 (x.1.0 ∙ c.in-Restore.is) x.1.1) (c.restore.ensures.bad ws l)
+    rw (p.1, p.2) (excludes_more c.in_err-install-in-Apply.field-0.0 _ _ (λ x. of_apply ws x.0 (x.1.0 ∙ ap command_word_of c.in-Apply.is) x.1.1) (c.in_err-install-in-Apply.ensures.bad ws l))
