@@ -9,8 +9,9 @@ use Rattle.std.specs.declared.cmp.Ordering.TheVariants.{Less, Equal, Greater}
 use Rattle.std.specs.Ordering.{nat_cmp, is_lt, ordering_reverse}
 use Rattle.std.specs.Cmp.Lexicographic.{slice_cmp}
 use Rattle.std.proofs.lemmas.Cmp.{nat_list_cmp_total}
+use Rattle.std.proofs.lemmas.Bool.{and_parts}
 use Rattle.std.proofs.lemmas.Map.Lookups.{exact_bytes}
-use Rattle.std.proofs.lemmas.List.Elements.{All-cons, All-from_recursion, recursion_from_All}
+use Rattle.std.proofs.lemmas.List.Elements.{All-cons, All-weaker, Contains-append_left, Contains-append_right, Contains-append_cases, All-from_recursion, recursion_from_All}
 use Rattle.terms.specs.declared.kinds.ZoneKind.{ZoneKind}
 use Rattle.terms.specs.declared.kinds.ZoneKind.TheVariants.{Target, Distribution}
 use Rattle.terms.specs.Types.{Text, zone_number, Zone, a_zone, NamedZone}
@@ -19,9 +20,10 @@ use Rattle.terms.specs.Rising.{Rises, with_item, Splits}
 use Rattle.terms.specs.Forms.{IsSrel, IsZoneName}
 use Rattle.terms.proofs.Apart.{pairs_map, pairs_unmap}
 use Rattle.terms.proofs.GlobalLookups.{same_from, same_itself}
-use Rattle.terms.proofs.RisingLists.{AllPairs-first, AllPairs-rest, Less-from_is_lt, with_item-new, Rises-between}
+use Rattle.terms.proofs.RisingLists.{All-between, AllPairs-between, AllPairs-first, AllPairs-rest, Less-from_is_lt, with_item-new, Rises-between}
 use Rattle.schema.specs.Forms.{HasZoneForms}
 use Rattle.schema.specs.Inventory.{Inventory, IsInventory, IsZoneNamed, HasDistribution, IsRelated, AreApart}
+use Rattle.upkeep.proofs.ZonesKept.{stands_among}
 use Rattle.machine.specs.State.{State, zone_named, with_zone, ZoneDefinition, ZoneFault, Zn1, Zn2, Zn3, Zn4, define_zone, is_related, is_free, has_right_related, has_same_srel, global_name}
 
 tests : {T E : Type 0} (a b c e : Bool) (w x y z : E) (r t : T)
@@ -105,3 +107,140 @@ cut (z ∷ zs) name rises none = by (slice_cmp nat_cmp z.name name) refl (cut zs
           parts = refl;
           splits = record { low = λ k d below. absurd (omega arith); high = All-cons (λ (y : NamedZone). slice_cmp nat_cmp name y.name ≡ Less) z zs less (after_it less) };
         }
+
+-- a list between whose parts an item comes
+module _ (front back : List NamedZone) (z : NamedZone) where
+  stays : (y : NamedZone) → Contains (front ++ back) y → Contains (front ++ z ∷ back) y
+  stays y there = elim (Contains-append_cases front back y there) [
+    | inl before ↦ Contains-append_left front (z ∷ back) y before
+    | inr behind ↦ Contains-append_right front (z ∷ back) y (suc behind.0, omega (arith, behind.1), behind.2)
+  ]
+
+  still_related : (kind : ZoneKind) (srel : Text) (related : Option Text) → IsRelated (front ++ back) kind srel related → IsRelated (front ++ z ∷ back) kind srel related
+  still_related Target srel None is = is
+  still_related Target srel (Some name) (y, there, named, kind, has) = (y, stays y there, named, kind, has)
+  still_related Distribution srel related is = is
+
+contains_it : (before after : List NamedZone) (z : NamedZone) → Contains (before ++ z ∷ after) z
+contains_it before after z = Contains-append_right before (z ∷ after) z (0, omega arith, refl)
+
+is_distribution : (kind : ZoneKind) → IsTrue (zone_number kind == zone_number Distribution) → kind ≡ Distribution
+is_distribution Target same = absurd (cc same)
+is_distribution Distribution same = refl
+
+-- the zone that it names is there
+found_related : (zones : List NamedZone) (srel name : Text) (o : Option Zone) → zone_named zones name ≡ o
+    → IsTrue (option_map_or (λ z. zone_number z.kind == zone_number Distribution) o false) → IsTrue (option_map_or (λ z. bytes_eq z.srel srel) o false)
+    → HasDistribution zones name srel
+found_related zones srel name None found kind same = absurd (cc kind)
+found_related zones srel name (Some old) found kind same =
+    let at = stands_among zones name old found in
+    let z : NamedZone = record { name = name; zone = old } in
+    (z, subst (λ zs. Contains zs z) (sym at.zones_are) (contains_it at.before at.after z), refl, is_distribution old.kind kind, same_from old.srel srel same)
+
+related_new : (zones : List NamedZone) (kind : ZoneKind) (srel : Text) (related : Option Text) → IsTrue (has_right_related zones kind related) → IsTrue (has_same_srel zones srel related)
+    → IsRelated zones kind srel related
+related_new zones Target srel None right same = absurd (cc right)
+related_new zones Target srel (Some name) right same =
+    found_related zones srel name (zone_named zones name) refl (and_parts (option_map_or (λ z. zone_number z.kind == zone_number Distribution) (zone_named zones name) false) (not (is_related zones name)) right).0 same
+related_new zones Distribution srel None right same = refl
+related_new zones Distribution srel (Some name) right same = absurd (cc right)
+
+-- and no other zone names it
+names_other : (r : Option Text) (name : Text) → IsFalse (option_map_or (bytes_eq name) r false) → r ≢ Some name
+names_other r name other e = true≢false (sym (same_itself name) ∙ sym (ap (λ o. option_map_or (bytes_eq name) o false) e) ∙ other)
+
+unrelated : (zones : List NamedZone) (name : Text) → IsFalse (is_related zones name) → AllByRecursion (λ y. y.zone.related ≢ Some name) zones
+unrelated [] name none = tt
+unrelated (z ∷ zs) name none =
+    let parts = neither (option_map_or (bytes_eq name) z.zone.related false) (is_related zs name) none in
+    (names_other z.zone.related name parts.0, unrelated zs name parts.1)
+
+not_false : (b : Bool) → IsTrue (not b) → IsFalse b
+not_false true h = absurd (cc h)
+not_false false h = refl
+
+all_units : (zones : List NamedZone) → AllByRecursion (λ (y : NamedZone). Unit {0}) zones
+all_units [] = tt
+all_units (z ∷ zs) = (tt, all_units zs)
+
+apart_back : (zones : List NamedZone) (kind : ZoneKind) (related : Option Text) → IsTrue (has_right_related zones kind related)
+    → AllByRecursion (λ (y : NamedZone). IfSome related (λ name. y.zone.related ≢ Some name)) zones
+apart_back zones Target None right = absurd (cc right)
+apart_back zones Target (Some name) right =
+    unrelated zones name (not_false (is_related zones name) (and_parts (option_map_or (λ z. zone_number z.kind == zone_number Distribution) (zone_named zones name) false) (not (is_related zones name)) right).1)
+apart_back zones Distribution None right = all_units zones
+apart_back zones Distribution (Some name) right = absurd (cc right)
+
+turned : (r related : Option Text) → IfSome related (λ n. r ≢ Some n) → IfSome r (λ n. related ≢ Some n)
+turned None related h = tt
+turned (Some m) None h = λ e. absurd (cc e)
+turned (Some m) (Some n) h = λ e. h (sym e)
+
+apart_front : (related : Option Text) (zones : List NamedZone) → AllByRecursion (λ (y : NamedZone). IfSome related (λ name. y.zone.related ≢ Some name)) zones
+    → AllByRecursion (λ (y : NamedZone). IfSome y.zone.related (λ name. related ≢ Some name)) zones
+apart_front related [] h = tt
+apart_front related (z ∷ zs) h = (turned z.zone.related related h.0, apart_front related zs h.1)
+
+part_left : (P : NamedZone → Type 0) (xs ys : List NamedZone) → AllByRecursion P (xs ++ ys) → AllByRecursion P xs
+part_left P [] ys h = tt
+part_left P (x ∷ xs) ys h = (h.0, part_left P xs ys h.1)
+
+part_right : (P : NamedZone → Type 0) (xs ys : List NamedZone) → AllByRecursion P (xs ++ ys) → AllByRecursion P ys
+part_right P [] ys h = h
+part_right P (x ∷ xs) ys h = part_right P xs ys h.1
+
+target_related : (zones : List NamedZone) (kind : ZoneKind) (related : Option Text) → IsTrue (has_right_related zones kind related) → is_some related ≡ (zone_number kind == 0)
+target_related zones Target None right = absurd (cc right)
+target_related zones Target (Some name) right = refl
+target_related zones Distribution None right = refl
+target_related zones Distribution (Some name) right = absurd (cc right)
+
+-- the empty zone is good by itself
+empty_named : (zones : List NamedZone) (d : ZoneDefinition) → IsZoneName d.name → IsSrel d.srel → d.name ≢ codes "GLOBAL" → IsTrue (has_right_related zones d.kind d.related)
+    → IsZoneNamed (record { name = d.name; zone = a_zone d.kind d.srel d.related [] [] })
+empty_named zones d name srel not_global right = record {
+  name = name;
+  not_global = not_global;
+  forms = record { srel = srel; entries = λ k e below. absurd (omega arith); elements = λ k e below. absurd (omega arith) };
+  zone = record {
+    entries = λ i j e less below. absurd (omega arith);
+    held = λ k e below. absurd (omega arith);
+    waived = λ k e below. absurd (omega arith);
+    elements = λ i j e less below. absurd (omega arith);
+    related = target_related zones d.kind d.related right;
+  };
+}
+
+-- The definition of a zone, of a name and an SREL that have their forms, leads from an inventory to one.
+pub definition_kept : (s t : State) (d : ZoneDefinition) → IsZoneName d.name → IsSrel d.srel → define_zone s d ≡ Ok t
+    → IsInventory (record { global = s.global; zones = s.zones }) → IsInventory (record { global = t.global; zones = t.zones })
+definition_kept s t d name srel answers is =
+    let told = defined s t d answers in
+    let z : NamedZone = record { name = d.name; zone = a_zone d.kind d.srel d.related [] [] } in
+    let rises = pairs_unmap (λ (a b : NamedZone). IsTrue (is_before a.name b.name)) (λ (x y : Text). IsTrue (is_before x y)) by_name (λ a b lower. lower) s.zones is.names in
+    let at = cut s.zones d.name rises (none_named s.zones d.name told.is_new) in
+    let parts = at.parts in
+    let zones : List NamedZone = at.front ++ z ∷ at.back in
+    let made = ap (λ zs. with_item (slice_cmp nat_cmp) by_name zs z) parts ∙ with_item-new nat_list_cmp_total by_name at.front at.back z at.splits in
+    let R : NamedZone → Type 0 = λ y. IsRelated zones y.zone.kind y.zone.srel y.zone.related in
+    let each : (y : NamedZone) → IsRelated s.zones y.zone.kind y.zone.srel y.zone.related → R y =
+    λ y related. still_related at.front at.back z y.zone.kind y.zone.srel y.zone.related (subst (λ zs. IsRelated zs y.zone.kind y.zone.srel y.zone.related) parts related) in
+    let pairs = subst (λ zs. AllPairs AreApart zs) parts is.apart in
+    let apart = apart_back s.zones d.kind d.related told.right in
+    let before = All-from_recursion (λ (y : NamedZone). AreApart y z) at.front
+    (part_left (λ y. AreApart y z) at.front at.back (subst (AllByRecursion (λ (y : NamedZone). AreApart y z)) parts (apart_front d.related s.zones apart))) in
+    let behind = All-from_recursion (AreApart z) at.back (part_right (AreApart z) at.front at.back (subst (AllByRecursion (AreApart z)) parts apart)) in
+    let inventory : IsInventory (record { global = s.global; zones = zones }) = record {
+      global = is.global;
+      sysmods = is.sysmods;
+      holds = is.holds;
+      names = pairs_map (λ (a b : NamedZone). IsTrue (is_before a.name b.name)) (λ (x y : Text). IsTrue (is_before x y)) by_name (λ a b lower. lower) zones
+          (Rises-between nat_list_cmp_total by_name at.front at.back z (subst (λ zs. Rises (slice_cmp nat_cmp) by_name zs) parts rises) at.splits);
+      zones = All-between IsZoneNamed at.front at.back z (subst (λ zs. All IsZoneNamed zs) parts is.zones) (empty_named s.zones d name srel told.not_global told.right);
+      related = All-between R at.front at.back z (subst (λ zs. All R zs) parts (All-weaker (λ y. IsRelated s.zones y.zone.kind y.zone.srel y.zone.related) R each s.zones is.related))
+          (each z (related_new s.zones d.kind d.srel d.related told.right told.srel));
+      apart = AllPairs-between AreApart at.front at.back z pairs before behind;
+    } in
+    subst (λ (u : State). IsInventory (record { global = u.global; zones = u.zones })) told.adds
+    (subst (λ zs. IsInventory (record { global = s.global; zones = zs })) (sym made) inventory)
