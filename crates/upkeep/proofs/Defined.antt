@@ -1,8 +1,8 @@
 -- The definition of a zone leads from an inventory to an inventory.
-use Rattle.std.proofs.Common.{◌≡◌, ◌≢◌, ◌⊎◌, ◌≤◌, ◌<◌, ℕ, suc, zero, Bool, true, false, ◌&&◌, ◌||◌, ◌==◌, not, List, [], ◌∷◌, ◌++◌, length, map, get_or, Option, Some, None, All, AllPairs, Contains, IsTrue, IsFalse, IfSome, refl, sym, ◌∙◌, ap, subst, inl, inr, arith, true≢false}
-use Rattle.std.specs.Prelude.{find, option_map, Result, Ok, Err, is_some, if◌then◌else◌, codes}
+use Rattle.std.proofs.Common.{◌≡◌, ◌≢◌, suc, Bool, true, false, ◌||◌, ◌==◌, not, List, [], ◌∷◌, ◌++◌, get_or, Option, Some, None, All, AllPairs, Contains, IsTrue, IsFalse, IfSome, refl, sym, ◌∙◌, ap, subst, inl, inr, arith, true≢false}
+use Rattle.std.specs.Prelude.{find, option_map, Ok, Err, is_some, if◌then◌else◌, codes}
 use Rattle.std.specs.Option.{option_map_or}
-use Rattle.std.specs.List.{list_any, AllByRecursion}
+use Rattle.std.specs.List.{AllByRecursion}
 use Rattle.std.specs.Str.{bytes_eq}
 use Rattle.std.specs.declared.cmp.Ordering.{Ordering}
 use Rattle.std.specs.declared.cmp.Ordering.TheVariants.{Less, Equal, Greater}
@@ -11,20 +11,19 @@ use Rattle.std.specs.Cmp.Lexicographic.{slice_cmp}
 use Rattle.std.proofs.lemmas.Cmp.{nat_list_cmp_total}
 use Rattle.std.proofs.lemmas.Bool.{and_parts}
 use Rattle.std.proofs.lemmas.Map.Lookups.{exact_bytes}
-use Rattle.std.proofs.lemmas.List.Elements.{All-cons, All-weaker, Contains-append_left, Contains-append_right, Contains-append_cases, All-from_recursion, recursion_from_All}
+use Rattle.std.proofs.lemmas.List.Elements.{All-cons, All-weaker, Contains-append_left, Contains-append_right, Contains-append_cases, All-from_recursion}
 use Rattle.terms.specs.declared.kinds.ZoneKind.{ZoneKind}
 use Rattle.terms.specs.declared.kinds.ZoneKind.TheVariants.{Target, Distribution}
 use Rattle.terms.specs.Types.{Text, zone_number, Zone, a_zone, NamedZone}
-use Rattle.terms.specs.Lookups.{is_before, IsRising, IsZone}
+use Rattle.terms.specs.Lookups.{is_before}
 use Rattle.terms.specs.Rising.{Rises, with_item, Splits}
 use Rattle.terms.specs.Forms.{IsSrel, IsZoneName}
 use Rattle.terms.proofs.Apart.{pairs_map, pairs_unmap}
 use Rattle.terms.proofs.GlobalLookups.{same_from, same_itself}
 use Rattle.terms.proofs.RisingLists.{All-between, AllPairs-between, AllPairs-first, AllPairs-rest, Less-from_is_lt, with_item-new, Rises-between}
-use Rattle.schema.specs.Forms.{HasZoneForms}
-use Rattle.schema.specs.Inventory.{Inventory, IsInventory, IsZoneNamed, HasDistribution, IsRelated, AreApart}
+use Rattle.schema.specs.Inventory.{IsInventory, IsZoneNamed, HasDistribution, IsRelated, AreApart}
 use Rattle.upkeep.proofs.ZonesKept.{stands_among}
-use Rattle.machine.specs.State.{State, zone_named, with_zone, ZoneDefinition, ZoneFault, Zn1, Zn2, Zn3, Zn4, define_zone, is_related, is_free, has_right_related, has_same_srel, global_name}
+use Rattle.machine.specs.State.{State, zone_named, with_zone, ZoneDefinition, Zn1, Zn2, Zn3, Zn4, define_zone, is_related, has_right_related, has_same_srel, global_name}
 
 tests : {T E : Type 0} (a b c e : Bool) (w x y z : E) (r t : T)
     → (if a then Err w else if not b then Err x else if not c then Err y else if e then Err z else Ok r) ≡ Ok t

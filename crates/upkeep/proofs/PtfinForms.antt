@@ -1,9 +1,9 @@
 -- What a PTFIN says has the forms of what is stored.
-use Rattle.std.proofs.Common.{◌≡◌, ◌≢◌, ◌⊎◌, ◌≤◌, ◌<◌, ℕ, Bool, true, false, List, [], ◌∷◌, ◌++◌, length, map, filter, get_or, Option, Some, None, All, AllPairs, Contains, IsTrue, refl, sym, ◌∙◌, ap, subst, inl, inr, arith}
+use Rattle.std.proofs.Common.{◌≡◌, ◌≢◌, ◌⊎◌, ◌<◌, ℕ, List, [], ◌∷◌, ◌++◌, length, get_or, Option, Some, None, All, Contains, refl, sym, ap, subst, inl, inr, arith}
 use Rattle.std.specs.declared.cmp.Ordering.{Ordering}
 use Rattle.std.specs.List.{AllByRecursion}
 use Rattle.std.specs.Prelude.{IfSome, IsSome, IsSomeAnd, option_map}
-use Rattle.std.specs.Ordering.{nat_cmp, is_lt}
+use Rattle.std.specs.Ordering.{nat_cmp}
 use Rattle.std.specs.Cmp.Lexicographic.{slice_cmp}
 use Rattle.std.proofs.lemmas.Cmp.{nat_list_cmp_total}
 use Rattle.std.proofs.lemmas.List.Elements.{All-contains, All-contains_itself, All-tail, All-from_recursion, recursion_from_All}
@@ -11,7 +11,7 @@ use Rattle.terms.specs.declared.kinds.Kind.{Kind}
 use Rattle.terms.specs.declared.kinds.Kind.TheVariants.{Function, Ptf, Apar, Usermod}
 use Rattle.terms.specs.declared.kinds.ElemType.{ElemType}
 use Rattle.terms.specs.declared.kinds.ElemType.TheVariants.{Mac, Src, Clist, Data, Exec, Parm, Proc}
-use Rattle.terms.specs.Types.{Text, Id, Lines, Ver, Change, Action, Replaces, Updates, Sysmod, Item, ASysmod, AnAssign}
+use Rattle.terms.specs.Types.{Text, Id, Lines, Ver, Change, Sysmod, Item, ASysmod, AnAssign}
 use Rattle.terms.specs.Lookups.{IsRising}
 use Rattle.terms.specs.Rising.{Rises, with_item, before, behind}
 use Rattle.terms.specs.Global.{change_cmp}
@@ -20,17 +20,17 @@ use Rattle.terms.proofs.GlobalKept.{All-with_item, Rises-with_item}
 use Rattle.terms.proofs.GlobalGroups.{recursion-append}
 use Rattle.terms.specs.declared.statement_words.StatementWord.{StatementWord}
 use Rattle.terms.specs.declared.statement_words.StatementWord.TheVariants as word
-use Rattle.terms.specs.Records.{IsRecord, HasRecords}
+use Rattle.terms.specs.Records.{IsRecord}
 use Rattle.terms.specs.Statement.{Piece, IsStatement}
 use Rattle.terms.specs.Lookups.{at_most_one}
-use Rattle.terms.specs.Ptfin.{SoFar, nothing, items_of, new_sysmod, with_ver, with_change, after, MayStand, CannotStand, LastHeader, IsHeader, IsPlaced, IsGood, IsGoodStatement, BeginsWithStatements, IsPtfin}
+use Rattle.terms.specs.Ptfin.{SoFar, nothing, items_of, new_sysmod, with_ver, with_change, after, MayStand, CannotStand, LastHeader, IsHeader, IsPlaced, IsGood, BeginsWithStatements, IsPtfin}
 use Rattle.terms.specs.Forms.{IsId, IsSrel, IsName}
 use Rattle.terms.specs.Words.{Word, IsOneOf, IsListOf}
-use Rattle.terms.specs.Operands.{operand, HasOne, HasRequired, HasOptional, HasTexts}
+use Rattle.terms.specs.Operands.{HasRequired, HasOptional, HasTexts}
 use Rattle.terms.specs.Texts.{IsActionOf, HasForm}
 use Rattle.terms.specs.Statements as says
 use Rattle.terms.specs.Statements.{Statement, SaysHeader, SaysVer, SaysChange, IsVerOf, IsReplacementOf, lists_of}
-use Rattle.schema.specs.Forms.{AreListed, AreOthers, AreRecords, IsTextOf, SuitsKind, HasIfForms, HasVerForms, HasActionForms, HasChangeForms, HasSysmodForms}
+use Rattle.schema.specs.Forms.{AreListed, AreOthers, AreRecords, IsTextOf, SuitsKind, HasIfForms, HasVerForms, HasActionForms, HasChangeForms}
 
 all_none : {X : Type 0} (P : X → Type 0) → All P []
 all_none P = λ k d below. absurd (omega arith)

@@ -1,20 +1,20 @@
 -- RECEIVE leads from an inventory to an inventory.
-use Rattle.std.proofs.Common.{◌≡◌, ◌≢◌, ◌⊎◌, ◌≤◌, ◌<◌, ℕ, Bool, true, false, ◌&&◌, ◌||◌, ◌==◌, List, [], ◌∷◌, ◌++◌, length, map, fold, Option, Some, None, All, AllPairs, IsTrue, refl, sym, ◌∙◌, ap, subst, inl, inr, arith, true≢false, IfSome}
+use Rattle.std.proofs.Common.{◌≡◌, ℕ, ◌&&◌, ◌||◌, ◌==◌, List, [], ◌∷◌, fold, Option, Some, None, All, AllPairs, IsTrue, refl, sym, ◌∙◌, ap, subst, inl, inr, arith, true≢false, IfSome}
 use Rattle.std.specs.Prelude.{Result, Ok, Err, nat_lt}
 use Rattle.std.specs.List.{AllByRecursion}
 use Rattle.std.specs.declared.cmp.Ordering.{Ordering}
-use Rattle.std.specs.declared.cmp.Ordering.TheVariants.{Less, Equal, Greater}
+use Rattle.std.specs.declared.cmp.Ordering.TheVariants.{Equal, Greater}
 use Rattle.std.specs.Ordering.{nat_cmp, is_lt, ordering_then}
 use Rattle.std.specs.Cmp.{nat_cmp_is}
 use Rattle.std.specs.Cmp.Lexicographic.{slice_cmp}
 use Rattle.std.proofs.lemmas.Bool.{cases_lt, lt-ltb, eq-eqb, or_right, and_from}
 use Rattle.std.proofs.lemmas.Cmp.{nat_list_cmp_total}
 use Rattle.terms.specs.declared.kinds.HoldKind.TheVariants.{System}
-use Rattle.terms.specs.Types.{Text, Id, type_number, Ver, Change, Hold, Sysmod, Global, Item, ASysmod, AnAssign}
-use Rattle.terms.specs.Lookups.{is_before, IsRising}
-use Rattle.terms.specs.Rising.{Rises, with_item}
+use Rattle.terms.specs.Types.{Text, type_number, Ver, Change, Hold, Sysmod, Global, Item, ASysmod, AnAssign}
+use Rattle.terms.specs.Lookups.{is_before}
+use Rattle.terms.specs.Rising.{Rises}
 use Rattle.terms.specs.Forms.{IsSource}
-use Rattle.terms.specs.Global.{IsSysmod, IsGlobal, change_cmp, with_sysmod, with_source, received, hold, ReceiveFault, Receives, HasFault}
+use Rattle.terms.specs.Global.{IsSysmod, IsGlobal, change_cmp, with_sysmod, received, hold, ReceiveFault, Receives, HasFault}
 use Rattle.terms.specs.Ptfin.{IsPtfin}
 use Rattle.terms.proofs.Apart.{pairs_map}
 use Rattle.terms.proofs.GlobalKept.{All-with_item, Rises-with_item}
@@ -24,7 +24,7 @@ use Rattle.schema.specs.Inventory.{Inventory, IsInventory}
 use Rattle.machine.specs.Outcome.{Line}
 use Rattle.machine.specs.Receiving.{sourced, or_same, TakesItem}
 use Rattle.machine.specs.Runs.{Runs}
-use Rattle.upkeep.proofs.PtfinForms.{IsGrowing, IsWhole, IsItem, ptfin_formed}
+use Rattle.upkeep.proofs.PtfinForms.{IsWhole, IsItem, ptfin_formed}
 
 lower_first : (m n : ℕ) (r : Ordering) → IsTrue (is_lt (ordering_then (nat_cmp m n) r)) → IsTrue (nat_lt m n || ((m == n) && is_lt r))
 lower_first m n r lower = elim (cases_lt m n) [
