@@ -33,20 +33,20 @@ abbrev pub with_element : ZoneDelta → Element → ZoneDelta
 with_element d e = record d { elements = with_item element_cmp (edit_key element_key) d.elements (Put e) }
 
 -- the delta with the element that the statement gives, if it replaces one
-abbrev pub with_action : Id → ZoneDelta → ElemType → Text → Action → ZoneDelta
-with_action x d type name (Replaces distlib syslib lines) = with_element d (own_element x type name distlib syslib lines)
-with_action x d type name (Updates lines) = d
+abbrev pub after_action : Id → ZoneDelta → ElemType → Text → Action → ZoneDelta
+after_action x d type name (Replaces distlib syslib lines) = with_element d (own_element x type name distlib syslib lines)
+after_action x d type name (Updates lines) = d
 
-abbrev pub with_change : Id → ZoneDelta → Change → ZoneDelta
-with_change x d h = with_action x d h.elem_type h.name h.action
+abbrev pub after_change : Id → ZoneDelta → Change → ZoneDelta
+after_change x d h = after_action x d h.elem_type h.name h.action
 
 -- the delta with the SYSMOD's entry and elements
-abbrev pub with_sysmod : Global → Text → ZoneDelta → Id → ZoneDelta
-with_sysmod g date d x = fold (with_change x) (with_entry d (applied_entry date x)) (changes_of g x)
+abbrev pub after_sysmod : Global → Text → ZoneDelta → Id → ZoneDelta
+after_sysmod g date d x = fold (after_change x) (with_entry d (applied_entry date x)) (changes_of g x)
 
 abbrev pub no_edits : ZoneDelta
 no_edits = record { entries = []; elements = [] }
 
 -- all that the SYSMODs put
 abbrev pub puts : Global → Text → List Id → ZoneDelta
-puts g date kept = fold (with_sysmod g date) no_edits kept
+puts g date kept = fold (after_sysmod g date) no_edits kept

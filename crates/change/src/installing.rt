@@ -6,7 +6,7 @@ ghost use Rattle.terms.specs.Candidates.{is_installable};
 ghost use Rattle.terms.specs.Tests.{ShareElement};
 ghost use Rattle.terms.specs.Delta.{IsChanged};
 ghost use Rattle.terms.specs.Install.{Installs};
-ghost use Rattle.change.specs.Puts.{applied_entry, with_entry, with_change, with_sysmod, puts};
+ghost use Rattle.change.specs.Puts.{applied_entry, with_entry, after_change, after_sysmod, puts};
 
 use crate::known::known_lists;
 use fields::{Id, IdList, YyDdd};
@@ -58,7 +58,7 @@ fn put_sysmod(
     id: Id,
     date: YyDdd,
 ) -> Result<(), AllocError>
-    ensures { OnOk result (delta.new ≡ with_sysmod global.now date delta.old id) }
+    ensures { OnOk result (delta.new ≡ after_sysmod global.now date delta.old id) }
 {
     put_entry(alloc, delta, id, date)?;
     match global.get(id) {
@@ -85,7 +85,7 @@ fn put_changes(
     id: Id,
     changes: &[ElemChange],
 ) -> Result<(), AllocError>
-    ensures { OnOk result (delta.new ≡ fold (with_change id) delta.old changes.now) }
+    ensures { OnOk result (delta.new ≡ fold (after_change id) delta.old changes.now) }
 {
     for change in changes {
         put_change(alloc, delta, id, change)?;
@@ -100,7 +100,7 @@ fn put_change(
     id: Id,
     change: &ElemChange,
 ) -> Result<(), AllocError>
-    ensures { OnOk result (delta.new ≡ with_change id delta.old change.now) }
+    ensures { OnOk result (delta.new ≡ after_change id delta.old change.now) }
 {
     match &change.action {
         Action::Replaces {
