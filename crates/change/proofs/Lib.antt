@@ -1,0 +1,4 @@
+pub mod InTurn
+pub mod Installable
+pub mod Putting
+pub mod AfterInstall
