@@ -1,3 +1,4 @@
+pub mod Chains
 pub mod Empty
 pub mod First
 pub mod Fronts

@@ -1,9 +1,12 @@
 //! Which `++VER` of a SYSMOD counts.
 ghost use Rattle.std.specs.Prelude.{◌≡◌, ◌↔◌, ◌<◌, List, ℕ, length, position, Contains, IsTrue, IfOk, IfSome, find, option_copied};
 ghost use Rattle.std.specs.Str.{bytes_eq};
-ghost use Rattle.terms.specs.Over.{IsOver, Supersedes};
+ghost use Rattle.terms.specs.Choice.{fmid_of};
+ghost use Rattle.terms.specs.Lookups.{is_in, meets};
+ghost use Rattle.terms.specs.Over.{IsOver, Supersedes, chain, owner};
 ghost use Rattle.global.specs.Choices.{choice};
 
+use crate::chain::Chain;
 use crate::zone::Global;
 use fields::{Id, IdList, Srel};
 use paths::{Names, ends, leads};
@@ -33,6 +36,37 @@ impl<'a> VerChoice<'a> {
         of_srel(sysmod.vers.as_slice(), self.srel)
     }
 
+    /// The FMID of the `++VER` that counts.
+    pub fn fmid(&self, id: Id) -> Option<Id>
+        ensures { result ≡ fmid_of (choice self.now) id }
+    {
+        self.ver(id)?.fmid
+    }
+
+    /// The id that owns its elements: a function itself, else its FMID.
+    pub fn owner(&self, id: Id) -> Id
+        ensures { result ≡ owner self.now.global.now (choice self.now) id }
+    {
+        if self.global.is_function(id) {
+            return id;
+        }
+        self.fmid(id).unwrap_or(id)
+    }
+
+    /// The id, its FMID, that one's FMID and so on.
+    pub fn chain(&self, id: Id) -> Chain<'a>
+        ensures { result ≡ chain self.now.global.now (choice self.now) id }
+    {
+        Chain::new(self.global, self.srel, id)
+    }
+
+    /// Whether its chain has one of these ids.
+    pub fn meets(&self, id: Id, ids: &[Id]) -> bool
+        ensures { result ≡ meets (chain self.now.global.now (choice self.now) id) ids.now }
+    {
+        self.chain(id).any(|x| is_in(ids, x))
+    }
+
     /// Whether x is over z: a list leads from x to z by PRE, SUP and FMID.
     pub fn over(&self, alloc: Heap, x: Id, z: Id) -> Result<bool, AllocError>
         ensures { IfOk result (λ over. IsTrue over ↔ IsOver (choice self.now) x z) }
@@ -46,6 +80,12 @@ impl<'a> VerChoice<'a> {
     {
         ends(alloc, &Superseded { choice: self }, x)
     }
+}
+
+fn is_in(ids: &[Id], id: Id) -> bool
+    ensures { result ≡ is_in ids.now id }
+{
+    ids.contains(&id)
 }
 
 // The first of the `++VER`s for the SREL.

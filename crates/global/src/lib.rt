@@ -1,11 +1,13 @@
 //! The global zone: the received SYSMODs and the holds.
 #![tactic(auto)]
 
+mod chain;
 mod choice;
 mod parts;
 mod receive;
 mod zone;
 
+pub use chain::Chain;
 pub use choice::VerChoice;
 pub use holds::{Placed, ReleaseError};
 pub use received::ReceiveFault;

@@ -127,7 +127,8 @@ fn holds_and_releases(rt: HostRuntime) -> Result<(), Fail> {
     assert!(rt; global.hold_of(fix, HoldKind::Error, reason).is_some());
     assert!(rt; global.release(fix, HoldKind::Error, reason).is_ok());
     assert_eq!(rt; global.holds().count(), 0);
-    global.assign(Source::read(b"PUT2410").ok_or("no source")?, fix)?;
+    let source = Source::read(b"PUT2410").ok_or("no source")?;
+    assert!(rt; !global.assign(source, fix)?);
     assert!(rt; !global.is_received(fix) && global.is_empty());
     Ok(())
 }

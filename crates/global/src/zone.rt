@@ -194,12 +194,16 @@ impl Global {
         self.holds.release(id, kind, reason)
     }
 
-    /// Gives a received SYSMOD the source. Of an id that is not received it changes nothing.
-    pub fn assign(&mut self, source: Source, id: Id) -> Result<(), AllocError>
+    /// Gives a received SYSMOD the source, and answers whether the id is received. If it is not, nothing
+    /// changes.
+    pub fn assign(&mut self, source: Source, id: Id) -> Result<bool, AllocError>
+        ensures received { IfOk result (λ there. there ≡ is_received self.old id) }
         ensures ok { OnOk result (self.new ≡ assigned self.old source id) }
         ensures err { OnErr result (self.new ≡ self.old) }
     {
-        self.sysmods.add_source(id, source)
+        let there = self.is_received(id);
+        self.sysmods.add_source(id, source)?;
+        Ok(there)
     }
 
     /// Takes a received SYSMOD out, and with it the holds on it that are marked as internal.
