@@ -85,7 +85,9 @@ impl Sysmod {
     pub fn names_for(&self, srel: Srel, id: Id) -> bool
         ensures { result ≡ list_any (λ v. bytes_eq v.srel srel && is_in (named v) id) self.now.vers }
     {
-        self.vers.iter().any(|ver| ver.srel == srel && ver.names(id))
+        self.vers
+            .iter()
+            .any(|ver| ver.srel == srel && ver.names(id))
     }
 
     /// Whether the id stands in the SUP of one of its `++VER`s.
