@@ -35,7 +35,7 @@ fn see_named<N: Names>(
 
 /// Whether there is an id to stop at and it is seen.
 fn is_met(seen: &IndexSet<Id>, stop: Option<&Id>) -> bool
-    ensures { IsTrue result → IsSomeAnd stop.entry (λ z. Contains seen.now.keys z.now) }
+    ensures { IsTrue result ↔ IsSomeAnd stop.entry (λ z. Contains seen.now.keys z.now) }
 {
     match stop {
         Some(z) => seen.contains(z),
