@@ -1,19 +1,14 @@
 -- A search: all that is seen is reached, and what the first ones name is seen.
-use Rattle.std.proofs.Common.{◌≡◌, ℕ, ◌<◌, ◌≤◌, ◌+◌, inl, inr, List, [], length, take, get_or, Contains, sym, subst, ap, ◌∙◌, length-append, arith}
+use Rattle.std.proofs.Common.{◌≡◌, ℕ, ◌<◌, ◌≤◌, ◌+◌, ◌⊎◌, inl, inr, ◌↔◌, ◌||◌, Bool, true, false, IsTrue, refl, List, [], length, take, get_or, Contains, sym, subst, ap, ◌∙◌, length-append, arith}
 use Rattle.std.proofs.lemmas.List.{take_more, take_all}
 use Rattle.std.proofs.lemmas.List.Elements.{Contains-push_cases, Contains-get_or}
 use Rattle.terms.specs.Types.{Id}
+use Rattle.terms.specs.Lookups.{is_in}
 use Rattle.terms.specs.Over.{Reaches}
-use Rattle.terms.proofs.Leads.{reaches_named, reaches_last, all_reached}
-use Rattle.paths.specs.Seen.{AddsAll}
+use Rattle.terms.proofs.Ids.{Contains-from_is_in, is_in-from_Contains}
+use Rattle.terms.proofs.Leads.{reaches_named, reaches_last, all_reached, reaches_back}
+use Rattle.paths.specs.Seen.{AddsAll, IsSearch, IsTurned}
 use Rattle.paths.proofs.Growth.{adds-keeps, adds-cases, take-adds}
-
--- x's search has seen these ids and gone through the first n of them
-pub record IsSearch (next : Id → List Id) (x : Id) (seen : List Id) (n : ℕ) : Type 0 where
-  pub within : n ≤ length seen
-  pub sound : (z : Id) → Contains seen z → Reaches next x z
-  pub first : (z : Id) → Contains (next x) z → Contains seen z
-  pub closed : (y z : Id) → Contains (take n seen) y → Contains (next y) z → Contains seen z
 
 module _ (next : Id → List Id) (x : Id) where
   -- it begins with what x names
@@ -53,3 +48,30 @@ module _ (next : Id → List Id) (x : Id) where
   search-end seen n all s z reached =
       all_reached next (Contains seen) x s.first
       (λ y w there named. s.closed y w (subst (λ ks. Contains ks y) (sym (take_all n seen all)) there) named) z reached
+
+-- Two searches, one from x and one from z against the direction: one that has gone through all tells whether x leads to z.
+module _ (next back : Id → List Id) (turned : IsTurned next back) (x z : Id) (ahead behind : List Id) (n m : ℕ)
+    (from_x : IsSearch next x ahead n) (from_z : IsSearch back z behind m) where
+  -- where they have met, it does
+  pub both-met : IsTrue (is_in ahead z || is_in behind x) → Reaches next x z
+  both-met met = by (is_in ahead z) refl
+    where
+      by : (b : Bool) → is_in ahead z ≡ b → Reaches next x z
+      by true e = from_x.sound z (Contains-from_is_in ahead z e)
+      by false e =
+          reaches_back back next (λ y w. (turned w y).1) z x
+          (from_z.sound x (Contains-from_is_in behind x (sym (ap (λ b. b || is_in behind x) e) ∙ met)))
+
+  pub both-tell : (length ahead ≤ n) ⊎ (length behind ≤ m) → IsTrue (is_in ahead z || is_in behind x) ↔ Reaches next x z
+  both-tell ended = (both-met, λ reached. told reached ended)
+    where
+      either : (a b : Bool) → IsTrue b → IsTrue (a || b)
+      either true b h = refl
+      either false b h = h
+
+      told : Reaches next x z → (length ahead ≤ n) ⊎ (length behind ≤ m) → IsTrue (is_in ahead z || is_in behind x)
+      told reached (inl all) =
+          ap (λ b. b || is_in behind x) (is_in-from_Contains ahead z (search-end next x ahead n all from_x z reached))
+      told reached (inr all) =
+          either (is_in ahead z) (is_in behind x)
+          (is_in-from_Contains behind x (search-end back z behind m all from_z x (reaches_back next back (λ y w. (turned y w).0) x z reached)))

@@ -5,4 +5,4 @@ mod search;
 #[cfg(test)]
 mod tests;
 
-pub use search::{Names, ends, leads};
+pub use search::{Names, ends, leads, leads_from_both_ends};

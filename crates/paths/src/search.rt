@@ -1,6 +1,7 @@
-ghost use Rattle.std.specs.Prelude.{◌≡◌, ◌++◌, ◌↔◌, List, ℕ, OnOk, IfOk, IsSomeAnd, Contains, IsTrue};
+ghost use Rattle.std.specs.Prelude.{◌≡◌, ◌++◌, ◌↔◌, ◌<◌, ◌||◌, length, List, ℕ, OnOk, IfOk, IsSomeAnd, Contains, IsTrue};
+ghost use Rattle.terms.specs.Lookups.{is_in};
 ghost use Rattle.terms.specs.Over.{Reaches};
-ghost use Rattle.paths.specs.Seen.{AddsAll};
+ghost use Rattle.paths.specs.Seen.{AddsAll, GoesOn, IsTurned};
 
 use fields::{Id, IdList};
 use indexmap::IndexSet;
@@ -34,12 +35,27 @@ fn see_named<N: Names>(
 
 /// Whether there is an id to stop at and it is seen.
 fn is_met(seen: &IndexSet<Id>, stop: Option<&Id>) -> bool
-    ensures { IsTrue result → IsSomeAnd stop.entry (λ z. Contains seen.now.keys z.now) }
+    ensures { IsTrue result ↔ IsSomeAnd stop.entry (λ z. Contains seen.now.keys z.now) }
 {
     match stop {
         Some(z) => seen.contains(z),
         None => false,
     }
+}
+
+/// Goes through one of the ids that are seen.
+fn go_on<N: Names>(
+    names: &N,
+    gone: usize,
+    found: &mut Vec<Id>,
+    seen: &mut IndexSet<Id>,
+) -> Result<(), AllocError>
+    requires { gone < length seen.old.keys }
+    ensures { OnOk result (GoesOn (N.named names.now) gone seen.old.keys seen.new.keys) }
+{
+    let y = seen.as_slice()[gone];
+    see_named(names, y, found, seen)?;
+    Ok(())
 }
 
 /// The ids that x reaches, in the order in which they are first seen: marks and queue at once. Once
@@ -62,8 +78,7 @@ fn reached<N: Names>(
         if is_met(&seen, stop) {
             return Ok(seen);
         }
-        let y = seen.as_slice()[i];
-        see_named(names, y, &mut found, &mut seen)?;
+        go_on(names, i, &mut found, &mut seen)?;
         i += 1;
     }
     Ok(seen)
@@ -76,6 +91,47 @@ pub fn leads<N: Names>(alloc: Global, names: &N, x: Id, z: Id) -> Result<bool, A
 {
     let seen = reached(alloc, names, x, Some(&z))?;
     Ok(seen.contains(&z))
+}
+
+/// Whether the search from x has seen z, or the one back from z has seen x.
+fn have_met(ahead: &IndexSet<Id>, behind: &IndexSet<Id>, x: Id, z: Id) -> bool
+    ensures { result ≡ (is_in ahead.now.keys z || is_in behind.now.keys x) }
+{
+    ahead.contains(&z) || behind.contains(&x)
+}
+
+/// Whether x leads to z, where `namers` gives for each id those that name it. It goes on from the end
+/// that has seen less, and stops once either end has seen the other one or has nothing left.
+pub fn leads_from_both_ends<F: Names, B: Names>(
+    alloc: Global,
+    names: &F,
+    namers: &B,
+    x: Id,
+    z: Id,
+) -> Result<bool, AllocError>
+    requires { IsTurned (F.named names.now) (B.named namers.now) }
+    ensures { IfOk result (λ found. IsTrue found ↔ Reaches (F.named names.now) x z) }
+{
+    let mut found = Vec::new(alloc);
+    let mut ahead = IndexSet::new(alloc);
+    let mut behind = IndexSet::new(alloc);
+    see_named(names, x, &mut found, &mut ahead)?;
+    see_named(namers, z, &mut found, &mut behind)?;
+    let mut i = 0;
+    let mut j = 0;
+    while i < ahead.len() && j < behind.len() {
+        if have_met(&ahead, &behind, x, z) {
+            return Ok(true);
+        }
+        if ahead.len() <= behind.len() {
+            go_on(names, i, &mut found, &mut ahead)?;
+            i += 1;
+        } else {
+            go_on(namers, j, &mut found, &mut behind)?;
+            j += 1;
+        }
+    }
+    Ok(have_met(&ahead, &behind, x, z))
 }
 
 /// The ids that x leads to by such lists.

@@ -4,3 +4,6 @@ pub mod Indexed
 pub mod Joined
 pub mod Named
 pub mod Namers
+pub mod NamersFor
+pub mod Passed
+pub mod Turned

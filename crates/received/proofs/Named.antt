@@ -27,7 +27,7 @@ module _ (xs : List Sysmod) (s : Sysmod) (srel : Text) (x : Id) where
       ap (λ p. flat_map named (option_map_or (λ r. filter (λ v. bytes_eq v.srel srel) r.vers) p [])) there ∙ sym (names-others (zone_of xs) s srel x (apart e))
 
 -- what all ++VERs of a list name
-any-flat : (vs : List Ver) (z : Id) → is_in (flat_map named vs) z ≡ list_any (λ v. is_in (named v) z) vs
+pub any-flat : (vs : List Ver) (z : Id) → is_in (flat_map named vs) z ≡ list_any (λ v. is_in (named v) z) vs
 any-flat [] z = refl
 any-flat (v ∷ vs) z = list_any-append (bytes_eq z) (named v) (flat_map named vs) ∙ ap (λ b. is_in (named v) z || b) (any-flat vs z)
 

@@ -42,7 +42,7 @@ unmentioned Superseded z s none =
     list_any-fewer (λ v. mentions v z) (λ v. is_in v.sup z) s.vers (λ v e. sup_none v z (left_none (is_in (named v) z) (is_in (named_functions v) z) e)) none
 unmentioned AsFunction z s none = list_any-fewer (λ v. mentions v z) (λ v. is_in (named_functions v) z) s.vers (λ v. right_none (is_in (named v) z) (is_in (named_functions v) z)) none
 
-mentioned : (way : Way) (z : Id) (s : Sysmod) → names_so way z s ≡ true → IsTrue (list_any (λ v. mentions v z) s.vers)
+pub mentioned : (way : Way) (z : Id) (s : Sysmod) → names_so way z s ≡ true → IsTrue (list_any (λ v. mentions v z) s.vers)
 mentioned way z s names = by (list_any (λ v. mentions v z) s.vers) refl
   where
     by : (b : Bool) → list_any (λ v. mentions v z) s.vers ≡ b → list_any (λ v. mentions v z) s.vers ≡ true

@@ -1,4 +1,5 @@
 pub mod Index
 pub mod Held
+pub mod Namers
 pub mod Ways
 pub mod Refused

@@ -1,12 +1,12 @@
 //! Whether one more SYSMOD makes a loop of PRE, SUP and FMID.
-ghost use Rattle.std.specs.Prelude.{◌↔◌, IsTrue, IfOk};
+ghost use Rattle.std.specs.Prelude.{◌≡◌, ◌↔◌, IsTrue, IfOk, None};
 ghost use Rattle.terms.specs.Over.{Reaches};
 ghost use Rattle.terms.specs.Global.{HasLoop, names_for, with_sysmod};
-ghost use Rattle.received.specs.Held.{zone_of};
+ghost use Rattle.received.specs.Held.{found, zone_of};
 
-use crate::naming::Naming;
+use crate::naming::{Namers, Naming};
 use crate::received::Received;
-use paths::leads;
+use paths::leads_from_both_ends;
 use std::alloc::{AllocError, Global};
 use sysmods::{Srel, Sysmod};
 
@@ -16,6 +16,7 @@ fn leads_back(
     sysmod: &Sysmod,
     srel: Srel,
 ) -> Result<bool, AllocError>
+    requires { found received.now sysmod.now.id ≡ None }
     ensures { IfOk result (λ found. IsTrue found ↔ Reaches (names_for (with_sysmod (zone_of received.now) sysmod.now) srel) sysmod.now.id sysmod.now.id) }
 {
     let naming = Naming {
@@ -23,7 +24,12 @@ fn leads_back(
         sysmod,
         srel,
     };
-    leads(alloc, &naming, sysmod.id, sysmod.id)
+    let namers = Namers {
+        received,
+        sysmod,
+        srel,
+    };
+    leads_from_both_ends(alloc, &naming, &namers, sysmod.id, sysmod.id)
 }
 
 /// Whether there is a loop with the SYSMOD, where there was none. It searches only where the SYSMOD is
@@ -33,7 +39,8 @@ pub(crate) fn makes_loop(
     received: &Received,
     sysmod: &Sysmod,
 ) -> Result<bool, AllocError>
-    requires { ¬ HasLoop (zone_of received.now) }
+    requires new { found received.now sysmod.now.id ≡ None }
+    requires no_loop { ¬ HasLoop (zone_of received.now) }
     ensures { IfOk result (λ found. IsTrue found ↔ HasLoop (with_sysmod (zone_of received.now) sysmod.now)) }
 {
     if !received.is_named(sysmod.id) && !sysmod.names(sysmod.id) {

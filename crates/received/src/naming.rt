@@ -1,6 +1,7 @@
 //! What the received SYSMODs name in the `++VER`s of one SREL, and one more among them.
 ghost use Rattle.terms.specs.Global.{names_for, with_sysmod};
 ghost use Rattle.received.specs.Held.{zone_of};
+ghost use Rattle.received.specs.Namers.{namers_with};
 
 use crate::received::Received;
 use paths::Names;
@@ -27,6 +28,27 @@ impl Names for Naming<'_> {
         if let Some(other) = self.received.get(id) {
             other.append_named(self.srel, found)?;
             return Ok(());
+        }
+        Ok(())
+    }
+}
+
+/// The same from the other side: who names an id.
+#[derive(Clone, Copy)]
+pub(crate) struct Namers<'a> {
+    pub(crate) received: &'a Received,
+    pub(crate) sysmod: &'a Sysmod,
+    pub(crate) srel: Srel,
+}
+
+impl Names for Namers<'_> {
+    ghost named = { λ n z. namers_with n.received.now n.sysmod.now n.srel z };
+
+    fn append_named(&self, id: Id, found: &mut Vec<Id>) -> Result<(), AllocError> {
+        self.received.append_namers(self.srel, id, found)?;
+        let sysmod = self.sysmod;
+        if sysmod.names_for(self.srel, id) {
+            found.push(sysmod.id)?;
         }
         Ok(())
     }

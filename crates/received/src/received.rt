@@ -1,15 +1,17 @@
 //! The received SYSMODs.
-ghost use Rattle.std.specs.Prelude.{◌≡◌, false, [], length, All, None, Some, not, map, filter, is_some, option_copied, IfOk, OnOk, OnErr, if◌then◌else◌};
+ghost use Rattle.std.specs.Prelude.{◌≡◌, ◌++◌, false, [], length, All, None, Some, not, map, filter, is_some, option_copied, IfOk, OnOk, OnErr, if◌then◌else◌};
 ghost use Rattle.std.specs.List.{list_any};
 ghost use Rattle.std.specs.Option.{option_map_or};
 ghost use Rattle.std.specs.Ordering.{nat_cmp};
 ghost use Rattle.std.specs.Cmp.Lexicographic.{slice_cmp};
 ghost use Rattle.std.specs.Str.{bytes_eq};
+ghost use Rattle.std.specs.BTreeSet.{IsOrdered};
 ghost use Rattle.std.specs.Map.Iter.{ShowsInOrder, deref};
 ghost use Rattle.terms.specs.Lookups.{is_in};
 ghost use Rattle.terms.specs.Rising.{Rises, with_item};
-ghost use Rattle.terms.specs.Global.{IsSysmod, named, named_functions, with_source};
-ghost use Rattle.received.specs.Held.{found};
+ghost use Rattle.terms.specs.Global.{IsSysmod, named, named_functions, names_for, with_source};
+ghost use Rattle.received.specs.Held.{found, zone_of};
+ghost use Rattle.received.specs.Namers.{namers_for};
 ghost use Rattle.received.specs.Ways.{names_so};
 
 use crate::index::Index;
@@ -18,7 +20,7 @@ use std::alloc::{AllocError, Global};
 use std::collections::btree_map::Values;
 use std::collections::{BTreeMap, BTreeSet};
 use std::marker::Model;
-use sysmods::{Id, Source, Sysmod};
+use sysmods::{Id, Source, Srel, Sysmod};
 
 /// The received SYSMODs. A contract sees their list, which rises by id.
 #[derive(Drop)]
@@ -158,6 +160,44 @@ impl Received {
         ensures { result ≡ list_any (λ s. list_any (λ v. is_in (named v) id) s.vers) self.now }
     {
         self.some_names_so(Way::Named, id)
+    }
+
+    fn names_for(&self, namer: Id, srel: Srel, id: Id) -> bool
+        ensures { result ≡ is_in (names_for (zone_of self.now) srel namer) id }
+    {
+        match self.get(namer) {
+            Some(sysmod) => sysmod.names_for(srel, id),
+            None => false,
+        }
+    }
+
+    fn append_some(
+        &self,
+        namers: &BTreeSet<Id>,
+        srel: Srel,
+        id: Id,
+        found: &mut Vec<Id>,
+    ) -> Result<(), AllocError>
+        ensures ok { OnOk result (found.new.items ≡ found.old.items ++ filter (λ y. is_in (names_for (zone_of self.now) srel y) id) namers.now.keys) }
+        ensures ordered { IsOrdered (slice_cmp nat_cmp) namers.now }
+    {
+        for namer in namers.iter() {
+            if self.names_for(*namer, srel, id) {
+                found.push(*namer)?;
+            }
+        }
+        Ok(())
+    }
+
+    /// Appends the ids of the received SYSMODs that name the id in PRE, SUP or FMID of a `++VER` for
+    /// the SREL. It looks at those alone that name it in some way.
+    pub fn append_namers(&self, srel: Srel, id: Id, found: &mut Vec<Id>) -> Result<(), AllocError>
+        ensures { OnOk result (found.new.items ≡ found.old.items ++ namers_for self.now srel id) }
+    {
+        match self.index.sets.get(&id) {
+            Some(namers) => self.append_some(namers, srel, id, found),
+            None => Ok(()),
+        }
     }
 
     /// Whether the id stands in the SUP of a received SYSMOD.

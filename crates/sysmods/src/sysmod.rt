@@ -1,5 +1,5 @@
 //! A SYSMOD.
-ghost use Rattle.std.specs.Prelude.{◌≡◌, ◌++◌, [], filter, OnOk, OnErr};
+ghost use Rattle.std.specs.Prelude.{◌≡◌, ◌++◌, ◌&&◌, [], filter, OnOk, OnErr};
 ghost use Rattle.std.specs.List.{flat_map, list_any};
 ghost use Rattle.std.specs.Str.{bytes_eq};
 ghost use Rattle.terms.specs.Lookups.{is_in};
@@ -79,6 +79,15 @@ impl Sysmod {
         ensures { result ≡ list_any (λ v. is_in (named v) id) self.now.vers }
     {
         self.vers.iter().any(|ver| ver.names(id))
+    }
+
+    /// Whether one of its `++VER`s for the SREL names the id in PRE, SUP or FMID.
+    pub fn names_for(&self, srel: Srel, id: Id) -> bool
+        ensures { result ≡ list_any (λ v. bytes_eq v.srel srel && is_in (named v) id) self.now.vers }
+    {
+        self.vers
+            .iter()
+            .any(|ver| ver.srel == srel && ver.names(id))
     }
 
     /// Whether the id stands in the SUP of one of its `++VER`s.

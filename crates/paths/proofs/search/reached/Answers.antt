@@ -1,13 +1,12 @@
 use Rattle.std.proofs.Common.{arith}
-use Rattle.paths.proofs.Going.{search-start, search-next, search-end}
+use Rattle.paths.proofs.Going.{search-start, search-end}
 use Rattle.paths.proofs.search.reached.Goals as goal
 
 pub loop-i-init : goal.loop-i-init
 loop-i-init g c = let e = c.new-seen.ensures.empty in search-start _ _ _ (rw e at c.in_ok-see_named.ensures)
 
 pub loop-i-preserved : goal.loop-i-preserved
-loop-i-preserved g c =
-    search-next _ _ _ _ _ _ (omega arith) (rw c.as_slice.ensures.keys at c.index-as_slice-i.is) c.in_ok-see_named-2.ensures c.loop-i.invariant
+loop-i-preserved g c = c.in_ok-go_on.ensures c.args.x c.loop-i.invariant
 
 pub returns-clause-all : goal.returns-clause-all
 returns-clause-all g c unmet z = search-end _ _ _ c.loop-i.i (omega arith) c.loop-i.invariant z

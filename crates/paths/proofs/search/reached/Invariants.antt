@@ -1,5 +1,5 @@
 use Rattle.std.proofs.Common.{◌-◌, ◌^◌}
-use Rattle.paths.proofs.Going.{IsSearch}
+use Rattle.paths.specs.Seen.{IsSearch}
 use Rattle.paths.proofs.search.reached.Given as goal
 
 abbrev pub invariant-loop-i : goal.invariant-loop-i

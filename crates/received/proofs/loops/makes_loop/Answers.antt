@@ -18,7 +18,7 @@ returns-then-not-names c =
     let unnamed : c.is_named.result ≡ false = search rules in
     let own : c.names.result ≡ false = search rules in (
       λ e. absurd (true≢false (sym e)),
-      λ loop. absurd (no_loop-unnamed (zone_of xs) s c.requires
+      λ loop. absurd (no_loop-unnamed (zone_of xs) s c.requires.no_loop
           (others-unnamed xs s.id (subst (λ z. list_any (λ r. list_any (λ v. is_in (named v) z) r.vers) xs ≡ false) id (sym c.is_named.ensures ∙ unnamed)))
           (own-unnamed s.vers s.id (subst (λ z. list_any (λ v. is_in (named v) z) s.vers ≡ false) id (sym c.names.ensures ∙ own)))
           loop),
@@ -42,7 +42,7 @@ loop-ver-preserved c = λ k d below reached.
 pub returns : goal.returns
 returns c = (
   λ e. absurd (true≢false (sym e)),
-  λ loop. absurd (no_loop-from_search (zone_of c.args.received.now) c.args.sysmod.now c.requires
+  λ loop. absurd (no_loop-from_search (zone_of c.args.received.now) c.args.sysmod.now c.requires.no_loop
       (subst (λ vs. All (λ v. ¬ Reaches (names_for (with_sysmod (zone_of c.args.received.now) c.args.sysmod.now) v.srel) c.args.sysmod.now.id c.args.sysmod.now.id) vs)
       (c.deref-ver-items.ensures.value ∙ ap (λ r. r.vers) c.sysmod.view_is) (λ i d below. c.loop-ver.invariant i d (omega arith))) loop),
 )
