@@ -1,12 +1,11 @@
 -- The empty global zone.
-use Rattle.std.proofs.Common.{◌≡◌, [], ◌∷◌, arith, Contains}
+use Rattle.std.proofs.Common.{◌≡◌, [], ◌∷◌, arith}
 use Rattle.std.proofs.lemmas.List.Elements.{All-nil}
 use Rattle.terms.specs.declared.kinds.HoldKind.TheVariants.{System}
 use Rattle.std.specs.Prelude.{All, IsTrue}
-use Rattle.terms.specs.Types.{a_global, Id, Text}
+use Rattle.terms.specs.Types.{a_global}
 use Rattle.terms.specs.Lookups.{is_received}
-use Rattle.terms.specs.Over.{Leads, Reaches}
-use Rattle.terms.specs.Global.{IsGlobal, IsSysmod, HasLoop, names_for, fits_roles}
+use Rattle.terms.specs.Global.{IsGlobal, IsSysmod, HasLoop, fits_roles}
 
 no_loop : ¬ HasLoop (a_global [] [])
 no_loop (srel, x, ([], named)) = absurd (omega (arith, named.1))

@@ -1,5 +1,6 @@
 pub mod Empty
 pub mod First
+pub mod Fronts
 pub mod Kept
 pub mod Receiving
 pub mod Taken

@@ -1,13 +1,12 @@
 -- RECEIVE of one SYSMOD.
-use Rattle.std.proofs.Common.{◌≡◌, ◌<◌, ◌≤◌, ◌+◌, ◌^◌, Bool, true, false, [], List, length, refl, sym, ap, ap₂, ◌∙◌, subst, Option, None, Some, is_some, IsTrue, inl, inr, arith, find}
+use Rattle.std.proofs.Common.{◌≡◌, ◌<◌, ◌+◌, ◌^◌, Bool, true, false, [], List, length, refl, sym, ap, ap₂, ◌∙◌, Option, None, Some, is_some, inl, inr}
 use Rattle.std.proofs.lemmas.Bool.{cases_lt}
-use Rattle.std.specs.Prelude.{Ok, Err}
 use Rattle.std.specs.Ordering.{nat_cmp}
 use Rattle.std.specs.Cmp.Lexicographic.{slice_cmp}
-use Rattle.terms.specs.Types.{Id, Hold, Sysmod, Global, a_global}
+use Rattle.terms.specs.Types.{Hold, Sysmod, Global, a_global}
 use Rattle.terms.specs.Rising.{with_item}
 use Rattle.terms.specs.Lookups.{is_received}
-use Rattle.terms.specs.Global.{IsGlobal, IsSysmod, HasFault, RefusedBy, ReceiveFault, Rc1, Rc2, Rc3, Rc4, Receives, RolesFit, with_sysmod, received}
+use Rattle.terms.specs.Global.{IsGlobal, IsSysmod, HasFault, RefusedBy, ReceiveFault, Rc1, Rc2, Rc3, Rc4, with_sysmod, received}
 use Rattle.terms.proofs.GlobalKept.{received-kept}
 use Rattle.holds.specs.Lists.{with_holds}
 use Rattle.received.specs.declared.faults.ReceiveFault.{ReceiveFault as Code}

@@ -1,5 +1,5 @@
 -- A SYSMOD that is taken in with its holds, and one that is taken out again.
-use Rattle.std.proofs.Common.{if◌then◌else◌, is_some, ap₂, ◌≡◌, ◌<◌, ◌≤◌, ◌+◌, ◌^◌, Bool, true, false, not, List, [], ◌∷◌, ◌++◌, length, filter, find, fold, cond, refl, sym, ap, ◌∙◌, subst, Option, None, Some, All, IsTrue, true≢false, arith, get_or, inl, inr}
+use Rattle.std.proofs.Common.{if◌then◌else◌, is_some, ap₂, ◌≡◌, Bool, true, false, not, List, [], ◌∷◌, filter, find, fold, cond, refl, sym, ap, ◌∙◌, None, All, IsTrue, true≢false, arith, get_or}
 use Rattle.std.specs.declared.cmp.Ordering.{Ordering}
 use Rattle.std.specs.declared.cmp.Ordering.TheVariants.{Less, Equal, Greater}
 use Rattle.std.specs.Ordering.{is_lt, is_eq, nat_cmp, ordering_reverse}
@@ -11,12 +11,11 @@ use Rattle.std.proofs.lemmas.Map.Text.{is_eq-slice_cmp}
 use Rattle.std.proofs.lemmas.List.Elements.{All-cons, All-weaker}
 use Rattle.terms.specs.Types.{Id, Hold, Sysmod, Global, a_global}
 use Rattle.terms.specs.Rising.{Rises, Splits, with_item}
-use Rattle.terms.specs.Lookups.{is_received}
-use Rattle.terms.specs.Global.{hold, fits_roles, RolesFit, with_sysmod}
+use Rattle.terms.specs.Global.{hold, fits_roles, RolesFit}
 use Rattle.terms.proofs.GlobalLookups.{same_itself}
 use Rattle.terms.proofs.RisingLists.{AllPairs-first, AllPairs-rest, Less-from_is_lt, with_item-new, filter-all}
 use Rattle.received.specs.Held.{found}
-use Rattle.holds.specs.Lists.{with_hold, with_holds}
+use Rattle.holds.specs.Lists.{with_holds}
 
 other : (x y : Id) → slice_cmp nat_cmp x y ≡ Less → bytes_eq x y ≡ false
 other x y less = sym (is_eq-slice_cmp x y) ∙ ap is_eq less

@@ -2,6 +2,7 @@
 #![tactic(auto)]
 
 mod choice;
+mod parts;
 mod receive;
 mod zone;
 

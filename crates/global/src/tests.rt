@@ -131,3 +131,57 @@ fn holds_and_releases(rt: HostRuntime) -> Result<(), Fail> {
     assert!(rt; !global.is_received(fix) && global.is_empty());
     Ok(())
 }
+
+/// How many SYSMODs and holds the global zone of these lists has, if they are those of one.
+fn sizes(
+    alloc: Heap,
+    sysmods: Vec<Sysmod>,
+    holds: Vec<Hold>,
+) -> Result<Option<(usize, usize)>, AllocError> {
+    match Global::from_parts(alloc, sysmods, holds)? {
+        Some(global) => Ok(Some((global.len(), global.holds().count()))),
+        None => Ok(None),
+    }
+}
+
+fn two(alloc: Heap, first: Sysmod, second: Sysmod) -> Result<Vec<Sysmod>, AllocError> {
+    let mut list = Vec::with_capacity(alloc, 2)?;
+    list.push_reserved(first);
+    list.push_reserved(second);
+    Ok(list)
+}
+
+fn function(alloc: Heap, name: Id) -> Sysmod {
+    let nothing = Vec::new(alloc);
+    sysmod(alloc, name, Kind::Function, Vec::new(alloc), nothing)
+}
+
+/// A PTF that needs another, without holds.
+fn bare(alloc: Heap, name: Id, pre: Id) -> Result<Sysmod, Fail> {
+    let mut one = fix(alloc, name, pre, id(b"UA00009")?)?;
+    drop(one.take_holds(alloc));
+    Ok(one)
+}
+
+#[test]
+fn made_of_parts(rt: HostRuntime) -> Result<(), Fail> {
+    let alloc = rt.alloc();
+    let (low, high) = (id(b"HAA1100")?, id(b"HAA1200")?);
+    let action = Reason::read(b"ACTION").ok_or("no reason")?;
+    let holds = inside(alloc, high, action)?;
+    let rising = two(alloc, function(alloc, low), function(alloc, high))?;
+    assert_eq!(rt; sizes(alloc, rising, holds)?, Some((2, 1)));
+    let falling = two(alloc, function(alloc, high), function(alloc, low))?;
+    assert_eq!(rt; sizes(alloc, falling, Vec::new(alloc))?, None);
+    Ok(())
+}
+
+#[test]
+fn not_made_with_a_loop(rt: HostRuntime) -> Result<(), Fail> {
+    let alloc = rt.alloc();
+    let (first, second) = (id(b"UA00001")?, id(b"UA00002")?);
+    let back = bare(alloc, second, first)?;
+    let ring = two(alloc, bare(alloc, first, second)?, back)?;
+    assert_eq!(rt; sizes(alloc, ring, Vec::new(alloc))?, None);
+    Ok(())
+}

@@ -5,8 +5,11 @@ ghost use Rattle.terms.specs.declared.kinds.HoldKind.TheVariants.{System};
 ghost use Rattle.terms.specs.Types.{Id as AnId};
 ghost use Rattle.terms.specs.Lookups.{sysmod_of, is_received, is_function, holds_of};
 ghost use Rattle.terms.specs.Global.{IsGlobal, hold_of, is_replacing, hold as with_hold, release as released, assign as assigned, without_sysmod};
+ghost use Rattle.terms.specs.Types.{a_global};
 ghost use Rattle.global.specs.Faults.{IsReceived, a_release, release_fault};
+ghost use Rattle.global.specs.Parts.{IsMadeOf};
 
+use crate::parts::{are_owned, received_from};
 use crate::receive::take_in;
 use fields::{Id, Reason, Source};
 use holds::{Holds, Placed, ReleaseError};
@@ -54,6 +57,26 @@ impl Global {
             sysmods: Received::new(alloc),
             holds: Holds::new(alloc),
         }
+    }
+
+    /// The global zone of these SYSMODs and holds, if they are those of one.
+    pub fn from_parts(
+        alloc: Heap,
+        sysmods: Vec<Sysmod>,
+        holds: Vec<Hold>,
+    ) -> Result<Option<Self>, AllocError>
+        ensures { IfOk result (IsMadeOf (a_global sysmods.items holds.items)) }
+    {
+        let Some(sysmods) = received_from(alloc, sysmods)? else {
+            return Ok(None);
+        };
+        if !are_owned(&sysmods, holds.as_slice()) {
+            return Ok(None);
+        }
+        let Some(holds) = Holds::from_vec(alloc, holds)? else {
+            return Ok(None);
+        };
+        Ok(Some(Global { sysmods, holds }))
     }
 
     /// What holds of each global zone. The call does nothing.

@@ -1,9 +1,8 @@
 -- Taking the internal holds on an id away, from key to key.
-use Rattle.std.proofs.Common.{◌≡◌, ◌≢◌, ◌∙◌, ℕ, Bool, true, false, not, ◌&&◌, ◌⊎◌, inl, inr, List, [], ◌∷◌, ◌++◌, refl, sym, ap, subst, cond, Option, None, Some, IsTrue, filter, find, true≢false}
+use Rattle.std.proofs.Common.{◌≡◌, ◌∙◌, Bool, true, false, not, ◌&&◌, ◌⊎◌, inl, inr, [], ◌∷◌, ◌++◌, refl, sym, ap, subst, cond, Some, filter, true≢false}
 use Rattle.std.specs.Prelude.{All}
 use Rattle.std.specs.declared.cmp.Ordering.{Ordering}
 use Rattle.std.specs.declared.cmp.Ordering.TheVariants.{Less, Equal, Greater}
-use Rattle.std.specs.declared.ops.Bound.TheVariants.{Included, Excluded}
 use Rattle.std.specs.Ordering.{is_eq, is_le, nat_cmp, ordering_then, ordering_reverse}
 use Rattle.std.specs.Cmp.Lexicographic.{slice_cmp}
 use Rattle.std.specs.Str.{bytes_eq}
@@ -11,7 +10,6 @@ use Rattle.std.specs.List.{AllByRecursion}
 use Rattle.std.specs.List.Sorted.{IsStrictlySortedBy}
 use Rattle.std.specs.Map.{lookup, remove_entry, keys_of, values_of}
 use Rattle.std.specs.BTreeMap.{is_at}
-use Rattle.std.specs.BTreeMap.Range.{range_contains, entries_between}
 use Rattle.std.proofs.lemmas.Cmp.{tied_itself}
 use Rattle.std.proofs.lemmas.Map.Text.{is_eq-slice_cmp}
 use Rattle.std.proofs.lemmas.List.{append-nil}
@@ -19,13 +17,13 @@ use Rattle.std.proofs.lemmas.List.Elements.{All-head, All-tail}
 use Rattle.std.proofs.lemmas.Map.Keys.{sorted_head, sorted_tail}
 use Rattle.terms.specs.declared.kinds.HoldKind.{HoldKind}
 use Rattle.terms.specs.declared.kinds.HoldKind.TheVariants.{Error, System, User}
-use Rattle.terms.specs.Types.{Text, Id, Hold, hold_number}
+use Rattle.terms.specs.Types.{Id, Hold, hold_number}
 use Rattle.terms.proofs.GlobalLookups.{same_from, same_itself, same_back}
-use Rattle.terms.proofs.GlobalGroups.{filter_all, recursion_weaker, recursion-append}
+use Rattle.terms.proofs.GlobalGroups.{filter_all, recursion_weaker}
 use Rattle.holds.specs.declared.key.HoldKey.{HoldKey}
 use Rattle.holds.specs.Keys.{key_of, key_cmp, key_cmp_total, place_cmp, before_kind, behind_kind, IsByKey}
 use Rattle.holds.specs.Lists.{is_internal_on}
-use Rattle.holds.specs.Internal.{goes_on, IsFirstInternal, IsNextInternal}
+use Rattle.holds.specs.Internal.{goes_on, IsFirstInternal}
 use Rattle.holds.proofs.Keyed.{Entries, found_key}
 
 -- what stays

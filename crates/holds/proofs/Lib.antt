@@ -1,3 +1,5 @@
 pub mod Internal
 pub mod Keyed
+pub mod Listed
+pub mod Neighbours
 pub mod Undoing

@@ -1,5 +1,5 @@
 -- Changes of the list of holds that are taken back.
-use Rattle.std.proofs.Common.{◌≡◌, ◌∙◌, Bool, true, false, not, List, [], ◌∷◌, ◌++◌, refl, sym, ap, ap₂, subst, Option, None, Some, IsSome, is_some, filter}
+use Rattle.std.proofs.Common.{◌≡◌, ◌∙◌, true, false, List, [], ◌∷◌, ◌++◌, refl, sym, ap, ap₂, subst, Option, None, Some, is_some}
 use Rattle.std.specs.Prelude.{Result, Ok, Err, OnOk, OnErr}
 use Rattle.std.specs.List.Sorted.{IsStrictlySortedBy}
 use Rattle.std.specs.Map.{lookup, remove_entry, keys_of, values_of}
@@ -14,7 +14,7 @@ use Rattle.holds.specs.declared.undo.Undo.TheVariants.{Remove, Restore}
 use Rattle.holds.specs.Keys.{key_of, key_cmp, key_cmp_total, IsByKey}
 use Rattle.holds.specs.Lists.{held, with_hold}
 use Rattle.holds.specs.Undone.{Undoes, UndoesAll}
-use Rattle.holds.proofs.Keyed.{Entries, found, found_key, put, listed_put, removed, listed_removed}
+use Rattle.holds.proofs.Keyed.{Entries, found, found_key, put, listed_put, listed_removed}
 
 module _ (es fs : Entries) (m : IsByKey es) (h : Hold) (is : fs ≡ insert_entry key_cmp es (key_of h) h) (after : IsStrictlySortedBy key_cmp (keys_of fs)) where
   new : IsByKey fs

@@ -11,6 +11,7 @@ ghost use Rattle.holds.specs.Undone.{Undoes, is_restoring};
 
 use crate::iter::Iter;
 use crate::key::{HoldKey, Place, key_of};
+use crate::rising::are_rising;
 use crate::undo::{Undo, put_each, take_back};
 use fields::{Id, Reason};
 use std::alloc::{AllocError, Global};
@@ -63,6 +64,19 @@ impl Holds {
         Holds {
             map: BTreeMap::new(alloc),
         }
+    }
+
+    /// These holds, if they rise by id, kind and reason, no key twice.
+    pub fn from_vec(alloc: Global, holds: Vec<Hold>) -> Result<Option<Self>, AllocError>
+        ensures some { IfOk result (λ made. IfSome made (λ all. all ≡ holds.items)) }
+        ensures none { IfOk result (λ made. IsSome made ↔ Rises hold_cmp (λ h. h) holds.items) }
+    {
+        if !are_rising(holds.as_slice()) {
+            return Ok(None);
+        }
+        let mut made = Holds::new(alloc);
+        made.put_all(alloc, holds)?;
+        Ok(Some(made))
     }
 
     pub fn len(&self) -> usize

@@ -4,6 +4,7 @@
 mod holds;
 mod iter;
 mod key;
+mod rising;
 mod undo;
 
 pub use holds::{Holds, Placed, ReleaseError};

@@ -75,3 +75,18 @@ fn come_inside_a_sysmod(rt: HostRuntime) -> Result<(), Fail> {
     assert!(rt; holds.get(fix, HoldKind::System, action).is_none());
     Ok(())
 }
+
+#[test]
+fn rise_by_their_keys(rt: HostRuntime) -> Result<(), Fail> {
+    let alloc = rt.alloc();
+    let mut rising = Vec::new(alloc);
+    rising.push(hold(b"UA00010", HoldKind::System, b"ACTION", true)?)?;
+    rising.push(hold(b"UA00010", HoldKind::System, b"DOC", false)?)?;
+    let holds = Holds::from_vec(alloc, rising)?.ok_or("they rise")?;
+    assert_eq!(rt; holds.len(), 2);
+    let mut double = Vec::new(alloc);
+    double.push(hold(b"UA00010", HoldKind::System, b"DOC", true)?)?;
+    double.push(hold(b"UA00010", HoldKind::System, b"DOC", false)?)?;
+    assert!(rt; Holds::from_vec(alloc, double)?.is_none());
+    Ok(())
+}

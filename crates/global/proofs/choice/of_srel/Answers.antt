@@ -1,6 +1,5 @@
 use Rattle.std.proofs.Common.{◌∙◌, sym, ap, Some}
 use Rattle.std.specs.Str.{bytes_eq}
-use Rattle.terms.specs.Types.{Ver}
 use Rattle.global.proofs.First.{find-position, find-no_position}
 use Rattle.global.proofs.choice.of_srel.Goals as goal
 

@@ -1,7 +1,6 @@
 use Rattle.std.proofs.Common.{◌≡◌, ◌∙◌, [], ◌∷◌, ◌++◌, sym, ap, append_assoc}
 use Rattle.terms.specs.Types.{Hold}
-use Rattle.holds.specs.Internal.{goes_on}
-use Rattle.holds.proofs.Internal.{at_middle, first_at, none_at, External}
+use Rattle.holds.proofs.Internal.{at_middle, first_at, none_at}
 use Rattle.terms.proofs.GlobalGroups.{recursion-append}
 use Rattle.std.proofs.Common.{subst, All, false, Some}
 use Rattle.std.specs.BTreeMap.{get}

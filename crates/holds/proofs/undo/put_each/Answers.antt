@@ -1,4 +1,4 @@
-use Rattle.std.proofs.Common.{◌∙◌, sym, ap, List, [], ◌∷◌}
+use Rattle.std.proofs.Common.{◌∙◌, sym, ap, [], ◌∷◌}
 use Rattle.std.proofs.lemmas.List.Sums.{fold-append}
 use Rattle.holds.specs.Lists.{with_hold}
 use Rattle.holds.proofs.Undoing.{undoes_more}

@@ -1,7 +1,5 @@
-use Rattle.std.proofs.Common.{◌≡◌, IsTrue, sym, subst}
-use Rattle.terms.specs.declared.kinds.HoldKind.TheVariants.{System}
+use Rattle.std.proofs.Common.{sym, subst}
 use Rattle.terms.specs.Types.{a_global}
-use Rattle.terms.specs.Lookups.{is_received}
 use Rattle.terms.specs.Global.{IsGlobal}
 use Rattle.terms.proofs.GlobalKept.{IsOwned, hold-kept}
 use Rattle.holds.specs.Lists.{with_hold}

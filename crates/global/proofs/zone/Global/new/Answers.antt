@@ -1,4 +1,3 @@
-use Rattle.std.proofs.Common.{sym}
 use Rattle.global.proofs.Empty.{empty}
 use Rattle.global.proofs.zone.Global.new.Goals as goal
 

@@ -1,4 +1,4 @@
-use Rattle.std.proofs.Common.{◌≡◌, ◌∙◌, refl, sym, ap, subst, Option, None}
+use Rattle.std.proofs.Common.{◌∙◌, refl, sym, ap, subst}
 use Rattle.terms.specs.Types.{a_global}
 use Rattle.terms.specs.Global.{IsGlobal, HasFault, RefusedBy, ReceiveFault, received}
 use Rattle.received.specs.Held.{zone_of}

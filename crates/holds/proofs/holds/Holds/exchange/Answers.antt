@@ -1,4 +1,4 @@
-use Rattle.std.proofs.Common.{◌≡◌, ◌∙◌, sym, ap, is_some, option_copied}
+use Rattle.std.proofs.Common.{◌∙◌, sym, ap, is_some, option_copied}
 use Rattle.holds.proofs.Undoing.{IsExchanged, exchanged}
 use Rattle.holds.proofs.holds.Holds.exchange.Goals as goal
 use Rattle.holds.proofs.holds.Holds.exchange.Goals.{In_ok-old}

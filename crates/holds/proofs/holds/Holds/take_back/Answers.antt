@@ -1,8 +1,6 @@
-use Rattle.std.proofs.Common.{◌≡◌, ◌∙◌, sym, subst, List}
-use Rattle.terms.specs.Types.{Hold}
+use Rattle.std.proofs.Common.{sym, subst}
 use Rattle.holds.specs.Undone.{Undoes}
 use Rattle.holds.specs.declared.undo.Undo.TheVariants.{Remove, Restore}
-use Rattle.std.specs.Map.{values_of}
 use Rattle.holds.proofs.Keyed.{removed}
 use Rattle.holds.proofs.Undoing.{kept_restored, takes_new, takes_replaced}
 use Rattle.holds.proofs.holds.Holds.take_back.Goals as goal
