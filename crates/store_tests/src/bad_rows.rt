@@ -16,7 +16,7 @@ const GOOD: [&str; 3] = [
 ];
 
 /// Edits of the global zone: forms of rows, rows that belong to no other, loops, roles and holds.
-const GLOBAL: [&str; 77] = [
+const GLOBAL: [&str; 75] = [
     "INSERT INTO sysmod (id, kind, sources) VALUES ('UAA001', 'PTF', '')",
     "UPDATE sysmod SET kind = 'ptf' WHERE id = 'UAA0001'",
     "UPDATE sysmod SET sources = 'PUT2402,PUT2401' WHERE id = 'UAA0001'",
@@ -63,7 +63,7 @@ const GLOBAL: [&str; 77] = [
     "UPDATE elem SET syslib = '' WHERE type = 'CLIST'",
     "UPDATE elem SET text = x'' WHERE type = 'CLIST'",
     "UPDATE elem SET text = x'41' WHERE type = 'CLIST'",
-    "UPDATE elem SET type = 'DATA' WHERE upd = 1",
+    "UPDATE elem SET type = 'DATA' WHERE upd = 1 AND type = 'MAC'",
     "UPDATE elem SET name = 'MAC3' WHERE upd = 1 AND type = 'MAC'",
     "UPDATE sysmod SET kind = 'FUNCTION' WHERE id = 'UAA0001'",
     "UPDATE hold SET id = 'UZZ999' WHERE kind = 'USER'",
@@ -80,8 +80,6 @@ const GLOBAL: [&str; 77] = [
     "UPDATE hold SET comment = '' WHERE kind = 'ERROR'",
     "UPDATE hold SET comment = ' X' WHERE kind = 'ERROR'",
     "UPDATE hold SET comment = 'X ' WHERE kind = 'ERROR'",
-    "UPDATE hold SET comment = 'X' || char(10) || 'Y' WHERE kind = 'ERROR'",
-    "UPDATE hold SET comment = substr(replace(hex(zeroblob(101)), '0', 'X'), 1, 201) WHERE kind = 'ERROR'",
     "UPDATE hold SET internal = 2 WHERE kind = 'ERROR'",
     "UPDATE hold SET internal = 1 WHERE kind = 'ERROR'",
     "UPDATE hold SET internal = 1, kind = 'SYSTEM' WHERE kind = 'USER'",
@@ -177,6 +175,41 @@ fn global_zones(rt: HostRuntime) -> Result<(), Fail> {
     Ok(())
 }
 
+const FIRST: &str = "INSERT INTO sysmod (id, kind, sources) VALUES ('M100000', 'PTF', '')";
+
+/// As many SYSMODs again, by numbers that are greater by this one.
+const AGAIN: &str =
+    "INSERT INTO sysmod (id, kind, sources) SELECT 'M' || (CAST(substr(id, 2) AS INTEGER) + ?1), 'PTF', '' FROM sysmod WHERE id > 'M' AND id < 'N'";
+
+const VERS: &str =
+    "INSERT INTO ver (id, srel, fmid, pre, req, sup, npre, del) SELECT id, 'Z038', 'HAA1100', '', '', '', '', '' FROM sysmod WHERE id > 'M' AND id < 'N'";
+
+/// With the five that are there, six more than there may be.
+fn add_many(conn: &mut Connection<MemStore>) -> Result<(), Fail> {
+    conn.execute(FIRST, &[])?;
+    for power in 0..16_u32 {
+        conn.execute(AGAIN, &[ValueRef::Int(1 << power)])?;
+    }
+    conn.execute(VERS, &[])?;
+    Ok(())
+}
+
+#[test]
+fn too_many_sysmods(rt: HostRuntime) -> Result<(), Fail> {
+    let alloc = rt.alloc();
+    let mut conn = filled(alloc, Connection::open_in_memory(alloc)?)?;
+    add_many(&mut conn)?;
+    let mut store = opened(alloc, conn)?;
+    assert_eq!(rt; store.load_global().err(), Some(StoreError::NoState));
+    let mut conn = store.close();
+    conn.execute("DELETE FROM sysmod WHERE id > 'M' AND id < 'M100006'", &[])?;
+    let Ok(global) = opened(alloc, conn)?.load_global() else {
+        return Err(Fail::from("six fewer"));
+    };
+    assert_eq!(rt; global.len(), 65_535);
+    Ok(())
+}
+
 #[test]
 fn texts(rt: HostRuntime) -> Result<(), Fail> {
     let alloc = rt.alloc();
@@ -196,6 +229,26 @@ fn texts(rt: HostRuntime) -> Result<(), Fail> {
         (updated, free.as_slice(), no_state),
     ] {
         assert_eq!(rt; global_after(alloc, sql, &[ValueRef::Blob(text)])?, told);
+    }
+    Ok(())
+}
+
+#[test]
+fn comments(rt: HostRuntime) -> Result<(), Fail> {
+    let alloc = rt.alloc();
+    let longest = [b'X'; 200];
+    let longer = [b'X'; 201];
+    let no_state = Some(StoreError::NoState);
+    for (text, told) in [
+        (longest.as_slice(), None),
+        (longer.as_slice(), no_state),
+        (b"A\nB".as_slice(), no_state),
+        (b"A\x7fB".as_slice(), no_state),
+        (b" A".as_slice(), no_state),
+        (b"A ".as_slice(), no_state),
+    ] {
+        let sql = "UPDATE hold SET comment = ?1 WHERE kind = 'ERROR'";
+        assert_eq!(rt; global_after(alloc, sql, &[ValueRef::Text(text)])?, told);
     }
     Ok(())
 }
