@@ -3,11 +3,13 @@
 //! as they are written there.
 #![tactic(auto)]
 
+mod elements;
 mod kinds;
 mod lists;
 mod texts;
 mod values;
 
+pub use elements::{element_text_in, is_updated};
 pub use kinds::{elem_type_in, flag_in, hold_kind_in, kind_in, zone_kind_in};
 pub use lists::{ids_in, records_in, sources_in};
 pub use texts::{

@@ -1,7 +1,9 @@
 use super::*;
 use fields::{Id, Source};
+use rows::ReadError;
 use sqlite::Connection;
 use std::test::Fail;
+use terms::ElemType;
 
 #[test]
 fn lists_are_read(rt: HostRuntime) -> Result<(), Fail> {
@@ -23,6 +25,12 @@ fn lists_are_read(rt: HostRuntime) -> Result<(), Fail> {
         return Err(Fail::from("records"));
     };
     assert_eq!(rt; lines.len(), 1);
+    let Ok(text) = element_text_in(alloc, &row, 2, ElemType::Data) else {
+        return Err(Fail::from("text"));
+    };
+    assert_eq!(rt; text.len(), 1);
+    let numbered = element_text_in(alloc, &row, 2, ElemType::Mac);
+    assert!(rt; matches!(numbered, Err(ReadError::BadRow)));
     Ok(())
 }
 

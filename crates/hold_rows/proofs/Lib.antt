@@ -1,2 +1,4 @@
 pub mod Texts
 pub mod HoldLemmas
+pub mod HoldLists
+pub mod Comments

@@ -22,7 +22,7 @@ unfolding understood everything same_name joined
 takes_hold = record { there = record { found = refl; alone = refl }; command = refl; plain = (refl, refl); narrow = omega arith; free = λ olds. refl }
 
 abbrev pub select_holds : List ℕ
-select_holds = codes "SELECT id, kind, reason, fmid, class, date, comment, internal FROM hold ORDER BY id, kind, reason"
+select_holds = codes "SELECT id, kind, reason, fmid, class, date, comment, internal FROM hold"
 
 pub reads_holds : ReadsRows store_schema hold 0 select_holds
 unfolding understood everything

@@ -1,6 +1,7 @@
 //! The table of holds: `++HOLD`s that were received, external ones and those of SYSMODs.
 #![tactic(auto)]
 
+mod comment;
 mod reading;
 mod writing;
 

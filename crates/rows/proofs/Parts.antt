@@ -22,14 +22,15 @@ all_right : {A : Type 0} (P : A → Type 0) (xs ys : List A) → AllByRecursion 
 all_right P [] ys h = h
 all_right P (x ∷ xs) ys h = all_right P xs ys h.1
 
+-- what comes in between may stand first
+pub moved_front : {B : Type 0} (xs news ys : List B) → IsPermutation (xs ++ (news ++ ys)) (news ++ (xs ++ ys))
+moved_front xs news ys =
+    subst₂ IsPermutation (append_assoc xs news ys) (append_assoc news xs ys) (IsPermutation-append_left ys (xs ++ news) (news ++ xs) (IsPermutation-append_comm xs news))
+
 module _ {A B : Type 0} (f : A → List B) (p : B → Bool) where
   all_pass : (xs : List A) → AllByRecursion (λ x. filter p (f x) ≡ f x) xs → filter p (flat_map f xs) ≡ flat_map f xs
   all_pass [] h = refl
   all_pass (x ∷ xs) h = filter-append p (f x) (flat_map f xs) ∙ ap (λ ys. ys ++ filter p (flat_map f xs)) h.0 ∙ ap (λ ys. f x ++ ys) (all_pass xs h.1)
-
-  moved_front : (xs news ys : List B) → IsPermutation (xs ++ (news ++ ys)) (news ++ (xs ++ ys))
-  moved_front xs news ys =
-      subst₂ IsPermutation (append_assoc xs news ys) (append_assoc news xs ys) (IsPermutation-append_left ys (xs ++ news) (news ++ xs) (IsPermutation-append_comm xs news))
 
   changed_by : (before : List A) (a b : A) (after : List A) (news : List B) → AllByRecursion (λ x. filter p (f x) ≡ f x) before → AllByRecursion (λ x. filter p (f x) ≡ f x) after
       → IsPermutation (f b) (news ++ filter p (f a)) → IsPermutation (flat_map f (before ++ b ∷ after)) (news ++ filter p (flat_map f (before ++ a ∷ after)))

@@ -79,7 +79,7 @@ ver_is a b h ifs =
     ∙ ap (λ x. record b { del = x; ifs = a.ifs }) h.del
     ∙ ap (λ x. record b { ifs = x }) ifs
 
-hold_is : (a b : Hold) → hold_row a ≡ hold_row b → a ≡ b
+pub hold_is : (a b : Hold) → hold_row a ≡ hold_row b → a ≡ b
 hold_is a b e =
     let id : a.id ≡ b.id = cc in
     let kind : a.kind ≡ b.kind = hold_same a.kind b.kind cc in

@@ -4,7 +4,8 @@
 
 mod change;
 mod delta;
-mod global;
+mod edits;
+mod global_load;
 mod load;
 mod open;
 mod write;

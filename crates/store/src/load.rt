@@ -8,8 +8,10 @@ ghost use Rattle.zone_loads.specs.Found.{zone_in};
 ghost use Rattle.store.specs.View.{Tables, TablesIfOpen, Leaves};
 ghost use Rattle.store.specs.Loads.{told};
 
+use crate::global_load::load_global;
 use crate::open::Store;
 use fields::ZoneName;
+use global::Global;
 use rows::ReadError;
 use schema::StoreError;
 use sqlite::Alter;
@@ -28,6 +30,23 @@ fn told(error: ReadError) -> StoreError
 }
 
 impl<S: Alter> Store<S> {
+    /// The global zone.
+    pub fn load_global(&mut self) -> Result<Global, StoreError>
+        ensures found { HasCleanDisk (state S.Store self.new) → (i : Inventory) → Tables S.Store self.old i → IfOk result (λ global. global ≡ i.global) }
+        ensures none { HasCleanDisk (state S.Store self.new) → IsErrOf result StoreError.NoState → (i : Inventory) → ¬ Tables S.Store self.old i }
+        ensures same { OnOk result ((i : Inventory) → Tables S.Store self.old i → Tables S.Store self.new i) }
+        ensures err { OnErr result ((i : Inventory) → Tables S.Store self.old i → TablesIfOpen S.Store self.new i) }
+        ensures which { IfErr result (λ e. e ≢ StoreError.OtherSchema) }
+        ensures crash { (i : Inventory) → Tables S.Store self.old i → (c : Inventory) → Leaves S.Store self.new c → Leaves S.Store self.old c }
+    {
+        // So what the connection shows is what it last committed.
+        prove!(self.conn.is_autocommit());
+        match load_global(self.alloc, &mut self.conn) {
+            Ok(global) => Ok(global),
+            Err(error) => Err(told(error)),
+        }
+    }
+
     /// The zone of this name, if there is one.
     pub fn load_zone(&mut self, name: ZoneName) -> Result<Option<Zone>, StoreError>
         ensures found { HasCleanDisk (state S.Store self.new) → (i : Inventory) → Tables S.Store self.old i → IfOk result (λ zone. zone ≡ zone_in i name) }

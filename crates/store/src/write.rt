@@ -8,7 +8,7 @@ ghost use Rattle.store.specs.Writes.{Writes, HasCommitted, IsOutcome};
 
 use crate::change::Change;
 use crate::delta::write_delta;
-use crate::global::write_edits;
+use crate::edits::write_edits;
 use sqlite::{Alter, Connection, Error, Transaction};
 use std::alloc::Global;
 use zone_tables::insert_zone;

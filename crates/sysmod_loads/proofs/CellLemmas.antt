@@ -13,9 +13,9 @@ use Rattle.terms.specs.Types.{Text, Id, Lines, Action, Replaces, Updates}
 use Rattle.terms.specs.Forms.{IsName}
 use Rattle.terms.specs.Lookups.{is_in}
 use Rattle.terms.specs.Spelling.{type_text}
-use Rattle.terms.specs.Texts.{IsNumbered, IsActionOf}
+use Rattle.terms.specs.Texts.{IsActionOf}
 use Rattle.terms.proofs.Ids.{Contains-from_is_in}
-use Rattle.schema.specs.Forms.{AreListed, AreOthers, AreRecords, IsTextOf, IsUpdated, HasActionForms}
+use Rattle.schema.specs.Forms.{AreListed, AreOthers, AreRecords, HasActionForms}
 use Rattle.schema.specs.Rows.{ids, flag, records, ifreq_row, action_cells, elem_row}
 use Rattle.schema.proofs.OneState.{same_ids}
 use Rattle.schema.proofs.Spelled.{text_same}
@@ -28,33 +28,6 @@ own_id x xs ys v is listed there others same =
     others.others (Contains-from_is_in ys x (ap (λ l. is_in l x) (sym one) ∙ there))
 
 -- ---- texts of elements
-
-pub plain_text : (t : ElemType) (text : Lines) → (IsUpdated t → ⊥) → AreRecords text → IsTextOf t text
-plain_text Mac text other h = absurd (other tt)
-plain_text Src text other h = absurd (other tt)
-plain_text Clist text other h = h
-plain_text Data text other h = h
-plain_text Exec text other h = h
-plain_text Parm text other h = h
-plain_text Proc text other h = h
-
-pub numbered_text : (t : ElemType) (text : Lines) → IsUpdated t → AreRecords text → IsNumbered text → IsTextOf t text
-numbered_text Mac text updated h n = (h, n)
-numbered_text Src text updated h n = (h, n)
-numbered_text Clist text updated h n = absurd updated
-numbered_text Data text updated h n = absurd updated
-numbered_text Exec text updated h n = absurd updated
-numbered_text Parm text updated h n = absurd updated
-numbered_text Proc text updated h n = absurd updated
-
-pub text_numbered : (t : ElemType) (text : Lines) → IsUpdated t → IsTextOf t text → IsNumbered text
-text_numbered Mac text updated h = h.1
-text_numbered Src text updated h = h.1
-text_numbered Clist text updated h = absurd updated
-text_numbered Data text updated h = absurd updated
-text_numbered Exec text updated h = absurd updated
-text_numbered Parm text updated h = absurd updated
-text_numbered Proc text updated h = absurd updated
 
 -- a column of records has one list of them
 pub one_text : (xs ys : Lines) (v : Value) → v ≡ records xs → AreRecords xs → v ≡ records ys → AreRecords ys → xs ≡ ys

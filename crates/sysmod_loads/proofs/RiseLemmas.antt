@@ -48,23 +48,23 @@ both : {X : Type 0} (P Q S : X → Type 0) → ((x : X) → P x → Q x → S x)
 both P Q S f [] p q = tt
 both P Q S f (x ∷ xs) p q = (f x p.0 q.0, both P Q S f xs p.1 q.1)
 
-module _ {A B K : Type 0} (R2 : K → K → Ordering) (f : A → List B) (id_of : A → Text) (parent : B → Text) (sub : B → K) where
+module _ {A B K : Type 0} (order : K → K → Ordering) (f : A → List B) (id_of : A → Text) (parent : B → Text) (sub : B → K) where
   -- by the parent, and then by what tells its rows apart
   abbrev pub Low : B → B → Type 0
-  Low a b = IsTrue (is_lt (ordering_then (slice_cmp nat_cmp (parent a) (parent b)) (R2 (sub a) (sub b))))
+  Low a b = IsTrue (is_lt (ordering_then (slice_cmp nat_cmp (parent a) (parent b)) (order (sub a) (sub b))))
 
   abbrev pub LowSub : B → B → Type 0
-  LowSub a b = IsTrue (is_lt (R2 (sub a) (sub b)))
+  LowSub a b = IsTrue (is_lt (order (sub a) (sub b)))
 
   low_same : (x : Text) (a b : B) → parent a ≡ x → parent b ≡ x → LowSub a b → Low a b
   low_same x a b p q h =
       let tie : slice_cmp nat_cmp (parent a) (parent b) ≡ Equal = ap₂ (slice_cmp nat_cmp) p q ∙ tied_itself nat_list_cmp_total x in
-      subst (λ o. IsTrue (is_lt (ordering_then o (R2 (sub a) (sub b))))) (sym tie) h
+      subst (λ o. IsTrue (is_lt (ordering_then o (order (sub a) (sub b))))) (sym tie) h
 
   low_other : (x y : Text) (a b : B) → parent a ≡ x → parent b ≡ y → IsTrue (is_before x y) → Low a b
   low_other x y a b p q h =
       let less : slice_cmp nat_cmp (parent a) (parent b) ≡ Less = ap₂ (slice_cmp nat_cmp) p q ∙ Less-from_is_lt (slice_cmp nat_cmp x y) h in
-      subst (λ o. IsTrue (is_lt (ordering_then o (R2 (sub a) (sub b))))) (sym less) refl
+      subst (λ o. IsTrue (is_lt (ordering_then o (order (sub a) (sub b))))) (sym less) refl
 
   of_one : (x : Text) (bs : List B) → AllByRecursion (λ b. parent b ≡ x) bs → IsAscending LowSub bs → IsAscending Low bs
   of_one x [] p h = tt

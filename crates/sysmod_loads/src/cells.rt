@@ -1,6 +1,6 @@
 //! Columns whose values depend on others of the row.
 
-ghost use Rattle.std.specs.Prelude.{◌≡◌, ◌≢◌, ◌↔◌, ℕ, List, [], ◌∷◌, Option, pos, IsTrue, IfOk, IfSome, IfNone, IsErrOf};
+ghost use Rattle.std.specs.Prelude.{◌≡◌, ◌≢◌, ℕ, List, [], ◌∷◌, Option, pos, IfOk, IfSome, IfNone, IsErrOf};
 ghost use Rattle.sqlite.specs.declared.types.Value.TheVariants.{Int};
 ghost use Rattle.sqlite.specs.Order.{column};
 ghost use Rattle.sqlite.specs.Values.{or_null};
@@ -13,14 +13,16 @@ ghost use Rattle.schema.specs.Rows.{ids, records, action_cells};
 ghost use Rattle.terms.specs.Texts.{IsUpdate};
 ghost use Rattle.sysmods.specs.Views.{action_of};
 
-use columns::{flag_in, ids_in, optional_id_in, optional_name_in, records_in};
+use columns::{
+    element_text_in, flag_in, ids_in, is_updated, optional_id_in, optional_name_in, records_in,
+};
 use fields::{Id, IdList, Name};
 use rows::{ReadError, whole};
 use sqlite::Row;
 use std::alloc::Global;
 use sysmods::Action;
 use terms::ElemType;
-use text80::{Line, Numbered, TextError, Update};
+use text80::{Line, TextError, Update};
 
 /// Ids, of which the SYSMOD's own is none.
 pub(crate) fn others_in(alloc: Global, row: &Row, at: usize, id: Id) -> Result<IdList, ReadError>
@@ -58,31 +60,6 @@ pub(crate) fn number_in(row: &Row, at: usize) -> Option<u64>
     Some(number as u64)
 }
 
-/// Whether there are updates of elements of this type.
-fn is_updated(elem_type: ElemType) -> bool
-    ensures { IsTrue result ↔ IsUpdated elem_type }
-{
-    match elem_type {
-        ElemType::Mac | ElemType::Src => true,
-        _ => false,
-    }
-}
-
-/// The records of an element of this type: those of macros and sources are numbered.
-fn text_in(alloc: Global, row: &Row, at: usize, elem_type: ElemType) -> Result<Vec<Line>, ReadError>
-    ensures some { IfOk result (λ text. (column row.now at ≡ records text.items) × IsTextOf elem_type text.items) }
-    ensures none { IsErrOf result ReadError.BadRow → (text : List (List ℕ)) → IsTextOf elem_type text → column row.now at ≢ records text }
-{
-    let lines = records_in(alloc, row, at)?;
-    if !is_updated(elem_type) {
-        return Ok(lines);
-    }
-    match Numbered::read(lines) {
-        Ok(text) => Ok(text.into_lines()),
-        Err(_) => Err(ReadError::BadRow),
-    }
-}
-
 /// The records of a replacement, of which there is one at least.
 fn replacement_in(
     alloc: Global,
@@ -93,7 +70,7 @@ fn replacement_in(
     ensures some { IfOk result (λ text. (column row.now at ≡ records text.items) × IsTextOf elem_type text.items × (text.items ≢ [])) }
     ensures none { IsErrOf result ReadError.BadRow → (text : List (List ℕ)) → IsTextOf elem_type text → text ≢ [] → column row.now at ≢ records text }
 {
-    let text = text_in(alloc, row, at, elem_type)?;
+    let text = element_text_in(alloc, row, at, elem_type)?;
     if text.is_empty() {
         return Err(ReadError::BadRow);
     }

@@ -6,15 +6,11 @@ use Rattle.std.proofs.lemmas.List.Elements.{filter-append}
 use Rattle.std.proofs.lemmas.List.Sorted.{IsPermutation-refl, IsPermutation-trans, IsPermutation-append_left, IsPermutation-append_right, IsPermutation-append_comm}
 use Rattle.std.proofs.lemmas.Grind.{flat_map-append}
 use Rattle.sqlite_rules.specs.Lists.{Has}
+use Rattle.rows.proofs.Parts.{moved_front}
 
 -- ---- one item comes
 
 module _ {A B : Type 0} (f : A → List B) where
-  -- what comes in between may stand first
-  to_front : (xs news ys : List B) → IsPermutation (xs ++ (news ++ ys)) (news ++ (xs ++ ys))
-  to_front xs news ys =
-      subst₂ IsPermutation (append_assoc xs news ys) (append_assoc news xs ys) (IsPermutation-append_left ys (xs ++ news) (news ++ xs) (IsPermutation-append_comm xs news))
-
   -- of two tests each item passes one
   parted : (p q : A → Bool) (xs : List A) → ((x : A) → Has xs x → q x ≡ not (p x)) → IsPermutation (flat_map f (filter p xs) ++ flat_map f (filter q xs)) (flat_map f xs)
   parted p q [] other = IsPermutation-refl []
@@ -27,7 +23,7 @@ module _ {A B : Type 0} (f : A → List B) where
           rw (e, fails) (subst (λ l. IsPermutation l (f x ++ flat_map f xs)) (sym (append_assoc (f x) (flat_map f (filter p xs)) (flat_map f (filter q xs)))) (IsPermutation-append_right (f x) _ _ later))
       go false e later =
           let passes : q x ≡ true = other x (inl refl) ∙ ap not e in
-          rw (e, passes) (IsPermutation-trans _ _ _ (to_front (flat_map f (filter p xs)) (f x) (flat_map f (filter q xs))) (IsPermutation-append_right (f x) _ _ later))
+          rw (e, passes) (IsPermutation-trans _ _ _ (moved_front (flat_map f (filter p xs)) (f x) (flat_map f (filter q xs))) (IsPermutation-append_right (f x) _ _ later))
 
   -- the rows of an item that stands between the two parts come first
   pub between : (p q : A → Bool) (xs : List A) (new : A) → ((x : A) → Has xs x → q x ≡ not (p x)) → IsPermutation (flat_map f ((filter p xs ++ new ∷ []) ++ filter q xs)) (f new ++ flat_map f xs)
@@ -35,7 +31,7 @@ module _ {A B : Type 0} (f : A → List B) where
       let parts : flat_map f ((filter p xs ++ new ∷ []) ++ filter q xs) ≡ flat_map f (filter p xs) ++ (f new ++ flat_map f (filter q xs)) =
       ap (flat_map f) (append_assoc (filter p xs) (new ∷ []) (filter q xs)) ∙ flat_map-append f (filter p xs) (new ∷ filter q xs) in
       subst (λ l. IsPermutation l (f new ++ flat_map f xs)) (sym parts)
-      (IsPermutation-trans _ _ _ (to_front (flat_map f (filter p xs)) (f new) (flat_map f (filter q xs))) (IsPermutation-append_right (f new) _ _ (parted p q xs other)))
+      (IsPermutation-trans _ _ _ (moved_front (flat_map f (filter p xs)) (f new) (flat_map f (filter q xs))) (IsPermutation-append_right (f new) _ _ (parted p q xs other)))
 
 -- ---- one item goes
 

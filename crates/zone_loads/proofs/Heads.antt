@@ -97,7 +97,13 @@ head_forms : (i : Inventory) → IsInventory i → (z : NamedZone) → Has i.zon
 head_forms i h z there =
     let named = has_all IsZoneNamed i.zones z h.zones there in
     let related = has_all (λ w. IsRelated i.zones w.zone.kind w.zone.srel w.zone.related) i.zones z h.related there in
-    record { name = named.name; srel = named.forms.srel; related = related_name i h z.zone.kind z.zone.srel z.zone.related related }
+    record {
+      name = named.name;
+      srel = named.forms.srel;
+      related = related_name i h z.zone.kind z.zone.srel z.zone.related related;
+      not_global = named.not_global;
+      suits = named.zone.related;
+    }
 
 pub one_head_forms : (i : Inventory) → IsInventory i → (name : Text) → AllByRecursion HasHeadForms (option_to_list (option_map (head_in name) (zone_in i name)))
 one_head_forms i h name = go (zone_in i name) (is_there i name)

@@ -4,4 +4,4 @@ pub mod Zones
 pub mod Heads
 pub mod Entries
 pub mod Elements
-pub mod Forms
+pub mod Relations

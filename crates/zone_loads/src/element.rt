@@ -1,50 +1,23 @@
 //! The table of element entries.
 
-ghost use Rattle.std.specs.Prelude.{◌≡◌, ◌≢◌, ◌↔◌, ℕ, List, false, map, IsTrue, IfOk, OnOk, IsErrOf, IsPermutation};
+ghost use Rattle.std.specs.Prelude.{◌≡◌, List, false, map, IfOk, OnOk, IsErrOf, IsPermutation};
 ghost use Rattle.sqlite.specs.Held.{state};
-ghost use Rattle.sqlite.specs.Order.{column};
 ghost use Rattle.sqlite.specs.State.{HasCleanDisk, IsUnchanged, KeepsCommit, Survives};
 ghost use Rattle.terms.specs.Lookups.{element_cmp, element_key};
 ghost use Rattle.terms.specs.Rising.{Rises};
 ghost use Rattle.terms.specs.Types.{Element as ElementTerm};
-ghost use Rattle.schema.specs.Forms.{IsTextOf, IsUpdated};
 ghost use Rattle.schema.specs.Inventory.{Inventory};
-ghost use Rattle.schema.specs.Rows.{records};
 ghost use Rattle.schema.specs.Stands.{StandsFor};
 ghost use Rattle.schema.specs.Tables.{store_schema};
 ghost use Rattle.zone_loads.specs.Found.{elements_in};
 
-use columns::{elem_type_in, id_in, ids_in, name_in, records_in, zone_name_in};
+use columns::{elem_type_in, element_text_in, id_in, ids_in, name_in, zone_name_in};
 use fields::ZoneName;
 use rows::{FromRow, ReadError, load};
 use sqlite::{Alter, Connection, Row};
 use sqlite_value::value::ValueRef;
 use std::alloc::{AllocError, Global};
-use terms::ElemType;
-use text80::{Line, Numbered};
 use zones::{Element, Table};
-
-/// Whether the text of such an element is numbered.
-fn is_numbered(elem_type: ElemType) -> bool
-    ensures { IsTrue result ↔ IsUpdated elem_type }
-{
-    matches!(elem_type, ElemType::Mac | ElemType::Src)
-}
-
-/// The records of an element of this type.
-fn text_in(alloc: Global, row: &Row, at: usize, elem_type: ElemType) -> Result<Vec<Line>, ReadError>
-    ensures some { IfOk result (λ text. (column row.now at ≡ records text.items) × IsTextOf elem_type text.items) }
-    ensures none { IsErrOf result ReadError.BadRow → (text : List (List ℕ)) → IsTextOf elem_type text → column row.now at ≢ records text }
-{
-    let lines = records_in(alloc, row, at)?;
-    if !is_numbered(elem_type) {
-        return Ok(lines);
-    }
-    match Numbered::read(lines) {
-        Ok(text) => Ok(text.into_lines()),
-        Err(_) => Err(ReadError::BadRow),
-    }
-}
 
 /// An element and the name of its zone.
 #[derive(Drop)]
@@ -91,7 +64,7 @@ impl FromRow for Elements {
         let Some(syslib) = name_in(row, 7) else {
             return Err(ReadError::BadRow);
         };
-        let text = text_in(alloc, row, 8, elem_type)?;
+        let text = element_text_in(alloc, row, 8, elem_type)?;
         Ok(ElementRow {
             zone,
             element: Element {

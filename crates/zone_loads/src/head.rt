@@ -1,6 +1,6 @@
 //! The table of zones.
 
-ghost use Rattle.std.specs.Prelude.{◌≡◌, ◌≢◌, false, List, Option, map, option_map, IfOk, OnOk, OnErr, IsErrOf, IsPermutation};
+ghost use Rattle.std.specs.Prelude.{◌≡◌, ◌≢◌, ◌==◌, false, List, Option, map, option_map, IfOk, OnOk, OnErr, IsErrOf, IsPermutation};
 ghost use Rattle.std.specs.Option.{option_to_list};
 ghost use Rattle.std.specs.Ordering.{nat_cmp};
 ghost use Rattle.std.specs.Cmp.Lexicographic.{slice_cmp};
@@ -10,8 +10,11 @@ ghost use Rattle.terms.specs.Rising.{Rises};
 ghost use Rattle.schema.specs.Inventory.{Inventory};
 ghost use Rattle.schema.specs.Stands.{StandsFor};
 ghost use Rattle.schema.specs.Tables.{store_schema};
+ghost use Rattle.terms.specs.Types.{zone_number};
 ghost use Rattle.zone_loads.specs.Found.{head_of, head_in, zone_in};
+ghost use Rattle.zone_loads.specs.Related.{AreRelated};
 
+use crate::related::only_related;
 use columns::{optional_zone_name_in, srel_in, zone_kind_in, zone_name_in};
 use fields::{Srel, ZoneName};
 use rows::{FromRow, ReadError, load};
@@ -44,6 +47,15 @@ impl Keyed for ZoneHead {
     }
 }
 
+fn is_target(kind: ZoneKind) -> bool
+    ensures { result ≡ (zone_number kind == 0) }
+{
+    match kind {
+        ZoneKind::Target => true,
+        ZoneKind::Distribution => false,
+    }
+}
+
 /// Reads the rows of zones.
 struct Heads;
 
@@ -63,6 +75,9 @@ impl FromRow for Heads {
         let Some(name) = zone_name_in(row, 0) else {
             return Err(ReadError::BadRow);
         };
+        if name.is_global() {
+            return Err(ReadError::BadRow);
+        }
         let Some(kind) = zone_kind_in(row, 1) else {
             return Err(ReadError::BadRow);
         };
@@ -72,6 +87,9 @@ impl FromRow for Heads {
         let Some(related) = optional_zone_name_in(row, 3) else {
             return Err(ReadError::BadRow);
         };
+        if related.is_some() != is_target(kind) {
+            return Err(ReadError::BadRow);
+        }
         Ok(ZoneHead {
             name,
             kind,
@@ -162,12 +180,14 @@ fn by_name(heads: Vec<ZoneHead>) -> Result<Vec<ZoneHead>, ReadError>
     }
 }
 
-/// The heads of all zones, by name.
+/// The heads of all zones, by name. A target zone names a distribution zone of its SREL, which no
+/// other names.
 pub fn zone_heads<S: Alter>(
     alloc: Global,
     conn: &mut Connection<S>,
 ) -> Result<Vec<ZoneHead>, ReadError>
     ensures found { HasCleanDisk (state S.Store conn.new) → (i : Inventory) → StandsFor i (state S.Store conn.old).now → IfOk result (λ heads. heads.items ≡ map head_of i.zones) }
+    ensures related { IfOk result (λ heads. AreRelated heads.items) }
     ensures none { HasCleanDisk (state S.Store conn.new) → IsErrOf result ReadError.BadRow → (i : Inventory) → ¬ StandsFor i (state S.Store conn.old).now }
     ensures same { HasCleanDisk (state S.Store conn.new) → conn.old.schema ≡ store_schema → OnOk result (IsUnchanged (state S.Store conn.old) (state S.Store conn.new)) }
     ensures kept { HasCleanDisk (state S.Store conn.new) → conn.old.schema ≡ store_schema → KeepsCommit (state S.Store conn.old) (state S.Store conn.new) }
@@ -175,7 +195,8 @@ pub fn zone_heads<S: Alter>(
     ensures mode { conn.old.in_transaction ≡ false → conn.new.in_transaction ≡ false }
 {
     let heads = all_head_rows(alloc, conn)?;
-    by_name(heads)
+    let sorted = by_name(heads)?;
+    only_related(sorted)
 }
 
 fn names_of(alloc: Global, heads: &[ZoneHead]) -> Result<Vec<ZoneName>, AllocError>

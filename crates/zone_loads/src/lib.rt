@@ -4,6 +4,7 @@
 mod element;
 mod entry;
 mod head;
+mod related;
 mod zone;
 
 pub use head::{ZoneHead, zone_heads, zone_names};

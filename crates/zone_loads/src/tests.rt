@@ -177,10 +177,10 @@ fn write_elements(
     tx: &mut Transaction<'_, MemStore>,
     zone: ZoneName,
 ) -> Result<(), Fail> {
-    put_element(alloc, tx, zone, &data(alloc, b"D1", b"HAA1100")?)?;
-    put_element(alloc, tx, zone, &data(alloc, b"D1", b"HAA1200")?)?;
-    put_element(alloc, tx, zone, &data(alloc, b"D2", b"HAA1100")?)?;
-    remove_element(tx, zone, ElemType::Data, name(b"D2")?)?;
+    put_element(alloc, tx, zone, &data(alloc, b"DATA1", b"HAA1100")?)?;
+    put_element(alloc, tx, zone, &data(alloc, b"DATA1", b"HAA1200")?)?;
+    put_element(alloc, tx, zone, &data(alloc, b"DATA2", b"HAA1100")?)?;
+    remove_element(tx, zone, ElemType::Data, name(b"DATA2")?)?;
     Ok(())
 }
 
@@ -199,7 +199,9 @@ fn reads_what_was_written(rt: HostRuntime) -> Result<(), Fail> {
     let zone = load_zone(alloc, &mut conn, of)?.ok_or("no DLB1")?;
     assert!(rt; zone.is_applied(id(b"UA00001")?));
     assert_eq!(rt; (zone.entries().len(), zone.elements().len()), (1, 1));
-    let element = zone.element(ElemType::Data, name(b"D1")?).ok_or("no D1")?;
+    let element = zone
+        .element(ElemType::Data, name(b"DATA1")?)
+        .ok_or("no DATA1")?;
     assert_eq!(rt; element.fmid, id(b"HAA1200")?);
     Ok(())
 }

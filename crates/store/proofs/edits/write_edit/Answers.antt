@@ -1,6 +1,6 @@
 use Rattle.rows.proofs.InsideLemmas.{on_ok}
 use Rattle.store.proofs.GlobalLemmas.{hold_put, hold_removed}
-use Rattle.store.proofs.global.write_edit.Goals as goal
+use Rattle.store.proofs.edits.write_edit.Goals as goal
 
 pub returns-in-PutHold-clause-ok : goal.returns-in-PutHold-clause-ok
 returns-in-PutHold-clause-ok g c =

@@ -2,7 +2,7 @@ use Rattle.std.proofs.Common.{◌≡◌, take}
 use Rattle.rows.specs.Inside.{StaysInside}
 use Rattle.sysmod_tables.specs.Sysmods.{ChangesGlobal}
 use Rattle.store.specs.Changes.{EachFits, after_edits}
-use Rattle.store.proofs.global.write_edits.Given as goal
+use Rattle.store.proofs.edits.write_edits.Given as goal
 
 abbrev pub invariant-loop-edit : goal.invariant-loop-edit
 invariant-loop-edit g l = record {

@@ -2,7 +2,7 @@ use Rattle.std.proofs.Common.{◌≡◌, ◌∙◌, take, arith}
 use Rattle.std.proofs.lemmas.List.{take_all}
 use Rattle.rows.proofs.InsideLemmas.{stays_then}
 use Rattle.store.proofs.GlobalLemmas.{edits_go_on}
-use Rattle.store.proofs.global.write_edits.Goals as goal
+use Rattle.store.proofs.edits.write_edits.Goals as goal
 
 pub loop-edit-preserved : goal.loop-edit-preserved
 loop-edit-preserved g c =

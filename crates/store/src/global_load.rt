@@ -1,0 +1,65 @@
+//! The global zone, from the tables of SYSMODs and of holds.
+
+ghost use Rattle.std.specs.Prelude.{◌≡◌, false, IfOk, OnOk, IsErrOf};
+ghost use Rattle.sqlite.specs.Held.{state};
+ghost use Rattle.sqlite.specs.State.{HasCleanDisk, IsUnchanged, KeepsCommit, Survives};
+ghost use Rattle.terms.specs.Types.{a_global};
+ghost use Rattle.terms.specs.Global.{IsGlobal};
+ghost use Rattle.schema.specs.Inventory.{Inventory};
+ghost use Rattle.schema.specs.Stands.{StandsFor};
+ghost use Rattle.schema.specs.Tables.{store_schema};
+
+use global::Global;
+use hold_rows::load_holds;
+use rows::ReadError;
+use sqlite::{Alter, Connection};
+use std::alloc::Global as Heap;
+use sysmod_loads::load_sysmods;
+use sysmods::{Hold, Sysmod};
+
+/// What the tables of the global zone hold, each list in order.
+#[derive(Drop)]
+struct Lists {
+    sysmods: Vec<Sysmod>,
+    holds: Vec<Hold>,
+}
+
+fn load_lists<S: Alter>(alloc: Heap, conn: &mut Connection<S>) -> Result<Lists, ReadError>
+    ensures found { HasCleanDisk (state S.Store conn.new) → (i : Inventory) → StandsFor i (state S.Store conn.old).now → IfOk result (λ lists. a_global lists.sysmods.items lists.holds.items ≡ i.global) }
+    ensures none { HasCleanDisk (state S.Store conn.new) → IsErrOf result ReadError.BadRow → (i : Inventory) → ¬ StandsFor i (state S.Store conn.old).now }
+    ensures same { HasCleanDisk (state S.Store conn.new) → conn.old.schema ≡ store_schema → OnOk result (IsUnchanged (state S.Store conn.old) (state S.Store conn.new)) }
+    ensures kept { HasCleanDisk (state S.Store conn.new) → conn.old.schema ≡ store_schema → KeepsCommit (state S.Store conn.old) (state S.Store conn.new) }
+    ensures crash { Survives (state S.Store conn.old) (state S.Store conn.new) (λ _. ¬ (conn.old.schema ≡ store_schema)) }
+    ensures mode { conn.old.in_transaction ≡ false → conn.new.in_transaction ≡ false }
+{
+    let sysmods = load_sysmods(alloc, conn)?;
+    let holds = load_holds(alloc, conn)?;
+    Ok(Lists { sysmods, holds })
+}
+
+/// The global zone of these, if they are one.
+fn joined(alloc: Heap, lists: Lists) -> Result<Global, ReadError>
+    ensures same { IfOk result (λ global. global ≡ a_global lists.sysmods.items lists.holds.items) }
+    ensures none { IsErrOf result ReadError.BadRow → ¬ IsGlobal (a_global lists.sysmods.items lists.holds.items) }
+{
+    match Global::from_parts(alloc, lists.sysmods, lists.holds)? {
+        Some(global) => Ok(global),
+        None => Err(ReadError::BadRow),
+    }
+}
+
+/// The global zone.
+pub(crate) fn load_global<S: Alter>(
+    alloc: Heap,
+    conn: &mut Connection<S>,
+) -> Result<Global, ReadError>
+    ensures found { HasCleanDisk (state S.Store conn.new) → (i : Inventory) → StandsFor i (state S.Store conn.old).now → IfOk result (λ global. global ≡ i.global) }
+    ensures none { HasCleanDisk (state S.Store conn.new) → IsErrOf result ReadError.BadRow → (i : Inventory) → ¬ StandsFor i (state S.Store conn.old).now }
+    ensures same { HasCleanDisk (state S.Store conn.new) → conn.old.schema ≡ store_schema → OnOk result (IsUnchanged (state S.Store conn.old) (state S.Store conn.new)) }
+    ensures kept { HasCleanDisk (state S.Store conn.new) → conn.old.schema ≡ store_schema → KeepsCommit (state S.Store conn.old) (state S.Store conn.new) }
+    ensures crash { Survives (state S.Store conn.old) (state S.Store conn.new) (λ _. ¬ (conn.old.schema ≡ store_schema)) }
+    ensures mode { conn.old.in_transaction ≡ false → conn.new.in_transaction ≡ false }
+{
+    let lists = load_lists(alloc, conn)?;
+    joined(alloc, lists)
+}
