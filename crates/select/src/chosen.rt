@@ -1,7 +1,11 @@
+//! The candidates.
 ghost use Rattle.std.specs.Prelude.{All, IsTrue, IfOk};
 ghost use Rattle.terms.specs.Choice.{by_srel};
 ghost use Rattle.terms.specs.Candidates.{AreCandidates, is_installable};
 
+use crate::growing::growing;
+use crate::scope::Scope;
+use crate::start::start;
 use cntl::Selection;
 use fields::IdList;
 use global::Global;
@@ -19,5 +23,9 @@ pub fn candidates(
         AreCandidates global.now (by_srel global.now zone.now.srel) zone.now selection.now ids) }
     ensures installable { IfOk result (λ ids. All (λ x. IsTrue (is_installable global.now zone.now x)) ids) }
 {
-    Err(AllocError)
+    let scope = Scope::new(global, zone, selection);
+    let mut ids = start(alloc, &scope)?;
+    let growing = growing(alloc, &scope, ids.as_slice())?;
+    ids.extend_from_slice(growing.as_slice())?;
+    Ok(IdList::from_vec(ids))
 }
