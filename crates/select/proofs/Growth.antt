@@ -1,7 +1,7 @@
 -- The growing set as a search finds it, and the candidates.
-use Rattle.std.proofs.Common.{◌≡◌, ℕ, ◌<◌, ◌≤◌, ◌+◌, ◌⊎◌, inl, inr, Bool, true, false, ◌&&◌, ◌||◌, not, List, [], ◌∷◌, ◌++◌, length, take, get_or, filter, Option, None, Some, Contains, IsTrue, All, refl, sym, subst, ap, ◌∙◌, length-append, arith, ◌↔◌}
+use Rattle.std.proofs.Common.{◌≡◌, ℕ, ◌<◌, ◌≤◌, ◌+◌, ◌⊎◌, inl, inr, Bool, true, false, ◌&&◌, ◌||◌, not, List, [], ◌∷◌, ◌++◌, length, take, get_or, filter, Option, None, Some, Contains, IsTrue, All, cond, if◌then◌else◌, refl, sym, subst, ap, ◌∙◌, length-append, arith, ◌↔◌}
 use Rattle.std.proofs.lemmas.Bool.{and_parts, and_from, or_left, or_right, or_cases}
-use Rattle.std.proofs.lemmas.List.{take_more, take_all}
+use Rattle.std.proofs.lemmas.List.{take_more, take_all, append-nil}
 use Rattle.std.proofs.lemmas.List.Elements.{Contains-push_cases, Contains-get_or, Contains-append_left, Contains-append_right, Contains-append_cases, All-contains, All-contains_itself, All-weaker}
 use Rattle.terms.specs.Types.{Id, Global, Zone, Selection}
 use Rattle.terms.specs.Lookups.{is_in, at_most_one, IsRising}
@@ -10,11 +10,28 @@ use Rattle.terms.specs.Candidates.{is_installable, is_open, is_start, is_growing
 use Rattle.terms.proofs.Ids.{is_in-from_Contains, Contains-from_is_in}
 use Rattle.terms.proofs.Apart.{here, here_or, none_in}
 use Rattle.paths.specs.Seen.{AddsAll}
-use Rattle.paths.proofs.Growth.{adds-keeps, adds-cases, take-adds}
+use Rattle.paths.proofs.Growth.{adds-none, adds-insert, adds-keeps, adds-cases, take-adds}
+use Rattle.indexmap.specs.IndexSet.{insert_key}
+use Rattle.std.specs.Str.{bytes_eq}
 use Rattle.select.specs.Growing.{IsGrowing, brought_in}
-use Rattle.select.proofs.Kept.{kept-parts, kept-from}
+use Rattle.select.proofs.Kept.{kept-parts, kept-from, filter_next}
 use Rattle.select.proofs.Opened.{OpenParts, open_parts}
 use Rattle.select.proofs.Needs.{brings_fmid, fmid_brought, brought_parts, brought_from}
+
+-- the next of a list is inserted, if it passes
+pub adds-if : (p : Id → Bool) (old start seen new : List Id) (i : ℕ) (x : Id) → i < length start → x ≡ get_or start i x
+    → new ≡ (if p x then insert_key bytes_eq seen x else seen) → AddsAll old (filter p (take i start)) seen
+    → AddsAll old (filter p (take (i + 1) start)) new
+adds-if p old start seen new i x below at is adds =
+    subst (λ named. AddsAll old named new) (sym (filter_next p start i x below at)) (subst (AddsAll old _) (sym is) (by (p x)))
+  where
+    by : (b : Bool) → AddsAll old (filter p (take i start) ++ cond b (x ∷ []) []) (if b then insert_key bytes_eq seen x else seen)
+    by true = adds-insert old (filter p (take i start)) seen x adds
+    by false = subst (λ named. AddsAll old named seen) (sym (append-nil (filter p (take i start)))) adds
+
+-- what at most one id adds
+pub adds-one : (old new : List Id) (x : Id) → new ≡ insert_key bytes_eq old x → AddsAll old (x ∷ []) new
+adds-one old new x is = subst (AddsAll old (x ∷ [])) (sym is) (adds-insert old [] old x (adds-none old))
 
 module _ (g : Global) (zone : Zone) (sel : Selection) where
   abbrev c : Choice

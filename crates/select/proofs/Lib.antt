@@ -4,3 +4,4 @@ pub mod Needs
 pub mod Fmids
 pub mod Starts
 pub mod Growth
+pub mod Reasoned

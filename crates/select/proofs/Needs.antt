@@ -78,7 +78,7 @@ module _ (g : Global) (zone : Zone) where
     -- What an open SYSMOD brings in is its FMID.
     pub brings_fmid : (x y : Id) → IsTrue (is_open g zone sel x) → BringsIn g c zone sel cands x y → fmid_of c x ≡ Some y
     brings_fmid x y opened (open_y, inl needed) = only_fmid x y opened needed
-    brings_fmid x y opened (open_y, inr (_, (z, (named, way)))) = by way
+    brings_fmid x y opened (open_y, inr (_, (z, named, way))) = by way
       where
         needed : Contains (needed_ids g c zone cands x) z
         needed = subst (λ ys. Contains ys z) (ap (λ ys. needed_ids g c zone cands x ++ ys) (no_reasons x opened) ∙ append-nil (needed_ids g c zone cands x)) named

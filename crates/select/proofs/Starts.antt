@@ -1,5 +1,5 @@
 -- Where the ids of the start are looked for.
-use Rattle.std.proofs.Common.{◌≡◌, ◌⊎◌, inl, inr, Bool, true, false, ◌&&◌, ◌||◌, List, ◌++◌, map, find, Option, None, Some, is_some, Contains, IsTrue, refl, sym, subst, ap, ◌∙◌, true≢false}
+use Rattle.std.proofs.Common.{◌≡◌, ◌⊎◌, inl, inr, Bool, true, false, ◌&&◌, ◌||◌, List, ◌++◌, map, filter, find, Option, None, Some, is_some, Contains, IsTrue, refl, sym, subst, ap, ◌∙◌, true≢false, ◌↔◌}
 use Rattle.std.specs.Option.{option_and_then}
 use Rattle.std.specs.Str.{bytes_eq}
 use Rattle.std.proofs.lemmas.Bool.{and_parts, or_cases}
@@ -11,6 +11,7 @@ use Rattle.terms.specs.Candidates.{is_open, has_mass_choice, is_mass_chosen, is_
 use Rattle.terms.proofs.Ids.{Contains-from_is_in}
 use Rattle.terms.proofs.Apart.{in_map}
 use Rattle.terms.proofs.GlobalLookups.{same_from, find-passes, All-find}
+use Rattle.select.proofs.Kept.{kept-parts, kept-from}
 use Rattle.select.proofs.Opened.{OpenParts, open_parts}
 
 received_there : (g : Global) (srel : Text) (x : Id) → is_some (by_srel g srel x) ≡ true → Contains (map (λ s. s.id) g.sysmods) x
@@ -44,3 +45,12 @@ module _ (g : Global) (zone : Zone) (sel : Selection) (x : Id) (start : IsTrue (
         where
           and_left : IsTrue (is_mass_chosen g zone sel x) → has_mass_choice sel ≡ true
           and_left m = (and_parts (has_mass_choice sel) _ m).0
+
+-- The start is what is kept of ids among which it is.
+pub start_members : (g : Global) (zone : Zone) (sel : Selection) (ids start : List Id)
+    → ((x : Id) → IsTrue (is_start g zone sel x) → Contains ids x) → start ≡ filter (is_start g zone sel) ids
+    → (x : Id) → Contains start x ↔ IsTrue (is_start g zone sel x)
+start_members g zone sel ids start among same x = (
+  λ h. (kept-parts (is_start g zone sel) ids x (subst (λ xs. Contains xs x) same h)).1,
+  λ h. subst (λ xs. Contains xs x) (sym same) (kept-from (is_start g zone sel) ids x (among x h) h),
+)

@@ -1,5 +1,7 @@
 //! What GROUP and GROUPEXTEND bring in beside the start.
-ghost use Rattle.std.specs.Prelude.{◌≡◌, ◌||◌, ◌↔◌, [], filter, Contains, IsTrue, IfOk, OnOk};
+ghost use Rattle.std.specs.Prelude.{◌≡◌, ◌||◌, ◌↔◌, [], filter, Contains, IsTrue, IfOk, OnOk, if◌then◌else◌};
+ghost use Rattle.std.specs.Str.{bytes_eq};
+ghost use Rattle.indexmap.specs.IndexSet.{insert_key};
 ghost use Rattle.terms.specs.Types.{Id as AnId};
 ghost use Rattle.terms.specs.Lookups.{at_most_one, is_in};
 ghost use Rattle.terms.specs.Candidates.{is_start};
@@ -19,6 +21,16 @@ fn brings_others(selection: &Selection, id: Id) -> bool
     selection.groupextend || selection.group.contains(id)
 }
 
+fn see_growing(selection: &Selection, id: Id, seen: &mut IndexSet<Id>) -> Result<(), AllocError>
+    ensures { OnOk result (seen.new.keys ≡ (if selection.now.groupextend || is_in selection.now.group id
+        then insert_key bytes_eq seen.old.keys id else seen.old.keys)) }
+{
+    if brings_others(selection, id) {
+        seen.insert(id)?;
+    }
+    Ok(())
+}
+
 /// Those of the start that bring others in.
 fn growing_start(
     alloc: Heap,
@@ -30,9 +42,7 @@ fn growing_start(
 {
     let mut seen = IndexSet::new(alloc);
     for id in start {
-        if brings_others(selection, *id) {
-            seen.insert(*id)?;
-        }
+        see_growing(selection, *id, &mut seen)?;
     }
     Ok(seen)
 }

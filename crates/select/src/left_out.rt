@@ -1,6 +1,7 @@
 //! Why ids that SELECT and GROUP name are no candidates.
-ghost use Rattle.std.specs.Prelude.{◌≡◌, ◌↔◌, ◌++◌, ◌||◌, not, is_some, Some, Contains, IfOk, map, filter};
+ghost use Rattle.std.specs.Prelude.{◌≡◌, ◌↔◌, ◌++◌, ◌||◌, not, Some, Contains, IfOk, OnOk, map};
 ghost use Rattle.std.specs.List.{filter_map};
+ghost use Rattle.std.specs.Option.{option_to_list};
 ghost use Rattle.terms.specs.declared.not_chosen.NotChosen.{NotChosen as Reason};
 ghost use Rattle.terms.specs.Types.{Id as AnId};
 ghost use Rattle.terms.specs.Lookups.{IsRising, is_in};
@@ -26,6 +27,7 @@ fn needs_no_reason(scope: &Scope, id: Id) -> bool
     !is_named(selection, id) || selection.exclude.contains(id) || scope.is_open(id)
 }
 
+#[tactic(auto, unfolding(terms::specs::Candidates::not_chosen))]
 fn why_not(scope: &Scope, id: Id) -> Option<NotChosen>
     ensures { result ≡ not_chosen scope.now.global.now scope.now.zone.now scope.now.selection.now id }
 {
@@ -42,22 +44,32 @@ fn why_not(scope: &Scope, id: Id) -> Option<NotChosen>
     }
 }
 
+fn push_with_reason(
+    scope: &Scope,
+    id: Id,
+    found: &mut Vec<(Id, NotChosen)>,
+) -> Result<(), AllocError>
+    ensures { OnOk result (found.new.items ≡ found.old.items
+        ++ option_to_list (with_reason scope.now.global.now scope.now.zone.now scope.now.selection.now id)) }
+{
+    if let Some(why) = why_not(scope, id) {
+        found.push((id, why))?;
+    }
+    Ok(())
+}
+
 // The ids that have a reason, each with it.
 fn with_reasons(
     alloc: Heap,
     scope: &Scope,
     ids: &[Id],
 ) -> Result<Vec<(Id, NotChosen)>, AllocError>
-    ensures pairs { IfOk result (λ found. found.items
+    ensures { IfOk result (λ found. found.items
         ≡ filter_map (with_reason scope.now.global.now scope.now.zone.now scope.now.selection.now) ids.now) }
-    ensures ids { IfOk result (λ found. map (λ f. f.0) found.items
-        ≡ filter (λ x. is_some (not_chosen scope.now.global.now scope.now.zone.now scope.now.selection.now x)) ids.now) }
 {
     let mut found = Vec::new(alloc);
     for id in ids {
-        if let Some(why) = why_not(scope, *id) {
-            found.push((*id, why))?;
-        }
+        push_with_reason(scope, *id, &mut found)?;
     }
     Ok(found)
 }
@@ -74,7 +86,6 @@ pub fn not_chosen(
         → Contains {X = AnId × Reason} found.items (x, why)
         ↔ (not_chosen global.now zone.now selection.now x ≡ Some why)) }
 {
-    let scope = Scope::new(global, zone, selection);
     let named = IdList::from_vec(named_ids(alloc, selection)?);
-    with_reasons(alloc, &scope, named.as_slice())
+    with_reasons(alloc, &Scope::new(global, zone, selection), named.as_slice())
 }

@@ -76,13 +76,10 @@ fn among(alloc: Heap, scope: &Scope, ids: &[Id]) -> Result<Vec<Id>, AllocError>
     ensures { IfOk result (λ start. start.items
         ≡ filter (is_start scope.now.global.now scope.now.zone.now scope.now.selection.now) ids.now) }
 {
-    let mut start = Vec::new(alloc);
-    for id in ids {
-        if is_start(scope, *id) {
-            start.push(*id)?;
-        }
-    }
-    Ok(start)
+    ids.iter()
+        .filter(|id| is_start(scope, **id))
+        .copied()
+        .collect(alloc)
 }
 
 /// The open ids that the mass choice, SELECT or GROUP names. Some may stand twice.
