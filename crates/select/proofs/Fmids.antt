@@ -1,5 +1,5 @@
 -- FORFMID, ++VER by ++VER.
-use Rattle.std.proofs.Common.{◌≡◌, Bool, ◌&&◌, List, [], filter, Some, sym, ap, ◌∙◌}
+use Rattle.std.proofs.Common.{◌≡◌, Bool, ◌&&◌, List, [], filter, Some, ap, ◌∙◌}
 use Rattle.std.specs.List.{list_any, flat_map}
 use Rattle.std.specs.Option.{option_map_or}
 use Rattle.std.specs.Str.{bytes_eq}

@@ -1,12 +1,12 @@
 -- The growing set as a search finds it, and the candidates.
-use Rattle.std.proofs.Common.{◌≡◌, ℕ, ◌<◌, ◌≤◌, ◌+◌, ◌⊎◌, inl, inr, Bool, true, false, ◌&&◌, ◌||◌, not, List, [], ◌∷◌, ◌++◌, length, take, get_or, filter, Option, None, Some, Contains, IsTrue, All, cond, if◌then◌else◌, refl, sym, subst, ap, ◌∙◌, length-append, arith, ◌↔◌}
-use Rattle.std.proofs.lemmas.Bool.{and_parts, and_from, or_left, or_right, or_cases}
+use Rattle.std.proofs.Common.{◌≡◌, ℕ, ◌<◌, ◌≤◌, ◌+◌, ◌⊎◌, inl, inr, Bool, true, false, ◌||◌, List, [], ◌∷◌, ◌++◌, length, take, get_or, filter, Option, None, Some, Contains, IsTrue, All, cond, if◌then◌else◌, sym, subst, ap, ◌∙◌, length-append, arith, ◌↔◌}
+use Rattle.std.proofs.lemmas.Bool.{and_parts, and_from}
 use Rattle.std.proofs.lemmas.List.{take_more, take_all, append-nil}
-use Rattle.std.proofs.lemmas.List.Elements.{Contains-push_cases, Contains-get_or, Contains-append_left, Contains-append_right, Contains-append_cases, All-contains, All-contains_itself, All-weaker}
+use Rattle.std.proofs.lemmas.List.Elements.{Contains-push_cases, Contains-get_or, Contains-append_left, Contains-append_right, Contains-append_cases}
 use Rattle.terms.specs.Types.{Id, Global, Zone, Selection}
 use Rattle.terms.specs.Lookups.{is_in, at_most_one, IsRising}
-use Rattle.terms.specs.Choice.{Choice, by_srel, fmid_of}
-use Rattle.terms.specs.Candidates.{is_installable, is_open, is_start, is_growing_start, is_mass_chosen, BringsIn, IsClosedPair, IsCandidate, AreCandidates}
+use Rattle.terms.specs.Choice.{Choice, by_srel}
+use Rattle.terms.specs.Candidates.{is_installable, is_open, is_start, is_growing_start, is_mass_chosen, BringsIn, IsClosedPair, AreCandidates}
 use Rattle.terms.proofs.Ids.{is_in-from_Contains, Contains-from_is_in}
 use Rattle.terms.proofs.Apart.{here, here_or, none_in}
 use Rattle.paths.specs.Seen.{AddsAll}
@@ -15,7 +15,7 @@ use Rattle.indexmap.specs.IndexSet.{insert_key}
 use Rattle.std.specs.Str.{bytes_eq}
 use Rattle.select.specs.Growing.{IsGrowing, brought_in}
 use Rattle.select.proofs.Kept.{kept-parts, kept-from, filter_next}
-use Rattle.select.proofs.Opened.{OpenParts, open_parts}
+use Rattle.select.proofs.Opened.{open_parts}
 use Rattle.select.proofs.Needs.{brings_fmid, fmid_brought, brought_parts, brought_from}
 
 -- the next of a list is inserted, if it passes
@@ -32,6 +32,11 @@ adds-if p old start seen new i x below at is adds =
 -- what at most one id adds
 pub adds-one : (old new : List Id) (x : Id) → new ≡ insert_key bytes_eq old x → AddsAll old (x ∷ []) new
 adds-one old new x is = subst (AddsAll old (x ∷ [])) (sym is) (adds-insert old [] old x (adds-none old))
+
+-- a list of what one has, and behind it another
+pub joined : (ids all start keys grown : List Id) → all ≡ start ++ keys → keys ≡ grown → ((x : Id) → Contains ids x ↔ Contains all x)
+    → (x : Id) → Contains ids x ↔ Contains (start ++ grown) x
+joined ids all start keys grown parts same both x = subst (λ xs. Contains ids x ↔ Contains xs x) (parts ∙ ap (λ ys. start ++ ys) same) (both x)
 
 module _ (g : Global) (zone : Zone) (sel : Selection) where
   abbrev c : Choice

@@ -1,21 +1,21 @@
 -- What an open SYSMOD brings in, where only those are served that need their function alone.
-use Rattle.std.proofs.Common.{◌≡◌, ◌⊎◌, inl, inr, Bool, true, false, not, ◌&&◌, ◌||◌, List, [], ◌∷◌, ◌++◌, map, filter, cond, Option, None, Some, is_some, Contains, IsTrue, if◌then◌else◌, refl, sym, subst, ap, ◌∙◌, true≢false}
+use Rattle.std.proofs.Common.{◌≡◌, ◌⊎◌, inl, inr, Bool, true, false, not, ◌||◌, List, [], ◌∷◌, ◌++◌, map, filter, Option, None, Some, Contains, IsTrue, if◌then◌else◌, refl, sym, subst, ap, ◌∙◌}
 use Rattle.std.specs.List.{list_all, flat_map}
 use Rattle.std.specs.Option.{option_map_or, option_and_then}
 use Rattle.std.specs.Str.{bytes_eq}
 use Rattle.std.proofs.lemmas.Bool.{and_parts}
 use Rattle.std.proofs.lemmas.List.{append-nil}
 use Rattle.terms.specs.declared.kinds.HoldKind.TheVariants.{Error}
-use Rattle.terms.specs.Types.{Id, IfReq, Global, Zone, Selection}
-use Rattle.terms.specs.Lookups.{is_nil, at_most_one, is_applied, is_supplied, is_function, applied_ids, holds_of}
-use Rattle.terms.specs.Choice.{Choice, by_srel, fmid_of, pre_of, req_of, sup_of, ifs_of}
+use Rattle.terms.specs.Types.{Id, Global, Zone, Selection}
+use Rattle.terms.specs.Lookups.{at_most_one, is_applied, is_supplied, is_function, applied_ids, holds_of}
+use Rattle.terms.specs.Choice.{Choice, by_srel, fmid_of, req_of, sup_of}
 use Rattle.terms.specs.Over.{Leads, Supersedes}
 use Rattle.terms.specs.Served.{has_plain_ver, is_served_zone}
-use Rattle.terms.specs.Candidates.{is_open, if_reqs, stated_for, if_needed, needed_ids, open_reasons, Extends, BringsIn}
+use Rattle.terms.specs.Candidates.{is_open, if_reqs, stated_for, if_needed, needed_ids, open_reasons, BringsIn}
 use Rattle.terms.proofs.Apart.{here, here_or, none_in}
 use Rattle.select.specs.Growing.{brought_in}
 use Rattle.select.proofs.Kept.{nil_from, kept-parts, kept-from}
-use Rattle.select.proofs.Opened.{OpenParts, open_parts, PlainParts, plain_parts}
+use Rattle.select.proofs.Opened.{open_parts, plain_parts}
 
 module _ (g : Global) (zone : Zone) where
   abbrev c : Choice

@@ -1,5 +1,5 @@
 -- What is known of a SYSMOD that is open.
-use Rattle.std.proofs.Common.{◌≡◌, Bool, true, false, not, ◌&&◌, ◌||◌, List, [], filter, find, Option, None, Some, is_some, IsTrue, refl, sym, ◌∙◌, true≢false}
+use Rattle.std.proofs.Common.{◌≡◌, true, false, not, ◌&&◌, [], filter, find, Option, None, Some, is_some, refl, ◌∙◌}
 use Rattle.std.specs.Option.{option_map_or, option_and_then}
 use Rattle.std.specs.Str.{bytes_eq}
 use Rattle.std.proofs.lemmas.Bool.{and_parts, not-true, or_parts}
@@ -7,7 +7,6 @@ use Rattle.terms.specs.declared.kinds.HoldKind.TheVariants.{Error, System, User}
 use Rattle.terms.specs.Types.{Text, Id, Ver, Sysmod, Global, Zone, Selection}
 use Rattle.terms.specs.Lookups.{is_nil, is_in, is_applied, is_supplied, supby_of, delby_of, sysmod_of, holds_of}
 use Rattle.terms.specs.Choice.{vers_of, by_srel, pre_of, req_of, sup_of, ifs_of}
-use Rattle.terms.specs.Changes.{is_replacement}
 use Rattle.terms.specs.Served.{is_plain, has_plain_ver, has_plain_changes, is_unheld, is_served_zone, is_served}
 use Rattle.terms.specs.Candidates.{is_installable, is_open}
 use Rattle.select.proofs.Kept.{nil_from, is_some-find}

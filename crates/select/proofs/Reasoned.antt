@@ -1,10 +1,10 @@
 -- Ids of a list that have a reason, each with it.
-use Rattle.std.proofs.Common.{◌≡◌, ◌<◌, ◌+◌, ℕ, length, take, get_or, ◌⊎◌, inl, inr, Bool, true, false, not, ◌||◌, List, [], ◌∷◌, ◌++◌, map, filter, cond, Option, None, Some, is_some, Contains, IsTrue, if◌then◌else◌, refl, sym, subst, ap, ◌∙◌, true≢false, ◌↔◌}
+use Rattle.std.proofs.Common.{◌≡◌, ◌<◌, ◌+◌, ℕ, length, take, get_or, ◌⊎◌, inl, inr, Bool, true, false, List, [], ◌∷◌, ◌++◌, map, filter, cond, Option, None, Some, is_some, Contains, IsTrue, refl, sym, subst, ap, ◌∙◌, ◌↔◌}
 use Rattle.std.specs.List.{filter_map, cons_option}
 use Rattle.terms.specs.declared.not_chosen.NotChosen.{NotChosen}
 use Rattle.terms.specs.Types.{Id, Global, Zone, Selection}
 use Rattle.terms.specs.Lookups.{is_in, is_before, IsRising}
-use Rattle.terms.specs.Candidates.{is_open, not_chosen}
+use Rattle.terms.specs.Candidates.{not_chosen}
 use Rattle.terms.proofs.Ids.{Contains-from_is_in}
 use Rattle.terms.proofs.Apart.{here, there, here_or, none_in}
 use Rattle.std.specs.Option.{option_to_list}

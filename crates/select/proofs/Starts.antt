@@ -1,5 +1,5 @@
 -- Where the ids of the start are looked for.
-use Rattle.std.proofs.Common.{◌≡◌, ◌⊎◌, inl, inr, Bool, true, false, ◌&&◌, ◌||◌, List, ◌++◌, map, filter, find, Option, None, Some, is_some, Contains, IsTrue, refl, sym, subst, ap, ◌∙◌, true≢false, ◌↔◌}
+use Rattle.std.proofs.Common.{◌≡◌, ◌⊎◌, inl, inr, true, false, ◌||◌, List, ◌++◌, map, filter, find, Option, None, Some, is_some, Contains, IsTrue, refl, sym, subst, ◌∙◌, true≢false, ◌↔◌}
 use Rattle.std.specs.Option.{option_and_then}
 use Rattle.std.specs.Str.{bytes_eq}
 use Rattle.std.proofs.lemmas.Bool.{and_parts, or_cases}
@@ -12,7 +12,7 @@ use Rattle.terms.proofs.Ids.{Contains-from_is_in}
 use Rattle.terms.proofs.Apart.{in_map}
 use Rattle.terms.proofs.GlobalLookups.{same_from, find-passes, All-find}
 use Rattle.select.proofs.Kept.{kept-parts, kept-from}
-use Rattle.select.proofs.Opened.{OpenParts, open_parts}
+use Rattle.select.proofs.Opened.{open_parts}
 
 received_there : (g : Global) (srel : Text) (x : Id) → is_some (by_srel g srel x) ≡ true → Contains (map (λ s. s.id) g.sysmods) x
 received_there g srel x there = by (sysmod_of g x) refl there

@@ -19,7 +19,8 @@ fn takes_kind(selection: &Selection, kind: Kind) -> bool
 {
     match kind {
         Kind::Function => selection.functions,
-        Kind::Ptf => selection.ptfs || !(selection.functions || selection.apars || selection.usermods),
+        Kind::Ptf => selection.ptfs
+            || !(selection.functions || selection.apars || selection.usermods),
         Kind::Apar => selection.apars,
         Kind::Usermod => selection.usermods,
     }

@@ -52,7 +52,11 @@ fn brought_in(scope: &Scope, id: Id) -> Option<Id>
     ensures { result ≡ brought_in scope.now.global.now scope.now.zone.now scope.now.selection.now id }
 {
     let fmid = scope.choice().ver(id)?.fmid?;
-    if scope.is_open(fmid) { Some(fmid) } else { None }
+    if scope.is_open(fmid) {
+        Some(fmid)
+    } else {
+        None
+    }
 }
 
 fn see_brought_in(scope: &Scope, id: Id, seen: &mut IndexSet<Id>) -> Result<(), AllocError>
@@ -67,11 +71,7 @@ fn see_brought_in(scope: &Scope, id: Id, seen: &mut IndexSet<Id>) -> Result<(), 
 }
 
 /// The growing ids: those of the start that bring others in, and all that these bring in.
-pub(crate) fn growing(
-    alloc: Heap,
-    scope: &Scope,
-    start: &[Id],
-) -> Result<IndexSet<Id>, AllocError>
+pub(crate) fn growing(alloc: Heap, scope: &Scope, start: &[Id]) -> Result<IndexSet<Id>, AllocError>
     requires { (x : AnId) → Contains start.now x
         ↔ IsTrue (is_start scope.now.global.now scope.now.zone.now scope.now.selection.now x) }
     ensures { IfOk result (λ seen. (x : AnId) → Contains seen.keys x

@@ -59,11 +59,7 @@ fn push_with_reason(
 }
 
 // The ids that have a reason, each with it.
-fn with_reasons(
-    alloc: Heap,
-    scope: &Scope,
-    ids: &[Id],
-) -> Result<Vec<(Id, NotChosen)>, AllocError>
+fn with_reasons(alloc: Heap, scope: &Scope, ids: &[Id]) -> Result<Vec<(Id, NotChosen)>, AllocError>
     ensures { IfOk result (λ found. found.items
         ≡ filter_map (with_reason scope.now.global.now scope.now.zone.now scope.now.selection.now) ids.now) }
 {
@@ -87,5 +83,9 @@ pub fn not_chosen(
         ↔ (not_chosen global.now zone.now selection.now x ≡ Some why)) }
 {
     let named = IdList::from_vec(named_ids(alloc, selection)?);
-    with_reasons(alloc, &Scope::new(global, zone, selection), named.as_slice())
+    with_reasons(
+        alloc,
+        &Scope::new(global, zone, selection),
+        named.as_slice(),
+    )
 }

@@ -21,8 +21,8 @@ returns-clause-members c =
     let sel = c.args.selection.now in
     let ids = c.as_slice.result.now in
     let named : (x : Id) → Contains ids x ↔ Contains (sel.select ++ sel.group) x = λ x.
-        subst (λ xs. Contains xs x ↔ Contains (sel.select ++ sel.group) x) (sym c.as_slice.ensures.items)
-        (subst (λ ys. Contains c.from_vec-named.result x ↔ Contains ys x) c.in_ok-named_ids.ensures (c.from_vec-named.ensures x)) in
+    subst (λ xs. Contains xs x ↔ Contains (sel.select ++ sel.group) x) (sym c.as_slice.ensures.items)
+    (subst (λ ys. Contains c.from_vec-named.result x ↔ Contains ys x) c.in_ok-named_ids.ensures (c.from_vec-named.ensures x)) in
     IfOk-weaker c.with_reasons.result _ _
     (λ found same x why. subst (λ ps. Contains {X = Id × NotChosen} ps (x, why) ↔ (not_chosen g zone sel x ≡ Some why)) (sym same)
     (found_members g zone sel ids named x why))

@@ -1,7 +1,5 @@
-use Rattle.std.proofs.Common.{◌≡◌, List, Contains, Vec, IsTrue, sym, subst, ◌∙◌}
-use Rattle.std.specs.declared.alloc.Global.{Global}
+use Rattle.std.proofs.Common.{Contains, sym, subst, ◌∙◌}
 use Rattle.std.proofs.lemmas.Result.{IfOk-weaker}
-use Rattle.terms.specs.Types.{Id}
 use Rattle.select.proofs.Starts.{start_received, start_named}
 use Rattle.select.proofs.start.ids_in_question.Goals as goal
 
