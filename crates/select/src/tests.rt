@@ -9,7 +9,7 @@ use std::alloc::Global as Heap;
 use std::test::Fail;
 use sysmods::{Hold, Sysmod, Ver};
 use terms::{HoldKind, Kind, NotChosen, ZoneKind};
-use zones::{Entry, Zone, ZoneDelta};
+use zones::{Element, Entry, Table, Zone};
 
 fn id(text: &str) -> Result<Id, &'static str> {
     Id::read(text.as_bytes()).ok_or("no id")
@@ -44,7 +44,7 @@ fn receive(
     alloc: Heap,
     global: &mut Global,
     name: &str,
-    fmid: Option<Id>,
+    fmid: &str,
     pre: &str,
 ) -> Result<(), Fail> {
     let name = id(name)?;
@@ -56,7 +56,7 @@ fn receive(
     let mut vers = Vec::new(alloc);
     vers.push(Ver {
         srel: srel()?,
-        fmid,
+        fmid: Id::read(fmid.as_bytes()),
         pre: ids(alloc, pre)?,
         req: IdList::new(alloc),
         sup: IdList::new(alloc),
@@ -69,27 +69,36 @@ fn receive(
     Ok(())
 }
 
-/// A function with a fix, one with a prerequisite and one that is held, and a function that builds
-/// on it, with a fix.
-fn received(alloc: Heap) -> Result<Global, Fail> {
-    let mut global = Global::new(alloc);
-    let (function, dependent) = (id("HAA1100")?, id("JAA1101")?);
-    receive(alloc, &mut global, "HAA1100", None, "")?;
-    receive(alloc, &mut global, "JAA1101", Some(function), "")?;
-    receive(alloc, &mut global, "UA00001", Some(function), "")?;
-    receive(alloc, &mut global, "UA00002", Some(function), "UA00001")?;
-    receive(alloc, &mut global, "UA00003", Some(dependent), "")?;
-    receive(alloc, &mut global, "UA00007", Some(function), "")?;
-    global.hold(Hold {
-        id: id("UA00007")?,
+fn hold(global: &mut Global, name: &str) -> Result<(), Fail> {
+    let hold = Hold {
+        id: id(name)?,
         kind: HoldKind::Error,
         reason: Reason::read(b"AP00001").ok_or("no reason")?,
-        fmid: function,
+        fmid: id("HAA1100")?,
         class: None,
         date: None,
         comment: None,
         internal: false,
-    })?;
+    };
+    global.hold(hold)?;
+    Ok(())
+}
+
+/// A function with a fix, one with a prerequisite and one that is held, and a function that builds
+/// on it, with a fix.
+fn received(alloc: Heap) -> Result<Global, Fail> {
+    let mut global = Global::new(alloc);
+    for (name, fmid, pre) in [
+        ("HAA1100", "", ""),
+        ("JAA1101", "HAA1100", ""),
+        ("UA00001", "HAA1100", ""),
+        ("UA00002", "HAA1100", "UA00001"),
+        ("UA00003", "JAA1101", ""),
+        ("UA00007", "HAA1100", ""),
+    ] {
+        receive(alloc, &mut global, name, fmid, pre)?;
+    }
+    hold(&mut global, "UA00007")?;
     Ok(global)
 }
 
@@ -103,78 +112,67 @@ fn entry(alloc: Heap, id: Id, applied: Option<YyDdd>, delby: Option<Id>) -> Entr
     }
 }
 
-fn selected(alloc: Heap, select: &str, group: &str) -> Result<Selection, Fail> {
+/// One SYSMOD is applied, and one is deleted.
+fn zone(alloc: Heap) -> Result<Zone, Fail> {
+    let mut entries = Table::new(alloc);
+    let day = YyDdd::new(2024, 138);
+    entries.put(entry(alloc, id("UA00004")?, Some(day), None))?;
+    entries.put(entry(alloc, id("UA00005")?, None, Some(id("HAA1100")?)))?;
+    let elements = Table::<Element>::new(alloc);
+    let zone = Zone::from_tables(ZoneKind::Distribution, srel()?, None, entries, elements);
+    Ok(zone.ok_or("no zone")?)
+}
+
+/// A selection with FUNCTIONS, GROUPEXTEND or FORFMID(JAA1101) where the operand is so named.
+fn selection(
+    alloc: Heap,
+    operand: &str,
+    select: &str,
+    group: &str,
+    exclude: &str,
+) -> Result<Selection, Fail> {
     Ok(Selection {
-        functions: false,
+        functions: operand == "functions",
         ptfs: false,
         apars: false,
         usermods: false,
         select: ids(alloc, select)?,
-        exclude: IdList::new(alloc),
+        exclude: ids(alloc, exclude)?,
         sourceid: SourceList::new(alloc),
-        forfmid: IdList::new(alloc),
+        forfmid: ids(alloc, if operand == "forfmid" { "JAA1101" } else { "" })?,
         group: ids(alloc, group)?,
-        groupextend: false,
+        groupextend: operand == "groupextend",
     })
 }
 
 #[test]
-fn selections(rt: HostRuntime) -> Result<(), Fail> {
+fn are_chosen(rt: HostRuntime) -> Result<(), Fail> {
     let alloc = rt.alloc();
     let global = received(alloc)?;
-    let mut delta = ZoneDelta::new(alloc);
-    let applied = entry(alloc, id("UA00004")?, Some(YyDdd::new(2024, 138)), None);
-    assert!(rt; applied.is_held() && applied.waives_applied());
-    delta.put_entry(applied)?;
-    let deleted = entry(alloc, id("UA00005")?, None, Some(id("HAA1100")?));
-    assert!(rt; deleted.is_held() && deleted.waives_applied());
-    delta.put_entry(deleted)?;
-    let zone = Zone::new(alloc, ZoneKind::Distribution, srel()?, None).changed(alloc, &delta)?;
-    for (functions, select, group, exclude, extend, forfmid, wanted) in [
-        (false, "UA00001", "", "", false, "", "UA00001"),
-        (false, "UA00001 UA00002", "", "UA00001", false, "", ""),
-        (
-            false,
-            "",
-            "UA00003",
-            "",
-            false,
-            "",
-            "HAA1100 JAA1101 UA00003",
-        ),
-        (false, "", "UA00003", "JAA1101", false, "", "UA00003"),
-        (
-            false,
-            "UA00003",
-            "",
-            "",
-            true,
-            "",
-            "HAA1100 JAA1101 UA00003",
-        ),
-        (false, "", "", "", false, "", "UA00001 UA00003"),
-        (
-            true,
-            "UA00001",
-            "",
-            "",
-            false,
-            "",
-            "HAA1100 JAA1101 UA00001",
-        ),
-        (true, "", "", "", false, "JAA1101", "JAA1101"),
-        (false, "", "", "", false, "JAA1101", "UA00003"),
+    let zone = zone(alloc)?;
+    for (operand, select, group, exclude, wanted) in [
+        ("", "UA00001", "", "", "UA00001"),
+        ("", "UA00001 UA00002", "", "UA00001", ""),
+        ("", "", "UA00003", "", "HAA1100 JAA1101 UA00003"),
+        ("", "", "UA00003", "JAA1101", "UA00003"),
+        ("groupextend", "UA00003", "", "", "HAA1100 JAA1101 UA00003"),
+        ("", "", "", "", "UA00001 UA00003"),
+        ("functions", "UA00001", "", "", "HAA1100 JAA1101 UA00001"),
+        ("forfmid", "", "", "", "UA00003"),
     ] {
-        let mut selection = selected(alloc, select, group)?;
-        selection.functions = functions;
-        selection.exclude = ids(alloc, exclude)?;
-        selection.groupextend = extend;
-        selection.forfmid = ids(alloc, forfmid)?;
+        let selection = selection(alloc, operand, select, group, exclude)?;
         let found = candidates(alloc, &global, &zone, &selection)?;
-        let wanted = ids(alloc, wanted)?;
-        assert_eq!(rt; found.as_slice(), wanted.as_slice());
+        assert_eq!(rt; found.as_slice(), ids(alloc, wanted)?.as_slice());
     }
-    let selection = selected(alloc, "UA00001 UA00002 UA00005", "UA00004 UA00006 UA00007")?;
+    Ok(())
+}
+
+#[test]
+fn are_left_out(rt: HostRuntime) -> Result<(), Fail> {
+    let alloc = rt.alloc();
+    let (global, zone) = (received(alloc)?, zone(alloc)?);
+    let named = ("UA00001 UA00002 UA00005", "UA00004 UA00006 UA00007");
+    let selection = selection(alloc, "", named.0, named.1, "")?;
     let found = not_chosen(alloc, &global, &zone, &selection)?;
     let wanted = [
         (id("UA00002")?, NotChosen::NoVer),
