@@ -1,12 +1,31 @@
+//! The candidates.
 ghost use Rattle.std.specs.Prelude.{All, IsTrue, IfOk};
 ghost use Rattle.terms.specs.Choice.{by_srel};
 ghost use Rattle.terms.specs.Candidates.{AreCandidates, is_installable};
 
+use crate::growing::growing;
+use crate::scope::Scope;
+use crate::start::start;
 use cntl::Selection;
 use fields::IdList;
 use global::Global;
 use std::alloc::{AllocError, Global as Heap};
 use zones::Zone;
+
+// The start and what it brings in.
+fn start_and_growing(alloc: Heap, scope: &Scope) -> Result<IdList, AllocError>
+    ensures members { IfOk result (λ ids. AreCandidates scope.now.global.now
+        (by_srel scope.now.global.now scope.now.zone.now.srel) scope.now.zone.now scope.now.selection.now ids) }
+    ensures installable { IfOk result (λ ids.
+        All (λ x. IsTrue (is_installable scope.now.global.now scope.now.zone.now x)) ids) }
+{
+    let mut ids = start(alloc, scope)?;
+    let growing = growing(alloc, scope, ids.as_slice())?;
+    ids.extend_from_slice(growing.as_slice())?;
+    let candidates = IdList::from_vec(ids);
+    let _ = candidates.as_slice();
+    Ok(candidates)
+}
 
 /// The candidates, rising.
 pub fn candidates(
@@ -19,5 +38,5 @@ pub fn candidates(
         AreCandidates global.now (by_srel global.now zone.now.srel) zone.now selection.now ids) }
     ensures installable { IfOk result (λ ids. All (λ x. IsTrue (is_installable global.now zone.now x)) ids) }
 {
-    Err(AllocError)
+    start_and_growing(alloc, &Scope::new(global, zone, selection))
 }

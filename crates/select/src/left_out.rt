@@ -1,15 +1,74 @@
-ghost use Rattle.std.specs.Prelude.{◌≡◌, ◌↔◌, List, All, Some, Contains, IfOk, map};
+//! Why ids that SELECT and GROUP name are no candidates.
+ghost use Rattle.std.specs.Prelude.{◌≡◌, ◌↔◌, ◌++◌, ◌||◌, not, Some, Contains, IfOk, OnOk, map};
+ghost use Rattle.std.specs.List.{filter_map};
+ghost use Rattle.std.specs.Option.{option_to_list};
 ghost use Rattle.terms.specs.declared.not_chosen.NotChosen.{NotChosen as Reason};
 ghost use Rattle.terms.specs.Types.{Id as AnId};
-ghost use Rattle.terms.specs.Lookups.{IsRising};
-ghost use Rattle.terms.specs.Candidates.{not_chosen};
+ghost use Rattle.terms.specs.Lookups.{IsRising, is_in};
+ghost use Rattle.terms.specs.Candidates.{is_open, not_chosen};
+ghost use Rattle.select.specs.Reasons.{with_reason};
 
+use crate::scope::Scope;
+use crate::start::{is_named, named_ids};
 use cntl::Selection;
-use fields::Id;
+use fields::{Id, IdList};
 use global::Global;
 use std::alloc::{AllocError, Global as Heap};
 use terms::NotChosen;
 use zones::Zone;
+
+// Whether it is not named, or excluded, or open.
+fn needs_no_reason(scope: &Scope, id: Id) -> bool
+    ensures { result ≡ (not (is_in (scope.now.selection.now.select ++ scope.now.selection.now.group) id)
+        || is_in scope.now.selection.now.exclude id
+        || is_open scope.now.global.now scope.now.zone.now scope.now.selection.now id) }
+{
+    let selection = scope.selection;
+    !is_named(selection, id) || selection.exclude.contains(id) || scope.is_open(id)
+}
+
+#[tactic(auto, unfolding(terms::specs::Candidates::not_chosen))]
+fn why_not(scope: &Scope, id: Id) -> Option<NotChosen>
+    ensures { result ≡ not_chosen scope.now.global.now scope.now.zone.now scope.now.selection.now id }
+{
+    if needs_no_reason(scope, id) {
+        None
+    } else if scope.zone.supplies(id) {
+        Some(NotChosen::Already)
+    } else if scope.is_deleted(id) {
+        Some(NotChosen::Deleted)
+    } else if !scope.global.is_received(id) {
+        Some(NotChosen::Missing)
+    } else {
+        Some(NotChosen::NoVer)
+    }
+}
+
+fn push_with_reason(
+    scope: &Scope,
+    id: Id,
+    found: &mut Vec<(Id, NotChosen)>,
+) -> Result<(), AllocError>
+    ensures { OnOk result (found.new.items ≡ found.old.items
+        ++ option_to_list (with_reason scope.now.global.now scope.now.zone.now scope.now.selection.now id)) }
+{
+    if let Some(why) = why_not(scope, id) {
+        found.push((id, why))?;
+    }
+    Ok(())
+}
+
+// The ids that have a reason, each with it.
+fn with_reasons(alloc: Heap, scope: &Scope, ids: &[Id]) -> Result<Vec<(Id, NotChosen)>, AllocError>
+    ensures { IfOk result (λ found. found.items
+        ≡ filter_map (with_reason scope.now.global.now scope.now.zone.now scope.now.selection.now) ids.now) }
+{
+    let mut found = Vec::new(alloc);
+    for id in ids {
+        push_with_reason(scope, *id, &mut found)?;
+    }
+    Ok(found)
+}
 
 /// The ids of SELECT and GROUP that are neither excluded nor open, rising, each with the reason.
 pub fn not_chosen(
@@ -19,8 +78,14 @@ pub fn not_chosen(
     selection: &Selection,
 ) -> Result<Vec<(Id, NotChosen)>, AllocError>
     ensures rising { IfOk result (λ found. IsRising (map (λ f. f.0) found.items)) }
-    ensures members { IfOk result (λ found. (x : AnId) (why : Reason) →
-        Contains (map (λ f. (f.0, f.1)) found.items) (x, why) ↔ (not_chosen global.now zone.now selection.now x ≡ Some why)) }
+    ensures members { IfOk result (λ found. (x : AnId) (why : Reason)
+        → Contains {X = AnId × Reason} found.items (x, why)
+        ↔ (not_chosen global.now zone.now selection.now x ≡ Some why)) }
 {
-    Err(AllocError)
+    let named = IdList::from_vec(named_ids(alloc, selection)?);
+    with_reasons(
+        alloc,
+        &Scope::new(global, zone, selection),
+        named.as_slice(),
+    )
 }

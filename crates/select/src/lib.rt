@@ -2,7 +2,15 @@
 #![tactic(auto)]
 
 mod chosen;
+mod filters;
+mod growing;
 mod left_out;
+mod scope;
+mod served;
+mod start;
 
 pub use chosen::candidates;
 pub use left_out::not_chosen;
+
+#[cfg(test)]
+mod tests;

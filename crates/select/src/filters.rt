@@ -1,0 +1,120 @@
+//! The mass choice and its filters.
+ghost use Rattle.std.specs.Prelude.{◌≡◌, ◌&&◌, ◌||◌, ◌∷◌, [], filter, if◌then◌else◌};
+ghost use Rattle.std.specs.List.{flat_map, list_any};
+ghost use Rattle.std.specs.Str.{bytes_eq};
+ghost use Rattle.terms.specs.Lookups.{at_most_one, is_function, is_in, is_nil, meets};
+ghost use Rattle.terms.specs.Choice.{vers_of};
+ghost use Rattle.terms.specs.Candidates.{takes_kind, forfmid_ids, passes_filters, has_mass_choice};
+
+use crate::served::is_nil;
+use cntl::Selection;
+use fields::{Id, IdList, SourceList, Srel};
+use global::Global;
+use sysmods::{Sysmod, Ver};
+use terms::Kind;
+use zones::Zone;
+
+fn takes_kind(selection: &Selection, kind: Kind) -> bool
+    ensures { result ≡ takes_kind selection.now kind }
+{
+    match kind {
+        Kind::Function => selection.functions,
+        Kind::Ptf => selection.ptfs
+            || !(selection.functions || selection.apars || selection.usermods),
+        Kind::Apar => selection.apars,
+        Kind::Usermod => selection.usermods,
+    }
+}
+
+fn meets_sources(sources: &SourceList, wanted: &SourceList) -> bool
+    ensures { result ≡ meets sources.now wanted.now }
+{
+    sources.iter().any(|source| wanted.contains(*source))
+}
+
+fn passes_sources(wanted: &SourceList, sources: &SourceList) -> bool
+    ensures { result ≡ (is_nil wanted.now || meets sources.now wanted.now) }
+{
+    is_nil(wanted.as_slice()) || meets_sources(sources, wanted)
+}
+
+fn has_fmid_among(ver: &Ver, wanted: &IdList) -> bool
+    ensures { result ≡ list_any (is_in wanted.now) (at_most_one ver.now.fmid) }
+{
+    match ver.fmid {
+        Some(fmid) => wanted.contains(fmid),
+        None => false,
+    }
+}
+
+fn is_for_and_among(ver: &Ver, srel: Srel, wanted: &IdList) -> bool
+    ensures { result ≡ (bytes_eq ver.now.srel srel && list_any (is_in wanted.now) (at_most_one ver.now.fmid)) }
+{
+    ver.srel == srel && has_fmid_among(ver, wanted)
+}
+
+fn some_ver_among(vers: &[Ver], srel: Srel, wanted: &IdList) -> bool
+    ensures { result ≡ list_any (λ v. bytes_eq v.srel srel && list_any (is_in wanted.now) (at_most_one v.fmid)) vers.now }
+{
+    vers.iter().any(|ver| is_for_and_among(ver, srel, wanted))
+}
+
+fn meets_fmids(global: &Global, srel: Srel, id: Id, wanted: &IdList) -> bool
+    ensures { result ≡ meets (flat_map (λ v. at_most_one v.fmid) (vers_of global.now srel id)) wanted.now }
+{
+    match global.get(id) {
+        Some(sysmod) => some_ver_among(sysmod.vers.as_slice(), srel, wanted),
+        None => false,
+    }
+}
+
+fn meets_function(global: &Global, id: Id, wanted: &IdList) -> bool
+    ensures { result ≡ meets (if is_function global.now id then id ∷ [] else []) wanted.now }
+{
+    global.is_function(id) && wanted.contains(id)
+}
+
+fn meets_forfmid(global: &Global, zone: &Zone, id: Id, wanted: &IdList) -> bool
+    ensures { result ≡ meets (forfmid_ids global.now zone.now id) wanted.now }
+{
+    meets_fmids(global, zone.srel(), id, wanted) || meets_function(global, id, wanted)
+}
+
+fn passes_forfmid(global: &Global, zone: &Zone, id: Id, wanted: &IdList) -> bool
+    ensures { result ≡ (is_nil wanted.now || meets (forfmid_ids global.now zone.now id) wanted.now) }
+{
+    is_nil(wanted.as_slice()) || meets_forfmid(global, zone, id, wanted)
+}
+
+/// Whether the SYSMOD passes all filters of the mass choice.
+pub(crate) fn passes_filters(
+    global: &Global,
+    zone: &Zone,
+    selection: &Selection,
+    sysmod: &Sysmod,
+) -> bool
+    ensures { result ≡ passes_filters global.now zone.now selection.now sysmod.now }
+{
+    takes_kind(selection, sysmod.kind)
+        && passes_sources(&selection.sourceid, &sysmod.sources)
+        && passes_forfmid(global, zone, sysmod.id, &selection.forfmid)
+}
+
+fn names_none(selection: &Selection) -> bool
+    ensures { result ≡ (is_nil selection.now.select && is_nil selection.now.group) }
+{
+    is_nil(selection.select.as_slice()) && is_nil(selection.group.as_slice())
+}
+
+/// Whether the mass choice is made: a filter is given, or neither SELECT nor GROUP.
+pub(crate) fn has_mass_choice(selection: &Selection) -> bool
+    ensures { result ≡ has_mass_choice selection.now }
+{
+    selection.functions
+        || selection.ptfs
+        || selection.apars
+        || selection.usermods
+        || !is_nil(selection.sourceid.as_slice())
+        || !is_nil(selection.forfmid.as_slice())
+        || names_none(selection)
+}

@@ -1,0 +1,86 @@
+//! What is open to an APPLY.
+ghost use Rattle.std.specs.Prelude.{◌≡◌, not, is_some};
+ghost use Rattle.terms.specs.Lookups.{is_nil, delby_of};
+ghost use Rattle.terms.specs.Choice.{vers_of};
+ghost use Rattle.terms.specs.Served.{is_served, is_served_zone};
+ghost use Rattle.terms.specs.Candidates.{is_installable, is_open};
+
+use crate::served::{changes_plainly, has_plain_ver, is_served_zone, is_unheld};
+use cntl::Selection;
+use fields::Id;
+use global::{Global, VerChoice};
+use zones::Zone;
+
+/// What an APPLY chooses from and by, and whether the zone is served.
+#[derive(Clone, Copy)]
+pub(crate) struct Scope<'a> {
+    pub(crate) global: &'a Global,
+    pub(crate) zone: &'a Zone,
+    pub(crate) selection: &'a Selection,
+    serves_zone: bool,
+    ghost served: { serves_zone ≡ is_served_zone global.now zone.now },
+}
+
+impl<'a> Scope<'a> {
+    pub(crate) fn new(global: &'a Global, zone: &'a Zone, selection: &'a Selection) -> Self
+        ensures global { result.global.now ≡ global.now }
+        ensures zone { result.zone.now ≡ zone.now }
+        ensures selection { result.selection.now ≡ selection.now }
+    {
+        Scope {
+            global,
+            zone,
+            selection,
+            serves_zone: is_served_zone(global, zone),
+        }
+    }
+
+    pub(crate) fn choice(&self) -> VerChoice<'a>
+        ensures global { result.global.now ≡ self.now.global.now }
+        ensures srel { result.srel ≡ self.now.zone.now.srel }
+    {
+        VerChoice::new(self.global, self.zone.srel())
+    }
+
+    fn has_ver(&self, id: Id) -> bool
+        ensures { result ≡ not (is_nil (vers_of self.now.global.now self.now.zone.now.srel id)) }
+    {
+        match self.choice().ver(id) {
+            Some(_) => true,
+            None => false,
+        }
+    }
+
+    fn is_served(&self, id: Id) -> bool
+        ensures { result ≡ is_served self.now.global.now self.now.zone.now id }
+    {
+        has_plain_ver(self.global, self.zone, id)
+            && changes_plainly(self.global, id)
+            && is_unheld(self.global, id)
+            && self.serves_zone
+    }
+
+    pub(crate) fn is_deleted(&self, id: Id) -> bool
+        ensures { result ≡ is_some (delby_of self.now.zone.now id) }
+    {
+        match self.zone.entry(id) {
+            Some(entry) => entry.delby.is_some(),
+            None => false,
+        }
+    }
+
+    /// Whether it has a `++VER` for the zone's SREL, is served, and is neither supplied nor deleted.
+    fn is_installable(&self, id: Id) -> bool
+        ensures { result ≡ is_installable self.now.global.now self.now.zone.now id }
+    {
+        self.has_ver(id) && self.is_served(id) && !self.zone.supplies(id) && !self.is_deleted(id)
+    }
+
+    /// Whether it may be installed and is not excluded.
+    pub(crate) fn is_open(&self, id: Id) -> bool
+        ensures { result ≡ is_open self.now.global.now self.now.zone.now self.now.selection.now id }
+    {
+        let selection = self.selection;
+        self.is_installable(id) && !selection.exclude.contains(id)
+    }
+}

@@ -1,0 +1,92 @@
+//! What the mass choice, SELECT and GROUP name.
+ghost use Rattle.std.specs.Prelude.{◌≡◌, ◌||◌, ◌++◌, ◌↔◌, false, filter, map, Contains, IsTrue, IfOk};
+ghost use Rattle.std.specs.Option.{option_map_or};
+ghost use Rattle.terms.specs.Types.{Id as AnId};
+ghost use Rattle.terms.specs.Lookups.{is_in, sysmod_of};
+ghost use Rattle.terms.specs.Candidates.{passes_filters, is_mass_chosen, is_start};
+
+use crate::filters::{has_mass_choice, passes_filters};
+use crate::scope::Scope;
+use cntl::Selection;
+use fields::Id;
+use global::Global;
+use std::alloc::{AllocError, Global as Heap};
+
+fn passes(scope: &Scope, id: Id) -> bool
+    ensures { result ≡ option_map_or (passes_filters scope.now.global.now scope.now.zone.now scope.now.selection.now) (sysmod_of scope.now.global.now id) false }
+{
+    match scope.global.get(id) {
+        Some(sysmod) => passes_filters(scope.global, scope.zone, scope.selection, sysmod),
+        None => false,
+    }
+}
+
+fn is_mass_chosen(scope: &Scope, id: Id) -> bool
+    ensures { result ≡ is_mass_chosen scope.now.global.now scope.now.zone.now scope.now.selection.now id }
+{
+    has_mass_choice(scope.selection) && passes(scope, id)
+}
+
+/// Whether SELECT or GROUP names it.
+pub(crate) fn is_named(selection: &Selection, id: Id) -> bool
+    ensures { result ≡ (is_in selection.now.select id || is_in selection.now.group id) }
+{
+    selection.select.contains(id) || selection.group.contains(id)
+}
+
+fn is_start(scope: &Scope, id: Id) -> bool
+    ensures { result ≡ is_start scope.now.global.now scope.now.zone.now scope.now.selection.now id }
+{
+    scope.is_open(id) && (is_named(scope.selection, id) || is_mass_chosen(scope, id))
+}
+
+/// The ids of SELECT and of GROUP.
+pub(crate) fn named_ids(alloc: Heap, selection: &Selection) -> Result<Vec<Id>, AllocError>
+    ensures { IfOk result (λ ids. ids.items ≡ selection.now.select ++ selection.now.group) }
+{
+    let mut ids = Vec::from_slice(alloc, selection.select.as_slice())?;
+    ids.extend_from_slice(selection.group.as_slice())?;
+    Ok(ids)
+}
+
+fn received_ids(alloc: Heap, global: &Global) -> Result<Vec<Id>, AllocError>
+    ensures { IfOk result (λ ids. ids.items ≡ map (λ s. s.id) global.now.sysmods) }
+{
+    let mut ids = Vec::new(alloc);
+    for sysmod in global.sysmods() {
+        ids.push(sysmod.id)?;
+    }
+    Ok(ids)
+}
+
+// The ids that may be in the start: those named, or all received ones where the mass choice is made.
+fn ids_in_question(alloc: Heap, scope: &Scope) -> Result<Vec<Id>, AllocError>
+    ensures { IfOk result (λ ids. (x : AnId)
+        → IsTrue (is_start scope.now.global.now scope.now.zone.now scope.now.selection.now x)
+        → Contains ids.items x) }
+{
+    if has_mass_choice(scope.selection) {
+        received_ids(alloc, scope.global)
+    } else {
+        named_ids(alloc, scope.selection)
+    }
+}
+
+fn among(alloc: Heap, scope: &Scope, ids: &[Id]) -> Result<Vec<Id>, AllocError>
+    ensures { IfOk result (λ start. start.items
+        ≡ filter (is_start scope.now.global.now scope.now.zone.now scope.now.selection.now) ids.now) }
+{
+    ids.iter()
+        .filter(|id| is_start(scope, **id))
+        .copied()
+        .collect(alloc)
+}
+
+/// The open ids that the mass choice, SELECT or GROUP names. Some may stand twice.
+pub(crate) fn start(alloc: Heap, scope: &Scope) -> Result<Vec<Id>, AllocError>
+    ensures { IfOk result (λ start. (x : AnId) → Contains start.items x
+        ↔ IsTrue (is_start scope.now.global.now scope.now.zone.now scope.now.selection.now x)) }
+{
+    let ids = ids_in_question(alloc, scope)?;
+    among(alloc, scope, ids.as_slice())
+}
