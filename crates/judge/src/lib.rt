@@ -2,5 +2,9 @@
 #![tactic(auto)]
 
 mod judging;
+mod own;
+mod rows;
+mod sharing;
+mod wanted;
 
 pub use judging::{Judged, judge};

@@ -32,6 +32,7 @@ pub mod Exact
 pub mod NumberedCauses
 pub mod SameLists
 pub mod SameZones
+pub mod NothingDeleted
 pub mod Apart
 pub mod OperandWords
 pub mod ExactOperands
