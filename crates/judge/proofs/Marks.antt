@@ -290,9 +290,9 @@ module _ (g : Global) (ids : List Id) (faults : List OwnFaults) where
       by true on =
           subst (AreClaims g ids faults (k + 1)) (sym (made ∙ ap (λ b. claims ++ cond b (claims_at k x) []) on))
           (claims-more k x own claims at own_at on are)
-      by false no =
-          subst (AreClaims g ids faults (k + 1)) (sym (made ∙ ap (λ b. claims ++ cond b (claims_at k x) []) no ∙ append-nil claims))
-          (claims-skip k own claims own_at no are)
+      by false fails =
+          subst (AreClaims g ids faults (k + 1)) (sym (made ∙ ap (λ b. claims ++ cond b (claims_at k x) []) fails ∙ append-nil claims))
+          (claims-skip k own claims own_at fails are)
 
   -- who shares a place shares an element
   pub shared-at : (claims : List Claim) (end : ℕ) → AreClaims g ids faults end claims → (n : ℕ) → IsSharedPlace claims n ↔ IsSharedAt g ids faults end n

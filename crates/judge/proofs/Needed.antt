@@ -6,17 +6,16 @@ use Rattle.std.proofs.lemmas.Bool.{cases_eq}
 use Rattle.std.proofs.lemmas.List.{take_more, take_all, length-take-le}
 use Rattle.std.specs.List.{flat_map, list_any}
 use Rattle.std.specs.Option.{option_map_or, option_and_then}
-use Rattle.std.proofs.lemmas.Option.{slice_get_within}
+use Rattle.std.proofs.lemmas.Option.{slice_get_within, get_or_from_slice_get}
 use Rattle.std.proofs.lemmas.List.Folds.{list_any_none}
 use Rattle.std.proofs.lemmas.List.Elements.{All-nil, All-cons, All-push}
 use Rattle.terms.specs.declared.codes.NeedKind.{NeedKind}
 use Rattle.terms.specs.declared.codes.NeedKind.TheVariants.{Fmid, Pre, Req, Ifreq, HoldError, Orphan, Elem, Dep}
 use Rattle.terms.specs.declared.kinds.HoldKind.TheVariants.{Error}
-use Rattle.terms.specs.Types.{Id, Element, Global, Zone}
+use Rattle.terms.specs.Types.{Id, Global, Zone}
 use Rattle.terms.specs.Lookups.{is_held, at_most_one, is_in, is_function, is_applied, applied_ids, supplies}
 use Rattle.terms.specs.Choice.{Choice, by_srel, fmid_of, pre_of, req_of, ifs_of, del_of}
 use Rattle.terms.specs.Over.{IsOver, Supersedes}
-use Rattle.judge.specs.Own.{IsLower}
 use Rattle.terms.specs.Deleted.{is_deleted, is_taken_out, zone_less}
 use Rattle.terms.specs.Candidates.{if_reqs, stated_for, if_needed}
 use Rattle.terms.specs.Tests.{Setting, view_of, standing_holds, is_bypassed_hold, AreSurvivors}
@@ -273,6 +272,10 @@ pub all-next : {X : Type 0} (P : X → Type 0) (xs : List X) (i : ℕ) (x : X) �
 all-next P xs i x below at p all =
     subst (All P) (sym (take_more xs i x below ∙ ap (λ v. take i xs ++ v ∷ []) (sym at))) (All-push P (take i xs) x all p)
 
+pub beside-at : {X Y : Type 0} (R : ℕ → X → Y → Type 0) (xs : List X) (ys new : List Y) (i : ℕ) (x : X) (y : Y) → slice_get xs i ≡ Some x
+    → new ≡ ys ++ y ∷ [] → R i x y → Beside R (take i xs) ys → Beside R (take (i + 1) xs) new
+beside-at R xs ys new i x y at = beside-next R xs ys new i x y (slice_get_within xs i x at) (sym (get_or_from_slice_get xs i x x at))
+
 pub beside-through : {X Y : Type 0} (R : ℕ → X → Y → Type 0) (xs : List X) (ys : List Y) (i : ℕ) → length xs ≤ i → Beside R (take i xs) ys → Beside R xs ys
 beside-through R xs ys i whole b = subst (λ l. Beside R l ys) (take_all i xs whole) b
 
@@ -302,15 +305,16 @@ wants-next wants ids flags k x old new ns new_ns at adds h = by (wants x) refl a
 
 -- ---- what is not over the SYSMODs that made an element
 
-pub lower-first : (c : Choice) (x : Id) (e : Element) → ¬ IsOver c x e.rmid → IsTrue true ↔ IsLower c x e
-lower-first c x e lacks = (λ on. (0, e.rmid, omega arith, refl, lacks), λ lower. refl)
+pub lower-first : (c : Choice) (x rmid : Id) (umids : List Id) → ¬ IsOver c x rmid → IsTrue true ↔ Any (λ z. ¬ IsOver c x z) (rmid ∷ umids)
+lower-first c x rmid umids lacks = (λ on. (0, rmid, omega arith, refl, lacks), λ lower. refl)
 
-pub lower-rest : (c : Choice) (x : Id) (e : Element) (b : Bool) → IsOver c x e.rmid → IsTrue b ↔ Any (λ z. ¬ IsOver c x z) e.umids → IsTrue b ↔ IsLower c x e
-lower-rest c x e b over rest = (
+pub lower-rest : (c : Choice) (x rmid : Id) (umids : List Id) (b : Bool) → IsOver c x rmid → IsTrue b ↔ Any (λ z. ¬ IsOver c x z) umids
+    → IsTrue b ↔ Any (λ z. ¬ IsOver c x z) (rmid ∷ umids)
+lower-rest c x rmid umids b over rest = (
   λ on. let any = rest.0 on in (suc any.0, any.1, omega (arith, any.2), any.3, any.4),
   by,
 )
   where
-    by : IsLower c x e → IsTrue b
+    by : Any (λ z. ¬ IsOver c x z) (rmid ∷ umids) → IsTrue b
     by (zero, z, below, at, lacks) = absurd (lacks (subst (IsOver c x) at over))
     by (suc k, z, below, at, lacks) = rest.1 (k, z, omega (arith, below), at, lacks)

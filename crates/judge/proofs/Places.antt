@@ -5,7 +5,10 @@ use Rattle.std.specs.List.{list_any}
 use Rattle.std.specs.Option.{option_map, option_map_or}
 use Rattle.std.specs.Str.{bytes_eq}
 use Rattle.std.proofs.lemmas.Bool.{and_parts, eqb-true, cases_order, cases_eq}
-use Rattle.std.specs.Ordering.{is_lt}
+use Rattle.std.specs.Ordering.{is_lt, nat_cmp}
+use Rattle.std.specs.Cmp.Lexicographic.{slice_cmp}
+use Rattle.std.proofs.lemmas.Map.Lookups.{exact_bytes}
+use Rattle.terms.specs.Rising.{Stands}
 use Rattle.std.proofs.lemmas.Cmp.{nat_list_cmp_total, nat_eq_equiv, tied_itself}
 use Rattle.std.proofs.lemmas.List.{length-map}
 use Rattle.terms.specs.Needs.{Needs, Serves}
@@ -54,8 +57,8 @@ not-from true e = absurd (true≢false (sym e))
 not-from false e = refl
 
 off : (b : Bool) → ¬ IsTrue b → not b ≡ true
-off true no = absurd (no refl)
-off false no = refl
+off true lacks = absurd (lacks refl)
+off false lacks = refl
 
 bytes-apart : (x y : Id) → not (bytes_eq x y) ≡ true → x ≢ y
 bytes-apart x y e same = true≢false (sym (subst (λ z. bytes_eq x z ≡ true) same (same_itself x)) ∙ not-from (bytes_eq x y) e)
@@ -106,15 +109,15 @@ no-place ids f none n y at_y = (
 
 from-filter : {X : Type 0} (p : X → Bool) (xs : List X) (x : X) → Contains (filter p xs) x → Contains xs x
 from-filter p [] x h = h
-from-filter {X} p (y ∷ ys) x h = by (p y) refl
+from-filter {X} p (y ∷ ys) x h = by (from-filter p ys x) (p y) refl
   where
-    by : (b : Bool) → p y ≡ b → Contains (y ∷ ys) x
-    by true e =
+    by : (Contains (filter p ys) x → Contains ys x) → (b : Bool) → p y ≡ b → Contains (y ∷ ys) x
+    by rest true e =
         elim (here_or y (filter p ys) x (subst (λ l. Contains l x) (ap (λ b. cond b (y ∷ filter p ys) (filter p ys)) e) h)) [
           | inl same ↦ (0, omega arith, same)
-          | inr later ↦ there y ys x (from-filter p ys x later)
+          | inr later ↦ there y ys x (rest later)
         ]
-    by false e = there y ys x (from-filter p ys x (subst (λ l. Contains l x) (ap (λ b. cond b (y ∷ filter p ys) (filter p ys)) e) h))
+    by rest false e = there y ys x (rest (subst (λ l. Contains l x) (ap (λ b. cond b (y ∷ filter p ys) (filter p ys)) e) h))
 
 -- the place of an id and what it fails by itself
 abbrev pub own_of : List Id → List OwnFaults → ℕ → Id → Option (ℕ × OwnFaults)
@@ -294,7 +297,7 @@ module _ (g : Global) (zone : Zone) (ids : List Id) (held : All (λ e. IsTrue (i
     )
 
     none : (T : Type 0) → ¬ T → IsTrue false ↔ T
-    none T no = (λ e. absurd (true≢false (sym e)), λ t. absurd (no t))
+    none T lacks = (λ e. absurd (true≢false (sym e)), λ t. absurd (lacks t))
 
     test-fails : (n : ℕ) (x : Id) (a : OwnFaults) → slice_get ids n ≡ Some x → slice_get faults n ≡ Some a
         → (t : Test) → IsTrue (fails_test a (is_among shared n) t) ↔ Fails s x t
@@ -317,7 +320,7 @@ module _ (g : Global) (zone : Zone) (ids : List Id) (held : All (λ e. IsTrue (i
     -- the rows of failed tests
     pub are-failed : {R : Type 0} (items : R → List Test) (rows : List R) → Beside (λ n a row. items row ≡ row_of shared n a) faults rows → AreFailedTests s (map items rows)
     are-failed {R} items rows beside = record {
-      lengths = length-map items rows ∙ beside.lengths ∙ own.lengths;
+      lengths = length-map rows items ∙ beside.lengths ∙ own.lengths;
       fails = λ x. fails_at (own_of ids faults 0 x);
       rows_are = λ n x at. row-at n x at;
       failed = λ n x at t.
@@ -388,3 +391,16 @@ module _ (g : Global) (zone : Zone) (ids : List Id) (held : All (λ e. IsTrue (i
         once = λ i j d e need at_d at_e need_d need_e same. wants.once i j d e at_d at_e same;
       };
     }
+
+-- what a search finds
+pub stands-at : (ids : List Id) (f : Id) (i : ℕ) → i < length ids → (x : Id) → Stands (slice_cmp nat_cmp) (λ y. y) f ids i x
+    → (slice_get ids i ≡ Some x) × (x ≡ f)
+stands-at ids f i below x s = (
+  slice_get-get_or ids i x below ∙ ap (λ v. Some v) (s.at x),
+  exact_bytes x f s.tie,
+)
+
+-- pairs are made of their parts
+pub same-pairs : {X Y : Type 0} (xs : List (X × Y)) → map (λ p. (p.0, p.1)) xs ≡ xs
+same-pairs [] = refl
+same-pairs (x ∷ xs) = ap (λ l. x ∷ l) (same-pairs xs)

@@ -8,3 +8,6 @@ mod sharing;
 mod wanted;
 
 pub use judging::{Judged, judge};
+
+#[cfg(test)]
+mod tests;

@@ -1,5 +1,5 @@
 //! The tests that look at one candidate alone.
-ghost use Rattle.std.specs.Prelude.{◌≡◌, ◌==◌, ◌↔◌, ◌∷◌, Any, IsTrue, IfOk};
+ghost use Rattle.std.specs.Prelude.{◌≡◌, ◌==◌, ◌<◌, ◌↔◌, ◌∷◌, Some, Any, IsTrue, IfOk, length, slice_get};
 ghost use Rattle.std.specs.List.{list_any};
 ghost use Rattle.terms.specs.Types.{zone_number};
 ghost use Rattle.terms.specs.Lookups.{changes_of};
@@ -164,4 +164,12 @@ pub(crate) fn all_faults(
         faults.push(own_faults(alloc, global, zone, *id)?)?;
     }
     Ok(faults)
+}
+
+/// What the candidate at the place fails by itself.
+pub(crate) fn own_at(faults: &[OwnFaults], place: usize) -> OwnFaults
+    requires { place < length faults.now }
+    ensures { slice_get faults.now place ≡ Some result }
+{
+    faults[place]
 }

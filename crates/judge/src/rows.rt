@@ -5,7 +5,7 @@ ghost use Rattle.machine.specs.Installing.{all_tests};
 ghost use Rattle.judge.specs.Placed.{Beside};
 ghost use Rattle.judge.specs.Rows.{fails_test, is_among, row_of, is_eligible_at};
 
-use crate::own::OwnFaults;
+use crate::own::{OwnFaults, own_at};
 use indexmap::IndexSet;
 use std::alloc::{AllocError, Global as Heap};
 use terms::Test;
@@ -54,7 +54,7 @@ pub(crate) fn all_rows(
 {
     let mut rows = Vec::new(alloc);
     for i in 0..faults.len() {
-        let own = faults[i];
+        let own = own_at(faults, i);
         rows.push(row_of(alloc, own, is_among(shared, i as u32))?)?;
     }
     Ok(rows)
@@ -71,7 +71,7 @@ pub(crate) fn all_eligible(
 {
     let mut flags = Vec::new(alloc);
     for i in 0..faults.len() {
-        let own = faults[i];
+        let own = own_at(faults, i);
         flags.push(is_eligible(own, is_among(shared, i as u32)))?;
     }
     Ok(flags)

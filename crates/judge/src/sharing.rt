@@ -4,7 +4,7 @@ ghost use Rattle.judge.specs.Own.{passes};
 ghost use Rattle.indexmap.specs.IndexMap.{get};
 ghost use Rattle.judge.specs.Sharing.{change_key, key_eq, a_claim, AreClaims, HasClaim, IsSharedAt, IsSharedPlace, MarksOne};
 
-use crate::own::{OwnFaults, changes_of};
+use crate::own::{OwnFaults, changes_of, own_at};
 use fields::{Id, Name};
 use global::Global;
 use indexmap::{IndexMap, IndexSet};
@@ -65,7 +65,7 @@ fn claims_of(
 {
     let mut claims = Vec::new(alloc);
     for i in 0..ids.len() {
-        let own = faults[i];
+        let own = own_at(faults, i);
         let id = ids[i];
         add_if_passing(&mut claims, own, changes_of(global, id), i as u32)?;
     }

@@ -6,7 +6,7 @@ use Rattle.judge.proofs.own.is_lower_somewhere.Goals as goal
 
 pub loop-change-preserved : goal.loop-change-preserved
 loop-change-preserved c =
-    all-next (λ h. ¬ IsLowerAt (choice c.args.vers.now) c.args.zone.now c.args.id h) c.args.changes.now c.loop-change.change-index c.change-item.result.now
+    all-next (λ h. ¬ IsLowerAt (choice c.args.vers.now) c.args.zone.now c.args.id h) c.args.changes.now c.loop-change.change-index c.change-item.result
     (omega arith) c.change-item.is (λ lower. true≢false (sym (c.in_ok-is_lower_at.ensures.1 lower) ∙ search)) c.loop-change.invariant
 
 pub returns : goal.returns
