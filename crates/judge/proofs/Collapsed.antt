@@ -200,3 +200,18 @@ module _ (g : Global) (zone : Zone) (ids : List Id)
       let hx = change-found g x type name has_x in
       let hy = change-found g y type name has_y in
       inr (inr ((type, name, has_x, has_y), inl (λ same. other (sym (owner-is x in_x hx.0 hx.1) ∙ same ∙ owner-is y in_y hy.0 hy.1))))
+
+-- what is not over the SYSMODs that made an element
+pub lower-first : (c : Choice) (x rmid : Id) (umids : List Id) → ¬ IsOver c x rmid → IsTrue true ↔ Any (λ z. ¬ IsOver c x z) (rmid ∷ umids)
+lower-first c x rmid umids lacks = (λ on. (0, rmid, omega arith, refl, lacks), λ lower. refl)
+
+pub lower-rest : (c : Choice) (x rmid : Id) (umids : List Id) (b : Bool) → IsOver c x rmid → IsTrue b ↔ Any (λ z. ¬ IsOver c x z) umids
+    → IsTrue b ↔ Any (λ z. ¬ IsOver c x z) (rmid ∷ umids)
+lower-rest c x rmid umids b over rest = (
+  λ on. let any = rest.0 on in (suc any.0, any.1, omega (arith, any.2), any.3, any.4),
+  by,
+)
+  where
+    by : Any (λ z. ¬ IsOver c x z) (rmid ∷ umids) → IsTrue b
+    by (zero, z, below, at, lacks) = absurd (lacks (subst (IsOver c x) at over))
+    by (suc k, z, below, at, lacks) = rest.1 (k, z, omega (arith, below), at, lacks)

@@ -166,9 +166,14 @@ module _ (eq : ℕ → ℕ → Bool) (exact : (a b : ℕ) → eq a b ≡ true �
       → middle ≡ insert_key eq shared p → shared' ≡ insert_key eq middle claim.place → MarksOne claim first shared first' shared'
   unfolding Meets Knows
   marks-other claim first shared first' middle shared' p at other same_first to_middle to_end =
-      marks-step claim first shared first' shared' (λ k q e. same_first k ∙ e) (λ k q e. inl (sym (same_first k) ∙ e))
-      (p, same_first claim.element ∙ at, inr (further p (subst (λ l. Contains l p) (sym to_middle) (Contains-insert_key eq exact shared p)),
-          subst (λ l. Contains l claim.place) (sym to_end) (Contains-insert_key eq exact middle claim.place)))
+      marks-step claim first shared first' shared' (λ k q e. same_first k ∙ e) (λ k q e. inl (sym (same_first k) ∙ e)) (
+        p,
+        same_first claim.element ∙ at,
+        inr (
+          further p (subst (λ l. Contains l p) (sym to_middle) (Contains-insert_key eq exact shared p)),
+          subst (λ l. Contains l claim.place) (sym to_end) (Contains-insert_key eq exact middle claim.place),
+        ),
+      )
       (λ m h. further m (subst (λ l. Contains l m) (sym to_middle) (inserted-keeps shared p m h)))
       (λ m h. elim (inserted-cases middle claim.place m (subst (λ l. Contains l m) to_end h)) [
         | inl in_middle ↦ elim (inserted-cases shared p m (subst (λ l. Contains l m) to_middle in_middle)) [

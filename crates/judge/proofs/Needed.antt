@@ -29,7 +29,7 @@ use Rattle.judge.proofs.Plain.{IsPlain, NamesNothing}
 use Rattle.judge.proofs.Collapsed.{view-is, zone-left}
 use Rattle.terms.proofs.NothingDeleted.{is_deleted-none}
 use Rattle.judge.specs.Wanted.{open_fmid, ArePlaces, IsWant, AreWants, AddsWant, AddsOpen, HasWants}
-use Rattle.judge.specs.Placed.{Beside}
+use Rattle.judge.proofs.Lists.{push-old, push-last, push-cases}
 
 none-in : {A : Type 0} {X : Type 0} (l : List X) (z : X) → l ≡ [] → Contains l z → A
 none-in l z none h = let t = subst (λ l. Contains l z) none h in absurd (omega (arith, t.1))
@@ -68,7 +68,7 @@ module _ (g : Global) (zone : Zone) (ids : List Id)
       let own = plain x in_ids in
       let stated = states-nothing c (applied_ids zone) (λ f. bytes_eq x f) (λ y on. (own.applied y on).ifs) in
       ap (λ l. flat_map (λ i. i.req) (filter (λ i. is_applied (view_of s x) i.function || is_in ids i.function) l)
-          ++ cond (is_function g x) (stated_for c (applied_ids (view_of s x)) x) []) own.names_nothing.ifs
+      ++ cond (is_function g x) (stated_for c (applied_ids (view_of s x)) x) []) own.names_nothing.ifs
       ∙ cond-none (is_function g x) (stated_for c (applied_ids (view_of s x)) x)
       (ap (λ z. stated_for c (applied_ids z) x) (view-is g zone ids held plain x) ∙ stated)
 
@@ -137,51 +137,6 @@ module _ (g : Global) (zone : Zone) (ids : List Id)
 pub serves-itself : (c : Choice) (y z : Id) → Serves c Fmid y z ↔ (y ≡ z)
 serves-itself c y z = (λ h. elim h [ inl same ↦ same | inr other ↦ absurd (true≢false (sym other.0)) ], λ same. inl same)
 
--- ---- one more at the end of a list
-
-pub push-old : {X : Type 0} (xs : List X) (y : X) (i : ℕ) (x : X) → slice_get xs i ≡ Some x → slice_get (xs ++ y ∷ []) i ≡ Some x
-push-old [] y i x e = absurd (cc e)
-push-old (z ∷ zs) y zero x e = e
-push-old (z ∷ zs) y (suc i) x e = push-old zs y i x e
-
-pub push-last : {X : Type 0} (xs : List X) (y : X) → slice_get (xs ++ y ∷ []) (length xs) ≡ Some y
-push-last [] y = refl
-push-last (z ∷ zs) y = push-last zs y
-
-pub push-cases : {X : Type 0} (xs : List X) (y : X) (i : ℕ) (x : X) → slice_get (xs ++ y ∷ []) i ≡ Some x
-    → (slice_get xs i ≡ Some x) ⊎ ((i ≡ length xs) × (y ≡ x))
-push-cases [] y zero x e = inr (refl, cc e)
-push-cases [] y (suc i) x e = absurd (cc e)
-push-cases (z ∷ zs) y zero x e = inl e
-push-cases (z ∷ zs) y (suc i) x e = elim (push-cases zs y i x e) [ inl old ↦ inl old | inr last ↦ inr (ap suc last.0, last.1) ]
-
-pub beside-none : {X Y : Type 0} (R : ℕ → X → Y → Type 0) → Beside R [] []
-beside-none R = record { lengths = refl; each = λ n x y e f. absurd (cc e) }
-
-pub beside-more : {X Y : Type 0} (R : ℕ → X → Y → Type 0) (xs : List X) (ys : List Y) (x : X) (y : Y) → Beside R xs ys → R (length xs) x y → Beside R (xs ++ x ∷ []) (ys ++ y ∷ [])
-beside-more R xs ys x y b r = record {
-  lengths = length-append ys (y ∷ []) ∙ ap (λ n. n + 1) b.lengths ∙ sym (length-append xs (x ∷ []));
-  each = λ n v w e f. elim (push-cases xs x n v e) [
-    | inl old ↦ elim (push-cases ys y n w f) [
-      | inl old_y ↦ b.each n v w old old_y
-      | inr last ↦ absurd (omega (arith, slice_get_within xs n v old, last.0, b.lengths))
-    ]
-    | inr last_x ↦ elim (push-cases ys y n w f) [
-      | inl old_y ↦ absurd (omega (arith, slice_get_within ys n w old_y, last_x.0, b.lengths))
-      | inr last ↦ subst (λ k. R k v w) (sym last_x.0) (subst (λ k. R (length xs) k w) last_x.1 (subst (R (length xs) x) last.1 r))
-    ]
-  ];
-}
-
--- the next of a list, as a loop goes over it
-pub beside-next : {X Y : Type 0} (R : ℕ → X → Y → Type 0) (xs : List X) (ys new : List Y) (i : ℕ) (x : X) (y : Y) → i < length xs → x ≡ get_or xs i x
-    → new ≡ ys ++ y ∷ [] → R i x y → Beside R (take i xs) ys → Beside R (take (i + 1) xs) new
-beside-next R xs ys new i x y below at made r b =
-    let len : length (take i xs) ≡ i = length-take-le i xs (omega (arith, below)) in
-    subst (Beside R (take (i + 1) xs)) (sym made)
-    (subst (λ l. Beside R l (ys ++ y ∷ [])) (sym (take_more xs i x below ∙ ap (λ v. take i xs ++ v ∷ []) (sym at)))
-    (beside-more R (take i xs) ys x y b (subst (λ k. R k x y) (sym len) r)))
-
 -- ---- the needs, one more after the other
 
 adds-over : (old new : Problem) (d : Demand) → new ≡ record old { demands = old.demands ++ d ∷ [] }
@@ -242,9 +197,13 @@ module _ (wants : Id → Option Id) (ids : List Id) where
           let is : Some x ≡ Some y = sym at ∙ here in
           let same : x ≡ y = cc is in
           let it : Some f ≡ Some h = sym open_x ∙ ap wants same ∙ open_h in
-          let named : f ≡ h = cc it in
-          (length ds, new_demand, push-last ds new_demand,
-              subst (λ m. slice_get (ns ++ (Fmid, f) ∷ []) m ≡ Some (Fmid, h)) w.lengths (push-last ns (Fmid, f) ∙ ap (λ v. Some (Fmid, v)) named), sym this)
+          let named : f ≡ h = cc it in (
+            length ds,
+            new_demand,
+            push-last ds new_demand,
+            subst (λ m. slice_get (ns ++ (Fmid, f) ∷ []) m ≡ Some (Fmid, h)) w.lengths (push-last ns (Fmid, f) ∙ ap (λ v. Some (Fmid, v)) named),
+            sym this,
+          )
       | inr other ↦
           let old = w.all n y h (omega (arith, below, other)) at_y open_h in
           (old.0, old.1, push-old ds new_demand old.0 old.1 old.2, push-old ns (Fmid, f) old.0 (Fmid, h) old.3, old.4)
@@ -267,22 +226,6 @@ module _ (wants : Id → Option Id) (ids : List Id) where
       new_want : IsWant wants ids new_demand (Fmid, f)
       new_want = record { x = x; of = at; kind = refl; fmid = open_x; any = places }
 
--- what all in front of a place have, and the one there has too
-pub all-next : {X : Type 0} (P : X → Type 0) (xs : List X) (i : ℕ) (x : X) → i < length xs → x ≡ get_or xs i x → P x → All P (take i xs) → All P (take (i + 1) xs)
-all-next P xs i x below at p all =
-    subst (All P) (sym (take_more xs i x below ∙ ap (λ v. take i xs ++ v ∷ []) (sym at))) (All-push P (take i xs) x all p)
-
-pub beside-at : {X Y : Type 0} (R : ℕ → X → Y → Type 0) (xs : List X) (ys new : List Y) (i : ℕ) (x : X) (y : Y) → slice_get xs i ≡ Some x
-    → new ≡ ys ++ y ∷ [] → R i x y → Beside R (take i xs) ys → Beside R (take (i + 1) xs) new
-beside-at R xs ys new i x y at = beside-next R xs ys new i x y (slice_get_within xs i x at) (sym (get_or_from_slice_get xs i x x at))
-
-pub beside-through : {X Y : Type 0} (R : ℕ → X → Y → Type 0) (xs : List X) (ys : List Y) (i : ℕ) → length xs ≤ i → Beside R (take i xs) ys → Beside R xs ys
-beside-through R xs ys i whole b = subst (λ l. Beside R l ys) (take_all i xs whole) b
-
--- all have been gone through
-pub all-through : {X : Type 0} (P : X → Type 0) (xs : List X) (i : ℕ) → length xs ≤ i → All P (take i xs) → All P xs
-all-through P xs i whole all = subst (All P) (take_all i xs whole) all
-
 -- the next candidate is looked at
 pub wants-next : (wants : Id → Option Id) (ids : List Id) (flags : List Bool) (k : ℕ) (x : Id) (old new : Problem) (ns new_ns : List (NeedKind × Id))
     → slice_get ids k ≡ Some x → AddsOpen ids k (wants x) old ns new new_ns
@@ -302,19 +245,3 @@ wants-next wants ids flags k x old new ns new_ns at adds h = by (wants x) refl a
           eligible = over.1 ∙ h.eligible;
           needs = rw (over.2, a.needed) (wants-more wants ids k x f a.any old.demands ns at is a.places h.needs);
         }
-
--- ---- what is not over the SYSMODs that made an element
-
-pub lower-first : (c : Choice) (x rmid : Id) (umids : List Id) → ¬ IsOver c x rmid → IsTrue true ↔ Any (λ z. ¬ IsOver c x z) (rmid ∷ umids)
-lower-first c x rmid umids lacks = (λ on. (0, rmid, omega arith, refl, lacks), λ lower. refl)
-
-pub lower-rest : (c : Choice) (x rmid : Id) (umids : List Id) (b : Bool) → IsOver c x rmid → IsTrue b ↔ Any (λ z. ¬ IsOver c x z) umids
-    → IsTrue b ↔ Any (λ z. ¬ IsOver c x z) (rmid ∷ umids)
-lower-rest c x rmid umids b over rest = (
-  λ on. let any = rest.0 on in (suc any.0, any.1, omega (arith, any.2), any.3, any.4),
-  by,
-)
-  where
-    by : Any (λ z. ¬ IsOver c x z) (rmid ∷ umids) → IsTrue b
-    by (zero, z, below, at, lacks) = absurd (lacks (subst (IsOver c x) at over))
-    by (suc k, z, below, at, lacks) = rest.1 (k, z, omega (arith, below), at, lacks)

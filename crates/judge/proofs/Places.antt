@@ -164,9 +164,13 @@ module _ (g : Global) (zone : Zone) (ids : List Id) (held : All (λ e. IsTrue (i
           foreign-gives g zone ids held plain x in_ids found.0 (record { change = any.1; of = (any.0, any.2, any.3); at = found.1 }) found.2,
       λ fails.
           let t = foreign-from g zone ids held plain x in_ids fails in
-          (own.each n x a at at_own).foreign ∙ list_any-from_Any (is_foreign_at zone x) (changes_of g x)
-          (t.1.of.0, t.1.change, t.1.of.1, t.1.of.2,
-              ap (λ o. option_map_or (λ e. not (bytes_eq e.fmid x)) o false) t.1.at ∙ bytes-differ t.0.fmid x t.2),
+          (own.each n x a at at_own).foreign ∙ list_any-from_Any (is_foreign_at zone x) (changes_of g x) (
+            t.1.of.0,
+            t.1.change,
+            t.1.of.1,
+            t.1.of.2,
+            ap (λ o. option_map_or (λ e. not (bytes_eq e.fmid x)) o false) t.1.at ∙ bytes-differ t.0.fmid x t.2,
+          ),
     )
 
     five : IsTrue a.lower ↔ FailsJ5 s x
@@ -277,10 +281,16 @@ module _ (g : Global) (zone : Zone) (ids : List Id) (held : All (λ e. IsTrue (i
           let survives = subst (Survives s) same ((survives-if n sh.own.x sh.own.own sh.own.at sh.own.own_at).0 sh.own.passing) in
           let y = sh.others.x in
           let survives_y = (survives-if sh.other y sh.others.own sh.others.at sh.others.own_at).0 sh.others.passing in
-          let other : x ≢ y = two-places ids rising n sh.other x y at sh.others.at sh.apart in
-          (survives, (y, survives_y, other,
+          let other : x ≢ y = two-places ids rising n sh.other x y at sh.others.at sh.apart in (
+            survives,
+            (
+              y,
+              survives_y,
+              other,
               share-clashes g zone ids held plain x y survives.0.0 survives_y.0.0 other
-              (sh.key.0, sh.key.1, subst (λ v. IsTrue (has_change g v sh.key.0 sh.key.1)) same (has-claimed sh.key sh.own.x sh.own.changes), has-claimed sh.key y sh.others.changes))),
+                  (sh.key.0, sh.key.1, subst (λ v. IsTrue (has_change g v sh.key.0 sh.key.1)) same (has-claimed sh.key sh.own.x sh.own.changes), has-claimed sh.key y sh.others.changes),
+            ),
+          ),
       λ fails.
           let y = fails.1.0 in
           let survives_y = fails.1.1 in
@@ -377,8 +387,12 @@ module _ (g : Global) (zone : Zone) (ids : List Id) (held : All (λ e. IsTrue (i
         demands = λ i d need at_d at_need.
             let w = wants.each i d need at_d at_need in
             record {
-              of = (w.x, w.of, subst (λ k. Needs s survivors w.x k need.1) (sym w.kind)
-                  (needs-open g zone ids held plain survivors survivors-among w.x need.1 (contains_at ids d.of w.x w.of) w.fmid));
+              of = (
+                w.x,
+                w.of,
+                subst (λ k. Needs s survivors w.x k need.1) (sym w.kind)
+                    (needs-open g zone ids held plain survivors survivors-among w.x need.1 (contains_at ids d.of w.x w.of) w.fmid),
+              );
               any = λ n y at_y.
                   let both = w.any n y at_y in
                   subst (λ k. Contains d.any n ↔ Serves s.choice k y need.1) (sym w.kind)

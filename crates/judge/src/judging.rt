@@ -29,12 +29,7 @@ pub struct Judged {
 const MOST: usize = 4_294_967_295;
 
 /// Judges the candidates of an APPLY in this zone.
-pub fn judge(
-    alloc: Heap,
-    global: &Global,
-    zone: &Zone,
-    ids: &IdList,
-) -> Result<Judged, AllocError>
+pub fn judge(alloc: Heap, global: &Global, zone: &Zone, ids: &IdList) -> Result<Judged, AllocError>
     requires { All (λ x. IsTrue (is_installable global.now zone.now x)) ids.now }
     ensures problem { IfOk result (λ j. IsInstallProblem (setting global.now zone.now None ids.now no_bypass) j.system
         (map (λ n. (n.0, n.1)) j.needed.items)) }

@@ -56,9 +56,7 @@ fn is_foreign_at(zone: &Zone, id: Id, change: &ElemChange) -> bool
 fn is_foreign(zone: &Zone, id: Id, changes: &[ElemChange]) -> bool
     ensures { result ≡ list_any (is_foreign_at zone.now id) changes.now }
 {
-    changes
-        .iter()
-        .any(|change| is_foreign_at(zone, id, change))
+    changes.iter().any(|change| is_foreign_at(zone, id, change))
 }
 
 // Whether it is not over one of these.
@@ -132,12 +130,7 @@ fn is_distribution(zone: &Zone) -> bool
     zone.kind() == ZoneKind::Distribution
 }
 
-fn own_faults(
-    alloc: Heap,
-    global: &Global,
-    zone: &Zone,
-    id: Id,
-) -> Result<OwnFaults, AllocError>
+fn own_faults(alloc: Heap, global: &Global, zone: &Zone, id: Id) -> Result<OwnFaults, AllocError>
     ensures { IfOk result (λ own. HasFaults global.now zone.now id own) }
 {
     let vers = VerChoice::new(global, zone.srel());

@@ -20,11 +20,7 @@ struct Claim {
 }
 
 // Adds the claims of one candidate.
-fn add_claims(
-    claims: &mut Vec<Claim>,
-    changes: &[ElemChange],
-    place: u32,
-) -> Result<(), AllocError>
+fn add_claims(claims: &mut Vec<Claim>, changes: &[ElemChange], place: u32) -> Result<(), AllocError>
     ensures { OnOk result (claims.new.items ≡ claims.old.items ++ map (λ h. a_claim (change_key h) place) changes.now) }
 {
     for change in changes {

@@ -142,6 +142,9 @@ fn needs(
     for _ in 0..ids.len() {
         eligible.push(true)?;
     }
+    if eligible.len() != ids.len() {
+        return Err(Fail::from("eligible"));
+    }
     let (system, needed) = wants_of(alloc, global, zone, ids, eligible)?;
     let mut found = Vec::new(alloc);
     for need in system.needs() {
@@ -153,39 +156,57 @@ fn needs(
     Ok(found)
 }
 
-#[test]
-fn known_candidates(rt: HostRuntime) -> Result<(), Fail> {
-    let alloc = rt.alloc();
+/// The failed tests of these candidates in a zone of the kind.
+fn failed_of(alloc: Heap, kind: ZoneKind, texts: &[&[u8]]) -> Result<Vec<(usize, Test)>, Fail> {
     let global = received(alloc)?;
-    let target = zone(alloc, ZoneKind::Target)?;
+    let zone = zone(alloc, kind)?;
+    failed(alloc, &global, &zone, &ids(alloc, texts)?)
+}
 
-    let both = ids(alloc, &[b"HAA1100", b"UA00001"])?;
-    assert!(rt; failed(alloc, &global, &target, &both)?.is_empty());
-    assert_eq!(rt; needs(alloc, &global, &target, &both)?.as_slice(), [(1, Some(0))].as_slice());
+/// The needs of these candidates in a target zone.
+fn needs_of(alloc: Heap, texts: &[&[u8]]) -> Result<Vec<(u32, Option<u32>)>, Fail> {
+    let global = received(alloc)?;
+    let zone = zone(alloc, ZoneKind::Target)?;
+    needs(alloc, &global, &zone, &ids(alloc, texts)?)
+}
 
-    let alone = ids(alloc, &[b"UA00001"])?;
-    assert!(rt; failed(alloc, &global, &target, &alone)?.is_empty());
-    assert_eq!(rt; needs(alloc, &global, &target, &alone)?.as_slice(), [(0, None)].as_slice());
-
-    let sharing = ids(alloc, &[b"HAA1100", b"HBB2200"])?;
+#[test]
+fn known_tests(rt: HostRuntime) -> Result<(), Fail> {
+    let alloc = rt.alloc();
+    let both = failed_of(alloc, ZoneKind::Target, &[b"HAA1100", b"UA00001"])?;
+    assert!(rt; both.is_empty());
+    let sharing = failed_of(alloc, ZoneKind::Target, &[b"HAA1100", b"HBB2200"])?;
     assert_eq!(rt;
-        failed(alloc, &global, &target, &sharing)?.as_slice(),
+        sharing.as_slice(),
         [(0, Test::J9), (1, Test::J9)].as_slice()
     );
-
-    let foreign = ids(alloc, &[b"HAA1100", b"HCC3300"])?;
+    let foreign = failed_of(alloc, ZoneKind::Target, &[b"HAA1100", b"HCC3300"])?;
     assert_eq!(rt;
-        failed(alloc, &global, &target, &foreign)?.as_slice(),
+        foreign.as_slice(),
         [(1, Test::J4), (1, Test::J5)].as_slice()
     );
+    let accepted = failed_of(alloc, ZoneKind::Distribution, &[b"UA00001"])?;
+    assert_eq!(rt; accepted.as_slice(), [(0, Test::J7)].as_slice());
+    Ok(())
+}
 
-    let library = zone(alloc, ZoneKind::Distribution)?;
-    assert_eq!(rt;
-        failed(alloc, &global, &library, &alone)?.as_slice(),
-        [(0, Test::J7)].as_slice()
-    );
+#[test]
+fn known_needs(rt: HostRuntime) -> Result<(), Fail> {
+    let alloc = rt.alloc();
+    let both = needs_of(alloc, &[b"HAA1100", b"UA00001"])?;
+    assert_eq!(rt; both.as_slice(), [(1, Some(0))].as_slice());
+    let alone = needs_of(alloc, &[b"UA00001"])?;
+    assert_eq!(rt; alone.as_slice(), [(0, None)].as_slice());
+    Ok(())
+}
 
-    let none = judge(alloc, &global, &target, &IdList::new(alloc))?;
-    assert_eq!(rt; (none.tests.len(), none.needed.len(), none.system.size()), (0, 0, 0));
+#[test]
+fn no_candidates(rt: HostRuntime) -> Result<(), Fail> {
+    let alloc = rt.alloc();
+    let global = received(alloc)?;
+    let zone = zone(alloc, ZoneKind::Target)?;
+    let none = judge(alloc, &global, &zone, &IdList::new(alloc))?;
+    assert_eq!(rt; none.tests.len(), 0);
+    assert_eq!(rt; none.system.size(), 0);
     Ok(())
 }

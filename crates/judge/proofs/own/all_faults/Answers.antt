@@ -1,6 +1,6 @@
 use Rattle.std.proofs.Common.{arith}
 use Rattle.judge.specs.Own.{HasFaults}
-use Rattle.judge.proofs.Needed.{beside-next, beside-through}
+use Rattle.judge.proofs.Lists.{beside-next, beside-through}
 use Rattle.judge.proofs.own.all_faults.Goals as goal
 
 pub loop-id-preserved : goal.loop-id-preserved

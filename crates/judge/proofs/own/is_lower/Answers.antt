@@ -3,7 +3,7 @@ use Rattle.std.specs.Prelude.{◌↔◌, Any}
 use Rattle.std.proofs.lemmas.Result.{IfOk-weaker}
 use Rattle.terms.specs.Over.{IsOver}
 use Rattle.global.specs.Choices.{choice}
-use Rattle.judge.proofs.Needed.{lower-first, lower-rest}
+use Rattle.judge.proofs.Collapsed.{lower-first, lower-rest}
 use Rattle.judge.proofs.own.is_lower.Goals as goal
 
 pub returns-then-not-branch : goal.returns-then-not-branch
