@@ -5,6 +5,10 @@ ghost use Rattle.terms.specs.Candidates.{is_installable};
 ghost use Rattle.terms.specs.Judged.{setting, IsInstallProblem};
 ghost use Rattle.judge.specs.Failed.{AreFailedTests};
 
+use crate::own::all_faults;
+use crate::rows::{all_eligible, all_rows};
+use crate::sharing::shared_places;
+use crate::wanted::wants_of;
 use fields::{Id, IdList};
 use global::Global;
 use solve::System;
@@ -21,18 +25,29 @@ pub struct Judged {
     pub tests: Vec<Vec<Test>>,
 }
 
+// More candidates have no numbers.
+const MOST: usize = 4_294_967_295;
+
 /// Judges the candidates of an APPLY in this zone.
-pub fn judge(
-    alloc: Heap,
-    global: &Global,
-    zone: &Zone,
-    ids: &IdList,
-) -> Result<Judged, AllocError>
+pub fn judge(alloc: Heap, global: &Global, zone: &Zone, ids: &IdList) -> Result<Judged, AllocError>
     requires { All (λ x. IsTrue (is_installable global.now zone.now x)) ids.now }
     ensures problem { IfOk result (λ j. IsInstallProblem (setting global.now zone.now None ids.now no_bypass) j.system
         (map (λ n. (n.0, n.1)) j.needed.items)) }
     ensures tests { IfOk result (λ j. AreFailedTests (setting global.now zone.now None ids.now no_bypass)
         (map (λ row. row.items) j.tests.items)) }
 {
-    Err(AllocError)
+    if ids.len() > MOST {
+        return Err(AllocError);
+    }
+    zone.known();
+    let faults = all_faults(alloc, global, zone, ids.as_slice())?;
+    let shared = shared_places(alloc, global, ids.as_slice(), faults.as_slice())?;
+    let tests = all_rows(alloc, faults.as_slice(), &shared)?;
+    let eligible = all_eligible(alloc, faults.as_slice(), &shared)?;
+    let (system, needed) = wants_of(alloc, global, zone, ids, eligible)?;
+    Ok(Judged {
+        system,
+        needed,
+        tests,
+    })
 }

@@ -2,5 +2,12 @@
 #![tactic(auto)]
 
 mod judging;
+mod own;
+mod rows;
+mod sharing;
+mod wanted;
 
 pub use judging::{Judged, judge};
+
+#[cfg(test)]
+mod tests;

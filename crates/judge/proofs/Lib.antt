@@ -1,0 +1,6 @@
+pub mod Plain
+pub mod Collapsed
+pub mod Lists
+pub mod Needed
+pub mod Marks
+pub mod Places

@@ -1,0 +1,141 @@
+-- What is installable names its function alone, is held by nothing, and changes elements only as a function.
+use Rattle.std.proofs.Common.{◌≡◌, ◌⊎◌, inl, inr, Bool, true, false, not, List, [], ◌∷◌, ◌++◌, Option, None, Some, IsTrue, refl, sym, ap, ◌∙◌, subst, true≢false, filter, find, map, Contains, cond, arith}
+use Rattle.std.specs.Prelude.{All, ◌&&◌, ◌||◌, ◌==◌, is_some}
+use Rattle.std.specs.List.{flat_map, list_all, list_any}
+use Rattle.std.specs.Option.{option_map_or, option_and_then}
+use Rattle.std.proofs.lemmas.Bool.{and_parts, or_cases}
+use Rattle.std.proofs.lemmas.List.Elements.{All-head, All-tail, All-contains}
+use Rattle.terms.specs.declared.kinds.HoldKind.TheVariants.{Error, System, User}
+use Rattle.terms.specs.declared.kinds.ElemType.{ElemType}
+use Rattle.terms.specs.Types.{Text, Id, Ver, Change, Sysmod, Global, Zone, kind_number, type_number}
+use Rattle.terms.specs.Lookups.{is_nil, sysmod_of, is_function, changes_of, change_of, has_change, holds_of, applied_ids, is_applied, entry_of, is_supplied, delby_of}
+use Rattle.std.specs.Str.{bytes_eq}
+use Rattle.terms.specs.Choice.{Choice, by_srel, vers_of, pre_of, req_of, sup_of, npre_of, del_of, ifs_of}
+use Rattle.terms.specs.Changes.{is_replacement, has_update}
+use Rattle.terms.specs.Served.{is_plain, has_plain_ver, has_plain_changes, is_unheld, is_served_zone, is_served}
+use Rattle.terms.specs.Candidates.{is_installable}
+use Rattle.terms.proofs.SameLists.{find-gives}
+use Rattle.terms.proofs.GlobalLookups.{same_from}
+use Rattle.terms.proofs.Apart.{in_map, here_or, there}
+
+pub nil-from : {X : Type 0} (xs : List X) → is_nil xs ≡ true → xs ≡ []
+nil-from [] e = refl
+nil-from (x ∷ xs) e = absurd (true≢false (sym e))
+
+-- its ++VER that counts names nothing but its function
+pub record NamesNothing (c : Choice) (x : Id) : Type 0 where
+  pub pre : pre_of c x ≡ []
+  pub req : req_of c x ≡ []
+  pub sup : sup_of c x ≡ []
+  pub npre : npre_of c x ≡ []
+  pub del : del_of c x ≡ []
+  pub ifs : ifs_of c x ≡ []
+
+pub names-nothing : (c : Choice) (x : Id) → option_map_or is_plain (c x) true ≡ true → NamesNothing c x
+names-nothing c x plain = by (c x) refl
+  where
+    by : (o : Option Ver) → c x ≡ o → NamesNothing c x
+    by None e = record {
+      pre = ap (λ o. option_map_or (λ v. v.pre) o []) e;
+      req = ap (λ o. option_map_or (λ v. v.req) o []) e;
+      sup = ap (λ o. option_map_or (λ v. v.sup) o []) e;
+      npre = ap (λ o. option_map_or (λ v. v.npre) o []) e;
+      del = ap (λ o. option_map_or (λ v. v.del) o []) e;
+      ifs = ap (λ o. option_map_or (λ v. v.ifs) o []) e;
+    }
+    by (Some v) e =
+        let p : is_plain v ≡ true = sym (ap (λ o. option_map_or is_plain o true) e) ∙ plain in
+        let f = and_parts (is_nil v.pre && is_nil v.req && is_nil v.sup && is_nil v.npre && is_nil v.del) (is_nil v.ifs) p in
+        let d = and_parts (is_nil v.pre && is_nil v.req && is_nil v.sup && is_nil v.npre) (is_nil v.del) f.0 in
+        let n = and_parts (is_nil v.pre && is_nil v.req && is_nil v.sup) (is_nil v.npre) d.0 in
+        let u = and_parts (is_nil v.pre && is_nil v.req) (is_nil v.sup) n.0 in
+        let r = and_parts (is_nil v.pre) (is_nil v.req) u.0 in
+        record {
+          pre = ap (λ o. option_map_or (λ v. v.pre) o []) e ∙ nil-from v.pre r.0;
+          req = ap (λ o. option_map_or (λ v. v.req) o []) e ∙ nil-from v.req r.1;
+          sup = ap (λ o. option_map_or (λ v. v.sup) o []) e ∙ nil-from v.sup u.1;
+          npre = ap (λ o. option_map_or (λ v. v.npre) o []) e ∙ nil-from v.npre n.1;
+          del = ap (λ o. option_map_or (λ v. v.del) o []) e ∙ nil-from v.del d.1;
+          ifs = ap (λ o. option_map_or (λ v. v.ifs) o []) e ∙ nil-from v.ifs f.1;
+        }
+
+-- what an installable SYSMOD is, for the judge
+pub record IsPlain (g : Global) (zone : Zone) (x : Id) : Type 0 where
+  pub names_nothing : NamesNothing (by_srel g zone.srel) x
+  pub changes : (changes_of g x ≡ []) ⊎ (IsTrue (is_function g x) × IsTrue (list_all (λ h. is_replacement h.action) (changes_of g x)))
+  pub no_error : holds_of g Error x ≡ []
+  pub no_system : holds_of g System x ≡ []
+  pub no_user : holds_of g User x ≡ []
+  pub applied : (y : Id) → Contains (applied_ids zone) y → NamesNothing (by_srel g zone.srel) y
+
+plain-changes : (g : Global) (x : Id) → option_map_or has_plain_changes (sysmod_of g x) true ≡ true
+    → (changes_of g x ≡ []) ⊎ (IsTrue (is_function g x) × IsTrue (list_all (λ h. is_replacement h.action) (changes_of g x)))
+plain-changes g x plain = by (sysmod_of g x) refl
+  where
+    by : (o : Option Sysmod) → sysmod_of g x ≡ o
+        → (changes_of g x ≡ []) ⊎ (IsTrue (is_function g x) × IsTrue (list_all (λ h. is_replacement h.action) (changes_of g x)))
+    by None e = inl (ap (λ o. option_map_or (λ s. s.changes) o []) e)
+    by (Some s) e =
+        let p : has_plain_changes s ≡ true = sym (ap (λ o. option_map_or has_plain_changes o true) e) ∙ plain in
+        let are : changes_of g x ≡ s.changes = ap (λ o. option_map_or (λ s. s.changes) o []) e in
+        elim (or_cases (is_nil s.changes) ((kind_number s.kind == 0) && list_all (λ h. is_replacement h.action) s.changes) p) [
+          | inl none ↦ inl (are ∙ nil-from s.changes none)
+          | inr both ↦
+              let parts = and_parts (kind_number s.kind == 0) (list_all (λ h. is_replacement h.action) s.changes) both in
+              inr (ap (λ o. option_map_or (λ s. kind_number s.kind == 0) o false) e ∙ parts.0, ap (list_all (λ h. is_replacement h.action)) are ∙ parts.1)
+        ]
+
+pub all-from : {X : Type 0} (p : X → Bool) (xs : List X) (x : X) → list_all p xs ≡ true → Contains xs x → p x ≡ true
+all-from p [] x all h = absurd (omega (arith, h.1))
+all-from p (y ∷ ys) x all h =
+    let parts = and_parts (p y) (list_all p ys) all in
+    elim (here_or y ys x h) [ inl same ↦ subst (λ v. p v ≡ true) same parts.0 | inr later ↦ all-from p ys x parts.1 later ]
+
+pub in-filter : {X : Type 0} (p : X → Bool) (xs : List X) (x : X) → Contains xs x → p x ≡ true → Contains (filter p xs) x
+in-filter p [] x h e = h
+in-filter {X} p (y ∷ ys) x h e =
+    elim (here_or y ys x h) [
+      | inl same ↦ first same
+      | inr later ↦ next (in-filter p ys x later e) (p y) refl
+    ]
+  where
+    first : y ≡ x → Contains (filter p (y ∷ ys)) x
+    first same =
+        subst (λ l. Contains l x) (sym (ap (λ b. cond b (y ∷ filter p ys) (filter p ys)) (subst (λ v. p v ≡ true) (sym same) e))) (0, omega arith, same)
+
+    next : Contains (filter p ys) x → (b : Bool) → p y ≡ b → Contains (filter p (y ∷ ys)) x
+    next rest true f = subst (λ l. Contains l x) (sym (ap (λ b. cond b (y ∷ filter p ys) (filter p ys)) f)) (there y (filter p ys) x rest)
+    next rest false f = subst (λ l. Contains l x) (sym (ap (λ b. cond b (y ∷ filter p ys) (filter p ys)) f)) rest
+
+-- an applied id is one of the zone's applied ids
+pub applied-among : (zone : Zone) (y : Id) → IsTrue (is_applied zone y) → Contains (applied_ids zone) y
+applied-among zone y on = by (entry_of zone y) refl
+  where
+    by : (o : _) → entry_of zone y ≡ o → Contains (applied_ids zone) y
+    by None e = absurd (true≢false (sym on ∙ ap (λ o. option_map_or (λ e. is_some e.applied) o false) e))
+    by (Some f) e =
+        let g = find-gives (λ v. bytes_eq v.id y) zone.entries f e in
+        let there = in-filter (λ v. is_some v.applied) zone.entries f g.1 (sym (ap (λ o. option_map_or (λ e. is_some e.applied) o false) e) ∙ on) in
+        subst (Contains (applied_ids zone)) (same_from f.id y g.0) (in_map (λ v. v.id) (filter (λ v. is_some v.applied) zone.entries) f there)
+
+pub plain-from : (g : Global) (zone : Zone) (x : Id) → IsTrue (is_installable g zone x) → IsPlain g zone x
+plain-from g zone x installable =
+    let has_ver : Bool = not (is_nil (vers_of g zone.srel x)) in
+    let off = and_parts (has_ver && is_served g zone x && not (is_supplied zone x)) (not (is_some (delby_of zone x))) installable in
+    let free = and_parts (has_ver && is_served g zone x) (not (is_supplied zone x)) off.0 in
+    let served = (and_parts has_ver (is_served g zone x) free.0).1 in
+    let ver : Bool = has_plain_ver g zone x in
+    let changes : Bool = option_map_or has_plain_changes (sysmod_of g x) true in
+    let a = and_parts (ver && changes && is_unheld g x) (is_served_zone g zone) served in
+    let b = and_parts (ver && changes) (is_unheld g x) a.0 in
+    let c = and_parts ver changes b.0 in
+    let e = and_parts (is_nil (holds_of g Error x) && is_nil (holds_of g System x)) (is_nil (holds_of g User x)) b.1 in
+    let f = and_parts (is_nil (holds_of g Error x)) (is_nil (holds_of g System x)) e.0 in
+    record {
+      names_nothing = names-nothing (by_srel g zone.srel) x c.0;
+      changes = plain-changes g x c.1;
+      no_error = nil-from (holds_of g Error x) f.0;
+      no_system = nil-from (holds_of g System x) f.1;
+      no_user = nil-from (holds_of g User x) e.1;
+      applied = λ y on. names-nothing (by_srel g zone.srel) y (all-from (has_plain_ver g zone) (applied_ids zone) y a.1 on);
+    }
