@@ -1,7 +1,7 @@
 //! A PTFIN that is received, with a source.
 
 use crate::receive;
-use fields::{Id, Source};
+use fields::Source;
 use global::Global;
 use mcs::read_ptfin;
 use report::{Line, Status};
@@ -17,17 +17,23 @@ fn card(text: &[u8]) -> [u8; 80] {
     bytes
 }
 
-/// The id of a status line, and its status as it is printed.
-fn shown(line: &Line) -> Option<(Id, &'static str)> {
-    match line {
-        Line::Status { id, status, .. } => match status {
-            Status::Received => Some((*id, "RECEIVED")),
-            Status::Already => Some((*id, "ALREADY")),
-            Status::Refused(IdRefusal::Rc3) => Some((*id, "REFUSED Rc3")),
-            _ => None,
-        },
-        _ => None,
-    }
+/// Whether the line says this of the id.
+fn says(line: &Line, id: &[u8], word: &[u8]) -> bool {
+    let Line::Status {
+        id: found,
+        status,
+        ..
+    } = line
+    else {
+        return false;
+    };
+    let said = match status {
+        Status::Received => b"RECEIVED".as_slice(),
+        Status::Already => b"ALREADY".as_slice(),
+        Status::Refused(IdRefusal::Rc3) => b"REFUSED Rc3".as_slice(),
+        _ => b"".as_slice(),
+    };
+    found.as_bytes() == id && said == word
 }
 
 #[test]
@@ -46,17 +52,14 @@ fn function_and_fixes(rt: HostRuntime) -> Result<(), Fail> {
     let mut global = Global::new(rt.alloc());
     let found = read_ptfin(rt.alloc(), cards.as_flattened())?;
     let taken = receive(rt.alloc(), &mut global, found, Some(source))?;
-    let expected = [
-        (b"EFUN001", "RECEIVED"),
-        (b"UA00001", "RECEIVED"),
-        (b"UA00001", "ALREADY"),
-        (b"UA00002", "REFUSED Rc3"),
-    ];
-    assert_eq!(rt; taken.lines.len(), expected.len());
-    for (line, (id, status)) in taken.lines.iter().zip(expected) {
-        let (shown_id, shown_status) = shown(line).ok_or("line")?;
-        assert!(rt; shown_id.as_bytes() == id.as_slice());
-        assert_eq!(rt; shown_status, status);
+    match taken.lines.as_slice() {
+        [first, second, third, fourth] => {
+            assert!(rt; says(first, b"EFUN001", b"RECEIVED"));
+            assert!(rt; says(second, b"UA00001", b"RECEIVED"));
+            assert!(rt; says(third, b"UA00001", b"ALREADY"));
+            assert!(rt; says(fourth, b"UA00002", b"REFUSED Rc3"));
+        }
+        _ => assert!(rt; false),
     }
     match taken.edits.as_slice() {
         [
