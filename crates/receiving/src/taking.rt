@@ -1,22 +1,87 @@
-ghost use Rattle.std.specs.Prelude.{◌≡◌, IfOk, map};
+ghost use Rattle.std.specs.Prelude.{◌≡◌, IfOk, OnOk, map};
+ghost use Rattle.terms.specs.Types.{Global as AGlobal, ASysmod};
 ghost use Rattle.machine.specs.Runs.{Runs};
-ghost use Rattle.machine.specs.Receiving.{TakesItem};
-ghost use Rattle.mcs.specs.Files.{items};
-ghost use Rattle.report.specs.Views.{line_view};
+ghost use Rattle.machine.specs.Receiving.{TakesItem, sourced, receive_status};
+ghost use Rattle.mcs.specs.Files.{item_of, items};
+ghost use Rattle.report.specs.Views.{line_view, status_view};
 ghost use Rattle.store.specs.Changes.{EachFits, after_edits};
+ghost use Rattle.receiving.specs.Taking.{answer_of, IsTaken};
 
+use crate::edits::write_received;
 use fields::Source;
-use global::Global;
+use global::{Global, ReceiveFault};
 use mcs::Item;
-use report::Line;
+use report::{Line, Place, Status};
 use std::alloc::{AllocError, Global as Heap};
 use store::GlobalEdit;
+use sysmods::Sysmod;
+use terms::IdRefusal;
 
 /// What a RECEIVE writes, the first edit first, and its lines.
 #[derive(Drop)]
 pub struct Taken {
     pub edits: Vec<GlobalEdit>,
     pub lines: Vec<Line>,
+}
+
+fn with_source(mut sysmod: Sysmod, source: &Option<Source>) -> Result<Sysmod, AllocError>
+    ensures { IfOk result (λ found. found ≡ sourced source.now sysmod) }
+{
+    if let Some(source) = source {
+        sysmod.add_source(*source)?;
+    }
+    Ok(sysmod)
+}
+
+fn status_of(refused: Option<ReceiveFault>) -> Status
+    ensures { (new : AGlobal) → status_view result ≡ receive_status (answer_of new refused) }
+{
+    match refused {
+        None => Status::Received,
+        Some(ReceiveFault::Rc1) => Status::Already,
+        Some(ReceiveFault::Rc2) => Status::Refused(IdRefusal::Rc2),
+        Some(ReceiveFault::Rc3) => Status::Refused(IdRefusal::Rc3),
+        Some(ReceiveFault::Rc4) => Status::Refused(IdRefusal::Rc4),
+    }
+}
+
+/// Receives a SYSMOD, with the source that the command adds. Its copy is for the tables.
+fn take_sysmod(
+    alloc: Heap,
+    global: &mut Global,
+    sysmod: Sysmod,
+    source: &Option<Source>,
+    taken: &mut Taken,
+) -> Result<(), AllocError>
+    ensures { OnOk result (IsTaken source.now global.old (ASysmod sysmod) global.new taken.old.edits.items taken.new.edits.items taken.old.lines.items taken.new.lines.items) }
+{
+    let id = sysmod.id;
+    let kind = sysmod.kind;
+    let sysmod = with_source(sysmod, source)?;
+    let copy = sysmod.try_clone(alloc)?;
+    copy.known();
+    let refused = global.receive(alloc, sysmod)?;
+    write_received(alloc, &mut taken.edits, refused, copy)?;
+    taken.lines.push(Line::Status {
+        id,
+        place: Place::Kind(kind),
+        status: status_of(refused),
+    })?;
+    Ok(())
+}
+
+fn take_item(
+    alloc: Heap,
+    global: &mut Global,
+    item: Item,
+    source: &Option<Source>,
+    taken: &mut Taken,
+) -> Result<(), AllocError>
+    ensures { OnOk result (IsTaken source.now global.old (item_of item) global.new taken.old.edits.items taken.new.edits.items taken.old.lines.items taken.new.lines.items) }
+{
+    match item {
+        Item::Sysmod(sysmod) => take_sysmod(alloc, global, sysmod, source, taken),
+    }
 }
 
 /// Takes the items in, in their order, and adds the source to each SYSMOD that is received. Where memory runs out, the
@@ -31,5 +96,12 @@ pub fn receive(
     ensures fits { IfOk result (λ t. EachFits t.edits.items global.old) }
     ensures edits { IfOk result (λ t. after_edits t.edits.items global.old ≡ global.new) }
 {
-    Err(AllocError)
+    let mut taken = Taken {
+        edits: Vec::new(alloc),
+        lines: Vec::new(alloc),
+    };
+    for item in found {
+        take_item(alloc, global, item, &source, &mut taken)?;
+    }
+    Ok(taken)
 }
