@@ -1,5 +1,5 @@
 -- What a bad operand excludes.
-use Rattle.std.proofs.Common.{◌≡◌, ◌∙◌, List, ap, sym, inl, inr, arith, tt, codes, slice_index}
+use Rattle.std.proofs.Common.{◌≡◌, ◌∙◌, List, ap, sym, ℕ, inl, inr, arith, codes, slice_index}
 use Rattle.std.specs.Prelude.{Option}
 use Rattle.terms.specs.Types.{Text}
 use Rattle.terms.specs.declared.kinds.ZoneKind.{ZoneKind}
@@ -52,7 +52,7 @@ module _ (rows : List Row) where
 
   zone_not_run : (name : Text) → name ≡ codes "zone" → name ≡ codes "run" → ⊥
   zone_not_run name a b =
-      let bad : 122 ≡ 114 = ap (λ t. slice_index t 0) (sym a ∙ b) in
+      let bad : ◌≡◌ {A = ℕ} 122 114 = ap (λ (t : Text). slice_index t 0) (sym a ∙ b) in
       absurd (omega arith)
 
   pub zone_of : (name : Text) → name ≡ codes "zone" → (i : Invocation) × HasValues (name, rows) i → (i : Invocation) × HasZone rows i
