@@ -7,7 +7,7 @@ use Rattle.clap.specs.Words.{App, HasKind, Row, fault_of, found_of, rows_of, sub
 use Rattle.clap.specs.declared.parser.matches.ArgMatches.{ArgMatches}
 use Rattle.clap.specs.declared.parser.matches.ArgMatches.TheViews.{out-ArgMatches, out-SubCommand}
 use Rattle.clap.specs.declared.error.Error.{Error}
-use Rattle.invocation.specs.Answers.{Excludes, IsMet, IsOfClap, IsRead, IsRefused}
+use Rattle.invocation.specs.Answers.{Excludes, IsMet, IsOfClap, IsRefused}
 use Rattle.invocation.specs.CommandLine.{IsCommandLine}
 use Rattle.invocation.specs.declared.fault.ArgFault.{ArgFault}
 use Rattle.invocation.specs.declared.fault.ArgFault.TheVariants.{Memory, Clap, BadOperand}

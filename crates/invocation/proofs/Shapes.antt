@@ -1,5 +1,5 @@
 -- Commands built up by `arg` and `subcommand`.
-use Rattle.std.proofs.Common.{◌≡◌, ◌∙◌, ◌++◌, ◌||◌, List, [], ◌∷◌, false, true, ap, ap₂, refl}
+use Rattle.std.proofs.Common.{◌≡◌, ◌∙◌, ◌++◌, ◌||◌, List, [], ◌∷◌, false, true, ap₂, refl}
 use Rattle.clap.specs.Words.{AddsArg, Rule, Text, app_of, is_simple, rule_of, with_rule}
 use Rattle.clap.specs.Faults.{is_simple_and_free}
 use Rattle.clap.specs.declared.builder.arg.Arg.{Arg}

@@ -4,7 +4,7 @@ use Rattle.clap.specs.Words.{App}
 use Rattle.clap.specs.Simple.{app_of_fields}
 use Rattle.clap.specs.declared.builder.command.Command.{Command}
 use Rattle.clap.specs.declared.builder.command.Command.TheOpen.{Command-F}
-use Rattle.invocation.specs.CommandLine.{kind_option, needed, option}
+use Rattle.invocation.specs.CommandLine.{needed, option}
 use Rattle.invocation.proofs.Shapes.{HasOptions, one_more}
 use Rattle.invocation.proofs.command.run_command.Goals.{After-arg-5}
 use Rattle.invocation.proofs.command.run_command.Goals as goal

@@ -1,4 +1,4 @@
-use Rattle.std.proofs.Common.{rules, arith}
+use Rattle.std.proofs.Common.{arith}
 use Rattle.std.proofs.lemmas.Int.{ints}
 use Rattle.invocation.proofs.Days.{ordinal_small}
 use Rattle.invocation.proofs.date.day_of_year.Goals as goal

@@ -1,8 +1,8 @@
-use Rattle.std.proofs.Common.{◌≡◌, ◌∙◌, List, [], map, subst, true, ap}
+use Rattle.std.proofs.Common.{◌≡◌, ◌∙◌, List, map, subst, true, ap}
 use Rattle.std.proofs.lemmas.Result.{IfOk-weaker, IfErr-weaker, err_from_is_err_and}
 use Rattle.std.specs.Prelude.{Option, option_map}
 use Rattle.terms.specs.Types.{Text}
-use Rattle.clap.specs.Words.{Row, app_of, fault_of, found_of, is_simple, rows_of, subcommand_of}
+use Rattle.clap.specs.Words.{Row, app_of, found_of, is_simple, rows_of, subcommand_of}
 use Rattle.clap.specs.Faults.{is_simple_and_free}
 use Rattle.clap.specs.declared.builder.command.Command.{Command}
 use Rattle.invocation.specs.Answers.{IsMet}
