@@ -1,0 +1,4 @@
+pub mod Days
+pub mod Excluding
+pub mod Meeting
+pub mod Shapes

@@ -1,0 +1,44 @@
+-- The command line, in the words of `clap`'s contracts.
+use Rattle.std.specs.Prelude.{◌≡◌, true, false, List, [], ◌∷◌, map, Some, codes}
+use Rattle.clap.specs.Words.{App, Rule, Shape, Text, new_app, new_rule}
+use Rattle.clap.specs.declared.builder.value_parser.ValueParser.{ValueParser}
+use Rattle.clap.specs.declared.builder.value_parser.ValueParser.TheVariants.{Names}
+
+-- `--id TEXT`, which may be left out
+abbrev pub option : Text → Rule
+option id = record (new_rule id) { long = Some id }
+
+-- the same, which may not
+abbrev pub needed : Text → Rule
+needed id = record (option id) { required = true }
+
+-- it takes a kind of zones, as it is spelled
+abbrev pub IsKindParser : ValueParser → Type 0
+IsKindParser kinds = (names : _) × (kinds ≡ Names names) × (map (λ name. name.now) names.now ≡ codes "target" ∷ codes "distribution" ∷ [])
+
+abbrev pub kind_option : ValueParser → Rule
+kind_option kinds = record (needed (codes "kind")) { parser = Some kinds }
+
+-- a subcommand with these options
+abbrev pub with_options : Text → List Rule → Shape
+with_options name rules = record (new_app name).top { rules = rules }
+
+-- `zone --db F --name Z --kind target|distribution --srel S [--related Z]`
+abbrev pub zone_shape : ValueParser → Shape
+zone_shape kinds = with_options (codes "zone")
+    (needed (codes "db") ∷ needed (codes "name") ∷ kind_option kinds ∷ needed (codes "srel") ∷ option (codes "related") ∷ [])
+
+-- `run --db F --date YYYY-MM-DD --cntl F [--ptfin F] [--hold F]`
+abbrev pub run_shape : Shape
+run_shape = with_options (codes "run")
+    (needed (codes "db") ∷ needed (codes "date") ∷ needed (codes "cntl") ∷ option (codes "ptfin") ∷ option (codes "hold") ∷ [])
+
+-- `smpe` with one of the two
+abbrev pub smpe : ValueParser → App
+smpe kinds = record {
+  top = record (new_app (codes "smpe")).top { is_leaf = false; subcommand_required = true; disable_help_subcommand = true };
+  subs = zone_shape kinds ∷ run_shape ∷ [];
+}
+
+abbrev pub IsCommandLine : App → Type 0
+IsCommandLine app = (kinds : ValueParser) × IsKindParser kinds × (app ≡ smpe kinds)

@@ -1,0 +1,4 @@
+pub mod Answers
+pub mod CommandLine
+pub mod Dates
+pub mod Values
