@@ -1,7 +1,7 @@
 -- The tests of candidates that are all installable: they look at the zone itself, and only those on elements, on ACCEPT and on
 -- shared elements can fail.
-use Rattle.std.proofs.Common.{◌≡◌, ◌≢◌, ◌⊎◌, inl, inr, Bool, true, false, not, List, [], ◌∷◌, ◌++◌, Option, None, Some, IsTrue, refl, sym, ap, ◌∙◌, subst, true≢false, filter, find, map, Contains, cond, arith, eq-eqb}
-use Rattle.std.specs.Prelude.{All, IsFalse, is_some, unwrap_or, ◌↔◌, ◌==◌, ◌&&◌}
+use Rattle.std.proofs.Common.{◌≡◌, ◌≢◌, ◌⊎◌, inl, inr, zero, suc, Bool, true, false, not, List, [], ◌∷◌, ◌++◌, Option, None, Some, IsTrue, refl, sym, ap, ◌∙◌, subst, true≢false, filter, find, map, Contains, cond, arith, eq-eqb}
+use Rattle.std.specs.Prelude.{All, Any, IsFalse, is_some, unwrap_or, ◌↔◌, ◌==◌, ◌&&◌}
 use Rattle.std.specs.List.{flat_map, list_all, list_any}
 use Rattle.std.specs.Option.{option_map_or}
 use Rattle.std.specs.Str.{bytes_eq}
