@@ -1,33 +1,31 @@
 -- The tests of candidates that are all installable: they look at the zone itself, and only those on elements, on ACCEPT and on
 -- shared elements can fail.
-use Rattle.std.proofs.Common.{◌≡◌, ◌≢◌, ◌⊎◌, inl, inr, Bool, true, false, not, List, [], ◌∷◌, ◌++◌, Option, None, Some, IsTrue, refl, sym, ap, ◌∙◌, subst, true≢false, filter, find, map, Contains, cond, arith, eq-eqb}
-use Rattle.std.specs.Prelude.{All, IsFalse, is_some, unwrap_or, ◌↔◌, ◌==◌, ◌&&◌}
-use Rattle.std.specs.List.{flat_map, list_all, list_any}
+use Rattle.std.proofs.Common.{◌≡◌, ◌≢◌, ◌⊎◌, inl, inr, zero, suc, Bool, true, false, not, List, [], ◌∷◌, Option, None, Some, IsTrue, refl, sym, ap, ◌∙◌, subst, true≢false, filter, find, Contains, cond, arith, eq-eqb}
+use Rattle.std.specs.Prelude.{All, Any, is_some, unwrap_or, ◌↔◌, ◌==◌, ◌&&◌}
+use Rattle.std.specs.List.{list_all}
 use Rattle.std.specs.Option.{option_map_or}
 use Rattle.std.specs.Str.{bytes_eq}
 use Rattle.std.proofs.lemmas.Bool.{and_parts, eqb-true}
-use Rattle.std.proofs.lemmas.List.Elements.{All-head, All-tail, Contains-get_or}
-use Rattle.terms.specs.declared.kinds.HoldKind.TheVariants.{Error, System, User}
+use Rattle.std.proofs.lemmas.List.Elements.{Contains-get_or}
 use Rattle.terms.specs.declared.kinds.ElemType.{ElemType}
 use Rattle.terms.specs.declared.kinds.ZoneKind.TheVariants.{Distribution}
 use Rattle.terms.specs.declared.codes.Test.{Test}
 use Rattle.terms.specs.declared.codes.Test.TheVariants.{J1, J2, J3, J4, J5, J6, J7, J8, J9, J10, J11, J12}
 use Rattle.terms.specs.Types.{Text, Id, Change, Element, Global, Zone, type_number}
-use Rattle.terms.specs.Lookups.{is_held, is_function, changes_of, change_of, has_change, holds_of, is_applied, element_of}
-use Rattle.terms.specs.Choice.{Choice, by_srel, fmid_of, npre_of, del_of}
-use Rattle.terms.specs.Over.{IsOver, owner}
+use Rattle.terms.specs.Lookups.{is_held, is_function, changes_of, change_of, has_change, is_applied, element_of}
+use Rattle.terms.specs.Choice.{Choice, by_srel, fmid_of, npre_of}
+use Rattle.terms.specs.Over.{IsOver}
 use Rattle.terms.specs.Changes.{is_replacement, has_update}
 use Rattle.terms.specs.Deleted.{deletions, is_deleted, zone_less}
-use Rattle.terms.specs.Tests.{Setting, view_of, owner_of, standing_holds, is_bypassed_hold, ChangesInView, FailsJ1, FailsJ2, FailsJ3, FailsJ4, FailsJ5, FailsJ6, FailsJ7, FailsJ8, FailsJ9, FailsAlone, PassesAlone, Survives, AreSurvivors, ShareElement, Clash, IsEligible, Fails}
+use Rattle.terms.specs.Tests.{Setting, view_of, owner_of, is_bypassed_hold, ChangesInView, FailsJ1, FailsJ2, FailsJ3, FailsJ4, FailsJ5, FailsJ6, FailsJ7, FailsJ8, FailsAlone, Survives, ShareElement, Clash}
 use Rattle.terms.specs.CommandForms.{no_bypass}
 use Rattle.terms.specs.Judged.{setting}
 use Rattle.terms.proofs.SameLists.{find-gives}
 use Rattle.terms.proofs.GlobalLookups.{same_from, same_itself}
 use Rattle.terms.proofs.ElementOrder.{type_from_number}
-use Rattle.terms.proofs.Ids.{Contains-from_is_in, is_in-from_Contains}
 use Rattle.terms.proofs.Apart.{here_or}
 use Rattle.terms.proofs.NothingDeleted.{view-none, deletions-none, zone_less-none, is_deleted-none}
-use Rattle.judge.proofs.Plain.{IsPlain, NamesNothing, all-from, applied-among}
+use Rattle.judge.proofs.Plain.{IsPlain, all-from, applied-among}
 
 -- x changes this element, which the zone has
 pub record Touches (g : Global) (zone : Zone) (x : Id) (e : Element) : Type 0 where

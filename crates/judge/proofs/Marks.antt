@@ -1,16 +1,15 @@
 -- Who shares an element: the claims of the candidates, and the marks that one pass over them makes.
-use Rattle.std.proofs.Common.{◌≡◌, ◌≢◌, ◌⊎◌, inl, inr, ℕ, zero, suc, ◌<◌, ◌+◌, Bool, true, false, List, [], ◌∷◌, ◌++◌, length, Option, None, Some, IsTrue, refl, sym, ap, ap₂, ◌∙◌, subst, true≢false, map, Contains, cond, arith, slice_get}
+use Rattle.std.proofs.Common.{◌≡◌, ◌≢◌, ◌⊎◌, inl, inr, ℕ, ◌+◌, Bool, true, false, List, [], ◌∷◌, ◌++◌, Option, None, Some, refl, sym, ap, ap₂, ◌∙◌, subst, true≢false, map, Contains, cond, arith, slice_get}
 use Rattle.std.specs.Prelude.{◌↔◌, ◌&&◌}
 use Rattle.std.specs.List.{list_any}
 use Rattle.std.specs.Str.{bytes_eq}
 use Rattle.std.proofs.lemmas.Bool.{and_parts, eqb-true, eq-eqb, cases_eq}
-use Rattle.std.proofs.lemmas.Option.{slice_get_within}
 use Rattle.std.proofs.lemmas.List.{append-nil}
 use Rattle.std.proofs.lemmas.List.Elements.{Contains-append_left, Contains-append_right, Contains-append_cases, Contains-push, Contains-push_cases}
 use Rattle.indexmap.specs.IndexSet.{insert_key}
-use Rattle.indexmap.proofs.CallerLemmas.{Contains-list_any, Contains-insert_key}
+use Rattle.indexmap.proofs.CallerLemmas.{Contains-insert_key}
 use Rattle.terms.specs.declared.kinds.ElemType.{ElemType}
-use Rattle.terms.specs.Types.{Text, Id, Change, Global, type_number}
+use Rattle.terms.specs.Types.{Text, Id, Global, type_number}
 use Rattle.terms.specs.Lookups.{changes_of}
 use Rattle.terms.proofs.ElementOrder.{eq-types, type_from_number}
 use Rattle.terms.proofs.GlobalLookups.{same_from, same_itself}

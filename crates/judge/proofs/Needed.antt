@@ -1,34 +1,31 @@
 -- Candidates that are all installable need their functions alone; and the numbered needs, one more after the other.
-use Rattle.std.proofs.Common.{◌≡◌, ◌⊎◌, inl, inr, ℕ, zero, suc, ◌<◌, ◌≤◌, ◌+◌, Bool, true, false, not, List, [], ◌∷◌, ◌++◌, length, length-append, Option, None, Some, IsTrue, refl, sym, ap, ◌∙◌, subst, true≢false, filter, map, Contains, cond, arith, slice_get}
-use Rattle.std.specs.Prelude.{All, Any, ◌↔◌, ◌&&◌, ◌||◌, IsFalse, slice_index_or, get_or, take}
+use Rattle.std.proofs.Common.{◌≡◌, inl, inr, ℕ, ◌<◌, ◌+◌, Bool, true, false, not, List, [], ◌∷◌, ◌++◌, length, length-append, Option, None, Some, IsTrue, refl, sym, ap, ◌∙◌, subst, true≢false, filter, map, Contains, cond, arith, slice_get}
+use Rattle.std.specs.Prelude.{All, ◌↔◌, ◌&&◌, ◌||◌, IsFalse, slice_index_or, get_or}
 use Rattle.std.specs.Str.{bytes_eq}
 use Rattle.std.proofs.lemmas.Bool.{cases_eq}
-use Rattle.std.proofs.lemmas.List.{take_more, take_all, length-take-le}
-use Rattle.std.specs.List.{flat_map, list_any}
-use Rattle.std.specs.Option.{option_map_or, option_and_then}
-use Rattle.std.proofs.lemmas.Option.{slice_get_within, get_or_from_slice_get}
+use Rattle.std.specs.List.{flat_map}
+use Rattle.std.specs.Option.{option_and_then}
+use Rattle.std.proofs.lemmas.Option.{slice_get_within}
 use Rattle.std.proofs.lemmas.List.Folds.{list_any_none}
-use Rattle.std.proofs.lemmas.List.Elements.{All-nil, All-cons, All-push}
 use Rattle.terms.specs.declared.codes.NeedKind.{NeedKind}
 use Rattle.terms.specs.declared.codes.NeedKind.TheVariants.{Fmid, Pre, Req, Ifreq, HoldError, Orphan, Elem, Dep}
 use Rattle.terms.specs.declared.kinds.HoldKind.TheVariants.{Error}
 use Rattle.terms.specs.Types.{Id, Global, Zone}
 use Rattle.terms.specs.Lookups.{is_held, at_most_one, is_in, is_function, is_applied, applied_ids, supplies}
 use Rattle.terms.specs.Choice.{Choice, by_srel, fmid_of, pre_of, req_of, ifs_of, del_of}
-use Rattle.terms.specs.Over.{IsOver, Supersedes}
 use Rattle.terms.specs.Deleted.{is_deleted, is_taken_out, zone_less}
 use Rattle.terms.specs.Candidates.{if_reqs, stated_for, if_needed}
-use Rattle.terms.specs.Tests.{Setting, view_of, standing_holds, is_bypassed_hold, AreSurvivors}
+use Rattle.terms.specs.Tests.{Setting, view_of, standing_holds, is_bypassed_hold}
 use Rattle.terms.specs.Needs.{Needs, Serves, asked, orphans, is_lost, zone_left, binding_ids, is_met}
 use Rattle.terms.specs.CommandForms.{no_bypass}
 use Rattle.terms.specs.Judged.{setting}
 use Rattle.terms.specs.Problem.{Demand, Problem}
 use Rattle.terms.proofs.RisingLists.{filter-none}
 use Rattle.terms.proofs.Apart.{here_or, here, there}
-use Rattle.judge.proofs.Plain.{IsPlain, NamesNothing}
+use Rattle.judge.proofs.Plain.{IsPlain}
 use Rattle.judge.proofs.Collapsed.{view-is, zone-left}
 use Rattle.terms.proofs.NothingDeleted.{is_deleted-none}
-use Rattle.judge.specs.Wanted.{open_fmid, ArePlaces, IsWant, AreWants, AddsWant, AddsOpen, HasWants}
+use Rattle.judge.specs.Wanted.{open_fmid, ArePlaces, IsWant, AreWants, AddsOpen, HasWants}
 use Rattle.judge.proofs.Lists.{push-old, push-last, push-cases}
 
 none-in : {A : Type 0} {X : Type 0} (l : List X) (z : X) → l ≡ [] → Contains l z → A

@@ -1,7 +1,6 @@
 -- What the places of the candidates tell: each fails the tests that are marked at its place, and no others.
-use Rattle.std.proofs.Common.{◌≡◌, ◌≢◌, ◌⊎◌, inl, inr, ℕ, zero, suc, ◌<◌, ◌+◌, Bool, true, false, not, List, [], ◌∷◌, ◌++◌, length, Option, None, Some, IsTrue, refl, sym, ap, ap₂, ◌∙◌, subst, true≢false, filter, map, Contains, cond, arith, slice_get, get_or}
-use Rattle.std.specs.Prelude.{All, AllPairs, ◌↔◌, ◌==◌, ◌&&◌, nat_eq, unwrap_or}
-use Rattle.std.specs.List.{list_any}
+use Rattle.std.proofs.Common.{◌≡◌, ◌≢◌, inl, inr, ℕ, zero, suc, ◌<◌, ◌+◌, Bool, true, false, not, List, [], ◌∷◌, length, Option, None, Some, IsTrue, refl, sym, ap, ap₂, ◌∙◌, subst, true≢false, filter, map, Contains, cond, arith, slice_get, get_or}
+use Rattle.std.specs.Prelude.{All, ◌↔◌, ◌==◌, ◌&&◌, nat_eq}
 use Rattle.std.specs.Option.{option_map, option_map_or}
 use Rattle.std.specs.Str.{bytes_eq}
 use Rattle.std.proofs.lemmas.Bool.{and_parts, eqb-true, cases_order, cases_eq}
@@ -22,17 +21,15 @@ use Rattle.terms.specs.declared.kinds.ElemType.{ElemType}
 use Rattle.terms.specs.declared.kinds.ZoneKind.{ZoneKind}
 use Rattle.terms.specs.declared.kinds.ZoneKind.TheVariants.{Target, Distribution}
 use Rattle.terms.specs.declared.codes.NeedKind.{NeedKind}
-use Rattle.terms.specs.declared.codes.NeedKind.TheVariants.{Fmid}
 use Rattle.terms.specs.declared.codes.Test.{Test}
 use Rattle.terms.specs.declared.codes.Test.TheVariants.{J1, J2, J3, J4, J5, J6, J7, J8, J9, J10, J11, J12}
 use Rattle.terms.specs.Types.{Text, Id, Change, Element, Global, Zone, zone_number}
 use Rattle.terms.specs.Lookups.{IsRising, is_held, is_before, is_in, changes_of, has_change, element_of}
-use Rattle.terms.specs.Choice.{Choice, by_srel}
-use Rattle.terms.specs.Tests.{Setting, FailsJ4, FailsJ5, FailsJ7, FailsJ9, Survives, AreSurvivors, ShareElement, IsEligible, Fails}
+use Rattle.terms.specs.Tests.{Setting, FailsJ4, FailsJ5, FailsJ7, FailsJ9, Survives, AreSurvivors, IsEligible, Fails}
 use Rattle.terms.specs.CommandForms.{no_bypass}
 use Rattle.terms.specs.Judged.{setting, IsInstallProblem}
-use Rattle.terms.specs.Problem.{Problem, Demand, IsProblem, holds}
-use Rattle.terms.proofs.RisingLists.{AllPairs-first, AllPairs-rest}
+use Rattle.terms.specs.Problem.{Problem, IsProblem, holds}
+use Rattle.terms.proofs.RisingLists.{AllPairs-rest}
 use Rattle.terms.proofs.NumberedCauses.{contains_at, found_at}
 use Rattle.terms.proofs.GlobalLookups.{same_from, same_itself}
 use Rattle.terms.proofs.Apart.{map_in, in_map, here_or, here, there}
@@ -40,13 +37,13 @@ use Rattle.machine.specs.Installing.{all_tests}
 use Rattle.judge.specs.declared.own.OwnFaults.{OwnFaults}
 use Rattle.judge.specs.Failed.{AreFailedTests}
 use Rattle.judge.specs.Placed.{Beside}
-use Rattle.judge.specs.Own.{is_foreign_at, IsLowerAt, HasFaults, passes}
+use Rattle.judge.specs.Own.{is_foreign_at, HasFaults, passes}
 use Rattle.judge.specs.Sharing.{change_key, HasClaim, IsSharedAt}
 use Rattle.judge.specs.Rows.{fails_test, is_among, row_of, is_eligible_at}
-use Rattle.judge.specs.Wanted.{open_fmid, ArePlaces, AreWants, HasWants}
+use Rattle.judge.specs.Wanted.{open_fmid, ArePlaces, AreWants}
 use Rattle.terms.proofs.Ids.{is_in-from_Contains}
 use Rattle.judge.proofs.Plain.{IsPlain, in-filter}
-use Rattle.judge.proofs.Collapsed.{Touches, change-found, change-has, never-held-system, never-held-user, never-prevented, never-bare-update, never-deleted, foreign-from, foreign-gives, lower-from, lower-gives, unapplied-gives, survives-from, clash-shares, share-clashes}
+use Rattle.judge.proofs.Collapsed.{change-found, change-has, never-held-system, never-held-user, never-prevented, never-bare-update, never-deleted, foreign-from, foreign-gives, lower-from, lower-gives, unapplied-gives, survives-from, clash-shares, share-clashes}
 use Rattle.judge.proofs.Needed.{needs-only, needs-open, serves-itself}
 
 some-is : {X : Type 0} (a b : X) → Some a ≡ Some b → a ≡ b

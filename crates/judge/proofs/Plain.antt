@@ -1,17 +1,15 @@
 -- What is installable names its function alone, is held by nothing, and changes elements only as a function.
-use Rattle.std.proofs.Common.{◌≡◌, ◌⊎◌, inl, inr, Bool, true, false, not, List, [], ◌∷◌, ◌++◌, Option, None, Some, IsTrue, refl, sym, ap, ◌∙◌, subst, true≢false, filter, find, map, Contains, cond, arith}
-use Rattle.std.specs.Prelude.{All, ◌&&◌, ◌||◌, ◌==◌, is_some}
-use Rattle.std.specs.List.{flat_map, list_all, list_any}
-use Rattle.std.specs.Option.{option_map_or, option_and_then}
+use Rattle.std.proofs.Common.{◌≡◌, ◌⊎◌, inl, inr, Bool, true, false, not, List, [], ◌∷◌, Option, None, Some, IsTrue, refl, sym, ap, ◌∙◌, subst, true≢false, filter, Contains, cond, arith}
+use Rattle.std.specs.Prelude.{◌&&◌, ◌==◌, is_some}
+use Rattle.std.specs.List.{list_all}
+use Rattle.std.specs.Option.{option_map_or}
 use Rattle.std.proofs.lemmas.Bool.{and_parts, or_cases}
-use Rattle.std.proofs.lemmas.List.Elements.{All-head, All-tail, All-contains}
 use Rattle.terms.specs.declared.kinds.HoldKind.TheVariants.{Error, System, User}
-use Rattle.terms.specs.declared.kinds.ElemType.{ElemType}
-use Rattle.terms.specs.Types.{Text, Id, Ver, Change, Sysmod, Global, Zone, kind_number, type_number}
-use Rattle.terms.specs.Lookups.{is_nil, sysmod_of, is_function, changes_of, change_of, has_change, holds_of, applied_ids, is_applied, entry_of, is_supplied, delby_of}
+use Rattle.terms.specs.Types.{Id, Ver, Sysmod, Global, Zone, kind_number}
+use Rattle.terms.specs.Lookups.{is_nil, sysmod_of, is_function, changes_of, holds_of, applied_ids, is_applied, entry_of, is_supplied, delby_of}
 use Rattle.std.specs.Str.{bytes_eq}
 use Rattle.terms.specs.Choice.{Choice, by_srel, vers_of, pre_of, req_of, sup_of, npre_of, del_of, ifs_of}
-use Rattle.terms.specs.Changes.{is_replacement, has_update}
+use Rattle.terms.specs.Changes.{is_replacement}
 use Rattle.terms.specs.Served.{is_plain, has_plain_ver, has_plain_changes, is_unheld, is_served_zone, is_served}
 use Rattle.terms.specs.Candidates.{is_installable}
 use Rattle.terms.proofs.SameLists.{find-gives}

@@ -1,5 +1,5 @@
 -- The failed tests of a candidate, as a list.
-use Rattle.std.specs.Prelude.{◌≡◌, ◌&&◌, ℕ, Bool, false, not, List, filter}
+use Rattle.std.specs.Prelude.{◌&&◌, ℕ, Bool, false, not, List, filter}
 use Rattle.std.specs.List.{list_any}
 use Rattle.std.specs.Prelude.{nat_eq}
 use Rattle.terms.specs.declared.codes.Test.{Test}

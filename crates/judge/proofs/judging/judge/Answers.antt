@@ -1,12 +1,6 @@
-use Rattle.std.proofs.Common.{◌≡◌, ◌∙◌, length, sym, ap, subst, map}
 use Rattle.std.proofs.lemmas.List.Elements.{All-contains}
 use Rattle.terms.specs.Candidates.{is_installable}
 use Rattle.std.specs.Prelude.{IsTrue}
-use Rattle.terms.specs.CommandForms.{no_bypass}
-use Rattle.terms.specs.Judged.{setting, IsInstallProblem}
-use Rattle.judge.specs.Own.{HasFaults}
-use Rattle.judge.specs.Placed.{Beside}
-use Rattle.judge.specs.Rows.{is_eligible_at, row_of}
 use Rattle.judge.proofs.Plain.{plain-from}
 use Rattle.judge.proofs.Places.{is-problem, are-failed, same-pairs}
 use Rattle.judge.proofs.judging.judge.Goals as goal

@@ -1,4 +1,4 @@
-use Rattle.std.proofs.Common.{◌≡◌, ◌∙◌, ◌&&◌, not, ap, arith}
+use Rattle.std.proofs.Common.{◌≡◌, ◌∙◌, ◌&&◌, not, ap}
 use Rattle.judge.specs.Own.{passes}
 use Rattle.judge.specs.Rows.{is_eligible_at}
 use Rattle.judge.proofs.Lists.{beside-at}

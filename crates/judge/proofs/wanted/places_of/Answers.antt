@@ -1,10 +1,9 @@
-use Rattle.std.proofs.Common.{◌∙◌, [], sym, ap, subst, refl}
+use Rattle.std.proofs.Common.{◌∙◌, sym, ap}
 use Rattle.std.specs.Prelude.{is_ok}
 use Rattle.std.specs.Str.{bytes_eq}
 use Rattle.std.specs.Cmp.Lexicographic.{texts_ties}
 use Rattle.std.proofs.lemmas.Cmp.{nat_list_cmp_total}
 use Rattle.terms.proofs.RisingLists.{is_ok-search, found-search}
-use Rattle.judge.specs.Wanted.{ArePlaces}
 use Rattle.judge.proofs.Places.{one-place, no-place, stands-at}
 use Rattle.judge.proofs.wanted.places_of.Goals as goal
 

@@ -1,4 +1,4 @@
-use Rattle.std.proofs.Common.{◌∙◌, ap, length, refl, sym, arith, subst}
+use Rattle.std.proofs.Common.{length, refl, arith, subst}
 use Rattle.std.proofs.lemmas.Option.{slice_get_read}
 use Rattle.judge.specs.Wanted.{open_fmid, AddsOpen}
 use Rattle.judge.proofs.Needed.{wants-next}
