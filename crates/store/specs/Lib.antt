@@ -1,4 +1,5 @@
 pub mod Changes
+pub mod Kept
 pub mod Loads
 pub mod View
 pub mod Writes

@@ -4,7 +4,7 @@ ghost use Rattle.std.specs.Prelude.{◌≡◌, ◌≢◌, map, IfOk, IfErr, IsEr
 ghost use Rattle.sqlite.specs.Held.{state};
 ghost use Rattle.sqlite.specs.State.{HasCleanDisk};
 ghost use Rattle.schema.specs.Inventory.{Inventory};
-ghost use Rattle.zone_loads.specs.Found.{zone_in};
+ghost use Rattle.zone_loads.specs.Found.{zone_in, head_of};
 ghost use Rattle.store.specs.View.{Tables, TablesIfOpen, Leaves};
 ghost use Rattle.store.specs.Loads.{told};
 
@@ -15,6 +15,7 @@ use global::Global;
 use rows::ReadError;
 use schema::StoreError;
 use sqlite::Alter;
+use zone_loads::ZoneHead;
 use zones::Zone;
 
 /// How an error of reading is told: rows that stand for nothing stand for no state.
@@ -38,6 +39,7 @@ impl<S: Alter> Store<S> {
         ensures err { OnErr result ((i : Inventory) → Tables S.Store self.old i → TablesIfOpen S.Store self.new i) }
         ensures which { IfErr result (λ e. e ≢ StoreError.OtherSchema) }
         ensures crash { (i : Inventory) → Tables S.Store self.old i → (c : Inventory) → Leaves S.Store self.new c → Leaves S.Store self.old c }
+        ensures clean { HasCleanDisk (state S.Store self.new) → HasCleanDisk (state S.Store self.old) }
     {
         // So what the connection shows is what it last committed.
         prove!(self.conn.is_autocommit());
@@ -55,11 +57,30 @@ impl<S: Alter> Store<S> {
         ensures err { OnErr result ((i : Inventory) → Tables S.Store self.old i → TablesIfOpen S.Store self.new i) }
         ensures which { IfErr result (λ e. e ≢ StoreError.OtherSchema) }
         ensures crash { (i : Inventory) → Tables S.Store self.old i → (c : Inventory) → Leaves S.Store self.new c → Leaves S.Store self.old c }
+        ensures clean { HasCleanDisk (state S.Store self.new) → HasCleanDisk (state S.Store self.old) }
     {
         // So what the connection shows is what it last committed.
         prove!(self.conn.is_autocommit());
         match zone_loads::load_zone(self.alloc, &mut self.conn, name) {
             Ok(zone) => Ok(zone),
+            Err(error) => Err(told(error)),
+        }
+    }
+
+    /// All zones without their entries and elements, rising by name.
+    pub fn zone_heads(&mut self) -> Result<Vec<ZoneHead>, StoreError>
+        ensures found { HasCleanDisk (state S.Store self.new) → (i : Inventory) → Tables S.Store self.old i → IfOk result (λ heads. heads.items ≡ map head_of i.zones) }
+        ensures none { HasCleanDisk (state S.Store self.new) → IsErrOf result StoreError.NoState → (i : Inventory) → ¬ Tables S.Store self.old i }
+        ensures same { OnOk result ((i : Inventory) → Tables S.Store self.old i → Tables S.Store self.new i) }
+        ensures err { OnErr result ((i : Inventory) → Tables S.Store self.old i → TablesIfOpen S.Store self.new i) }
+        ensures which { IfErr result (λ e. e ≢ StoreError.OtherSchema) }
+        ensures crash { (i : Inventory) → Tables S.Store self.old i → (c : Inventory) → Leaves S.Store self.new c → Leaves S.Store self.old c }
+        ensures clean { HasCleanDisk (state S.Store self.new) → HasCleanDisk (state S.Store self.old) }
+    {
+        // So what the connection shows is what it last committed.
+        prove!(self.conn.is_autocommit());
+        match zone_loads::zone_heads(self.alloc, &mut self.conn) {
+            Ok(heads) => Ok(heads),
             Err(error) => Err(told(error)),
         }
     }
@@ -72,6 +93,7 @@ impl<S: Alter> Store<S> {
         ensures err { OnErr result ((i : Inventory) → Tables S.Store self.old i → TablesIfOpen S.Store self.new i) }
         ensures which { IfErr result (λ e. e ≢ StoreError.OtherSchema) }
         ensures crash { (i : Inventory) → Tables S.Store self.old i → (c : Inventory) → Leaves S.Store self.new c → Leaves S.Store self.old c }
+        ensures clean { HasCleanDisk (state S.Store self.new) → HasCleanDisk (state S.Store self.old) }
     {
         // So what the connection shows is what it last committed.
         prove!(self.conn.is_autocommit());

@@ -76,6 +76,7 @@ impl<S: Alter> Store<S> {
         ensures err { OnErr result ((i : Inventory) → Tables S.Store self.old i → TablesIfOpen S.Store self.new i) }
         ensures crash { (i j : Inventory) → Makes change.now i j → IsInventory j → Tables S.Store self.old i → (c : Inventory) → Leaves S.Store self.new c → Leaves S.Store self.old c ⊎ (j ≡ c) }
         ensures which { IfErr result (λ e. (e ≡ StoreError.Fault) ⊎ (e ≡ StoreError.Memory)) }
+        ensures clean { HasCleanDisk (state S.Store self.new) → HasCleanDisk (state S.Store self.old) }
     {
         commit_change(self.alloc, &mut self.conn, change)?;
         Ok(())

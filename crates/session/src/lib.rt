@@ -1,0 +1,6 @@
+//! A job under way: its commands, each performed over the store.
+#![tactic(auto)]
+
+mod performing;
+
+pub use performing::Session;

@@ -1,0 +1,22 @@
+-- What a store keeps of the machine's state: all but the boundary.
+use Rattle.std.specs.Prelude.{◌≡◌, ◌⊎◌, ℕ, List}
+use Rattle.sqlite.specs.Store.{Ghosts}
+use Rattle.sqlite.specs.Held.{Held}
+use Rattle.schema.specs.Inventory.{Inventory}
+use Rattle.machine.specs.State.{State}
+use Rattle.machine.specs.Machine.{Act, Prints}
+use Rattle.machine.specs.Runs.{Stands}
+use Rattle.store.specs.View.{Tables, TablesIfOpen, Leaves}
+
+abbrev pub kept : State → Inventory
+kept s = record { global = s.global; zones = s.zones }
+
+module _ {S : Type 0} (g : Ghosts S) (at : Held S) where
+  -- The tables stand for the state, and a crash leaves it.
+  abbrev pub Keeps : State → Type 0
+  Keeps s = Stands (Tables g at) (Leaves g at) (kept s)
+
+  -- An act was begun and had no effect, or a crash may leave its effect. A fault may have shut the connection.
+  pub record Stays (s : State) (a : Act) : Type 0 where
+    pub now : TablesIfOpen g at (kept s)
+    pub crash : (c : Inventory) → Leaves g at c → (c ≡ kept s) ⊎ ((m : State) × (text : List ℕ) × Prints s a m text × (c ≡ kept m))
