@@ -3,10 +3,12 @@ use Rattle.sqlite.specs.Held.{state}
 use Rattle.sqlite.specs.State.{HasCleanDisk}
 use Rattle.machine.specs.State.{State}
 use Rattle.cntl.specs.Views.{command_of}
+use Rattle.machine.specs.Machine.{Begin, Perform}
 use Rattle.store.specs.Kept.{Keeps}
+use Rattle.store.proofs.Keeping.{stays-unchanged}
 use Rattle.session.specs.Sessions.{IsSessionOf, HasBegun, HasPerformed}
 use Rattle.session.proofs.performing.Session.begin.Goals as goal
 
 -- src/performing.rt:30:5
 pub returns-clause-ended : goal.returns-clause-ended
-returns-clause-ended g c = ?
+returns-clause-ended g c = λ clean s keeps. stays-unchanged g.S.Store c.args.store.now s Begin keeps
