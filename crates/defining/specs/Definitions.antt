@@ -7,6 +7,7 @@ use Rattle.terms.specs.Types.{Text}
 use Rattle.machine.specs.State as state
 use Rattle.machine.specs.State.{State, ZoneDefinition, define_zone}
 use Rattle.machine.specs.Machine.{Define}
+use Rattle.schema.specs.declared.error.StoreError.{StoreError}
 use Rattle.schema.specs.declared.error.StoreError.TheVariants as store
 use Rattle.store.specs.Kept.{Keeps, Stays}
 use Rattle.defining.specs.declared.error.ZoneFault.{ZoneFault}
@@ -31,3 +32,8 @@ module _ {S : Type 0} (g : Ghosts S) (at : Held S) (s : State) (d : ZoneDefiniti
   HasDefined (Err (Store store.Fault)) = Stays g at s (Define d)
   HasDefined (Err (Store _)) = ⊥
   HasDefined (Err Memory) = Stays g at s (Define d)
+
+-- how an error of the store is told
+abbrev pub told : StoreError → ZoneError
+told store.Memory = Memory
+told error = Store error

@@ -29,3 +29,17 @@ pub enum ZoneError {
     #[error("out of memory")]
     Memory,
 }
+
+impl From<StoreError> for ZoneError {
+    ghost use Rattle.std.specs.Prelude.{◌≡◌};
+    ghost use Rattle.defining.specs.Definitions.{told};
+
+    ghost from_gives = { λ error e. e ≡ told error };
+
+    fn from(error: StoreError) -> ZoneError {
+        match error {
+            StoreError::Memory => ZoneError::Memory,
+            error => ZoneError::Store(error),
+        }
+    }
+}

@@ -3,6 +3,7 @@
 
 mod defining;
 mod error;
+mod faults;
 
 pub use defining::define_zone;
 pub use error::{ZoneError, ZoneFault};

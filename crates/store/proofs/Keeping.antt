@@ -1,11 +1,51 @@
--- A store that keeps a state, where an act has no effect.
-use Rattle.std.proofs.Common.{inl}
+-- What a store keeps, from what its calls say of the tables.
+use Rattle.std.proofs.Common.{◌≡◌, ◌≢◌, ◌⊎◌, ℕ, List, refl, sym, inl, inr}
 use Rattle.sqlite.specs.Store.{Ghosts}
-use Rattle.sqlite.specs.Held.{Held}
+use Rattle.sqlite.specs.Held.{Held, state}
+use Rattle.sqlite.specs.State.{HasCleanDisk}
 use Rattle.machine.specs.State.{State}
-use Rattle.machine.specs.Machine.{Act}
-use Rattle.store.specs.Kept.{Keeps, Stays}
+use Rattle.machine.specs.Machine.{Act, Prints}
+use Rattle.schema.specs.Inventory.{Inventory, IsInventory}
+use Rattle.schema.specs.declared.error.StoreError.{StoreError}
+use Rattle.schema.specs.declared.error.StoreError.TheVariants.{Fault, OtherSchema, NoState, Memory}
+use Rattle.store.specs.Kept.{kept, Keeps, Stays}
+use Rattle.store.specs.View.{Tables, TablesIfOpen, Leaves}
 
-module _ {S : Type 0} (g : Ghosts S) (at : Held S) (s : State) (a : Act) where
-  pub stays-unchanged : Keeps g at s → Stays g at s a
-  stays-unchanged keeps = record { now = λ clean shown. (keeps.now clean).1; crash = λ c left. inl (keeps.crash c left) }
+-- nothing was done
+pub stays-unchanged : {S : Type 0} (g : Ghosts S) (at : Held S) (s : State) (a : Act) → Keeps g at s → Stays g at s a
+stays-unchanged g at s a keeps = record { now = λ clean shown. (keeps.now clean).1; crash = λ c left. inl (keeps.crash c left) }
+
+-- what is kept is an inventory
+pub inventory-kept : {S : Type 0} (g : Ghosts S) (at : Held S) (s : State) → Keeps g at s → HasCleanDisk (state g at) → IsInventory (kept s)
+inventory-kept g at s keeps clean = (keeps.now clean).1.inventory
+
+module _ {S : Type 0} (g : Ghosts S) (old new : Held S) (s : State) (keeps : Keeps g old s) where
+  -- what was loaded
+  pub keeps-loaded : (Tables g old (kept s) → Tables g new (kept s)) → ((c : Inventory) → Leaves g new c → Leaves g old c) → Keeps g new s
+  keeps-loaded same crash = record { now = same keeps.now; crash = λ c left. keeps.crash c (crash c left) }
+
+  -- a load that failed
+  pub stays-loaded : (a : Act) → (Tables g old (kept s) → TablesIfOpen g new (kept s)) → ((c : Inventory) → Leaves g new c → Leaves g old c) → Stays g new s a
+  stays-loaded a err crash = record { now = err keeps.now; crash = λ c left. inl (keeps.crash c (crash c left)) }
+
+  -- a commit, after which the tables stand for t
+  pub keeps-committed : (t : State) → (Tables g old (kept s) → Tables g new (kept t)) → (Tables g old (kept s) → (c : Inventory) → Leaves g new c → kept t ≡ c) → Keeps g new t
+  keeps-committed t ok durable = record { now = ok keeps.now; crash = λ c left. sym (durable keeps.now c left) }
+
+  -- a commit that failed, of what the act leads to
+  pub stays-uncommitted : (t : State) (a : Act) (text : List ℕ) → Prints s a t text → (Tables g old (kept s) → TablesIfOpen g new (kept s))
+      → (Tables g old (kept s) → (c : Inventory) → Leaves g new c → Leaves g old c ⊎ (kept t ≡ c)) → Stays g new s a
+  stays-uncommitted t a text prints err crash = record {
+    now = err keeps.now;
+    crash = λ c left. elim (crash keeps.now c left) [
+      | inl before ↦ inl (keeps.crash c before)
+      | inr done ↦ inr (t, text, prints, sym done)
+    ];
+  }
+
+-- the errors of a load where the tables stand for something
+pub load-errors : (e : StoreError) → e ≢ OtherSchema → (e ≡ NoState → ⊥) → (e ≡ Fault) ⊎ (e ≡ Memory)
+load-errors Fault other none = inl refl
+load-errors OtherSchema other none = absurd (other refl)
+load-errors NoState other none = absurd (none refl)
+load-errors Memory other none = inr refl

@@ -243,3 +243,19 @@ definition_kept s t d name srel answers is =
     } in
     subst (λ (u : State). IsInventory (record { global = u.global; zones = u.zones })) told.adds
     (subst (λ zs. IsInventory (record { global = s.global; zones = zs })) (sym made) inventory)
+
+-- The zone stands at its place among the others.
+pub record IsPlaced (s t : State) (d : ZoneDefinition) : Type 0 where
+  pub before : List NamedZone
+  pub after : List NamedZone
+  pub was : s.zones ≡ before ++ after
+  pub is : t ≡ record s { zones = before ++ record { name = d.name; zone = a_zone d.kind d.srel d.related [] [] } ∷ after }
+
+pub placed : (s t : State) (d : ZoneDefinition) → define_zone s d ≡ Ok t → IsInventory (record { global = s.global; zones = s.zones }) → IsPlaced s t d
+placed s t d answers is =
+    let told = defined s t d answers in
+    let z : NamedZone = record { name = d.name; zone = a_zone d.kind d.srel d.related [] [] } in
+    let rises = pairs_unmap (λ (a b : NamedZone). IsTrue (is_before a.name b.name)) (λ (x y : Text). IsTrue (is_before x y)) by_name (λ a b lower. lower) s.zones is.names in
+    let at = cut s.zones d.name rises (none_named s.zones d.name told.is_new) in
+    let made = ap (λ zs. with_item (slice_cmp nat_cmp) by_name zs z) at.parts ∙ with_item-new nat_list_cmp_total by_name at.front at.back z at.splits in
+    record { before = at.front; after = at.back; was = at.parts; is = sym told.adds ∙ ap (λ zs. record s { zones = zs }) made }

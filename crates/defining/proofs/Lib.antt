@@ -1,0 +1,4 @@
+mod Adding
+mod Ending
+mod Found
+mod Lookups
