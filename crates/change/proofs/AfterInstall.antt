@@ -1,17 +1,17 @@
 -- Whatever zone the puts make of the old one is the one that the kept SYSMODs ask for.
-use Rattle.std.proofs.Common.{◌≡◌, ◌≢◌, ◌⊎◌, inl, inr, Bool, true, false, not, ℕ, List, [], ◌∷◌, ◌++◌, Option, Some, None, refl, sym, ap, ◌∙◌, subst, true≢false, IsTrue, All, map, arith}
+use Rattle.std.proofs.Common.{◌≡◌, ◌⊎◌, inl, inr, Bool, true, false, List, [], ◌∷◌, Option, Some, None, refl, sym, ap, ◌∙◌, subst, true≢false, IsTrue, All, map, arith}
 use Rattle.std.specs.Prelude.{◌&&◌, ◌==◌, ◌↔◌, is_some, find, Contains, filter, slice_get, unwrap_or, IsFalse, if◌then◌else◌}
 use Rattle.std.specs.List.{flat_map}
 use Rattle.std.specs.Option.{option_map_or, option_and_then}
-use Rattle.std.specs.Ordering.{nat_cmp, is_eq}
-use Rattle.std.specs.Cmp.Lexicographic.{slice_cmp, texts_ties}
+use Rattle.std.specs.Ordering.{is_eq}
+use Rattle.std.specs.Cmp.Lexicographic.{texts_ties}
 use Rattle.std.specs.Str.{bytes_eq}
 use Rattle.std.proofs.lemmas.Cmp.{nat_list_cmp_total, tied_itself}
 use Rattle.std.proofs.lemmas.Bool.{and_parts, eqb-true}
 use Rattle.terms.specs.declared.kinds.ElemType.{ElemType}
 use Rattle.terms.specs.declared.kinds.Edit.TheVariants.{Put}
 use Rattle.terms.specs.Types.{Text, Id, Lines, type_number, Action, Replaces, Updates, Change, Sysmod, Global, Entry, Element, Zone}
-use Rattle.terms.specs.Lookups.{IsRising, IsZone, is_in, sysmod_of, is_function, change_of, changes_of, has_change, element_cmp, element_key, entry_of, element_of, applied_of, supby_of, delby_of, waived_of, is_supplied}
+use Rattle.terms.specs.Lookups.{IsRising, IsZone, is_in, sysmod_of, is_function, change_of, changes_of, has_change, element_cmp, element_key, entry_of, element_of, supby_of, delby_of, waived_of, is_supplied}
 use Rattle.terms.specs.Rising.{Rises}
 use Rattle.terms.specs.Choice.{Choice, by_srel, del_of, fmid_of}
 use Rattle.terms.specs.Over.{Supersedes}
@@ -20,7 +20,7 @@ use Rattle.terms.specs.Deleted.{deletions, is_deleted, is_taken_out, zone_less}
 use Rattle.terms.specs.Global.{IsGlobal, IsSysmod}
 use Rattle.terms.specs.Candidates.{is_installable}
 use Rattle.terms.specs.Tests.{ShareElement}
-use Rattle.terms.specs.Delta.{ZoneDelta, IsChanged, edit_key, edit_put, element_eq}
+use Rattle.terms.specs.Delta.{IsChanged, edit_key, edit_put, element_eq}
 use Rattle.terms.specs.Install.{Installing, IsInstalled, cleared, deleters, delby_after, replaced, IsReplacer, IsUpdater, HasElementAfter, IsUpdated, Installs}
 use Rattle.terms.proofs.Apart.{here, here_or, none_in, in_map, map_in}
 use Rattle.terms.proofs.Decided.{in_or_not}
@@ -31,7 +31,7 @@ use Rattle.terms.proofs.RisingLists.{filter-none}
 use Rattle.terms.proofs.SameLists.{find-gives}
 use Rattle.change.specs.Puts.{applied_entry, own_element, puts}
 use Rattle.change.proofs.InTurn.{flat_in, in_flat, find-member, in_turn-none, in_turn-some}
-use Rattle.change.proofs.Installable.{no_sup, no_del, supersedes_none, no_entry, replaces}
+use Rattle.change.proofs.Installable.{no_del, supersedes_none, no_entry, replaces}
 use Rattle.change.proofs.Putting.{EntryEdit, ElementEdit, made_of, made_by, entry_of_date, elements_of, entries-puts, elements-puts}
 
 abbrev entry_key : EntryEdit → Id

@@ -1,23 +1,21 @@
 -- What is known of an installable SYSMOD, as only those are served that need their function alone.
 use Rattle.std.proofs.Common.{◌≡◌, inl, inr, Bool, true, false, not, List, [], ◌∷◌, Option, Some, None, refl, sym, ap, ◌∙◌, subst, true≢false, IsTrue}
-use Rattle.std.specs.Prelude.{◌&&◌, ◌||◌, ◌==◌, is_some, find, Contains}
+use Rattle.std.specs.Prelude.{◌&&◌, ◌||◌, ◌==◌, is_some, Contains}
 use Rattle.std.specs.List.{list_all}
-use Rattle.std.specs.Option.{option_map_or, option_and_then}
+use Rattle.std.specs.Option.{option_map_or}
 use Rattle.std.specs.Str.{bytes_eq}
 use Rattle.std.proofs.lemmas.Bool.{and_parts, not-true}
-use Rattle.terms.specs.declared.kinds.HoldKind.TheVariants.{Error, System, User}
-use Rattle.terms.specs.declared.kinds.ElemType.{ElemType}
-use Rattle.terms.specs.Types.{Text, Id, kind_number, type_number, Ver, Sysmod, Change, Entry, Global, Zone}
+use Rattle.terms.specs.Types.{Id, kind_number, Ver, Sysmod, Change, Entry, Global, Zone}
 use Rattle.terms.specs.Lookups.{IsZone, is_nil, is_held, sysmod_of, is_function, entry_of, delby_of, is_supplied, changes_of}
 use Rattle.terms.specs.Choice.{by_srel, vers_of, sup_of, del_of}
 use Rattle.terms.specs.Over.{Leads, Supersedes}
 use Rattle.terms.specs.Changes.{is_replacement}
-use Rattle.terms.specs.Served.{is_plain, has_plain_ver, has_plain_changes, is_unheld, is_served_zone, is_served}
+use Rattle.terms.specs.Served.{is_plain, has_plain_ver, has_plain_changes, is_served}
 use Rattle.terms.specs.Candidates.{is_installable}
 use Rattle.terms.proofs.Apart.{here_or, none_in}
 use Rattle.terms.proofs.GlobalLookups.{All-find}
 
-nothing : {X : Type 0} (xs : List X) → is_nil xs ≡ true → xs ≡ []
+pub nothing : {X : Type 0} (xs : List X) → is_nil xs ≡ true → xs ≡ []
 nothing [] e = refl
 nothing (x ∷ xs) e = absurd (true≢false (sym e))
 

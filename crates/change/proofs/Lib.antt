@@ -1,4 +1,5 @@
 pub mod InTurn
 pub mod Installable
 pub mod Putting
+pub mod Ready
 pub mod AfterInstall

@@ -1,5 +1,5 @@
 -- What SYSMODs put into a zone one after the other, where each needs its function alone and replaces its own elements.
-use Rattle.std.specs.Prelude.{List, [], Option, None, Some, fold}
+use Rattle.std.specs.Prelude.{List, [], None, Some, fold}
 use Rattle.std.specs.Ordering.{nat_cmp}
 use Rattle.std.specs.Cmp.Lexicographic.{slice_cmp}
 use Rattle.terms.specs.declared.kinds.ElemType.{ElemType}

@@ -5,3 +5,6 @@ mod installing;
 mod known;
 
 pub use installing::install;
+
+#[cfg(test)]
+mod tests;

@@ -1,12 +1,12 @@
-use Rattle.std.proofs.Common.{◌≡◌, ◌∙◌, ap, subst}
+use Rattle.std.proofs.Common.{◌∙◌, ap, subst}
 use Rattle.std.proofs.lemmas.Result.{IfOk-weaker}
 use Rattle.terms.specs.Delta.{ZoneDelta, IsChanged}
 use Rattle.change.specs.Puts.{puts}
 use Rattle.change.proofs.AfterInstall.{installs}
 use Rattle.change.proofs.installing.install.Goals as goal
 
-pub returns : goal.returns
-returns c =
+pub returns-clause-installs : goal.returns-clause-installs
+returns-clause-installs c =
     let g = c.args.global.now in
     let zone = c.args.zone.now in
     let kept = c.args.kept.now in

@@ -1,6 +1,6 @@
-use Rattle.std.proofs.Common.{◌≡◌, ◌∙◌, ap, sym}
+use Rattle.std.proofs.Common.{◌∙◌, ap, sym}
 use Rattle.std.proofs.lemmas.List.Sums.{fold_more}
-use Rattle.change.specs.Puts.{after_sysmod, no_edits, puts}
+use Rattle.change.specs.Puts.{after_sysmod, no_edits}
 use Rattle.change.proofs.installing.put_sysmods.Goals as goal
 
 pub loop-id-preserved : goal.loop-id-preserved
