@@ -1,0 +1,9 @@
+//! Whole jobs, from the bytes in to the bytes out, in memory and on disks in memory. There is no code here but tests.
+#![tactic(auto)]
+
+#[cfg(test)]
+mod play;
+#[cfg(test)]
+mod rows;
+#[cfg(test)]
+mod tests;

@@ -1,0 +1,174 @@
+//! The jobs that are played, as text cards.
+
+use crate::play::Step;
+
+const FUNCTION: &[&str] = &[
+    "++FUNCTION(HAA1100).",
+    "++VER(Z038).",
+    "++MAC(M1) DISTLIB(AMACLIB) SYSLIB(MACLIB).",
+    "         MACRO                                                          00000010",
+    "         MEND                                                           00000020",
+];
+
+const FUNCTION_AND_FIX: &[&str] = &[
+    "++FUNCTION(HAA1100).",
+    "++VER(Z038).",
+    "++MAC(M1) DISTLIB(AMACLIB) SYSLIB(MACLIB).",
+    "         MACRO                                                          00000010",
+    "         MEND                                                           00000020",
+    "++PTF(UA00024).",
+    "++VER(Z038) FMID(HAA1100).",
+];
+
+const RECEIVE: &[&str] = &["SET BDY(GLOBAL).", "RECEIVE SYSMODS."];
+
+const RECEIVED: &str = "SET GLOBAL\nRC 00\nRECEIVE GLOBAL\nHAA1100 FUNCTION RECEIVED\nRC 00\n";
+
+const INSTALL: &[&str] = &["SET BDY(TGT1).", "APPLY SELECT(HAA1100)."];
+
+const INSTALLED: &str = "SET TGT1\nRC 00\nAPPLY TGT1\nHAA1100 FUNCTION APPLIED\nRC 00\n";
+
+/// A function and its fix are received and applied in one job.
+pub(crate) const FUNCTION_WITH_FIX: &[Step] = &[Step {
+    cntl: &[
+        "SET BDY(GLOBAL).",
+        "RECEIVE SYSMODS.",
+        "SET BDY(TGT1).",
+        "APPLY SELECT(HAA1100,UA00024).",
+    ],
+    ptfin: FUNCTION_AND_FIX,
+    rest: "",
+    report: "SET GLOBAL\nRC 00\nRECEIVE GLOBAL\nHAA1100 FUNCTION RECEIVED\nUA00024 PTF      RECEIVED\nRC 00\nSET TGT1\nRC 00\nAPPLY TGT1\nHAA1100 FUNCTION APPLIED\nUA00024 PTF      APPLIED\nRC 00\n",
+    code: 0,
+}];
+
+/// The fix alone fails for want of its function.
+pub(crate) const FIX_ALONE: &[Step] = &[Step {
+    cntl: &[
+        "SET BDY(GLOBAL).",
+        "RECEIVE SYSMODS.",
+        "SET BDY(TGT1).",
+        "APPLY SELECT(UA00024).",
+    ],
+    ptfin: FUNCTION_AND_FIX,
+    rest: "",
+    report: "SET GLOBAL\nRC 00\nRECEIVE GLOBAL\nHAA1100 FUNCTION RECEIVED\nUA00024 PTF      RECEIVED\nRC 00\nSET TGT1\nRC 00\nAPPLY TGT1\nUA00024 PTF      FAILED\n  NEED FMID HAA1100\n  CAUSER UA00024\nRC 08\n",
+    code: 8,
+}];
+
+/// A command file of 0 bytes does nothing and prints nothing.
+pub(crate) const NO_COMMAND: &[Step] = &[
+    Step {
+        cntl: RECEIVE,
+        ptfin: FUNCTION,
+        rest: "",
+        report: RECEIVED,
+        code: 0,
+    },
+    Step {
+        cntl: INSTALL,
+        ptfin: &[],
+        rest: "",
+        report: INSTALLED,
+        code: 0,
+    },
+    Step {
+        cntl: &[],
+        ptfin: &[],
+        rest: "",
+        report: "",
+        code: 0,
+    },
+];
+
+/// A PTFIN whose length is no multiple of 80, and one whose statement has no period.
+pub(crate) const BAD_PTFIN: &[Step] = &[
+    Step {
+        cntl: RECEIVE,
+        ptfin: FUNCTION,
+        rest: "",
+        report: RECEIVED,
+        code: 0,
+    },
+    Step {
+        cntl: RECEIVE,
+        ptfin: &[""],
+        rest: "X",
+        report: "SET GLOBAL\nRC 00\nRECEIVE GLOBAL\nREFUSED Cm4 RECORD 2 Mc1\nRC 12\n",
+        code: 12,
+    },
+    Step {
+        cntl: RECEIVE,
+        ptfin: &["++PTF(UA00001)"],
+        rest: "",
+        report: "SET GLOBAL\nRC 00\nRECEIVE GLOBAL\nREFUSED Cm4 RECORD 1 Mc1\nRC 12\n",
+        code: 12,
+    },
+];
+
+/// What is there already, CHECK, and the boundary that does not live on into the next job.
+pub(crate) const AGAIN: &[Step] = &[
+    Step {
+        cntl: RECEIVE,
+        ptfin: FUNCTION,
+        rest: "",
+        report: RECEIVED,
+        code: 0,
+    },
+    Step {
+        cntl: INSTALL,
+        ptfin: &[],
+        rest: "",
+        report: INSTALLED,
+        code: 0,
+    },
+    Step {
+        cntl: &[
+            "SET BDY(GLOBAL).",
+            "RECEIVE SYSMODS.",
+            "SET BDY(TGT1).",
+            "APPLY SELECT(UA00024) CHECK.",
+            "APPLY SELECT(UA00024).",
+            "APPLY SELECT(UA00024).",
+            "SET BDY(GLOBAL).",
+            "RECEIVE SYSMODS.",
+        ],
+        ptfin: &["++PTF(UA00024).", "++VER(Z038) FMID(HAA1100)."],
+        rest: "",
+        report: "SET GLOBAL\nRC 00\nRECEIVE GLOBAL\nUA00024 PTF      RECEIVED\nRC 00\nSET TGT1\nRC 00\nAPPLY TGT1 CHECK\nUA00024 PTF      APPLIED\nRC 00\nAPPLY TGT1\nUA00024 PTF      APPLIED\nRC 00\nAPPLY TGT1\nUA00024 PTF      ALREADY\nRC 04\nSET GLOBAL\nRC 00\nRECEIVE GLOBAL\nUA00024 PTF      ALREADY\nRC 04\n",
+        code: 4,
+    },
+    Step {
+        cntl: &["APPLY SELECT(UA00099)."],
+        ptfin: &[],
+        rest: "",
+        report: "APPLY -\nREFUSED Cm1\nRC 12\n",
+        code: 12,
+    },
+];
+
+/// Where commands can't run, or find nothing to do.
+pub(crate) const REFUSALS: &[Step] = &[
+    Step {
+        cntl: &[
+            "SET BDY(TGT2).",
+            "SET BDY(TGT1).",
+            "RECEIVE SYSMODS.",
+            "APPLY.",
+            "APPLY SELECT(UA00099).",
+            "SET BDY(DLB1).",
+            "APPLY.",
+        ],
+        ptfin: &[],
+        rest: "",
+        report: "SET TGT2\nREFUSED Cm2\nRC 12\nSET TGT1\nRC 00\nRECEIVE TGT1\nREFUSED Cm3\nRC 12\nAPPLY TGT1\nNOTHING\nRC 04\nAPPLY TGT1\nUA00099 -        MISSING\nRC 08\nSET DLB1\nRC 00\nAPPLY DLB1\nREFUSED Cm3\nRC 12\n",
+        code: 12,
+    },
+    Step {
+        cntl: &["SET BDY(TGT1).", "APPLY CHECK CHECK."],
+        ptfin: &[],
+        rest: "",
+        report: "CONTROL RECORD 2 Cn3\n",
+        code: 12,
+    },
+];
