@@ -6,9 +6,14 @@ ghost use Rattle.terms.specs.Judged.{setting};
 ghost use Rattle.machine.specs.Installing.{IsDecided};
 ghost use Rattle.report.specs.Views.{failure_view};
 
+use crate::failures::{Findings, failures};
+use crate::kept::kept_ids;
+use crate::needs::open_needs;
 use fields::{Id, IdList};
 use global::Global;
+use judge::{Judged, judge};
 use report::Failure;
+use solve::{Solver, Worklist, causers};
 use std::alloc::{AllocError, Global as Heap};
 use zones::Zone;
 
@@ -30,5 +35,20 @@ pub fn decide(
     ensures { IfOk result (λ d. IsDecided (setting global.now zone.now None ids.now no_bypass) d.kept
         (map (λ f. (f.0, failure_view f.1)) d.failed.items)) }
 {
-    Err(AllocError)
+    let Judged {
+        system,
+        needed,
+        tests,
+    } = judge(alloc, global, zone, ids)?;
+    let set = Worklist.greatest(alloc, &system)?;
+    let causers = causers(alloc, &system, &set)?;
+    let wanted = open_needs(alloc, &system, &needed, set.flags())?;
+    let kept = kept_ids(alloc, ids.as_slice(), set.flags())?;
+    let found = Findings {
+        tests,
+        wanted,
+        causers,
+    };
+    let failed = failures(alloc, ids.as_slice(), &kept, &found)?;
+    Ok(Decided { kept, failed })
 }

@@ -2,5 +2,8 @@
 #![tactic(auto)]
 
 mod deciding;
+mod failures;
+mod kept;
+mod needs;
 
 pub use deciding::{Decided, decide};
