@@ -1,18 +1,17 @@
 -- From the numbers of candidates to their ids: who is kept, and why each other one is not.
-use Rattle.std.proofs.Common.{◌≡◌, ◌≢◌, inl, inr, ℕ, ◌<◌, Bool, true, false, not, List, [], ◌∷◌, length, map, filter, Option, None, Some, IsTrue, Contains, refl, sym, ap, ◌∙◌, subst, true≢false, arith, slice_get, slice_index_or, get_or, take, take_all}
-use Rattle.std.specs.Prelude.{All, AllPairs, Any, Vec, ◌↔◌, ◌==◌, ◌&&◌}
+use Rattle.std.proofs.Common.{◌≡◌, inl, inr, ℕ, ◌<◌, Bool, true, false, not, List, [], ◌∷◌, length, map, filter, Some, IsTrue, Contains, refl, sym, ap, ◌∙◌, subst, true≢false, arith, slice_get, slice_index_or, get_or, take_all}
+use Rattle.std.specs.Prelude.{All, AllPairs, Vec, ◌↔◌, ◌==◌}
 use Rattle.std.specs.List.{list_any}
 use Rattle.std.specs.declared.alloc.Global.{Global as Heap}
-use Rattle.std.proofs.lemmas.Bool.{cases_eq, and_parts, and_from, eqb-true, eq-eqb, cases_Bool}
+use Rattle.std.proofs.lemmas.Bool.{cases_eq, and_parts, and_from, eqb-true, eq-eqb}
 use Rattle.std.proofs.lemmas.Option.{slice_get_within, slice_get-get_or, get_or_from_slice_get}
 use Rattle.std.proofs.lemmas.List.Folds.{list_any_none}
 use Rattle.std.proofs.lemmas.List.Elements.{All-map, All-weaker, Contains-get_or}
 use Rattle.terms.specs.declared.codes.NeedKind.{NeedKind}
-use Rattle.terms.specs.declared.codes.Test.{Test}
 use Rattle.terms.specs.Types.{Id}
 use Rattle.terms.specs.Lookups.{IsRising, is_before, is_in}
-use Rattle.terms.specs.Problem.{Demand, Problem, IsDemand, holds, IsKept, AreKept}
-use Rattle.terms.specs.Kept.{StaysKept, IsProblemOf}
+use Rattle.terms.specs.Problem.{Demand, Problem, IsDemand, holds, AreKept}
+use Rattle.terms.specs.Kept.{IsProblemOf}
 use Rattle.terms.specs.Causes as numbered
 use Rattle.terms.specs.Failures.{IsOpenNeed, IsCauser}
 use Rattle.terms.specs.Tests.{Setting, IsEligible, Fails}
@@ -30,7 +29,7 @@ use Rattle.machine.specs.Installing.{all_tests, IsFailure, IsDecided}
 use Rattle.report.specs.declared.outcome.Failure.{Failure}
 use Rattle.report.specs.Views.{failure_view}
 use Rattle.decide.specs.declared.failures.Findings.{Findings}
-use Rattle.decide.specs.Open.{is_open_of, HaveOpen, AreNeedsOf}
+use Rattle.decide.specs.Open.{HaveOpen}
 use Rattle.decide.specs.Findings.{IsFailureAt, IsFailed, AreFailures}
 
 pub one-number : (ids : List Id) → IsRising ids → (n m : ℕ) (x : Id) → slice_get ids n ≡ Some x → slice_get ids m ≡ Some x → n ≡ m

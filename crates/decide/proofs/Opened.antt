@@ -1,10 +1,10 @@
 -- Rows of open needs, as the needs of a problem are gone through.
-use Rattle.std.proofs.Common.{◌≡◌, inl, inr, ℕ, ◌<◌, ◌≤◌, ◌+◌, Bool, true, false, not, cond, List, [], ◌∷◌, ◌++◌, length, map, get_or, set, Some, IsTrue, Contains, refl, sym, ap, ap₂, ◌∙◌, subst, arith, slice_get, eqb, eq-eqb}
-use Rattle.std.specs.Prelude.{Vec, ◌↔◌, ◌==◌, ◌&&◌}
+use Rattle.std.proofs.Common.{◌≡◌, inl, inr, ℕ, ◌<◌, ◌+◌, Bool, true, false, not, cond, List, [], ◌∷◌, ◌++◌, length, map, get_or, set, Some, IsTrue, Contains, refl, sym, ap, ap₂, ◌∙◌, subst, arith, slice_get, eq-eqb}
+use Rattle.std.specs.Prelude.{Vec, ◌==◌, ◌&&◌}
 use Rattle.std.specs.List.{list_any}
 use Rattle.std.specs.declared.alloc.Global.{Global}
-use Rattle.std.proofs.lemmas.Bool.{cases_lt, cases_Bool, cases_eq, eqb-true}
-use Rattle.std.proofs.lemmas.List.{get_or-set_same, get_or-set_other, get_or-map, length-map, map-set, append-nil}
+use Rattle.std.proofs.lemmas.Bool.{cases_lt, cases_eq}
+use Rattle.std.proofs.lemmas.List.{get_or-set_same, get_or-set_other, length-map, map-set, append-nil}
 use Rattle.std.proofs.lemmas.List.Elements.{Contains-append_left, Contains-append_right, Contains-append_cases}
 use Rattle.terms.specs.declared.codes.NeedKind.{NeedKind}
 use Rattle.terms.specs.Types.{Id}
@@ -24,8 +24,8 @@ row-pushed rows y v d value below pushed x = elim (cases_eq x y) [
       ∙ ap (λ ls. get_or ls y []) (map-set (λ row. row.items) rows y v) ∙ get_or-set_same (map (λ row. row.items) rows) y v.items [] (rw length-map below)
       ∙ pushed
       ∙ ap₂ (λ row b. row ++ cond b (value ∷ []) [])
-          (sym (row_at-get_or rows y d below) ∙ ap (row_at rows) (sym same))
-          (sym (eq-eqb y x (sym same)))
+      (sym (row_at-get_or rows y d below) ∙ ap (row_at rows) (sym same))
+      (sym (eq-eqb y x (sym same)))
   | inr other ↦
       ap (λ ls. get_or ls x []) (map-set (λ row. row.items) rows y v) ∙ get_or-set_other (map (λ row. row.items) rows) y x v.items [] other
       ∙ sym (append-nil (row_at rows x))

@@ -1,9 +1,10 @@
-use Rattle.std.proofs.Common.{◌<◌, ◌∙◌, None, map, length, sym, subst, refl, arith}
+use Rattle.std.proofs.Common.{◌≡◌, ◌<◌, ◌∙◌, None, length, ℕ, sym, subst, refl}
 use Rattle.std.specs.Prelude.{All}
 use Rattle.std.proofs.lemmas.List.{length-map}
 use Rattle.terms.specs.CommandForms.{no_bypass}
 use Rattle.terms.specs.Lookups.{IsRising}
 use Rattle.terms.specs.Judged.{setting}
+use Rattle.solve.specs.Rows.{row_at}
 use Rattle.judge.proofs.Places.{same-pairs}
 use Rattle.decide.proofs.ByIds.{causers-within, decided}
 use Rattle.decide.proofs.deciding.decide.Goals as goal
@@ -12,6 +13,7 @@ pub failures-requires : goal.failures-requires
 failures-requires c =
     let system = c.in_ok-system.field-0.system in
     let tests = c.in_ok-system.field-0.tests.items in
+    let rows = c.in_ok-causers.causers.items in
     let size : length c.args.ids.now ≡ length c.as_slice-2.result.now = rw c.as_slice-2.ensures.items refl in
     let system_size = c.in_ok-system.ensures.problem.problem.size in
     let whole : system.size ≡ length c.as_slice-2.result.now = system_size ∙ size in
@@ -19,7 +21,7 @@ failures-requires c =
       tests = sym (length-map tests (λ row. row.items)) ∙ c.in_ok-system.ensures.tests.lengths ∙ size;
       wanted = c.in_ok-wanted.ensures.size ∙ whole;
       causers = c.in_ok-causers.ensures.size ∙ whole;
-      within = λ n. subst (λ size. All (λ m. m < size) _) whole (causers-within system c.in_ok-set.set c.in_ok-causers.causers.items c.in_ok-causers.ensures.exact n);
+      within = λ n. subst (λ size. All (λ m. m < size) (row_at rows n)) whole (causers-within system c.in_ok-set.set rows c.in_ok-causers.ensures.exact n);
     }
 
 pub returns : goal.returns
@@ -34,7 +36,9 @@ returns c =
     let members = rw (c.as_slice.ensures.items, c.flags-2.ensures) at c.in_ok-kept.ensures in
     let opened = rw (c.deref.ensures.value, c.flags.ensures) at c.in_ok-wanted.ensures.wanted in
     let exact = c.in_ok-causers.ensures.exact in
-    let within = λ n. subst (λ size. All (λ m. m < size) _) problem.problem.size (causers-within system c.in_ok-set.set c.in_ok-causers.causers.items exact n) in
+    let rows = c.in_ok-causers.causers.items in
+    let within : (n : ℕ) → All (λ m. m < length ids) (row_at rows n) =
+    λ n. subst (λ size. All (λ m. m < size) (row_at rows n)) problem.problem.size (causers-within system c.in_ok-set.set rows exact n) in
     let failed = rw c.as_slice-2.ensures.items at c.in_ok-failed.ensures in
     decided s rising system needed problem c.in_ok-set.set c.in_ok-set.ensures c.in_ok-kept.kept kept_rising members _
     c.in_ok-system.ensures.tests opened exact c.in_ok-causers.ensures.rising within _ c.in_ok-failed.failed.items refl failed

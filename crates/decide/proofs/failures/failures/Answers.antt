@@ -1,4 +1,4 @@
-use Rattle.std.proofs.Common.{length, refl, arith, get_or, []}
+use Rattle.std.proofs.Common.{arith, get_or, []}
 use Rattle.std.proofs.lemmas.Option.{slice_get-get_or}
 use Rattle.decide.proofs.Failing.{failures-next}
 use Rattle.decide.proofs.failures.failures.Goals as goal

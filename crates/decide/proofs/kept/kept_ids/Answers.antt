@@ -1,4 +1,4 @@
-use Rattle.std.proofs.Common.{◌<◌, length, refl, arith}
+use Rattle.std.proofs.Common.{length, refl, arith}
 use Rattle.std.proofs.lemmas.Option.{slice_get_read, slice_get_within}
 use Rattle.decide.proofs.Choosing.{flagged-next}
 use Rattle.decide.proofs.kept.kept_ids.Goals as goal
@@ -12,8 +12,7 @@ loop-i-preserved c =
 pub returns : goal.returns
 returns c x =
     let kept = c.loop-i.invariant x in
-    let list = c.from_vec.ensures x in
-    (
+    let list = c.from_vec.ensures x in (
       λ there. let w = kept.0 (list.0 there) in (w.0, w.2, w.3),
       λ w. list.1 (kept.1 (w.0, (let below = slice_get_within c.args.ids.now w.0 x w.1 in omega (arith, below)), w.1, w.2)),
     )

@@ -1,4 +1,4 @@
-use Rattle.std.proofs.Common.{◌≡◌, ◌++◌, ◌∙◌, ap, take_all, map, arith}
+use Rattle.std.proofs.Common.{◌++◌, ◌∙◌, ap, take_all, map, arith}
 use Rattle.report.specs.Views.{need_view}
 use Rattle.decide.specs.Open.{of_kind}
 use Rattle.decide.proofs.needs.add_kind.Goals as goal

@@ -1,4 +1,4 @@
-use Rattle.std.proofs.Common.{◌≡◌, sym, rules}
+use Rattle.std.proofs.Common.{sym, rules}
 use denote.Enum.Bare.{same_true}
 use Rattle.terms.specs.contracts.codes.NeedKind.{the_type}
 use Rattle.decide.proofs.EachKind.{push-of}

@@ -1,4 +1,4 @@
-use Rattle.std.proofs.Common.{◌≡◌, ◌∷◌, [], ◌∙◌, ap, subst, sym, take, take_all, length, arith, Contains}
+use Rattle.std.proofs.Common.{◌∷◌, [], ◌∙◌, ap, subst, sym, take, take_all, arith, Contains}
 use Rattle.std.specs.Prelude.{◌↔◌, ◌++◌}
 use Rattle.std.proofs.lemmas.List.{take_more}
 use Rattle.decide.proofs.EachKind.{ids-next}

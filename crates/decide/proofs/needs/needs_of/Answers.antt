@@ -1,4 +1,3 @@
-use Rattle.std.proofs.Common.{[]}
 use Rattle.decide.proofs.EachKind.{all-kinds}
 use Rattle.decide.proofs.needs.needs_of.Goals as goal
 
