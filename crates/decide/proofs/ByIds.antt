@@ -171,7 +171,7 @@ module _ (s : Setting) (rising : IsRising s.cands) (p : Problem) (needed : List 
   )
 
   module _ (found : Findings) (tests : AreFailedTests s (map (λ row. row.items) found.tests.items))
-      (opened : HaveOpen flags p.demands needed (length needed) found.wanted.items)
+      (opened : HaveOpen flags p.demands needed (length needed) found.unserved.items)
       (exact : (x y : ℕ) → Contains (row_at found.causers.items x) y ↔ numbered.IsCauser p flags x y)
       (up : (x : ℕ) → AllPairs (λ a b. a < b) (row_at found.causers.items x))
       (within : (x : ℕ) → All (λ m. m < length s.cands) (row_at found.causers.items x)) where
@@ -186,7 +186,7 @@ module _ (s : Setting) (rising : IsRising s.cands) (p : Problem) (needed : List 
       ids_rising = λ kind. (is.needs.are_ids kind).rising;
       are_open = λ kind z.
           let own = (is.needs.are_ids kind).members z in
-          let same = open-needs s.cands kept E N S p needed h.problem rising flags members found.wanted.items opened n x at kind z in
+          let same = open-needs s.cands kept E N S p needed h.problem rising flags members found.unserved.items opened n x at kind z in
           (λ there. same.0 (own.0 there), λ need. own.1 (same.1 need));
       causers_rising = subst IsRising (sym is.causers_are) (rising-at s.cands (row_at found.causers.items n) rising (up n) (within n));
       causers = λ y. subst (λ l. Contains l y ↔ IsCauser s.cands kept E N S x y) (sym is.causers_are)

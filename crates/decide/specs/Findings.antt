@@ -14,19 +14,19 @@ use Rattle.decide.specs.Open.{AreNeedsOf}
 -- there is a row for each of so many candidates, and causers are candidates
 pub record AreFindings (size : ℕ) (f : Findings) : Type 0 where
   pub tests : length f.tests.items ≡ size
-  pub wanted : length f.wanted.items ≡ size
+  pub unserved : length f.unserved.items ≡ size
   pub causers : length f.causers.items ≡ size
   pub within : (n : ℕ) → All (λ m. m < size) (row_at f.causers.items n)
 
 -- the failure with these tests and needs, and with the ids at these places as causers
-pub record IsFailureOf (ids : List Id) (tests : List Test) (wanted : List (NeedKind × Id)) (causers : List ℕ) (f : machine.Failure) : Type 0 where
+pub record IsFailureOf (ids : List Id) (tests : List Test) (unserved : List (NeedKind × Id)) (causers : List ℕ) (f : machine.Failure) : Type 0 where
   pub tests_are : f.tests ≡ tests
-  pub needs : AreNeedsOf wanted f.needs
+  pub needs : AreNeedsOf unserved f.needs
   pub causers_are : f.causers ≡ map (λ m. slice_index_or ids m []) causers
 
 -- the failure of the candidate at a place
 abbrev pub IsFailureAt : List Id → Findings → ℕ → machine.Failure → Type 0
-IsFailureAt ids found n f = IsFailureOf ids (row_at found.tests.items n) (row_at found.wanted.items n) (row_at found.causers.items n) f
+IsFailureAt ids found n f = IsFailureOf ids (row_at found.tests.items n) (row_at found.unserved.items n) (row_at found.causers.items n) f
 
 -- an id with the failure of the candidate at its place
 abbrev pub IsFailed : List Id → Findings → Id × Failure → Type 0

@@ -28,18 +28,18 @@ abbrev pub of_kind : NeedKind → List Id → List OpenNeed
 of_kind kind ids = map (λ z. record { kind = kind; id = z }) ids
 
 -- the ids of a row's needs of a kind, rising
-pub record AreIdsOf (wanted : List (NeedKind × Id)) (kind : NeedKind) (ids : List Id) : Type 0 where
+pub record AreIdsOf (unserved : List (NeedKind × Id)) (kind : NeedKind) (ids : List Id) : Type 0 where
   pub rising : IsRising ids
-  pub members : (z : Id) → Contains ids z ↔ Contains wanted (kind, z)
+  pub members : (z : Id) → Contains ids z ↔ Contains unserved (kind, z)
 
 -- the row's needs of the kind are added
-pub record AddsKind (wanted : List (NeedKind × Id)) (kind : NeedKind) (old new : List OpenNeed) : Type 0 where
+pub record AddsKind (unserved : List (NeedKind × Id)) (kind : NeedKind) (old new : List OpenNeed) : Type 0 where
   pub ids : List Id
-  pub are_ids : AreIdsOf wanted kind ids
+  pub are_ids : AreIdsOf unserved kind ids
   pub added : new ≡ old ++ of_kind kind ids
 
 -- the row's needs by kind and id
-pub record AreNeedsOf (wanted : List (NeedKind × Id)) (needs : List OpenNeed) : Type 0 where
+pub record AreNeedsOf (unserved : List (NeedKind × Id)) (needs : List OpenNeed) : Type 0 where
   pub ids_of : NeedKind → List Id
-  pub are_ids : (kind : NeedKind) → AreIdsOf wanted kind (ids_of kind)
+  pub are_ids : (kind : NeedKind) → AreIdsOf unserved kind (ids_of kind)
   pub needs_are : needs ≡ flat_map (λ kind. of_kind kind (ids_of kind)) all_needs

@@ -16,7 +16,7 @@ use terms::{NeedKind, Test};
 #[derive(Drop)]
 pub(crate) struct Findings {
     pub(crate) tests: Vec<Vec<Test>>,
-    pub(crate) wanted: Vec<Vec<(NeedKind, Id)>>,
+    pub(crate) unserved: Vec<Vec<(NeedKind, Id)>>,
     pub(crate) causers: Vec<Vec<u32>>,
 }
 
@@ -25,14 +25,14 @@ fn failure_of(
     alloc: Heap,
     ids: &[Id],
     tests: &[Test],
-    wanted: &[(NeedKind, Id)],
+    unserved: &[(NeedKind, Id)],
     causers: &[u32],
 ) -> Result<Failure, AllocError>
     requires { All (λ m. m < length ids.now) causers.now }
-    ensures { IfOk result (λ f. IsFailureOf ids.now tests.now wanted.now causers.now (failure_view f)) }
+    ensures { IfOk result (λ f. IsFailureOf ids.now tests.now unserved.now causers.now (failure_view f)) }
 {
     let tests = Vec::from_slice(alloc, tests)?;
-    let needs = needs_of(alloc, wanted)?;
+    let needs = needs_of(alloc, unserved)?;
     let causers = ids_at(alloc, ids, causers)?;
     Ok(Failure {
         tests,
@@ -56,7 +56,7 @@ fn failure_at(
         alloc,
         ids,
         &found.tests[place],
-        &found.wanted[place],
+        &found.unserved[place],
         &found.causers[place],
     )
 }

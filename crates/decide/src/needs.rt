@@ -61,7 +61,7 @@ pub(crate) fn open_needs(
     requires kept { length kept.now ≡ system.now.size }
     requires needed { length needed.now ≡ length system.now.demands }
     ensures size { IfOk result (λ rows. length rows.items ≡ system.now.size) }
-    ensures wanted { IfOk result (λ rows. HaveOpen kept.now system.now.demands needed.now (length needed.now) rows.items) }
+    ensures unserved { IfOk result (λ rows. HaveOpen kept.now system.now.demands needed.now (length needed.now) rows.items) }
 {
     let mut rows = empty_rows(alloc, system.size())?;
     let needs = system.needs();
@@ -83,12 +83,12 @@ fn add_of(ids: &mut Vec<Id>, kind: NeedKind, need: (NeedKind, Id)) -> Result<(),
 }
 
 // The ids of the needs of the kind.
-fn ids_of(alloc: Heap, wanted: &[(NeedKind, Id)], kind: NeedKind) -> Result<IdList, AllocError>
-    ensures { IfOk result (λ ids. (z : AnId) → Contains ids z ↔ Contains wanted.now (kind, z)) }
+fn ids_of(alloc: Heap, unserved: &[(NeedKind, Id)], kind: NeedKind) -> Result<IdList, AllocError>
+    ensures { IfOk result (λ ids. (z : AnId) → Contains ids z ↔ Contains unserved.now (kind, z)) }
 {
     let mut ids = Vec::new(alloc);
-    for i in 0..wanted.len() {
-        add_of(&mut ids, kind, wanted[i])?;
+    for i in 0..unserved.len() {
+        add_of(&mut ids, kind, unserved[i])?;
     }
     Ok(IdList::from_vec(ids))
 }
@@ -96,13 +96,13 @@ fn ids_of(alloc: Heap, wanted: &[(NeedKind, Id)], kind: NeedKind) -> Result<IdLi
 // Adds the needs of the kind, by their ids.
 fn add_kind(
     alloc: Heap,
-    wanted: &[(NeedKind, Id)],
+    unserved: &[(NeedKind, Id)],
     kind: NeedKind,
     needs: &mut Vec<OpenNeed>,
 ) -> Result<(), AllocError>
-    ensures { OnOk result (AddsKind wanted.now kind (map need_view needs.old.items) (map need_view needs.new.items)) }
+    ensures { OnOk result (AddsKind unserved.now kind (map need_view needs.old.items) (map need_view needs.new.items)) }
 {
-    let ids = ids_of(alloc, wanted, kind)?;
+    let ids = ids_of(alloc, unserved, kind)?;
     for id in ids.as_slice() {
         needs.push(OpenNeed { kind, id: *id })?;
     }
@@ -110,17 +110,20 @@ fn add_kind(
 }
 
 /// The needs by kind and id, each once.
-pub(crate) fn needs_of(alloc: Heap, wanted: &[(NeedKind, Id)]) -> Result<Vec<OpenNeed>, AllocError>
-    ensures { IfOk result (λ needs. AreNeedsOf wanted.now (map need_view needs.items)) }
+pub(crate) fn needs_of(
+    alloc: Heap,
+    unserved: &[(NeedKind, Id)],
+) -> Result<Vec<OpenNeed>, AllocError>
+    ensures { IfOk result (λ needs. AreNeedsOf unserved.now (map need_view needs.items)) }
 {
     let mut needs = Vec::new(alloc);
-    add_kind(alloc, wanted, NeedKind::Fmid, &mut needs)?;
-    add_kind(alloc, wanted, NeedKind::Pre, &mut needs)?;
-    add_kind(alloc, wanted, NeedKind::Req, &mut needs)?;
-    add_kind(alloc, wanted, NeedKind::Ifreq, &mut needs)?;
-    add_kind(alloc, wanted, NeedKind::HoldError, &mut needs)?;
-    add_kind(alloc, wanted, NeedKind::Orphan, &mut needs)?;
-    add_kind(alloc, wanted, NeedKind::Elem, &mut needs)?;
-    add_kind(alloc, wanted, NeedKind::Dep, &mut needs)?;
+    add_kind(alloc, unserved, NeedKind::Fmid, &mut needs)?;
+    add_kind(alloc, unserved, NeedKind::Pre, &mut needs)?;
+    add_kind(alloc, unserved, NeedKind::Req, &mut needs)?;
+    add_kind(alloc, unserved, NeedKind::Ifreq, &mut needs)?;
+    add_kind(alloc, unserved, NeedKind::HoldError, &mut needs)?;
+    add_kind(alloc, unserved, NeedKind::Orphan, &mut needs)?;
+    add_kind(alloc, unserved, NeedKind::Elem, &mut needs)?;
+    add_kind(alloc, unserved, NeedKind::Dep, &mut needs)?;
     Ok(needs)
 }

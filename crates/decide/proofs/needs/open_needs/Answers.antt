@@ -25,13 +25,13 @@ loop-i-preserved c =
     let at_meant = slice_get_read needed (length needed) i c.index-needed-i.result refl (omega (arith, many)) c.index-needed-i.is in
     rw whole (record {
       size = omega (arith, c.add_open.auto.rows, c.deref_mut.ensures.len, c.loop-i.invariant.size);
-      wanted = open-next c.args.kept.now demands needed i (demand n) c.index-needed-i.result rows new at_d at_meant
-          (rw c.deref_mut.ensures.value at c.in_ok-add_open.ensures) c.loop-i.invariant.wanted;
+      unserved = open-next c.args.kept.now demands needed i (demand n) c.index-needed-i.result rows new at_d at_meant
+          (rw c.deref_mut.ensures.value at c.in_ok-add_open.ensures) c.loop-i.invariant.unserved;
     })
 
-pub returns-clause-wanted : goal.returns-clause-wanted
-returns-clause-wanted c =
+pub returns-clause-unserved : goal.returns-clause-unserved
+returns-clause-unserved c =
     let needs = c.needs-needs.result.now in
     let own = c.needs-needs.ensures.needs in
     let end : c.loop-i.i ≡ length c.args.needed.now = omega (arith, sym (length-map needs demand), ap length own, c.requires.needed) in
-    subst (λ e. HaveOpen c.args.kept.now c.args.system.now.demands c.args.needed.now e c.loop-i.rows.items) end c.loop-i.invariant.wanted
+    subst (λ e. HaveOpen c.args.kept.now c.args.system.now.demands c.args.needed.now e c.loop-i.rows.items) end c.loop-i.invariant.unserved

@@ -5,5 +5,5 @@ use Rattle.decide.proofs.needs.open_needs.Given as goal
 abbrev pub invariant-loop-i : goal.invariant-loop-i
 invariant-loop-i l = record {
   size : length l.rows.items ≡ l.system.size;
-  wanted : HaveOpen l.kept l.system.demands l.needed l.i l.rows.items;
+  unserved : HaveOpen l.kept l.system.demands l.needed l.i l.rows.items;
 }
