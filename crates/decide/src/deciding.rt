@@ -26,8 +26,12 @@ pub struct Decided {
     pub failed: Vec<(Id, Failure)>,
 }
 
-// Decides by what is known of the candidates.
-fn decide_judged(alloc: Heap, ids: &IdList, judged: Judged) -> Result<Decided, AllocError>
+/// Decides by what is known of the candidates.
+pub(crate) fn decide_judged(
+    alloc: Heap,
+    ids: &IdList,
+    judged: Judged,
+) -> Result<Decided, AllocError>
     requires size { judged.system.size ≡ length ids.now }
     requires needed { length judged.needed.items ≡ length judged.system.demands }
     requires tests { length judged.tests.items ≡ length ids.now }

@@ -7,3 +7,6 @@ mod kept;
 mod needs;
 
 pub use deciding::{Decided, decide};
+
+#[cfg(test)]
+mod tests;
