@@ -2,5 +2,11 @@
 #![tactic(auto)]
 
 mod deciding;
+mod failures;
+mod kept;
+mod needs;
 
 pub use deciding::{Decided, decide};
+
+#[cfg(test)]
+mod tests;
