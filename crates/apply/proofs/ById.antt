@@ -7,17 +7,22 @@ use Rattle.std.specs.declared.cmp.Ordering.TheVariants.{Less, Equal, Greater}
 use Rattle.std.specs.Ordering.{is_lt, nat_cmp, ordering_reverse}
 use Rattle.std.specs.Cmp.Lexicographic.{slice_cmp}
 use Rattle.std.proofs.lemmas.Cmp.{nat_list_cmp_total}
+use Rattle.std.proofs.lemmas.List.{get_or-map, length-map}
 use Rattle.std.proofs.lemmas.List.Sorted.{IsPermutation-map, length_permutation, Contains-permutation, ranks_by, sorted_far}
 use Rattle.std.proofs.lemmas.Map.Lookups.{exact_bytes}
 use Rattle.terms.specs.Types.{Id}
 use Rattle.terms.specs.Rising.{Rises}
 use Rattle.terms.proofs.Apart.{AreApart, apart-from_length, pairs_unmap}
 use Rattle.report.specs.declared.outcome.Status as reported
+use Rattle.report.specs.declared.outcome.Status.TheVariants.{Applied}
 use Rattle.apply.specs.Statuses.{said}
 
 -- a list that is sorted by its ids is so however its statuses are seen
 pub sorted_map : (xs : List (Id × reported.Status)) → IsSortedByKey (λ p. p.0) (slice_cmp nat_cmp) xs → IsSortedByKey (λ p. p.0) (slice_cmp nat_cmp) (map said xs)
-sorted_map xs sorted = ?
+sorted_map xs sorted = λ k e low below.
+    let d : Id × reported.Status = (e.0, Applied) in
+    let short : k + 1 < length xs = let n = length-map xs said in omega arith in
+    rw (get_or-map said xs (k + 1) d e short, get_or-map said xs k d e (omega arith)) (sorted k d low short)
 
 unturned : (r s : Ordering) → r ≡ ordering_reverse s → is_lt s ≡ false → (r ≡ Equal → ⊥) → is_lt r ≡ true
 unturned r Less turned low other = absurd cc
