@@ -1,6 +1,6 @@
 -- What an APPLY decides, from what its parts answer: the kept ones may be installed together, and the lines are those of the decision.
-use Rattle.std.proofs.Common.{◌≡◌, ◌≢◌, ◌⊎◌, inl, inr, Bool, true, false, not, List, [], ◌∷◌, ◌++◌, Option, None, Some, IsTrue, filter, map, get_or, refl, sym, ap, ◌∙◌, subst, true≢false, arith}
-use Rattle.std.specs.Prelude.{◌↔◌, ◌&&◌, ◌||◌, ◌==◌, All, Contains, IsPermutation, is_some, unwrap_or, if◌then◌else◌}
+use Rattle.std.proofs.Common.{◌≡◌, ◌≢◌, ◌⊎◌, inl, inr, Bool, true, false, not, List, [], ◌∷◌, ◌++◌, Option, None, Some, IsTrue, filter, map, get_or, refl, sym, ap, ◌∙◌, subst, true≢false}
+use Rattle.std.specs.Prelude.{◌↔◌, ◌&&◌, ◌==◌, All, Contains, IsPermutation, is_some, unwrap_or, if◌then◌else◌}
 use Rattle.std.specs.Str.{bytes_eq}
 use Rattle.std.specs.declared.cmp.Ordering.TheVariants.{Less, Equal}
 use Rattle.std.specs.Ordering.{nat_cmp}
@@ -14,10 +14,10 @@ use Rattle.std.proofs.lemmas.List.Sorted.{IsPermutation-map, IsPermutation-sym, 
 use Rattle.terms.specs.declared.kinds.ElemType.{ElemType}
 use Rattle.terms.specs.declared.not_chosen.NotChosen.{NotChosen}
 use Rattle.terms.specs.Types.{Text, Id, type_number, Change, Global, Zone, Selection}
-use Rattle.terms.specs.Lookups.{IsRising, is_in, is_function, change_of, changes_of, has_change}
+use Rattle.terms.specs.Lookups.{IsRising, is_in, change_of, changes_of, has_change}
 use Rattle.terms.specs.Choice.{by_srel, fmid_of}
 use Rattle.terms.specs.CommandForms.{no_bypass}
-use Rattle.terms.specs.Candidates.{AreCandidates, is_installable, is_open, not_chosen}
+use Rattle.terms.specs.Candidates.{AreCandidates, is_installable, not_chosen}
 use Rattle.terms.specs.Tests.{Setting, IsEligible, Fails, ShareElement, owner_of}
 use Rattle.terms.specs.Needs.{Needs, Serves}
 use Rattle.terms.specs.Judged.{setting}

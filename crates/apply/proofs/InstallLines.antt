@@ -7,9 +7,9 @@ use Rattle.std.specs.Str.{bytes_eq}
 use Rattle.std.specs.Option.{option_map_or}
 use Rattle.std.proofs.lemmas.Cmp.{nat_list_cmp_total}
 use Rattle.terms.specs.Types.{Id, Global, Selection}
-use Rattle.terms.specs.Lookups.{IsRising, is_before}
+use Rattle.terms.specs.Lookups.{is_before}
 use Rattle.terms.specs.Rising.{Rises}
-use Rattle.terms.proofs.Apart.{here, there, map_in, in_map, pairs_map}
+use Rattle.terms.proofs.Apart.{here, there, map_in, pairs_map}
 use Rattle.terms.proofs.GlobalLookups.{same_itself}
 use Rattle.machine.specs.Outcome.{Status, Applied, Line, StatusLine}
 use Rattle.machine.specs.Receiving.{place_of}

@@ -1,8 +1,6 @@
-use Rattle.std.proofs.Common.{◌≡◌, None, All, IsTrue, List, [], map, ap, ◌∙◌, sym, subst}
-use Rattle.terms.specs.Types.{Zone as AZone}
+use Rattle.std.proofs.Common.{◌≡◌, map, ap, ◌∙◌, subst}
 use Rattle.terms.specs.Delta.{IsChanged}
 use Rattle.report.specs.Views.{line_view}
-use Rattle.change.specs.Puts.{puts}
 use Rattle.apply.specs.Statuses.{said, why_failed, all_statuses, AreById}
 use Rattle.apply.proofs.Decisions.{kept_installable, kept_apart, decision, decides, install_lines}
 use Rattle.apply.proofs.applying.apply.Goals as goal
@@ -35,14 +33,13 @@ returns-clause-installs c new changed =
       decision = decision g zone c.args.selection.now c.args.date c.in_ok-ids.ids kept failed c.in_ok-ids.ensures.members c.in_ok-ids.ensures.installable c.in_ok-kept.ensures;
       decides = decides g zone c.args.selection.now c.args.date c.in_ok-ids.ids kept failed c.in_ok-ids.ensures.members c.in_ok-ids.ensures.installable c.in_ok-kept.ensures;
       lines_are = install_lines g zone c.args.selection.now c.args.date c.in_ok-ids.ids kept failed c.in_ok-ids.ensures.members c.in_ok-ids.ensures.installable c.in_ok-kept.ensures
-      left_out c.in_ok-left_out.ensures.rising c.in_ok-left_out.ensures.members (map line_view c.in_ok-lines.field-0.items) lines;
+          left_out c.in_ok-left_out.ensures.rising c.in_ok-left_out.ensures.members (map line_view c.in_ok-lines.field-0.items) lines;
       installs = c.in_ok-delta.ensures.installs new (subst (λ delta. IsChanged delta zone new) c.delta.view_is changed);
     }
 
 pub returns-clause-puts : goal.returns-clause-puts
 returns-clause-puts c =
-    let kept = c.in_ok-kept.field-0.kept in
-    (
+    let kept = c.in_ok-kept.field-0.kept in (
       kept,
       kept_installable c.args.global.now c.args.zone.now c.args.selection.now c.args.date c.in_ok-ids.ids kept (map why_failed c.in_ok-kept.field-0.failed.items)
           c.in_ok-ids.ensures.members c.in_ok-ids.ensures.installable c.in_ok-kept.ensures,

@@ -1,7 +1,4 @@
-use Rattle.std.proofs.Common.{map, IsPermutation, rules}
-use Rattle.std.specs.List.Sorted.{IsSortedByKey}
-use Rattle.std.specs.Ordering.{nat_cmp}
-use Rattle.std.specs.Cmp.Lexicographic.{slice_cmp}
+use Rattle.std.proofs.Common.{rules}
 use Rattle.std.proofs.lemmas.List.Sorted.{answers_always, IsPermutation-map}
 use Rattle.apply.specs.Statuses.{said}
 use Rattle.apply.proofs.ById.{sorted_map}
