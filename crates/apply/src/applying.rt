@@ -8,10 +8,15 @@ ghost use Rattle.machine.specs.Installing.{InstallsSelected};
 ghost use Rattle.report.specs.Views.{line_view};
 ghost use Rattle.change.specs.Puts.{puts};
 
+use crate::lines::lines;
+use crate::statuses::statuses;
+use change::install;
 use cntl::Selection;
+use decide::{Decided, decide};
 use fields::YyDdd;
 use global::Global;
 use report::Line;
+use select::{candidates, not_chosen};
 use std::alloc::{AllocError, Global as Heap};
 use zones::{Zone, ZoneDelta};
 
@@ -35,5 +40,19 @@ pub fn apply(
     ensures puts { IfOk result (λ a. (kept : List AnId) × All (λ x. IsTrue (is_installable global.now zone.now x)) kept
         × (a.delta ≡ puts global.now date kept)) }
 {
-    Err(AllocError)
+    let ids = candidates(alloc, global, zone, selection)?;
+    let Decided { kept, failed } = decide(alloc, global, zone, &ids)?;
+    let delta = install(alloc, global, zone, &kept, date)?;
+    let left_out = not_chosen(alloc, global, zone, selection)?;
+    let found = statuses(
+        alloc,
+        zone.kind(),
+        kept.as_slice(),
+        failed,
+        left_out.as_slice(),
+    )?;
+    Ok(Applied {
+        delta,
+        lines: lines(alloc, global, found)?,
+    })
 }

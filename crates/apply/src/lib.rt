@@ -2,5 +2,8 @@
 #![tactic(auto)]
 
 mod applying;
+mod lines;
+mod places;
+mod statuses;
 
 pub use applying::{Applied, apply};

@@ -1,0 +1,3 @@
+pub mod ById
+pub mod InstallLines
+pub mod Decisions
