@@ -1,1 +1,4 @@
-mod Stopping
+mod Reports
+mod Early
+mod Printing
+mod Commanding
