@@ -3,7 +3,9 @@ use Rattle.std.proofs.Common.{◌≡◌, ◌<◌, ◌+◌, ℕ, List, [], ◌∷
 use Rattle.std.specs.List.{flat_map}
 use Rattle.std.specs.Io.KnownBytes.{Appends}
 use Rattle.std.proofs.KnownBytes.{Appends-nil, Appends-trans}
+use Rattle.std.specs.Result.{IsErrAnd}
 use Rattle.std.proofs.lemmas.List.{map-append}
+use Rattle.std.proofs.lemmas.Result.{err_from_is_err_and}
 use Rattle.std.proofs.lemmas.List.Concat.{flat_map-append}
 use Rattle.sqlite.specs.Store.{Ghosts}
 use Rattle.sqlite.specs.Held.{Held}
@@ -16,7 +18,6 @@ use Rattle.machine.specs.Runs.{Runs}
 use Rattle.machine.proofs.Joined.{runs-append, runs-one}
 use Rattle.schema.specs.declared.error.StoreError.{StoreError}
 use Rattle.schema.specs.declared.error.StoreError.TheVariants as store
-use Rattle.report.specs.declared.outcome.Outcome.{Outcome as Told}
 use Rattle.report.specs.Sent.{WrotePart}
 use Rattle.store.specs.Kept.{kept, Keeps, Stays}
 use Rattle.session.specs.declared.performing.Session.{Session}
@@ -33,16 +34,20 @@ codes-append [] ys = omega arith
 codes-append (x ∷ xs) ys = let e = codes-append xs ys in omega arith
 
 module _ {S : Type 0} (g : Ghosts S) (date : Text) (ptfin : List ℕ) where
+  -- the exit of a `?`
+  pub commands-err : (at : Held S) (s : State) (session : Session) (cs : List Command) (a b : Option (List ℕ)) (r : Result ℕ JobError) (e : JobError)
+      → IsErrAnd r (λ y. y ≡ e) → EndsEarly g at s (map (Perform date ptfin) cs) a b e → EndsCommands g at s session date ptfin cs a b r
+  commands-err at s session cs a b r e failed early =
+      let p = err_from_is_err_and r failed in
+      subst (EndsCommands g at s session date ptfin cs a b) (sym (p.1 ∙ ap (λ y. Err y) p.2)) early
+
   -- a command was not performed
-  pub unperformed : (at : Held S) (s : State) (session : Session) (c : Command) (taken : Option (List ℕ)) (r : Result Told StoreError) (e : StoreError)
-      → r ≡ Err e → HasPerformed g at s session date ptfin c r → EndsEarly g at s (Perform date ptfin c ∷ []) taken taken (job_error e)
-  unperformed at s session c taken r e is performed = by_error e (subst (HasPerformed g at s session date ptfin c) is performed)
-    where
-      by_error : (e : StoreError) → HasPerformed g at s session date ptfin c (Err e) → EndsEarly g at s (Perform date ptfin c ∷ []) taken taken (job_error e)
-      by_error store.Fault stays = stopped-first g at s (Perform date ptfin c) [] taken stays
-      by_error store.Memory stays = stopped-first g at s (Perform date ptfin c) [] taken stays
-      by_error store.OtherSchema impossible = absurd impossible
-      by_error store.NoState impossible = absurd impossible
+  pub unperformed : (at : Held S) (s : State) (session : Session) (c : Command) (taken : Option (List ℕ)) (e : StoreError)
+      → HasPerformed g at s session date ptfin c (Err e) → EndsEarly g at s (Perform date ptfin c ∷ []) taken taken (job_error e)
+  unperformed at s session c taken store.Fault stays = stopped-first g at s (Perform date ptfin c) [] taken stays
+  unperformed at s session c taken store.Memory stays = stopped-first g at s (Perform date ptfin c) [] taken stays
+  unperformed at s session c taken store.OtherSchema impossible = absurd impossible
+  unperformed at s session c taken store.NoState impossible = absurd impossible
 
   -- it was, and its report broke off
   pub unreported : (at : Held S) (s t : State) (c : Command) (outcome : Outcome) (old new : Option (List ℕ))

@@ -1,4 +1,7 @@
 mod Reports
 mod Early
 mod Printing
+mod Taken
 mod Commanding
+mod Single
+mod Listing
