@@ -14,15 +14,16 @@ use Rattle.machine.specs.Outcome.{ControlFault, Outcome, Control, job_code}
 use Rattle.machine.specs.Report.{text}
 use Rattle.machine.specs.Machine as machine
 use Rattle.machine.specs.Machine.{Act, Begin, Perform, Faulty, Define, Prints, Job, RunFiles, NewZone, HasActs, AreFirstActs, RunsJob, Code, or_same, defined}
-use Rattle.machine.specs.Runs.{BrokeOff}
+use Rattle.machine.specs.Runs.{Stopped, BrokeOff}
 use Rattle.schema.specs.declared.error.StoreError.{StoreError}
 use Rattle.schema.specs.declared.error.StoreError.TheVariants as store
 use Rattle.report.specs.Sent.{WrotePart}
 use Rattle.store.specs.Kept.{kept, Keeps, Stays}
-use Rattle.store.specs.View.{Tables, Leaves}
+use Rattle.store.specs.View.{Tables, TablesIfOpen, Leaves}
 use Rattle.session.specs.declared.performing.Session.{Session}
 use Rattle.session.specs.Sessions.{HasBegun}
 use Rattle.defining.specs.declared.error.ZoneFault.{ZoneFault}
+use Rattle.defining.specs.declared.error.ZoneError.{ZoneError}
 use Rattle.defining.specs.declared.error.ZoneError.TheVariants as zone_error
 use Rattle.defining.specs.Definitions.{HasDefined, fault_of}
 use Rattle.smpe.specs.declared.error.JobError.{JobError}
@@ -87,12 +88,10 @@ module _ {S : Type 0} (g : Ghosts S) (at : Held S) (s : State) where
 
     -- the job could not begin
     pub unbegun : (cs : List Command) (taken : Option (List ℕ)) (e : StoreError) → IsCommandFile cntl cs → HasBegun g at s (Err e) → EndsAmong g at s (RunFiles date cntl ptfin ∷ []) taken taken (job_error e)
-    unbegun cs taken e is begun = (acts, one-job (RunFiles date cntl ptfin) acts (inl (cs, is, refl)), by_error e begun)
+    unbegun cs taken e is begun =
+        (Begin ∷ map (Perform date ptfin) cs, one-job (RunFiles date cntl ptfin) (Begin ∷ map (Perform date ptfin) cs) (inl (cs, is, refl)), by_error e begun)
       where
-        abbrev acts : List Act
-        acts = Begin ∷ map (Perform date ptfin) cs
-
-        by_error : (e : StoreError) → HasBegun g at s (Err e) → EndsEarly g at s acts taken taken (job_error e)
+        by_error : (e : StoreError) → HasBegun g at s (Err e) → EndsEarly g at s (Begin ∷ map (Perform date ptfin) cs) taken taken (job_error e)
         by_error store.Fault stays = stopped-first g at s Begin (map (Perform date ptfin) cs) taken stays
         by_error store.Memory stays = stopped-first g at s Begin (map (Perform date ptfin) cs) taken stays
         by_error store.OtherSchema impossible = absurd impossible
@@ -129,17 +128,27 @@ module _ {S : Type 0} (g : Ghosts S) (at : Held S) (s : State) where
     pub define-done : (t : State) → define_zone s d ≡ Ok t → Keeps g at t → EndsJob g at s (NewZone d) taken taken (λ answer. answer) (Ok machine.Defined)
     define-done t is keeps = (t, [], runs-define t machine.Defined (sym (ap (or_same s) is)) (sym (ap defined is)), keeps, Appends-nil taken)
 
-    pub define-refused : (why : ZoneFault) → define_zone s d ≡ Err (fault_of why) → Keeps g at s → EndsJob g at s (NewZone d) taken taken (λ answer. answer) (Ok (machine.NotDefined (fault_of why)))
-    define-refused why is keeps = (s, [], runs-define s (machine.NotDefined (fault_of why)) (sym (ap (or_same s) is)) (sym (ap defined is)), keeps, Appends-nil taken)
+    -- an error that is this one
+    abbrev Fails : ZoneError → Type 0
+    Fails e = HasDefined g at s d {U = ℕ} (Err e)
 
-    abbrev EndsUndefined : JobError → Type 0
-    EndsUndefined e = EndsAmong g at s (NewZone d ∷ []) taken taken e
+    pub define-refused : (why : ZoneFault) (e : ZoneError) → e ≡ zone_error.Refused why → Fails e → EndsJob g at s (NewZone d) taken taken (λ answer. answer) (Ok (machine.NotDefined (fault_of why)))
+    define-refused why e told fails = by_fault (subst Fails told fails)
+      where
+        by_fault : Fails (zone_error.Refused why) → EndsJob g at s (NewZone d) taken taken (λ answer. answer) (Ok (machine.NotDefined (fault_of why)))
+        by_fault (is, keeps) = (s, [], runs-define s (machine.NotDefined (fault_of why)) (sym (ap (or_same s) is)) (sym (ap defined is)), keeps, Appends-nil taken)
 
-    pub define-memory : Stays g at s (Define d) → EndsUndefined Memory
-    define-memory stays = (Define d ∷ [], one-job (NewZone d) (Define d ∷ []) refl, stopped-first g at s (Define d) [] taken stays)
+    unbegun-definition : Stays g at s (Define d) → (acts : List Act) × AreFirstActs (NewZone d ∷ []) acts × Stopped Prints kept s acts (TablesIfOpen g at) (Leaves g at) taken taken
+    unbegun-definition stays = (Define d ∷ [], one-job (NewZone d) (Define d ∷ []) refl, stopped-first g at s (Define d) [] taken stays)
 
-    pub define-fault : {U : Type 0} (e : StoreError) → HasDefined g at s d {U} (Err (zone_error.Store e)) → EndsUndefined (job_error e)
-    define-fault store.Fault stays = (Define d ∷ [], one-job (NewZone d) (Define d ∷ []) refl, stopped-first g at s (Define d) [] taken stays)
-    define-fault store.Memory impossible = absurd impossible
-    define-fault store.OtherSchema impossible = absurd impossible
-    define-fault store.NoState impossible = absurd impossible
+    pub define-memory : (e : ZoneError) → e ≡ zone_error.Memory → Fails e → EndsAmong g at s (NewZone d ∷ []) taken taken Memory
+    define-memory e told fails = unbegun-definition (subst Fails told fails)
+
+    pub define-fault : (fault : StoreError) (e : ZoneError) (result : JobError) → e ≡ zone_error.Store fault → result ≡ job_error fault → Fails e → EndsAmong g at s (NewZone d ∷ []) taken taken result
+    define-fault fault e result told becomes fails = subst (EndsAmong g at s (NewZone d ∷ []) taken taken) (sym becomes) (by_fault fault (subst Fails told fails))
+      where
+        by_fault : (fault : StoreError) → Fails (zone_error.Store fault) → EndsAmong g at s (NewZone d ∷ []) taken taken (job_error fault)
+        by_fault store.Fault stays = unbegun-definition stays
+        by_fault store.Memory impossible = absurd impossible
+        by_fault store.OtherSchema impossible = absurd impossible
+        by_fault store.NoState impossible = absurd impossible
