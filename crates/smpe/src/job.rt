@@ -1,13 +1,10 @@
 //! One job.
-ghost use Rattle.std.specs.Prelude.{◌≡◌, ◌∷◌, [], false, map, is_err, IfOk};
+ghost use Rattle.std.specs.Prelude.{◌≡◌, ◌∷◌, [], false, map};
 ghost use Rattle.sqlite.specs.Held.{state};
 ghost use Rattle.sqlite.specs.State.{HasCleanDisk};
 ghost use Rattle.machine.specs.State.{State};
-ghost use Rattle.machine.specs.Outcome.{Control};
-ghost use Rattle.machine.specs.Report.{text};
 ghost use Rattle.machine.specs.Machine.{RunFiles, Code};
 ghost use Rattle.cntl.specs.Views.{command_of};
-ghost use Rattle.report.specs.Sent.{Sends};
 ghost use Rattle.session.specs.Sessions.{IsSessionOf};
 ghost use Rattle.store.specs.Kept.{Keeps};
 ghost use Rattle.smpe.specs.Ending.{EndsJob, is_write};
@@ -16,12 +13,11 @@ ghost use Rattle.smpe.specs.Commands.{EndsCommands};
 use crate::error::JobError;
 use cntl::{CntlError, Command, read_cntl};
 use fields::YyDdd;
-use report::{Outcome, Sink, WriteFault, write_report};
+use report::{Outcome, Sink, write_report};
 use session::Session;
 use sqlite::Alter;
 use std::alloc::Global as Heap;
 use store::Store;
-use terms::CnCode;
 
 /// Performs a command, and reports it once it is committed.
 fn run_command<S: Alter, W: Sink>(
@@ -65,15 +61,6 @@ fn run_commands<S: Alter, W: Sink>(
     Ok(code)
 }
 
-/// Reports the fault of a command file.
-fn report_fault<W: Sink>(number: usize, code: CnCode, w: &mut W) -> Result<u8, WriteFault>
-    ensures sends { Sends (W.taken w.old) (W.has_failed w.old) (W.taken w.new) (W.has_failed w.new) (text (Control (record { number = number; code = code }))) }
-    ensures fault { W.has_failed w.new ≡ is_err result }
-    ensures code { IfOk result (λ told. told ≡ 12) }
-{
-    write_report(&Outcome::Control { number, code }, w)
-}
-
 /// Performs the commands of a command file over a PTFIN, each committed first and reported after, and answers the
 /// highest return code.
 pub fn run_job<S: Alter, W: Sink>(
@@ -93,7 +80,7 @@ pub fn run_job<S: Alter, W: Sink>(
         Ok(commands) => commands,
         Err(CntlError::Memory) => return Err(JobError::Memory),
         Err(CntlError::Fault { number, code }) => {
-            return Ok(report_fault(number, code, w)?);
+            return Ok(write_report(&Outcome::Control { number, code }, w)?);
         }
     };
     let mut session = Session::begin(alloc, store)?;

@@ -1,4 +1,6 @@
 use Rattle.std.proofs.Common.{◌≡◌, ◌∷◌, map, [], subst}
+use Rattle.std.specs.Io.KnownBytes.{Appends}
+use Rattle.report.specs.Sent.{WrotePart}
 use Rattle.cntl.specs.Views.{command_of}
 use Rattle.cntl.specs.Faults.{FailsFile}
 use Rattle.machine.specs.Machine.{RunFiles, Code}
@@ -6,29 +8,29 @@ use Rattle.smpe.specs.declared.error.JobError.TheVariants.{Write}
 use Rattle.smpe.specs.Commands.{job_error}
 use Rattle.smpe.proofs.Early.{ends-unbegun}
 use Rattle.smpe.proofs.Reports.{sent-all, sent-part}
-use Rattle.smpe.proofs.Single.{job-err, faulty-ran, faulty-broke, unbegun, begun}
+use Rattle.smpe.proofs.Single.{control-same, job-err, faulty-ran, faulty-broke, unbegun, begun}
 use Rattle.smpe.proofs.job.run_job.Goals as goal
 
 pub returns-in-Err-Memory-clause-ended : goal.returns-in-Err-Memory-clause-ended
 returns-in-Err-Memory-clause-ended g c clean s keeps =
     ends-unbegun g.S.Store c.args.store.now s (RunFiles c.args.date c.args.cntl.now c.args.ptfin.now ∷ []) (g.W.Sink.taken c.args.w.now) keeps
 
-pub returns-in_err-report_fault-in-Err-Fault-clause-ended : goal.returns-in_err-report_fault-in-Err-Fault-clause-ended
-returns-in_err-report_fault-in-Err-Fault-clause-ended g c clean s keeps =
+pub returns-in_err-write_report-in-Err-Fault-clause-ended : goal.returns-in_err-write_report-in-Err-Fault-clause-ended
+returns-in_err-write_report-in-Err-Fault-clause-ended g c clean s keeps =
     let old = g.W.Sink.taken c.args.w.now in
-    let new = g.W.Sink.taken c.report_fault.new.w in
+    let new = g.W.Sink.taken c.write_report.new.w in
     job-err g.S.Store c.args.store.now s (RunFiles c.args.date c.args.cntl.now c.args.ptfin.now) old new Code c.from_residual.result Write c.from_residual.ensures.1
     (faulty-broke g.S.Store c.args.store.now s c.args.date c.args.cntl.now c.args.ptfin.now (record { number = c.in-Err-Fault.number; code = c.in-Err-Fault.code }) old new
     (subst (FailsFile c.args.cntl.now) c.in-Err-Fault.field-0-is c.in-Err-Fault.ensures.fault) keeps
-    (sent-part _ _ _ _ _ c.in_err-report_fault-in-Err-Fault.ensures.sends c.in_err-report_fault-in-Err-Fault.ensures.fault))
+    (subst (WrotePart old new) (control-same c.in-Err-Fault.number-is c.in-Err-Fault.code-is) (sent-part _ _ _ _ _ c.in_err-write_report-in-Err-Fault.ensures.sends c.in_err-write_report-in-Err-Fault.ensures.fault)))
 
 pub returns-in-Err-Fault-clause-ended : goal.returns-in-Err-Fault-clause-ended
 returns-in-Err-Fault-clause-ended g c clean s keeps =
     let old = g.W.Sink.taken c.args.w.now in
-    let new = g.W.Sink.taken c.report_fault.new.w in
+    let new = g.W.Sink.taken c.write_report.new.w in
     faulty-ran g.S.Store c.args.store.now s c.args.date c.args.cntl.now c.args.ptfin.now (record { number = c.in-Err-Fault.number; code = c.in-Err-Fault.code }) old new
-    c.in_ok-report_fault-in-Err-Fault.field-0 (subst (FailsFile c.args.cntl.now) c.in-Err-Fault.field-0-is c.in-Err-Fault.ensures.fault) keeps
-    (sent-all _ _ _ _ _ c.in_ok-report_fault-in-Err-Fault.ensures.sends c.in_ok-report_fault-in-Err-Fault.ensures.fault) c.in_ok-report_fault-in-Err-Fault.ensures.code
+    c.in_ok-write_report-in-Err-Fault.field-0 (subst (FailsFile c.args.cntl.now) c.in-Err-Fault.field-0-is c.in-Err-Fault.ensures.fault) keeps
+    (subst (Appends old new) (control-same c.in-Err-Fault.number-is c.in-Err-Fault.code-is) (sent-all _ _ _ _ _ c.in_ok-write_report-in-Err-Fault.ensures.sends c.in_ok-write_report-in-Err-Fault.ensures.fault)) c.in_ok-write_report-in-Err-Fault.ensures.code
 
 pub returns-in_err-session-clause-ended : goal.returns-in_err-session-clause-ended
 returns-in_err-session-clause-ended g c clean s keeps =
