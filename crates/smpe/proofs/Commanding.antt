@@ -1,5 +1,5 @@
 -- The commands of one job, one after another.
-use Rattle.std.proofs.Common.{◌≡◌, ◌<◌, ◌+◌, ℕ, List, [], ◌∷◌, ◌++◌, Option, Result, Ok, Err, map, max, length, refl, sym, ◌∙◌, ap, subst, arith, append-nil}
+use Rattle.std.proofs.Common.{◌≡◌, ℕ, List, [], ◌∷◌, ◌++◌, Option, Result, Ok, Err, map, max, refl, sym, ◌∙◌, ap, subst, arith, append-nil}
 use Rattle.std.specs.List.{flat_map}
 use Rattle.std.specs.Io.KnownBytes.{Appends}
 use Rattle.std.proofs.KnownBytes.{Appends-nil, Appends-trans}
@@ -13,13 +13,13 @@ use Rattle.terms.specs.Types.{Text, Command}
 use Rattle.machine.specs.State.{State}
 use Rattle.machine.specs.Outcome.{Outcome, outcome_code, job_code}
 use Rattle.machine.specs.Report.{text}
-use Rattle.machine.specs.Machine.{Perform, Performs, Prints, Steps}
+use Rattle.machine.specs.Machine.{Perform, Performs, Steps}
 use Rattle.machine.specs.Runs.{Runs}
 use Rattle.machine.proofs.Joined.{runs-append, runs-one}
 use Rattle.schema.specs.declared.error.StoreError.{StoreError}
 use Rattle.schema.specs.declared.error.StoreError.TheVariants as store
 use Rattle.report.specs.Sent.{WrotePart}
-use Rattle.store.specs.Kept.{kept, Keeps, Stays}
+use Rattle.store.specs.Kept.{Keeps}
 use Rattle.session.specs.declared.performing.Session.{Session}
 use Rattle.session.specs.Sessions.{IsSessionOf, HasPerformed}
 use Rattle.smpe.specs.declared.error.JobError.{JobError}
@@ -59,9 +59,15 @@ module _ {S : Type 0} (g : Ghosts S) (date : Text) (ptfin : List ℕ) where
   pub reported : (at : Held S) (s t : State) (session : Session) (c : Command) (outcome : Outcome) (old new : Option (List ℕ)) (code : ℕ)
       → Performs date ptfin s c t outcome → IsSessionOf t session → Keeps g at t → Appends old new (text outcome) → code ≡ outcome_code outcome
       → EndsCommands g at s session date ptfin (c ∷ []) old new (Ok code)
-  reported at s t session c outcome old new code performs is keeps appends told =
-      (t, outcome ∷ [], runs-one Steps s t (Perform date ptfin c) (outcome ∷ []) (outcome, performs, refl), is, keeps,
-      subst (Appends old new) (sym (append-nil (text outcome))) appends, omega arith)
+  reported at s t session c outcome old new code performs is keeps appends told = (
+    t,
+    outcome ∷ [],
+    runs-one Steps s t (Perform date ptfin c) (outcome ∷ []) (outcome, performs, refl),
+    is,
+    keeps,
+    subst (Appends old new) (sym (append-nil (text outcome))) appends,
+    omega arith,
+  )
 
   -- no command yet
   pub commands-none : (at : Held S) (s : State) (session : Session) (taken : Option (List ℕ)) → IsSessionOf s session → Keeps g at s → EndsCommands g at s session date ptfin [] taken taken (Ok 0)
@@ -76,12 +82,15 @@ module _ {S : Type 0} (g : Ghosts S) (date : Text) (ptfin : List ℕ) where
     commands-more next (t, front, runs, is, keeps, appends, told) goes_on = joined (goes_on t is keeps)
       where
         joined : EndsCommands g at t session' date ptfin ys b c (Ok next) → EndsCommands g at s session' date ptfin (xs ++ ys) a c (Ok (max code next))
-        joined (u, back, runs', is', keeps', appends', told') =
-            (u, front ++ back,
-            subst (λ acts. Runs Steps s acts u (front ++ back)) (sym (map-append (Perform date ptfin) xs ys)) (runs-append Steps s t u (map (Perform date ptfin) xs) (map (Perform date ptfin) ys) front back runs runs'),
-            is', keeps',
-            subst (Appends a c) (sym (flat_map-append text front back)) (Appends-trans a b c (flat_map text front) (flat_map text back) appends appends'),
-            ap (λ n. max n next) told ∙ ap (λ n. max (job_code front) n) told' ∙ sym (codes-append front back))
+        joined (u, back, runs', is', keeps', appends', told') = (
+          u,
+          front ++ back,
+          subst (λ acts. Runs Steps s acts u (front ++ back)) (sym (map-append (Perform date ptfin) xs ys)) (runs-append Steps s t u (map (Perform date ptfin) xs) (map (Perform date ptfin) ys) front back runs runs'),
+          is',
+          keeps',
+          subst (Appends a c) (sym (flat_map-append text front back)) (Appends-trans a b c (flat_map text front) (flat_map text back) appends appends'),
+          ap (λ n. max n next) told ∙ ap (λ n. max (job_code front) n) told' ∙ sym (codes-append front back),
+        )
 
     -- commands, and then some that ended early
     pub commands-stop : (e : JobError) → EndsCommands g before s session date ptfin xs a b (Ok code) → GoesOn (Err e) → EndsEarly g at s (map (Perform date ptfin) (xs ++ ys)) a c e

@@ -1,5 +1,5 @@
 -- Calls that could not go on, one after another.
-use Rattle.std.proofs.Common.{◌≡◌, ℕ, List, [], ◌∷◌, ◌++◌, Option, refl, inl}
+use Rattle.std.proofs.Common.{ℕ, List, [], ◌∷◌, ◌++◌, Option, refl, inl}
 use Rattle.std.specs.Io.KnownBytes.{Appends}
 use Rattle.std.proofs.KnownBytes.{Appends-nil}
 use Rattle.sqlite.specs.Store.{Ghosts}
@@ -80,15 +80,18 @@ module _ {S : Type 0} (g : Ghosts S) (at : Held S) (s : State) where
 
   -- want of memory before the first act
   pub ends-unbegun : (jobs : List Job) (taken : Option (List ℕ)) → Keeps g at s → EndsAmong g at s jobs taken taken Memory
-  ends-unbegun jobs taken keeps =
-      ([], none_begun jobs, record {
-        done = [];
-        rest = [];
-        acts_are = refl;
-        end = s;
-        bytes = [];
-        runs = (refl, refl);
-        now = λ clean shown. (keeps.now clean).1;
-        crash = λ c left. inl (keeps.crash c left);
-        appends = Appends-nil taken;
-      })
+  ends-unbegun jobs taken keeps = (
+    [],
+    none_begun jobs,
+    record {
+      done = [];
+      rest = [];
+      acts_are = refl;
+      end = s;
+      bytes = [];
+      runs = (refl, refl);
+      now = λ clean shown. (keeps.now clean).1;
+      crash = λ c left. inl (keeps.crash c left);
+      appends = Appends-nil taken;
+    },
+  )

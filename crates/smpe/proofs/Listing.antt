@@ -1,6 +1,5 @@
 -- Jobs one after another.
 use Rattle.std.proofs.Common.{◌≡◌, ℕ, List, [], ◌∷◌, ◌++◌, Option, Result, Ok, Err, refl, sym, ◌∙◌, ap, subst, append_assoc, append-nil, inl, inr}
-use Rattle.std.specs.Io.KnownBytes.{Appends}
 use Rattle.std.specs.Result.{IsErrAnd}
 use Rattle.std.proofs.KnownBytes.{Appends-nil, Appends-trans}
 use Rattle.std.proofs.lemmas.Result.{err_from_is_err_and}
@@ -12,19 +11,35 @@ use Rattle.machine.specs.Runs.{Runs}
 use Rattle.machine.proofs.Joined.{runs-append}
 use Rattle.store.specs.Kept.{Keeps}
 use Rattle.smpe.specs.declared.error.JobError.{JobError}
-use Rattle.smpe.specs.Ending.{EndsEarly, EndsAmong, EndsJob, EndsJobs}
+use Rattle.smpe.specs.Ending.{EndsAmong, EndsJob, EndsJobs}
 use Rattle.smpe.proofs.Early.{early-after}
 use Rattle.smpe.proofs.Printing.{runs-printed}
 
 -- one job more
 pub runs-more : (s t u : State) (jobs : List Job) (job : Job) (front back : List ℕ) (answers : List Answer) (answer : Answer)
     → RunsJobs s jobs t front answers → RunsJob t job u back answer → RunsJobs s (jobs ++ job ∷ []) u (front ++ back) (answers ++ answer ∷ [])
-runs-more s t u [] job front back answers answer (at, none, no_answers) run =
-    (u, back, [], answer, [], subst (λ v. RunsJob v job u back answer) at run, (refl, refl, refl),
-    ap (λ bytes. bytes ++ back) none ∙ sym (append-nil back), ap (λ before. before ++ answer ∷ []) no_answers)
-runs-more s t u (first ∷ jobs) job front back answers answer (m, bytes, more, told, later, ran, rest, is, are) run =
-    (m, bytes, more ++ back, told, later ++ answer ∷ [], ran, runs-more m t u jobs job more back later answer rest run,
-    ap (λ before. before ++ back) is ∙ append_assoc bytes more back, ap (λ before. before ++ answer ∷ []) are)
+runs-more s t u [] job front back answers answer (at, none, no_answers) run = (
+  u,
+  back,
+  [],
+  answer,
+  [],
+  subst (λ v. RunsJob v job u back answer) at run,
+  (refl, refl, refl),
+  ap (λ bytes. bytes ++ back) none ∙ sym (append-nil back),
+  ap (λ before. before ++ answer ∷ []) no_answers,
+)
+runs-more s t u (first ∷ jobs) job front back answers answer (m, bytes, more, told, later, ran, rest, is, are) run = (
+  m,
+  bytes,
+  more ++ back,
+  told,
+  later ++ answer ∷ [],
+  ran,
+  runs-more m t u jobs job more back later answer rest run,
+  ap (λ before. before ++ back) is ∙ append_assoc bytes more back,
+  ap (λ before. before ++ answer ∷ []) are,
+)
 
 -- acts of first jobs are so where more jobs follow
 pub first-more : (jobs more : List Job) (acts : List Act) → AreFirstActs jobs acts → AreFirstActs (jobs ++ more) acts
@@ -38,11 +53,12 @@ pub acts-of-jobs : (s t : State) (jobs more : List Job) (bytes : List ℕ) (answ
     → RunsJobs s jobs t bytes answers → AreFirstActs more back → (acts : List Act) × Runs Prints s acts t bytes × AreFirstActs (jobs ++ more) (acts ++ back)
 acts-of-jobs s t [] more bytes answers back (at, none, no_answers) first = ([], (at, none), first)
 acts-of-jobs s t (job ∷ jobs) more bytes answers back (m, front, later, answer, others, ran, rest, is, are) first =
-    let behind = acts-of-jobs m t jobs more later others back rest first in
-    (ran.acts ++ behind.0,
-    subst (Runs Prints s (ran.acts ++ behind.0) t) (sym is)
-    (runs-append Prints s m t ran.acts behind.0 front later (subst (Runs Prints s ran.acts m) (sym ran.bytes_are) (runs-printed s m ran.acts ran.outcomes ran.runs)) behind.1),
-    inr (ran.acts, behind.0 ++ back, ran.has_acts, behind.2, append_assoc ran.acts behind.0 back))
+    let behind = acts-of-jobs m t jobs more later others back rest first in (
+      ran.acts ++ behind.0,
+      subst (Runs Prints s (ran.acts ++ behind.0) t) (sym is)
+          (runs-append Prints s m t ran.acts behind.0 front later (subst (Runs Prints s ran.acts m) (sym ran.bytes_are) (runs-printed s m ran.acts ran.outcomes ran.runs)) behind.1),
+      inr (ran.acts, behind.0 ++ back, ran.has_acts, behind.2, append_assoc ran.acts behind.0 back),
+    )
 
 module _ {S : Type 0} (g : Ghosts S) (s : State) where
   pub jobs-none : (at : Held S) (taken : Option (List ℕ)) → Keeps g at s → EndsJobs g at s [] taken taken (λ answers. answers) (Ok [])
@@ -71,6 +87,8 @@ module _ {S : Type 0} (g : Ghosts S) (s : State) where
       where
         joined : EndsAmong g at t (job ∷ []) b c e → EndsAmong g at s ((jobs ++ job ∷ []) ++ more) a c e
         joined (back, first, early) =
-            let all = acts-of-jobs s t jobs (job ∷ []) front answers back ran first in
-            (all.0 ++ back, first-more (jobs ++ job ∷ []) more (all.0 ++ back) all.2,
-            early-after g at s before t all.0 back front a b c e all.1 keeps appends early)
+            let all = acts-of-jobs s t jobs (job ∷ []) front answers back ran first in (
+              all.0 ++ back,
+              first-more (jobs ++ job ∷ []) more (all.0 ++ back) all.2,
+              early-after g at s before t all.0 back front a b c e all.1 keeps appends early,
+            )

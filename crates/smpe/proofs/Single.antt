@@ -1,5 +1,5 @@
 -- How one job ends.
-use Rattle.std.proofs.Common.{◌≡◌, ℕ, List, [], ◌∷◌, ◌++◌, Option, None, Result, Ok, Err, map, refl, sym, ◌∙◌, ap, subst, append-nil, inl, inr, arith}
+use Rattle.std.proofs.Common.{◌≡◌, ℕ, List, [], ◌∷◌, Option, None, Result, Ok, Err, map, refl, sym, ◌∙◌, ap, subst, append-nil, inl, inr}
 use Rattle.std.specs.List.{flat_map}
 use Rattle.std.specs.Io.KnownBytes.{Appends}
 use Rattle.std.specs.Result.{IsErrAnd}
@@ -11,16 +11,16 @@ use Rattle.terms.specs.declared.codes.CnCode.{CnCode}
 use Rattle.terms.specs.Types.{Text, Command}
 use Rattle.terms.specs.Commands.{CntlFault, IsCommandFile, IsCommandFileFault}
 use Rattle.machine.specs.State.{State, ZoneDefinition, define_zone}
-use Rattle.machine.specs.Outcome.{ControlFault, Outcome, Control, job_code}
+use Rattle.machine.specs.Outcome.{ControlFault, Control}
 use Rattle.machine.specs.Report.{text}
 use Rattle.machine.specs.Machine as machine
 use Rattle.machine.specs.Machine.{Act, Begin, Perform, Faulty, Define, Prints, Job, RunFiles, NewZone, HasActs, AreFirstActs, RunsJob, Code, or_same, defined}
-use Rattle.machine.specs.Runs.{Stopped, BrokeOff}
+use Rattle.machine.specs.Runs.{Stopped}
 use Rattle.schema.specs.declared.error.StoreError.{StoreError}
 use Rattle.schema.specs.declared.error.StoreError.TheVariants as store
 use Rattle.report.specs.Sent.{WrotePart}
 use Rattle.store.specs.Kept.{kept, Keeps, Stays}
-use Rattle.store.specs.View.{Tables, TablesIfOpen, Leaves}
+use Rattle.store.specs.View.{TablesIfOpen, Leaves}
 use Rattle.session.specs.declared.performing.Session.{Session}
 use Rattle.session.specs.Sessions.{HasBegun}
 use Rattle.defining.specs.declared.error.ZoneFault.{ZoneFault}
@@ -58,37 +58,45 @@ module _ {S : Type 0} (g : Ghosts S) (at : Held S) (s : State) where
     -- the command file is at fault, and that is reported
     pub faulty-ran : (fault : CntlFault) (old new : Option (List ℕ)) (code : ℕ) → IsCommandFileFault cntl fault → Keeps g at s → Appends old new (text (Control (control fault))) → code ≡ 12
         → EndsJob g at s (RunFiles date cntl ptfin) old new Code (Ok code)
-    faulty-ran fault old new code is keeps appends told =
-        (unset s, flat_map text (Control (control fault) ∷ []), record {
-          acts = Begin ∷ Faulty (control fault) ∷ [];
-          has_acts = inr (fault, is, refl);
-          outcomes = Control (control fault) ∷ [];
-          runs = (unset s, [], Control (control fault) ∷ [], (refl, refl), (unset s, Control (control fault) ∷ [], [], (refl, refl), (refl, refl), refl), refl);
-          bytes_are = refl;
-          answers = ap Code told;
-        }, keeps, subst (Appends old new) (sym (append-nil (text (Control (control fault))))) appends)
+    faulty-ran fault old new code is keeps appends told = (
+      unset s,
+      flat_map text (Control (control fault) ∷ []),
+      record {
+        acts = Begin ∷ Faulty (control fault) ∷ [];
+        has_acts = inr (fault, is, refl);
+        outcomes = Control (control fault) ∷ [];
+        runs = (unset s, [], Control (control fault) ∷ [], (refl, refl), (unset s, Control (control fault) ∷ [], [], (refl, refl), (refl, refl), refl), refl);
+        bytes_are = refl;
+        answers = ap Code told;
+      },
+      keeps,
+      subst (Appends old new) (sym (append-nil (text (Control (control fault))))) appends,
+    )
 
     -- the report of that broke off
     pub faulty-broke : (fault : CntlFault) (old new : Option (List ℕ)) → IsCommandFileFault cntl fault → Keeps g at s → WrotePart old new (text (Control (control fault)))
         → EndsAmong g at s (RunFiles date cntl ptfin ∷ []) old new Write
-    faulty-broke fault old new is keeps part =
-        (Begin ∷ Faulty (control fault) ∷ [], one-job (RunFiles date cntl ptfin) (Begin ∷ Faulty (control fault) ∷ []) (inr (fault, is, refl)), record {
-          done = Begin ∷ [];
-          last = Faulty (control fault);
-          rest = [];
-          acts_are = refl;
-          before = unset s;
-          bytes = [];
-          runs = (unset s, [], [], ([], (refl, refl), refl), (refl, refl), refl);
-          end = unset s;
-          text = text (Control (control fault));
-          step = (Control (control fault) ∷ [], (refl, refl), sym (append-nil (text (Control (control fault)))));
-          stands = keeps;
-          piece = part.piece;
-          lost = part.lost;
-          text_is = part.text_is;
-          appends = part.bytes;
-        })
+    faulty-broke fault old new is keeps part = (
+      Begin ∷ Faulty (control fault) ∷ [],
+      one-job (RunFiles date cntl ptfin) (Begin ∷ Faulty (control fault) ∷ []) (inr (fault, is, refl)),
+      record {
+        done = Begin ∷ [];
+        last = Faulty (control fault);
+        rest = [];
+        acts_are = refl;
+        before = unset s;
+        bytes = [];
+        runs = (unset s, [], [], ([], (refl, refl), refl), (refl, refl), refl);
+        end = unset s;
+        text = text (Control (control fault));
+        step = (Control (control fault) ∷ [], (refl, refl), sym (append-nil (text (Control (control fault)))));
+        stands = keeps;
+        piece = part.piece;
+        lost = part.lost;
+        text_is = part.text_is;
+        appends = part.bytes;
+      },
+    )
 
     -- the job could not begin
     pub unbegun : (cs : List Command) (taken : Option (List ℕ)) (e : StoreError) → IsCommandFile cntl cs → HasBegun g at s (Err e) → EndsAmong g at s (RunFiles date cntl ptfin ∷ []) taken taken (job_error e)
@@ -104,19 +112,26 @@ module _ {S : Type 0} (g : Ghosts S) (at : Held S) (s : State) where
     -- it began, and its commands ended so
     pub begun : (before : Held S) (session : Session) (cs : List Command) (old new : Option (List ℕ)) (r : Result ℕ JobError) → IsCommandFile cntl cs → Keeps g before s
         → EndsCommands g at (unset s) session date ptfin cs old new r → EndsJob g at s (RunFiles date cntl ptfin) old new Code r
-    begun before session cs old new (Ok code) is keeps (t, outcomes, runs, of, stands, appends, told) =
-        (t, flat_map text outcomes, record {
-          acts = Begin ∷ map (Perform date ptfin) cs;
-          has_acts = inl (cs, is, refl);
-          outcomes = outcomes;
-          runs = (unset s, [], outcomes, (refl, refl), runs, refl);
-          bytes_are = refl;
-          answers = ap Code told;
-        }, stands, appends)
-    begun before session cs old new (Err e) is keeps early =
-        (Begin ∷ map (Perform date ptfin) cs, one-job (RunFiles date cntl ptfin) (Begin ∷ map (Perform date ptfin) cs) (inl (cs, is, refl)),
-        early-after g at s before (unset s) (Begin ∷ []) (map (Perform date ptfin) cs) [] old old new e
-        (unset s, [], [], ([], (refl, refl), refl), (refl, refl), refl) keeps (Appends-nil old) early)
+    begun before session cs old new (Ok code) is keeps (t, outcomes, runs, of, stands, appends, told) = (
+      t,
+      flat_map text outcomes,
+      record {
+        acts = Begin ∷ map (Perform date ptfin) cs;
+        has_acts = inl (cs, is, refl);
+        outcomes = outcomes;
+        runs = (unset s, [], outcomes, (refl, refl), runs, refl);
+        bytes_are = refl;
+        answers = ap Code told;
+      },
+      stands,
+      appends,
+    )
+    begun before session cs old new (Err e) is keeps early = (
+      Begin ∷ map (Perform date ptfin) cs,
+      one-job (RunFiles date cntl ptfin) (Begin ∷ map (Perform date ptfin) cs) (inl (cs, is, refl)),
+      early-after g at s before (unset s) (Begin ∷ []) (map (Perform date ptfin) cs) [] old old new e
+          (unset s, [], [], ([], (refl, refl), refl), (refl, refl), refl) keeps (Appends-nil old) early,
+    )
 
   module _ (d : ZoneDefinition) (taken : Option (List ℕ)) where
     runs-define : (t : State) (answer : machine.Answer) → t ≡ or_same s (define_zone s d) → answer ≡ defined (define_zone s d) → RunsJob s (NewZone d) t [] answer

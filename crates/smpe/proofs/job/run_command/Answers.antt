@@ -1,4 +1,4 @@
-use Rattle.std.proofs.Common.{◌≡◌, [], ◌∷◌, true, false}
+use Rattle.std.proofs.Common.{[], ◌∷◌}
 use Rattle.cntl.specs.Views.{command_of}
 use Rattle.report.specs.Views.{outcome_view}
 use Rattle.smpe.specs.declared.error.JobError.TheVariants.{Write}

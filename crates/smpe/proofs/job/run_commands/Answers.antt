@@ -1,4 +1,4 @@
-use Rattle.std.proofs.Common.{◌≡◌, ◌∷◌, [], ◌+◌, map, take, drop, ◌++◌, sym, subst, max, Ok}
+use Rattle.std.proofs.Common.{◌∷◌, [], ◌+◌, map, take, drop, ◌++◌, sym, subst, max, Ok}
 use Rattle.cntl.specs.Views.{command_of}
 use Rattle.smpe.specs.Ending.{EndsEarly}
 use Rattle.machine.specs.Machine.{Perform}

@@ -1,4 +1,4 @@
-use Rattle.std.proofs.Common.{◌≡◌, ◌∷◌, map, [], subst}
+use Rattle.std.proofs.Common.{◌∷◌, map, [], subst}
 use Rattle.std.specs.Io.KnownBytes.{Appends}
 use Rattle.report.specs.Sent.{WrotePart}
 use Rattle.cntl.specs.Views.{command_of}

@@ -1,4 +1,3 @@
-use Rattle.std.proofs.Common.{◌≡◌}
 use Rattle.defining.specs.Definitions.{definition}
 use Rattle.smpe.proofs.Single.{define-done, define-refused, define-memory, define-fault}
 use Rattle.smpe.proofs.jobs.define.Goals as goal

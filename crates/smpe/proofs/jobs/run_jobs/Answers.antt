@@ -1,4 +1,4 @@
-use Rattle.std.proofs.Common.{◌≡◌, ◌∷◌, [], ◌++◌, ◌+◌, map, take, drop, Ok, sym, ap, ◌∙◌, subst, arith, rules}
+use Rattle.std.proofs.Common.{◌∷◌, [], ◌++◌, ◌+◌, map, take, drop, Ok, sym, ap, ◌∙◌, subst, arith, rules}
 use Rattle.std.proofs.lemmas.List.{map-append}
 use Rattle.smpe.specs.declared.error.JobError.TheVariants.{Memory}
 use Rattle.smpe.specs.Ending.{EndsAmong, EndsJobs, job_of, answer_of}

@@ -1,4 +1,4 @@
-use Rattle.std.proofs.Common.{◌≡◌, ◌∷◌, [], sym, subst}
+use Rattle.std.proofs.Common.{◌∷◌, [], sym, subst}
 use Rattle.smpe.specs.Ending.{EndsAmong, EndsJob, job_of, answer_of}
 use Rattle.smpe.proofs.Single.{job-err}
 use Rattle.smpe.proofs.jobs.run_one.Goals as goal
