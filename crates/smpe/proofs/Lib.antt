@@ -1,1 +1,7 @@
-mod Stopping
+mod Reports
+mod Early
+mod Printing
+mod Taken
+mod Commanding
+mod Single
+mod Listing

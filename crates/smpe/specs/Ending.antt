@@ -1,5 +1,5 @@
 -- How jobs end: the headline of the product.
-use Rattle.std.specs.Prelude.{◌≡◌, ℕ, Bool, true, false, List, [], ◌∷◌, map, Option, Result, Ok, Err}
+use Rattle.std.specs.Prelude.{ℕ, Bool, true, false, List, [], ◌∷◌, Option, Result, Ok, Err}
 use Rattle.std.specs.Io.KnownBytes.{Appends}
 use Rattle.sqlite.specs.Store.{Ghosts}
 use Rattle.sqlite.specs.Held.{Held}
@@ -18,6 +18,7 @@ use Rattle.smpe.specs.declared.jobs.Job.TheVariants.{Run, Zone}
 use Rattle.smpe.specs.declared.jobs.Answer.{Answer}
 use Rattle.smpe.specs.declared.jobs.Answer.TheVariants.{Code, Defined, Refused}
 
+-- the code's jobs and answers, as the machine has them
 abbrev pub job_of : Job → machine.Job
 job_of (Run date cntl ptfin) = machine.RunFiles date cntl.now ptfin.now
 job_of (Zone name kind srel related) = machine.NewZone (definition name kind srel related)
@@ -31,33 +32,30 @@ abbrev pub is_write : {X : Type 0} → Result X JobError → Bool
 is_write (Err Write) = true
 is_write _ = false
 
--- From s, with what the sink had taken and what it has, the store being as the call leaves it.
+-- A call found the tables standing for s, and left the store as it is now. The sink had taken `old`, and now has `new`.
 module _ {S : Type 0} (g : Ghosts S) (at : Held S) (s : State) where
-  -- Some first acts ran, and the next one had no effect and no report. A crash may leave its effect.
-  abbrev pub StopsAmong : List machine.Job → Option (List ℕ) → Option (List ℕ) → Type 0
-  StopsAmong jobs old new =
-      (acts : List Act) × AreFirstActs jobs acts × Stopped Prints kept s acts (TablesIfOpen g at) (Leaves g at) old new
+  -- The call could not go on to the end of these acts.
+  -- For want of memory, or after a fault of the store: some first acts ran and are reported, and the next one had no
+  -- effect and no report. A crash may leave its effect.
+  -- After a fault of the sink: some first acts ran, and of the last one's report a beginning went out.
+  abbrev pub EndsEarly : List Act → Option (List ℕ) → Option (List ℕ) → JobError → Type 0
+  EndsEarly acts old new Memory = Stopped Prints kept s acts (TablesIfOpen g at) (Leaves g at) old new
+  EndsEarly acts old new (Store store.Fault) = Stopped Prints kept s acts (TablesIfOpen g at) (Leaves g at) old new
+  EndsEarly acts old new (Store _) = ⊥
+  EndsEarly acts old new Write = BrokeOff Prints kept s acts (Tables g at) (Leaves g at) old new
 
-  -- Some first acts ran, and of the report of the last one a beginning went out.
-  abbrev pub BreaksOffAmong : List machine.Job → Option (List ℕ) → Option (List ℕ) → Type 0
-  BreaksOffAmong jobs old new =
-      (acts : List Act) × AreFirstActs jobs acts × BrokeOff Prints kept s acts (Tables g at) (Leaves g at) old new
+  -- the same of these jobs: the acts are those of the first ones
+  abbrev pub EndsAmong : List machine.Job → Option (List ℕ) → Option (List ℕ) → JobError → Type 0
+  EndsAmong jobs old new error = (acts : List Act) × AreFirstActs jobs acts × EndsEarly acts old new error
 
-  -- how a call ends that could not go on
-  abbrev pub EndsEarly : List machine.Job → Option (List ℕ) → Option (List ℕ) → JobError → Type 0
-  EndsEarly jobs old new Memory = StopsAmong jobs old new
-  EndsEarly jobs old new (Store store.Fault) = StopsAmong jobs old new
-  EndsEarly jobs old new (Store _) = ⊥
-  EndsEarly jobs old new Write = BreaksOffAmong jobs old new
+  -- The job ran, and this is its answer: the tables stand for what it led to, a crash leaves that, and its bytes went out.
+  abbrev pub EndsJob : machine.Job → Option (List ℕ) → Option (List ℕ) → {V : Type 0} → (V → machine.Answer) → Result V JobError → Type 0
+  EndsJob job old new answer (Ok v) =
+      (t : State) × (bytes : List ℕ) × RunsJob s job t bytes (answer v) × Keeps g at t × Appends old new bytes
+  EndsJob job old new answer (Err error) = EndsAmong (job ∷ []) old new error
 
-  -- The job ran, with its return code.
-  abbrev pub EndsJob : machine.Job → Option (List ℕ) → Option (List ℕ) → Result ℕ JobError → Type 0
-  EndsJob job old new (Ok code) =
-      (t : State) × (bytes : List ℕ) × RunsJob s job t bytes (machine.Code code) × Keeps g at t × Appends old new bytes
-  EndsJob job old new (Err error) = EndsEarly (job ∷ []) old new error
-
-  -- All jobs ran, with their answers.
+  -- All jobs ran one after the other, and these are their answers.
   abbrev pub EndsJobs : List machine.Job → Option (List ℕ) → Option (List ℕ) → {V : Type 0} → (V → List machine.Answer) → Result V JobError → Type 0
   EndsJobs jobs old new answers (Ok v) =
       (t : State) × (bytes : List ℕ) × RunsJobs s jobs t bytes (answers v) × Keeps g at t × Appends old new bytes
-  EndsJobs jobs old new answers (Err error) = EndsEarly jobs old new error
+  EndsJobs jobs old new answers (Err error) = EndsAmong jobs old new error

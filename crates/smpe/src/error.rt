@@ -16,3 +16,39 @@ pub enum JobError {
     #[error("write")]
     Write,
 }
+
+impl From<AllocError> for JobError {
+    ghost use Rattle.std.specs.Prelude.{◌≡◌};
+    ghost use Rattle.smpe.specs.declared.error.JobError.TheVariants.{Memory};
+
+    ghost from_gives = { λ _ e. e ≡ Memory };
+
+    fn from(_error: AllocError) -> JobError {
+        JobError::Memory
+    }
+}
+
+impl From<StoreError> for JobError {
+    ghost use Rattle.std.specs.Prelude.{◌≡◌};
+    ghost use Rattle.smpe.specs.Commands.{job_error};
+
+    ghost from_gives = { λ s e. e ≡ job_error s };
+
+    fn from(error: StoreError) -> JobError {
+        match error {
+            StoreError::Memory => JobError::Memory,
+            fault => JobError::Store(fault),
+        }
+    }
+}
+
+impl From<WriteFault> for JobError {
+    ghost use Rattle.std.specs.Prelude.{◌≡◌};
+    ghost use Rattle.smpe.specs.declared.error.JobError.TheVariants.{Write};
+
+    ghost from_gives = { λ _ e. e ≡ Write };
+
+    fn from(_fault: WriteFault) -> JobError {
+        JobError::Write
+    }
+}

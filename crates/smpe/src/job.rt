@@ -1,18 +1,65 @@
 //! One job.
-ghost use Rattle.std.specs.Prelude.{◌≡◌, ◌∷◌, [], false};
+ghost use Rattle.std.specs.Prelude.{◌≡◌, ◌∷◌, [], false, map};
 ghost use Rattle.sqlite.specs.Held.{state};
 ghost use Rattle.sqlite.specs.State.{HasCleanDisk};
 ghost use Rattle.machine.specs.State.{State};
-ghost use Rattle.machine.specs.Machine.{RunFiles};
+ghost use Rattle.machine.specs.Machine.{RunFiles, Code};
+ghost use Rattle.cntl.specs.Views.{command_of};
+ghost use Rattle.session.specs.Sessions.{IsSessionOf};
 ghost use Rattle.store.specs.Kept.{Keeps};
 ghost use Rattle.smpe.specs.Ending.{EndsJob, is_write};
+ghost use Rattle.smpe.specs.Commands.{EndsCommands};
 
 use crate::error::JobError;
+use cntl::{CntlError, Command, read_cntl};
 use fields::YyDdd;
-use report::Sink;
+use report::{Outcome, Sink, write_report};
+use session::Session;
 use sqlite::Alter;
 use std::alloc::Global as Heap;
 use store::Store;
+
+/// Performs a command, and reports it once it is committed.
+fn run_command<S: Alter, W: Sink>(
+    alloc: Heap,
+    session: &mut Session,
+    store: &mut Store<S>,
+    date: YyDdd,
+    ptfin: &[u8],
+    command: &Command,
+    w: &mut W,
+) -> Result<u8, JobError>
+    ensures clean { HasCleanDisk (state S.Store store.new) → HasCleanDisk (state S.Store store.old) }
+    ensures ended { HasCleanDisk (state S.Store store.new) → (s : State) → IsSessionOf s session.old → Keeps S.Store store.old s
+        → EndsCommands S.Store store.new s session.new date ptfin.now (command_of command.now ∷ []) (W.taken w.old) (W.taken w.new) result }
+    ensures fault { W.has_failed w.old ≡ false → W.has_failed w.new ≡ is_write result }
+{
+    let outcome = session.perform(alloc, store, date, ptfin, command)?;
+    Ok(write_report(&outcome, w)?)
+}
+
+/// Performs commands one after the other, and answers the highest return code.
+fn run_commands<S: Alter, W: Sink>(
+    alloc: Heap,
+    session: &mut Session,
+    store: &mut Store<S>,
+    date: YyDdd,
+    ptfin: &[u8],
+    commands: &[Command],
+    w: &mut W,
+) -> Result<u8, JobError>
+    ensures clean { HasCleanDisk (state S.Store store.new) → HasCleanDisk (state S.Store store.old) }
+    ensures ended { HasCleanDisk (state S.Store store.new) → (s : State) → IsSessionOf s session.old → Keeps S.Store store.old s
+        → EndsCommands S.Store store.new s session.new date ptfin.now (map command_of commands.now) (W.taken w.old) (W.taken w.new) result }
+    ensures fault { W.has_failed w.old ≡ false → W.has_failed w.new ≡ is_write result }
+{
+    let mut code: u8 = 0;
+    for command in commands {
+        let next = run_command(alloc, session, store, date, ptfin, command, w)?;
+        code = code.max(next);
+    }
+    Ok(code)
+}
 
 /// Performs the commands of a command file over a PTFIN, each committed first and reported after, and answers the
 /// highest return code.
@@ -26,8 +73,16 @@ pub fn run_job<S: Alter, W: Sink>(
 ) -> Result<u8, JobError>
     ensures clean { HasCleanDisk (state S.Store store.new) → HasCleanDisk (state S.Store store.old) }
     ensures ended { HasCleanDisk (state S.Store store.new) → (s : State) → Keeps S.Store store.old s
-        → EndsJob S.Store store.new s (RunFiles date cntl.now ptfin.now) (W.taken w.old) (W.taken w.new) result }
+        → EndsJob S.Store store.new s (RunFiles date cntl.now ptfin.now) (W.taken w.old) (W.taken w.new) Code result }
     ensures fault { W.has_failed w.old ≡ false → W.has_failed w.new ≡ is_write result }
 {
-    Err(JobError::Memory)
+    let commands = match read_cntl(alloc, cntl) {
+        Ok(commands) => commands,
+        Err(CntlError::Memory) => return Err(JobError::Memory),
+        Err(CntlError::Fault { number, code }) => {
+            return Ok(write_report(&Outcome::Control { number, code }, w)?);
+        }
+    };
+    let mut session = Session::begin(alloc, store)?;
+    run_commands(alloc, &mut session, store, date, ptfin, &commands, w)
 }

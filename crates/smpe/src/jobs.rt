@@ -1,13 +1,16 @@
 //! A list of jobs.
-ghost use Rattle.std.specs.Prelude.{◌≡◌, false, map};
+ghost use Rattle.std.specs.Prelude.{◌≡◌, ℕ, List, Option, false, map};
 ghost use Rattle.sqlite.specs.Held.{state};
 ghost use Rattle.sqlite.specs.State.{HasCleanDisk};
 ghost use Rattle.machine.specs.State.{State};
+ghost use Rattle.machine.specs.Machine.{NewZone};
+ghost use Rattle.defining.specs.Definitions.{definition};
 ghost use Rattle.store.specs.Kept.{Keeps};
-ghost use Rattle.smpe.specs.Ending.{EndsJobs, is_write, job_of, answer_of};
+ghost use Rattle.smpe.specs.Ending.{EndsJob, EndsJobs, is_write, job_of, answer_of};
 
 use crate::error::JobError;
-use defining::ZoneFault;
+use crate::job::run_job;
+use defining::{ZoneError, ZoneFault, define_zone};
 use fields::{Srel, YyDdd, ZoneName};
 use report::Sink;
 use sqlite::Alter;
@@ -39,6 +42,54 @@ pub enum Answer {
     Refused(ZoneFault),
 }
 
+/// Defines a zone, and answers how that ended.
+fn define<S: Alter>(
+    alloc: Heap,
+    store: &mut Store<S>,
+    name: ZoneName,
+    kind: ZoneKind,
+    srel: Srel,
+    related: Option<ZoneName>,
+) -> Result<Answer, JobError>
+    ensures clean { HasCleanDisk (state S.Store store.new) → HasCleanDisk (state S.Store store.old) }
+    ensures ended { HasCleanDisk (state S.Store store.new) → (s : State) → Keeps S.Store store.old s → (taken : Option (List ℕ))
+        → EndsJob S.Store store.new s (NewZone (definition name kind srel related)) taken taken answer_of result }
+    ensures fault { is_write result ≡ false }
+{
+    match define_zone(alloc, store, name, kind, srel, related) {
+        Ok(()) => Ok(Answer::Defined),
+        Err(ZoneError::Refused(why)) => Ok(Answer::Refused(why)),
+        Err(ZoneError::Store(error)) => Err(JobError::from(error)),
+        Err(ZoneError::Memory) => Err(JobError::Memory),
+    }
+}
+
+/// Runs one job.
+fn run_one<S: Alter, W: Sink>(
+    alloc: Heap,
+    store: &mut Store<S>,
+    job: &Job<'_>,
+    w: &mut W,
+) -> Result<Answer, JobError>
+    ensures clean { HasCleanDisk (state S.Store store.new) → HasCleanDisk (state S.Store store.old) }
+    ensures ended { HasCleanDisk (state S.Store store.new) → (s : State) → Keeps S.Store store.old s
+        → EndsJob S.Store store.new s (job_of job.now) (W.taken w.old) (W.taken w.new) answer_of result }
+    ensures fault { W.has_failed w.old ≡ false → W.has_failed w.new ≡ is_write result }
+{
+    match *job {
+        Job::Run { date, cntl, ptfin } => {
+            let code = run_job(alloc, store, date, cntl, ptfin, w)?;
+            Ok(Answer::Code(code))
+        }
+        Job::Zone {
+            name,
+            kind,
+            srel,
+            related,
+        } => define(alloc, store, name, kind, srel, related),
+    }
+}
+
 /// Runs the jobs one after the other. A refused definition does not end the list, an error does.
 pub fn run_jobs<S: Alter, W: Sink>(
     alloc: Heap,
@@ -51,5 +102,10 @@ pub fn run_jobs<S: Alter, W: Sink>(
         → EndsJobs S.Store store.new s (map job_of jobs.now) (W.taken w.old) (W.taken w.new) (λ v. map answer_of v.items) result }
     ensures fault { W.has_failed w.old ≡ false → W.has_failed w.new ≡ is_write result }
 {
-    Err(JobError::Memory)
+    let mut answers = Vec::with_capacity(alloc, jobs.len())?;
+    for job in jobs {
+        let answer = run_one(alloc, store, job, w)?;
+        answers.push(answer).unwrap();
+    }
+    Ok(answers)
 }

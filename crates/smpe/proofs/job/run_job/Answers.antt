@@ -1,13 +1,50 @@
-use Rattle.std.proofs.Common.{rules, ◌≡◌, ◌∷◌, [], false, ℕ, ◌+◌, ◌-◌, ◌*◌, ◌<◌, ◌≤◌, length, ◌/◌, ◌%◌, Bool, true, nat_eq, nat_lt, List, ◌++◌, slice_index_or, slice_set, bit_and, bit_or, Fits, w8, w32, w64, Bor, MutBor}
-use Rattle.sqlite.specs.Held.{state}
-use Rattle.sqlite.specs.State.{HasCleanDisk}
-use Rattle.machine.specs.State.{State}
-use Rattle.machine.specs.Machine.{RunFiles}
-use Rattle.store.specs.Kept.{Keeps}
-use Rattle.smpe.proofs.Stopping.{stops-none}
-use Rattle.smpe.specs.Ending.{EndsJob, is_write}
+use Rattle.std.proofs.Common.{◌∷◌, map, [], subst}
+use Rattle.std.specs.Io.KnownBytes.{Appends}
+use Rattle.report.specs.Sent.{WrotePart}
+use Rattle.cntl.specs.Views.{command_of}
+use Rattle.cntl.specs.Faults.{FailsFile}
+use Rattle.machine.specs.Machine.{RunFiles, Code}
+use Rattle.smpe.specs.declared.error.JobError.TheVariants.{Write}
+use Rattle.smpe.specs.Commands.{job_error}
+use Rattle.smpe.proofs.Early.{ends-unbegun}
+use Rattle.smpe.proofs.Reports.{sent-all, sent-part}
+use Rattle.smpe.proofs.Single.{control-same, job-err, faulty-ran, faulty-broke, unbegun, begun}
 use Rattle.smpe.proofs.job.run_job.Goals as goal
 
--- src/job.rt:19:1
+pub returns-in-Err-Memory-clause-ended : goal.returns-in-Err-Memory-clause-ended
+returns-in-Err-Memory-clause-ended g c clean s keeps =
+    ends-unbegun g.S.Store c.args.store.now s (RunFiles c.args.date c.args.cntl.now c.args.ptfin.now ∷ []) (g.W.Sink.taken c.args.w.now) keeps
+
+pub returns-in_err-write_report-in-Err-Fault-clause-ended : goal.returns-in_err-write_report-in-Err-Fault-clause-ended
+returns-in_err-write_report-in-Err-Fault-clause-ended g c clean s keeps =
+    let old = g.W.Sink.taken c.args.w.now in
+    let new = g.W.Sink.taken c.write_report.new.w in
+    job-err g.S.Store c.args.store.now s (RunFiles c.args.date c.args.cntl.now c.args.ptfin.now) old new Code c.from_residual.result Write c.from_residual.ensures.1
+    (faulty-broke g.S.Store c.args.store.now s c.args.date c.args.cntl.now c.args.ptfin.now (record { number = c.in-Err-Fault.number; code = c.in-Err-Fault.code }) old new
+    (subst (FailsFile c.args.cntl.now) c.in-Err-Fault.field-0-is c.in-Err-Fault.ensures.fault) keeps
+    (subst (WrotePart old new) (control-same c.in-Err-Fault.number-is c.in-Err-Fault.code-is) (sent-part _ _ _ _ _ c.in_err-write_report-in-Err-Fault.ensures.sends c.in_err-write_report-in-Err-Fault.ensures.fault)))
+
+pub returns-in-Err-Fault-clause-ended : goal.returns-in-Err-Fault-clause-ended
+returns-in-Err-Fault-clause-ended g c clean s keeps =
+    let old = g.W.Sink.taken c.args.w.now in
+    let new = g.W.Sink.taken c.write_report.new.w in
+    faulty-ran g.S.Store c.args.store.now s c.args.date c.args.cntl.now c.args.ptfin.now (record { number = c.in-Err-Fault.number; code = c.in-Err-Fault.code }) old new
+    c.in_ok-write_report-in-Err-Fault.field-0 (subst (FailsFile c.args.cntl.now) c.in-Err-Fault.field-0-is c.in-Err-Fault.ensures.fault) keeps
+    (subst (Appends old new) (control-same c.in-Err-Fault.number-is c.in-Err-Fault.code-is) (sent-all _ _ _ _ _ c.in_ok-write_report-in-Err-Fault.ensures.sends c.in_ok-write_report-in-Err-Fault.ensures.fault)) c.in_ok-write_report-in-Err-Fault.ensures.code
+
+pub returns-in_err-session-clause-ended : goal.returns-in_err-session-clause-ended
+returns-in_err-session-clause-ended g c clean s keeps =
+    let taken = g.W.Sink.taken c.args.w.now in
+    job-err g.S.Store c.begin.new.store s (RunFiles c.args.date c.args.cntl.now c.args.ptfin.now) taken taken Code c.from_residual-in_err-session.result (job_error c.in_err-session.field-0.0)
+    c.from_residual-in_err-session.ensures.1
+    (unbegun g.S.Store c.begin.new.store s c.args.date c.args.cntl.now c.args.ptfin.now (map command_of c.in-Ok.commands.items) taken c.in_err-session.field-0.0
+    c.in-Ok.ensures.commands (c.in_err-session.ensures.ended clean s keeps))
+
 pub returns-clause-ended : goal.returns-clause-ended
-returns-clause-ended g c = λ clean s keeps. stops-none g.S.Store c.args.store.now s (RunFiles c.args.date c.args.cntl.now c.args.ptfin.now ∷ []) (g.W.Sink.taken c.args.w.now) keeps
+returns-clause-ended g c clean s keeps =
+    let loaded = c.in_ok-session.ensures.ended (c.run_commands.ensures.clean clean) s keeps in
+    let old = g.W.Sink.taken c.args.w.now in
+    let new = g.W.Sink.taken c.run_commands.new.w in
+    begun g.S.Store c.run_commands.new.store s c.args.date c.args.cntl.now c.args.ptfin.now c.begin.new.store c.run_commands.new.session (map command_of c.in-Ok.commands.items) old new
+    c.run_commands.result c.in-Ok.ensures.commands loaded.1
+    (rw c.deref.ensures.value at (c.run_commands.ensures.ended clean _ loaded.0 loaded.1))

@@ -1,12 +1,54 @@
-use Rattle.std.proofs.Common.{rules, map, ◌≡◌, false, map, ℕ, ◌+◌, ◌-◌, ◌*◌, ◌<◌, ◌≤◌, length, ◌/◌, ◌%◌, Bool, true, nat_eq, nat_lt, List, [], ◌∷◌, ◌++◌, slice_index_or, slice_set, bit_and, bit_or, Fits, w8, w32, w64, Bor, MutBor}
-use Rattle.sqlite.specs.Held.{state}
-use Rattle.sqlite.specs.State.{HasCleanDisk}
-use Rattle.machine.specs.State.{State}
-use Rattle.store.specs.Kept.{Keeps}
-use Rattle.smpe.proofs.Stopping.{stops-none}
-use Rattle.smpe.specs.Ending.{EndsJobs, is_write, job_of, answer_of}
+use Rattle.std.proofs.Common.{◌∷◌, [], ◌++◌, ◌+◌, map, take, drop, Ok, sym, ap, ◌∙◌, subst, arith, rules}
+use Rattle.std.proofs.lemmas.List.{map-append}
+use Rattle.smpe.specs.declared.error.JobError.TheVariants.{Memory}
+use Rattle.smpe.specs.Ending.{EndsAmong, EndsJobs, job_of, answer_of}
+use Rattle.smpe.proofs.Early.{ends-unbegun}
+use Rattle.smpe.proofs.Taken.{taken-more, taken-split}
+use Rattle.smpe.proofs.Listing.{jobs-err, jobs-more, jobs-stop}
 use Rattle.smpe.proofs.jobs.run_jobs.Goals as goal
 
--- src/jobs.rt:43:1
-pub returns-clause-ended : goal.returns-clause-ended
-returns-clause-ended g c = λ clean s keeps. stops-none g.S.Store c.args.store.now s (map job_of c.args.jobs.now) (g.W.Sink.taken c.args.w.now) keeps
+pub returns-in_err-answers-clause-ended : goal.returns-in_err-answers-clause-ended
+returns-in_err-answers-clause-ended g c clean s keeps =
+    let taken = g.W.Sink.taken c.args.w.now in
+    jobs-err g.S.Store s c.args.store.now (map job_of c.args.jobs.now) taken taken (λ v. map answer_of v.items) c.from_residual.result Memory c.from_residual.ensures.1
+    (ends-unbegun g.S.Store c.args.store.now s (map job_of c.args.jobs.now) taken keeps)
+
+pub returns-in_err-answer-clause-ended : goal.returns-in_err-answer-clause-ended
+returns-in_err-answer-clause-ended g c clean s keeps =
+    let done = map job_of (take c.loop-job.job-index c.args.jobs.now) in
+    let rest = map job_of (drop (c.loop-job.job-index + 1) c.args.jobs.now) in
+    let at = c.run_one.new.store in
+    let old = g.W.Sink.taken c.args.w.now in
+    let new = g.W.Sink.taken c.run_one.new.w in
+    let error = c.in_err-answer.field-0.0 in
+    jobs-err g.S.Store s at (map job_of c.args.jobs.now) old new (λ v. map answer_of v.items) c.from_residual-in_err-answer.result error c.from_residual-in_err-answer.ensures.1
+    (subst (λ jobs. EndsAmong g.S.Store at s jobs old new error)
+    (sym (taken-split job_of c.args.jobs.now c.loop-job.job-index c.job-item.result c.loop-job-test.true c.job-item.is))
+    (jobs-stop g.S.Store s c.loop-job.store at done (job_of c.job-item.result) old (g.W.Sink.taken c.loop-job.w) new (map answer_of c.loop-job.answers.items) rest error
+    (c.loop-job.invariant.ran (c.run_one.ensures.clean clean) s keeps)
+    (λ t stands. c.in_err-answer.ensures.ended clean t stands)))
+
+pub loop-job-preserved : goal.loop-job-preserved
+loop-job-preserved g c =
+    let pushed = rw c.unwrap.ensures at c.push.ensures.items in
+    let counted = rw c.unwrap.ensures at c.push.ensures.len in
+    record {
+      clean = λ clean. c.loop-job.invariant.clean (c.run_one.ensures.clean clean);
+      ran = λ clean s keeps.
+          let done = map job_of (take c.loop-job.job-index c.args.jobs.now) in
+          let at = c.run_one.new.store in
+          let old = g.W.Sink.taken c.args.w.now in
+          let new = g.W.Sink.taken c.run_one.new.w in
+          let answers = map answer_of c.loop-job.answers.items in
+          let answer = answer_of c.in_ok-answer.answer in
+          subst (λ told. EndsJobs g.S.Store at s (map job_of (take (c.loop-job.job-index + 1) c.args.jobs.now)) old new (λ all. all) (Ok told))
+          (sym (ap (map answer_of) pushed ∙ map-append answer_of c.loop-job.answers.items (c.in_ok-answer.answer ∷ [])))
+          (subst (λ jobs. EndsJobs g.S.Store at s jobs old new (λ all. all) (Ok (answers ++ answer ∷ [])))
+          (sym (taken-more job_of c.args.jobs.now c.loop-job.job-index c.job-item.result c.loop-job-test.true c.job-item.is))
+          (jobs-more g.S.Store s c.loop-job.store at done (job_of c.job-item.result) old (g.W.Sink.taken c.loop-job.w) new answers answer
+          (c.loop-job.invariant.ran (c.run_one.ensures.clean clean) s keeps)
+          (λ t stands. c.in_ok-answer.ensures.ended clean t stands)));
+      count = search rules;
+      room = omega (arith, c.push.ensures.capacity, c.loop-job.invariant.room);
+      sound = λ none. c.in_ok-answer.ensures.fault (c.loop-job.invariant.sound none);
+    }

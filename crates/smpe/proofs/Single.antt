@@ -1,0 +1,173 @@
+-- How one job ends.
+use Rattle.std.proofs.Common.{◌≡◌, ℕ, List, [], ◌∷◌, Option, None, Result, Ok, Err, map, refl, sym, ◌∙◌, ap, subst, append-nil, inl, inr}
+use Rattle.std.specs.List.{flat_map}
+use Rattle.std.specs.Io.KnownBytes.{Appends}
+use Rattle.std.specs.Result.{IsErrAnd}
+use Rattle.std.proofs.KnownBytes.{Appends-nil}
+use Rattle.std.proofs.lemmas.Result.{err_from_is_err_and}
+use Rattle.sqlite.specs.Store.{Ghosts}
+use Rattle.sqlite.specs.Held.{Held}
+use Rattle.terms.specs.declared.codes.CnCode.{CnCode}
+use Rattle.terms.specs.Types.{Text, Command}
+use Rattle.terms.specs.Commands.{CntlFault, IsCommandFile, IsCommandFileFault}
+use Rattle.machine.specs.State.{State, ZoneDefinition, define_zone}
+use Rattle.machine.specs.Outcome.{ControlFault, Control}
+use Rattle.machine.specs.Report.{text}
+use Rattle.machine.specs.Machine as machine
+use Rattle.machine.specs.Machine.{Act, Begin, Perform, Faulty, Define, Prints, Job, RunFiles, NewZone, HasActs, AreFirstActs, RunsJob, Code, or_same, defined}
+use Rattle.machine.specs.Runs.{Stopped}
+use Rattle.schema.specs.declared.error.StoreError.{StoreError}
+use Rattle.schema.specs.declared.error.StoreError.TheVariants as store
+use Rattle.report.specs.Sent.{WrotePart}
+use Rattle.store.specs.Kept.{kept, Keeps, Stays}
+use Rattle.store.specs.View.{TablesIfOpen, Leaves}
+use Rattle.session.specs.declared.performing.Session.{Session}
+use Rattle.session.specs.Sessions.{HasBegun}
+use Rattle.defining.specs.declared.error.ZoneFault.{ZoneFault}
+use Rattle.defining.specs.declared.error.ZoneError.{ZoneError}
+use Rattle.defining.specs.declared.error.ZoneError.TheVariants as zone_error
+use Rattle.defining.specs.Definitions.{HasDefined, fault_of}
+use Rattle.smpe.specs.declared.error.JobError.{JobError}
+use Rattle.smpe.specs.declared.error.JobError.TheVariants.{Memory, Write}
+use Rattle.smpe.specs.Ending.{EndsEarly, EndsAmong, EndsJob}
+use Rattle.smpe.specs.Commands.{EndsCommands, job_error}
+use Rattle.smpe.proofs.Early.{stopped-first, early-after}
+
+-- the acts of the only job
+one-job : (job : Job) (acts : List Act) → HasActs job acts → AreFirstActs (job ∷ []) acts
+one-job job acts has = inr (acts, [], has, refl, sym (append-nil acts))
+
+abbrev unset : State → State
+unset s = record s { boundary = None }
+
+abbrev control : CntlFault → ControlFault
+control fault = record { number = fault.number; code = fault.code }
+
+pub control-same : {n m : ℕ} {a b : CnCode} → n ≡ m → a ≡ b → text (Control (record { number = n; code = a })) ≡ text (Control (record { number = m; code = b }))
+control-same {n} {m} {a} {b} numbers codes = ap (λ k. text (Control (record { number = k; code = a }))) numbers ∙ ap (λ k. text (Control (record { number = m; code = k }))) codes
+
+module _ {S : Type 0} (g : Ghosts S) (at : Held S) (s : State) where
+  -- the exit of a `?`
+  pub job-err : {V : Type 0} (job : Job) (a b : Option (List ℕ)) (answer : V → machine.Answer) (r : Result V JobError) (e : JobError)
+      → IsErrAnd r (λ y. y ≡ e) → EndsAmong g at s (job ∷ []) a b e → EndsJob g at s job a b answer r
+  job-err job a b answer r e failed ends =
+      let p = err_from_is_err_and r failed in
+      subst (EndsJob g at s job a b answer) (sym (p.1 ∙ ap (λ y. Err y) p.2)) ends
+
+  module _ (date : Text) (cntl ptfin : List ℕ) where
+    -- the command file is at fault, and that is reported
+    pub faulty-ran : (fault : CntlFault) (old new : Option (List ℕ)) (code : ℕ) → IsCommandFileFault cntl fault → Keeps g at s → Appends old new (text (Control (control fault))) → code ≡ 12
+        → EndsJob g at s (RunFiles date cntl ptfin) old new Code (Ok code)
+    faulty-ran fault old new code is keeps appends told = (
+      unset s,
+      flat_map text (Control (control fault) ∷ []),
+      record {
+        acts = Begin ∷ Faulty (control fault) ∷ [];
+        has_acts = inr (fault, is, refl);
+        outcomes = Control (control fault) ∷ [];
+        runs = (unset s, [], Control (control fault) ∷ [], (refl, refl), (unset s, Control (control fault) ∷ [], [], (refl, refl), (refl, refl), refl), refl);
+        bytes_are = refl;
+        answers = ap Code told;
+      },
+      keeps,
+      subst (Appends old new) (sym (append-nil (text (Control (control fault))))) appends,
+    )
+
+    -- the report of that broke off
+    pub faulty-broke : (fault : CntlFault) (old new : Option (List ℕ)) → IsCommandFileFault cntl fault → Keeps g at s → WrotePart old new (text (Control (control fault)))
+        → EndsAmong g at s (RunFiles date cntl ptfin ∷ []) old new Write
+    faulty-broke fault old new is keeps part = (
+      Begin ∷ Faulty (control fault) ∷ [],
+      one-job (RunFiles date cntl ptfin) (Begin ∷ Faulty (control fault) ∷ []) (inr (fault, is, refl)),
+      record {
+        done = Begin ∷ [];
+        last = Faulty (control fault);
+        rest = [];
+        acts_are = refl;
+        before = unset s;
+        bytes = [];
+        runs = (unset s, [], [], ([], (refl, refl), refl), (refl, refl), refl);
+        end = unset s;
+        text = text (Control (control fault));
+        step = (Control (control fault) ∷ [], (refl, refl), sym (append-nil (text (Control (control fault)))));
+        stands = keeps;
+        piece = part.piece;
+        lost = part.lost;
+        text_is = part.text_is;
+        appends = part.bytes;
+      },
+    )
+
+    -- the job could not begin
+    pub unbegun : (cs : List Command) (taken : Option (List ℕ)) (e : StoreError) → IsCommandFile cntl cs → HasBegun g at s (Err e) → EndsAmong g at s (RunFiles date cntl ptfin ∷ []) taken taken (job_error e)
+    unbegun cs taken e is begun =
+        (Begin ∷ map (Perform date ptfin) cs, one-job (RunFiles date cntl ptfin) (Begin ∷ map (Perform date ptfin) cs) (inl (cs, is, refl)), by_error e begun)
+      where
+        by_error : (e : StoreError) → HasBegun g at s (Err e) → EndsEarly g at s (Begin ∷ map (Perform date ptfin) cs) taken taken (job_error e)
+        by_error store.Fault stays = stopped-first g at s Begin (map (Perform date ptfin) cs) taken stays
+        by_error store.Memory stays = stopped-first g at s Begin (map (Perform date ptfin) cs) taken stays
+        by_error store.OtherSchema impossible = absurd impossible
+        by_error store.NoState impossible = absurd impossible
+
+    -- it began, and its commands ended so
+    pub begun : (before : Held S) (session : Session) (cs : List Command) (old new : Option (List ℕ)) (r : Result ℕ JobError) → IsCommandFile cntl cs → Keeps g before s
+        → EndsCommands g at (unset s) session date ptfin cs old new r → EndsJob g at s (RunFiles date cntl ptfin) old new Code r
+    begun before session cs old new (Ok code) is keeps (t, outcomes, runs, of, stands, appends, told) = (
+      t,
+      flat_map text outcomes,
+      record {
+        acts = Begin ∷ map (Perform date ptfin) cs;
+        has_acts = inl (cs, is, refl);
+        outcomes = outcomes;
+        runs = (unset s, [], outcomes, (refl, refl), runs, refl);
+        bytes_are = refl;
+        answers = ap Code told;
+      },
+      stands,
+      appends,
+    )
+    begun before session cs old new (Err e) is keeps early = (
+      Begin ∷ map (Perform date ptfin) cs,
+      one-job (RunFiles date cntl ptfin) (Begin ∷ map (Perform date ptfin) cs) (inl (cs, is, refl)),
+      early-after g at s before (unset s) (Begin ∷ []) (map (Perform date ptfin) cs) [] old old new e
+          (unset s, [], [], ([], (refl, refl), refl), (refl, refl), refl) keeps (Appends-nil old) early,
+    )
+
+  module _ (d : ZoneDefinition) (taken : Option (List ℕ)) where
+    runs-define : (t : State) (answer : machine.Answer) → t ≡ or_same s (define_zone s d) → answer ≡ defined (define_zone s d) → RunsJob s (NewZone d) t [] answer
+    runs-define t answer leads told = record {
+      acts = Define d ∷ [];
+      has_acts = refl;
+      outcomes = [];
+      runs = (t, [], [], (leads, refl), (refl, refl), refl);
+      bytes_are = refl;
+      answers = told;
+    }
+
+    pub define-done : (t : State) → define_zone s d ≡ Ok t → Keeps g at t → EndsJob g at s (NewZone d) taken taken (λ answer. answer) (Ok machine.Defined)
+    define-done t is keeps = (t, [], runs-define t machine.Defined (sym (ap (or_same s) is)) (sym (ap defined is)), keeps, Appends-nil taken)
+
+    -- an error that is this one
+    abbrev Fails : ZoneError → Type 0
+    Fails e = HasDefined g at s d {U = ℕ} (Err e)
+
+    pub define-refused : (why : ZoneFault) (e : ZoneError) → e ≡ zone_error.Refused why → Fails e → EndsJob g at s (NewZone d) taken taken (λ answer. answer) (Ok (machine.NotDefined (fault_of why)))
+    define-refused why e told fails = by_fault (subst Fails told fails)
+      where
+        by_fault : Fails (zone_error.Refused why) → EndsJob g at s (NewZone d) taken taken (λ answer. answer) (Ok (machine.NotDefined (fault_of why)))
+        by_fault (is, keeps) = (s, [], runs-define s (machine.NotDefined (fault_of why)) (sym (ap (or_same s) is)) (sym (ap defined is)), keeps, Appends-nil taken)
+
+    unbegun-definition : Stays g at s (Define d) → (acts : List Act) × AreFirstActs (NewZone d ∷ []) acts × Stopped Prints kept s acts (TablesIfOpen g at) (Leaves g at) taken taken
+    unbegun-definition stays = (Define d ∷ [], one-job (NewZone d) (Define d ∷ []) refl, stopped-first g at s (Define d) [] taken stays)
+
+    pub define-memory : (e : ZoneError) → e ≡ zone_error.Memory → Fails e → EndsAmong g at s (NewZone d ∷ []) taken taken Memory
+    define-memory e told fails = unbegun-definition (subst Fails told fails)
+
+    pub define-fault : (fault : StoreError) (e : ZoneError) (result : JobError) → e ≡ zone_error.Store fault → result ≡ job_error fault → Fails e → EndsAmong g at s (NewZone d ∷ []) taken taken result
+    define-fault fault e result told becomes fails = subst (EndsAmong g at s (NewZone d ∷ []) taken taken) (sym becomes) (by_fault fault (subst Fails told fails))
+      where
+        by_fault : (fault : StoreError) → Fails (zone_error.Store fault) → EndsAmong g at s (NewZone d ∷ []) taken taken (job_error fault)
+        by_fault store.Fault stays = unbegun-definition stays
+        by_fault store.Memory impossible = absurd impossible
+        by_fault store.OtherSchema impossible = absurd impossible
+        by_fault store.NoState impossible = absurd impossible

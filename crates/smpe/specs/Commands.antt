@@ -1,0 +1,35 @@
+-- How commands of one job end, inside it.
+use Rattle.std.specs.Prelude.{◌≡◌, ℕ, List, map, Option, Result, Ok, Err}
+use Rattle.std.specs.List.{flat_map}
+use Rattle.std.specs.Io.KnownBytes.{Appends}
+use Rattle.sqlite.specs.Store.{Ghosts}
+use Rattle.sqlite.specs.Held.{Held}
+use Rattle.terms.specs.Types.{Text, Command}
+use Rattle.machine.specs.State.{State}
+use Rattle.machine.specs.Outcome.{Outcome, job_code}
+use Rattle.machine.specs.Report.{text}
+use Rattle.machine.specs.Machine.{Perform, Steps}
+use Rattle.machine.specs.Runs.{Runs}
+use Rattle.schema.specs.declared.error.StoreError.{StoreError}
+use Rattle.schema.specs.declared.error.StoreError.TheVariants as store
+use Rattle.store.specs.Kept.{Keeps}
+use Rattle.session.specs.declared.performing.Session.{Session}
+use Rattle.session.specs.Sessions.{IsSessionOf}
+use Rattle.smpe.specs.declared.error.JobError.{JobError}
+use Rattle.smpe.specs.declared.error.JobError.TheVariants.{Memory, Store}
+use Rattle.smpe.specs.Ending.{EndsEarly}
+
+-- the error of a job, from one of its store
+abbrev pub job_error : StoreError → JobError
+job_error store.Memory = Memory
+job_error store.Fault = Store store.Fault
+job_error store.OtherSchema = Store store.OtherSchema
+job_error store.NoState = Store store.NoState
+
+-- The commands ran from s, with this as their greatest code, and the session is the job's at what they led to.
+abbrev pub EndsCommands : {S : Type 0} → Ghosts S → Held S → State → Session → Text → List ℕ → List Command → Option (List ℕ) → Option (List ℕ) → Result ℕ JobError → Type 0
+EndsCommands g at s session date ptfin commands old new (Ok code) =
+    (t : State) × (outcomes : List Outcome) × Runs Steps s (map (Perform date ptfin) commands) t outcomes
+    × IsSessionOf t session × Keeps g at t × Appends old new (flat_map text outcomes) × (code ≡ job_code outcomes)
+EndsCommands g at s session date ptfin commands old new (Err error) =
+    EndsEarly g at s (map (Perform date ptfin) commands) old new error
