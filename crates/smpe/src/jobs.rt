@@ -44,7 +44,6 @@ pub enum Answer {
 
 /// Defines a zone, and answers how that ended.
 fn define<S: Alter>(
-    alloc: Heap,
     store: &mut Store<S>,
     name: ZoneName,
     kind: ZoneKind,
@@ -56,7 +55,7 @@ fn define<S: Alter>(
         → EndsJob S.Store store.new s (NewZone (definition name kind srel related)) taken taken answer_of result }
     ensures fault { is_write result ≡ false }
 {
-    match define_zone(alloc, store, name, kind, srel, related) {
+    match define_zone(store, name, kind, srel, related) {
         Ok(()) => Ok(Answer::Defined),
         Err(ZoneError::Refused(why)) => Ok(Answer::Refused(why)),
         Err(ZoneError::Store(error)) => Err(JobError::from(error)),
@@ -86,7 +85,7 @@ fn run_one<S: Alter, W: Sink>(
             kind,
             srel,
             related,
-        } => define(alloc, store, name, kind, srel, related),
+        } => define(store, name, kind, srel, related),
     }
 }
 
