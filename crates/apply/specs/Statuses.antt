@@ -17,6 +17,7 @@ use Rattle.report.specs.Views.{status_view, failure_view}
 abbrev pub said : Id × reported.Status → Id × Status
 said p = (p.0, status_view p.1)
 
+-- an id with why it failed, as contracts see it
 abbrev pub why_failed : Id × reported_failure.Failure → Id × Failure
 why_failed f = (f.0, failure_view f.1)
 
@@ -38,6 +39,7 @@ pub record IsById (all found : List (Id × Status)) : Type 0 where
   pub same : IsPermutation all found
   pub sorted : IsSortedByKey (λ p. p.0) (slice_cmp nat_cmp) found
 
+-- the line of an id and its status
 abbrev pub status_line : Global → Id × Status → Line
 status_line g p = StatusLine p.0 (place_of g p.0) p.1
 

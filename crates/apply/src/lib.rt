@@ -5,5 +5,7 @@ mod applying;
 mod lines;
 mod places;
 mod statuses;
+#[cfg(test)]
+mod tests;
 
 pub use applying::{Applied, apply};
