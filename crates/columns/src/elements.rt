@@ -28,6 +28,7 @@ pub fn element_text_in(
 ) -> Result<Vec<Line>, ReadError>
     ensures some { IfOk result (λ text. (column row.now at ≡ records text.items) × IsTextOf elem_type text.items) }
     ensures none { IsErrOf result ReadError.BadRow → (text : List (List ℕ)) → IsTextOf elem_type text → column row.now at ≢ records text }
+    ensures fault { IsErrOf result ReadError.Fault → ⊥ }
 {
     let lines = records_in(alloc, row, at)?;
     if !is_updated(elem_type) {

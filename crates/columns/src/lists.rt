@@ -27,6 +27,7 @@ fn parts(alloc: Global, text: &[u8]) -> Result<Vec<&[u8]>, AllocError>
 fn id_list(alloc: Global, parts: &[&[u8]]) -> Result<IdList, ReadError>
     ensures some { IfOk result (λ list. (list ≡ map (λ part. part.now) parts.now) × AreListed IsId list) }
     ensures none { IsErrOf result ReadError.BadRow → ¬ AreListed IsId (map (λ part. part.now) parts.now) }
+    ensures fault { IsErrOf result ReadError.Fault → ⊥ }
 {
     let mut list = IdList::new(alloc);
     for part in parts {
@@ -43,6 +44,7 @@ fn id_list(alloc: Global, parts: &[&[u8]]) -> Result<IdList, ReadError>
 fn source_list(alloc: Global, parts: &[&[u8]]) -> Result<SourceList, ReadError>
     ensures some { IfOk result (λ list. (list ≡ map (λ part. part.now) parts.now) × AreListed IsSource list) }
     ensures none { IsErrOf result ReadError.BadRow → ¬ AreListed IsSource (map (λ part. part.now) parts.now) }
+    ensures fault { IsErrOf result ReadError.Fault → ⊥ }
 {
     let mut list = SourceList::new(alloc);
     for part in parts {
@@ -59,6 +61,7 @@ fn source_list(alloc: Global, parts: &[&[u8]]) -> Result<SourceList, ReadError>
 pub fn ids_in(alloc: Global, row: &Row, at: usize) -> Result<IdList, ReadError>
     ensures some { IfOk result (λ list. (column row.now at ≡ ids list) × AreListed IsId list) }
     ensures none { IsErrOf result ReadError.BadRow → (list : List (List ℕ)) → AreListed IsId list → column row.now at ≢ ids list }
+    ensures fault { IsErrOf result ReadError.Fault → ⊥ }
 {
     let Some(text) = text(row, at) else {
         return Err(ReadError::BadRow);
@@ -70,6 +73,7 @@ pub fn ids_in(alloc: Global, row: &Row, at: usize) -> Result<IdList, ReadError>
 pub fn sources_in(alloc: Global, row: &Row, at: usize) -> Result<SourceList, ReadError>
     ensures some { IfOk result (λ list. (column row.now at ≡ ids list) × AreListed IsSource list) }
     ensures none { IsErrOf result ReadError.BadRow → (list : List (List ℕ)) → AreListed IsSource list → column row.now at ≢ ids list }
+    ensures fault { IsErrOf result ReadError.Fault → ⊥ }
 {
     let Some(text) = text(row, at) else {
         return Err(ReadError::BadRow);
@@ -82,6 +86,7 @@ pub fn sources_in(alloc: Global, row: &Row, at: usize) -> Result<SourceList, Rea
 fn lines_in(alloc: Global, bytes: &[u8]) -> Result<Vec<Line>, ReadError>
     ensures some { IfOk result (λ lines. (bytes.now ≡ concat lines.items) × AreRecords lines.items) }
     ensures none { IsErrOf result ReadError.BadRow → (lines : List (List ℕ)) → AreRecords lines → bytes.now ≢ concat lines }
+    ensures fault { IsErrOf result ReadError.Fault → ⊥ }
 {
     if bytes.len() % RECORD != 0 {
         return Err(ReadError::BadRow);
@@ -93,6 +98,7 @@ fn lines_in(alloc: Global, bytes: &[u8]) -> Result<Vec<Line>, ReadError>
 pub fn records_in(alloc: Global, row: &Row, at: usize) -> Result<Vec<Line>, ReadError>
     ensures some { IfOk result (λ lines. (column row.now at ≡ records lines.items) × AreRecords lines.items) }
     ensures none { IsErrOf result ReadError.BadRow → (lines : List (List ℕ)) → AreRecords lines → column row.now at ≢ records lines }
+    ensures fault { IsErrOf result ReadError.Fault → ⊥ }
 {
     let Some(bytes) = blob(row, at) else {
         return Err(ReadError::BadRow);

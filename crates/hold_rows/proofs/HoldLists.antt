@@ -1,12 +1,9 @@
 -- The holds of an inventory have their forms, and its rows are theirs.
-use Rattle.std.proofs.Common.{◌≡◌, List, map, IsPermutation}
+use Rattle.std.proofs.Common.{List, map, IsPermutation}
 use Rattle.std.specs.List.{AllByRecursion}
 use Rattle.std.proofs.lemmas.List.Elements.{recursion_from_All}
-use Rattle.std.proofs.lemmas.List.Sorted.{IsPermutation-refl, IsPermutation-sym, IsPermutation-trans}
+use Rattle.std.proofs.lemmas.List.Sorted.{IsPermutation-refl}
 use Rattle.terms.specs.Types.{Hold}
-use Rattle.terms.specs.Global.{hold_cmp}
-use Rattle.terms.specs.Rising.{Rises}
-use Rattle.rows.specs.Rows.{Contents}
 use Rattle.rows.proofs.Unmapped.{unmapped_permutation}
 use Rattle.schema.specs.Forms.{HasHoldForms}
 use Rattle.schema.specs.Inventory.{Inventory, IsInventory}

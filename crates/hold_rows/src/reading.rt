@@ -52,6 +52,7 @@ fn reason_in(row: &Row, at: usize, kind: HoldKind) -> Option<Reason>
 fn comment_in(alloc: Global, row: &Row, at: usize) -> Result<Option<String>, ReadError>
     ensures some { IfOk result (λ comment. (column row.now at ≡ or_null Text (option_map string_bytes comment)) × IfSome (option_map string_bytes comment) IsComment) }
     ensures none { IsErrOf result ReadError.BadRow → (comment : Option (List ℕ)) → IfSome comment IsComment → column row.now at ≢ or_null Text comment }
+    ensures fault { IsErrOf result ReadError.Fault → ⊥ }
 {
     let bytes = match optional_text(row, at) {
         Some(Some(bytes)) => bytes,
@@ -80,7 +81,11 @@ impl FromRow for Holds {
 
     ghost has_form = { HasHoldForms };
 
-    fn read(alloc: Global, row: &Row) -> Result<Hold, ReadError> {
+    fn read(alloc: Global, row: &Row) -> Result<Hold, ReadError>
+        ensures read { IfOk result (λ hold. (row.now ≡ hold_row hold) × HasHoldForms hold) }
+        ensures none { IsErrOf result ReadError.BadRow → (hold : terms.Hold) → HasHoldForms hold → row.now ≢ hold_row hold }
+        ensures fault { IsErrOf result ReadError.Fault → ⊥ }
+    {
         if row.column_count() != 8 {
             return Err(ReadError::BadRow);
         }

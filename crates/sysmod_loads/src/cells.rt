@@ -28,6 +28,7 @@ use text80::{Line, TextError, Update};
 pub(crate) fn others_in(alloc: Global, row: &Row, at: usize, id: Id) -> Result<IdList, ReadError>
     ensures some { IfOk result (λ list. (column row.now at ≡ ids list) × AreOthers id list) }
     ensures none { IsErrOf result ReadError.BadRow → (list : List (List ℕ)) → AreOthers id list → column row.now at ≢ ids list }
+    ensures fault { IsErrOf result ReadError.Fault → ⊥ }
 {
     let list = ids_in(alloc, row, at)?;
     if list.contains(id) {
@@ -69,6 +70,7 @@ fn replacement_in(
 ) -> Result<Vec<Line>, ReadError>
     ensures some { IfOk result (λ text. (column row.now at ≡ records text.items) × IsTextOf elem_type text.items × (text.items ≢ [])) }
     ensures none { IsErrOf result ReadError.BadRow → (text : List (List ℕ)) → IsTextOf elem_type text → text ≢ [] → column row.now at ≢ records text }
+    ensures fault { IsErrOf result ReadError.Fault → ⊥ }
 {
     let text = element_text_in(alloc, row, at, elem_type)?;
     if text.is_empty() {
@@ -81,6 +83,7 @@ fn replacement_in(
 fn checked_update(alloc: Global, records: Vec<Line>, name: &[u8]) -> Result<Vec<Line>, ReadError>
     ensures some { IfOk result (λ text. (text.items ≡ records.items) × IsUpdate name.now records.items) }
     ensures none { IsErrOf result ReadError.BadRow → ¬ IsUpdate name.now records.items }
+    ensures fault { IsErrOf result ReadError.Fault → ⊥ }
 {
     match Update::read(alloc, records, name) {
         Ok(update) => Ok(Vec::from_slice(alloc, update.records())?),
@@ -99,6 +102,7 @@ fn update_in(
 ) -> Result<Vec<Line>, ReadError>
     ensures some { IfOk result (λ text. (column row.now at ≡ records text.items) × IsUpdated elem_type × AreRecords text.items × IsUpdate name text.items) }
     ensures none { IsErrOf result ReadError.BadRow → (text : List (List ℕ)) → IsUpdated elem_type → AreRecords text → IsUpdate name text → column row.now at ≢ records text }
+    ensures fault { IsErrOf result ReadError.Fault → ⊥ }
 {
     if !is_updated(elem_type) {
         return Err(ReadError::BadRow);
@@ -117,6 +121,7 @@ pub(crate) fn action_in(
     ensures some { IfOk result (λ action. (column row.now 3 ∷ column row.now 4 ∷ column row.now 5 ∷ column row.now 6 ∷ [] ≡ action_cells (action_of action)) × HasActionForms Ptf elem_type name (action_of action)) }
     ensures none { IsErrOf result ReadError.BadRow → (action : ActionTerm) → HasActionForms Ptf elem_type name action
         → column row.now 3 ∷ column row.now 4 ∷ column row.now 5 ∷ column row.now 6 ∷ [] ≢ action_cells action }
+    ensures fault { IsErrOf result ReadError.Fault → ⊥ }
 {
     let Some(updates) = flag_in(row, 3) else {
         return Err(ReadError::BadRow);

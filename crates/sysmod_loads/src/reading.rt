@@ -1,5 +1,11 @@
 //! How the rows of SYSMODs are read.
 
+ghost use Rattle.std.specs.Prelude.{◌≡◌, ◌≢◌, IfOk, IsErrOf};
+ghost use Rattle.sysmod_loads.specs.declared.flat.HeadRow.{HeadRow as AHeadRow};
+ghost use Rattle.sysmod_loads.specs.declared.flat.VerRow.{VerRow as AVerRow};
+ghost use Rattle.sysmod_loads.specs.declared.flat.IfRow.{IfRow as AIfRow};
+ghost use Rattle.sysmod_loads.specs.declared.flat.ElemRow.{ElemRow as AElemRow};
+
 use crate::cells::{action_in, number_in, other_in, others_in};
 use crate::flat::{ElemRow, HeadRow, IfRow, VerRow};
 use columns::{elem_type_in, id_in, kind_in, name_in, sources_in, srel_in};
@@ -20,7 +26,11 @@ impl FromRow for Heads {
 
     ghost has_form = { HasHeadForms };
 
-    fn read(alloc: Global, row: &Row) -> Result<HeadRow, ReadError> {
+    fn read(alloc: Global, row: &Row) -> Result<HeadRow, ReadError>
+        ensures read { IfOk result (λ item. (row.now ≡ row_of_head item) × HasHeadForms item) }
+        ensures none { IsErrOf result ReadError.BadRow → (item : AHeadRow) → HasHeadForms item → row.now ≢ row_of_head item }
+        ensures fault { IsErrOf result ReadError.Fault → ⊥ }
+    {
         if row.column_count() != 3 {
             return Err(ReadError::BadRow);
         }
@@ -47,7 +57,11 @@ impl FromRow for Vers {
 
     ghost has_form = { HasVerRowForms };
 
-    fn read(alloc: Global, row: &Row) -> Result<VerRow, ReadError> {
+    fn read(alloc: Global, row: &Row) -> Result<VerRow, ReadError>
+        ensures read { IfOk result (λ item. (row.now ≡ row_of_ver item) × HasVerRowForms item) }
+        ensures none { IsErrOf result ReadError.BadRow → (item : AVerRow) → HasVerRowForms item → row.now ≢ row_of_ver item }
+        ensures fault { IsErrOf result ReadError.Fault → ⊥ }
+    {
         if row.column_count() != 8 {
             return Err(ReadError::BadRow);
         }
@@ -92,7 +106,11 @@ impl FromRow for Ifs {
 
     ghost has_form = { HasIfRowForms };
 
-    fn read(alloc: Global, row: &Row) -> Result<IfRow, ReadError> {
+    fn read(alloc: Global, row: &Row) -> Result<IfRow, ReadError>
+        ensures read { IfOk result (λ item. (row.now ≡ row_of_if item) × HasIfRowForms item) }
+        ensures none { IsErrOf result ReadError.BadRow → (item : AIfRow) → HasIfRowForms item → row.now ≢ row_of_if item }
+        ensures fault { IsErrOf result ReadError.Fault → ⊥ }
+    {
         if row.column_count() != 5 {
             return Err(ReadError::BadRow);
         }
@@ -134,7 +152,11 @@ impl FromRow for Elems {
 
     ghost has_form = { HasElemRowForms };
 
-    fn read(alloc: Global, row: &Row) -> Result<ElemRow, ReadError> {
+    fn read(alloc: Global, row: &Row) -> Result<ElemRow, ReadError>
+        ensures read { IfOk result (λ item. (row.now ≡ row_of_elem item) × HasElemRowForms item) }
+        ensures none { IsErrOf result ReadError.BadRow → (item : AElemRow) → HasElemRowForms item → row.now ≢ row_of_elem item }
+        ensures fault { IsErrOf result ReadError.Fault → ⊥ }
+    {
         if row.column_count() != 7 {
             return Err(ReadError::BadRow);
         }

@@ -1,6 +1,6 @@
 //! The table of element entries.
 
-ghost use Rattle.std.specs.Prelude.{◌≡◌, List, false, map, IfOk, OnOk, IsErrOf, IsPermutation};
+ghost use Rattle.std.specs.Prelude.{◌≡◌, ◌≢◌, List, false, map, IfOk, OnOk, IsErrOf, IsPermutation};
 ghost use Rattle.sqlite.specs.Held.{state};
 ghost use Rattle.sqlite.specs.State.{HasCleanDisk, IsUnchanged, KeepsCommit, Survives};
 ghost use Rattle.terms.specs.Lookups.{element_cmp, element_key};
@@ -9,6 +9,7 @@ ghost use Rattle.terms.specs.Types.{Element as ElementTerm};
 ghost use Rattle.schema.specs.Inventory.{Inventory};
 ghost use Rattle.schema.specs.Stands.{StandsFor};
 ghost use Rattle.schema.specs.Tables.{store_schema};
+ghost use Rattle.zone_loads.specs.declared.element.ElementRow.{ElementRow as AnElementRow};
 ghost use Rattle.zone_loads.specs.Found.{elements_in};
 
 use columns::{elem_type_in, element_text_in, id_in, ids_in, name_in, zone_name_in};
@@ -38,7 +39,11 @@ impl FromRow for Elements {
 
     ghost has_form = { HasElementRowForms };
 
-    fn read(alloc: Global, row: &Row) -> Result<ElementRow, ReadError> {
+    fn read(alloc: Global, row: &Row) -> Result<ElementRow, ReadError>
+        ensures read { IfOk result (λ item. (row.now ≡ row_of_element item) × HasElementRowForms item) }
+        ensures none { IsErrOf result ReadError.BadRow → (item : AnElementRow) → HasElementRowForms item → row.now ≢ row_of_element item }
+        ensures fault { IsErrOf result ReadError.Fault → ⊥ }
+    {
         if row.column_count() != 9 {
             return Err(ReadError::BadRow);
         }

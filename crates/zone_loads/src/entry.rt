@@ -1,6 +1,6 @@
 //! The table of SYSMOD entries.
 
-ghost use Rattle.std.specs.Prelude.{◌≡◌, false, List, map, IfOk, OnOk, IsErrOf, IsPermutation};
+ghost use Rattle.std.specs.Prelude.{◌≡◌, ◌≢◌, false, List, map, IfOk, OnOk, IsErrOf, IsPermutation};
 ghost use Rattle.std.specs.Ordering.{nat_cmp};
 ghost use Rattle.std.specs.Cmp.Lexicographic.{slice_cmp};
 ghost use Rattle.sqlite.specs.Held.{state};
@@ -10,6 +10,7 @@ ghost use Rattle.terms.specs.Types.{Entry as EntryTerm};
 ghost use Rattle.schema.specs.Inventory.{Inventory};
 ghost use Rattle.schema.specs.Stands.{StandsFor};
 ghost use Rattle.schema.specs.Tables.{store_schema};
+ghost use Rattle.zone_loads.specs.declared.entry.EntryRow.{EntryRow as AnEntryRow};
 ghost use Rattle.zone_loads.specs.Found.{entries_in};
 
 use columns::{date_in, id_in, ids_in, optional_id_in, zone_name_in};
@@ -39,7 +40,11 @@ impl FromRow for Entries {
 
     ghost has_form = { HasEntryRowForms };
 
-    fn read(alloc: Global, row: &Row) -> Result<EntryRow, ReadError> {
+    fn read(alloc: Global, row: &Row) -> Result<EntryRow, ReadError>
+        ensures read { IfOk result (λ item. (row.now ≡ row_of_entry item) × HasEntryRowForms item) }
+        ensures none { IsErrOf result ReadError.BadRow → (item : AnEntryRow) → HasEntryRowForms item → row.now ≢ row_of_entry item }
+        ensures fault { IsErrOf result ReadError.Fault → ⊥ }
+    {
         if row.column_count() != 6 {
             return Err(ReadError::BadRow);
         }

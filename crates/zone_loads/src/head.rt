@@ -11,6 +11,7 @@ ghost use Rattle.schema.specs.Inventory.{Inventory};
 ghost use Rattle.schema.specs.Stands.{StandsFor};
 ghost use Rattle.schema.specs.Tables.{store_schema};
 ghost use Rattle.terms.specs.Types.{zone_number};
+ghost use Rattle.zone_loads.specs.declared.head.ZoneHead.{ZoneHead as AZoneHead};
 ghost use Rattle.zone_loads.specs.Found.{head_of, head_in, zone_in};
 ghost use Rattle.zone_loads.specs.Related.{AreRelated};
 
@@ -68,7 +69,11 @@ impl FromRow for Heads {
 
     ghost has_form = { HasHeadForms };
 
-    fn read(_alloc: Global, row: &Row) -> Result<ZoneHead, ReadError> {
+    fn read(_alloc: Global, row: &Row) -> Result<ZoneHead, ReadError>
+        ensures read { IfOk result (λ head. (row.now ≡ head_row head) × HasHeadForms head) }
+        ensures none { IsErrOf result ReadError.BadRow → (head : AZoneHead) → HasHeadForms head → row.now ≢ head_row head }
+        ensures fault { IsErrOf result ReadError.Fault → ⊥ }
+    {
         if row.column_count() != 4 {
             return Err(ReadError::BadRow);
         }

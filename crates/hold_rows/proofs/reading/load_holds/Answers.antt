@@ -1,4 +1,4 @@
-use Rattle.std.proofs.Common.{IsErrOf, IsPermutation, map, rules, sym, subst}
+use Rattle.std.proofs.Common.{IsErrOf, map, rules, sym, subst}
 use Rattle.std.proofs.lemmas.List.Sorted.{IsPermutation-sym, IsPermutation-trans, IsPermutation-map}
 use Rattle.sqlite.specs.Held.{state}
 use Rattle.sqlite.specs.Given.{IsPlain}
