@@ -9,6 +9,9 @@ use report::{Sink, WriteFault};
 use schema::StoreError;
 use smpe::JobError;
 
+/// The status of a program that ends with a fault.
+pub const FAULT_STATUS: u8 = 16;
+
 /// The faults of the program.
 #[derive(Drop)]
 pub enum Fault<'a> {
@@ -17,6 +20,17 @@ pub enum Fault<'a> {
     Arg(ArgFault),
     /// The name of a file that cannot be read.
     CannotRead(&'a str),
+}
+
+impl From<JobError> for Fault<'_> {
+    ghost use Rattle.std.specs.Prelude.{◌≡◌};
+    ghost use Rattle.messages.specs.declared.fault.Fault.TheVariants.{Job};
+
+    ghost from_gives = { λ error fault. fault ≡ Job error };
+
+    fn from(error: JobError) -> Self {
+        Fault::Job(error)
+    }
 }
 
 fn store_text(error: StoreError) -> &'static [u8]
@@ -80,5 +94,5 @@ pub fn fault_line<W: Sink>(fault: &Fault<'_>, w: &mut W) -> Result<u8, WriteFaul
     ensures status { IfOk result (λ status. status ≡ fault_status) }
 {
     write_fault(fault, w)?;
-    Ok(16)
+    Ok(FAULT_STATUS)
 }

@@ -5,7 +5,7 @@ mod fault;
 mod pieces;
 mod zone;
 
-pub use fault::{Fault, fault_line};
+pub use fault::{FAULT_STATUS, Fault, fault_line};
 pub use zone::zone_line;
 
 #[cfg(test)]
