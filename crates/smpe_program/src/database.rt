@@ -24,6 +24,8 @@ fn answered(rt: &HostRuntime, db: &str, job: &[Job<'_>]) -> Result<Answer, JobEr
     let mut store = opened(rt, db).map_err(JobError::Store)?;
     let mut out = Out::new(rt.stdout());
     let answers = run_jobs(rt.alloc(), &mut store, job, &mut out)?;
+    // What was committed is brought over from the database's log; if that fails, it stands in the log.
+    let _ = store.close().close();
     match answers.as_slice() {
         [answer] => Ok(*answer),
         // One job has one answer.
