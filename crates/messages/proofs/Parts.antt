@@ -1,0 +1,15 @@
+-- The lines of zones, as pieces.
+use Rattle.std.proofs.Common.{◌≡◌, ℕ, List, [], ◌∷◌, ◌++◌, ◌∙◌, ap}
+use Rattle.std.specs.Prelude.{codes}
+use Rattle.machine.specs.Report.{words_line}
+use Rattle.report.proofs.Texts.{words_line-more}
+
+pub defined_parts : (name : List ℕ) → codes "ZONE " ++ (name ++ (codes " DEFINED" ++ 10 ∷ [])) ≡ words_line (codes "ZONE" ∷ name ∷ codes "DEFINED" ∷ [])
+defined_parts name = ap (λ t. codes "ZONE " ++ t) (words_line-more name (codes "DEFINED") []) ∙ words_line-more (codes "ZONE") name (codes "DEFINED" ∷ [])
+
+pub refused_parts : (name code : List ℕ)
+    → codes "ZONE " ++ (name ++ (codes " REFUSED " ++ (code ++ 10 ∷ []))) ≡ words_line (codes "ZONE" ∷ name ∷ codes "REFUSED" ∷ code ∷ [])
+refused_parts name code =
+    ap (λ t. codes "ZONE " ++ (name ++ t)) (ap (λ t. 32 ∷ t) (words_line-more (codes "REFUSED") code []))
+    ∙ ap (λ t. codes "ZONE " ++ t) (words_line-more name (codes "REFUSED") (code ∷ []))
+    ∙ words_line-more (codes "ZONE") name (codes "REFUSED" ∷ code ∷ [])

@@ -1,0 +1,64 @@
+//! A job over a database file.
+use fields::{Srel, YyDdd, ZoneName};
+use report::Out;
+use schema::StoreError;
+use smpe::{Answer, Job, JobError, run_jobs};
+use sqlite::{Connection, FileFrom, FileStore, Wary};
+use store::Store;
+use terms::ZoneKind;
+
+// Opens the database, or makes it.
+fn opened(rt: &HostRuntime, db: &str) -> Result<Store<FileStore<FileFrom<Wary>>>, StoreError> {
+    let conn = match Connection::open_from(rt, db, false, Wary) {
+        Ok(conn) => conn,
+        Err((error, _)) => return Err(StoreError::from(error)),
+    };
+    match Store::open(rt.alloc(), conn) {
+        Ok(store) => Ok(store),
+        Err((_, error)) => Err(error),
+    }
+}
+
+// Runs one job, whose reports go to standard output.
+fn answered(rt: &HostRuntime, db: &str, job: &[Job<'_>]) -> Result<Answer, JobError> {
+    let mut store = opened(rt, db).map_err(JobError::Store)?;
+    let mut out = Out::new(rt.stdout());
+    let answers = run_jobs(rt.alloc(), &mut store, job, &mut out)?;
+    // What was committed is brought over from the database's log; if that fails, it stands in the log.
+    let _ = store.close().close();
+    match answers.as_slice() {
+        [answer] => Ok(*answer),
+        // One job has one answer.
+        _ => Err(JobError::Store(StoreError::Fault)),
+    }
+}
+
+/// Defines a zone.
+pub fn zone_defined(
+    rt: &HostRuntime,
+    db: &str,
+    name: ZoneName,
+    kind: ZoneKind,
+    srel: Srel,
+    related: Option<ZoneName>,
+) -> Result<Answer, JobError> {
+    let job = [Job::Zone {
+        name,
+        kind,
+        srel,
+        related,
+    }];
+    answered(rt, db, &job)
+}
+
+/// Runs the commands of a command file over a PTFIN.
+pub fn commands_run(
+    rt: &HostRuntime,
+    db: &str,
+    date: YyDdd,
+    cntl: &[u8],
+    ptfin: &[u8],
+) -> Result<Answer, JobError> {
+    let job = [Job::Run { date, cntl, ptfin }];
+    answered(rt, db, &job)
+}

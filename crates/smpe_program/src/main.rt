@@ -1,0 +1,32 @@
+//! `smpe`: defines a zone of a database, or runs a job over it.
+#![tactic(auto)]
+
+mod database;
+mod files;
+mod performing;
+mod words;
+
+use invocation::ArgFault;
+use messages::{FAULT_STATUS, Fault, fault_line};
+use performing::status_of;
+use report::Out;
+use std::process::ExitCode;
+use words::asked;
+
+fn main(rt: HostRuntime) -> ExitCode {
+    ExitCode::from(match asked(&rt) {
+        Ok(invocation) => match status_of(&rt, &invocation) {
+            Ok(status) => status,
+            Err(fault) => told(&rt, &fault),
+        },
+        Err(error) => told(&rt, &Fault::Arg(error)),
+    })
+}
+
+// Tells a fault on standard error, and answers its status, also where nothing can be written there.
+fn told(rt: &HostRuntime, fault: &Fault<'_>) -> u8 {
+    if let Fault::Arg(ArgFault::Clap(error)) = fault {
+        let _ = rt.eprint(error);
+    }
+    fault_line(fault, &mut Out::new(rt.stderr())).unwrap_or(FAULT_STATUS)
+}

@@ -1,0 +1,51 @@
+//! What was asked for is done.
+use crate::database::{commands_run, zone_defined};
+use crate::files::{read_file, read_given};
+use fields::{YyDdd, ZoneName};
+use invocation::Invocation;
+use messages::{FAULT_STATUS, Fault, zone_line};
+use report::Out;
+use smpe::{Answer, JobError};
+
+/// Does what is asked for, and answers the status. The hold file is not read, since no command takes one yet.
+pub fn status_of<'a>(rt: &HostRuntime, invocation: &'a Invocation) -> Result<u8, Fault<'a>> {
+    match invocation {
+        Invocation::Zone {
+            db,
+            name,
+            kind,
+            srel,
+            related,
+        } => {
+            let answer = zone_defined(rt, db.as_str(), *name, *kind, *srel, *related)?;
+            Ok(zone_told(rt, *name, &answer)?)
+        }
+        Invocation::Run {
+            db,
+            date,
+            cntl,
+            ptfin,
+            hold: _,
+        } => run_status(rt, db.as_str(), *date, cntl.as_str(), ptfin.as_ref()),
+    }
+}
+
+fn zone_told(rt: &HostRuntime, name: ZoneName, answer: &Answer) -> Result<u8, JobError> {
+    zone_line(name, answer, &mut Out::new(rt.stdout())).map_err(|_| JobError::Write)
+}
+
+fn run_status<'a>(
+    rt: &HostRuntime,
+    db: &str,
+    date: YyDdd,
+    cntl: &'a str,
+    ptfin: Option<&'a String>,
+) -> Result<u8, Fault<'a>> {
+    let cntl = read_file(rt, cntl)?;
+    let ptfin = read_given(rt, ptfin)?;
+    match commands_run(rt, db, date, cntl.as_slice(), ptfin.as_slice())? {
+        Answer::Code(code) => Ok(code),
+        // A job has a return code.
+        Answer::Defined | Answer::Refused(_) => Ok(FAULT_STATUS),
+    }
+}
