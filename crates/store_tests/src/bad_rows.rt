@@ -89,13 +89,14 @@ const VERS: [&str; 44] = [
 ];
 
 /// `++IF`s.
-const IFS: [&str; 17] = [
+const IFS: [&str; 18] = [
     "UPDATE ifreq SET srel = 'Z040' WHERE srel = 'Z039'",
     "UPDATE ifreq SET srel = 'Z38' WHERE srel = 'Z039'",
     "UPDATE ifreq SET id = 'AAA0003' WHERE srel = 'Z039'",
     "UPDATE ifreq SET n = 0 WHERE srel = 'Z039'",
     "UPDATE ifreq SET n = -1 WHERE srel = 'Z039'",
     "UPDATE ifreq SET n = 2 WHERE srel = 'Z039'",
+    "UPDATE ifreq SET n = 9223372036854775807 WHERE srel = 'Z039'",
     "UPDATE ifreq SET n = 3 WHERE n = 2",
     "DELETE FROM ifreq WHERE n = 1 AND srel = 'Z038'",
     "UPDATE ifreq SET fmid = 'HCC110' WHERE srel = 'Z039'",
@@ -543,12 +544,15 @@ const COMMENT: &str = "UPDATE hold SET comment = ?1 WHERE kind = 'ERROR'";
 fn comments(rt: HostRuntime) -> Result<(), Fail> {
     for (text, told) in [
         ([b'X'; 200].as_slice(), None),
+        (b"~".as_slice(), None),
         ([b'X'; 201].as_slice(), Some(StoreError::NoState)),
         (b"".as_slice(), Some(StoreError::NoState)),
         (b" A".as_slice(), Some(StoreError::NoState)),
         (b"A ".as_slice(), Some(StoreError::NoState)),
         (b"A\nB".as_slice(), Some(StoreError::NoState)),
         (b"A\x7fB".as_slice(), Some(StoreError::NoState)),
+        (b"\xc3\xa9".as_slice(), Some(StoreError::NoState)),
+        (b"\xff".as_slice(), Some(StoreError::NoState)),
     ] {
         let value = ValueRef::Text(text);
         assert_eq!(rt; fault_with(rt.alloc(), COMMENT, value, Part::Global)?, told);
