@@ -560,6 +560,60 @@ fn comments(rt: HostRuntime) -> Result<(), Fail> {
     Ok(())
 }
 
+const FIRST: &str = "INSERT INTO sysmod (id, kind, sources) VALUES ('M100000', 'PTF', '')";
+
+/// As many SYSMODs again, by numbers that are greater by this one.
+const AGAIN: &str =
+    "INSERT INTO sysmod (id, kind, sources) SELECT 'M' || (CAST(substr(id, 2) AS INTEGER) + ?1), 'PTF', '' FROM sysmod WHERE id > 'M' AND id < 'N'";
+
+const THEIR_VERS: &str =
+    "INSERT INTO ver (id, srel, fmid, pre, req, sup, npre, del) SELECT id, 'Z038', 'HAA1100', '', '', '', '', '' FROM sysmod WHERE id > 'M' AND id < 'N'";
+
+/// 65,536 SYSMODs more.
+fn add_many(conn: &mut Connection<MemStore>) -> Result<(), Fail> {
+    conn.execute(FIRST, &[])?;
+    for power in 0..16_u32 {
+        conn.execute(AGAIN, &[ValueRef::Int(1 << power)])?;
+    }
+    conn.execute(THEIR_VERS, &[])?;
+    Ok(())
+}
+
+/// The known rows and as many SYSMODs more, once the statement has taken some out.
+fn many(alloc: Global, sql: &str) -> Result<Connection<MemStore>, Fail> {
+    let mut conn = filled(alloc, Connection::open_in_memory(alloc)?)?;
+    add_many(&mut conn)?;
+    conn.execute(sql, &[])?;
+    Ok(conn)
+}
+
+/// How many SYSMODs are loaded, or why none are.
+fn size_after(alloc: Global, sql: &str) -> Result<Result<usize, StoreError>, Fail> {
+    match opened(alloc, many(alloc, sql)?)?.load_global() {
+        Ok(global) => Ok(Ok(global.len())),
+        Err(error) => Ok(Err(error)),
+    }
+}
+
+#[test]
+fn too_many_sysmods(rt: HostRuntime) -> Result<(), Fail> {
+    assert_eq!(rt;
+        size_after(
+            rt.alloc(),
+            "DELETE FROM sysmod WHERE id > 'M' AND id < 'M100005'"
+        )?,
+        Err(StoreError::NoState)
+    );
+    assert_eq!(rt;
+        size_after(
+            rt.alloc(),
+            "DELETE FROM sysmod WHERE id > 'M' AND id < 'M100006'"
+        )?,
+        Ok(65_535)
+    );
+    Ok(())
+}
+
 /// What is told of the part of a store over files, once these statements have changed the known rows
 /// and the files were opened again.
 fn fault_in_files(alloc: Global, sql: &str, part: Part) -> Result<Option<StoreError>, Fail> {
