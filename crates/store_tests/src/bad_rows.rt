@@ -1,0 +1,639 @@
+//! Rows edited by hand that stand for no state.
+use crate::known::{again, files, filled, joined, opened, zone_name};
+use schema::StoreError;
+use sqlite::{Alter, Connection, MemStore};
+use sqlite_disk::Memory;
+use sqlite_value::value::ValueRef;
+use std::alloc::Global;
+use std::test::Fail;
+use store::Store;
+
+/// Edits that move only within what may stand: loops of REQ and of several releases are free.
+const GOOD: [&str; 8] = [
+    "UPDATE ver SET req = 'UAA0001' WHERE id = 'LLL0001'",
+    "UPDATE ver SET req = 'LLL0001' WHERE id = 'UAA0001' AND srel = 'Z038'",
+    "UPDATE ver SET pre = 'LLL0001' WHERE id = 'UAA0001' AND srel = 'Z039'",
+    "UPDATE ver SET npre = 'UAA0001' WHERE id = 'HAA1200'",
+    "UPDATE sysmod SET kind = 'USERMOD' WHERE id = 'UAA0001'",
+    "UPDATE hold SET fmid = id WHERE kind = 'USER'",
+    "UPDATE hold SET internal = 0 WHERE kind = 'SYSTEM'",
+    "UPDATE zelem SET umid = '' WHERE zone = 'DLB1'",
+];
+
+/// SYSMODs.
+const SYSMODS: [&str; 16] = [
+    "INSERT INTO sysmod (id, kind, sources) VALUES ('UAA001', 'PTF', ''); INSERT INTO ver (id, srel, fmid, pre, req, sup, npre, del) VALUES ('UAA001', 'Z038', 'HAA1100', '', '', '', '', '')",
+    "INSERT INTO sysmod (id, kind, sources) VALUES ('UAA00011', 'PTF', ''); INSERT INTO ver (id, srel, fmid, pre, req, sup, npre, del) VALUES ('UAA00011', 'Z038', 'HAA1100', '', '', '', '', '')",
+    "INSERT INTO sysmod (id, kind, sources) VALUES ('uaa0001', 'PTF', ''); INSERT INTO ver (id, srel, fmid, pre, req, sup, npre, del) VALUES ('uaa0001', 'Z038', 'HAA1100', '', '', '', '', '')",
+    "INSERT INTO sysmod (id, kind, sources) VALUES ('UAA 001', 'PTF', ''); INSERT INTO ver (id, srel, fmid, pre, req, sup, npre, del) VALUES ('UAA 001', 'Z038', 'HAA1100', '', '', '', '', '')",
+    "INSERT INTO sysmod (id, kind, sources) VALUES ('', 'PTF', ''); INSERT INTO ver (id, srel, fmid, pre, req, sup, npre, del) VALUES ('', 'Z038', 'HAA1100', '', '', '', '', '')",
+    "UPDATE sysmod SET kind = 'ptf' WHERE id = 'UAA0001'",
+    "UPDATE sysmod SET kind = 'FUNCTIONS' WHERE id = 'UAA0001'",
+    "UPDATE sysmod SET kind = '' WHERE id = 'UAA0001'",
+    "UPDATE sysmod SET sources = 'PUT2402,PUT2401' WHERE id = 'UAA0001'",
+    "UPDATE sysmod SET sources = 'PUT2401,PUT2401' WHERE id = 'UAA0001'",
+    "UPDATE sysmod SET sources = 'PUT240123' WHERE id = 'UAA0001'",
+    "UPDATE sysmod SET sources = 'put2401' WHERE id = 'UAA0001'",
+    "UPDATE sysmod SET sources = 'PUT2401,' WHERE id = 'UAA0001'",
+    "UPDATE sysmod SET sources = ',PUT2401' WHERE id = 'UAA0001'",
+    "UPDATE sysmod SET sources = ' ' WHERE id = 'UAA0001'",
+    "DELETE FROM ver WHERE id = 'AAA0003'",
+];
+
+/// `++VER`s, by themselves and for the kind of their SYSMOD.
+const VERS: [&str; 44] = [
+    "UPDATE ver SET srel = 'Z38' WHERE id = 'AAA0003'",
+    "UPDATE ver SET srel = 'Z0380' WHERE id = 'AAA0003'",
+    "UPDATE ver SET srel = 'z038' WHERE id = 'AAA0003'",
+    "UPDATE ver SET srel = 'ZZ38' WHERE id = 'AAA0003'",
+    "UPDATE ver SET srel = '' WHERE id = 'AAA0003'",
+    "UPDATE ver SET fmid = 'HAA110' WHERE id = 'AAA0003'",
+    "UPDATE ver SET fmid = 'haa1100' WHERE id = 'AAA0003'",
+    "UPDATE ver SET fmid = '' WHERE id = 'AAA0003'",
+    "UPDATE ver SET fmid = NULL WHERE id = 'AAA0003'",
+    "UPDATE ver SET fmid = id WHERE id = 'HAA1100'",
+    "UPDATE ver SET pre = 'UZZ0002,UZZ0001' WHERE id = 'HAA1200'",
+    "UPDATE ver SET pre = 'UZZ0001,UZZ0001' WHERE id = 'HAA1200'",
+    "UPDATE ver SET pre = 'UZZ001' WHERE id = 'HAA1200'",
+    "UPDATE ver SET pre = 'UZZ0001,' WHERE id = 'HAA1200'",
+    "UPDATE ver SET pre = 'UZZ0001 UZZ0002' WHERE id = 'HAA1200'",
+    "UPDATE ver SET pre = id WHERE id = 'HAA1200'",
+    "UPDATE ver SET req = 'UZZ0002,UZZ0001' WHERE id = 'HAA1200'",
+    "UPDATE ver SET req = 'UZZ0001,UZZ0001' WHERE id = 'HAA1200'",
+    "UPDATE ver SET req = 'UZZ001' WHERE id = 'HAA1200'",
+    "UPDATE ver SET req = 'UZZ0001,' WHERE id = 'HAA1200'",
+    "UPDATE ver SET req = 'UZZ0001 UZZ0002' WHERE id = 'HAA1200'",
+    "UPDATE ver SET req = id WHERE id = 'HAA1200'",
+    "UPDATE ver SET sup = 'UZZ0002,UZZ0001' WHERE id = 'HAA1200'",
+    "UPDATE ver SET sup = 'UZZ0001,UZZ0001' WHERE id = 'HAA1200'",
+    "UPDATE ver SET sup = 'UZZ001' WHERE id = 'HAA1200'",
+    "UPDATE ver SET sup = 'UZZ0001,' WHERE id = 'HAA1200'",
+    "UPDATE ver SET sup = 'UZZ0001 UZZ0002' WHERE id = 'HAA1200'",
+    "UPDATE ver SET sup = id WHERE id = 'HAA1200'",
+    "UPDATE ver SET npre = 'UZZ0002,UZZ0001' WHERE id = 'HAA1200'",
+    "UPDATE ver SET npre = 'UZZ0001,UZZ0001' WHERE id = 'HAA1200'",
+    "UPDATE ver SET npre = 'UZZ001' WHERE id = 'HAA1200'",
+    "UPDATE ver SET npre = 'UZZ0001,' WHERE id = 'HAA1200'",
+    "UPDATE ver SET npre = 'UZZ0001 UZZ0002' WHERE id = 'HAA1200'",
+    "UPDATE ver SET npre = id WHERE id = 'HAA1200'",
+    "UPDATE ver SET del = 'UZZ0002,UZZ0001' WHERE id = 'HAA1200'",
+    "UPDATE ver SET del = 'UZZ0001,UZZ0001' WHERE id = 'HAA1200'",
+    "UPDATE ver SET del = 'UZZ001' WHERE id = 'HAA1200'",
+    "UPDATE ver SET del = 'UZZ0001,' WHERE id = 'HAA1200'",
+    "UPDATE ver SET del = 'UZZ0001 UZZ0002' WHERE id = 'HAA1200'",
+    "UPDATE ver SET del = id WHERE id = 'HAA1200'",
+    "UPDATE ver SET npre = 'HBB0001' WHERE id = 'AAA0003'",
+    "UPDATE ver SET del = 'HBB0001' WHERE id = 'AAA0003'",
+    "UPDATE sysmod SET kind = 'PTF' WHERE id = 'HAA1100'",
+    "UPDATE sysmod SET kind = 'PTF' WHERE id = 'HAA1200'",
+];
+
+/// `++IF`s.
+const IFS: [&str; 18] = [
+    "UPDATE ifreq SET srel = 'Z040' WHERE srel = 'Z039'",
+    "UPDATE ifreq SET srel = 'Z38' WHERE srel = 'Z039'",
+    "UPDATE ifreq SET id = 'AAA0003' WHERE srel = 'Z039'",
+    "UPDATE ifreq SET n = 0 WHERE srel = 'Z039'",
+    "UPDATE ifreq SET n = -1 WHERE srel = 'Z039'",
+    "UPDATE ifreq SET n = 2 WHERE srel = 'Z039'",
+    "UPDATE ifreq SET n = 9223372036854775807 WHERE srel = 'Z039'",
+    "UPDATE ifreq SET n = 3 WHERE n = 2",
+    "DELETE FROM ifreq WHERE n = 1 AND srel = 'Z038'",
+    "UPDATE ifreq SET fmid = 'HCC110' WHERE srel = 'Z039'",
+    "UPDATE ifreq SET fmid = 'hcc1100' WHERE srel = 'Z039'",
+    "UPDATE ifreq SET fmid = '' WHERE srel = 'Z039'",
+    "UPDATE ifreq SET req = '' WHERE srel = 'Z039'",
+    "UPDATE ifreq SET req = id WHERE srel = 'Z039'",
+    "UPDATE ifreq SET req = 'UCC0002,UCC0001' WHERE srel = 'Z039'",
+    "UPDATE ifreq SET req = 'UCC0001,UCC0001' WHERE srel = 'Z039'",
+    "UPDATE ifreq SET req = 'UCC001' WHERE srel = 'Z039'",
+    "UPDATE ifreq SET req = 'UCC0001,' WHERE srel = 'Z039'",
+];
+
+/// Element statements.
+const ELEMS: [&str; 30] = [
+    "UPDATE elem SET type = 'mac' WHERE id = 'HAA1100' AND type = 'MAC'",
+    "UPDATE elem SET type = 'MACUPD' WHERE id = 'HAA1100' AND type = 'MAC'",
+    "UPDATE elem SET type = '' WHERE id = 'HAA1100' AND type = 'MAC'",
+    "UPDATE elem SET name = '1CLS' WHERE type = 'CLIST'",
+    "UPDATE elem SET name = 'cls1' WHERE type = 'CLIST'",
+    "UPDATE elem SET name = 'CLS123456' WHERE type = 'CLIST'",
+    "UPDATE elem SET name = '' WHERE type = 'CLIST'",
+    "UPDATE elem SET upd = 1 WHERE type = 'CLIST'",
+    "UPDATE elem SET upd = 2 WHERE type = 'CLIST'",
+    "UPDATE elem SET upd = -1 WHERE type = 'CLIST'",
+    "UPDATE elem SET upd = 0 WHERE upd = 1",
+    "UPDATE elem SET distlib = NULL WHERE type = 'CLIST'",
+    "UPDATE elem SET distlib = '' WHERE type = 'CLIST'",
+    "UPDATE elem SET distlib = 'A B' WHERE type = 'CLIST'",
+    "UPDATE elem SET distlib = '1LIB' WHERE type = 'CLIST'",
+    "UPDATE elem SET distlib = 'LIBRARY01' WHERE type = 'CLIST'",
+    "UPDATE elem SET distlib = 'ALIB' WHERE upd = 1",
+    "UPDATE elem SET syslib = NULL WHERE type = 'CLIST'",
+    "UPDATE elem SET syslib = '' WHERE type = 'CLIST'",
+    "UPDATE elem SET syslib = 'A B' WHERE type = 'CLIST'",
+    "UPDATE elem SET syslib = '1LIB' WHERE type = 'CLIST'",
+    "UPDATE elem SET syslib = 'LIBRARY01' WHERE type = 'CLIST'",
+    "UPDATE elem SET syslib = 'ALIB' WHERE upd = 1",
+    "UPDATE elem SET text = x'' WHERE type = 'CLIST'",
+    "UPDATE elem SET text = x'41' WHERE type = 'CLIST'",
+    "UPDATE elem SET text = x'' WHERE type = 'MAC' AND upd = 0",
+    "UPDATE elem SET text = x'' WHERE upd = 1",
+    "UPDATE elem SET type = 'DATA' WHERE upd = 1 AND type = 'MAC'",
+    "UPDATE elem SET name = 'MAC3' WHERE upd = 1 AND type = 'MAC'",
+    "UPDATE elem SET id = 'HAA1200' WHERE upd = 1 AND type = 'MAC'",
+];
+
+/// Holds.
+const HOLDS: [&str; 34] = [
+    "UPDATE hold SET id = 'UZZ999' WHERE kind = 'USER'",
+    "UPDATE hold SET id = 'uzz9999' WHERE kind = 'USER'",
+    "UPDATE hold SET id = '' WHERE kind = 'USER'",
+    "UPDATE hold SET kind = 'user' WHERE kind = 'USER'",
+    "UPDATE hold SET kind = 'HOLD' WHERE kind = 'USER'",
+    "UPDATE hold SET kind = '' WHERE kind = 'USER'",
+    "UPDATE hold SET reason = 'LONGERTHAN' WHERE kind = 'USER'",
+    "UPDATE hold SET reason = 'mine' WHERE kind = 'USER'",
+    "UPDATE hold SET reason = 'A B' WHERE kind = 'USER'",
+    "UPDATE hold SET reason = '' WHERE kind = 'USER'",
+    "UPDATE hold SET reason = 'LONGERTHAN' WHERE reason = 'DOC'",
+    "UPDATE hold SET reason = 'NOID' WHERE kind = 'ERROR'",
+    "UPDATE hold SET reason = 'aaa0009' WHERE kind = 'ERROR'",
+    "UPDATE hold SET reason = '' WHERE kind = 'ERROR'",
+    "UPDATE hold SET fmid = 'HAA110' WHERE kind = 'USER'",
+    "UPDATE hold SET fmid = 'haa1100' WHERE kind = 'USER'",
+    "UPDATE hold SET fmid = '' WHERE kind = 'USER'",
+    "UPDATE hold SET class = '' WHERE kind = 'ERROR'",
+    "UPDATE hold SET class = 'LONGERTHAN' WHERE kind = 'ERROR'",
+    "UPDATE hold SET class = 'hiper' WHERE kind = 'ERROR'",
+    "UPDATE hold SET date = '' WHERE kind = 'ERROR'",
+    "UPDATE hold SET date = '24000' WHERE kind = 'ERROR'",
+    "UPDATE hold SET date = '24367' WHERE kind = 'ERROR'",
+    "UPDATE hold SET date = '24.138' WHERE kind = 'ERROR'",
+    "UPDATE hold SET date = '2413' WHERE kind = 'ERROR'",
+    "UPDATE hold SET date = '2024138' WHERE kind = 'ERROR'",
+    "UPDATE hold SET date = '2A138' WHERE kind = 'ERROR'",
+    "UPDATE hold SET internal = 2 WHERE kind = 'SYSTEM'",
+    "UPDATE hold SET internal = -1 WHERE kind = 'SYSTEM'",
+    "UPDATE hold SET internal = 1 WHERE kind = 'ERROR'",
+    "UPDATE hold SET internal = 1, id = 'UAA0001' WHERE kind = 'USER'",
+    "UPDATE hold SET internal = 1, kind = 'SYSTEM' WHERE kind = 'USER'",
+    "UPDATE hold SET id = 'UZZ9999' WHERE internal = 1",
+    "DELETE FROM sysmod WHERE id = 'UAA0001'",
+];
+
+/// SYSMODs that lead to themselves or have other roles than others give them.
+const BETWEEN: [&str; 12] = [
+    "UPDATE ver SET pre = 'LLL0001' WHERE id = 'UAA0001' AND srel = 'Z038'",
+    "UPDATE ver SET sup = 'LLL0001' WHERE id = 'UAA0001' AND srel = 'Z038'",
+    "UPDATE ver SET pre = 'LLL0001', sup = '' WHERE id = 'UAA0001' AND srel = 'Z038'",
+    "UPDATE ver SET fmid = 'HAA1200' WHERE id = 'HAA1100'",
+    "UPDATE ver SET pre = 'UAA0001' WHERE id = 'HAA1100'",
+    "UPDATE ver SET sup = 'HAA1200' WHERE id = 'AAA0003'",
+    "UPDATE ver SET sup = 'HAA1100', fmid = NULL WHERE id = 'HAA1200'",
+    "UPDATE ver SET fmid = 'UAA0001' WHERE id = 'AAA0003'",
+    "UPDATE ver SET fmid = 'LLL0001' WHERE id = 'HAA1200'",
+    "UPDATE ver SET del = 'UAA0001' WHERE id = 'HAA1200'",
+    "UPDATE ifreq SET fmid = 'AAA0003' WHERE srel = 'Z039'",
+    "UPDATE sysmod SET kind = 'FUNCTION' WHERE id = 'UAA0001'",
+];
+
+/// The zone TGT1, its entries and its elements.
+const ZONE: [&str; 67] = [
+    "UPDATE zone SET kind = 'TARGET' WHERE name = 'TGT1'",
+    "UPDATE zone SET kind = 'dlib' WHERE name = 'TGT1'",
+    "UPDATE zone SET kind = '' WHERE name = 'TGT1'",
+    "UPDATE zone SET srel = 'Z38' WHERE name = 'TGT1'",
+    "UPDATE zone SET srel = 'z038' WHERE name = 'TGT1'",
+    "UPDATE zone SET srel = '' WHERE name = 'TGT1'",
+    "UPDATE zone SET related = NULL WHERE name = 'TGT1'",
+    "UPDATE zone SET related = '1DLB' WHERE name = 'TGT1'",
+    "UPDATE zone SET related = 'dlb1' WHERE name = 'TGT1'",
+    "UPDATE zone SET related = '' WHERE name = 'TGT1'",
+    "UPDATE zone SET related = 'DLB12345' WHERE name = 'TGT1'",
+    "UPDATE zone SET kind = 'distribution' WHERE name = 'TGT1'",
+    "UPDATE entry SET id = 'UAA001' WHERE id = 'UAA0001'",
+    "UPDATE entry SET id = 'UAA00011' WHERE id = 'UAA0001'",
+    "UPDATE entry SET id = 'uaa0001' WHERE id = 'UAA0001'",
+    "UPDATE entry SET id = '' WHERE id = 'UAA0001'",
+    "UPDATE entry SET date = '24138' WHERE id = 'UAA0001'",
+    "UPDATE entry SET date = '24.000' WHERE id = 'UAA0001'",
+    "UPDATE entry SET date = '24.367' WHERE id = 'UAA0001'",
+    "UPDATE entry SET date = '24.1' WHERE id = 'UAA0001'",
+    "UPDATE entry SET date = '2024.138' WHERE id = 'UAA0001'",
+    "UPDATE entry SET date = '24-138' WHERE id = 'UAA0001'",
+    "UPDATE entry SET date = '-' WHERE id = 'UAA0001'",
+    "UPDATE entry SET date = '' WHERE id = 'UAA0001'",
+    "UPDATE entry SET supby = 'UAA0004,UAA0001' WHERE id = 'AAA0001'",
+    "UPDATE entry SET supby = 'UAA0004,UAA0004' WHERE id = 'AAA0001'",
+    "UPDATE entry SET supby = '-' WHERE id = 'AAA0001'",
+    "UPDATE entry SET supby = 'UAA0004,' WHERE id = 'AAA0001'",
+    "UPDATE entry SET supby = 'UAA004' WHERE id = 'AAA0001'",
+    "UPDATE entry SET waived = 'UAA0002,UAA0001' WHERE id = 'UAA0001'",
+    "UPDATE entry SET waived = 'UAA0002,UAA0002' WHERE id = 'UAA0001'",
+    "UPDATE entry SET waived = 'UAA002' WHERE id = 'UAA0001'",
+    "UPDATE entry SET waived = ',UAA0002' WHERE id = 'UAA0001'",
+    "UPDATE entry SET delby = '' WHERE id = 'HAA1000'",
+    "UPDATE entry SET delby = 'HAA120' WHERE id = 'HAA1000'",
+    "UPDATE entry SET delby = 'haa1200' WHERE id = 'HAA1000'",
+    "UPDATE entry SET supby = '' WHERE id = 'AAA0001'",
+    "UPDATE entry SET delby = NULL WHERE id = 'HAA1000'",
+    "UPDATE entry SET date = NULL WHERE id = 'HAA1100'",
+    "UPDATE entry SET date = NULL WHERE id = 'UAA0001'",
+    "UPDATE entry SET waived = 'UAA0002' WHERE id = 'AAA0001'",
+    "UPDATE zelem SET type = 'Mac' WHERE zone = 'TGT1' AND name = 'MAC2'",
+    "UPDATE zelem SET type = 'MEMBER' WHERE zone = 'TGT1' AND name = 'MAC2'",
+    "UPDATE zelem SET type = '' WHERE zone = 'TGT1' AND name = 'MAC2'",
+    "UPDATE zelem SET name = '2MAC' WHERE zone = 'TGT1' AND name = 'MAC2'",
+    "UPDATE zelem SET name = 'mac2' WHERE zone = 'TGT1' AND name = 'MAC2'",
+    "UPDATE zelem SET name = 'MAC234567' WHERE zone = 'TGT1' AND name = 'MAC2'",
+    "UPDATE zelem SET name = '' WHERE zone = 'TGT1' AND name = 'MAC2'",
+    "UPDATE zelem SET fmid = '' WHERE zone = 'TGT1' AND name = 'MAC2'",
+    "UPDATE zelem SET fmid = 'HAA11000' WHERE zone = 'TGT1' AND name = 'MAC2'",
+    "UPDATE zelem SET fmid = 'haa1100' WHERE zone = 'TGT1' AND name = 'MAC2'",
+    "UPDATE zelem SET rmid = '' WHERE zone = 'TGT1' AND name = 'MAC2'",
+    "UPDATE zelem SET rmid = 'HAA11000' WHERE zone = 'TGT1' AND name = 'MAC2'",
+    "UPDATE zelem SET rmid = 'haa1100' WHERE zone = 'TGT1' AND name = 'MAC2'",
+    "UPDATE zelem SET umid = 'UAA0002,UAA0001' WHERE zone = 'TGT1' AND name = 'MAC2'",
+    "UPDATE zelem SET umid = 'UAA0001,UAA0001' WHERE zone = 'TGT1' AND name = 'MAC2'",
+    "UPDATE zelem SET umid = 'UAA001' WHERE zone = 'TGT1' AND name = 'MAC2'",
+    "UPDATE zelem SET umid = ',' WHERE zone = 'TGT1' AND name = 'MAC2'",
+    "UPDATE zelem SET distlib = '' WHERE zone = 'TGT1' AND name = 'MAC2'",
+    "UPDATE zelem SET distlib = 'A,B' WHERE zone = 'TGT1' AND name = 'MAC2'",
+    "UPDATE zelem SET distlib = '1LIB' WHERE zone = 'TGT1' AND name = 'MAC2'",
+    "UPDATE zelem SET distlib = 'LIBRARY01' WHERE zone = 'TGT1' AND name = 'MAC2'",
+    "UPDATE zelem SET syslib = '' WHERE zone = 'TGT1' AND name = 'MAC2'",
+    "UPDATE zelem SET syslib = 'A,B' WHERE zone = 'TGT1' AND name = 'MAC2'",
+    "UPDATE zelem SET syslib = '1LIB' WHERE zone = 'TGT1' AND name = 'MAC2'",
+    "UPDATE zelem SET syslib = 'LIBRARY01' WHERE zone = 'TGT1' AND name = 'MAC2'",
+    "UPDATE zelem SET text = x'41' WHERE zone = 'TGT1' AND name = 'MAC2'",
+];
+
+/// Zones, and what they say of each other.
+const ZONES: [&str; 21] = [
+    "UPDATE zone SET name = 'GLOBAL' WHERE name = 'DLB3'",
+    "UPDATE zone SET name = '1DLB' WHERE name = 'DLB3'",
+    "UPDATE zone SET name = 'dlb3' WHERE name = 'DLB3'",
+    "UPDATE zone SET name = 'DLB34567' WHERE name = 'DLB3'",
+    "UPDATE zone SET name = '$DLB' WHERE name = 'DLB3'",
+    "UPDATE zone SET name = '' WHERE name = 'DLB3'",
+    "UPDATE zone SET kind = 'dlib' WHERE name = 'DLB3'",
+    "UPDATE zone SET kind = 'TARGET' WHERE name = 'DLB3'",
+    "UPDATE zone SET kind = '' WHERE name = 'DLB3'",
+    "UPDATE zone SET srel = 'Z38' WHERE name = 'DLB3'",
+    "UPDATE zone SET related = 'DLB1' WHERE name = 'DLB3'",
+    "UPDATE zone SET related = NULL WHERE name = 'TGT2'",
+    "UPDATE zone SET related = 'dlb2' WHERE name = 'TGT2'",
+    "UPDATE zone SET related = 'DLB4' WHERE name = 'TGT2'",
+    "DELETE FROM zone WHERE name = 'DLB2'",
+    "UPDATE zone SET related = 'DLB3' WHERE name = 'TGT2'",
+    "UPDATE zone SET srel = 'Z038' WHERE name = 'DLB2'",
+    "UPDATE zone SET related = 'TGT1' WHERE name = 'TGT2'",
+    "UPDATE zone SET related = 'TGT2' WHERE name = 'TGT2'",
+    "UPDATE zone SET related = 'DLB1', srel = 'Z038' WHERE name = 'TGT2'",
+    "UPDATE zone SET kind = 'target', related = 'DLB1' WHERE name = 'DLB3'",
+];
+
+/// The number of the schema.
+const META: [&str; 3] = [
+    "DELETE FROM meta",
+    "UPDATE meta SET k = 'Schema'",
+    "INSERT INTO meta (k, v) VALUES ('other', 1)",
+];
+
+/// What is loaded of a store.
+#[derive(Clone, Copy)]
+enum Part {
+    Global,
+    Zone,
+    Names,
+    Heads,
+}
+
+/// Why the part of the store is not loaded, if it is not.
+fn fault<S: Alter>(store: &mut Store<S>, part: Part) -> Result<Option<StoreError>, Fail> {
+    Ok(match part {
+        Part::Global => store.load_global().err(),
+        Part::Zone => store.load_zone(zone_name(b"TGT1")?).err(),
+        Part::Names => store.zone_names().err(),
+        Part::Heads => store.zone_heads().err(),
+    })
+}
+
+/// The database of the known rows, once these statements have changed them.
+fn edited(alloc: Global, sql: &str) -> Result<Connection<MemStore>, Fail> {
+    let mut conn = filled(alloc, Connection::open_in_memory(alloc)?)?;
+    conn.execute_batch(sql)?;
+    Ok(conn)
+}
+
+fn fault_after(alloc: Global, sql: &str, part: Part) -> Result<Option<StoreError>, Fail> {
+    fault(&mut opened(alloc, edited(alloc, sql)?)?, part)
+}
+
+/// The first of the edits after which something else is told of the part.
+fn first_other(
+    alloc: Global,
+    edits: &[&'static str],
+    part: Part,
+    told: Option<StoreError>,
+) -> Result<Option<&'static str>, Fail> {
+    for sql in edits {
+        if fault_after(alloc, sql, part)? != told {
+            return Ok(Some(sql));
+        }
+    }
+    Ok(None)
+}
+
+/// The first of the edits after which the part is loaded.
+fn first_loaded(
+    alloc: Global,
+    edits: &[&'static str],
+    part: Part,
+) -> Result<Option<&'static str>, Fail> {
+    first_other(alloc, edits, part, Some(StoreError::NoState))
+}
+
+#[test]
+fn good_rows(rt: HostRuntime) -> Result<(), Fail> {
+    let alloc = rt.alloc();
+    for part in [Part::Global, Part::Zone, Part::Names, Part::Heads] {
+        assert_eq!(rt; first_other(alloc, &GOOD, part, None)?, None);
+    }
+    Ok(())
+}
+
+#[test]
+fn sysmods(rt: HostRuntime) -> Result<(), Fail> {
+    assert_eq!(rt; first_loaded(rt.alloc(), &SYSMODS, Part::Global)?, None);
+    Ok(())
+}
+
+#[test]
+fn vers(rt: HostRuntime) -> Result<(), Fail> {
+    assert_eq!(rt; first_loaded(rt.alloc(), &VERS, Part::Global)?, None);
+    assert_eq!(rt; first_loaded(rt.alloc(), &IFS, Part::Global)?, None);
+    Ok(())
+}
+
+#[test]
+fn element_statements(rt: HostRuntime) -> Result<(), Fail> {
+    assert_eq!(rt; first_loaded(rt.alloc(), &ELEMS, Part::Global)?, None);
+    Ok(())
+}
+
+#[test]
+fn holds(rt: HostRuntime) -> Result<(), Fail> {
+    assert_eq!(rt; first_loaded(rt.alloc(), &HOLDS, Part::Global)?, None);
+    Ok(())
+}
+
+#[test]
+fn between_sysmods(rt: HostRuntime) -> Result<(), Fail> {
+    assert_eq!(rt; first_loaded(rt.alloc(), &BETWEEN, Part::Global)?, None);
+    Ok(())
+}
+
+#[test]
+fn zone(rt: HostRuntime) -> Result<(), Fail> {
+    assert_eq!(rt; first_loaded(rt.alloc(), &ZONE, Part::Zone)?, None);
+    Ok(())
+}
+
+#[test]
+fn zones(rt: HostRuntime) -> Result<(), Fail> {
+    assert_eq!(rt; first_loaded(rt.alloc(), &ZONES, Part::Names)?, None);
+    assert_eq!(rt; first_loaded(rt.alloc(), &ZONES, Part::Heads)?, None);
+    Ok(())
+}
+
+/// Why the store is not opened again once these statements have changed its rows, if it is not.
+fn fault_at_open(alloc: Global, sql: &str) -> Result<Option<StoreError>, Fail> {
+    let conn = edited(alloc, sql)?;
+    if !conn.is_autocommit() {
+        return Err(Fail::from("a transaction is under way"));
+    }
+    match Store::open(alloc, conn) {
+        Ok(_) => Ok(None),
+        Err((_, error)) => Ok(Some(error)),
+    }
+}
+
+#[test]
+fn schema_number(rt: HostRuntime) -> Result<(), Fail> {
+    for sql in META {
+        assert_eq!(rt;
+            (sql, fault_at_open(rt.alloc(), sql)?),
+            (sql, Some(StoreError::NoState))
+        );
+    }
+    Ok(())
+}
+
+/// What is told of the part, once the statement with this value has changed the known rows.
+fn fault_with(
+    alloc: Global,
+    sql: &str,
+    value: ValueRef<'_>,
+    part: Part,
+) -> Result<Option<StoreError>, Fail> {
+    let mut conn = filled(alloc, Connection::open_in_memory(alloc)?)?;
+    conn.execute(sql, &[value])?;
+    fault(&mut opened(alloc, conn)?, part)
+}
+
+const REPLACED: &str = "UPDATE elem SET text = ?1 WHERE type = 'MAC' AND upd = 0";
+
+const UPDATED: &str = "UPDATE elem SET text = ?1 WHERE upd = 1";
+
+const INSTALLED: &str = "UPDATE zelem SET text = ?1 WHERE zone = 'TGT1' AND type = 'SRC'";
+
+/// Texts and numbers of records, and whether they are a text of a macro, an update of MAC1 and a text
+/// of an installed source.
+const TEXTS: [(&[(&str, &str)], [bool; 3]); 14] = [
+    (&[], [false, false, true]),
+    (&[("A", "00000010"), ("B", "00000020")], [true, false, true]),
+    (
+        &[("A", "00000020"), ("B", "00000010")],
+        [false, false, false],
+    ),
+    (
+        &[("A", "00000010"), ("B", "00000010")],
+        [false, false, false],
+    ),
+    (&[("A", "")], [false, false, false]),
+    (&[("A", "0000001A")], [false, false, false]),
+    (
+        &[("./ CHANGE NAME=MAC1", ""), ("A", "00000010")],
+        [false, true, false],
+    ),
+    (
+        &[("./ CHANGE NAME=MAC1", ""), ("A", "")],
+        [false, false, false],
+    ),
+    (
+        &[
+            ("./ CHANGE NAME=MAC1", ""),
+            ("A", "00000020"),
+            ("B", "00000010"),
+        ],
+        [false, false, false],
+    ),
+    (
+        &[
+            ("./ CHANGE NAME=MAC1", ""),
+            ("A", "00000010"),
+            ("B", "00000010"),
+        ],
+        [false, false, false],
+    ),
+    (
+        &[("./ CHANGE NAME=MAC2", ""), ("A", "00000010")],
+        [false, false, false],
+    ),
+    (
+        &[("./ CHANGE MAC1", ""), ("A", "00000010")],
+        [false, false, false],
+    ),
+    (
+        &[
+            ("./ CHANGE NAME=MAC1", ""),
+            ("./ DELETE SEQ1=00000020,SEQ2=00000010", ""),
+        ],
+        [false, false, false],
+    ),
+    (
+        &[
+            ("./ CHANGE NAME=MAC1", ""),
+            ("./ DELETE SEQ1=10,SEQ2=20", ""),
+        ],
+        [false, false, false],
+    ),
+];
+
+fn is_loaded_with(alloc: Global, sql: &str, text: &[u8], part: Part) -> Result<bool, Fail> {
+    match fault_with(alloc, sql, ValueRef::Blob(text), part)? {
+        None => Ok(true),
+        Some(StoreError::NoState) => Ok(false),
+        Some(_) => Err(Fail::from("another fault")),
+    }
+}
+
+/// Whether the records are a text of a macro, an update and a text of an installed source.
+fn uses(alloc: Global, records: &[(&str, &str)]) -> Result<[bool; 3], Fail> {
+    let text = joined(alloc, records)?;
+    Ok([
+        is_loaded_with(alloc, REPLACED, text.as_slice(), Part::Global)?,
+        is_loaded_with(alloc, UPDATED, text.as_slice(), Part::Global)?,
+        is_loaded_with(alloc, INSTALLED, text.as_slice(), Part::Zone)?,
+    ])
+}
+
+#[test]
+fn texts(rt: HostRuntime) -> Result<(), Fail> {
+    for (records, told) in TEXTS {
+        assert_eq!(rt; (records, uses(rt.alloc(), records)?), (records, told));
+    }
+    Ok(())
+}
+
+const COMMENT: &str = "UPDATE hold SET comment = ?1 WHERE kind = 'ERROR'";
+
+#[test]
+fn comments(rt: HostRuntime) -> Result<(), Fail> {
+    for (text, told) in [
+        ([b'X'; 200].as_slice(), None),
+        (b"~".as_slice(), None),
+        ([b'X'; 201].as_slice(), Some(StoreError::NoState)),
+        (b"".as_slice(), Some(StoreError::NoState)),
+        (b" A".as_slice(), Some(StoreError::NoState)),
+        (b"A ".as_slice(), Some(StoreError::NoState)),
+        (b"A\nB".as_slice(), Some(StoreError::NoState)),
+        (b"A\x7fB".as_slice(), Some(StoreError::NoState)),
+        (b"\xc3\xa9".as_slice(), Some(StoreError::NoState)),
+        (b"\xff".as_slice(), Some(StoreError::NoState)),
+    ] {
+        let value = ValueRef::Text(text);
+        assert_eq!(rt; fault_with(rt.alloc(), COMMENT, value, Part::Global)?, told);
+    }
+    Ok(())
+}
+
+const FIRST: &str = "INSERT INTO sysmod (id, kind, sources) VALUES ('M100000', 'PTF', '')";
+
+/// As many SYSMODs again, by numbers that are greater by this one.
+const AGAIN: &str =
+    "INSERT INTO sysmod (id, kind, sources) SELECT 'M' || (CAST(substr(id, 2) AS INTEGER) + ?1), 'PTF', '' FROM sysmod WHERE id > 'M' AND id < 'N'";
+
+const THEIR_VERS: &str =
+    "INSERT INTO ver (id, srel, fmid, pre, req, sup, npre, del) SELECT id, 'Z038', 'HAA1100', '', '', '', '', '' FROM sysmod WHERE id > 'M' AND id < 'N'";
+
+/// 65,536 SYSMODs more.
+fn add_many(conn: &mut Connection<MemStore>) -> Result<(), Fail> {
+    conn.execute(FIRST, &[])?;
+    for power in 0..16_u32 {
+        conn.execute(AGAIN, &[ValueRef::Int(1 << power)])?;
+    }
+    conn.execute(THEIR_VERS, &[])?;
+    Ok(())
+}
+
+/// The known rows and as many SYSMODs more, once the statement has taken some out.
+fn many(alloc: Global, sql: &str) -> Result<Connection<MemStore>, Fail> {
+    let mut conn = filled(alloc, Connection::open_in_memory(alloc)?)?;
+    add_many(&mut conn)?;
+    conn.execute(sql, &[])?;
+    Ok(conn)
+}
+
+/// How many SYSMODs are loaded, or why none are.
+fn size_after(alloc: Global, sql: &str) -> Result<Result<usize, StoreError>, Fail> {
+    match opened(alloc, many(alloc, sql)?)?.load_global() {
+        Ok(global) => Ok(Ok(global.len())),
+        Err(error) => Ok(Err(error)),
+    }
+}
+
+#[test]
+fn too_many_sysmods(rt: HostRuntime) -> Result<(), Fail> {
+    assert_eq!(rt;
+        size_after(
+            rt.alloc(),
+            "DELETE FROM sysmod WHERE id > 'M' AND id < 'M100005'"
+        )?,
+        Err(StoreError::NoState)
+    );
+    assert_eq!(rt;
+        size_after(
+            rt.alloc(),
+            "DELETE FROM sysmod WHERE id > 'M' AND id < 'M100006'"
+        )?,
+        Ok(65_535)
+    );
+    Ok(())
+}
+
+/// What is told of the part of a store over files, once these statements have changed the known rows
+/// and the files were opened again.
+fn fault_in_files(alloc: Global, sql: &str, part: Part) -> Result<Option<StoreError>, Fail> {
+    let fresh = files(alloc, Memory::new(alloc), Memory::new(alloc))?;
+    let mut conn = filled(alloc, fresh)?;
+    conn.execute_batch(sql)?;
+    fault(&mut opened(alloc, again(alloc, conn)?)?, part)
+}
+
+#[test]
+fn over_files(rt: HostRuntime) -> Result<(), Fail> {
+    for (sql, part) in [
+        (HOLDS[0], Part::Global),
+        (ZONE[0], Part::Zone),
+        (ZONES[0], Part::Names),
+    ] {
+        assert_eq!(rt;
+            fault_in_files(rt.alloc(), sql, part)?,
+            Some(StoreError::NoState)
+        );
+    }
+    Ok(())
+}

@@ -1,0 +1,240 @@
+//! A state that uses every column, written row by row, and stores over it in memory and over files.
+
+ghost use Rattle.std.specs.Prelude.{IsTrue, IfOk};
+ghost use Rattle.sqlite_disk.specs.Memory.{memory_is_usable};
+
+use fields::ZoneName;
+use schema::StoreError;
+use sqlite::{Alter, Connection, Error, FileStore, Files, Options};
+use sqlite_disk::Memory;
+use sqlite_value::value::ValueRef;
+use std::alloc::Global;
+use std::test::Fail;
+use store::Store;
+use text80::RECORD;
+
+const ROWS: [&str; 40] = [
+    "INSERT INTO sysmod (id, kind, sources) VALUES ('HAA1100', 'FUNCTION', '')",
+    "INSERT INTO sysmod (id, kind, sources) VALUES ('HAA1200', 'FUNCTION', 'PUT2401,SMCREC01')",
+    "INSERT INTO sysmod (id, kind, sources) VALUES ('UAA0001', 'PTF', 'PUT2401')",
+    "INSERT INTO sysmod (id, kind, sources) VALUES ('AAA0003', 'APAR', '')",
+    "INSERT INTO sysmod (id, kind, sources) VALUES ('LLL0001', 'USERMOD', '')",
+    "INSERT INTO ver (id, srel, fmid, pre, req, sup, npre, del) VALUES ('HAA1100', 'Z038', NULL, '', '', '', '', '')",
+    "INSERT INTO ver (id, srel, fmid, pre, req, sup, npre, del) VALUES ('HAA1200', 'Z038', 'HAA1100', 'UAA0000', '', 'AAA0004', 'HBB0001,HBB0002', 'HAA1000')",
+    "INSERT INTO ver (id, srel, fmid, pre, req, sup, npre, del) VALUES ('UAA0001', 'Z038', 'HAA1100', 'UAA0000', 'UAA0002,UAA0003', 'AAA0001,AAA0002', '', '')",
+    "INSERT INTO ver (id, srel, fmid, pre, req, sup, npre, del) VALUES ('UAA0001', 'Z039', 'HAA1200', '', '', '', '', '')",
+    "INSERT INTO ver (id, srel, fmid, pre, req, sup, npre, del) VALUES ('AAA0003', 'Z038', 'HAA1100', 'UAA0001', '', '', '', '')",
+    "INSERT INTO ver (id, srel, fmid, pre, req, sup, npre, del) VALUES ('LLL0001', 'Z038', 'HAA1100', 'AAA0003', '', '', '', '')",
+    "INSERT INTO ifreq (id, srel, n, fmid, req) VALUES ('UAA0001', 'Z038', 1, 'HCC1100', 'UCC0001')",
+    "INSERT INTO ifreq (id, srel, n, fmid, req) VALUES ('UAA0001', 'Z038', 2, 'HBB1100', 'UBB0001,UBB0002')",
+    "INSERT INTO ifreq (id, srel, n, fmid, req) VALUES ('UAA0001', 'Z039', 1, 'HCC1100', 'UCC0001')",
+    "INSERT INTO elem (id, type, name, upd, distlib, syslib, text) VALUES ('HAA1100', 'MAC', 'MAC1', 0, 'AMACLIB', 'MACLIB', x'')",
+    "INSERT INTO elem (id, type, name, upd, distlib, syslib, text) VALUES ('HAA1100', 'SRC', 'SRC1', 0, 'ASRCLIB', 'SRCLIB', x'')",
+    "INSERT INTO elem (id, type, name, upd, distlib, syslib, text) VALUES ('HAA1100', 'CLIST', 'CLS1', 0, 'ADIST', 'SYST', x'')",
+    "INSERT INTO elem (id, type, name, upd, distlib, syslib, text) VALUES ('HAA1100', 'DATA', 'DATA1', 0, 'ADIST', 'SYST', x'')",
+    "INSERT INTO elem (id, type, name, upd, distlib, syslib, text) VALUES ('HAA1100', 'EXEC', 'EXEC1', 0, 'ADIST', 'SYST', x'')",
+    "INSERT INTO elem (id, type, name, upd, distlib, syslib, text) VALUES ('HAA1100', 'PARM', 'PARM1', 0, 'ADIST', 'SYST', x'')",
+    "INSERT INTO elem (id, type, name, upd, distlib, syslib, text) VALUES ('HAA1100', 'PROC', 'PROC1', 0, 'ADIST', 'SYST', x'')",
+    "INSERT INTO elem (id, type, name, upd, distlib, syslib, text) VALUES ('UAA0001', 'MAC', 'MAC1', 1, NULL, NULL, x'')",
+    "INSERT INTO elem (id, type, name, upd, distlib, syslib, text) VALUES ('UAA0001', 'SRC', 'MAC1', 1, NULL, NULL, x'')",
+    "INSERT INTO elem (id, type, name, upd, distlib, syslib, text) VALUES ('UAA0001', 'SRC', 'SRC1', 0, 'ASRCLIB', 'SRCLIB', x'')",
+    "INSERT INTO hold (id, kind, reason, fmid, class, date, comment, internal) VALUES ('UAA0001', 'ERROR', 'AAA0009', 'HAA1100', 'HIPER', '24138', 'IT FAILS, NOW AND THEN', 0)",
+    "INSERT INTO hold (id, kind, reason, fmid, class, date, comment, internal) VALUES ('UAA0001', 'SYSTEM', 'ACTION', 'HAA1100', NULL, NULL, NULL, 1)",
+    "INSERT INTO hold (id, kind, reason, fmid, class, date, comment, internal) VALUES ('UAA0001', 'SYSTEM', 'DOC', 'HAA1100', 'PE', NULL, 'X', 0)",
+    "INSERT INTO hold (id, kind, reason, fmid, class, date, comment, internal) VALUES ('UZZ9999', 'USER', 'MINE', 'HAA1100', NULL, '24001', NULL, 0)",
+    "INSERT INTO zone (name, kind, srel, related) VALUES ('TGT1', 'target', 'Z038', 'DLB1')",
+    "INSERT INTO zone (name, kind, srel, related) VALUES ('DLB1', 'distribution', 'Z038', NULL)",
+    "INSERT INTO zone (name, kind, srel, related) VALUES ('DLB2', 'distribution', 'Z039', NULL)",
+    "INSERT INTO zone (name, kind, srel, related) VALUES ('DLB3', 'distribution', 'Z038', NULL)",
+    "INSERT INTO zone (name, kind, srel, related) VALUES ('TGT2', 'target', 'Z039', 'DLB2')",
+    "INSERT INTO entry (zone, id, date, supby, delby, waived) VALUES ('TGT1', 'HAA1100', '24.138', '', NULL, '')",
+    "INSERT INTO entry (zone, id, date, supby, delby, waived) VALUES ('TGT1', 'UAA0001', '24.366', 'UAA0005', 'HAA1200', 'UAA0000,UAA0002')",
+    "INSERT INTO entry (zone, id, date, supby, delby, waived) VALUES ('TGT1', 'AAA0001', NULL, 'UAA0001,UAA0004', NULL, '')",
+    "INSERT INTO entry (zone, id, date, supby, delby, waived) VALUES ('TGT1', 'HAA1000', NULL, '', 'HAA1200', '')",
+    "INSERT INTO entry (zone, id, date, supby, delby, waived) VALUES ('DLB1', 'HAA1100', '23.001', '', NULL, '')",
+    "INSERT INTO zelem (zone, type, name, fmid, rmid, umid, distlib, syslib, text) VALUES ('TGT1', 'MAC', 'MAC2', 'HAA1100', 'HAA1100', '', 'AMACLIB', 'MACLIB', x'')",
+    "INSERT INTO zelem (zone, type, name, fmid, rmid, umid, distlib, syslib, text) VALUES ('DLB1', 'MAC', 'MAC1', 'HAA1100', 'UAA0001', 'AAA0003,LLL0001', 'AMACLIB', 'MACLIB', x'')",
+];
+
+/// The elements of the zone TGT1 are those of the function, and a macro whose text is empty.
+const ELEMENTS: &str =
+    "INSERT INTO zelem (zone, type, name, fmid, rmid, umid, distlib, syslib, text) SELECT 'TGT1', type, name, id, id, '', distlib, syslib, text FROM elem WHERE id = 'HAA1100'";
+
+/// The text stands in the record from the place on.
+fn put_text(record: &mut [u8; RECORD], place: usize, text: &[u8]) {
+    for i in place..RECORD {
+        if i - place < text.len() {
+            record[i] = text[i - place];
+        }
+    }
+}
+
+/// A record of this text and, in columns 73 to 80, this number.
+fn record(text: &str, number: &str) -> [u8; RECORD] {
+    let mut record = [b' '; RECORD];
+    put_text(&mut record, 0, text.as_bytes());
+    put_text(&mut record, 72, number.as_bytes());
+    record
+}
+
+/// The records of these texts and numbers, one after the other.
+pub(crate) fn joined(alloc: Global, records: &[(&str, &str)]) -> Result<Vec<u8>, Fail> {
+    let mut bytes = Vec::new(alloc);
+    for (text, number) in records {
+        bytes.extend_from_slice(&record(text, number))?;
+    }
+    Ok(bytes)
+}
+
+/// 300 ids, rising.
+fn long_list(alloc: Global) -> Result<Vec<u8>, Fail> {
+    let mut list = Vec::new(alloc);
+    for n in 100..400_u32 {
+        if n > 100 {
+            list.push(b',')?;
+        }
+        list.extend_from_slice(format!(in alloc; "B000{n}")?.as_bytes())?;
+    }
+    Ok(list)
+}
+
+fn run<S: Alter>(conn: &mut Connection<S>, sql: &str, values: &[ValueRef<'_>]) -> Result<(), Fail> {
+    if conn.execute(sql, values)? == 0 {
+        return Err(Fail::from(sql));
+    }
+    Ok(())
+}
+
+fn fill_text<S: Alter>(
+    alloc: Global,
+    conn: &mut Connection<S>,
+    sql: &str,
+    records: &[(&str, &str)],
+) -> Result<(), Fail> {
+    let text = joined(alloc, records)?;
+    run(conn, sql, &[ValueRef::Blob(text.as_slice())])
+}
+
+/// Gives the element statements their texts.
+fn fill_texts<S: Alter>(alloc: Global, conn: &mut Connection<S>) -> Result<(), Fail> {
+    fill_text(
+        alloc,
+        conn,
+        "UPDATE elem SET text = ?1",
+        &[("ANY TEXT", "")],
+    )?;
+    fill_text(
+        alloc,
+        conn,
+        "UPDATE elem SET text = ?1 WHERE upd = 0 AND (type = 'MAC' OR type = 'SRC')",
+        &[(" MACRO", "00000010"), (" MEND", "00000020")],
+    )?;
+    fill_text(
+        alloc,
+        conn,
+        "UPDATE elem SET text = ?1 WHERE upd = 1",
+        &[
+            ("./ CHANGE NAME=MAC1", ""),
+            ("./ DELETE SEQ1=00000020,SEQ2=00000030", ""),
+            (" NEW", "00000025"),
+        ],
+    )
+}
+
+/// Writes the rows into tables that are empty.
+pub(crate) fn fill<S: Alter>(alloc: Global, conn: &mut Connection<S>) -> Result<(), Fail> {
+    for row in ROWS {
+        run(conn, row, &[])?;
+    }
+    fill_texts(alloc, conn)?;
+    let list = long_list(alloc)?;
+    run(
+        conn,
+        "UPDATE ver SET sup = ?1 WHERE id = 'LLL0001'",
+        &[ValueRef::Text(list.as_slice())],
+    )?;
+    run(conn, ELEMENTS, &[])
+}
+
+pub(crate) fn committed(answer: Result<(), StoreError>) -> Result<(), Fail> {
+    match answer {
+        Ok(()) => Ok(()),
+        Err(_) => Err(Fail::from("commit")),
+    }
+}
+
+/// The texts that the query finds, each in a line of its own.
+pub(crate) fn lines<S: Alter>(
+    alloc: Global,
+    conn: &mut Connection<S>,
+    sql: &str,
+) -> Result<String, Fail> {
+    let rows = conn.query_all(sql, &[])?;
+    let mut lines = String::new(alloc);
+    for row in &rows {
+        let text: String = row.get(0)?;
+        lines.push_str(text.as_str())?;
+        lines.push_str("\n")?;
+    }
+    Ok(lines)
+}
+
+/// The store over the connection.
+pub(crate) fn opened<S: Alter + Drop>(
+    alloc: Global,
+    conn: Connection<S>,
+) -> Result<Store<S>, Fail> {
+    if !conn.is_autocommit() {
+        return Err(Fail::from("a transaction is under way"));
+    }
+    match Store::open(alloc, conn) {
+        Ok(store) => Ok(store),
+        Err(_) => Err(Fail::from("open")),
+    }
+}
+
+/// The store over a database without tables, whose tables are given these rows.
+pub(crate) fn filled<S: Alter + Drop>(
+    alloc: Global,
+    conn: Connection<S>,
+) -> Result<Connection<S>, Fail> {
+    let mut conn = opened(alloc, conn)?.close();
+    fill(alloc, &mut conn)?;
+    Ok(conn)
+}
+
+pub(crate) fn zone_name(text: &[u8]) -> Result<ZoneName, Fail> {
+    Ok(ZoneName::read(text).ok_or("no name of a zone")?)
+}
+
+/// A connection to a database in these files.
+pub(crate) fn files(
+    alloc: Global,
+    log: Memory,
+    db: Memory,
+) -> Result<Connection<FileStore<Memory>>, Error>
+    requires { IsTrue (memory_is_usable log) × IsTrue (memory_is_usable db) }
+{
+    match Connection::open_files(alloc, Files { log, db }, Options::new(1)) {
+        Ok(conn) => Ok(conn),
+        Err((error, _)) => Err(error),
+    }
+}
+
+pub(crate) fn close(conn: Connection<FileStore<Memory>>) -> Result<Files<Memory>, Error>
+    ensures { IfOk result (λ files. IsTrue (memory_is_usable files.log) × IsTrue (memory_is_usable files.db)) }
+{
+    match conn.close_files() {
+        Ok(files) => Ok(files),
+        Err(failed) => Err(failed.0),
+    }
+}
+
+/// A connection to the files that this one has written.
+pub(crate) fn again(
+    alloc: Global,
+    conn: Connection<FileStore<Memory>>,
+) -> Result<Connection<FileStore<Memory>>, Error> {
+    let closed = close(conn)?;
+    files(alloc, closed.log, closed.db)
+}
