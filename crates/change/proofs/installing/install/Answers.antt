@@ -5,8 +5,8 @@ use Rattle.change.specs.Puts.{puts}
 use Rattle.change.proofs.AfterInstall.{installs}
 use Rattle.change.proofs.installing.install.Goals as goal
 
-pub returns : goal.returns
-returns c =
+pub returns-clause-installs : goal.returns-clause-installs
+returns-clause-installs c =
     let g = c.args.global.now in
     let zone = c.args.zone.now in
     let kept = c.args.kept.now in
