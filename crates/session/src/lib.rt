@@ -1,6 +1,7 @@
 //! A job under way: its commands, each performed over the store.
 #![tactic(auto)]
 
+mod loading;
 mod performing;
 
 pub use performing::Session;
