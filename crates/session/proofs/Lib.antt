@@ -1,1 +1,2 @@
+mod Seeking
 mod Stepping

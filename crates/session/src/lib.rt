@@ -3,5 +3,6 @@
 
 mod loading;
 mod performing;
+mod setting;
 
 pub use performing::Session;
