@@ -17,7 +17,7 @@ or_right true b e = refl
 or_right false b e = e
 
 -- a zone of the state under its name
-pub zones-updated : (s : State) (at new : Session) (name : Text) (zone : Zone) → ((q : Text) (z : Zone) → get bytes_eq at.zones q ≡ Some z → zone_named s.zones q ≡ Some z)
+pub zones-updated : (s : State) (at new : Session) (name : Text) (zone : Zone) → ((q : Text) (z : Zone) → bytes_eq name q ≡ false → get bytes_eq at.zones q ≡ Some z → zone_named s.zones q ≡ Some z)
     → Updates bytes_eq at.zones new.zones name (Some zone) → zone_named s.zones name ≡ Some zone
     → (q : Text) (z : Zone) → get bytes_eq new.zones q ≡ Some z → zone_named s.zones q ≡ Some z
 zones-updated s at new name zone zones updates there q z found = by (bytes_eq name q) refl
@@ -26,7 +26,7 @@ zones-updated s at new name zone zones updates there q z found = by (bytes_eq na
     by true same =
         let is : Some zone ≡ Some z = sym (updates.0 q ∙ ap (λ b. cond b (Some zone) (get bytes_eq at.zones q)) same) ∙ found in
         ap (λ n. zone_named s.zones n) (sym (same_from name q same)) ∙ there ∙ is
-    by false other = zones q z (sym (updates.0 q ∙ ap (λ b. cond b (Some zone) (get bytes_eq at.zones q)) other) ∙ found)
+    by false other = zones q z other (sym (updates.0 q ∙ ap (λ b. cond b (Some zone) (get bytes_eq at.zones q)) other) ∙ found)
 
 -- what stood in the map stands in it still
 pub some-updated : (at new : Session) (name q : Text) (zone : Zone) → Updates bytes_eq at.zones new.zones name (Some zone) → IsSome (get bytes_eq at.zones q) → IsSome (get bytes_eq new.zones q)
@@ -43,7 +43,7 @@ sought-loaded s at new name zone is there global boundary updates = record {
   session = record {
     global = global ∙ is.global;
     boundary = boundary ∙ is.boundary;
-    zones = zones-updated s at new name zone is.zones updates there;
+    zones = zones-updated s at new name zone (λ q z other found. is.zones q z found) updates there;
     current = λ q named. elim (is.current q named) [
       | inl same ↦ inl same
       | inr some ↦ inr (some-updated at new name q zone updates some)

@@ -1,5 +1,5 @@
 -- How loads and commits leave a store that keeps a state.
-use Rattle.std.proofs.Common.{◌≡◌, ◌≢◌, ◌⊎◌, ◌∙◌, ℕ, List, refl, sym, ap, subst, inl, inr}
+use Rattle.std.proofs.Common.{◌≡◌, ◌≢◌, ◌⊎◌, ◌∙◌, ℕ, List, [], ◌∷◌, refl, sym, ap, subst, inl, inr}
 use Rattle.std.specs.Prelude.{IfOk, IfErr, IsErrOf, IsErrAnd, OnOk, OnErr, Result, Ok, Err}
 use Rattle.std.proofs.lemmas.Result.{err_from_is_err_and}
 use Rattle.sqlite.specs.Store.{Ghosts}
@@ -9,7 +9,10 @@ use Rattle.schema.specs.Inventory.{Inventory, IsInventory}
 use Rattle.schema.specs.declared.error.StoreError.{StoreError}
 use Rattle.schema.specs.declared.error.StoreError.TheVariants.{Fault, OtherSchema, NoState, Memory}
 use Rattle.machine.specs.State.{State}
-use Rattle.machine.specs.Machine.{Act, Begin, Perform}
+use Rattle.machine.specs.Machine.{Act, Begin, Perform, Performs}
+use Rattle.machine.specs.Outcome as machine
+use Rattle.machine.specs.Report.{text}
+use Rattle.std.specs.List.{flat_map}
 use Rattle.report.specs.declared.outcome.Outcome.{Outcome}
 use Rattle.terms.specs.Types.{Text, Command}
 use Rattle.store.specs.declared.change.Change.{Change}
@@ -18,7 +21,7 @@ use Rattle.store.specs.Kept.{kept, Keeps, Stays}
 use Rattle.store.specs.View.{Tables, TablesIfOpen, Leaves}
 use Rattle.session.specs.declared.performing.Session.{Session}
 use Rattle.session.specs.Sessions.{HasBegun, HasPerformed}
-use Rattle.session.specs.Steps.{Unmoved, Unsettled, EndsUnmoved, HasLoaded, HasCommitted}
+use Rattle.session.specs.Steps.{Unmoved, Unsettled, EndsUnmoved, EndsUnsettled, EndsStaying, HasLoaded, HasCommitted, HasRun}
 
 module _ {S : Type 0} (g : Ghosts S) (at : Held S) (s : State) where
   pub stays-unmoved : (a : Act) → Unmoved g at s → Stays g at s a
@@ -50,6 +53,44 @@ module _ {S : Type 0} (g : Ghosts S) (at : Held S) (s : State) where
     -- want of memory before the store is asked
     pub performs-short : (r : Result Outcome StoreError) → IsErrAnd r (λ y. y ≡ Memory) → Keeps g at s → HasPerformed g at s session date ptfin c r
     performs-short r is keeps = performs-unmoved r Memory is (unmoved-kept keeps)
+
+    -- what a command that ran part of the way ends with
+    staying-by : (e : StoreError) → EndsStaying g at s (Perform date ptfin c) e → HasPerformed g at s session date ptfin c (Err e)
+    staying-by Fault stays = stays
+    staying-by OtherSchema stays = stays
+    staying-by NoState stays = stays
+    staying-by Memory stays = stays
+
+    pub performs-staying : (r : Result Outcome StoreError) (e : StoreError) → IsErrAnd r (λ y. y ≡ e) → EndsStaying g at s (Perform date ptfin c) e → HasPerformed g at s session date ptfin c r
+    performs-staying r e is stays = let p = err_from_is_err_and r is in subst (λ q. HasPerformed g at s session date ptfin c q) (sym (p.1 ∙ ap Err p.2)) (staying-by e stays)
+
+  -- where the commit of what a command leads to failed
+  module _ (date : Text) (ptfin : List ℕ) (c : Command) (t : State) (outcome : machine.Outcome) (performs : Performs date ptfin s c t outcome) where
+    stays-unsettled : Unsettled g at s t → Stays g at s (Perform date ptfin c)
+    stays-unsettled un = record {
+      now = un.now;
+      crash = λ d left. elim (un.crash d left) [
+        | inl same ↦ inl same
+        | inr is ↦ inr (t, flat_map text (outcome ∷ []), (outcome ∷ [], (outcome, performs, refl), refl), is)
+      ];
+    }
+
+    pub staying-unsettled : (e : StoreError) → EndsUnsettled g at s t e → EndsStaying g at s (Perform date ptfin c) e
+    staying-unsettled Fault un = stays-unsettled un
+    staying-unsettled OtherSchema un = un
+    staying-unsettled NoState un = un
+    staying-unsettled Memory un = stays-unsettled un
+
+  module _ (a : Act) (LeadsTo : State → List machine.Line → Type 0) {V : Type 0} (lines : V → List machine.Line) where
+    pub run-staying : (r : Result V StoreError) (e : StoreError) → IsErrAnd r (λ y. y ≡ e) → EndsStaying g at s a e → HasRun g at s a LeadsTo lines r
+    run-staying r e is stays = let p = err_from_is_err_and r is in subst (λ q. HasRun g at s a LeadsTo lines q) (sym (p.1 ∙ ap Err p.2)) stays
+
+    -- want of memory before the store is asked
+    pub run-short : (r : Result V StoreError) → IsErrAnd r (λ y. y ≡ Memory) → Keeps g at s → HasRun g at s a LeadsTo lines r
+    run-short r is keeps = run-staying r Memory is (stays-unmoved a (unmoved-kept keeps))
+
+  pub committed-err : (t : State) (r : Result Unit StoreError) (e : StoreError) → IsErrAnd r (λ y. y ≡ e) → EndsUnsettled g at s t e → HasCommitted g at s t r
+  committed-err t r e is un = let p = err_from_is_err_and r is in subst (λ q. HasCommitted g at s t q) (sym (p.1 ∙ ap Err p.2)) un
 
   -- what the store keeps is an inventory
   pub kept-inventory : HasCleanDisk (state g at) → Keeps g at s → IsInventory (kept s)

@@ -53,6 +53,10 @@ impl Session {
         ensures ended { HasCleanDisk (state S.Store store.new) → (s : State) → IsSessionOf s self.old → Keeps S.Store store.old s
             → HasPerformed S.Store store.new s self.new date ptfin.now (command_of command.now) result }
     {
-        Err(StoreError::Memory)
+        match command {
+            Command::Set(name) => self.set(alloc, store, *name),
+            Command::Receive(what) => self.take(alloc, store, ptfin, what),
+            Command::Apply(install) => self.install(alloc, store, date, install),
+        }
     }
 }
