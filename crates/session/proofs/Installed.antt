@@ -22,8 +22,8 @@ use Rattle.terms.proofs.RisingLists.{AllPairs-parts, with_item-there}
 use Rattle.zone_tables.specs.Zones.{IsZoneChange}
 use Rattle.schema.specs.Inventory.{Inventory, IsInventory}
 use Rattle.machine.specs.Installing.{InstallsSelected}
-use Rattle.machine.specs.Outcome.{Line, Ran, or_nothing, header_of}
-use Rattle.machine.specs.State.{State, global_name, zone_named, with_zone}
+use Rattle.machine.specs.Outcome.{Refusal, Line, Ran, Refused, or_nothing}
+use Rattle.machine.specs.State.{State, zone_named, with_zone, misplaced}
 use Rattle.machine.specs.Machine.{Performs}
 use Rattle.store.specs.Kept.{kept}
 use Rattle.upkeep.proofs.ZonesKept.{stands_among}
@@ -63,8 +63,8 @@ zone-change i name old new is found =
       is = ap (λ zs. record i { zones = zs }) put;
       others = recursion_from_All (λ (z : NamedZone). z.name ≢ name) (at.before ++ at.after)
           (All-append (λ (z : NamedZone). z.name ≢ name) at.before at.after
-          (All-weaker (λ (z : NamedZone). IsTrue (is_lt (slice_cmp nat_cmp z.name name))) (λ (z : NamedZone). z.name ≢ name) at.before (λ z. not_below z.name name) parts.0)
-          (All-weaker (λ (z : NamedZone). IsTrue (is_lt (slice_cmp nat_cmp name z.name))) (λ (z : NamedZone). z.name ≢ name) at.after (λ z. not_above z.name name) parts.1));
+          (All-weaker (λ (z : NamedZone). IsTrue (is_lt (slice_cmp nat_cmp z.name name))) (λ (z : NamedZone). z.name ≢ name) (λ z. not_below z.name name) at.before parts.0)
+          (All-weaker (λ (z : NamedZone). IsTrue (is_lt (slice_cmp nat_cmp name z.name))) (λ (z : NamedZone). z.name ≢ name) (λ z. not_above z.name name) at.after parts.1));
     }
 
 abbrev step : Bool → NamedZone → List NamedZone → Text → Option Zone
@@ -138,3 +138,13 @@ module _ (date : Text) (ptfin : List ℕ) (i : Install) (s : State) (at : Sessio
   install-inventory is = apply_kept (kept s) name zone new date plan.kept plan.dated is target.is_there
       (subst (λ g. All (λ x. IsTrue (is_installable g zone x)) plan.kept) here.global plan.installable)
       (subst (λ g. IsChanged (puts g date plan.kept) zone new) here.global (subst (λ d. IsChanged d zone new) plan.puts plan.changed))
+
+-- APPLY where it can't run
+pub install-refused : (date : Text) (ptfin : List ℕ) (i : Install) (s : State) (boundary : Option Text) (check : Bool) (why : Refusal) → boundary ≡ s.boundary → i.check ≡ check → misplaced s (Apply i) ≡ Some why
+    → Performs date ptfin s (Apply i) s (Refused (record { word = word.Apply; boundary = boundary; check = check }) why)
+install-refused date ptfin i s boundary check why same checks at = inl (
+  why,
+  at,
+  refl,
+  ap (λ b. Refused (record { word = word.Apply; boundary = b; check = check }) why) same ∙ ap (λ c. Refused (record { word = word.Apply; boundary = s.boundary; check = c }) why) (sym checks),
+)

@@ -48,9 +48,9 @@ by_kind s i = refl
 pub apply-nowhere : (s : State) (i : Install) → s.boundary ≡ None → misplaced s (Apply i) ≡ Some Cm1
 apply-nowhere s i at = by_kind s i ∙ ap (λ b. refusal_of_kind b (option_and_then (zone_named s.zones) b)) at
 
-at_zone : (s : State) (i : Install) (name : Text) (zone : Option Zone) → s.boundary ≡ Some name → zone_named s.zones name ≡ zone
-    → misplaced s (Apply i) ≡ refusal_of_kind (Some name) zone
-at_zone s i name zone at there = by_kind s i ∙ ap (λ b. refusal_of_kind b (option_and_then (zone_named s.zones) b)) at ∙ ap (refusal_of_kind (Some name)) there
+at_zone : (s : State) (i : Install) (name : Text) (found : Option Zone) → s.boundary ≡ Some name → zone_named s.zones name ≡ found
+    → misplaced s (Apply i) ≡ refusal_of_kind (Some name) found
+at_zone s i name found at there = by_kind s i ∙ ap (λ b. refusal_of_kind b (option_and_then (zone_named s.zones) b)) at ∙ ap (refusal_of_kind (Some name)) there
 
 pub apply-target : (s : State) (i : Install) (name : Text) (zone : Zone) → s.boundary ≡ Some name → zone_named s.zones name ≡ Some zone → zone.kind ≡ Target → misplaced s (Apply i) ≡ None
 apply-target s i name zone at there kind = at_zone s i name (Some zone) at there ∙ ap (λ k. if zone_number k == zone_number Target then None else Some Cm3) kind

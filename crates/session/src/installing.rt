@@ -33,6 +33,13 @@ use store::{Change, Store};
 use terms::{CommandWord, ZoneKind};
 use zones::{Zone, ZoneDelta};
 
+/// A target zone under its name.
+#[derive(Clone, Copy)]
+struct Place<'a> {
+    name: ZoneName,
+    zone: &'a Zone,
+}
+
 /// What an APPLY comes to before it is committed: the zone's change, the changed zone, and the lines.
 #[derive(Drop)]
 pub(crate) struct Planned {
@@ -84,8 +91,8 @@ fn replace_zone<S: Alter>(
 
 impl Session {
     /// The zone of the boundary, where it is a target zone.
-    fn target(&self) -> Result<(ZoneName, &Zone), Refusal>
-        ensures { (s : State) (i : AnInstall) → IsSessionOf s self.now → IsInventory (kept s) → HasTarget s self.now i (λ v. v.0) (λ v. v.1.now) result }
+    fn target(&self) -> Result<Place<'_>, Refusal>
+        ensures { (s : State) (i : AnInstall) → IsSessionOf s self.now → IsInventory (kept s) → HasTarget s self.now i (λ v. v.name) (λ v. v.zone.now) result }
     {
         let Some(name) = self.boundary else {
             return Err(Refusal::NoBoundary);
@@ -94,7 +101,7 @@ impl Session {
             return Err(Refusal::WrongKind);
         };
         match zone.kind() {
-            ZoneKind::Target => Ok((name, zone)),
+            ZoneKind::Target => Ok(Place { name, zone }),
             ZoneKind::Distribution => Err(Refusal::WrongKind),
         }
     }
@@ -116,9 +123,10 @@ impl Session {
             check: install.check,
         };
         match self.target() {
-            Ok((name, old)) => {
+            Ok(place) => {
+                let name = place.name;
                 let Planned { delta, zone, lines } =
-                    plan(alloc, &self.global, old, &install.selection, date)?;
+                    plan(alloc, &self.global, place.zone, &install.selection, date)?;
                 if install.check {
                     return Ok(Outcome::Ran { header, lines });
                 }
