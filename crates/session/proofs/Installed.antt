@@ -1,15 +1,15 @@
 -- What APPLY leads to: a state with one zone changed, whose tables are an inventory's.
-use Rattle.std.proofs.Common.{◌≡◌, ◌≢◌, ◌∙◌, ◌⊎◌, Bool, true, false, ℕ, List, [], ◌∷◌, ◌++◌, Option, Some, None, All, IsTrue, refl, sym, ap, subst, inl, inr, true≢false}
-use Rattle.std.specs.Prelude.{find, option_map, IsSome, if◌then◌else◌}
+use Rattle.std.proofs.Common.{◌≡◌, ◌≢◌, ◌∙◌, Bool, true, false, ℕ, List, [], ◌∷◌, ◌++◌, Option, Some, None, All, IsTrue, refl, sym, ap, subst, inl, inr, true≢false}
+use Rattle.std.specs.Prelude.{find, option_map, if◌then◌else◌}
 use Rattle.std.specs.List.{AllByRecursion}
 use Rattle.std.specs.Str.{bytes_eq}
 use Rattle.std.specs.Ordering.{nat_cmp, is_lt}
 use Rattle.std.specs.Cmp.Lexicographic.{slice_cmp}
 use Rattle.std.proofs.lemmas.Cmp.{nat_list_cmp_total, tied_itself}
 use Rattle.std.proofs.lemmas.List.Elements.{All-append, All-weaker, recursion_from_All}
-use Rattle.indexmap.specs.IndexMap.{get, Updates}
+use Rattle.indexmap.specs.IndexMap.{Updates}
 use Rattle.terms.specs.declared.codes.CommandWord.TheVariants as word
-use Rattle.terms.specs.Types.{Text, Zone, NamedZone, Global, Selection, Bypass, Install, Apply}
+use Rattle.terms.specs.Types.{Text, Zone, NamedZone, Selection, Install, Apply}
 use Rattle.terms.specs.CommandForms.{no_bypass}
 use Rattle.terms.specs.Candidates.{is_installable}
 use Rattle.change.specs.Puts.{puts}
@@ -118,21 +118,24 @@ module _ (date : Text) (ptfin : List ℕ) (i : Install) (s : State) (at : Sessio
     (sel : Selection) (delta : ZoneDelta) (new : Zone) (lines : List Line) (plan : IsPlan at.global zone sel date delta new lines) (here : IsSessionOf s at) (selection : i.selection ≡ sel) (bypass : i.bypass ≡ no_bypass) where
   pub install-performs : (check : Bool) (t : State) → i.check ≡ check → t ≡ (if check then s else with_zone s name new)
       → Performs date ptfin s (Apply i) t (Ran (record { word = word.Apply; boundary = at.boundary; check = check }) lines)
-  install-performs check t checks state = inr (target.fits, record {
-    name = name;
-    at = target.boundary;
-    zone = zone;
-    is_there = target.is_there;
-    new = new;
-    lines = plan.printed;
-    installs = subst (λ g. InstallsSelected g zone None i.selection i.bypass date new plan.printed) here.global
-        (subst (λ x. InstallsSelected at.global zone None x i.bypass date new plan.printed) (sym selection)
-        (subst (λ b. InstallsSelected at.global zone None sel b date new plan.printed) (sym bypass) plan.installs));
-    state = state ∙ ap (λ c. if c then s else with_zone s name new) (sym checks);
-    prints = ap (λ ls. Ran (record { word = word.Apply; boundary = at.boundary; check = check }) ls) plan.lines_are
-        ∙ ap (λ b. Ran (record { word = word.Apply; boundary = b; check = check }) (or_nothing plan.printed)) here.boundary
-        ∙ ap (λ c. Ran (record { word = word.Apply; boundary = s.boundary; check = c }) (or_nothing plan.printed)) (sym checks);
-  })
+  install-performs check t checks state = inr (
+    target.fits,
+    record {
+      name = name;
+      at = target.boundary;
+      zone = zone;
+      is_there = target.is_there;
+      new = new;
+      lines = plan.printed;
+      installs = subst (λ g. InstallsSelected g zone None i.selection i.bypass date new plan.printed) here.global
+          (subst (λ x. InstallsSelected at.global zone None x i.bypass date new plan.printed) (sym selection)
+          (subst (λ b. InstallsSelected at.global zone None sel b date new plan.printed) (sym bypass) plan.installs));
+      state = state ∙ ap (λ c. if c then s else with_zone s name new) (sym checks);
+      prints = ap (λ ls. Ran (record { word = word.Apply; boundary = at.boundary; check = check }) ls) plan.lines_are
+          ∙ ap (λ b. Ran (record { word = word.Apply; boundary = b; check = check }) (or_nothing plan.printed)) here.boundary
+          ∙ ap (λ c. Ran (record { word = word.Apply; boundary = s.boundary; check = c }) (or_nothing plan.printed)) (sym checks);
+    },
+  )
 
   pub install-inventory : IsInventory (kept s) → IsInventory (kept (with_zone s name new))
   install-inventory is = apply_kept (kept s) name zone new date plan.kept plan.dated is target.is_there

@@ -1,5 +1,5 @@
 -- What RECEIVE leads to: a state that the edits make, whose tables are an inventory's.
-use Rattle.std.proofs.Common.{◌≡◌, ◌⊎◌, ◌∙◌, false, ℕ, List, Option, None, Some, IfSome, refl, sym, ap, subst, inr}
+use Rattle.std.proofs.Common.{◌≡◌, ◌⊎◌, ◌∙◌, false, ℕ, List, Option, None, IfSome, refl, sym, ap, subst, inr}
 use Rattle.std.specs.Prelude.{IsSome}
 use Rattle.std.specs.Str.{bytes_eq}
 use Rattle.indexmap.specs.IndexMap.{get}

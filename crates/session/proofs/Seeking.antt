@@ -1,16 +1,16 @@
 -- What SET finds, and the session of the state that it leads to.
-use Rattle.std.proofs.Common.{◌≡◌, ◌⊎◌, ◌∙◌, Bool, true, false, ◌||◌, cond, ℕ, List, [], Option, Some, None, refl, sym, ap, subst, inl, inr}
+use Rattle.std.proofs.Common.{◌≡◌, ◌⊎◌, ◌∙◌, Bool, true, false, ◌||◌, cond, ℕ, List, [], Some, None, refl, sym, ap, subst, inl, inr}
 use Rattle.std.specs.Prelude.{is_some, IsSome}
 use Rattle.std.specs.Str.{bytes_eq}
 use Rattle.indexmap.specs.IndexMap.{get, Updates}
 use Rattle.terms.specs.Types.{Text, Zone, Set}
 use Rattle.terms.proofs.GlobalLookups.{same_from}
-use Rattle.machine.specs.Outcome.{Outcome, Line, Cm2, Refused, Ran, header_of}
+use Rattle.machine.specs.Outcome.{Line, Cm2, Refused, Ran, header_of}
 use Rattle.machine.specs.State.{State, global_name, zone_named, misplaced}
 use Rattle.machine.specs.Machine.{Performs}
 use Rattle.session.specs.declared.performing.Session.{Session}
 use Rattle.session.specs.Sessions.{IsSessionOf}
-use Rattle.session.specs.Steps.{is_known, IsSought}
+use Rattle.session.specs.Steps.{IsSought}
 
 or_right : (a b : Bool) → b ≡ true → a || b ≡ true
 or_right true b e = refl

@@ -144,6 +144,6 @@ module _ {S : Type 0} (g : Ghosts S) (old new : Held S) (s : State) where
       crash = λ c left. sym (durable (kept s) (kept t) makes is keeps.now c left);
     }
     committed (Err Fault) ok durable err lost which = unsettled lost (err (kept s) keeps.now)
-    committed (Err OtherSchema) ok durable err lost which = elim which [ | inl e ↦ absurd (cc e) | inr e ↦ absurd (cc e) ]
-    committed (Err NoState) ok durable err lost which = elim which [ | inl e ↦ absurd (cc e) | inr e ↦ absurd (cc e) ]
+    committed (Err OtherSchema) ok durable err lost which = elim which [ inl e ↦ absurd (cc e) | inr e ↦ absurd (cc e) ]
+    committed (Err NoState) ok durable err lost which = elim which [ inl e ↦ absurd (cc e) | inr e ↦ absurd (cc e) ]
     committed (Err Memory) ok durable err lost which = unsettled lost (err (kept s) keeps.now)

@@ -1,5 +1,5 @@
 -- Where APPLY runs, and what it comes to before it is committed.
-use Rattle.std.specs.Prelude.{◌≡◌, List, All, Option, None, Some, IsTrue, Result, Ok, Err}
+use Rattle.std.specs.Prelude.{◌≡◌, List, All, None, Some, IsTrue, Result, Ok, Err}
 use Rattle.std.specs.Str.{bytes_eq}
 use Rattle.indexmap.specs.IndexMap.{get}
 use Rattle.terms.specs.Types.{Text, Id, Global, Zone, Selection, Install, Apply}

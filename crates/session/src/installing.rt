@@ -125,8 +125,13 @@ impl Session {
         match self.target() {
             Ok(place) => {
                 let name = place.name;
-                let Planned { delta, zone, lines } =
-                    plan(alloc, &self.global, place.zone, &install.selection, date)?;
+                let Planned { delta, zone, lines } = plan(
+                    alloc,
+                    &self.global,
+                    place.zone,
+                    &install.selection,
+                    date,
+                )?;
                 if install.check {
                     return Ok(Outcome::Ran { header, lines });
                 }

@@ -1,5 +1,4 @@
 use Rattle.std.proofs.Common.{◌≡◌}
-use Rattle.zone_loads.specs.Found.{zone_in}
 use Rattle.session.proofs.Stepping.{loaded}
 use Rattle.session.proofs.loading.load_global.Goals as goal
 

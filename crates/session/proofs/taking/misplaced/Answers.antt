@@ -1,4 +1,4 @@
-use Rattle.std.proofs.Common.{◌≡◌, ◌∙◌, true, false, sym, true≢false}
+use Rattle.std.proofs.Common.{◌∙◌, sym, true≢false}
 use Rattle.session.proofs.Places.{receive-nowhere, receive-global, receive-elsewhere}
 use Rattle.session.proofs.taking.misplaced.Goals as goal
 

@@ -1,7 +1,6 @@
-use Rattle.std.proofs.Common.{◌≡◌, ◌∙◌, map, refl, sym, ap, subst}
+use Rattle.std.proofs.Common.{map, refl, sym, ap, subst}
 use Rattle.std.specs.Prelude.{IsSome, if◌then◌else◌}
 use Rattle.terms.specs.Types.{Apply}
-use Rattle.machine.specs.Outcome.{Ran}
 use Rattle.machine.specs.State.{with_zone}
 use Rattle.report.specs.Views.{line_view}
 use Rattle.store.specs.Kept.{kept}
@@ -57,23 +56,21 @@ returns-in_ok-replace_zone-in-Ok-clause-ended g c = λ clean s is keeps ptfin.
     let bypass = sym (ap (λ w. w.bypass) c.install.view_is) in
     let t = with_zone s c.in-Ok.place.name p.zone in
     let performs = install-performs c.args.date ptfin i s at c.in-Ok.place.name c.in-Ok.place.zone.now target c.install.inside.selection p.delta p.zone (map line_view p.lines.items) plan is selection bypass
-    c.install.inside.check t (sym (ap (λ w. w.check) c.install.view_is)) (ap (λ b. if b then s else t) (sym c.if-install.false)) in
-    (
+    c.install.inside.check t (sym (ap (λ w. w.check) c.install.view_is)) (ap (λ b. if b then s else t) (sym c.if-install.false)) in (
       t,
       performs,
       install-session s c.in-Ok.place.name c.in-Ok.place.zone.now p.zone inventory target.is_there at _ is refl refl c.in_ok-replace_zone-in-Ok.ensures.updates,
       c.in_ok-replace_zone-in-Ok.ensures.ended s t c.in-Ok.place.zone.now keeps
-      (zone-change (kept s) c.in-Ok.place.name c.in-Ok.place.zone.now p.zone inventory target.is_there) plan.changed
-      (install-inventory c.args.date ptfin i s at c.in-Ok.place.name c.in-Ok.place.zone.now target c.install.inside.selection p.delta p.zone (map line_view p.lines.items) plan is selection bypass inventory)
-      (subst IsSome (sym target.has) refl),
+          (zone-change (kept s) c.in-Ok.place.name c.in-Ok.place.zone.now p.zone inventory target.is_there) plan.changed
+          (install-inventory c.args.date ptfin i s at c.in-Ok.place.name c.in-Ok.place.zone.now target c.install.inside.selection p.delta p.zone (map line_view p.lines.items) plan is selection bypass inventory)
+          (subst IsSome (sym target.has) refl),
     )
 
 pub returns-in-Err-clause-ended : goal.returns-in-Err-clause-ended
-returns-in-Err-clause-ended g c = λ clean s is keeps ptfin.
-    (
-      s,
-      install-refused c.args.date ptfin c.args.install.now s c.args.self.now.boundary c.install.inside.check _ is.boundary (sym (ap (λ w. w.check) c.install.view_is))
+returns-in-Err-clause-ended g c = λ clean s is keeps ptfin. (
+  s,
+  install-refused c.args.date ptfin c.args.install.now s c.args.self.now.boundary c.install.inside.check _ is.boundary (sym (ap (λ w. w.check) c.install.view_is))
       (c.in-Err.ensures s c.args.install.now is (kept-inventory g.S.Store c.args.store.now s clean keeps)),
-      is,
-      keeps,
-    )
+  is,
+  keeps,
+)

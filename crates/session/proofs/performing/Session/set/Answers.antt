@@ -1,4 +1,4 @@
-use Rattle.std.proofs.Common.{refl, inl, inr, Some}
+use Rattle.std.proofs.Common.{refl, Some}
 use Rattle.terms.specs.Types.{Set}
 use Rattle.session.proofs.Seeking.{set-refused, set-ran, set-session}
 use Rattle.session.proofs.Stepping.{performs-unmoved}
@@ -15,8 +15,7 @@ returns-then-not-branch-clause-ended g c = λ clean s is keeps date ptfin.
 
 pub returns-clause-ended : goal.returns-clause-ended
 returns-clause-ended g c = λ clean s is keeps date ptfin.
-    let sought = c.in_ok-seek.ensures.ended clean s is keeps in
-    (
+    let sought = c.in_ok-seek.ensures.ended clean s is keeps in (
       record s { boundary = Some c.args.name },
       set-ran s c.seek.new.self c.args.name date ptfin _ c.in_ok-seek.field-0 sought.0 c.if-not-branch.false (rw c.new.ensures.items refl),
       set-session s c.seek.new.self _ c.args.name c.in_ok-seek.field-0 sought.0 c.if-not-branch.false refl refl refl,

@@ -1,4 +1,4 @@
-use Rattle.std.proofs.Common.{map, refl, sym, ap}
+use Rattle.std.proofs.Common.{refl, sym, ap}
 use Rattle.terms.specs.Types.{Receive}
 use Rattle.session.proofs.Received.{take-ran, take-faulty, take-session}
 use Rattle.session.proofs.Stepping.{performs-short, performs-staying}
@@ -15,8 +15,7 @@ returns-in_err-lines-in-Ok-clause-ended g c = λ clean s is keeps date.
 
 pub returns-in_ok-lines-in-Ok-clause-ended : goal.returns-in_ok-lines-in-Ok-clause-ended
 returns-in_ok-lines-in-Ok-clause-ended g c = λ clean s is keeps date.
-    let ran = c.in_ok-lines-in-Ok.ensures.ended clean s (sym is.global) keeps date c.args.ptfin.now c.args.what.now (sym (c.in_default.ensures s c.args.what.now (sym is.boundary))) (sym (ap (λ w. w.source) c.what.view_is)) c.known_source.ensures (rw c.in-Ok.is at c.in_ok-found.ensures) in
-    (
+    let ran = c.in_ok-lines-in-Ok.ensures.ended clean s (sym is.global) keeps date c.args.ptfin.now c.args.what.now (sym (c.in_default.ensures s c.args.what.now (sym is.boundary))) (sym (ap (λ w. w.source) c.what.view_is)) c.known_source.ensures (rw c.in-Ok.is at c.in_ok-found.ensures) in (
       ran.0,
       take-ran date c.args.ptfin.now c.args.what.now s ran.0 c.take_items.new.global c.args.self.now.boundary _ is.boundary ran.1,
       take-session s ran.0 c.args.self.now _ is ran.1.state refl refl,

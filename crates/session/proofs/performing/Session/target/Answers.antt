@@ -1,4 +1,4 @@
-use Rattle.std.proofs.Common.{◌≡◌, ◌∙◌, refl, sym}
+use Rattle.std.proofs.Common.{◌∙◌, sym}
 use Rattle.session.proofs.Places.{apply-nowhere, apply-target, apply-distribution, apply-global}
 use Rattle.session.proofs.performing.Session.target.Goals as goal
 
