@@ -1,12 +1,12 @@
 -- What a job has in memory of a state, and how its beginning and its commands end.
-use Rattle.std.specs.Prelude.{◌≡◌, ◌⊎◌, ℕ, List, Option, None, Some, IsSome, Result, Ok, Err}
+use Rattle.std.specs.Prelude.{◌≡◌, ◌⊎◌, ℕ, List, None, Some, IsSome, Result, Ok, Err}
 use Rattle.std.specs.Str.{bytes_eq}
 use Rattle.indexmap.specs.IndexMap.{get}
 use Rattle.sqlite.specs.Store.{Ghosts}
 use Rattle.sqlite.specs.Held.{Held}
 use Rattle.terms.specs.Types.{Text, Zone, Command}
 use Rattle.machine.specs.State.{State, global_name, zone_named}
-use Rattle.machine.specs.Machine.{Act, Begin, Perform, Performs}
+use Rattle.machine.specs.Machine.{Begin, Perform, Performs}
 use Rattle.report.specs.declared.outcome.Outcome.{Outcome}
 use Rattle.report.specs.Views.{outcome_view}
 use Rattle.schema.specs.declared.error.StoreError.{StoreError}

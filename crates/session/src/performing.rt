@@ -6,6 +6,7 @@ ghost use Rattle.cntl.specs.Views.{command_of};
 ghost use Rattle.store.specs.Kept.{Keeps};
 ghost use Rattle.session.specs.Sessions.{IsSessionOf, HasBegun, HasPerformed};
 
+use crate::loading::load_global;
 use cntl::Command;
 use fields::{YyDdd, ZoneName};
 use global::Global;
@@ -31,7 +32,12 @@ impl Session {
         ensures clean { HasCleanDisk (state S.Store store.new) → HasCleanDisk (state S.Store store.old) }
         ensures ended { HasCleanDisk (state S.Store store.new) → (s : State) → Keeps S.Store store.old s → HasBegun S.Store store.new s result }
     {
-        Err(StoreError::Memory)
+        let global = load_global(store)?;
+        Ok(Session {
+            global,
+            zones: IndexMap::new(alloc),
+            boundary: None,
+        })
     }
 
     /// Performs a command, which is committed before its outcome is answered.
@@ -47,6 +53,10 @@ impl Session {
         ensures ended { HasCleanDisk (state S.Store store.new) → (s : State) → IsSessionOf s self.old → Keeps S.Store store.old s
             → HasPerformed S.Store store.new s self.new date ptfin.now (command_of command.now) result }
     {
-        Err(StoreError::Memory)
+        match command {
+            Command::Set(name) => self.set(alloc, store, *name),
+            Command::Receive(what) => self.take(alloc, store, ptfin, what),
+            Command::Apply(install) => self.install(alloc, store, date, install),
+        }
     }
 }

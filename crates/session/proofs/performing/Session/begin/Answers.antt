@@ -1,14 +1,6 @@
-use Rattle.std.proofs.Common.{rules, ◌≡◌, ℕ, ◌+◌, ◌-◌, ◌*◌, ◌<◌, ◌≤◌, length, ◌/◌, ◌%◌, Bool, true, false, nat_eq, nat_lt, List, [], ◌∷◌, ◌++◌, slice_index_or, slice_set, bit_and, bit_or, Fits, w8, w32, w64, Bor, MutBor}
-use Rattle.sqlite.specs.Held.{state}
-use Rattle.sqlite.specs.State.{HasCleanDisk}
-use Rattle.machine.specs.State.{State}
-use Rattle.cntl.specs.Views.{command_of}
-use Rattle.machine.specs.Machine.{Begin, Perform}
-use Rattle.store.specs.Kept.{Keeps}
-use Rattle.store.proofs.Keeping.{stays-unchanged}
-use Rattle.session.specs.Sessions.{IsSessionOf, HasBegun, HasPerformed}
+use Rattle.session.proofs.Stepping.{begun-unmoved}
 use Rattle.session.proofs.performing.Session.begin.Goals as goal
 
--- src/performing.rt:30:5
-pub returns-clause-ended : goal.returns-clause-ended
-returns-clause-ended g c = λ clean s keeps. stays-unchanged g.S.Store c.args.store.now s Begin keeps
+pub returns-in_err-global-clause-ended : goal.returns-in_err-global-clause-ended
+returns-in_err-global-clause-ended g c = λ clean s keeps.
+    begun-unmoved g.S.Store c.load_global.new.store s c.from_residual.result c.in_err-global.field-0.0 c.from_residual.ensures.1 (c.in_err-global.ensures.ended clean s keeps)

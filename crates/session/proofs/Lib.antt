@@ -1,0 +1,5 @@
+mod Installed
+mod Places
+mod Received
+mod Seeking
+mod Stepping
