@@ -1,6 +1,5 @@
 -- What the zones of an inventory say of each other.
-use Rattle.std.proofs.Common.{◌≡◌, inl, inr, ℕ, ◌<◌, List, [], ◌∷◌, length, map, get_or, Option, None, Some, IfSome, arith, refl, sym, ap, subst, ◌∙◌}
-use Rattle.std.specs.Prelude.{All, AllPairs}
+use Rattle.std.proofs.Common.{List, map, get_or, Option, None, Some, IfSome, arith, sym, ap, subst, ◌∙◌}
 use Rattle.std.specs.List.{Any}
 use Rattle.std.proofs.lemmas.List.{length-map}
 use Rattle.std.proofs.lemmas.List.Elements.{All-map}
@@ -11,7 +10,6 @@ use Rattle.terms.specs.Types.{Text, NamedZone}
 use Rattle.terms.proofs.Apart.{pairs_map}
 use Rattle.schema.specs.Inventory as inventory
 use Rattle.schema.specs.Inventory.{Inventory, IsInventory, HasDistribution, IsRelated}
-use Rattle.zone_loads.specs.declared.head.ZoneHead.{ZoneHead}
 use Rattle.zone_loads.specs.Found.{head_of}
 use Rattle.zone_loads.specs.Related.{IsDistributionOf, IsRelatedAmong, AreApart, AreRelated}
 
