@@ -9,7 +9,6 @@ use Rattle.schema.specs.declared.error.StoreError.{StoreError}
 use Rattle.schema.specs.declared.error.StoreError.TheVariants as store
 use Rattle.smpe.specs.declared.error.JobError.{JobError}
 use Rattle.smpe.specs.declared.error.JobError.TheVariants as job
-use Rattle.invocation.specs.declared.fault.ArgFault.{ArgFault}
 use Rattle.invocation.specs.declared.fault.ArgFault.TheVariants as arg
 use Rattle.messages.specs.declared.fault.Fault.{Fault}
 use Rattle.messages.specs.declared.fault.Fault.TheVariants.{Job, Arg, CannotRead}
