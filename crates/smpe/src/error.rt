@@ -9,7 +9,7 @@ use thiserror::Error;
 pub enum JobError {
     #[error("out of memory")]
     Memory,
-    /// A store fault: `Sf1` or `Sf3`.
+    /// A store fault: `Sf1`, or `Sf3` where the tables stand for no state.
     #[error("{0}")]
     Store(StoreError),
     /// The report could not be written.

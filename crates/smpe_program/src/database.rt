@@ -34,7 +34,7 @@ fn answered(rt: &HostRuntime, db: &str, job: &[Job<'_>]) -> Result<Answer, JobEr
 }
 
 /// Defines a zone.
-pub fn zone_defined(
+pub(crate) fn zone_defined(
     rt: &HostRuntime,
     db: &str,
     name: ZoneName,
@@ -52,7 +52,7 @@ pub fn zone_defined(
 }
 
 /// Runs the commands of a command file over a PTFIN.
-pub fn commands_run(
+pub(crate) fn commands_run(
     rt: &HostRuntime,
     db: &str,
     date: YyDdd,

@@ -5,7 +5,7 @@ use std::fs;
 use std::io::ErrorKind;
 
 /// The bytes of a file.
-pub fn read_file<'a>(rt: &HostRuntime, name: &'a str) -> Result<Vec<u8>, Fault<'a>> {
+pub(crate) fn read_file<'a>(rt: &HostRuntime, name: &'a str) -> Result<Vec<u8>, Fault<'a>> {
     match fs::read(rt, name) {
         Ok(bytes) => Ok(bytes),
         Err(error) => match error.kind() {
@@ -16,7 +16,10 @@ pub fn read_file<'a>(rt: &HostRuntime, name: &'a str) -> Result<Vec<u8>, Fault<'
 }
 
 /// The bytes of a file that may be left out, and has none then.
-pub fn read_given<'a>(rt: &HostRuntime, name: Option<&'a String>) -> Result<Vec<u8>, Fault<'a>> {
+pub(crate) fn read_given<'a>(
+    rt: &HostRuntime,
+    name: Option<&'a String>,
+) -> Result<Vec<u8>, Fault<'a>> {
     match name {
         Some(name) => read_file(rt, name.as_str()),
         None => Ok(Vec::new(rt.alloc())),

@@ -8,7 +8,7 @@ use report::Out;
 use smpe::{Answer, JobError};
 
 /// Does what is asked for, and answers the status. The hold file is not read, since no command takes one yet.
-pub fn status_of<'a>(rt: &HostRuntime, invocation: &'a Invocation) -> Result<u8, Fault<'a>> {
+pub(crate) fn status_of<'a>(rt: &HostRuntime, invocation: &'a Invocation) -> Result<u8, Fault<'a>> {
     match invocation {
         Invocation::Zone {
             db,

@@ -4,7 +4,7 @@ use std::env;
 use std::io::{self, ErrorKind};
 
 /// What the program is asked to do. A word that is not UTF-8 is a bad operand.
-pub fn asked(rt: &HostRuntime) -> Result<Invocation, ArgFault> {
+pub(crate) fn asked(rt: &HostRuntime) -> Result<Invocation, ArgFault> {
     let alloc = rt.alloc();
     let args: Vec<String> = env::args(rt).map_err(not_given)?.collect(alloc)?;
     let words: Vec<&str> = args.iter().map(|arg| arg.as_str()).collect(alloc)?;
