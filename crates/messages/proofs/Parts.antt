@@ -7,9 +7,7 @@ use Rattle.report.proofs.Texts.{words_line-more}
 pub defined_parts : (name : List ℕ) → codes "ZONE " ++ (name ++ (codes " DEFINED" ++ 10 ∷ [])) ≡ words_line (codes "ZONE" ∷ name ∷ codes "DEFINED" ∷ [])
 defined_parts name = ap (λ t. codes "ZONE " ++ t) (words_line-more name (codes "DEFINED") []) ∙ words_line-more (codes "ZONE") name (codes "DEFINED" ∷ [])
 
-pub refused_parts : (name code : List ℕ)
-    → codes "ZONE " ++ (name ++ (codes " REFUSED " ++ (code ++ 10 ∷ []))) ≡ words_line (codes "ZONE" ∷ name ∷ codes "REFUSED" ∷ code ∷ [])
-refused_parts name code =
-    ap (λ t. codes "ZONE " ++ (name ++ t)) (ap (λ t. 32 ∷ t) (words_line-more (codes "REFUSED") code []))
-    ∙ ap (λ t. codes "ZONE " ++ t) (words_line-more name (codes "REFUSED") (code ∷ []))
-    ∙ words_line-more (codes "ZONE") name (codes "REFUSED" ∷ code ∷ [])
+pub refused_parts : (code : List ℕ) → codes "ZONE REFUSED " ++ (code ++ 10 ∷ []) ≡ words_line (codes "ZONE" ∷ codes "REFUSED" ∷ code ∷ [])
+refused_parts code =
+    ap (λ t. codes "ZONE " ++ t) (words_line-more (codes "REFUSED") code [])
+    ∙ words_line-more (codes "ZONE") (codes "REFUSED") (code ∷ [])

@@ -19,11 +19,14 @@ zone_fault_text Zn2 = codes "Zn2"
 zone_fault_text Zn3 = codes "Zn3"
 zone_fault_text Zn4 = codes "Zn4"
 
+abbrev pub refused_text : ZoneFault → Text
+refused_text why = words_line (codes "ZONE" ∷ codes "REFUSED" ∷ zone_fault_text why ∷ [])
+
 -- the line of a zone that was to be defined; a job has its report instead
 abbrev pub zone_text : Text → machine.Answer → Text
 zone_text name (Code n) = []
 zone_text name Defined = words_line (codes "ZONE" ∷ name ∷ codes "DEFINED" ∷ [])
-zone_text name (NotDefined why) = words_line (codes "ZONE" ∷ name ∷ codes "REFUSED" ∷ zone_fault_text why ∷ [])
+zone_text name (NotDefined why) = refused_text why
 
 -- the status of a program that has an answer
 abbrev pub answer_status : machine.Answer → ℕ

@@ -3,9 +3,8 @@ ghost use Rattle.std.specs.Prelude.{◌≡◌, ◌<◌, ◌++◌, length, false,
 ghost use Rattle.report.specs.Sent.{Sends};
 ghost use Rattle.messages.specs.Lines.{fault_status, fault_text, job_text, program_line, store_text};
 
-use crate::pieces::{put, write_all};
 use invocation::ArgFault;
-use report::{Sink, WriteFault};
+use report::{Sink, WriteFault, put, write_all};
 use schema::StoreError;
 use smpe::JobError;
 

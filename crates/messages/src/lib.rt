@@ -2,7 +2,6 @@
 #![tactic(auto)]
 
 mod fault;
-mod pieces;
 mod zone;
 
 pub use fault::{FAULT_STATUS, Fault, fault_line};

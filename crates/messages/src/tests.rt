@@ -15,12 +15,12 @@ fn zones_have_their_lines(rt: HostRuntime) -> Result<(), Fail> {
         (
             Answer::Refused(ZoneFault::NameTaken),
             12,
-            b"ZONE DLB1 REFUSED Zn1\n".as_slice(),
+            b"ZONE REFUSED Zn1\n".as_slice(),
         ),
         (
             Answer::Refused(ZoneFault::TooMany),
             12,
-            b"ZONE DLB1 REFUSED Zn4\n".as_slice(),
+            b"ZONE REFUSED Zn4\n".as_slice(),
         ),
         (Answer::Code(8), 8, b"".as_slice()),
     ] {

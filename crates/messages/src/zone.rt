@@ -4,12 +4,11 @@ ghost use Rattle.report.specs.Sent.{Sends};
 ghost use Rattle.machine.specs.Machine.{Defined, NotDefined};
 ghost use Rattle.defining.specs.Definitions.{fault_of};
 ghost use Rattle.smpe.specs.Ending.{answer_of};
-ghost use Rattle.messages.specs.Lines.{zone_text, zone_fault_text, answer_status};
+ghost use Rattle.messages.specs.Lines.{zone_text, zone_fault_text, refused_text, answer_status};
 
-use crate::pieces::{put, write_all};
 use defining::ZoneFault;
 use fields::ZoneName;
-use report::{Sink, WriteFault};
+use report::{Sink, WriteFault, put, write_all};
 use smpe::Answer;
 
 fn zone_fault_text(fault: ZoneFault) -> &'static [u8]
@@ -34,14 +33,12 @@ fn write_defined<W: Sink>(name: &ZoneName, w: &mut W) -> Result<u8, WriteFault>
     Ok(0)
 }
 
-fn write_refused<W: Sink>(name: &ZoneName, fault: ZoneFault, w: &mut W) -> Result<u8, WriteFault>
-    ensures sends { Sends (W.taken w.old) (W.has_failed w.old) (W.taken w.new) (W.has_failed w.new) (zone_text name.now (NotDefined (fault_of fault))) }
+fn write_refused<W: Sink>(fault: ZoneFault, w: &mut W) -> Result<u8, WriteFault>
+    ensures sends { Sends (W.taken w.old) (W.has_failed w.old) (W.taken w.new) (W.has_failed w.new) (refused_text (fault_of fault)) }
     ensures fault { W.has_failed w.new ≡ is_err result }
     ensures status { IfOk result (λ status. status ≡ answer_status (NotDefined (fault_of fault))) }
 {
-    put(b"ZONE ", w);
-    put(name.as_bytes(), w);
-    put(b" REFUSED ", w);
+    put(b"ZONE REFUSED ", w);
     put(zone_fault_text(fault), w);
     write_all(b"\n", w)?;
     Ok(12)
@@ -57,6 +54,6 @@ pub fn zone_line<W: Sink>(name: ZoneName, answer: &Answer, w: &mut W) -> Result<
     match answer {
         Answer::Code(code) => Ok(*code),
         Answer::Defined => write_defined(&name, w),
-        Answer::Refused(why) => write_refused(&name, *why, w),
+        Answer::Refused(why) => write_refused(*why, w),
     }
 }

@@ -8,7 +8,7 @@ mod sink;
 mod writing;
 
 pub use outcome::{Failure, Header, Line, OpenNeed, Outcome, Place, Refusal, Status};
-pub use sink::{Out, Sink, WriteFault};
+pub use sink::{Out, Sink, WriteFault, put, write_all};
 pub use writing::write_report;
 
 #[cfg(test)]

@@ -2,8 +2,8 @@
 #![tactic(auto)]
 
 #[cfg(test)]
-mod play;
+mod cards;
 #[cfg(test)]
-mod rows;
+mod play;
 #[cfg(test)]
 mod tests;

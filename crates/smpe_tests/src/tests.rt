@@ -3,8 +3,8 @@
 ghost use Rattle.std.specs.Prelude.{IsTrue};
 ghost use Rattle.sqlite_disk.specs.Memory.{memory_is_usable};
 
+use crate::cards::{AGAIN, BAD_PTFIN, FIX_ALONE, FUNCTION_WITH_FIX, NO_COMMAND, REFUSALS};
 use crate::play::{Step, play};
-use crate::rows::{AGAIN, BAD_PTFIN, FIX_ALONE, FUNCTION_WITH_FIX, NO_COMMAND, REFUSALS};
 use sqlite::{Connection, Error, FileStore, Files, Options};
 use sqlite_disk::Memory;
 use std::alloc::Global;

@@ -6,12 +6,10 @@ use Rattle.messages.proofs.zone.write_refused.Goals as goal
 
 pub returns-in_err-write_all-clause-sends : goal.returns-in_err-write_all-clause-sends
 returns-in_err-write_all-clause-sends g c =
-    sends-as _ _ _ _ _ _ (rw (c.as_bytes.ensures.same, c.zone_fault_text.ensures) (refused_parts c.args.name.now (zone_fault_text (fault_of c.args.fault))))
-    (sends-then _ _ _ _ _ _ _ _ c.put.ensures (sends-then _ _ _ _ _ _ _ _ c.put-2.ensures (sends-then _ _ _ _ _ _ _ _ c.put-3.ensures
-    (sends-then _ _ _ _ _ _ _ _ c.put-4.ensures c.write_all.ensures.sends))))
+    sends-as _ _ _ _ _ _ (rw c.zone_fault_text.ensures (refused_parts (zone_fault_text (fault_of c.args.fault))))
+    (sends-then _ _ _ _ _ _ _ _ c.put.ensures (sends-then _ _ _ _ _ _ _ _ c.put-2.ensures c.write_all.ensures.sends))
 
 pub returns-clause-sends : goal.returns-clause-sends
 returns-clause-sends g c =
-    sends-as _ _ _ _ _ _ (rw (c.as_bytes.ensures.same, c.zone_fault_text.ensures) (refused_parts c.args.name.now (zone_fault_text (fault_of c.args.fault))))
-    (sends-then _ _ _ _ _ _ _ _ c.put.ensures (sends-then _ _ _ _ _ _ _ _ c.put-2.ensures (sends-then _ _ _ _ _ _ _ _ c.put-3.ensures
-    (sends-then _ _ _ _ _ _ _ _ c.put-4.ensures c.write_all.ensures.sends))))
+    sends-as _ _ _ _ _ _ (rw c.zone_fault_text.ensures (refused_parts (zone_fault_text (fault_of c.args.fault))))
+    (sends-then _ _ _ _ _ _ _ _ c.put.ensures (sends-then _ _ _ _ _ _ _ _ c.put-2.ensures c.write_all.ensures.sends))
