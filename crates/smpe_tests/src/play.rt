@@ -124,6 +124,32 @@ pub(crate) fn opened<S: Alter + Drop>(
     }
 }
 
+/// Plays a step over a store that is opened for it alone.
+fn played<S: Alter + Drop>(
+    alloc: Global,
+    conn: Connection<S>,
+    step: &Step,
+) -> Result<Connection<S>, Fail> {
+    let mut store = opened(alloc, conn)?;
+    if !plays(alloc, &mut store, step)? {
+        return Err(Fail::from("another report"));
+    }
+    Ok(store.close())
+}
+
+/// Plays the steps one after the other, each with an open of its own.
+pub(crate) fn play_each<S: Alter + Drop>(
+    alloc: Global,
+    conn: Connection<S>,
+    steps: &[Step],
+) -> Result<Connection<S>, Fail> {
+    let mut conn = play(alloc, conn, &[])?;
+    for step in steps {
+        conn = played(alloc, conn, step)?;
+    }
+    Ok(conn)
+}
+
 /// Plays the steps one after the other, and hands the connection back where each prints and answers what it should.
 pub(crate) fn play<S: Alter + Drop>(
     alloc: Global,

@@ -4,7 +4,7 @@ ghost use Rattle.std.specs.Prelude.{IsTrue};
 ghost use Rattle.sqlite_disk.specs.Memory.{memory_is_usable};
 
 use crate::cards::{AGAIN, BAD_PTFIN, FIX_ALONE, FUNCTION_WITH_FIX, NO_COMMAND, REFUSALS};
-use crate::play::{Step, play};
+use crate::play::{Step, play, play_each};
 use sqlite::{Connection, Error, FileStore, Files, Options};
 use sqlite_disk::Memory;
 use std::alloc::Global;
@@ -21,6 +21,7 @@ const ALL: &[&[Step]] = &[
 
 fn in_memory_each(alloc: Global, steps: &[Step]) -> Result<(), Fail> {
     let _conn = play(alloc, Connection::open_in_memory(alloc)?, steps)?;
+    let _again = play_each(alloc, Connection::open_in_memory(alloc)?, steps)?;
     Ok(())
 }
 
@@ -44,6 +45,8 @@ fn files(alloc: Global, log: Memory, db: Memory) -> Result<Connection<FileStore<
 fn on_disks_each(alloc: Global, steps: &[Step]) -> Result<(), Fail> {
     let conn = files(alloc, Memory::new(alloc), Memory::new(alloc))?;
     let _conn = play(alloc, conn, steps)?;
+    let conn = files(alloc, Memory::new(alloc), Memory::new(alloc))?;
+    let _again = play_each(alloc, conn, steps)?;
     Ok(())
 }
 
