@@ -1,4 +1,5 @@
 pub mod Defined
+pub mod GlobalForms
 pub mod InstallForms
 pub mod PtfinForms
 pub mod ReceivingForms
