@@ -1,5 +1,5 @@
 -- Each change of the global zone keeps the forms of what stands in it.
-use Rattle.std.proofs.Common.{◌≡◌, Bool, true, false, not, ◌&&◌, List, [], ◌∷◌, fold, filter, Option, None, Some, All, IsTrue, refl, sym, ◌∙◌, subst, true≢false}
+use Rattle.std.proofs.Common.{◌≡◌, Bool, true, false, not, ◌&&◌, List, [], ◌∷◌, fold, Option, None, Some, All, refl, sym, ◌∙◌, subst, true≢false}
 use Rattle.std.specs.Prelude.{Ok, Err, if◌then◌else◌}
 use Rattle.std.specs.List.{AllByRecursion, list_any}
 use Rattle.std.specs.Ordering.{nat_cmp}
@@ -10,11 +10,12 @@ use Rattle.std.proofs.lemmas.List.Elements.{All-filter, All-map, All-weaker}
 use Rattle.terms.specs.Types.{Text, Id, Hold, Sysmod, Global, Release, NamedZone}
 use Rattle.terms.specs.Lookups.{is_received, is_applied}
 use Rattle.terms.specs.Forms.{IsSource}
-use Rattle.terms.specs.Global.{IsSysmod, IsGlobal, hold_cmp, has_key, hold_of, marked, hold, Rl1, Rl2, release_found, release, without_hold, assign, with_sysmod, received, ReceiveFault, HasFault, Rj1, Rj2, without_sysmod, reject}
+use Rattle.terms.specs.Global.{IsSysmod, IsGlobal, hold_cmp, has_key, hold_of, marked, hold, Rl2, release_found, release, without_hold, assign, with_sysmod, received, ReceiveFault, HasFault, Rj1, Rj2, without_sysmod, reject}
 use Rattle.terms.proofs.GlobalKept.{All-with_item, Rises-with_item, IsOwned, hold-kept, without_hold-kept, assign-kept, without_sysmod-kept}
 use Rattle.terms.proofs.GlobalLookups.{assigned}
 use Rattle.global.proofs.Receiving.{kept}
-use Rattle.schema.specs.Forms.{AreListed, HasSysmodForms, HasHoldForms}
+use Rattle.schema.specs.Forms.{HasSysmodForms, HasHoldForms}
+use Rattle.schema.specs.Inventory.{Inventory, IsInventory}
 use Rattle.machine.specs.Outcome.{Line}
 use Rattle.machine.specs.Receiving.{or_same}
 use Rattle.machine.specs.Runs.{Runs}
@@ -24,6 +25,25 @@ pub record HasGlobalForms (g : Global) : Type 0 where
   pub is_global : IsGlobal g
   pub sysmods : All HasSysmodForms g.sysmods
   pub holds : All HasHoldForms g.holds
+
+pub global_forms : (i : Inventory) → IsInventory i → HasGlobalForms i.global
+global_forms i is = record { is_global = is.global; sysmods = is.sysmods; holds = is.holds }
+
+-- An inventory's invariants between its zones do not speak of the global zone.
+pub with_global : (i : Inventory) (new : Global) → IsInventory i → HasGlobalForms new → IsInventory (record i { global = new })
+with_global i new is has = record {
+  global = has.is_global;
+  sysmods = has.sysmods;
+  holds = has.holds;
+  names = is.names;
+  zones = is.zones;
+  related = is.related;
+  apart = is.apart;
+}
+
+pub each_alike : {X : Type 0} (P : Type 0) → P → (xs : List X) → AllByRecursion (λ (x : X). P) xs
+each_alike P here [] = tt
+each_alike P here (x ∷ xs) = (here, each_alike P here xs)
 
 -- Steps that keep them do so one after the other.
 pub runs_forms : {A : Type 0} (Steps : Global → A → Global → List Line → Type 0) (P : A → Type 0)

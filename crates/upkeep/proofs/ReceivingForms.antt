@@ -1,5 +1,5 @@
 -- RECEIVE leads from an inventory to an inventory.
-use Rattle.std.proofs.Common.{◌≡◌, ℕ, ◌&&◌, ◌||◌, ◌==◌, List, [], ◌∷◌, fold, Option, Some, None, All, AllPairs, IsTrue, refl, sym, ◌∙◌, ap, subst, inl, inr, arith, true≢false, IfSome}
+use Rattle.std.proofs.Common.{◌≡◌, ℕ, ◌&&◌, ◌||◌, ◌==◌, Bool, true, false, List, [], Option, Some, None, All, AllPairs, IsTrue, refl, sym, ap, subst, inl, inr, arith, true≢false, IfSome}
 use Rattle.std.specs.Prelude.{Result, Ok, Err, nat_lt}
 use Rattle.std.specs.List.{AllByRecursion}
 use Rattle.std.specs.declared.cmp.Ordering.{Ordering}
@@ -9,22 +9,27 @@ use Rattle.std.specs.Cmp.{nat_cmp_is}
 use Rattle.std.specs.Cmp.Lexicographic.{slice_cmp}
 use Rattle.std.proofs.lemmas.Bool.{cases_lt, lt-ltb, eq-eqb, or_right, and_from}
 use Rattle.std.proofs.lemmas.Cmp.{nat_list_cmp_total}
-use Rattle.terms.specs.declared.kinds.HoldKind.TheVariants.{System}
-use Rattle.terms.specs.Types.{Text, type_number, Ver, Change, Hold, Sysmod, Global, Item, ASysmod, AnAssign}
+use Rattle.std.proofs.lemmas.List.Elements.{All-from_recursion}
+use Rattle.terms.specs.Types.{Text, Id, type_number, Ver, Change, Sysmod, Global, Item, ASysmod, AnAssign, HoldItem, AHold, ARelease, ReceiveWhat}
 use Rattle.terms.specs.Lookups.{is_before}
 use Rattle.terms.specs.Rising.{Rises}
 use Rattle.terms.specs.Forms.{IsSource}
-use Rattle.terms.specs.Global.{IsSysmod, IsGlobal, change_cmp, with_sysmod, received, hold, ReceiveFault, Receives, HasFault}
+use Rattle.terms.specs.Global.{IsSysmod, change_cmp, ReceiveFault, Receives}
 use Rattle.terms.specs.Ptfin.{IsPtfin}
+use Rattle.terms.specs.HoldFile.{IsHoldFile}
 use Rattle.terms.proofs.Apart.{pairs_map}
 use Rattle.terms.proofs.GlobalKept.{All-with_item, Rises-with_item}
-use Rattle.global.proofs.Receiving.{kept}
 use Rattle.schema.specs.Forms.{AreListed, is_change_before, HasSysmodForms, HasHoldForms}
 use Rattle.schema.specs.Inventory.{Inventory, IsInventory}
 use Rattle.machine.specs.Outcome.{Line}
-use Rattle.machine.specs.Receiving.{sourced, or_same, TakesItem}
+use Rattle.machine.specs.Receiving.{sourced, or_same, AssignsId, TakesItem, TakesHoldItem}
+use Rattle.machine.specs.Machine.{Files, HasItems}
 use Rattle.machine.specs.Runs.{Runs}
-use Rattle.upkeep.proofs.PtfinForms.{IsWhole, IsItem, ptfin_formed}
+use Rattle.upkeep.proofs.GlobalForms.{HasGlobalForms, runs_forms, hold_forms, external_owned, release_forms, assign_forms, received_forms, global_forms, with_global, each_alike}
+use Rattle.upkeep.proofs.PtfinForms.{IsOwnHold, IsWhole, IsItem, ptfin_formed}
+use Rattle.upkeep.proofs.HoldFileForms.{IsHoldItem, hold_file_formed}
+
+-- ---- SYSMODs
 
 lower_first : (m n : ℕ) (r : Ordering) → IsTrue (is_lt (ordering_then (nat_cmp m n) r)) → IsTrue (nat_lt m n || ((m == n) && is_lt r))
 lower_first m n r lower = elim (cases_lt m n) [
@@ -70,69 +75,65 @@ is_sysmod s sources whole listed = record {
   sources = listed.rising;
   vers = whole.growing.srels;
   changes = whole.growing.elements;
-  holds = subst (λ hs. All (λ (h : Hold). IsTrue h.internal × (h.kind ≡ System) × (h.id ≡ s.id)) hs) (sym whole.growing.no_holds) (λ k d below. absurd (omega arith));
+  holds = All-from_recursion (IsOwnHold s.id) s.holds whole.growing.holds;
 }
 
-laid_aside : (s : Sysmod) → HasSysmodForms s → HasSysmodForms (record s { holds = [] })
-laid_aside s forms = record {
-  id = forms.id;
-  sources = forms.sources;
-  some = forms.some;
-  vers = forms.vers;
-  srels = forms.srels;
-  changes = forms.changes;
-  elements = forms.elements;
-}
+taken_forms : (g : Global) (s : Sysmod) (answer : Result Global ReceiveFault) → HasSysmodForms s → IsSysmod s → AllByRecursion HasHoldForms s.holds
+    → HasGlobalForms g → Receives g s answer → HasGlobalForms (or_same g answer)
+taken_forms g s (Ok new) forms is held has (good, new_is) = subst HasGlobalForms (sym new_is) (received_forms g s forms is held good has)
+taken_forms g s (Err why) forms is held has refused = has
 
--- what stands in a global zone has its forms
-pub record HasGlobalForms (g : Global) : Type 0 where
-  pub is_global : IsGlobal g
-  pub sysmods : All HasSysmodForms g.sysmods
-  pub holds : All HasHoldForms g.holds
+-- ---- the items of PTFIN
 
--- a SYSMOD without holds comes in
-received_forms : (g : Global) (s : Sysmod) → HasGlobalForms g → HasSysmodForms s → IsSysmod s → s.holds ≡ [] → ((f : ReceiveFault) → ¬ HasFault g s f) → HasGlobalForms (received g s)
-received_forms g s has forms is none good =
-    let alone : received g s ≡ with_sysmod g s = ap (λ hs. fold hold (with_sysmod g s) hs) none in
-    record {
-      is_global = kept g s has.is_global is good;
-      sysmods = subst (λ k. All HasSysmodForms k.sysmods) (sym alone)
-          (All-with_item HasSysmodForms (slice_cmp nat_cmp) (λ (r : Sysmod). r.id) g.sysmods (record s { holds = [] }) has.sysmods (laid_aside s forms));
-      holds = subst (λ k. All HasHoldForms k.holds) (sym alone) has.holds;
-    }
+assigns_forms : (source : Text) (g new : Global) (x : Id) (lines : List Line) → IsSource source → HasGlobalForms g → AssignsId source g x new lines → HasGlobalForms new
+assigns_forms source g new x lines form has takes = subst HasGlobalForms (sym takes.0) (assign_forms g source x form has)
 
-taken_forms : (g : Global) (s : Sysmod) (answer : Result Global ReceiveFault) → HasGlobalForms g → HasSysmodForms s → IsSysmod s → s.holds ≡ [] → Receives g s answer → HasGlobalForms (or_same g answer)
-taken_forms g s (Ok new) has forms is none (good, new_is) = subst HasGlobalForms (sym new_is) (received_forms g s has forms is none good)
-taken_forms g s (Err why) has forms is none refused = has
-
-item_forms : (source : Option Text) (g new : Global) (item : Item) (lines : List Line) → IfSome source IsSource → IsItem item → HasGlobalForms g → TakesItem source g item new lines → HasGlobalForms new
-item_forms source g new (ASysmod s) lines form whole has (answer, receives, new_is, printed) =
+item_forms : (source : Option Text) → IfSome source IsSource → (g new : Global) (item : Item) (lines : List Line) → IsItem item → HasGlobalForms g → TakesItem source g item new lines → HasGlobalForms new
+item_forms source form g new (ASysmod s) lines whole has (answer, receives, new_is, printed) =
     let listed = sources_listed source s form whole.growing.no_sources in
     let sources = (sourced source s).sources in
+    let same = sym (same_rest source s) in
     subst HasGlobalForms (sym new_is)
-    (taken_forms g (sourced source s) answer has
-    (subst HasSysmodForms (sym (same_rest source s)) (with_forms s sources whole listed))
-    (subst IsSysmod (sym (same_rest source s)) (is_sysmod s sources whole listed))
-    (ap (λ t. t.holds) (same_rest source s) ∙ whole.growing.no_holds)
-    receives)
-item_forms source g new (AnAssign a) lines form whole has takes = absurd whole
+    (taken_forms g (sourced source s) answer
+    (subst HasSysmodForms same (with_forms s sources whole listed))
+    (subst IsSysmod same (is_sysmod s sources whole listed))
+    (subst (λ t. AllByRecursion HasHoldForms t.holds) same whole.growing.held)
+    has receives)
+item_forms source form g new (AnAssign a) lines is has takes =
+    runs_forms (AssignsId a.source) (λ x. IsSource a.source) (assigns_forms a.source) a.to g new lines (each_alike (IsSource a.source) is a.to) has takes
 
--- the items of a PTFIN, taken in one after the other
-items_forms : (source : Option Text) (items : List Item) (g new : Global) (lines : List Line) → IfSome source IsSource → AllByRecursion IsItem items → HasGlobalForms g → Runs (TakesItem source) g items new lines → HasGlobalForms new
-items_forms source [] g new lines form each has (same, none) = subst HasGlobalForms (sym same) has
-items_forms source (item ∷ more) g new lines form each has (m, front, back, takes, runs, are) =
-    items_forms source more m new back form each.1 (item_forms source g m item front form each.0 has takes) runs
+-- ---- the items of the hold file
+
+hold_item_forms : (g new : Global) (item : HoldItem) (lines : List Line) → IsHoldItem item → HasGlobalForms g → TakesHoldItem g item new lines → HasGlobalForms new
+hold_item_forms g new (AHold h) lines is has takes = subst HasGlobalForms (sym takes.0) (hold_forms g h is.0 (external_owned g h is.1) has)
+hold_item_forms g new (ARelease r) lines is has takes = subst HasGlobalForms (sym takes.0) (release_forms g r has)
 
 -- RECEIVE of a PTFIN leads from an inventory to one.
-pub receive_forms : (bytes : List ℕ) (source : Option Text) (items : List Item) (i : Inventory) (new : Global) (lines : List Line) → IfSome source IsSource → IsPtfin bytes items → IsInventory i → Runs (TakesItem source) i.global items new lines → IsInventory (record i { global = new })
+pub receive_forms : (bytes : List ℕ) (source : Option Text) (items : List Item) (i : Inventory) (new : Global) (lines : List Line) → IfSome source IsSource → IsPtfin bytes items → IsInventory i
+    → Runs (TakesItem source) i.global items new lines → IsInventory (record i { global = new })
 receive_forms bytes source items i new lines form reads is runs =
-    let has = items_forms source items i.global new lines form (ptfin_formed bytes items reads) (record { is_global = is.global; sysmods = is.sysmods; holds = is.holds }) runs in
-    record {
-      global = has.is_global;
-      sysmods = has.sysmods;
-      holds = has.holds;
-      names = is.names;
-      zones = is.zones;
-      related = is.related;
-      apart = is.apart;
-    }
+    with_global i new is (runs_forms (TakesItem source) IsItem (item_forms source form) items i.global new lines (ptfin_formed bytes items reads) (global_forms i is) runs)
+
+-- And so does RECEIVE of a hold file.
+pub receive_holds_forms : (bytes : List ℕ) (items : List HoldItem) (i : Inventory) (new : Global) (lines : List Line) → IsHoldFile bytes items → IsInventory i
+    → Runs TakesHoldItem i.global items new lines → IsInventory (record i { global = new })
+receive_holds_forms bytes items i new lines reads is runs =
+    with_global i new is (runs_forms TakesHoldItem IsHoldItem hold_item_forms items i.global new lines (hold_file_formed bytes items reads) (global_forms i is) runs)
+
+-- ---- both files
+
+-- A file that is not read has no items.
+items_formed : {X : Type 0} (Is : List ℕ → List X → Type 0) (P : X → Type 0) → ((bytes : List ℕ) (items : List X) → Is bytes items → AllByRecursion P items)
+    → (reads : Bool) (bytes : List ℕ) (items : List X) → HasItems Is reads bytes items → AllByRecursion P items
+items_formed Is P formed true bytes items has = formed bytes items has
+items_formed Is P formed false bytes items none = subst (AllByRecursion P) (sym none) tt
+
+-- RECEIVE of the files that the command reads leads from an inventory to one.
+pub take_forms : (files : Files) (what : ReceiveWhat) (items : List Item) (holds : List HoldItem) (i : Inventory) (middle new : Global) (lines more : List Line) → IfSome what.source IsSource
+    → HasItems IsPtfin what.sysmods files.ptfin items → HasItems IsHoldFile what.holddata files.holds holds → IsInventory i
+    → Runs (TakesItem what.source) i.global items middle lines → Runs TakesHoldItem middle holds new more → IsInventory (record i { global = new })
+take_forms files what items holds i middle new lines more form reads reads_holds is runs runs_holds =
+    let sysmods = runs_forms (TakesItem what.source) IsItem (item_forms what.source form) items i.global middle lines
+    (items_formed IsPtfin IsItem ptfin_formed what.sysmods files.ptfin items reads) (global_forms i is) runs in
+    with_global i new is
+    (runs_forms TakesHoldItem IsHoldItem hold_item_forms holds middle new more (items_formed IsHoldFile IsHoldItem hold_file_formed what.holddata files.holds holds reads_holds) sysmods runs_holds)
