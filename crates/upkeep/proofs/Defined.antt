@@ -22,6 +22,7 @@ use Rattle.terms.proofs.Apart.{pairs_map, pairs_unmap}
 use Rattle.terms.proofs.GlobalLookups.{same_from, same_itself}
 use Rattle.terms.proofs.RisingLists.{All-between, AllPairs-between, AllPairs-first, AllPairs-rest, Less-from_is_lt, with_item-new, Rises-between}
 use Rattle.schema.specs.Inventory.{IsInventory, IsZoneNamed, HasDistribution, IsRelated, AreApart}
+use Rattle.upkeep.proofs.Lists.{recursion_left, recursion_right, each_alike}
 use Rattle.upkeep.proofs.ZonesKept.{stands_among}
 use Rattle.machine.specs.State.{State, zone_named, with_zone, ZoneDefinition, Zn1, Zn2, Zn3, Zn4, define_zone, is_related, has_right_related, has_same_srel, global_name}
 
@@ -159,16 +160,12 @@ not_false : (b : Bool) → IsTrue (not b) → IsFalse b
 not_false true h = absurd (cc h)
 not_false false h = refl
 
-all_units : (zones : List NamedZone) → AllByRecursion (λ (y : NamedZone). Unit {0}) zones
-all_units [] = tt
-all_units (z ∷ zs) = (tt, all_units zs)
-
 apart_back : (zones : List NamedZone) (kind : ZoneKind) (related : Option Text) → IsTrue (has_right_related zones kind related)
     → AllByRecursion (λ (y : NamedZone). IfSome related (λ name. y.zone.related ≢ Some name)) zones
 apart_back zones Target None right = absurd (cc right)
 apart_back zones Target (Some name) right =
     unrelated zones name (not_false (is_related zones name) (and_parts (option_map_or (λ z. zone_number z.kind == zone_number Distribution) (zone_named zones name) false) (not (is_related zones name)) right).1)
-apart_back zones Distribution None right = all_units zones
+apart_back zones Distribution None right = each_alike (Unit {0}) tt zones
 apart_back zones Distribution (Some name) right = absurd (cc right)
 
 turned : (r related : Option Text) → IfSome related (λ n. r ≢ Some n) → IfSome r (λ n. related ≢ Some n)
@@ -180,14 +177,6 @@ apart_front : (related : Option Text) (zones : List NamedZone) → AllByRecursio
     → AllByRecursion (λ (y : NamedZone). IfSome y.zone.related (λ name. related ≢ Some name)) zones
 apart_front related [] h = tt
 apart_front related (z ∷ zs) h = (turned z.zone.related related h.0, apart_front related zs h.1)
-
-part_left : (P : NamedZone → Type 0) (xs ys : List NamedZone) → AllByRecursion P (xs ++ ys) → AllByRecursion P xs
-part_left P [] ys h = tt
-part_left P (x ∷ xs) ys h = (h.0, part_left P xs ys h.1)
-
-part_right : (P : NamedZone → Type 0) (xs ys : List NamedZone) → AllByRecursion P (xs ++ ys) → AllByRecursion P ys
-part_right P [] ys h = h
-part_right P (x ∷ xs) ys h = part_right P xs ys h.1
 
 target_related : (zones : List NamedZone) (kind : ZoneKind) (related : Option Text) → IsTrue (has_right_related zones kind related) → is_some related ≡ (zone_number kind == 0)
 target_related zones Target None right = absurd (cc right)
@@ -228,8 +217,8 @@ definition_kept s t d name srel answers is =
     let pairs = subst (λ zs. AllPairs AreApart zs) parts is.apart in
     let apart = apart_back s.zones d.kind d.related told.right in
     let before = All-from_recursion (λ (y : NamedZone). AreApart y z) at.front
-    (part_left (λ y. AreApart y z) at.front at.back (subst (AllByRecursion (λ (y : NamedZone). AreApart y z)) parts (apart_front d.related s.zones apart))) in
-    let behind = All-from_recursion (AreApart z) at.back (part_right (AreApart z) at.front at.back (subst (AllByRecursion (AreApart z)) parts apart)) in
+    (recursion_left (λ (y : NamedZone). AreApart y z) at.front at.back (subst (AllByRecursion (λ (y : NamedZone). AreApart y z)) parts (apart_front d.related s.zones apart))) in
+    let behind = All-from_recursion (AreApart z) at.back (recursion_right (AreApart z) at.front at.back (subst (AllByRecursion (AreApart z)) parts apart)) in
     let inventory : IsInventory (record { global = s.global; zones = zones }) = record {
       global = is.global;
       sysmods = is.sysmods;

@@ -31,19 +31,8 @@ global_forms i is = record { is_global = is.global; sysmods = is.sysmods; holds 
 
 -- An inventory's invariants between its zones do not speak of the global zone.
 pub with_global : (i : Inventory) (new : Global) → IsInventory i → HasGlobalForms new → IsInventory (record i { global = new })
-with_global i new is has = record {
-  global = has.is_global;
-  sysmods = has.sysmods;
-  holds = has.holds;
-  names = is.names;
-  zones = is.zones;
-  related = is.related;
-  apart = is.apart;
-}
-
-pub each_alike : {X : Type 0} (P : Type 0) → P → (xs : List X) → AllByRecursion (λ (x : X). P) xs
-each_alike P here [] = tt
-each_alike P here (x ∷ xs) = (here, each_alike P here xs)
+with_global i new is has =
+    record { global = has.is_global; sysmods = has.sysmods; holds = has.holds; names = is.names; zones = is.zones; related = is.related; apart = is.apart }
 
 -- Steps that keep them do so one after the other.
 pub runs_forms : {A : Type 0} (Steps : Global → A → Global → List Line → Type 0) (P : A → Type 0)
@@ -57,14 +46,7 @@ runs_forms Steps P step (a ∷ more) g new lines each has (m, front, back, takes
 
 -- its mark has no form
 marked_forms : (was : Option Hold) (h : Hold) → HasHoldForms h → HasHoldForms (marked was h)
-marked_forms was h forms = record {
-  id = forms.id;
-  reason = forms.reason;
-  fmid = forms.fmid;
-  class = forms.class;
-  date = forms.date;
-  comment = forms.comment;
-}
+marked_forms was h forms = record { id = forms.id; reason = forms.reason; fmid = forms.fmid; class = forms.class; date = forms.date; comment = forms.comment }
 
 all_held : (g : Global) (h : Hold) → All HasHoldForms g.holds → HasHoldForms h → All HasHoldForms (hold g h).holds
 all_held g h all forms =
@@ -132,15 +114,7 @@ assign_forms g source x form has = record {
 
 -- its holds have no place in its forms
 laid_aside : (s : Sysmod) → HasSysmodForms s → HasSysmodForms (record s { holds = [] })
-laid_aside s forms = record {
-  id = forms.id;
-  sources = forms.sources;
-  some = forms.some;
-  vers = forms.vers;
-  srels = forms.srels;
-  changes = forms.changes;
-  elements = forms.elements;
-}
+laid_aside s has = record { id = has.id; sources = has.sources; some = has.some; vers = has.vers; srels = has.srels; changes = has.changes; elements = has.elements }
 
 same_sysmods : (hs : List Hold) (g : Global) → All HasSysmodForms g.sysmods → All HasSysmodForms (fold hold g hs).sysmods
 same_sysmods [] g all = all

@@ -2,10 +2,10 @@ pub mod Defined
 pub mod GlobalForms
 pub mod HoldFileForms
 pub mod InstallForms
+pub mod Lists
 pub mod Printable
 pub mod PtfinForms
 pub mod ReceivingForms
 pub mod RejectingForms
 pub mod StatementForms
-pub mod ValueForms
 pub mod ZonesKept

@@ -1,5 +1,5 @@
 -- What a statement of a file has in parentheses is printable, since the file's records are.
-use Rattle.std.proofs.Common.{◌≡◌, ◌&&◌, ◌==◌, ℕ, Bool, true, false, List, [], ◌∷◌, ◌++◌, drop, Option, Some, None, All, refl, sym, subst, arith}
+use Rattle.std.proofs.Common.{◌≡◌, ◌&&◌, ◌==◌, ℕ, Bool, true, false, List, [], ◌∷◌, ◌++◌, drop, Option, Some, None, refl, sym, subst, arith}
 use Rattle.std.specs.Prelude.{IfSome, slice_index, if◌then◌else◌}
 use Rattle.std.specs.List.{AllByRecursion, flat_map}
 use Rattle.std.specs.Str.{bytes_eq}
@@ -14,14 +14,7 @@ use Rattle.terms.specs.Statements.{statement_text}
 use Rattle.terms.specs.Ptfin.{IsKnown}
 use Rattle.terms.proofs.GlobalGroups.{recursion-append}
 use Rattle.terms.proofs.GlobalLookups.{All-find}
-
-pub recursion_left : {X : Type 0} (P : X → Type 0) (xs ys : List X) → AllByRecursion P (xs ++ ys) → AllByRecursion P xs
-recursion_left P [] ys h = tt
-recursion_left P (x ∷ xs) ys h = (h.0, recursion_left P xs ys h.1)
-
-pub recursion_right : {X : Type 0} (P : X → Type 0) (xs ys : List X) → AllByRecursion P (xs ++ ys) → AllByRecursion P ys
-recursion_right P [] ys h = h
-recursion_right P (x ∷ xs) ys h = recursion_right P xs ys h.1
+use Rattle.upkeep.proofs.Lists.{recursion_left, recursion_right}
 
 abbrev pub ArePrintable : Text → Type 0
 ArePrintable text = AllByRecursion IsPrintable text
@@ -49,9 +42,6 @@ abbrev pub HasPrintable : Piece → Type 0
 HasPrintable (TheList list) = ArePrintable list
 HasPrintable _ = Unit {0}
 
-some_same : (a b : Text) → Some a ≡ Some b → a ≡ b
-some_same a b e = cc e
-
 less_one : (text : Text) → ArePrintable text → ArePrintable (drop 1 text)
 less_one [] each = tt
 less_one (b ∷ bs) each = each.1
@@ -62,7 +52,7 @@ closed_printable [] after e each = absurd (cc e)
 closed_printable (b ∷ bs) after e each = by (b == 42 && slice_index bs 0 == 47) e (λ later. closed_printable bs after later each.1)
   where
     by : (closes : Bool) → (if closes then Some (drop 1 bs) else behind_close bs) ≡ Some after → (behind_close bs ≡ Some after → ArePrintable after) → ArePrintable after
-    by true same again = subst ArePrintable (some_same (drop 1 bs) after same) (less_one bs each.1)
+    by true same again = let is : drop 1 bs ≡ after = cc same in subst ArePrintable is (less_one bs each.1)
     by false same again = again same
 
 piece_printable : (text : Text) (p : Piece) (after : Text) → TakesPiece text p after → ArePrintable text → HasPrintable p × ArePrintable after
@@ -83,12 +73,11 @@ pieces_printable (p ∷ ps) text rest (after, takes, more) each =
 solid_printable : (ps : List Piece) → AllByRecursion HasPrintable ps → AllByRecursion HasPrintable (solid ps)
 solid_printable ps each = recursion_from_All HasPrintable (solid ps) (All-filter is_solid HasPrintable ps (All-from_recursion HasPrintable ps each))
 
-statement_printable : (records : Lines) (pieces : List Piece) (inline : Lines) → IsStatement records pieces inline → All IsRecord records → AllByRecursion HasPrintable pieces
+statement_printable : (records : Lines) (pieces : List Piece) (inline : Lines) → IsStatement records pieces inline → AllByRecursion IsRecord records → AllByRecursion HasPrintable pieces
 statement_printable records pieces inline (ps, tail, ends, idle, is) each =
     subst (λ qs. AllByRecursion HasPrintable qs) (sym is)
     (solid_printable ps
-    (pieces_printable ps (joined records) (46 ∷ tail ++ followed inline) ends.has_pieces
-    (joined_printable records (recursion_from_All IsRecord records each))))
+    (pieces_printable ps (joined records) (46 ∷ tail ++ followed inline) ends.has_pieces (joined_printable records each)))
 
 -- ---- operands
 
@@ -109,7 +98,7 @@ words_printable (w ∷ ws) h = (
 
 -- the operands of a statement
 pub operands_printable : (records : Lines) (w : StatementWord) (own : Option Text) (rest : List Piece) (inline : Lines) (operands : List Word)
-    → IsKnown records w own rest inline → HasWords rest operands → All IsRecord records → AllByRecursion HasPrintableList operands
+    → IsKnown records w own rest inline → HasWords rest operands → AllByRecursion IsRecord records → AllByRecursion HasPrintableList operands
 operands_printable records w own rest inline operands known are each =
     let pieces = statement_printable records known.pieces inline known.statement each in
     let first : List Piece = word_pieces (record { word = statement_text w; list = own }) in

@@ -6,9 +6,9 @@ use Rattle.std.specs.Prelude.{IfSome, IsSomeAnd, option_map, if◌then◌else◌
 use Rattle.std.specs.Ordering.{nat_cmp}
 use Rattle.std.specs.Cmp.Lexicographic.{slice_cmp}
 use Rattle.std.proofs.lemmas.Cmp.{nat_list_cmp_total}
-use Rattle.std.proofs.lemmas.List.Elements.{All-append, All-cons, All-nil, All-map, All-weaker, All-tail, All-from_recursion, recursion_from_All}
+use Rattle.std.proofs.lemmas.List.Elements.{All-append, All-cons, All-nil, All-map, All-weaker, All-from_recursion, recursion_from_All}
 use Rattle.terms.specs.declared.kinds.Kind.{Kind}
-use Rattle.terms.specs.declared.kinds.Kind.TheVariants.{Function, Ptf, Apar, Usermod}
+use Rattle.terms.specs.declared.kinds.Kind.TheVariants.{Function}
 use Rattle.terms.specs.declared.kinds.ElemType.{ElemType}
 use Rattle.terms.specs.declared.kinds.HoldKind.TheVariants.{System}
 use Rattle.terms.specs.declared.statement_words.StatementWord.{StatementWord}
@@ -29,9 +29,9 @@ use Rattle.terms.proofs.ElementOrder.{change_cmp_total}
 use Rattle.terms.proofs.GlobalKept.{All-with_item, Rises-with_item, Rises-map}
 use Rattle.terms.proofs.GlobalGroups.{recursion-append}
 use Rattle.schema.specs.Forms.{AreRecords, SuitsKind, HasIfForms, HasVerForms, HasChangeForms, HasHoldForms}
-use Rattle.upkeep.proofs.Printable.{recursion_left, HasPrintableList, operands_printable}
-use Rattle.upkeep.proofs.ValueForms.{one_form, hold_formed}
-use Rattle.upkeep.proofs.StatementForms.{ver_formed, if_formed, source_formed, change_formed}
+use Rattle.upkeep.proofs.Lists.{recursion_left, recursion_right}
+use Rattle.upkeep.proofs.Printable.{HasPrintableList, operands_printable}
+use Rattle.upkeep.proofs.StatementForms.{one_form, hold_formed, ver_formed, if_formed, source_formed, change_formed}
 
 -- an internal hold of the SYSMOD's own
 abbrev pub IsOwnHold : Id → Hold → Type 0
@@ -109,9 +109,7 @@ ver_growing b v g forms = record {
 
 suits_still : (kind : Kind) (v : Ver) (ifs : List IfReq) → SuitsKind kind v → SuitsKind kind (record v { ifs = ifs })
 suits_still Function v ifs suits = suits
-suits_still Ptf v ifs suits = suits
-suits_still Apar v ifs suits = suits
-suits_still Usermod v ifs suits = suits
+suits_still _ v ifs suits = suits
 
 -- the ++VER with an ++IF more, where it is the last one
 module _ (i : IfReq) where
@@ -119,17 +117,10 @@ module _ (i : IfReq) where
   more last v = if last then record v { ifs = v.ifs ++ i ∷ [] } else v
 
   more_forms : (kind : Kind) (x : Id) (last : Bool) (v : Ver) → HasIfForms x i → HasVerForms kind x v → HasVerForms kind x (more last v)
-  more_forms kind x true v forms has = record {
-    srel = has.srel;
-    fmid = has.fmid;
-    pre = has.pre;
-    req = has.req;
-    sup = has.sup;
-    npre = has.npre;
-    del = has.del;
-    ifs = All-append (HasIfForms x) v.ifs (i ∷ []) has.ifs (All-cons (HasIfForms x) i [] forms (All-nil (HasIfForms x)));
-    suits = suits_still kind v (v.ifs ++ i ∷ []) has.suits;
-  }
+  more_forms kind x true v forms has =
+      let ifs = All-append (HasIfForms x) v.ifs (i ∷ []) has.ifs (All-cons (HasIfForms x) i [] forms (All-nil (HasIfForms x))) in
+      let suits = suits_still kind v (v.ifs ++ i ∷ []) has.suits in
+      record { srel = has.srel; fmid = has.fmid; pre = has.pre; req = has.req; sup = has.sup; npre = has.npre; del = has.del; ifs = ifs; suits = suits }
   more_forms kind x false v forms has = has
 
   more_srel : (last : Bool) (v : Ver) → (more last v).srel ≡ v.srel
@@ -186,13 +177,9 @@ items_good : (c : SoFar) (left : Lines) → IsGoodSoFar c left → IfSome c.curr
 items_good c left g some =
     recursion-append IsItem c.whole (at_most_one (option_map (λ (b : Begun). ASysmod b.sysmod) c.current)) g.whole (current_good c.current left g.current some)
 
-header_behind : (kind : Kind) (o : Option Begun) → ¬ ¬ MayStand (sysmod_in o) (word.Header kind) → IfSome o (λ b. b.sysmod.vers ≢ [])
-header_behind kind None may = tt
-header_behind kind (Some b) may = λ e. may (λ stands. stands e)
-
-assign_behind : (o : Option Begun) → ¬ ¬ MayStand (sysmod_in o) word.Assign → IfSome o (λ b. b.sysmod.vers ≢ [])
-assign_behind None may = tt
-assign_behind (Some b) may = λ e. may (λ stands. stands e)
+some_vers : (w : StatementWord) → ((s : Sysmod) → MayStand (Some s) w → s.vers ≢ []) → (o : Option Begun) → ¬ ¬ MayStand (sysmod_in o) w → IfSome o (λ b. b.sysmod.vers ≢ [])
+some_vers w behind None may = tt
+some_vers w behind (Some b) may = λ e. may (λ stands. behind b.sysmod stands e)
 
 -- ---- the SYSMOD that is begun
 
@@ -244,19 +231,15 @@ change_current w own operands inline x left later (Some b) g may other says reco
 
 -- ---- the statements
 
-all_right : {X : Type 0} (P : X → Type 0) (xs ys : List X) → All P (xs ++ ys) → All P ys
-all_right P [] ys h = h
-all_right P (x ∷ xs) ys h = all_right P xs ys (All-tail P x (xs ++ ys) h)
-
 -- the inline text is among the records
-inline_records : (records : Lines) (pieces : List Piece) (inline : Lines) → IsStatement records pieces inline → All IsRecord records → AreRecords inline
+inline_records : (records : Lines) (pieces : List Piece) (inline : Lines) → IsStatement records pieces inline → AllByRecursion IsRecord records → AreRecords inline
 inline_records records pieces inline (ps, tail, ends, idle, is) each =
-    let behind_it = all_right IsRecord ends.before (ends.place.at ∷ inline) (subst (λ rs. All IsRecord rs) ends.place.records_are each) in
-    let those = All-tail IsRecord ends.place.at inline behind_it in
+    let behind_it = recursion_right IsRecord ends.before (ends.place.at ∷ inline) (subst (λ rs. AllByRecursion IsRecord rs) ends.place.records_are each) in
+    let those = All-from_recursion IsRecord inline behind_it.1 in
     λ k d below. ((those k d below).0, λ i b within. omega (arith, ((those k d below).1 i b within).1))
 
 -- the state behind a good statement
-module _ (c : SoFar) (later records : Lines) (w : StatementWord) (own : Option Text) (rest : List Piece) (inline : Lines) (known : IsKnown records w own rest inline) (each : All IsRecord records) where
+module _ (c : SoFar) (later records : Lines) (w : StatementWord) (own : Option Text) (rest : List Piece) (inline : Lines) (known : IsKnown records w own rest inline) (each : AllByRecursion IsRecord records) where
   may : (v : StatementWord) → w ≡ v → IsPlaced (sysmod_in c.current) later w own inline → ¬ ¬ MayStand (sysmod_in c.current) v
   may v same placed = subst (λ x. ¬ ¬ MayStand (sysmod_in c.current) x) same (placed CannotStand)
 
@@ -264,7 +247,7 @@ module _ (c : SoFar) (later records : Lines) (w : StatementWord) (own : Option T
   good_after left (SaysHeader kind id) g good =
       let says = good.value.2 in
       record {
-        whole = items_good c left g (header_behind kind c.current (may (word.Header kind) says.0 good.placed));
+        whole = items_good c left g (some_vers (word.Header kind) (λ s stands. stands) c.current (may (word.Header kind) says.0 good.placed));
         current = (
           header_growing kind id (one_form IsId own id says.1.0),
           inr (λ e. good.placed LastHeader (subst (λ v. IsHeader v) (sym says.0) tt, e)),
@@ -286,7 +269,7 @@ module _ (c : SoFar) (later records : Lines) (w : StatementWord) (own : Option T
   good_after left (SaysAssign a) g good =
       let says = good.value.2 in
       record {
-        whole = recursion-append IsItem (items_of c) (AnAssign a ∷ []) (items_good c left g (assign_behind c.current (may word.Assign says.0 good.placed))) (source_formed own good.value.0 a says.1, tt);
+        whole = recursion-append IsItem (items_of c) (AnAssign a ∷ []) (items_good c left g (some_vers word.Assign (λ s stands. stands) c.current (may word.Assign says.0 good.placed))) (source_formed own good.value.0 a says.1, tt);
         current = tt;
       }
   good_after left (SaysChange x) g good = record {
@@ -295,15 +278,15 @@ module _ (c : SoFar) (later records : Lines) (w : StatementWord) (own : Option T
         (inline_records records known.pieces inline known.statement each) good.text;
   }
 
-all_good : (ss : List Statement) (c : SoFar) (n : ℕ) (records : Lines) (d : SoFar) (m : ℕ) → IsGoodSoFar c records → All IsRecord records
+all_good : (ss : List Statement) (c : SoFar) (n : ℕ) (records : Lines) (d : SoFar) (m : ℕ) → IsGoodSoFar c records → AllByRecursion IsRecord records
     → BeginsWithStatements c n records ss d m [] → IsGoodSoFar d []
 all_good [] c n records d m g each (same, at, none) = subst (λ e. IsGoodSoFar e []) same (subst (λ rs. IsGoodSoFar c rs) none g)
 all_good (s ∷ ss) c n records d m g each (group, next, later, takes, (w, own, rest, inline, known, good), more) =
-    let parts = subst (λ rs. All IsRecord rs) takes.records_are each in
-    let inside = All-from_recursion IsRecord group.records (recursion_left IsRecord group.records later (recursion_from_All IsRecord (group.records ++ later) parts)) in
+    let parts = subst (λ rs. AllByRecursion IsRecord rs) takes.records_are each in
+    let inside = recursion_left IsRecord group.records later parts in
     all_good ss (after c s) next later d m
     (good_after c later group.records w own rest inline known inside records s g good)
-    (all_right IsRecord group.records later parts) more
+    (recursion_right IsRecord group.records later parts) more
 
 last_vers : (left : Lines) (o : Option Begun) → left ≡ [] → IfSome o (IsOpen left) → IfSome o (λ b. b.sysmod.vers ≢ [])
 last_vers left None none g = tt
@@ -313,5 +296,5 @@ last_vers left (Some b) none (grown, inr more) = absurd (more none)
 -- each item of a PTFIN has its forms
 pub ptfin_formed : (bytes : List ℕ) (items : List Item) → IsPtfin bytes items → AllByRecursion IsItem items
 ptfin_formed bytes items (records, ss, d, m, has, begins, is) =
-    let good = all_good ss nothing 1 records d m (record { whole = tt; current = tt }) has.each begins in
+    let good = all_good ss nothing 1 records d m (record { whole = tt; current = tt }) (recursion_from_All IsRecord records has.each) begins in
     subst (λ xs. AllByRecursion IsItem xs) (sym is) (items_good d [] good (last_vers [] d.current refl good.current))

@@ -1,5 +1,5 @@
 -- RECEIVE leads from an inventory to an inventory.
-use Rattle.std.proofs.Common.{◌≡◌, ℕ, ◌&&◌, ◌||◌, ◌==◌, Bool, true, false, List, [], Option, Some, None, All, AllPairs, IsTrue, refl, sym, ap, subst, inl, inr, arith, true≢false, IfSome}
+use Rattle.std.proofs.Common.{◌≡◌, ℕ, ◌&&◌, ◌||◌, ◌==◌, Bool, true, false, List, [], Option, Some, None, All, IsTrue, get_or, refl, sym, ap, subst, inl, inr, arith, true≢false, IfSome}
 use Rattle.std.specs.Prelude.{Result, Ok, Err, nat_lt}
 use Rattle.std.specs.List.{AllByRecursion}
 use Rattle.std.specs.declared.cmp.Ordering.{Ordering}
@@ -10,7 +10,7 @@ use Rattle.std.specs.Cmp.Lexicographic.{slice_cmp}
 use Rattle.std.proofs.lemmas.Bool.{cases_lt, lt-ltb, eq-eqb, or_right, and_from}
 use Rattle.std.proofs.lemmas.Cmp.{nat_list_cmp_total}
 use Rattle.std.proofs.lemmas.List.Elements.{All-from_recursion}
-use Rattle.terms.specs.Types.{Text, Id, type_number, Ver, Change, Sysmod, Global, Item, ASysmod, AnAssign, HoldItem, AHold, ARelease, ReceiveWhat}
+use Rattle.terms.specs.Types.{Text, type_number, Ver, Change, Sysmod, Global, Item, ASysmod, AnAssign, HoldItem, AHold, ARelease, ReceiveWhat}
 use Rattle.terms.specs.Lookups.{is_before}
 use Rattle.terms.specs.Rising.{Rises}
 use Rattle.terms.specs.Forms.{IsSource}
@@ -25,7 +25,8 @@ use Rattle.machine.specs.Outcome.{Line}
 use Rattle.machine.specs.Receiving.{sourced, or_same, AssignsId, TakesItem, TakesHoldItem}
 use Rattle.machine.specs.Machine.{Files, HasItems}
 use Rattle.machine.specs.Runs.{Runs}
-use Rattle.upkeep.proofs.GlobalForms.{HasGlobalForms, runs_forms, hold_forms, external_owned, release_forms, assign_forms, received_forms, global_forms, with_global, each_alike}
+use Rattle.upkeep.proofs.Lists.{each_alike}
+use Rattle.upkeep.proofs.GlobalForms.{HasGlobalForms, runs_forms, hold_forms, external_owned, release_forms, assign_forms, received_forms, global_forms, with_global}
 use Rattle.upkeep.proofs.PtfinForms.{IsOwnHold, IsWhole, IsItem, ptfin_formed}
 use Rattle.upkeep.proofs.HoldFileForms.{IsHoldItem, hold_file_formed}
 
@@ -43,9 +44,6 @@ lower_first m n r lower = elim (cases_lt m n) [
 
 before_from_cmp : (a b : Change) → IsTrue (is_lt (change_cmp a b)) → IsTrue (is_change_before a b)
 before_from_cmp a b lower = lower_first (type_number a.elem_type) (type_number b.elem_type) (slice_cmp nat_cmp a.name b.name) lower
-
-pairs_weaker : {X : Type 0} (R S : X → X → Type 0) → ((x y : X) → R x y → S x y) → (xs : List X) → AllPairs R xs → AllPairs S xs
-pairs_weaker R S f xs pairs = λ i j d less below. f _ _ (pairs i j d less below)
 
 sources_listed : (source : Option Text) (s : Sysmod) → IfSome source IsSource → s.sources ≡ [] → AreListed IsSource (sourced source s).sources
 sources_listed None s form none = subst (λ ts. AreListed IsSource ts) (sym none) (record { each = λ k d below. absurd (omega arith); rising = λ i j d up below. absurd (omega arith) })
@@ -67,7 +65,7 @@ with_forms s sources whole listed = record {
   vers = whole.growing.vers;
   srels = pairs_map (λ (a b : Ver). IsTrue (is_lt (slice_cmp nat_cmp a.srel b.srel))) (λ (x y : Text). IsTrue (is_before x y)) (λ (v : Ver). v.srel) (λ a b lower. lower) s.vers whole.growing.srels;
   changes = whole.growing.changes;
-  elements = pairs_weaker (λ a b. IsTrue (is_lt (change_cmp a b))) (λ a b. IsTrue (is_change_before a b)) before_from_cmp s.changes whole.growing.elements;
+  elements = λ i j d less below. before_from_cmp (get_or s.changes i d) (get_or s.changes j d) (whole.growing.elements i j d less below);
 }
 
 is_sysmod : (s : Sysmod) (sources : List Text) → IsWhole s → AreListed IsSource sources → IsSysmod (record s { sources = sources })
@@ -85,9 +83,6 @@ taken_forms g s (Err why) forms is held has refused = has
 
 -- ---- the items of PTFIN
 
-assigns_forms : (source : Text) (g new : Global) (x : Id) (lines : List Line) → IsSource source → HasGlobalForms g → AssignsId source g x new lines → HasGlobalForms new
-assigns_forms source g new x lines form has takes = subst HasGlobalForms (sym takes.0) (assign_forms g source x form has)
-
 item_forms : (source : Option Text) → IfSome source IsSource → (g new : Global) (item : Item) (lines : List Line) → IsItem item → HasGlobalForms g → TakesItem source g item new lines → HasGlobalForms new
 item_forms source form g new (ASysmod s) lines whole has (answer, receives, new_is, printed) =
     let listed = sources_listed source s form whole.growing.no_sources in
@@ -100,7 +95,7 @@ item_forms source form g new (ASysmod s) lines whole has (answer, receives, new_
     (subst (λ t. AllByRecursion HasHoldForms t.holds) same whole.growing.held)
     has receives)
 item_forms source form g new (AnAssign a) lines is has takes =
-    runs_forms (AssignsId a.source) (λ x. IsSource a.source) (assigns_forms a.source) a.to g new lines (each_alike (IsSource a.source) is a.to) has takes
+    runs_forms (AssignsId a.source) (λ x. IsSource a.source) (λ g new x lines here has takes. subst HasGlobalForms (sym takes.0) (assign_forms g a.source x here has)) a.to g new lines (each_alike (IsSource a.source) is a.to) has takes
 
 -- ---- the items of the hold file
 

@@ -13,6 +13,7 @@ use Rattle.terms.specs.Types.{Text, Zone, NamedZone}
 use Rattle.terms.specs.Lookups.{is_before, IsRising, IsZone}
 use Rattle.terms.specs.Rising.{Rises, with_item}
 use Rattle.terms.proofs.Apart.{pairs_map, pairs_unmap}
+use Rattle.terms.proofs.GlobalGroups.{recursion_weaker}
 use Rattle.terms.proofs.GlobalLookups.{same_from}
 use Rattle.terms.proofs.RisingLists.{with_item-there}
 use Rattle.schema.specs.Forms.{HasZoneForms}
@@ -52,10 +53,6 @@ module _ (before after : List NamedZone) (old new : NamedZone) where
   all_changed : (P : NamedZone → Type 0) (front : List NamedZone) → AllByRecursion P (front ++ old ∷ after) → P new → AllByRecursion P (front ++ new ∷ after)
   all_changed P [] h is = (is, h.1)
   all_changed P (z ∷ zs) h is = (h.0, all_changed P zs h.1 is)
-
-  all_weaker_by : (P Q : NamedZone → Type 0) → ((z : NamedZone) → P z → Q z) → (zs : List NamedZone) → AllByRecursion P zs → AllByRecursion Q zs
-  all_weaker_by P Q f [] h = tt
-  all_weaker_by P Q f (z ∷ zs) h = (f z h.0, all_weaker_by P Q f zs h.1)
 
   middle_of : (P : NamedZone → Type 0) (front : List NamedZone) → AllByRecursion P (front ++ old ∷ after) → P old
   middle_of P [] h = h.0
@@ -101,7 +98,7 @@ module _ (before after : List NamedZone) (old new : NamedZone) where
         let each_related = subst (λ zs. All (λ (z : NamedZone). IsRelated zs z.zone.kind z.zone.srel z.zone.related) zs) zones_are is.related in
         let each_apart = subst (λ zs. AllPairs AreApart zs) zones_are is.apart in
         let R : NamedZone → Type 0 = λ z. IsRelated (before ++ new ∷ after) z.zone.kind z.zone.srel z.zone.related in
-        let still = all_weaker_by (λ z. IsRelated (before ++ old ∷ after) z.zone.kind z.zone.srel z.zone.related) R relates_each (before ++ old ∷ after) (recursion_from_All _ _ each_related) in
+        let still = recursion_weaker (λ z. IsRelated (before ++ old ∷ after) z.zone.kind z.zone.srel z.zone.related) R relates_each (before ++ old ∷ after) (recursion_from_All _ _ each_related) in
         record {
           global = is.global;
           sysmods = is.sysmods;
