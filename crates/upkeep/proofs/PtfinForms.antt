@@ -48,16 +48,17 @@ pub record IsGrowing (s : Sysmod) : Type 0 where
   pub held : AllByRecursion HasHoldForms s.holds
   pub holds : AllByRecursion (IsOwnHold s.id) s.holds
 
--- an item of its forms
+-- a SYSMOD that is read
 pub record IsWhole (s : Sysmod) : Type 0 where
   pub growing : IsGrowing s
   pub some : s.vers ≢ []
 
+-- an item of its forms
 abbrev pub IsItem : Item → Type 0
 IsItem (ASysmod s) = IsWhole s
 IsItem (AnAssign a) = IsSource a.source
 
--- before these records a SYSMOD is begun
+-- the SYSMOD that is begun before these records: it has a ++VER, or some are left
 abbrev IsOpen : Lines → Begun → Type 0
 IsOpen left b = IsGrowing b.sysmod × ((b.sysmod.vers ≢ []) ⊎ (left ≢ []))
 

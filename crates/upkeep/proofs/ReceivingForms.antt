@@ -95,7 +95,9 @@ item_forms source form g new (ASysmod s) lines whole has (answer, receives, new_
     (subst (λ t. AllByRecursion HasHoldForms t.holds) same whole.growing.held)
     has receives)
 item_forms source form g new (AnAssign a) lines is has takes =
-    runs_forms (AssignsId a.source) (λ x. IsSource a.source) (λ g new x lines here has takes. subst HasGlobalForms (sym takes.0) (assign_forms g a.source x here has)) a.to g new lines (each_alike (IsSource a.source) is a.to) has takes
+    runs_forms (AssignsId a.source) (λ x. IsSource a.source)
+    (λ g new x lines here has takes. subst HasGlobalForms (sym takes.0) (assign_forms g a.source x here has)) a.to g new lines
+    (each_alike (IsSource a.source) is a.to) has takes
 
 -- ---- the items of the hold file
 
@@ -114,8 +116,6 @@ pub receive_holds_forms : (bytes : List ℕ) (items : List HoldItem) (i : Invent
     → Runs TakesHoldItem i.global items new lines → IsInventory (record i { global = new })
 receive_holds_forms bytes items i new lines reads is runs =
     with_global i new is (runs_forms TakesHoldItem IsHoldItem hold_item_forms items i.global new lines (hold_file_formed bytes items reads) (global_forms i is) runs)
-
--- ---- both files
 
 -- A file that is not read has no items.
 items_formed : {X : Type 0} (Is : List ℕ → List X → Type 0) (P : X → Type 0) → ((bytes : List ℕ) (items : List X) → Is bytes items → AllByRecursion P items)
