@@ -4,7 +4,6 @@ use Rattle.std.specs.Prelude.{IsSomeAnd, option_map}
 use Rattle.terms.specs.Types.{Text}
 use Rattle.terms.specs.Words.{IsShort, Word, HasMembers, plain}
 use Rattle.terms.specs.Operands.{HasOne, HasSorted, HasRequired, HasOptional}
-use Rattle.terms.specs.CommandForms.{HasShort}
 use Rattle.terms.proofs.ExactOperands.{members_one, has_member, one_of, has_sorted-only}
 
 -- the found operand is that word
@@ -44,7 +43,3 @@ module _ (form : Text → Type 0) (named : Option Word) (w : Word) (is : named �
       let s = some_value v (subst (λ n. HasOptional form n v) is r) in
       let k = has_member form w.list s.0 s.1 in
       none (subst form (members_one w.list s.0 m k.0 h) k.1)
-
-  -- where a list may be absent
-  pub no_short : (list : List Text) → HasSorted form w list → 1000 < length list → ((others : List Text) × HasShort form named others) → ⊥
-  no_short list h long x = too_long form w list h long (x.0, subst (λ n. HasShort form n x.0) is x.1)
