@@ -83,9 +83,9 @@ one_hold hs i j d rises below_i below_j has =
     elim (cases_lt j i) [
       | inl less ↦ absurd (lower (hold_cmp h o) (rises j i d less below_i) tie)
       | inr le ↦ elim (cases_lt i j) [
-          | inl less ↦ absurd (higher (hold_cmp o h) (rises i j d less below_j) (ap is_eq (sym (hold_cmp_total.antisymm h o)) ∙ tie))
-          | inr ge ↦ let same : j ≡ i = omega (arith, le, ge) in ap (λ k. get_or hs k d) same
-        ]
+        | inl less ↦ absurd (higher (hold_cmp o h) (rises i j d less below_j) (ap is_eq (sym (hold_cmp_total.antisymm h o)) ∙ tie))
+        | inr ge ↦ let same : j ≡ i = omega (arith, le, ge) in ap (λ k. get_or hs k d) same
+      ]
     ]
 
 module _ (g : Global) (x : Id) (is : IsGlobal g) where
@@ -141,8 +141,8 @@ module _ (g : Global) (x : Id) (is : IsGlobal g) where
       let hs = filter (λ h. h.internal) (holds_of g System x) in
       removals-make (after_edit g (RemoveSysmod x)) hs
       ∙ ap (λ os. record (after_edit g (RemoveSysmod x)) { holds = os })
-          (filter-alike (λ o. not (list_any (has_key_of o) hs)) (λ h. not (h.internal && bytes_eq h.id x)) g.holds
-          (λ i d below. ap not (keyed (get_or g.holds i d) ∙ goes i d below)))
+      (filter-alike (λ o. not (list_any (has_key_of o) hs)) (λ h. not (h.internal && bytes_eq h.id x)) g.holds
+      (λ i d below. ap not (keyed (get_or g.holds i d) ∙ goes i d below)))
 
 -- such edits fit each global zone
 pub edits-fit : (g : Global) (x : Id) → All FitsAlways (edits_of g x)

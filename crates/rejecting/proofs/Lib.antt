@@ -1,3 +1,3 @@
 pub mod Dropping
-pub mod Items
+pub mod Ids
 pub mod Zones

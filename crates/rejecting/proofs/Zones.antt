@@ -1,11 +1,10 @@
 -- A map that finds under each name the zone of that name.
-use Rattle.std.proofs.Common.{◌≡◌, ◌∙◌, ◌||◌, Bool, true, false, List, [], ◌∷◌, map, refl, sym, ap, subst, Option, None, Some, Contains, true≢false, find, arith}
+use Rattle.std.proofs.Common.{◌≡◌, ◌∙◌, ◌||◌, Bool, true, false, List, [], ◌∷◌, map, refl, sym, ap, subst, Option, None, Some, Contains, true≢false, find}
 use Rattle.std.specs.List.{list_any}
 use Rattle.std.specs.Ordering.{nat_cmp}
 use Rattle.std.specs.Option.{option_map}
 use Rattle.std.specs.Str.{bytes_eq}
 use Rattle.std.specs.Cmp.Lexicographic.{slice_cmp, texts_ties}
-use Rattle.std.specs.Map.{values_of}
 use Rattle.std.proofs.lemmas.Cmp.{nat_list_cmp_total, nat_list_eq_equiv, tied_itself}
 use Rattle.std.proofs.lemmas.List.Folds.{list_any_at}
 use Rattle.std.proofs.lemmas.Map.Views.{hash_map_get_iff}
@@ -66,9 +65,9 @@ module _ {S : Type 0} (zones : IndexMap Text Zone S) (named : List NamedZone) (u
       let at = parts named z h in
       let tie = tied_itself nat_list_cmp_total z.name in
       ap (option_map (λ (y : NamedZone). y.zone)) (
-        ap (find (λ y. bytes_eq y.name z.name)) at.2
-        ∙ find-there nat_list_cmp_total (λ (y : NamedZone). y.name) bytes_eq texts_ties z.name at.0 at.1 z
-            (Splits-around nat_list_cmp_total (λ (y : NamedZone). y.name) z.name at.0 at.1 z (subst (Rises (slice_cmp nat_cmp) (λ (y : NamedZone). y.name)) at.2 rises) tie) tie
+      ap (find (λ y. bytes_eq y.name z.name)) at.2
+      ∙ find-there nat_list_cmp_total (λ (y : NamedZone). y.name) bytes_eq texts_ties z.name at.0 at.1 z
+      (Splits-around nat_list_cmp_total (λ (y : NamedZone). y.name) z.name at.0 at.1 z (subst (Rises (slice_cmp nat_cmp) (λ (y : NamedZone). y.name)) at.2 rises) tie) tie
       )
 
   in_map : (name : Text) (zone : Zone) → get bytes_eq zones name ≡ Some zone → Contains zones.entries (name, zone)

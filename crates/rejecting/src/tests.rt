@@ -90,11 +90,7 @@ fn zone(alloc: Heap, fix: Id) -> Result<Zone, Fail> {
     Ok(zone.ok_or("no zone")?)
 }
 
-fn alone(
-    alloc: Heap,
-    name: ZoneName,
-    zone: Zone,
-) -> Result<IndexMap<ZoneName, Zone>, AllocError> {
+fn alone(alloc: Heap, name: ZoneName, zone: Zone) -> Result<IndexMap<ZoneName, Zone>, AllocError> {
     let mut zones = IndexMap::new(alloc);
     zones.insert(name, zone)?;
     Ok(zones)

@@ -1,7 +1,7 @@
 use Rattle.std.proofs.Common.{◌∷◌, ◌++◌, [], ◌∙◌, sym, ap, subst, take}
 use Rattle.std.proofs.lemmas.List.{take_more}
 use Rattle.rejecting.specs.Rejections.{AreRejected}
-use Rattle.rejecting.proofs.Items.{each-fits, more_rejected}
+use Rattle.rejecting.proofs.Ids.{each-fits, more_rejected}
 use Rattle.rejecting.proofs.rejecting.reject.Goals as goal
 
 pub loop-id-preserved : goal.loop-id-preserved

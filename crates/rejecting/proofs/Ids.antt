@@ -1,25 +1,21 @@
 -- Ids that are rejected, one after another.
-use Rattle.std.proofs.Common.{◌≡◌, ◌∙◌, ℕ, Bool, true, false, not, List, [], ◌∷◌, ◌++◌, length, map, take, All, IsTrue, refl, sym, ap, subst, Ok, Err, true≢false, if◌then◌else◌}
+use Rattle.std.proofs.Common.{◌≡◌, ◌∙◌, Bool, true, false, not, List, [], ◌∷◌, ◌++◌, map, take, All, sym, ap, subst, Ok, Err, true≢false, if◌then◌else◌}
 use Rattle.std.specs.Prelude.{Result, IsOk, OnOk}
 use Rattle.std.specs.List.{list_any}
 use Rattle.std.proofs.lemmas.List.{map-append}
-use Rattle.std.proofs.lemmas.List.Elements.{All-nil, All-append}
+use Rattle.std.proofs.lemmas.List.Elements.{All-append}
 use Rattle.std.proofs.lemmas.List.Sums.{fold-append}
 use Rattle.indexmap.specs.IndexMap.{IndexMap, values}
 use Rattle.terms.specs.Types.{Text, Id, Global, Zone, NamedZone}
 use Rattle.terms.specs.Lookups.{is_received, is_applied}
 use Rattle.terms.specs.Global.{IsGlobal, RejectFault, Rj1, Rj2, reject, without_sysmod}
-use Rattle.machine.specs.Outcome.{StatusLine}
 use Rattle.machine.specs.Runs.{Runs}
-use Rattle.machine.specs.Receiving.{or_same, place_of}
-use Rattle.machine.proofs.Joined.{runs-append, runs-one}
+use Rattle.machine.specs.Receiving.{or_same}
+use Rattle.machine.proofs.Joined.{runs-append}
 use Rattle.rejecting.specs.Rejecting.{reject_status, RejectsId}
-use Rattle.report.specs.declared.outcome.Place.{Place}
-use Rattle.report.specs.declared.outcome.Status.{Status}
 use Rattle.report.specs.declared.outcome.Status.TheVariants.{Rejected}
 use Rattle.report.specs.declared.outcome.Line.{Line}
-use Rattle.report.specs.declared.outcome.Line.TheVariants as variant
-use Rattle.report.specs.Views.{line_view, place_view, status_view}
+use Rattle.report.specs.Views.{line_view}
 use Rattle.store.specs.declared.change.GlobalEdit.{GlobalEdit}
 use Rattle.store.specs.Changes.{after_edit, after_edits, EachFits}
 use Rattle.rejecting.specs.Rejections.{AppliesAlike, edits_of, FitsAlways, IsAnswered, AreRejected, IsRejected}
@@ -49,24 +45,6 @@ module _ {S : Type 0} (zones : IndexMap Text Zone S) (g : Global) (x : Id) where
     after = edits-make g x known ∙ sym out;
     leads = λ named alike. out ∙ sym (ap (or_same g) (answered named alike true false there free));
     told = λ named alike. sym (ap reject_status (answered named alike true false there free));
-  }
-
-  -- with its line
-  pub one_rejected : (new : Global) (edits later : List GlobalEdit) (lines printed : List Line) (place : Place) (status : Status)
-      → place_view place ≡ place_of g x → IsAnswered zones g x new edits later status → printed ≡ lines ++ variant.Status x place status ∷ [] → IsRejected zones g x new edits later lines printed
-  one_rejected new edits later lines printed place status stood a is = record {
-    own = a.own;
-    edits_are = a.edits_are;
-    line = variant.Status x place status;
-    lines_are = is;
-    rejected = record {
-      runs = λ named alike. runs-one (RejectsId named) g new x (line_view (variant.Status x place status) ∷ []) (
-        a.leads named alike,
-        ap (λ p. StatusLine x p (status_view status) ∷ []) stood ∙ ap (λ s. StatusLine x (place_of g x) s ∷ []) (a.told named alike),
-      );
-      fits = a.fits;
-      after = a.after;
-    };
   }
 
 -- a call that does what it does where it answers Ok
