@@ -12,8 +12,8 @@ use Rattle.terms.specs.Texts.{IsNumbered, IsReplacement, IsActionOf, IsNumberedF
 use Rattle.terms.specs.Statements.{SaysChange, IsReplacementOf}
 use Rattle.terms.specs.Ptfin.{HasValue, IsWithin}
 use Rattle.terms.proofs.Updates.{numbered-no_fault}
-use Rattle.mcs.specs.declared.said.StatementError.{StatementError}
-use Rattle.mcs.specs.declared.said.StatementError.TheVariants.{Memory, Fault}
+use Rattle.statements.specs.declared.fault.StatementError.{StatementError}
+use Rattle.statements.specs.declared.fault.StatementError.TheVariants.{Memory, Fault}
 use Rattle.mcs.specs.Elements.{HasNames, IsTextError}
 use Rattle.mcs.specs.Said.{IsSaidFault, IsSaidError}
 

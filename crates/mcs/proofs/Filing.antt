@@ -7,8 +7,8 @@ use Rattle.terms.specs.Groups.{Group, IsGroup, TakesGroup}
 use Rattle.terms.specs.Statements.{Statement}
 use Rattle.terms.specs.Ptfin.{SoFar, nothing, items_of, after, IsGoodStatement, IsStatementFault, BeginsWithStatements, IsPtfin}
 use Rattle.terms.proofs.ExactPtfin.{ptfin_fault-no_items}
-use Rattle.mcs.specs.declared.error.McsError.{McsError}
-use Rattle.mcs.specs.declared.error.McsError.TheVariants.{Memory, Fault}
+use Rattle.statements.specs.declared.error.McsError.{McsError}
+use Rattle.statements.specs.declared.error.McsError.TheVariants.{Memory, Fault}
 use Rattle.mcs.specs.Files.{IsPtfinError, IsRestError}
 
 pub begins_none : (c : SoFar) (n : ℕ) (records : Lines) → BeginsWithStatements c n records [] c n records

@@ -8,8 +8,8 @@ use Rattle.terms.specs.Types.{Text, Lines, Sysmod}
 use Rattle.terms.specs.Statement.{Piece}
 use Rattle.terms.specs.Ptfin.{IsKnown, IsPlaced, IsMisplaced, Disorder, IsGoodStatement}
 use Rattle.mcs.specs.declared.said.Statement.{Statement as Read}
-use Rattle.mcs.specs.declared.said.StatementError.{StatementError}
-use Rattle.mcs.specs.declared.said.StatementError.TheVariants.{Memory, Fault}
+use Rattle.statements.specs.declared.fault.StatementError.{StatementError}
+use Rattle.statements.specs.declared.fault.StatementError.TheVariants.{Memory, Fault}
 use Rattle.mcs.specs.Said.{IsSaid, IsSaidError, IsStatementError}
 use Rattle.mcs.specs.Statements.{statement_of}
 

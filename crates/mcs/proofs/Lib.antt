@@ -1,8 +1,5 @@
-pub mod Beginning
-pub mod Owning
 pub mod Ordering
-pub mod Remaining
-pub mod Excluding
+pub mod NotNaming
 pub mod Saying
 pub mod Changing
 pub mod Versions

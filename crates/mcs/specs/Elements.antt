@@ -6,10 +6,10 @@ use Rattle.terms.specs.Types.{Text, Lines}
 use Rattle.terms.specs.Forms.{IsName}
 use Rattle.terms.specs.Words.{Word}
 use Rattle.terms.specs.Operands.{operand, AreOperands, HasRequired}
-use Rattle.terms.specs.Statements.{HasOwn}
+use Rattle.terms.specs.Operands.{HasOwn}
 use Rattle.terms.specs.Texts.{IsReplacement}
-use Rattle.mcs.specs.declared.said.StatementError.{StatementError}
-use Rattle.mcs.specs.declared.said.StatementError.TheVariants.{Memory, Fault}
+use Rattle.statements.specs.declared.fault.StatementError.{StatementError}
+use Rattle.statements.specs.declared.fault.StatementError.TheVariants.{Memory, Fault}
 
 -- DISTLIB and SYSLIB alone, and these names
 pub record HasNames (own : Option Text) (ws : List Word) (element distlib syslib : Text) : Type 0 where

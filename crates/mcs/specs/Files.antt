@@ -8,8 +8,8 @@ use Rattle.terms.specs.Ptfin.{McsFault, IsPtfinFault}
 use Rattle.mcs.specs.declared.file.Item.{Item}
 use Rattle.mcs.specs.declared.file.Item.TheVariants.{Sysmod}
 use Rattle.mcs.specs.declared.file.SoFar.{SoFar}
-use Rattle.mcs.specs.declared.error.McsError.{McsError}
-use Rattle.mcs.specs.declared.error.McsError.TheVariants.{Memory, Fault}
+use Rattle.statements.specs.declared.error.McsError.{McsError}
+use Rattle.statements.specs.declared.error.McsError.TheVariants.{Memory, Fault}
 
 abbrev pub item_of : Item → terms.Item
 item_of (Sysmod s) = terms.ASysmod s

@@ -1,5 +1,3 @@
-pub mod Forms
-pub mod KnownWords
 pub mod Said
 pub mod Statements
 pub mod Elements

@@ -7,8 +7,8 @@ use Rattle.terms.specs.Types.{Text, Lines, Sysmod}
 use Rattle.terms.specs.Statement.{Piece}
 use Rattle.terms.specs.Statements.{Statement}
 use Rattle.terms.specs.Ptfin.{HasValue, IsWithin, HasGoodText, IsStatementFault}
-use Rattle.mcs.specs.declared.said.StatementError.{StatementError}
-use Rattle.mcs.specs.declared.said.StatementError.TheVariants.{Memory, Fault}
+use Rattle.statements.specs.declared.fault.StatementError.{StatementError}
+use Rattle.statements.specs.declared.fault.StatementError.TheVariants.{Memory, Fault}
 
 -- The statement says so, within its limits and with a good text.
 pub record IsSaid (current : Option Sysmod) (w : StatementWord) (own : Option Text) (rest : List Piece) (inline : Lines) (s : Statement) : Type 0 where

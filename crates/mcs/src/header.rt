@@ -2,13 +2,12 @@ ghost use Rattle.std.specs.Prelude.{◌≡◌, List, IfOk, IfErr};
 ghost use Rattle.terms.specs.declared.statement_words.StatementWord.TheVariants as word;
 ghost use Rattle.terms.specs.Statement.{Piece, HasSolid};
 ghost use Rattle.rec80.specs.Views.{left_of};
-ghost use Rattle.mcs.specs.KnownWords.{own_list};
+ghost use Rattle.statements.specs.KnownWords.{own_list};
 ghost use Rattle.mcs.specs.Said.{IsSaid, IsSaidError};
 ghost use Rattle.mcs.specs.Statements.{statement_of};
 
-use crate::begin::Known;
-use crate::own::one_id;
-use crate::said::{Statement, StatementError};
+use crate::said::Statement;
+use statements::{Known, StatementError, one_id};
 use sysmods::Sysmod;
 use terms::{Kind, McCode};
 

@@ -1,10 +1,9 @@
 ghost use Rattle.std.specs.Prelude.{◌≡◌, ◌↔◌, IsTrue};
 ghost use Rattle.terms.specs.Ptfin.{MayStand, IsSecond, Disorder, IsMisplaced};
-ghost use Rattle.mcs.specs.KnownWords.{own_list};
+ghost use Rattle.statements.specs.KnownWords.{own_list};
 
-use crate::begin::Known;
-use crate::own::{one_name, one_srel};
 use rec80::Record;
+use statements::{Known, one_name, one_srel};
 use sysmods::Sysmod;
 use terms::StatementWord;
 

@@ -2,14 +2,13 @@ ghost use Rattle.std.specs.Prelude.{◌≡◌, ℕ, List, [], IfOk, IfErr};
 ghost use Rattle.terms.specs.Statements.{Statement as AnyStatement};
 ghost use Rattle.terms.specs.Ptfin.{SoFar as AnySoFar, nothing, items_of, BeginsWithStatements, IsPtfin};
 ghost use Rattle.terms.specs.Types.{Item as AnyItem};
-ghost use Rattle.mcs.specs.declared.error.McsError.TheVariants.{Memory};
+ghost use Rattle.statements.specs.declared.error.McsError.TheVariants.{Memory};
 ghost use Rattle.mcs.specs.Files.{items, so_far, IsPtfinError, IsRestError};
 
-use crate::error::McsError;
 use crate::file::{Item, SoFar};
-use crate::said::StatementError;
 use crate::statement::read_statement;
 use rec80::{Groups, records};
+use statements::{McsError, StatementError};
 use std::alloc::Global;
 use terms::McCode;
 

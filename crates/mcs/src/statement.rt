@@ -3,13 +3,13 @@ ghost use Rattle.terms.specs.Ptfin.{IsGoodStatement};
 ghost use Rattle.mcs.specs.Said.{IsStatementError};
 ghost use Rattle.mcs.specs.Statements.{statement_of};
 
-use crate::begin::begun;
 use crate::change::change_statement;
 use crate::header::header_statement;
 use crate::order::is_misplaced;
-use crate::said::{Statement, StatementError};
+use crate::said::Statement;
 use crate::ver::ver_statement;
 use rec80::{Group, Record};
+use statements::{StatementError, begun};
 use std::alloc::Global;
 use sysmods::Sysmod;
 use terms::{McCode, StatementWord};

@@ -11,18 +11,18 @@ ghost use Rattle.terms.specs.Words.{IsShort};
 ghost use Rattle.operands.specs.Left.{LeavesWords};
 ghost use Rattle.operands.specs.Failing.{Excludes};
 ghost use Rattle.rec80.specs.Views.{left_of};
-ghost use Rattle.mcs.specs.KnownWords.{own_list};
+ghost use Rattle.statements.specs.KnownWords.{own_list};
 ghost use Rattle.mcs.specs.VerOperands.{HasLists};
 ghost use Rattle.mcs.specs.Said.{IsSaid, IsSaidError};
 ghost use Rattle.mcs.specs.Statements.{statement_of};
 
-use crate::begin::Known;
-use crate::own::one_srel;
-use crate::said::{Statement, StatementError, no_value};
-use crate::values::{are_operands, listed_ids, optional_id};
+use crate::said::Statement;
 use fields::{Id, IdList, Srel};
 use operands::{OperandError, operand};
 use rec80::Words;
+use statements::{
+    Known, StatementError, are_operands, listed_ids, no_value, one_srel, optional_id,
+};
 use std::alloc::Global;
 use sysmods::{Kind, Sysmod, Ver};
 use terms::McCode;

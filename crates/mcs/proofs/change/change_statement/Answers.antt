@@ -1,7 +1,7 @@
 use Rattle.std.proofs.Common.{◌∙◌, sym, refl}
 use Rattle.std.proofs.lemmas.Bool.{true≢false}
 use Rattle.terms.specs.Statements.{SaysChange}
-use Rattle.mcs.specs.KnownWords.{own_list}
+use Rattle.statements.specs.KnownWords.{own_list}
 use Rattle.mcs.proofs.Saying.{change_excludes}
 use Rattle.mcs.proofs.Changing.{a_change, change_value, names_of, text_fault, action_from}
 use Rattle.mcs.proofs.change.change_statement.Goals as goal

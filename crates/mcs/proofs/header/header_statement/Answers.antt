@@ -1,5 +1,5 @@
 use Rattle.rec80.specs.Views.{word_of}
-use Rattle.mcs.specs.KnownWords.{own_list}
+use Rattle.statements.specs.KnownWords.{own_list}
 use Rattle.mcs.proofs.Saying.{header_said, header_excludes, some_rest, bad_rest}
 use Rattle.mcs.proofs.header.header_statement.Goals as goal
 

@@ -1,4 +1,4 @@
-use Rattle.mcs.specs.KnownWords.{own_list}
+use Rattle.statements.specs.KnownWords.{own_list}
 use Rattle.mcs.proofs.Ordering.{second_ver, second_change}
 use Rattle.mcs.proofs.order.is_second.Goals as goal
 

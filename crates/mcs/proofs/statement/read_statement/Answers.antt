@@ -1,4 +1,4 @@
-use Rattle.mcs.specs.KnownWords.{own_list}
+use Rattle.statements.specs.KnownWords.{own_list}
 use Rattle.mcs.proofs.Judging.{Stands, stands, good_statement, bad_statement}
 use Rattle.mcs.proofs.statement.read_statement.Goals as goal
 use Rattle.mcs.proofs.statement.read_statement.Goals.{Else-is_misplaced}

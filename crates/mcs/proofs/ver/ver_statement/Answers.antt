@@ -1,7 +1,7 @@
 use Rattle.std.proofs.Common.{◌∙◌, sym, refl}
 use Rattle.std.proofs.lemmas.Bool.{true≢false}
 use Rattle.terms.specs.Statements.{SaysVer}
-use Rattle.mcs.specs.KnownWords.{own_list}
+use Rattle.statements.specs.KnownWords.{own_list}
 use Rattle.mcs.proofs.Versions.{ver_error, ver_said, ver_value, ver_within}
 use Rattle.mcs.proofs.ver.ver_statement.Goals as goal
 

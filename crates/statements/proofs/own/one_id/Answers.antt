@@ -1,7 +1,7 @@
 use Rattle.terms.specs.Forms.{IsId}
 use Rattle.rec80.specs.Views.{word_of}
-use Rattle.mcs.proofs.Owning.{own_member, read_one, read_none}
-use Rattle.mcs.proofs.own.one_id.Goals as goal
+use Rattle.statements.proofs.Owning.{own_member, read_one, read_none}
+use Rattle.statements.proofs.own.one_id.Goals as goal
 
 pub returns-in_default-clause-none : goal.returns-in_default-clause-none
 returns-in_default-clause-none c = λ v h. c.in_default.ensures.none v (own_member IsId (word_of c.args.word.now).list v h)

@@ -1,6 +1,6 @@
 use Rattle.rec80.specs.Views.{word_of}
-use Rattle.mcs.proofs.Beginning.{unknown_end, unknown_bad, unknown_word, known_word}
-use Rattle.mcs.proofs.begin.begun.Goals as goal
+use Rattle.statements.proofs.Beginning.{unknown_end, unknown_bad, unknown_word, known_word}
+use Rattle.statements.proofs.begin.begun.Goals as goal
 
 pub returns-in-Ok-None-clause-fault : goal.returns-in-Ok-None-clause-fault
 returns-in-Ok-None-clause-fault c =

@@ -1,6 +1,6 @@
 ghost use Rattle.std.specs.Prelude.{◌≡◌, ℕ, List, IfSome, IfNone};
 ghost use Rattle.terms.specs.Forms.{IsId, IsSrel, IsName};
-ghost use Rattle.terms.specs.Statements.{HasOwn};
+ghost use Rattle.terms.specs.Operands.{HasOwn};
 ghost use Rattle.rec80.specs.Views.{word_of};
 
 use fields::{Id, Name, Srel};

@@ -14,7 +14,7 @@ pub enum McsError {
 
 impl From<AllocError> for McsError {
     ghost use Rattle.std.specs.Prelude.{◌≡◌};
-    ghost use Rattle.mcs.specs.declared.error.McsError.TheVariants.{Memory};
+    ghost use Rattle.statements.specs.declared.error.McsError.TheVariants.{Memory};
 
     ghost from_gives = { λ _ e. e ≡ Memory };
 
@@ -25,7 +25,7 @@ impl From<AllocError> for McsError {
 
 impl<T: Drop> From<AllocFailed<T>> for McsError {
     ghost use Rattle.std.specs.Prelude.{◌≡◌};
-    ghost use Rattle.mcs.specs.declared.error.McsError.TheVariants.{Memory};
+    ghost use Rattle.statements.specs.declared.error.McsError.TheVariants.{Memory};
 
     ghost from_gives = { λ _ e. e ≡ Memory };
 

@@ -2,8 +2,8 @@ ghost use Rattle.std.specs.Prelude.{◌≡◌, List, IfOk, IfErr};
 ghost use Rattle.terms.specs.Statement.{Piece, HasSolid};
 ghost use Rattle.terms.specs.Ptfin.{IsKnown};
 ghost use Rattle.rec80.specs.Views.{left_of};
-ghost use Rattle.mcs.specs.Forms.{IsFormFault};
-ghost use Rattle.mcs.specs.KnownWords.{own_list};
+ghost use Rattle.statements.specs.Forms.{IsFormFault};
+ghost use Rattle.statements.specs.KnownWords.{own_list};
 
 use crate::words::statement_word;
 use rec80::{Group, Word, Words, statement};

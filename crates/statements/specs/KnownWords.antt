@@ -1,7 +1,7 @@
 -- A statement whose word is known, as the definitions see it.
 use Rattle.std.specs.Prelude.{ℕ, List, Option}
 use Rattle.rec80.specs.Views.{word_of}
-use Rattle.mcs.specs.declared.begin.Known.{Known}
+use Rattle.statements.specs.declared.begin.Known.{Known}
 
 -- the list of the statement's word
 abbrev pub own_list : Known → Option (List ℕ)

@@ -3,10 +3,10 @@ use Rattle.std.specs.Prelude.{is_some}
 use Rattle.std.specs.Borrow.{Bor}
 use Rattle.std.specs.Str.{bytes_eq}
 use Rattle.rec80.specs.Views.{left_of, word_of}
-use Rattle.mcs.proofs.Excluding.{operand_none, operand_some, any_map}
-use Rattle.mcs.proofs.Remaining.{Takes, remains_all, remains_more, remains_end, remains_unknown, remains_twice, remains_bad}
-use Rattle.mcs.proofs.values.are_operands.Goals as goal
-use Rattle.mcs.proofs.values.are_operands.Goals.{In-Ok-Some}
+use Rattle.statements.proofs.Finding.{operand_none, operand_some, any_map}
+use Rattle.statements.proofs.Remaining.{Takes, remains_all, remains_more, remains_end, remains_unknown, remains_twice, remains_bad}
+use Rattle.statements.proofs.values.are_operands.Goals as goal
+use Rattle.statements.proofs.values.are_operands.Goals.{In-Ok-Some}
 
 takes : (c : In-Ok-Some) → Takes (left_of c.loop-word.left) (left_of c.next_word.new.self) (word_of c.in-Ok-Some.word)
 takes c = record { takes = λ rest h. rw c.in-Ok-Some.field-0-is at (c.in-Ok-Some.ensures.word rest h) }

@@ -1,0 +1,5 @@
+pub mod Beginning
+pub mod Owning
+pub mod Remaining
+pub mod Finding
+pub mod Failing
