@@ -3,3 +3,4 @@ pub mod Owning
 pub mod Remaining
 pub mod Finding
 pub mod Failing
+pub mod Kinds

@@ -4,7 +4,7 @@ use Rattle.std.specs.Prelude.{IsSomeAnd, IfSome, IfNone, IsSome, ◌↔◌}
 use Rattle.std.proofs.lemmas.Bool.{false≢true}
 use Rattle.terms.specs.Types.{Text}
 use Rattle.terms.specs.Words.{Word, HasMembers, plain}
-use Rattle.terms.specs.Statements.{HasOwn}
+use Rattle.terms.specs.Operands.{HasOwn}
 use Rattle.terms.proofs.ExactWords.{members-only}
 
 abbrev pub HasOneMember : Option Text → Text → Type 0

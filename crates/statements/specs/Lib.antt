@@ -1,3 +1,4 @@
 pub mod Forms
 pub mod KnownWords
 pub mod Faults
+pub mod Holds
