@@ -3,6 +3,7 @@ pub mod Installing
 pub mod Machine
 pub mod Outcome
 pub mod Receiving
+pub mod Rejecting
 pub mod Report
 pub mod Restoring
 pub mod Runs

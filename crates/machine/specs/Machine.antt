@@ -1,23 +1,48 @@
 -- The machine: what each act makes of the state and prints, and what a list of jobs does.
--- (IBM z/OS SMP/E Commands: SET, RECEIVE and APPLY. The other commands are not known yet.)
-use Rattle.std.specs.Prelude.{◌≡◌, ◌⊎◌, ℕ, List, [], ◌∷◌, ◌++◌, map, Option, None, Some, Result, Ok, Err, if◌then◌else◌}
+-- (IBM z/OS SMP/E Commands: SET, RECEIVE, REJECT and APPLY. The other commands are not known yet.)
+use Rattle.std.specs.Prelude.{◌≡◌, ◌⊎◌, ℕ, Bool, IsTrue, List, [], ◌∷◌, ◌++◌, map, Option, None, Some, Result, Ok, Err, if◌then◌else◌}
 use Rattle.std.specs.List.{flat_map}
-use Rattle.terms.specs.Types.{Text, Global, Zone, Item, ReceiveWhat, Install, Command, Set, Receive, Apply}
+use Rattle.terms.specs.Types.{Text, Id, Global, Zone, Item, HoldItem, ReceiveWhat, Install, Command, Set, Receive, Reject, Apply}
 use Rattle.terms.specs.Ptfin.{McsFault, IsPtfin, IsPtfinFault}
+use Rattle.terms.specs.HoldFile.{IsHoldFile, IsHoldFileFault}
 use Rattle.terms.specs.Commands.{CntlFault, IsCommandFile, IsCommandFileFault}
-use Rattle.machine.specs.Outcome.{Line, Refusal, Cm4, ControlFault, Outcome, Ran, Refused, Control, header_of, or_nothing, job_code}
+use Rattle.machine.specs.Outcome.{Line, Refusal, Cm4, Cm5, ControlFault, Outcome, Ran, Refused, Control, header_of, or_nothing, job_code}
 use Rattle.machine.specs.Report.{text}
 use Rattle.machine.specs.State.{State, zone_named, with_zone, misplaced, ZoneDefinition, ZoneFault, define_zone}
-use Rattle.machine.specs.Receiving.{TakesItem}
+use Rattle.machine.specs.Receiving.{TakesItem, TakesHoldItem}
+use Rattle.machine.specs.Rejecting.{RejectsId}
 use Rattle.machine.specs.Installing.{InstallsSelected}
 use Rattle.machine.specs.Runs.{Runs}
 
--- RECEIVE takes in the items of PTFIN, which is read before anything changes. Cm4 is PTFIN's first fault.
-pub data Takes (ptfin : List ℕ) (s : State) (what : ReceiveWhat) : State → Outcome → Type 0 where
-  TakesAll : (items : List Item) (g : Global) (lines : List Line) → IsPtfin ptfin items → Runs (TakesItem what.source) s.global items g lines
-      → Takes ptfin s what (record s { global = g }) (Ran (header_of (Receive what) s.boundary) (or_nothing lines))
-  TakesNone : (fault : McsFault) → IsPtfinFault ptfin fault
-      → Takes ptfin s what s (Refused (header_of (Receive what) s.boundary) (Cm4 fault.number fault.code))
+-- the files that a job's RECEIVE reads
+pub record Files : Type 0 where
+  pub ptfin : List ℕ
+  pub holds : List ℕ
+
+-- what a file holds; of a file that the command does not read, nothing
+abbrev pub HasItems : {X : Type 0} → (List ℕ → List X → Type 0) → Bool → List ℕ → List X → Type 0
+HasItems Is reads bytes items = if reads then Is bytes items else items ≡ []
+
+-- RECEIVE takes in the items of PTFIN, and then those of the hold file. Both are read before anything changes: Cm4 is PTFIN's first
+-- fault, and Cm5 the hold file's.
+pub data Takes (files : Files) (s : State) (what : ReceiveWhat) : State → Outcome → Type 0 where
+  TakesAll : (items : List Item) (holds : List HoldItem) (middle g : Global) (lines more : List Line)
+      → HasItems IsPtfin what.sysmods files.ptfin items → HasItems IsHoldFile what.holddata files.holds holds
+      → Runs (TakesItem what.source) s.global items middle lines → Runs TakesHoldItem middle holds g more
+      → Takes files s what (record s { global = g }) (Ran (header_of (Receive what) s.boundary) (or_nothing (lines ++ more)))
+  TakesNone : (fault : McsFault) → IsTrue what.sysmods → IsPtfinFault files.ptfin fault
+      → Takes files s what s (Refused (header_of (Receive what) s.boundary) (Cm4 fault.number fault.code))
+  TakesNoHold : (items : List Item) (fault : McsFault) → HasItems IsPtfin what.sysmods files.ptfin items
+      → IsTrue what.holddata → IsHoldFileFault files.holds fault
+      → Takes files s what s (Refused (header_of (Receive what) s.boundary) (Cm5 fault.number fault.code))
+
+-- REJECT takes the ids one after the other.
+pub record Rejects (s : State) (ids : List Id) (t : State) (outcome : Outcome) : Type 0 where
+  pub new : Global
+  pub lines : List Line
+  pub runs : Runs (RejectsId s.zones) s.global ids new lines
+  pub state : t ≡ record s { global = new }
+  pub prints : outcome ≡ Ran (header_of (Reject ids) s.boundary) lines
 
 -- APPLY installs into the zone of the boundary. With CHECK it prints the same and changes nothing.
 pub record Applies (date : Text) (s : State) (i : Install) (t : State) (outcome : Outcome) : Type 0 where
@@ -32,24 +57,25 @@ pub record Applies (date : Text) (s : State) (i : Install) (t : State) (outcome 
   pub prints : outcome ≡ Ran (header_of (Apply i) s.boundary) (or_nothing lines)
 
 -- a command where it can run
-abbrev pub RunsThere : Text → List ℕ → State → Command → State → Outcome → Type 0
-RunsThere date ptfin s (Set name) t outcome =
+abbrev pub RunsThere : Text → Files → State → Command → State → Outcome → Type 0
+RunsThere date files s (Set name) t outcome =
     (t ≡ record s { boundary = Some name }) × (outcome ≡ Ran (header_of (Set name) s.boundary) [])
-RunsThere date ptfin s (Receive what) t outcome = Takes ptfin s what t outcome
-RunsThere date ptfin s (Apply i) t outcome = Applies date s i t outcome
-RunsThere date ptfin s _ t outcome = ⊥
+RunsThere date files s (Receive what) t outcome = Takes files s what t outcome
+RunsThere date files s (Reject ids) t outcome = Rejects s ids t outcome
+RunsThere date files s (Apply i) t outcome = Applies date s i t outcome
+RunsThere date files s _ t outcome = ⊥
 
 -- a command; where it can't run it is refused and changes nothing
-abbrev pub Performs : Text → List ℕ → State → Command → State → Outcome → Type 0
-Performs date ptfin s c t outcome =
+abbrev pub Performs : Text → Files → State → Command → State → Outcome → Type 0
+Performs date files s c t outcome =
     ((why : Refusal) × (misplaced s c ≡ Some why) × (t ≡ s) × (outcome ≡ Refused (header_of c s.boundary) why))
-    ⊎ ((misplaced s c ≡ None) × RunsThere date ptfin s c t outcome)
+    ⊎ ((misplaced s c ≡ None) × RunsThere date files s c t outcome)
 
--- A job begins, and has no boundary; a command of it runs, on its date and over its PTFIN; or its command file is at fault.
+-- A job begins, and has no boundary; a command of it runs, on its date and over its files; or its command file is at fault.
 -- Or a zone is defined.
 pub data Act : Type 0 where
   Begin : Act
-  Perform : Text → List ℕ → Command → Act
+  Perform : Text → Files → Command → Act
   Faulty : ControlFault → Act
   Define : ZoneDefinition → Act
 
@@ -60,7 +86,7 @@ or_same s (Err why) = s
 
 abbrev pub Steps : State → Act → State → List Outcome → Type 0
 Steps s Begin t outcomes = (t ≡ record s { boundary = None }) × (outcomes ≡ [])
-Steps s (Perform date ptfin c) t outcomes = (outcome : Outcome) × Performs date ptfin s c t outcome × (outcomes ≡ outcome ∷ [])
+Steps s (Perform date files c) t outcomes = (outcome : Outcome) × Performs date files s c t outcome × (outcomes ≡ outcome ∷ [])
 Steps s (Faulty fault) t outcomes = (t ≡ s) × (outcomes ≡ Control fault ∷ [])
 Steps s (Define d) t outcomes = (t ≡ or_same s (define_zone s d)) × (outcomes ≡ [])
 
@@ -68,15 +94,15 @@ Steps s (Define d) t outcomes = (t ≡ or_same s (define_zone s d)) × (outcomes
 abbrev pub Prints : State → Act → State → List ℕ → Type 0
 Prints s a t bytes = (outcomes : List Outcome) × Steps s a t outcomes × (bytes ≡ flat_map text outcomes)
 
--- a job's date, command file and PTFIN, or a zone to define
+-- a job's date, command file and other files, or a zone to define
 pub data Job : Type 0 where
-  RunFiles : Text → List ℕ → List ℕ → Job
+  RunFiles : Text → List ℕ → Files → Job
   NewZone : ZoneDefinition → Job
 
 -- The acts of a job are its commands, or the fault of its command file.
 abbrev pub HasActs : Job → List Act → Type 0
-HasActs (RunFiles date cntl ptfin) acts =
-    ((cs : List Command) × IsCommandFile cntl cs × (acts ≡ Begin ∷ map (Perform date ptfin) cs))
+HasActs (RunFiles date cntl files) acts =
+    ((cs : List Command) × IsCommandFile cntl cs × (acts ≡ Begin ∷ map (Perform date files) cs))
     ⊎ ((fault : CntlFault) × IsCommandFileFault cntl fault
     × (acts ≡ Begin ∷ Faulty (record { number = fault.number; code = fault.code }) ∷ []))
 HasActs (NewZone d) acts = acts ≡ Define d ∷ []
@@ -92,7 +118,7 @@ defined (Ok new) = Defined
 defined (Err why) = NotDefined why
 
 abbrev pub HasAnswer : State → Job → List Outcome → Answer → Type 0
-HasAnswer s (RunFiles date cntl ptfin) outcomes answer = answer ≡ Code (job_code outcomes)
+HasAnswer s (RunFiles date cntl files) outcomes answer = answer ≡ Code (job_code outcomes)
 HasAnswer s (NewZone d) outcomes answer = answer ≡ defined (define_zone s d)
 
 -- A job leads from s to t, prints the bytes, and has the answer.

@@ -5,9 +5,9 @@ ghost use Rattle.std.specs.Str.{bytes_eq};
 ghost use Rattle.std.specs.Ordering.{nat_cmp};
 ghost use Rattle.std.specs.Cmp.Lexicographic.{slice_cmp};
 ghost use Rattle.terms.specs.Types.{Ver as AnyVer, Change as AnyChange, type_number};
-ghost use Rattle.terms.specs.Rising.{Rises, Splits, Stands};
+ghost use Rattle.terms.specs.Rising.{Rises, Splits, Stands, with_item};
 ghost use Rattle.terms.specs.Global.{change_cmp};
-ghost use Rattle.terms.specs.Ptfin.{new_sysmod, with_ver, with_change};
+ghost use Rattle.terms.specs.Ptfin.{begun};
 
 use crate::{ElemChange, Sysmod, Ver};
 use fields::{Id, Name, SourceList, Srel};
@@ -17,7 +17,7 @@ use terms::{ElemType, Kind};
 impl Sysmod {
     /// The SYSMOD of a header alone.
     pub fn new(alloc: Global, kind: Kind, id: Id) -> Sysmod
-        ensures { result ≡ new_sysmod kind id }
+        ensures { result ≡ (begun kind id).sysmod }
     {
         Sysmod {
             id,
@@ -45,7 +45,7 @@ impl Sysmod {
 
     /// The `++VER` comes in at its place, where it takes the place of one of its SREL.
     pub fn add_ver(&mut self, ver: Ver) -> Result<(), AllocError>
-        ensures ok { OnOk result (self.new ≡ with_ver ver self.old) }
+        ensures ok { OnOk result (self.new ≡ record self.old { vers = with_item (slice_cmp nat_cmp) (λ v. v.srel) self.old.vers ver }) }
         ensures err { OnErr result (self.new ≡ self.old) }
     {
         match ver_place(&self.vers, ver.srel) {
@@ -57,7 +57,7 @@ impl Sysmod {
 
     /// The element statement comes in at its place, where it takes the place of one for its element.
     pub fn add_change(&mut self, change: ElemChange) -> Result<(), AllocError>
-        ensures ok { OnOk result (self.new ≡ with_change change self.old) }
+        ensures ok { OnOk result (self.new ≡ record self.old { changes = with_item change_cmp (λ c. c) self.old.changes change }) }
         ensures err { OnErr result (self.new ≡ self.old) }
     {
         match change_place(&self.changes, &change) {

@@ -4,19 +4,19 @@ use Rattle.std.proofs.lemmas.Bool.{true≢false}
 use Rattle.terms.specs.declared.codes.McCode.{McCode}
 use Rattle.terms.specs.declared.codes.McCode.TheVariants.{Mc1, Mc2, Mc3, Mc4, Mc5, Mc6}
 use Rattle.terms.specs.declared.statement_words.StatementWord.{StatementWord}
-use Rattle.terms.specs.Types.{Text, Lines, Sysmod}
+use Rattle.terms.specs.Types.{Text, Lines}
 use Rattle.terms.specs.Records.{HasRecords, rec_fault_record}
 use Rattle.terms.specs.Groups.{Group, TakesGroup, starts_outside}
 use Rattle.terms.specs.Statement.{Piece}
 use Rattle.terms.specs.Words.{TakesWord}
 use Rattle.terms.specs.Statements.{Statement, statement_text}
-use Rattle.terms.specs.Ptfin.{SoFar, nothing, after, IsKnown, IsUnknown, IsWithin, IsFault, IsGoodStatement, IsStatementFault, BeginsWithStatements, McsFault, IsNextFault, IsPtfinFault}
+use Rattle.terms.specs.Ptfin.{Begun, SoFar, sysmod_in, nothing, after, IsKnown, IsUnknown, IsWithin, IsFault, IsGoodStatement, IsStatementFault, BeginsWithStatements, McsFault, IsNextFault, IsPtfinFault}
 use Rattle.terms.proofs.Exact.{statement-only, fault-no_statement}
 use Rattle.terms.proofs.ExactFiles.{records-only, rec_fault-no_records, rec_fault-only, group-only, begins_inside}
 use Rattle.terms.proofs.ExactStatements.{value-only}
 use Rattle.terms.proofs.ExactPtfin.{SameParts, known-only, good-only, same_step, statement_fault-no_good}
 
-fault_codes : (current : Option Sysmod) (later : Lines) (w : StatementWord) (own : Option Text) (rest : List Piece) (inline : Lines) (a b : McCode) → IsFault current later w own rest inline a → IsFault current later w own rest inline b → a ≡ b
+fault_codes : (current : Option Begun) (later : Lines) (w : StatementWord) (own : Option Text) (rest : List Piece) (inline : Lines) (a b : McCode) → IsFault current later w own rest inline a → IsFault current later w own rest inline b → a ≡ b
 fault_codes current later w own rest inline Mc1 b f g = absurd f
 fault_codes current later w own rest inline Mc2 b f g = absurd f
 fault_codes current later w own rest inline Mc3 Mc1 f g = absurd g
@@ -37,19 +37,19 @@ fault_codes current later w own rest inline Mc5 Mc3 f g = absurd (g.1 f.0 f.2)
 fault_codes current later w own rest inline Mc5 Mc4 f g = absurd (f.1 g.0 g.1)
 fault_codes current later w own rest inline Mc5 Mc5 f g = refl
 fault_codes current later w own rest inline Mc5 Mc6 f g =
-    let same = value-only current w own rest inline f.0 g.0 f.2 g.2 in
+    let same = value-only (sysmod_in current) w own rest inline f.0 g.0 f.2 g.2 in
     absurd (g.3 (subst (λ t. IsWithin current t inline) same f.3))
 fault_codes current later w own rest inline Mc6 Mc1 f g = absurd g
 fault_codes current later w own rest inline Mc6 Mc2 f g = absurd g
 fault_codes current later w own rest inline Mc6 Mc3 f g = absurd (g.1 f.0 f.2)
 fault_codes current later w own rest inline Mc6 Mc4 f g = absurd (f.1 g.0 g.1)
 fault_codes current later w own rest inline Mc6 Mc5 f g =
-    let same = value-only current w own rest inline g.0 f.0 g.2 f.2 in
+    let same = value-only (sysmod_in current) w own rest inline g.0 f.0 g.2 f.2 in
     absurd (f.3 (subst (λ t. IsWithin current t inline) same g.3))
 fault_codes current later w own rest inline Mc6 Mc6 f g = refl
 
 -- a fault behind a known word
-record KnownFault (current : Option Sysmod) (later records : Lines) (code : McCode) : Type 0 where
+record KnownFault (current : Option Begun) (later records : Lines) (code : McCode) : Type 0 where
   w : StatementWord
   own : Option Text
   rest : List Piece
@@ -57,30 +57,30 @@ record KnownFault (current : Option Sysmod) (later records : Lines) (code : McCo
   known : IsKnown records w own rest inline
   fault : IsFault current later w own rest inline code
 
-same_fault : (current : Option Sysmod) (later : Lines) (w v : StatementWord) (own other : Option Text) (rest more : List Piece) (inline text : Lines) (code : McCode) → SameParts w v own other rest more inline text → IsFault current later w own rest inline code → IsFault current later v other more text code
+same_fault : (current : Option Begun) (later : Lines) (w v : StatementWord) (own other : Option Text) (rest more : List Piece) (inline text : Lines) (code : McCode) → SameParts w v own other rest more inline text → IsFault current later w own rest inline code → IsFault current later v other more text code
 same_fault current later w v own other rest more inline text code p f =
     subst (λ i. IsFault current later v other more i code) p.inlines
     (subst (λ r. IsFault current later v other r inline code) p.rests
     (subst (λ o. IsFault current later v o rest inline code) p.owns
     (subst (λ x. IsFault current later x own rest inline code) p.words f)))
 
-known_codes : (current : Option Sysmod) (later records : Lines) (a b : McCode) → KnownFault current later records a → KnownFault current later records b → a ≡ b
+known_codes : (current : Option Begun) (later records : Lines) (a b : McCode) → KnownFault current later records a → KnownFault current later records b → a ≡ b
 known_codes current later records a b f g =
     let parts = known-only records f.w g.w f.own g.own f.rest g.rest f.inline g.inline f.known g.known in
     fault_codes current later g.w g.own g.rest g.inline a b (same_fault current later f.w g.w f.own g.own f.rest g.rest f.inline g.inline a parts f.fault) g.fault
 
-unknown_known : (current : Option Sysmod) (later records : Lines) (code : McCode) → IsUnknown records → KnownFault current later records code → ⊥
+unknown_known : (current : Option Begun) (later records : Lines) (code : McCode) → IsUnknown records → KnownFault current later records code → ⊥
 unknown_known current later records code u f =
     let same = statement-only records f.known.pieces u.pieces f.inline u.inline f.known.statement u.statement in
     u.unknown f.w f.own f.rest (subst (λ p. TakesWord p (record { word = statement_text f.w; list = f.own }) f.rest) same.0 f.known.begins)
 
 -- whether a fault is of the form, of the word, or behind a known word
-data Judged (current : Option Sysmod) (later records : Lines) : McCode → Type 0 where
+data Judged (current : Option Begun) (later records : Lines) : McCode → Type 0 where
   OfForm : IsStatementFault current later records Mc1 → Judged current later records Mc1
   OfWord : IsUnknown records → Judged current later records Mc2
   Behind : (code : McCode) → KnownFault current later records code → Judged current later records code
 
-judged : (current : Option Sysmod) (later records : Lines) (code : McCode) → IsStatementFault current later records code → Judged current later records code
+judged : (current : Option Begun) (later records : Lines) (code : McCode) → IsStatementFault current later records code → Judged current later records code
 judged current later records Mc1 f = OfForm f
 judged current later records Mc2 f = OfWord f
 judged current later records Mc3 f = Behind Mc3 (record { w = f.0; own = f.1; rest = f.2; inline = f.3; known = f.4; fault = f.5 })
@@ -88,7 +88,7 @@ judged current later records Mc4 f = Behind Mc4 (record { w = f.0; own = f.1; re
 judged current later records Mc5 f = Behind Mc5 (record { w = f.0; own = f.1; rest = f.2; inline = f.3; known = f.4; fault = f.5 })
 judged current later records Mc6 f = Behind Mc6 (record { w = f.0; own = f.1; rest = f.2; inline = f.3; known = f.4; fault = f.5 })
 
-judged_codes : (current : Option Sysmod) (later records : Lines) (a b : McCode) → Judged current later records a → Judged current later records b → a ≡ b
+judged_codes : (current : Option Begun) (later records : Lines) (a b : McCode) → Judged current later records a → Judged current later records b → a ≡ b
 judged_codes current later records a b (OfForm f) (OfForm g) = refl
 judged_codes current later records a b (OfForm f) (OfWord g) = absurd (fault-no_statement records f.0 g.pieces g.inline f.1 g.statement)
 judged_codes current later records a b (OfForm f) (Behind code g) = absurd (fault-no_statement records f.0 g.known.pieces g.inline f.1 g.known.statement)
@@ -100,7 +100,7 @@ judged_codes current later records a b (Behind code f) (OfWord g) = absurd (unkn
 judged_codes current later records a b (Behind code f) (Behind code' g) = known_codes current later records code code' f g
 
 -- The code of a statement's fault is determined.
-pub statement_fault-only : (current : Option Sysmod) (later records : Lines) (a b : McCode) → IsStatementFault current later records a → IsStatementFault current later records b → a ≡ b
+pub statement_fault-only : (current : Option Begun) (later records : Lines) (a b : McCode) → IsStatementFault current later records a → IsStatementFault current later records b → a ≡ b
 statement_fault-only current later records a b f g = judged_codes current later records a b (judged current later records a f) (judged current later records b g)
 
 faults_same : (f g : McsFault) → f.number ≡ g.number → f.code ≡ g.code → f ≡ g

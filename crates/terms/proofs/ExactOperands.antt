@@ -10,7 +10,7 @@ use Rattle.std.specs.Cmp.Lexicographic.{slice_cmp}
 use Rattle.terms.specs.Types.{Text}
 use Rattle.terms.specs.Lookups.{is_before, IsRising}
 use Rattle.terms.specs.Words.{Word, HasMembers, IsListOf, IsOneOf, plain}
-use Rattle.terms.specs.Operands.{AreSorted, HasOne, HasSorted, HasRequired, HasOptional, HasTexts, HasFlag}
+use Rattle.terms.specs.Operands.{AreSorted, HasOne, HasListed, HasSorted, HasRequired, HasOptional, HasTexts, HasFlag}
 use Rattle.terms.proofs.Apart.{here, here_or, there, none_in}
 use Rattle.terms.proofs.ExactWords.{members-only, list-only}
 use Rattle.terms.proofs.RisingLists.{AllPairs-first, AllPairs-rest, Less-from_is_lt}
@@ -104,6 +104,10 @@ texts-only form (Some w) a b h k = has_sorted-only form w a b h k
 pub some-only : (form : Text → Type 0) (found : Option Word) (a b : List Text) → IsSomeAnd found (λ w. HasSorted form w a) → IsSomeAnd found (λ w. HasSorted form w b) → a ≡ b
 some-only form None a b h k = absurd h
 some-only form (Some w) a b h k = has_sorted-only form w a b h k
+
+pub listed_some-only : (form : Text → Type 0) (found : Option Word) (a b : List Text) → IsSomeAnd found (λ w. HasListed form w a) → IsSomeAnd found (λ w. HasListed form w b) → a ≡ b
+listed_some-only form None a b h k = absurd h
+listed_some-only form (Some w) a b h k = listed-only form w.list a b h k
 
 pub flag-only : (found : Option Word) (m n : Bool) → HasFlag found m → HasFlag found n → m ≡ n
 flag-only None m n h k = h ∙ sym k

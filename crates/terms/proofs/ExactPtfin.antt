@@ -4,12 +4,12 @@ use Rattle.std.proofs.lemmas.Bool.{true≢false}
 use Rattle.terms.specs.declared.codes.McCode.{McCode}
 use Rattle.terms.specs.declared.codes.McCode.TheVariants.{Mc1, Mc2, Mc3, Mc4, Mc5, Mc6}
 use Rattle.terms.specs.declared.statement_words.StatementWord.{StatementWord}
-use Rattle.terms.specs.Types.{Text, Lines, Item, Sysmod}
+use Rattle.terms.specs.Types.{Text, Lines, Item}
 use Rattle.terms.specs.Groups.{Group, TakesGroup, starts_outside}
 use Rattle.terms.specs.Statement.{Piece}
 use Rattle.terms.specs.Words.{TakesWord}
 use Rattle.terms.specs.Statements.{Statement, statement_text}
-use Rattle.terms.specs.Ptfin.{SoFar, nothing, items_of, after, IsKnown, IsGood, IsWithin, HasGoodText, IsFault, IsGoodStatement, IsStatementFault, BeginsWithStatements, IsPtfin, McsFault, IsNextFault, IsPtfinFault}
+use Rattle.terms.specs.Ptfin.{Begun, SoFar, sysmod_in, nothing, items_of, after, IsKnown, IsGood, IsWithin, HasGoodText, IsFault, IsGoodStatement, IsStatementFault, BeginsWithStatements, IsPtfin, McsFault, IsNextFault, IsPtfinFault}
 use Rattle.terms.proofs.Exact.{statement-only, fault-no_statement}
 use Rattle.terms.proofs.ExactFiles.{records-only, rec_fault-no_records, group-only, no_group, begins_inside}
 use Rattle.terms.proofs.ExactStatements.{spelled-only, takes-only, value-only}
@@ -28,38 +28,38 @@ known-only records w v own other rest more inline later h k =
     let takes = takes-only k.pieces (statement_text w) (statement_text v) own other rest more begins k.begins in
     record { words = spelled-only w v takes.0; owns = takes.1; rests = takes.2; inlines = same.1 }
 
-same_good : (current : Option Sysmod) (later : Lines) (w v : StatementWord) (own other : Option Text) (rest more : List Piece) (inline text : Lines) (s : Statement) → SameParts w v own other rest more inline text → IsGood current later w own rest inline s → IsGood current later v other more text s
+same_good : (current : Option Begun) (later : Lines) (w v : StatementWord) (own other : Option Text) (rest more : List Piece) (inline text : Lines) (s : Statement) → SameParts w v own other rest more inline text → IsGood current later w own rest inline s → IsGood current later v other more text s
 same_good current later w v own other rest more inline text s p g =
     subst (λ i. IsGood current later v other more i s) p.inlines
     (subst (λ r. IsGood current later v other r inline s) p.rests
     (subst (λ o. IsGood current later v o rest inline s) p.owns
     (subst (λ x. IsGood current later x own rest inline s) p.words g)))
 
-pub good-only : (current : Option Sysmod) (later records : Lines) (s t : Statement) → IsGoodStatement current later records s → IsGoodStatement current later records t → s ≡ t
+pub good-only : (current : Option Begun) (later records : Lines) (s t : Statement) → IsGoodStatement current later records s → IsGoodStatement current later records t → s ≡ t
 good-only current later records s t h k =
     let parts = known-only records h.0 k.0 h.1 k.1 h.2 k.2 h.3 k.3 h.4 k.4 in
     let good = same_good current later h.0 k.0 h.1 k.1 h.2 k.2 h.3 k.3 s parts h.5 in
-    value-only current k.0 k.1 k.2 k.3 s t good.value k.5.value
+    value-only (sysmod_in current) k.0 k.1 k.2 k.3 s t good.value k.5.value
 
-fault_excludes : (current : Option Sysmod) (later : Lines) (w : StatementWord) (own : Option Text) (rest : List Piece) (inline : Lines) (code : McCode) (s : Statement) → IsFault current later w own rest inline code → IsGood current later w own rest inline s → ⊥
+fault_excludes : (current : Option Begun) (later : Lines) (w : StatementWord) (own : Option Text) (rest : List Piece) (inline : Lines) (code : McCode) (s : Statement) → IsFault current later w own rest inline code → IsGood current later w own rest inline s → ⊥
 fault_excludes current later w own rest inline Mc1 s f g = f
 fault_excludes current later w own rest inline Mc2 s f g = f
 fault_excludes current later w own rest inline Mc3 s f g = f.1 s g.value
 fault_excludes current later w own rest inline Mc4 s f g = g.placed f.0 f.1
 fault_excludes current later w own rest inline Mc5 s f g =
-    let same = value-only current w own rest inline s f.0 g.value f.2 in
+    let same = value-only (sysmod_in current) w own rest inline s f.0 g.value f.2 in
     f.4 (subst HasGoodText same g.text)
 fault_excludes current later w own rest inline Mc6 s f g =
-    let same = value-only current w own rest inline s f.0 g.value f.2 in
+    let same = value-only (sysmod_in current) w own rest inline s f.0 g.value f.2 in
     f.3 (subst (λ t. IsWithin current t inline) same g.within)
 
-known_excludes : (current : Option Sysmod) (later records : Lines) (code : McCode) (s : Statement) → ((w : StatementWord) × (own : Option Text) × (rest : List Piece) × (inline : Lines) × IsKnown records w own rest inline × IsFault current later w own rest inline code) → IsGoodStatement current later records s → ⊥
+known_excludes : (current : Option Begun) (later records : Lines) (code : McCode) (s : Statement) → ((w : StatementWord) × (own : Option Text) × (rest : List Piece) × (inline : Lines) × IsKnown records w own rest inline × IsFault current later w own rest inline code) → IsGoodStatement current later records s → ⊥
 known_excludes current later records code s f g =
     let parts = known-only records g.0 f.0 g.1 f.1 g.2 f.2 g.3 f.3 g.4 f.4 in
     fault_excludes current later f.0 f.1 f.2 f.3 code s f.5 (same_good current later g.0 f.0 g.1 f.1 g.2 f.2 g.3 f.3 s parts g.5)
 
 -- No statement is both good and at fault.
-pub statement_fault-no_good : (current : Option Sysmod) (later records : Lines) (code : McCode) (s : Statement) → IsStatementFault current later records code → IsGoodStatement current later records s → ⊥
+pub statement_fault-no_good : (current : Option Begun) (later records : Lines) (code : McCode) (s : Statement) → IsStatementFault current later records code → IsGoodStatement current later records s → ⊥
 statement_fault-no_good current later records Mc1 s f g = fault-no_statement records f.0 g.4.pieces g.3 f.1 g.4.statement
 statement_fault-no_good current later records Mc2 s f g =
     let same = statement-only records g.4.pieces f.pieces g.3 f.inline g.4.statement f.statement in

@@ -1,6 +1,6 @@
 -- A command is determined by its pieces, and no pieces are both a command and at fault.
-use Rattle.std.proofs.Common.{◌≡◌, ◌≢◌, ◌≤◌, Bool, true, false, List, [], ◌∷◌, map, get_or, Option, Some, None, refl, sym, ◌∙◌, ap, subst, arith, cond}
-use Rattle.std.specs.Prelude.{All, AllPairs, IsSomeAnd, codes, not, if◌then◌else◌}
+use Rattle.std.proofs.Common.{◌≡◌, ◌≢◌, ◌≤◌, Bool, true, false, List, [], ◌∷◌, map, get_or, Option, Some, None, refl, sym, ◌∙◌, ap, ap₂, subst, arith, cond}
+use Rattle.std.specs.Prelude.{◌||◌, All, AllPairs, IsSomeAnd, codes, not, if◌then◌else◌}
 use Rattle.std.specs.Str.{bytes_eq}
 use Rattle.std.proofs.lemmas.Bool.{true≢false, false_from_ne_true}
 use Rattle.std.proofs.lemmas.List.Folds.{list_any_none}
@@ -30,9 +30,11 @@ what s h source = record { sysmods = s; holddata = h; source = source }
 
 receive-only : (ws : List Word) (a b : ReceiveWhat) → HasReceive ws a → HasReceive ws b → a ≡ b
 receive-only ws a b h k =
+    let sysmods = flag-only (operand (codes "SYSMODS") ws) h.sysmods k.sysmods h.has_sysmods k.has_sysmods in
+    let holddata = flag-only (operand (codes "HOLDDATA") ws) h.holddata k.holddata h.has_holddata k.has_holddata in
     let source = optional-only IsSource (operand (codes "SOURCEID") ws) a.source b.source h.source k.source in
-    ap (λ x. what x a.holddata a.source) (h.required ∙ sym k.required)
-    ∙ ap (λ x. what b.sysmods x a.source) (h.no_holds ∙ sym k.no_holds)
+    ap (λ x. what x a.holddata a.source) (h.reads_sysmods ∙ ap₂ (λ s d. s || not d) sysmods holddata ∙ sym k.reads_sysmods)
+    ∙ ap (λ x. what b.sysmods x a.source) (h.reads_holds ∙ ap₂ (λ s d. d || not s) sysmods holddata ∙ sym k.reads_holds)
     ∙ ap (λ x. what b.sysmods b.holddata x) source
 
 abbrev make : Bool → Bool → Bool → Bool → List Text → List Text → List Text → List Text → List Text → Bool → Selection

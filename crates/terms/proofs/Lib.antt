@@ -43,6 +43,7 @@ pub mod ExactFiles
 pub mod ExactWords
 pub mod ExactCommands
 pub mod Permuted
+pub mod ExactHolds
 pub mod ExactStatements
 pub mod ExactPtfin
 pub mod ExactFaults

@@ -1,5 +1,5 @@
 -- The form of each command: its word, its operands and its value (SMP/E Commands: SET, RECEIVE, REJECT, APPLY, ACCEPT, RESTORE, LIST, REPORT).
-use Rattle.std.specs.Prelude.{◌≡◌, Bool, true, false, List, [], ◌∷◌, Option, None, IsSomeAnd, IsTrue, codes}
+use Rattle.std.specs.Prelude.{◌≡◌, ◌||◌, Bool, true, false, not, List, [], ◌∷◌, Option, None, IsSomeAnd, IsTrue, codes}
 use Rattle.terms.specs.declared.codes.CommandWord.{CommandWord}
 use Rattle.terms.specs.declared.codes.CommandWord.TheVariants as word
 use Rattle.terms.specs.Types.{Text, NoReason, Bypass, Selection, Install, RestoreList, RestoreSelect, RestoreGroup, ReceiveWhat, Command, Set, Receive, Reject, Apply, Accept, Restore, ListZone, Report}
@@ -13,6 +13,7 @@ use Rattle.terms.specs.Operands.{operand, AreOperands, HasSorted, HasRequired, H
 abbrev pub is_known : CommandWord → Bool
 is_known word.Set = true
 is_known word.Receive = true
+is_known word.Reject = true
 is_known word.Apply = true
 is_known _ = false
 
@@ -25,7 +26,7 @@ install_operands =
 -- the operands that a command may have
 abbrev pub operands_of : CommandWord → List Text
 operands_of word.Set = codes "BDY" ∷ []
-operands_of word.Receive = codes "SYSMODS" ∷ codes "SOURCEID" ∷ []
+operands_of word.Receive = codes "SYSMODS" ∷ codes "HOLDDATA" ∷ codes "SOURCEID" ∷ []
 operands_of word.Reject = codes "SELECT" ∷ []
 operands_of word.Apply = install_operands
 operands_of word.Accept = install_operands
@@ -52,11 +53,14 @@ HasShort form found values = HasTexts form found values × IsShort values
 abbrev pub HasSome : (Text → Type 0) → Option Word → List Text → Type 0
 HasSome form found values = IsSomeAnd found (λ w. HasSorted form w values) × IsShort values
 
--- RECEIVE. The hold file is not read yet: SYSMODS must be there, and HOLDDATA is no operand.
+-- RECEIVE. SYSMODS has PTFIN read, HOLDDATA the hold file, and neither of the two means both.
 pub record HasReceive (words : List Word) (what : ReceiveWhat) : Type 0 where
-  pub sysmods : HasFlag (operand (codes "SYSMODS") words) what.sysmods
-  pub required : what.sysmods ≡ true
-  pub no_holds : what.holddata ≡ false
+  pub sysmods : Bool
+  pub holddata : Bool
+  pub has_sysmods : HasFlag (operand (codes "SYSMODS") words) sysmods
+  pub has_holddata : HasFlag (operand (codes "HOLDDATA") words) holddata
+  pub reads_sysmods : what.sysmods ≡ (sysmods || not holddata)
+  pub reads_holds : what.holddata ≡ (holddata || not sysmods)
   pub source : HasOptional IsSource (operand (codes "SOURCEID") words) what.source
 
 -- the operands by which APPLY and ACCEPT choose

@@ -20,8 +20,10 @@ pub mod CommandCuts
 pub mod CommandForms
 pub mod Commands
 pub mod Texts
+pub mod HoldStatements
 pub mod Statements
 pub mod Ptfin
+pub mod HoldFile
 pub mod Changes
 pub mod Deleted
 pub mod Candidates

@@ -19,9 +19,13 @@ pub record AreSorted (texts sorted : List Text) : Type 0 where
   pub rising : IsRising sorted
   pub same : (x : Text) → Contains sorted x ↔ Contains texts x
 
+-- a word's own list, where it has one, has this one member
+abbrev pub HasOwn : (Text → Type 0) → Option Text → Text → Type 0
+HasOwn form own value = IsSomeAnd own (λ text. IsOneOf form text value)
+
 -- the word's list has this one member
 abbrev pub HasOne : (Text → Type 0) → Word → Text → Type 0
-HasOne form w value = IsSomeAnd w.list (λ text. IsOneOf form text value)
+HasOne form w value = HasOwn form w.list value
 
 -- the word's list has these members, in the list's order
 abbrev pub HasListed : (Text → Type 0) → Word → List Text → Type 0

@@ -1,14 +1,18 @@
--- PTFIN: the order of its statements, the SYSMODs that they make, and its first fault. (IBM z/OS SMP/E Reference, MCS: a
--- SYSMOD is a header, then ++VERs, then elements.)
-use Rattle.std.specs.Prelude.{◌≡◌, ◌≢◌, ◌≤◌, ◌<◌, ℕ, List, [], ◌∷◌, ◌++◌, length, All, Any, Option, Some, None, IsSomeAnd, IfSome, option_map, ◌⊎◌, IsTrue}
+-- PTFIN: the order of its statements, the SYSMODs and assignments that they make, and its first fault. (IBM z/OS SMP/E Reference, MCS: a
+-- SYSMOD is a header, then ++VERs with their ++IFs, then holds, then elements; ++ASSIGN stands between SYSMODs.)
+use Rattle.std.specs.Prelude.{◌≡◌, ◌≢◌, ◌≤◌, ◌<◌, ℕ, Bool, false, List, [], ◌∷◌, ◌++◌, length, map, filter, All, Any, Option, Some, None, IsSomeAnd, IfSome, option_map, ◌⊎◌, IsTrue, if◌then◌else◌}
+use Rattle.std.specs.List.{flat_map}
+use Rattle.std.specs.Option.{option_map_or}
 use Rattle.std.specs.Ordering.{nat_cmp}
+use Rattle.std.specs.Str.{bytes_eq}
 use Rattle.std.specs.Cmp.Lexicographic.{slice_cmp}
 use Rattle.terms.specs.declared.codes.McCode.{McCode}
 use Rattle.terms.specs.declared.codes.McCode.TheVariants.{Mc1, Mc2, Mc3, Mc4, Mc5, Mc6}
 use Rattle.terms.specs.declared.kinds.Kind.{Kind}
+use Rattle.terms.specs.declared.kinds.Kind.TheVariants.{Function}
 use Rattle.terms.specs.declared.statement_words.StatementWord.{StatementWord}
 use Rattle.terms.specs.declared.statement_words.StatementWord.TheVariants as word
-use Rattle.terms.specs.Types.{Text, Id, Lines, Ver, Change, Sysmod, Item, ASysmod}
+use Rattle.terms.specs.Types.{Text, Id, Lines, IfReq, Ver, Hold, Change, Sysmod, Item, ASysmod, AnAssign}
 use Rattle.terms.specs.Rising.{with_item}
 use Rattle.terms.specs.Lookups.{at_most_one}
 use Rattle.terms.specs.Global.{change_cmp}
@@ -17,58 +21,95 @@ use Rattle.terms.specs.Records.{HasRecords, RecFault, IsRecFault, rec_fault_reco
 use Rattle.terms.specs.Groups.{starts_outside, Group, TakesGroup}
 use Rattle.terms.specs.Statement.{Piece, IsStatement, StFault, IsStFault}
 use Rattle.terms.specs.Words.{Word, HasWords, TakesWord, IsShort}
+use Rattle.terms.specs.Operands.{HasOwn}
 use Rattle.terms.specs.Texts.{IsActionOf}
-use Rattle.terms.specs.Statements.{statement_text, Statement, SaysHeader, SaysVer, SaysChange, HasOwn, lists_of, Says}
+use Rattle.terms.specs.HoldStatements.{HasShortComment}
+use Rattle.terms.specs.Statements.{statement_text, changed_type, Statement, SaysHeader, SaysVer, SaysIf, SaysHold, SaysAssign, SaysChange, lists_of, Says}
 
--- What the statements so far make: SYSMODs that are whole, and the one to which the next statement may belong.
+-- A SYSMOD to which the next statement may belong, and the SREL of its last ++VER, to which an ++IF belongs.
+pub record Begun : Type 0 where
+  pub sysmod : Sysmod
+  pub srel : Option Text
+
+-- What the statements so far make: items that are whole, and the SYSMOD that is begun.
 pub record SoFar : Type 0 where
   pub whole : List Item
-  pub current : Option Sysmod
+  pub current : Option Begun
 
 abbrev pub nothing : SoFar
 nothing = record { whole = []; current = None }
 
 abbrev pub items_of : SoFar → List Item
-items_of c = c.whole ++ at_most_one (option_map ASysmod c.current)
+items_of c = c.whole ++ at_most_one (option_map (λ b. ASysmod b.sysmod) c.current)
 
-abbrev pub new_sysmod : Kind → Id → Sysmod
-new_sysmod kind id = record { id = id; kind = kind; sources = []; vers = []; changes = []; holds = [] }
+abbrev pub begun : Kind → Id → Begun
+begun kind id = record { sysmod = record { id = id; kind = kind; sources = []; vers = []; changes = []; holds = [] }; srel = None }
 
 -- ++VERs are kept by SREL, and element statements by type and name.
-abbrev pub with_ver : Ver → Sysmod → Sysmod
-with_ver v s = record s { vers = with_item (slice_cmp nat_cmp) (λ w. w.srel) s.vers v }
+abbrev pub with_ver : Ver → Begun → Begun
+with_ver v b = record {
+  sysmod = record b.sysmod { vers = with_item (slice_cmp nat_cmp) (λ w. w.srel) b.sysmod.vers v };
+  srel = Some v.srel;
+}
 
-abbrev pub with_change : Change → Sysmod → Sysmod
-with_change c s = record s { changes = with_item change_cmp (λ x. x) s.changes c }
+abbrev pub with_change : Change → Begun → Begun
+with_change c b = record b { sysmod = record b.sysmod { changes = with_item change_cmp (λ x. x) b.sysmod.changes c } }
+
+-- whether the ++VER is the last one
+abbrev pub is_last : Begun → Ver → Bool
+is_last b v = option_map_or (bytes_eq v.srel) b.srel false
+
+-- An ++IF stands behind those of the last ++VER, and a hold behind those that the SYSMOD has.
+abbrev pub with_if : IfReq → Begun → Begun
+with_if i b = record b {
+  sysmod = record b.sysmod { vers = map (λ v. if is_last b v then record v { ifs = v.ifs ++ i ∷ [] } else v) b.sysmod.vers };
+}
+
+abbrev pub with_hold : Hold → Begun → Begun
+with_hold h b = record b { sysmod = record b.sysmod { holds = b.sysmod.holds ++ h ∷ [] } }
 
 -- what they make with one statement more
 abbrev pub after : SoFar → Statement → SoFar
-after c (SaysHeader kind id) = record { whole = items_of c; current = Some (new_sysmod kind id) }
+after c (SaysHeader kind id) = record { whole = items_of c; current = Some (begun kind id) }
 after c (SaysVer v) = record c { current = option_map (with_ver v) c.current }
+after c (SaysIf i) = record c { current = option_map (with_if i) c.current }
+after c (SaysHold h) = record c { current = option_map (with_hold h) c.current }
+after c (SaysAssign a) = record { whole = items_of c ++ AnAssign a ∷ []; current = None }
 after c (SaysChange x) = record c { current = option_map (with_change x) c.current }
 
--- A header may stand first, and behind a SYSMOD that has a ++VER; a ++VER behind the header and other ++VERs; elements behind a ++VER.
+abbrev pub sysmod_in : Option Begun → Option Sysmod
+sysmod_in current = option_map (λ b. b.sysmod) current
+
+-- A header and an ++ASSIGN may stand first, and behind a SYSMOD that has a ++VER. Behind a header come ++VERs, each with its ++IFs,
+-- then holds, then elements. ++RELEASE stands in no PTFIN.
 abbrev pub MayStand : Option Sysmod → StatementWord → Type 0
 MayStand None (word.Header kind) = Unit {0}
+MayStand None word.Assign = Unit {0}
 MayStand None _ = ⊥
 MayStand (Some s) (word.Header kind) = s.vers ≢ []
-MayStand (Some s) word.Ver = s.changes ≡ []
+MayStand (Some s) word.Ver = (s.holds ≡ []) × (s.changes ≡ [])
+MayStand (Some s) word.If = (s.vers ≢ []) × (s.holds ≡ []) × (s.changes ≡ [])
+MayStand (Some s) word.Hold = (s.vers ≢ []) × (s.changes ≡ [])
+MayStand (Some s) word.Release = ⊥
+MayStand (Some s) word.Assign = s.vers ≢ []
 MayStand (Some s) (word.Replace type) = s.vers ≢ []
+MayStand (Some s) word.UpdateMac = s.vers ≢ []
+MayStand (Some s) word.UpdateSrc = s.vers ≢ []
 
--- A second ++VER of one SREL, or a second change of one element. The statement word's own list says so, whatever follows.
+-- A second ++VER of one SREL, or a second change of one element, be it replaced or updated. The statement word's own list says so,
+-- whatever follows.
 abbrev pub IsSecond : Sysmod → StatementWord → Option Text → Type 0
-IsSecond s (word.Header kind) own = ⊥
 IsSecond s word.Ver own = (srel : Text) × HasOwn IsSrel own srel × Any (λ v. v.srel ≡ srel) s.vers
-IsSecond s (word.Replace type) own =
-    (name : Text) × HasOwn IsName own name × Any (λ c. (c.elem_type ≡ type) × (c.name ≡ name)) s.changes
+IsSecond s w own = (name : Text) × HasOwn IsName own name × Any (λ c. (changed_type w ≡ Some c.elem_type) × (c.name ≡ name)) s.changes
 
 abbrev pub IsHeader : StatementWord → Type 0
 IsHeader (word.Header kind) = Unit {0}
 IsHeader _ = ⊥
 
-abbrev pub IsElement : StatementWord → Type 0
-IsElement (word.Replace type) = Unit {0}
-IsElement _ = ⊥
+abbrev pub IsUpdateWord : StatementWord → Type 0
+IsUpdateWord word.UpdateMac = Unit {0}
+IsUpdateWord word.UpdateSrc = Unit {0}
+IsUpdateWord _ = ⊥
 
 -- why a statement is out of order
 pub data Disorder : Type 0 where
@@ -76,13 +117,15 @@ pub data Disorder : Type 0 where
   LastHeader : Disorder
   TextBehind : Disorder
   Second : Disorder
+  UpdateInFunction : Disorder
 
 -- A statement behind which `later` records follow is out of order behind the statements so far.
 abbrev pub IsMisplaced : Option Sysmod → Lines → StatementWord → Option Text → Lines → Disorder → Type 0
 IsMisplaced current later w own inline CannotStand = ¬ MayStand current w
 IsMisplaced current later w own inline LastHeader = IsHeader w × (later ≡ [])
-IsMisplaced current later w own inline TextBehind = (¬ IsElement w) × (inline ≢ [])
+IsMisplaced current later w own inline TextBehind = (changed_type w ≡ None) × (inline ≢ [])
 IsMisplaced current later w own inline Second = IsSomeAnd current (λ s. IsSecond s w own)
+IsMisplaced current later w own inline UpdateInFunction = IsUpdateWord w × IsSomeAnd current (λ s. s.kind ≡ Function)
 
 abbrev pub IsPlaced : Option Sysmod → Lines → StatementWord → Option Text → Lines → Type 0
 IsPlaced current later w own inline = (why : Disorder) → ¬ IsMisplaced current later w own inline why
@@ -91,32 +134,39 @@ IsPlaced current later w own inline = (why : Disorder) → ¬ IsMisplaced curren
 abbrev pub HasValue : Option Sysmod → StatementWord → Option Text → List Piece → Lines → Statement → Type 0
 HasValue current w own rest inline s = (operands : List Word) × HasWords rest operands × Says current w own operands inline s
 
+-- the ++IFs of the last ++VER
+abbrev pub ifs_so_far : Begun → List IfReq
+ifs_so_far b = flat_map (λ v. v.ifs) (filter (is_last b) b.sysmod.vers)
+
 -- the limits of a statement behind those before it
-abbrev pub IsWithin : Option Sysmod → Statement → Lines → Type 0
+abbrev pub IsWithin : Option Begun → Statement → Lines → Type 0
 IsWithin current (SaysHeader kind id) inline = Unit {0}
-IsWithin current (SaysVer v) inline = IfSome current (λ s. length s.vers < 8) × All IsShort (lists_of v)
-IsWithin current (SaysChange c) inline = IfSome current (λ s. length s.changes < 999) × (length inline ≤ 99999)
+IsWithin current (SaysVer v) inline = IfSome current (λ b. length b.sysmod.vers < 8) × All IsShort (lists_of v)
+IsWithin current (SaysIf i) inline = IfSome current (λ b. length (ifs_so_far b) < 100) × IsShort i.req
+IsWithin current (SaysHold h) inline = HasShortComment h
+IsWithin current (SaysAssign a) inline = IsShort a.to
+IsWithin current (SaysChange c) inline = IfSome current (λ b. length b.sysmod.changes < 999) × (length inline ≤ 99999)
 
 abbrev pub HasGoodText : Statement → Type 0
 HasGoodText (SaysChange c) = IsActionOf c.elem_type c.name c.action
 HasGoodText _ = Unit {0}
 
 -- The statement of this word, its own list and its rest says so, and nothing is at fault.
-pub record IsGood (current : Option Sysmod) (later : Lines) (w : StatementWord) (own : Option Text) (rest : List Piece) (inline : Lines) (s : Statement) : Type 0 where
-  pub placed : IsPlaced current later w own inline
-  pub value : HasValue current w own rest inline s
+pub record IsGood (current : Option Begun) (later : Lines) (w : StatementWord) (own : Option Text) (rest : List Piece) (inline : Lines) (s : Statement) : Type 0 where
+  pub placed : IsPlaced (sysmod_in current) later w own inline
+  pub value : HasValue (sysmod_in current) w own rest inline s
   pub within : IsWithin current s inline
   pub text : HasGoodText s
 
 -- What is at fault with a statement of a known word. The first of Mc4, Mc3, Mc6 and Mc5 is answered.
-abbrev pub IsFault : Option Sysmod → Lines → StatementWord → Option Text → List Piece → Lines → McCode → Type 0
-IsFault current later w own rest inline Mc4 = (why : Disorder) × IsMisplaced current later w own inline why
+abbrev pub IsFault : Option Begun → Lines → StatementWord → Option Text → List Piece → Lines → McCode → Type 0
+IsFault current later w own rest inline Mc4 = (why : Disorder) × IsMisplaced (sysmod_in current) later w own inline why
 IsFault current later w own rest inline Mc3 =
-    IsPlaced current later w own inline × ((s : Statement) → ¬ HasValue current w own rest inline s)
+    IsPlaced (sysmod_in current) later w own inline × ((s : Statement) → ¬ HasValue (sysmod_in current) w own rest inline s)
 IsFault current later w own rest inline Mc6 = (s : Statement)
-    × IsPlaced current later w own inline × HasValue current w own rest inline s × (¬ IsWithin current s inline)
+    × IsPlaced (sysmod_in current) later w own inline × HasValue (sysmod_in current) w own rest inline s × (¬ IsWithin current s inline)
 IsFault current later w own rest inline Mc5 = (s : Statement)
-    × IsPlaced current later w own inline × HasValue current w own rest inline s × IsWithin current s inline × (¬ HasGoodText s)
+    × IsPlaced (sysmod_in current) later w own inline × HasValue (sysmod_in current) w own rest inline s × IsWithin current s inline × (¬ HasGoodText s)
 IsFault current later w own rest inline _ = ⊥
 
 -- the records are a statement that begins with this word and its own list
@@ -133,12 +183,12 @@ pub record IsUnknown (records : Lines) : Type 0 where
   pub unknown : (w : StatementWord) (own : Option Text) (rest : List Piece) → ¬ TakesWord pieces (record { word = statement_text w; list = own }) rest
 
 -- The records are this statement, and nothing is at fault.
-abbrev pub IsGoodStatement : Option Sysmod → Lines → Lines → Statement → Type 0
+abbrev pub IsGoodStatement : Option Begun → Lines → Lines → Statement → Type 0
 IsGoodStatement current later records s = (w : StatementWord) × (own : Option Text) × (rest : List Piece) × (inline : Lines)
     × IsKnown records w own rest inline × IsGood current later w own rest inline s
 
 -- What is at fault with a statement. Its form (Mc1) and its word (Mc2) come first.
-abbrev pub IsStatementFault : Option Sysmod → Lines → Lines → McCode → Type 0
+abbrev pub IsStatementFault : Option Begun → Lines → Lines → McCode → Type 0
 IsStatementFault current later records Mc1 = (why : StFault) × IsStFault records why
 IsStatementFault current later records Mc2 = IsUnknown records
 IsStatementFault current later records code = (w : StatementWord) × (own : Option Text) × (rest : List Piece) × (inline : Lines)

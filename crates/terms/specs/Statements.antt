@@ -1,32 +1,47 @@
 -- The form of each statement of PTFIN: its word, its operands, its text and what it says. (IBM z/OS SMP/E Reference, MCS:
--- ++FUNCTION, ++PTF, ++APAR, ++USERMOD, ++VER, ++MAC, ++SRC and the data elements.)
-use Rattle.std.specs.Prelude.{◌≡◌, ◌≢◌, List, [], ◌∷◌, ◌++◌, All, Contains, Option, Some, None, IsSome, IsSomeAnd, codes}
+-- ++FUNCTION, ++PTF, ++APAR, ++USERMOD, ++VER, ++IF, ++HOLD, ++ASSIGN, ++MAC, ++SRC, the data elements, ++MACUPD and ++SRCUPD.)
+use Rattle.std.specs.Prelude.{◌≡◌, ◌≢◌, List, [], ◌∷◌, ◌++◌, All, Contains, Option, Some, None, IsSome, IsSomeAnd, IsTrue, codes}
 use Rattle.terms.specs.declared.kinds.Kind.{Kind}
 use Rattle.terms.specs.declared.kinds.Kind.TheVariants.{Function}
 use Rattle.terms.specs.declared.kinds.ElemType.{ElemType}
+use Rattle.terms.specs.declared.kinds.ElemType.TheVariants.{Mac, Src}
+use Rattle.terms.specs.declared.kinds.HoldKind.TheVariants.{System}
 use Rattle.terms.specs.declared.statement_words.StatementWord.{StatementWord}
 use Rattle.terms.specs.declared.statement_words.StatementWord.TheVariants as word
-use Rattle.terms.specs.Types.{Text, Id, Lines, Ver, Replaces, Change, Sysmod}
+use Rattle.terms.specs.Types.{Text, Id, Lines, IfReq, Ver, Hold, Action, Replaces, Updates, Change, Sysmod, Assign}
 use Rattle.terms.specs.Spelling.{kind_text, type_text}
-use Rattle.terms.specs.Forms.{IsId, IsSrel, IsName}
-use Rattle.terms.specs.Words.{Word, IsOneOf}
-use Rattle.terms.specs.Operands.{operand, AreOperands, HasRequired, HasOptional, HasTexts}
+use Rattle.terms.specs.Forms.{IsId, IsSource, IsSrel, IsName}
+use Rattle.terms.specs.Words.{Word, plain}
+use Rattle.terms.specs.Operands.{operand, AreOperands, HasOwn, HasOne, HasListed, HasSorted, HasRequired, HasOptional, HasTexts}
+use Rattle.terms.specs.HoldStatements.{IsHoldOf}
 
 -- how the word is spelled
 abbrev pub statement_text : StatementWord → Text
 statement_text (word.Header kind) = codes "++" ++ kind_text kind
 statement_text word.Ver = codes "++VER"
+statement_text word.If = codes "++IF"
+statement_text word.Hold = codes "++HOLD"
+statement_text word.Release = codes "++RELEASE"
+statement_text word.Assign = codes "++ASSIGN"
 statement_text (word.Replace type) = codes "++" ++ type_text type
+statement_text word.UpdateMac = codes "++MACUPD"
+statement_text word.UpdateSrc = codes "++SRCUPD"
 
--- What one statement says. A ++VER stands here without its ++IFs.
+-- the type of the element that a statement changes
+abbrev pub changed_type : StatementWord → Option ElemType
+changed_type (word.Replace type) = Some type
+changed_type word.UpdateMac = Some Mac
+changed_type word.UpdateSrc = Some Src
+changed_type _ = None
+
+-- What one statement of PTFIN says. A ++VER stands here without its ++IFs.
 pub data Statement : Type 0 where
   SaysHeader : Kind → Id → Statement
   SaysVer : Ver → Statement
+  SaysIf : IfReq → Statement
+  SaysHold : Hold → Statement
+  SaysAssign : Assign → Statement
   SaysChange : Change → Statement
-
--- the list of the statement's word, where it has one, has this one member
-abbrev pub HasOwn : (Text → Type 0) → Option Text → Text → Type 0
-HasOwn form own value = IsSomeAnd own (λ text. IsOneOf form text value)
 
 -- ++FUNCTION(id), and the same for the other kinds
 abbrev pub IsHeaderOf : Option Text → List Word → Id → Type 0
@@ -60,19 +75,53 @@ pub record IsVerOf (s : Sysmod) (own : Option Text) (operands : List Word) (v : 
   pub others : All (λ ids. ¬ Contains ids s.id) (lists_of v)
   pub no_ifs : v.ifs ≡ []
 
--- ++MAC(name) DISTLIB(name) SYSLIB(name), and the same for the other types; the inline text is the element's
-pub record IsReplacementOf (type : ElemType) (own : Option Text) (operands : List Word) (inline : Lines) (c : Change) : Type 0 where
-  pub distlib : Text
-  pub syslib : Text
-  pub type_is : c.elem_type ≡ type
+-- ++IF FMID(id) THEN REQ(ids), in this order. The FMID may be the SYSMOD itself; the list does not name it.
+pub record IsIfOf (s : Sysmod) (own : Option Text) (operands : List Word) (i : IfReq) : Type 0 where
+  pub fmid : Word
+  pub req : Word
+  pub no_list : own ≡ None
+  pub are_operands : operands ≡ fmid ∷ plain (codes "THEN") ∷ req ∷ []
+  pub fmid_word : fmid.word ≡ codes "FMID"
+  pub req_word : req.word ≡ codes "REQ"
+  pub function : HasOne IsId fmid i.function
+  pub ids : HasSorted IsId req i.req
+  pub others : ¬ Contains i.req s.id
+
+-- ++HOLD inside a SYSMOD: a SYSTEM hold of its own, which is internal
+pub record IsOwnHoldOf (s : Sysmod) (own : Option Text) (operands : List Word) (h : Hold) : Type 0 where
+  pub hold : IsHoldOf own operands h
+  pub kind : h.kind ≡ System
+  pub own_id : h.id ≡ s.id
+  pub internal : IsTrue h.internal
+
+-- ++ASSIGN SOURCEID(source) TO(ids), the ids as they stand
+pub record IsAssignOf (own : Option Text) (operands : List Word) (a : Assign) : Type 0 where
+  pub no_list : own ≡ None
+  pub are_operands : AreOperands (codes "SOURCEID" ∷ codes "TO" ∷ []) operands
+  pub source : HasRequired IsSource (operand (codes "SOURCEID") operands) a.source
+  pub to : IsSomeAnd (operand (codes "TO") operands) (λ w. HasListed IsId w a.to)
+
+-- DISTLIB(name) SYSLIB(name) of a replacement, or no operand of an update; the inline records are the text
+abbrev pub HasAction : StatementWord → List Word → Lines → Action → Type 0
+HasAction (word.Replace type) operands inline (Replaces distlib syslib text) =
+    AreOperands (codes "DISTLIB" ∷ codes "SYSLIB" ∷ []) operands
+    × HasRequired IsName (operand (codes "DISTLIB") operands) distlib
+    × HasRequired IsName (operand (codes "SYSLIB") operands) syslib × (text ≡ inline)
+HasAction word.UpdateMac operands inline (Updates text) = (operands ≡ []) × (text ≡ inline)
+HasAction word.UpdateSrc operands inline (Updates text) = (operands ≡ []) × (text ≡ inline)
+HasAction _ operands inline action = ⊥
+
+-- ++MAC(name) DISTLIB(name) SYSLIB(name), and the same for the other types; ++MACUPD(name) and ++SRCUPD(name)
+pub record IsChangeOf (w : StatementWord) (own : Option Text) (operands : List Word) (inline : Lines) (c : Change) : Type 0 where
+  pub type_is : changed_type w ≡ Some c.elem_type
   pub name : HasOwn IsName own c.name
-  pub are_operands : AreOperands (codes "DISTLIB" ∷ codes "SYSLIB" ∷ []) operands
-  pub has_distlib : HasRequired IsName (operand (codes "DISTLIB") operands) distlib
-  pub has_syslib : HasRequired IsName (operand (codes "SYSLIB") operands) syslib
-  pub action : c.action ≡ Replaces distlib syslib inline
+  pub action : HasAction w operands inline c.action
 
 -- What the statement of this word says behind a SYSMOD's statements, or outside a SYSMOD.
 abbrev pub Says : Option Sysmod → StatementWord → Option Text → List Word → Lines → Statement → Type 0
 Says current w own operands inline (SaysHeader kind id) = (w ≡ word.Header kind) × IsHeaderOf own operands id
 Says current w own operands inline (SaysVer v) = (w ≡ word.Ver) × IsSomeAnd current (λ s. IsVerOf s own operands v)
-Says current w own operands inline (SaysChange c) = (w ≡ word.Replace c.elem_type) × IsReplacementOf c.elem_type own operands inline c
+Says current w own operands inline (SaysIf i) = (w ≡ word.If) × IsSomeAnd current (λ s. IsIfOf s own operands i)
+Says current w own operands inline (SaysHold h) = (w ≡ word.Hold) × IsSomeAnd current (λ s. IsOwnHoldOf s own operands h)
+Says current w own operands inline (SaysAssign a) = (w ≡ word.Assign) × IsAssignOf own operands a
+Says current w own operands inline (SaysChange c) = IsChangeOf w own operands inline c
