@@ -2,3 +2,4 @@ pub mod Forms
 pub mod KnownWords
 pub mod Faults
 pub mod Holds
+pub mod Trimmed

@@ -1,13 +1,14 @@
-ghost use Rattle.std.specs.Prelude.{◌≡◌, ◌++◌, ◌⊎◌, ℕ, List, [], Option, All, reverse, option_map, IfOk, IfErr, IfSome, IfNone};
+ghost use Rattle.std.specs.Prelude.{◌≡◌, ℕ, List, Option, All, reverse, option_map, IfOk, IfErr, IfSome, IfNone};
 ghost use Rattle.std.specs.String.{string_bytes};
 ghost use Rattle.terms.specs.Records.{IsPrintable};
 ghost use Rattle.terms.specs.Words as grammar;
-ghost use Rattle.terms.specs.Forms.{AreBlanks, BeginsDark, IsTrimmed};
+ghost use Rattle.terms.specs.Forms.{IsTrimmed};
 ghost use Rattle.terms.specs.Operands.{operand};
 ghost use Rattle.terms.specs.HoldStatements.{HasComment};
 ghost use Rattle.rec80.specs.Cursors.{text_of};
 ghost use Rattle.operands.specs.Left.{LeavesWords};
 ghost use Rattle.operands.specs.Failing.{Excludes};
+ghost use Rattle.statements.specs.Trimmed.{SkipsBlanks, DropsBlanks, BeginsNoBlank};
 
 use operands::{OperandError, operand};
 use rec80::{Text, Words};
@@ -28,7 +29,8 @@ fn bytes_of(alloc: Global, text: &Text<'_>) -> Result<Vec<u8>, AllocError>
 
 /// What follows the blanks.
 fn behind_blanks(text: &[u8]) -> &[u8]
-    ensures { (left : List ℕ) × (text.now ≡ left ++ result.now) × AreBlanks left × ((result.now ≡ []) ⊎ BeginsDark result.now) }
+    ensures skips { SkipsBlanks text.now result.now }
+    ensures dark { BeginsNoBlank result.now }
 {
     let mut rest = text;
     while let Some((first, next)) = rest.split_first() {
@@ -42,7 +44,8 @@ fn behind_blanks(text: &[u8]) -> &[u8]
 
 /// What stands before the blanks at the end.
 fn before_blanks(text: &[u8]) -> &[u8]
-    ensures { (right : List ℕ) × (text.now ≡ result.now ++ right) × AreBlanks right × ((result.now ≡ []) ⊎ BeginsDark (reverse result.now)) }
+    ensures drops { DropsBlanks text.now result.now }
+    ensures dark { BeginsNoBlank (reverse result.now) }
 {
     let mut rest = text;
     while let Some((last, front)) = rest.split_last() {

@@ -47,6 +47,8 @@ impl Model for Release {
     ghost Value = { terms.Release };
 
     ghost view = { λ a. record { id = a.id; kind = a.kind; reason = a.reason; fmid = a.fmid } };
+
+    ghost inverse = { λ r. record { id = r.id; kind = r.kind; reason = r.reason; fmid = r.fmid } };
 }
 
 /// The key of a hold and its FMID.
