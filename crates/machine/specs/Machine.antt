@@ -1,6 +1,6 @@
 -- The machine: what each act makes of the state and prints, and what a list of jobs does.
 -- (IBM z/OS SMP/E Commands: SET, RECEIVE, REJECT and APPLY. The other commands are not known yet.)
-use Rattle.std.specs.Prelude.{◌≡◌, ◌⊎◌, ℕ, Bool, IsTrue, List, [], ◌∷◌, ◌++◌, map, Option, None, Some, Result, Ok, Err, if◌then◌else◌}
+use Rattle.std.specs.Prelude.{◌≡◌, ◌⊎◌, ℕ, Bool, true, false, IsTrue, List, [], ◌∷◌, ◌++◌, map, None, Some, Result, Ok, Err, if◌then◌else◌}
 use Rattle.std.specs.List.{flat_map}
 use Rattle.terms.specs.Types.{Text, Id, Global, Zone, Item, HoldItem, ReceiveWhat, Install, Command, Set, Receive, Reject, Apply}
 use Rattle.terms.specs.Ptfin.{McsFault, IsPtfin, IsPtfinFault}
@@ -21,7 +21,8 @@ pub record Files : Type 0 where
 
 -- what a file holds; of a file that the command does not read, nothing
 abbrev pub HasItems : {X : Type 0} → (List ℕ → List X → Type 0) → Bool → List ℕ → List X → Type 0
-HasItems Is reads bytes items = if reads then Is bytes items else items ≡ []
+HasItems Is true bytes items = Is bytes items
+HasItems Is false bytes items = items ≡ []
 
 -- RECEIVE takes in the items of PTFIN, and then those of the hold file. Both are read before anything changes: Cm4 is PTFIN's first
 -- fault, and Cm5 the hold file's.

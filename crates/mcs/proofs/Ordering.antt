@@ -10,7 +10,7 @@ use Rattle.terms.specs.declared.statement_words.StatementWord.{StatementWord}
 use Rattle.terms.specs.declared.statement_words.StatementWord.TheVariants as word
 use Rattle.terms.specs.Types.{Text, Ver, Change, Sysmod, type_number}
 use Rattle.terms.specs.Forms.{IsSrel, IsName}
-use Rattle.terms.specs.Statements.{HasOwn}
+use Rattle.terms.specs.Operands.{HasOwn}
 use Rattle.terms.specs.Ptfin.{IsSecond}
 use Rattle.terms.proofs.GlobalLookups.{same_from, same_itself}
 use Rattle.terms.proofs.ElementOrder.{type_from_number}

@@ -6,7 +6,7 @@ use Rattle.terms.specs.Types.{Text, Lines}
 use Rattle.terms.specs.Forms.{IsName}
 use Rattle.terms.specs.Words.{Word}
 use Rattle.terms.specs.Operands.{operand, AreOperands, HasRequired}
-use Rattle.terms.specs.Statements.{HasOwn}
+use Rattle.terms.specs.Operands.{HasOwn}
 use Rattle.terms.specs.Texts.{IsReplacement}
 use Rattle.statements.specs.declared.fault.StatementError.{StatementError}
 use Rattle.statements.specs.declared.fault.StatementError.TheVariants.{Memory, Fault}

@@ -1,11 +1,11 @@
 -- Where comments and lists close.
-use Rattle.std.specs.Prelude.{if◌then◌else◌, ◌==◌, ◌&&◌, slice_index}
-use Rattle.std.proofs.Common.{◌≡◌, ◌≤◌, ◌<◌, ◌+◌, ◌*◌, ℕ, Bool, true, false, List, [], ◌∷◌, ◌++◌, length, take, drop, Option, Some, None, refl, sym, ◌∙◌, ap, arith, length-append}
+use Rattle.std.specs.Prelude.{if◌then◌else◌, ◌==◌}
+use Rattle.std.proofs.Common.{◌≡◌, ◌≤◌, ◌+◌, ◌*◌, ℕ, Bool, true, false, List, [], ◌∷◌, ◌++◌, length, take, Some, None, refl, sym, ◌∙◌, ap, arith, length-append}
 use Rattle.std.proofs.lemmas.Bool.{eqb-true}
 use Rattle.std.proofs.lemmas.List.{take_at, length-take}
 use Rattle.terms.specs.Types.{Text}
 use Rattle.terms.specs.Records.{front}
-use Rattle.terms.specs.Statement.{behind_close, behind_list, followed}
+use Rattle.terms.specs.Statement.{behind_list, followed}
 
 list_step : (inner : Bool) (b : ℕ) (bs a : Text) (p q : Bool) → (b == 41) ≡ q
     → ((i : Bool) → behind_list i bs ≡ Some a → (l : Text) × (bs ≡ l ++ 41 ∷ a))

@@ -1,6 +1,6 @@
 -- What ++HOLD and ++RELEASE say is determined.
 use Rattle.std.proofs.Common.{◌≡◌, List, [], ◌∷◌, ◌++◌, Option, Some, None, refl, sym, ◌∙◌, ap, subst, append_assoc}
-use Rattle.std.specs.Prelude.{All, IsSomeAnd, reverse}
+use Rattle.std.specs.Prelude.{IsSomeAnd, reverse}
 use Rattle.std.proofs.lemmas.List.{reverse-append, reverse-reverse}
 use Rattle.std.proofs.lemmas.List.Sorted.{All-permutation, IsPermutation-reverse}
 use Rattle.terms.specs.declared.kinds.HoldKind.{HoldKind}

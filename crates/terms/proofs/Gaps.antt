@@ -1,9 +1,9 @@
 -- Texts that begin with no blank, comma or whole comment.
-use Rattle.std.specs.Prelude.{◌==◌, ◌&&◌, ◌||◌, slice_index, if◌then◌else◌, IsTrue, not}
-use Rattle.std.proofs.Common.{◌≡◌, ◌<◌, ℕ, Bool, true, false, List, [], ◌∷◌, ◌++◌, length, Option, Some, None, eq-eqb, ◌≢◌, refl, sym, ◌∙◌, ap, arith}
+use Rattle.std.specs.Prelude.{◌==◌, ◌&&◌, ◌||◌, slice_index, not}
+use Rattle.std.proofs.Common.{◌≡◌, ℕ, Bool, true, false, [], ◌∷◌, Option, Some, None, eq-eqb, ◌≢◌, refl, sym, ◌∙◌, ap}
 use Rattle.std.proofs.lemmas.Bool.{true≢false, false≢true, false_from_ne_true, and_parts, and_from, eqb-true, ne_eqb}
 use Rattle.terms.specs.Types.{Text}
-use Rattle.terms.specs.Statement.{Piece, TheWord, TheList, Blank, Comment, Stray, TakesPiece, is_blank, is_solid, behind_close, OpensComment}
+use Rattle.terms.specs.Statement.{TheWord, TheList, Blank, Comment, Stray, TakesPiece, is_blank, behind_close, OpensComment}
 use Rattle.terms.specs.Forms.{is_word_byte}
 use Rattle.terms.specs.CommandCuts.{BeginsNoGap}
 

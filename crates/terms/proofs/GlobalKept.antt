@@ -1,10 +1,9 @@
 -- Each change of the global zone leaves one that keeps its rules.
-use Rattle.std.proofs.Common.{◌≡◌, ◌≢◌, ◌<◌, ◌≤◌, ◌+◌, ◌^◌, ℕ, Bool, true, false, not, ◌||◌, ◌&&◌, ◌==◌, List, [], ◌∷◌, ◌++◌, length, map, filter, find, fold, cond, refl, sym, ap, ◌∙◌, subst, Option, None, Some, is_some, IsTrue, All, Contains, true≢false, arith, length-append, get_or}
+use Rattle.std.proofs.Common.{◌≡◌, ◌<◌, ◌≤◌, ◌+◌, ◌^◌, Bool, true, false, not, ◌||◌, ◌&&◌, ◌==◌, List, [], ◌∷◌, ◌++◌, length, map, filter, fold, cond, refl, sym, ap, ◌∙◌, subst, Option, None, Some, is_some, IsTrue, All, Contains, true≢false, arith, length-append, get_or}
 use Rattle.std.specs.Prelude.{AllPairs}
 use Rattle.std.proofs.lemmas.List.{length-map}
 use Rattle.std.specs.declared.cmp.Ordering.{Ordering}
-use Rattle.std.specs.declared.cmp.Ordering.TheVariants.{Less, Equal, Greater}
-use Rattle.std.specs.Ordering.{is_lt, is_eq, nat_cmp, ordering_reverse}
+use Rattle.std.specs.Ordering.{is_lt, nat_cmp, ordering_reverse}
 use Rattle.std.specs.Cmp.{IsTotalOrder}
 use Rattle.std.specs.Cmp.Lexicographic.{slice_cmp}
 use Rattle.std.specs.List.{flat_map}
@@ -19,8 +18,7 @@ use Rattle.terms.specs.Types.{Text, Id, Ver, Hold, Sysmod, Global, Release, hold
 use Rattle.terms.specs.Rising.{Rises, with_item, before, behind}
 use Rattle.terms.specs.Lookups.{sysmod_of, is_received, is_function}
 use Rattle.terms.specs.Choice.{vers_of}
-use Rattle.terms.specs.Over.{Reaches}
-use Rattle.terms.specs.Global.{named, names_for, HasLoop, is_service, fits_roles, RolesFit, has_key, hold_cmp, IsSysmod, IsGlobal, hold_of, marked, hold, without_hold, with_source, assign, with_sysmod, without_sysmod, received}
+use Rattle.terms.specs.Global.{named, names_for, HasLoop, is_service, fits_roles, RolesFit, has_key, hold_cmp, IsSysmod, IsGlobal, hold_of, marked, hold, without_hold, assign, with_sysmod, without_sysmod, received}
 use Rattle.terms.proofs.Leads.{reaches_more}
 use Rattle.terms.proofs.RisingLists.{AllPairs-first, AllPairs-rest, Less-from_is_lt}
 use Rattle.terms.proofs.GlobalLookups.{same_from, same_itself, same_back, find-passes, All-find, sysmod_of-with_sysmod, sysmod_of-without_sysmod, sysmod_of-assign, assigned, assigned-same}

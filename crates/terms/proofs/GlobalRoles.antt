@@ -1,11 +1,9 @@
 -- Which functions and other SYSMODs are received, and whether roles fit, after a change of the global zone.
-use Rattle.std.proofs.Common.{◌≡◌, Bool, true, false, not, ◌&&◌, ◌||◌, List, [], ◌∷◌, ◌++◌, map, cond, refl, sym, ap, ◌∙◌, subst, Option, None, Some, IsTrue, All, true≢false}
+use Rattle.std.proofs.Common.{◌≡◌, Bool, true, false, not, ◌&&◌, List, [], ◌∷◌, refl, sym, IsTrue, true≢false}
 use Rattle.std.specs.List.{list_any}
-use Rattle.std.specs.Option.{option_map, option_map_or}
-use Rattle.std.specs.Str.{bytes_eq}
-use Rattle.terms.specs.Types.{Text, Id, Ver, Sysmod, Global}
-use Rattle.terms.specs.Lookups.{sysmod_of, is_received, is_function, is_in}
-use Rattle.terms.specs.Global.{is_service, fits_roles, named_functions, RolesFit}
+use Rattle.terms.specs.Types.{Id, Ver, Global}
+use Rattle.terms.specs.Lookups.{is_function}
+use Rattle.terms.specs.Global.{is_service, fits_roles, named_functions}
 
 -- fewer pass
 pub list_any-fewer : {X : Type 0} (p q : X → Bool) (xs : List X) → ((x : X) → p x ≡ false → q x ≡ false) → list_any p xs ≡ false → list_any q xs ≡ false

@@ -1,13 +1,13 @@
 -- The least closed set is what the greatest self-supporting set leaves out.
 use Rattle.std.proofs.Common.{◌≡◌, ◌<◌, ℕ, suc, Bool, true, false, List, [], ◌∷◌, length, map, get_or, refl, sym, ◌∙◌, ap, arith, inl, inr}
-use Rattle.std.specs.Prelude.{IsTrue, ◌↔◌, ◌&&◌, not, nat_lt}
+use Rattle.std.specs.Prelude.{IsTrue, ◌&&◌, not, nat_lt}
 use Rattle.std.specs.List.{All, Any, Contains, list_all}
 use Rattle.std.proofs.lemmas.List.{get_or-map, get_or_past, length-map}
-use Rattle.std.proofs.lemmas.List.Elements.{All-contains, All-map, All-get_or, Contains-get_or}
-use Rattle.std.proofs.lemmas.List.Sums.{list_all-from_AllPass, AllPass-from_list_all}
+use Rattle.std.proofs.lemmas.List.Elements.{All-contains, All-map, Contains-get_or}
+use Rattle.std.proofs.lemmas.List.Sums.{AllPass-from_list_all}
 use Rattle.std.proofs.lemmas.Bool.{cases_Bool, cases_lt, and_parts, and_from, ltb-true, lt-ltb}
-use Rattle.terms.specs.Problem.{Problem, Demand, IsDemand, IsProblem, IsSelfSupporting, AreKept, IsGreatest, holds}
-use Rattle.terms.specs.Least.{Rule, Growth, IsClosed, IsGrown, IsLeast, rule_of, growth_of}
+use Rattle.terms.specs.Problem.{Problem, Demand, IsDemand, IsProblem, IsSelfSupporting, AreKept, holds}
+use Rattle.terms.specs.Least.{Growth, IsClosed, IsLeast, rule_of, growth_of}
 use Rattle.terms.proofs.Greatest.{greatest_from_kept}
 
 -- the least closed set is closed, and part of every closed set

@@ -1,6 +1,6 @@
 -- Each piece of a text takes a byte or more.
 use Rattle.std.specs.Prelude.{if◌then◌else◌, ◌==◌, ◌&&◌, slice_index}
-use Rattle.std.proofs.Common.{◌≡◌, ◌≤◌, ◌<◌, ◌+◌, ℕ, Bool, true, false, List, [], ◌∷◌, ◌++◌, length, drop, Option, Some, None, refl, ap, subst, arith, length-append}
+use Rattle.std.proofs.Common.{◌≡◌, ◌≤◌, ◌<◌, Bool, true, false, List, [], ◌∷◌, length, drop, Some, ap, arith, length-append}
 use Rattle.std.proofs.lemmas.List.{length-drop}
 use Rattle.terms.specs.Types.{Text}
 use Rattle.terms.specs.Statement.{Piece, TheWord, TheList, Blank, Comment, Stray, TakesPiece, HasPieces, behind_close}

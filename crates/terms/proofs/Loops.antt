@@ -1,13 +1,12 @@
 -- Where a loop can be after one more SYSMOD is received: only through that one, in a ++VER of its own.
-use Rattle.std.proofs.Common.{◌≡◌, ◌≢◌, ◌<◌, ◌⊎◌, inl, inr, Bool, true, false, List, [], ◌∷◌, ◌++◌, length, filter, cond, refl, sym, ap, ◌∙◌, subst, Option, None, Some, IsTrue, All, Contains, true≢false, arith}
+use Rattle.std.proofs.Common.{◌≡◌, ◌≢◌, ◌⊎◌, inl, inr, Bool, true, false, List, [], ◌∷◌, filter, cond, refl, sym, ap, ◌∙◌, subst, Option, None, Some, All, Contains, arith}
 use Rattle.std.specs.List.{flat_map}
 use Rattle.std.specs.Option.{option_map_or}
 use Rattle.std.specs.Str.{bytes_eq}
 use Rattle.std.proofs.lemmas.List.Elements.{All-head, All-tail, Contains-append_cases, Contains-append_left, Contains-append_right}
 use Rattle.terms.specs.Types.{Text, Id, Ver, Sysmod, Global}
 use Rattle.terms.specs.Lookups.{sysmod_of}
-use Rattle.terms.specs.Choice.{vers_of}
-use Rattle.terms.specs.Over.{Leads, Reaches}
+use Rattle.terms.specs.Over.{Reaches}
 use Rattle.terms.specs.Global.{named, names_for, HasLoop, with_sysmod}
 use Rattle.terms.proofs.Leads.{loop_through, last_step, same_or_not}
 use Rattle.terms.proofs.GlobalLookups.{same_from, same_itself, sysmod_of-with_sysmod}

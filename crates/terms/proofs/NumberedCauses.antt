@@ -1,6 +1,6 @@
 -- The numbered problem has the causers of the ids.
-use Rattle.std.specs.Prelude.{◌≡◌, ◌↔◌, ◌<◌, ◌⊎◌, ℕ, Bool, true, false, List, [], ◌∷◌, Option, Some, None, All, Any, Contains, IsTrue, slice_get, slice_index_or, length, refl}
-use Rattle.std.proofs.Common.{arith, sym, ◌∙◌, ap, subst, inl, inr, true≢false, ◌≢◌}
+use Rattle.std.specs.Prelude.{◌≡◌, ◌↔◌, ◌<◌, ℕ, Bool, true, false, List, [], ◌∷◌, Some, All, Any, Contains, IsTrue, slice_get, slice_index_or, length, refl}
+use Rattle.std.proofs.Common.{arith, sym, ◌∙◌, ap, subst, inl, inr, true≢false}
 use Rattle.std.proofs.lemmas.Option.{slice_get_within, slice_get-get_or, get_or_from_slice_get}
 use Rattle.terms.specs.Types.{Id}
 use Rattle.terms.specs.declared.codes.NeedKind.{NeedKind}
@@ -8,7 +8,7 @@ use Rattle.terms.specs.declared.codes.NeedKind.TheVariants.{Fmid}
 use Rattle.terms.specs.Problem.{Demand, IsDemand, Problem, holds}
 use Rattle.terms.specs.Kept.{IsProblemOf}
 use Rattle.terms.specs.Causes as numbered
-use Rattle.terms.specs.Failures.{HasFailed, IsOpenNeed, LeadsTo, Steps, HasBareNeed, IsRoot, IsCauser}
+use Rattle.terms.specs.Failures.{HasFailed, LeadsTo, Steps, HasBareNeed, IsRoot, IsCauser}
 use Rattle.terms.proofs.Numbered.{All-found}
 
 some_same : {X : Type 0} (x y : X) → Some x ≡ Some y → x ≡ y

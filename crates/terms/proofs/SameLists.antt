@@ -1,11 +1,11 @@
 -- Lists that rise by a key and have the same at each key are one, and so are zones.
-use Rattle.std.proofs.Common.{◌≡◌, ◌<◌, ℕ, zero, suc, Bool, true, false, IsTrue, List, [], ◌∷◌, refl, sym, ap, ◌∙◌, arith, cond, true≢false, subst}
-use Rattle.std.specs.Prelude.{All, AllPairs, Contains, find, Option, Some, None}
+use Rattle.std.proofs.Common.{◌≡◌, suc, Bool, true, false, IsTrue, List, [], ◌∷◌, refl, sym, ap, ◌∙◌, arith, cond, true≢false, subst}
+use Rattle.std.specs.Prelude.{Contains, find, Option, Some, None}
 use Rattle.std.specs.declared.cmp.Ordering.{Ordering}
 use Rattle.std.specs.declared.cmp.Ordering.TheVariants.{Less, Equal, Greater}
 use Rattle.std.specs.Ordering.{is_lt, is_eq, ordering_reverse}
 use Rattle.std.specs.Cmp.{IsTotalOrder}
-use Rattle.std.proofs.lemmas.Cmp.{tied_itself, tied_back, alike_right}
+use Rattle.std.proofs.lemmas.Cmp.{tied_itself, alike_right}
 use Rattle.terms.specs.Rising.{Rises}
 use Rattle.terms.proofs.RisingLists.{Less-from_is_lt, AllPairs-first, AllPairs-rest}
 

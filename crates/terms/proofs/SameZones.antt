@@ -1,14 +1,13 @@
 -- Zones that have the same at each key are one.
-use Rattle.std.proofs.Common.{◌≡◌, ℕ, Bool, true, false, IsTrue, List, [], ◌∷◌, refl, sym, ap, ◌∙◌, true≢false, subst}
-use Rattle.std.specs.Prelude.{All, Contains, find, Option, Some, None, is_some, ◌||◌, not}
+use Rattle.std.proofs.Common.{◌≡◌, false, IsTrue, List, [], refl, sym, ap, ◌∙◌, true≢false, subst}
+use Rattle.std.specs.Prelude.{Option, Some, None, is_some, ◌||◌, not}
 use Rattle.std.specs.Option.{option_map_or, option_and_then}
-use Rattle.std.specs.Ordering.{nat_cmp}
-use Rattle.std.specs.Cmp.Lexicographic.{slice_cmp, texts_ties}
+use Rattle.std.specs.Cmp.Lexicographic.{texts_ties}
 use Rattle.std.specs.Str.{bytes_eq}
 use Rattle.std.proofs.lemmas.Cmp.{nat_list_cmp_total}
 use Rattle.terms.specs.declared.kinds.ElemType.{ElemType}
-use Rattle.terms.specs.Types.{Text, Id, Entry, Element, Zone, a_zone}
-use Rattle.terms.specs.Lookups.{IsZone, is_nil, is_held, entry_of, element_of, element_key, element_cmp, applied_of, supby_of, delby_of, waived_of}
+use Rattle.terms.specs.Types.{Text, Id, Entry, Zone, a_zone}
+use Rattle.terms.specs.Lookups.{IsZone, is_nil, is_held, entry_of, element_of, element_key, applied_of, supby_of, delby_of, waived_of}
 use Rattle.terms.specs.Delta.{element_eq}
 use Rattle.terms.proofs.ElementOrder.{element_cmp_total, element_ties}
 use Rattle.terms.proofs.GlobalLookups.{same_from}
