@@ -1,6 +1,6 @@
 -- What records have is printable, and so is each list of a statement.
 use Rattle.std.proofs.Common.{◌≡◌, Bool, true, false, ℕ, List, [], ◌∷◌, ◌++◌, drop, Option, Some, None, refl, sym, ◌∙◌, ap, subst, cond, arith, ◌≤◌, ◌&&◌, ◌==◌}
-use Rattle.std.specs.Prelude.{All, IfSome, IsSomeAnd, slice_index}
+use Rattle.std.specs.Prelude.{All, IfSome, slice_index, if◌then◌else◌}
 use Rattle.std.specs.List.{flat_map}
 use Rattle.std.specs.Str.{bytes_eq}
 use Rattle.std.proofs.lemmas.List.Elements.{All-nil, All-cons, All-head, All-tail, All-append, All-take, All-filter}
@@ -30,16 +30,16 @@ own_printable (Some text) more h = All-head IsPrintablePiece (TheList text) more
 abbrev pub HasPrintable : Option Word → Type 0
 HasPrintable found = IfSome found (λ w. IfSome w.list (All IsPrintable))
 
+cond_printable : (w : Word) (found : Option Word) (b : Bool) → IfSome w.list (All IsPrintable) → HasPrintable found → HasPrintable (cond b (Some w) found)
+cond_printable w found true own more = own
+cond_printable w found false own more = more
+
 found_printable : (name : Text) (ws : List Word) → ArePrintable (flat_map word_pieces ws) → HasPrintable (operand name ws)
 found_printable name [] h = tt
-found_printable name (w ∷ ws) h = by (bytes_eq w.word name) refl
-  where
-    more : ArePrintable (list_pieces w.list ++ flat_map word_pieces ws)
-    more = All-tail IsPrintablePiece (TheWord w.word) (list_pieces w.list ++ flat_map word_pieces ws) h
-
-    by : (b : Bool) → bytes_eq w.word name ≡ b → HasPrintable (operand name (w ∷ ws))
-    by true e = subst (λ t. HasPrintable (cond t (Some w) (operand name ws))) (sym e) (own_printable w.list (flat_map word_pieces ws) more)
-    by false e = subst (λ t. HasPrintable (cond t (Some w) (operand name ws))) (sym e) (found_printable name ws (all_back IsPrintablePiece (list_pieces w.list) (flat_map word_pieces ws) more))
+found_printable name (w ∷ ws) h =
+    let more = All-tail IsPrintablePiece (TheWord w.word) (list_pieces w.list ++ flat_map word_pieces ws) h in
+    cond_printable w (operand name ws) (bytes_eq w.word name) (own_printable w.list (flat_map word_pieces ws) more)
+    (found_printable name ws (all_back IsPrintablePiece (list_pieces w.list) (flat_map word_pieces ws) more))
 
 -- An operand of a printable statement has a printable list.
 pub operand_printable : (rest : List Piece) (ws : List Word) (name : Text) → ArePrintable rest → HasWords rest ws → HasPrintable (operand name ws)
@@ -60,15 +60,15 @@ behind_second : (text after : Text) → All IsPrintable text → drop 1 text ≡
 behind_second [] after h e = subst (All IsPrintable) e h
 behind_second (b ∷ text) after h e = subst (All IsPrintable) e (All-tail IsPrintable b text h)
 
+close_step : (t : Bool) (bs after : Text) → All IsPrintable bs → (behind_close bs ≡ Some after → All IsPrintable after) → (if t then Some (drop 1 bs) else behind_close bs) ≡ Some after → All IsPrintable after
+close_step true bs after h more e = behind_second bs after h (cc (e))
+close_step false bs after h more e = more e
+
 close_printable : (inside after : Text) → All IsPrintable inside → behind_close inside ≡ Some after → All IsPrintable after
 close_printable [] after h e = absurd (cc (e))
-close_printable (b ∷ bs) after h e = by (b == 42 && slice_index bs 0 == 47) refl
-  where
-    by : (t : Bool) → (b == 42 && slice_index bs 0 == 47) ≡ t → All IsPrintable after
-    by true is =
-        let same : drop 1 bs ≡ after = cc (sym (ap (λ t. cond t (Some (drop 1 bs)) (behind_close bs)) is) ∙ e) in
-        behind_second bs after (All-tail IsPrintable b bs h) same
-    by false is = close_printable bs after (All-tail IsPrintable b bs h) (sym (ap (λ t. cond t (Some (drop 1 bs)) (behind_close bs)) is) ∙ e)
+close_printable (b ∷ bs) after h e =
+    let tail = All-tail IsPrintable b bs h in
+    close_step (b == 42 && slice_index bs 0 == 47) bs after tail (λ more. close_printable bs after tail more) e
 
 -- what follows a piece, and the piece itself
 piece_printable : (text : Text) (p : Piece) (after : Text) → TakesPiece text p after → All IsPrintable text → IsPrintablePiece p × All IsPrintable after
@@ -93,5 +93,5 @@ pub known_printable : (records : Lines) (w : StatementWord) (own : Option Text) 
 known_printable records w own rest inline h known =
     let s = known.statement in
     let pieces = pieces_printable (joined records) s.0 _ s.2.has_pieces (joined_printable records h) in
-    let solid_ones : ArePrintable known.pieces = subst ArePrintable (sym s.4) (All-filter IsPrintablePiece is_solid s.0 pieces) in
+    let solid_ones : ArePrintable known.pieces = subst ArePrintable (sym s.4) (All-filter is_solid IsPrintablePiece s.0 pieces) in
     all_back IsPrintablePiece (word_pieces (record { word = statement_text w; list = own })) rest (subst ArePrintable known.begins.pieces_are solid_ones)

@@ -28,6 +28,7 @@ fn bytes_of(alloc: Global, text: &Text<'_>) -> Result<Vec<u8>, AllocError>
 }
 
 /// What follows the blanks.
+#[tactic(auto, using(crate::proofs::Trimming::skips_more))]
 fn behind_blanks(text: &[u8]) -> &[u8]
     ensures skips { SkipsBlanks text.now result.now }
     ensures dark { BeginsNoBlank result.now }
