@@ -1,6 +1,7 @@
 ghost use Rattle.std.specs.Prelude.{◌≡◌, ◌≢◌, ◌++◌, ℕ, List, codes, IfSome, IfNone};
 ghost use Rattle.terms.specs.declared.statement_words.StatementWord.{StatementWord as AnyWord};
 ghost use Rattle.terms.specs.Statements.{statement_text};
+ghost use Rattle.statements.specs.KnownWords.{IsOther};
 
 use spelling::{read_kind, read_type};
 use terms::StatementWord;
@@ -13,14 +14,31 @@ fn behind_plus(word: &[u8]) -> Option<&[u8]>
     word.strip_prefix(b"++")
 }
 
+/// The word behind `++`, where it is no header and no replacement.
+fn other_word(rest: &[u8]) -> Option<StatementWord>
+    ensures found { IfSome result (λ w. statement_text w ≡ codes "++" ++ rest.now) }
+    ensures none { IfNone result ((w : AnyWord) → IsOther w → statement_text w ≢ codes "++" ++ rest.now) }
+{
+    match rest {
+        b"VER" => Some(StatementWord::Ver),
+        b"IF" => Some(StatementWord::If),
+        b"HOLD" => Some(StatementWord::Hold),
+        b"RELEASE" => Some(StatementWord::Release),
+        b"ASSIGN" => Some(StatementWord::Assign),
+        b"MACUPD" => Some(StatementWord::UpdateMac),
+        b"SRCUPD" => Some(StatementWord::UpdateSrc),
+        _ => None,
+    }
+}
+
 /// The word of a statement that is spelled so.
 pub fn statement_word(word: &[u8]) -> Option<StatementWord>
     ensures found { IfSome result (λ w. statement_text w ≡ word.now) }
     ensures none { IfNone result ((w : AnyWord) → statement_text w ≢ word.now) }
 {
     let rest = behind_plus(word)?;
-    if rest == b"VER".as_slice() {
-        return Some(StatementWord::Ver);
+    if let Some(known) = other_word(rest) {
+        return Some(known);
     }
     if let Some(kind) = read_kind(rest) {
         return Some(StatementWord::Header(kind));
