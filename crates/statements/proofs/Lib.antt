@@ -3,3 +3,7 @@ pub mod Owning
 pub mod Remaining
 pub mod Finding
 pub mod Failing
+pub mod KindWords
+pub mod Printables
+pub mod Trimming
+pub mod Holding

@@ -1,3 +1,5 @@
 pub mod Forms
 pub mod KnownWords
 pub mod Faults
+pub mod Holds
+pub mod Trimmed

@@ -1,7 +1,7 @@
 ghost use Rattle.std.specs.Prelude.{◌≡◌, ◌↔◌, ℕ, Bool, true, false, List, Option, map, IsTrue, IfOk, IfErr, IfSome, IfNone, OnErr};
 ghost use Rattle.terms.specs.Statement.{Piece, HasSolid};
 ghost use Rattle.terms.specs.Words as grammar;
-ghost use Rattle.terms.specs.Forms.{IsId, IsName};
+ghost use Rattle.terms.specs.Forms.{IsId, IsName, IsClass, IsDate, IsReason};
 ghost use Rattle.std.specs.List.{list_any};
 ghost use Rattle.std.specs.Str.{bytes_eq};
 ghost use Rattle.terms.specs.Operands.{operand, AreOperands, HasRequired, HasOptional, HasTexts};
@@ -9,11 +9,12 @@ ghost use Rattle.rec80.specs.Views.{left_of};
 ghost use Rattle.operands.specs.Left.{LeavesWords};
 ghost use Rattle.operands.specs.Failing.{Excludes};
 
-use crate::own::{one_id, one_name};
-use fields::{Id, IdList, Name};
+use crate::own::{one_class, one_date, one_id, one_name, one_reason};
+use fields::{Class, HoldDate, Id, IdList, Name, Reason};
 use operands::{BadOperand, OperandError, ids, operand};
 use rec80::Words;
 use std::alloc::Global;
+use terms::HoldKind;
 
 /// Whether the word is one of the names.
 fn is_one_of(names: &[&[u8]], word: &[u8]) -> bool
@@ -58,6 +59,56 @@ pub fn optional_id(words: &Words<'_>, name: &[u8]) -> Result<Option<Id>, BadOper
         Some(id) => Ok(Some(id)),
         None => Err(BadOperand),
     }
+}
+
+/// The class of an operand that may be absent.
+pub fn optional_class(words: &Words<'_>, name: &[u8]) -> Result<Option<Class>, BadOperand>
+    ensures ok { (ws : List grammar.Word) → LeavesWords words.now ws → IfOk result (λ class. HasOptional IsClass (operand name.now ws) class) }
+    ensures bad { (ws : List grammar.Word) → LeavesWords words.now ws → OnErr result ((class : Option (List ℕ)) → HasOptional IsClass (operand name.now ws) class → ⊥) }
+{
+    let Some(word) = operand(words, name) else {
+        return Ok(None);
+    };
+    match one_class(&word) {
+        Some(class) => Ok(Some(class)),
+        None => Err(BadOperand),
+    }
+}
+
+/// The date of an operand that may be absent.
+pub fn optional_date(words: &Words<'_>, name: &[u8]) -> Result<Option<HoldDate>, BadOperand>
+    ensures ok { (ws : List grammar.Word) → LeavesWords words.now ws → IfOk result (λ date. HasOptional IsDate (operand name.now ws) date) }
+    ensures bad { (ws : List grammar.Word) → LeavesWords words.now ws → OnErr result ((date : Option (List ℕ)) → HasOptional IsDate (operand name.now ws) date → ⊥) }
+{
+    let Some(word) = operand(words, name) else {
+        return Ok(None);
+    };
+    match one_date(&word) {
+        Some(date) => Ok(Some(date)),
+        None => Err(BadOperand),
+    }
+}
+
+/// The id of an operand that must be there.
+pub fn required_id(words: &Words<'_>, name: &[u8]) -> Option<Id>
+    ensures some { (ws : List grammar.Word) → LeavesWords words.now ws → IfSome result (λ v. HasRequired IsId (operand name.now ws) v) }
+    ensures none { (ws : List grammar.Word) → LeavesWords words.now ws → IfNone result ((v : List ℕ) → HasRequired IsId (operand name.now ws) v → ⊥) }
+{
+    let Some(word) = operand(words, name) else {
+        return None;
+    };
+    one_id(&word)
+}
+
+/// The reason that must be there, of a hold of the kind.
+pub fn required_reason(kind: HoldKind, words: &Words<'_>, name: &[u8]) -> Option<Reason>
+    ensures some { (ws : List grammar.Word) → LeavesWords words.now ws → IfSome result (λ v. HasRequired (IsReason kind) (operand name.now ws) v) }
+    ensures none { (ws : List grammar.Word) → LeavesWords words.now ws → IfNone result ((v : List ℕ) → HasRequired (IsReason kind) (operand name.now ws) v → ⊥) }
+{
+    let Some(word) = operand(words, name) else {
+        return None;
+    };
+    one_reason(kind, &word)
 }
 
 /// The name of an operand that must be there.

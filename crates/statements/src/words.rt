@@ -1,7 +1,7 @@
 ghost use Rattle.std.specs.Prelude.{◌≡◌, ◌≢◌, ◌++◌, ℕ, List, codes, IfSome, IfNone};
 ghost use Rattle.terms.specs.declared.statement_words.StatementWord.{StatementWord as AnyWord};
 ghost use Rattle.terms.specs.Statements.{statement_text};
-ghost use Rattle.statements.specs.KnownWords.{IsOther};
+ghost use Rattle.statements.specs.KnownWords.{IsFixed};
 
 use spelling::{read_kind, read_type};
 use terms::StatementWord;
@@ -14,10 +14,10 @@ fn behind_plus(word: &[u8]) -> Option<&[u8]>
     word.strip_prefix(b"++")
 }
 
-/// The word behind `++`, where it is no header and no replacement.
-fn other_word(rest: &[u8]) -> Option<StatementWord>
+/// The word without a kind or a type that is spelled so behind `++`.
+fn fixed_word(rest: &[u8]) -> Option<StatementWord>
     ensures found { IfSome result (λ w. statement_text w ≡ codes "++" ++ rest.now) }
-    ensures none { IfNone result ((w : AnyWord) → IsOther w → statement_text w ≢ codes "++" ++ rest.now) }
+    ensures none { IfNone result ((w : AnyWord) → IsFixed w → statement_text w ≢ codes "++" ++ rest.now) }
 {
     match rest {
         b"VER" => Some(StatementWord::Ver),
@@ -37,8 +37,8 @@ pub fn statement_word(word: &[u8]) -> Option<StatementWord>
     ensures none { IfNone result ((w : AnyWord) → statement_text w ≢ word.now) }
 {
     let rest = behind_plus(word)?;
-    if let Some(known) = other_word(rest) {
-        return Some(known);
+    if let Some(fixed) = fixed_word(rest) {
+        return Some(fixed);
     }
     if let Some(kind) = read_kind(rest) {
         return Some(StatementWord::Header(kind));

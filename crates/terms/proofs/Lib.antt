@@ -46,4 +46,5 @@ pub mod Permuted
 pub mod ExactHolds
 pub mod ExactStatements
 pub mod ExactPtfin
+pub mod ExactHoldFile
 pub mod ExactFaults

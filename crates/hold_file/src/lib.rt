@@ -1,0 +1,9 @@
+//! A hold file: its holds and releases, or its first fault.
+#![tactic(auto)]
+
+mod file;
+mod item;
+
+pub use file::read_hold_file;
+pub use item::HoldItem;
+pub use statements::{McsError, Release};
