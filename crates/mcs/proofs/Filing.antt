@@ -1,15 +1,17 @@
 -- Statements, one by one.
-use Rattle.std.proofs.Common.{◌≡◌, ◌<◌, ℕ, List, [], ◌∷◌, ◌++◌, length, refl, sym, ap, subst, arith, length-append, inr}
+use Rattle.std.proofs.Common.{◌≡◌, ◌<◌, ℕ, List, [], ◌∷◌, ◌++◌, length, map, Option, Some, None, refl, sym, ap, subst, arith, length-append, inr}
+use Rattle.std.specs.Prelude.{IsSomeAnd, if◌then◌else◌}
 use Rattle.terms.specs.declared.codes.McCode.{McCode}
-use Rattle.terms.specs.Types.{Lines, Item}
+use Rattle.terms.specs.Types.{Text, Lines, IfReq, Ver, Hold, Item}
 use Rattle.terms.specs.Records.{HasRecords}
 use Rattle.terms.specs.Groups.{Group, IsGroup, TakesGroup}
-use Rattle.terms.specs.Statements.{Statement}
-use Rattle.terms.specs.Ptfin.{SoFar, nothing, items_of, after, IsGoodStatement, IsStatementFault, BeginsWithStatements, IsPtfin}
+use Rattle.terms.specs.Words.{Word}
+use Rattle.terms.specs.Statements.{Statement, SaysHeader, SaysVer, SaysIf, SaysHold, SaysAssign, SaysChange, IsOwnHoldOf}
+use Rattle.terms.specs.Ptfin.{Begun, sysmod_in, is_last, with_if, SoFar, nothing, items_of, after, IsGoodStatement, IsStatementFault, BeginsWithStatements, IsPtfin}
 use Rattle.terms.proofs.ExactPtfin.{ptfin_fault-no_items}
 use Rattle.statements.specs.declared.error.McsError.{McsError}
 use Rattle.statements.specs.declared.error.McsError.TheVariants.{Memory, Fault}
-use Rattle.mcs.specs.Files.{IsPtfinError, IsRestError}
+use Rattle.mcs.specs.Files.{Suits, IsPtfinError, IsRestError}
 
 pub begins_none : (c : SoFar) (n : ℕ) (records : Lines) → BeginsWithStatements c n records [] c n records
 begins_none c n records = (refl, refl, refl)
@@ -44,3 +46,24 @@ file_items bytes records ss d m items h b e = (records, ss, d, m, h, b, e)
 pub error_is : (bytes : List ℕ) (error : McsError) (items : List Item) → IsPtfinError bytes error → IsPtfin bytes items → error ≡ Memory
 error_is bytes Memory items e p = refl
 error_is bytes (Fault number code) items e p = absurd (ptfin_fault-no_items bytes (record { number = number; code = code }) items e p)
+
+own_holds : (current : Option Begun) (own : Option Text) (operands : List Word) (h : Hold) → IsSomeAnd (sysmod_in current) (λ s. IsOwnHoldOf s own operands h) → Suits current (SaysHold h)
+own_holds None own operands h says = absurd says
+own_holds (Some b) own operands h says = (says.internal, says.kind, says.own_id)
+
+-- What a good statement says suits the SYSMOD.
+pub good_suits : (current : Option Begun) (later records : Lines) (s : Statement) → IsGoodStatement current later records s → Suits current s
+good_suits current later records (SaysHold h) good = own_holds current good.1 good.5.value.0 h good.5.value.2.1
+good_suits current later records (SaysHeader kind id) good = tt
+good_suits current later records (SaysVer v) good = tt
+good_suits current later records (SaysIf i) good = tt
+good_suits current later records (SaysAssign a) good = tt
+good_suits current later records (SaysChange c) good = tt
+
+-- An ++IF outside every ++VER changes nothing.
+pub no_last : (i : IfReq) (b : Begun) → b.srel ≡ None → with_if i b ≡ b
+no_last i b none = ap (λ vs. record b { sysmod = record b.sysmod { vers = vs } }) (each b.sysmod.vers)
+  where
+    each : (vs : List Ver) → map (λ (v : Ver). if is_last b v then record v { ifs = v.ifs ++ i ∷ [] } else v) vs ≡ vs
+    each [] = refl
+    each (v ∷ vs) = rw none (ap (λ ws. v ∷ ws) (each vs))

@@ -1,6 +1,9 @@
 pub mod Ordering
 pub mod NotNaming
 pub mod Saying
+pub mod Ending
+pub mod Conditions
+pub mod Assigning
 pub mod Changing
 pub mod Versions
 pub mod Judging

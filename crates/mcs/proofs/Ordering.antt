@@ -1,5 +1,5 @@
 -- Second ++VERs and second changes.
-use Rattle.std.proofs.Common.{◌≡◌, Bool, true, List, [], ◌∷◌, Option, sym, ◌∙◌, ap, subst, inl, inr, eq-eqb}
+use Rattle.std.proofs.Common.{◌≡◌, Bool, true, List, [], ◌∷◌, Option, Some, None, refl, sym, ◌∙◌, ap, subst, inl, inr, eq-eqb}
 use Rattle.std.specs.Prelude.{◌&&◌, ◌==◌, IsTrue, Any}
 use Rattle.std.specs.List.{list_any}
 use Rattle.std.specs.Str.{bytes_eq}
@@ -11,6 +11,7 @@ use Rattle.terms.specs.declared.statement_words.StatementWord.TheVariants as wor
 use Rattle.terms.specs.Types.{Text, Ver, Change, Sysmod, type_number}
 use Rattle.terms.specs.Forms.{IsSrel, IsName}
 use Rattle.terms.specs.Operands.{HasOwn}
+use Rattle.terms.specs.Statements.{changed_type}
 use Rattle.terms.specs.Ptfin.{IsSecond}
 use Rattle.terms.proofs.GlobalLookups.{same_from, same_itself}
 use Rattle.terms.proofs.ElementOrder.{type_from_number}
@@ -45,24 +46,64 @@ no_second_ver s w own w_is none k =
     let k' = subst (λ x. IsSecond s x own) w_is k in
     none k'.0 k'.1
 
-same_element : (c : Change) (type : ElemType) (name : Text) → ((type_number c.elem_type == type_number type) && bytes_eq c.name name) ≡ true → (c.elem_type ≡ type) × (c.name ≡ name)
-same_element c type name t =
+same_element : (c : Change) (w : StatementWord) (type : ElemType) (name : Text) → changed_type w ≡ Some type → ((type_number c.elem_type == type_number type) && bytes_eq c.name name) ≡ true → (changed_type w ≡ Some c.elem_type) × (c.name ≡ name)
+same_element c w type name is t =
     let parts = and_parts (type_number c.elem_type == type_number type) (bytes_eq c.name name) t in
-    (type_from_number c.elem_type type (eqb-true (type_number c.elem_type) (type_number type) parts.0), same_from c.name name parts.1)
+    let same = type_from_number c.elem_type type (eqb-true (type_number c.elem_type) (type_number type) parts.0) in
+    (is ∙ ap (λ x. Some x) (sym same), same_from c.name name parts.1)
 
-element_same : (c : Change) (type : ElemType) (name : Text) → (c.elem_type ≡ type) × (c.name ≡ name) → ((type_number c.elem_type == type_number type) && bytes_eq c.name name) ≡ true
-element_same c type name h =
-    and_from (type_number c.elem_type == type_number type) (bytes_eq c.name name) (eq-eqb (type_number c.elem_type) (type_number type) (ap type_number h.0)) (subst (λ x. bytes_eq c.name x ≡ true) h.1 (same_itself c.name))
+some_type : (a b : ElemType) → Some a ≡ Some b → a ≡ b
+some_type a b e = cc (e)
 
-pub second_change : (s : Sysmod) (w : StatementWord) (own : Option Text) (type : ElemType) (name : Text) (has : Bool) → w ≡ word.Replace type → HasOwn IsName own name → has ≡ list_any (λ c. (type_number c.elem_type == type_number type) && bytes_eq c.name name) s.changes → (IsTrue has → IsSecond s w own) × (IsSecond s w own → IsTrue has)
-second_change s w own type name has w_is h e =
-    let by = any_by (λ (c : Change). (type_number c.elem_type == type_number type) && bytes_eq c.name name) (λ c. (c.elem_type ≡ type) × (c.name ≡ name)) (λ c t. same_element c type name t) (λ c t. element_same c type name t) s.changes has e in
-    rw w_is (
-      λ t. (name, h, by.0 t),
-      λ k. by.1 (subst (λ x. Any (λ c. (c.elem_type ≡ type) × (c.name ≡ x)) s.changes) (own-only IsName IsName own k.0 name k.1 h) k.2),
+element_same : (c : Change) (w : StatementWord) (type : ElemType) (name : Text) → changed_type w ≡ Some type → (changed_type w ≡ Some c.elem_type) × (c.name ≡ name) → ((type_number c.elem_type == type_number type) && bytes_eq c.name name) ≡ true
+element_same c w type name is h =
+    let same = some_type c.elem_type type (sym h.0 ∙ is) in
+    and_from (type_number c.elem_type == type_number type) (bytes_eq c.name name) (eq-eqb (type_number c.elem_type) (type_number type) (ap type_number same)) (subst (λ x. bytes_eq c.name x ≡ true) h.1 (same_itself c.name))
+
+-- a second change, by the word alone
+abbrev Changed : Sysmod → StatementWord → Option Text → Type 0
+Changed s w own = (name : Text) × HasOwn IsName own name × Any (λ c. (changed_type w ≡ Some c.elem_type) × (c.name ≡ name)) s.changes
+
+to_second : (s : Sysmod) (w : StatementWord) (own : Option Text) (type : ElemType) → changed_type w ≡ Some type → Changed s w own → IsSecond s w own
+to_second s (word.Replace t) own type is h = h
+to_second s word.UpdateMac own type is h = h
+to_second s word.UpdateSrc own type is h = h
+to_second s w own type is h = absurd (cc (is))
+
+from_second : (s : Sysmod) (w : StatementWord) (own : Option Text) (type : ElemType) → changed_type w ≡ Some type → IsSecond s w own → Changed s w own
+from_second s (word.Replace t) own type is h = h
+from_second s word.UpdateMac own type is h = h
+from_second s word.UpdateSrc own type is h = h
+from_second s w own type is h = absurd (cc (is))
+
+pub second_change : (s : Sysmod) (w : StatementWord) (own : Option Text) (type : ElemType) (name : Text) (has : Bool) → changed_type w ≡ Some type → HasOwn IsName own name → has ≡ list_any (λ c. (type_number c.elem_type == type_number type) && bytes_eq c.name name) s.changes → (IsTrue has → IsSecond s w own) × (IsSecond s w own → IsTrue has)
+second_change s w own type name has is h e =
+    let by = any_by (λ (c : Change). (type_number c.elem_type == type_number type) && bytes_eq c.name name) (λ c. (changed_type w ≡ Some c.elem_type) × (c.name ≡ name)) (λ c t. same_element c w type name is t) (λ c t. element_same c w type name is t) s.changes has e in (
+      λ t. to_second s w own type is (name, h, by.0 t),
+      λ k.
+          let k' = from_second s w own type is k in
+          by.1 (subst (λ x. Any (λ c. (changed_type w ≡ Some c.elem_type) × (c.name ≡ x)) s.changes) (own-only IsName IsName own k'.0 name k'.1 h) k'.2),
     )
 
-pub no_second_change : (s : Sysmod) (w : StatementWord) (own : Option Text) (type : ElemType) → w ≡ word.Replace type → ((name : Text) → HasOwn IsName own name → ⊥) → IsSecond s w own → ⊥
-no_second_change s w own type w_is none k =
-    let k' = subst (λ x. IsSecond s x own) w_is k in
+pub no_second_change : (s : Sysmod) (w : StatementWord) (own : Option Text) (type : ElemType) → changed_type w ≡ Some type → ((name : Text) → HasOwn IsName own name → ⊥) → IsSecond s w own → ⊥
+no_second_change s w own type is none k =
+    let k' = from_second s w own type is k in
     none k'.0 k'.1
+
+never : (name : Text) (cs : List Change) → Any (λ c. (None ≡ Some c.elem_type) × (c.name ≡ name)) cs → ⊥
+never name [] h = any_none (λ (c : Change). (None ≡ Some c.elem_type) × (c.name ≡ name)) h
+never name (c ∷ cs) h =
+    elim (any_cases (λ (c : Change). (None ≡ Some c.elem_type) × (c.name ≡ name)) c cs h) [
+      | inl here ↦ cc (here.0)
+      | inr later ↦ never name cs later
+    ]
+
+-- Of a word that is neither ++VER nor changes an element there is no second one.
+pub no_second : (s : Sysmod) (w : StatementWord) (own : Option Text) → changed_type w ≡ None → (w ≡ word.Ver → ⊥) → IsSecond s w own → ⊥
+no_second s (word.Header kind) own is other k = never k.0 s.changes k.2
+no_second s word.Ver own is other k = other refl
+no_second s word.If own is other k = never k.0 s.changes k.2
+no_second s word.Hold own is other k = never k.0 s.changes k.2
+no_second s word.Release own is other k = never k.0 s.changes k.2
+no_second s word.Assign own is other k = never k.0 s.changes k.2
+no_second s w own is other k = absurd (cc (is))

@@ -7,9 +7,9 @@ use Rattle.terms.specs.Types.{Text, Id, Lines, Ver, Sysmod}
 use Rattle.terms.specs.Forms.{IsId, IsSrel}
 use Rattle.terms.specs.Statement.{Piece}
 use Rattle.terms.specs.Words.{Word, HasWords, IsShort}
-use Rattle.terms.specs.Operands.{operand, AreOperands, HasOptional}
-use Rattle.terms.specs.Statements.{SaysVer, HasOwn, SuitsKind, ver_operands, lists_of, IsVerOf}
-use Rattle.terms.specs.Ptfin.{HasValue, IsWithin}
+use Rattle.terms.specs.Operands.{operand, AreOperands, HasOwn, HasOptional}
+use Rattle.terms.specs.Statements.{SaysVer, SuitsKind, ver_operands, lists_of, IsVerOf}
+use Rattle.terms.specs.Ptfin.{Begun, sysmod_in, HasValue, IsWithin}
 use Rattle.terms.proofs.ExactOperands.{optional-only, texts-only}
 use Rattle.terms.proofs.ExactWords.{words-only}
 use Rattle.operands.specs.declared.errors.OperandError.{OperandError}
@@ -63,22 +63,22 @@ lists_are s own ws v w i h =
     let e = texts-only IsId (operand (codes "DELETE") ws) w.del v.del h.has_lists.has_del i.del in
     cc (a, b, c, d, e)
 
-pub ver_value : (current : Option Sysmod) (s : Sysmod) (w : StatementWord) (own : Option Text) (rest : List Piece) (inline : Lines) (ws : List Word) (v : Ver) → current ≡ Some s → w ≡ word.Ver → HasWords rest ws → IsVerOf s own ws v → HasValue current w own rest inline (SaysVer v)
-ver_value current s w own rest inline ws v at is h i = (ws, h, (is, subst (λ c. IsSomeAnd c (λ x. IsVerOf x own ws v)) (sym at) i))
+pub ver_value : (current : Option Begun) (b : Begun) (w : StatementWord) (own : Option Text) (rest : List Piece) (inline : Lines) (ws : List Word) (v : Ver) → current ≡ Some b → w ≡ word.Ver → HasWords rest ws → IsVerOf b.sysmod own ws v → HasValue (sysmod_in current) w own rest inline (SaysVer v)
+ver_value current b w own rest inline ws v at is h i = (ws, h, (is, subst (λ c. IsSomeAnd (sysmod_in c) (λ x. IsVerOf x own ws v)) (sym at) i))
 
-pub ver_error : (current : Option Sysmod) (s : Sysmod) (w : StatementWord) (own : Option Text) (rest : List Piece) (inline : Lines) (ws : List Word) (error : OperandError) → current ≡ Some s → w ≡ word.Ver → HasWords rest ws → Excludes error ((v : Ver) × IsVerOf s own ws v) → IsSaidError current w own rest inline (value_error error)
-ver_error current s w own rest inline ws Memory at is h x = tt
-ver_error current s w own rest inline ws Bad at is h x =
-    ver_excludes current w own rest inline is (λ ws' v h' i.
-    let here : IsVerOf s own ws' v = subst (λ c. IsSomeAnd c (λ y. IsVerOf y own ws' v)) at i in
-    x (v, subst (λ l. IsVerOf s own l v) (words-only rest ws' ws h' h) here))
+pub ver_error : (current : Option Begun) (b : Begun) (w : StatementWord) (own : Option Text) (rest : List Piece) (inline : Lines) (ws : List Word) (error : OperandError) → current ≡ Some b → w ≡ word.Ver → HasWords rest ws → Excludes error ((v : Ver) × IsVerOf b.sysmod own ws v) → IsSaidError current w own rest inline (value_error error)
+ver_error current b w own rest inline ws Memory at is h x = tt
+ver_error current b w own rest inline ws Bad at is h x =
+    ver_excludes (sysmod_in current) w own rest inline is (λ ws' v h' i.
+    let here : IsVerOf b.sysmod own ws' v = subst (λ c. IsSomeAnd (sysmod_in c) (λ y. IsVerOf y own ws' v)) at i in
+    x (v, subst (λ l. IsVerOf b.sysmod own l v) (words-only rest ws' ws h' h) here))
 
-pub ver_said : (current : Option Sysmod) (s : Sysmod) (w : StatementWord) (own : Option Text) (rest : List Piece) (inline : Lines) (ws : List Word) (v : Ver) → current ≡ Some s → w ≡ word.Ver → HasWords rest ws → IsVerOf s own ws v → (length s.vers < 8) × All IsShort (lists_of v) → IsSaid current w own rest inline (SaysVer v)
-ver_said current s w own rest inline ws v at is h i within = record {
-  value = ver_value current s w own rest inline ws v at is h i;
-  within = (subst (λ c. IfSome c (λ x. length x.vers < 8)) (sym at) within.0, within.1);
+pub ver_said : (current : Option Begun) (b : Begun) (w : StatementWord) (own : Option Text) (rest : List Piece) (inline : Lines) (ws : List Word) (v : Ver) → current ≡ Some b → w ≡ word.Ver → HasWords rest ws → IsVerOf b.sysmod own ws v → (length b.sysmod.vers < 8) × All IsShort (lists_of v) → IsSaid current w own rest inline (SaysVer v)
+ver_said current b w own rest inline ws v at is h i within = record {
+  value = ver_value current b w own rest inline ws v at is h i;
+  within = (subst (λ c. IfSome c (λ x. length x.sysmod.vers < 8)) (sym at) within.0, within.1);
   text = tt;
 }
 
-pub ver_within : (current : Option Sysmod) (s : Sysmod) (v : Ver) (inline : Lines) → current ≡ Some s → IsWithin current (SaysVer v) inline → (length s.vers < 8) × All IsShort (lists_of v)
-ver_within current s v inline at h = (subst (λ c. IfSome c (λ x. length x.vers < 8)) at h.0, h.1)
+pub ver_within : (current : Option Begun) (b : Begun) (v : Ver) (inline : Lines) → current ≡ Some b → IsWithin current (SaysVer v) inline → (length b.sysmod.vers < 8) × All IsShort (lists_of v)
+ver_within current b v inline at h = (subst (λ c. IfSome c (λ x. length x.sysmod.vers < 8)) at h.0, h.1)

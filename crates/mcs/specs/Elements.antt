@@ -5,9 +5,8 @@ use Rattle.terms.specs.declared.codes.McCode.TheVariants.{Mc5}
 use Rattle.terms.specs.Types.{Text, Lines}
 use Rattle.terms.specs.Forms.{IsName}
 use Rattle.terms.specs.Words.{Word}
-use Rattle.terms.specs.Operands.{operand, AreOperands, HasRequired}
-use Rattle.terms.specs.Operands.{HasOwn}
-use Rattle.terms.specs.Texts.{IsReplacement}
+use Rattle.terms.specs.Operands.{operand, AreOperands, HasOwn, HasRequired}
+use Rattle.terms.specs.Texts.{IsReplacement, IsUpdate}
 use Rattle.statements.specs.declared.fault.StatementError.{StatementError}
 use Rattle.statements.specs.declared.fault.StatementError.TheVariants.{Memory, Fault}
 
@@ -21,3 +20,7 @@ pub record HasNames (own : Option Text) (ws : List Word) (element distlib syslib
 abbrev pub IsTextError : ElemType → Lines → StatementError → Type 0
 IsTextError type inline Memory = Unit {0}
 IsTextError type inline (Fault code) = (code ≡ Mc5) × ¬ IsReplacement type inline
+
+abbrev pub IsUpdateTextError : Text → Lines → StatementError → Type 0
+IsUpdateTextError name inline Memory = Unit {0}
+IsUpdateTextError name inline (Fault code) = (code ≡ Mc5) × ¬ IsUpdate name inline

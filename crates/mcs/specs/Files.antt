@@ -1,24 +1,38 @@
 -- What is read so far, as the definitions see it.
-use Rattle.std.specs.Prelude.{ℕ, List, map}
-use Rattle.terms.specs.Statements.{Statement}
+use Rattle.std.specs.Prelude.{◌≡◌, ℕ, List, map, Option, option_map, IfSome, IsTrue}
+use Rattle.terms.specs.declared.kinds.HoldKind.TheVariants.{System}
+use Rattle.terms.specs.Statements.{Statement, SaysHold}
 use Rattle.terms.specs.Types as terms
 use Rattle.terms.specs.Ptfin as ptfin
 use Rattle.terms.specs.Types.{Lines}
 use Rattle.terms.specs.Ptfin.{McsFault, IsPtfinFault}
 use Rattle.mcs.specs.declared.file.Item.{Item}
-use Rattle.mcs.specs.declared.file.Item.TheVariants.{Sysmod}
+use Rattle.mcs.specs.declared.file.Item.TheVariants.{Sysmod, Assign}
+use Rattle.mcs.specs.declared.file.Begun.{Begun}
 use Rattle.mcs.specs.declared.file.SoFar.{SoFar}
 use Rattle.statements.specs.declared.error.McsError.{McsError}
 use Rattle.statements.specs.declared.error.McsError.TheVariants.{Memory, Fault}
 
 abbrev pub item_of : Item → terms.Item
 item_of (Sysmod s) = terms.ASysmod s
+item_of (Assign a) = terms.AnAssign a
 
 abbrev pub items : List Item → List terms.Item
 items xs = map item_of xs
 
+abbrev pub begun_of : Begun → ptfin.Begun
+begun_of b = record { sysmod = b.sysmod; srel = b.srel }
+
+abbrev pub begun_in : Option Begun → Option ptfin.Begun
+begun_in current = option_map begun_of current
+
 abbrev pub so_far : SoFar → ptfin.SoFar
-so_far c = record { whole = items c.whole.items; current = c.current }
+so_far c = record { whole = items c.whole.items; current = begun_in c.current }
+
+-- A hold belongs to the SYSMOD that is begun, and is an internal one.
+abbrev pub Suits : Option ptfin.Begun → Statement → Type 0
+Suits current (SaysHold h) = IfSome current (λ b. IsTrue h.internal × (h.kind ≡ System) × (h.id ≡ b.sysmod.id))
+Suits current _ = Unit {0}
 
 -- the first fault of the file, or want of memory
 abbrev pub IsPtfinError : List ℕ → McsError → Type 0

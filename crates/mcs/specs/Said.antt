@@ -3,32 +3,32 @@ use Rattle.std.specs.Prelude.{List, Option}
 use Rattle.terms.specs.declared.codes.McCode.{McCode}
 use Rattle.terms.specs.declared.codes.McCode.TheVariants.{Mc3, Mc5, Mc6}
 use Rattle.terms.specs.declared.statement_words.StatementWord.{StatementWord}
-use Rattle.terms.specs.Types.{Text, Lines, Sysmod}
+use Rattle.terms.specs.Types.{Text, Lines}
 use Rattle.terms.specs.Statement.{Piece}
 use Rattle.terms.specs.Statements.{Statement}
-use Rattle.terms.specs.Ptfin.{HasValue, IsWithin, HasGoodText, IsStatementFault}
+use Rattle.terms.specs.Ptfin.{Begun, sysmod_in, HasValue, IsWithin, HasGoodText, IsStatementFault}
 use Rattle.statements.specs.declared.fault.StatementError.{StatementError}
 use Rattle.statements.specs.declared.fault.StatementError.TheVariants.{Memory, Fault}
 
 -- The statement says so, within its limits and with a good text.
-pub record IsSaid (current : Option Sysmod) (w : StatementWord) (own : Option Text) (rest : List Piece) (inline : Lines) (s : Statement) : Type 0 where
-  pub value : HasValue current w own rest inline s
+pub record IsSaid (current : Option Begun) (w : StatementWord) (own : Option Text) (rest : List Piece) (inline : Lines) (s : Statement) : Type 0 where
+  pub value : HasValue (sysmod_in current) w own rest inline s
   pub within : IsWithin current s inline
   pub text : HasGoodText s
 
 -- It says nothing, or too much, or its text is bad.
-abbrev pub IsSaidFault : Option Sysmod → StatementWord → Option Text → List Piece → Lines → McCode → Type 0
-IsSaidFault current w own rest inline Mc3 = (s : Statement) → ¬ HasValue current w own rest inline s
-IsSaidFault current w own rest inline Mc6 = (s : Statement) × HasValue current w own rest inline s × (¬ IsWithin current s inline)
+abbrev pub IsSaidFault : Option Begun → StatementWord → Option Text → List Piece → Lines → McCode → Type 0
+IsSaidFault current w own rest inline Mc3 = (s : Statement) → ¬ HasValue (sysmod_in current) w own rest inline s
+IsSaidFault current w own rest inline Mc6 = (s : Statement) × HasValue (sysmod_in current) w own rest inline s × (¬ IsWithin current s inline)
 IsSaidFault current w own rest inline Mc5 =
-    (s : Statement) × HasValue current w own rest inline s × IsWithin current s inline × (¬ HasGoodText s)
+    (s : Statement) × HasValue (sysmod_in current) w own rest inline s × IsWithin current s inline × (¬ HasGoodText s)
 IsSaidFault current w own rest inline _ = ⊥
 
-abbrev pub IsSaidError : Option Sysmod → StatementWord → Option Text → List Piece → Lines → StatementError → Type 0
+abbrev pub IsSaidError : Option Begun → StatementWord → Option Text → List Piece → Lines → StatementError → Type 0
 IsSaidError current w own rest inline Memory = Unit {0}
 IsSaidError current w own rest inline (Fault code) = IsSaidFault current w own rest inline code
 
 -- the first fault of a statement, or want of memory
-abbrev pub IsStatementError : Option Sysmod → Lines → Lines → StatementError → Type 0
+abbrev pub IsStatementError : Option Begun → Lines → Lines → StatementError → Type 0
 IsStatementError current later records Memory = Unit {0}
 IsStatementError current later records (Fault code) = IsStatementFault current later records code

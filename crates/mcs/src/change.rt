@@ -1,21 +1,26 @@
-ghost use Rattle.std.specs.Prelude.{◌≡◌, ◌↔◌, ◌≤◌, ◌<◌, ℕ, List, length, IsTrue, IfOk, IfErr, IfSome, IfNone};
+ghost use Rattle.std.specs.Prelude.{◌≡◌, ◌↔◌, Some, ◌≤◌, ◌<◌, ℕ, List, length, IsTrue, IfOk, IfErr, IfSome, IfNone};
 ghost use Rattle.terms.specs.declared.statement_words.StatementWord.TheVariants as word;
+ghost use Rattle.terms.specs.Statements.{changed_type};
+ghost use Rattle.terms.specs.Ptfin.{IsUpdateWord};
 ghost use Rattle.terms.specs.Words as grammar;
 ghost use Rattle.terms.specs.Statement.{Piece, HasSolid};
-ghost use Rattle.terms.specs.Texts.{IsReplacement};
+ghost use Rattle.terms.specs.Texts.{IsReplacement, IsUpdate};
 ghost use Rattle.rec80.specs.Views.{left_of};
 ghost use Rattle.statements.specs.KnownWords.{own_list};
-ghost use Rattle.mcs.specs.Elements.{HasNames, IsTextError};
+ghost use Rattle.mcs.specs.Elements.{HasNames, IsTextError, IsUpdateTextError};
+ghost use Rattle.mcs.specs.Files.{begun_in};
 ghost use Rattle.mcs.specs.Said.{IsSaid, IsSaidError};
 ghost use Rattle.mcs.specs.Statements.{statement_of};
 
+use crate::ended::is_ended;
+use crate::file::Begun;
 use crate::said::Statement;
 use rec80::Record;
 use statements::{Known, StatementError, are_operands, one_name, required_name};
 use std::alloc::{AllocError, Global};
-use sysmods::{Action, ElemChange, ElemType, Name, Sysmod};
+use sysmods::{Action, ElemChange, ElemType, Name};
 use terms::McCode;
-use text80::{Line, Numbered};
+use text80::{Line, Numbered, TextError, Update};
 
 /// The operands of a replacement.
 const OPERANDS: &[&[u8]] = &[b"DISTLIB", b"SYSLIB"];
@@ -91,15 +96,15 @@ fn text_of(
 /// What a replacement says.
 pub fn change_statement(
     alloc: Global,
-    current: &Option<Sysmod>,
+    current: &Option<Begun>,
     elem_type: ElemType,
     known: &Known<'_>,
 ) -> Result<Statement, StatementError>
     requires { known.now.word ≡ word.Replace elem_type }
     ensures said { (rest : List Piece) → HasSolid (left_of known.now.rest) rest
-        → IfOk result (λ s. IsSaid current.now known.now.word (own_list known.now) rest known.now.rest.inline.now (statement_of s)) }
+        → IfOk result (λ s. IsSaid (begun_in current.now) known.now.word (own_list known.now) rest known.now.rest.inline.now (statement_of s)) }
     ensures fault { (rest : List Piece) → HasSolid (left_of known.now.rest) rest
-        → IfErr result (IsSaidError current.now known.now.word (own_list known.now) rest known.now.rest.inline.now) }
+        → IfErr result (IsSaidError (begun_in current.now) known.now.word (own_list known.now) rest known.now.rest.inline.now) }
 {
     let Some(names) = read_names(known) else {
         return Err(StatementError::Fault(McCode::Mc3));
@@ -129,12 +134,60 @@ pub fn change_statement(
     }))
 }
 
+/// The records as the text of an update.
+fn update_of(alloc: Global, name: Name, inline: &[Record]) -> Result<Vec<Line>, StatementError>
+    ensures text { IfOk result (λ lines. lines.items ≡ inline.now) }
+    ensures good { IfOk result (λ lines. IsUpdate name inline.now) }
+    ensures bad { IfErr result (IsUpdateTextError name inline.now) }
+{
+    let read = lines(alloc, inline)?;
+    match Update::read(alloc, read, name.as_bytes()) {
+        Ok(update) => Ok(Vec::from_slice(alloc, update.records())?),
+        Err(TextError::Memory) => Err(StatementError::Memory),
+        Err(TextError::Fault(_)) => Err(StatementError::Fault(McCode::Mc5)),
+    }
+}
+
+/// What an update says.
+pub fn update_statement(
+    alloc: Global,
+    current: &Option<Begun>,
+    elem_type: ElemType,
+    known: &Known<'_>,
+) -> Result<Statement, StatementError>
+    requires { (changed_type known.now.word ≡ Some elem_type) × IsUpdateWord known.now.word }
+    ensures said { (rest : List Piece) → HasSolid (left_of known.now.rest) rest
+        → IfOk result (λ s. IsSaid (begun_in current.now) known.now.word (own_list known.now) rest known.now.rest.inline.now (statement_of s)) }
+    ensures fault { (rest : List Piece) → HasSolid (left_of known.now.rest) rest
+        → IfErr result (IsSaidError (begun_in current.now) known.now.word (own_list known.now) rest known.now.rest.inline.now) }
+{
+    if !is_ended(&known.rest) {
+        return Err(StatementError::Fault(McCode::Mc3));
+    }
+    let Some(name) = one_name(&known.first) else {
+        return Err(StatementError::Fault(McCode::Mc3));
+    };
+    let inline = known.rest.inline;
+    if !is_within(current, inline) {
+        return Err(StatementError::Fault(McCode::Mc6));
+    }
+    let lines = match update_of(alloc, name, inline) {
+        Ok(lines) => lines,
+        Err(error) => return Err(error),
+    };
+    Ok(Statement::Change(ElemChange {
+        elem_type,
+        name,
+        action: Action::Updates { lines },
+    }))
+}
+
 /// Whether the SYSMOD may have one element more, and the text is no longer than the limit.
-fn is_within(current: &Option<Sysmod>, inline: &[Record]) -> bool
-    ensures { IsTrue result ↔ (IfSome current.now (λ s. length s.changes < 999) × (length inline.now ≤ 99999)) }
+fn is_within(current: &Option<Begun>, inline: &[Record]) -> bool
+    ensures { IsTrue result ↔ (IfSome (begun_in current.now) (λ b. length b.sysmod.changes < 999) × (length inline.now ≤ 99999)) }
 {
     let fits = match current {
-        Some(sysmod) => sysmod.changes.len() < 999,
+        Some(begun) => begun.sysmod.changes.len() < 999,
         None => true,
     };
     fits && inline.len() <= 99999

@@ -1,53 +1,130 @@
-ghost use Rattle.std.specs.Prelude.{◌≡◌, IfOk, option_map};
-ghost use Rattle.terms.specs.Ptfin.{nothing, after, items_of, with_ver as sysmod_with_ver, with_change as sysmod_with_change};
+ghost use Rattle.std.specs.Prelude.{◌≡◌, ◌++◌, ◌∷◌, [], IfOk, option_map};
+ghost use Rattle.terms.specs.Types.{AnAssign};
+ghost use Rattle.terms.specs.Statements.{SaysHold};
+ghost use Rattle.terms.specs.Ptfin.{nothing, after, items_of, with_ver as begun_with_ver, with_if as begun_with_if, with_hold as begun_with_hold, with_change as begun_with_change};
 ghost use Rattle.mcs.specs.Statements.{statement_of};
-ghost use Rattle.mcs.specs.Files.{so_far, items};
+ghost use Rattle.mcs.specs.Files.{Suits, begun_in, so_far, items};
 
 use crate::said::Statement;
 use std::alloc::{AllocError, Global};
-use sysmods::{ElemChange, Sysmod, Ver};
+use std::marker::Model;
+use sysmods::{ElemChange, Hold, Id, IfReq, Source, Srel, Sysmod, Ver};
+
+/// `++ASSIGN`: the source that the ids get, as the statement has them.
+#[derive(Drop)]
+pub struct Assign {
+    pub source: Source,
+    pub to: Vec<Id>,
+}
+
+impl Model for Assign {
+    ghost use Rattle.terms.specs.Types as terms;
+
+    ghost Value = { terms.Assign };
+
+    ghost view = { λ a. record { source = a.source; to = a.to.items } };
+}
 
 /// An item of PTFIN.
 #[derive(Drop)]
 pub enum Item {
     Sysmod(Sysmod),
+    Assign(Assign),
 }
 
-/// What the statements so far make: what is whole, and the SYSMOD to which the next one may belong.
+/// A SYSMOD to which the next statement may belong, and the SREL of its last `++VER`, to which an
+/// `++IF` belongs.
+#[derive(Drop)]
+pub(crate) struct Begun {
+    pub sysmod: Sysmod,
+    pub srel: Option<Srel>,
+}
+
+/// What the statements so far make: what is whole, and the SYSMOD that is begun.
 #[derive(Drop)]
 pub(crate) struct SoFar {
     pub whole: Vec<Item>,
-    pub current: Option<Sysmod>,
+    pub current: Option<Begun>,
 }
 
 /// The items with the SYSMOD behind them.
-fn with_current(mut whole: Vec<Item>, current: Option<Sysmod>) -> Result<Vec<Item>, AllocError>
-    ensures { IfOk result (λ found. items found.items ≡ items_of (record { whole = items whole.items; current = current })) }
+fn with_current(mut whole: Vec<Item>, current: Option<Begun>) -> Result<Vec<Item>, AllocError>
+    ensures { IfOk result (λ found. items found.items ≡ items_of (record { whole = items whole.items; current = begun_in current })) }
 {
-    if let Some(sysmod) = current {
-        whole.push(Item::Sysmod(sysmod))?;
+    if let Some(begun) = current {
+        whole.push(Item::Sysmod(begun.sysmod))?;
     }
     Ok(whole)
 }
 
-fn with_ver(current: Option<Sysmod>, ver: Ver) -> Result<Option<Sysmod>, AllocError>
-    ensures { IfOk result (λ found. found ≡ option_map (sysmod_with_ver ver) current) }
+/// The items with the SYSMOD and the `++ASSIGN` behind them.
+fn with_assign(
+    whole: Vec<Item>,
+    current: Option<Begun>,
+    assign: Assign,
+) -> Result<Vec<Item>, AllocError>
+    ensures { IfOk result (λ found. items found.items ≡ items_of (record { whole = items whole.items; current = begun_in current }) ++ AnAssign assign ∷ []) }
 {
-    let Some(mut sysmod) = current else {
-        return Ok(None);
-    };
-    sysmod.add_ver(ver)?;
-    Ok(Some(sysmod))
+    let mut whole = with_current(whole, current)?;
+    whole.push(Item::Assign(assign))?;
+    Ok(whole)
 }
 
-fn with_change(current: Option<Sysmod>, change: ElemChange) -> Result<Option<Sysmod>, AllocError>
-    ensures { IfOk result (λ found. found ≡ option_map (sysmod_with_change change) current) }
+fn with_ver(current: Option<Begun>, ver: Ver) -> Result<Option<Begun>, AllocError>
+    ensures { IfOk result (λ found. begun_in found ≡ option_map (begun_with_ver ver) (begun_in current)) }
 {
-    let Some(mut sysmod) = current else {
+    let Some(begun) = current else {
         return Ok(None);
     };
+    let srel = ver.srel;
+    let mut sysmod = begun.sysmod;
+    sysmod.add_ver(ver)?;
+    Ok(Some(Begun {
+        sysmod,
+        srel: Some(srel),
+    }))
+}
+
+fn with_if(current: Option<Begun>, condition: IfReq) -> Result<Option<Begun>, AllocError>
+    ensures { IfOk result (λ found. begun_in found ≡ option_map (begun_with_if condition) (begun_in current)) }
+{
+    let Some(begun) = current else {
+        return Ok(None);
+    };
+    let Some(srel) = begun.srel else {
+        return Ok(Some(begun));
+    };
+    let mut sysmod = begun.sysmod;
+    sysmod.add_if(srel, condition)?;
+    Ok(Some(Begun {
+        sysmod,
+        srel: Some(srel),
+    }))
+}
+
+fn with_hold(current: Option<Begun>, hold: Hold) -> Result<Option<Begun>, AllocError>
+    requires { Suits (begun_in current) (SaysHold hold) }
+    ensures { IfOk result (λ found. begun_in found ≡ option_map (begun_with_hold hold) (begun_in current)) }
+{
+    let Some(begun) = current else {
+        return Ok(None);
+    };
+    let srel = begun.srel;
+    let mut sysmod = begun.sysmod;
+    sysmod.add_hold(hold)?;
+    Ok(Some(Begun { sysmod, srel }))
+}
+
+fn with_change(current: Option<Begun>, change: ElemChange) -> Result<Option<Begun>, AllocError>
+    ensures { IfOk result (λ found. begun_in found ≡ option_map (begun_with_change change) (begun_in current)) }
+{
+    let Some(begun) = current else {
+        return Ok(None);
+    };
+    let srel = begun.srel;
+    let mut sysmod = begun.sysmod;
     sysmod.add_change(change)?;
-    Ok(Some(sysmod))
+    Ok(Some(Begun { sysmod, srel }))
 }
 
 impl SoFar {
@@ -62,17 +139,33 @@ impl SoFar {
 
     /// What they make with one statement more.
     pub fn and(self, alloc: Global, statement: Statement) -> Result<SoFar, AllocError>
+        requires { Suits (begun_in self.current) (statement_of statement) }
         ensures { IfOk result (λ next. so_far next ≡ after (so_far self) (statement_of statement)) }
     {
         let SoFar { whole, current } = self;
         match statement {
             Statement::Header(kind, id) => Ok(SoFar {
                 whole: with_current(whole, current)?,
-                current: Some(Sysmod::new(alloc, kind, id)),
+                current: Some(Begun {
+                    sysmod: Sysmod::new(alloc, kind, id),
+                    srel: None,
+                }),
+            }),
+            Statement::Assign(assign) => Ok(SoFar {
+                whole: with_assign(whole, current, assign)?,
+                current: None,
             }),
             Statement::Ver(ver) => Ok(SoFar {
                 whole,
                 current: with_ver(current, ver)?,
+            }),
+            Statement::If(condition) => Ok(SoFar {
+                whole,
+                current: with_if(current, condition)?,
+            }),
+            Statement::Hold(hold) => Ok(SoFar {
+                whole,
+                current: with_hold(current, hold)?,
             }),
             Statement::Change(change) => Ok(SoFar {
                 whole,

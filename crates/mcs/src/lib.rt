@@ -1,9 +1,12 @@
 //! PTFIN: its SYSMODs, or its first fault.
 #![tactic(auto)]
 
+mod assign;
 mod change;
+mod ended;
 mod file;
 mod header;
+mod ifs;
 mod order;
 mod ptfin;
 mod said;
@@ -12,6 +15,6 @@ mod statement;
 mod tests;
 mod ver;
 
-pub use file::Item;
+pub use file::{Assign, Item};
 pub use ptfin::read_ptfin;
 pub use statements::McsError;

@@ -1,22 +1,87 @@
-ghost use Rattle.std.specs.Prelude.{◌≡◌, ◌↔◌, IsTrue};
-ghost use Rattle.terms.specs.Ptfin.{MayStand, IsSecond, Disorder, IsMisplaced};
+ghost use Rattle.std.specs.Prelude.{◌≡◌, ◌↔◌, Some, IsTrue};
+ghost use Rattle.terms.specs.declared.statement_words.StatementWord.TheVariants as word;
+ghost use Rattle.terms.specs.declared.kinds.Kind.TheVariants.{Function};
+ghost use Rattle.terms.specs.Statements.{changed_type};
+ghost use Rattle.terms.specs.Ptfin.{MayStand, IsSecond, IsUpdateWord, Disorder, IsMisplaced, sysmod_in};
 ghost use Rattle.statements.specs.KnownWords.{own_list};
+ghost use Rattle.mcs.specs.Files.{begun_in};
 
+use crate::file::Begun;
 use rec80::Record;
 use statements::{Known, one_name, one_srel};
-use sysmods::Sysmod;
-use terms::StatementWord;
+use sysmods::{Kind, Sysmod};
+use terms::{ElemType, StatementWord};
+
+/// The type of the element that a statement of the word changes.
+fn changed_type(word: StatementWord) -> Option<ElemType>
+    ensures { result ≡ changed_type word }
+{
+    match word {
+        StatementWord::Replace(elem_type) => Some(elem_type),
+        StatementWord::UpdateMac => Some(ElemType::Mac),
+        StatementWord::UpdateSrc => Some(ElemType::Src),
+        StatementWord::Header(_)
+        | StatementWord::Ver
+        | StatementWord::If
+        | StatementWord::Hold
+        | StatementWord::Release
+        | StatementWord::Assign => None,
+    }
+}
+
+/// Whether an `++IF` may follow what the SYSMOD has.
+fn may_have_if(sysmod: &Sysmod) -> bool
+    ensures { IsTrue result ↔ MayStand (Some sysmod.now) word.If }
+{
+    !sysmod.vers.is_empty() && sysmod.holds.is_empty() && sysmod.changes.is_empty()
+}
+
+/// Whether a statement of the word may follow what the SYSMOD has.
+fn may_follow(sysmod: &Sysmod, word: StatementWord) -> bool
+    ensures { IsTrue result ↔ MayStand (Some sysmod.now) word }
+{
+    match word {
+        StatementWord::Ver => sysmod.holds.is_empty() && sysmod.changes.is_empty(),
+        StatementWord::If => may_have_if(sysmod),
+        StatementWord::Hold => !sysmod.vers.is_empty() && sysmod.changes.is_empty(),
+        StatementWord::Release => false,
+        StatementWord::Header(_)
+        | StatementWord::Assign
+        | StatementWord::Replace(_)
+        | StatementWord::UpdateMac
+        | StatementWord::UpdateSrc => !sysmod.vers.is_empty(),
+    }
+}
 
 /// Whether a statement of the word may stand there.
-fn may_stand(current: &Option<Sysmod>, word: StatementWord) -> bool
-    ensures { IsTrue result ↔ MayStand current.now word }
+fn may_stand(current: &Option<Begun>, word: StatementWord) -> bool
+    ensures { IsTrue result ↔ MayStand (sysmod_in (begun_in current.now)) word }
 {
     match current {
-        None => matches!(word, StatementWord::Header(_)),
-        Some(sysmod) => match word {
-            StatementWord::Ver => sysmod.changes.is_empty(),
-            StatementWord::Header(_) | StatementWord::Replace(_) => !sysmod.vers.is_empty(),
-        },
+        None => matches!(word, StatementWord::Header(_) | StatementWord::Assign),
+        Some(begun) => may_follow(&begun.sysmod, word),
+    }
+}
+
+/// Whether it is a second `++VER` of one SREL.
+fn is_second_ver(sysmod: &Sysmod, known: &Known<'_>) -> bool
+    requires { known.now.word ≡ word.Ver }
+    ensures { IsTrue result ↔ IsSecond sysmod.now known.now.word (own_list known.now) }
+{
+    match one_srel(&known.first) {
+        Some(srel) => sysmod.has_srel(srel),
+        None => false,
+    }
+}
+
+/// Whether it is a second change of one element.
+fn is_second_change(sysmod: &Sysmod, elem_type: ElemType, known: &Known<'_>) -> bool
+    requires { changed_type known.now.word ≡ Some elem_type }
+    ensures { IsTrue result ↔ IsSecond sysmod.now known.now.word (own_list known.now) }
+{
+    match one_name(&known.first) {
+        Some(name) => sysmod.has_change(elem_type, name),
+        None => false,
     }
 }
 
@@ -24,22 +89,26 @@ fn may_stand(current: &Option<Sysmod>, word: StatementWord) -> bool
 fn is_second(sysmod: &Sysmod, known: &Known<'_>) -> bool
     ensures { IsTrue result ↔ IsSecond sysmod.now known.now.word (own_list known.now) }
 {
-    match known.word {
-        StatementWord::Header(_) => false,
-        StatementWord::Ver => match one_srel(&known.first) {
-            Some(srel) => sysmod.has_srel(srel),
-            None => false,
-        },
-        StatementWord::Replace(elem_type) => match one_name(&known.first) {
-            Some(name) => sysmod.has_change(elem_type, name),
-            None => false,
-        },
+    if matches!(known.word, StatementWord::Ver) {
+        return is_second_ver(sysmod, known);
+    }
+    match changed_type(known.word) {
+        Some(elem_type) => is_second_change(sysmod, elem_type, known),
+        None => false,
     }
 }
 
+/// Whether it is an update in a function.
+fn is_update_in_function(sysmod: &Sysmod, word: StatementWord) -> bool
+    ensures { IsTrue result ↔ (IsUpdateWord word × (sysmod.now.kind ≡ Function)) }
+{
+    matches!(word, StatementWord::UpdateMac | StatementWord::UpdateSrc)
+        && matches!(sysmod.kind, Kind::Function)
+}
+
 /// Whether the statement is out of order behind the statements so far.
-pub fn is_misplaced(current: &Option<Sysmod>, later: &[Record], known: &Known<'_>) -> bool
-    ensures { IsTrue result ↔ ((why : Disorder) × IsMisplaced current.now later.now known.now.word (own_list known.now) known.now.rest.inline.now why) }
+pub fn is_misplaced(current: &Option<Begun>, later: &[Record], known: &Known<'_>) -> bool
+    ensures { IsTrue result ↔ ((why : Disorder) × IsMisplaced (sysmod_in (begun_in current.now)) later.now known.now.word (own_list known.now) known.now.rest.inline.now why) }
 {
     if !may_stand(current, known.word) {
         return true;
@@ -48,12 +117,13 @@ pub fn is_misplaced(current: &Option<Sysmod>, later: &[Record], known: &Known<'_
     if is_header && later.is_empty() {
         return true;
     }
-    let is_element = matches!(known.word, StatementWord::Replace(_));
-    if !is_element && !known.rest.inline.is_empty() {
+    if changed_type(known.word).is_none() && !known.rest.inline.is_empty() {
         return true;
     }
     match current {
-        Some(sysmod) => is_second(sysmod, known),
+        Some(begun) => {
+            is_second(&begun.sysmod, known) || is_update_in_function(&begun.sysmod, known.word)
+        }
         None => false,
     }
 }

@@ -1,9 +1,13 @@
-use sysmods::{ElemChange, Id, Kind, Ver};
+use crate::file::Assign;
+use sysmods::{ElemChange, Hold, Id, IfReq, Kind, Ver};
 
 /// What one statement says. A `++VER` stands here without its `++IF`s.
 #[derive(Drop)]
 pub enum Statement {
     Header(Kind, Id),
     Ver(Ver),
+    If(IfReq),
+    Hold(Hold),
+    Assign(Assign),
     Change(ElemChange),
 }

@@ -1,28 +1,31 @@
 ghost use Rattle.std.specs.Prelude.{◌≡◌, IfOk, IfErr};
 ghost use Rattle.terms.specs.Ptfin.{IsGoodStatement};
+ghost use Rattle.mcs.specs.Files.{begun_in};
 ghost use Rattle.mcs.specs.Said.{IsStatementError};
 ghost use Rattle.mcs.specs.Statements.{statement_of};
 
-use crate::change::change_statement;
+use crate::assign::assign_statement;
+use crate::change::{change_statement, update_statement};
+use crate::file::Begun;
 use crate::header::header_statement;
+use crate::ifs::if_statement;
 use crate::order::is_misplaced;
 use crate::said::Statement;
 use crate::ver::ver_statement;
 use rec80::{Group, Record};
 use statements::{StatementError, begun};
 use std::alloc::Global;
-use sysmods::Sysmod;
-use terms::{McCode, StatementWord};
+use terms::{ElemType, McCode, StatementWord};
 
 /// What a statement says behind those so far, or its first fault.
 pub fn read_statement(
     alloc: Global,
-    current: &Option<Sysmod>,
+    current: &Option<Begun>,
     later: &[Record],
     group: &Group<'_>,
 ) -> Result<Statement, StatementError>
-    ensures good { IfOk result (λ s. IsGoodStatement current.now later.now group.now.records.now (statement_of s)) }
-    ensures fault { IfErr result (IsStatementError current.now later.now group.now.records.now) }
+    ensures good { IfOk result (λ s. IsGoodStatement (begun_in current.now) later.now group.now.records.now (statement_of s)) }
+    ensures fault { IfErr result (IsStatementError (begun_in current.now) later.now group.now.records.now) }
 {
     let known = match begun(group) {
         Ok(known) => known,
@@ -34,6 +37,12 @@ pub fn read_statement(
     match known.word {
         StatementWord::Header(kind) => header_statement(current, kind, &known),
         StatementWord::Ver => ver_statement(alloc, current, &known),
+        StatementWord::If => if_statement(alloc, current, &known),
+        StatementWord::Hold => Err(StatementError::Memory),
+        StatementWord::Release => Err(StatementError::Fault(McCode::Mc4)),
+        StatementWord::Assign => assign_statement(alloc, current, &known),
         StatementWord::Replace(elem_type) => change_statement(alloc, current, elem_type, &known),
+        StatementWord::UpdateMac => update_statement(alloc, current, ElemType::Mac, &known),
+        StatementWord::UpdateSrc => update_statement(alloc, current, ElemType::Src, &known),
     }
 }

@@ -13,9 +13,11 @@ ghost use Rattle.operands.specs.Failing.{Excludes};
 ghost use Rattle.rec80.specs.Views.{left_of};
 ghost use Rattle.statements.specs.KnownWords.{own_list};
 ghost use Rattle.mcs.specs.VerOperands.{HasLists};
+ghost use Rattle.mcs.specs.Files.{begun_in};
 ghost use Rattle.mcs.specs.Said.{IsSaid, IsSaidError};
 ghost use Rattle.mcs.specs.Statements.{statement_of};
 
+use crate::file::Begun;
 use crate::said::Statement;
 use fields::{Id, IdList, Srel};
 use operands::{OperandError, operand};
@@ -175,26 +177,26 @@ fn is_within(sysmod: &Sysmod, ver: &Ver) -> bool
 /// What a `++VER` says.
 pub fn ver_statement(
     alloc: Global,
-    current: &Option<Sysmod>,
+    current: &Option<Begun>,
     known: &Known<'_>,
 ) -> Result<Statement, StatementError>
     requires { known.now.word ≡ word.Ver }
     ensures said { (rest : List Piece) → HasSolid (left_of known.now.rest) rest
-        → IfOk result (λ s. IsSaid current.now known.now.word (own_list known.now) rest known.now.rest.inline.now (statement_of s)) }
+        → IfOk result (λ s. IsSaid (begun_in current.now) known.now.word (own_list known.now) rest known.now.rest.inline.now (statement_of s)) }
     ensures fault { (rest : List Piece) → HasSolid (left_of known.now.rest) rest
-        → IfErr result (IsSaidError current.now known.now.word (own_list known.now) rest known.now.rest.inline.now) }
+        → IfErr result (IsSaidError (begun_in current.now) known.now.word (own_list known.now) rest known.now.rest.inline.now) }
 {
-    let Some(sysmod) = current else {
+    let Some(begun) = current else {
         return Err(StatementError::Fault(McCode::Mc3));
     };
     if !are_operands(&known.rest, OPERANDS) {
         return Err(StatementError::Fault(McCode::Mc3));
     }
-    let ver = match read_ver(alloc, sysmod, known) {
+    let ver = match read_ver(alloc, &begun.sysmod, known) {
         Ok(ver) => ver,
         Err(error) => return Err(no_value(error)),
     };
-    if !is_within(sysmod, &ver) {
+    if !is_within(&begun.sysmod, &ver) {
         return Err(StatementError::Fault(McCode::Mc6));
     }
     Ok(Statement::Ver(ver))

@@ -12,6 +12,6 @@ mod values;
 
 pub use errors::{BadOperand, OperandError};
 pub use find::operand;
-pub use lists::{ids, rising, sources};
+pub use lists::{ids, listed, listed_ids, rising, sources};
 pub use member::Member;
 pub use values::{flag, one_member};

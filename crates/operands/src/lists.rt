@@ -1,6 +1,6 @@
 ghost use Rattle.std.specs.Prelude.{◌≡◌, ℕ, List, map, IfOk, IfErr};
 ghost use Rattle.terms.specs.Forms.{IsId, IsSource};
-ghost use Rattle.terms.specs.Operands.{HasSorted};
+ghost use Rattle.terms.specs.Operands.{HasListed, HasSorted};
 ghost use Rattle.rec80.specs.Views.{word_of};
 ghost use Rattle.operands.specs.Failing.{Excludes};
 
@@ -26,6 +26,31 @@ pub fn rising<T: Member>(alloc: Global, word: &Word<'_>) -> Result<Rising<T>, Op
         return Err(OperandError::Bad);
     }
     Ok(rising)
+}
+
+/// The members of the word's list, as they stand. One that stands there twice is a bad operand.
+pub fn listed<T: Member>(alloc: Global, word: &Word<'_>) -> Result<Vec<T>, OperandError>
+    ensures listed { IfOk result (λ list. HasListed T.form (word_of word.now) (map T.text list.items)) }
+    ensures bad { IfErr result (λ e. Excludes e ((values : List (List ℕ)) × HasListed T.form (word_of word.now) values)) }
+{
+    let Some(list) = word.list else {
+        return Err(OperandError::Bad);
+    };
+    let read: Vec<T> = read_members(alloc, &list)?;
+    let copy = Vec::from_slice(alloc, read.as_slice())?;
+    let rising = Rising::from_vec(copy);
+    if rising.as_slice().len() != read.len() {
+        return Err(OperandError::Bad);
+    }
+    Ok(read)
+}
+
+/// The ids of the word's list, as they stand.
+pub fn listed_ids(alloc: Global, word: &Word<'_>) -> Result<Vec<Id>, OperandError>
+    ensures listed { IfOk result (λ list. HasListed IsId (word_of word.now) list.items) }
+    ensures bad { IfErr result (λ e. Excludes e ((values : List (List ℕ)) × HasListed IsId (word_of word.now) values)) }
+{
+    listed::<Id>(alloc, word)
 }
 
 /// The ids of the word's list in rising order.

@@ -1,15 +1,16 @@
 //! A SYSMOD grows by the statements behind its header.
-ghost use Rattle.std.specs.Prelude.{◌≡◌, ◌≤◌, ◌<◌, ◌↔◌, ◌&&◌, ◌==◌, length, take, drop, IsTrue, IfOk, IfErr, OnOk, OnErr};
+ghost use Rattle.std.specs.Prelude.{◌≡◌, ◌≤◌, ◌<◌, ◌↔◌, ◌&&◌, ◌==◌, ◌++◌, [], ◌∷◌, length, map, take, drop, if◌then◌else◌, IsTrue, IfOk, IfErr, OnOk, OnErr};
 ghost use Rattle.std.specs.List.{list_any};
 ghost use Rattle.std.specs.Str.{bytes_eq};
 ghost use Rattle.std.specs.Ordering.{nat_cmp};
 ghost use Rattle.std.specs.Cmp.Lexicographic.{slice_cmp};
 ghost use Rattle.terms.specs.Types.{Ver as AnyVer, Change as AnyChange, type_number};
+ghost use Rattle.terms.specs.declared.kinds.HoldKind.TheVariants.{System};
 ghost use Rattle.terms.specs.Rising.{Rises, Splits, Stands, with_item};
 ghost use Rattle.terms.specs.Global.{change_cmp};
 ghost use Rattle.terms.specs.Ptfin.{begun};
 
-use crate::{ElemChange, Sysmod, Ver};
+use crate::{ElemChange, Hold, IfReq, Sysmod, Ver};
 use fields::{Id, Name, SourceList, Srel};
 use std::alloc::{AllocError, Global};
 use terms::{ElemType, Kind};
@@ -52,6 +53,29 @@ impl Sysmod {
             Ok(place) => self.vers[place] = ver,
             Err(place) => self.vers.insert(place, ver)?,
         }
+        Ok(())
+    }
+
+    /// The `++IF` comes in behind those of the `++VER` of the SREL, where there is one.
+    pub fn add_if(&mut self, srel: Srel, condition: IfReq) -> Result<(), AllocError>
+        ensures ok { OnOk result (self.new ≡ record self.old {
+          vers = map (λ (v : AnyVer). if bytes_eq v.srel srel then record v { ifs = v.ifs ++ condition ∷ [] } else v) self.old.vers;
+        }) }
+        ensures err { OnErr result (self.new ≡ self.old) }
+    {
+        if let Ok(place) = ver_place(&self.vers, srel) {
+            self.vers[place].add_if(condition)?;
+        }
+        Ok(())
+    }
+
+    /// The hold comes in behind the others.
+    pub fn add_hold(&mut self, hold: Hold) -> Result<(), AllocError>
+        requires { IsTrue hold.internal × (hold.kind ≡ System) × (hold.id ≡ self.old.id) }
+        ensures ok { OnOk result (self.new ≡ record self.old { holds = self.old.holds ++ hold ∷ [] }) }
+        ensures err { OnErr result (self.new ≡ self.old) }
+    {
+        self.holds.push(hold)?;
         Ok(())
     }
 

@@ -1,5 +1,5 @@
 //! `++VER` with its `++IF`s.
-ghost use Rattle.std.specs.Prelude.{◌≡◌, ◌++◌, map, OnOk};
+ghost use Rattle.std.specs.Prelude.{◌≡◌, ◌++◌, [], ◌∷◌, map, OnOk, OnErr};
 ghost use Rattle.terms.specs.Lookups.{at_most_one, is_in};
 ghost use Rattle.terms.specs.Global.{named, named_functions};
 
@@ -44,6 +44,15 @@ impl Model for Ver {
 }
 
 impl Ver {
+    /// The `++IF` comes in behind the others.
+    pub(crate) fn add_if(&mut self, condition: IfReq) -> Result<(), AllocError>
+        ensures ok { OnOk result (self.new ≡ record self.old { ifs = self.old.ifs ++ condition ∷ [] }) }
+        ensures err { OnErr result (self.new ≡ self.old) }
+    {
+        self.ifs.push(condition)?;
+        Ok(())
+    }
+
     /// Appends the ids that it names in PRE, SUP and FMID.
     pub fn append_named(&self, found: &mut Vec<Id>) -> Result<(), AllocError>
         ensures { OnOk result (found.new.items ≡ found.old.items ++ named self.now) }

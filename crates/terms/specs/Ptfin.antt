@@ -1,7 +1,6 @@
 -- PTFIN: the order of its statements, the SYSMODs and assignments that they make, and its first fault. (IBM z/OS SMP/E Reference, MCS: a
 -- SYSMOD is a header, then ++VERs with their ++IFs, then holds, then elements; ++ASSIGN stands between SYSMODs.)
-use Rattle.std.specs.Prelude.{◌≡◌, ◌≢◌, ◌≤◌, ◌<◌, ℕ, Bool, false, List, [], ◌∷◌, ◌++◌, length, map, filter, All, Any, Option, Some, None, IsSomeAnd, IfSome, option_map, ◌⊎◌, IsTrue, if◌then◌else◌}
-use Rattle.std.specs.List.{flat_map}
+use Rattle.std.specs.Prelude.{◌≡◌, ◌≢◌, ◌≤◌, ◌<◌, ℕ, Bool, false, List, [], ◌∷◌, ◌++◌, length, map, All, Any, Option, Some, None, IsSomeAnd, IfSome, option_map, ◌⊎◌, IsTrue, if◌then◌else◌}
 use Rattle.std.specs.Option.{option_map_or}
 use Rattle.std.specs.Ordering.{nat_cmp}
 use Rattle.std.specs.Str.{bytes_eq}
@@ -134,15 +133,12 @@ IsPlaced current later w own inline = (why : Disorder) → ¬ IsMisplaced curren
 abbrev pub HasValue : Option Sysmod → StatementWord → Option Text → List Piece → Lines → Statement → Type 0
 HasValue current w own rest inline s = (operands : List Word) × HasWords rest operands × Says current w own operands inline s
 
--- the ++IFs of the last ++VER
-abbrev pub ifs_so_far : Begun → List IfReq
-ifs_so_far b = flat_map (λ v. v.ifs) (filter (is_last b) b.sysmod.vers)
-
 -- the limits of a statement behind those before it
 abbrev pub IsWithin : Option Begun → Statement → Lines → Type 0
 IsWithin current (SaysHeader kind id) inline = Unit {0}
 IsWithin current (SaysVer v) inline = IfSome current (λ b. length b.sysmod.vers < 8) × All IsShort (lists_of v)
-IsWithin current (SaysIf i) inline = IfSome current (λ b. length (ifs_so_far b) < 100) × IsShort i.req
+IsWithin current (SaysIf i) inline =
+    IfSome current (λ b. All (λ v. IsTrue (is_last b v) → length v.ifs < 100) b.sysmod.vers) × IsShort i.req
 IsWithin current (SaysHold h) inline = HasShortComment h
 IsWithin current (SaysAssign a) inline = IsShort a.to
 IsWithin current (SaysChange c) inline = IfSome current (λ b. length b.sysmod.changes < 999) × (length inline ≤ 99999)
