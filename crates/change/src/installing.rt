@@ -8,7 +8,6 @@ ghost use Rattle.terms.specs.Delta.{IsChanged};
 ghost use Rattle.terms.specs.Install.{Installs};
 ghost use Rattle.change.specs.Puts.{applied_entry, with_entry, after_change, after_sysmod, puts};
 
-use crate::known::known_lists;
 use fields::{Id, IdList, YyDdd};
 use global::Global;
 use std::alloc::{AllocError, Global as Heap};
@@ -31,7 +30,7 @@ pub fn install(
 {
     global.known();
     zone.known();
-    known_lists(zone);
+    zone.known_lists();
     put_sysmods(alloc, global, kept.as_slice(), date)
 }
 

@@ -2,7 +2,6 @@
 #![tactic(auto)]
 
 mod installing;
-mod known;
 
 pub use installing::install;
 

@@ -1,3 +1,4 @@
+pub mod Few
 pub mod Plain
 pub mod Collapsed
 pub mod Lists

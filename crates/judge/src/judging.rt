@@ -1,4 +1,4 @@
-ghost use Rattle.std.specs.Prelude.{◌≡◌, None, All, Some, IsTrue, IfOk, map};
+ghost use Rattle.std.specs.Prelude.{◌≡◌, ◌<◌, ◌^◌, None, All, Some, IsTrue, IfOk, length, map};
 ghost use Rattle.terms.specs.Lookups.{IsRising};
 ghost use Rattle.terms.specs.CommandForms.{no_bypass};
 ghost use Rattle.terms.specs.Candidates.{is_installable};
@@ -25,8 +25,15 @@ pub struct Judged {
     pub tests: Vec<Vec<Test>>,
 }
 
-// More candidates have no numbers.
-const MOST: usize = 4_294_967_295;
+// They are no more than the received SYSMODs. The call does nothing.
+fn known_few(global: &Global, zone: &Zone, ids: &IdList)
+    requires { All (λ x. IsTrue (is_installable global.now zone.now x)) ids.now }
+    ensures { length ids.now < 2 ^ 32 }
+{
+    global.known();
+    zone.known();
+    let _ = ids.as_slice();
+}
 
 /// Judges the candidates of an APPLY in this zone.
 pub fn judge(alloc: Heap, global: &Global, zone: &Zone, ids: &IdList) -> Result<Judged, AllocError>
@@ -36,9 +43,7 @@ pub fn judge(alloc: Heap, global: &Global, zone: &Zone, ids: &IdList) -> Result<
     ensures tests { IfOk result (λ j. AreFailedTests (setting global.now zone.now None ids.now no_bypass)
         (map (λ row. row.items) j.tests.items)) }
 {
-    if ids.len() > MOST {
-        return Err(AllocError);
-    }
+    known_few(global, zone, ids);
     zone.known();
     let faults = all_faults(alloc, global, zone, ids.as_slice())?;
     let shared = shared_places(alloc, global, ids.as_slice(), faults.as_slice())?;

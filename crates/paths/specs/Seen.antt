@@ -10,12 +10,17 @@ pub record AddsAll (old named new : List Id) : Type 0 where
   pub were_named : (z : Id) → Contains added z → Contains named z
   pub has : (z : Id) → Contains named z → Contains new z
 
--- x's search has seen these ids and gone through the first n of them
-pub record IsSearch (next : Id → List Id) (x : Id) (seen : List Id) (n : ℕ) : Type 0 where
+-- a search has seen these ids and gone through the first n of them: those that it begins with, none but those that belong to
+-- it, and what those that it has gone through name
+pub record IsGoing (next : Id → List Id) (Begins Belongs : Id → Type 0) (seen : List Id) (n : ℕ) : Type 0 where
   pub within : n ≤ length seen
-  pub sound : (z : Id) → Contains seen z → Reaches next x z
-  pub first : (z : Id) → Contains (next x) z → Contains seen z
+  pub sound : (z : Id) → Contains seen z → Belongs z
+  pub first : (z : Id) → Begins z → Contains seen z
   pub closed : (y z : Id) → Contains (take n seen) y → Contains (next y) z → Contains seen z
+
+-- x's search
+abbrev pub IsSearch : (Id → List Id) → Id → List Id → ℕ → Type 0
+IsSearch next x seen n = IsGoing next (Contains (next x)) (Reaches next x) seen n
 
 -- a search of any id goes through one more of those that it has seen
 abbrev pub GoesOn : (Id → List Id) → ℕ → List Id → List Id → Type 0

@@ -1,16 +1,17 @@
 -- The growing set as a search finds it, and the candidates.
-use Rattle.std.proofs.Common.{◌≡◌, ℕ, ◌<◌, ◌≤◌, ◌+◌, ◌⊎◌, inl, inr, Bool, true, false, ◌||◌, List, [], ◌∷◌, ◌++◌, length, take, get_or, filter, Option, None, Some, Contains, IsTrue, All, cond, if◌then◌else◌, sym, subst, ap, ◌∙◌, length-append, arith, ◌↔◌}
+use Rattle.std.proofs.Common.{◌≡◌, ℕ, ◌<◌, ◌≤◌, ◌+◌, ◌⊎◌, inl, inr, Bool, true, false, ◌||◌, List, [], ◌∷◌, ◌++◌, length, take, get_or, filter, Option, None, Some, Contains, IsTrue, All, cond, if◌then◌else◌, sym, subst, ap, ◌∙◌, ◌↔◌}
 use Rattle.std.proofs.lemmas.Bool.{and_parts, and_from}
-use Rattle.std.proofs.lemmas.List.{take_more, take_all, append-nil}
-use Rattle.std.proofs.lemmas.List.Elements.{Contains-push_cases, Contains-get_or, Contains-append_left, Contains-append_right, Contains-append_cases}
+use Rattle.std.proofs.lemmas.List.{append-nil}
+use Rattle.std.proofs.lemmas.List.Elements.{Contains-get_or, Contains-append_left, Contains-append_right, Contains-append_cases}
 use Rattle.terms.specs.Types.{Id, Global, Zone, Selection}
 use Rattle.terms.specs.Lookups.{is_in, at_most_one, IsRising}
 use Rattle.terms.specs.Choice.{Choice, by_srel}
 use Rattle.terms.specs.Candidates.{is_installable, is_open, is_start, is_growing_start, is_mass_chosen, BringsIn, IsClosedPair, AreCandidates}
 use Rattle.terms.proofs.Ids.{is_in-from_Contains, Contains-from_is_in}
 use Rattle.terms.proofs.Apart.{here, here_or, none_in}
-use Rattle.paths.specs.Seen.{AddsAll}
-use Rattle.paths.proofs.Growth.{adds-none, adds-insert, adds-keeps, adds-cases, take-adds}
+use Rattle.paths.specs.Seen.{AddsAll, IsGoing}
+use Rattle.paths.proofs.Growth.{adds-none, adds-insert}
+use Rattle.paths.proofs.Going.{going-start, going-next, going-end}
 use Rattle.indexmap.specs.IndexSet.{insert_key}
 use Rattle.std.specs.Str.{bytes_eq}
 use Rattle.select.specs.Growing.{IsGrowing, brought_in}
@@ -74,25 +75,20 @@ module _ (g : Global) (zone : Zone) (sel : Selection) where
       closed.grown x y (growing cands set closed) (fmid_brought g zone sel cands x y (growing_open x growing) parts.0 parts.1)
 
   -- the search has seen these ids and gone through the first n of them
-  pub record IsGrowth (seen : List Id) (n : ℕ) : Type 0 where
-    pub within : n ≤ length seen
-    pub sound : (z : Id) → Contains seen z → IsGrowing g zone sel z
-    pub first : (z : Id) → IsTrue (is_growing_start g zone sel z) → Contains seen z
-    pub closed : (y z : Id) → Contains (take n seen) y → brought_in g zone sel y ≡ Some z → Contains seen z
+  abbrev pub IsGrowth : List Id → ℕ → Type 0
+  IsGrowth seen n = IsGoing next (λ z. IsTrue (is_growing_start g zone sel z)) (IsGrowing g zone sel) seen n
 
   pub growth-start : (start seen : List Id) → ((x : Id) → Contains start x ↔ IsTrue (is_start g zone sel x))
       → AddsAll [] (filter brings start) seen → IsGrowth seen 0
-  growth-start start seen starts adds = record {
-    within = omega arith;
-    sound = λ z h. elim (adds-cases [] (filter brings start) seen adds z h) [
-      | inl none ↦ absurd (none_in z none)
-      | inr named ↦
-          let parts = kept-parts brings start z named in
-          λ cands set closed. closed.growing_start z (and_from (is_start g zone sel z) (brings z) ((starts z).0 parts.0) parts.1)
-    ];
-    first = λ z grows. let parts = growing_starts z grows in adds.has z (kept-from brings start z ((starts z).1 parts.0) parts.1);
-    closed = λ y z none brought. absurd (none_in y none);
-  }
+  growth-start start seen starts adds = going-start next _ _ (filter brings start) seen belongs begins adds
+    where
+      belongs : (z : Id) → Contains (filter brings start) z → IsGrowing g zone sel z
+      belongs z there cands set closed =
+          let parts = kept-parts brings start z there in
+          closed.growing_start z (and_from (is_start g zone sel z) (brings z) ((starts z).0 parts.0) parts.1)
+
+      begins : (z : Id) → IsTrue (is_growing_start g zone sel z) → Contains (filter brings start) z
+      begins z grows = let parts = growing_starts z grows in kept-from brings start z ((starts z).1 parts.0) parts.1
 
   one_next : (x z : Id) → Contains (next x) z → brought_in g zone sel x ≡ Some z
   one_next x z h = by (brought_in g zone sel x) h
@@ -104,29 +100,19 @@ module _ (g : Global) (zone : Zone) (sel : Selection) where
   next_one : (x z : Id) → brought_in g zone sel x ≡ Some z → Contains (next x) z
   next_one x z e = subst (λ o. Contains (at_most_one o) z) (sym e) (here z [])
 
+  growing_step : (x z : Id) → IsGrowing g zone sel x → Contains (next x) z → IsGrowing g zone sel z
+  growing_step x z growing named = growing_next x z growing (one_next x z named)
+
   -- it goes through one more
   pub growth-next : (old new : List Id) (n : ℕ) (x : Id) → n < length old → x ≡ get_or old n x
       → AddsAll old (next x) new → IsGrowth old n → IsGrowth new (n + 1)
-  growth-next old new n x below at adds s = record {
-    within = omega (arith, ap length adds.kept ∙ length-append old adds.added);
-    sound = λ z h. elim (adds-cases old (next x) new adds z h) [
-      | inl was ↦ s.sound z was
-      | inr named ↦ growing_next x z (s.sound x (subst (Contains old) (sym at) (Contains-get_or old n x below))) (one_next x z named)
-    ];
-    first = λ z grows. adds-keeps old (next x) new adds z (s.first z grows);
-    closed = λ y z gone brought.
-        let gone_old : Contains (take (n + 1) old) y = subst (λ ks. Contains ks y) (take-adds old (next x) new (n + 1) adds (omega arith)) gone in
-        elim (Contains-push_cases (take n old) (get_or old n x) y (subst (λ ks. Contains ks y) (take_more old n x below) gone_old)) [
-          | inl before ↦ adds-keeps old (next x) new adds z (s.closed y z before brought)
-          | inr this ↦ adds.has z (next_one x z (ap (brought_in g zone sel) (at ∙ this) ∙ brought))
-        ];
-  }
+  growth-next old new n x below at adds s = going-next next _ _ growing_step old new n x below at adds s
 
   module _ (seen : List Id) (n : ℕ) (all : length seen ≤ n) (s : IsGrowth seen n) where
     seen_closed : (cands : Id → Bool) (y z : Id) → Contains seen y → BringsIn g c zone sel cands y z → Contains seen z
     seen_closed cands y z there brought =
-        s.closed y z (subst (λ ks. Contains ks y) (sym (take_all n seen all)) there)
-        (brought_from g zone sel y z brought.0 (brings_fmid g zone sel cands y z (growing_open y (s.sound y there)) brought))
+        going-end next _ _ seen n all s y z there
+        (next_one y z (brought_from g zone sel y z brought.0 (brings_fmid g zone sel cands y z (growing_open y (s.sound y there)) brought)))
 
     -- having gone through all, it has seen just the growing ones
     pub growth-end : (z : Id) → Contains seen z ↔ IsGrowing g zone sel z

@@ -1,6 +1,6 @@
 //! What a zone knows of a SYSMOD and of an element.
 ghost use Rattle.std.specs.Prelude.{◌≡◌};
-ghost use Rattle.terms.specs.Lookups.{is_held, waives_applied};
+ghost use Rattle.terms.specs.Lookups.{IsRising, is_held, waives_applied};
 
 use crate::table::Keyed;
 use fields::{Id, IdList, Name, YyDdd};
@@ -41,6 +41,14 @@ impl Entry {
         ensures { result ≡ waives_applied self.now }
     {
         self.applied.is_some() || self.waived.is_empty()
+    }
+
+    /// What holds of each entry. The call does nothing.
+    pub fn known(&self)
+        ensures { IsRising self.now.supby × IsRising self.now.waived }
+    {
+        let _ = self.supby.as_slice();
+        let _ = self.waived.as_slice();
     }
 }
 

@@ -2,7 +2,7 @@
 ghost use Rattle.std.specs.Prelude.{◌≡◌, ◌==◌, ◌↔◌, [], All, IsTrue, IsSome, IfSome, IfOk, is_some, option_copied};
 ghost use Rattle.terms.specs.Delta.{IsChanged};
 ghost use Rattle.terms.specs.Types.{zone_number, a_zone};
-ghost use Rattle.terms.specs.Lookups.{IsZone, entry_of, element_of, is_applied, is_supplied, is_held, waives_applied};
+ghost use Rattle.terms.specs.Lookups.{IsRising, IsZone, entry_of, element_of, is_applied, is_supplied, is_held, waives_applied};
 
 use crate::delta::ZoneDelta;
 use crate::entries::{Element, Entry};
@@ -98,6 +98,15 @@ impl Zone {
     {
         let _ = self.entries.as_slice();
         let _ = self.elements.as_slice();
+    }
+
+    /// What holds of each entry's lists. The call only goes over the entries.
+    pub fn known_lists(&self)
+        ensures { All (λ e. IsRising e.supby × IsRising e.waived) self.now.entries }
+    {
+        for entry in self.entries() {
+            entry.known();
+        }
     }
 
     pub fn entries(&self) -> &[Entry]

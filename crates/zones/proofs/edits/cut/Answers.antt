@@ -1,4 +1,4 @@
-use Rattle.std.proofs.Common.{◌≡◌, ◌≤◌, ◌<◌, ◌+◌, ◌-◌, ◌∙◌, ◌++◌, ◌∷◌, sym, ap, take, drop, suc, length, add-one, arith, length-drop}
+use Rattle.std.proofs.Common.{◌≡◌, ◌+◌, ◌-◌, ◌∙◌, ◌++◌, ◌∷◌, sym, ap, take, drop, suc, length, add-one, arith, length-drop}
 use Rattle.std.proofs.lemmas.List.{take_all, take-append-drop}
 use Rattle.terms.specs.Rising.{before, behind, Rises}
 use Rattle.terms.proofs.RisingLists.{before-around, behind-around, before-apart, behind-apart, Splits-around}

@@ -1,7 +1,7 @@
 use Rattle.std.proofs.Common.{◌∙◌, ap, List}
 use Rattle.terms.specs.declared.kinds.ElemType.{ElemType}
 use Rattle.terms.specs.declared.kinds.Edit.{Edit}
-use Rattle.terms.specs.declared.kinds.Edit.TheVariants.{Put, Remove}
+use Rattle.terms.specs.declared.kinds.Edit.TheVariants.{Put}
 use Rattle.terms.specs.Types.{Text, Element}
 use Rattle.terms.specs.Lookups.{element_cmp, element_key}
 use Rattle.terms.specs.Delta.{ZoneDelta, edit_key}

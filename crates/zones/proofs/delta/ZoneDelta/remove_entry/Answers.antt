@@ -2,7 +2,7 @@ use Rattle.std.proofs.Common.{IsTrue, IfSome}
 use Rattle.std.specs.Ordering.{nat_cmp}
 use Rattle.std.specs.Cmp.Lexicographic.{slice_cmp}
 use Rattle.terms.specs.declared.kinds.Edit.{Edit}
-use Rattle.terms.specs.declared.kinds.Edit.TheVariants.{Put, Remove}
+use Rattle.terms.specs.declared.kinds.Edit.TheVariants.{Remove}
 use Rattle.terms.specs.Types.{Id, Entry}
 use Rattle.terms.specs.Lookups.{is_held, waives_applied}
 use Rattle.terms.specs.Delta.{edit_key, edit_put}

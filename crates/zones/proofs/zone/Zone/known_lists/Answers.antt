@@ -4,12 +4,12 @@ use Rattle.std.proofs.lemmas.List.{take_all}
 use Rattle.std.proofs.lemmas.List.Elements.{All-more}
 use Rattle.terms.specs.Types.{Entry}
 use Rattle.terms.specs.Lookups.{IsRising}
-use Rattle.change.proofs.known.known_lists.Goals as goal
+use Rattle.zones.proofs.zone.Zone.known_lists.Goals as goal
 
 pub loop-entry-preserved : goal.loop-entry-preserved
 loop-entry-preserved c =
     All-more (λ e. IsRising e.supby × IsRising e.waived) c.entries-entry-items.result.now c.loop-entry.entry-index c.entry-item.result c.loop-entry-test.true c.loop-entry.invariant
-    (subst (λ (e : Entry). IsRising e.supby × IsRising e.waived) c.entry-item.is c.known_lists_of.ensures)
+    (subst (λ (e : Entry). IsRising e.supby × IsRising e.waived) c.entry-item.is c.known.ensures)
 
 pub returns : goal.returns
 returns c =

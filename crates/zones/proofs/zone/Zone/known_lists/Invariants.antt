@@ -1,7 +1,7 @@
 use Rattle.std.proofs.Common.{take}
 use Rattle.std.specs.Prelude.{All}
 use Rattle.terms.specs.Lookups.{IsRising}
-use Rattle.change.proofs.known.known_lists.Given as goal
+use Rattle.zones.proofs.zone.Zone.known_lists.Given as goal
 
 -- the lists of the entries so far rise
 abbrev pub invariant-loop-entry : goal.invariant-loop-entry
