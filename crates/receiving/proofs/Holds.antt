@@ -1,8 +1,8 @@
 -- Holds and releases of a hold file.
-use Rattle.std.proofs.Common.{◌≡◌, ◌∙◌, Bool, true, false, List, [], ◌∷◌, ◌++◌, All, refl, sym, ap, subst, Option, None, Some, Result, Ok, Err, OnOk, OnErr, IfErr, if◌then◌else◌}
+use Rattle.std.proofs.Common.{◌≡◌, ◌∙◌, Bool, true, false, List, [], ◌∷◌, ◌++◌, All, sym, ap, Option, None, Some, Result, Ok, Err, OnOk, OnErr, IfErr, if◌then◌else◌}
 use Rattle.std.proofs.lemmas.List.Elements.{All-head, All-tail}
 use Rattle.terms.specs.Types.{Id, Hold, Release, Global}
-use Rattle.terms.specs.Global.{ReleaseFault, Rl1, Rl2, hold_of, marked, hold, without_hold, release_found, release}
+use Rattle.terms.specs.Global.{Rl2, hold_of, marked, hold, without_hold, release_found, release}
 use Rattle.machine.specs.Receiving.{or_same}
 use Rattle.holds.specs.declared.holds.ReleaseError.{ReleaseError}
 use Rattle.global.specs.Faults.{a_release, release_fault}

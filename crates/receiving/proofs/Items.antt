@@ -6,9 +6,7 @@ use Rattle.terms.specs.Types.{Global}
 use Rattle.machine.specs.Outcome as machine
 use Rattle.machine.specs.Runs.{Runs}
 use Rattle.machine.proofs.Joined.{runs-append, runs-one}
-use Rattle.report.specs.declared.outcome.Line.{Line}
 use Rattle.report.specs.Views.{line_view}
-use Rattle.store.specs.declared.change.GlobalEdit.{GlobalEdit}
 use Rattle.store.specs.Changes.{after_edit, EachFits, after_edits}
 use Rattle.receiving.specs.declared.taken.Taken.{Taken}
 use Rattle.receiving.specs.Taken.{IsTaken}

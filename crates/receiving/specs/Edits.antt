@@ -1,7 +1,7 @@
 -- By which edits the tables follow, and what the calls of the global zone answer.
 use Rattle.std.specs.Prelude.{List, [], ◌∷◌, map, Option, None, Some, Result, Ok, Err}
 use Rattle.terms.specs.declared.kinds.HoldKind.{HoldKind}
-use Rattle.terms.specs.Types.{Text, Id, Global, Sysmod, Hold}
+use Rattle.terms.specs.Types.{Text, Id, Global, Sysmod}
 use Rattle.terms.specs.Global as rule
 use Rattle.received.specs.declared.faults.ReceiveFault.{ReceiveFault}
 use Rattle.received.specs.Refused.{fault_of}

@@ -8,6 +8,7 @@ ghost use Rattle.report.specs.Views.{place_view, status_view};
 ghost use Rattle.receiving.specs.Edits.{head_of, source_edits};
 ghost use Rattle.receiving.specs.Taken.{IsTaken};
 
+use crate::assign::Assign;
 use crate::taken::Taken;
 use fields::{Id, Source};
 use global::Global;
@@ -86,7 +87,7 @@ fn assign_id(
 }
 
 /// Gives the source to one id after the other.
-pub(crate) fn assign_each(
+fn assign_each(
     alloc: Heap,
     global: &mut Global,
     source: Source,
@@ -99,4 +100,17 @@ pub(crate) fn assign_each(
         assign_id(alloc, global, source, *id, taken)?;
     }
     Ok(())
+}
+
+/// Gives the source of an `++ASSIGN` to its ids, in their order.
+pub(crate) fn take_assign(
+    alloc: Heap,
+    global: &mut Global,
+    assign: Assign,
+    taken: &mut Taken,
+) -> Result<(), AllocError>
+    ensures { OnOk result (IsTaken (Runs (AssignsId assign.source) global.old assign.to) global.old global.new taken.old taken.new) }
+{
+    let Assign { source, to } = assign;
+    assign_each(alloc, global, source, to.as_slice(), taken)
 }

@@ -1,6 +1,7 @@
 //! RECEIVE: what the items of a PTFIN and of a hold file make of the global zone, and what is printed of each.
 #![tactic(auto)]
 
+mod assign;
 mod assigning;
 mod edits;
 mod hold_item;

@@ -1,4 +1,4 @@
-use Rattle.std.proofs.Common.{◌≡◌, ◌∷◌, [], ◌∙◌, sym, ap, true≢false, if◌then◌else◌}
+use Rattle.std.proofs.Common.{◌∷◌, [], ◌∙◌, sym, ap, true≢false, if◌then◌else◌}
 use Rattle.terms.specs.Types.{Hold}
 use Rattle.terms.specs.Global.{is_replacing}
 use Rattle.machine.specs.Outcome.{StatusLine, OfHold, Held, Replaced}

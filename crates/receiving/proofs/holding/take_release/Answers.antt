@@ -1,4 +1,4 @@
-use Rattle.std.proofs.Common.{◌≡◌, ◌∷◌, [], ◌∙◌, refl, sym, ap, subst}
+use Rattle.std.proofs.Common.{◌∷◌, [], ◌∙◌, refl, sym, ap, subst}
 use Rattle.terms.specs.Types.{Release, ARelease}
 use Rattle.machine.specs.Outcome.{StatusLine, OfHold}
 use Rattle.machine.specs.Receiving.{TakesHoldItem, release_status}
