@@ -169,27 +169,44 @@ fn alone(alloc: Heap, item: HoldItem) -> Result<Vec<HoldItem>, AllocError>
     Ok(found)
 }
 
+/// Whether one hold is put, or one is removed, or nothing is written.
+fn writes(edits: &[GlobalEdit], word: &[u8]) -> bool {
+    let written = match edits {
+        [GlobalEdit::PutHold(hold)]
+            if hold.id.as_bytes() == b"EFUN001".as_slice() && !hold.internal => {
+            b"PUT".as_slice()
+        }
+        [GlobalEdit::RemoveHold(id, _, _)] if id.as_bytes() == b"EFUN001".as_slice() =>
+            b"REMOVE".as_slice(),
+        [] => b"".as_slice(),
+        _ => b"OTHER".as_slice(),
+    };
+    written == word
+}
+
+/// Whether the item alone is told and written by these words.
+fn takes(
+    alloc: Heap,
+    global: &mut Global,
+    item: HoldItem,
+    word: &[u8],
+    edit: &[u8],
+) -> Result<bool, AllocError>
+    requires { IsExternal (item_of item) }
+{
+    let taken = receive_holds(alloc, global, alone(alloc, item)?)?;
+    match taken.lines.as_slice() {
+        [line] => Ok(says(line, b"EFUN001", word) && writes(taken.edits.as_slice(), edit)),
+        _ => Ok(false),
+    }
+}
+
 #[test]
 fn holds_and_releases(rt: HostRuntime) -> Result<(), Fail> {
     let mut global = received(rt.alloc())?;
-    let found = alone(rt.alloc(), hold()?)?;
-    let held = receive_holds(rt.alloc(), &mut global, found)?;
-    match (held.lines.as_slice(), held.edits.as_slice()) {
-        ([line], [GlobalEdit::PutHold(hold)]) => {
-            assert!(rt; says(line, b"EFUN001", b"HELD"));
-            assert!(rt; hold.reason.as_bytes() == b"AA00001".as_slice() && !hold.internal);
-        }
-        _ => assert!(rt; false),
-    }
-    drop(held);
-    let found = alone(rt.alloc(), release()?)?;
-    let released = receive_holds(rt.alloc(), &mut global, found)?;
-    match (released.lines.as_slice(), released.edits.as_slice()) {
-        ([line], [GlobalEdit::RemoveHold(id, _, _)]) => {
-            assert!(rt; says(line, b"EFUN001", b"RELEASED"));
-            assert!(rt; id.as_bytes() == b"EFUN001".as_slice());
-        }
-        _ => assert!(rt; false),
-    }
+    assert!(rt; takes(rt.alloc(), &mut global, hold()?, b"HELD", b"PUT")?);
+    assert!(rt; takes(rt.alloc(), &mut global, hold()?, b"REPLACED", b"PUT")?);
+    assert!(rt; takes(rt.alloc(), &mut global, release()?, b"RELEASED", b"REMOVE")?);
+    assert!(rt; takes(rt.alloc(), &mut global, release()?, b"REFUSED Rl1", b"")?);
     Ok(())
 }
