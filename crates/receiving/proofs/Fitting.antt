@@ -12,7 +12,7 @@ use Rattle.terms.specs.Lookups.{is_received}
 use Rattle.store.specs.declared.change.GlobalEdit.{GlobalEdit}
 use Rattle.store.specs.declared.change.GlobalEdit.TheVariants.{PutHold, InsertSysmod}
 use Rattle.store.specs.Changes.{with_hold, Fits, after_edit, EachFits, after_edits}
-use Rattle.receiving.specs.Taking.{edits_of}
+use Rattle.receiving.specs.Edits.{edits_of}
 
 pub fits-none : (g : Global) → EachFits [] g
 fits-none g k edit below at = absurd (omega (arith, below))
@@ -29,6 +29,10 @@ pub fits-append : (g : Global) (es fs : List GlobalEdit) → EachFits es g → E
 fits-append g [] fs front back = back
 fits-append g (e ∷ es) fs front back =
     fits-first g e (es ++ fs) (front zero e (omega arith) refl) (fits-append (after_edit g e) es fs (fits-rest g e es front) back)
+
+-- one edit
+pub fits-one : (g : Global) (e : GlobalEdit) → Fits g e → EachFits (e ∷ []) g
+fits-one g e one = fits-first g e [] one (fits-none (after_edit g e))
 
 puts-fit : (g : Global) (hs : List Hold) → EachFits (map (λ h. PutHold h) hs) g
 puts-fit g [] = fits-none g

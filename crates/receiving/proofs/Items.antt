@@ -1,62 +1,54 @@
 -- Items that are taken, one after another.
-use Rattle.std.proofs.Common.{◌≡◌, ◌∙◌, List, [], ◌∷◌, ◌++◌, map, refl, sym, ap, subst, Option, None, Some, Ok, Err}
+use Rattle.std.proofs.Common.{◌≡◌, ◌∙◌, List, [], ◌∷◌, ◌++◌, map, refl, sym, ap, subst, append_assoc, append-nil}
 use Rattle.std.proofs.lemmas.List.{map-append}
 use Rattle.std.proofs.lemmas.List.Sums.{fold-append}
-use Rattle.terms.specs.Types.{Text, Global, Sysmod, Item, ASysmod}
-use Rattle.terms.specs.Global.{IsSysmod, Rc1}
-use Rattle.machine.specs.Outcome.{OfKind, StatusLine}
+use Rattle.terms.specs.Types.{Global}
+use Rattle.machine.specs.Outcome as machine
 use Rattle.machine.specs.Runs.{Runs}
-use Rattle.machine.specs.Receiving.{TakesItem, sourced, receive_status}
 use Rattle.machine.proofs.Joined.{runs-append, runs-one}
-use Rattle.received.specs.declared.faults.ReceiveFault.{ReceiveFault}
-use Rattle.received.specs.Refused.{fault_of}
-use Rattle.global.specs.Faults.{IsReceived}
-use Rattle.report.specs.declared.outcome.Line.{Line}
 use Rattle.report.specs.Views.{line_view}
-use Rattle.store.specs.declared.change.GlobalEdit.{GlobalEdit}
 use Rattle.store.specs.Changes.{after_edit, EachFits, after_edits}
-use Rattle.receiving.specs.Taking.{answer_of, edits_after, AreTaken, IsTaken}
-use Rattle.receiving.proofs.Fitting.{fits-none, fits-append, sysmod-fits, sysmod-makes}
+use Rattle.receiving.specs.declared.taken.Taken.{Taken}
+use Rattle.receiving.specs.Taken.{IsTaken}
+use Rattle.receiving.proofs.Fitting.{fits-none, fits-append}
 
--- one SYSMOD, received or refused
-sysmod_taken : (source : Option Text) (g new : Global) (s : Sysmod) (refused : Option ReceiveFault) (line : Line) → IsSysmod (sourced source s) → IsReceived g (sourced source s) new refused
-    → line_view line ≡ StatusLine s.id (OfKind s.kind) (receive_status (answer_of new refused))
-    → AreTaken source g (ASysmod s ∷ []) new (edits_after refused (sourced source s)) (line ∷ [])
-sysmod_taken source g new s None line known (free, is) printed = record {
-  runs = runs-one (TakesItem source) g new (ASysmod s) (line_view line ∷ []) (Ok new, (free, is), refl, ap (λ l. l ∷ []) printed);
-  fits = sysmod-fits g (sourced source s) (free Rc1);
-  after = sysmod-makes g (sourced source s) known ∙ sym is;
-}
-sysmod_taken source g new s (Some fault) line known (first, same) printed = record {
-  runs = runs-one (TakesItem source) g new (ASysmod s) (line_view line ∷ []) (Err (fault_of fault), first, same, ap (λ l. l ∷ []) printed);
-  fits = fits-none g;
-  after = sym same;
-}
+module _ {I : Type 0} (Takes : Global → I → Global → List machine.Line → Type 0) where
+  pub none_taken : (g : Global) (t : Taken) → IsTaken (Runs Takes g []) g g t t
+  none_taken g t = record {
+    own = [];
+    edits_are = sym (append-nil t.edits.items);
+    lines = [];
+    lines_are = sym (append-nil t.lines.items);
+    prints = (refl, refl);
+    fits = fits-none g;
+    after = refl;
+  }
 
--- with the copy that is written
-pub copy_taken : (source : Option Text) (g new : Global) (s sent copy : Sysmod) (refused : Option ReceiveFault) (line : Line) → sent ≡ sourced source s → copy ≡ sent
-    → IsSysmod copy → IsReceived g sent new refused
-    → line_view line ≡ StatusLine s.id (OfKind s.kind) (receive_status (answer_of new refused))
-    → AreTaken source g (ASysmod s ∷ []) new (edits_after refused copy) (line ∷ [])
-copy_taken source g new s sent copy refused line sent_is copy_is known r printed =
-    let is : copy ≡ sourced source s = copy_is ∙ sent_is in
-    subst (λ c. AreTaken source g (ASysmod s ∷ []) new (edits_after refused c) (line ∷ [])) (sym is)
-    (sysmod_taken source g new s refused line (subst IsSysmod is known) (subst (λ c. IsReceived g c new refused) sent_is r) printed)
+  -- one item more
+  pub more_taken : (g middle new : Global) (items : List I) (item : I) (first then last : Taken)
+      → IsTaken (Runs Takes g items) g middle first then → IsTaken (Takes middle item) middle new then last → IsTaken (Runs Takes g (items ++ item ∷ [])) g new first last
+  more_taken g middle new items item first then last front back = record {
+    own = front.own ++ back.own;
+    edits_are = back.edits_are ∙ ap (λ es. es ++ back.own) front.edits_are ∙ append_assoc first.edits.items front.own back.own;
+    lines = front.lines ++ back.lines;
+    lines_are = back.lines_are ∙ ap (λ ls. ls ++ back.lines) front.lines_are ∙ append_assoc first.lines.items front.lines back.lines;
+    prints = subst (Runs Takes g (items ++ item ∷ []) new) (sym (map-append line_view front.lines back.lines))
+        (runs-append Takes g middle new items (item ∷ []) (map line_view front.lines) (map line_view back.lines) front.prints
+        (runs-one Takes middle new item (map line_view back.lines) back.prints));
+    fits = fits-append g front.own back.own front.fits (subst (EachFits back.own) (sym front.after) back.fits);
+    after = fold-append after_edit g front.own back.own ∙ ap (after_edits back.own) front.after ∙ back.after;
+  }
 
-pub none_taken : (source : Option Text) (g : Global) → AreTaken source g [] g [] []
-none_taken source g = record { runs = (refl, refl); fits = fits-none g; after = refl }
+module _ (Prints : Global → List machine.Line → Type 0) (g new : Global) (none all : Taken) (taken : IsTaken Prints g new none all) where
+  -- where nothing stood before
+  edits-own : none.edits.items ≡ [] → taken.own ≡ all.edits.items
+  edits-own nothing = sym (taken.edits_are ∙ ap (λ es. es ++ taken.own) nothing)
 
--- one item more
-pub more_taken : (source : Option Text) (g m new : Global) (items : List Item) (item : Item) (edits later : List GlobalEdit) (lines printed : List Line)
-    → AreTaken source g items m edits lines → IsTaken source m item new edits later lines printed → AreTaken source g (items ++ item ∷ []) new later printed
-more_taken source g m new items item edits later lines printed front back =
-    let step = back.taken in
-    let joined : after_edits (edits ++ back.own) g ≡ after_edits back.own (after_edits edits g) = fold-append after_edit g edits back.own in
-    let made : AreTaken source g (items ++ item ∷ []) new (edits ++ back.own) (lines ++ back.line ∷ []) = record {
-      runs = subst (Runs (TakesItem source) g (items ++ item ∷ []) new) (sym (map-append line_view lines (back.line ∷ [])))
-          (runs-append (TakesItem source) g m new items (item ∷ []) (map line_view lines) (line_view back.line ∷ []) front.runs step.runs);
-      fits = fits-append g edits back.own front.fits (subst (EachFits back.own) (sym front.after) step.fits);
-      after = joined ∙ ap (after_edits back.own) front.after ∙ step.after;
-    } in
-    subst (λ es. AreTaken source g (items ++ item ∷ []) new es printed) (sym back.edits_are)
-    (subst (AreTaken source g (items ++ item ∷ []) new (edits ++ back.own)) (sym back.lines_are) made)
+  pub all-printed : none.lines.items ≡ [] → Prints new (map line_view all.lines.items)
+  all-printed nothing = subst (λ ls. Prints new (map line_view ls)) (sym (taken.lines_are ∙ ap (λ ls. ls ++ taken.lines) nothing)) taken.prints
+
+  pub all-fit : none.edits.items ≡ [] → EachFits all.edits.items g
+  all-fit nothing = subst (λ es. EachFits es g) (edits-own nothing) taken.fits
+
+  pub all-after : none.edits.items ≡ [] → after_edits all.edits.items g ≡ new
+  all-after nothing = subst (λ es. after_edits es g ≡ new) (edits-own nothing) taken.after

@@ -1,1 +1,4 @@
-pub mod Taking
+pub mod Edits
+pub mod External
+pub mod HoldItems
+pub mod Taken

@@ -1,6 +1,6 @@
 //! The edits by which the tables follow.
 ghost use Rattle.std.specs.Prelude.{◌≡◌, ◌++◌, map, OnOk};
-ghost use Rattle.receiving.specs.Taking.{edits_after};
+ghost use Rattle.receiving.specs.Edits.{edits_after};
 
 use global::ReceiveFault;
 use std::alloc::{AllocError, Global as Heap};

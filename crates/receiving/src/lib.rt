@@ -1,9 +1,17 @@
-//! RECEIVE: what the items of a PTFIN make of the global zone, and what is printed of each.
+//! RECEIVE: what the items of a PTFIN and of a hold file make of the global zone, and what is printed of each.
 #![tactic(auto)]
 
+mod assign;
+mod assigning;
 mod edits;
+mod hold_item;
+mod holding;
+mod taken;
 mod taking;
 #[cfg(test)]
 mod tests;
 
-pub use taking::{Taken, receive};
+pub use hold_item::{HoldItem, Release};
+pub use holding::receive_holds;
+pub use taken::Taken;
+pub use taking::receive;

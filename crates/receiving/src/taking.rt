@@ -1,3 +1,4 @@
+//! The items of a PTFIN.
 ghost use Rattle.std.specs.Prelude.{◌≡◌, IfOk, OnOk, map};
 ghost use Rattle.terms.specs.Types.{Global as AGlobal, ASysmod};
 ghost use Rattle.machine.specs.Runs.{Runs};
@@ -5,24 +6,18 @@ ghost use Rattle.machine.specs.Receiving.{TakesItem, sourced, receive_status};
 ghost use Rattle.mcs.specs.Files.{item_of, items};
 ghost use Rattle.report.specs.Views.{line_view, status_view};
 ghost use Rattle.store.specs.Changes.{EachFits, after_edits};
-ghost use Rattle.receiving.specs.Taking.{answer_of, IsTaken};
+ghost use Rattle.receiving.specs.Edits.{answer_of};
+ghost use Rattle.receiving.specs.Taken.{IsTaken};
 
 use crate::edits::write_received;
+use crate::taken::Taken;
 use fields::Source;
 use global::{Global, ReceiveFault};
 use mcs::Item;
 use report::{Line, Place, Status};
 use std::alloc::{AllocError, Global as Heap};
-use store::GlobalEdit;
 use sysmods::Sysmod;
 use terms::IdRefusal;
-
-/// What a RECEIVE writes, the first edit first, and its lines.
-#[derive(Drop)]
-pub struct Taken {
-    pub edits: Vec<GlobalEdit>,
-    pub lines: Vec<Line>,
-}
 
 fn with_source(mut sysmod: Sysmod, source: &Option<Source>) -> Result<Sysmod, AllocError>
     ensures { IfOk result (λ found. found ≡ sourced source.now sysmod) }
@@ -53,7 +48,7 @@ fn take_sysmod(
     source: &Option<Source>,
     taken: &mut Taken,
 ) -> Result<(), AllocError>
-    ensures { OnOk result (IsTaken source.now global.old (ASysmod sysmod) global.new taken.old.edits.items taken.new.edits.items taken.old.lines.items taken.new.lines.items) }
+    ensures { OnOk result (IsTaken (TakesItem source.now global.old (ASysmod sysmod)) global.old global.new taken.old taken.new) }
 {
     let id = sysmod.id;
     let kind = sysmod.kind;
@@ -77,11 +72,26 @@ fn take_item(
     source: &Option<Source>,
     taken: &mut Taken,
 ) -> Result<(), AllocError>
-    ensures { OnOk result (IsTaken source.now global.old (item_of item) global.new taken.old.edits.items taken.new.edits.items taken.old.lines.items taken.new.lines.items) }
+    ensures { OnOk result (IsTaken (TakesItem source.now global.old (item_of item)) global.old global.new taken.old taken.new) }
 {
     match item {
         Item::Sysmod(sysmod) => take_sysmod(alloc, global, sysmod, source, taken),
     }
+}
+
+fn take_items(
+    alloc: Heap,
+    global: &mut Global,
+    found: Vec<Item>,
+    source: &Option<Source>,
+    taken: &mut Taken,
+) -> Result<(), AllocError>
+    ensures { OnOk result (IsTaken (Runs (TakesItem source.now) global.old (items found.items)) global.old global.new taken.old taken.new) }
+{
+    for item in found {
+        take_item(alloc, global, item, source, taken)?;
+    }
+    Ok(())
 }
 
 /// Takes the items in, in their order, and adds the source to each SYSMOD that is received. Where memory runs out, the
@@ -96,12 +106,7 @@ pub fn receive(
     ensures fits { IfOk result (λ t. EachFits t.edits.items global.old) }
     ensures edits { IfOk result (λ t. after_edits t.edits.items global.old ≡ global.new) }
 {
-    let mut taken = Taken {
-        edits: Vec::new(alloc),
-        lines: Vec::new(alloc),
-    };
-    for item in found {
-        take_item(alloc, global, item, &source, &mut taken)?;
-    }
+    let mut taken = Taken::new(alloc);
+    take_items(alloc, global, found, &source, &mut taken)?;
     Ok(taken)
 }
