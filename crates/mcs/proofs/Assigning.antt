@@ -1,6 +1,5 @@
 -- What an ++ASSIGN says, and why one says nothing.
-use Rattle.std.proofs.Common.{◌≡◌, List, [], ◌∷◌, Option, None, subst}
-use Rattle.std.specs.Prelude.{IsSomeAnd, codes}
+use Rattle.std.proofs.Common.{◌≡◌, List, Option}
 use Rattle.terms.specs.declared.statement_words.StatementWord.{StatementWord}
 use Rattle.terms.specs.declared.statement_words.StatementWord.TheVariants as word
 use Rattle.terms.specs.Types.{Text, Lines, Assign}

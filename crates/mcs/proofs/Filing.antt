@@ -9,9 +9,12 @@ use Rattle.terms.specs.Words.{Word}
 use Rattle.terms.specs.Statements.{Statement, SaysHeader, SaysVer, SaysIf, SaysHold, SaysAssign, SaysChange, IsOwnHoldOf}
 use Rattle.terms.specs.Ptfin.{Begun, sysmod_in, is_last, with_if, SoFar, nothing, items_of, after, IsGoodStatement, IsStatementFault, BeginsWithStatements, IsPtfin}
 use Rattle.terms.proofs.ExactPtfin.{ptfin_fault-no_items}
+use Rattle.statements.specs.declared.fault.StatementError.{StatementError}
+use Rattle.statements.specs.declared.fault.StatementError.TheVariants as statement
 use Rattle.statements.specs.declared.error.McsError.{McsError}
 use Rattle.statements.specs.declared.error.McsError.TheVariants.{Memory, Fault}
-use Rattle.mcs.specs.Files.{Suits, IsPtfinError, IsRestError}
+use Rattle.mcs.specs.Files.{Suits, error_at, IsPtfinError, IsRestError}
+use Rattle.mcs.specs.Said.{IsStatementError}
 
 pub begins_none : (c : SoFar) (n : ℕ) (records : Lines) → BeginsWithStatements c n records [] c n records
 begins_none c n records = (refl, refl, refl)
@@ -31,9 +34,14 @@ some_records (r ∷ rs) h = omega arith
 pub group_shorter : (n m : ℕ) (records rest : Lines) (g : Group) → TakesGroup n records g m rest → length rest < length records
 group_shorter n m records rest g t = omega (arith, ap length t.records_are, length-append g.records rest, some_records g.records t.is_group)
 
-pub rest_fault : (c : SoFar) (n : ℕ) (records : Lines) (ss : List Statement) (d : SoFar) (m : ℕ) (rest : Lines) (g : Group) (next : ℕ) (later : Lines) (code : McCode) → BeginsWithStatements c n records ss d m rest → TakesGroup m rest g next later → IsStatementFault d.current later g.records code
+rest_fault : (c : SoFar) (n : ℕ) (records : Lines) (ss : List Statement) (d : SoFar) (m : ℕ) (rest : Lines) (g : Group) (next : ℕ) (later : Lines) (code : McCode) → BeginsWithStatements c n records ss d m rest → TakesGroup m rest g next later → IsStatementFault d.current later g.records code
     → IsRestError c n records (Fault g.number code)
 rest_fault c n records ss d m rest g next later code b t f = (ss, d, m, rest, b, (g, next, later, t, refl, f))
+
+pub rest_error : (c : SoFar) (n : ℕ) (records : Lines) (ss : List Statement) (d : SoFar) (m : ℕ) (rest : Lines) (g : Group) (next : ℕ) (later : Lines) (error : StatementError) → BeginsWithStatements c n records ss d m rest → TakesGroup m rest g next later → IsStatementError d.current later g.records error
+    → IsRestError c n records (error_at g.number error)
+rest_error c n records ss d m rest g next later statement.Memory b t f = tt
+rest_error c n records ss d m rest g next later (statement.Fault code) b t f = rest_fault c n records ss d m rest g next later code b t f
 
 pub file_error : (bytes : List ℕ) (records : Lines) (error : McsError) → HasRecords bytes records → IsRestError nothing 1 records error → IsPtfinError bytes error
 file_error bytes records Memory h r = tt

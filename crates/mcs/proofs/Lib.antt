@@ -4,6 +4,7 @@ pub mod Saying
 pub mod Ending
 pub mod Conditions
 pub mod Assigning
+pub mod Holding
 pub mod Changing
 pub mod Versions
 pub mod Judging

@@ -1,5 +1,5 @@
 -- What statements of each word say.
-use Rattle.std.proofs.Common.{◌≡◌, List, [], Option, Some, None, refl, ◌∙◌, ap, subst}
+use Rattle.std.proofs.Common.{◌≡◌, List, [], Option, Some, None, refl, ◌∙◌, ap}
 use Rattle.std.specs.Prelude.{IsSomeAnd}
 use Rattle.std.specs.List.{flat_map}
 use Rattle.terms.specs.declared.kinds.Kind.{Kind}

@@ -6,6 +6,7 @@ mod change;
 mod ended;
 mod file;
 mod header;
+mod holds;
 mod ifs;
 mod order;
 mod ptfin;

@@ -1,4 +1,5 @@
-ghost use Rattle.std.specs.Prelude.{◌≡◌, IfOk, IfErr};
+ghost use Rattle.std.specs.Prelude.{◌≡◌, All, IfOk, IfErr};
+ghost use Rattle.terms.specs.Records.{IsRecord};
 ghost use Rattle.terms.specs.Ptfin.{IsGoodStatement};
 ghost use Rattle.mcs.specs.Files.{begun_in};
 ghost use Rattle.mcs.specs.Said.{IsStatementError};
@@ -8,6 +9,7 @@ use crate::assign::assign_statement;
 use crate::change::{change_statement, update_statement};
 use crate::file::Begun;
 use crate::header::header_statement;
+use crate::holds::hold_statement;
 use crate::ifs::if_statement;
 use crate::order::is_misplaced;
 use crate::said::Statement;
@@ -25,7 +27,7 @@ pub fn read_statement(
     group: &Group<'_>,
 ) -> Result<Statement, StatementError>
     ensures good { IfOk result (λ s. IsGoodStatement (begun_in current.now) later.now group.now.records.now (statement_of s)) }
-    ensures fault { IfErr result (IsStatementError (begun_in current.now) later.now group.now.records.now) }
+    ensures fault { All IsRecord group.now.records.now → IfErr result (IsStatementError (begun_in current.now) later.now group.now.records.now) }
 {
     let known = match begun(group) {
         Ok(known) => known,
@@ -38,7 +40,7 @@ pub fn read_statement(
         StatementWord::Header(kind) => header_statement(current, kind, &known),
         StatementWord::Ver => ver_statement(alloc, current, &known),
         StatementWord::If => if_statement(alloc, current, &known),
-        StatementWord::Hold => Err(StatementError::Memory),
+        StatementWord::Hold => hold_statement(alloc, current, &known),
         StatementWord::Release => Err(StatementError::Fault(McCode::Mc4)),
         StatementWord::Assign => assign_statement(alloc, current, &known),
         StatementWord::Replace(elem_type) => change_statement(alloc, current, elem_type, &known),

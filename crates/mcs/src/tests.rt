@@ -1,6 +1,6 @@
 use super::*;
 use std::test::Fail;
-use sysmods::{Action, ElemType};
+use sysmods::{Action, ElemType, HoldKind};
 use terms::McCode;
 
 /// A record with this text, and with a number in columns 73 to 80.
@@ -60,7 +60,7 @@ fn function_and_fix(rt: HostRuntime) -> Result<(), Fail> {
     Ok(())
 }
 
-/// A PTF with an `++IF` at each of its `++VER`s, two updates, and an `++ASSIGN` behind it.
+/// A PTF with an `++IF` at each of its `++VER`s, a hold, two updates, and an `++ASSIGN` behind it.
 const WITH_UPDATES: &[(&[u8], &[u8; 8])] = &[
     (b"++PTF(UA00001).", BLANK),
     (b"++VER(Z038) FMID(HAA1100).", BLANK),
@@ -68,6 +68,11 @@ const WITH_UPDATES: &[(&[u8], &[u8; 8])] = &[
     (b" UA00002).", BLANK),
     (b"++VER(C150) FMID(HAA1100).", BLANK),
     (b"++IF FMID(HCC1100) THEN REQ(UA00004).", BLANK),
+    (
+        b"++HOLD(UA00001) SYSTEM FMID(HAA1100) REASON(ACTION)",
+        BLANK,
+    ),
+    (b" COMMENT( run it ).", BLANK),
     (b"++MACUPD(M1).", BLANK),
     (b"./ CHANGE NAME=M1", BLANK),
     (b"./ DELETE SEQ1=00000010,SEQ2=00000020", BLANK),
@@ -88,8 +93,7 @@ fn is_ptf(item: &Item) -> bool {
     let (Some(later), Some(earlier)) = (first.ifs.first(), second.ifs.first()) else {
         return false;
     };
-    let (Some(macro_update), Some(source_update)) = (ptf.changes.first(), ptf.changes.get(1))
-    else {
+    let (Some(macro_update), Some(source_update)) = (ptf.changes.first(), ptf.changes.get(1)) else {
         return false;
     };
     first.srel.as_bytes() == b"C150".as_slice()
@@ -101,6 +105,21 @@ fn is_ptf(item: &Item) -> bool {
         && matches!(&macro_update.action, Action::Updates { lines } if lines.len() == 3)
         && source_update.elem_type == ElemType::Src
         && matches!(&source_update.action, Action::Updates { lines } if lines.len() == 1)
+}
+
+/// Whether it has one hold, which is internal.
+fn has_hold(item: &Item) -> bool {
+    let Item::Sysmod(ptf) = item else {
+        return false;
+    };
+    let Some(hold) = ptf.holds.first() else {
+        return false;
+    };
+    ptf.holds.len() == 1
+        && hold.internal
+        && hold.kind == HoldKind::System
+        && hold.reason.as_bytes() == b"ACTION".as_slice()
+        && hold.comment.as_deref() == Some("run it")
 }
 
 fn is_assign(item: &Item) -> bool {
@@ -124,13 +143,25 @@ fn conditions_and_updates(rt: HostRuntime) -> Result<(), Fail> {
     let items = read_ptfin(rt.alloc(), cards.as_slice().as_flattened())?;
     assert_eq!(rt; items.len(), 2);
     assert!(rt; items.first().is_some_and(is_ptf));
+    assert!(rt; items.first().is_some_and(has_hold));
     assert!(rt; items.get(1).is_some_and(is_assign));
     Ok(())
 }
 
 /// Faults of the third statement, behind a header and a `++VER`.
 const THIRD: &[(&[u8], McCode)] = &[
-    (b"++RELEASE(UA00001) ERROR FMID(HAA1100) REASON(AA00001).", McCode::Mc4),
+    (
+        b"++RELEASE(UA00001) ERROR FMID(HAA1100) REASON(AA00001).",
+        McCode::Mc4,
+    ),
+    (
+        b"++HOLD(UA00001) ERROR FMID(HAA1100) REASON(AA00001).",
+        McCode::Mc3,
+    ),
+    (
+        b"++HOLD(UA00002) SYSTEM FMID(HAA1100) REASON(ACTION).",
+        McCode::Mc3,
+    ),
     (b"++IF THEN FMID(HAA1100) REQ(UA00002).", McCode::Mc3),
     (b"++IF FMID(HAA1100) THEN REQ(UA00001).", McCode::Mc3),
     (b"++ASSIGN SOURCEID(A).", McCode::Mc3),
@@ -144,7 +175,10 @@ fn faults_behind_a_ver(rt: HostRuntime) {
     let header = card(b"++PTF(UA00001).", BLANK);
     let ver = card(b"++VER(Z038) FMID(HAA1100).", BLANK);
     for (text, code) in THIRD {
-        assert_eq!(rt; fault(&rt, &[header, ver, card(text, BLANK)]), Some((3, *code)));
+        assert_eq!(rt;
+            fault(&rt, &[header, ver, card(text, BLANK)]),
+            Some((3, *code))
+        );
     }
 }
 
@@ -154,6 +188,10 @@ fn disorder(rt: HostRuntime) {
     let ver = card(b"++VER(Z038) FMID(HAA1100).", BLANK);
     let condition = card(b"++IF FMID(HAA1200) THEN REQ(UA00002).", BLANK);
     let assign = card(b"++ASSIGN SOURCEID(A) TO(UA00002).", BLANK);
+    let hold = card(
+        b"++HOLD(UA00001) SYSTEM FMID(HAA1100) REASON(ACTION).",
+        BLANK,
+    );
     let update = card(b"++MACUPD(M1).", BLANK);
     let change = card(b"./ CHANGE NAME=M1", BLANK);
     let replacement = card(b"++MAC(M1) DISTLIB(A) SYSLIB(B).", BLANK);
@@ -163,9 +201,16 @@ fn disorder(rt: HostRuntime) {
     assert_eq!(rt; fault(&rt, &[header, assign]), Some((2, McCode::Mc4)));
     assert_eq!(rt; fault(&rt, &[assign, condition]), Some((2, McCode::Mc4)));
     assert_eq!(rt; fault(&rt, &[header, condition]), Some((2, McCode::Mc4)));
-    assert_eq!(rt; fault(&rt, &[header, ver, condition, text]), Some((3, McCode::Mc4)));
     assert_eq!(rt;
-        fault(&rt, &[header, ver, update, change, condition]),
+        fault(&rt, &[header, ver, condition, text]),
+        Some((3, McCode::Mc4))
+    );
+    assert_eq!(rt;
+        fault(&rt, &[header, ver, hold, condition]),
+        Some((4, McCode::Mc4))
+    );
+    assert_eq!(rt;
+        fault(&rt, &[header, ver, update, change, hold]),
         Some((5, McCode::Mc4))
     );
     assert_eq!(rt;

@@ -3,7 +3,6 @@ use Rattle.std.specs.Prelude.{IsSomeAnd, codes}
 use Rattle.terms.specs.Types.{Id, Assign}
 use Rattle.terms.specs.Forms.{IsId}
 use Rattle.terms.specs.Operands.{operand, HasListed}
-use Rattle.terms.specs.Statements.{IsAssignOf}
 use Rattle.terms.proofs.ExactWords.{words-only}
 use Rattle.rec80.specs.Cursors.{text_of}
 use Rattle.statements.specs.KnownWords.{own_list}

@@ -1,5 +1,5 @@
 use Rattle.statements.specs.KnownWords.{own_list}
-use Rattle.mcs.proofs.Ordering.{second_ver, no_second_ver}
+use Rattle.mcs.proofs.Ordering.{second_ver}
 use Rattle.mcs.proofs.order.is_second_ver.Goals as goal
 
 pub returns-in-Some : goal.returns-in-Some

@@ -1,0 +1,71 @@
+ghost use Rattle.std.specs.Prelude.{◌≡◌, ◌↔◌, List, IsTrue, IfOk, IfErr};
+ghost use Rattle.terms.specs.declared.statement_words.StatementWord.TheVariants as word;
+ghost use Rattle.terms.specs.declared.kinds.HoldKind.TheVariants.{System};
+ghost use Rattle.terms.specs.Types.{Hold as AnyHold};
+ghost use Rattle.terms.specs.Words as grammar;
+ghost use Rattle.terms.specs.Statement.{Piece, HasSolid};
+ghost use Rattle.terms.specs.Statements.{IsOwnHoldOf};
+ghost use Rattle.operands.specs.Failing.{Excludes};
+ghost use Rattle.rec80.specs.Views.{left_of};
+ghost use Rattle.statements.specs.KnownWords.{own_list};
+ghost use Rattle.statements.specs.Holds.{ArePrintable};
+ghost use Rattle.mcs.specs.Files.{begun_in};
+ghost use Rattle.mcs.specs.Said.{IsSaid, IsSaidError};
+ghost use Rattle.mcs.specs.Statements.{statement_of};
+
+use crate::file::Begun;
+use crate::said::Statement;
+use operands::OperandError;
+use statements::{Known, StatementError, has_short_comment, no_value, read_hold};
+use std::alloc::Global;
+use sysmods::{Hold, HoldKind, Sysmod};
+use terms::McCode;
+
+/// Whether it is a SYSTEM hold of the SYSMOD.
+fn is_own(sysmod: &Sysmod, hold: &Hold) -> bool
+    ensures { IsTrue result ↔ ((hold.now.kind ≡ System) × (hold.now.id ≡ sysmod.now.id)) }
+{
+    matches!(hold.kind, HoldKind::System) && hold.id == sysmod.id
+}
+
+/// The `++HOLD` of the SYSMOD.
+fn read_own_hold(alloc: Global, sysmod: &Sysmod, known: &Known<'_>) -> Result<Hold, OperandError>
+    ensures ok { (rest : List Piece) → HasSolid (left_of known.now.rest) rest
+        → IfOk result (λ h. (ws : List grammar.Word) × grammar.HasWords rest ws × IsOwnHoldOf sysmod.now (own_list known.now) ws h) }
+    ensures bad { (rest : List Piece) → HasSolid (left_of known.now.rest) rest → ArePrintable rest
+        → IfErr result (λ e. Excludes e ((h : AnyHold) × ((ws : List grammar.Word) × grammar.HasWords rest ws × IsOwnHoldOf sysmod.now (own_list known.now) ws h))) }
+{
+    let hold = match read_hold(alloc, known, true) {
+        Ok(hold) => hold,
+        Err(error) => return Err(error),
+    };
+    if !is_own(sysmod, &hold) {
+        return Err(OperandError::Bad);
+    }
+    Ok(hold)
+}
+
+/// What a `++HOLD` says.
+pub fn hold_statement(
+    alloc: Global,
+    current: &Option<Begun>,
+    known: &Known<'_>,
+) -> Result<Statement, StatementError>
+    requires { known.now.word ≡ word.Hold }
+    ensures said { (rest : List Piece) → HasSolid (left_of known.now.rest) rest
+        → IfOk result (λ s. IsSaid (begun_in current.now) known.now.word (own_list known.now) rest known.now.rest.inline.now (statement_of s)) }
+    ensures fault { (rest : List Piece) → HasSolid (left_of known.now.rest) rest → ArePrintable rest
+        → IfErr result (IsSaidError (begun_in current.now) known.now.word (own_list known.now) rest known.now.rest.inline.now) }
+{
+    let Some(begun) = current else {
+        return Err(StatementError::Fault(McCode::Mc3));
+    };
+    let hold = match read_own_hold(alloc, &begun.sysmod, known) {
+        Ok(hold) => hold,
+        Err(error) => return Err(no_value(error)),
+    };
+    if !has_short_comment(&hold) {
+        return Err(StatementError::Fault(McCode::Mc6));
+    }
+    Ok(Statement::Hold(hold))
+}
