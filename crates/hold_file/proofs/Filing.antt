@@ -1,6 +1,6 @@
 -- Items, one by one.
-use Rattle.std.proofs.Common.{◌≡◌, ◌<◌, ℕ, List, [], ◌∷◌, ◌++◌, length, refl, sym, ◌∙◌, ap, subst, arith, length-append, inl, inr, Result, Ok, Err}
-use Rattle.std.specs.Prelude.{All, map, IfOk, IfErr}
+use Rattle.std.proofs.Common.{◌≡◌, ◌<◌, ℕ, List, [], ◌∷◌, ◌++◌, length, refl, sym, ap, subst, arith, length-append, inr, Result, Ok, Err}
+use Rattle.std.specs.Prelude.{All, IfOk, IfErr}
 use Rattle.terms.specs.declared.codes.McCode.{McCode}
 use Rattle.terms.specs.Types as terms
 use Rattle.terms.specs.Types.{Lines}

@@ -1,7 +1,6 @@
 -- What a statement of a hold file says, and what is at fault with it.
-use Rattle.std.proofs.Common.{◌≡◌, ◌≢◌, Bool, false, List, [], Option, Result, Ok, Err, sym, ◌∙◌, ap, subst}
-use Rattle.std.specs.Prelude.{All, IfOk, IfErr}
-use Rattle.terms.specs.declared.codes.McCode.{McCode}
+use Rattle.std.proofs.Common.{◌≡◌, ◌≢◌, false, List, [], Option, Result, Ok, Err, sym, subst}
+use Rattle.std.specs.Prelude.{IfOk, IfErr}
 use Rattle.terms.specs.declared.codes.McCode.TheVariants.{Mc1, Mc2, Mc3, Mc4, Mc5, Mc6}
 use Rattle.terms.specs.declared.statement_words.StatementWord.{StatementWord}
 use Rattle.terms.specs.declared.statement_words.StatementWord.TheVariants as word

@@ -3,6 +3,8 @@
 
 mod file;
 mod item;
+#[cfg(test)]
+mod tests;
 
 pub use file::read_hold_file;
 pub use item::HoldItem;

@@ -1,11 +1,11 @@
 -- What ++HOLD and ++RELEASE say, from their key.
-use Rattle.std.proofs.Common.{◌≡◌, List, Option, subst}
+use Rattle.std.proofs.Common.{List, Option, subst}
 use Rattle.terms.specs.declared.kinds.HoldKind.{HoldKind}
 use Rattle.terms.specs.Types.{Text, Hold, Release}
 use Rattle.terms.specs.Forms.{IsReason}
 use Rattle.terms.specs.Words.{Word}
 use Rattle.terms.specs.Operands.{AreOperands, HasRequired}
-use Rattle.terms.specs.HoldStatements.{HasKind, IsHoldOf, IsReleaseOf, hold_operands, release_operands}
+use Rattle.terms.specs.HoldStatements.{HasKind, IsHoldOf, IsReleaseOf, release_operands}
 use Rattle.terms.proofs.ExactHolds.{kind-only}
 use Rattle.statements.specs.Holds.{HasKey}
 

@@ -1,5 +1,5 @@
 -- What records have is printable, and so is each list of a statement.
-use Rattle.std.proofs.Common.{◌≡◌, Bool, true, false, ℕ, List, [], ◌∷◌, ◌++◌, drop, Option, Some, None, refl, sym, ◌∙◌, ap, subst, cond, arith, ◌≤◌, ◌&&◌, ◌==◌}
+use Rattle.std.proofs.Common.{◌≡◌, Bool, true, false, List, [], ◌∷◌, ◌++◌, drop, Option, Some, None, sym, subst, cond, arith, ◌&&◌, ◌==◌}
 use Rattle.std.specs.Prelude.{All, IfSome, slice_index, if◌then◌else◌}
 use Rattle.std.specs.List.{flat_map}
 use Rattle.std.specs.Str.{bytes_eq}
@@ -7,7 +7,7 @@ use Rattle.std.proofs.lemmas.List.Elements.{All-nil, All-cons, All-head, All-tai
 use Rattle.terms.specs.declared.statement_words.StatementWord.{StatementWord}
 use Rattle.terms.specs.Types.{Text, Lines}
 use Rattle.terms.specs.Records.{IsPrintable, IsRecord, front}
-use Rattle.terms.specs.Statement.{Piece, TheWord, TheList, Blank, Comment, Stray, followed, joined, behind_close, TakesPiece, HasPieces, is_solid, solid, IsStatement}
+use Rattle.terms.specs.Statement.{Piece, TheWord, TheList, Blank, Comment, Stray, followed, joined, behind_close, TakesPiece, HasPieces, is_solid}
 use Rattle.terms.specs.Statements.{statement_text}
 use Rattle.terms.specs.Words.{Word, word_pieces, list_pieces, HasWords}
 use Rattle.terms.specs.Operands.{operand}

@@ -1,7 +1,7 @@
 use Rattle.std.proofs.Common.{sym, subst}
 use Rattle.terms.specs.HoldFile.{BeginsWithItems}
 use Rattle.rec80.specs.Views.{group_of}
-use Rattle.hold_file.specs.Items.{item_of, items}
+use Rattle.hold_file.specs.Items.{items}
 use Rattle.hold_file.proofs.Filing.{items_more, rest_fault, group_records}
 use Rattle.hold_file.proofs.file.read_items.Goals as goal
 

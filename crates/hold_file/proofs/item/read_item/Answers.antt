@@ -1,4 +1,4 @@
-use Rattle.std.proofs.Common.{◌≡◌, [], length, rules, ap}
+use Rattle.std.proofs.Common.{◌≡◌, length, rules, ap}
 use Rattle.std.proofs.lemmas.List.{nil_from_length}
 use Rattle.statements.specs.KnownWords.{own_list}
 use Rattle.statements.proofs.Printables.{known_printable}

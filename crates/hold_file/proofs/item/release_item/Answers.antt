@@ -1,4 +1,3 @@
-use Rattle.terms.specs.HoldStatements.{IsReleaseOf}
 use Rattle.statements.specs.KnownWords.{own_list}
 use Rattle.hold_file.proofs.Judging.{release_value, no_release}
 use Rattle.hold_file.proofs.item.release_item.Goals as goal

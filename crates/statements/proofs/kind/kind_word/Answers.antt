@@ -1,9 +1,7 @@
-use Rattle.std.proofs.Common.{sym, subst, List}
+use Rattle.std.proofs.Common.{sym, subst}
 use Rattle.terms.specs.declared.kinds.HoldKind.TheVariants.{Error, System, User}
-use Rattle.terms.specs.Words.{Word}
 use Rattle.terms.specs.Operands.{HasFlag}
-use Rattle.operands.specs.Left.{LeavesWords}
-use Rattle.statements.proofs.KindWords.{HasFlags, kind_is, kind_none, kind_flag, is_kind}
+use Rattle.statements.proofs.KindWords.{kind_is, kind_none, kind_flag, is_kind}
 use Rattle.statements.proofs.kind.kind_word.Goals as goal
 
 pub returns-in_default-clause-none : goal.returns-in_default-clause-none
