@@ -10,8 +10,8 @@ use Rattle.store.specs.declared.change.GlobalEdit.TheVariants.{PutHold, RemoveHo
 use Rattle.store.specs.Changes.{with_hold, EachFits, after_edits}
 use Rattle.receiving.specs.Edits.{release_answer, release_edits}
 use Rattle.receiving.specs.External.{IsExternal}
-use Rattle.receiving.specs.HoldItems.{item_of, items}
-use Rattle.receiving.specs.declared.hold_item.HoldItem.{HoldItem}
+use Rattle.hold_file.specs.Items.{item_of, items}
+use Rattle.hold_file.specs.declared.item.HoldItem.{HoldItem}
 use Rattle.receiving.proofs.Fitting.{fits-none, fits-one}
 
 -- the hold that is written has its mark already

@@ -1,4 +1,3 @@
 pub mod Edits
 pub mod External
-pub mod HoldItems
 pub mod Taken

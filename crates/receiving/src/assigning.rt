@@ -8,10 +8,10 @@ ghost use Rattle.report.specs.Views.{place_view, status_view};
 ghost use Rattle.receiving.specs.Edits.{head_of, source_edits};
 ghost use Rattle.receiving.specs.Taken.{IsTaken};
 
-use crate::assign::Assign;
 use crate::taken::Taken;
 use fields::{Id, Source};
 use global::Global;
+use mcs::Assign;
 use report::{Line, Place, Status};
 use std::alloc::{AllocError, Global as Heap};
 use store::GlobalEdit;

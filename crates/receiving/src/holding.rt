@@ -10,13 +10,13 @@ ghost use Rattle.report.specs.Views.{line_view, status_view};
 ghost use Rattle.store.specs.Changes.{EachFits, after_edits};
 ghost use Rattle.receiving.specs.Edits.{release_answer, release_edits};
 ghost use Rattle.receiving.specs.External.{IsExternal};
-ghost use Rattle.receiving.specs.HoldItems.{item_of, items};
+ghost use Rattle.hold_file.specs.Items.{item_of, items};
 ghost use Rattle.receiving.specs.Taken.{IsTaken};
 
-use crate::hold_item::{HoldItem, Release};
 use crate::taken::Taken;
 use fields::{Id, Reason};
 use global::{Global, Placed, ReleaseError};
+use hold_file::{HoldItem, Release};
 use report::{Line, Place, Status};
 use std::alloc::{AllocError, Global as Heap};
 use store::GlobalEdit;

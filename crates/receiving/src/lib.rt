@@ -1,17 +1,14 @@
 //! RECEIVE: what the items of a PTFIN and of a hold file make of the global zone, and what is printed of each.
 #![tactic(auto)]
 
-mod assign;
 mod assigning;
 mod edits;
-mod hold_item;
 mod holding;
 mod taken;
 mod taking;
 #[cfg(test)]
 mod tests;
 
-pub use hold_item::{HoldItem, Release};
 pub use holding::receive_holds;
 pub use taken::Taken;
 pub use taking::receive;

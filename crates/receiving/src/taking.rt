@@ -9,6 +9,7 @@ ghost use Rattle.store.specs.Changes.{EachFits, after_edits};
 ghost use Rattle.receiving.specs.Edits.{answer_of};
 ghost use Rattle.receiving.specs.Taken.{IsTaken};
 
+use crate::assigning::take_assign;
 use crate::edits::write_received;
 use crate::taken::Taken;
 use fields::Source;
@@ -76,6 +77,7 @@ fn take_item(
 {
     match item {
         Item::Sysmod(sysmod) => take_sysmod(alloc, global, sysmod, source, taken),
+        Item::Assign(assign) => take_assign(alloc, global, assign, taken),
     }
 }
 

@@ -1,16 +1,15 @@
 //! A PTFIN that is received, with a source, and then a hold file.
 ghost use Rattle.std.specs.Prelude.{All, IfOk};
 ghost use Rattle.receiving.specs.External.{IsExternal};
-ghost use Rattle.receiving.specs.HoldItems.{item_of, items};
+ghost use Rattle.hold_file.specs.Items.{item_of, items};
 
-use crate::assign::Assign;
 use crate::assigning::take_assign;
-use crate::hold_item::{HoldItem, Release};
 use crate::taken::Taken;
 use crate::{receive, receive_holds};
 use fields::{Id, Reason, Source};
 use global::Global;
-use mcs::read_ptfin;
+use hold_file::{HoldItem, Release};
+use mcs::{Assign, read_ptfin};
 use report::{Line, Status};
 use std::alloc::{AllocError, Global as Heap};
 use std::test::Fail;

@@ -1,5 +1,5 @@
 use Rattle.machine.specs.Receiving.{TakesHoldItem}
-use Rattle.receiving.specs.HoldItems.{items}
+use Rattle.hold_file.specs.Items.{items}
 use Rattle.machine.specs.Runs.{Runs}
 use Rattle.receiving.proofs.Items.{all-printed, all-fit, all-after}
 use Rattle.receiving.proofs.holding.receive_holds.Goals as goal

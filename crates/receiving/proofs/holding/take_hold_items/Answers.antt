@@ -4,7 +4,7 @@ use Rattle.std.proofs.lemmas.List.{map-append}
 use Rattle.machine.specs.Runs.{Runs}
 use Rattle.machine.specs.Receiving.{TakesHoldItem}
 use Rattle.receiving.specs.External.{IsExternal}
-use Rattle.receiving.specs.HoldItems.{item_of, items}
+use Rattle.hold_file.specs.Items.{item_of, items}
 use Rattle.receiving.specs.Taken.{IsTaken}
 use Rattle.receiving.proofs.Items.{none_taken, more_taken}
 use Rattle.receiving.proofs.Holds.{next-external}

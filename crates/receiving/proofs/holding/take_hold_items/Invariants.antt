@@ -2,7 +2,7 @@ use Rattle.std.proofs.Common.{◌≡◌, ◌++◌, length}
 use Rattle.std.specs.Vec.Iter.{into_iter_items, into_iter_len}
 use Rattle.machine.specs.Runs.{Runs}
 use Rattle.machine.specs.Receiving.{TakesHoldItem}
-use Rattle.receiving.specs.HoldItems.{items}
+use Rattle.hold_file.specs.Items.{items}
 use Rattle.receiving.specs.Taken.{IsTaken}
 use Rattle.receiving.proofs.holding.take_hold_items.Given as goal
 
