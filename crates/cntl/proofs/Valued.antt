@@ -2,7 +2,7 @@
 use Rattle.std.proofs.Common.{◌≡◌, ◌∙◌, ◌<◌, List, [], ◌∷◌, length, Option, Some, None, sym, ap, subst, arith}
 use Rattle.std.specs.Prelude.{IsSomeAnd, option_map}
 use Rattle.terms.specs.Types.{Text}
-use Rattle.terms.specs.Words.{Word, HasMembers, plain}
+use Rattle.terms.specs.Words.{IsShort, Word, HasMembers, plain}
 use Rattle.terms.specs.Operands.{HasOne, HasSorted, HasRequired, HasOptional}
 use Rattle.terms.specs.CommandForms.{HasShort}
 use Rattle.terms.proofs.ExactOperands.{members_one, has_member, one_of, has_sorted-only}
@@ -10,6 +10,10 @@ use Rattle.terms.proofs.ExactOperands.{members_one, has_member, one_of, has_sort
 -- the found operand is that word
 pub found_is : {X : Type 0} (view : X → Word) (found : Option X) (x : X) (named : Option Word) → found ≡ Some x → option_map view found ≡ named → named ≡ Some (view x)
 found_is view found x named is same = sym same ∙ ap (option_map view) is
+
+-- a list above the limit
+pub too_long : (form : Text → Type 0) (w : Word) (list : List Text) → HasSorted form w list → 1000 < length list → ((others : List Text) × (HasSorted form w others × IsShort others)) → ⊥
+too_long form w list h long x = omega (arith, long, x.1.1, ap length (has_sorted-only form w x.0 list x.1.0 h))
 
 module _ (form : Text → Type 0) (named : Option Word) (w : Word) (is : named ≡ Some w) where
   pub required : (m v : Text) → IsSomeAnd w.list (λ text. HasMembers text (plain m ∷ [])) → form m → v ≡ m → HasRequired form named v
@@ -41,8 +45,6 @@ module _ (form : Text → Type 0) (named : Option Word) (w : Word) (is : named �
       let k = has_member form w.list s.0 s.1 in
       none (subst form (members_one w.list s.0 m k.0 h) k.1)
 
-  -- a list above the limit
+  -- where a list may be absent
   pub no_short : (list : List Text) → HasSorted form w list → 1000 < length list → ((others : List Text) × HasShort form named others) → ⊥
-  no_short list h long x =
-      let same = has_sorted-only form w x.0 list (subst (λ n. HasShort form n x.0) is x.1).0 h in
-      omega (arith, long, x.1.1, ap length same)
+  no_short list h long x = too_long form w list h long (x.0, subst (λ n. HasShort form n x.0) is x.1)

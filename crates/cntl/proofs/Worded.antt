@@ -1,15 +1,13 @@
 -- The word that a command begins with, by what was read.
 use Rattle.std.proofs.Common.{◌≡◌, ◌≢◌, false, IsTrue, List, [], ◌∷◌, Option, Some, None, refl, sym, ◌∙◌, ap}
 use Rattle.std.specs.Prelude.{IfSome, IfNone}
-use Rattle.std.proofs.lemmas.Bool.{true≢false}
 use Rattle.terms.specs.declared.codes.CommandWord.{CommandWord}
-use Rattle.terms.specs.declared.codes.CommandWord.TheVariants as word
 use Rattle.terms.specs.Types.{Text}
 use Rattle.terms.specs.Spelling.{word_text}
 use Rattle.terms.specs.Statement.{Piece, TheWord, HasSolid}
 use Rattle.terms.specs.CommandForms.{is_known}
 use Rattle.terms.specs.Commands.{is_unchosen, BeginsWith}
-use Rattle.terms.proofs.CommandLines.{word-only, same_text}
+use Rattle.terms.proofs.CommandLines.{same_text}
 use Rattle.rec80.specs.declared.piece.Piece.{Piece as Read}
 use Rattle.rec80.specs.declared.piece.Piece.TheVariants.{Word as ReadWord, List as ReadList, Stray as ReadStray}
 use Rattle.rec80.specs.Pieces.{piece_of}
@@ -28,29 +26,15 @@ no_word (ReadStray b) other t ps qs e = cc (e)
 known_is : (w : KnownWord) → IsTrue (is_known (command_word_of w))
 known_is known.Set = refl
 known_is known.Receive = refl
+known_is known.Reject = refl
 known_is known.Apply = refl
 
 -- RESTORE, which alone chooses between two operands, is not known.
 pub chosen : (w : KnownWord) (rest : List Piece) → is_unchosen (command_word_of w) rest ≡ false
 chosen known.Set rest = refl
 chosen known.Receive rest = refl
+chosen known.Reject rest = refl
 chosen known.Apply rest = refl
-
-unknown : (w : CommandWord) → (w ≡ word.Set → ⊥) → (w ≡ word.Receive → ⊥) → (w ≡ word.Apply → ⊥) → is_known w ≡ false
-unknown word.Set set receive apply = absurd (set refl)
-unknown word.Receive set receive apply = absurd (receive refl)
-unknown word.Apply set receive apply = absurd (apply refl)
-unknown word.Reject set receive apply = refl
-unknown word.Accept set receive apply = refl
-unknown word.Restore set receive apply = refl
-unknown word.List set receive apply = refl
-unknown word.Report set receive apply = refl
-
--- the word of a command that is not known is that of no known one
-pub other_word : (w : CommandWord) (text : Text) → word_text w ≡ text → (w ≡ word.Set → ⊥) → (w ≡ word.Receive → ⊥) → (w ≡ word.Apply → ⊥)
-    → (other : CommandWord) → IsTrue (is_known other) → word_text other ≢ text
-other_word w text is set receive apply other is_one same =
-    true≢false (sym is_one ∙ ap is_known (word-only other w (same ∙ sym is)) ∙ unknown w set receive apply)
 
 -- the text begins with that word
 abbrev Begins : Text → Text → Text → Type 0

@@ -3,16 +3,18 @@ use Rattle.terms.specs.declared.codes.CommandWord.{CommandWord}
 use Rattle.terms.specs.declared.codes.CommandWord.TheVariants as word
 use Rattle.terms.specs.Types as terms
 use Rattle.cntl.specs.declared.command.Command.{Command}
-use Rattle.cntl.specs.declared.command.Command.TheVariants.{Set, Receive, Apply}
+use Rattle.cntl.specs.declared.command.Command.TheVariants.{Set, Receive, Reject, Apply}
 use Rattle.cntl.specs.declared.known_word.KnownWord.{KnownWord}
 use Rattle.cntl.specs.declared.known_word.KnownWord.TheVariants as known
 
 abbrev pub command_word_of : KnownWord → CommandWord
 command_word_of known.Set = word.Set
 command_word_of known.Receive = word.Receive
+command_word_of known.Reject = word.Reject
 command_word_of known.Apply = word.Apply
 
 abbrev pub command_of : Command → terms.Command
 command_of (Set zone) = terms.Set zone
 command_of (Receive what) = terms.Receive what
+command_of (Reject ids) = terms.Reject ids
 command_of (Apply install) = terms.Apply install

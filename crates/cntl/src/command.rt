@@ -1,19 +1,21 @@
 use fields::{IdList, Source, SourceList, ZoneName};
 use std::marker::Model;
 
-/// What RECEIVE takes in: PTFIN alone as yet. It adds the source to SYSMODs.
+/// What RECEIVE reads: PTFIN for `sysmods`, the hold file for `holddata`, one of them or both. It adds
+/// the source to SYSMODs.
 #[derive(Drop)]
 pub struct ReceiveWhat {
+    pub sysmods: bool,
+    pub holddata: bool,
     pub source: Option<Source>,
 }
 
 impl Model for ReceiveWhat {
-    ghost use Rattle.std.specs.Prelude.{true, false};
     ghost use Rattle.terms.specs.Types as terms;
 
     ghost Value = { terms.ReceiveWhat };
 
-    ghost view = { λ a. record { sysmods = true; holddata = false; source = a.source } };
+    ghost view = { λ a. record { sysmods = a.sysmods; holddata = a.holddata; source = a.source } };
 }
 
 /// What APPLY chooses. An operand that is absent is an empty list.
@@ -60,5 +62,6 @@ impl Model for Install {
 pub enum Command {
     Set(ZoneName),
     Receive(ReceiveWhat),
+    Reject(IdList),
     Apply(Install),
 }

@@ -9,7 +9,7 @@ ghost use Rattle.cntl.specs.Views.{command_word_of, command_of};
 
 use crate::command::{Command, Install, ReceiveWhat, Selection};
 use crate::known_word::KnownWord;
-use crate::values::{flag_of, id_list, source, source_list, zone};
+use crate::values::{flag_of, id_list, some_ids, source, source_list, zone};
 use operands::{BadOperand, OperandError};
 use rec80::Words;
 use std::alloc::Global;
@@ -18,11 +18,13 @@ fn receive(words: &Words<'_>) -> Result<ReceiveWhat, BadOperand>
     ensures ok { (ws : List grammar.Word) → LeavesWords words.now ws → IfOk result (λ what. HasReceive ws what) }
     ensures bad { (ws : List grammar.Word) → LeavesWords words.now ws → OnErr result ((what : terms.ReceiveWhat) → HasReceive ws what → ⊥) }
 {
-    if !flag_of(words, b"SYSMODS")? {
-        return Err(BadOperand);
-    }
+    let sysmods = flag_of(words, b"SYSMODS")?;
+    let holddata = flag_of(words, b"HOLDDATA")?;
+    let source = source(words)?;
     Ok(ReceiveWhat {
-        source: source(words)?,
+        sysmods: sysmods || !holddata,
+        holddata: holddata || !sysmods,
+        source,
     })
 }
 
@@ -76,6 +78,7 @@ pub fn read_operands(
     match word {
         KnownWord::Set => Ok(Command::Set(zone(words)?)),
         KnownWord::Receive => Ok(Command::Receive(receive(words)?)),
+        KnownWord::Reject => Ok(Command::Reject(some_ids(alloc, words, b"SELECT")?)),
         KnownWord::Apply => Ok(Command::Apply(install(alloc, words)?)),
     }
 }

@@ -13,6 +13,7 @@ use terms::CommandWord;
 pub enum KnownWord {
     Set,
     Receive,
+    Reject,
     Apply,
 }
 
@@ -24,6 +25,7 @@ pub fn read_known(text: &[u8]) -> Option<KnownWord>
     match read_word(text)? {
         CommandWord::Set => Some(KnownWord::Set),
         CommandWord::Receive => Some(KnownWord::Receive),
+        CommandWord::Reject => Some(KnownWord::Reject),
         CommandWord::Apply => Some(KnownWord::Apply),
         _ => None,
     }

@@ -25,7 +25,8 @@ pub fn operands_of(word: KnownWord) -> &'static [&'static [u8]]
 {
     match word {
         KnownWord::Set => &[b"BDY"],
-        KnownWord::Receive => &[b"SYSMODS", b"SOURCEID"],
+        KnownWord::Receive => &[b"SYSMODS", b"HOLDDATA", b"SOURCEID"],
+        KnownWord::Reject => &[b"SELECT"],
         KnownWord::Apply => INSTALL,
     }
 }

@@ -12,47 +12,79 @@ fn card(text: &str) -> Record {
     card
 }
 
-/// The first fault of two cards: its record and its code. 0 and `Cn5` where there is none.
-fn fault(alloc: Global, first: &str, second: &str) -> Result<(usize, CnCode), Fail> {
+/// The record and the code of the first fault of two cards.
+fn fault(alloc: Global, first: &str, second: &str) -> Result<Option<(usize, CnCode)>, Fail> {
     let cards = [card(first), card(second)];
     match read_cntl(alloc, cards.as_flattened()) {
-        Ok(_) => Ok((0, CnCode::Cn5)),
-        Err(CntlError::Fault { number, code }) => Ok((number, code)),
+        Ok(_) => Ok(None),
+        Err(CntlError::Fault { number, code }) => Ok(Some((number, code))),
         Err(CntlError::Memory) => Err("memory".into()),
     }
 }
 
 #[test]
 fn faults(rt: HostRuntime) -> Result<(), Fail> {
-    for (first, second, number, code) in [
-        ("SET BDY(TGT1).", "APPLY CHECK.", 0, CnCode::Cn5),
-        (" , RECEIVE /* , */ ,(A).", "", 1, CnCode::Cn2),
-        ("RECEIVE SOURCEID(A).", "", 1, CnCode::Cn2),
-        ("RECEIVE SYSMODS HOLDDATA.", "", 1, CnCode::Cn2),
-        ("SET BDY(TGT1).", "APPLY!.", 2, CnCode::Cn2),
-        ("SET BDY(1).", "", 1, CnCode::Cn2),
-        ("SET BDY(A) BDY.", "", 1, CnCode::Cn3),
-        ("APPLY CHECK - CHECK.", "", 1, CnCode::Cn3),
-        ("APPLY NEW NEW.", "", 1, CnCode::Cn2),
-        ("APPLY SELECT(UA00001 UA00001).", "", 1, CnCode::Cn2),
-        ("APPLY SELECT(UA0001).", "", 1, CnCode::Cn2),
-        ("APPLY SELECT.", "", 1, CnCode::Cn2),
-        ("APPLY CHECK(A).", "", 1, CnCode::Cn2),
-        ("APPLY(A) CHECK.", "", 1, CnCode::Cn2),
-        ("/* between", "*/ APPLY NO.", 2, CnCode::Cn2),
-        ("UNDO NO.", "LIST", 1, CnCode::Cn1),
-        (".", "", 1, CnCode::Cn1),
-        ("(APPLY).", "", 1, CnCode::Cn1),
-        ("APPLY. APPLY.", "", 1, CnCode::Cn5),
-        ("APPLY.", "/* open", 2, CnCode::Cn5),
-        ("APPLY.", "APPLY NO", 2, CnCode::Cn5),
-        ("ACCEPT CHECK CHECK.", "", 1, CnCode::Cn1),
-        ("APPLY.", "RESTORE SELECT(UA00001).", 2, CnCode::Cn1),
-        ("LIST.", "", 1, CnCode::Cn1),
+    for (first, second, wanted) in [
+        ("SET BDY(TGT1).", "APPLY CHECK.", None),
+        (" , RECEIVE /* , */ ,(A).", "", Some((1, CnCode::Cn2))),
+        ("RECEIVE SYSMODS SYSMODS.", "", Some((1, CnCode::Cn3))),
+        ("RECEIVE SYSMODS(A).", "", Some((1, CnCode::Cn2))),
+        ("RECEIVE SOURCEID(A B).", "", Some((1, CnCode::Cn2))),
+        ("RECEIVE SELECT(UA00001).", "", Some((1, CnCode::Cn2))),
+        ("REJECT SELECT(UA00001).", "REJECT.", Some((2, CnCode::Cn2))),
+        ("REJECT SELECT.", "", Some((1, CnCode::Cn2))),
+        ("REJECT GROUP(UA00001).", "", Some((1, CnCode::Cn2))),
+        ("REJECT SELECT(UA00001) CHECK.", "", Some((1, CnCode::Cn2))),
+        (
+            "REJECT SELECT(UA00001) SELECT(UA00002).",
+            "",
+            Some((1, CnCode::Cn3)),
+        ),
+        ("SET BDY(TGT1).", "APPLY!.", Some((2, CnCode::Cn2))),
+        ("SET BDY(1).", "", Some((1, CnCode::Cn2))),
+        ("SET BDY(A) BDY.", "", Some((1, CnCode::Cn3))),
+        ("APPLY CHECK - CHECK.", "", Some((1, CnCode::Cn3))),
+        ("APPLY NEW NEW.", "", Some((1, CnCode::Cn2))),
+        ("APPLY SELECT(UA00001 UA00001).", "", Some((1, CnCode::Cn2))),
+        ("APPLY SELECT(UA0001).", "", Some((1, CnCode::Cn2))),
+        ("APPLY SELECT.", "", Some((1, CnCode::Cn2))),
+        ("APPLY CHECK(A).", "", Some((1, CnCode::Cn2))),
+        ("APPLY(A) CHECK.", "", Some((1, CnCode::Cn2))),
+        ("/* between", "*/ APPLY NO.", Some((2, CnCode::Cn2))),
+        ("UNDO NO.", "LIST", Some((1, CnCode::Cn1))),
+        (".", "", Some((1, CnCode::Cn1))),
+        ("(APPLY).", "", Some((1, CnCode::Cn1))),
+        ("APPLY. APPLY.", "", Some((1, CnCode::Cn5))),
+        ("APPLY.", "/* open", Some((2, CnCode::Cn5))),
+        ("APPLY.", "APPLY NO", Some((2, CnCode::Cn5))),
+        ("ACCEPT CHECK CHECK.", "", Some((1, CnCode::Cn1))),
+        ("APPLY.", "RESTORE SELECT(UA00001).", Some((2, CnCode::Cn1))),
+        ("LIST.", "", Some((1, CnCode::Cn1))),
     ] {
-        let found = fault(rt.alloc(), first, second)?;
-        assert_eq!(rt; found.0, number, "{first}");
-        assert!(rt; found.1 == code, "{first}");
+        assert!(rt; fault(rt.alloc(), first, second)? == wanted, "{first}");
+    }
+    Ok(())
+}
+
+#[test]
+fn files_that_receive_reads(rt: HostRuntime) -> Result<(), Fail> {
+    for (text, sysmods, holddata) in [
+        ("RECEIVE.", true, true),
+        ("RECEIVE SOURCEID(A).", true, true),
+        ("RECEIVE HOLDDATA SYSMODS.", true, true),
+        ("RECEIVE SYSMODS.", true, false),
+        ("RECEIVE HOLDDATA.", false, true),
+    ] {
+        let read = read_cntl(rt.alloc(), &card(text)).map_err(|_| "read")?;
+        match read.as_slice() {
+            [Command::Receive(what)] => {
+                assert!(rt;
+                    what.sysmods == sysmods && what.holddata == holddata,
+                    "{text}"
+                );
+            }
+            _ => assert!(rt; false, "{text}"),
+        }
     }
     Ok(())
 }
@@ -64,6 +96,7 @@ fn commands(rt: HostRuntime) -> Result<(), Fail> {
         card("RECEIVE SYSMODS SOURCEID(PUT2401)."),
         card("APPLY SELECT(UA00002,"),
         card("UA00001) CHECK."),
+        card("REJECT SELECT(UA00003 UA00001)."),
     ];
     let read = read_cntl(rt.alloc(), cards.as_flattened()).map_err(|_| "read")?;
     match read.as_slice() {
@@ -71,12 +104,16 @@ fn commands(rt: HostRuntime) -> Result<(), Fail> {
             Command::Set(zone),
             Command::Receive(what),
             Command::Apply(install),
+            Command::Reject(ids),
         ] => {
             assert!(rt; zone.is_global());
             assert!(rt; what.source.is_some());
             assert!(rt; install.check && !install.selection.ptfs);
             assert_eq!(rt; install.selection.select.len(), 2);
             let first = install.selection.select.as_slice().first().ok_or("first")?;
+            assert_eq!(rt; first.as_bytes(), b"UA00001".as_slice());
+            assert_eq!(rt; ids.len(), 2);
+            let first = ids.as_slice().first().ok_or("first")?;
             assert_eq!(rt; first.as_bytes(), b"UA00001".as_slice());
         }
         _ => assert!(rt; false),

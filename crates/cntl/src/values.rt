@@ -2,14 +2,16 @@
 ghost use Rattle.std.specs.Prelude.{◌≡◌, ◌≤◌, ℕ, Bool, List, Option, codes, IfOk, IfErr, OnErr};
 ghost use Rattle.terms.specs.Forms.{IsId, IsSource, IsZoneName};
 ghost use Rattle.terms.specs.Words as grammar;
-ghost use Rattle.terms.specs.Operands.{operand, HasFlag, HasRequired, HasOptional};
-ghost use Rattle.terms.specs.CommandForms.{HasShort};
+ghost use Rattle.terms.specs.Words.{IsShort};
+ghost use Rattle.terms.specs.Operands.{operand, HasFlag, HasSorted, HasRequired, HasOptional};
+ghost use Rattle.terms.specs.CommandForms.{HasShort, HasSome};
+ghost use Rattle.rec80.specs.Views.{word_of};
 ghost use Rattle.operands.specs.Left.{LeavesWords};
 ghost use Rattle.operands.specs.Failing.{Excludes};
 
 use fields::{IdList, Source, SourceList, ZoneName};
 use operands::{BadOperand, OperandError, flag, ids, one_member, operand, sources};
-use rec80::Words;
+use rec80::{Word, Words};
 use std::alloc::Global;
 
 /// How many members a list may have.
@@ -57,19 +59,38 @@ pub fn source(words: &Words<'_>) -> Result<Option<Source>, BadOperand>
     Ok(Some(source))
 }
 
+/// The ids of the word's list, where they are no more than a list may have.
+fn short_ids(alloc: Global, word: &Word<'_>) -> Result<IdList, OperandError>
+    ensures ok { IfOk result (λ list. HasSorted IsId (word_of word.now) list × IsShort list) }
+    ensures bad { IfErr result (λ e. Excludes e ((list : List (List ℕ)) × (HasSorted IsId (word_of word.now) list × IsShort list))) }
+{
+    let list = ids(alloc, word)?;
+    if list.len() > MOST {
+        return Err(OperandError::Bad);
+    }
+    Ok(list)
+}
+
 /// The ids of an operand, none where it is absent.
 pub fn id_list(alloc: Global, words: &Words<'_>, name: &[u8]) -> Result<IdList, OperandError>
     ensures ok { (ws : List grammar.Word) → LeavesWords words.now ws → IfOk result (λ list. HasShort IsId (operand name.now ws) list) }
     ensures bad { (ws : List grammar.Word) → LeavesWords words.now ws → IfErr result (λ e. Excludes e ((list : List (List ℕ)) × HasShort IsId (operand name.now ws) list)) }
 {
-    let Some(word) = operand(words, name) else {
-        return Ok(IdList::new(alloc));
-    };
-    let list = ids(alloc, &word)?;
-    if list.len() > MOST {
-        return Err(OperandError::Bad);
+    match operand(words, name) {
+        Some(word) => short_ids(alloc, &word),
+        None => Ok(IdList::new(alloc)),
     }
-    Ok(list)
+}
+
+/// The ids of an operand that must be there.
+pub fn some_ids(alloc: Global, words: &Words<'_>, name: &[u8]) -> Result<IdList, OperandError>
+    ensures ok { (ws : List grammar.Word) → LeavesWords words.now ws → IfOk result (λ list. HasSome IsId (operand name.now ws) list) }
+    ensures bad { (ws : List grammar.Word) → LeavesWords words.now ws → IfErr result (λ e. Excludes e ((list : List (List ℕ)) × HasSome IsId (operand name.now ws) list)) }
+{
+    match operand(words, name) {
+        Some(word) => short_ids(alloc, &word),
+        None => Err(OperandError::Bad),
+    }
 }
 
 /// The sources of an operand, none where it is absent.
