@@ -1,0 +1,3 @@
+pub mod Dropping
+pub mod Ids
+pub mod Zones

@@ -1,0 +1,55 @@
+-- What the ids make of the global zone, and by which edits the tables follow.
+use Rattle.std.specs.Prelude.{◌≡◌, List, [], ◌∷◌, ◌++◌, map, filter, All}
+use Rattle.std.specs.List.{list_any}
+use Rattle.indexmap.specs.IndexMap.{IndexMap, values}
+use Rattle.terms.specs.declared.kinds.HoldKind.TheVariants.{System}
+use Rattle.terms.specs.Types.{Text, Id, Hold, Global, Zone, NamedZone}
+use Rattle.terms.specs.Lookups.{holds_of, is_applied}
+use Rattle.terms.specs.Global.{reject}
+use Rattle.machine.specs.Runs.{Runs}
+use Rattle.machine.specs.Receiving.{or_same}
+use Rattle.rejecting.specs.Rejecting.{reject_status, RejectsId}
+use Rattle.report.specs.declared.outcome.Status.{Status}
+use Rattle.report.specs.declared.outcome.Line.{Line}
+use Rattle.report.specs.Views.{line_view, status_view}
+use Rattle.store.specs.declared.change.GlobalEdit.{GlobalEdit}
+use Rattle.store.specs.declared.change.GlobalEdit.TheVariants.{RemoveHold, RemoveSysmod}
+use Rattle.store.specs.Changes.{Fits, after_edits}
+
+-- Some zone of the map has an id applied just where one of the named zones has.
+abbrev pub AppliesAlike : {S : Type 0} → IndexMap Text Zone S → List NamedZone → Type 0
+AppliesAlike zones named = (x : Id) → list_any (λ z. is_applied z.zone x) named ≡ list_any (λ zone. is_applied zone x) (values zones)
+
+abbrev pub removal : Hold → GlobalEdit
+removal h = RemoveHold h.id h.kind h.reason
+
+-- the SYSMOD, and then the internal holds on it
+abbrev pub edits_of : Global → Id → List GlobalEdit
+edits_of g x = RemoveSysmod x ∷ map removal (filter (λ h. h.internal) (holds_of g System x))
+
+-- It fits each global zone.
+abbrev pub FitsAlways : GlobalEdit → Type 0
+FitsAlways e = (g : Global) → Fits g e
+
+-- The id is rejected or refused, and the edits, behind those before, lead where it does.
+pub record IsAnswered {S : Type 0} (zones : IndexMap Text Zone S) (g : Global) (x : Id) (new : Global) (edits later : List GlobalEdit) (status : Status) : Type 0 where
+  pub own : List GlobalEdit
+  pub edits_are : later ≡ edits ++ own
+  pub fits : All FitsAlways own
+  pub after : after_edits own g ≡ new
+  pub leads : (named : List NamedZone) → AppliesAlike zones named → new ≡ or_same g (reject g named x)
+  pub told : (named : List NamedZone) → AppliesAlike zones named → status_view status ≡ reject_status (reject g named x)
+
+-- The ids lead from g to new, and print these lines. The edits lead there too.
+pub record AreRejected {S : Type 0} (zones : IndexMap Text Zone S) (g : Global) (ids : List Id) (new : Global) (edits : List GlobalEdit) (lines : List Line) : Type 0 where
+  pub runs : (named : List NamedZone) → AppliesAlike zones named → Runs (RejectsId named) g ids new (map line_view lines)
+  pub fits : All FitsAlways edits
+  pub after : after_edits edits g ≡ new
+
+-- One id, behind what was written and printed before.
+pub record IsRejected {S : Type 0} (zones : IndexMap Text Zone S) (g : Global) (x : Id) (new : Global) (edits later : List GlobalEdit) (lines printed : List Line) : Type 0 where
+  pub own : List GlobalEdit
+  pub edits_are : later ≡ edits ++ own
+  pub line : Line
+  pub lines_are : printed ≡ lines ++ line ∷ []
+  pub rejected : AreRejected zones g (x ∷ []) new own (line ∷ [])
