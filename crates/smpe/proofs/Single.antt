@@ -14,7 +14,7 @@ use Rattle.machine.specs.State.{State, ZoneDefinition, define_zone}
 use Rattle.machine.specs.Outcome.{ControlFault, Control}
 use Rattle.machine.specs.Report.{text}
 use Rattle.machine.specs.Machine as machine
-use Rattle.machine.specs.Machine.{Act, Begin, Perform, Faulty, Define, Prints, Job, RunFiles, NewZone, HasActs, AreFirstActs, RunsJob, Code, or_same, defined}
+use Rattle.machine.specs.Machine.{Files, Act, Begin, Perform, Faulty, Define, Prints, Job, RunFiles, NewZone, HasActs, AreFirstActs, RunsJob, Code, or_same, defined}
 use Rattle.machine.specs.Runs.{Stopped}
 use Rattle.schema.specs.declared.error.StoreError.{StoreError}
 use Rattle.schema.specs.declared.error.StoreError.TheVariants as store
@@ -54,10 +54,10 @@ module _ {S : Type 0} (g : Ghosts S) (at : Held S) (s : State) where
       let p = err_from_is_err_and r failed in
       subst (EndsJob g at s job a b answer) (sym (p.1 ∙ ap (λ y. Err y) p.2)) ends
 
-  module _ (date : Text) (cntl ptfin : List ℕ) where
+  module _ (date : Text) (cntl : List ℕ) (files : Files) where
     -- the command file is at fault, and that is reported
     pub faulty-ran : (fault : CntlFault) (old new : Option (List ℕ)) (code : ℕ) → IsCommandFileFault cntl fault → Keeps g at s → Appends old new (text (Control (control fault))) → code ≡ 12
-        → EndsJob g at s (RunFiles date cntl ptfin) old new Code (Ok code)
+        → EndsJob g at s (RunFiles date cntl files) old new Code (Ok code)
     faulty-ran fault old new code is keeps appends told = (
       unset s,
       flat_map text (Control (control fault) ∷ []),
@@ -75,10 +75,10 @@ module _ {S : Type 0} (g : Ghosts S) (at : Held S) (s : State) where
 
     -- the report of that broke off
     pub faulty-broke : (fault : CntlFault) (old new : Option (List ℕ)) → IsCommandFileFault cntl fault → Keeps g at s → WrotePart old new (text (Control (control fault)))
-        → EndsAmong g at s (RunFiles date cntl ptfin ∷ []) old new Write
+        → EndsAmong g at s (RunFiles date cntl files ∷ []) old new Write
     faulty-broke fault old new is keeps part = (
       Begin ∷ Faulty (control fault) ∷ [],
-      one-job (RunFiles date cntl ptfin) (Begin ∷ Faulty (control fault) ∷ []) (inr (fault, is, refl)),
+      one-job (RunFiles date cntl files) (Begin ∷ Faulty (control fault) ∷ []) (inr (fault, is, refl)),
       record {
         done = Begin ∷ [];
         last = Faulty (control fault);
@@ -99,24 +99,24 @@ module _ {S : Type 0} (g : Ghosts S) (at : Held S) (s : State) where
     )
 
     -- the job could not begin
-    pub unbegun : (cs : List Command) (taken : Option (List ℕ)) (e : StoreError) → IsCommandFile cntl cs → HasBegun g at s (Err e) → EndsAmong g at s (RunFiles date cntl ptfin ∷ []) taken taken (job_error e)
+    pub unbegun : (cs : List Command) (taken : Option (List ℕ)) (e : StoreError) → IsCommandFile cntl cs → HasBegun g at s (Err e) → EndsAmong g at s (RunFiles date cntl files ∷ []) taken taken (job_error e)
     unbegun cs taken e is begun =
-        (Begin ∷ map (Perform date ptfin) cs, one-job (RunFiles date cntl ptfin) (Begin ∷ map (Perform date ptfin) cs) (inl (cs, is, refl)), by_error e begun)
+        (Begin ∷ map (Perform date files) cs, one-job (RunFiles date cntl files) (Begin ∷ map (Perform date files) cs) (inl (cs, is, refl)), by_error e begun)
       where
-        by_error : (e : StoreError) → HasBegun g at s (Err e) → EndsEarly g at s (Begin ∷ map (Perform date ptfin) cs) taken taken (job_error e)
-        by_error store.Fault stays = stopped-first g at s Begin (map (Perform date ptfin) cs) taken stays
-        by_error store.Memory stays = stopped-first g at s Begin (map (Perform date ptfin) cs) taken stays
+        by_error : (e : StoreError) → HasBegun g at s (Err e) → EndsEarly g at s (Begin ∷ map (Perform date files) cs) taken taken (job_error e)
+        by_error store.Fault stays = stopped-first g at s Begin (map (Perform date files) cs) taken stays
+        by_error store.Memory stays = stopped-first g at s Begin (map (Perform date files) cs) taken stays
         by_error store.OtherSchema impossible = absurd impossible
         by_error store.NoState impossible = absurd impossible
 
     -- it began, and its commands ended so
     pub begun : (before : Held S) (session : Session) (cs : List Command) (old new : Option (List ℕ)) (r : Result ℕ JobError) → IsCommandFile cntl cs → Keeps g before s
-        → EndsCommands g at (unset s) session date ptfin cs old new r → EndsJob g at s (RunFiles date cntl ptfin) old new Code r
+        → EndsCommands g at (unset s) session date files cs old new r → EndsJob g at s (RunFiles date cntl files) old new Code r
     begun before session cs old new (Ok code) is keeps (t, outcomes, runs, of, stands, appends, told) = (
       t,
       flat_map text outcomes,
       record {
-        acts = Begin ∷ map (Perform date ptfin) cs;
+        acts = Begin ∷ map (Perform date files) cs;
         has_acts = inl (cs, is, refl);
         outcomes = outcomes;
         runs = (unset s, [], outcomes, (refl, refl), runs, refl);
@@ -127,9 +127,9 @@ module _ {S : Type 0} (g : Ghosts S) (at : Held S) (s : State) where
       appends,
     )
     begun before session cs old new (Err e) is keeps early = (
-      Begin ∷ map (Perform date ptfin) cs,
-      one-job (RunFiles date cntl ptfin) (Begin ∷ map (Perform date ptfin) cs) (inl (cs, is, refl)),
-      early-after g at s before (unset s) (Begin ∷ []) (map (Perform date ptfin) cs) [] old old new e
+      Begin ∷ map (Perform date files) cs,
+      one-job (RunFiles date cntl files) (Begin ∷ map (Perform date files) cs) (inl (cs, is, refl)),
+      early-after g at s before (unset s) (Begin ∷ []) (map (Perform date files) cs) [] old old new e
           (unset s, [], [], ([], (refl, refl), refl), (refl, refl), refl) keeps (Appends-nil old) early,
     )
 

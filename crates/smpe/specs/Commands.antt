@@ -8,7 +8,7 @@ use Rattle.terms.specs.Types.{Text, Command}
 use Rattle.machine.specs.State.{State}
 use Rattle.machine.specs.Outcome.{Outcome, job_code}
 use Rattle.machine.specs.Report.{text}
-use Rattle.machine.specs.Machine.{Perform, Steps}
+use Rattle.machine.specs.Machine.{Files, Perform, Steps}
 use Rattle.machine.specs.Runs.{Runs}
 use Rattle.schema.specs.declared.error.StoreError.{StoreError}
 use Rattle.schema.specs.declared.error.StoreError.TheVariants as store
@@ -27,9 +27,9 @@ job_error store.OtherSchema = Store store.OtherSchema
 job_error store.NoState = Store store.NoState
 
 -- The commands ran from s, with this as their greatest code, and the session is the job's at what they led to.
-abbrev pub EndsCommands : {S : Type 0} → Ghosts S → Held S → State → Session → Text → List ℕ → List Command → Option (List ℕ) → Option (List ℕ) → Result ℕ JobError → Type 0
-EndsCommands g at s session date ptfin commands old new (Ok code) =
-    (t : State) × (outcomes : List Outcome) × Runs Steps s (map (Perform date ptfin) commands) t outcomes
+abbrev pub EndsCommands : {S : Type 0} → Ghosts S → Held S → State → Session → Text → Files → List Command → Option (List ℕ) → Option (List ℕ) → Result ℕ JobError → Type 0
+EndsCommands g at s session date files commands old new (Ok code) =
+    (t : State) × (outcomes : List Outcome) × Runs Steps s (map (Perform date files) commands) t outcomes
     × IsSessionOf t session × Keeps g at t × Appends old new (flat_map text outcomes) × (code ≡ job_code outcomes)
-EndsCommands g at s session date ptfin commands old new (Err error) =
-    EndsEarly g at s (map (Perform date ptfin) commands) old new error
+EndsCommands g at s session date files commands old new (Err error) =
+    EndsEarly g at s (map (Perform date files) commands) old new error

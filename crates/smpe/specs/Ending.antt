@@ -20,7 +20,7 @@ use Rattle.smpe.specs.declared.jobs.Answer.TheVariants.{Code, Defined, Refused}
 
 -- the code's jobs and answers, as the machine has them
 abbrev pub job_of : Job → machine.Job
-job_of (Run date cntl ptfin) = machine.RunFiles date cntl.now ptfin.now
+job_of (Run date cntl ptfin hold) = machine.RunFiles date cntl.now (record { ptfin = ptfin.now; holds = hold.now })
 job_of (Zone name kind srel related) = machine.NewZone (definition name kind srel related)
 
 abbrev pub answer_of : Answer → machine.Answer

@@ -14,7 +14,7 @@ use crate::error::JobError;
 use cntl::{CntlError, Command, read_cntl};
 use fields::YyDdd;
 use report::{Outcome, Sink, write_report};
-use session::Session;
+use session::{Files, Session};
 use sqlite::Alter;
 use std::alloc::Global as Heap;
 use store::Store;
@@ -25,16 +25,16 @@ fn run_command<S: Alter, W: Sink>(
     session: &mut Session,
     store: &mut Store<S>,
     date: YyDdd,
-    ptfin: &[u8],
+    files: &Files<'_>,
     command: &Command,
     w: &mut W,
 ) -> Result<u8, JobError>
     ensures clean { HasCleanDisk (state S.Store store.new) → HasCleanDisk (state S.Store store.old) }
     ensures ended { HasCleanDisk (state S.Store store.new) → (s : State) → IsSessionOf s session.old → Keeps S.Store store.old s
-        → EndsCommands S.Store store.new s session.new date ptfin.now (command_of command.now ∷ []) (W.taken w.old) (W.taken w.new) result }
+        → EndsCommands S.Store store.new s session.new date files.now (command_of command.now ∷ []) (W.taken w.old) (W.taken w.new) result }
     ensures fault { W.has_failed w.old ≡ false → W.has_failed w.new ≡ is_write result }
 {
-    let outcome = session.perform(alloc, store, date, ptfin, command)?;
+    let outcome = session.perform(alloc, store, date, files, command)?;
     Ok(write_report(&outcome, w)?)
 }
 
@@ -44,24 +44,24 @@ fn run_commands<S: Alter, W: Sink>(
     session: &mut Session,
     store: &mut Store<S>,
     date: YyDdd,
-    ptfin: &[u8],
+    files: &Files<'_>,
     commands: &[Command],
     w: &mut W,
 ) -> Result<u8, JobError>
     ensures clean { HasCleanDisk (state S.Store store.new) → HasCleanDisk (state S.Store store.old) }
     ensures ended { HasCleanDisk (state S.Store store.new) → (s : State) → IsSessionOf s session.old → Keeps S.Store store.old s
-        → EndsCommands S.Store store.new s session.new date ptfin.now (map command_of commands.now) (W.taken w.old) (W.taken w.new) result }
+        → EndsCommands S.Store store.new s session.new date files.now (map command_of commands.now) (W.taken w.old) (W.taken w.new) result }
     ensures fault { W.has_failed w.old ≡ false → W.has_failed w.new ≡ is_write result }
 {
     let mut code: u8 = 0;
     for command in commands {
-        let next = run_command(alloc, session, store, date, ptfin, command, w)?;
+        let next = run_command(alloc, session, store, date, files, command, w)?;
         code = code.max(next);
     }
     Ok(code)
 }
 
-/// Performs the commands of a command file over a PTFIN, each committed first and reported after, and answers the
+/// Performs the commands of a command file over a PTFIN and a hold file, each committed first and reported after, and answers the
 /// highest return code.
 pub fn run_job<S: Alter, W: Sink>(
     alloc: Heap,
@@ -69,11 +69,12 @@ pub fn run_job<S: Alter, W: Sink>(
     date: YyDdd,
     cntl: &[u8],
     ptfin: &[u8],
+    hold: &[u8],
     w: &mut W,
 ) -> Result<u8, JobError>
     ensures clean { HasCleanDisk (state S.Store store.new) → HasCleanDisk (state S.Store store.old) }
     ensures ended { HasCleanDisk (state S.Store store.new) → (s : State) → Keeps S.Store store.old s
-        → EndsJob S.Store store.new s (RunFiles date cntl.now ptfin.now) (W.taken w.old) (W.taken w.new) Code result }
+        → EndsJob S.Store store.new s (RunFiles date cntl.now (record { ptfin = ptfin.now; holds = hold.now })) (W.taken w.old) (W.taken w.new) Code result }
     ensures fault { W.has_failed w.old ≡ false → W.has_failed w.new ≡ is_write result }
 {
     let commands = match read_cntl(alloc, cntl) {
@@ -84,5 +85,8 @@ pub fn run_job<S: Alter, W: Sink>(
         }
     };
     let mut session = Session::begin(alloc, store)?;
-    run_commands(alloc, &mut session, store, date, ptfin, &commands, w)
+    let files = Files { ptfin, holds: hold };
+    let ended = run_commands(alloc, &mut session, store, date, &files, &commands, w);
+    let Files { ptfin: _, holds: _ } = files;
+    ended
 }

@@ -18,13 +18,14 @@ use std::alloc::Global as Heap;
 use store::Store;
 use terms::ZoneKind;
 
-/// A command file over a PTFIN on a date, or a zone to define.
+/// A command file over a PTFIN and a hold file on a date, or a zone to define.
 #[derive(Clone, Copy)]
 pub enum Job<'a> {
     Run {
         date: YyDdd,
         cntl: &'a [u8],
         ptfin: &'a [u8],
+        hold: &'a [u8],
     },
     Zone {
         name: ZoneName,
@@ -76,8 +77,13 @@ fn run_one<S: Alter, W: Sink>(
     ensures fault { W.has_failed w.old ≡ false → W.has_failed w.new ≡ is_write result }
 {
     match *job {
-        Job::Run { date, cntl, ptfin } => {
-            let code = run_job(alloc, store, date, cntl, ptfin, w)?;
+        Job::Run {
+            date,
+            cntl,
+            ptfin,
+            hold,
+        } => {
+            let code = run_job(alloc, store, date, cntl, ptfin, hold, w)?;
             Ok(Answer::Code(code))
         }
         Job::Zone {
