@@ -12,7 +12,7 @@ use Rattle.terms.specs.Global.{IsGlobal, RejectFault, Rj1, Rj2, reject, without_
 use Rattle.machine.specs.Runs.{Runs}
 use Rattle.machine.specs.Receiving.{or_same}
 use Rattle.machine.proofs.Joined.{runs-append}
-use Rattle.rejecting.specs.Rejecting.{reject_status, RejectsId}
+use Rattle.machine.specs.Rejecting.{reject_status, RejectsId}
 use Rattle.report.specs.declared.outcome.Status.TheVariants.{Rejected}
 use Rattle.report.specs.declared.outcome.Line.{Line}
 use Rattle.report.specs.Views.{line_view}

@@ -1,2 +1,1 @@
-pub mod Rejecting
 pub mod Rejections

@@ -8,7 +8,7 @@ use Rattle.terms.specs.Lookups.{holds_of, is_applied}
 use Rattle.terms.specs.Global.{reject}
 use Rattle.machine.specs.Runs.{Runs}
 use Rattle.machine.specs.Receiving.{or_same}
-use Rattle.rejecting.specs.Rejecting.{reject_status, RejectsId}
+use Rattle.machine.specs.Rejecting.{reject_status, RejectsId}
 use Rattle.report.specs.declared.outcome.Status.{Status}
 use Rattle.report.specs.declared.outcome.Line.{Line}
 use Rattle.report.specs.Views.{line_view, status_view}

@@ -5,7 +5,7 @@ ghost use Rattle.terms.specs.Types.{NamedZone};
 ghost use Rattle.terms.specs.Lookups.{is_applied};
 ghost use Rattle.machine.specs.Runs.{Runs};
 ghost use Rattle.machine.specs.Receiving.{place_of};
-ghost use Rattle.rejecting.specs.Rejecting.{RejectsId};
+ghost use Rattle.machine.specs.Rejecting.{RejectsId};
 ghost use Rattle.report.specs.Views.{line_view, place_view};
 ghost use Rattle.store.specs.Changes.{EachFits, after_edits};
 ghost use Rattle.rejecting.specs.Rejections.{AppliesAlike, IsAnswered, IsRejected};
