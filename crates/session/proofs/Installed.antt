@@ -24,7 +24,7 @@ use Rattle.schema.specs.Inventory.{Inventory, IsInventory}
 use Rattle.machine.specs.Installing.{InstallsSelected}
 use Rattle.machine.specs.Outcome.{Refusal, Line, Ran, Refused, or_nothing}
 use Rattle.machine.specs.State.{State, zone_named, with_zone, misplaced}
-use Rattle.machine.specs.Machine.{Performs}
+use Rattle.machine.specs.Machine.{Files, Performs}
 use Rattle.store.specs.Kept.{kept}
 use Rattle.upkeep.proofs.ZonesKept.{stands_among}
 use Rattle.upkeep.proofs.InstallForms.{apply_kept}
@@ -114,10 +114,10 @@ module _ (s : State) (name : Text) (old new : Zone) (is : IsInventory (kept s)) 
   }
 
 -- what was planned, as the command's own words
-module _ (date : Text) (ptfin : List ℕ) (i : Install) (s : State) (at : Session) (name : Text) (zone : Zone) (target : IsTarget s at i name zone)
+module _ (date : Text) (files : Files) (i : Install) (s : State) (at : Session) (name : Text) (zone : Zone) (target : IsTarget s at i name zone)
     (sel : Selection) (delta : ZoneDelta) (new : Zone) (lines : List Line) (plan : IsPlan at.global zone sel date delta new lines) (here : IsSessionOf s at) (selection : i.selection ≡ sel) (bypass : i.bypass ≡ no_bypass) where
   pub install-performs : (check : Bool) (t : State) → i.check ≡ check → t ≡ (if check then s else with_zone s name new)
-      → Performs date ptfin s (Apply i) t (Ran (record { word = word.Apply; boundary = at.boundary; check = check }) lines)
+      → Performs date files s (Apply i) t (Ran (record { word = word.Apply; boundary = at.boundary; check = check }) lines)
   install-performs check t checks state = inr (
     target.fits,
     record {
@@ -143,9 +143,9 @@ module _ (date : Text) (ptfin : List ℕ) (i : Install) (s : State) (at : Sessio
       (subst (λ g. IsChanged (puts g date plan.kept) zone new) here.global (subst (λ d. IsChanged d zone new) plan.puts plan.changed))
 
 -- APPLY where it can't run
-pub install-refused : (date : Text) (ptfin : List ℕ) (i : Install) (s : State) (boundary : Option Text) (check : Bool) (why : Refusal) → boundary ≡ s.boundary → i.check ≡ check → misplaced s (Apply i) ≡ Some why
-    → Performs date ptfin s (Apply i) s (Refused (record { word = word.Apply; boundary = boundary; check = check }) why)
-install-refused date ptfin i s boundary check why same checks at = inl (
+pub install-refused : (date : Text) (files : Files) (i : Install) (s : State) (boundary : Option Text) (check : Bool) (why : Refusal) → boundary ≡ s.boundary → i.check ≡ check → misplaced s (Apply i) ≡ Some why
+    → Performs date files s (Apply i) s (Refused (record { word = word.Apply; boundary = boundary; check = check }) why)
+install-refused date files i s boundary check why same checks at = inl (
   why,
   at,
   refl,

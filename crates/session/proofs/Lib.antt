@@ -1,5 +1,9 @@
+mod AllZones
+mod Edits
 mod Installed
+mod Leading
 mod Places
 mod Received
+mod Rejected
 mod Seeking
 mod Stepping

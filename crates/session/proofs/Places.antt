@@ -5,12 +5,12 @@ use Rattle.std.specs.Option.{option_map_or, option_and_then}
 use Rattle.std.specs.Str.{bytes_eq}
 use Rattle.indexmap.specs.IndexMap.{get}
 use Rattle.terms.specs.declared.kinds.ZoneKind.TheVariants.{Target, Distribution}
-use Rattle.terms.specs.Types.{Text, zone_number, Zone, NamedZone, ReceiveWhat, Receive, Install, Apply}
+use Rattle.terms.specs.Types.{Text, zone_number, Zone, NamedZone, Id, ReceiveWhat, Receive, Reject, Install, Apply}
 use Rattle.terms.proofs.GlobalLookups.{same_from, same_itself, All-find}
 use Rattle.terms.proofs.SameLists.{find-gives}
 use Rattle.machine.specs.Outcome.{Refusal, Cm1, Cm3}
 use Rattle.schema.specs.Inventory.{IsInventory, IsZoneNamed}
-use Rattle.machine.specs.State.{State, global_name, zone_named, misplaced}
+use Rattle.machine.specs.State.{State, global_name, zone_named, at_global, unless_at, misplaced}
 use Rattle.store.specs.Kept.{kept}
 use Rattle.session.specs.declared.performing.Session.{Session}
 use Rattle.session.specs.Sessions.{IsSessionOf}
@@ -19,19 +19,26 @@ use Rattle.session.specs.Sessions.{IsSessionOf}
 abbrev refusal_at : Option Text → Option Refusal
 refusal_at boundary = if not (is_some boundary) then Some Cm1 else if option_map_or (bytes_eq global_name) boundary false then None else Some Cm3
 
-by_boundary : (s : State) (what : ReceiveWhat) → misplaced s (Receive what) ≡ refusal_at s.boundary
+pub receive-at : (s : State) (what : ReceiveWhat) → unless_at (at_global s) s ≡ misplaced s (Receive what)
 unfolding misplaced
-by_boundary s what = refl
+receive-at s what = refl
 
-pub receive-nowhere : (s : State) (what : ReceiveWhat) → s.boundary ≡ None → Some Cm1 ≡ misplaced s (Receive what)
-receive-nowhere s what at = sym (by_boundary s what ∙ ap refusal_at at)
+pub reject-at : (s : State) (ids : List Id) → unless_at (at_global s) s ≡ misplaced s (Reject ids)
+unfolding misplaced
+reject-at s ids = refl
 
-pub receive-global : (s : State) (what : ReceiveWhat) (name : Text) → s.boundary ≡ Some name → name ≡ global_name → None ≡ misplaced s (Receive what)
-receive-global s what name at is =
-    sym (by_boundary s what ∙ ap refusal_at (at ∙ ap Some is) ∙ ap (λ b. if b then None else Some Cm3) (same_itself global_name))
+by_boundary : (s : State) → unless_at (at_global s) s ≡ refusal_at s.boundary
+by_boundary s = refl
 
-pub receive-elsewhere : (s : State) (what : ReceiveWhat) (name : Text) → s.boundary ≡ Some name → name ≢ global_name → Some Cm3 ≡ misplaced s (Receive what)
-receive-elsewhere s what name at other = sym (by_boundary s what ∙ ap refusal_at at ∙ by (bytes_eq global_name name) refl)
+pub at-nowhere : (s : State) → s.boundary ≡ None → Some Cm1 ≡ unless_at (at_global s) s
+at-nowhere s at = sym (by_boundary s ∙ ap refusal_at at)
+
+pub at-global : (s : State) (name : Text) → s.boundary ≡ Some name → name ≡ global_name → None ≡ unless_at (at_global s) s
+at-global s name at is =
+    sym (by_boundary s ∙ ap refusal_at (at ∙ ap Some is) ∙ ap (λ b. if b then None else Some Cm3) (same_itself global_name))
+
+pub at-elsewhere : (s : State) (name : Text) → s.boundary ≡ Some name → name ≢ global_name → Some Cm3 ≡ unless_at (at_global s) s
+at-elsewhere s name at other = sym (by_boundary s ∙ ap refusal_at at ∙ by (bytes_eq global_name name) refl)
   where
     by : (b : Bool) → bytes_eq global_name name ≡ b → (if b then None else Some Cm3) ≡ Some Cm3
     by true same = absurd (other (sym (same_from global_name name same)))
@@ -59,7 +66,7 @@ pub apply-distribution : (s : State) (i : Install) (name : Text) (zone : Zone) �
 apply-distribution s i name zone at there kind = at_zone s i name (Some zone) at there ∙ ap (λ k. if zone_number k == zone_number Target then None else Some Cm3) kind
 
 -- no zone of an inventory has the global zone's name
-none-global : (zones : List NamedZone) → All IsZoneNamed zones → zone_named zones global_name ≡ None
+pub none-global : (zones : List NamedZone) → All IsZoneNamed zones → zone_named zones global_name ≡ None
 none-global zones all = by (find (λ z. bytes_eq z.name global_name) zones) refl
   where
     by : (z : Option NamedZone) → find (λ z. bytes_eq z.name global_name) zones ≡ z → option_map (λ z. z.zone) (find (λ z. bytes_eq z.name global_name) zones) ≡ None

@@ -1,72 +1,95 @@
 -- What RECEIVE leads to: a state that the edits make, whose tables are an inventory's.
-use Rattle.std.proofs.Common.{◌≡◌, ◌⊎◌, ◌∙◌, false, ℕ, List, Option, None, IfSome, refl, sym, ap, subst, inr}
-use Rattle.std.specs.Prelude.{IsSome}
-use Rattle.std.specs.Str.{bytes_eq}
-use Rattle.indexmap.specs.IndexMap.{get}
-use Rattle.terms.specs.declared.codes.CommandWord.TheVariants as word
-use Rattle.terms.specs.Types.{Text, Global, Item, ReceiveWhat, Receive}
+use Rattle.std.proofs.Common.{◌≡◌, ◌∙◌, Bool, true, false, ℕ, List, [], ◌++◌, All, Option, None, IfSome, IsTrue, refl, sym, ap, subst, inr}
+use Rattle.std.proofs.lemmas.List.Elements.{All-from_recursion}
+use Rattle.std.proofs.lemmas.List.Sums.{fold-append}
+use Rattle.terms.specs.Types.{Text, Global, Item, HoldItem, AHold, ARelease, ReceiveWhat, Receive}
 use Rattle.terms.specs.Forms.{IsSource}
 use Rattle.terms.specs.Ptfin.{McsFault, IsPtfin, IsPtfinFault}
+use Rattle.terms.specs.HoldFile.{IsHoldFile, IsHoldFileFault}
+use Rattle.terms.proofs.GlobalGroups.{recursion_weaker}
 use Rattle.schema.specs.Inventory.{IsInventory}
 use Rattle.machine.specs.Runs.{Runs}
-use Rattle.machine.specs.Receiving.{TakesItem}
-use Rattle.machine.specs.Outcome.{Header, Line, Outcome, Ran, Refused, Cm4, or_nothing, header_of}
-use Rattle.machine.specs.State.{State, global_name, misplaced}
-use Rattle.machine.specs.Machine.{Performs, Takes, TakesAll, TakesNone}
+use Rattle.machine.specs.Receiving.{TakesItem, TakesHoldItem}
+use Rattle.machine.specs.Outcome.{Line, Cm4, Cm5, Ran, Refused, or_nothing, header_of}
+use Rattle.machine.specs.State.{State, misplaced}
+use Rattle.machine.specs.Machine.{Files, HasItems, Performs, Takes, TakesAll, TakesNone, TakesNoHold}
 use Rattle.report.specs.declared.outcome.Refusal.{Refusal}
 use Rattle.report.specs.Views.{refusal_view}
 use Rattle.store.specs.declared.change.GlobalEdit.{GlobalEdit}
-use Rattle.store.specs.Changes.{EachFits, after_edits}
+use Rattle.store.specs.Changes.{after_edit, EachFits, after_edits}
 use Rattle.store.specs.Kept.{kept}
-use Rattle.upkeep.proofs.ReceivingForms.{receive_forms}
-use Rattle.session.specs.declared.performing.Session.{Session}
-use Rattle.session.specs.Sessions.{IsSessionOf}
-use Rattle.session.specs.Steps.{TakesTo}
+use Rattle.receiving.specs.External.{IsExternal}
+use Rattle.upkeep.proofs.HoldFileForms.{IsHoldItem, hold_file_formed}
+use Rattle.upkeep.proofs.ReceivingForms.{take_forms}
+use Rattle.session.specs.Received.{AreTaken}
+use Rattle.session.specs.Steps.{LeadsTo}
+use Rattle.session.proofs.Edits.{fits-append}
+use Rattle.session.proofs.Leading.{LeadsBy, leads-by, headed}
 
--- the change that is committed, and where it leads
-pub record IsReceived (date : Text) (ptfin : List ℕ) (what : ReceiveWhat) (s : State) (new : Global) (edits : List GlobalEdit) (lines : List Line) : Type 0 where
-  pub fits : EachFits edits s.global
-  pub makes : kept (record s { global = new }) ≡ record (kept s) { global = after_edits edits s.global }
-  pub inventory : IsInventory (kept (record s { global = new }))
-  pub leads : TakesTo date ptfin what s new (record s { global = new }) lines
+external : (item : HoldItem) → IsHoldItem item → IsExternal item
+external (AHold h) is = is.1
+external (ARelease r) is = tt
 
-pub received : (date : Text) (ptfin : List ℕ) (what : ReceiveWhat) (s : State) (old new : Global) (source : Option Text) (items : List Item) (edits : List GlobalEdit) (printed lines : List Line)
-    → s.global ≡ old → IsInventory (kept s) → misplaced s (Receive what) ≡ None → what.source ≡ source → IfSome source IsSource → IsPtfin ptfin items
-    → Runs (TakesItem source) old items new printed → EachFits edits old → after_edits edits old ≡ new → lines ≡ or_nothing printed
-    → IsReceived date ptfin what s new edits lines
-received date ptfin what s old new source items edits printed lines global is at sources form reads runs fits after all =
-    let runs_there = subst (λ o. Runs (TakesItem o) s.global items new printed) (sym sources) (subst (λ k. Runs (TakesItem source) k items new printed) (sym global) runs) in
+-- The holds of a hold file, where it is read, are external.
+pub each-external : (reads : Bool) (bytes : List ℕ) (holds : List HoldItem) → HasItems IsHoldFile reads bytes holds → All IsExternal holds
+each-external true bytes holds has = All-from_recursion IsExternal holds (recursion_weaker IsHoldItem IsExternal external holds (hold_file_formed bytes holds has))
+each-external false bytes holds none = subst (All IsExternal) (sym none) (All-from_recursion IsExternal [] tt)
+
+-- the items of PTFIN, and then those of the hold file
+pub both-taken : (source : Option Text) (items : List Item) (holds : List HoldItem) (g middle new : Global) (edits later all : List GlobalEdit) (first more lines : List Line)
+    → Runs (TakesItem source) g items middle first → EachFits edits g → after_edits edits g ≡ middle
+    → Runs TakesHoldItem middle holds new more → EachFits later middle → after_edits later middle ≡ new
+    → all ≡ edits ++ later → lines ≡ first ++ more → AreTaken source items holds g new all lines
+both-taken source items holds g middle new edits later all first more lines runs fits after runs_holds fits_holds after_holds all_are lines_are = record {
+  middle = middle;
+  first = first;
+  more = more;
+  runs = runs;
+  runs_holds = runs_holds;
+  lines_are = lines_are;
+  fits = subst (λ es. EachFits es g) (sym all_are) (fits-append g edits later fits (subst (EachFits later) (sym after) fits_holds));
+  after = ap (λ es. after_edits es g) all_are ∙ fold-append after_edit g edits later ∙ ap (after_edits later) after ∙ after_holds;
+}
+
+pub received : (date : Text) (files : Files) (what : ReceiveWhat) (s : State) (old new : Global) (source : Option Text) (items : List Item) (holds : List HoldItem)
+    (edits : List GlobalEdit) (printed lines : List Line)
+    → s.global ≡ old → IsInventory (kept s) → misplaced s (Receive what) ≡ None → what.source ≡ source → IfSome source IsSource
+    → HasItems IsPtfin what.sysmods files.ptfin items → HasItems IsHoldFile what.holddata files.holds holds
+    → AreTaken source items holds old new edits printed → lines ≡ or_nothing printed
+    → LeadsBy date files (Receive what) s new edits lines
+received date files what s old new source items holds edits printed lines global is at sources form reads reads_holds taken all =
+    let runs = subst (λ o. Runs (TakesItem o) s.global items taken.middle taken.first) (sym sources)
+    (subst (λ k. Runs (TakesItem source) k items taken.middle taken.first) (sym global) taken.runs) in
+    leads-by date files (Receive what) s old new edits lines global taken.fits taken.after
+    (take_forms files what items holds (kept s) taken.middle new taken.first taken.more (subst (λ o. IfSome o IsSource) (sym sources) form) reads reads_holds is runs taken.runs_holds)
     record {
-      fits = subst (EachFits edits) (sym global) fits;
-      makes = ap (λ k. record (kept s) { global = k }) (sym (ap (after_edits edits) global ∙ after));
-      inventory = receive_forms ptfin what.source items (kept s) new printed (subst (λ o. IfSome o IsSource) (sym sources) form) reads is runs_there;
-      leads = record {
-        state = refl;
-        performs = inr (at, subst (λ ls. Takes ptfin s what (record s { global = new }) (Ran (header_of (Receive what) s.boundary) ls)) (sym all) (TakesAll items new printed reads runs_there));
-      };
+      state = refl;
+      performs = inr (
+        at,
+        subst (λ ls. Takes files s what (record s { global = new }) (Ran (header_of (Receive what) s.boundary) ls)) (sym (all ∙ ap or_nothing taken.lines_are))
+            (TakesAll items holds taken.middle new taken.first taken.more reads reads_holds runs taken.runs_holds),
+      );
     }
 
--- the header under the session's boundary
-headed : (date : Text) (ptfin : List ℕ) (what : ReceiveWhat) (s t : State) (boundary : Option Text) (outcome : Header → Outcome) → boundary ≡ s.boundary
-    → Performs date ptfin s (Receive what) t (outcome (header_of (Receive what) s.boundary)) → Performs date ptfin s (Receive what) t (outcome (record { word = word.Receive; boundary = boundary; check = false }))
-headed date ptfin what s t boundary outcome same performs =
-    subst (λ b. Performs date ptfin s (Receive what) t (outcome (record { word = word.Receive; boundary = b; check = false }))) (sym same) performs
+-- a fault of a file
+pub take-faulty : (date : Text) (files : Files) (what : ReceiveWhat) (s : State) (boundary : Option Text) (why : Refusal) → boundary ≡ s.boundary → misplaced s (Receive what) ≡ None
+    → ((u : State) → Takes files u what u (Refused (header_of (Receive what) u.boundary) (refusal_view why)))
+    → Performs date files s (Receive what) s (Refused (header_of (Receive what) boundary) (refusal_view why))
+take-faulty date files what s boundary why same at takes = headed date files (Receive what) s s boundary (λ h. Refused h (refusal_view why)) same (inr (at, takes s))
 
-pub take-ran : (date : Text) (ptfin : List ℕ) (what : ReceiveWhat) (s t : State) (new : Global) (boundary : Option Text) (lines : List Line) → boundary ≡ s.boundary → TakesTo date ptfin what s new t lines
-    → Performs date ptfin s (Receive what) t (Ran (record { word = word.Receive; boundary = boundary; check = false }) lines)
-take-ran date ptfin what s t new boundary lines same takes = headed date ptfin what s t boundary (λ h. Ran h lines) same takes.performs
+-- PTFIN has a fault, or the hold file has one where PTFIN has none
+module _ (files : Files) (what : ReceiveWhat) (why : Refusal) (sysmods : Bool) (ptfin : List ℕ) (same_sysmods : what.sysmods ≡ sysmods) (same_ptfin : files.ptfin ≡ ptfin) where
+  pub ptfin-faulty : IsTrue sysmods × ((fault : McsFault) × IsPtfinFault ptfin fault × (refusal_view why ≡ Cm4 fault.number fault.code))
+      → (s : State) → Takes files s what s (Refused (header_of (Receive what) s.boundary) (refusal_view why))
+  ptfin-faulty (reads, (fault, is, code)) s =
+      subst (λ r. Takes files s what s (Refused (header_of (Receive what) s.boundary) r)) (sym code)
+      (TakesNone fault (same_sysmods ∙ reads) (subst (λ b. IsPtfinFault b fault) (sym same_ptfin) is))
 
--- a fault of PTFIN
-pub take-faulty : (date : Text) (ptfin : List ℕ) (what : ReceiveWhat) (s : State) (boundary : Option Text) (why : Refusal) → boundary ≡ s.boundary → misplaced s (Receive what) ≡ None
-    → ((fault : McsFault) × IsPtfinFault ptfin fault × (refusal_view why ≡ Cm4 fault.number fault.code)) → Performs date ptfin s (Receive what) s (Refused (record { word = word.Receive; boundary = boundary; check = false }) (refusal_view why))
-take-faulty date ptfin what s boundary why same at read =
-    headed date ptfin what s s boundary (λ h. Refused h (refusal_view why)) same
-    (inr (at, subst (λ r. Takes ptfin s what s (Refused (header_of (Receive what) s.boundary) r)) (sym read.2) (TakesNone read.0 read.1)))
-
-pub take-session : (s t : State) (at new : Session) → IsSessionOf s at → t ≡ record s { global = new.global } → new.zones ≡ at.zones → new.boundary ≡ at.boundary → IsSessionOf t new
-take-session s t at new is state zones boundary = subst (λ u. IsSessionOf u new) (sym state) record {
-  global = refl;
-  boundary = boundary ∙ is.boundary;
-  zones = λ q z found. is.zones q z (sym (ap (λ m. get bytes_eq m q) zones) ∙ found);
-  current = λ q named. subst (λ m. (q ≡ global_name) ⊎ IsSome (get bytes_eq m q)) (sym zones) (is.current q named);
-}
+  pub hold_file-faulty : (items : List Item) (holddata : Bool) (holds : List ℕ) → what.holddata ≡ holddata → files.holds ≡ holds → HasItems IsPtfin sysmods ptfin items
+      → IsTrue holddata × ((fault : McsFault) × IsHoldFileFault holds fault × (refusal_view why ≡ Cm5 fault.number fault.code))
+      → (s : State) → Takes files s what s (Refused (header_of (Receive what) s.boundary) (refusal_view why))
+  hold_file-faulty items holddata holds same_holddata same_holds has (reads, (fault, is, code)) s =
+      subst (λ r. Takes files s what s (Refused (header_of (Receive what) s.boundary) r)) (sym code)
+      (TakesNoHold items fault
+      (subst (λ b. HasItems IsPtfin b files.ptfin items) (sym same_sysmods) (subst (λ b. HasItems IsPtfin sysmods b items) (sym same_ptfin) has))
+      (same_holddata ∙ reads) (subst (λ b. IsHoldFileFault b fault) (sym same_holds) is))

@@ -7,12 +7,12 @@ use Rattle.terms.specs.Types.{Text, Zone, Set}
 use Rattle.terms.proofs.GlobalLookups.{same_from}
 use Rattle.machine.specs.Outcome.{Line, Cm2, Refused, Ran, header_of}
 use Rattle.machine.specs.State.{State, global_name, zone_named, misplaced}
-use Rattle.machine.specs.Machine.{Performs}
+use Rattle.machine.specs.Machine.{Files, Performs}
 use Rattle.session.specs.declared.performing.Session.{Session}
 use Rattle.session.specs.Sessions.{IsSessionOf}
 use Rattle.session.specs.Steps.{IsSought}
 
-or_right : (a b : Bool) → b ≡ true → a || b ≡ true
+pub or_right : (a b : Bool) → b ≡ true → a || b ≡ true
 or_right true b e = refl
 or_right false b e = e
 
@@ -54,18 +54,18 @@ sought-loaded s at new name zone is there global boundary updates = record {
 }
 
 -- SET of no zone
-pub set-refused : (s : State) (at : Session) (name date : Text) (ptfin : List ℕ) (answer : Bool) → IsSought s at name answer → answer ≡ false
-    → Performs date ptfin s (Set name) s (Refused (header_of (Set name) s.boundary) Cm2)
+pub set-refused : (s : State) (at : Session) (name date : Text) (files : Files) (answer : Bool) → IsSought s at name answer → answer ≡ false
+    → Performs date files s (Set name) s (Refused (header_of (Set name) s.boundary) Cm2)
 unfolding misplaced
-set-refused s at name date ptfin true is none = absurd (cc none)
-set-refused s at name date ptfin false is none = inl (Cm2, ap (λ b. cond b None (Some Cm2)) (sym is.found), refl, refl)
+set-refused s at name date files true is none = absurd (cc none)
+set-refused s at name date files false is none = inl (Cm2, ap (λ b. cond b None (Some Cm2)) (sym is.found), refl, refl)
 
 -- SET of a zone
-pub set-ran : (s : State) (at : Session) (name date : Text) (ptfin : List ℕ) (lines : List Line) (answer : Bool) → IsSought s at name answer → answer ≡ true → lines ≡ []
-    → Performs date ptfin s (Set name) (record s { boundary = Some name }) (Ran (header_of (Set name) s.boundary) lines)
+pub set-ran : (s : State) (at : Session) (name date : Text) (files : Files) (lines : List Line) (answer : Bool) → IsSought s at name answer → answer ≡ true → lines ≡ []
+    → Performs date files s (Set name) (record s { boundary = Some name }) (Ran (header_of (Set name) s.boundary) lines)
 unfolding misplaced
-set-ran s at name date ptfin lines true is some none = inr (ap (λ b. cond b None (Some Cm2)) (sym is.found), (refl, ap (λ ls. Ran (header_of (Set name) s.boundary) ls) none))
-set-ran s at name date ptfin lines false is some none = absurd (cc some)
+set-ran s at name date files lines true is some none = inr (ap (λ b. cond b None (Some Cm2)) (sym is.found), (refl, ap (λ ls. Ran (header_of (Set name) s.boundary) ls) none))
+set-ran s at name date files lines false is some none = absurd (cc some)
 
 pub set-session : (s : State) (at new : Session) (name : Text) (answer : Bool) → IsSought s at name answer → answer ≡ true
     → new.global ≡ at.global → new.zones ≡ at.zones → new.boundary ≡ Some name → IsSessionOf (record s { boundary = Some name }) new

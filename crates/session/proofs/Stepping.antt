@@ -9,7 +9,7 @@ use Rattle.schema.specs.Inventory.{Inventory, IsInventory}
 use Rattle.schema.specs.declared.error.StoreError.{StoreError}
 use Rattle.schema.specs.declared.error.StoreError.TheVariants.{Fault, OtherSchema, NoState, Memory}
 use Rattle.machine.specs.State.{State}
-use Rattle.machine.specs.Machine.{Act, Begin, Perform, Performs}
+use Rattle.machine.specs.Machine.{Files, Act, Begin, Perform, Performs}
 use Rattle.machine.specs.Outcome as machine
 use Rattle.machine.specs.Report.{text}
 use Rattle.std.specs.List.{flat_map}
@@ -40,33 +40,33 @@ module _ {S : Type 0} (g : Ghosts S) (at : Held S) (s : State) where
   pub begun-unmoved : (r : Result Session StoreError) (e : StoreError) → IsErrAnd r (λ y. y ≡ e) → EndsUnmoved g at s e → HasBegun g at s r
   begun-unmoved r e is un = let p = err_from_is_err_and r is in subst (λ q. HasBegun g at s q) (sym (p.1 ∙ ap Err p.2)) (begun-by e un)
 
-  module _ (session : Session) (date : Text) (ptfin : List ℕ) (c : Command) where
-    performs-by : (e : StoreError) → EndsUnmoved g at s e → HasPerformed g at s session date ptfin c (Err e)
-    performs-by Fault un = stays-unmoved (Perform date ptfin c) un
+  module _ (session : Session) (date : Text) (files : Files) (c : Command) where
+    performs-by : (e : StoreError) → EndsUnmoved g at s e → HasPerformed g at s session date files c (Err e)
+    performs-by Fault un = stays-unmoved (Perform date files c) un
     performs-by OtherSchema un = un
     performs-by NoState un = un
-    performs-by Memory un = stays-unmoved (Perform date ptfin c) un
+    performs-by Memory un = stays-unmoved (Perform date files c) un
 
-    pub performs-unmoved : (r : Result Outcome StoreError) (e : StoreError) → IsErrAnd r (λ y. y ≡ e) → EndsUnmoved g at s e → HasPerformed g at s session date ptfin c r
-    performs-unmoved r e is un = let p = err_from_is_err_and r is in subst (λ q. HasPerformed g at s session date ptfin c q) (sym (p.1 ∙ ap Err p.2)) (performs-by e un)
+    pub performs-unmoved : (r : Result Outcome StoreError) (e : StoreError) → IsErrAnd r (λ y. y ≡ e) → EndsUnmoved g at s e → HasPerformed g at s session date files c r
+    performs-unmoved r e is un = let p = err_from_is_err_and r is in subst (λ q. HasPerformed g at s session date files c q) (sym (p.1 ∙ ap Err p.2)) (performs-by e un)
 
     -- want of memory before the store is asked
-    pub performs-short : (r : Result Outcome StoreError) → IsErrAnd r (λ y. y ≡ Memory) → Keeps g at s → HasPerformed g at s session date ptfin c r
+    pub performs-short : (r : Result Outcome StoreError) → IsErrAnd r (λ y. y ≡ Memory) → Keeps g at s → HasPerformed g at s session date files c r
     performs-short r is keeps = performs-unmoved r Memory is (unmoved-kept keeps)
 
     -- what a command that ran part of the way ends with
-    staying-by : (e : StoreError) → EndsStaying g at s (Perform date ptfin c) e → HasPerformed g at s session date ptfin c (Err e)
+    staying-by : (e : StoreError) → EndsStaying g at s (Perform date files c) e → HasPerformed g at s session date files c (Err e)
     staying-by Fault stays = stays
     staying-by OtherSchema stays = stays
     staying-by NoState stays = stays
     staying-by Memory stays = stays
 
-    pub performs-staying : (r : Result Outcome StoreError) (e : StoreError) → IsErrAnd r (λ y. y ≡ e) → EndsStaying g at s (Perform date ptfin c) e → HasPerformed g at s session date ptfin c r
-    performs-staying r e is stays = let p = err_from_is_err_and r is in subst (λ q. HasPerformed g at s session date ptfin c q) (sym (p.1 ∙ ap Err p.2)) (staying-by e stays)
+    pub performs-staying : (r : Result Outcome StoreError) (e : StoreError) → IsErrAnd r (λ y. y ≡ e) → EndsStaying g at s (Perform date files c) e → HasPerformed g at s session date files c r
+    performs-staying r e is stays = let p = err_from_is_err_and r is in subst (λ q. HasPerformed g at s session date files c q) (sym (p.1 ∙ ap Err p.2)) (staying-by e stays)
 
   -- where the commit of what a command leads to failed
-  module _ (date : Text) (ptfin : List ℕ) (c : Command) (t : State) (outcome : machine.Outcome) (performs : Performs date ptfin s c t outcome) where
-    stays-unsettled : Unsettled g at s t → Stays g at s (Perform date ptfin c)
+  module _ (date : Text) (files : Files) (c : Command) (t : State) (outcome : machine.Outcome) (performs : Performs date files s c t outcome) where
+    stays-unsettled : Unsettled g at s t → Stays g at s (Perform date files c)
     stays-unsettled un = record {
       now = un.now;
       crash = λ d left. elim (un.crash d left) [
@@ -75,7 +75,7 @@ module _ {S : Type 0} (g : Ghosts S) (at : Held S) (s : State) where
       ];
     }
 
-    pub staying-unsettled : (e : StoreError) → EndsUnsettled g at s t e → EndsStaying g at s (Perform date ptfin c) e
+    pub staying-unsettled : (e : StoreError) → EndsUnsettled g at s t e → EndsStaying g at s (Perform date files c) e
     staying-unsettled Fault un = stays-unsettled un
     staying-unsettled OtherSchema un = un
     staying-unsettled NoState un = un
@@ -88,6 +88,9 @@ module _ {S : Type 0} (g : Ghosts S) (at : Held S) (s : State) where
     -- want of memory before the store is asked
     pub run-short : (r : Result V StoreError) → IsErrAnd r (λ y. y ≡ Memory) → Keeps g at s → HasRun g at s a LeadsTo lines r
     run-short r is keeps = run-staying r Memory is (stays-unmoved a (unmoved-kept keeps))
+
+  pub loaded-err : {X : Type 0} (Found : X → Type 0) (r : Result X StoreError) (e : StoreError) → IsErrAnd r (λ y. y ≡ e) → EndsUnmoved g at s e → HasLoaded g at s Found r
+  loaded-err Found r e is un = let p = err_from_is_err_and r is in subst (λ q. HasLoaded g at s Found q) (sym (p.1 ∙ ap Err p.2)) un
 
   pub committed-err : (t : State) (r : Result Unit StoreError) (e : StoreError) → IsErrAnd r (λ y. y ≡ e) → EndsUnsettled g at s t e → HasCommitted g at s t r
   committed-err t r e is un = let p = err_from_is_err_and r is in subst (λ q. HasCommitted g at s t q) (sym (p.1 ∙ ap Err p.2)) un

@@ -1,3 +1,4 @@
+pub mod Received
 pub mod Sessions
 pub mod Steps
 pub mod Targets

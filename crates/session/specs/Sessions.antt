@@ -1,12 +1,12 @@
 -- What a job has in memory of a state, and how its beginning and its commands end.
-use Rattle.std.specs.Prelude.{◌≡◌, ◌⊎◌, ℕ, List, None, Some, IsSome, Result, Ok, Err}
+use Rattle.std.specs.Prelude.{◌≡◌, ◌⊎◌, None, Some, IsSome, Result, Ok, Err}
 use Rattle.std.specs.Str.{bytes_eq}
 use Rattle.indexmap.specs.IndexMap.{get}
 use Rattle.sqlite.specs.Store.{Ghosts}
 use Rattle.sqlite.specs.Held.{Held}
 use Rattle.terms.specs.Types.{Text, Zone, Command}
 use Rattle.machine.specs.State.{State, global_name, zone_named}
-use Rattle.machine.specs.Machine.{Begin, Perform, Performs}
+use Rattle.machine.specs.Machine.{Files, Begin, Perform, Performs}
 use Rattle.report.specs.declared.outcome.Outcome.{Outcome}
 use Rattle.report.specs.Views.{outcome_view}
 use Rattle.schema.specs.declared.error.StoreError.{StoreError}
@@ -30,9 +30,9 @@ module _ {S : Type 0} (g : Ghosts S) (at : Held S) (s : State) where
   HasBegun (Err _) = ⊥
 
   -- The command is performed, the tables stand for what it led to, and so does the session.
-  abbrev pub HasPerformed : Session → Text → List ℕ → Command → Result Outcome StoreError → Type 0
-  HasPerformed session date ptfin c (Ok outcome) =
-      (t : State) × Performs date ptfin s c t (outcome_view outcome) × IsSessionOf t session × Keeps g at t
-  HasPerformed session date ptfin c (Err Fault) = Stays g at s (Perform date ptfin c)
-  HasPerformed session date ptfin c (Err Memory) = Stays g at s (Perform date ptfin c)
-  HasPerformed session date ptfin c (Err _) = ⊥
+  abbrev pub HasPerformed : Session → Text → Files → Command → Result Outcome StoreError → Type 0
+  HasPerformed session date files c (Ok outcome) =
+      (t : State) × Performs date files s c t (outcome_view outcome) × IsSessionOf t session × Keeps g at t
+  HasPerformed session date files c (Err Fault) = Stays g at s (Perform date files c)
+  HasPerformed session date files c (Err Memory) = Stays g at s (Perform date files c)
+  HasPerformed session date files c (Err _) = ⊥

@@ -1,15 +1,12 @@
 -- How a load and a commit of a command end, where the tables stood for s.
-use Rattle.std.specs.Prelude.{◌≡◌, ◌⊎◌, IsTrue, Result, Ok, Err, ℕ, Bool, ◌||◌, IsSome, is_some, List}
+use Rattle.std.specs.Prelude.{◌≡◌, ◌⊎◌, IsTrue, Result, Ok, Err, All, Bool, ◌||◌, IsSome, is_some, List}
 use Rattle.std.specs.Str.{bytes_eq}
 use Rattle.indexmap.specs.IndexMap.{get}
 use Rattle.sqlite.specs.Store.{Ghosts}
 use Rattle.sqlite.specs.Held.{Held}
-use Rattle.terms.specs.Types.{Text, NamedZone, Global, Item, ReceiveWhat, Receive}
-use Rattle.terms.specs.Ptfin.{McsFault, IsPtfin, IsPtfinFault}
-use Rattle.machine.specs.Outcome.{Line, Ran, Cm4, header_of}
-use Rattle.machine.specs.Machine.{Act, Performs}
-use Rattle.report.specs.declared.outcome.Refusal.{Refusal}
-use Rattle.report.specs.Views.{refusal_view}
+use Rattle.terms.specs.Types.{Text, NamedZone, Global, Command}
+use Rattle.machine.specs.Outcome.{Line, Ran, header_of}
+use Rattle.machine.specs.Machine.{Files, Act, Performs}
 use Rattle.machine.specs.State.{State, global_name, zone_named}
 use Rattle.schema.specs.Inventory.{Inventory}
 use Rattle.schema.specs.declared.error.StoreError.{StoreError}
@@ -61,6 +58,16 @@ pub record IsSought (s : State) (at : Session) (name : Text) (answer : Bool) : T
   pub found : answer ≡ is_known s.zones name
   pub here : IsTrue answer → (name ≡ global_name) ⊎ IsSome (get bytes_eq at.zones name)
 
+-- The session knows of each name whether there is such a zone, and has those that are there.
+pub record AreSought (s : State) (at : Session) (names : List Text) : Type 0 where
+  pub session : IsSessionOf s at
+  pub here : All (λ name. IsTrue (is_known s.zones name) → (name ≡ global_name) ⊎ IsSome (get bytes_eq at.zones name)) names
+
+-- The session has each zone of the state.
+pub record HasAllZones (s : State) (at : Session) : Type 0 where
+  pub session : IsSessionOf s at
+  pub zones : (name : Text) → get bytes_eq at.zones name ≡ zone_named s.zones name
+
 -- How a command ends that runs where it may, before its outcome is made of its lines.
 module _ {S : Type 0} (g : Ghosts S) (at : Held S) (s : State) (a : Act) where
   abbrev pub EndsStaying : StoreError → Type 0
@@ -73,12 +80,7 @@ module _ {S : Type 0} (g : Ghosts S) (at : Held S) (s : State) (a : Act) where
   HasRun LeadsTo lines (Ok v) = (t : State) × LeadsTo t (lines v) × Keeps g at t
   HasRun LeadsTo lines (Err error) = EndsStaying error
 
--- RECEIVE leads so to a state that has this global zone.
-pub record TakesTo (date : Text) (ptfin : List ℕ) (what : ReceiveWhat) (s : State) (new : Global) (t : State) (lines : List Line) : Type 0 where
+-- The command leads so to a state that has this global zone.
+pub record LeadsTo (date : Text) (files : Files) (c : Command) (s : State) (new : Global) (t : State) (lines : List Line) : Type 0 where
   pub state : t ≡ record s { global = new }
-  pub performs : Performs date ptfin s (Receive what) t (Ran (header_of (Receive what) s.boundary) lines)
-
--- PTFIN has these items, or else it has the first fault that is refused.
-abbrev pub HasRead : List ℕ → {V : Type 0} → (V → List Item) → Result V Refusal → Type 0
-HasRead ptfin items (Ok v) = IsPtfin ptfin (items v)
-HasRead ptfin items (Err why) = (fault : McsFault) × IsPtfinFault ptfin fault × (refusal_view why ≡ Cm4 fault.number fault.code)
+  pub performs : Performs date files s c t (Ran (header_of c s.boundary) lines)

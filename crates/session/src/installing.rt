@@ -1,5 +1,5 @@
 //! APPLY: what is selected comes into the zone of the boundary.
-ghost use Rattle.std.specs.Prelude.{◌≡◌, List, ℕ, Some, IfOk, OnOk, IsSome, map};
+ghost use Rattle.std.specs.Prelude.{◌≡◌, Some, IfOk, OnOk, IsSome, map};
 ghost use Rattle.std.specs.Str.{bytes_eq};
 ghost use Rattle.indexmap.specs.IndexMap.{get, Updates};
 ghost use Rattle.sqlite.specs.Held.{state};
@@ -10,6 +10,7 @@ ghost use Rattle.terms.specs.Forms.{IsDottedDate};
 ghost use Rattle.zone_tables.specs.Zones.{IsZoneChange};
 ghost use Rattle.schema.specs.Inventory.{IsInventory};
 ghost use Rattle.machine.specs.State.{State};
+ghost use Rattle.machine.specs.Machine.{Files};
 ghost use Rattle.report.specs.Views.{line_view};
 ghost use Rattle.store.specs.Kept.{kept, Keeps};
 ghost use Rattle.session.specs.Sessions.{IsSessionOf, HasPerformed};
@@ -115,7 +116,7 @@ impl Session {
     ) -> Result<Outcome, StoreError>
         ensures clean { HasCleanDisk (state S.Store store.new) → HasCleanDisk (state S.Store store.old) }
         ensures ended { HasCleanDisk (state S.Store store.new) → (s : State) → IsSessionOf s self.old → Keeps S.Store store.old s
-            → (ptfin : List ℕ) → HasPerformed S.Store store.new s self.new date ptfin (Apply install.now) result }
+            → (files : Files) → HasPerformed S.Store store.new s self.new date files (Apply install.now) result }
     {
         let header = Header {
             word: CommandWord::Apply,

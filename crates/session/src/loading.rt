@@ -1,5 +1,5 @@
 //! What a command asks of the store, as steps between states.
-ghost use Rattle.std.specs.Prelude.{◌≡◌};
+ghost use Rattle.std.specs.Prelude.{◌≡◌, map};
 ghost use Rattle.sqlite.specs.Held.{state};
 ghost use Rattle.sqlite.specs.State.{HasCleanDisk};
 ghost use Rattle.machine.specs.State.{State, zone_named};
@@ -32,6 +32,14 @@ pub(crate) fn load_zone<S: Alter>(
         → HasLoaded S.Store store.new s (λ zone. zone ≡ zone_named s.zones name) result }
 {
     store.load_zone(name)
+}
+
+pub(crate) fn load_names<S: Alter>(store: &mut Store<S>) -> Result<Vec<ZoneName>, StoreError>
+    ensures clean { HasCleanDisk (state S.Store store.new) → HasCleanDisk (state S.Store store.old) }
+    ensures ended { HasCleanDisk (state S.Store store.new) → (s : State) → Keeps S.Store store.old s
+        → HasLoaded S.Store store.new s (λ names. names.items ≡ map (λ z. z.name) s.zones) result }
+{
+    store.zone_names()
 }
 
 /// Commits what leads from one state to another.

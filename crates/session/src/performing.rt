@@ -6,6 +6,7 @@ ghost use Rattle.cntl.specs.Views.{command_of};
 ghost use Rattle.store.specs.Kept.{Keeps};
 ghost use Rattle.session.specs.Sessions.{IsSessionOf, HasBegun, HasPerformed};
 
+use crate::files::Files;
 use crate::loading::load_global;
 use cntl::Command;
 use fields::{YyDdd, ZoneName};
@@ -46,16 +47,17 @@ impl Session {
         alloc: Heap,
         store: &mut Store<S>,
         date: YyDdd,
-        ptfin: &[u8],
+        files: &Files<'_>,
         command: &Command,
     ) -> Result<Outcome, StoreError>
         ensures clean { HasCleanDisk (state S.Store store.new) → HasCleanDisk (state S.Store store.old) }
         ensures ended { HasCleanDisk (state S.Store store.new) → (s : State) → IsSessionOf s self.old → Keeps S.Store store.old s
-            → HasPerformed S.Store store.new s self.new date ptfin.now (command_of command.now) result }
+            → HasPerformed S.Store store.new s self.new date files.now (command_of command.now) result }
     {
         match command {
             Command::Set(name) => self.set(alloc, store, *name),
-            Command::Receive(what) => self.take(alloc, store, ptfin, what),
+            Command::Receive(what) => self.take(alloc, store, files, what),
+            Command::Reject(ids) => self.reject(alloc, store, ids),
             Command::Apply(install) => self.install(alloc, store, date, install),
         }
     }

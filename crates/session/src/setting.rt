@@ -1,11 +1,12 @@
 //! SET: the boundary is another zone.
-ghost use Rattle.std.specs.Prelude.{◌≡◌, IsTrue, is_some, List, ℕ, OnOk, OnErr, None, Some};
+ghost use Rattle.std.specs.Prelude.{◌≡◌, IsTrue, is_some, IsSome, OnOk, OnErr, None, Some};
 ghost use Rattle.std.specs.Str.{bytes_eq};
 ghost use Rattle.indexmap.specs.IndexMap.{get, Updates};
 ghost use Rattle.sqlite.specs.Held.{state};
 ghost use Rattle.sqlite.specs.State.{HasCleanDisk};
 ghost use Rattle.terms.specs.Types.{Text, Set};
 ghost use Rattle.machine.specs.State.{State};
+ghost use Rattle.machine.specs.Machine.{Files};
 ghost use Rattle.store.specs.Kept.{Keeps};
 ghost use Rattle.session.specs.Sessions.{IsSessionOf, HasPerformed};
 ghost use Rattle.session.specs.Steps.{HasLoaded, IsSought};
@@ -43,10 +44,15 @@ impl Session {
     }
 
     /// Whether SET may name it. A zone that it names is loaded once a job.
-    fn seek<S: Alter>(&mut self, store: &mut Store<S>, name: ZoneName) -> Result<bool, StoreError>
+    pub(crate) fn seek<S: Alter>(
+        &mut self,
+        store: &mut Store<S>,
+        name: ZoneName,
+    ) -> Result<bool, StoreError>
         ensures clean { HasCleanDisk (state S.Store store.new) → HasCleanDisk (state S.Store store.old) }
         ensures ended { HasCleanDisk (state S.Store store.new) → (s : State) → IsSessionOf s self.old → Keeps S.Store store.old s
             → HasLoaded S.Store store.new s (IsSought s self.new name) result }
+        ensures stay { OnOk result ((q : Text) → IsSome (get bytes_eq self.old.zones q) → IsSome (get bytes_eq self.new.zones q)) }
     {
         if name.is_global() || self.has(name) {
             return Ok(true);
@@ -66,7 +72,7 @@ impl Session {
     ) -> Result<Outcome, StoreError>
         ensures clean { HasCleanDisk (state S.Store store.new) → HasCleanDisk (state S.Store store.old) }
         ensures ended { HasCleanDisk (state S.Store store.new) → (s : State) → IsSessionOf s self.old → Keeps S.Store store.old s
-            → (date : Text) (ptfin : List ℕ) → HasPerformed S.Store store.new s self.new date ptfin (Set name) result }
+            → (date : Text) (files : Files) → HasPerformed S.Store store.new s self.new date files (Set name) result }
     {
         let header = Header {
             word: CommandWord::Set,

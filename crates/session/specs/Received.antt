@@ -1,0 +1,41 @@
+-- What RECEIVE finds in its files, and what it makes of the global zone.
+use Rattle.std.specs.Prelude.{◌≡◌, ℕ, Bool, IsTrue, List, ◌++◌, Option, Result, Ok, Err}
+use Rattle.terms.specs.declared.codes.McCode.{McCode}
+use Rattle.terms.specs.Types.{Text, Global, Item, HoldItem, ReceiveWhat, Receive}
+use Rattle.terms.specs.Ptfin.{McsFault, IsPtfin}
+use Rattle.terms.specs.HoldFile.{IsHoldFile}
+use Rattle.machine.specs.Outcome as machine
+use Rattle.machine.specs.Outcome.{Line, Refused, header_of}
+use Rattle.machine.specs.State.{State}
+use Rattle.machine.specs.Receiving.{TakesItem, TakesHoldItem}
+use Rattle.machine.specs.Runs.{Runs}
+use Rattle.machine.specs.Machine.{Files, HasItems, Takes}
+use Rattle.report.specs.declared.outcome.Refusal.{Refusal}
+use Rattle.report.specs.Views.{refusal_view}
+use Rattle.store.specs.declared.change.GlobalEdit.{GlobalEdit}
+use Rattle.store.specs.Changes.{EachFits, after_edits}
+
+-- A file has these items where it is read, or else it has the first fault that is refused.
+abbrev pub HasRead : {X : Type 0} → (List ℕ → List X → Type 0) → (List ℕ → McsFault → Type 0) → (ℕ → McCode → machine.Refusal) → Bool → List ℕ
+    → {V : Type 0} → (V → List X) → Result V Refusal → Type 0
+HasRead Is IsFault refused reads bytes items (Ok v) = HasItems Is reads bytes (items v)
+HasRead Is IsFault refused reads bytes items (Err why) =
+    IsTrue reads × ((fault : McsFault) × IsFault bytes fault × (refusal_view why ≡ refused fault.number fault.code))
+
+-- The files have these items, or else RECEIVE is refused so.
+abbrev pub HasFound : Files → ReceiveWhat → {V : Type 0} → (V → List Item) → (V → List HoldItem) → Result V Refusal → Type 0
+HasFound files what items holds (Ok v) =
+    HasItems IsPtfin what.sysmods files.ptfin (items v) × HasItems IsHoldFile what.holddata files.holds (holds v)
+HasFound files what items holds (Err why) =
+    (s : State) → Takes files s what s (Refused (header_of (Receive what) s.boundary) (refusal_view why))
+
+-- The items of PTFIN, and then those of the hold file, lead from g to new and print these lines. The edits lead there too.
+pub record AreTaken (source : Option Text) (items : List Item) (holds : List HoldItem) (g new : Global) (edits : List GlobalEdit) (lines : List Line) : Type 0 where
+  pub middle : Global
+  pub first : List Line
+  pub more : List Line
+  pub runs : Runs (TakesItem source) g items middle first
+  pub runs_holds : Runs TakesHoldItem middle holds new more
+  pub lines_are : lines ≡ first ++ more
+  pub fits : EachFits edits g
+  pub after : after_edits edits g ≡ new
