@@ -51,14 +51,20 @@ pub(crate) fn zone_defined(
     answered(rt, db, &job)
 }
 
-/// Runs the commands of a command file over a PTFIN.
+/// Runs the commands of a command file over a PTFIN and a hold file.
 pub(crate) fn commands_run(
     rt: &HostRuntime,
     db: &str,
     date: YyDdd,
     cntl: &[u8],
     ptfin: &[u8],
+    hold: &[u8],
 ) -> Result<Answer, JobError> {
-    let job = [Job::Run { date, cntl, ptfin }];
+    let job = [Job::Run {
+        date,
+        cntl,
+        ptfin,
+        hold,
+    }];
     answered(rt, db, &job)
 }

@@ -7,7 +7,7 @@ use messages::{FAULT_STATUS, Fault, zone_line};
 use report::Out;
 use smpe::{Answer, JobError};
 
-/// Does what is asked for, and answers the status. The hold file is not read, since no command takes one yet.
+/// Does what is asked for, and answers the status.
 pub(crate) fn status_of<'a>(rt: &HostRuntime, invocation: &'a Invocation) -> Result<u8, Fault<'a>> {
     match invocation {
         Invocation::Zone {
@@ -25,8 +25,15 @@ pub(crate) fn status_of<'a>(rt: &HostRuntime, invocation: &'a Invocation) -> Res
             date,
             cntl,
             ptfin,
-            hold: _,
-        } => run_status(rt, db.as_str(), *date, cntl.as_str(), ptfin.as_ref()),
+            hold,
+        } => run_status(
+            rt,
+            db.as_str(),
+            *date,
+            cntl.as_str(),
+            ptfin.as_ref(),
+            hold.as_ref(),
+        ),
     }
 }
 
@@ -34,16 +41,26 @@ fn zone_told(rt: &HostRuntime, name: ZoneName, answer: &Answer) -> Result<u8, Jo
     zone_line(name, answer, &mut Out::new(rt.stdout())).map_err(|_| JobError::Write)
 }
 
+// Reads the files in this order, so that the first that cannot be read is told, and runs the job.
 fn run_status<'a>(
     rt: &HostRuntime,
     db: &str,
     date: YyDdd,
     cntl: &'a str,
     ptfin: Option<&'a String>,
+    hold: Option<&'a String>,
 ) -> Result<u8, Fault<'a>> {
     let cntl = read_file(rt, cntl)?;
     let ptfin = read_given(rt, ptfin)?;
-    match commands_run(rt, db, date, cntl.as_slice(), ptfin.as_slice())? {
+    let hold = read_given(rt, hold)?;
+    match commands_run(
+        rt,
+        db,
+        date,
+        cntl.as_slice(),
+        ptfin.as_slice(),
+        hold.as_slice(),
+    )? {
         Answer::Code(code) => Ok(code),
         // A job has a return code.
         Answer::Defined | Answer::Refused(_) => Ok(FAULT_STATUS),

@@ -2,7 +2,7 @@
 
 use crate::play::Step;
 
-const FUNCTION: &[&str] = &[
+pub(crate) const FUNCTION: &[&str] = &[
     "++FUNCTION(HAA1100).",
     "++VER(Z038).",
     "++MAC(M1) DISTLIB(AMACLIB) SYSLIB(MACLIB).",
@@ -20,13 +20,14 @@ const FUNCTION_AND_FIX: &[&str] = &[
     "++VER(Z038) FMID(HAA1100).",
 ];
 
-const RECEIVE: &[&str] = &["SET BDY(GLOBAL).", "RECEIVE SYSMODS."];
+pub(crate) const RECEIVE: &[&str] = &["SET BDY(GLOBAL).", "RECEIVE SYSMODS."];
 
-const RECEIVED: &str = "SET GLOBAL\nRC 00\nRECEIVE GLOBAL\nHAA1100 FUNCTION RECEIVED\nRC 00\n";
+pub(crate) const RECEIVED: &str =
+    "SET GLOBAL\nRC 00\nRECEIVE GLOBAL\nHAA1100 FUNCTION RECEIVED\nRC 00\n";
 
-const INSTALL: &[&str] = &["SET BDY(TGT1).", "APPLY SELECT(HAA1100)."];
+pub(crate) const INSTALL: &[&str] = &["SET BDY(TGT1).", "APPLY SELECT(HAA1100)."];
 
-const INSTALLED: &str = "SET TGT1\nRC 00\nAPPLY TGT1\nHAA1100 FUNCTION APPLIED\nRC 00\n";
+pub(crate) const INSTALLED: &str = "SET TGT1\nRC 00\nAPPLY TGT1\nHAA1100 FUNCTION APPLIED\nRC 00\n";
 
 /// A function and its fix are received and applied in one job.
 pub(crate) const FUNCTION_WITH_FIX: &[Step] = &[Step {
@@ -38,6 +39,7 @@ pub(crate) const FUNCTION_WITH_FIX: &[Step] = &[Step {
     ],
     ptfin: FUNCTION_AND_FIX,
     rest: "",
+    hold: &[],
     report: "SET GLOBAL\nRC 00\nRECEIVE GLOBAL\nHAA1100 FUNCTION RECEIVED\nUA00024 PTF      RECEIVED\nRC 00\nSET TGT1\nRC 00\nAPPLY TGT1\nHAA1100 FUNCTION APPLIED\nUA00024 PTF      APPLIED\nRC 00\n",
     code: 0,
 }];
@@ -52,6 +54,7 @@ pub(crate) const FIX_ALONE: &[Step] = &[Step {
     ],
     ptfin: FUNCTION_AND_FIX,
     rest: "",
+    hold: &[],
     report: "SET GLOBAL\nRC 00\nRECEIVE GLOBAL\nHAA1100 FUNCTION RECEIVED\nUA00024 PTF      RECEIVED\nRC 00\nSET TGT1\nRC 00\nAPPLY TGT1\nUA00024 PTF      FAILED\n  NEED FMID HAA1100\n  CAUSER UA00024\nRC 08\n",
     code: 8,
 }];
@@ -62,6 +65,7 @@ pub(crate) const NO_COMMAND: &[Step] = &[
         cntl: RECEIVE,
         ptfin: FUNCTION,
         rest: "",
+        hold: &[],
         report: RECEIVED,
         code: 0,
     },
@@ -69,6 +73,7 @@ pub(crate) const NO_COMMAND: &[Step] = &[
         cntl: INSTALL,
         ptfin: &[],
         rest: "",
+        hold: &[],
         report: INSTALLED,
         code: 0,
     },
@@ -76,6 +81,7 @@ pub(crate) const NO_COMMAND: &[Step] = &[
         cntl: &[],
         ptfin: &[],
         rest: "",
+        hold: &[],
         report: "",
         code: 0,
     },
@@ -87,6 +93,7 @@ pub(crate) const BAD_PTFIN: &[Step] = &[
         cntl: RECEIVE,
         ptfin: FUNCTION,
         rest: "",
+        hold: &[],
         report: RECEIVED,
         code: 0,
     },
@@ -94,6 +101,7 @@ pub(crate) const BAD_PTFIN: &[Step] = &[
         cntl: RECEIVE,
         ptfin: &[""],
         rest: "X",
+        hold: &[],
         report: "SET GLOBAL\nRC 00\nRECEIVE GLOBAL\nREFUSED Cm4 RECORD 2 Mc1\nRC 12\n",
         code: 12,
     },
@@ -101,6 +109,7 @@ pub(crate) const BAD_PTFIN: &[Step] = &[
         cntl: RECEIVE,
         ptfin: &["++PTF(UA00001)"],
         rest: "",
+        hold: &[],
         report: "SET GLOBAL\nRC 00\nRECEIVE GLOBAL\nREFUSED Cm4 RECORD 1 Mc1\nRC 12\n",
         code: 12,
     },
@@ -112,6 +121,7 @@ pub(crate) const AGAIN: &[Step] = &[
         cntl: RECEIVE,
         ptfin: FUNCTION,
         rest: "",
+        hold: &[],
         report: RECEIVED,
         code: 0,
     },
@@ -119,6 +129,7 @@ pub(crate) const AGAIN: &[Step] = &[
         cntl: INSTALL,
         ptfin: &[],
         rest: "",
+        hold: &[],
         report: INSTALLED,
         code: 0,
     },
@@ -135,6 +146,7 @@ pub(crate) const AGAIN: &[Step] = &[
         ],
         ptfin: &["++PTF(UA00024).", "++VER(Z038) FMID(HAA1100)."],
         rest: "",
+        hold: &[],
         report: "SET GLOBAL\nRC 00\nRECEIVE GLOBAL\nUA00024 PTF      RECEIVED\nRC 00\nSET TGT1\nRC 00\nAPPLY TGT1 CHECK\nUA00024 PTF      APPLIED\nRC 00\nAPPLY TGT1\nUA00024 PTF      APPLIED\nRC 00\nAPPLY TGT1\nUA00024 PTF      ALREADY\nRC 04\nSET GLOBAL\nRC 00\nRECEIVE GLOBAL\nUA00024 PTF      ALREADY\nRC 04\n",
         code: 4,
     },
@@ -142,6 +154,7 @@ pub(crate) const AGAIN: &[Step] = &[
         cntl: &["APPLY SELECT(UA00099)."],
         ptfin: &[],
         rest: "",
+        hold: &[],
         report: "APPLY -\nREFUSED Cm1\nRC 12\n",
         code: 12,
     },
@@ -161,6 +174,7 @@ pub(crate) const REFUSALS: &[Step] = &[
         ],
         ptfin: &[],
         rest: "",
+        hold: &[],
         report: "SET TGT2\nREFUSED Cm2\nRC 12\nSET TGT1\nRC 00\nRECEIVE TGT1\nREFUSED Cm3\nRC 12\nAPPLY TGT1\nNOTHING\nRC 04\nAPPLY TGT1\nUA00099 -        MISSING\nRC 08\nSET DLB1\nRC 00\nAPPLY DLB1\nREFUSED Cm3\nRC 12\n",
         code: 12,
     },
@@ -168,6 +182,7 @@ pub(crate) const REFUSALS: &[Step] = &[
         cntl: &["SET BDY(TGT1).", "APPLY CHECK CHECK."],
         ptfin: &[],
         rest: "",
+        hold: &[],
         report: "CONTROL RECORD 2 Cn3\n",
         code: 12,
     },

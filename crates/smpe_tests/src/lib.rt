@@ -6,4 +6,6 @@ mod cards;
 #[cfg(test)]
 mod play;
 #[cfg(test)]
+mod statements;
+#[cfg(test)]
 mod tests;

@@ -16,6 +16,7 @@ pub(crate) struct Step {
     pub(crate) ptfin: &'static [&'static str],
     /// What stands behind the last record of the PTFIN.
     pub(crate) rest: &'static str,
+    pub(crate) hold: &'static [&'static str],
     pub(crate) report: &'static str,
     pub(crate) code: u8,
 }
@@ -36,6 +37,12 @@ pub(crate) fn records(alloc: Global, cards: &[&str]) -> Result<Vec<u8>, Fail> {
         put_record(&mut bytes, card)?;
     }
     Ok(bytes)
+}
+
+fn ptfin_of(alloc: Global, step: &Step) -> Result<Vec<u8>, Fail> {
+    let mut ptfin = records(alloc, step.ptfin)?;
+    ptfin.extend_from_slice(step.rest.as_bytes())?;
+    Ok(ptfin)
 }
 
 fn fault(error: JobError) -> Fail {
@@ -92,22 +99,33 @@ fn define<S: Alter>(alloc: Global, store: &mut Store<S>) -> Result<(), Fail> {
     }
 }
 
-fn plays<S: Alter>(alloc: Global, store: &mut Store<S>, step: &Step) -> Result<bool, Fail> {
-    let cntl = records(alloc, step.cntl)?;
-    let mut ptfin = records(alloc, step.ptfin)?;
-    ptfin.extend_from_slice(step.rest.as_bytes())?;
-    let job = Job::Run {
-        date: YyDdd::new(2024, 138),
-        cntl: cntl.as_slice(),
-        ptfin: ptfin.as_slice(),
-    };
+/// Whether the job prints and answers what the step says.
+fn is_answered<S: Alter>(
+    alloc: Global,
+    store: &mut Store<S>,
+    job: &[Job<'_>],
+    step: &Step,
+) -> Result<bool, Fail> {
     let mut report = Vec::new(alloc);
-    let answers = printed(alloc, store, &[job], &mut report)?;
+    let answers = printed(alloc, store, job, &mut report)?;
     let same = report.as_slice() == step.report.as_bytes();
     match answers.as_slice() {
         [Answer::Code(code)] => Ok(same && *code == step.code),
         _ => Ok(false),
     }
+}
+
+fn plays<S: Alter>(alloc: Global, store: &mut Store<S>, step: &Step) -> Result<bool, Fail> {
+    let cntl = records(alloc, step.cntl)?;
+    let ptfin = ptfin_of(alloc, step)?;
+    let hold = records(alloc, step.hold)?;
+    let job = [Job::Run {
+        date: YyDdd::new(2024, 138),
+        cntl: cntl.as_slice(),
+        ptfin: ptfin.as_slice(),
+        hold: hold.as_slice(),
+    }];
+    is_answered(alloc, store, &job, step)
 }
 
 /// A store over the connection.

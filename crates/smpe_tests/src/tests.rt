@@ -5,6 +5,7 @@ ghost use Rattle.sqlite_disk.specs.Memory.{memory_is_usable};
 
 use crate::cards::{AGAIN, BAD_PTFIN, FIX_ALONE, FUNCTION_WITH_FIX, NO_COMMAND, REFUSALS};
 use crate::play::{Step, play, play_each};
+use crate::statements::{BAD_HOLDS, HOLDS, LOOP, SOURCES_AND_REJECTS};
 use sqlite::{Connection, Error, FileStore, Files, Options};
 use sqlite_disk::Memory;
 use std::alloc::Global;
@@ -17,6 +18,10 @@ const ALL: &[&[Step]] = &[
     BAD_PTFIN,
     AGAIN,
     REFUSALS,
+    HOLDS,
+    SOURCES_AND_REJECTS,
+    LOOP,
+    BAD_HOLDS,
 ];
 
 fn in_memory_each(alloc: Global, steps: &[Step]) -> Result<(), Fail> {
