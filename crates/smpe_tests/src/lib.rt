@@ -6,6 +6,6 @@ mod cards;
 #[cfg(test)]
 mod play;
 #[cfg(test)]
-mod statements;
+mod receives;
 #[cfg(test)]
 mod tests;

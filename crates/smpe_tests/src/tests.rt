@@ -5,7 +5,7 @@ ghost use Rattle.sqlite_disk.specs.Memory.{memory_is_usable};
 
 use crate::cards::{AGAIN, BAD_PTFIN, FIX_ALONE, FUNCTION_WITH_FIX, NO_COMMAND, REFUSALS};
 use crate::play::{Step, play, play_each};
-use crate::statements::{BAD_HOLDS, HOLDS, LOOP, SOURCES_AND_REJECTS};
+use crate::receives::{BAD_HOLDS, HOLDS, LOOP, SOURCES_AND_REJECTS};
 use sqlite::{Connection, Error, FileStore, Files, Options};
 use sqlite_disk::Memory;
 use std::alloc::Global;
