@@ -3,13 +3,10 @@ use Rattle.std.proofs.Common.{◌≡◌, ◌⊎◌, ◌∙◌, ◌<◌, ◌+◌,
 use Rattle.std.specs.Prelude.{IsSome, is_some, find, option_map}
 use Rattle.std.specs.List.{AllByRecursion}
 use Rattle.std.specs.Str.{bytes_eq}
-use Rattle.std.specs.Ordering.{nat_cmp}
-use Rattle.std.specs.Cmp.Lexicographic.{slice_cmp}
 use Rattle.std.proofs.lemmas.List.Elements.{All-more, All-weaker, recursion_from_All}
 use Rattle.indexmap.specs.IndexMap.{get, IsUnique}
 use Rattle.terms.specs.Types.{Text, Zone, NamedZone}
 use Rattle.terms.specs.Lookups.{is_before}
-use Rattle.terms.specs.Rising.{Rises}
 use Rattle.terms.proofs.Apart.{pairs_unmap}
 use Rattle.terms.proofs.GlobalLookups.{same_from}
 use Rattle.terms.proofs.SameLists.{find-gives}
@@ -19,7 +16,6 @@ use Rattle.rejecting.specs.Rejections.{AppliesAlike}
 use Rattle.rejecting.proofs.Zones.{applies-alike}
 use Rattle.store.specs.Kept.{kept}
 use Rattle.session.specs.declared.performing.Session.{Session}
-use Rattle.session.specs.Sessions.{IsSessionOf}
 use Rattle.session.specs.Steps.{is_known, IsSought, AreSought, HasAllZones}
 use Rattle.session.proofs.Places.{none-global}
 use Rattle.session.proofs.Seeking.{or_right}

@@ -22,7 +22,6 @@ use Rattle.receiving.specs.External.{IsExternal}
 use Rattle.upkeep.proofs.HoldFileForms.{IsHoldItem, hold_file_formed}
 use Rattle.upkeep.proofs.ReceivingForms.{take_forms}
 use Rattle.session.specs.Received.{AreTaken}
-use Rattle.session.specs.Steps.{LeadsTo}
 use Rattle.session.proofs.Edits.{fits-append}
 use Rattle.session.proofs.Leading.{LeadsBy, leads-by, headed}
 

@@ -1,5 +1,5 @@
 -- What SET finds, and the session of the state that it leads to.
-use Rattle.std.proofs.Common.{◌≡◌, ◌⊎◌, ◌∙◌, Bool, true, false, ◌||◌, cond, ℕ, List, [], Some, None, refl, sym, ap, subst, inl, inr}
+use Rattle.std.proofs.Common.{◌≡◌, ◌⊎◌, ◌∙◌, Bool, true, false, ◌||◌, cond, List, [], Some, None, refl, sym, ap, subst, inl, inr}
 use Rattle.std.specs.Prelude.{is_some, IsSome}
 use Rattle.std.specs.Str.{bytes_eq}
 use Rattle.indexmap.specs.IndexMap.{get, Updates}
