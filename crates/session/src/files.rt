@@ -3,6 +3,7 @@
 use std::marker::Model;
 
 /// The files that RECEIVE reads: PTFIN and the hold file.
+#[derive(Drop)]
 pub struct Files<'a> {
     pub ptfin: &'a [u8],
     pub holds: &'a [u8],

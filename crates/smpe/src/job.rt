@@ -86,7 +86,5 @@ pub fn run_job<S: Alter, W: Sink>(
     };
     let mut session = Session::begin(alloc, store)?;
     let files = Files { ptfin, holds: hold };
-    let ended = run_commands(alloc, &mut session, store, date, &files, &commands, w);
-    let Files { ptfin: _, holds: _ } = files;
-    ended
+    run_commands(alloc, &mut session, store, date, &files, &commands, w)
 }

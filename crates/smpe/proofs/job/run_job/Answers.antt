@@ -42,9 +42,9 @@ returns-in_err-session-clause-ended g c clean s keeps =
 
 pub returns-clause-ended : goal.returns-clause-ended
 returns-clause-ended g c clean s keeps =
-    let loaded = c.in_ok-session.ensures.ended (c.run_commands-ended.ensures.clean clean) s keeps in
+    let loaded = c.in_ok-session.ensures.ended (c.run_commands.ensures.clean clean) s keeps in
     let old = g.W.Sink.taken c.args.w.now in
-    let new = g.W.Sink.taken c.run_commands-ended.new.w in
-    begun g.S.Store c.run_commands-ended.new.store s c.args.date c.args.cntl.now (record { ptfin = c.args.ptfin.now; holds = c.args.hold.now }) c.begin.new.store c.run_commands-ended.new.session (map command_of c.in-Ok.commands.items) old new
-    c.run_commands-ended.result c.in-Ok.ensures.commands loaded.1
-    (rw c.deref.ensures.value at (c.run_commands-ended.ensures.ended clean _ loaded.0 loaded.1))
+    let new = g.W.Sink.taken c.run_commands.new.w in
+    begun g.S.Store c.run_commands.new.store s c.args.date c.args.cntl.now (record { ptfin = c.args.ptfin.now; holds = c.args.hold.now }) c.begin.new.store c.run_commands.new.session (map command_of c.in-Ok.commands.items) old new
+    c.run_commands.result c.in-Ok.ensures.commands loaded.1
+    (rw c.deref.ensures.value at (c.run_commands.ensures.ended clean _ loaded.0 loaded.1))
