@@ -9,9 +9,9 @@ ghost use Rattle.terms.specs.Install.{Installs};
 ghost use Rattle.change.specs.Puts.{applied_entry, with_entry, after_change, after_sysmod, puts};
 
 use fields::{Id, IdList, YyDdd};
-use global::Global;
 use std::alloc::{AllocError, Global as Heap};
-use sysmods::{Action, ElemChange};
+use sysmods::Global;
+use sysmods_records::{Action, ElemChange};
 use zones::{Element, Entry, Zone, ZoneDelta};
 
 /// What the kept SYSMODs, of which no two change one element, put into the zone on this date.

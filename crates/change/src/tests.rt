@@ -12,10 +12,10 @@ ghost use Rattle.change.specs.Ready.{replaces_as_function, is_ready};
 
 use crate::install;
 use fields::{Id, IdList, Name, Srel, YyDdd, ZoneName};
-use global::{Global, VerChoice};
 use std::alloc::Global as Heap;
 use std::test::Fail;
-use sysmods::{Action, ElemChange, Sysmod, Ver};
+use sysmods::{Global, VerChoice};
+use sysmods_records::{Action, ElemChange, Sysmod, Ver};
 use terms::{Edit, ElemType, Kind, ZoneKind};
 use text80::{Line, Numbered, RECORD};
 use zones::{Element, Entry, Zone, ZoneDelta};

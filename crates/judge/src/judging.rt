@@ -10,9 +10,9 @@ use crate::rows::{all_eligible, all_rows};
 use crate::sharing::shared_places;
 use crate::wanted::wants_of;
 use fields::{Id, IdList};
-use global::Global;
 use solve::System;
 use std::alloc::{AllocError, Global as Heap};
+use sysmods::Global;
 use terms::{NeedKind, Test};
 use zones::Zone;
 

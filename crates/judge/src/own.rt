@@ -4,14 +4,14 @@ ghost use Rattle.std.specs.List.{list_any};
 ghost use Rattle.terms.specs.Types.{zone_number};
 ghost use Rattle.terms.specs.Lookups.{changes_of};
 ghost use Rattle.terms.specs.Over.{IsOver};
-ghost use Rattle.global.specs.Choices.{choice};
+ghost use Rattle.sysmods.specs.Choices.{choice};
 ghost use Rattle.judge.specs.Own.{is_foreign_at, IsLower, IsLowerAt, HasFaults, passes};
 ghost use Rattle.judge.specs.Placed.{Beside};
 
 use fields::Id;
-use global::{Global, VerChoice};
 use std::alloc::{AllocError, Global as Heap};
-use sysmods::ElemChange;
+use sysmods::{Global, VerChoice};
+use sysmods_records::ElemChange;
 use terms::ZoneKind;
 use zones::{Element, Zone};
 

@@ -6,10 +6,10 @@ ghost use Rattle.judge.specs.Sharing.{change_key, key_eq, a_claim, AreClaims, Ha
 
 use crate::own::{OwnFaults, changes_of, own_at};
 use fields::{Id, Name};
-use global::Global;
 use indexmap::{IndexMap, IndexSet};
 use std::alloc::{AllocError, Global as Heap};
-use sysmods::ElemChange;
+use sysmods::Global;
+use sysmods_records::ElemChange;
 use terms::ElemType;
 
 /// A candidate, by its place, changes an element.

@@ -4,9 +4,9 @@ ghost use Rattle.terms.specs.Problem.{IsProblem};
 ghost use Rattle.judge.specs.Wanted.{open_fmid, ArePlaces, AddsWant, AddsOpen, HasWants};
 
 use fields::{Id, IdList};
-use global::{Global, VerChoice};
 use solve::{Need, System};
 use std::alloc::{AllocError, Global as Heap};
+use sysmods::{Global, VerChoice};
 use terms::NeedKind;
 use zones::Zone;
 

@@ -15,8 +15,8 @@ use Rattle.terms.specs.Texts.{IsNumbered, IsReplacement, IsActionOf, IsUpdate, I
 use Rattle.terms.specs.Statements.{changed_type, SaysChange, HasAction, IsChangeOf}
 use Rattle.terms.specs.Ptfin.{Begun, sysmod_in, IsUpdateWord, HasValue, IsWithin}
 use Rattle.terms.proofs.Updates.{numbered-no_fault, update-no_fault}
-use Rattle.statements.specs.declared.fault.StatementError.{StatementError}
-use Rattle.statements.specs.declared.fault.StatementError.TheVariants.{Memory, Fault}
+use Rattle.mcs_statements.specs.declared.fault.StatementError.{StatementError}
+use Rattle.mcs_statements.specs.declared.fault.StatementError.TheVariants.{Memory, Fault}
 use Rattle.mcs.specs.Elements.{HasNames, IsTextError, IsUpdateTextError}
 use Rattle.mcs.specs.Said.{IsSaidFault, IsSaidError}
 

@@ -9,10 +9,10 @@ use Rattle.terms.specs.Words.{Word}
 use Rattle.terms.specs.Statements.{Statement, SaysHeader, SaysVer, SaysIf, SaysHold, SaysAssign, SaysChange, IsOwnHoldOf}
 use Rattle.terms.specs.Ptfin.{Begun, sysmod_in, is_last, with_if, SoFar, nothing, items_of, after, IsGoodStatement, IsStatementFault, BeginsWithStatements, IsPtfin}
 use Rattle.terms.proofs.ExactPtfin.{ptfin_fault-no_items}
-use Rattle.statements.specs.declared.fault.StatementError.{StatementError}
-use Rattle.statements.specs.declared.fault.StatementError.TheVariants as statement
-use Rattle.statements.specs.declared.error.McsError.{McsError}
-use Rattle.statements.specs.declared.error.McsError.TheVariants.{Memory, Fault}
+use Rattle.mcs_statements.specs.declared.fault.StatementError.{StatementError}
+use Rattle.mcs_statements.specs.declared.fault.StatementError.TheVariants as statement
+use Rattle.mcs_statements.specs.declared.error.McsError.{McsError}
+use Rattle.mcs_statements.specs.declared.error.McsError.TheVariants.{Memory, Fault}
 use Rattle.mcs.specs.Files.{Suits, error_at, IsPtfinError, IsRestError}
 use Rattle.mcs.specs.Said.{IsStatementError}
 

@@ -9,8 +9,8 @@ use Rattle.terms.specs.Types.{Text, Lines, Sysmod}
 use Rattle.terms.specs.Statement.{Piece}
 use Rattle.terms.specs.Ptfin.{Begun, sysmod_in, MayStand, IsKnown, IsPlaced, IsMisplaced, Disorder, CannotStand, IsGoodStatement}
 use Rattle.mcs.specs.declared.said.Statement.{Statement as Read}
-use Rattle.statements.specs.declared.fault.StatementError.{StatementError}
-use Rattle.statements.specs.declared.fault.StatementError.TheVariants.{Memory, Fault}
+use Rattle.mcs_statements.specs.declared.fault.StatementError.{StatementError}
+use Rattle.mcs_statements.specs.declared.fault.StatementError.TheVariants.{Memory, Fault}
 use Rattle.mcs.specs.Said.{IsSaid, IsSaidError, IsStatementError}
 use Rattle.mcs.specs.Statements.{statement_of}
 

@@ -10,10 +10,10 @@ use Rattle.mcs.specs.declared.file.Item.{Item}
 use Rattle.mcs.specs.declared.file.Item.TheVariants.{Sysmod, Assign}
 use Rattle.mcs.specs.declared.file.Begun.{Begun}
 use Rattle.mcs.specs.declared.file.SoFar.{SoFar}
-use Rattle.statements.specs.declared.fault.StatementError.{StatementError}
-use Rattle.statements.specs.declared.fault.StatementError.TheVariants as statement
-use Rattle.statements.specs.declared.error.McsError.{McsError}
-use Rattle.statements.specs.declared.error.McsError.TheVariants.{Memory, Fault}
+use Rattle.mcs_statements.specs.declared.fault.StatementError.{StatementError}
+use Rattle.mcs_statements.specs.declared.fault.StatementError.TheVariants as statement
+use Rattle.mcs_statements.specs.declared.error.McsError.{McsError}
+use Rattle.mcs_statements.specs.declared.error.McsError.TheVariants.{Memory, Fault}
 
 abbrev pub item_of : Item → terms.Item
 item_of (Sysmod s) = terms.ASysmod s

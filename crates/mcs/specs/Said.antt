@@ -7,8 +7,8 @@ use Rattle.terms.specs.Types.{Text, Lines}
 use Rattle.terms.specs.Statement.{Piece}
 use Rattle.terms.specs.Statements.{Statement}
 use Rattle.terms.specs.Ptfin.{Begun, sysmod_in, HasValue, IsWithin, HasGoodText, IsStatementFault}
-use Rattle.statements.specs.declared.fault.StatementError.{StatementError}
-use Rattle.statements.specs.declared.fault.StatementError.TheVariants.{Memory, Fault}
+use Rattle.mcs_statements.specs.declared.fault.StatementError.{StatementError}
+use Rattle.mcs_statements.specs.declared.fault.StatementError.TheVariants.{Memory, Fault}
 
 -- The statement says so, within its limits and with a good text.
 pub record IsSaid (current : Option Begun) (w : StatementWord) (own : Option Text) (rest : List Piece) (inline : Lines) (s : Statement) : Type 0 where

@@ -9,18 +9,18 @@ ghost use Rattle.terms.specs.Statements.{IsAssignOf};
 ghost use Rattle.operands.specs.Left.{LeavesWords};
 ghost use Rattle.operands.specs.Failing.{Excludes};
 ghost use Rattle.rec80.specs.Views.{left_of, word_of};
-ghost use Rattle.statements.specs.KnownWords.{own_list};
+ghost use Rattle.mcs_statements.specs.KnownWords.{own_list};
 ghost use Rattle.mcs.specs.Files.{begun_in};
 ghost use Rattle.mcs.specs.Said.{IsSaid, IsSaidError};
 ghost use Rattle.mcs.specs.Statements.{statement_of};
 
 use crate::file::{Assign, Begun};
 use crate::said::Statement;
+use mcs_statements::{Known, StatementError, are_operands, no_value};
 use operands::{OperandError, listed_ids, one_member, operand};
 use rec80::{Word, Words};
-use statements::{Known, StatementError, are_operands, no_value};
 use std::alloc::Global;
-use sysmods::{Id, Source};
+use sysmods_records::{Id, Source};
 use terms::McCode;
 
 /// The operands of `++ASSIGN`.

@@ -8,7 +8,7 @@ ghost use Rattle.mcs.specs.Files.{Suits, begun_in, so_far, items};
 use crate::said::Statement;
 use std::alloc::{AllocError, Global};
 use std::marker::Model;
-use sysmods::{ElemChange, Hold, Id, IfReq, Source, Srel, Sysmod, Ver};
+use sysmods_records::{ElemChange, Hold, Id, IfReq, Source, Srel, Sysmod, Ver};
 
 /// `++ASSIGN`: the source that the ids get, as the statement has them.
 #[derive(Drop)]

@@ -2,7 +2,7 @@ ghost use Rattle.std.specs.Prelude.{◌≡◌, List, IfOk, IfErr};
 ghost use Rattle.terms.specs.declared.statement_words.StatementWord.TheVariants as word;
 ghost use Rattle.terms.specs.Statement.{Piece, HasSolid};
 ghost use Rattle.rec80.specs.Views.{left_of};
-ghost use Rattle.statements.specs.KnownWords.{own_list};
+ghost use Rattle.mcs_statements.specs.KnownWords.{own_list};
 ghost use Rattle.mcs.specs.Files.{begun_in};
 ghost use Rattle.mcs.specs.Said.{IsSaid, IsSaidError};
 ghost use Rattle.mcs.specs.Statements.{statement_of};
@@ -10,7 +10,7 @@ ghost use Rattle.mcs.specs.Statements.{statement_of};
 use crate::ended::is_ended;
 use crate::file::Begun;
 use crate::said::Statement;
-use statements::{Known, StatementError, one_id};
+use mcs_statements::{Known, StatementError, one_id};
 use terms::{Kind, McCode};
 
 /// What a header says.

@@ -7,18 +7,18 @@ ghost use Rattle.terms.specs.Statement.{Piece, HasSolid};
 ghost use Rattle.terms.specs.Statements.{IsOwnHoldOf};
 ghost use Rattle.operands.specs.Failing.{Excludes};
 ghost use Rattle.rec80.specs.Views.{left_of};
-ghost use Rattle.statements.specs.KnownWords.{own_list};
-ghost use Rattle.statements.specs.Holds.{ArePrintable};
+ghost use Rattle.mcs_statements.specs.KnownWords.{own_list};
+ghost use Rattle.mcs_statements.specs.Holds.{ArePrintable};
 ghost use Rattle.mcs.specs.Files.{begun_in};
 ghost use Rattle.mcs.specs.Said.{IsSaid, IsSaidError};
 ghost use Rattle.mcs.specs.Statements.{statement_of};
 
 use crate::file::Begun;
 use crate::said::Statement;
+use mcs_statements::{Known, StatementError, has_short_comment, no_value, read_hold};
 use operands::OperandError;
-use statements::{Known, StatementError, has_short_comment, no_value, read_hold};
 use std::alloc::Global;
-use sysmods::{Hold, HoldKind, Sysmod};
+use sysmods_records::{Hold, HoldKind, Sysmod};
 use terms::McCode;
 
 /// Whether it is a SYSTEM hold of the SYSMOD.

@@ -7,7 +7,7 @@ ghost use Rattle.terms.specs.Statements.{IsIfOf};
 ghost use Rattle.terms.specs.Ptfin.{is_last};
 ghost use Rattle.operands.specs.Failing.{Excludes};
 ghost use Rattle.rec80.specs.Views.{left_of, word_of};
-ghost use Rattle.statements.specs.KnownWords.{own_list};
+ghost use Rattle.mcs_statements.specs.KnownWords.{own_list};
 ghost use Rattle.mcs.specs.Files.{begun_of, begun_in};
 ghost use Rattle.mcs.specs.Said.{IsSaid, IsSaidError};
 ghost use Rattle.mcs.specs.Statements.{statement_of};
@@ -15,11 +15,11 @@ ghost use Rattle.mcs.specs.Statements.{statement_of};
 use crate::ended::is_ended;
 use crate::file::Begun;
 use crate::said::Statement;
+use mcs_statements::{Known, StatementError, no_value, one_id};
 use operands::{OperandError, ids};
 use rec80::{Word, Words};
-use statements::{Known, StatementError, no_value, one_id};
 use std::alloc::Global;
-use sysmods::{IfReq, Sysmod, Ver};
+use sysmods_records::{IfReq, Sysmod, Ver};
 use terms::McCode;
 
 /// Whether the word is this one.

@@ -17,5 +17,5 @@ mod tests;
 mod ver;
 
 pub use file::{Assign, Item};
+pub use mcs_statements::McsError;
 pub use ptfin::read_ptfin;
-pub use statements::McsError;

@@ -3,13 +3,13 @@ ghost use Rattle.terms.specs.declared.statement_words.StatementWord.TheVariants 
 ghost use Rattle.terms.specs.declared.kinds.Kind.TheVariants.{Function};
 ghost use Rattle.terms.specs.Statements.{changed_type};
 ghost use Rattle.terms.specs.Ptfin.{MayStand, IsSecond, IsUpdateWord, Disorder, IsMisplaced, sysmod_in};
-ghost use Rattle.statements.specs.KnownWords.{own_list};
+ghost use Rattle.mcs_statements.specs.KnownWords.{own_list};
 ghost use Rattle.mcs.specs.Files.{begun_in};
 
 use crate::file::Begun;
+use mcs_statements::{Known, one_name, one_srel};
 use rec80::Record;
-use statements::{Known, one_name, one_srel};
-use sysmods::{Kind, Sysmod};
+use sysmods_records::{Kind, Sysmod};
 use terms::{ElemType, StatementWord};
 
 /// The type of the element that a statement of the word changes.

@@ -3,13 +3,13 @@ ghost use Rattle.terms.specs.Records.{IsRecord};
 ghost use Rattle.terms.specs.Statements.{Statement as AnyStatement};
 ghost use Rattle.terms.specs.Ptfin.{SoFar as AnySoFar, nothing, items_of, BeginsWithStatements, IsPtfin};
 ghost use Rattle.terms.specs.Types.{Item as AnyItem};
-ghost use Rattle.statements.specs.declared.error.McsError.TheVariants.{Memory};
+ghost use Rattle.mcs_statements.specs.declared.error.McsError.TheVariants.{Memory};
 ghost use Rattle.mcs.specs.Files.{error_at, items, so_far, IsPtfinError, IsRestError};
 
 use crate::file::{Item, SoFar};
 use crate::statement::read_statement;
+use mcs_statements::{McsError, StatementError};
 use rec80::{Groups, records};
-use statements::{McsError, StatementError};
 use std::alloc::Global;
 use terms::McCode;
 

@@ -1,5 +1,5 @@
 use crate::file::Assign;
-use sysmods::{ElemChange, Hold, Id, IfReq, Kind, Ver};
+use sysmods_records::{ElemChange, Hold, Id, IfReq, Kind, Ver};
 
 /// What one statement says. A `++VER` stands here without its `++IF`s.
 #[derive(Drop)]

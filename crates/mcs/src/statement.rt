@@ -14,8 +14,8 @@ use crate::ifs::if_statement;
 use crate::order::is_misplaced;
 use crate::said::Statement;
 use crate::ver::ver_statement;
+use mcs_statements::{StatementError, begun};
 use rec80::{Group, Record};
-use statements::{StatementError, begun};
 use std::alloc::Global;
 use terms::{ElemType, McCode, StatementWord};
 

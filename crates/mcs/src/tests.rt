@@ -1,6 +1,6 @@
 use super::*;
 use std::test::Fail;
-use sysmods::{Action, ElemType, HoldKind};
+use sysmods_records::{Action, ElemType, HoldKind};
 use terms::McCode;
 
 /// A record with this text, and with a number in columns 73 to 80.

@@ -11,7 +11,7 @@ ghost use Rattle.terms.specs.Words.{IsShort};
 ghost use Rattle.operands.specs.Left.{LeavesWords};
 ghost use Rattle.operands.specs.Failing.{Excludes};
 ghost use Rattle.rec80.specs.Views.{left_of};
-ghost use Rattle.statements.specs.KnownWords.{own_list};
+ghost use Rattle.mcs_statements.specs.KnownWords.{own_list};
 ghost use Rattle.mcs.specs.VerOperands.{HasLists};
 ghost use Rattle.mcs.specs.Files.{begun_in};
 ghost use Rattle.mcs.specs.Said.{IsSaid, IsSaidError};
@@ -20,13 +20,13 @@ ghost use Rattle.mcs.specs.Statements.{statement_of};
 use crate::file::Begun;
 use crate::said::Statement;
 use fields::{Id, IdList, Srel};
-use operands::{OperandError, operand};
-use rec80::Words;
-use statements::{
+use mcs_statements::{
     Known, StatementError, are_operands, listed_ids, no_value, one_srel, optional_id,
 };
+use operands::{OperandError, operand};
+use rec80::Words;
 use std::alloc::Global;
-use sysmods::{Kind, Sysmod, Ver};
+use sysmods_records::{Kind, Sysmod, Ver};
 use terms::McCode;
 
 /// The operands of `++VER`.

@@ -9,9 +9,9 @@ use Rattle.terms.specs.Choice.{Choice, by_srel}
 use Rattle.terms.specs.Candidates.{is_installable, is_open, is_start, is_growing_start, is_mass_chosen, BringsIn, IsClosedPair, AreCandidates}
 use Rattle.terms.proofs.Ids.{is_in-from_Contains, Contains-from_is_in}
 use Rattle.terms.proofs.Apart.{here, here_or, none_in}
-use Rattle.paths.specs.Seen.{AddsAll, IsGoing}
-use Rattle.paths.proofs.Growth.{adds-none, adds-insert}
-use Rattle.paths.proofs.Going.{going-start, going-next, going-end}
+use Rattle.sysmods_paths.specs.Seen.{AddsAll, IsGoing}
+use Rattle.sysmods_paths.proofs.Growth.{adds-none, adds-insert}
+use Rattle.sysmods_paths.proofs.Going.{going-start, going-next, going-end}
 use Rattle.indexmap.specs.IndexSet.{insert_key}
 use Rattle.std.specs.Str.{bytes_eq}
 use Rattle.select.specs.Growing.{IsGrowing, brought_in}

@@ -8,8 +8,8 @@ use crate::scope::Scope;
 use crate::start::start;
 use cntl::Selection;
 use fields::IdList;
-use global::Global;
 use std::alloc::{AllocError, Global as Heap};
+use sysmods::Global;
 use zones::Zone;
 
 // The start and what it brings in.

@@ -9,8 +9,8 @@ ghost use Rattle.terms.specs.Candidates.{takes_kind, forfmid_ids, passes_filters
 use crate::served::is_nil;
 use cntl::Selection;
 use fields::{Id, IdList, SourceList, Srel};
-use global::Global;
-use sysmods::{Sysmod, Ver};
+use sysmods::Global;
+use sysmods_records::{Sysmod, Ver};
 use terms::Kind;
 use zones::Zone;
 

@@ -5,7 +5,7 @@ ghost use Rattle.indexmap.specs.IndexSet.{insert_key};
 ghost use Rattle.terms.specs.Types.{Id as AnId};
 ghost use Rattle.terms.specs.Lookups.{at_most_one, is_in};
 ghost use Rattle.terms.specs.Candidates.{is_start};
-ghost use Rattle.paths.specs.Seen.{AddsAll};
+ghost use Rattle.sysmods_paths.specs.Seen.{AddsAll};
 ghost use Rattle.select.specs.Growing.{IsGrowing, brought_in};
 
 use crate::scope::Scope;

@@ -12,8 +12,8 @@ use crate::scope::Scope;
 use crate::start::{is_named, named_ids};
 use cntl::Selection;
 use fields::{Id, IdList};
-use global::Global;
 use std::alloc::{AllocError, Global as Heap};
+use sysmods::Global;
 use terms::NotChosen;
 use zones::Zone;
 

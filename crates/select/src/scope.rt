@@ -8,7 +8,7 @@ ghost use Rattle.terms.specs.Candidates.{is_installable, is_open};
 use crate::served::{changes_plainly, has_plain_ver, is_served_zone, is_unheld};
 use cntl::Selection;
 use fields::Id;
-use global::{Global, VerChoice};
+use sysmods::{Global, VerChoice};
 use zones::Zone;
 
 /// What an APPLY chooses from and by, and whether the zone is served.

@@ -8,8 +8,8 @@ ghost use Rattle.terms.specs.Changes.{is_replacement};
 ghost use Rattle.terms.specs.Served.{is_plain, has_plain_ver, has_plain_changes, is_unheld, is_served_zone};
 
 use fields::{Id, Srel};
-use global::{Global, VerChoice};
-use sysmods::{Action, ElemChange, Sysmod, Ver};
+use sysmods::{Global, VerChoice};
+use sysmods_records::{Action, ElemChange, Sysmod, Ver};
 use terms::{HoldKind, Kind};
 use zones::{Entry, Zone};
 

@@ -9,8 +9,8 @@ use crate::filters::{has_mass_choice, passes_filters};
 use crate::scope::Scope;
 use cntl::Selection;
 use fields::Id;
-use global::Global;
 use std::alloc::{AllocError, Global as Heap};
+use sysmods::Global;
 
 fn passes(scope: &Scope, id: Id) -> bool
     ensures { result ≡ option_map_or (passes_filters scope.now.global.now scope.now.zone.now scope.now.selection.now) (sysmod_of scope.now.global.now id) false }

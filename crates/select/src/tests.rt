@@ -4,10 +4,10 @@ ghost use Rattle.std.specs.Prelude.{◌≤◌, length};
 use crate::{candidates, not_chosen};
 use cntl::Selection;
 use fields::{Id, IdList, Reason, SourceList, Srel, YyDdd};
-use global::Global;
 use std::alloc::Global as Heap;
 use std::test::Fail;
-use sysmods::{Hold, Sysmod, Ver};
+use sysmods::Global;
+use sysmods_records::{Hold, Sysmod, Ver};
 use terms::{HoldKind, Kind, NotChosen, ZoneKind};
 use zones::{Element, Entry, Table, Zone};
 

@@ -16,12 +16,12 @@ use Rattle.machine.specs.Report.{text}
 use Rattle.machine.specs.Machine.{Files, Perform, Performs, Steps}
 use Rattle.machine.specs.Runs.{Runs}
 use Rattle.machine.proofs.Joined.{runs-append, runs-one}
-use Rattle.schema.specs.declared.error.StoreError.{StoreError}
-use Rattle.schema.specs.declared.error.StoreError.TheVariants as store
+use Rattle.store_schema.specs.declared.error.StoreError.{StoreError}
+use Rattle.store_schema.specs.declared.error.StoreError.TheVariants as store
 use Rattle.report.specs.Sent.{WrotePart}
 use Rattle.store.specs.Kept.{Keeps}
-use Rattle.session.specs.declared.performing.Session.{Session}
-use Rattle.session.specs.Sessions.{IsSessionOf, HasPerformed}
+use Rattle.smpe_session.specs.declared.performing.Session.{Session}
+use Rattle.smpe_session.specs.Sessions.{IsSessionOf, HasPerformed}
 use Rattle.smpe.specs.declared.error.JobError.{JobError}
 use Rattle.smpe.specs.declared.error.JobError.TheVariants.{Write}
 use Rattle.smpe.specs.Ending.{EndsEarly}

@@ -8,7 +8,7 @@ use Rattle.machine.specs.State.{State}
 use Rattle.machine.specs.Machine.{Job, Act, Prints, AreFirstActs}
 use Rattle.machine.specs.Runs.{Runs, Ran, Stopped, BrokeOff}
 use Rattle.machine.proofs.Joined.{stopped-after, stopped-more, broke-after, broke-more}
-use Rattle.schema.specs.declared.error.StoreError.TheVariants as store
+use Rattle.store_schema.specs.declared.error.StoreError.TheVariants as store
 use Rattle.report.specs.Sent.{WrotePart}
 use Rattle.store.specs.Kept.{kept, Keeps, Stays}
 use Rattle.store.specs.View.{Tables, TablesIfOpen, Leaves}

@@ -16,17 +16,17 @@ use Rattle.machine.specs.Report.{text}
 use Rattle.machine.specs.Machine as machine
 use Rattle.machine.specs.Machine.{Files, Act, Begin, Perform, Faulty, Define, Prints, Job, RunFiles, NewZone, HasActs, AreFirstActs, RunsJob, Code, or_same, defined}
 use Rattle.machine.specs.Runs.{Stopped}
-use Rattle.schema.specs.declared.error.StoreError.{StoreError}
-use Rattle.schema.specs.declared.error.StoreError.TheVariants as store
+use Rattle.store_schema.specs.declared.error.StoreError.{StoreError}
+use Rattle.store_schema.specs.declared.error.StoreError.TheVariants as store
 use Rattle.report.specs.Sent.{WrotePart}
 use Rattle.store.specs.Kept.{kept, Keeps, Stays}
 use Rattle.store.specs.View.{TablesIfOpen, Leaves}
-use Rattle.session.specs.declared.performing.Session.{Session}
-use Rattle.session.specs.Sessions.{HasBegun}
-use Rattle.defining.specs.declared.error.ZoneFault.{ZoneFault}
-use Rattle.defining.specs.declared.error.ZoneError.{ZoneError}
-use Rattle.defining.specs.declared.error.ZoneError.TheVariants as zone_error
-use Rattle.defining.specs.Definitions.{HasDefined, fault_of}
+use Rattle.smpe_session.specs.declared.performing.Session.{Session}
+use Rattle.smpe_session.specs.Sessions.{HasBegun}
+use Rattle.smpe_zones.specs.declared.error.ZoneFault.{ZoneFault}
+use Rattle.smpe_zones.specs.declared.error.ZoneError.{ZoneError}
+use Rattle.smpe_zones.specs.declared.error.ZoneError.TheVariants as zone_error
+use Rattle.smpe_zones.specs.Definitions.{HasDefined, fault_of}
 use Rattle.smpe.specs.declared.error.JobError.{JobError}
 use Rattle.smpe.specs.declared.error.JobError.TheVariants.{Memory, Write}
 use Rattle.smpe.specs.Ending.{EndsEarly, EndsAmong, EndsJob}

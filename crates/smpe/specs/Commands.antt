@@ -10,11 +10,11 @@ use Rattle.machine.specs.Outcome.{Outcome, job_code}
 use Rattle.machine.specs.Report.{text}
 use Rattle.machine.specs.Machine.{Files, Perform, Steps}
 use Rattle.machine.specs.Runs.{Runs}
-use Rattle.schema.specs.declared.error.StoreError.{StoreError}
-use Rattle.schema.specs.declared.error.StoreError.TheVariants as store
+use Rattle.store_schema.specs.declared.error.StoreError.{StoreError}
+use Rattle.store_schema.specs.declared.error.StoreError.TheVariants as store
 use Rattle.store.specs.Kept.{Keeps}
-use Rattle.session.specs.declared.performing.Session.{Session}
-use Rattle.session.specs.Sessions.{IsSessionOf}
+use Rattle.smpe_session.specs.declared.performing.Session.{Session}
+use Rattle.smpe_session.specs.Sessions.{IsSessionOf}
 use Rattle.smpe.specs.declared.error.JobError.{JobError}
 use Rattle.smpe.specs.declared.error.JobError.TheVariants.{Memory, Store}
 use Rattle.smpe.specs.Ending.{EndsEarly}

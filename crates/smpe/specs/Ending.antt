@@ -7,10 +7,10 @@ use Rattle.machine.specs.State.{State}
 use Rattle.machine.specs.Machine as machine
 use Rattle.machine.specs.Machine.{Act, Prints, RunsJob, RunsJobs, AreFirstActs}
 use Rattle.machine.specs.Runs.{Stopped, BrokeOff}
-use Rattle.schema.specs.declared.error.StoreError.TheVariants as store
+use Rattle.store_schema.specs.declared.error.StoreError.TheVariants as store
 use Rattle.store.specs.Kept.{kept, Keeps}
 use Rattle.store.specs.View.{Tables, TablesIfOpen, Leaves}
-use Rattle.defining.specs.Definitions.{definition, fault_of}
+use Rattle.smpe_zones.specs.Definitions.{definition, fault_of}
 use Rattle.smpe.specs.declared.error.JobError.{JobError}
 use Rattle.smpe.specs.declared.error.JobError.TheVariants.{Memory, Store, Write}
 use Rattle.smpe.specs.declared.jobs.Job.{Job}

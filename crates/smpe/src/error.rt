@@ -1,8 +1,8 @@
 //! Why a job ends before its end.
 
 use report::WriteFault;
-use schema::StoreError;
 use std::alloc::AllocError;
+use store_schema::StoreError;
 use thiserror::Error;
 
 #[derive(Clone, Copy, Debug, PartialEq, Eq, Error)]

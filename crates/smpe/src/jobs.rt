@@ -4,15 +4,15 @@ ghost use Rattle.sqlite.specs.Held.{state};
 ghost use Rattle.sqlite.specs.State.{HasCleanDisk};
 ghost use Rattle.machine.specs.State.{State};
 ghost use Rattle.machine.specs.Machine.{NewZone};
-ghost use Rattle.defining.specs.Definitions.{definition};
+ghost use Rattle.smpe_zones.specs.Definitions.{definition};
 ghost use Rattle.store.specs.Kept.{Keeps};
 ghost use Rattle.smpe.specs.Ending.{EndsJob, EndsJobs, is_write, job_of, answer_of};
 
 use crate::error::JobError;
 use crate::job::run_job;
-use defining::{ZoneError, ZoneFault, define_zone};
 use fields::{Srel, YyDdd, ZoneName};
 use report::Sink;
+use smpe_zones::{ZoneError, ZoneFault, define_zone};
 use sqlite::Alter;
 use std::alloc::Global as Heap;
 use store::Store;

@@ -1,10 +1,10 @@
 //! A job over a database file.
 use fields::{Srel, YyDdd, ZoneName};
 use report::Out;
-use schema::StoreError;
 use smpe::{Answer, Job, JobError, run_jobs};
 use sqlite::{Connection, FileFrom, FileStore, Wary};
 use store::Store;
+use store_schema::StoreError;
 use terms::ZoneKind;
 
 // Opens the database, or makes it.

@@ -1,6 +1,6 @@
 //! The files of a job, read whole.
-use messages::Fault;
 use smpe::JobError;
+use smpe_messages::Fault;
 use std::fs;
 use std::io::ErrorKind;
 

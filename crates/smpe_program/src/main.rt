@@ -6,10 +6,10 @@ mod files;
 mod performing;
 mod words;
 
-use invocation::ArgFault;
-use messages::{FAULT_STATUS, Fault, fault_line};
 use performing::status_of;
 use report::Out;
+use smpe_invocation::ArgFault;
+use smpe_messages::{FAULT_STATUS, Fault, fault_line};
 use std::process::ExitCode;
 use words::asked;
 

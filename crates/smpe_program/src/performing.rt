@@ -2,10 +2,10 @@
 use crate::database::{commands_run, zone_defined};
 use crate::files::{read_file, read_given};
 use fields::{YyDdd, ZoneName};
-use invocation::Invocation;
-use messages::{FAULT_STATUS, Fault, zone_line};
 use report::Out;
 use smpe::{Answer, JobError};
+use smpe_invocation::Invocation;
+use smpe_messages::{FAULT_STATUS, Fault, zone_line};
 
 /// Does what is asked for, and answers the status.
 pub(crate) fn status_of<'a>(rt: &HostRuntime, invocation: &'a Invocation) -> Result<u8, Fault<'a>> {

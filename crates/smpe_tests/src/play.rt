@@ -1,9 +1,9 @@
 //! How jobs are played against a store.
 
-use defining::ZoneFault;
 use fields::{Srel, YyDdd, ZoneName};
 use report::Out;
 use smpe::{Answer, Job, JobError, run_jobs};
+use smpe_zones::ZoneFault;
 use sqlite::{Alter, Connection};
 use std::alloc::Global;
 use std::test::Fail;

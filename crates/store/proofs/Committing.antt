@@ -12,13 +12,13 @@ use Rattle.sqlite.proofs.Callers.{survives_begin}
 use Rattle.terms.specs.declared.kinds.ZoneKind.{ZoneKind}
 use Rattle.terms.specs.Types.{Text}
 use Rattle.terms.specs.Delta.{ZoneDelta, IsDelta}
-use Rattle.rows.specs.Inside.{StaysInside}
-use Rattle.rows.specs.Rows.{HasContents}
-use Rattle.schema.specs.Inventory.{Inventory, IsInventory}
-use Rattle.schema.specs.Stands.{StandsFor, rows_of}
-use Rattle.schema.specs.Tables.{store_schema}
-use Rattle.sysmod_tables.specs.Sysmods.{ChangesGlobal}
-use Rattle.zone_tables.specs.Zones.{ChangesZone, AddsZone, empty_zone}
+use Rattle.store_rows.specs.Inside.{StaysInside}
+use Rattle.store_rows.specs.Rows.{HasContents}
+use Rattle.store_schema.specs.Inventory.{Inventory, IsInventory}
+use Rattle.store_schema.specs.Stands.{StandsFor, rows_of}
+use Rattle.store_schema.specs.Tables.{store_schema}
+use Rattle.store_sysmods.specs.Sysmods.{ChangesGlobal}
+use Rattle.store_zones.specs.Zones.{ChangesZone, AddsZone, empty_zone}
 use Rattle.store.specs.declared.change.Change.{Change}
 use Rattle.store.specs.declared.change.Change.TheVariants.{NewZone, Zone, Global}
 use Rattle.store.specs.declared.change.GlobalEdit.{GlobalEdit}

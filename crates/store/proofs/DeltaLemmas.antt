@@ -18,13 +18,13 @@ use Rattle.terms.specs.Delta.{ZoneDelta, IsDelta, IsChanged, element_eq, after_e
 use Rattle.terms.proofs.Edits.{find-edited, Rises-edited}
 use Rattle.terms.proofs.ElementOrder.{element_cmp_total, element_ties}
 use Rattle.terms.proofs.SameLists.{rising_same}
-use Rattle.rows.specs.Inside.{StaysInside}
-use Rattle.rows.specs.Rows.{HasContents}
-use Rattle.rows.proofs.InsideLemmas.{leads_then}
-use Rattle.schema.specs.Inventory.{Inventory, IsInventory, IsZoneNamed}
-use Rattle.schema.specs.Stands.{rows_of}
-use Rattle.schema.specs.Tables.{store_schema}
-use Rattle.zone_tables.specs.Zones.{IsZoneChange, ChangesZone, HasPutEntry, HasRemovedEntry, HasPutElement, HasRemovedElement, entries_but, elements_but}
+use Rattle.store_rows.specs.Inside.{StaysInside}
+use Rattle.store_rows.specs.Rows.{HasContents}
+use Rattle.store_rows.proofs.InsideLemmas.{leads_then}
+use Rattle.store_schema.specs.Inventory.{Inventory, IsInventory, IsZoneNamed}
+use Rattle.store_schema.specs.Stands.{rows_of}
+use Rattle.store_schema.specs.Tables.{store_schema}
+use Rattle.store_zones.specs.Zones.{IsZoneChange, ChangesZone, HasPutEntry, HasRemovedEntry, HasPutElement, HasRemovedElement, entries_but, elements_but}
 use Rattle.store.specs.Writes.{entries_after, elements_after, HasEditedEntries, HasEditedElements, HasEdited}
 use Rattle.store.proofs.Parts.{left_parts, put_parts}
 

@@ -19,18 +19,18 @@ use Rattle.terms.specs.Global as rule
 use Rattle.terms.specs.Global.{hold_cmp}
 use Rattle.terms.proofs.GlobalKept.{hold_cmp_total}
 use Rattle.terms.proofs.HoldOrder.{has_key-ties}
-use Rattle.rows.specs.Inside.{StaysInside, Leads, Turns}
-use Rattle.rows.specs.Rows.{HasContents, has_key, in_table, with_put, without}
-use Rattle.rows.proofs.ContentsLemmas.{permuted}
-use Rattle.rows.proofs.InsideLemmas.{leads_then}
-use Rattle.rows.proofs.Keys.{equals, and_true}
-use Rattle.rows.proofs.RowLemmas.{filter_same}
-use Rattle.schema.specs.Inventory.{Inventory}
-use Rattle.schema.specs.Rows.{hold_row}
-use Rattle.schema.specs.Stands.{rows_of}
-use Rattle.schema.specs.Tables.{hold as hold_table, store_schema}
-use Rattle.hold_rows.specs.Keys.{hold_key, key_row}
-use Rattle.sysmod_tables.specs.Sysmods.{ChangesGlobal}
+use Rattle.store_rows.specs.Inside.{StaysInside, Leads, Turns}
+use Rattle.store_rows.specs.Rows.{HasContents, has_key, in_table, with_put, without}
+use Rattle.store_rows.proofs.ContentsLemmas.{permuted}
+use Rattle.store_rows.proofs.InsideLemmas.{leads_then}
+use Rattle.store_rows.proofs.Keys.{equals, and_true}
+use Rattle.store_rows.proofs.RowLemmas.{filter_same}
+use Rattle.store_schema.specs.Inventory.{Inventory}
+use Rattle.store_schema.specs.Rows.{hold_row}
+use Rattle.store_schema.specs.Stands.{rows_of}
+use Rattle.store_schema.specs.Tables.{hold as hold_table, store_schema}
+use Rattle.store_holds.specs.Keys.{hold_key, key_row}
+use Rattle.store_sysmods.specs.Sysmods.{ChangesGlobal}
 use Rattle.store.specs.declared.change.GlobalEdit.{GlobalEdit}
 use Rattle.store.specs.declared.change.GlobalEdit.TheVariants.{PutHold, RemoveHold}
 use Rattle.store.specs.Changes.{with_hold, less_hold, Fits, after_edit, EachFits, after_edits}

@@ -5,9 +5,9 @@ use Rattle.sqlite.specs.Held.{Held, state}
 use Rattle.sqlite.specs.State.{HasCleanDisk}
 use Rattle.machine.specs.State.{State}
 use Rattle.machine.specs.Machine.{Act, Prints}
-use Rattle.schema.specs.Inventory.{Inventory, IsInventory}
-use Rattle.schema.specs.declared.error.StoreError.{StoreError}
-use Rattle.schema.specs.declared.error.StoreError.TheVariants.{Fault, OtherSchema, NoState, Memory}
+use Rattle.store_schema.specs.Inventory.{Inventory, IsInventory}
+use Rattle.store_schema.specs.declared.error.StoreError.{StoreError}
+use Rattle.store_schema.specs.declared.error.StoreError.TheVariants.{Fault, OtherSchema, NoState, Memory}
 use Rattle.store.specs.Kept.{kept, Keeps, Stays}
 use Rattle.store.specs.View.{Tables, TablesIfOpen, Leaves}
 

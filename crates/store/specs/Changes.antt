@@ -6,9 +6,9 @@ use Rattle.terms.specs.Delta.{IsChanged}
 use Rattle.terms.specs.Global.{has_key, hold_cmp, with_sysmod}
 use Rattle.terms.specs.Lookups.{is_received}
 use Rattle.terms.specs.Rising.{with_item}
-use Rattle.schema.specs.Inventory.{Inventory}
-use Rattle.sysmod_tables.specs.Sysmods.{with_sources, less_sysmod}
-use Rattle.zone_tables.specs.Zones.{IsZoneChange, empty_zone}
+use Rattle.store_schema.specs.Inventory.{Inventory}
+use Rattle.store_sysmods.specs.Sysmods.{with_sources, less_sysmod}
+use Rattle.store_zones.specs.Zones.{IsZoneChange, empty_zone}
 use Rattle.store.specs.declared.change.Change.{Change}
 use Rattle.store.specs.declared.change.Change.TheVariants.{NewZone, Zone, Global}
 use Rattle.store.specs.declared.change.GlobalEdit.{GlobalEdit}

@@ -2,7 +2,7 @@
 use Rattle.std.specs.Prelude.{◌≡◌, ◌⊎◌, ℕ, List}
 use Rattle.sqlite.specs.Store.{Ghosts}
 use Rattle.sqlite.specs.Held.{Held}
-use Rattle.schema.specs.Inventory.{Inventory}
+use Rattle.store_schema.specs.Inventory.{Inventory}
 use Rattle.machine.specs.State.{State}
 use Rattle.machine.specs.Machine.{Act, Prints}
 use Rattle.machine.specs.Runs.{Stands}

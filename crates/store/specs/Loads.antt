@@ -1,8 +1,8 @@
 -- How errors of reading are told.
-use Rattle.rows.specs.declared.error.ReadError.{ReadError}
-use Rattle.rows.specs.declared.error.ReadError.TheVariants as read
-use Rattle.schema.specs.declared.error.StoreError.{StoreError}
-use Rattle.schema.specs.declared.error.StoreError.TheVariants.{Fault, NoState, Memory}
+use Rattle.store_rows.specs.declared.error.ReadError.{ReadError}
+use Rattle.store_rows.specs.declared.error.ReadError.TheVariants as read
+use Rattle.store_schema.specs.declared.error.StoreError.{StoreError}
+use Rattle.store_schema.specs.declared.error.StoreError.TheVariants.{Fault, NoState, Memory}
 
 -- rows that stand for nothing stand for no state
 abbrev pub told : ReadError → StoreError

@@ -5,8 +5,8 @@ use Rattle.sqlite.specs.Schema.{Schema}
 use Rattle.sqlite.specs.Tree.{Trees}
 use Rattle.sqlite.specs.Held.{Held, state}
 use Rattle.sqlite.specs.State.{HasCleanDisk}
-use Rattle.schema.specs.Inventory.{Inventory}
-use Rattle.schema.specs.Stands.{StandsFor, IsStateOf}
+use Rattle.store_schema.specs.Inventory.{Inventory}
+use Rattle.store_schema.specs.Stands.{StandsFor, IsStateOf}
 
 module _ {S : Type 0} (g : Ghosts S) (at : Held S) where
   -- The connection is open, and its tables stand for the inventory. It claims nothing where the disk has returned other

@@ -11,11 +11,11 @@ use Rattle.terms.specs.declared.kinds.Edit.{Edit}
 use Rattle.terms.specs.Types.{Text, Id, Entry, Element, Zone}
 use Rattle.terms.specs.Lookups.{element_cmp, element_key}
 use Rattle.terms.specs.Delta.{ZoneDelta, edited}
-use Rattle.rows.specs.Inside.{Leads}
-use Rattle.rows.specs.Rows.{HasContents}
-use Rattle.schema.specs.Inventory.{Inventory, IsInventory}
-use Rattle.schema.specs.Stands.{StandsFor, rows_of}
-use Rattle.schema.specs.Tables.{store_schema}
+use Rattle.store_rows.specs.Inside.{Leads}
+use Rattle.store_rows.specs.Rows.{HasContents}
+use Rattle.store_schema.specs.Inventory.{Inventory, IsInventory}
+use Rattle.store_schema.specs.Stands.{StandsFor, rows_of}
+use Rattle.store_schema.specs.Tables.{store_schema}
 use Rattle.store.specs.declared.change.Change.{Change}
 use Rattle.store.specs.Changes.{Makes}
 

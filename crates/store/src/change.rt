@@ -1,7 +1,7 @@
 //! What one commit changes.
 
 use fields::{Id, Reason, Srel, ZoneName};
-use sysmods::{Hold, Sysmod};
+use sysmods_records::{Hold, Sysmod};
 use terms::{HoldKind, ZoneKind};
 use zones::ZoneDelta;
 

@@ -1,15 +1,15 @@
 //! What a delta puts and removes, written in a transaction that is open.
 
 ghost use Rattle.std.specs.Prelude.{◌≡◌, ◌∷◌, [], OnOk};
-ghost use Rattle.rows.specs.Inside.{StaysInside};
-ghost use Rattle.zone_tables.specs.Zones.{ChangesZone};
+ghost use Rattle.store_rows.specs.Inside.{StaysInside};
+ghost use Rattle.store_zones.specs.Zones.{ChangesZone};
 ghost use Rattle.store.specs.Writes.{HasEditedEntries, HasEditedElements, HasEdited};
 
 use fields::{Id, Name, ZoneName};
 use sqlite::{Alter, Error, Transaction};
 use std::alloc::Global;
+use store_zones::{put_element, put_entry, remove_element, remove_entry};
 use terms::{Edit, ElemType};
-use zone_tables::{put_element, put_entry, remove_element, remove_entry};
 use zones::{Element, Entry, ZoneDelta};
 
 fn edit_entry<S: Alter>(

@@ -1,15 +1,15 @@
 //! Edits of the global zone, written in a transaction that is open.
 
 ghost use Rattle.std.specs.Prelude.{◌≡◌, OnOk};
-ghost use Rattle.rows.specs.Inside.{StaysInside};
-ghost use Rattle.sysmod_tables.specs.Sysmods.{ChangesGlobal};
+ghost use Rattle.store_rows.specs.Inside.{StaysInside};
+ghost use Rattle.store_sysmods.specs.Sysmods.{ChangesGlobal};
 ghost use Rattle.store.specs.Changes.{Fits, after_edit, EachFits, after_edits};
 
 use crate::change::GlobalEdit;
-use hold_rows::{put_hold, remove_hold};
 use sqlite::{Alter, Error, Transaction};
 use std::alloc::Global;
-use sysmod_tables::{insert_sysmod, remove_sysmod, replace_sources};
+use store_holds::{put_hold, remove_hold};
+use store_sysmods::{insert_sysmod, remove_sysmod, replace_sources};
 
 fn write_edit<S: Alter>(
     alloc: Global,

@@ -5,17 +5,17 @@ ghost use Rattle.sqlite.specs.Held.{state};
 ghost use Rattle.sqlite.specs.State.{HasCleanDisk, IsUnchanged, KeepsCommit, Survives};
 ghost use Rattle.terms.specs.Types.{a_global};
 ghost use Rattle.terms.specs.Global.{IsGlobal};
-ghost use Rattle.schema.specs.Inventory.{Inventory};
-ghost use Rattle.schema.specs.Stands.{StandsFor};
-ghost use Rattle.schema.specs.Tables.{store_schema};
+ghost use Rattle.store_schema.specs.Inventory.{Inventory};
+ghost use Rattle.store_schema.specs.Stands.{StandsFor};
+ghost use Rattle.store_schema.specs.Tables.{store_schema};
 
-use global::Global;
-use hold_rows::load_holds;
-use rows::ReadError;
 use sqlite::{Alter, Connection};
 use std::alloc::Global as Heap;
-use sysmod_loads::load_sysmods;
-use sysmods::{Hold, Sysmod};
+use store_holds::load_holds;
+use store_rows::ReadError;
+use store_sysmod_loads::load_sysmods;
+use sysmods::Global;
+use sysmods_records::{Hold, Sysmod};
 
 /// What the tables of the global zone hold, each list in order.
 #[derive(Drop)]

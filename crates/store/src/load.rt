@@ -3,19 +3,19 @@
 ghost use Rattle.std.specs.Prelude.{◌≡◌, ◌≢◌, map, IfOk, IfErr, IsErrOf, OnOk, OnErr};
 ghost use Rattle.sqlite.specs.Held.{state};
 ghost use Rattle.sqlite.specs.State.{HasCleanDisk};
-ghost use Rattle.schema.specs.Inventory.{Inventory};
-ghost use Rattle.zone_loads.specs.Found.{zone_in, head_of};
+ghost use Rattle.store_schema.specs.Inventory.{Inventory};
+ghost use Rattle.store_zone_loads.specs.Found.{zone_in, head_of};
 ghost use Rattle.store.specs.View.{Tables, TablesIfOpen, Leaves};
 ghost use Rattle.store.specs.Loads.{told};
 
 use crate::global_load::load_global;
 use crate::open::Store;
 use fields::ZoneName;
-use global::Global;
-use rows::ReadError;
-use schema::StoreError;
 use sqlite::Alter;
-use zone_loads::ZoneHead;
+use store_rows::ReadError;
+use store_schema::StoreError;
+use store_zone_loads::ZoneHead;
+use sysmods::Global;
 use zones::Zone;
 
 /// How an error of reading is told: rows that stand for nothing stand for no state.
@@ -61,7 +61,7 @@ impl<S: Alter> Store<S> {
     {
         // So what the connection shows is what it last committed.
         prove!(self.conn.is_autocommit());
-        match zone_loads::load_zone(self.alloc, &mut self.conn, name) {
+        match store_zone_loads::load_zone(self.alloc, &mut self.conn, name) {
             Ok(zone) => Ok(zone),
             Err(error) => Err(told(error)),
         }
@@ -79,7 +79,7 @@ impl<S: Alter> Store<S> {
     {
         // So what the connection shows is what it last committed.
         prove!(self.conn.is_autocommit());
-        match zone_loads::zone_heads(self.alloc, &mut self.conn) {
+        match store_zone_loads::zone_heads(self.alloc, &mut self.conn) {
             Ok(heads) => Ok(heads),
             Err(error) => Err(told(error)),
         }
@@ -97,7 +97,7 @@ impl<S: Alter> Store<S> {
     {
         // So what the connection shows is what it last committed.
         prove!(self.conn.is_autocommit());
-        match zone_loads::zone_names(self.alloc, &mut self.conn) {
+        match store_zone_loads::zone_names(self.alloc, &mut self.conn) {
             Ok(names) => Ok(names),
             Err(error) => Err(told(error)),
         }

@@ -3,20 +3,20 @@
 ghost use Rattle.std.specs.Prelude.{◌≡◌, ◌⊎◌, false, IsTrue, IfOk, IfErr, OnOk, OnErr};
 ghost use Rattle.sqlite.specs.Held.{state};
 ghost use Rattle.sqlite.specs.State.{HasCleanDisk, IsUnchanged, Survives};
-ghost use Rattle.rows.specs.Inside.{IsMade};
-ghost use Rattle.schema.specs.Create.{IsBlank};
-ghost use Rattle.schema.specs.Inventory.{Inventory, IsInventory, empty_inventory};
-ghost use Rattle.schema.specs.Known.{HasOtherNumber, HasNoState, HasOwnTables};
-ghost use Rattle.schema.specs.Stands.{StandsFor};
+ghost use Rattle.store_rows.specs.Inside.{IsMade};
+ghost use Rattle.store_schema.specs.Create.{IsBlank};
+ghost use Rattle.store_schema.specs.Inventory.{Inventory, IsInventory, empty_inventory};
+ghost use Rattle.store_schema.specs.Known.{HasOtherNumber, HasNoState, HasOwnTables};
+ghost use Rattle.store_schema.specs.Stands.{StandsFor};
 ghost use Rattle.store.specs.Changes.{Makes};
 ghost use Rattle.store.specs.View.{Tables, TablesIfOpen, IsFound, Leaves};
 
 use crate::change::Change;
 use crate::write::commit_change;
-use schema::{StoreError, set_up};
 use sqlite::{Alter, Connection};
 use std::alloc::Global;
 use std::marker::Model;
+use store_schema::{StoreError, set_up};
 
 /// A connection to a database whose tables are the store's. No transaction is under way.
 pub struct Store<S: Alter> {

@@ -5,12 +5,12 @@ ghost use Rattle.sqlite_disk.specs.Memory.{memory_is_usable};
 
 use super::*;
 use fields::{Id, IdList, Name, Reason, Source, SourceList, Srel, YyDdd, ZoneName};
-use schema::StoreError;
 use sqlite::{Alter, Connection, Error, FileStore, Files, Options};
 use sqlite_disk::Memory;
 use std::alloc::Global;
 use std::test::Fail;
-use sysmods::{Hold, Sysmod};
+use store_schema::StoreError;
+use sysmods_records::{Hold, Sysmod};
 use terms::{ElemType, HoldKind, Kind, ZoneKind};
 use text80::Line;
 use zones::{Element, Entry, ZoneDelta};

@@ -3,7 +3,7 @@
 ghost use Rattle.std.specs.Prelude.{◌≡◌, false, OnOk, OnErr};
 ghost use Rattle.sqlite.specs.Held.{state};
 ghost use Rattle.sqlite.specs.State.{HasCleanDisk, KeepsCommit, Survives};
-ghost use Rattle.rows.specs.Inside.{StaysInside};
+ghost use Rattle.store_rows.specs.Inside.{StaysInside};
 ghost use Rattle.store.specs.Writes.{Writes, HasCommitted, IsOutcome};
 
 use crate::change::Change;
@@ -11,7 +11,7 @@ use crate::delta::write_delta;
 use crate::edits::write_edits;
 use sqlite::{Alter, Connection, Error, Transaction};
 use std::alloc::Global;
-use zone_tables::insert_zone;
+use store_zones::insert_zone;
 
 fn write<S: Alter>(alloc: Global, tx: &mut Transaction<'_, S>, change: &Change) -> Result<(), Error>
     ensures same_reference { tx.new.conn.ghost_name ≡ tx.old.conn.ghost_name }

@@ -1,12 +1,12 @@
 //! Rows edited by hand that stand for no state.
 use crate::known::{again, files, filled, joined, opened, zone_name};
-use schema::StoreError;
 use sqlite::{Alter, Connection, MemStore};
 use sqlite_disk::Memory;
 use sqlite_value::value::ValueRef;
 use std::alloc::Global;
 use std::test::Fail;
 use store::Store;
+use store_schema::StoreError;
 
 /// Edits that move only within what may stand: loops of REQ and of several releases are free.
 const GOOD: [&str; 8] = [

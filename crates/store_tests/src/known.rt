@@ -4,13 +4,13 @@ ghost use Rattle.std.specs.Prelude.{IsTrue, IfOk};
 ghost use Rattle.sqlite_disk.specs.Memory.{memory_is_usable};
 
 use fields::ZoneName;
-use schema::StoreError;
 use sqlite::{Alter, Connection, Error, FileStore, Files, Options};
 use sqlite_disk::Memory;
 use sqlite_value::value::ValueRef;
 use std::alloc::Global;
 use std::test::Fail;
 use store::Store;
+use store_schema::StoreError;
 use text80::RECORD;
 
 const ROWS: [&str; 40] = [

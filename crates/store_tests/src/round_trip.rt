@@ -2,13 +2,13 @@
 use crate::known::{again, committed, files, filled, lines, opened};
 use crate::same::{same_global, same_zone};
 use fields::ZoneName;
-use global::Global;
 use sqlite::{Alter, Connection, MemStore};
 use sqlite_disk::Memory;
 use std::alloc::Global as Heap;
 use std::test::Fail;
 use store::{Change, GlobalEdit, Store};
-use sysmods::Hold;
+use sysmods::Global;
+use sysmods_records::Hold;
 use zones::{Keyed, Zone, ZoneDelta};
 
 const TABLES: [&str; 8] = [

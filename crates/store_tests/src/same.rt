@@ -1,6 +1,6 @@
 //! Whether two values have the same in each field.
-use global::Global;
-use sysmods::{Action, ElemChange, Hold, IfReq, Sysmod, Ver};
+use sysmods::Global;
+use sysmods_records::{Action, ElemChange, Hold, IfReq, Sysmod, Ver};
 use zones::{Element, Entry, Zone};
 
 fn same_if(first: &IfReq, second: &IfReq) -> bool {

@@ -1,2 +1,7 @@
-pub mod Naming
-pub mod Conditions
+pub mod Chains
+pub mod Empty
+pub mod First
+pub mod Fronts
+pub mod Kept
+pub mod Receiving
+pub mod Taken

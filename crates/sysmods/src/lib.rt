@@ -1,21 +1,17 @@
-//! SYSMODs as they are received: their `++VER`s with `++IF`s, their holds and what they change.
+//! The global zone: the received SYSMODs and the holds.
 #![tactic(auto)]
 
-mod adding;
-mod change;
-mod cloning;
-mod hold;
-mod sysmod;
-mod ver;
+mod chain;
+mod choice;
+mod parts;
+mod receive;
+mod zone;
 
-pub use change::{Action, ElemChange};
-pub use fields::{
-    Class, HoldDate, Id, IdList, Name, Reason, Rising, Source, SourceList, Srel, ZoneName,
-};
-pub use hold::Hold;
-pub use sysmod::Sysmod;
-pub use terms::{ElemType, HoldKind, Kind};
-pub use ver::{IfReq, Ver};
+pub use chain::Chain;
+pub use choice::VerChoice;
+pub use sysmods_holds::{Placed, ReleaseError};
+pub use sysmods_received::ReceiveFault;
+pub use zone::{Global, RejectError};
 
 #[cfg(test)]
 mod tests;

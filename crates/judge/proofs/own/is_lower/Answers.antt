@@ -2,7 +2,7 @@ use Rattle.std.proofs.Common.{sym, ◌∙◌, ◌∷◌, true≢false, IsTrue}
 use Rattle.std.specs.Prelude.{◌↔◌, Any}
 use Rattle.std.proofs.lemmas.Result.{IfOk-weaker}
 use Rattle.terms.specs.Over.{IsOver}
-use Rattle.global.specs.Choices.{choice}
+use Rattle.sysmods.specs.Choices.{choice}
 use Rattle.judge.proofs.Collapsed.{lower-first, lower-rest}
 use Rattle.judge.proofs.own.is_lower.Goals as goal
 

@@ -1,5 +1,5 @@
 use Rattle.std.proofs.Common.{◌≤◌, length, arith, subst, sym, true≢false, ◌∙◌}
-use Rattle.global.specs.Choices.{choice}
+use Rattle.sysmods.specs.Choices.{choice}
 use Rattle.judge.specs.Own.{IsLowerAt}
 use Rattle.judge.proofs.Lists.{all-next, all-through}
 use Rattle.judge.proofs.own.is_lower_somewhere.Goals as goal

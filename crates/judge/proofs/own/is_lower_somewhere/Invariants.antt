@@ -1,5 +1,5 @@
 use Rattle.std.proofs.Common.{All, take}
-use Rattle.global.specs.Choices.{choice}
+use Rattle.sysmods.specs.Choices.{choice}
 use Rattle.judge.specs.Own.{IsLowerAt}
 use Rattle.judge.proofs.own.is_lower_somewhere.Given as goal
 

@@ -1,6 +1,6 @@
 use Rattle.std.proofs.Common.{◌≤◌, length, arith, subst, sym, true≢false}
 use Rattle.terms.specs.Over.{IsOver}
-use Rattle.global.specs.Choices.{choice}
+use Rattle.sysmods.specs.Choices.{choice}
 use Rattle.judge.proofs.Lists.{all-next, all-through}
 use Rattle.judge.proofs.own.is_not_over_one.Goals as goal
 

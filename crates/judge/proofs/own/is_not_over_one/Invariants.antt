@@ -1,6 +1,6 @@
 use Rattle.std.proofs.Common.{All, take}
 use Rattle.terms.specs.Over.{IsOver}
-use Rattle.global.specs.Choices.{choice}
+use Rattle.sysmods.specs.Choices.{choice}
 use Rattle.judge.proofs.own.is_not_over_one.Given as goal
 
 abbrev pub invariant-loop-other : goal.invariant-loop-other

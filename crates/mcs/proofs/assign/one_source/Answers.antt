@@ -1,6 +1,6 @@
 use Rattle.terms.specs.Forms.{IsSource}
 use Rattle.rec80.specs.Views.{word_of}
-use Rattle.statements.proofs.Owning.{own_member, read_one, read_none}
+use Rattle.mcs_statements.proofs.Owning.{own_member, read_one, read_none}
 use Rattle.mcs.proofs.assign.one_source.Goals as goal
 
 pub returns-in_default-clause-none : goal.returns-in_default-clause-none

@@ -5,8 +5,8 @@ use Rattle.terms.specs.Forms.{IsId}
 use Rattle.terms.specs.Operands.{operand, HasListed}
 use Rattle.terms.proofs.ExactWords.{words-only}
 use Rattle.rec80.specs.Cursors.{text_of}
-use Rattle.statements.specs.KnownWords.{own_list}
-use Rattle.statements.proofs.Failing.{excludes_map}
+use Rattle.mcs_statements.specs.KnownWords.{own_list}
+use Rattle.mcs_statements.proofs.Failing.{excludes_map}
 use Rattle.mcs.proofs.Ending.{no_list, a_list}
 use Rattle.mcs.proofs.Assigning.{AssignOf}
 use Rattle.mcs.proofs.assign.read_assign.Goals as goal

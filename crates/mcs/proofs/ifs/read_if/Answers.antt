@@ -7,8 +7,8 @@ use Rattle.terms.specs.Operands.{HasSorted}
 use Rattle.terms.proofs.Ids.{is_in-from_Contains, Contains-from_is_in}
 use Rattle.rec80.specs.Cursors.{text_of}
 use Rattle.rec80.specs.Views.{word_of}
-use Rattle.statements.specs.KnownWords.{own_list}
-use Rattle.statements.proofs.Failing.{excludes_map}
+use Rattle.mcs_statements.specs.KnownWords.{own_list}
+use Rattle.mcs_statements.proofs.Failing.{excludes_map}
 use Rattle.mcs.proofs.Ending.{no_list, a_list}
 use Rattle.mcs.proofs.Conditions.{IfOf, words_are, function_of, ids_of, ids_are, if_is}
 use Rattle.mcs.proofs.ifs.read_if.Goals as goal

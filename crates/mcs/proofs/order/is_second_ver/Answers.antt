@@ -1,4 +1,4 @@
-use Rattle.statements.specs.KnownWords.{own_list}
+use Rattle.mcs_statements.specs.KnownWords.{own_list}
 use Rattle.mcs.proofs.Ordering.{second_ver}
 use Rattle.mcs.proofs.order.is_second_ver.Goals as goal
 

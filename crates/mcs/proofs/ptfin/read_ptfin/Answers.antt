@@ -3,7 +3,7 @@ use Rattle.std.specs.Prelude.{All}
 use Rattle.terms.specs.Records.{IsRecord}
 use Rattle.terms.specs.declared.codes.McCode.TheVariants.{Mc4}
 use Rattle.terms.specs.Ptfin.{nothing}
-use Rattle.statements.specs.declared.error.McsError.TheVariants.{Fault}
+use Rattle.mcs_statements.specs.declared.error.McsError.TheVariants.{Fault}
 use Rattle.mcs.specs.Files.{IsRestError}
 use Rattle.mcs.proofs.Filing.{file_error, error_is}
 use Rattle.mcs.proofs.ptfin.read_ptfin.Goals as goal

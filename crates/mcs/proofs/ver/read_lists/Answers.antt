@@ -4,7 +4,7 @@ use Rattle.terms.specs.Types.{Id}
 use Rattle.terms.specs.Forms.{IsId}
 use Rattle.terms.specs.Operands.{operand, HasTexts}
 use Rattle.mcs.specs.VerOperands.{HasLists}
-use Rattle.statements.proofs.Failing.{excludes_map}
+use Rattle.mcs_statements.proofs.Failing.{excludes_map}
 use Rattle.mcs.proofs.ver.read_lists.Goals as goal
 
 pub returns-in_err-pre-clause-bad : goal.returns-in_err-pre-clause-bad

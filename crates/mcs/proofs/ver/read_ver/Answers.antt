@@ -7,10 +7,10 @@ use Rattle.terms.specs.Lookups.{is_in}
 use Rattle.terms.specs.Statements.{IsVerOf, SuitsKind, lists_of}
 use Rattle.terms.specs.Words.{Word}
 use Rattle.operands.specs.Left.{LeavesWords}
-use Rattle.statements.specs.KnownWords.{own_list}
+use Rattle.mcs_statements.specs.KnownWords.{own_list}
 use Rattle.mcs.specs.VerOperands.{HasLists}
 use Rattle.mcs.proofs.NotNaming.{free_all, all_free}
-use Rattle.statements.proofs.Failing.{excludes_map}
+use Rattle.mcs_statements.proofs.Failing.{excludes_map}
 use Rattle.mcs.proofs.Versions.{HasVer, ver_is, lists_in, fmid_is, lists_are}
 use Rattle.mcs.proofs.ver.read_ver.Goals as goal
 use Rattle.mcs.proofs.ver.read_ver.Goals.{After-made_of-ver}

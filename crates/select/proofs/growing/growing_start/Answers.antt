@@ -1,7 +1,7 @@
 use Rattle.std.proofs.Common.{◌||◌, [], sym, subst, arith}
 use Rattle.terms.specs.Lookups.{is_in}
-use Rattle.paths.specs.Seen.{AddsAll}
-use Rattle.paths.proofs.Growth.{adds-none}
+use Rattle.sysmods_paths.specs.Seen.{AddsAll}
+use Rattle.sysmods_paths.proofs.Growth.{adds-none}
 use Rattle.select.proofs.Growth.{adds-if}
 use Rattle.select.proofs.growing.growing_start.Goals as goal
 

@@ -1,6 +1,6 @@
 use Rattle.std.proofs.Common.{◌||◌, [], filter, take}
 use Rattle.terms.specs.Lookups.{is_in}
-use Rattle.paths.specs.Seen.{AddsAll}
+use Rattle.sysmods_paths.specs.Seen.{AddsAll}
 use Rattle.select.proofs.growing.growing_start.Given as goal
 
 abbrev pub invariant-loop-id : goal.invariant-loop-id

@@ -1,6 +1,6 @@
 use Rattle.std.proofs.Common.{subst}
 use Rattle.terms.specs.Lookups.{at_most_one}
-use Rattle.paths.specs.Seen.{AddsAll}
+use Rattle.sysmods_paths.specs.Seen.{AddsAll}
 use Rattle.select.proofs.Growth.{adds-one}
 use Rattle.select.proofs.growing.see_brought_in.Goals as goal
 

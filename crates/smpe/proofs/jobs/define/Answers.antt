@@ -1,4 +1,4 @@
-use Rattle.defining.specs.Definitions.{definition}
+use Rattle.smpe_zones.specs.Definitions.{definition}
 use Rattle.smpe.proofs.Single.{define-done, define-refused, define-memory, define-fault}
 use Rattle.smpe.proofs.jobs.define.Goals as goal
 

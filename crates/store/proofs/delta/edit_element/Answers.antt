@@ -1,7 +1,7 @@
 use Rattle.std.proofs.Common.{[], ◌∷◌}
 use Rattle.terms.specs.declared.kinds.Edit.TheVariants.{Put, Remove}
-use Rattle.rows.proofs.InsideLemmas.{on_ok}
-use Rattle.zone_tables.specs.Zones.{HasPutElement, HasRemovedElement}
+use Rattle.store_rows.proofs.InsideLemmas.{on_ok}
+use Rattle.store_zones.specs.Zones.{HasPutElement, HasRemovedElement}
 use Rattle.store.specs.Writes.{HasEditedElements}
 use Rattle.store.proofs.DeltaLemmas.{changes_as, element_put, element_removed}
 use Rattle.store.proofs.delta.edit_element.Goals as goal

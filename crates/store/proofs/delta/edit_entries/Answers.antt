@@ -1,6 +1,6 @@
 use Rattle.std.proofs.Common.{◌≡◌, ◌∙◌, take, arith}
 use Rattle.std.proofs.lemmas.List.{take_all}
-use Rattle.rows.proofs.InsideLemmas.{stays_then}
+use Rattle.store_rows.proofs.InsideLemmas.{stays_then}
 use Rattle.store.proofs.DeltaLemmas.{entries_go_on}
 use Rattle.store.proofs.delta.edit_entries.Goals as goal
 

@@ -1,6 +1,6 @@
 use Rattle.std.proofs.Common.{◌≡◌, take}
-use Rattle.rows.specs.Inside.{StaysInside}
-use Rattle.zone_tables.specs.Zones.{ChangesZone}
+use Rattle.store_rows.specs.Inside.{StaysInside}
+use Rattle.store_zones.specs.Zones.{ChangesZone}
 use Rattle.store.specs.Writes.{HasEditedEntries}
 use Rattle.store.proofs.delta.edit_entries.Given as goal
 

@@ -1,7 +1,7 @@
 use Rattle.std.proofs.Common.{[], ◌∷◌}
 use Rattle.terms.specs.declared.kinds.Edit.TheVariants.{Put, Remove}
-use Rattle.rows.proofs.InsideLemmas.{on_ok}
-use Rattle.zone_tables.specs.Zones.{HasPutEntry, HasRemovedEntry}
+use Rattle.store_rows.proofs.InsideLemmas.{on_ok}
+use Rattle.store_zones.specs.Zones.{HasPutEntry, HasRemovedEntry}
 use Rattle.store.specs.Writes.{HasEditedEntries}
 use Rattle.store.proofs.DeltaLemmas.{changes_as, entry_put, entry_removed}
 use Rattle.store.proofs.delta.edit_entry.Goals as goal

@@ -1,6 +1,6 @@
 use Rattle.std.proofs.Common.{subst}
-use Rattle.rows.proofs.InsideLemmas.{on_ok}
-use Rattle.zone_tables.specs.Zones.{ChangesZone}
+use Rattle.store_rows.proofs.InsideLemmas.{on_ok}
+use Rattle.store_zones.specs.Zones.{ChangesZone}
 use Rattle.store.specs.Writes.{HasEditedEntries, HasEditedElements}
 use Rattle.store.proofs.DeltaLemmas.{both}
 use Rattle.store.proofs.delta.write_delta.Goals as goal

@@ -1,4 +1,4 @@
-use Rattle.rows.proofs.InsideLemmas.{on_ok}
+use Rattle.store_rows.proofs.InsideLemmas.{on_ok}
 use Rattle.store.proofs.GlobalLemmas.{hold_put, hold_removed}
 use Rattle.store.proofs.edits.write_edit.Goals as goal
 

@@ -1,6 +1,6 @@
 use Rattle.std.proofs.Common.{◌≡◌, ◌∙◌, take, arith}
 use Rattle.std.proofs.lemmas.List.{take_all}
-use Rattle.rows.proofs.InsideLemmas.{stays_then}
+use Rattle.store_rows.proofs.InsideLemmas.{stays_then}
 use Rattle.store.proofs.GlobalLemmas.{edits_go_on}
 use Rattle.store.proofs.edits.write_edits.Goals as goal
 

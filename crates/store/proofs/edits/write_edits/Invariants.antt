@@ -1,6 +1,6 @@
 use Rattle.std.proofs.Common.{◌≡◌, take}
-use Rattle.rows.specs.Inside.{StaysInside}
-use Rattle.sysmod_tables.specs.Sysmods.{ChangesGlobal}
+use Rattle.store_rows.specs.Inside.{StaysInside}
+use Rattle.store_sysmods.specs.Sysmods.{ChangesGlobal}
 use Rattle.store.specs.Changes.{EachFits, after_edits}
 use Rattle.store.proofs.edits.write_edits.Given as goal
 

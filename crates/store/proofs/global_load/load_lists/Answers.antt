@@ -1,6 +1,6 @@
 use Rattle.sqlite.specs.Held.{state}
-use Rattle.rows.proofs.Queries.{crash_then}
-use Rattle.schema.specs.Tables.{store_schema}
+use Rattle.store_rows.proofs.Queries.{crash_then}
+use Rattle.store_schema.specs.Tables.{store_schema}
 use Rattle.store.proofs.global_load.load_lists.Goals as goal
 
 pub returns-in_err-holds-clause-crash : goal.returns-in_err-holds-clause-crash

@@ -1,7 +1,7 @@
 use Rattle.std.proofs.Common.{◌≡◌, OnOk, rules, refl, subst}
 use Rattle.sqlite.specs.Held.{state}
 use Rattle.sqlite.specs.State.{HasCleanDisk, Survives}
-use Rattle.rows.proofs.InsideLemmas.{on_ok}
+use Rattle.store_rows.proofs.InsideLemmas.{on_ok}
 use Rattle.store.specs.Writes.{HasCommitted, IsOutcome}
 use Rattle.store.proofs.Committing.{crashed, committed}
 use Rattle.store.proofs.write.commit_change.Goals as goal

@@ -1,4 +1,4 @@
-use Rattle.rows.proofs.InsideLemmas.{on_ok}
+use Rattle.store_rows.proofs.InsideLemmas.{on_ok}
 use Rattle.store.proofs.Committing.{zone_written, delta_written, edits_written}
 use Rattle.store.proofs.write.write.Goals as goal
 

@@ -1,6 +1,6 @@
 use Rattle.std.proofs.Common.{Err, arith, refl, sym, ap, subst}
 use Rattle.sqlite.specs.Effect.{Database}
-use Rattle.schema.specs.Stands.{IsStateOf}
+use Rattle.store_schema.specs.Stands.{IsStateOf}
 use Rattle.store.proofs.ViewLemmas.{leaves_committed}
 use Rattle.store.proofs.open.Store.open.Goals as goal
 

@@ -1,7 +1,0 @@
-pub mod Chains
-pub mod Empty
-pub mod First
-pub mod Fronts
-pub mod Kept
-pub mod Receiving
-pub mod Taken

@@ -1,5 +1,0 @@
-use Rattle.global.proofs.Empty.{empty}
-use Rattle.global.proofs.zone.Global.new.Goals as goal
-
-pub invariant_of-result : goal.invariant_of-result
-invariant_of-result c = rw (c.new.ensures, c.new-2.ensures) empty

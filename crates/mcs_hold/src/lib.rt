@@ -1,0 +1,11 @@
+//! A hold file: its holds and releases, or its first fault.
+#![tactic(auto)]
+
+mod file;
+mod item;
+#[cfg(test)]
+mod tests;
+
+pub use file::read_hold_file;
+pub use item::HoldItem;
+pub use mcs_statements::{McsError, Release};

@@ -1,5 +1,0 @@
-use Rattle.paths.proofs.Going.{search-next}
-use Rattle.paths.proofs.search.go_on.Goals as goal
-
-pub returns : goal.returns
-returns g c = λ x. search-next _ x _ _ _ _ c.requires (rw c.as_slice.ensures.keys at c.index-as_slice-gone.is) c.in_ok-see_named.ensures

@@ -1,7 +1,0 @@
-use Rattle.std.proofs.Common.{ap, sym, ◌∙◌}
-use Rattle.received.specs.Held.{found}
-use Rattle.received.proofs.Entries.{find-lookup}
-use Rattle.received.proofs.received.Received.get.Goals as goal
-
-pub returns : goal.returns
-returns c = c.get.ensures.value ∙ sym (find-lookup c.self.inside.by_id.entries c.args.id c.self.invariant.keyed) ∙ ap (λ xs. found xs c.args.id) c.self.view_is

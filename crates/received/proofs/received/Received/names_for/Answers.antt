@@ -1,6 +1,0 @@
-use Rattle.std.proofs.Common.{◌∙◌, Some}
-use Rattle.received.proofs.NamersFor.{names-at}
-use Rattle.received.proofs.received.Received.names_for.Goals as goal
-
-pub returns-in-Some : goal.returns-in-Some
-returns-in-Some c = c.names_for.ensures ∙ names-at c.args.self.now c.args.srel c.args.id c.args.namer (Some c.in-Some.sysmod.now) c.in-Some.ensures

@@ -1,0 +1,232 @@
+-- What an APPLY decides, from what its parts answer: the kept ones may be installed together, and the lines are those of the decision.
+use Rattle.std.proofs.Common.{◌≡◌, ◌≢◌, ◌⊎◌, inl, inr, Bool, true, false, not, List, [], ◌∷◌, ◌++◌, Option, None, Some, IsTrue, filter, map, get_or, refl, sym, ap, ◌∙◌, subst, true≢false}
+use Rattle.std.specs.Prelude.{◌↔◌, ◌&&◌, ◌==◌, All, Contains, IsPermutation, is_some, unwrap_or, if◌then◌else◌}
+use Rattle.std.specs.Str.{bytes_eq}
+use Rattle.std.specs.declared.cmp.Ordering.TheVariants.{Less, Equal}
+use Rattle.std.specs.Ordering.{nat_cmp}
+use Rattle.std.specs.Cmp.Lexicographic.{slice_cmp}
+use Rattle.std.proofs.lemmas.Bool.{not-true}
+use Rattle.std.proofs.lemmas.Cmp.{nat_list_cmp_total, tied_itself}
+use Rattle.std.proofs.lemmas.List.{map-append}
+use Rattle.std.proofs.lemmas.List.Elements.{All-contains, Contains-get_or, Contains-append_left, Contains-append_right, Contains-append_cases}
+use Rattle.std.proofs.lemmas.List.Kept.{AllPairs-filter}
+use Rattle.std.proofs.lemmas.List.Sorted.{IsPermutation-map, IsPermutation-sym, Contains-permutation}
+use Rattle.terms.specs.declared.kinds.ElemType.{ElemType}
+use Rattle.terms.specs.declared.not_chosen.NotChosen.{NotChosen}
+use Rattle.terms.specs.Types.{Text, Id, type_number, Change, Global, Zone, Selection}
+use Rattle.terms.specs.Lookups.{IsRising, is_in, change_of, changes_of, has_change}
+use Rattle.terms.specs.Choice.{by_srel, fmid_of}
+use Rattle.terms.specs.CommandForms.{no_bypass}
+use Rattle.terms.specs.Candidates.{AreCandidates, is_installable, not_chosen}
+use Rattle.terms.specs.Tests.{Setting, IsEligible, Fails, ShareElement, owner_of}
+use Rattle.terms.specs.Needs.{Needs, Serves}
+use Rattle.terms.specs.Judged.{setting}
+use Rattle.terms.proofs.Apart.{AreApart, map_in, in_map, none_in}
+use Rattle.terms.proofs.GlobalKept.{AllPairs-join}
+use Rattle.terms.proofs.Ids.{is_in-from_Contains, Contains-from_is_in}
+use Rattle.terms.proofs.Leads.{same_or_not}
+use Rattle.terms.proofs.RisingLists.{Less-from_is_lt}
+use Rattle.terms.proofs.SameLists.{find-gives}
+use Rattle.machine.specs.Outcome.{Status, Failure, Failed, Line}
+use Rattle.machine.specs.Installing.{Decision, IsDecision, IsDecided, IsFailure, HasStatus, IsIn, IsUnder, IsOff, IsOut, AreInstallLines, installed_status, not_chosen_status}
+use Rattle.terms.specs.Install.{IsInstalled}
+use Rattle.select.proofs.Kept.{kept-parts, kept-from}
+use Rattle.change.proofs.Installable.{replaces, supersedes_none}
+use Rattle.smpe_apply.specs.Statuses.{kept_statuses, failed_statuses, left_out_statuses, all_statuses, AreById}
+use Rattle.smpe_apply.proofs.ById.{rises_by_id}
+use Rattle.smpe_apply.proofs.InstallLines.{are_install_lines}
+
+-- ids that rise are apart
+rising_apart : (xs : List Id) → IsRising xs → AreApart xs
+rising_apart xs rises = λ i j d before below same.
+    let x = get_or xs i d in
+    let y = get_or xs j d in
+    let less : slice_cmp nat_cmp x y ≡ Less = Less-from_is_lt (slice_cmp nat_cmp x y) (rises i j d before below) in
+    let tie : slice_cmp nat_cmp y y ≡ Equal = tied_itself nat_list_cmp_total y in
+    let here : slice_cmp nat_cmp y y ≡ Less = subst (λ z. slice_cmp nat_cmp z y ≡ Less) same less in
+    let both : Equal ≡ Less = sym tie ∙ here in
+    absurd (cc both)
+
+-- lists without doubles that share nothing have none together
+apart_both : {X : Type 0} (xs ys : List X) → AreApart xs → AreApart ys → ((x : X) → Contains xs x → Contains ys x → ⊥) → AreApart (xs ++ ys)
+apart_both xs ys front back off =
+    AllPairs-join (λ a b. a ≢ b) xs ys front back (λ i d below. λ j e within same.
+    off _ (subst (Contains xs) same (Contains-get_or xs i d below)) (Contains-get_or ys j e within))
+
+-- the ids of what is made of a list
+ids_of : {X V : Type 0} (id : X → Id) (value : X → V) (xs : List X) → map (λ (p : Id × V). p.0) (map (λ x. (id x, value x)) xs) ≡ map id xs
+ids_of id value [] = refl
+ids_of id value (x ∷ xs) = ap (λ ys. id x ∷ ys) (ids_of id value xs)
+
+itself : {X : Type 0} (xs : List X) → map (λ x. x) xs ≡ xs
+itself [] = refl
+itself (x ∷ xs) = ap (λ ys. x ∷ ys) (itself xs)
+
+-- what may be installed and is left out is excluded or not named, and has no reason
+no_reason : (g : Global) (zone : Zone) (sel : Selection) (x : Id) (why : NotChosen) → is_installable g zone x ≡ true → not_chosen g zone sel x ≡ Some why → ⊥
+unfolding not_chosen
+no_reason g zone sel x why ok is = by (is_in (sel.select ++ sel.group) x) (is_in sel.exclude x) refl refl
+  where
+    by : (named excluded : Bool) → is_in (sel.select ++ sel.group) x ≡ named → is_in sel.exclude x ≡ excluded → ⊥
+    by false excluded n e = let none = rw n at is in absurd cc
+    by true true n e = let none = rw (n, e) at is in absurd cc
+    by true false n e = let none = rw (n, e, ok) at is in absurd cc
+
+module _ (g : Global) (zone : Zone) (sel : Selection) (date : Text) (cands kept : List Id) (failed : List (Id × Failure))
+    (are : AreCandidates g (by_srel g zone.srel) zone sel cands)
+    (ok : All (λ x. IsTrue (is_installable g zone x)) cands)
+    (decided : IsDecided (setting g zone None cands no_bypass) kept failed) where
+  abbrev s : Setting
+  s = setting g zone None cands no_bypass
+
+  eligible : (x : Id) → Contains kept x → IsEligible s x
+  eligible x h = let stays = (decided.members x).0 h in stays.1.eligible x stays.2
+
+  cand : (x : Id) → Contains kept x → Contains cands x
+  cand x h = (eligible x h).0.0.0
+
+  installable : (x : Id) → Contains cands x → IsTrue (is_installable g zone x)
+  installable x h = All-contains (λ y. IsTrue (is_installable g zone y)) cands x ok h
+
+  pub kept_installable : All (λ x. IsTrue (is_installable g zone x)) kept
+  kept_installable = λ i d below. installable _ (cand _ (Contains-get_or kept i d below))
+
+  -- what changes an element is a function, and so its own owner
+  own : (x : Id) (type : ElemType) (name : Text) → Contains kept x → IsTrue (has_change g x type name) → owner_of s x ≡ x
+  own x type name h changes = by (change_of g x type name) refl
+    where
+      by : (o : Option Change) → change_of g x type name ≡ o → owner_of s x ≡ x
+      by None at = absurd (true≢false (sym changes ∙ ap is_some at))
+      by (Some c) at =
+          let found = find-gives (λ c. (type_number c.elem_type == type_number type) && bytes_eq c.name name) (changes_of g x) c at in
+          ap (λ b. if b then x else unwrap_or (fmid_of s.choice x) x) (replaces g zone x (installable x (cand x h)) c found.1).1
+
+  pub kept_apart : (x y : Id) → Contains kept x → Contains kept y → ShareElement g x y → x ≡ y
+  kept_apart x y h k shared = by (same_or_not x y)
+    where
+      by : (x ≡ y) ⊎ (x ≢ y) → x ≡ y
+      by (inl same) = same
+      by (inr other) =
+          let owners : owner_of s x ≢ owner_of s y =
+          λ same. other (sym (own x shared.0 shared.1 h shared.2) ∙ same ∙ own y shared.0 shared.1 k shared.3) in
+          absurd ((eligible x h).1 ((eligible x h).0, (y, (eligible y k).0, other, inr (inr (shared, inl owners)))))
+
+  abbrev pub decision : Decision
+  decision = record {
+    setting = setting g zone None cands no_bypass;
+    survivors = decided.survivors;
+    kept = kept;
+    installing = record { global = g; choice = by_srel g zone.srel; zone = zone; kept = kept; bypassed = []; date = date };
+  }
+
+  pub decides : IsDecision g zone None sel no_bypass date decision
+  decides = record {
+    cands = cands;
+    candidates = are;
+    setting = refl;
+    survivors = decided.are_survivors;
+    kept = record { survivors = decided.survivors; are_survivors = decided.are_survivors; rising = decided.rising; members = decided.members };
+    bypassed = [];
+    are_bypassed = λ x z. (λ h. absurd (none_in (x, z) h), λ h. absurd (none_in z h.1));
+    installing = refl;
+  }
+
+  -- nothing kept is superseded
+  installed : (x : Id) → Contains kept x → IsInstalled decision.installing x
+  installed x h = record { kept = h; first = λ y there other. supersedes_none g zone y (installable y (cand y there)) x }
+
+  abbrev failed_ids : List Id
+  failed_ids = filter (λ x. not (is_in kept x)) cands
+
+  not_kept : (x : Id) → Contains failed_ids x → ¬ Contains kept x
+  not_kept x h k =
+      let off = not-true (is_in kept x) (kept-parts (λ y. not (is_in kept y)) cands x h).1 in
+      true≢false (sym (is_in-from_Contains kept x k) ∙ off)
+
+  or_kept : (x : Id) → Contains cands x → (¬ Contains kept x) → Contains failed_ids x
+  or_kept x h off = kept-from (λ y. not (is_in kept y)) cands x h (by (is_in kept x) refl)
+    where
+      by : (b : Bool) → is_in kept x ≡ b → not (is_in kept x) ≡ true
+      by true e = absurd (off (Contains-from_is_in kept x e))
+      by false e = ap not e
+
+  module _ (left_out : List (Id × NotChosen)) (rising : IsRising (map (λ f. f.0) left_out))
+      (members : (x : Id) (why : NotChosen) → Contains left_out (x, why) ↔ (not_chosen g zone sel x ≡ Some why)) where
+    abbrev all : List (Id × Status)
+    all = all_statuses zone.kind kept failed left_out
+
+    abbrev left_ids : List Id
+    left_ids = map (λ f. f.0) left_out
+
+    all_ids : map (λ p. p.0) all ≡ kept ++ failed_ids ++ left_ids
+    all_ids =
+        let front : List (Id × Status) = kept_statuses zone.kind kept in
+        let middle : List (Id × Status) = failed_statuses failed in
+        let back : List (Id × Status) = left_out_statuses left_out in
+        let id : Id × Status → Id = λ p. p.0 in
+        let a : map id front ≡ kept = ids_of (λ (x : Id). x) (λ x. installed_status zone.kind) kept ∙ itself kept in
+        let b : map id middle ≡ failed_ids = ids_of (λ (f : Id × Failure). f.0) (λ f. Failed f.1) failed ∙ decided.ids in
+        let c : map id back ≡ left_ids = ids_of (λ (f : Id × NotChosen). f.0) (λ f. not_chosen_status f.1) left_out in
+        map-append id (front ++ middle) back
+        ∙ ap (λ xs. xs ++ map id back) (map-append id front middle)
+        ∙ ap (λ xs. xs ++ map id middle ++ map id back) a
+        ∙ ap (λ xs. kept ++ xs ++ map id back) b
+        ∙ ap (λ xs. kept ++ failed_ids ++ xs) c
+
+    apart_from_left : (x : Id) → Contains (kept ++ failed_ids) x → Contains left_ids x → ⊥
+    apart_from_left x h out =
+        let m = map_in (λ (f : Id × NotChosen). f.0) left_out x out in
+        let why : not_chosen g zone sel x ≡ Some m.0.1 = ap (not_chosen g zone sel) (sym m.2) ∙ (members m.0.0 m.0.1).0 m.1 in
+        no_reason g zone sel x m.0.1 (installable x (elim (Contains-append_cases kept failed_ids x h) [
+          | inl k ↦ cand x k
+          | inr f ↦ (kept-parts (λ y. not (is_in kept y)) cands x f).0
+        ])) why
+
+    all_apart : AreApart (map (λ p. p.0) all)
+    all_apart =
+        subst AreApart (sym all_ids)
+        (apart_both (kept ++ failed_ids) left_ids
+        (apart_both kept failed_ids (rising_apart kept decided.rising)
+        (AllPairs-filter (λ a b. a ≢ b) (λ x. not (is_in kept x)) cands (rising_apart cands are.rising))
+        (λ x k f. not_kept x f k))
+        (rising_apart left_ids rising) apart_from_left)
+
+    -- each status is one of the id
+    has_status : (p : Id × Status) → Contains all p → HasStatus decision sel p.0 p.1
+    has_status p h =
+        elim (Contains-append_cases (kept_statuses zone.kind kept ++ failed_statuses failed) (left_out_statuses left_out) p h) [
+          | inl first ↦ elim (Contains-append_cases (kept_statuses zone.kind kept) (failed_statuses failed) p first) [ inl k ↦ of_kept k | inr f ↦ of_failed f ]
+          | inr out ↦ of_left out
+        ]
+      where
+        of_kept : Contains (kept_statuses zone.kind kept) p → HasStatus decision sel p.0 p.1
+        of_kept k =
+            let m = map_in (λ (x : Id). (x, installed_status zone.kind)) kept p k in
+            subst (λ q. HasStatus decision sel q.0 q.1) m.2 (IsIn (installed m.0 m.1))
+
+        of_failed : Contains (failed_statuses failed) p → HasStatus decision sel p.0 p.1
+        of_failed f =
+            let m = map_in (λ (f : Id × Failure). (f.0, Failed f.1)) failed p f in
+            let id : Contains failed_ids m.0.0 = subst (λ xs. Contains xs m.0.0) decided.ids (in_map (λ (f : Id × Failure). f.0) failed m.0 m.1) in
+            let why = All-contains (λ f. IsFailure cands kept (Fails s) (IsEligible s) (Needs s decided.survivors) (Serves s.choice) f.0 f.1) failed m.0 decided.failures m.1 in
+            subst (λ q. HasStatus decision sel q.0 q.1) m.2 (IsOff m.0.1 (kept-parts (λ y. not (is_in kept y)) cands m.0.0 id).0 (not_kept m.0.0 id) why)
+
+        of_left : Contains (left_out_statuses left_out) p → HasStatus decision sel p.0 p.1
+        of_left out =
+            let m = map_in (λ (f : Id × NotChosen). (f.0, not_chosen_status f.1)) left_out p out in
+            subst (λ q. HasStatus decision sel q.0 q.1) m.2 (IsOut m.0.1 ((members m.0.0 m.0.1).0 m.1))
+
+    -- each id with a status is there
+    listed : (x : Id) {st : Status} → HasStatus decision sel x st → Contains (kept ++ failed_ids ++ left_ids) x
+    listed x (IsIn i) = Contains-append_left (kept ++ failed_ids) left_ids x (Contains-append_left kept failed_ids x i.kept)
+    listed x (IsUnder k _) = Contains-append_left (kept ++ failed_ids) left_ids x (Contains-append_left kept failed_ids x k)
+    listed x (IsOff f c off _) = Contains-append_left (kept ++ failed_ids) left_ids x (Contains-append_right kept failed_ids x (or_kept x c off))
+    listed x (IsOut why is) =
+        Contains-append_right (kept ++ failed_ids) left_ids x (in_map (λ (f : Id × NotChosen). f.0) left_out (x, why) ((members x why).1 is))
+
+    pub install_lines : (lines : List Line) → AreById g all lines → AreInstallLines decision sel lines
+    install_lines lines made =
+        let same : IsPermutation (map (λ p. p.0) all) (map (λ p. p.0) made.found) = IsPermutation-map (λ p. p.0) all made.found made.by_id.same in
+        are_install_lines decision sel made.found lines (rises_by_id all made.found made.by_id.same made.by_id.sorted all_apart) made.lines_are
+        (λ p h. has_status p (Contains-permutation made.found all p (IsPermutation-sym all made.found made.by_id.same) h))
+        (λ x st h. Contains-permutation (map (λ p. p.0) all) (map (λ p. p.0) made.found) x same (subst (λ xs. Contains xs x) (sym all_ids) (listed x h)))

@@ -1,0 +1,11 @@
+use Rattle.std.proofs.Common.{◌≡◌, ◌++◌, length, map}
+use Rattle.std.specs.Vec.Iter.{into_iter_items, into_iter_len}
+use Rattle.smpe_apply.specs.Statuses.{said, why_failed, failed_statuses}
+use Rattle.smpe_apply.proofs.statuses.push_failed.Given as goal
+
+-- the failed ones so far
+abbrev pub invariant-loop-id : goal.invariant-loop-id
+invariant-loop-id l =
+    (l.yielded ++ into_iter_items l.id-iterator ≡ into_iter_items l.initial.id-iterator)
+    × (map said l.statuses.items ≡ map said l.initial.statuses.items ++ failed_statuses (map why_failed l.yielded))
+    × (into_iter_len l.id-iterator ≡ length (into_iter_items l.id-iterator))

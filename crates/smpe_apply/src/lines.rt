@@ -1,0 +1,54 @@
+//! The lines of an APPLY.
+ghost use Rattle.std.specs.Prelude.{◌≡◌, map, IfOk};
+ghost use Rattle.machine.specs.Outcome.{StatusLine};
+ghost use Rattle.machine.specs.Receiving.{place_of};
+ghost use Rattle.report.specs.Views.{line_view, status_view};
+ghost use Rattle.smpe_apply.specs.Statuses.{said, status_line, IsById, AreById};
+
+use crate::places::place;
+use fields::Id;
+use report::{Line, Status};
+use std::alloc::{AllocError, Global as Heap};
+use sysmods::Global;
+
+fn sorted(mut statuses: Vec<(Id, Status)>) -> Vec<(Id, Status)>
+    ensures { IsById (map said statuses.items) (map said result.items) }
+{
+    statuses.sort_unstable_by_key(|status| status.0);
+    statuses
+}
+
+fn line(global: &Global, id: Id, status: Status) -> Line
+    ensures { line_view result ≡ StatusLine id (place_of global.now id) (status_view status) }
+{
+    Line::Status {
+        id,
+        place: place(global, id),
+        status,
+    }
+}
+
+fn lines_of(
+    alloc: Heap,
+    global: &Global,
+    statuses: Vec<(Id, Status)>,
+) -> Result<Vec<Line>, AllocError>
+    ensures { IfOk result (λ lines. map line_view lines.items ≡ map (status_line global.now) (map said statuses.items)) }
+{
+    let mut lines = Vec::new(alloc);
+    for (id, status) in statuses {
+        lines.push(line(global, id, status))?;
+    }
+    Ok(lines)
+}
+
+/// The lines of these ids, by id.
+pub(crate) fn lines(
+    alloc: Heap,
+    global: &Global,
+    statuses: Vec<(Id, Status)>,
+) -> Result<Vec<Line>, AllocError>
+    ensures { IfOk result (λ lines. AreById global.now (map said statuses.items) (map line_view lines.items)) }
+{
+    lines_of(alloc, global, sorted(statuses))
+}

@@ -1,0 +1,88 @@
+//! What becomes of each id.
+ghost use Rattle.std.specs.Prelude.{◌≡◌, ◌++◌, map, IfOk, OnOk};
+ghost use Rattle.machine.specs.Installing.{installed_status, not_chosen_status};
+ghost use Rattle.report.specs.Views.{status_view};
+ghost use Rattle.smpe_apply.specs.Statuses.{said, why_failed, kept_statuses, failed_statuses, left_out_statuses, all_statuses};
+
+use fields::Id;
+use report::{Failure, Status};
+use std::alloc::{AllocError, Global as Heap};
+use terms::{NotChosen, ZoneKind};
+
+fn installed_status(kind: ZoneKind) -> Status
+    ensures { status_view result ≡ installed_status kind }
+{
+    match kind {
+        ZoneKind::Target => Status::Applied,
+        ZoneKind::Distribution => Status::Accepted,
+    }
+}
+
+fn left_out_status(why: NotChosen) -> Status
+    ensures { status_view result ≡ not_chosen_status why }
+{
+    match why {
+        NotChosen::Already => Status::Already,
+        NotChosen::Deleted => Status::Deleted,
+        NotChosen::Missing => Status::Missing,
+        NotChosen::NoVer => Status::NoVer,
+        NotChosen::NotApplied => Status::NotApplied,
+    }
+}
+
+fn push_kept(
+    statuses: &mut Vec<(Id, Status)>,
+    kind: ZoneKind,
+    kept: &[Id],
+) -> Result<(), AllocError>
+    ensures { OnOk result (map said statuses.new.items ≡ map said statuses.old.items ++ kept_statuses kind kept.now) }
+{
+    for id in kept {
+        statuses.push((*id, installed_status(kind)))?;
+    }
+    Ok(())
+}
+
+fn push_failed(
+    statuses: &mut Vec<(Id, Status)>,
+    failed: Vec<(Id, Failure)>,
+) -> Result<(), AllocError>
+    ensures { OnOk result (map said statuses.new.items ≡ map said statuses.old.items
+        ++ failed_statuses (map why_failed failed.items)) }
+{
+    for (id, failure) in failed {
+        statuses.push((id, Status::Failed(failure)))?;
+    }
+    Ok(())
+}
+
+fn push_left_out(
+    statuses: &mut Vec<(Id, Status)>,
+    left_out: &[(Id, NotChosen)],
+) -> Result<(), AllocError>
+    ensures { OnOk result (map said statuses.new.items ≡ map said statuses.old.items ++ left_out_statuses left_out.now) }
+{
+    for (id, why) in left_out {
+        statuses.push((*id, left_out_status(*why)))?;
+    }
+    Ok(())
+}
+
+/// The statuses of all ids that have one: of those that are installed in this kind of zone, of those that failed, and of
+/// those that were left out.
+pub(crate) fn statuses(
+    alloc: Heap,
+    kind: ZoneKind,
+    kept: &[Id],
+    failed: Vec<(Id, Failure)>,
+    left_out: &[(Id, NotChosen)],
+) -> Result<Vec<(Id, Status)>, AllocError>
+    ensures { IfOk result (λ found. map said found.items
+        ≡ all_statuses kind kept.now (map why_failed failed.items) left_out.now) }
+{
+    let mut found = Vec::new(alloc);
+    push_kept(&mut found, kind, kept)?;
+    push_failed(&mut found, failed)?;
+    push_left_out(&mut found, left_out)?;
+    Ok(found)
+}

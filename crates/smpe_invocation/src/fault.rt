@@ -1,0 +1,40 @@
+//! Why the words ask for nothing.
+use clap::error::ErrorKind;
+use std::alloc::AllocError;
+use thiserror::Error;
+
+/// Why no invocation is read: want of memory, words that `clap` refuses, with its own text, or a
+/// name, an SREL or a date that has not its form.
+#[derive(Debug, Drop, Error)]
+pub enum ArgFault {
+    #[error("out of memory")]
+    Memory,
+    #[error("{0}")]
+    Clap(clap::Error),
+    #[error("bad operand")]
+    BadOperand,
+}
+
+impl From<AllocError> for ArgFault {
+    ghost use Rattle.std.specs.Prelude.{◌≡◌};
+    ghost use Rattle.smpe_invocation.specs.declared.fault.ArgFault.TheVariants.{Memory};
+
+    ghost from_gives = { λ _ e. e ≡ Memory };
+
+    fn from(_e: AllocError) -> ArgFault {
+        ArgFault::Memory
+    }
+}
+
+impl From<clap::Error> for ArgFault {
+    ghost use Rattle.smpe_invocation.specs.Answers.{IsOfClap};
+
+    ghost from_gives = { IsOfClap };
+
+    fn from(error: clap::Error) -> ArgFault {
+        match error.kind() {
+            ErrorKind::OutOfMemory => ArgFault::Memory,
+            _ => ArgFault::Clap(error),
+        }
+    }
+}

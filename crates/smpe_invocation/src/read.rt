@@ -1,0 +1,75 @@
+//! What the words of the command line ask for.
+ghost use Rattle.std.specs.Prelude.{◌≡◌, ◌⊎◌, map, codes, option_map, IfOk, IfErr};
+ghost use Rattle.clap.specs.Words.{found_of, rows_of};
+ghost use Rattle.smpe_invocation.specs.Answers.{Excludes, IsMet, IsRead, IsRefused};
+ghost use Rattle.smpe_invocation.specs.Values.{HasRun, HasValues, HasZone};
+ghost use Rattle.smpe_invocation.specs.declared.asked.Invocation.{Invocation};
+
+use crate::asked::Invocation;
+use crate::command::command_line;
+use crate::fault::ArgFault;
+use crate::values::{date, kind, optional_text, related, srel, text, zone_name};
+use clap::ArgMatches;
+use std::alloc::Global;
+
+/// Reads the words, of which the first is the program's name.
+pub fn invocation<'a>(alloc: Global, words: &'a [&'a str]) -> Result<Invocation, ArgFault>
+    ensures ok { IfOk result (IsRead (map (λ word. word.now) words.entry.now)) }
+    ensures err { IfErr result (IsRefused (map (λ word. word.now) words.entry.now)) }
+{
+    let matches = command_line(alloc)?.try_get_matches_from(words)?;
+    met(alloc, matches.subcommand())
+}
+
+// The subcommand that was met, with its matches.
+fn met(alloc: Global, met: Option<(&str, &ArgMatches<'_>)>) -> Result<Invocation, ArgFault>
+    ensures ok { IfOk result (IsMet (option_map (λ p. (p.0.now, rows_of (found_of p.1.now))) met.entry)) }
+    ensures err { IfErr result (λ e. Excludes e ((invocation : Invocation) × IsMet (option_map (λ p. (p.0.now, rows_of (found_of p.1.now))) met.entry) invocation)) }
+{
+    let Some((name, found)) = met else {
+        return Err(ArgFault::BadOperand);
+    };
+    if name == "zone" {
+        zone(alloc, found)
+    } else if name == "run" {
+        run(alloc, found)
+    } else {
+        Err(ArgFault::BadOperand)
+    }
+}
+
+fn zone(alloc: Global, found: &ArgMatches<'_>) -> Result<Invocation, ArgFault>
+    ensures ok { IfOk result (HasZone (rows_of (found_of found.now))) }
+    ensures err { IfErr result (λ e. Excludes e ((invocation : Invocation) × HasZone (rows_of (found_of found.now)) invocation)) }
+{
+    let name = zone_name(found, "name")?;
+    let kind = kind(found)?;
+    let srel = srel(found)?;
+    let related = related(found)?;
+    let db = text(alloc, found, "db")?;
+    Ok(Invocation::Zone {
+        db,
+        name,
+        kind,
+        srel,
+        related,
+    })
+}
+
+fn run(alloc: Global, found: &ArgMatches<'_>) -> Result<Invocation, ArgFault>
+    ensures ok { IfOk result (HasRun (rows_of (found_of found.now))) }
+    ensures err { IfErr result (λ e. Excludes e ((invocation : Invocation) × HasRun (rows_of (found_of found.now)) invocation)) }
+{
+    let date = date(found)?;
+    let db = text(alloc, found, "db")?;
+    let cntl = text(alloc, found, "cntl")?;
+    let ptfin = optional_text(alloc, found, "ptfin")?;
+    let hold = optional_text(alloc, found, "hold")?;
+    Ok(Invocation::Run {
+        db,
+        date,
+        cntl,
+        ptfin,
+        hold,
+    })
+}

@@ -1,0 +1,104 @@
+-- A SYSMOD that gains a source.
+use Rattle.std.proofs.Common.{◌≡◌, ◌∙◌, Bool, true, false, List, [], ◌∷◌, map, find, refl, sym, ap, subst, Option, None, Some, All, Contains, true≢false, if◌then◌else◌}
+use Rattle.std.specs.declared.cmp.Ordering.{Ordering}
+use Rattle.std.specs.declared.cmp.Ordering.TheVariants.{Less, Equal, Greater}
+use Rattle.std.specs.Ordering.{is_eq, nat_cmp}
+use Rattle.std.specs.Cmp.Lexicographic.{slice_cmp, texts_ties}
+use Rattle.std.specs.Option.{option_map}
+use Rattle.std.specs.Str.{bytes_eq}
+use Rattle.std.proofs.lemmas.Cmp.{nat_list_cmp_total}
+use Rattle.std.proofs.lemmas.List.Elements.{All-head, All-tail, All-weaker, All-contains_itself}
+use Rattle.terms.specs.Types.{Text, Id, Sysmod, Global}
+use Rattle.terms.specs.Rising.{Rises}
+use Rattle.terms.specs.Lookups.{sysmod_of}
+use Rattle.terms.specs.Global.{with_source, assign}
+use Rattle.terms.proofs.Apart.{parts}
+use Rattle.terms.proofs.GlobalLookups.{same_from, find-passes, assigned, sysmod_of-assign}
+use Rattle.terms.proofs.RisingLists.{find-there, Splits-around}
+use Rattle.store.specs.declared.change.GlobalEdit.TheVariants.{ReplaceSources}
+use Rattle.store.specs.Changes.{Fits, EachFits, after_edits}
+use Rattle.smpe_receive.specs.Edits.{head_of, source_edits}
+use Rattle.smpe_receive.proofs.Fitting.{fits-none, fits-one}
+
+map-same : {X : Type 0} (f h : X → X) (xs : List X) → All (λ x. f x ≡ h x) xs → map f xs ≡ map h xs
+map-same f h [] all = refl
+map-same f h (x ∷ xs) all =
+    let first = All-head (λ y. f y ≡ h y) x xs all in
+    let rest = map-same f h xs (All-tail (λ y. f y ≡ h y) x xs all) in
+    ap (λ y. y ∷ map f xs) first ∙ ap (λ ys. h x ∷ ys) rest
+
+unchanged : {X : Type 0} (f : X → X) (xs : List X) → All (λ x. f x ≡ x) xs → map f xs ≡ xs
+unchanged f [] all = refl
+unchanged f (x ∷ xs) all =
+    let first = All-head (λ y. f y ≡ y) x xs all in
+    let rest = unchanged f xs (All-tail (λ y. f y ≡ y) x xs all) in
+    ap (λ y. y ∷ map f xs) first ∙ ap (λ ys. x ∷ ys) rest
+
+equal_from : (r : Ordering) → is_eq r ≡ true → r ≡ Equal
+equal_from Less e = absurd (true≢false (sym e))
+equal_from Equal e = refl
+equal_from Greater e = absurd (true≢false (sym e))
+
+module _ (source : Text) (g : Global) (x : Id) (rises : Rises (slice_cmp nat_cmp) (λ (r : Sysmod). r.id) g.sysmods) where
+  -- a SYSMOD of the id is found by it
+  found : (r : Sysmod) → Contains g.sysmods r → bytes_eq r.id x ≡ true → sysmod_of g x ≡ Some r
+  found r h hit =
+      let p = parts g.sysmods r h in
+      let tie = equal_from (slice_cmp nat_cmp r.id x) (sym (texts_ties r.id x) ∙ hit) in
+      ap (find (λ (y : Sysmod). bytes_eq y.id x)) p.2
+      ∙ find-there nat_list_cmp_total (λ (y : Sysmod). y.id) bytes_eq texts_ties x p.0 p.1 r
+      (Splits-around nat_list_cmp_total (λ (y : Sysmod). y.id) x p.0 p.1 r (subst (Rises (slice_cmp nat_cmp) (λ (y : Sysmod). y.id)) p.2 rises) tie) tie
+
+  -- an id that is not received
+  none-assigned : sysmod_of g x ≡ None → assign g source x ≡ g
+  none-assigned none =
+      ap (λ ss. record g { sysmods = ss })
+      (unchanged (assigned source x) g.sysmods (All-weaker (Contains g.sysmods) (λ r. assigned source x r ≡ r) each g.sysmods (All-contains_itself g.sysmods)))
+    where
+      each : (r : Sysmod) → Contains g.sysmods r → assigned source x r ≡ r
+      each r h = by (bytes_eq r.id x) refl
+        where
+          by : (b : Bool) → bytes_eq r.id x ≡ b → assigned source x r ≡ r
+          by true e = let there = found r h e in cc
+          by false e = rw e refl
+
+  module _ (s : Sysmod) (there : sysmod_of g x ≡ Some s) where
+    named : bytes_eq s.id x ≡ true
+    named = find-passes (λ (r : Sysmod). bytes_eq r.id x) g.sysmods s there
+
+    -- it alone has its id
+    alone : (r : Sysmod) → Contains g.sysmods r → bytes_eq r.id x ≡ true → r ≡ s
+    alone r h hit = let here = found r h hit in cc
+
+    -- its edit gives it the sources
+    replaced : after_edits (ReplaceSources (head_of (with_source source s)) ∷ []) g ≡ assign g source x
+    replaced =
+        ap (λ ss. record g { sysmods = ss })
+        (map-same (put s.id) (assigned source x) g.sysmods (All-weaker (Contains g.sysmods) (λ r. put s.id r ≡ assigned source x r) each g.sysmods (All-contains_itself g.sysmods)))
+      where
+        put : Id → Sysmod → Sysmod
+        put y r = if bytes_eq r.id y then record r { sources = (with_source source s).sources } else r
+
+        each : (r : Sysmod) → Contains g.sysmods r → put s.id r ≡ assigned source x r
+        each r h = ap (λ y. put y r) (same_from s.id x named) ∙ by (bytes_eq r.id x) refl
+          where
+            by : (b : Bool) → bytes_eq r.id x ≡ b → put x r ≡ assigned source x r
+            by true e = rw (e, alone r h e) refl
+            by false e = rw e refl
+
+    replaced-fits : Fits g (ReplaceSources (head_of (with_source source s)))
+    replaced-fits = All-weaker (Contains g.sysmods) (λ r. r.id ≡ s.id → r.kind ≡ s.kind) each g.sysmods (All-contains_itself g.sysmods)
+      where
+        each : (r : Sysmod) → Contains g.sysmods r → r.id ≡ s.id → r.kind ≡ s.kind
+        each r h same = ap (λ (y : Sysmod). y.kind) (alone r h (ap (λ y. bytes_eq y x) same ∙ named))
+
+  -- what is written of an id leads where it is to lead
+  pub assigned-written : (o : Option Sysmod) → sysmod_of (assign g source x) x ≡ o → EachFits (source_edits o) g × (after_edits (source_edits o) g ≡ assign g source x)
+  assigned-written o is = subst (λ p. EachFits (source_edits p) g × (after_edits (source_edits p) g ≡ assign g source x)) (sym (sysmod_of-assign g source x x) ∙ is) (by (sysmod_of g x) refl)
+    where
+      by : (p : Option Sysmod) → sysmod_of g x ≡ p → EachFits (source_edits (option_map (assigned source x) p)) g × (after_edits (source_edits (option_map (assigned source x) p)) g ≡ assign g source x)
+      by None none = (fits-none g, sym (none-assigned none))
+      by (Some s) there =
+          let same : assigned source x s ≡ with_source source s = ap (λ b. if b then with_source source s else s) (named s there) in
+          subst (λ r. EachFits (source_edits (Some r)) g × (after_edits (source_edits (Some r)) g ≡ assign g source x)) (sym same)
+          (fits-one g (ReplaceSources (head_of (with_source source s))) (replaced-fits s there), replaced s there)

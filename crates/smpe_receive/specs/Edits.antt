@@ -1,0 +1,44 @@
+-- By which edits the tables follow, and what the calls of the global zone answer.
+use Rattle.std.specs.Prelude.{List, [], ◌∷◌, map, Option, None, Some, Result, Ok, Err}
+use Rattle.terms.specs.declared.kinds.HoldKind.{HoldKind}
+use Rattle.terms.specs.Types.{Text, Id, Global, Sysmod}
+use Rattle.terms.specs.Global as rule
+use Rattle.sysmods_received.specs.declared.faults.ReceiveFault.{ReceiveFault}
+use Rattle.sysmods_received.specs.Refused.{fault_of}
+use Rattle.sysmods_holds.specs.declared.holds.ReleaseError.{ReleaseError}
+use Rattle.sysmods.specs.Faults.{release_fault}
+use Rattle.store.specs.declared.change.GlobalEdit.{GlobalEdit}
+use Rattle.store.specs.declared.change.GlobalEdit.TheVariants.{PutHold, RemoveHold, InsertSysmod, ReplaceSources}
+
+-- what RECEIVE answers of a SYSMOD
+abbrev pub answer_of : Global → Option ReceiveFault → Result Global rule.ReceiveFault
+answer_of new None = Ok new
+answer_of new (Some fault) = Err (fault_of fault)
+
+-- the SYSMOD, and then its holds
+abbrev pub edits_of : Sysmod → List GlobalEdit
+edits_of s = InsertSysmod (record s { holds = [] }) ∷ map (λ h. PutHold h) s.holds
+
+-- of a refused SYSMOD none
+abbrev pub edits_after : Option ReceiveFault → Sysmod → List GlobalEdit
+edits_after None s = edits_of s
+edits_after (Some fault) s = []
+
+-- the SYSMOD with its sources, but without its statements
+abbrev pub head_of : Sysmod → Sysmod
+head_of s = record s { vers = []; changes = []; holds = [] }
+
+-- what writes the sources of a SYSMOD that is received
+abbrev pub source_edits : Option Sysmod → List GlobalEdit
+source_edits None = []
+source_edits (Some s) = ReplaceSources (head_of s) ∷ []
+
+-- what a release answers
+abbrev pub release_answer : Global → Result (Unit {0}) ReleaseError → Result Global rule.ReleaseFault
+release_answer new (Ok done) = Ok new
+release_answer new (Err why) = Err (release_fault why)
+
+-- what removes a hold that is released
+abbrev pub release_edits : Id → HoldKind → Text → Result (Unit {0}) ReleaseError → List GlobalEdit
+release_edits x kind reason (Ok done) = RemoveHold x kind reason ∷ []
+release_edits x kind reason (Err why) = []

@@ -1,0 +1,54 @@
+-- Commands of the global zone: where they lead, and the session of that state.
+use Rattle.std.proofs.Common.{◌≡◌, ◌⊎◌, ◌∙◌, List, Option, Some, refl, sym, ap, subst, inl}
+use Rattle.std.specs.Prelude.{IsSome}
+use Rattle.std.specs.Str.{bytes_eq}
+use Rattle.indexmap.specs.IndexMap.{get}
+use Rattle.terms.specs.Types.{Text, Global, Command}
+use Rattle.store_schema.specs.Inventory.{IsInventory}
+use Rattle.machine.specs.Outcome.{Header, Line, Outcome, Refusal, Ran, Refused, header_of}
+use Rattle.machine.specs.State.{State, global_name, misplaced}
+use Rattle.machine.specs.Machine.{Files, Performs}
+use Rattle.store.specs.declared.change.GlobalEdit.{GlobalEdit}
+use Rattle.store.specs.Changes.{EachFits, after_edits}
+use Rattle.store.specs.Kept.{kept}
+use Rattle.smpe_session.specs.declared.performing.Session.{Session}
+use Rattle.smpe_session.specs.Sessions.{IsSessionOf}
+use Rattle.smpe_session.specs.Steps.{LeadsTo}
+
+-- the change that is committed, and where it leads
+pub record LeadsBy (date : Text) (files : Files) (c : Command) (s : State) (new : Global) (edits : List GlobalEdit) (lines : List Line) : Type 0 where
+  pub fits : EachFits edits s.global
+  pub makes : kept (record s { global = new }) ≡ record (kept s) { global = after_edits edits s.global }
+  pub inventory : IsInventory (kept (record s { global = new }))
+  pub leads : LeadsTo date files c s new (record s { global = new }) lines
+
+pub leads-by : (date : Text) (files : Files) (c : Command) (s : State) (old new : Global) (edits : List GlobalEdit) (lines : List Line) → s.global ≡ old
+    → EachFits edits old → after_edits edits old ≡ new → IsInventory (kept (record s { global = new })) → LeadsTo date files c s new (record s { global = new }) lines
+    → LeadsBy date files c s new edits lines
+leads-by date files c s old new edits lines global fits after inventory leads = record {
+  fits = subst (EachFits edits) (sym global) fits;
+  makes = ap (λ k. record (kept s) { global = k }) (sym (ap (after_edits edits) global ∙ after));
+  inventory = inventory;
+  leads = leads;
+}
+
+-- the header under the session's boundary
+pub headed : (date : Text) (files : Files) (c : Command) (s t : State) (boundary : Option Text) (outcome : Header → Outcome) → boundary ≡ s.boundary
+    → Performs date files s c t (outcome (header_of c s.boundary)) → Performs date files s c t (outcome (header_of c boundary))
+headed date files c s t boundary outcome same performs = subst (λ b. Performs date files s c t (outcome (header_of c b))) (sym same) performs
+
+pub led : (date : Text) (files : Files) (c : Command) (s t : State) (new : Global) (boundary : Option Text) (lines : List Line) → boundary ≡ s.boundary → LeadsTo date files c s new t lines
+    → Performs date files s c t (Ran (header_of c boundary) lines)
+led date files c s t new boundary lines same leads = headed date files c s t boundary (λ h. Ran h lines) same leads.performs
+
+pub refused : (date : Text) (files : Files) (c : Command) (s : State) (boundary : Option Text) (why : Refusal) → boundary ≡ s.boundary → misplaced s c ≡ Some why
+    → Performs date files s c s (Refused (header_of c boundary) why)
+refused date files c s boundary why same at = headed date files c s s boundary (λ h. Refused h why) same (inl (why, at, refl, refl))
+
+pub led-session : (s t : State) (at new : Session) → IsSessionOf s at → t ≡ record s { global = new.global } → new.zones ≡ at.zones → new.boundary ≡ at.boundary → IsSessionOf t new
+led-session s t at new is state zones boundary = subst (λ u. IsSessionOf u new) (sym state) record {
+  global = refl;
+  boundary = boundary ∙ is.boundary;
+  zones = λ q z found. is.zones q z (sym (ap (λ m. get bytes_eq m q) zones) ∙ found);
+  current = λ q named. subst (λ m. (q ≡ global_name) ⊎ IsSome (get bytes_eq m q)) (sym zones) (is.current q named);
+}

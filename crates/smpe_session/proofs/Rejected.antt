@@ -1,0 +1,27 @@
+-- What REJECT leads to.
+use Rattle.std.proofs.Common.{◌≡◌, List, None, refl, sym, subst, inr}
+use Rattle.terms.specs.Types.{Text, Id, Global, Reject}
+use Rattle.store_schema.specs.Inventory.{IsInventory}
+use Rattle.machine.specs.Runs.{Runs}
+use Rattle.machine.specs.Rejecting.{RejectsId}
+use Rattle.machine.specs.Outcome.{Line}
+use Rattle.machine.specs.State.{State, misplaced}
+use Rattle.machine.specs.Machine.{Files}
+use Rattle.store.specs.declared.change.GlobalEdit.{GlobalEdit}
+use Rattle.store.specs.Changes.{EachFits, after_edits}
+use Rattle.store.specs.Kept.{kept}
+use Rattle.smpe_upkeep.proofs.RejectingForms.{reject_forms}
+use Rattle.smpe_session.proofs.Leading.{LeadsBy, leads-by}
+
+pub rejected : (date : Text) (files : Files) (ids : List Id) (s : State) (old new : Global) (edits : List GlobalEdit) (lines : List Line)
+    → s.global ≡ old → IsInventory (kept s) → misplaced s (Reject ids) ≡ None
+    → Runs (RejectsId s.zones) old ids new lines → EachFits edits old → after_edits edits old ≡ new
+    → LeadsBy date files (Reject ids) s new edits lines
+rejected date files ids s old new edits lines global is at runs_old fits after =
+    let runs = subst (λ k. Runs (RejectsId s.zones) k ids new lines) (sym global) runs_old in
+    leads-by date files (Reject ids) s old new edits lines global fits after
+    (reject_forms ids (kept s) new lines is runs)
+    record {
+      state = refl;
+      performs = inr (at, record { new = new; lines = lines; runs = runs; state = refl; prints = refl });
+    }

@@ -1,0 +1,152 @@
+-- How loads and commits leave a store that keeps a state.
+use Rattle.std.proofs.Common.{◌≡◌, ◌≢◌, ◌⊎◌, ◌∙◌, List, [], ◌∷◌, refl, sym, ap, subst, inl, inr}
+use Rattle.std.specs.Prelude.{IfOk, IfErr, IsErrOf, IsErrAnd, OnOk, OnErr, Result, Ok, Err}
+use Rattle.std.proofs.lemmas.Result.{err_from_is_err_and}
+use Rattle.sqlite.specs.Store.{Ghosts}
+use Rattle.sqlite.specs.Held.{Held, state}
+use Rattle.sqlite.specs.State.{HasCleanDisk}
+use Rattle.store_schema.specs.Inventory.{Inventory, IsInventory}
+use Rattle.store_schema.specs.declared.error.StoreError.{StoreError}
+use Rattle.store_schema.specs.declared.error.StoreError.TheVariants.{Fault, OtherSchema, NoState, Memory}
+use Rattle.machine.specs.State.{State}
+use Rattle.machine.specs.Machine.{Files, Act, Begin, Perform, Performs}
+use Rattle.machine.specs.Outcome as machine
+use Rattle.machine.specs.Report.{text}
+use Rattle.std.specs.List.{flat_map}
+use Rattle.report.specs.declared.outcome.Outcome.{Outcome}
+use Rattle.terms.specs.Types.{Text, Command}
+use Rattle.store.specs.declared.change.Change.{Change}
+use Rattle.store.specs.Changes.{Makes}
+use Rattle.store.specs.Kept.{kept, Keeps, Stays}
+use Rattle.store.specs.View.{Tables, TablesIfOpen, Leaves}
+use Rattle.smpe_session.specs.declared.performing.Session.{Session}
+use Rattle.smpe_session.specs.Sessions.{HasBegun, HasPerformed}
+use Rattle.smpe_session.specs.Steps.{Unmoved, Unsettled, EndsUnmoved, EndsUnsettled, EndsStaying, HasLoaded, HasCommitted, HasRun}
+
+module _ {S : Type 0} (g : Ghosts S) (at : Held S) (s : State) where
+  pub stays-unmoved : (a : Act) → Unmoved g at s → Stays g at s a
+  stays-unmoved a un = record { now = un.now; crash = λ c left. inl (un.crash c left) }
+
+  pub unmoved-kept : Keeps g at s → Unmoved g at s
+  unmoved-kept keeps = record { now = λ clean shown. (keeps.now clean).1; crash = keeps.crash }
+
+  -- errors at which nothing was committed
+  begun-by : (e : StoreError) → EndsUnmoved g at s e → HasBegun g at s (Err e)
+  begun-by Fault un = stays-unmoved Begin un
+  begun-by OtherSchema un = un
+  begun-by NoState un = un
+  begun-by Memory un = stays-unmoved Begin un
+
+  pub begun-unmoved : (r : Result Session StoreError) (e : StoreError) → IsErrAnd r (λ y. y ≡ e) → EndsUnmoved g at s e → HasBegun g at s r
+  begun-unmoved r e is un = let p = err_from_is_err_and r is in subst (λ q. HasBegun g at s q) (sym (p.1 ∙ ap Err p.2)) (begun-by e un)
+
+  module _ (session : Session) (date : Text) (files : Files) (c : Command) where
+    performs-by : (e : StoreError) → EndsUnmoved g at s e → HasPerformed g at s session date files c (Err e)
+    performs-by Fault un = stays-unmoved (Perform date files c) un
+    performs-by OtherSchema un = un
+    performs-by NoState un = un
+    performs-by Memory un = stays-unmoved (Perform date files c) un
+
+    pub performs-unmoved : (r : Result Outcome StoreError) (e : StoreError) → IsErrAnd r (λ y. y ≡ e) → EndsUnmoved g at s e → HasPerformed g at s session date files c r
+    performs-unmoved r e is un = let p = err_from_is_err_and r is in subst (λ q. HasPerformed g at s session date files c q) (sym (p.1 ∙ ap Err p.2)) (performs-by e un)
+
+    -- want of memory before the store is asked
+    pub performs-short : (r : Result Outcome StoreError) → IsErrAnd r (λ y. y ≡ Memory) → Keeps g at s → HasPerformed g at s session date files c r
+    performs-short r is keeps = performs-unmoved r Memory is (unmoved-kept keeps)
+
+    -- what a command that ran part of the way ends with
+    staying-by : (e : StoreError) → EndsStaying g at s (Perform date files c) e → HasPerformed g at s session date files c (Err e)
+    staying-by Fault stays = stays
+    staying-by OtherSchema stays = stays
+    staying-by NoState stays = stays
+    staying-by Memory stays = stays
+
+    pub performs-staying : (r : Result Outcome StoreError) (e : StoreError) → IsErrAnd r (λ y. y ≡ e) → EndsStaying g at s (Perform date files c) e → HasPerformed g at s session date files c r
+    performs-staying r e is stays = let p = err_from_is_err_and r is in subst (λ q. HasPerformed g at s session date files c q) (sym (p.1 ∙ ap Err p.2)) (staying-by e stays)
+
+  -- where the commit of what a command leads to failed
+  module _ (date : Text) (files : Files) (c : Command) (t : State) (outcome : machine.Outcome) (performs : Performs date files s c t outcome) where
+    stays-unsettled : Unsettled g at s t → Stays g at s (Perform date files c)
+    stays-unsettled un = record {
+      now = un.now;
+      crash = λ d left. elim (un.crash d left) [
+        | inl same ↦ inl same
+        | inr is ↦ inr (t, flat_map text (outcome ∷ []), (outcome ∷ [], (outcome, performs, refl), refl), is)
+      ];
+    }
+
+    pub staying-unsettled : (e : StoreError) → EndsUnsettled g at s t e → EndsStaying g at s (Perform date files c) e
+    staying-unsettled Fault un = stays-unsettled un
+    staying-unsettled OtherSchema un = un
+    staying-unsettled NoState un = un
+    staying-unsettled Memory un = stays-unsettled un
+
+  module _ (a : Act) (LeadsTo : State → List machine.Line → Type 0) {V : Type 0} (lines : V → List machine.Line) where
+    pub run-staying : (r : Result V StoreError) (e : StoreError) → IsErrAnd r (λ y. y ≡ e) → EndsStaying g at s a e → HasRun g at s a LeadsTo lines r
+    run-staying r e is stays = let p = err_from_is_err_and r is in subst (λ q. HasRun g at s a LeadsTo lines q) (sym (p.1 ∙ ap Err p.2)) stays
+
+    -- want of memory before the store is asked
+    pub run-short : (r : Result V StoreError) → IsErrAnd r (λ y. y ≡ Memory) → Keeps g at s → HasRun g at s a LeadsTo lines r
+    run-short r is keeps = run-staying r Memory is (stays-unmoved a (unmoved-kept keeps))
+
+  pub loaded-err : {X : Type 0} (Found : X → Type 0) (r : Result X StoreError) (e : StoreError) → IsErrAnd r (λ y. y ≡ e) → EndsUnmoved g at s e → HasLoaded g at s Found r
+  loaded-err Found r e is un = let p = err_from_is_err_and r is in subst (λ q. HasLoaded g at s Found q) (sym (p.1 ∙ ap Err p.2)) un
+
+  pub committed-err : (t : State) (r : Result Unit StoreError) (e : StoreError) → IsErrAnd r (λ y. y ≡ e) → EndsUnsettled g at s t e → HasCommitted g at s t r
+  committed-err t r e is un = let p = err_from_is_err_and r is in subst (λ q. HasCommitted g at s t q) (sym (p.1 ∙ ap Err p.2)) un
+
+  -- what the store keeps is an inventory
+  pub kept-inventory : HasCleanDisk (state g at) → Keeps g at s → IsInventory (kept s)
+  kept-inventory clean keeps = (keeps.now clean).1.inventory
+
+module _ {S : Type 0} (g : Ghosts S) (old new : Held S) (s : State) where
+  -- the clauses of each load
+  abbrev NoneLost : Type 0
+  NoneLost = (i : Inventory) → Tables g old i → (c : Inventory) → Leaves g new c → Leaves g old c
+
+  unmoved : ((i : Inventory) → Tables g old i → TablesIfOpen g new i) → NoneLost → Keeps g old s → Unmoved g new s
+  unmoved err lost keeps = record { now = err (kept s) keeps.now; crash = λ c left. keeps.crash c (lost (kept s) keeps.now c left) }
+
+  pub loaded : {X : Type 0} (Found : Inventory → X → Type 0) (result : Result X StoreError)
+      → HasCleanDisk (state g new)
+      → (HasCleanDisk (state g new) → (i : Inventory) → Tables g old i → IfOk result (Found i))
+      → (HasCleanDisk (state g new) → IsErrOf result NoState → (i : Inventory) → ¬ Tables g old i)
+      → OnOk result ((i : Inventory) → Tables g old i → Tables g new i)
+      → OnErr result ((i : Inventory) → Tables g old i → TablesIfOpen g new i)
+      → IfErr result (λ e. e ≢ OtherSchema)
+      → NoneLost → Keeps g old s → HasLoaded g new s (Found (kept s)) result
+  loaded Found (Ok x) clean found none same err which lost keeps = (
+    found clean (kept s) keeps.now,
+    record { now = same (kept s) keeps.now; crash = λ c left. keeps.crash c (lost (kept s) keeps.now c left) },
+  )
+  loaded Found (Err Fault) clean found none same err which lost keeps = unmoved err lost keeps
+  loaded Found (Err OtherSchema) clean found none same err which lost keeps = which refl
+  loaded Found (Err NoState) clean found none same err which lost keeps = none clean refl (kept s) keeps.now
+  loaded Found (Err Memory) clean found none same err which lost keeps = unmoved err lost keeps
+
+  -- the clauses of a commit of what makes t
+  module _ (change : Change) (t : State) (keeps : Keeps g old s) (makes : Makes change (kept s) (kept t)) (is : IsInventory (kept t)) where
+    unsettled : ((i j : Inventory) → Makes change i j → IsInventory j → Tables g old i → (c : Inventory) → Leaves g new c → Leaves g old c ⊎ (j ≡ c)) → TablesIfOpen g new (kept s) → Unsettled g new s t
+    unsettled lost err = record {
+      now = err;
+      crash = λ c left. elim (lost (kept s) (kept t) makes is keeps.now c left) [
+        | inl before ↦ inl (keeps.crash c before)
+        | inr same ↦ inr (sym same)
+      ];
+    }
+
+    pub committed : (result : Result Unit StoreError)
+        → OnOk result ((i j : Inventory) → Makes change i j → IsInventory j → Tables g old i → Tables g new j)
+        → OnOk result ((i j : Inventory) → Makes change i j → IsInventory j → Tables g old i → (c : Inventory) → Leaves g new c → j ≡ c)
+        → OnErr result ((i : Inventory) → Tables g old i → TablesIfOpen g new i)
+        → ((i j : Inventory) → Makes change i j → IsInventory j → Tables g old i → (c : Inventory) → Leaves g new c → Leaves g old c ⊎ (j ≡ c))
+        → IfErr result (λ e. (e ≡ Fault) ⊎ (e ≡ Memory))
+        → HasCommitted g new s t result
+    committed (Ok x) ok durable err lost which = record {
+      now = ok (kept s) (kept t) makes is keeps.now;
+      crash = λ c left. sym (durable (kept s) (kept t) makes is keeps.now c left);
+    }
+    committed (Err Fault) ok durable err lost which = unsettled lost (err (kept s) keeps.now)
+    committed (Err OtherSchema) ok durable err lost which = elim which [ inl e ↦ absurd (cc e) | inr e ↦ absurd (cc e) ]
+    committed (Err NoState) ok durable err lost which = elim which [ inl e ↦ absurd (cc e) | inr e ↦ absurd (cc e) ]
+    committed (Err Memory) ok durable err lost which = unsettled lost (err (kept s) keeps.now)

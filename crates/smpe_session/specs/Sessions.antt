@@ -1,0 +1,38 @@
+-- What a job has in memory of a state, and how its beginning and its commands end.
+use Rattle.std.specs.Prelude.{◌≡◌, ◌⊎◌, None, Some, IsSome, Result, Ok, Err}
+use Rattle.std.specs.Str.{bytes_eq}
+use Rattle.indexmap.specs.IndexMap.{get}
+use Rattle.sqlite.specs.Store.{Ghosts}
+use Rattle.sqlite.specs.Held.{Held}
+use Rattle.terms.specs.Types.{Text, Zone, Command}
+use Rattle.machine.specs.State.{State, global_name, zone_named}
+use Rattle.machine.specs.Machine.{Files, Begin, Perform, Performs}
+use Rattle.report.specs.declared.outcome.Outcome.{Outcome}
+use Rattle.report.specs.Views.{outcome_view}
+use Rattle.store_schema.specs.declared.error.StoreError.{StoreError}
+use Rattle.store_schema.specs.declared.error.StoreError.TheVariants.{Fault, Memory}
+use Rattle.store.specs.Kept.{Keeps, Stays}
+use Rattle.smpe_session.specs.declared.performing.Session.{Session}
+
+-- The session has the state's global zone and boundary, and zones of the state, among them the one that the boundary names.
+pub record IsSessionOf (s : State) (at : Session) : Type 0 where
+  pub global : at.global ≡ s.global
+  pub boundary : at.boundary ≡ s.boundary
+  pub zones : (name : Text) (zone : Zone) → get bytes_eq at.zones name ≡ Some zone → zone_named s.zones name ≡ Some zone
+  pub current : (name : Text) → s.boundary ≡ Some name → (name ≡ global_name) ⊎ IsSome (get bytes_eq at.zones name)
+
+module _ {S : Type 0} (g : Ghosts S) (at : Held S) (s : State) where
+  -- The job has begun. No other error comes than want of memory and a fault of the store.
+  abbrev pub HasBegun : Result Session StoreError → Type 0
+  HasBegun (Ok session) = IsSessionOf (record s { boundary = None }) session × Keeps g at s
+  HasBegun (Err Fault) = Stays g at s Begin
+  HasBegun (Err Memory) = Stays g at s Begin
+  HasBegun (Err _) = ⊥
+
+  -- The command is performed, the tables stand for what it led to, and so does the session.
+  abbrev pub HasPerformed : Session → Text → Files → Command → Result Outcome StoreError → Type 0
+  HasPerformed session date files c (Ok outcome) =
+      (t : State) × Performs date files s c t (outcome_view outcome) × IsSessionOf t session × Keeps g at t
+  HasPerformed session date files c (Err Fault) = Stays g at s (Perform date files c)
+  HasPerformed session date files c (Err Memory) = Stays g at s (Perform date files c)
+  HasPerformed session date files c (Err _) = ⊥

@@ -1,0 +1,55 @@
+//! What a command asks of the store, as steps between states.
+ghost use Rattle.std.specs.Prelude.{◌≡◌, map};
+ghost use Rattle.sqlite.specs.Held.{state};
+ghost use Rattle.sqlite.specs.State.{HasCleanDisk};
+ghost use Rattle.machine.specs.State.{State, zone_named};
+ghost use Rattle.store_schema.specs.Inventory.{IsInventory};
+ghost use Rattle.store.specs.Changes.{Makes};
+ghost use Rattle.store.specs.Kept.{kept, Keeps};
+ghost use Rattle.smpe_session.specs.Steps.{HasLoaded, HasCommitted};
+
+use fields::ZoneName;
+use sqlite::Alter;
+use store::{Change, Store};
+use store_schema::StoreError;
+use sysmods::Global;
+use zones::Zone;
+
+pub(crate) fn load_global<S: Alter>(store: &mut Store<S>) -> Result<Global, StoreError>
+    ensures clean { HasCleanDisk (state S.Store store.new) → HasCleanDisk (state S.Store store.old) }
+    ensures ended { HasCleanDisk (state S.Store store.new) → (s : State) → Keeps S.Store store.old s
+        → HasLoaded S.Store store.new s (λ global. global ≡ s.global) result }
+{
+    store.load_global()
+}
+
+pub(crate) fn load_zone<S: Alter>(
+    store: &mut Store<S>,
+    name: ZoneName,
+) -> Result<Option<Zone>, StoreError>
+    ensures clean { HasCleanDisk (state S.Store store.new) → HasCleanDisk (state S.Store store.old) }
+    ensures ended { HasCleanDisk (state S.Store store.new) → (s : State) → Keeps S.Store store.old s
+        → HasLoaded S.Store store.new s (λ zone. zone ≡ zone_named s.zones name) result }
+{
+    store.load_zone(name)
+}
+
+pub(crate) fn load_names<S: Alter>(store: &mut Store<S>) -> Result<Vec<ZoneName>, StoreError>
+    ensures clean { HasCleanDisk (state S.Store store.new) → HasCleanDisk (state S.Store store.old) }
+    ensures ended { HasCleanDisk (state S.Store store.new) → (s : State) → Keeps S.Store store.old s
+        → HasLoaded S.Store store.new s (λ names. names.items ≡ map (λ z. z.name) s.zones) result }
+{
+    store.zone_names()
+}
+
+/// Commits what leads from one state to another.
+pub(crate) fn commit_change<S: Alter>(
+    store: &mut Store<S>,
+    change: &Change,
+) -> Result<(), StoreError>
+    ensures clean { HasCleanDisk (state S.Store store.new) → HasCleanDisk (state S.Store store.old) }
+    ensures ended { (s t : State) → Keeps S.Store store.old s → Makes change.now (kept s) (kept t) → IsInventory (kept t)
+        → HasCommitted S.Store store.new s t result }
+{
+    store.commit(change)
+}

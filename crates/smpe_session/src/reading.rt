@@ -1,0 +1,85 @@
+//! What RECEIVE reads before anything changes: PTFIN and the hold file.
+ghost use Rattle.std.specs.Prelude.{IfOk};
+ghost use Rattle.terms.specs.Ptfin.{IsPtfin, IsPtfinFault};
+ghost use Rattle.terms.specs.HoldFile.{IsHoldFile, IsHoldFileFault};
+ghost use Rattle.machine.specs.Outcome.{Cm4, Cm5};
+ghost use Rattle.mcs.specs.Files.{items};
+ghost use Rattle.mcs_hold.specs.Items.{items as hold_items};
+ghost use Rattle.smpe_session.specs.Received.{HasRead, HasFound};
+
+use crate::files::Files;
+use cntl::ReceiveWhat;
+use mcs::{Item, McsError, read_ptfin};
+use mcs_hold::{HoldItem, read_hold_file};
+use report::Refusal;
+use std::alloc::{AllocError, Global as Heap};
+
+/// The items of the files that a RECEIVE reads.
+#[derive(Drop)]
+pub(crate) struct Found {
+    pub items: Vec<Item>,
+    pub holds: Vec<HoldItem>,
+}
+
+/// The items of PTFIN, none where it is not read.
+fn read_items(
+    alloc: Heap,
+    reads: bool,
+    ptfin: &[u8],
+) -> Result<Result<Vec<Item>, Refusal>, AllocError>
+    ensures { IfOk result (HasRead IsPtfin IsPtfinFault Cm4 reads ptfin.now (λ v. items v.items)) }
+{
+    if !reads {
+        return Ok(Ok(Vec::new(alloc)));
+    }
+    match read_ptfin(alloc, ptfin) {
+        Ok(found) => Ok(Ok(found)),
+        Err(McsError::Fault { record, code }) => Ok(Err(Refusal::Ptfin {
+            number: record,
+            code,
+        })),
+        Err(McsError::Memory) => Err(AllocError),
+    }
+}
+
+/// The items of the hold file, none where it is not read.
+fn read_holds(
+    alloc: Heap,
+    reads: bool,
+    holds: &[u8],
+) -> Result<Result<Vec<HoldItem>, Refusal>, AllocError>
+    ensures { IfOk result (HasRead IsHoldFile IsHoldFileFault Cm5 reads holds.now (λ v. hold_items v.items)) }
+{
+    if !reads {
+        return Ok(Ok(Vec::new(alloc)));
+    }
+    match read_hold_file(alloc, holds) {
+        Ok(found) => Ok(Ok(found)),
+        Err(
+            McsError::Fault {
+                record: number,
+                code,
+            },
+        ) => Ok(Err(Refusal::HoldFile { number, code })),
+        Err(McsError::Memory) => Err(AllocError),
+    }
+}
+
+/// The items of both files. A fault of PTFIN comes before one of the hold file.
+pub(crate) fn read_files(
+    alloc: Heap,
+    files: &Files<'_>,
+    what: &ReceiveWhat,
+) -> Result<Result<Found, Refusal>, AllocError>
+    ensures { IfOk result (HasFound files.now what.now (λ v. items v.items.items) (λ v. hold_items v.holds.items)) }
+{
+    let items = match read_items(alloc, what.sysmods, files.ptfin)? {
+        Ok(items) => items,
+        Err(refusal) => return Ok(Err(refusal)),
+    };
+    let holds = match read_holds(alloc, what.holddata, files.holds)? {
+        Ok(holds) => holds,
+        Err(refusal) => return Ok(Err(refusal)),
+    };
+    Ok(Ok(Found { items, holds }))
+}

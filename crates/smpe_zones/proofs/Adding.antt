@@ -1,0 +1,22 @@
+-- A zone that is defined is added.
+use Rattle.std.proofs.Common.{◌≡◌, [], Ok, refl, sym, ap}
+use Rattle.terms.specs.Forms.{IsZoneName, IsSrel}
+use Rattle.machine.specs.State.{State, ZoneDefinition, define_zone}
+use Rattle.machine.specs.Machine.{Define, or_same, Prints}
+use Rattle.store_schema.specs.Inventory.{IsInventory}
+use Rattle.store.specs.declared.change.Change.TheVariants.{NewZone}
+use Rattle.store.specs.Changes.{Makes}
+use Rattle.store.specs.Kept.{kept}
+use Rattle.smpe_upkeep.proofs.Defined.{definition_kept, placed}
+
+module _ (s t : State) (d : ZoneDefinition) (is : define_zone s d ≡ Ok t) (inventory : IsInventory (kept s)) where
+  pub makes : Makes (NewZone d.name d.kind d.srel d.related) (kept s) (kept t)
+  makes =
+      let at = placed s t d is inventory in
+      record { before = at.before; after = at.after; was = at.was; is = ap kept at.is }
+
+  pub leads : IsZoneName d.name → IsSrel d.srel → IsInventory (kept t)
+  leads name srel = definition_kept s t d name srel is inventory
+
+pub prints-none : (s t : State) (d : ZoneDefinition) → define_zone s d ≡ Ok t → Prints s (Define d) t []
+prints-none s t d is = ([], (sym (ap (or_same s) is), refl), refl)

@@ -1,0 +1,20 @@
+-- How a definition ends.
+use Rattle.std.proofs.Common.{◌≡◌, ◌⊎◌, Result, Err, inl, inr, sym, subst}
+use Rattle.sqlite.specs.Store.{Ghosts}
+use Rattle.sqlite.specs.Held.{Held}
+use Rattle.machine.specs.State.{State, ZoneDefinition}
+use Rattle.machine.specs.Machine.{Define}
+use Rattle.store_schema.specs.declared.error.StoreError.{StoreError}
+use Rattle.store_schema.specs.declared.error.StoreError.TheVariants.{Fault, Memory}
+use Rattle.store.specs.Kept.{Stays}
+use Rattle.smpe_zones.specs.declared.error.ZoneError.{ZoneError}
+use Rattle.smpe_zones.specs.Definitions.{HasDefined, told}
+
+-- a fault of the store, or want of memory
+pub ends-early : {S U : Type 0} (g : Ghosts S) (at : Held S) (s : State) (d : ZoneDefinition) (e : StoreError) (r : Result U ZoneError) → r ≡ Err (told e)
+    → (e ≡ Fault) ⊎ (e ≡ Memory) → Stays g at s (Define d) → HasDefined g at s d r
+ends-early {S = S} {U = U} g at s d e r is which stays = subst (HasDefined g at s d) (sym is) (by which)
+  where
+    by : (e ≡ Fault) ⊎ (e ≡ Memory) → HasDefined {S = S} g at s d {U = U} (Err (told e))
+    by (inl fault) = subst (λ x. HasDefined {S = S} g at s d {U = U} (Err (told x))) (sym fault) stays
+    by (inr memory) = subst (λ x. HasDefined {S = S} g at s d {U = U} (Err (told x))) (sym memory) stays

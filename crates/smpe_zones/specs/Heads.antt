@@ -1,0 +1,45 @@
+-- The faults of a definition, looked for among the heads of the zones that are there.
+use Rattle.std.specs.Prelude.{◌&&◌, ◌||◌, ◌==◌, Bool, false, not, List, length, find, Option, None, Some, is_some, nat_le, if◌then◌else◌}
+use Rattle.std.specs.List.{list_any}
+use Rattle.std.specs.Option.{option_map_or}
+use Rattle.std.specs.Str.{bytes_eq}
+use Rattle.terms.specs.declared.kinds.ZoneKind.{ZoneKind}
+use Rattle.terms.specs.declared.kinds.ZoneKind.TheVariants.{Target, Distribution}
+use Rattle.terms.specs.Types.{Text, zone_number}
+use Rattle.machine.specs.State.{ZoneDefinition, global_name}
+use Rattle.store_zone_loads.specs.declared.head.ZoneHead.{ZoneHead}
+use Rattle.smpe_zones.specs.declared.error.ZoneFault.{ZoneFault}
+use Rattle.smpe_zones.specs.declared.error.ZoneFault.TheVariants.{NameTaken, WrongRelated, OtherSrel, TooMany}
+
+abbrev pub named : List ZoneHead → Text → Option ZoneHead
+named heads name = find (λ h. bytes_eq h.name name) heads
+
+abbrev pub names_it : Text → ZoneHead → Bool
+names_it name h = option_map_or (bytes_eq name) h.related false
+
+abbrev pub is_distribution : Option ZoneHead → Bool
+is_distribution head = option_map_or (λ h. zone_number h.kind == zone_number Distribution) head false
+
+abbrev pub is_free : List ZoneHead → Text → Bool
+is_free heads name = is_distribution (named heads name) && not (list_any (names_it name) heads)
+
+abbrev pub has_right_related : List ZoneHead → ZoneKind → Option Text → Bool
+has_right_related heads Target related = option_map_or (is_free heads) related false
+has_right_related heads Distribution related = not (is_some related)
+
+abbrev pub has_srel : Text → Option ZoneHead → Bool
+has_srel srel head = option_map_or (λ h. bytes_eq h.srel srel) head false
+
+abbrev pub has_same_srel : List ZoneHead → Text → Option Text → Bool
+has_same_srel heads srel related = option_map_or (λ name. has_srel srel (named heads name)) related (not (is_some related))
+
+abbrev pub is_taken : List ZoneHead → Text → Bool
+is_taken heads name = bytes_eq name global_name || is_some (named heads name)
+
+abbrev pub first_fault : List ZoneHead → ZoneDefinition → Option ZoneFault
+first_fault heads d =
+    if is_taken heads d.name then Some NameTaken
+    else if not (has_right_related heads d.kind d.related) then Some WrongRelated
+    else if not (has_same_srel heads d.srel d.related) then Some OtherSrel
+    else if nat_le 64 (length heads) then Some TooMany
+    else None

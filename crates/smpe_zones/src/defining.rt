@@ -1,0 +1,45 @@
+//! A zone is defined in the store.
+ghost use Rattle.sqlite.specs.Held.{state};
+ghost use Rattle.sqlite.specs.State.{HasCleanDisk};
+ghost use Rattle.terms.specs.Forms.{IsZoneName, IsSrel};
+ghost use Rattle.machine.specs.State.{State};
+ghost use Rattle.store.specs.Kept.{Keeps};
+ghost use Rattle.smpe_zones.specs.Definitions.{HasDefined, definition};
+
+use crate::error::ZoneError;
+use crate::faults::first_fault;
+use fields::{Srel, ZoneName};
+use sqlite::Alter;
+use std::alloc::Global as Heap;
+use store::{Change, Store};
+use terms::ZoneKind;
+
+// The forms of the two. The call does nothing.
+fn known(name: ZoneName, srel: Srel)
+    ensures name { IsZoneName name }
+    ensures srel { IsSrel srel }
+{
+    let _ = name.as_bytes();
+    let _ = srel.as_bytes();
+}
+
+/// Adds a zone without entries, or tells the first fault that applies.
+pub fn define_zone<S: Alter>(
+    store: &mut Store<S>,
+    name: ZoneName,
+    kind: ZoneKind,
+    srel: Srel,
+    related: Option<ZoneName>,
+) -> Result<(), ZoneError>
+    ensures clean { HasCleanDisk (state S.Store store.new) → HasCleanDisk (state S.Store store.old) }
+    ensures ended { HasCleanDisk (state S.Store store.new) → (s : State) → Keeps S.Store store.old s
+        → HasDefined S.Store store.new s (definition name kind srel related) result }
+{
+    let heads = store.zone_heads()?;
+    if let Some(fault) = first_fault(heads.as_slice(), name, kind, srel, &related) {
+        return Err(ZoneError::Refused(fault));
+    }
+    known(name, srel);
+    store.commit(&Change::NewZone(name, kind, srel, related))?;
+    Ok(())
+}

@@ -1,0 +1,45 @@
+//! Why a zone is not defined.
+
+use store_schema::StoreError;
+use thiserror::Error;
+
+/// The refusals, in the order in which they are looked for.
+#[derive(Clone, Copy, Debug, PartialEq, Eq, Error)]
+pub enum ZoneFault {
+    /// The name is there, or is GLOBAL.
+    #[error("Zn1")]
+    NameTaken,
+    /// The related zone is missing, of the wrong kind or related already, or there is one too many or too few.
+    #[error("Zn2")]
+    WrongRelated,
+    /// The SRELs differ.
+    #[error("Zn3")]
+    OtherSrel,
+    /// There are 64 zones already.
+    #[error("Zn4")]
+    TooMany,
+}
+
+#[derive(Clone, Copy, Debug, PartialEq, Eq, Error)]
+pub enum ZoneError {
+    #[error("{0}")]
+    Refused(ZoneFault),
+    #[error("{0}")]
+    Store(StoreError),
+    #[error("out of memory")]
+    Memory,
+}
+
+impl From<StoreError> for ZoneError {
+    ghost use Rattle.std.specs.Prelude.{◌≡◌};
+    ghost use Rattle.smpe_zones.specs.Definitions.{told};
+
+    ghost from_gives = { λ error e. e ≡ told error };
+
+    fn from(error: StoreError) -> ZoneError {
+        match error {
+            StoreError::Memory => ZoneError::Memory,
+            error => ZoneError::Store(error),
+        }
+    }
+}

@@ -1,0 +1,110 @@
+//! The first fault of a definition.
+ghost use Rattle.std.specs.Prelude.{◌≡◌, ◌==◌, option_copied, is_some};
+ghost use Rattle.std.specs.List.{list_any};
+ghost use Rattle.terms.specs.Types.{zone_number};
+ghost use Rattle.smpe_zones.specs.Definitions.{definition};
+ghost use Rattle.smpe_zones.specs.Heads.{named, names_it, is_distribution, is_free, has_right_related, has_srel, has_same_srel, is_taken, first_fault};
+
+use crate::error::ZoneFault;
+use fields::{Srel, ZoneName};
+use store_zone_loads::ZoneHead;
+use terms::ZoneKind;
+
+// More zones than these can't be defined.
+const MOST_ZONES: usize = 64;
+
+fn named(heads: &[ZoneHead], name: ZoneName) -> Option<&ZoneHead>
+    ensures { option_copied result ≡ named heads.now name }
+{
+    heads.iter().find(|head| head.name == name)
+}
+
+fn names_it(head: &ZoneHead, name: ZoneName) -> bool
+    ensures { result ≡ names_it name head.now }
+{
+    match head.related {
+        Some(related) => name == related,
+        None => false,
+    }
+}
+
+fn is_related(heads: &[ZoneHead], name: ZoneName) -> bool
+    ensures { result ≡ list_any (names_it name) heads.now }
+{
+    heads.iter().any(|head| names_it(head, name))
+}
+
+fn is_distribution(head: Option<&ZoneHead>) -> bool
+    ensures { result ≡ is_distribution (option_copied head.entry) }
+{
+    match head {
+        Some(head) => head.kind == ZoneKind::Distribution,
+        None => false,
+    }
+}
+
+// Whether a target zone may be related to the zone of this name.
+fn is_free(heads: &[ZoneHead], name: ZoneName) -> bool
+    ensures { result ≡ is_free heads.now name }
+{
+    is_distribution(named(heads, name)) && !is_related(heads, name)
+}
+
+fn has_right_related(heads: &[ZoneHead], kind: ZoneKind, related: &Option<ZoneName>) -> bool
+    ensures { result ≡ has_right_related heads.now kind related.now }
+{
+    match (kind, related) {
+        (ZoneKind::Target, Some(name)) => is_free(heads, *name),
+        (ZoneKind::Target, None) => false,
+        (ZoneKind::Distribution, related) => related.is_none(),
+    }
+}
+
+fn has_srel(head: Option<&ZoneHead>, srel: Srel) -> bool
+    ensures { result ≡ has_srel srel (option_copied head.entry) }
+{
+    match head {
+        Some(head) => head.srel == srel,
+        None => false,
+    }
+}
+
+fn has_same_srel(heads: &[ZoneHead], srel: Srel, related: &Option<ZoneName>) -> bool
+    ensures { result ≡ has_same_srel heads.now srel related.now }
+{
+    match related {
+        Some(name) => has_srel(named(heads, *name), srel),
+        None => true,
+    }
+}
+
+fn is_taken(heads: &[ZoneHead], name: ZoneName) -> bool
+    ensures { result ≡ is_taken heads.now name }
+{
+    name.as_bytes() == b"GLOBAL".as_slice() || named(heads, name).is_some()
+}
+
+/// Why a zone can't be defined among the zones of these heads, if it can't.
+pub(crate) fn first_fault(
+    heads: &[ZoneHead],
+    name: ZoneName,
+    kind: ZoneKind,
+    srel: Srel,
+    related: &Option<ZoneName>,
+) -> Option<ZoneFault>
+    ensures { result ≡ first_fault heads.now (definition name kind srel related.now) }
+{
+    if is_taken(heads, name) {
+        return Some(ZoneFault::NameTaken);
+    }
+    if !has_right_related(heads, kind, related) {
+        return Some(ZoneFault::WrongRelated);
+    }
+    if !has_same_srel(heads, srel, related) {
+        return Some(ZoneFault::OtherSrel);
+    }
+    if heads.len() >= MOST_ZONES {
+        return Some(ZoneFault::TooMany);
+    }
+    None
+}

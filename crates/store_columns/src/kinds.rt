@@ -1,0 +1,55 @@
+//! Kinds, types and flags.
+
+ghost use Rattle.std.specs.Prelude.{◌≡◌, ◌≢◌, Bool, IfSome, IfNone};
+ghost use Rattle.sqlite.specs.declared.types.Value.TheVariants.{Text};
+ghost use Rattle.sqlite.specs.Order.{column};
+ghost use Rattle.store_schema.specs.Rows.{flag};
+ghost use Rattle.terms.specs.declared.kinds.Kind.{Kind as KindTerm};
+ghost use Rattle.terms.specs.declared.kinds.HoldKind.{HoldKind as HoldTerm};
+ghost use Rattle.terms.specs.declared.kinds.ElemType.{ElemType as TypeTerm};
+ghost use Rattle.terms.specs.declared.kinds.ZoneKind.{ZoneKind as ZoneTerm};
+ghost use Rattle.terms.specs.Spelling.{kind_text, hold_text, type_text, zone_kind_text};
+
+use spelling::{read_hold, read_kind, read_type, read_zone_kind};
+use sqlite::Row;
+use store_rows::{text, whole};
+use terms::{ElemType, HoldKind, Kind, ZoneKind};
+
+pub fn kind_in(row: &Row, at: usize) -> Option<Kind>
+    ensures some { IfSome result (λ kind. column row.now at ≡ Text (kind_text kind)) }
+    ensures none { IfNone result ((kind : KindTerm) → column row.now at ≢ Text (kind_text kind)) }
+{
+    read_kind(text(row, at)?)
+}
+
+pub fn hold_kind_in(row: &Row, at: usize) -> Option<HoldKind>
+    ensures some { IfSome result (λ kind. column row.now at ≡ Text (hold_text kind)) }
+    ensures none { IfNone result ((kind : HoldTerm) → column row.now at ≢ Text (hold_text kind)) }
+{
+    read_hold(text(row, at)?)
+}
+
+pub fn elem_type_in(row: &Row, at: usize) -> Option<ElemType>
+    ensures some { IfSome result (λ type. column row.now at ≡ Text (type_text type)) }
+    ensures none { IfNone result ((type : TypeTerm) → column row.now at ≢ Text (type_text type)) }
+{
+    read_type(text(row, at)?)
+}
+
+pub fn zone_kind_in(row: &Row, at: usize) -> Option<ZoneKind>
+    ensures some { IfSome result (λ kind. column row.now at ≡ Text (zone_kind_text kind)) }
+    ensures none { IfNone result ((kind : ZoneTerm) → column row.now at ≢ Text (zone_kind_text kind)) }
+{
+    read_zone_kind(text(row, at)?)
+}
+
+pub fn flag_in(row: &Row, at: usize) -> Option<bool>
+    ensures some { IfSome result (λ b. column row.now at ≡ flag b) }
+    ensures none { IfNone result ((b : Bool) → column row.now at ≢ flag b) }
+{
+    match whole(row, at)? {
+        0 => Some(false),
+        1 => Some(true),
+        _ => None,
+    }
+}

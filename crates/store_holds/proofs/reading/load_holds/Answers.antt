@@ -1,0 +1,69 @@
+use Rattle.std.proofs.Common.{IsErrOf, map, rules, sym, subst}
+use Rattle.std.proofs.lemmas.List.Sorted.{IsPermutation-sym, IsPermutation-trans, IsPermutation-map}
+use Rattle.sqlite.specs.Held.{state}
+use Rattle.sqlite.specs.Given.{IsPlain}
+use Rattle.sqlite.specs.Listing.{understood}
+use Rattle.sqlite.proofs.StateLemmas.{survives_weaker}
+use Rattle.sqlite_rules.proofs.ListLemmas.{all_has, all_from}
+use Rattle.store_rows.specs.declared.error.ReadError.TheVariants.{BadRow}
+use Rattle.store_rows.proofs.ContentsLemmas.{held_at, all_found, found_all}
+use Rattle.store_rows.proofs.RowLemmas.{has_permuted}
+use Rattle.store_schema.specs.Forms.{HasHoldForms}
+use Rattle.store_schema.specs.Rows.{hold_row}
+use Rattle.store_schema.specs.Stands.{rows_of}
+use Rattle.store_schema.specs.Tables.{store_schema, hold}
+use Rattle.store_holds.proofs.HoldLists.{holds_formed, holds_rows, same_holds}
+use Rattle.store_holds.proofs.Texts.{select_holds, reads_holds, takes_hold}
+use Rattle.store_holds.proofs.reading.load_holds.Goals as goal
+
+pub returns-in_err-holds-clause-none : goal.returns-in_err-holds-clause-none
+returns-in_err-holds-clause-none g c clean bad contents was holds forms same =
+    let failed : IsErrOf c.load.result BadRow = search rules in
+    let trees = (state g.S.Store c.args.conn.now).now.trees in
+    let are = held_at store_schema 4 hold contents trees takes_hold.there was.tables in
+    c.load.ensures.none clean failed store_schema hold reads_holds was.schema_is holds forms (found_all hold (contents hold.tree) (map hold_row holds) (trees hold.tree) are same)
+
+pub returns-in_err-holds-clause-no_state : goal.returns-in_err-holds-clause-no_state
+returns-in_err-holds-clause-no_state g c clean bad i stands =
+    let failed : IsErrOf c.load.result BadRow = search rules in
+    let trees = (state g.S.Store c.args.conn.now).now.trees in
+    let are = held_at store_schema 4 hold (rows_of i) trees takes_hold.there stands.tables.tables in
+    c.load.ensures.none clean failed store_schema hold reads_holds stands.tables.schema_is i.global.holds (holds_formed i stands.inventory)
+    (found_all hold (rows_of i hold.tree) (map hold_row i.global.holds) (trees hold.tree) are (holds_rows i))
+
+pub returns-in_err-holds-clause-kept : goal.returns-in_err-holds-clause-kept
+returns-in_err-holds-clause-kept g c clean has = c.load.ensures.kept clean (subst (λ s. IsPlain (understood s select_holds)) (sym has) reads_holds.plain)
+
+pub returns-in_err-holds-clause-crash : goal.returns-in_err-holds-clause-crash
+returns-in_err-holds-clause-crash g c =
+    survives_weaker _ _ _ _ (λ _ db foreign has. foreign (subst (λ s. IsPlain (understood s select_holds)) (sym has) reads_holds.plain)) c.load.ensures.crash
+
+pub returns-clause-found : goal.returns-clause-found
+returns-clause-found g c clean contents was =
+    let trees = (state g.S.Store c.args.conn.now).now.trees in
+    let are = held_at store_schema 4 hold contents trees takes_hold.there was.tables in
+    let all = all_found hold (contents hold.tree) (map hold_row c.in_ok-holds.holds.items) (trees hold.tree) are (c.in_ok-holds.ensures.found clean store_schema hold reads_holds was.schema_is) in
+    IsPermutation-trans _ _ _ (IsPermutation-map hold_row _ _ (IsPermutation-sym _ _ c.by_key.ensures.same)) all
+
+pub returns-clause-ordered : goal.returns-clause-ordered
+returns-clause-ordered g c clean i stands =
+    let trees = (state g.S.Store c.args.conn.now).now.trees in
+    let are = held_at store_schema 4 hold (rows_of i) trees takes_hold.there stands.tables.tables in
+    let all = all_found hold (rows_of i hold.tree) (map hold_row c.in_ok-holds.holds.items) (trees hold.tree) are (c.in_ok-holds.ensures.found clean store_schema hold reads_holds stands.tables.schema_is) in
+    c.by_key.ensures.only i.global.holds (same_holds i stands.inventory c.in_ok-holds.holds.items c.in_ok-holds.ensures.forms all) stands.inventory.global.holds
+
+pub returns-clause-forms : goal.returns-clause-forms
+returns-clause-forms g c =
+    let old = c.in_ok-holds.holds.items in
+    let new = c.by_key.result.items in
+    all_from HasHoldForms new (λ x there. all_has HasHoldForms old x c.in_ok-holds.ensures.forms (has_permuted new old x (IsPermutation-sym _ _ c.by_key.ensures.same) there))
+
+pub returns-clause-same : goal.returns-clause-same
+returns-clause-same g c clean has = c.in_ok-holds.ensures.same clean (subst (λ s. IsPlain (understood s select_holds)) (sym has) reads_holds.plain)
+
+pub returns-clause-kept : goal.returns-clause-kept
+returns-clause-kept g c clean has = c.load.ensures.kept clean (subst (λ s. IsPlain (understood s select_holds)) (sym has) reads_holds.plain)
+
+pub returns-clause-crash : goal.returns-clause-crash
+returns-clause-crash g c =
+    survives_weaker _ _ _ _ (λ _ db foreign has. foreign (subst (λ s. IsPlain (understood s select_holds)) (sym has) reads_holds.plain)) c.load.ensures.crash

@@ -1,0 +1,41 @@
+//! The comment of a hold.
+
+ghost use Rattle.std.specs.Prelude.{◌↔◌, ◌≤◌, ◌&&◌, nat_le, reverse, IsTrue, All};
+ghost use Rattle.terms.specs.Forms.{BeginsDark};
+ghost use Rattle.store_schema.specs.Forms.{IsComment};
+
+/// The characters that a comment has at most.
+const LONGEST: usize = 200;
+
+/// Whether a character stands first that is no blank.
+fn begins_dark(text: &[u8]) -> bool
+    ensures { IsTrue result ↔ BeginsDark text.now }
+{
+    match text {
+        [first, ..] => *first != b' ',
+        [] => false,
+    }
+}
+
+/// Whether a character stands last that is no blank.
+fn ends_dark(text: &[u8]) -> bool
+    ensures { IsTrue result ↔ BeginsDark (reverse text.now) }
+{
+    match text {
+        [.., last] => *last != b' ',
+        [] => false,
+    }
+}
+
+fn is_printable(text: &[u8]) -> bool
+    ensures { IsTrue result ↔ All (λ b. IsTrue (nat_le 32 b && nat_le b 126)) text.now }
+{
+    text.iter().all(|byte| (b' '..=b'~').contains(byte))
+}
+
+/// Whether the text is a comment: printable characters, 200 at most, with no blank at an end.
+pub(crate) fn is_comment(text: &[u8]) -> bool
+    ensures { IsTrue result ↔ IsComment text.now }
+{
+    text.len() <= LONGEST && begins_dark(text) && ends_dark(text) && is_printable(text)
+}

@@ -1,0 +1,15 @@
+use Rattle.std.proofs.Common.{sym}
+use Rattle.std.proofs.lemmas.List.{length-map}
+use Rattle.sqlite.specs.Held.{state}
+use Rattle.sqlite.specs.Values.{bound}
+use Rattle.store_rows.proofs.Statements.{ran_inside}
+use Rattle.store_rows.proofs.Writing.{take_out}
+use Rattle.store_rows.proofs.statement.remove.Goals as goal
+
+pub returns-clause-ok : goal.returns-clause-ok
+returns-clause-ok g c schema at table text clean contents was =
+    let old = c.args.tx.now.conn.now in
+    let new = c.execute.new.self.conn.now in
+    let count = c.in_ok-execute.field-0 in
+    let ran = ran_inside g.S.Store old new c.args.sql.now (bound c.args.key.now) c.execute.result c.execute.ensures.ended c.execute.ensures.runs clean count c.in_ok-execute.was in
+    take_out schema at table _ c.args.sql.now (bound c.args.key.now) (state g.S.Store old) (state g.S.Store new) count contents text (sym (length-map c.args.key.now _)) was ran

@@ -1,0 +1,16 @@
+use Rattle.std.proofs.Common.{◌∙◌}
+use Rattle.std.proofs.lemmas.List.{length-map}
+use Rattle.sqlite.specs.Held.{state}
+use Rattle.sqlite.specs.Values.{bound}
+use Rattle.store_rows.proofs.Statements.{ran_inside}
+use Rattle.store_rows.proofs.Writing.{take_out_parent}
+use Rattle.store_rows.proofs.statement.remove_parent.Goals as goal
+
+pub returns-clause-ok : goal.returns-clause-ok
+returns-clause-ok g c schema at table children text one clean contents none was =
+    let old = c.args.tx.now.conn.now in
+    let new = c.execute.new.self.conn.now in
+    let count = c.in_ok-execute.field-0 in
+    let key = bound c.args.parent.now in
+    let ran = ran_inside g.S.Store old new c.args.sql.now key c.execute.result c.execute.ensures.ended c.execute.ensures.runs clean count c.in_ok-execute.was in
+    take_out_parent schema at table children c.args.sql.now key (state g.S.Store old) (state g.S.Store new) count contents (length-map c.args.parent.now _ ∙ one) text none was ran

@@ -1,0 +1,13 @@
+use Rattle.sqlite.specs.Held.{state}
+use Rattle.sqlite.specs.Values.{bound}
+use Rattle.store_rows.proofs.Statements.{ran_inside}
+use Rattle.store_rows.proofs.Writing.{put_in_place}
+use Rattle.store_rows.proofs.statement.replace.Goals as goal
+
+pub returns-clause-ok : goal.returns-clause-ok
+returns-clause-ok g c schema at table width text kept clean contents was =
+    let old = c.args.tx.now.conn.now in
+    let new = c.execute.new.self.conn.now in
+    let count = c.in_ok-execute.field-0 in
+    let ran = ran_inside g.S.Store old new c.args.sql.now (bound c.args.columns.now) c.execute.result c.execute.ensures.ended c.execute.ensures.runs clean count c.in_ok-execute.was in
+    put_in_place schema at table width c.args.sql.now (bound c.args.columns.now) (state g.S.Store old) (state g.S.Store new) count contents text kept was ran

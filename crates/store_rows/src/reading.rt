@@ -1,0 +1,70 @@
+//! The rows of a table, and what they stand for.
+
+ghost use Rattle.std.specs.Prelude.{◌≡◌, ◌≢◌, false, List, map, length, IsPermutation, OnOk, IfOk, IsErrOf};
+ghost use Rattle.std.specs.List.{AllByRecursion};
+ghost use Rattle.sqlite.specs.declared.types.Value.{Value as SqlValue};
+ghost use Rattle.sqlite.specs.Held.{state};
+ghost use Rattle.sqlite.specs.Given.{IsPlain};
+ghost use Rattle.sqlite.specs.Listing.{understood};
+ghost use Rattle.sqlite.specs.Schema.{Schema};
+ghost use Rattle.sqlite.specs.State.{HasCleanDisk, IsUnchanged, KeepsCommit, Survives};
+ghost use Rattle.sqlite.specs.Table.{Table};
+ghost use Rattle.sqlite.specs.Values.{bound};
+ghost use Rattle.store_rows.specs.Rows.{AreFound};
+ghost use Rattle.store_rows.specs.Texts.{ReadsRows};
+
+use crate::error::ReadError;
+use sqlite::{Alter, Connection, Row};
+use sqlite_value::value::ValueRef;
+use std::alloc::Global;
+
+/// What a row of a table stands for, and how it is read.
+pub trait FromRow {
+    type Item: Drop;
+
+    // The columns that an item is written as.
+    ghost row_of: { Self.Item → List SqlValue };
+
+    // Whether the item has the forms that are looked for in a row.
+    ghost has_form: { Self.Item → Type 0 };
+
+    fn read(alloc: Global, row: &Row) -> Result<Self::Item, ReadError>
+        ensures read { IfOk result (λ item. (row.now ≡ row_of item) × has_form item) }
+        ensures none { IsErrOf result ReadError.BadRow → (item : Self.Item) → has_form item → row.now ≢ row_of item };
+}
+
+/// What the rows stand for, in their order.
+fn read_all<T: FromRow>(alloc: Global, rows: &[Row]) -> Result<Vec<T::Item>, ReadError>
+    ensures read { IfOk result (λ items. (rows.now ≡ map T.row_of items.items) × AllByRecursion T.has_form items.items) }
+    ensures none { IsErrOf result ReadError.BadRow → (items : List T.Item) → AllByRecursion T.has_form items → ¬ IsPermutation (map T.row_of items) rows.now }
+{
+    let mut items = Vec::new(alloc);
+    for row in rows {
+        let item = T::read(alloc, row)?;
+        if items.push(item).is_err() {
+            return Err(ReadError::Memory);
+        }
+    }
+    Ok(items)
+}
+
+/// What the rows that the query finds stand for, whose first columns are the key.
+pub fn load<S: Alter, T: FromRow>(
+    alloc: Global,
+    conn: &mut Connection<S>,
+    sql: &str,
+    key: &[ValueRef<'_>],
+) -> Result<Vec<T::Item>, ReadError>
+    ensures found { HasCleanDisk (state S.Store conn.new) → IfOk result (λ items. (schema : Schema) (table : Table) → ReadsRows schema table (length key.now) sql.now → conn.old.schema ≡ schema
+        → AreFound table (bound key.now) (map T.row_of items.items) ((state S.Store conn.old).now.trees table.tree)) }
+    ensures forms { IfOk result (λ items. AllByRecursion T.has_form items.items) }
+    ensures none { HasCleanDisk (state S.Store conn.new) → IsErrOf result ReadError.BadRow → (schema : Schema) (table : Table) → ReadsRows schema table (length key.now) sql.now → conn.old.schema ≡ schema
+        → (items : List T.Item) → AllByRecursion T.has_form items → ¬ AreFound table (bound key.now) (map T.row_of items) ((state S.Store conn.old).now.trees table.tree) }
+    ensures same { HasCleanDisk (state S.Store conn.new) → IsPlain (understood conn.old.schema sql.now) → OnOk result (IsUnchanged (state S.Store conn.old) (state S.Store conn.new)) }
+    ensures kept { HasCleanDisk (state S.Store conn.new) → IsPlain (understood conn.old.schema sql.now) → KeepsCommit (state S.Store conn.old) (state S.Store conn.new) }
+    ensures crash { Survives (state S.Store conn.old) (state S.Store conn.new) (λ _. ¬ IsPlain (understood conn.old.schema sql.now)) }
+    ensures mode { conn.old.in_transaction ≡ false → conn.new.in_transaction ≡ false }
+{
+    let rows = conn.query_all(sql, key)?;
+    read_all::<T>(alloc, rows.as_slice())
+}

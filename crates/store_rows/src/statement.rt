@@ -1,0 +1,94 @@
+//! The statements that write rows, each in a transaction that is open.
+
+ghost use Rattle.std.specs.Prelude.{◌≡◌, ℕ, List, length, take, OnOk};
+ghost use Rattle.sqlite.specs.Held.{state};
+ghost use Rattle.sqlite.specs.State.{HasCleanDisk};
+ghost use Rattle.sqlite.specs.Values.{bound};
+ghost use Rattle.sqlite.specs.Schema.{Schema};
+ghost use Rattle.sqlite.specs.Table.{Table};
+ghost use Rattle.store_rows.specs.Inside.{StaysInside, Turns};
+ghost use Rattle.store_rows.specs.Rows.{Contents, HasContents, HaveNone, in_table, with_row, with_put, in_place, without};
+ghost use Rattle.store_rows.specs.Texts.{AreKept, PutsIn, PutsInPlace, TakesOut, TakesOutParent};
+
+use sqlite::{Alter, Error, Transaction};
+use sqlite_value::value::ValueRef;
+
+/// Puts one more row into the table that the text names, whose columns are the parameters.
+pub fn insert<S: Alter>(
+    tx: &mut Transaction<'_, S>,
+    sql: &str,
+    row: &[ValueRef<'_>],
+) -> Result<(), Error>
+    ensures same_reference { tx.new.conn.ghost_name ≡ tx.old.conn.ghost_name }
+    ensures inside { StaysInside S.Store tx.old.conn.now tx.new.conn.now }
+    ensures ok { OnOk result ((schema : Schema) (at : ℕ) (table : Table) → PutsIn schema at table sql.now → AreKept table.columns (bound row.now)
+        → Turns S.Store tx.old.conn.now tx.new.conn.now (HasContents schema) (in_table table (with_row (bound row.now)))) }
+{
+    tx.execute(sql, row)?;
+    Ok(())
+}
+
+/// Takes out of the table that the text names the rows whose first columns are the parameters.
+pub fn remove<S: Alter>(
+    tx: &mut Transaction<'_, S>,
+    sql: &str,
+    key: &[ValueRef<'_>],
+) -> Result<(), Error>
+    ensures same_reference { tx.new.conn.ghost_name ≡ tx.old.conn.ghost_name }
+    ensures inside { StaysInside S.Store tx.old.conn.now tx.new.conn.now }
+    ensures ok { OnOk result ((schema : Schema) (at : ℕ) (table : Table) → TakesOut schema at table (length key.now) sql.now
+        → Turns S.Store tx.old.conn.now tx.new.conn.now (HasContents schema) (in_table table (without (bound key.now)))) }
+{
+    tx.execute(sql, key)?;
+    Ok(())
+}
+
+/// Puts a row in place of those that have its key, by the texts of `remove` and `insert`.
+pub fn put<S: Alter>(
+    tx: &mut Transaction<'_, S>,
+    removes: &str,
+    key: &[ValueRef<'_>],
+    inserts: &str,
+    row: &[ValueRef<'_>],
+) -> Result<(), Error>
+    ensures same_reference { tx.new.conn.ghost_name ≡ tx.old.conn.ghost_name }
+    ensures inside { StaysInside S.Store tx.old.conn.now tx.new.conn.now }
+    ensures ok { OnOk result ((schema : Schema) (at : ℕ) (table : Table) → TakesOut schema at table (length key.now) removes.now → PutsIn schema at table inserts.now → AreKept table.columns (bound row.now)
+        → Turns S.Store tx.old.conn.now tx.new.conn.now (HasContents schema) (with_put table (bound key.now) (bound row.now))) }
+{
+    remove(tx, removes, key)?;
+    insert(tx, inserts, row)
+}
+
+/// Puts the parameters, as the columns of a row, in place of each row of the table that the text
+/// names whose first columns are so many of the parameters.
+pub fn replace<S: Alter>(
+    tx: &mut Transaction<'_, S>,
+    sql: &str,
+    columns: &[ValueRef<'_>],
+) -> Result<(), Error>
+    ensures same_reference { tx.new.conn.ghost_name ≡ tx.old.conn.ghost_name }
+    ensures inside { StaysInside S.Store tx.old.conn.now tx.new.conn.now }
+    ensures ok { OnOk result ((schema : Schema) (at : ℕ) (table : Table) (width : ℕ) → PutsInPlace schema at table width sql.now → AreKept table.columns (bound columns.now)
+        → Turns S.Store tx.old.conn.now tx.new.conn.now (HasContents schema) (in_table table (in_place (take width (bound columns.now)) (bound columns.now)))) }
+{
+    tx.execute(sql, columns)?;
+    Ok(())
+}
+
+/// Takes out of the table that the text names the rows whose first column is the one parameter,
+/// where the tables that refer to it hold no row of theirs.
+pub fn remove_parent<S: Alter>(
+    tx: &mut Transaction<'_, S>,
+    sql: &str,
+    parent: &[ValueRef<'_>],
+) -> Result<(), Error>
+    ensures same_reference { tx.new.conn.ghost_name ≡ tx.old.conn.ghost_name }
+    ensures inside { StaysInside S.Store tx.old.conn.now tx.new.conn.now }
+    ensures ok { OnOk result ((schema : Schema) (at : ℕ) (table : Table) (children : List Table) → TakesOutParent schema at table children sql.now → length parent.now ≡ 1
+        → HasCleanDisk (state S.Store tx.new.conn.now) → (contents : Contents) → HaveNone children (bound parent.now) contents → HasContents schema contents (state S.Store tx.old.conn.now).now
+        → HasContents schema (in_table table (without (bound parent.now)) contents) (state S.Store tx.new.conn.now).now) }
+{
+    tx.execute(sql, parent)?;
+    Ok(())
+}

@@ -1,0 +1,108 @@
+//! Tables, of which those with an expression are not compared, and indexes.
+
+ghost use Rattle.std.specs.Prelude.{◌≡◌, ◌↔◌, [], IsTrue};
+ghost use Rattle.std.specs.List.{AllByRecursion};
+ghost use Rattle.store_same_schema.specs.Plain.{HasNoDefault, IsPlainTable, no_stamps};
+
+use crate::column::same_columns;
+use crate::key::{
+    same_keys, same_name, same_order, same_orders, same_places, same_references, same_rowid,
+};
+use sqlite_schema::code::Terms;
+use sqlite_schema::schema::{Index, Stamps, Table};
+
+fn are_none(terms: &Terms) -> bool
+    ensures { IsTrue result ↔ (terms.now ≡ []) }
+{
+    terms.roots.is_empty()
+}
+
+/// Whether no default reads the time.
+fn is_timeless(stamps: &Stamps) -> bool
+    ensures { IsTrue result ↔ (stamps.now ≡ no_stamps) }
+{
+    stamps.places.is_empty() && are_none(&stamps.terms) && stamps.formats.is_empty()
+}
+
+fn has_no_expression(table: &Table) -> bool
+    ensures { IsTrue result ↔ (table.now.checks ≡ []) × (table.now.stamps ≡ no_stamps) }
+{
+    are_none(&table.checks) && is_timeless(&table.stamps)
+}
+
+fn same_rules(a: &Table, b: &Table) -> bool
+    ensures { IsTrue result ↔ (a.now.computed ≡ b.now.computed) × (a.now.references ≡ b.now.references) }
+{
+    same_places(&a.computed, &b.computed)
+        && same_references(a.references.as_slice(), b.references.as_slice())
+}
+
+fn same_heading(a: &Table, b: &Table) -> bool
+    ensures same { IsTrue result → (a.now.name ≡ b.now.name) × (a.now.tree ≡ b.now.tree) × (a.now.columns ≡ b.now.columns) × (a.now.is_counted ≡ b.now.is_counted) }
+    ensures found { AllByRecursion HasNoDefault a.now.columns → a.now ≡ b.now → IsTrue result }
+{
+    same_name(&a.name, &b.name)
+        && a.tree == b.tree
+        && same_columns(a.columns.as_slice(), b.columns.as_slice())
+        && a.is_counted == b.is_counted
+}
+
+fn same_uniques(a: &Table, b: &Table) -> bool
+    ensures { IsTrue result ↔ (a.now.key ≡ b.now.key) × (a.now.primary ≡ b.now.primary) × (a.now.uniques ≡ b.now.uniques) × (a.now.orders ≡ b.now.orders) }
+{
+    same_rowid(&a.key, &b.key)
+        && same_places(&a.primary, &b.primary)
+        && same_keys(a.uniques.as_slice(), b.uniques.as_slice())
+        && same_orders(a.orders.as_slice(), b.orders.as_slice())
+}
+
+fn same_table(a: &Table, b: &Table) -> bool
+    ensures same { IsTrue result → a.now ≡ b.now }
+    ensures found { IsPlainTable a.now → a.now ≡ b.now → IsTrue result }
+{
+    has_no_expression(a)
+        && has_no_expression(b)
+        && same_heading(a, b)
+        && same_uniques(a, b)
+        && same_rules(a, b)
+}
+
+pub(crate) fn same_tables(a: &[Table], b: &[Table]) -> bool
+    ensures same { IsTrue result → a.now ≡ b.now }
+    ensures found { AllByRecursion IsPlainTable a.now → a.now ≡ b.now → IsTrue result }
+{
+    if a.len() != b.len() {
+        return false;
+    }
+    for at in 0..a.len() {
+        if !same_table(&a[at], &b[at]) {
+            return false;
+        }
+    }
+    true
+}
+
+fn same_index(a: &Index, b: &Index) -> bool
+    ensures { IsTrue result ↔ (a.now ≡ b.now) }
+{
+    same_name(&a.name, &b.name)
+        && a.tree == b.tree
+        && a.table == b.table
+        && same_places(&a.columns, &b.columns)
+        && a.order == b.order
+        && a.is_unique == b.is_unique
+}
+
+pub(crate) fn same_indexes(a: &[Index], b: &[Index]) -> bool
+    ensures { IsTrue result ↔ (a.now ≡ b.now) }
+{
+    if a.len() != b.len() {
+        return false;
+    }
+    for at in 0..a.len() {
+        if !same_index(&a[at], &b[at]) {
+            return false;
+        }
+    }
+    true
+}

@@ -1,0 +1,8 @@
+//! That the definitions say which state it is.
+
+ghost use Rattle.store_schema.specs.Stands.{HasOneState};
+
+/// What is loaded from a database is what was committed: no two states have the same rows.
+pub fn one_state()
+    ensures { HasOneState }
+{}

@@ -1,0 +1,49 @@
+-- The rows of SYSMODs, table by table, in the order of the SYSMODs.
+use Rattle.std.specs.Prelude.{◌≡◌, List, [], map, IsPermutation}
+use Rattle.std.specs.List.{AllByRecursion, flat_map}
+use Rattle.std.specs.Ordering.{nat_cmp}
+use Rattle.std.specs.Cmp.Lexicographic.{slice_cmp}
+use Rattle.terms.specs.Types.{Id, Ver, Sysmod}
+use Rattle.terms.specs.Rising.{Rises}
+use Rattle.store_rows.specs.Rows.{Contents}
+use Rattle.store_schema.specs.Rows.{sysmod_row, vers_of, ifreqs_of, elems_of}
+use Rattle.store_schema.specs.Tables.{sysmod, ver, ifreq, elem}
+use Rattle.store_sysmod_loads.specs.declared.flat.HeadRow.{HeadRow}
+use Rattle.store_sysmod_loads.specs.declared.flat.VerRow.{VerRow}
+use Rattle.store_sysmod_loads.specs.declared.flat.IfRow.{IfRow}
+use Rattle.store_sysmod_loads.specs.declared.flat.ElemRow.{ElemRow}
+use Rattle.store_sysmod_loads.specs.Flat.{HasHeadForms, HasVerRowForms, HasIfRowForms, HasElemRowForms}
+use Rattle.store_sysmod_loads.specs.Runs.{if_rows, ver_rows, elem_rows}
+use Rattle.store_sysmod_loads.specs.Built.{IsBuilt}
+
+abbrev pub head_of : Sysmod → HeadRow
+head_of s = record { id = s.id; kind = s.kind; sources = s.sources }
+
+abbrev pub ifs_of : Id → List Ver → List IfRow
+ifs_of x vers = flat_map (λ v. if_rows x v.srel 1 v.ifs) vers
+
+abbrev pub all_vers : List Sysmod → List VerRow
+all_vers sysmods = flat_map (λ s. ver_rows s.id s.vers) sysmods
+
+abbrev pub all_ifs : List Sysmod → List IfRow
+all_ifs sysmods = flat_map (λ s. ifs_of s.id s.vers) sysmods
+
+abbrev pub all_elems : List Sysmod → List ElemRow
+all_elems sysmods = flat_map (λ s. elem_rows s.id s.changes) sysmods
+
+-- The SYSMODs have the forms that their rows show and those that are seen of each as a whole. They rise by their ids.
+pub record AreFormed (sysmods : List Sysmod) : Type 0 where
+  pub heads : AllByRecursion HasHeadForms (map head_of sysmods)
+  pub vers : AllByRecursion HasVerRowForms (all_vers sysmods)
+  pub ifs : AllByRecursion HasIfRowForms (all_ifs sysmods)
+  pub elems : AllByRecursion HasElemRowForms (all_elems sysmods)
+  pub built : AllByRecursion IsBuilt sysmods
+  pub ids : Rises (slice_cmp nat_cmp) (λ s. s.id) sysmods
+  pub none_carried : AllByRecursion (λ s. s.holds ≡ []) sysmods
+
+-- the tables hold the rows of the SYSMODs, in any order, and no others
+pub record AreRowsOf (sysmods : List Sysmod) (contents : Contents) : Type 0 where
+  pub heads : IsPermutation (map sysmod_row sysmods) (contents sysmod.tree)
+  pub vers : IsPermutation (flat_map vers_of sysmods) (contents ver.tree)
+  pub ifs : IsPermutation (flat_map ifreqs_of sysmods) (contents ifreq.tree)
+  pub elems : IsPermutation (flat_map elems_of sysmods) (contents elem.tree)

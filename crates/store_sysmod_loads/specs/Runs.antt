@@ -1,0 +1,58 @@
+-- Which rows at the front of the tables, by their keys, are those of a SYSMOD.
+use Rattle.std.specs.Prelude.{◌≡◌, ℕ, ◌+◌, List, [], ◌∷◌, ◌++◌, map}
+use Rattle.std.specs.List.{AllByRecursion}
+use Rattle.terms.specs.Types.{Text, Id, IfReq, Ver, Change}
+use Rattle.store_sysmod_loads.specs.declared.flat.VerRow.{VerRow}
+use Rattle.store_sysmod_loads.specs.declared.flat.IfRow.{IfRow}
+use Rattle.store_sysmod_loads.specs.declared.flat.ElemRow.{ElemRow}
+
+-- a row of the parent stands first, or none does
+abbrev pub Begins : {X K : Type 0} → (X → K) → K → List X → Type 0
+Begins parent k [] = ⊥
+Begins parent k (x ∷ xs) = parent x ≡ k
+
+abbrev pub StandsApart : {X K : Type 0} → (X → K) → K → List X → Type 0
+StandsApart parent k xs = ¬ Begins parent k xs
+
+-- the parents of rows
+abbrev pub parent_of_ver : VerRow → Id
+parent_of_ver r = r.id
+
+abbrev pub parent_of_if : IfRow → Id × Text
+parent_of_if r = (r.id, r.srel)
+
+abbrev pub parent_of_elem : ElemRow → Id
+parent_of_elem r = r.id
+
+-- the rows of the ++IFs of a ++VER, whose numbers begin with n
+abbrev pub if_rows : Id → Text → ℕ → List IfReq → List IfRow
+if_rows x srel n [] = []
+if_rows x srel n (i ∷ ifs) = record { id = x; srel = srel; number = n; ifreq = i } ∷ if_rows x srel (n + 1) ifs
+
+-- the ++IFs of these ++VERs stand elsewhere
+abbrev pub AreBare : List VerRow → Type 0
+AreBare rows = AllByRecursion (λ r. r.ver.ifs ≡ []) rows
+
+-- the rows of ++VERs, without their ++IFs
+abbrev pub ver_rows : Id → List Ver → List VerRow
+ver_rows x vers = map (λ (v : Ver). record { id = x; ver = record v { ifs = [] } }) vers
+
+abbrev pub elem_rows : Id → List Change → List ElemRow
+elem_rows x changes = map (λ (c : Change). record { id = x; change = c }) changes
+
+-- the rows begin with those of these ++IFs, and the rest with another's
+abbrev pub HasIfs : Id → Text → ℕ → List IfRow → List IfReq → List IfRow → Type 0
+HasIfs x srel n rows ifs rest = (rows ≡ if_rows x srel n ifs ++ rest) × StandsApart parent_of_if (x, srel) rest
+
+-- and with those of the ++IFs of these ++VERs, one after the other
+abbrev pub HasAllIfs : Id → List IfRow → List Ver → List IfRow → Type 0
+HasAllIfs x rows [] rest = rows ≡ rest
+HasAllIfs x rows (v ∷ vers) rest = (more : List IfRow) × HasIfs x v.srel 1 rows v.ifs more × HasAllIfs x more vers rest
+
+-- both tables begin with the rows of these ++VERs
+abbrev pub HasVers : Id → List VerRow → List IfRow → List Ver → List VerRow → List IfRow → Type 0
+HasVers x rows ifs vers rest more = (rows ≡ ver_rows x vers ++ rest) × StandsApart parent_of_ver x rest × HasAllIfs x ifs vers more
+
+-- the rows begin with those of these element statements
+abbrev pub HasChanges : Id → List ElemRow → List Change → List ElemRow → Type 0
+HasChanges x rows changes rest = (rows ≡ elem_rows x changes ++ rest) × StandsApart parent_of_elem x rest

@@ -1,0 +1,141 @@
+//! SYSMODs put together of their rows.
+
+ghost use Rattle.std.specs.Prelude.{◌≡◌, ◌↔◌, List, [], ◌∷◌, All, IsTrue, IfOk, IfSome, IfNone, IsErrOf};
+ghost use Rattle.terms.specs.Types.{Sysmod as SysmodTerm};
+ghost use Rattle.store_schema.specs.Forms.{SuitsKind};
+ghost use Rattle.sysmods_records.specs.Views.{action_of};
+ghost use Rattle.store_sysmod_loads.specs.declared.flat.VerRow.{VerRow as VerLine};
+ghost use Rattle.store_sysmod_loads.specs.declared.flat.IfRow.{IfRow as IfLine};
+ghost use Rattle.store_sysmod_loads.specs.declared.flat.ElemRow.{ElemRow as ElemLine};
+ghost use Rattle.store_sysmod_loads.specs.Runs.{AreBare};
+ghost use Rattle.store_sysmod_loads.specs.Built.{MayDo, IsBuilt, sysmod_from, IsTaken, AreTaken};
+
+use crate::flat::{ElemRow, HeadRow, IfRow, VerRow};
+use crate::gathering::{take_changes, take_vers};
+use crate::keys::are_rising;
+use std::alloc::Global;
+use std::collections::VecDeque;
+use store_rows::ReadError;
+use sysmods_records::{Action, ElemChange, Sysmod, Ver};
+use terms::Kind;
+
+/// Whether the operands of the `++VER` are those of a SYSMOD of this kind.
+fn suits_kind(kind: Kind, ver: &Ver) -> bool
+    ensures { IsTrue result ↔ SuitsKind kind ver.now }
+{
+    match kind {
+        Kind::Function => true,
+        _ => ver.fmid.is_some() && ver.npre.is_empty() && ver.del.is_empty(),
+    }
+}
+
+/// Whether a SYSMOD of this kind may do so.
+fn may_do(kind: Kind, change: &ElemChange) -> bool
+    ensures { IsTrue result ↔ MayDo kind change.now.action }
+{
+    match (kind, &change.action) {
+        (Kind::Function, Action::Updates { .. }) => false,
+        _ => true,
+    }
+}
+
+fn all_suit(kind: Kind, vers: &[Ver]) -> bool
+    ensures { IsTrue result ↔ All (SuitsKind kind) vers.now }
+{
+    vers.iter().all(|ver| suits_kind(kind, ver))
+}
+
+fn all_may(kind: Kind, changes: &[ElemChange]) -> bool
+    ensures { IsTrue result ↔ All (λ c. MayDo kind c.action) changes.now }
+{
+    changes.iter().all(|change| may_do(kind, change))
+}
+
+/// The SYSMOD of these parts.
+fn built(
+    alloc: Global,
+    head: HeadRow,
+    vers: Vec<Ver>,
+    changes: Vec<ElemChange>,
+) -> Result<Sysmod, ReadError>
+    ensures some { IfOk result (λ s. (s ≡ sysmod_from head vers.items changes.items) × IsBuilt s) }
+    ensures none { IsErrOf result ReadError.BadRow → ¬ IsBuilt (sysmod_from head vers.items changes.items) }
+{
+    if vers.is_empty() {
+        return Err(ReadError::BadRow);
+    }
+    if !all_suit(head.kind, &vers) {
+        return Err(ReadError::BadRow);
+    }
+    if !are_rising(vers.as_slice()) {
+        return Err(ReadError::BadRow);
+    }
+    if !all_may(head.kind, &changes) {
+        return Err(ReadError::BadRow);
+    }
+    if !are_rising(changes.as_slice()) {
+        return Err(ReadError::BadRow);
+    }
+    Ok(Sysmod {
+        id: head.id,
+        kind: head.kind,
+        sources: head.sources,
+        vers,
+        changes,
+        holds: Vec::new(alloc),
+    })
+}
+
+/// Takes the SYSMOD of the row.
+fn take_sysmod(
+    alloc: Global,
+    head: HeadRow,
+    vers: &mut VecDeque<VerRow>,
+    ifs: &mut VecDeque<IfRow>,
+    elems: &mut VecDeque<ElemRow>,
+) -> Result<Sysmod, ReadError>
+    requires { AreBare vers.old.items }
+    ensures bare { AreBare vers.new.items }
+    ensures told { IfOk result (λ s. IsTaken head s vers.old.items ifs.old.items elems.old.items vers.new.items ifs.new.items elems.new.items) }
+    ensures only { IfOk result (λ s. (other : SysmodTerm) (vs : List VerLine) (is : List IfLine) (es : List ElemLine) → IsTaken head other vers.old.items ifs.old.items elems.old.items vs is es
+        → (other ≡ s) × (vs ≡ vers.new.items) × (is ≡ ifs.new.items) × (es ≡ elems.new.items)) }
+    ensures none { IsErrOf result ReadError.BadRow → (other : SysmodTerm) (vs : List VerLine) (is : List IfLine) (es : List ElemLine) → ¬ IsTaken head other vers.old.items ifs.old.items elems.old.items vs is es }
+{
+    let found = take_vers(alloc, vers, ifs, head.id)?;
+    let changes = take_changes(alloc, elems, head.id)?;
+    built(alloc, head, found, changes)
+}
+
+/// The next row.
+fn next_of<T: Drop>(rows: &mut VecDeque<T>) -> Option<T>
+    ensures some { IfSome result (λ row. rows.old.items ≡ row ∷ rows.new.items) }
+    ensures none { IfNone result (rows.old.items ≡ []) }
+{
+    rows.pop_front()
+}
+
+/// The SYSMODs whose rows these are.
+pub(crate) fn assemble(
+    alloc: Global,
+    mut heads: VecDeque<HeadRow>,
+    mut vers: VecDeque<VerRow>,
+    mut ifs: VecDeque<IfRow>,
+    mut elems: VecDeque<ElemRow>,
+) -> Result<Vec<Sysmod>, ReadError>
+    requires { AreBare vers.items }
+    ensures told { IfOk result (λ ss. AreTaken heads.items ss.items vers.items ifs.items elems.items) }
+    ensures only { IfOk result (λ ss. (others : List SysmodTerm) → AreTaken heads.items others vers.items ifs.items elems.items → others ≡ ss.items) }
+    ensures none { IsErrOf result ReadError.BadRow → (others : List SysmodTerm) → ¬ AreTaken heads.items others vers.items ifs.items elems.items }
+{
+    let mut sysmods = Vec::new(alloc);
+    while let Some(head) = next_of(&mut heads) {
+        let sysmod = take_sysmod(alloc, head, &mut vers, &mut ifs, &mut elems)?;
+        if sysmods.push(sysmod).is_err() {
+            return Err(ReadError::Memory);
+        }
+    }
+    if !vers.is_empty() || !ifs.is_empty() || !elems.is_empty() {
+        return Err(ReadError::BadRow);
+    }
+    Ok(sysmods)
+}

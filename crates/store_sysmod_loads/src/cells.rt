@@ -1,0 +1,146 @@
+//! Columns whose values depend on others of the row.
+
+ghost use Rattle.std.specs.Prelude.{◌≡◌, ◌≢◌, ℕ, List, [], ◌∷◌, Option, pos, IfOk, IfSome, IfNone, IsErrOf};
+ghost use Rattle.sqlite.specs.declared.types.Value.TheVariants.{Int};
+ghost use Rattle.sqlite.specs.Order.{column};
+ghost use Rattle.sqlite.specs.Values.{or_null};
+ghost use Rattle.sqlite.specs.declared.types.Value.TheVariants.{Text};
+ghost use Rattle.terms.specs.declared.kinds.Kind.TheVariants.{Ptf};
+ghost use Rattle.terms.specs.Forms.{IsId};
+ghost use Rattle.terms.specs.Types.{Action as ActionTerm};
+ghost use Rattle.store_schema.specs.Forms.{AreOthers, AreRecords, IsTextOf, IsUpdated, HasActionForms};
+ghost use Rattle.store_schema.specs.Rows.{ids, records, action_cells};
+ghost use Rattle.terms.specs.Texts.{IsUpdate};
+ghost use Rattle.sysmods_records.specs.Views.{action_of};
+
+use fields::{Id, IdList, Name};
+use sqlite::Row;
+use std::alloc::Global;
+use store_columns::{
+    element_text_in, flag_in, ids_in, is_updated, optional_id_in, optional_name_in, records_in,
+};
+use store_rows::{ReadError, whole};
+use sysmods_records::Action;
+use terms::ElemType;
+use text80::{Line, TextError, Update};
+
+/// Ids, of which the SYSMOD's own is none.
+pub(crate) fn others_in(alloc: Global, row: &Row, at: usize, id: Id) -> Result<IdList, ReadError>
+    ensures some { IfOk result (λ list. (column row.now at ≡ ids list) × AreOthers id list) }
+    ensures none { IsErrOf result ReadError.BadRow → (list : List (List ℕ)) → AreOthers id list → column row.now at ≢ ids list }
+    ensures fault { IsErrOf result ReadError.Fault → ⊥ }
+{
+    let list = ids_in(alloc, row, at)?;
+    if list.contains(id) {
+        return Err(ReadError::BadRow);
+    }
+    Ok(list)
+}
+
+/// The id of another SYSMOD, if there is one.
+pub(crate) fn other_in(row: &Row, at: usize, id: Id) -> Option<Option<Id>>
+    ensures some { IfSome result (λ other. (column row.now at ≡ or_null Text other) × IfSome other (λ o. IsId o × (o ≢ id))) }
+    ensures none { IfNone result ((other : Option (List ℕ)) → IfSome other (λ o. IsId o × (o ≢ id)) → column row.now at ≢ or_null Text other) }
+{
+    let other = optional_id_in(row, at)?;
+    if other == Some(id) {
+        return None;
+    }
+    Some(other)
+}
+
+/// A number that counts.
+pub(crate) fn number_in(row: &Row, at: usize) -> Option<u64>
+    ensures some { IfSome result (λ n. column row.now at ≡ Int (pos n)) }
+    ensures none { IfNone result ((n : ℕ) → column row.now at ≢ Int (pos n)) }
+{
+    let number = whole(row, at)?;
+    if number < 0 {
+        return None;
+    }
+    Some(number as u64)
+}
+
+/// The records of a replacement, of which there is one at least.
+fn replacement_in(
+    alloc: Global,
+    row: &Row,
+    at: usize,
+    elem_type: ElemType,
+) -> Result<Vec<Line>, ReadError>
+    ensures some { IfOk result (λ text. (column row.now at ≡ records text.items) × IsTextOf elem_type text.items × (text.items ≢ [])) }
+    ensures none { IsErrOf result ReadError.BadRow → (text : List (List ℕ)) → IsTextOf elem_type text → text ≢ [] → column row.now at ≢ records text }
+    ensures fault { IsErrOf result ReadError.Fault → ⊥ }
+{
+    let text = element_text_in(alloc, row, at, elem_type)?;
+    if text.is_empty() {
+        return Err(ReadError::BadRow);
+    }
+    Ok(text)
+}
+
+/// The records as an update of the element of this name.
+fn checked_update(alloc: Global, records: Vec<Line>, name: &[u8]) -> Result<Vec<Line>, ReadError>
+    ensures some { IfOk result (λ text. (text.items ≡ records.items) × IsUpdate name.now records.items) }
+    ensures none { IsErrOf result ReadError.BadRow → ¬ IsUpdate name.now records.items }
+    ensures fault { IsErrOf result ReadError.Fault → ⊥ }
+{
+    match Update::read(alloc, records, name) {
+        Ok(update) => Ok(Vec::from_slice(alloc, update.records())?),
+        Err(TextError::Memory) => Err(ReadError::Memory),
+        Err(TextError::Fault(_)) => Err(ReadError::BadRow),
+    }
+}
+
+/// The records of an update of the element of this type and name.
+fn update_in(
+    alloc: Global,
+    row: &Row,
+    at: usize,
+    elem_type: ElemType,
+    name: Name,
+) -> Result<Vec<Line>, ReadError>
+    ensures some { IfOk result (λ text. (column row.now at ≡ records text.items) × IsUpdated elem_type × AreRecords text.items × IsUpdate name text.items) }
+    ensures none { IsErrOf result ReadError.BadRow → (text : List (List ℕ)) → IsUpdated elem_type → AreRecords text → IsUpdate name text → column row.now at ≢ records text }
+    ensures fault { IsErrOf result ReadError.Fault → ⊥ }
+{
+    if !is_updated(elem_type) {
+        return Err(ReadError::BadRow);
+    }
+    let lines = records_in(alloc, row, at)?;
+    checked_update(alloc, lines, name.as_bytes())
+}
+
+/// What the statement does to the element of this type and name, from the column on.
+pub(crate) fn action_in(
+    alloc: Global,
+    row: &Row,
+    elem_type: ElemType,
+    name: Name,
+) -> Result<Action, ReadError>
+    ensures some { IfOk result (λ action. (column row.now 3 ∷ column row.now 4 ∷ column row.now 5 ∷ column row.now 6 ∷ [] ≡ action_cells (action_of action)) × HasActionForms Ptf elem_type name (action_of action)) }
+    ensures none { IsErrOf result ReadError.BadRow → (action : ActionTerm) → HasActionForms Ptf elem_type name action
+        → column row.now 3 ∷ column row.now 4 ∷ column row.now 5 ∷ column row.now 6 ∷ [] ≢ action_cells action }
+    ensures fault { IsErrOf result ReadError.Fault → ⊥ }
+{
+    let Some(updates) = flag_in(row, 3) else {
+        return Err(ReadError::BadRow);
+    };
+    let Some(distlib) = optional_name_in(row, 4) else {
+        return Err(ReadError::BadRow);
+    };
+    let Some(syslib) = optional_name_in(row, 5) else {
+        return Err(ReadError::BadRow);
+    };
+    match (updates, distlib, syslib) {
+        (false, Some(distlib), Some(syslib)) => Ok(Action::Replaces {
+            distlib,
+            syslib,
+            lines: replacement_in(alloc, row, 6, elem_type)?,
+        }),
+        (true, None, None) => Ok(Action::Updates {
+            lines: update_in(alloc, row, 6, elem_type, name)?,
+        }),
+        _ => Err(ReadError::BadRow),
+    }
+}

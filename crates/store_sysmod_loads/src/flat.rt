@@ -1,0 +1,36 @@
+//! The rows of the tables of SYSMODs, each as what it says by itself.
+
+use fields::{Id, SourceList, Srel};
+use sysmods_records::{ElemChange, IfReq, Ver};
+use terms::Kind;
+
+/// A SYSMOD without its statements.
+#[derive(Drop)]
+pub(crate) struct HeadRow {
+    pub id: Id,
+    pub kind: Kind,
+    pub sources: SourceList,
+}
+
+/// A `++VER` of the SYSMOD without its `++IF`s.
+#[derive(Drop)]
+pub(crate) struct VerRow {
+    pub id: Id,
+    pub ver: Ver,
+}
+
+/// An `++IF` and its number in the `++VER` of the SYSMOD for this release.
+#[derive(Drop)]
+pub(crate) struct IfRow {
+    pub id: Id,
+    pub srel: Srel,
+    pub number: u64,
+    pub ifreq: IfReq,
+}
+
+/// An element statement of the SYSMOD.
+#[derive(Drop)]
+pub(crate) struct ElemRow {
+    pub id: Id,
+    pub change: ElemChange,
+}

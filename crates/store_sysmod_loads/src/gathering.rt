@@ -1,0 +1,173 @@
+//! The statements of a SYSMOD, taken off the front of rows that are sorted.
+
+ghost use Rattle.std.specs.Prelude.{◌≡◌, ◌≢◌, ◌↔◌, ℕ, List, ◌∷◌, IsTrue, IfOk, IfSome, IfNone, IsErrOf};
+ghost use Rattle.terms.specs.Types as terms;
+ghost use Rattle.store_sysmod_loads.specs.declared.flat.VerRow.{VerRow as VerLine};
+ghost use Rattle.store_sysmod_loads.specs.declared.flat.IfRow.{IfRow as IfLine};
+ghost use Rattle.store_sysmod_loads.specs.declared.flat.ElemRow.{ElemRow as ElemLine};
+ghost use Rattle.store_sysmod_loads.specs.Runs.{AreBare, Begins, StandsApart, HasIfs, HasVers, HasChanges};
+
+use crate::flat::{ElemRow, IfRow, VerRow};
+use crate::keys::Keyed;
+use fields::{Id, Srel};
+use std::alloc::{AllocError, Global};
+use std::collections::VecDeque;
+use store_rows::ReadError;
+use sysmods_records::{ElemChange, IfReq, Ver};
+
+/// A row that belongs to another.
+pub(crate) trait Child: Drop {
+    type Parent: Copy;
+
+    ghost parent_of: { Self → Self.Parent };
+
+    fn is_of(&self, parent: Self::Parent) -> bool
+        ensures { IsTrue result ↔ (parent_of self.now ≡ parent) };
+}
+
+impl Child for VerRow {
+    ghost use Rattle.store_sysmod_loads.specs.Runs.{parent_of_ver};
+
+    type Parent = Id;
+
+    ghost parent_of = { parent_of_ver };
+
+    fn is_of(&self, parent: Id) -> bool {
+        self.id == parent
+    }
+}
+
+impl Child for IfRow {
+    ghost use Rattle.store_sysmod_loads.specs.Runs.{parent_of_if};
+
+    type Parent = (Id, Srel);
+
+    ghost parent_of = { parent_of_if };
+
+    fn is_of(&self, parent: (Id, Srel)) -> bool {
+        self.id == parent.0 && self.srel == parent.1
+    }
+}
+
+impl Child for ElemRow {
+    ghost use Rattle.store_sysmod_loads.specs.Runs.{parent_of_elem};
+
+    type Parent = Id;
+
+    ghost parent_of = { parent_of_elem };
+
+    fn is_of(&self, parent: Id) -> bool {
+        self.id == parent
+    }
+}
+
+/// Whether the first row is of the parent.
+fn begins<T: Child>(rows: &VecDeque<T>, parent: T::Parent) -> bool
+    ensures { IsTrue result ↔ Begins T.parent_of parent rows.now.items }
+{
+    match rows.front() {
+        Some(row) => row.is_of(parent),
+        None => false,
+    }
+}
+
+/// Takes the first row, if it is of the parent.
+fn pop_of<T: Child>(rows: &mut VecDeque<T>, parent: T::Parent) -> Option<T>
+    ensures some { IfSome result (λ row. (rows.old.items ≡ row ∷ rows.new.items) × (T.parent_of row ≡ parent)) }
+    ensures none { IfNone result ((rows.new.items ≡ rows.old.items) × StandsApart T.parent_of parent rows.old.items) }
+{
+    if !begins(rows, parent) {
+        return None;
+    }
+    rows.pop_front()
+}
+
+/// Takes the `++IF`s of a `++VER`, whose numbers count from 1.
+pub(crate) fn take_ifs(
+    alloc: Global,
+    rows: &mut VecDeque<IfRow>,
+    id: Id,
+    srel: Srel,
+) -> Result<Vec<IfReq>, ReadError>
+    ensures told { IfOk result (λ ifs. HasIfs id srel 1 rows.old.items ifs.items rows.new.items) }
+    ensures only { IfOk result (λ ifs. (others : List terms.IfReq) (rest : List IfLine) → HasIfs id srel 1 rows.old.items others rest → (others ≡ ifs.items) × (rest ≡ rows.new.items)) }
+    ensures none { IsErrOf result ReadError.BadRow → (others : List terms.IfReq) (rest : List IfLine) → ¬ HasIfs id srel 1 rows.old.items others rest }
+{
+    let mut ifs = Vec::new(alloc);
+    while let Some(row) = pop_of(rows, (id, srel)) {
+        if row.number != ifs.len() as u64 + 1 {
+            return Err(ReadError::BadRow);
+        }
+        if ifs.push(row.ifreq).is_err() {
+            return Err(ReadError::Memory);
+        }
+    }
+    Ok(ifs)
+}
+
+fn with_ifs(ver: Ver, ifs: Vec<IfReq>) -> Ver
+    ensures { result ≡ record ver { ifs = ifs.items } }
+{
+    Ver {
+        srel: ver.srel,
+        fmid: ver.fmid,
+        pre: ver.pre,
+        req: ver.req,
+        sup: ver.sup,
+        npre: ver.npre,
+        del: ver.del,
+        ifs,
+    }
+}
+
+/// The `++VER` with its `++IF`s, which are taken.
+fn filled(alloc: Global, ifs: &mut VecDeque<IfRow>, id: Id, row: VerRow) -> Result<Ver, ReadError>
+    ensures same { IfOk result (λ ver. ver ≡ record row.ver { ifs = ver.ifs }) }
+    ensures told { IfOk result (λ ver. HasIfs id row.ver.srel 1 ifs.old.items ver.ifs ifs.new.items) }
+    ensures only { IfOk result (λ ver. (others : List terms.IfReq) (rest : List IfLine) → HasIfs id row.ver.srel 1 ifs.old.items others rest → (others ≡ ver.ifs) × (rest ≡ ifs.new.items)) }
+    ensures none { IsErrOf result ReadError.BadRow → (others : List terms.IfReq) (rest : List IfLine) → ¬ HasIfs id row.ver.srel 1 ifs.old.items others rest }
+{
+    let srel = row.ver.key();
+    let found = take_ifs(alloc, ifs, id, srel)?;
+    Ok(with_ifs(row.ver, found))
+}
+
+/// Takes the `++VER`s of a SYSMOD, with their `++IF`s.
+pub(crate) fn take_vers(
+    alloc: Global,
+    rows: &mut VecDeque<VerRow>,
+    ifs: &mut VecDeque<IfRow>,
+    id: Id,
+) -> Result<Vec<Ver>, ReadError>
+    requires { AreBare rows.old.items }
+    ensures bare { AreBare rows.new.items }
+    ensures told { IfOk result (λ vers. HasVers id rows.old.items ifs.old.items vers.items rows.new.items ifs.new.items) }
+    ensures only { IfOk result (λ vers. (others : List terms.Ver) (rest : List VerLine) (more : List IfLine) → HasVers id rows.old.items ifs.old.items others rest more
+        → (others ≡ vers.items) × (rest ≡ rows.new.items) × (more ≡ ifs.new.items)) }
+    ensures none { IsErrOf result ReadError.BadRow → (others : List terms.Ver) (rest : List VerLine) (more : List IfLine) → ¬ HasVers id rows.old.items ifs.old.items others rest more }
+{
+    let mut vers = Vec::new(alloc);
+    while let Some(row) = pop_of(rows, id) {
+        let ver = filled(alloc, ifs, id, row)?;
+        if vers.push(ver).is_err() {
+            return Err(ReadError::Memory);
+        }
+    }
+    Ok(vers)
+}
+
+/// Takes the element statements of a SYSMOD.
+pub(crate) fn take_changes(
+    alloc: Global,
+    rows: &mut VecDeque<ElemRow>,
+    id: Id,
+) -> Result<Vec<ElemChange>, AllocError>
+    ensures told { IfOk result (λ changes. HasChanges id rows.old.items changes.items rows.new.items) }
+    ensures only { IfOk result (λ changes. (others : List terms.Change) (rest : List ElemLine) → HasChanges id rows.old.items others rest → (others ≡ changes.items) × (rest ≡ rows.new.items)) }
+{
+    let mut changes = Vec::new(alloc);
+    while let Some(row) = pop_of(rows, id) {
+        changes.push(row.change)?;
+    }
+    Ok(changes)
+}

@@ -1,0 +1,180 @@
+//! How the rows of SYSMODs are read.
+
+ghost use Rattle.std.specs.Prelude.{◌≡◌, ◌≢◌, IfOk, IsErrOf};
+ghost use Rattle.store_sysmod_loads.specs.declared.flat.HeadRow.{HeadRow as AHeadRow};
+ghost use Rattle.store_sysmod_loads.specs.declared.flat.VerRow.{VerRow as AVerRow};
+ghost use Rattle.store_sysmod_loads.specs.declared.flat.IfRow.{IfRow as AIfRow};
+ghost use Rattle.store_sysmod_loads.specs.declared.flat.ElemRow.{ElemRow as AElemRow};
+
+use crate::cells::{action_in, number_in, other_in, others_in};
+use crate::flat::{ElemRow, HeadRow, IfRow, VerRow};
+use sqlite::Row;
+use std::alloc::Global;
+use store_columns::{elem_type_in, id_in, kind_in, name_in, sources_in, srel_in};
+use store_rows::{FromRow, ReadError};
+use sysmods_records::{ElemChange, IfReq, Ver};
+
+/// Reads SYSMODs.
+pub(crate) struct Heads;
+
+impl FromRow for Heads {
+    ghost use Rattle.store_sysmod_loads.specs.Flat.{row_of_head, HasHeadForms};
+
+    type Item = HeadRow;
+
+    ghost row_of = { row_of_head };
+
+    ghost has_form = { HasHeadForms };
+
+    fn read(alloc: Global, row: &Row) -> Result<HeadRow, ReadError>
+        ensures read { IfOk result (λ item. (row.now ≡ row_of_head item) × HasHeadForms item) }
+        ensures none { IsErrOf result ReadError.BadRow → (item : AHeadRow) → HasHeadForms item → row.now ≢ row_of_head item }
+        ensures fault { IsErrOf result ReadError.Fault → ⊥ }
+    {
+        if row.column_count() != 3 {
+            return Err(ReadError::BadRow);
+        }
+        let Some(id) = id_in(row, 0) else {
+            return Err(ReadError::BadRow);
+        };
+        let Some(kind) = kind_in(row, 1) else {
+            return Err(ReadError::BadRow);
+        };
+        let sources = sources_in(alloc, row, 2)?;
+        Ok(HeadRow { id, kind, sources })
+    }
+}
+
+/// Reads `++VER`s.
+pub(crate) struct Vers;
+
+impl FromRow for Vers {
+    ghost use Rattle.store_sysmod_loads.specs.Flat.{row_of_ver, HasVerRowForms};
+
+    type Item = VerRow;
+
+    ghost row_of = { row_of_ver };
+
+    ghost has_form = { HasVerRowForms };
+
+    fn read(alloc: Global, row: &Row) -> Result<VerRow, ReadError>
+        ensures read { IfOk result (λ item. (row.now ≡ row_of_ver item) × HasVerRowForms item) }
+        ensures none { IsErrOf result ReadError.BadRow → (item : AVerRow) → HasVerRowForms item → row.now ≢ row_of_ver item }
+        ensures fault { IsErrOf result ReadError.Fault → ⊥ }
+    {
+        if row.column_count() != 8 {
+            return Err(ReadError::BadRow);
+        }
+        let Some(id) = id_in(row, 0) else {
+            return Err(ReadError::BadRow);
+        };
+        let Some(srel) = srel_in(row, 1) else {
+            return Err(ReadError::BadRow);
+        };
+        let Some(fmid) = other_in(row, 2, id) else {
+            return Err(ReadError::BadRow);
+        };
+        let pre = others_in(alloc, row, 3, id)?;
+        let req = others_in(alloc, row, 4, id)?;
+        let sup = others_in(alloc, row, 5, id)?;
+        let npre = others_in(alloc, row, 6, id)?;
+        let del = others_in(alloc, row, 7, id)?;
+        let ifs = Vec::new(alloc);
+        let ver = Ver {
+            srel,
+            fmid,
+            pre,
+            req,
+            sup,
+            npre,
+            del,
+            ifs,
+        };
+        Ok(VerRow { id, ver })
+    }
+}
+
+/// Reads `++IF`s.
+pub(crate) struct Ifs;
+
+impl FromRow for Ifs {
+    ghost use Rattle.store_sysmod_loads.specs.Flat.{row_of_if, HasIfRowForms};
+
+    type Item = IfRow;
+
+    ghost row_of = { row_of_if };
+
+    ghost has_form = { HasIfRowForms };
+
+    fn read(alloc: Global, row: &Row) -> Result<IfRow, ReadError>
+        ensures read { IfOk result (λ item. (row.now ≡ row_of_if item) × HasIfRowForms item) }
+        ensures none { IsErrOf result ReadError.BadRow → (item : AIfRow) → HasIfRowForms item → row.now ≢ row_of_if item }
+        ensures fault { IsErrOf result ReadError.Fault → ⊥ }
+    {
+        if row.column_count() != 5 {
+            return Err(ReadError::BadRow);
+        }
+        let Some(id) = id_in(row, 0) else {
+            return Err(ReadError::BadRow);
+        };
+        let Some(srel) = srel_in(row, 1) else {
+            return Err(ReadError::BadRow);
+        };
+        let Some(number) = number_in(row, 2) else {
+            return Err(ReadError::BadRow);
+        };
+        let Some(function) = id_in(row, 3) else {
+            return Err(ReadError::BadRow);
+        };
+        let req = others_in(alloc, row, 4, id)?;
+        if req.is_empty() {
+            return Err(ReadError::BadRow);
+        }
+        let ifreq = IfReq { function, req };
+        Ok(IfRow {
+            id,
+            srel,
+            number,
+            ifreq,
+        })
+    }
+}
+
+/// Reads element statements.
+pub(crate) struct Elems;
+
+impl FromRow for Elems {
+    ghost use Rattle.store_sysmod_loads.specs.Flat.{row_of_elem, HasElemRowForms};
+
+    type Item = ElemRow;
+
+    ghost row_of = { row_of_elem };
+
+    ghost has_form = { HasElemRowForms };
+
+    fn read(alloc: Global, row: &Row) -> Result<ElemRow, ReadError>
+        ensures read { IfOk result (λ item. (row.now ≡ row_of_elem item) × HasElemRowForms item) }
+        ensures none { IsErrOf result ReadError.BadRow → (item : AElemRow) → HasElemRowForms item → row.now ≢ row_of_elem item }
+        ensures fault { IsErrOf result ReadError.Fault → ⊥ }
+    {
+        if row.column_count() != 7 {
+            return Err(ReadError::BadRow);
+        }
+        let Some(id) = id_in(row, 0) else {
+            return Err(ReadError::BadRow);
+        };
+        let Some(elem_type) = elem_type_in(row, 1) else {
+            return Err(ReadError::BadRow);
+        };
+        let Some(name) = name_in(row, 2) else {
+            return Err(ReadError::BadRow);
+        };
+        let action = action_in(alloc, row, elem_type, name)?;
+        let change = ElemChange {
+            elem_type,
+            name,
+            action,
+        };
+        Ok(ElemRow { id, change })
+    }
+}

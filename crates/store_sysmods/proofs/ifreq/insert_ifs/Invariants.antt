@@ -1,0 +1,14 @@
+use Rattle.std.proofs.Common.{◌≡◌, [], ◌∷◌, take}
+use Rattle.std.specs.List.{flat_map, enumerate_from}
+use Rattle.store_rows.specs.Inside.{StaysInside}
+use Rattle.store_schema.specs.Rows.{ifreq_row}
+use Rattle.store_schema.specs.Tables.{ifreq as ifreq_table}
+use Rattle.store_sysmods.specs.Sysmods.{Adds}
+use Rattle.store_sysmods.proofs.ifreq.insert_ifs.Given as goal
+
+abbrev pub invariant-loop-index : goal.invariant-loop-index
+invariant-loop-index g l = record {
+  same_reference : l.tx.conn.ghost_name ≡ l.fn.tx.conn.ghost_name;
+  inside : StaysInside g.S.Store l.fn.tx.conn.now l.tx.conn.now;
+  adds : Adds g.S.Store l.fn.tx.conn.now l.tx.conn.now ifreq_table (flat_map (λ i. ifreq_row l.id l.srel i ∷ []) (take l.index (enumerate_from 1 l.ifs)));
+}

@@ -1,0 +1,116 @@
+//! The table of element statements.
+
+ghost use Rattle.std.specs.Prelude.{◌≡◌, pos, [], ◌∷◌, map, if◌then◌else◌, OnOk};
+ghost use Rattle.std.specs.List.{concat};
+ghost use Rattle.sqlite.specs.Values.{or_null};
+ghost use Rattle.sqlite.specs.declared.types.Value.TheVariants.{Int, Text};
+ghost use Rattle.sqlite_value.specs.Value.{owned};
+ghost use Rattle.sysmods_records.specs.Views.{action_of};
+ghost use Rattle.store_rows.specs.Inside.{StaysInside};
+ghost use Rattle.store_schema.specs.Rows.{elem_row, flag};
+ghost use Rattle.store_schema.specs.Tables.{elem as elem_table};
+ghost use Rattle.store_sysmods.specs.Actions.{is_update, distlib_of, syslib_of, lines_of as lines_in};
+ghost use Rattle.store_sysmods.specs.Sysmods.{Adds};
+
+use fields::Id;
+use spelling::type_text;
+use sqlite::{Alter, Error, Transaction};
+use sqlite_value::value::ValueRef;
+use std::alloc::Global;
+use store_rows::insert;
+use sysmods_records::{Action, ElemChange};
+use text80::{Line, bytes_of};
+
+fn lines_of(action: &Action) -> &[Line]
+    ensures { result.now ≡ lines_in (action_of action.now) }
+{
+    match action {
+        Action::Replaces { lines, .. } => lines.as_slice(),
+        Action::Updates { lines } => lines.as_slice(),
+    }
+}
+
+// 1 for an update, and 0 for a replacement.
+fn update_value(action: &Action) -> ValueRef<'static>
+    ensures { owned result ≡ flag (is_update (action_of action.now)) }
+{
+    match action {
+        Action::Replaces { .. } => ValueRef::Int(0),
+        Action::Updates { .. } => ValueRef::Int(1),
+    }
+}
+
+fn distlib_value(action: &Action) -> ValueRef<'_>
+    ensures { owned result ≡ or_null Text (distlib_of (action_of action.now)) }
+{
+    match action {
+        Action::Replaces { distlib, .. } => ValueRef::Text(distlib.as_bytes()),
+        Action::Updates { .. } => ValueRef::Null,
+    }
+}
+
+fn syslib_value(action: &Action) -> ValueRef<'_>
+    ensures { owned result ≡ or_null Text (syslib_of (action_of action.now)) }
+{
+    match action {
+        Action::Replaces { syslib, .. } => ValueRef::Text(syslib.as_bytes()),
+        Action::Updates { .. } => ValueRef::Null,
+    }
+}
+
+// Adds the element statement's row, of whose records these are the bytes.
+fn insert_row<'a, S: Alter>(
+    tx: &mut Transaction<'_, S>,
+    id: &'a Id,
+    change: &'a ElemChange,
+    text: &'a [u8],
+) -> Result<(), Error>
+    requires { text.now ≡ concat (lines_in change.now.action) }
+    ensures same_reference { tx.new.conn.ghost_name ≡ tx.old.conn.ghost_name }
+    ensures inside { StaysInside S.Store tx.old.conn.now tx.new.conn.now }
+    ensures ok { OnOk result (Adds S.Store tx.old.conn.now tx.new.conn.now elem_table (elem_row id.now change.now ∷ [])) }
+{
+    let id = ValueRef::Text(id.as_bytes());
+    let elem_type = ValueRef::Text(type_text(change.elem_type));
+    let name = ValueRef::Text(change.name.as_bytes());
+    let update = update_value(&change.action);
+    let distlib = distlib_value(&change.action);
+    let syslib = syslib_value(&change.action);
+    let text = ValueRef::Blob(text);
+    insert(
+        tx,
+        "INSERT INTO elem (id, type, name, upd, distlib, syslib, text) VALUES (?1, ?2, ?3, ?4, ?5, ?6, ?7)",
+        &[id, elem_type, name, update, distlib, syslib, text],
+    )
+}
+
+fn insert_change<S: Alter>(
+    alloc: Global,
+    tx: &mut Transaction<'_, S>,
+    id: &Id,
+    change: &ElemChange,
+) -> Result<(), Error>
+    ensures same_reference { tx.new.conn.ghost_name ≡ tx.old.conn.ghost_name }
+    ensures inside { StaysInside S.Store tx.old.conn.now tx.new.conn.now }
+    ensures ok { OnOk result (Adds S.Store tx.old.conn.now tx.new.conn.now elem_table (elem_row id.now change.now ∷ [])) }
+{
+    let text = bytes_of(alloc, lines_of(&change.action))?;
+    insert_row(tx, id, change, text.as_slice())
+}
+
+/// Adds the rows of the SYSMOD's element statements.
+pub(crate) fn insert_changes<S: Alter>(
+    alloc: Global,
+    tx: &mut Transaction<'_, S>,
+    id: &Id,
+    changes: &[ElemChange],
+) -> Result<(), Error>
+    ensures same_reference { tx.new.conn.ghost_name ≡ tx.old.conn.ghost_name }
+    ensures inside { StaysInside S.Store tx.old.conn.now tx.new.conn.now }
+    ensures ok { OnOk result (Adds S.Store tx.old.conn.now tx.new.conn.now elem_table (map (elem_row id.now) changes.now)) }
+{
+    for change in changes {
+        insert_change(alloc, tx, id, change)?;
+    }
+    Ok(())
+}

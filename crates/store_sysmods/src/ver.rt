@@ -1,0 +1,96 @@
+//! The table of `++VER`s.
+
+ghost use Rattle.std.specs.Prelude.{◌≡◌, [], ◌∷◌, map, IfOk, OnOk};
+ghost use Rattle.store_rows.specs.Inside.{StaysInside};
+ghost use Rattle.store_schema.specs.Rows.{ver_row};
+ghost use Rattle.store_schema.specs.Tables.{ver as ver_table};
+ghost use Rattle.store_sysmods.specs.Lists.{AreLists};
+ghost use Rattle.store_sysmods.specs.Sysmods.{Adds};
+
+use fields::Id;
+use sqlite::{Alter, Error, Transaction};
+use sqlite_value::value::ValueRef;
+use std::alloc::{AllocError, Global};
+use store_columns::{id_value, joined_ids};
+use store_rows::insert;
+use sysmods_records::Ver;
+
+/// The texts of a `++VER`'s lists.
+#[derive(Drop)]
+struct Lists {
+    pre: Vec<u8>,
+    req: Vec<u8>,
+    sup: Vec<u8>,
+    npre: Vec<u8>,
+    del: Vec<u8>,
+}
+
+fn lists_of(alloc: Global, ver: &Ver) -> Result<Lists, AllocError>
+    ensures { IfOk result (λ lists. AreLists lists ver.now) }
+{
+    Ok(Lists {
+        pre: joined_ids(alloc, ver.pre.as_slice())?,
+        req: joined_ids(alloc, ver.req.as_slice())?,
+        sup: joined_ids(alloc, ver.sup.as_slice())?,
+        npre: joined_ids(alloc, ver.npre.as_slice())?,
+        del: joined_ids(alloc, ver.del.as_slice())?,
+    })
+}
+
+// Adds the `++VER`'s row, of whose lists these are the texts.
+fn insert_row<S: Alter>(
+    tx: &mut Transaction<'_, S>,
+    id: &Id,
+    ver: &Ver,
+    lists: &Lists,
+) -> Result<(), Error>
+    requires { AreLists lists.now ver.now }
+    ensures same_reference { tx.new.conn.ghost_name ≡ tx.old.conn.ghost_name }
+    ensures inside { StaysInside S.Store tx.old.conn.now tx.new.conn.now }
+    ensures ok { OnOk result (Adds S.Store tx.old.conn.now tx.new.conn.now ver_table (ver_row id.now ver.now ∷ [])) }
+{
+    let id = ValueRef::Text(id.as_bytes());
+    let srel = ValueRef::Text(ver.srel.as_bytes());
+    let fmid = id_value(&ver.fmid);
+    let pre = ValueRef::Text(lists.pre.as_slice());
+    let req = ValueRef::Text(lists.req.as_slice());
+    let sup = ValueRef::Text(lists.sup.as_slice());
+    let npre = ValueRef::Text(lists.npre.as_slice());
+    let del = ValueRef::Text(lists.del.as_slice());
+    insert(
+        tx,
+        "INSERT INTO ver (id, srel, fmid, pre, req, sup, npre, del) VALUES (?1, ?2, ?3, ?4, ?5, ?6, ?7, ?8)",
+        &[id, srel, fmid, pre, req, sup, npre, del],
+    )
+}
+
+fn insert_ver<S: Alter>(
+    alloc: Global,
+    tx: &mut Transaction<'_, S>,
+    id: &Id,
+    ver: &Ver,
+) -> Result<(), Error>
+    ensures same_reference { tx.new.conn.ghost_name ≡ tx.old.conn.ghost_name }
+    ensures inside { StaysInside S.Store tx.old.conn.now tx.new.conn.now }
+    ensures ok { OnOk result (Adds S.Store tx.old.conn.now tx.new.conn.now ver_table (ver_row id.now ver.now ∷ [])) }
+{
+    let lists = lists_of(alloc, ver)?;
+    insert_row(tx, id, ver, &lists)
+}
+
+/// Adds the rows of the SYSMOD's `++VER`s, without those of their `++IF`s.
+pub(crate) fn insert_vers<S: Alter>(
+    alloc: Global,
+    tx: &mut Transaction<'_, S>,
+    id: &Id,
+    vers: &[Ver],
+) -> Result<(), Error>
+    ensures same_reference { tx.new.conn.ghost_name ≡ tx.old.conn.ghost_name }
+    ensures inside { StaysInside S.Store tx.old.conn.now tx.new.conn.now }
+    ensures ok { OnOk result (Adds S.Store tx.old.conn.now tx.new.conn.now ver_table (map (ver_row id.now) vers.now)) }
+{
+    for ver in vers {
+        insert_ver(alloc, tx, id, ver)?;
+    }
+    Ok(())
+}

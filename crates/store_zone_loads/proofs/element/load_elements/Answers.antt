@@ -1,0 +1,20 @@
+use Rattle.std.proofs.lemmas.List.Sorted.{IsPermutation-sym, IsPermutation-trans}
+use Rattle.store_rows.proofs.InsideLemmas.{if_ok_both}
+use Rattle.terms.specs.Lookups.{element_key}
+use Rattle.terms.proofs.ElementOrder.{element_cmp_total}
+use Rattle.store_schema.proofs.Lists.{rising_same}
+use Rattle.store_zone_loads.specs.Found.{elements_in}
+use Rattle.store_zone_loads.proofs.Elements.{elements_rise}
+use Rattle.store_zone_loads.proofs.element.load_elements.Goals as goal
+
+pub returns-clause-found : goal.returns-clause-found
+returns-clause-found g c clean i stands =
+    let name = c.args.name.now in
+    let rows = c.in_ok-rows.ensures.found clean i stands in
+    if_ok_both c.table_of.result _ _ _ (λ table same rising.
+    rising_same element_cmp_total element_key table (elements_in i name) (IsPermutation-trans _ _ _ (IsPermutation-sym _ _ same) rows) rising (elements_rise i stands.inventory name)) c.table_of.ensures.same c.table_of.ensures.rising
+
+pub returns-clause-none : goal.returns-clause-none
+returns-clause-none g c clean bad i stands =
+    let name = c.args.name.now in
+    c.table_of.ensures.none bad (elements_in i name) (c.in_ok-rows.ensures.found clean i stands) (elements_rise i stands.inventory name)

@@ -1,0 +1,43 @@
+-- The rows of zones, entries and elements, and the forms that are looked for in them.
+use Rattle.std.specs.Prelude.{◌≡◌, ◌≢◌, ◌==◌, [], ◌∷◌, IfSome, is_some, codes}
+use Rattle.sqlite.specs.declared.types.Value.TheVariants as value
+use Rattle.sqlite.specs.Values.{or_null}
+use Rattle.sqlite.specs.Order.{Row}
+use Rattle.terms.specs.Forms.{IsId, IsDottedDate, IsSrel, IsZoneName}
+use Rattle.terms.specs.Spelling.{zone_kind_text}
+use Rattle.terms.specs.Types.{zone_number}
+use Rattle.store_schema.specs.Forms.{AreListed, HasElementForms}
+use Rattle.store_schema.specs.Rows.{entry_row, zelem_row}
+use Rattle.store_zone_loads.specs.declared.head.ZoneHead.{ZoneHead}
+use Rattle.store_zone_loads.specs.declared.entry.EntryRow.{EntryRow}
+use Rattle.store_zone_loads.specs.declared.element.ElementRow.{ElementRow}
+
+abbrev pub head_row : ZoneHead → Row
+head_row h = value.Text h.name ∷ value.Text (zone_kind_text h.kind) ∷ value.Text h.srel ∷ or_null value.Text h.related ∷ []
+
+-- A target zone alone names a related zone.
+pub record HasHeadForms (h : ZoneHead) : Type 0 where
+  pub name : IsZoneName h.name
+  pub srel : IsSrel h.srel
+  pub related : IfSome h.related IsZoneName
+  pub not_global : h.name ≢ codes "GLOBAL"
+  pub suits : is_some h.related ≡ (zone_number h.kind == 0)
+
+abbrev pub row_of_entry : EntryRow → Row
+row_of_entry r = entry_row r.zone r.entry
+
+-- what an entry is there for is looked for in the whole zone
+pub record HasEntryRowForms (r : EntryRow) : Type 0 where
+  pub zone : IsZoneName r.zone
+  pub id : IsId r.entry.id
+  pub applied : IfSome r.entry.applied IsDottedDate
+  pub supby : AreListed IsId r.entry.supby
+  pub delby : IfSome r.entry.delby IsId
+  pub waived : AreListed IsId r.entry.waived
+
+abbrev pub row_of_element : ElementRow → Row
+row_of_element r = zelem_row r.zone r.element
+
+pub record HasElementRowForms (r : ElementRow) : Type 0 where
+  pub zone : IsZoneName r.zone
+  pub element : HasElementForms r.element

@@ -1,0 +1,231 @@
+//! The table of zones.
+
+ghost use Rattle.std.specs.Prelude.{◌≡◌, ◌≢◌, ◌==◌, false, List, Option, map, option_map, IfOk, OnOk, OnErr, IsErrOf, IsPermutation};
+ghost use Rattle.std.specs.Option.{option_to_list};
+ghost use Rattle.std.specs.Ordering.{nat_cmp};
+ghost use Rattle.std.specs.Cmp.Lexicographic.{slice_cmp};
+ghost use Rattle.sqlite.specs.Held.{state};
+ghost use Rattle.sqlite.specs.State.{HasCleanDisk, IsUnchanged, KeepsCommit, Survives};
+ghost use Rattle.terms.specs.Rising.{Rises};
+ghost use Rattle.store_schema.specs.Inventory.{Inventory};
+ghost use Rattle.store_schema.specs.Stands.{StandsFor};
+ghost use Rattle.store_schema.specs.Tables.{store_schema};
+ghost use Rattle.terms.specs.Types.{zone_number};
+ghost use Rattle.store_zone_loads.specs.declared.head.ZoneHead.{ZoneHead as AZoneHead};
+ghost use Rattle.store_zone_loads.specs.Found.{head_of, head_in, zone_in};
+ghost use Rattle.store_zone_loads.specs.Related.{AreRelated};
+
+use crate::related::only_related;
+use fields::{Srel, ZoneName};
+use sqlite::{Alter, Connection, Row};
+use sqlite_value::value::ValueRef;
+use std::alloc::{AllocError, Global};
+use store_columns::{optional_zone_name_in, srel_in, zone_kind_in, zone_name_in};
+use store_rows::{FromRow, ReadError, load};
+use terms::ZoneKind;
+use zones::{Keyed, Table};
+
+/// A zone without its entries and elements.
+#[derive(Clone, Copy, Debug, PartialEq, Eq)]
+pub struct ZoneHead {
+    pub name: ZoneName,
+    pub kind: ZoneKind,
+    pub srel: Srel,
+    pub related: Option<ZoneName>,
+}
+
+impl Keyed for ZoneHead {
+    type Key = ZoneName;
+
+    ghost key_of = { λ head. head.name };
+
+    fn key(&self) -> ZoneName {
+        self.name
+    }
+
+    fn try_clone(&self, _alloc: Global) -> Result<Self, AllocError> {
+        Ok(*self)
+    }
+}
+
+fn is_target(kind: ZoneKind) -> bool
+    ensures { result ≡ (zone_number kind == 0) }
+{
+    match kind {
+        ZoneKind::Target => true,
+        ZoneKind::Distribution => false,
+    }
+}
+
+/// Reads the rows of zones.
+struct Heads;
+
+impl FromRow for Heads {
+    ghost use Rattle.store_zone_loads.specs.Read.{head_row, HasHeadForms};
+
+    type Item = ZoneHead;
+
+    ghost row_of = { head_row };
+
+    ghost has_form = { HasHeadForms };
+
+    fn read(_alloc: Global, row: &Row) -> Result<ZoneHead, ReadError>
+        ensures read { IfOk result (λ head. (row.now ≡ head_row head) × HasHeadForms head) }
+        ensures none { IsErrOf result ReadError.BadRow → (head : AZoneHead) → HasHeadForms head → row.now ≢ head_row head }
+        ensures fault { IsErrOf result ReadError.Fault → ⊥ }
+    {
+        if row.column_count() != 4 {
+            return Err(ReadError::BadRow);
+        }
+        let Some(name) = zone_name_in(row, 0) else {
+            return Err(ReadError::BadRow);
+        };
+        if name.is_global() {
+            return Err(ReadError::BadRow);
+        }
+        let Some(kind) = zone_kind_in(row, 1) else {
+            return Err(ReadError::BadRow);
+        };
+        let Some(srel) = srel_in(row, 2) else {
+            return Err(ReadError::BadRow);
+        };
+        let Some(related) = optional_zone_name_in(row, 3) else {
+            return Err(ReadError::BadRow);
+        };
+        if related.is_some() != is_target(kind) {
+            return Err(ReadError::BadRow);
+        }
+        Ok(ZoneHead {
+            name,
+            kind,
+            srel,
+            related,
+        })
+    }
+}
+
+/// The rows of this name.
+fn head_rows<S: Alter>(
+    alloc: Global,
+    conn: &mut Connection<S>,
+    name: &ZoneName,
+) -> Result<Vec<ZoneHead>, ReadError>
+    ensures found { HasCleanDisk (state S.Store conn.new) → (i : Inventory) → StandsFor i (state S.Store conn.old).now → IfOk result (λ heads. heads.items ≡ option_to_list (option_map (head_in name.now) (zone_in i name.now))) }
+    ensures none { HasCleanDisk (state S.Store conn.new) → IsErrOf result ReadError.BadRow → (i : Inventory) → ¬ StandsFor i (state S.Store conn.old).now }
+    ensures same { HasCleanDisk (state S.Store conn.new) → conn.old.schema ≡ store_schema → OnOk result (IsUnchanged (state S.Store conn.old) (state S.Store conn.new)) }
+    ensures kept { HasCleanDisk (state S.Store conn.new) → conn.old.schema ≡ store_schema → KeepsCommit (state S.Store conn.old) (state S.Store conn.new) }
+    ensures crash { Survives (state S.Store conn.old) (state S.Store conn.new) (λ _. ¬ (conn.old.schema ≡ store_schema)) }
+    ensures mode { conn.old.in_transaction ≡ false → conn.new.in_transaction ≡ false }
+{
+    load::<S, Heads>(
+        alloc,
+        conn,
+        "SELECT name, kind, srel, related FROM zone WHERE name = ?1",
+        &[ValueRef::Text(name.as_bytes())],
+    )
+}
+
+fn at_most_one(heads: &[ZoneHead]) -> Result<Option<ZoneHead>, ReadError>
+    ensures one { IfOk result (λ head. heads.now ≡ option_to_list head) }
+    ensures more { OnErr result ((head : Option ZoneHead) → heads.now ≢ option_to_list head) }
+{
+    match heads {
+        [] => Ok(None),
+        [head] => Ok(Some(*head)),
+        _ => Err(ReadError::BadRow),
+    }
+}
+
+/// The head of the zone of this name, if there is one.
+pub(crate) fn zone_head<S: Alter>(
+    alloc: Global,
+    conn: &mut Connection<S>,
+    name: &ZoneName,
+) -> Result<Option<ZoneHead>, ReadError>
+    ensures found { HasCleanDisk (state S.Store conn.new) → (i : Inventory) → StandsFor i (state S.Store conn.old).now → IfOk result (λ head. head ≡ option_map (head_in name.now) (zone_in i name.now)) }
+    ensures none { HasCleanDisk (state S.Store conn.new) → IsErrOf result ReadError.BadRow → (i : Inventory) → ¬ StandsFor i (state S.Store conn.old).now }
+    ensures same { HasCleanDisk (state S.Store conn.new) → conn.old.schema ≡ store_schema → OnOk result (IsUnchanged (state S.Store conn.old) (state S.Store conn.new)) }
+    ensures kept { HasCleanDisk (state S.Store conn.new) → conn.old.schema ≡ store_schema → KeepsCommit (state S.Store conn.old) (state S.Store conn.new) }
+    ensures crash { Survives (state S.Store conn.old) (state S.Store conn.new) (λ _. ¬ (conn.old.schema ≡ store_schema)) }
+    ensures mode { conn.old.in_transaction ≡ false → conn.new.in_transaction ≡ false }
+{
+    let heads = head_rows(alloc, conn, name)?;
+    at_most_one(heads.as_slice())
+}
+
+/// All rows of zones.
+fn all_head_rows<S: Alter>(
+    alloc: Global,
+    conn: &mut Connection<S>,
+) -> Result<Vec<ZoneHead>, ReadError>
+    ensures found { HasCleanDisk (state S.Store conn.new) → (i : Inventory) → StandsFor i (state S.Store conn.old).now → IfOk result (λ heads. IsPermutation heads.items (map head_of i.zones)) }
+    ensures none { HasCleanDisk (state S.Store conn.new) → IsErrOf result ReadError.BadRow → (i : Inventory) → ¬ StandsFor i (state S.Store conn.old).now }
+    ensures same { HasCleanDisk (state S.Store conn.new) → conn.old.schema ≡ store_schema → OnOk result (IsUnchanged (state S.Store conn.old) (state S.Store conn.new)) }
+    ensures kept { HasCleanDisk (state S.Store conn.new) → conn.old.schema ≡ store_schema → KeepsCommit (state S.Store conn.old) (state S.Store conn.new) }
+    ensures crash { Survives (state S.Store conn.old) (state S.Store conn.new) (λ _. ¬ (conn.old.schema ≡ store_schema)) }
+    ensures mode { conn.old.in_transaction ≡ false → conn.new.in_transaction ≡ false }
+{
+    load::<S, Heads>(
+        alloc,
+        conn,
+        "SELECT name, kind, srel, related FROM zone ORDER BY name",
+        &[],
+    )
+}
+
+/// The heads by their names, if no two have one.
+fn by_name(heads: Vec<ZoneHead>) -> Result<Vec<ZoneHead>, ReadError>
+    ensures same { IfOk result (λ sorted. IsPermutation heads.items sorted.items) }
+    ensures rising { IfOk result (λ sorted. Rises (slice_cmp nat_cmp) (λ head. head.name) sorted.items) }
+    ensures none { IsErrOf result ReadError.BadRow → (other : List ZoneHead) → IsPermutation heads.items other → ¬ Rises (slice_cmp nat_cmp) (λ head. head.name) other }
+{
+    match Table::from_vec(heads) {
+        Some(heads) => Ok(heads.into_vec()),
+        None => Err(ReadError::BadRow),
+    }
+}
+
+/// The heads of all zones, by name. A target zone names a distribution zone of its SREL, which no
+/// other names.
+pub fn zone_heads<S: Alter>(
+    alloc: Global,
+    conn: &mut Connection<S>,
+) -> Result<Vec<ZoneHead>, ReadError>
+    ensures found { HasCleanDisk (state S.Store conn.new) → (i : Inventory) → StandsFor i (state S.Store conn.old).now → IfOk result (λ heads. heads.items ≡ map head_of i.zones) }
+    ensures related { IfOk result (λ heads. AreRelated heads.items) }
+    ensures none { HasCleanDisk (state S.Store conn.new) → IsErrOf result ReadError.BadRow → (i : Inventory) → ¬ StandsFor i (state S.Store conn.old).now }
+    ensures same { HasCleanDisk (state S.Store conn.new) → conn.old.schema ≡ store_schema → OnOk result (IsUnchanged (state S.Store conn.old) (state S.Store conn.new)) }
+    ensures kept { HasCleanDisk (state S.Store conn.new) → conn.old.schema ≡ store_schema → KeepsCommit (state S.Store conn.old) (state S.Store conn.new) }
+    ensures crash { Survives (state S.Store conn.old) (state S.Store conn.new) (λ _. ¬ (conn.old.schema ≡ store_schema)) }
+    ensures mode { conn.old.in_transaction ≡ false → conn.new.in_transaction ≡ false }
+{
+    let heads = all_head_rows(alloc, conn)?;
+    let sorted = by_name(heads)?;
+    only_related(sorted)
+}
+
+fn names_of(alloc: Global, heads: &[ZoneHead]) -> Result<Vec<ZoneName>, AllocError>
+    ensures { IfOk result (λ names. names.items ≡ map (λ head. head.name) heads.now) }
+{
+    let mut names = Vec::with_capacity(alloc, heads.len())?;
+    for head in heads {
+        names.push(head.name)?;
+    }
+    Ok(names)
+}
+
+/// The names of all zones, rising.
+pub fn zone_names<S: Alter>(
+    alloc: Global,
+    conn: &mut Connection<S>,
+) -> Result<Vec<ZoneName>, ReadError>
+    ensures found { HasCleanDisk (state S.Store conn.new) → (i : Inventory) → StandsFor i (state S.Store conn.old).now → IfOk result (λ names. names.items ≡ map (λ z. z.name) i.zones) }
+    ensures none { HasCleanDisk (state S.Store conn.new) → IsErrOf result ReadError.BadRow → (i : Inventory) → ¬ StandsFor i (state S.Store conn.old).now }
+    ensures same { HasCleanDisk (state S.Store conn.new) → conn.old.schema ≡ store_schema → OnOk result (IsUnchanged (state S.Store conn.old) (state S.Store conn.new)) }
+    ensures kept { HasCleanDisk (state S.Store conn.new) → conn.old.schema ≡ store_schema → KeepsCommit (state S.Store conn.old) (state S.Store conn.new) }
+    ensures crash { Survives (state S.Store conn.old) (state S.Store conn.new) (λ _. ¬ (conn.old.schema ≡ store_schema)) }
+    ensures mode { conn.old.in_transaction ≡ false → conn.new.in_transaction ≡ false }
+{
+    let heads = zone_heads(alloc, conn)?;
+    Ok(names_of(alloc, heads.as_slice())?)
+}

@@ -1,0 +1,71 @@
+-- What a change of one zone's entries or elements makes of the inventory.
+use Rattle.std.specs.Prelude.{◌≡◌, ◌≢◌, ◌&&◌, ◌==◌, not, Bool, List, ◌∷◌, ◌++◌, filter, Option, [], IsPermutation}
+use Rattle.std.specs.List.{AllByRecursion}
+use Rattle.std.specs.Str.{bytes_eq}
+use Rattle.sqlite.specs.Store.{Ghosts}
+use Rattle.sqlite.specs.Held.{Held}
+use Rattle.terms.specs.declared.kinds.ElemType.{ElemType}
+use Rattle.terms.specs.declared.kinds.ZoneKind.{ZoneKind}
+use Rattle.terms.specs.Types.{Text, Id, type_number, Entry, Element, Global, Zone, NamedZone}
+use Rattle.store_rows.specs.Inside.{Leads}
+use Rattle.store_rows.specs.Rows.{HasContents}
+use Rattle.store_schema.specs.Inventory.{Inventory}
+use Rattle.store_schema.specs.Stands.{rows_of}
+use Rattle.store_schema.specs.Tables.{store_schema}
+
+-- The zone of this name becomes another. No other zone has the name, and nothing else changes.
+pub record IsZoneChange (name : Text) (old new : Zone) (i j : Inventory) : Type 0 where
+  pub before : List NamedZone
+  pub after : List NamedZone
+  pub was : i.zones ≡ before ++ record { name = name; zone = old } ∷ after
+  pub is : j ≡ record { global = i.global; zones = before ++ record { name = name; zone = new } ∷ after }
+  pub others : AllByRecursion (λ z. z.name ≢ name) (before ++ after)
+
+-- the entries of other ids
+abbrev pub entries_but : Id → List Entry → List Entry
+entries_but id entries = filter (λ e. not (bytes_eq e.id id)) entries
+
+-- whether the element has this type and name
+abbrev pub is_element : ElemType → Text → Element → Bool
+is_element type name e = (type_number e.elem_type == type_number type) && bytes_eq e.name name
+
+-- the elements of other types and names
+abbrev pub elements_but : ElemType → Text → List Element → List Element
+elements_but type name elements = filter (λ e. not (is_element type name e)) elements
+
+-- the entry in place of the one of its id; what order they are in is left open
+pub record HasPutEntry (entry : Entry) (old new : Zone) : Type 0 where
+  pub rest : new ≡ record old { entries = new.entries }
+  pub entries : IsPermutation new.entries (entry ∷ entries_but entry.id old.entries)
+
+-- no entry of the id
+pub record HasRemovedEntry (id : Id) (old new : Zone) : Type 0 where
+  pub rest : new ≡ record old { entries = new.entries }
+  pub entries : IsPermutation new.entries (entries_but id old.entries)
+
+-- the element in place of the one of its type and name
+pub record HasPutElement (element : Element) (old new : Zone) : Type 0 where
+  pub rest : new ≡ record old { elements = new.elements }
+  pub elements : IsPermutation new.elements (element ∷ elements_but element.elem_type element.name old.elements)
+
+-- no element of the type and name
+pub record HasRemovedElement (type : ElemType) (name : Text) (old new : Zone) : Type 0 where
+  pub rest : new ≡ record old { elements = new.elements }
+  pub elements : IsPermutation new.elements (elements_but type name old.elements)
+
+-- where the tables held an inventory's rows, and its zone of this name changes so, they hold those of the new inventory
+abbrev pub ChangesZone : {S : Type 0} → Ghosts S → Held S → Held S → Text → (Zone → Zone → Type 0) → Type 0
+ChangesZone g old new name Changes =
+    (i j : Inventory) (was is : Zone) → IsZoneChange name was is i j → Changes was is
+    → Leads g old new (HasContents store_schema (rows_of i)) (HasContents store_schema (rows_of j))
+
+-- a zone with no entries
+abbrev pub empty_zone : Text → ZoneKind → Text → Option Text → NamedZone
+empty_zone name kind srel related = record { name = name; zone = record { kind = kind; srel = srel; related = related; entries = []; elements = [] } }
+
+-- where the tables held an inventory's rows, they hold those of the inventory that has one more zone, in any place
+abbrev pub AddsZone : {S : Type 0} → Ghosts S → Held S → Held S → NamedZone → Type 0
+AddsZone g old new zone =
+    (global : Global) (before after : List NamedZone)
+    → Leads g old new (HasContents store_schema (rows_of (record { global = global; zones = before ++ after })))
+    (HasContents store_schema (rows_of (record { global = global; zones = before ++ zone ∷ after })))

@@ -1,0 +1,83 @@
+//! The table of SYSMOD entries.
+
+ghost use Rattle.std.specs.Prelude.{◌≡◌, OnOk};
+ghost use Rattle.std.specs.List.{join_with_byte};
+ghost use Rattle.store_rows.specs.Inside.{StaysInside, Turns};
+ghost use Rattle.store_rows.specs.Rows.{HasContents, in_table, without, with_put};
+ghost use Rattle.store_schema.specs.Rows.{entry_row};
+ghost use Rattle.store_schema.specs.Tables.{entry as entry_table, store_schema};
+ghost use Rattle.store_zones.specs.Keys.{entry_key};
+ghost use Rattle.store_zones.specs.Zones.{ChangesZone, HasPutEntry, HasRemovedEntry};
+
+use crate::values::date_value;
+use fields::{Id, ZoneName};
+use sqlite::{Alter, Error, Transaction};
+use sqlite_value::value::ValueRef;
+use std::alloc::Global;
+use store_columns::{id_value, joined_ids};
+use store_rows::{put, remove};
+use zones::Entry;
+
+/// Puts the entry into the zone, in place of the one of its id, if there is one.
+pub fn put_entry<S: Alter>(
+    alloc: Global,
+    tx: &mut Transaction<'_, S>,
+    zone: ZoneName,
+    entry: &Entry,
+) -> Result<(), Error>
+    ensures same_reference { tx.new.conn.ghost_name ≡ tx.old.conn.ghost_name }
+    ensures inside { StaysInside S.Store tx.old.conn.now tx.new.conn.now }
+    ensures ok { OnOk result (Turns S.Store tx.old.conn.now tx.new.conn.now (HasContents store_schema) (with_put entry_table (entry_key zone entry.now.id) (entry_row zone entry.now))) }
+    ensures stands { OnOk result (ChangesZone S.Store tx.old.conn.now tx.new.conn.now zone (HasPutEntry entry.now)) }
+{
+    let supby = joined_ids(alloc, entry.supby.as_slice())?;
+    let waived = joined_ids(alloc, entry.waived.as_slice())?;
+    put_row(tx, &zone, entry, supby.as_slice(), waived.as_slice())
+}
+
+// Puts the entry's row, of whose lists these are the texts.
+fn put_row<S: Alter>(
+    tx: &mut Transaction<'_, S>,
+    zone: &ZoneName,
+    entry: &Entry,
+    supby: &[u8],
+    waived: &[u8],
+) -> Result<(), Error>
+    requires supby { supby.now ≡ join_with_byte 44 entry.now.supby }
+    requires waived { waived.now ≡ join_with_byte 44 entry.now.waived }
+    ensures same_reference { tx.new.conn.ghost_name ≡ tx.old.conn.ghost_name }
+    ensures inside { StaysInside S.Store tx.old.conn.now tx.new.conn.now }
+    ensures ok { OnOk result (Turns S.Store tx.old.conn.now tx.new.conn.now (HasContents store_schema) (with_put entry_table (entry_key zone.now entry.now.id) (entry_row zone.now entry.now))) }
+{
+    let zone = ValueRef::Text(zone.as_bytes());
+    let id = ValueRef::Text(entry.id.as_bytes());
+    let date = date_value(&entry.applied);
+    let supby = ValueRef::Text(supby);
+    let delby = id_value(&entry.delby);
+    let waived = ValueRef::Text(waived);
+    put(
+        tx,
+        "DELETE FROM entry WHERE zone = ?1 AND id = ?2",
+        &[zone, id],
+        "INSERT INTO entry (zone, id, date, supby, delby, waived) VALUES (?1, ?2, ?3, ?4, ?5, ?6)",
+        &[zone, id, date, supby, delby, waived],
+    )
+}
+
+/// Takes the entry of the id out of the zone, if there is one.
+pub fn remove_entry<S: Alter>(
+    tx: &mut Transaction<'_, S>,
+    zone: ZoneName,
+    id: Id,
+) -> Result<(), Error>
+    ensures same_reference { tx.new.conn.ghost_name ≡ tx.old.conn.ghost_name }
+    ensures inside { StaysInside S.Store tx.old.conn.now tx.new.conn.now }
+    ensures ok { OnOk result (Turns S.Store tx.old.conn.now tx.new.conn.now (HasContents store_schema) (in_table entry_table (without (entry_key zone id)))) }
+    ensures stands { OnOk result (ChangesZone S.Store tx.old.conn.now tx.new.conn.now zone (HasRemovedEntry id)) }
+{
+    let key = [
+        ValueRef::Text(zone.as_bytes()),
+        ValueRef::Text(id.as_bytes()),
+    ];
+    remove(tx, "DELETE FROM entry WHERE zone = ?1 AND id = ?2", &key)
+}

@@ -1,6 +1,0 @@
-use Rattle.sysmod_loads.proofs.Texts.{elems_there, reads_elems}
-use Rattle.sysmod_loads.proofs.Exact.{exact_elem}
-use Rattle.sysmod_loads.proofs.tables.ElemsListed.query.Goals as goal
-
-pub returns : goal.returns
-returns c = record { reads = reads_elems; there = elems_there; exact = exact_elem }

@@ -1,6 +1,0 @@
-use Rattle.sysmod_loads.proofs.Texts.{heads_there, reads_heads}
-use Rattle.sysmod_loads.proofs.Exact.{exact_head}
-use Rattle.sysmod_loads.proofs.tables.HeadsListed.query.Goals as goal
-
-pub returns : goal.returns
-returns c = record { reads = reads_heads; there = heads_there; exact = exact_head }

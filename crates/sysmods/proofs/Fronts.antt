@@ -1,0 +1,192 @@
+-- The front of a global zone's list of SYSMODs, and one more behind it.
+use Rattle.std.proofs.Common.{◌≡◌, ◌∙◌, Bool, true, false, not, ◌&&◌, ◌==◌, List, [], ◌∷◌, ◌++◌, fold, filter, get_or, refl, sym, ap, subst, Option, None, Some, is_some, IsTrue, All, Contains, true≢false, arith, append-nil, length-append}
+use Rattle.std.specs.Prelude.{AllPairs}
+use Rattle.std.specs.declared.cmp.Ordering.TheVariants.{Less}
+use Rattle.std.specs.Ordering.{is_lt, is_eq, nat_cmp}
+use Rattle.std.specs.Cmp.Lexicographic.{slice_cmp}
+use Rattle.std.specs.List.{flat_map}
+use Rattle.std.specs.Option.{option_map_or, option_or}
+use Rattle.std.specs.Str.{bytes_eq}
+use Rattle.std.proofs.lemmas.Cmp.{nat_list_cmp_total}
+use Rattle.std.proofs.lemmas.Map.Text.{is_eq-slice_cmp}
+use Rattle.std.proofs.lemmas.List.{get_or_append_left}
+use Rattle.std.proofs.lemmas.List.Folds.{find-append}
+use Rattle.std.proofs.lemmas.List.Elements.{All-nil, All-weaker}
+use Rattle.terms.specs.Types.{Text, Id, Hold, Sysmod, Global, a_global, kind_number}
+use Rattle.terms.specs.Rising.{Rises, Splits, with_item}
+use Rattle.terms.specs.Lookups.{is_function}
+use Rattle.terms.specs.Global.{named, names_for, HasLoop, is_service, fits_roles, RolesFit, hold_cmp, hold, IsSysmod, IsGlobal, HasFault, ReceiveFault, Rc1, Rc2, Rc3, Rc4, with_sysmod}
+use Rattle.terms.proofs.Leads.{reaches_more}
+use Rattle.terms.proofs.GlobalKept.{IsOwned}
+use Rattle.terms.proofs.GlobalRoles.{fits-fewer}
+use Rattle.terms.proofs.RisingLists.{AllPairs-parts, Less-from_is_lt, find-over, with_item-new}
+use Rattle.sysmods_received.specs.Held.{found, zone_of}
+use Rattle.sysmods_received.specs.declared.faults.ReceiveFault.{ReceiveFault as Code}
+use Rattle.sysmods_received.specs.declared.faults.ReceiveFault.TheVariants as code
+use Rattle.sysmods_received.specs.Refused.{IsRefusal}
+use Rattle.sysmods.proofs.Receiving.{kept}
+
+-- the front of a list that has something, or that is in order
+All-front : {X : Type 0} (P : X → Type 0) (xs ys : List X) → All P (xs ++ ys) → All P xs
+All-front P xs ys all = λ i d below. subst P (get_or_append_left xs ys d i below) (all i d (omega (arith, below, length-append xs ys)))
+
+Rises-front : {X : Type 0} (R : X → X → Type 0) (xs ys : List X) → AllPairs R (xs ++ ys) → AllPairs R xs
+Rises-front R xs ys all = λ i j d less below.
+    let first = get_or_append_left xs ys d i (omega (arith, less, below)) in
+    let second = get_or_append_left xs ys d j below in
+    subst (λ a. R a (get_or xs j d)) first (subst (R (get_or (xs ++ ys) i d)) second (all i j d less (omega (arith, below, length-append xs ys))))
+
+module _ (xs ys : List Sysmod) where
+  abbrev Whole : Global
+  Whole = zone_of (xs ++ ys)
+
+  abbrev Front : Global
+  Front = zone_of xs
+
+  -- what is found in the front is found in the whole
+  whole-found : (x : Id) (s : Sysmod) → found xs x ≡ Some s → found (xs ++ ys) x ≡ Some s
+  whole-found x s here = find-append (λ r. bytes_eq r.id x) xs ys ∙ ap (λ o. option_or o (found ys x)) here
+
+  function-front : (x : Id) → is_function Whole x ≡ false → is_function Front x ≡ false
+  function-front x none = by (found xs x) refl
+    where
+      is_fn : Option Sysmod → Bool
+      is_fn o = option_map_or (λ s. kind_number s.kind == 0) o false
+
+      by : (o : Option Sysmod) → found xs x ≡ o → is_fn (found xs x) ≡ false
+      by None e = ap is_fn e
+      by (Some s) e = ap is_fn e ∙ sym (ap is_fn (whole-found x s e)) ∙ none
+
+  service-front : (x : Id) → is_service Whole x ≡ false → is_service Front x ≡ false
+  service-front x none = by (found xs x) refl
+    where
+      is_other : Option Sysmod → Bool
+      is_other o = is_some o && not (option_map_or (λ s. kind_number s.kind == 0) o false)
+
+      by : (o : Option Sysmod) → found xs x ≡ o → is_other (found xs x) ≡ false
+      by None e = ap is_other e
+      by (Some s) e = ap is_other e ∙ sym (ap is_other (whole-found x s e)) ∙ none
+
+  names-front : (srel : Text) (y z : Id) → Contains (names_for Front srel y) z → Contains (names_for Whole srel y) z
+  names-front srel y z here = by (found xs y) refl
+    where
+      named_by : Option Sysmod → List Id
+      named_by o = flat_map named (option_map_or (λ s. filter (λ v. bytes_eq v.srel srel) s.vers) o [])
+
+      by : (o : Option Sysmod) → found xs y ≡ o → Contains (named_by (found (xs ++ ys) y)) z
+      by None e = absurd (none (subst (λ o. Contains (named_by o) z) e here))
+        where
+          none : Contains [] z → ⊥
+          none h = omega (arith, h.1)
+      by (Some s) e = subst (λ o. Contains (named_by o) z) (e ∙ sym (whole-found y s e)) here
+
+  -- A loop or a fault of roles in the front is one of the whole.
+  pub loop-front : HasLoop Front → HasLoop Whole
+  loop-front (srel, x, loop) = (srel, x, reaches_more (names_for Front srel) (names_for Whole srel) (names-front srel) x x loop)
+
+  pub roles-front : RolesFit Whole → RolesFit Front
+  roles-front fit =
+      All-front Fits xs ys
+      (All-weaker (λ s. All (λ v. IsTrue (fits_roles Whole v)) s.vers) Fits
+      (λ s all. All-weaker (λ v. IsTrue (fits_roles Whole v)) (λ v. IsTrue (fits_roles Front v)) (fits-fewer Whole Front function-front service-front) s.vers all) (xs ++ ys) fit)
+    where
+      Fits : Sysmod → Type 0
+      Fits s = All (λ v. IsTrue (fits_roles Front v)) s.vers
+
+  pub global-front : IsGlobal Whole → IsGlobal Front
+  global-front g = record {
+    sysmods = Rises-front (λ a b. IsTrue (is_lt (slice_cmp nat_cmp a.id b.id))) xs ys g.sysmods;
+    holds = g.holds;
+    formed = All-front IsSysmod xs ys g.formed;
+    no_loop = λ loop. g.no_loop (loop-front loop);
+    roles = roles-front g.roles;
+    internal = All-nil (IsOwned Front);
+    none_carried = All-front (λ s. s.holds ≡ []) xs ys g.none_carried;
+    size = omega (arith, g.size, length-append xs ys);
+  }
+
+-- all stand before the id
+abbrev pub AreBefore : List Sysmod → Id → Type 0
+AreBefore xs x = All (λ s. IsTrue (is_lt (slice_cmp nat_cmp s.id x))) xs
+
+module _ (xs : List Sysmod) (s : Sysmod) where
+  pub before-last : (ys : List Sysmod) → Rises (slice_cmp nat_cmp) (λ r. r.id) (xs ++ s ∷ ys) → AreBefore xs s.id
+  before-last ys rises = (AllPairs-parts (λ a b. IsTrue (is_lt (slice_cmp nat_cmp a.id b.id))) xs ys s rises).0
+
+  pub new-last : AreBefore xs s.id → found xs s.id ≡ None
+  new-last low =
+      ap (λ rs. found rs s.id) (sym (append-nil xs))
+      ∙ find-over (λ r. bytes_eq r.id s.id) xs []
+      (All-weaker (λ r. IsTrue (is_lt (slice_cmp nat_cmp r.id s.id))) (λ r. bytes_eq r.id s.id ≡ false)
+      (λ r less. sym (is_eq-slice_cmp r.id s.id) ∙ ap is_eq (Less-from_is_lt (slice_cmp nat_cmp r.id s.id) less)) xs low)
+
+  -- it comes in at the end
+  pub item-last : AreBefore xs s.id → (r : Sysmod) → r.id ≡ s.id → with_item (slice_cmp nat_cmp) (λ r. r.id) xs r ≡ xs ++ r ∷ []
+  item-last low r same =
+      ap (λ rs. with_item (slice_cmp nat_cmp) (λ r. r.id) rs r) (sym (append-nil xs))
+      ∙ with_item-new nat_list_cmp_total (λ (r : Sysmod). r.id) xs [] r splits
+    where
+      splits : Splits (slice_cmp nat_cmp) (λ (r : Sysmod). r.id) r.id xs []
+      splits = record {
+        low = All-weaker (λ y. IsTrue (is_lt (slice_cmp nat_cmp y.id s.id))) (λ y. slice_cmp nat_cmp y.id r.id ≡ Less)
+            (λ y less. ap (slice_cmp nat_cmp y.id) same ∙ Less-from_is_lt (slice_cmp nat_cmp y.id s.id) less) xs low;
+        high = λ i d below. absurd (omega arith);
+      }
+
+  module _ (low : AreBefore xs s.id) (none : s.holds ≡ []) where
+    bare : record s { holds = [] } ≡ s
+    bare = ap (λ hs. record s { holds = hs }) (sym none)
+
+    zone-last : with_sysmod (zone_of xs) s ≡ zone_of (xs ++ s ∷ [])
+    zone-last = ap zone_of (item-last low (record s { holds = [] }) refl ∙ ap (λ r. xs ++ r ∷ []) bare)
+
+    -- Where it is refused, it makes no global zone.
+    pub none-refused : IsGlobal (zone_of (xs ++ s ∷ [])) → (f : ReceiveFault) → ¬ HasFault (zone_of xs) s f
+    none-refused g Rc1 fault = true≢false (sym fault ∙ ap is_some (new-last low))
+    none-refused g Rc2 fault = g.no_loop (subst HasLoop zone-last fault)
+    none-refused g Rc3 fault = fault (subst RolesFit (sym zone-last) g.roles)
+    none-refused g Rc4 fault = omega (arith, fault, g.size, length-append xs (s ∷ []))
+
+    -- Where it is not, it makes one.
+    pub global-last : IsGlobal (zone_of xs) → IsSysmod s → ((f : ReceiveFault) → ¬ HasFault (zone_of xs) s f) → IsGlobal (zone_of (xs ++ s ∷ []))
+    global-last g formed no_fault =
+        subst IsGlobal (ap (fold hold (with_sysmod (zone_of xs) s)) none ∙ zone-last) (kept (zone_of xs) s g formed no_fault)
+
+-- Holds beside the SYSMODs of a global zone.
+module _ (xs : List Sysmod) (hs : List Hold) where
+  pub global-holds : IsGlobal (zone_of xs) → Rises hold_cmp (λ h. h) hs → All (IsOwned (zone_of xs)) hs → IsGlobal (a_global xs hs)
+  global-holds g rises owned = record {
+    sysmods = g.sysmods;
+    holds = rises;
+    formed = g.formed;
+    no_loop = g.no_loop;
+    roles = g.roles;
+    internal = owned;
+    none_carried = g.none_carried;
+    size = g.size;
+  }
+
+  pub global-sysmods : IsGlobal (a_global xs hs) → IsGlobal (zone_of xs)
+  global-sysmods g = record {
+    sysmods = g.sysmods;
+    holds = λ i j d less below. absurd (omega (arith, below));
+    formed = g.formed;
+    no_loop = g.no_loop;
+    roles = g.roles;
+    internal = All-nil (IsOwned (zone_of xs));
+    none_carried = g.none_carried;
+    size = g.size;
+  }
+
+-- what a refusal says
+module _ (g : Global) (s : Sysmod) where
+  pub some-fault : (o : Option Code) → IsRefusal g s o → is_some o ≡ true → (f : ReceiveFault) × HasFault g s f
+  some-fault None none some = absurd (true≢false (sym some))
+  some-fault (Some code.Rc1) fault some = (Rc1, fault)
+  some-fault (Some code.Rc2) (first, fault) some = (Rc2, fault)
+  some-fault (Some code.Rc3) (first, second, fault) some = (Rc3, fault)
+  some-fault (Some code.Rc4) (first, second, third, fault) some = (Rc4, fault)
+
+  pub no-fault : (o : Option Code) → IsRefusal g s o → is_some o ≡ false → (f : ReceiveFault) → ¬ HasFault g s f
+  no-fault None none some = none
+  no-fault (Some fault) by some = absurd (true≢false some)

@@ -1,0 +1,97 @@
+//! The SYSMODs and holds of a global zone, out of lists.
+ghost use Rattle.std.specs.Prelude.{◌≡◌, ◌↔◌, ◌++◌, [], ◌∷◌, All, IsTrue, IsSome, IfOk, IfSome};
+ghost use Rattle.std.specs.Ordering.{is_lt, nat_cmp};
+ghost use Rattle.std.specs.Cmp.Lexicographic.{slice_cmp};
+ghost use Rattle.terms.specs.Rising.{Rises};
+ghost use Rattle.terms.specs.Global.{IsGlobal};
+ghost use Rattle.sysmods_received.specs.Held.{zone_of};
+ghost use Rattle.terms.specs.declared.kinds.HoldKind.TheVariants.{System};
+ghost use Rattle.terms.specs.Lookups.{is_received};
+ghost use Rattle.terms.proofs.GlobalKept.{IsOwned};
+
+use std::alloc::{AllocError, Global as Heap};
+use sysmods_received::{Received, refusal};
+use sysmods_records::{Hold, Sysmod};
+use terms::HoldKind;
+
+/// These SYSMODs, if they are those of a global zone: they rise by id and carry no holds, there is no
+/// loop, roles fit, and they are not too many.
+pub(crate) fn received_from(
+    alloc: Heap,
+    sysmods: Vec<Sysmod>,
+) -> Result<Option<Received>, AllocError>
+    ensures some { IfOk result (λ made. IfSome made (λ received. received ≡ sysmods.items)) }
+    ensures none { IfOk result (λ made. IsSome made ↔ IsGlobal (zone_of sysmods.items)) }
+{
+    if !are_rising(sysmods.as_slice()) {
+        return Ok(None);
+    }
+    let mut received = Received::new(alloc);
+    for sysmod in sysmods {
+        if !add_last(alloc, &mut received, sysmod)? {
+            return Ok(None);
+        }
+    }
+    Ok(Some(received))
+}
+
+/// Whether the ids rise, none twice.
+fn are_rising(sysmods: &[Sysmod]) -> bool
+    ensures { IsTrue result ↔ Rises (slice_cmp nat_cmp) (λ s. s.id) sysmods.now }
+{
+    for i in 1..sysmods.len() {
+        if !is_before(&sysmods[i - 1], &sysmods[i]) {
+            return false;
+        }
+    }
+    true
+}
+
+fn is_before(first: &Sysmod, second: &Sysmod) -> bool
+    ensures { result ≡ is_lt (slice_cmp nat_cmp first.now.id second.now.id) }
+{
+    first.id < second.id
+}
+
+/// Takes in a SYSMOD that stands behind all others, if they are those of a global zone with it.
+fn add_last(alloc: Heap, received: &mut Received, sysmod: Sysmod) -> Result<bool, AllocError>
+    requires global { IsGlobal (zone_of received.old) }
+    requires last { All (λ s. IsTrue (is_lt (slice_cmp nat_cmp s.id sysmod.id))) received.old }
+    ensures fits { IfOk result (λ fits. IsTrue fits ↔ IsGlobal (zone_of (received.old ++ sysmod ∷ []))) }
+    ensures ok { IfOk result (λ fits. IsTrue fits → received.new ≡ received.old ++ sysmod ∷ []) }
+{
+    if !carries_none(&sysmod) {
+        return Ok(false);
+    }
+    if refusal(alloc, received, &sysmod)?.is_some() {
+        return Ok(false);
+    }
+    sysmod.known();
+    drop(received.insert(sysmod)?);
+    Ok(true)
+}
+
+fn carries_none(sysmod: &Sysmod) -> bool
+    ensures { IsTrue result ↔ (sysmod.now.holds ≡ []) }
+{
+    sysmod.holds.is_empty()
+}
+
+/// Whether each internal hold is a SYSTEM hold of a received SYSMOD.
+pub(crate) fn are_owned(received: &Received, holds: &[Hold]) -> bool
+    ensures { IsTrue result ↔ All (IsOwned (zone_of received.now)) holds.now }
+{
+    holds.iter().all(|hold| is_owned(received, hold))
+}
+
+fn is_owned(received: &Received, hold: &Hold) -> bool
+    ensures { IsTrue result ↔ IsOwned (zone_of received.now) hold.now }
+{
+    !hold.internal || is_system_hold(received, hold)
+}
+
+fn is_system_hold(received: &Received, hold: &Hold) -> bool
+    ensures { IsTrue result ↔ (hold.now.kind ≡ System) × IsTrue (is_received (zone_of received.now) hold.now.id) }
+{
+    hold.kind == HoldKind::System && received.contains(hold.id)
+}

@@ -1,0 +1,222 @@
+//! The received SYSMODs and the holds.
+ghost use Rattle.std.specs.Prelude.{◌≡◌, ◌↔◌, ◌<◌, ◌^◌, [], List, length, Ok, Err, IsTrue, IsOk, IfOk, IfErr, OnOk, OnErr, option_copied, if◌then◌else◌};
+ghost use Rattle.std.specs.Map.Iter.{ShowsInOrder, deref};
+ghost use Rattle.terms.specs.declared.kinds.HoldKind.TheVariants.{System};
+ghost use Rattle.terms.specs.Types.{Id as AnId};
+ghost use Rattle.terms.specs.Lookups.{sysmod_of, is_received, is_function, holds_of};
+ghost use Rattle.terms.specs.Global.{IsGlobal, hold_of, is_replacing, hold as with_hold, release as released, assign as assigned, without_sysmod};
+ghost use Rattle.terms.specs.Types.{a_global};
+ghost use Rattle.sysmods.specs.Faults.{IsReceived, a_release, release_fault};
+ghost use Rattle.sysmods.specs.Parts.{IsMadeOf};
+
+use crate::parts::{are_owned, received_from};
+use crate::receive::take_in;
+use fields::{Id, Reason, Source};
+use std::alloc::{AllocError, Global as Heap};
+use std::collections::btree_map::Values;
+use std::marker::Model;
+use sysmods_holds::{Holds, Placed, ReleaseError};
+use sysmods_received::{ReceiveFault, Received, refusal};
+use sysmods_records::{Hold, Sysmod};
+use terms::{HoldKind, Kind};
+use thiserror::Error;
+
+/// Why a SYSMOD is not rejected. Whether a zone has it applied is asked where the zones are.
+#[derive(Clone, Copy, Debug, PartialEq, Eq, Error)]
+pub enum RejectError {
+    #[error("the SYSMOD is not received")]
+    NotReceived,
+}
+
+/// The global zone: what was received. SYSMODs rise by id, and holds by id, kind and reason.
+#[derive(Drop)]
+pub struct Global {
+    sysmods: Received,
+    holds: Holds,
+}
+
+impl Model for Global {
+    ghost use Rattle.terms.specs.Types.{Global as AGlobal};
+
+    ghost Value = { AGlobal };
+
+    ghost use Rattle.terms.specs.Types.{a_global};
+    ghost use Rattle.terms.specs.Global.{IsGlobal};
+
+    ghost view = { λ g. a_global g.sysmods g.holds };
+
+    ghost invariant = { λ g. IsGlobal (a_global g.sysmods g.holds) };
+}
+
+impl Global {
+    pub fn new(alloc: Heap) -> Self
+        ensures sysmods { result.sysmods ≡ [] }
+        ensures holds { result.holds ≡ [] }
+    {
+        Global {
+            sysmods: Received::new(alloc),
+            holds: Holds::new(alloc),
+        }
+    }
+
+    /// The global zone of these SYSMODs and holds, if they are those of one.
+    pub fn from_parts(
+        alloc: Heap,
+        sysmods: Vec<Sysmod>,
+        holds: Vec<Hold>,
+    ) -> Result<Option<Self>, AllocError>
+        ensures { IfOk result (IsMadeOf (a_global sysmods.items holds.items)) }
+    {
+        let Some(sysmods) = received_from(alloc, sysmods)? else {
+            return Ok(None);
+        };
+        if !are_owned(&sysmods, holds.as_slice()) {
+            return Ok(None);
+        }
+        let Some(holds) = Holds::from_vec(alloc, holds)? else {
+            return Ok(None);
+        };
+        Ok(Some(Global { sysmods, holds }))
+    }
+
+    /// What holds of each global zone. The call does nothing.
+    pub fn known(&self)
+        ensures { IsGlobal self.now }
+    {
+        let _ = &self.holds;
+    }
+
+    /// How many SYSMODs are received.
+    pub fn len(&self) -> usize
+        ensures { result ≡ length self.now.sysmods }
+    {
+        self.sysmods.len()
+    }
+
+    pub fn is_empty(&self) -> bool
+        ensures { IsTrue result ↔ (self.now.sysmods ≡ []) }
+    {
+        self.sysmods.len() == 0
+    }
+
+    /// The received SYSMODs, in order.
+    pub fn sysmods(&self) -> Values<'_, Id, Sysmod>
+        ensures rest { result ≡ self.now.sysmods }
+        ensures runs { ShowsInOrder (deref {X = Sysmod}) }
+    {
+        self.sysmods.iter()
+    }
+
+    /// The holds, in order.
+    pub fn holds(&self) -> sysmods_holds::Iter<'_>
+        ensures rest { result ≡ self.now.holds }
+        ensures fits { length result < 2 ^ 63 }
+    {
+        self.holds.iter()
+    }
+
+    /// The received SYSMOD of this id.
+    pub fn get(&self, id: Id) -> Option<&Sysmod>
+        ensures { option_copied result ≡ sysmod_of self.now id }
+    {
+        self.sysmods.get(id)
+    }
+
+    pub fn is_received(&self, id: Id) -> bool
+        ensures { result ≡ is_received self.now id }
+    {
+        self.get(id).is_some()
+    }
+
+    pub fn is_function(&self, id: Id) -> bool
+        ensures { result ≡ is_function self.now id }
+    {
+        match self.get(id) {
+            Some(sysmod) => sysmod.kind == Kind::Function,
+            None => false,
+        }
+    }
+
+    pub fn hold_of(&self, id: Id, kind: HoldKind, reason: Reason) -> Option<&Hold>
+        ensures { option_copied result ≡ hold_of self.now id kind reason }
+    {
+        self.holds.get(id, kind, reason)
+    }
+
+    /// The holds of a kind on an id, which need not be received.
+    pub fn holds_of(&self, kind: HoldKind, id: Id) -> sysmods_holds::Iter<'_>
+        ensures rest { result ≡ holds_of self.now kind id }
+        ensures fits { length result < 2 ^ 63 }
+    {
+        self.holds.of(id, kind)
+    }
+
+    /// RECEIVE of one SYSMOD, whose holds come in among the others. Answers the first fault by which it
+    /// is refused, if there is one.
+    pub fn receive(
+        &mut self,
+        alloc: Heap,
+        sysmod: Sysmod,
+    ) -> Result<Option<ReceiveFault>, AllocError>
+        ensures answer { IfOk result (IsReceived self.old sysmod self.new) }
+        ensures err { OnErr result (self.new ≡ self.old) }
+    {
+        match refusal(alloc, &self.sysmods, &sysmod)? {
+            Some(fault) => Ok(Some(fault)),
+            None => {
+                sysmod.known();
+                take_in(&mut self.sysmods, &mut self.holds, alloc, sysmod)?;
+                Ok(None)
+            }
+        }
+    }
+
+    /// Puts a hold in place of the one of its key, whose mark as internal stays.
+    pub fn hold(&mut self, hold: Hold) -> Result<Placed, AllocError>
+        requires { IsTrue hold.internal → (hold.kind ≡ System) × IsTrue (is_received self.old hold.id) }
+        ensures placed { IfOk result
+            (λ placed. placed ≡ (if is_replacing self.old hold then Placed.Replaced else Placed.New)) }
+        ensures ok { OnOk result (self.new ≡ with_hold self.old hold) }
+        ensures err { OnErr result (self.new ≡ self.old) }
+    {
+        self.holds.put(hold)
+    }
+
+    /// Takes away a hold that is not internal.
+    pub fn release(&mut self, id: Id, kind: HoldKind, reason: Reason) -> Result<(), ReleaseError>
+        ensures ok { OnOk result
+            ((fmid : AnId) → released self.old (a_release id kind reason fmid) ≡ Ok self.new) }
+        ensures refused { IfErr result
+            (λ e. (fmid : AnId)
+            → released self.old (a_release id kind reason fmid) ≡ Err (release_fault e)) }
+        ensures err { OnErr result (self.new ≡ self.old) }
+    {
+        self.holds.release(id, kind, reason)
+    }
+
+    /// Gives a received SYSMOD the source, and answers whether the id is received. If it is not, nothing
+    /// changes.
+    pub fn assign(&mut self, source: Source, id: Id) -> Result<bool, AllocError>
+        ensures received { IfOk result (λ there. there ≡ is_received self.old id) }
+        ensures ok { OnOk result (self.new ≡ assigned self.old source id) }
+        ensures err { OnErr result (self.new ≡ self.old) }
+    {
+        let there = self.is_received(id);
+        self.sysmods.add_source(id, source)?;
+        Ok(there)
+    }
+
+    /// Takes a received SYSMOD out, and with it the holds on it that are marked as internal.
+    pub fn reject(&mut self, id: Id) -> Result<(), RejectError>
+        ensures received { IsOk result ↔ IsTrue (is_received self.old id) }
+        ensures ok { OnOk result (self.new ≡ without_sysmod self.old id) }
+        ensures err { OnErr result (self.new ≡ self.old) }
+    {
+        if !self.is_received(id) {
+            return Err(RejectError::NotReceived);
+        }
+        drop(self.sysmods.remove(id));
+        self.holds.drop_internal(id);
+        Ok(())
+    }
+}

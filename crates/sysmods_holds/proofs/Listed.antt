@@ -1,0 +1,46 @@
+-- Holds that rise, put one after another, are their list.
+use Rattle.std.proofs.Common.{◌≡◌, ◌∙◌, Bool, true, false, ◌||◌, List, [], ◌∷◌, ◌++◌, refl, sym, ap, subst, None, find, append_assoc, append-nil, arith}
+use Rattle.std.specs.Prelude.{All, IsTrue}
+use Rattle.std.specs.declared.cmp.Ordering.TheVariants.{Less}
+use Rattle.std.specs.Ordering.{is_lt, is_eq, ordering_reverse}
+use Rattle.std.proofs.lemmas.List.Elements.{All-weaker}
+use Rattle.terms.specs.Types.{Hold}
+use Rattle.terms.specs.Global.{has_key, hold_cmp, marked}
+use Rattle.terms.specs.Rising.{Rises, Splits, with_item}
+use Rattle.terms.proofs.GlobalKept.{hold_cmp_total}
+use Rattle.terms.proofs.HoldOrder.{has_key-ties}
+use Rattle.terms.proofs.RisingLists.{AllPairs-parts, Less-from_is_lt, find-over, with_item-new}
+use Rattle.sysmods_holds.specs.Lists.{held, with_hold, with_holds}
+
+unmarked : (h : Hold) → marked None h ≡ h
+unmarked h = ap (λ b. record h { internal = b }) (by h.internal)
+  where
+    by : (b : Bool) → (b || false) ≡ b
+    by true = refl
+    by false = refl
+
+-- one that stands behind all others comes in at the end
+with_hold-last : (front : List Hold) (h : Hold) → All (λ y. IsTrue (is_lt (hold_cmp y h))) front → with_hold front h ≡ front ++ h ∷ []
+with_hold-last front h low =
+    let apart : All (λ y. has_key h.id h.kind h.reason y ≡ false) front =
+    All-weaker (λ y. IsTrue (is_lt (hold_cmp y h))) (λ y. has_key h.id h.kind h.reason y ≡ false)
+    (λ y less. sym (has_key-ties h.id h.kind h.reason y) ∙ ap is_eq (hold_cmp_total.antisymm h y ∙ ap ordering_reverse (Less-from_is_lt (hold_cmp y h) less))) front low in
+    let none : held front h.id h.kind h.reason ≡ None =
+    ap (find (has_key h.id h.kind h.reason)) (sym (append-nil front)) ∙ find-over (has_key h.id h.kind h.reason) front [] apart in
+    let splits : Splits hold_cmp (λ (o : Hold). o) h front [] = record {
+      low = All-weaker (λ y. IsTrue (is_lt (hold_cmp y h))) (λ y. hold_cmp y h ≡ Less) (λ y less. Less-from_is_lt (hold_cmp y h) less) front low;
+      high = λ i d below. absurd (omega arith);
+    } in
+    ap (λ was. with_item hold_cmp (λ o. o) front (marked was h)) none
+    ∙ ap (λ one. with_item hold_cmp (λ o. o) front one) (unmarked h)
+    ∙ ap (λ xs. with_item hold_cmp (λ o. o) xs h) (sym (append-nil front))
+    ∙ with_item-new hold_cmp_total (λ (o : Hold). o) front [] h splits
+
+pub with_holds-rising : (front hs : List Hold) → Rises hold_cmp (λ h. h) (front ++ hs) → with_holds front hs ≡ front ++ hs
+with_holds-rising front [] rises = sym (append-nil front)
+with_holds-rising front (h ∷ hs) rises =
+    let low = (AllPairs-parts (λ a b. IsTrue (is_lt (hold_cmp a b))) front hs h rises).0 in
+    let whole : (front ++ h ∷ []) ++ hs ≡ front ++ h ∷ hs = append_assoc front (h ∷ []) hs in
+    ap (λ xs. with_holds xs hs) (with_hold-last front h low)
+    ∙ with_holds-rising (front ++ h ∷ []) hs (subst (Rises hold_cmp (λ h. h)) (sym whole) rises)
+    ∙ whole

@@ -1,0 +1,7 @@
+use Rattle.std.proofs.Common.{take}
+use Rattle.std.specs.List.{list_any}
+use Rattle.sysmods_received.specs.Index.{HasAll, Grows, mentions}
+use Rattle.sysmods_received.proofs.index.Index.add_sysmod.Given as goal
+
+abbrev pub invariant-loop-ver : goal.invariant-loop-ver
+invariant-loop-ver l = record { has : HasAll l.self.sets l.fn.sysmod.id (λ z. list_any (λ v. mentions v z) (take l.ver-index l.ver-items)); grows : Grows l.fn.self.sets l.self.sets }

@@ -1,0 +1,106 @@
+//! Copies of SYSMODs.
+ghost use Rattle.std.specs.Prelude.{◌≡◌, IfOk};
+ghost use Rattle.sysmods_records.specs.Views.{action_of};
+
+use crate::{Action, ElemChange, Hold, IfReq, Sysmod, Ver};
+use std::alloc::{AllocError, Global};
+
+/// What is copied into memory of its own.
+pub(crate) trait TryClone: Drop {
+    fn try_clone(&self, alloc: Global) -> Result<Self, AllocError>
+        ensures { IfOk result (λ copy. copy ≡ self.now) };
+}
+
+fn copy_all<T: TryClone>(alloc: Global, items: &[T]) -> Result<Vec<T>, AllocError>
+    ensures { IfOk result (λ copies. copies.items ≡ items.now) }
+{
+    let mut copies = Vec::new(alloc);
+    for item in items {
+        copies.push(item.try_clone(alloc)?)?;
+    }
+    Ok(copies)
+}
+
+impl TryClone for IfReq {
+    fn try_clone(&self, alloc: Global) -> Result<Self, AllocError> {
+        Ok(IfReq {
+            function: self.function,
+            req: self.req.try_clone(alloc)?,
+        })
+    }
+}
+
+impl TryClone for Ver {
+    fn try_clone(&self, alloc: Global) -> Result<Self, AllocError> {
+        Ok(Ver {
+            srel: self.srel,
+            fmid: self.fmid,
+            pre: self.pre.try_clone(alloc)?,
+            req: self.req.try_clone(alloc)?,
+            sup: self.sup.try_clone(alloc)?,
+            npre: self.npre.try_clone(alloc)?,
+            del: self.del.try_clone(alloc)?,
+            ifs: copy_all(alloc, self.ifs.as_slice())?,
+        })
+    }
+}
+
+fn copy_action(alloc: Global, action: &Action) -> Result<Action, AllocError>
+    ensures { IfOk result (λ copy. action_of copy ≡ action_of action.now) }
+{
+    match action {
+        Action::Replaces {
+            distlib,
+            syslib,
+            lines,
+        } => Ok(Action::Replaces {
+            distlib: *distlib,
+            syslib: *syslib,
+            lines: Vec::from_slice(alloc, lines.as_slice())?,
+        }),
+        Action::Updates { lines } => Ok(Action::Updates {
+            lines: Vec::from_slice(alloc, lines.as_slice())?,
+        }),
+    }
+}
+
+impl TryClone for ElemChange {
+    fn try_clone(&self, alloc: Global) -> Result<Self, AllocError> {
+        Ok(ElemChange {
+            elem_type: self.elem_type,
+            name: self.name,
+            action: copy_action(alloc, &self.action)?,
+        })
+    }
+}
+
+impl TryClone for Hold {
+    fn try_clone(&self, _alloc: Global) -> Result<Self, AllocError> {
+        Ok(Hold {
+            id: self.id,
+            kind: self.kind,
+            reason: self.reason,
+            fmid: self.fmid,
+            class: self.class,
+            date: self.date,
+            comment: self.comment.clone()?,
+            internal: self.internal,
+        })
+    }
+}
+
+impl Sysmod {
+    /// A copy, with the holds that came inside it.
+    pub fn try_clone(&self, alloc: Global) -> Result<Self, AllocError>
+        ensures { IfOk result (λ copy. copy ≡ self.now) }
+    {
+        Ok(Sysmod {
+            id: self.id,
+            kind: self.kind,
+            sources: self.sources.try_clone(alloc)?,
+            vers: copy_all(alloc, self.vers.as_slice())?,
+            changes: copy_all(alloc, self.changes.as_slice())?,
+            holds: copy_all(alloc, self.holds.as_slice())?,
+        })
+    }
+}
