@@ -53,7 +53,7 @@ impl<'a> VerChoice<'a> {
         self.fmid(id).unwrap_or(id)
     }
 
-    /// The id, its FMID, that one's FMID and so on.
+    /// The id, and all that the walk from FMID to FMID meets.
     pub fn chain(&self, id: Id) -> Chain<'a>
         ensures { result ≡ chain self.now.global.now (choice self.now) id }
     {

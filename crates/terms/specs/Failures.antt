@@ -30,7 +30,7 @@ module _ (cands kept : List Id) (Eligible : Id → Type 0) (Needs : Id → NeedK
   abbrev pub HasBareNeed : Id → Type 0
   HasBareNeed x = (kind : NeedKind) × (z : Id) × Needs x kind z × ((y : Id) → Contains cands y → ¬ Serves kind y z)
 
-  -- a root has failed, and is not eligible or has a need that no candidate serves
+  -- a root has failed for a reason of its own: it is not eligible, or nobody serves a need of it
   pub record IsRoot (x : Id) : Type 0 where
     pub failed : HasFailed x
     pub why : (¬ Eligible x) ⊎ HasBareNeed x

@@ -56,7 +56,7 @@ replaced i r type name distlib syslib lines = record {
 
 -- One element, by type and name.
 module _ (i : Installing) (type : ElemType) (name : Text) where
-  -- r is installed and replaces the element, and is over each other one that does
+  -- r is installed, replaces the element, and is over all other installed ones that replace it
   pub record IsReplacer (r : Id) : Type 0 where
     pub installed : IsInstalled i r
     pub replaces : IsTrue (has_replacement i.global r type name)

@@ -103,7 +103,8 @@ abbrev pub IsStatement : List (List ℕ) → List Piece → List (List ℕ) → 
 IsStatement records pieces inline =
     (ps : List Piece) × (tail : Text) × Ends records ps tail inline × IsIdle tail × (pieces ≡ solid ps)
 
--- St1: no period. St2: an open comment. St3: parentheses that do not pair or are too deep. St4: text after the period.
+-- St1: nothing ends it. St2: a comment stays open. St3: a parenthesis without its partner, or a third level of them.
+-- St4: more than gaps stand behind its period.
 pub data StFault : Type 0 where
   St1 : StFault
   St2 : StFault

@@ -75,7 +75,7 @@ pub record IsVerOf (s : Sysmod) (own : Option Text) (operands : List Word) (v : 
   pub others : All (λ ids. ¬ Contains ids s.id) (lists_of v)
   pub no_ifs : v.ifs ≡ []
 
--- ++IF FMID(id) THEN REQ(ids), in this order. The FMID may be the SYSMOD itself; the list does not name it.
+-- ++IF FMID(id) THEN REQ(ids): no other order will do. The FMID may be the SYSMOD itself; the list does not name it.
 pub record IsIfOf (s : Sysmod) (own : Option Text) (operands : List Word) (i : IfReq) : Type 0 where
   pub fmid : Word
   pub req : Word
@@ -111,7 +111,7 @@ HasAction word.UpdateMac operands inline (Updates text) = (operands ≡ []) × (
 HasAction word.UpdateSrc operands inline (Updates text) = (operands ≡ []) × (text ≡ inline)
 HasAction _ operands inline action = ⊥
 
--- ++MAC(name) DISTLIB(name) SYSLIB(name), and the same for the other types; ++MACUPD(name) and ++SRCUPD(name)
+-- ++MAC(name) DISTLIB(name) SYSLIB(name), or so with another type's word; ++MACUPD(name) and ++SRCUPD(name)
 pub record IsChangeOf (w : StatementWord) (own : Option Text) (operands : List Word) (inline : Lines) (c : Change) : Type 0 where
   pub type_is : changed_type w ≡ Some c.elem_type
   pub name : HasOwn IsName own c.name

@@ -133,8 +133,7 @@ impl Zone {
         self.elements.get((elem_type, name))
     }
 
-    /// Whether the id is applied, in a distribution zone accepted. An id that is looked for as an
-    /// FMID is supplied only so.
+    /// Whether the id is applied, in a distribution zone accepted. Nothing else supplies an FMID.
     pub fn is_applied(&self, id: Id) -> bool
         ensures { result ≡ is_applied self.now id }
     {
