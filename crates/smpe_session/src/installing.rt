@@ -107,6 +107,7 @@ impl Session {
         }
     }
 
+    /// With CHECK the changed zone is made too, since it is what shows that the lines are an APPLY's, and let go.
     pub(crate) fn install<S: Alter>(
         &mut self,
         alloc: Heap,
