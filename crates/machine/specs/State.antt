@@ -87,7 +87,8 @@ is_free zones name =
     option_map_or (λ z. zone_number z.kind == zone_number Distribution) (zone_named zones name) false
     && not (is_related zones name)
 
--- whether the related zone is as the kind asks: a free distribution zone for a target zone, and none for a distribution zone
+-- whether the related zone is as the kind asks: a free distribution zone for a target zone, and none for a distribution
+-- zone
 abbrev pub has_right_related : List NamedZone → ZoneKind → Option Text → Bool
 has_right_related zones Target related = option_map_or (is_free zones) related false
 has_right_related zones Distribution related = not (is_some related)

@@ -1,6 +1,6 @@
 -- Which SYSMODs an APPLY or ACCEPT takes up.
--- (IBM z/OS SMP/E Commands, the APPLY command and the ACCEPT command: FUNCTIONS, PTFS, APARS, USERMODS, SELECT, EXCLUDE,
--- SOURCEID, FORFMID, GROUP and GROUPEXTEND. How these combine is this project's profile.)
+-- (IBM z/OS SMP/E Commands, the APPLY command and the ACCEPT command: FUNCTIONS, PTFS, APARS, USERMODS, SELECT,
+-- EXCLUDE, SOURCEID, FORFMID, GROUP and GROUPEXTEND. How these combine is this project's profile.)
 use Rattle.std.specs.Prelude.{◌≡◌, ◌⊎◌, ◌↔◌, ◌&&◌, ◌||◌, Bool, false, not, List, [], ◌∷◌, ◌++◌, Option, None, Some, filter, map, is_some, IsTrue, Contains, if◌then◌else◌}
 use Rattle.std.specs.List.{flat_map}
 use Rattle.std.specs.Option.{option_map_or}

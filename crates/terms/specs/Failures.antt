@@ -1,5 +1,6 @@
--- Why candidates that are not kept are not: the needs that stay open, and the causers. APPLY and ACCEPT, and RESTORE, each have
--- their own eligible ids, needs and what serves a need. (Causers are this project's; SMP/E's CAUSER SYSMOD report is their model.)
+-- Why candidates that are not kept are not: the needs that stay open, and the causers. APPLY and ACCEPT, and RESTORE,
+-- each have their own eligible ids, needs and what serves a need. (Causers are this project's; SMP/E's CAUSER SYSMOD
+-- report is their model.)
 use Rattle.std.specs.Prelude.{◌≡◌, ◌⊎◌, List, [], ◌∷◌, Contains}
 use Rattle.terms.specs.declared.codes.NeedKind.{NeedKind}
 use Rattle.terms.specs.Types.{Id}

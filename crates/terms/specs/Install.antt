@@ -1,6 +1,6 @@
 -- What APPLY and ACCEPT make of the zone, given the kept set.
--- (IBM z/OS SMP/E Commands, APPLY and ACCEPT processing; Reference, SYSMOD entry and element entry of target and distribution
--- zones. What DELETE takes out is this project's profile.)
+-- (IBM z/OS SMP/E Commands, APPLY and ACCEPT processing; Reference, SYSMOD entry and element entry of target and
+-- distribution zones. What DELETE takes out is this project's profile.)
 use Rattle.std.specs.Prelude.{◌≡◌, ◌≢◌, ◌⊎◌, ◌↔◌, ◌&&◌, ℕ, List, [], Option, None, Some, filter, is_some, IsTrue, IsFalse, IfSome, Contains, slice_get, if◌then◌else◌}
 use Rattle.terms.specs.declared.kinds.ElemType.{ElemType}
 use Rattle.terms.specs.Types.{Text, Id, Lines, Change, Replaces, Updates, Global, Element, Zone}

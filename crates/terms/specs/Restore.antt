@@ -99,8 +99,8 @@ pub record MayBeRestored (r : Restoring) (ids : List Id) (x : Id) : Type 0 where
 abbrev pub IsRestored : Restoring → List Id → Id → Type 0
 IsRestored r ids x = StaysKept (MayBeRestored r ids) (NeedsInRestore r (is_in ids)) (Serves r.choice) x
 
--- The target zone afterwards. A kept SYSMOD is applied no more, waives nothing and leaves every SUPBY. The elements of what
--- is taken off are the distribution zone's, or go where it has none.
+-- The target zone afterwards. A kept SYSMOD is applied no more, waives nothing and leaves every SUPBY. The elements of
+-- what is taken off are the distribution zone's, or go where it has none.
 pub record Restores (r : Restoring) (kept : List Id) (new : Zone) : Type 0 where
   pub rest : new ≡ record r.zone { entries = new.entries; elements = new.elements }
   pub is_zone : IsZone new

@@ -1,5 +1,6 @@
--- The form of each statement of PTFIN: its word, its operands, its text and what it says. (IBM z/OS SMP/E Reference, MCS:
--- ++FUNCTION, ++PTF, ++APAR, ++USERMOD, ++VER, ++IF, ++HOLD, ++ASSIGN, ++MAC, ++SRC, the data elements, ++MACUPD and ++SRCUPD.)
+-- The form of each statement of PTFIN: its word, its operands, its text and what it says. (IBM z/OS SMP/E Reference,
+-- MCS: ++FUNCTION, ++PTF, ++APAR, ++USERMOD, ++VER, ++IF, ++HOLD, ++ASSIGN, ++MAC, ++SRC, the data elements, ++MACUPD
+-- and ++SRCUPD.)
 use Rattle.std.specs.Prelude.{◌≡◌, ◌≢◌, List, [], ◌∷◌, ◌++◌, All, Contains, Option, Some, None, IsSome, IsSomeAnd, IsTrue, codes}
 use Rattle.terms.specs.declared.kinds.Kind.{Kind}
 use Rattle.terms.specs.declared.kinds.Kind.TheVariants.{Function}
@@ -60,7 +61,8 @@ SuitsKind _ operands =
 abbrev pub lists_of : Ver → List (List Id)
 lists_of v = v.pre ∷ v.req ∷ v.sup ∷ v.npre ∷ v.del ∷ []
 
--- ++VER(srel) [FMID(id)] [PRE(ids)] [REQ(ids)] [SUP(ids)] [NPRE(ids)] [DELETE(ids)], where no operand names the SYSMOD itself
+-- ++VER(srel) [FMID(id)] [PRE(ids)] [REQ(ids)] [SUP(ids)] [NPRE(ids)] [DELETE(ids)], where no operand names the SYSMOD
+-- itself
 pub record IsVerOf (s : Sysmod) (own : Option Text) (operands : List Word) (v : Ver) : Type 0 where
   pub srel : HasOwn IsSrel own v.srel
   pub are_operands : AreOperands ver_operands operands
