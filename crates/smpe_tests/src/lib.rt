@@ -1,4 +1,4 @@
-//! Whole jobs, by the bytes that they read and those that they print, in memory and on disks in memory. Tests alone.
+//! Whole jobs, from the bytes in to the bytes out, in memory and on disks in memory. There is no code here but tests.
 #![tactic(auto)]
 
 #[cfg(test)]

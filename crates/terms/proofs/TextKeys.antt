@@ -1,6 +1,5 @@
 -- Maps and sets whose keys are texts, as ids and names: what they have at a key, and that their keys rise.
--- The key of a map is seen as its text: `get (slice_cmp nat_cmp) m k` for a BTreeMap, `get bytes_eq m k` for an
--- IndexMap.
+-- The key of a map is seen as its text: `get (slice_cmp nat_cmp) m k` for a BTreeMap, `get bytes_eq m k` for an IndexMap.
 use Rattle.std.proofs.Common.{◌≡◌, ◌∙◌, sym, refl, ap, cond, Bool, List, [], ◌∷◌}
 use Rattle.std.specs.Prelude.{All, find, Some}
 use Rattle.std.specs.Ordering.{nat_cmp}
