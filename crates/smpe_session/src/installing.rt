@@ -107,7 +107,6 @@ impl Session {
         }
     }
 
-    /// With CHECK the changed zone is made too, since it is what shows that the lines are an APPLY's, and let go.
     pub(crate) fn install<S: Alter>(
         &mut self,
         alloc: Heap,
@@ -134,6 +133,7 @@ impl Session {
                     &install.selection,
                     date,
                 )?;
+                // The changed zone was made all the same: it shows that the lines are an APPLY's.
                 if install.check {
                     return Ok(Outcome::Ran { header, lines });
                 }
