@@ -20,6 +20,7 @@ pub enum ZoneFault {
     TooMany,
 }
 
+/// Why a zone was not defined.
 #[derive(Clone, Copy, Debug, PartialEq, Eq, Error)]
 pub enum ZoneError {
     #[error("{0}")]

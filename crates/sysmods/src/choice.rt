@@ -21,6 +21,7 @@ pub struct VerChoice<'a> {
 }
 
 impl<'a> VerChoice<'a> {
+    /// The choice of the `++VER`s for one SREL.
     pub fn new(global: &'a Global, srel: Srel) -> Self
         ensures global { result.global.now ≡ global.now }
         ensures srel { result.srel ≡ srel }
