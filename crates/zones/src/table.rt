@@ -40,7 +40,6 @@ impl<T: Keyed> Model for Table<T> {
 }
 
 impl<T: Keyed> Table<T> {
-    /// A table of nothing.
     pub fn new(alloc: Global) -> Self
         ensures { result ≡ [] }
     {
@@ -63,7 +62,6 @@ impl<T: Keyed> Table<T> {
         Some(Table { items })
     }
 
-    /// Its items, rising by key.
     pub fn into_vec(self) -> Vec<T>
         ensures items { result.items ≡ self }
         ensures rising { Rises T.Key.cmp T.key_of result.items }
@@ -71,7 +69,6 @@ impl<T: Keyed> Table<T> {
         self.items
     }
 
-    /// Its items, rising by key.
     pub fn as_slice(&self) -> &[T]
         ensures items { result.now ≡ self.now }
         ensures rising { Rises T.Key.cmp T.key_of result.now }
@@ -79,7 +76,6 @@ impl<T: Keyed> Table<T> {
         self.items.as_slice()
     }
 
-    /// The item of this key.
     pub fn get(&self, key: T::Key) -> Option<&T>
         ensures { option_copied result ≡ find (λ x. T.Key.eq (T.key_of x) key) self.now }
     {
@@ -89,7 +85,6 @@ impl<T: Keyed> Table<T> {
         }
     }
 
-    /// A table of the same items.
     pub fn try_clone(&self, alloc: Global) -> Result<Self, AllocError>
         ensures { IfOk result (λ copy. copy ≡ self.now) }
     {
