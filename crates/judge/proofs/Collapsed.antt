@@ -1,5 +1,5 @@
--- The tests of candidates that are all installable: they look at the zone itself, and only those on elements, on ACCEPT
--- and on shared elements can fail.
+-- The tests of candidates that are all installable: they look at the zone itself, and only those on elements, on ACCEPT and on
+-- shared elements can fail.
 use Rattle.std.proofs.Common.{◌≡◌, ◌≢◌, ◌⊎◌, inl, inr, zero, suc, Bool, true, false, not, List, [], ◌∷◌, Option, None, Some, IsTrue, refl, sym, ap, ◌∙◌, subst, true≢false, filter, find, Contains, cond, arith, eq-eqb}
 use Rattle.std.specs.Prelude.{All, Any, is_some, unwrap_or, ◌↔◌, ◌==◌, ◌&&◌}
 use Rattle.std.specs.List.{list_all}

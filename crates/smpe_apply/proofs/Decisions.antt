@@ -1,5 +1,4 @@
--- What an APPLY decides, from what its parts answer: the kept ones may be installed together, and the lines are those
--- of the decision.
+-- What an APPLY decides, from what its parts answer: the kept ones may be installed together, and the lines are those of the decision.
 use Rattle.std.proofs.Common.{◌≡◌, ◌≢◌, ◌⊎◌, inl, inr, Bool, true, false, not, List, [], ◌∷◌, ◌++◌, Option, None, Some, IsTrue, filter, map, get_or, refl, sym, ap, ◌∙◌, subst, true≢false}
 use Rattle.std.specs.Prelude.{◌↔◌, ◌&&◌, ◌==◌, All, Contains, IsPermutation, is_some, unwrap_or, if◌then◌else◌}
 use Rattle.std.specs.Str.{bytes_eq}

@@ -46,8 +46,7 @@ module _ {A B : Type 0} (f : A → List B) (p : B → Bool) where
       ap (λ ys. news ++ ys) (filter-append p (f z) (flat_map f (before ++ a ∷ after)) ∙ ap (λ ys. ys ++ rest) first.0) in
       subst (IsPermutation (f z ++ flat_map f (before ++ b ∷ after))) (sym all) (IsPermutation-trans _ _ _ (IsPermutation-append_right (f z) _ _ later) (moved_front (f z) news rest))
 
-  -- one element becomes another, of which some rows are new and the others are left, and all rows of the other elements
-  -- are left
+  -- one element becomes another, of which some rows are new and the others are left, and all rows of the other elements are left
   pub changed : (before : List A) (a b : A) (after : List A) (news : List B) → AllByRecursion (λ x. filter p (f x) ≡ f x) (before ++ after)
       → IsPermutation (f b) (news ++ filter p (f a)) → IsPermutation (flat_map f (before ++ b ∷ after)) (news ++ filter p (flat_map f (before ++ a ∷ after)))
   changed before a b after news pass = changed_by before a b after news (all_left _ before after pass) (all_right _ before after pass)

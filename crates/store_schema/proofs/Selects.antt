@@ -23,8 +23,7 @@ abbrev selects : Statement → Bool
 selects (written.Select s) = true
 selects _ = false
 
--- whether the grammar reads a SELECT; `refl` shows it of a text that is written out, under `unfolding everything` of
--- `sqlite_tied`
+-- whether the grammar reads a SELECT; `refl` shows it of a text that is written out, under `unfolding everything` of `sqlite_tied`
 abbrev pub reads_select : Checked Parsed → Bool
 reads_select (Ok p) = selects p.statement
 reads_select (Err e) = false
