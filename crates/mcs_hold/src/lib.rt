@@ -1,5 +1,5 @@
 //! A hold file: its holds and releases, or its first fault.
-//! `read_hold_file` answers the items that the grammar relates the file to, or its first fault with record and code.
+//! Its one call answers the items that the grammar relates the file to, or the first fault with record and code.
 #![tactic(auto)]
 
 mod file;
