@@ -33,6 +33,7 @@ impl Field for YyDdd {
 }
 
 impl YyDdd {
+    /// The date of this text, where it has the form.
     pub fn read(text: &[u8]) -> Option<YyDdd>
         ensures form { IsSome result ↔ IsDottedDate text.now }
         ensures same { IfSome result (λ read. read ≡ text.now) }
@@ -45,6 +46,7 @@ impl YyDdd {
         })
     }
 
+    /// Its text.
     pub fn as_bytes(&self) -> &[u8]
         ensures same { result.now ≡ self.now }
         ensures form { IsDottedDate result.now }

@@ -34,6 +34,7 @@ impl Field for Reason {
 }
 
 impl Reason {
+    /// The value of this text, where it has the form.
     pub fn read(text: &[u8]) -> Option<Reason>
         ensures form { IsSome result ↔ IsClass text.now }
         ensures same { IfSome result (λ read. read ≡ text.now) }
@@ -46,6 +47,7 @@ impl Reason {
         })
     }
 
+    /// Its text.
     pub fn as_bytes(&self) -> &[u8]
         ensures same { result.now ≡ self.now }
         ensures form { IsClass result.now }
@@ -53,6 +55,7 @@ impl Reason {
         self.text.as_bytes()
     }
 
+    /// Whether it has the form of an id, as an ERROR hold asks of its reason.
     pub fn is_id(&self) -> bool
         ensures { IsTrue result ↔ IsId self.now }
     {
@@ -94,6 +97,7 @@ impl Field for HoldDate {
 }
 
 impl HoldDate {
+    /// The value of this text, where it has the form.
     pub fn read(text: &[u8]) -> Option<HoldDate>
         ensures form { IsSome result ↔ IsDate text.now }
         ensures same { IfSome result (λ read. read ≡ text.now) }
@@ -106,6 +110,7 @@ impl HoldDate {
         })
     }
 
+    /// Its text.
     pub fn as_bytes(&self) -> &[u8]
         ensures same { result.now ≡ self.now }
         ensures form { IsDate result.now }

@@ -33,6 +33,7 @@ impl Field for Id {
 }
 
 impl Id {
+    /// The value of this text, where it has the form.
     pub fn read(text: &[u8]) -> Option<Id>
         ensures form { IsSome result ↔ IsId text.now }
         ensures same { IfSome result (λ read. read ≡ text.now) }
@@ -45,6 +46,7 @@ impl Id {
         })
     }
 
+    /// Its text.
     pub fn as_bytes(&self) -> &[u8]
         ensures same { result.now ≡ self.now }
         ensures form { IsId result.now }
@@ -79,6 +81,7 @@ impl Field for Source {
 }
 
 impl Source {
+    /// The value of this text, where it has the form.
     pub fn read(text: &[u8]) -> Option<Source>
         ensures form { IsSome result ↔ IsSource text.now }
         ensures same { IfSome result (λ read. read ≡ text.now) }
@@ -91,6 +94,7 @@ impl Source {
         })
     }
 
+    /// Its text.
     pub fn as_bytes(&self) -> &[u8]
         ensures same { result.now ≡ self.now }
         ensures form { IsSource result.now }
@@ -125,6 +129,7 @@ impl Field for Class {
 }
 
 impl Class {
+    /// The value of this text, where it has the form.
     pub fn read(text: &[u8]) -> Option<Class>
         ensures form { IsSome result ↔ IsClass text.now }
         ensures same { IfSome result (λ read. read ≡ text.now) }
@@ -137,6 +142,7 @@ impl Class {
         })
     }
 
+    /// Its text.
     pub fn as_bytes(&self) -> &[u8]
         ensures same { result.now ≡ self.now }
         ensures form { IsClass result.now }

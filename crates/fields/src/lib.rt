@@ -1,4 +1,6 @@
 //! The small values that records hold, as ids and names: each is checked once, where it is read.
+//! `read` answers a value just where the text has its form, and contracts see the value as that text; its order and
+//! equality are the text's. A list that rises (`Rising`) is its items, with look-ups by binary search.
 #![tactic(auto)]
 
 mod dates;

@@ -35,6 +35,7 @@ impl<T: Field> Model for Rising<T> {
 }
 
 impl<T: Field> Rising<T> {
+    /// A list of nothing.
     pub fn new(alloc: Global) -> Self
         ensures { result ≡ [] }
     {
@@ -43,18 +44,21 @@ impl<T: Field> Rising<T> {
         }
     }
 
+    /// How many items it has.
     pub fn len(&self) -> usize
         ensures { result ≡ length self.now }
     {
         self.items.len()
     }
 
+    /// Whether it has no item.
     pub fn is_empty(&self) -> bool
         ensures { IsTrue result ↔ (self.now ≡ []) }
     {
         self.items.is_empty()
     }
 
+    /// Its items, rising.
     pub fn as_slice(&self) -> &[T]
         ensures items { result.now ≡ self.now }
         ensures rising { Rises T.cmp (λ x. x) result.now }
@@ -62,6 +66,7 @@ impl<T: Field> Rising<T> {
         self.items.as_slice()
     }
 
+    /// Its items, rising, one after the other.
     pub fn iter(&self) -> Iter<'_, T>
         ensures rest { iter_rest result ≡ self.now }
         ensures runs { IterYieldsInOrder T }
@@ -69,6 +74,7 @@ impl<T: Field> Rising<T> {
         self.items.as_slice().iter()
     }
 
+    /// Whether the item is in it.
     pub fn contains(&self, item: T) -> bool
         ensures { result ≡ list_any (T.eq item) self.now }
     {
@@ -119,6 +125,7 @@ impl<T: Field> Rising<T> {
         Ok(fits)
     }
 
+    /// A list of the same items.
     pub fn try_clone(&self, alloc: Global) -> Result<Self, AllocError>
         ensures { IfOk result (λ copy. copy ≡ self.now) }
     {

@@ -33,6 +33,7 @@ impl Field for Name {
 }
 
 impl Name {
+    /// The value of this text, where it has the form.
     pub fn read(text: &[u8]) -> Option<Name>
         ensures form { IsSome result ↔ IsName text.now }
         ensures same { IfSome result (λ read. read ≡ text.now) }
@@ -45,6 +46,7 @@ impl Name {
         })
     }
 
+    /// Its text.
     pub fn as_bytes(&self) -> &[u8]
         ensures same { result.now ≡ self.now }
         ensures form { IsName result.now }
@@ -79,6 +81,7 @@ impl Field for ZoneName {
 }
 
 impl ZoneName {
+    /// The value of this text, where it has the form.
     pub fn read(text: &[u8]) -> Option<ZoneName>
         ensures form { IsSome result ↔ IsZoneName text.now }
         ensures same { IfSome result (λ read. read ≡ text.now) }
@@ -91,6 +94,7 @@ impl ZoneName {
         })
     }
 
+    /// Its text.
     pub fn as_bytes(&self) -> &[u8]
         ensures same { result.now ≡ self.now }
         ensures form { IsZoneName result.now }
@@ -132,6 +136,7 @@ impl Field for Srel {
 }
 
 impl Srel {
+    /// The value of this text, where it has the form.
     pub fn read(text: &[u8]) -> Option<Srel>
         ensures form { IsSome result ↔ IsSrel text.now }
         ensures same { IfSome result (λ read. read ≡ text.now) }
@@ -144,6 +149,7 @@ impl Srel {
         })
     }
 
+    /// Its text.
     pub fn as_bytes(&self) -> &[u8]
         ensures same { result.now ≡ self.now }
         ensures form { IsSrel result.now }

@@ -1,5 +1,5 @@
--- What an installable candidate fails by itself: it touches an element of the zone that another owns, or that it is not over,
--- or it is accepted where nothing is applied.
+-- What an installable candidate fails by itself: it touches an element of the zone that another owns, or that it is not
+-- over, or it is accepted where nothing is applied.
 use Rattle.std.specs.Prelude.{◌≡◌, ◌↔◌, ◌==◌, ◌&&◌, Bool, false, not, ◌∷◌, Any, IsTrue, Some}
 use Rattle.std.specs.List.{list_any}
 use Rattle.std.specs.Option.{option_map_or}

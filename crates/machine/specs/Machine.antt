@@ -24,8 +24,8 @@ abbrev pub HasItems : {X : Type 0} → (List ℕ → List X → Type 0) → Bool
 HasItems Is true bytes items = Is bytes items
 HasItems Is false bytes items = items ≡ []
 
--- RECEIVE takes in the items of PTFIN, and then those of the hold file. Both are read before anything changes: Cm4 is PTFIN's first
--- fault, and Cm5 the hold file's.
+-- RECEIVE takes in the items of PTFIN, and then those of the hold file. Both are read before anything changes: Cm4 is
+-- PTFIN's first fault, and Cm5 the hold file's.
 pub data Takes (files : Files) (s : State) (what : ReceiveWhat) : State → Outcome → Type 0 where
   TakesAll : (items : List Item) (holds : List HoldItem) (middle g : Global) (lines more : List Line)
       → HasItems IsPtfin what.sysmods files.ptfin items → HasItems IsHoldFile what.holddata files.holds holds
@@ -72,8 +72,8 @@ Performs date files s c t outcome =
     ((why : Refusal) × (misplaced s c ≡ Some why) × (t ≡ s) × (outcome ≡ Refused (header_of c s.boundary) why))
     ⊎ ((misplaced s c ≡ None) × RunsThere date files s c t outcome)
 
--- A job begins, and has no boundary; a command of it runs, on its date and over its files; or its command file is at fault.
--- Or a zone is defined.
+-- A job begins, and has no boundary; a command of it runs, on its date and over its files; or its command file is at
+-- fault. Or a zone is defined.
 pub data Act : Type 0 where
   Begin : Act
   Perform : Text → Files → Command → Act

@@ -32,7 +32,8 @@ header_of (Restore ids check) b = record { word = word.Restore; boundary = b; ch
 header_of (ListZone text) b = record { word = word.List; boundary = b; check = false }
 header_of Report b = record { word = word.Report; boundary = b; check = false }
 
--- Cm1: no boundary. Cm2: no such zone. Cm3: wrong kind of zone. Cm4, Cm5: a fault of PTFIN, of the hold file.
+-- Cm1: no SET came before it. Cm2: SET names a zone that is not there. Cm3: the boundary suits other commands.
+-- Cm4: PTFIN is at fault. Cm5: the hold file is.
 pub data Refusal : Type 0 where
   Cm1 : Refusal
   Cm2 : Refusal
@@ -109,7 +110,7 @@ pub data Outcome : Type 0 where
   Refused : Header → Refusal → Outcome
   Control : ControlFault → Outcome
 
--- RECEIVE, APPLY and ACCEPT without a status line
+-- RECEIVE, APPLY and ACCEPT print NOTHING where they would print no line
 abbrev pub or_nothing : List Line → List Line
 or_nothing [] = NothingLine ∷ []
 or_nothing (l ∷ ls) = l ∷ ls
@@ -170,7 +171,7 @@ line_code (ElementLine row) = 0
 line_code (TextLine r) = 0
 line_code (ErrsysmodLine id reason resolvers) = 4
 
--- the greatest code of the lines, 0 where there are none
+-- the highest code of any line; no lines make 0
 abbrev pub lines_code : List Line → ℕ
 lines_code [] = 0
 lines_code (l ∷ ls) = max (line_code l) (lines_code ls)

@@ -1,4 +1,5 @@
--- What REJECT makes of the global zone, id by id, and what it prints of each. (IBM z/OS SMP/E Commands, the REJECT command.)
+-- What REJECT makes of the global zone, id by id, and what it prints of each. (IBM z/OS SMP/E Commands, the REJECT
+-- command.)
 use Rattle.std.specs.Prelude.{◌≡◌, List, [], ◌∷◌, Result, Ok, Err}
 use Rattle.terms.specs.declared.codes.IdRefusal.TheVariants as refusal
 use Rattle.terms.specs.Types.{Id, Global, NamedZone}

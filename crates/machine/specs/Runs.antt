@@ -1,5 +1,5 @@
--- How runs of a machine end. The machine is given by its steps: from a state, by an act, to a state, with what is printed.
--- What is kept of a state (all but the boundary) is its `kept`.
+-- How runs of a machine end. The machine is given by its steps: from a state, by an act, to a state, with what is
+-- printed. What is kept of a state (all but the boundary) is its `kept`.
 use Rattle.std.specs.Prelude.{◌≡◌, ℕ, List, [], ◌∷◌, ◌++◌, Option, ◌⊎◌}
 use Rattle.std.specs.Io.KnownBytes.{Appends}
 

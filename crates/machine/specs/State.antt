@@ -69,8 +69,8 @@ pub record ZoneDefinition : Type 0 where
   pub srel : Text
   pub related : Option Text
 
--- Zn1: the name is there or is GLOBAL. Zn2: the related zone is missing, of the wrong kind or related already, or there
--- is one too many or too few. Zn3: the SRELs differ. Zn4: there are 64 zones already.
+-- Zn1: a zone has the name, or it is GLOBAL. Zn2: a target zone wants a distribution zone that is related to none, and
+-- a distribution zone wants no related zone. Zn3: the related zone has another SREL. Zn4: 64 zones are defined.
 pub data ZoneFault : Type 0 where
   Zn1 : ZoneFault
   Zn2 : ZoneFault
@@ -87,7 +87,8 @@ is_free zones name =
     option_map_or (λ z. zone_number z.kind == zone_number Distribution) (zone_named zones name) false
     && not (is_related zones name)
 
--- whether the related zone is as the kind asks: a free distribution zone for a target zone, and none for a distribution zone
+-- whether the related zone is as the kind asks: a free distribution zone for a target zone, and none for a distribution
+-- zone
 abbrev pub has_right_related : List NamedZone → ZoneKind → Option Text → Bool
 has_right_related zones Target related = option_map_or (is_free zones) related false
 has_right_related zones Distribution related = not (is_some related)

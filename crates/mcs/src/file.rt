@@ -128,6 +128,7 @@ fn with_change(current: Option<Begun>, change: ElemChange) -> Result<Option<Begu
 }
 
 impl SoFar {
+    /// What no statement makes: no item, and no SYSMOD that is begun.
     pub fn new(alloc: Global) -> SoFar
         ensures { so_far result ≡ nothing }
     {

@@ -1,4 +1,7 @@
 //! One statement of a file of statements: its word, its operands and their values.
+//! A statement begins with a known word, or its fault is told (`begun`). Operands have values just where their words
+//! have that form, and one `++HOLD` or `++RELEASE` is read just where the words say one. The readers of PTFIN and of
+//! hold files stand on it.
 #![tactic(auto)]
 
 mod begin;

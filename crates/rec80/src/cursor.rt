@@ -5,7 +5,8 @@ ghost use Rattle.rec80.specs.Cursors.{rest_of, IsAhead, text_of};
 use crate::files::Record;
 use crate::text::Text;
 
-/// A place in columns 1 to 72 of records, between which one blank stands: what is left of a line, and the later records.
+/// A place in columns 1 to 72 of records, between which one blank stands: what is left of a line, and the later
+/// records.
 #[derive(Clone, Copy, Debug)]
 pub(crate) struct Cursor<'a> {
     pub line: &'a [u8],

@@ -35,7 +35,7 @@ pub enum StmtError {
     NoPeriod,
     #[error("a comment is not closed")]
     OpenComment,
-    /// Parentheses do not pair, or nest deeper than two.
+    /// A parenthesis without its partner, or a third level of them.
     #[error("parentheses do not pair or nest too deep")]
     BadParens,
     /// In the record of the period more than blanks and comments follows it.

@@ -10,7 +10,8 @@ use thiserror::Error;
 #[error("the first record begins no statement")]
 pub struct StartsOutside;
 
-/// The records of one statement: the one that begins it, and those before the next one. Its number counts from 1 in the file.
+/// The records of one statement: the one that begins it, and those before the next one. Its number counts from 1 in the
+/// file.
 #[derive(Clone, Copy, Debug)]
 pub struct Group<'a> {
     pub number: usize,

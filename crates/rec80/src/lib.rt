@@ -1,4 +1,8 @@
-//! Files of 80-byte records: their statements and commands, and the words of these, as slices of the file. Nothing here takes memory.
+//! Files of 80-byte records: their statements and commands, and the words of these, as slices of the file. Nothing here
+//! takes memory.
+//! A file is these records, or has this first fault (`records`). Groups, statements, commands, words, members and
+//! inline records are the grammar's, or the named fault (`next_group`, `statement`, `next_command`, `next_word`,
+//! `members`).
 #![tactic(auto)]
 
 mod commands;

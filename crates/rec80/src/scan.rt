@@ -35,7 +35,8 @@ pub fn behind_comment<'a>(inside: &Cursor<'a>) -> Option<Cursor<'a>>
     None
 }
 
-/// The text up to the parenthesis that closes it, and the place behind that. None: it is not closed, or a third one opens.
+/// The text up to the parenthesis that closes it, and the place behind that. None: it is not closed, or a third one
+/// opens.
 pub fn behind_parens<'a>(inside: &Cursor<'a>) -> Option<(Text<'a>, Cursor<'a>)>
     ensures end { MatchOption result (behind_list false (rest_of inside.now) ≡ None) (λ x. behind_list false (rest_of inside.now) ≡ Some (rest_of x.1)) }
     ensures text { IfSome result (λ x. rest_of inside.now ≡ text_of x.0 ++ 41 ∷ rest_of x.1) }

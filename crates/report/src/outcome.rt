@@ -14,11 +14,11 @@ pub struct Header {
 /// Why a command was refused.
 #[derive(Clone, Copy, Debug)]
 pub enum Refusal {
-    /// `Cm1`: no boundary.
+    /// `Cm1`: no SET came before it.
     NoBoundary,
     /// `Cm2`: SET names no zone.
     NoZone,
-    /// `Cm3`: the boundary's kind is wrong.
+    /// `Cm3`: the boundary suits other commands.
     WrongKind,
     /// `Cm4`: a fault of PTFIN, at the record where the statement begins.
     Ptfin { number: usize, code: McCode },
@@ -84,7 +84,7 @@ pub enum Line {
     Nothing,
 }
 
-/// What a command prints, or the one line of a job whose command file is at fault.
+/// What a command prints, or the one line that a faulty command file leaves of its job.
 #[derive(Drop)]
 pub enum Outcome {
     Ran { header: Header, lines: Vec<Line> },

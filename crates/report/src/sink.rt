@@ -29,7 +29,8 @@ pub trait Sink {
         ensures after { has_failed self.new ≡ is_err result };
 }
 
-/// A sink over any writer, whose bytes are those that the writer tells. An error of it, or 0 bytes taken, is a failure.
+/// A sink over any writer. It knows of its bytes what the writer says of them; an error, or a write that takes 0 bytes,
+/// is a failure.
 #[derive(Drop)]
 pub struct Out<W> {
     writer: W,

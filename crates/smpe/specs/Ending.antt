@@ -48,7 +48,8 @@ module _ {S : Type 0} (g : Ghosts S) (at : Held S) (s : State) where
   abbrev pub EndsAmong : List machine.Job → Option (List ℕ) → Option (List ℕ) → JobError → Type 0
   EndsAmong jobs old new error = (acts : List Act) × AreFirstActs jobs acts × EndsEarly acts old new error
 
-  -- The job ran, and this is its answer: the tables stand for what it led to, a crash leaves that, and its bytes went out.
+  -- The job ran, and this is its answer: the tables stand for what it led to, a crash leaves that, and its bytes went
+  -- out.
   abbrev pub EndsJob : machine.Job → Option (List ℕ) → Option (List ℕ) → {V : Type 0} → (V → machine.Answer) → Result V JobError → Type 0
   EndsJob job old new answer (Ok v) =
       (t : State) × (bytes : List ℕ) × RunsJob s job t bytes (answer v) × Keeps g at t × Appends old new bytes

@@ -5,6 +5,7 @@ use std::alloc::AllocError;
 use store_schema::StoreError;
 use thiserror::Error;
 
+/// Why a job did not come to its end.
 #[derive(Clone, Copy, Debug, PartialEq, Eq, Error)]
 pub enum JobError {
     #[error("out of memory")]

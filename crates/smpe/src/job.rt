@@ -61,8 +61,8 @@ fn run_commands<S: Alter, W: Sink>(
     Ok(code)
 }
 
-/// Performs the commands of a command file over a PTFIN and a hold file, each committed first and reported after, and answers the
-/// highest return code.
+/// Performs the commands of a command file over a PTFIN and a hold file, each committed first and reported after, and
+/// answers the highest return code.
 pub fn run_job<S: Alter, W: Sink>(
     alloc: Heap,
     store: &mut Store<S>,

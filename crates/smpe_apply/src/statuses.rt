@@ -68,8 +68,8 @@ fn push_left_out(
     Ok(())
 }
 
-/// The statuses of all ids that have one: of those that are installed in this kind of zone, of those that failed, and of
-/// those that were left out.
+/// The statuses of all ids that have one: of those that are installed in this kind of zone, of those that failed, and
+/// of those that were left out.
 pub(crate) fn statuses(
     alloc: Heap,
     kind: ZoneKind,

@@ -31,7 +31,8 @@ IsMet (Some met) invocation = HasValues met invocation
 abbrev pub IsRead : List Text → Invocation → Type 0
 IsRead words invocation = (app : App) × IsCommandLine app × (fault_of app words ≡ []) × IsMet (subcommand_of app words) invocation
 
--- want of memory; a fault of the words that `clap` names; or `clap` takes them, and no invocation has the values that it finds
+-- want of memory; a fault of the words that `clap` names; or `clap` takes them, and no invocation has the values that
+-- it finds
 abbrev pub IsRefused : List Text → ArgFault → Type 0
 IsRefused words Memory = Unit {0}
 IsRefused words (Clap error) = (app : App) × IsCommandLine app × IsAmong (kind_of error) (fault_of app words)

@@ -8,8 +8,8 @@ use Rattle.store.specs.declared.change.GlobalEdit.{GlobalEdit}
 use Rattle.store.specs.Changes.{EachFits, after_edits}
 use Rattle.smpe_receive.specs.declared.taken.Taken.{Taken}
 
--- The global zone g has become new, and of that these lines are printed. The edits fit, and lead there too. Edits and lines stand
--- behind those that were there.
+-- The global zone g has become new, and of that these lines are printed. The edits fit, and lead there too. Edits and
+-- lines stand behind those that were there.
 pub record IsTaken (Prints : Global → List machine.Line → Type 0) (g new : Global) (was is : Taken) : Type 0 where
   pub own : List GlobalEdit
   pub edits_are : is.edits.items ≡ was.edits.items ++ own

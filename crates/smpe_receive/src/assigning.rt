@@ -17,7 +17,7 @@ use store::GlobalEdit;
 use sysmods::Global;
 use sysmods_records::Sysmod;
 
-/// The SYSMOD with its sources, but without its statements.
+/// The SYSMOD with its sources, but without its statements: they stand in rows of their own, which stay.
 fn head_of(alloc: Heap, sysmod: &Sysmod) -> Result<Sysmod, AllocError>
     ensures { IfOk result (λ head. head ≡ head_of sysmod.now) }
 {

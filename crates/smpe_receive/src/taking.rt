@@ -41,7 +41,8 @@ fn status_of(refused: Option<ReceiveFault>) -> Status
     }
 }
 
-/// Receives a SYSMOD, with the source that the command adds. Its copy is for the tables.
+/// Receives a SYSMOD, with the source that the command adds. Its copy is for the tables, and is made first: once it is
+/// received, its holds stand among the others.
 fn take_sysmod(
     alloc: Heap,
     global: &mut Global,

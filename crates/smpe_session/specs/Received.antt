@@ -29,7 +29,8 @@ HasFound files what items holds (Ok v) =
 HasFound files what items holds (Err why) =
     (s : State) → Takes files s what s (Refused (header_of (Receive what) s.boundary) (refusal_view why))
 
--- The items of PTFIN, and then those of the hold file, lead from g to new and print these lines. The edits lead there too.
+-- The items of PTFIN, and then those of the hold file, lead from g to new and print these lines. The edits lead there
+-- too.
 pub record AreTaken (source : Option Text) (items : List Item) (holds : List HoldItem) (g new : Global) (edits : List GlobalEdit) (lines : List Line) : Type 0 where
   pub middle : Global
   pub first : List Line

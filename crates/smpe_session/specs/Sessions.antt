@@ -14,7 +14,8 @@ use Rattle.store_schema.specs.declared.error.StoreError.TheVariants.{Fault, Memo
 use Rattle.store.specs.Kept.{Keeps, Stays}
 use Rattle.smpe_session.specs.declared.performing.Session.{Session}
 
--- The session has the state's global zone and boundary, and zones of the state, among them the one that the boundary names.
+-- The session has the state's global zone and boundary, and zones of the state, among them the one that the boundary
+-- names.
 pub record IsSessionOf (s : State) (at : Session) : Type 0 where
   pub global : at.global ≡ s.global
   pub boundary : at.boundary ≡ s.boundary

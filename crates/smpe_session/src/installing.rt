@@ -133,6 +133,7 @@ impl Session {
                     &install.selection,
                     date,
                 )?;
+                // The changed zone was made all the same: it shows that the lines are an APPLY's.
                 if install.check {
                     return Ok(Outcome::Ran { header, lines });
                 }

@@ -19,7 +19,8 @@ use store_schema::StoreError;
 use sysmods::Global;
 use zones::Zone;
 
-/// What a job has in memory of what the tables hold: the global zone and the zones that its SETs have named. And its boundary.
+/// What a job has in memory of what the tables hold: the global zone and the zones that its SETs have named. And its
+/// boundary.
 #[derive(Drop)]
 pub struct Session {
     pub(crate) global: Global,

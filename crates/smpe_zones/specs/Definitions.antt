@@ -24,7 +24,8 @@ fault_of WrongRelated = state.Zn2
 fault_of OtherSrel = state.Zn3
 fault_of TooMany = state.Zn4
 
--- The zone is defined, or refused for the first fault. No other error comes than want of memory and a fault of the store.
+-- The zone is defined, or refused for the first fault. No other error comes than want of memory and a fault of the
+-- store.
 module _ {S : Type 0} (g : Ghosts S) (at : Held S) (s : State) (d : ZoneDefinition) where
   abbrev pub HasDefined : {U : Type 0} → Result U ZoneError → Type 0
   HasDefined (Ok done) = (t : State) × (define_zone s d ≡ Ok t) × Keeps g at t

@@ -9,7 +9,7 @@ pub enum ZoneFault {
     /// The name is there, or is GLOBAL.
     #[error("Zn1")]
     NameTaken,
-    /// The related zone is missing, of the wrong kind or related already, or there is one too many or too few.
+    /// A target zone wants a distribution zone that is related to none, and a distribution zone wants no related zone.
     #[error("Zn2")]
     WrongRelated,
     /// The SRELs differ.
@@ -20,6 +20,7 @@ pub enum ZoneFault {
     TooMany,
 }
 
+/// Why a zone was not defined.
 #[derive(Clone, Copy, Debug, PartialEq, Eq, Error)]
 pub enum ZoneError {
     #[error("{0}")]

@@ -1,4 +1,6 @@
 //! The definition of a zone.
+//! `define_zone` leads to the machine's state, or answers the first of Zn1 to Zn4 that applies and changes nothing.
+//! After want of memory or a fault of the store the tables stand for the state before.
 #![tactic(auto)]
 
 mod defining;

@@ -23,7 +23,7 @@ fn bare_needs(alloc: Global, s: &System) -> Result<Vec<bool>, AllocError>
     Ok(bare)
 }
 
-/// Whether a candidate has failed and is not eligible or has a need that no candidate serves.
+/// Whether a candidate has failed for a reason of its own: it is not eligible, or nobody serves a need of it.
 fn is_root(s: &System, kept: &[bool], bare: &[bool], x: u32) -> bool
     requires x { x < s.now.size }
     requires kept { length kept.now ≡ s.now.size }

@@ -1,4 +1,7 @@
 //! The greatest set of candidates that supports itself, and why the others are not in it.
+//! It knows numbers alone. Every `Solver` answers the union of all self-supporting sets, `least` what all closed sets
+//! share, and `causers` the roots that a failed candidate leads to. `Worklist::count` has its strikes exact and its
+//! turns bounded; the raising of `turns` in every loop body is seen in the code.
 #![tactic(auto)]
 
 mod causes;

@@ -14,7 +14,7 @@ use std::alloc::{AllocError, Global};
 pub struct Count {
     /// How often the count of a need's living members was lowered.
     pub strikes: u128,
-    /// How often the body of a loop was passed through, an iterator's item counting as one.
+    /// How often a loop went through its body; each item that an iterator gives is such a pass.
     pub turns: u128,
 }
 
@@ -22,8 +22,8 @@ pub struct Count {
 #[derive(Clone, Copy, Debug)]
 pub struct Worklist;
 
-/// The candidates that stand, the living members of each need, and the dropped candidates whose
-/// strikes are still to be made.
+/// The candidates that stand, how many living members each need has, and the candidates that fell and are yet to be
+/// struck off the needs that they serve.
 #[derive(Drop)]
 struct Board {
     standing: Vec<bool>,

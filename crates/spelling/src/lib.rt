@@ -1,4 +1,5 @@
 //! How kinds, types and codes are spelled in files, tables and reports.
+//! Each has its word, and what is read is spelled so.
 #![tactic(auto)]
 
 ghost use Rattle.std.specs.Prelude.{◌≡◌, ◌≢◌, IfSome, IfNone};

@@ -5,6 +5,7 @@ use sysmods_records::{Hold, Sysmod};
 use terms::{HoldKind, ZoneKind};
 use zones::ZoneDelta;
 
+/// What one transaction changes.
 #[derive(Drop)]
 pub enum Change {
     /// A zone with no entries is added.

@@ -82,6 +82,7 @@ impl<S: Alter> Store<S> {
         Ok(())
     }
 
+    /// The connection, with what was committed.
     pub fn close(self) -> Connection<S>
         ensures same { result ≡ self }
         ensures found { (i : Inventory) → TablesIfOpen S.Store self i → IsFound S.Store result i }

@@ -15,6 +15,7 @@ use sqlite::Row;
 use store_rows::{text, whole};
 use terms::{ElemType, HoldKind, Kind, ZoneKind};
 
+/// The type of a SYSMOD, as the column spells it.
 pub fn kind_in(row: &Row, at: usize) -> Option<Kind>
     ensures some { IfSome result (λ kind. column row.now at ≡ Text (kind_text kind)) }
     ensures none { IfNone result ((kind : KindTerm) → column row.now at ≢ Text (kind_text kind)) }
@@ -22,6 +23,7 @@ pub fn kind_in(row: &Row, at: usize) -> Option<Kind>
     read_kind(text(row, at)?)
 }
 
+/// The kind of a hold, as the column spells it.
 pub fn hold_kind_in(row: &Row, at: usize) -> Option<HoldKind>
     ensures some { IfSome result (λ kind. column row.now at ≡ Text (hold_text kind)) }
     ensures none { IfNone result ((kind : HoldTerm) → column row.now at ≢ Text (hold_text kind)) }
@@ -29,6 +31,7 @@ pub fn hold_kind_in(row: &Row, at: usize) -> Option<HoldKind>
     read_hold(text(row, at)?)
 }
 
+/// The type of an element, as the column spells it.
 pub fn elem_type_in(row: &Row, at: usize) -> Option<ElemType>
     ensures some { IfSome result (λ type. column row.now at ≡ Text (type_text type)) }
     ensures none { IfNone result ((type : TypeTerm) → column row.now at ≢ Text (type_text type)) }
@@ -36,6 +39,7 @@ pub fn elem_type_in(row: &Row, at: usize) -> Option<ElemType>
     read_type(text(row, at)?)
 }
 
+/// The kind of a zone, as the column spells it.
 pub fn zone_kind_in(row: &Row, at: usize) -> Option<ZoneKind>
     ensures some { IfSome result (λ kind. column row.now at ≡ Text (zone_kind_text kind)) }
     ensures none { IfNone result ((kind : ZoneTerm) → column row.now at ≢ Text (zone_kind_text kind)) }
@@ -43,6 +47,7 @@ pub fn zone_kind_in(row: &Row, at: usize) -> Option<ZoneKind>
     read_zone_kind(text(row, at)?)
 }
 
+/// A yes or no, as the column has it: 1 or 0.
 pub fn flag_in(row: &Row, at: usize) -> Option<bool>
     ensures some { IfSome result (λ b. column row.now at ≡ flag b) }
     ensures none { IfNone result ((b : Bool) → column row.now at ≢ flag b) }

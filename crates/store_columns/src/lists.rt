@@ -58,6 +58,7 @@ fn source_list(alloc: Global, parts: &[&[u8]]) -> Result<SourceList, ReadError>
     Ok(list)
 }
 
+/// The ids of a list that rises.
 pub fn ids_in(alloc: Global, row: &Row, at: usize) -> Result<IdList, ReadError>
     ensures some { IfOk result (λ list. (column row.now at ≡ ids list) × AreListed IsId list) }
     ensures none { IsErrOf result ReadError.BadRow → (list : List (List ℕ)) → AreListed IsId list → column row.now at ≢ ids list }
@@ -70,6 +71,7 @@ pub fn ids_in(alloc: Global, row: &Row, at: usize) -> Result<IdList, ReadError>
     id_list(alloc, &parts)
 }
 
+/// The sources of a list that rises.
 pub fn sources_in(alloc: Global, row: &Row, at: usize) -> Result<SourceList, ReadError>
     ensures some { IfOk result (λ list. (column row.now at ≡ ids list) × AreListed IsSource list) }
     ensures none { IsErrOf result ReadError.BadRow → (list : List (List ℕ)) → AreListed IsSource list → column row.now at ≢ ids list }

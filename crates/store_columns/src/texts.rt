@@ -10,6 +10,7 @@ use fields::{Class, HoldDate, Id, Name, Srel, YyDdd, ZoneName};
 use sqlite::Row;
 use store_rows::{optional_text, text};
 
+/// An id.
 pub fn id_in(row: &Row, at: usize) -> Option<Id>
     ensures some { IfSome result (λ id. (column row.now at ≡ Text id) × IsId id) }
     ensures none { IfNone result ((id : List ℕ) → IsId id → column row.now at ≢ Text id) }
@@ -17,6 +18,7 @@ pub fn id_in(row: &Row, at: usize) -> Option<Id>
     Id::read(text(row, at)?)
 }
 
+/// An id, or NULL.
 pub fn optional_id_in(row: &Row, at: usize) -> Option<Option<Id>>
     ensures some { IfSome result (λ id. (column row.now at ≡ or_null Text id) × IfSome id IsId) }
     ensures none { IfNone result ((id : Option (List ℕ)) → IfSome id IsId → column row.now at ≢ or_null Text id) }
@@ -27,6 +29,7 @@ pub fn optional_id_in(row: &Row, at: usize) -> Option<Option<Id>>
     }
 }
 
+/// An SREL.
 pub fn srel_in(row: &Row, at: usize) -> Option<Srel>
     ensures some { IfSome result (λ srel. (column row.now at ≡ Text srel) × IsSrel srel) }
     ensures none { IfNone result ((srel : List ℕ) → IsSrel srel → column row.now at ≢ Text srel) }
@@ -34,6 +37,7 @@ pub fn srel_in(row: &Row, at: usize) -> Option<Srel>
     Srel::read(text(row, at)?)
 }
 
+/// The name of an element or a library.
 pub fn name_in(row: &Row, at: usize) -> Option<Name>
     ensures some { IfSome result (λ name. (column row.now at ≡ Text name) × IsName name) }
     ensures none { IfNone result ((name : List ℕ) → IsName name → column row.now at ≢ Text name) }
@@ -41,6 +45,7 @@ pub fn name_in(row: &Row, at: usize) -> Option<Name>
     Name::read(text(row, at)?)
 }
 
+/// The name of a library, or NULL.
 pub fn optional_name_in(row: &Row, at: usize) -> Option<Option<Name>>
     ensures some { IfSome result (λ name. (column row.now at ≡ or_null Text name) × IfSome name IsName) }
     ensures none { IfNone result ((name : Option (List ℕ)) → IfSome name IsName → column row.now at ≢ or_null Text name) }
@@ -51,6 +56,7 @@ pub fn optional_name_in(row: &Row, at: usize) -> Option<Option<Name>>
     }
 }
 
+/// The name of a zone.
 pub fn zone_name_in(row: &Row, at: usize) -> Option<ZoneName>
     ensures some { IfSome result (λ name. (column row.now at ≡ Text name) × IsZoneName name) }
     ensures none { IfNone result ((name : List ℕ) → IsZoneName name → column row.now at ≢ Text name) }
@@ -58,6 +64,7 @@ pub fn zone_name_in(row: &Row, at: usize) -> Option<ZoneName>
     ZoneName::read(text(row, at)?)
 }
 
+/// The name of a zone, or NULL.
 pub fn optional_zone_name_in(row: &Row, at: usize) -> Option<Option<ZoneName>>
     ensures some { IfSome result (λ name. (column row.now at ≡ or_null Text name) × IfSome name IsZoneName) }
     ensures none { IfNone result ((name : Option (List ℕ)) → IfSome name IsZoneName → column row.now at ≢ or_null Text name) }
@@ -79,6 +86,7 @@ pub fn date_in(row: &Row, at: usize) -> Option<Option<YyDdd>>
     }
 }
 
+/// The date of a hold, or NULL.
 pub fn hold_date_in(row: &Row, at: usize) -> Option<Option<HoldDate>>
     ensures some { IfSome result (λ date. (column row.now at ≡ or_null Text date) × IfSome date IsDate) }
     ensures none { IfNone result ((date : Option (List ℕ)) → IfSome date IsDate → column row.now at ≢ or_null Text date) }
@@ -89,6 +97,7 @@ pub fn hold_date_in(row: &Row, at: usize) -> Option<Option<HoldDate>>
     }
 }
 
+/// The class of a hold, or NULL.
 pub fn class_in(row: &Row, at: usize) -> Option<Option<Class>>
     ensures some { IfSome result (λ class. (column row.now at ≡ or_null Text class) × IfSome class IsClass) }
     ensures none { IfNone result ((class : Option (List ℕ)) → IfSome class IsClass → column row.now at ≢ or_null Text class) }

@@ -85,7 +85,8 @@ pub record PutsInPlace (schema : Schema) (at : ℕ) (table : Table) (width : ℕ
   pub narrow : width ≤ length table.columns
   pub free : (olds news : List Row) → works_of_update schema table.tree olds news ≡ []
 
--- a foreign key's action on these old rows: it deletes the rows of one of these tables whose first column is an old row's
+-- a foreign key's action on these old rows: it deletes the rows of one of these tables whose first column is an old
+-- row's
 pub record IsCascade (children : List Table) (olds : List Row) (w : Work) : Type 0 where
   pub child : Has children w.child
   pub columns : w.ref.columns ≡ 1 ∷ []
@@ -94,7 +95,8 @@ pub record IsCascade (children : List Table) (olds : List Row) (w : Work) : Type
   pub shallow : w.depth ≡ 0
   pub moves : w.moves ≡ pairs olds []
 
--- DELETE of the rows whose first column is the parameter, which sets off the deletion of rows of other tables that refer to it
+-- DELETE of the rows whose first column is the parameter, which sets off the deletion of rows of other tables that
+-- refer to it
 pub record TakesOutParent (schema : Schema) (at : ℕ) (table : Table) (children : List Table) (sql : List ℕ) : Type 0 where
   pub there : IsTableOf schema at table
   pub command : command_of (understood schema sql) ≡ Delete at (record { lets = []; body = scan_by table.tree (key_tests 0 1) (col 1 0 ∷ []) [] })

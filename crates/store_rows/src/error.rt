@@ -4,6 +4,7 @@ use sqlite::ErrorCode;
 use std::alloc::AllocError;
 use thiserror::Error;
 
+/// Why rows were not read.
 #[derive(Clone, Copy, Debug, PartialEq, Eq, Error)]
 pub enum ReadError {
     #[error("out of memory")]

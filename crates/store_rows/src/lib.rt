@@ -1,4 +1,6 @@
 //! The rows of tables as lists in any order, and what statements make of them. It names no table.
+//! A statement's contract says what the tables hold then and what stays inside the transaction; and its commit's, what
+//! that and a crash leave.
 #![tactic(auto)]
 
 mod columns;

@@ -43,7 +43,8 @@ pub fn remove<S: Alter>(
     Ok(())
 }
 
-/// Puts a row in place of those that have its key, by the texts of `remove` and `insert`.
+/// Puts a row in place of those that have its key, by the texts of `remove` and `insert`. `INSERT OR REPLACE` might
+/// take out the row of another key, whose rowid it gets.
 pub fn put<S: Alter>(
     tx: &mut Transaction<'_, S>,
     removes: &str,
@@ -61,7 +62,8 @@ pub fn put<S: Alter>(
 }
 
 /// Puts the parameters, as the columns of a row, in place of each row of the table that the text
-/// names whose first columns are so many of the parameters.
+/// names whose first columns are so many of the parameters. Rows that refer to it stay, where a removal would take
+/// them along.
 pub fn replace<S: Alter>(
     tx: &mut Transaction<'_, S>,
     sql: &str,

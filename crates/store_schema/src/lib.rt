@@ -1,5 +1,7 @@
 //! The tables of the store in a SQL database: what they are, what their rows stand for, and the
 //! calls that make them in an empty database and know them in another.
+//! On a clean disk, `set_up` makes them in one commit, or keeps them, or tells another number or other tables apart. No
+//! two states have the same rows (`one_state`).
 #![tactic(auto)]
 
 mod error;

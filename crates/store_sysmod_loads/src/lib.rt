@@ -1,4 +1,6 @@
 //! The SYSMODs of the global zone, from the tables that hold them.
+//! `load_sysmods` answers those of the inventory that stands for the rows; `BadRow` comes only where none does. Seen in
+//! the code alone: four queries, four sorts and one pass.
 #![tactic(auto)]
 
 mod building;

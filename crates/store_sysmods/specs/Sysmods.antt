@@ -39,12 +39,14 @@ without_sysmod_rows id contents =
     let key = sysmod_key id in
     in_table sysmod (without key) (in_table elem (without key) (in_table ifreq (without key) (in_table ver (without key) contents)))
 
--- where the tables held an inventory's rows, and its global zone fits, they hold those of the inventory with the new one
+-- where the tables held an inventory's rows, and its global zone fits, they hold those of the inventory with the new
+-- one
 abbrev pub ChangesGlobal : {S : Type 0} → Ghosts S → Held S → Held S → (Global → Type 0) → (Global → Global) → Type 0
 ChangesGlobal g old new Fits make =
     (i : Inventory) → Fits i.global → Leads g old new (HasContents store_schema (rows_of i)) (HasContents store_schema (rows_of (record i { global = make i.global })))
 
--- The SYSMOD, which is not received, takes its place among the others. Its holds are not among those of the global zone yet.
+-- The SYSMOD, which is not received, takes its place among the others. Its holds are not among those of the global zone
+-- yet.
 abbrev pub AddsSysmod : {S : Type 0} → Ghosts S → Held S → Held S → Sysmod → Type 0
 AddsSysmod g old new s = ChangesGlobal g old new (λ global. is_received global s.id ≡ false) (λ global. with_sysmod global s)
 

@@ -26,7 +26,8 @@ head_in name zone = record { name = name; kind = zone.kind; srel = zone.srel; re
 abbrev pub head_of : NamedZone → ZoneHead
 head_of z = head_in z.name z.zone
 
--- what a zone asks of its parts: no entry is empty or waives what is not applied, and a target zone alone names a related zone
+-- what a zone asks of its parts: no entry is empty or waives what is not applied, and a target zone alone names a
+-- related zone
 abbrev pub MayStand : ZoneKind → Option Text → List Entry → Type 0
 MayStand kind related entries =
     All (λ e. IsTrue (is_held e)) entries × All (λ e. IsTrue (waives_applied e)) entries × (is_some related ≡ (zone_number kind == 0))

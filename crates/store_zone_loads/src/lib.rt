@@ -1,4 +1,6 @@
 //! Zones from their tables: all that a zone has, and the heads and names of all zones.
+//! They are those of the inventory that stands for the rows, and a row is refused only where none does. Nobody looks
+//! for entries and elements of a zone that is not there: foreign keys keep them out.
 #![tactic(auto)]
 
 mod element;

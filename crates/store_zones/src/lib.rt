@@ -1,4 +1,6 @@
 //! The tables of zones: the zones, their SYSMOD entries and their element entries.
+//! Inside a transaction, an entry or an element that is put in or taken out, or a zone that is added, changes what the
+//! tables stand for so, and nothing else.
 #![tactic(auto)]
 
 mod element;

@@ -9,7 +9,7 @@ use crate::zone::Global;
 use fields::{Id, Srel};
 use std::marker::Model;
 
-/// An id, its FMID, that one's FMID and so on, for the `++VER`s of an SREL. A contract sees it as the
+/// The walk from an id to its FMID, and on from FMID to FMID, by the `++VER`s of an SREL. A contract sees it as the
 /// list of the ids that are left.
 #[derive(Drop)]
 pub struct Chain<'a> {

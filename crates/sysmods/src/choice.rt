@@ -21,6 +21,7 @@ pub struct VerChoice<'a> {
 }
 
 impl<'a> VerChoice<'a> {
+    /// The choice of the `++VER`s for one SREL.
     pub fn new(global: &'a Global, srel: Srel) -> Self
         ensures global { result.global.now ≡ global.now }
         ensures srel { result.srel ≡ srel }
@@ -53,7 +54,7 @@ impl<'a> VerChoice<'a> {
         self.fmid(id).unwrap_or(id)
     }
 
-    /// The id, its FMID, that one's FMID and so on.
+    /// The id, and all that the walk from FMID to FMID meets.
     pub fn chain(&self, id: Id) -> Chain<'a>
         ensures { result ≡ chain self.now.global.now (choice self.now) id }
     {

@@ -1,4 +1,7 @@
 //! The global zone: the received SYSMODs and the holds.
+//! A `Global` keeps `IsGlobal`. `receive`, `hold`, `release`, `assign` and `reject` are the definitions', and where
+//! they fail nothing changes; `from_parts` takes two lists just where they are those of a global zone. `VerChoice`
+//! answers who is over, supersedes and owns, by the one `++VER` that counts. Times are measured only.
 #![tactic(auto)]
 
 mod chain;

@@ -11,7 +11,8 @@ use sysmods_holds::Holds;
 use sysmods_received::Received;
 use sysmods_records::Sysmod;
 
-/// Takes a new SYSMOD in, and its holds among the others. After an error neither came in.
+/// Takes a new SYSMOD in, and its holds among the others. After an error neither came in: the SYSMOD comes first, since
+/// taking it out again takes no memory.
 pub(crate) fn take_in(
     sysmods: &mut Received,
     holds: &mut Holds,

@@ -49,6 +49,7 @@ impl Model for Global {
 }
 
 impl Global {
+    /// A global zone that has received nothing.
     pub fn new(alloc: Heap) -> Self
         ensures sysmods { result.sysmods ≡ [] }
         ensures holds { result.holds ≡ [] }
@@ -93,6 +94,7 @@ impl Global {
         self.sysmods.len()
     }
 
+    /// Whether no SYSMOD is received.
     pub fn is_empty(&self) -> bool
         ensures { IsTrue result ↔ (self.now.sysmods ≡ []) }
     {
@@ -122,12 +124,14 @@ impl Global {
         self.sysmods.get(id)
     }
 
+    /// Whether a SYSMOD of this id is received.
     pub fn is_received(&self, id: Id) -> bool
         ensures { result ≡ is_received self.now id }
     {
         self.get(id).is_some()
     }
 
+    /// Whether a function of this id is received.
     pub fn is_function(&self, id: Id) -> bool
         ensures { result ≡ is_function self.now id }
     {
@@ -137,6 +141,7 @@ impl Global {
         }
     }
 
+    /// The hold of this key.
     pub fn hold_of(&self, id: Id, kind: HoldKind, reason: Reason) -> Option<&Hold>
         ensures { option_copied result ≡ hold_of self.now id kind reason }
     {

@@ -58,6 +58,7 @@ impl Model for Holds {
 }
 
 impl Holds {
+    /// No holds.
     pub fn new(alloc: Global) -> Self
         ensures { result ≡ [] }
     {
@@ -79,12 +80,14 @@ impl Holds {
         Ok(Some(made))
     }
 
+    /// How many holds there are.
     pub fn len(&self) -> usize
         ensures { result ≡ length self.now }
     {
         self.map.len()
     }
 
+    /// Whether there is no hold.
     pub fn is_empty(&self) -> bool
         ensures { IsTrue result ↔ (self.now ≡ []) }
     {
@@ -98,6 +101,7 @@ impl Holds {
         let _ = self.map.len();
     }
 
+    /// The hold of this key.
     pub fn get(&self, id: Id, kind: HoldKind, reason: Reason) -> Option<&Hold>
         ensures { option_copied result ≡ held self.now id kind reason }
     {

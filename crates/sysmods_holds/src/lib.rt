@@ -1,4 +1,7 @@
 //! The holds of the global zone, by id, kind and reason.
+//! A list that rises, one hold for each key. `put`, `put_all`, `release` and `drop_internal` are those of the list, all
+//! or nothing; `from_vec` takes a list just where it rises. Seen in the code alone: each call is logarithmic in the
+//! map.
 #![tactic(auto)]
 
 mod holds;

@@ -10,8 +10,8 @@ pub record AddsAll (old named new : List Id) : Type 0 where
   pub were_named : (z : Id) → Contains added z → Contains named z
   pub has : (z : Id) → Contains named z → Contains new z
 
--- a search has seen these ids and gone through the first n of them: those that it begins with, none but those that belong to
--- it, and what those that it has gone through name
+-- a search has seen these ids and gone through the first n of them: those that it begins with, none but those that
+-- belong to it, and what those that it has gone through name
 pub record IsGoing (next : Id → List Id) (Begins Belongs : Id → Type 0) (seen : List Id) (n : ℕ) : Type 0 where
   pub within : n ≤ length seen
   pub sound : (z : Id) → Contains seen z → Belongs z

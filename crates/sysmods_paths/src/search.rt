@@ -58,7 +58,7 @@ fn go_on<N: Names>(
     Ok(())
 }
 
-/// The ids that x reaches, in the order in which they are first seen: marks and queue at once. Once
+/// The ids that x reaches, each where the search met it first: marks and queue at once. Once
 /// the one to stop at is seen, it goes no further.
 fn reached<N: Names>(
     alloc: Global,

@@ -1,7 +1,7 @@
 //! The faults by which RECEIVE refuses SYSMODs.
 
-/// `Rc1`: it is there already. `Rc2`: a loop of PRE, SUP and FMID. `Rc3`: a role does not fit. `Rc4`:
-/// 65,535 are there.
+/// `Rc1`: the id is received. `Rc2`: it would close a loop of PRE, SUP and FMID. `Rc3`: a function would be named where
+/// only service may be, or service where only functions may. `Rc4`: 65,535 are there.
 #[derive(Clone, Copy, Debug, PartialEq, Eq)]
 pub enum ReceiveFault {
     Rc1,

@@ -43,6 +43,7 @@ impl Model for Received {
 }
 
 impl Received {
+    /// No SYSMODs.
     pub fn new(alloc: Global) -> Received
         ensures { result ≡ [] }
     {
@@ -52,6 +53,7 @@ impl Received {
         }
     }
 
+    /// How many SYSMODs there are.
     pub fn len(&self) -> usize
         ensures { result ≡ length self.now }
     {
@@ -73,6 +75,7 @@ impl Received {
         self.by_id.get(&id)
     }
 
+    /// Whether there is one of this id.
     pub fn contains(&self, id: Id) -> bool
         ensures { result ≡ is_some (found self.now id) }
     {

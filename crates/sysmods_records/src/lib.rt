@@ -1,4 +1,6 @@
 //! SYSMODs as they are received: their `++VER`s with `++IF`s, their holds and what they change.
+//! Contracts see the records of the definitions: which ids a SYSMOD names, supersedes and names as functions, and how
+//! it grows by one statement more (`add_ver`, `add_if`, `add_hold`, `add_change`).
 #![tactic(auto)]
 
 mod adding;

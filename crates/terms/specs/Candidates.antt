@@ -1,6 +1,6 @@
 -- Which SYSMODs an APPLY or ACCEPT takes up.
--- (IBM z/OS SMP/E Commands, the APPLY command and the ACCEPT command: FUNCTIONS, PTFS, APARS, USERMODS, SELECT, EXCLUDE,
--- SOURCEID, FORFMID, GROUP and GROUPEXTEND. How these combine is this project's profile.)
+-- (IBM z/OS SMP/E Commands, the APPLY command and the ACCEPT command: FUNCTIONS, PTFS, APARS, USERMODS, SELECT,
+-- EXCLUDE, SOURCEID, FORFMID, GROUP and GROUPEXTEND. How these combine is this project's profile.)
 use Rattle.std.specs.Prelude.{◌≡◌, ◌⊎◌, ◌↔◌, ◌&&◌, ◌||◌, Bool, false, not, List, [], ◌∷◌, ◌++◌, Option, None, Some, filter, map, is_some, IsTrue, Contains, if◌then◌else◌}
 use Rattle.std.specs.List.{flat_map}
 use Rattle.std.specs.Option.{option_map_or}
@@ -44,7 +44,7 @@ passes_filters g zone sel s =
     && (is_nil sel.sourceid || meets s.sources sel.sourceid)
     && (is_nil sel.forfmid || meets (forfmid_ids g zone s.id) sel.forfmid)
 
--- The mass choice is made where a filter is given, or neither SELECT nor GROUP.
+-- There is a mass choice wherever a filter asks for one, and where no id is named by SELECT or GROUP.
 abbrev pub has_mass_choice : Selection → Bool
 has_mass_choice sel =
     sel.functions || sel.ptfs || sel.apars || sel.usermods
@@ -80,7 +80,7 @@ if_needed g c zone cands x =
     if_reqs c (λ f. is_applied zone f || cands f) x
     ++ (if is_function g x then stated_for c (applied_ids zone) x else [])
 
--- its needed ids: FMID, PRE, REQ and those by ++IF, less what the zone supplies; a FMID is supplied only if it is applied
+-- its needed ids: FMID, PRE, REQ and those by ++IF, less what the zone supplies; an FMID goes only if it is applied
 unfoldable pub needed_ids : Global → Choice → Zone → (Id → Bool) → Id → List Id
 needed_ids g c zone cands x =
     filter (λ z. not (is_applied zone z)) (at_most_one (fmid_of c x))
@@ -119,7 +119,7 @@ pub record AreCandidates (g : Global) (c : Choice) (zone : Zone) (sel : Selectio
   pub rising : IsRising cands
   pub members : (x : Id) → Contains cands x ↔ IsCandidate g c zone sel x
 
--- why an id of SELECT or GROUP that is neither excluded nor open is no candidate
+-- the reason that is printed of an id that SELECT or GROUP names, and that is not open though EXCLUDE does not name it
 unfoldable pub not_chosen : Global → Zone → Selection → Id → Option NotChosen
 not_chosen g zone sel x =
     if not (is_in (sel.select ++ sel.group) x) || is_in sel.exclude x || is_open g zone sel x then None

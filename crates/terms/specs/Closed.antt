@@ -8,7 +8,8 @@ use Rattle.terms.specs.Changes.{has_replacement, has_update}
 use Rattle.terms.specs.Needs.{binding_ids}
 use Rattle.terms.specs.Texts.{HasForm}
 
--- An applied SYSMOD is received with a ++VER that counts, its FMID is applied, and its requisites are supplied or waived.
+-- An applied SYSMOD is received with a ++VER that counts, its FMID is applied, and its requisites are supplied or
+-- waived.
 pub record IsSupported (c : Choice) (zone : Zone) (x : Id) : Type 0 where
   pub received : IsSome (c x)
   pub fmid : IfSome (fmid_of c x) (λ f. IsTrue (is_applied zone f))
@@ -19,7 +20,8 @@ pub record IsAtPeace (g : Global) (c : Choice) (zone : Zone) (x : Id) : Type 0 w
   pub npre : IsTrue (is_function g x) → All (λ y. IsFalse (is_applied zone y)) (npre_of c x)
   pub chain : All (λ y. IsNone (delby_of zone y)) (chain g c x)
 
--- FMID, RMID and UMIDs of an element are applied, its RMID replaces it and its UMIDs update it, and its FMID owns all these.
+-- FMID, RMID and UMIDs of an element are applied, its RMID replaces it and its UMIDs update it, and its FMID owns all
+-- these.
 pub record IsOwned (g : Global) (c : Choice) (zone : Zone) (e : Element) : Type 0 where
   pub applied : All (λ x. IsTrue (is_applied zone x)) (e.fmid ∷ e.rmid ∷ e.umids)
   pub rmid : IsTrue (has_replacement g e.rmid e.elem_type e.name)

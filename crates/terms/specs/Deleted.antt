@@ -39,6 +39,6 @@ zone_less g c dels zone = record zone {
   elements = filter (λ e. not (is_deleted g c dels e.fmid)) zone.elements;
 }
 
--- a candidate's view of the zone: less what the candidates in its chain delete
+-- a candidate's view of the zone: without what the DELETEs of candidates in its own chain take out
 abbrev pub view : Global → Choice → List Id → Zone → Id → Zone
 view g c cands zone x = zone_less g c (deletions c (filter (is_in cands) (chain g c x))) zone

@@ -1,5 +1,6 @@
--- Why candidates that are not kept are not: the needs that stay open, and the causers. APPLY and ACCEPT, and RESTORE, each have
--- their own eligible ids, needs and what serves a need. (Causers are this project's; SMP/E's CAUSER SYSMOD report is their model.)
+-- Why candidates that are not kept are not: the needs that stay open, and the causers. APPLY and ACCEPT, and RESTORE,
+-- each have their own eligible ids, needs and what serves a need. (Causers are this project's; SMP/E's CAUSER SYSMOD
+-- report is their model.)
 use Rattle.std.specs.Prelude.{◌≡◌, ◌⊎◌, List, [], ◌∷◌, Contains}
 use Rattle.terms.specs.declared.codes.NeedKind.{NeedKind}
 use Rattle.terms.specs.Types.{Id}
@@ -30,7 +31,7 @@ module _ (cands kept : List Id) (Eligible : Id → Type 0) (Needs : Id → NeedK
   abbrev pub HasBareNeed : Id → Type 0
   HasBareNeed x = (kind : NeedKind) × (z : Id) × Needs x kind z × ((y : Id) → Contains cands y → ¬ Serves kind y z)
 
-  -- a root has failed, and is not eligible or has a need that no candidate serves
+  -- a root has failed for a reason of its own: it is not eligible, or nobody serves a need of it
   pub record IsRoot (x : Id) : Type 0 where
     pub failed : HasFailed x
     pub why : (¬ Eligible x) ⊎ HasBareNeed x

@@ -79,7 +79,7 @@ abbrev pub BeginsDark : Text → Type 0
 BeginsDark [] = ⊥
 BeginsDark (b ∷ bs) = b ≢ 32
 
--- the text with the blanks at both ends cut, one character or more
+-- the text without the blanks before and behind it, where something is left
 abbrev pub IsTrimmed : Text → Text → Type 0
 IsTrimmed text cut = (left right : Text) × (text ≡ left ++ cut ++ right) × AreBlanks left × AreBlanks right
     × BeginsDark cut × BeginsDark (reverse cut)

@@ -121,7 +121,8 @@ assign g source x =
 abbrev pub with_sysmod : Global → Sysmod → Global
 with_sysmod g s = record g { sysmods = with_item (slice_cmp nat_cmp) (λ r. r.id) g.sysmods (record s { holds = [] }) }
 
--- Rc1: it is there already. Rc2: a loop. Rc3: a role does not fit. Rc4: there are 65,535 already.
+-- Rc1: the id is received. Rc2: it would close a loop. Rc3: a function would be named where only service may be, or
+-- service where only functions may. Rc4: it would be the 65,536th.
 pub data ReceiveFault : Type 0 where
   Rc1 : ReceiveFault
   Rc2 : ReceiveFault
@@ -151,7 +152,7 @@ abbrev pub Receives : Global → Sysmod → Result Global ReceiveFault → Type 
 Receives g s (Ok new) = ((f : ReceiveFault) → ¬ HasFault g s f) × (new ≡ received g s)
 Receives g s (Err f) = RefusedBy g s f
 
--- Rj1: some zone has it applied. Rj2: it is not received.
+-- Rj1: it is applied in a zone. Rj2: no SYSMOD has the id.
 pub data RejectFault : Type 0 where
   Rj1 : RejectFault
   Rj2 : RejectFault
@@ -163,7 +164,7 @@ without_sysmod g x = record g {
   holds = filter (λ h. not (h.internal && bytes_eq h.id x)) g.holds;
 }
 
--- REJECT takes a received SYSMOD out that no zone, of any SREL, has applied.
+-- REJECT: a received SYSMOD goes where it is applied nowhere, whatever SREL a zone has.
 abbrev pub reject : Global → List NamedZone → Id → Result Global RejectFault
 reject g zones x =
     if not (is_received g x) then Err Rj2

@@ -1,5 +1,5 @@
--- The hold file of RECEIVE HOLDDATA: its holds and releases, and its first fault. (IBM z/OS SMP/E Reference, MCS: ++HOLD and ++RELEASE;
--- Commands, RECEIVE: the SMPHOLD data set.)
+-- The hold file of RECEIVE HOLDDATA: its holds and releases, and its first fault. (IBM z/OS SMP/E Reference, MCS:
+-- ++HOLD and ++RELEASE; Commands, RECEIVE: the SMPHOLD data set.)
 use Rattle.std.specs.Prelude.{◌≡◌, ◌⊎◌, ℕ, false, List, [], ◌∷◌, Option}
 use Rattle.terms.specs.declared.codes.McCode.{McCode}
 use Rattle.terms.specs.declared.codes.McCode.TheVariants.{Mc1, Mc2, Mc3, Mc4, Mc6}

@@ -23,7 +23,8 @@ abbrev pub HasComment : Option Word → Option Text → Type 0
 HasComment None comment = comment ≡ None
 HasComment (Some w) comment = IsSomeAnd w.list (λ text. IsSomeAnd comment (λ cut. IsTrimmed text cut))
 
--- ++HOLD(id) kind FMID(id) REASON(reason) [CLASS(class)] [DATE(yyddd)] [COMMENT(text)], whether the hold is internal or not
+-- ++HOLD(id) kind FMID(id) REASON(reason) [CLASS(class)] [DATE(yyddd)] [COMMENT(text)], whether the hold is internal or
+-- not
 pub record IsHoldOf (own : Option Text) (operands : List Word) (h : Hold) : Type 0 where
   pub id : HasOwn IsId own h.id
   pub are_operands : AreOperands hold_operands operands

@@ -1,6 +1,6 @@
 -- What APPLY and ACCEPT make of the zone, given the kept set.
--- (IBM z/OS SMP/E Commands, APPLY and ACCEPT processing; Reference, SYSMOD entry and element entry of target and distribution
--- zones. What DELETE takes out is this project's profile.)
+-- (IBM z/OS SMP/E Commands, APPLY and ACCEPT processing; Reference, SYSMOD entry and element entry of target and
+-- distribution zones. What DELETE takes out is this project's profile.)
 use Rattle.std.specs.Prelude.{◌≡◌, ◌≢◌, ◌⊎◌, ◌↔◌, ◌&&◌, ℕ, List, [], Option, None, Some, filter, is_some, IsTrue, IsFalse, IfSome, Contains, slice_get, if◌then◌else◌}
 use Rattle.terms.specs.declared.kinds.ElemType.{ElemType}
 use Rattle.terms.specs.Types.{Text, Id, Lines, Change, Replaces, Updates, Global, Element, Zone}
@@ -56,7 +56,7 @@ replaced i r type name distlib syslib lines = record {
 
 -- One element, by type and name.
 module _ (i : Installing) (type : ElemType) (name : Text) where
-  -- r is installed and replaces the element, and is over each other one that does
+  -- r is installed, replaces the element, and is over all other installed ones that replace it
   pub record IsReplacer (r : Id) : Type 0 where
     pub installed : IsInstalled i r
     pub replaces : IsTrue (has_replacement i.global r type name)

@@ -15,13 +15,14 @@ module _ (Eligible : Id → Type 0) (Needs : Id → NeedKind → Id → Type 0) 
   abbrev pub StaysKept : Id → Type 0
   StaysKept x = (set : Id → Bool) × SupportsItself set × IsTrue (set x)
 
-  -- The demand is a need for z: it is of the number of an id that has the need, and lists all that serve it, eligible or not.
+  -- The demand is a need for z: it is of the number of an id that has the need, and lists all that serve it, eligible
+  -- or not.
   pub record DemandsFor (ids : List Id) (d : Demand) (kind : NeedKind) (z : Id) : Type 0 where
     pub of : (x : Id) × (slice_get ids d.of ≡ Some x) × Needs x kind z
     pub any : (n : ℕ) (y : Id) → slice_get ids n ≡ Some y → Contains d.any n ↔ Serves kind y z
 
-  -- The ids are numbered by their places in the list. The problem has their needs, each once, and no others; `needed` gives
-  -- the kind and the id of each.
+  -- The ids are numbered by their places in the list. The problem has their needs, each once, and no others; `needed`
+  -- gives the kind and the id of each.
   pub record IsProblemOf (ids : List Id) (p : Problem) (needed : List (NeedKind × Id)) : Type 0 where
     pub numbers : IsProblem p
     pub size : p.size ≡ length ids

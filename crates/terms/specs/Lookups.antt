@@ -67,7 +67,7 @@ holds_of g kind x = filter (λ h. bytes_eq h.id x && (hold_number h.kind == hold
 abbrev pub is_held : Entry → Bool
 is_held e = is_some e.applied || not (is_nil e.supby) || is_some e.delby
 
--- A waived list stands only where the id is applied.
+-- Only what is applied waives anything.
 abbrev pub waives_applied : Entry → Bool
 waives_applied e = is_some e.applied || is_nil e.waived
 
@@ -95,7 +95,7 @@ entry_of zone x = find (λ e. bytes_eq e.id x) zone.entries
 abbrev pub element_of : Zone → ElemType → Text → Option Element
 element_of zone type name = find (λ e. (type_number e.elem_type == type_number type) && bytes_eq e.name name) zone.elements
 
--- whether it is applied, in a distribution zone accepted. An id that is looked for as an FMID is supplied only so.
+-- whether it is applied, in a distribution zone accepted. Nothing else supplies an FMID.
 abbrev pub is_applied : Zone → Id → Bool
 is_applied zone x = option_map_or (λ e. is_some e.applied) (entry_of zone x) false
 

@@ -1,4 +1,5 @@
--- Operands of statements and commands: each a word, most with a list (SMP/E Reference and Commands: syntax of MCS and commands).
+-- Operands of statements and commands: each a word, most with a list (SMP/E Reference and Commands: syntax of MCS and
+-- commands).
 use Rattle.std.specs.Prelude.{◌≡◌, ◌≢◌, ◌↔◌, Bool, true, false, List, [], All, AllPairs, Contains, Option, Some, None, IsSomeAnd, IsTrue, find}
 use Rattle.std.specs.Str.{bytes_eq}
 use Rattle.terms.specs.Types.{Text}

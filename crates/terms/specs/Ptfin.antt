@@ -1,5 +1,6 @@
--- PTFIN: the order of its statements, the SYSMODs and assignments that they make, and its first fault. (IBM z/OS SMP/E Reference, MCS: a
--- SYSMOD is a header, then ++VERs with their ++IFs, then holds, then elements; ++ASSIGN stands between SYSMODs.)
+-- PTFIN: the order of its statements, the SYSMODs and assignments that they make, and its first fault. (IBM z/OS SMP/E
+-- Reference, MCS: a SYSMOD is a header, then ++VERs with their ++IFs, then holds, then elements; ++ASSIGN stands
+-- between SYSMODs.)
 use Rattle.std.specs.Prelude.{◌≡◌, ◌≢◌, ◌≤◌, ◌<◌, ℕ, Bool, false, List, [], ◌∷◌, ◌++◌, length, map, All, Any, Option, Some, None, IsSomeAnd, IfSome, option_map, ◌⊎◌, IsTrue, if◌then◌else◌}
 use Rattle.std.specs.Option.{option_map_or}
 use Rattle.std.specs.Ordering.{nat_cmp}
@@ -79,8 +80,8 @@ after c (SaysChange x) = record c { current = option_map (with_change x) c.curre
 abbrev pub sysmod_in : Option Begun → Option Sysmod
 sysmod_in current = option_map (λ b. b.sysmod) current
 
--- A header and an ++ASSIGN may stand first, and behind a SYSMOD that has a ++VER. Behind a header come ++VERs, each with its ++IFs,
--- then holds, then elements. ++RELEASE stands in no PTFIN.
+-- A header and an ++ASSIGN may stand first, and behind a SYSMOD that has a ++VER. Behind a header come ++VERs, each
+-- with its ++IFs, then holds, then elements. ++RELEASE stands in no PTFIN.
 abbrev pub MayStand : Option Sysmod → StatementWord → Type 0
 MayStand None (word.Header kind) = Unit {0}
 MayStand None word.Assign = Unit {0}
@@ -95,8 +96,8 @@ MayStand (Some s) (word.Replace type) = s.vers ≢ []
 MayStand (Some s) word.UpdateMac = s.vers ≢ []
 MayStand (Some s) word.UpdateSrc = s.vers ≢ []
 
--- A second ++VER of one SREL, or a second change of one element, be it replaced or updated. The statement word's own list says so,
--- whatever follows.
+-- A second ++VER of one SREL, or a second change of one element, be it replaced or updated. The statement word's own
+-- list says so, whatever follows.
 abbrev pub IsSecond : Sysmod → StatementWord → Option Text → Type 0
 IsSecond s word.Ver own = (srel : Text) × HasOwn IsSrel own srel × Any (λ v. v.srel ≡ srel) s.vers
 IsSecond s w own = (name : Text) × HasOwn IsName own name × Any (λ c. (changed_type w ≡ Some c.elem_type) × (c.name ≡ name)) s.changes
@@ -190,7 +191,8 @@ IsStatementFault current later records Mc2 = IsUnknown records
 IsStatementFault current later records code = (w : StatementWord) × (own : Option Text) × (rest : List Piece) × (inline : Lines)
     × IsKnown records w own rest inline × IsFault current later w own rest inline code
 
--- Behind c, the records that count from n begin with these statements. They make d, and the rest follows, which counts from m.
+-- Behind c, the records that count from n begin with these statements. They make d, and the rest follows, which counts
+-- from m.
 abbrev pub BeginsWithStatements : SoFar → ℕ → Lines → List Statement → SoFar → ℕ → Lines → Type 0
 BeginsWithStatements c n records [] d m rest = (c ≡ d) × (n ≡ m) × (records ≡ rest)
 BeginsWithStatements c n records (s ∷ ss) d m rest =

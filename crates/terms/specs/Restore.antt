@@ -22,7 +22,7 @@ pub record Restoring : Type 0 where
   pub zone : Zone
   pub accepted : Zone
 
--- ELEM: y is another, applied and not accepted, and changes an element of x
+-- ELEM: the other SYSMOD y, which is applied and not accepted, has a change for an element that x changes too
 pub record NeedsElem (r : Restoring) (x y : Id) : Type 0 where
   pub other : y ≢ x
   pub applied : IsTrue (is_applied r.zone y)
@@ -66,7 +66,7 @@ pub record AreListed (r : Restoring) (what : RestoreList) (ids : List Id) : Type
 abbrev pub restore_candidates : Restoring → List Id → List Id
 restore_candidates r ids = filter (is_applied r.zone) ids
 
--- J10: it is accepted, that is, supplied in the distribution zone
+-- J10: the distribution zone supplies it, so it is accepted
 abbrev pub FailsJ10 : Restoring → Id → Type 0
 FailsJ10 r x = IsTrue (is_supplied r.accepted x)
 
@@ -78,7 +78,7 @@ FailsJ11 r x = del_of r.choice x ≢ []
 abbrev pub are_applied : Zone → Element → Bool
 are_applied zone e = not (list_any (λ y. not (is_applied zone y)) (e.fmid ∷ e.rmid ∷ e.umids))
 
--- J12: the distribution zone holds an element of it whose FMID, RMID or a UMID there is not applied in the target zone
+-- J12: the distribution zone has an element of it under an FMID, an RMID or a UMID that the target zone has not applied
 abbrev pub FailsJ12 : Restoring → Id → Type 0
 FailsJ12 r x =
     Any (λ h. IsFalse (option_map_or (are_applied r.zone) (element_of r.accepted h.elem_type h.name) true)) (changes_of r.global x)
@@ -99,8 +99,8 @@ pub record MayBeRestored (r : Restoring) (ids : List Id) (x : Id) : Type 0 where
 abbrev pub IsRestored : Restoring → List Id → Id → Type 0
 IsRestored r ids x = StaysKept (MayBeRestored r ids) (NeedsInRestore r (is_in ids)) (Serves r.choice) x
 
--- The target zone afterwards. A kept SYSMOD is applied no more, waives nothing and leaves every SUPBY. The elements of what
--- is taken off are the distribution zone's, or go where it has none.
+-- The target zone afterwards. A kept SYSMOD is applied no more, waives nothing and leaves every SUPBY. The elements of
+-- what is taken off are the distribution zone's, or go where it has none.
 pub record Restores (r : Restoring) (kept : List Id) (new : Zone) : Type 0 where
   pub rest : new ≡ record r.zone { entries = new.entries; elements = new.elements }
   pub is_zone : IsZone new

@@ -14,7 +14,8 @@ abbrev pub joined : List (List ℕ) → Text
 joined [] = []
 joined (r ∷ rs) = front r ++ followed rs
 
--- A part of a text outside parentheses: a word, parentheses with what is in them, a blank or a comma, a comment, or any other character.
+-- A part of a text outside parentheses: a word, parentheses with what is in them, a blank or a comma, a comment, or any
+-- other character.
 pub data Piece : Type 0 where
   TheWord : Text → Piece
   TheList : Text → Piece
@@ -44,7 +45,8 @@ abbrev pub behind_close : Text → Option Text
 behind_close [] = None
 behind_close (b ∷ bs) = if b == 42 && slice_index bs 0 == 47 then Some (drop 1 bs) else behind_close bs
 
--- What follows the parenthesis that closes a list, inside which one more may be open. None: there is none, or a third one opens.
+-- What follows the parenthesis that closes a list, inside which one more may be open. None: there is none, or a third
+-- one opens.
 abbrev pub behind_list : Bool → Text → Option Text
 behind_list inner [] = None
 behind_list inner (b ∷ bs) =
@@ -85,7 +87,8 @@ IsIdle text = (ps : List Piece) × HasPieces text ps [] × (solid ps ≡ [])
 abbrev pub HasSolid : Text → List Piece → Type 0
 HasSolid text pieces = (ps : List Piece) × (rest : Text) × HasPieces text ps (46 ∷ rest) × (pieces ≡ solid ps)
 
--- A place in the records: behind these ones it is in one whose columns 1 to 72 end in the line, and the later ones follow.
+-- A place in the records: behind these ones it is in one whose columns 1 to 72 end in the line, and the later ones
+-- follow.
 pub record IsPlace (records before : List (List ℕ)) (line : Text) (later : List (List ℕ)) : Type 0 where
   pub at : List ℕ
   pub head : Text
@@ -103,7 +106,8 @@ abbrev pub IsStatement : List (List ℕ) → List Piece → List (List ℕ) → 
 IsStatement records pieces inline =
     (ps : List Piece) × (tail : Text) × Ends records ps tail inline × IsIdle tail × (pieces ≡ solid ps)
 
--- St1: no period. St2: an open comment. St3: parentheses that do not pair or are too deep. St4: text after the period.
+-- St1: nothing ends it. St2: a comment stays open. St3: a parenthesis without its partner, or a third level of them.
+-- St4: more than gaps stand behind its period.
 pub data StFault : Type 0 where
   St1 : StFault
   St2 : StFault
@@ -118,7 +122,8 @@ OpensComment text = (inside : Text) × (text ≡ 47 ∷ 42 ∷ inside) × (behin
 abbrev pub BreaksPairs : Text → Type 0
 BreaksPairs text = (after : Text) × ((text ≡ 41 ∷ after) ⊎ ((text ≡ 40 ∷ after) × (behind_list false after ≡ None)))
 
--- After these pieces the records have no period, an open comment, or bad parentheses. Or their period has text after it.
+-- After these pieces the records have no period, an open comment, or bad parentheses. Or their period has text after
+-- it.
 abbrev pub BreaksOff : List (List ℕ) → List Piece → StFault → Type 0
 BreaksOff records ps St1 = HasPieces (joined records) ps []
 BreaksOff records ps St2 = (rest : Text) × HasPieces (joined records) ps rest × OpensComment rest

@@ -1,5 +1,6 @@
--- The form of each statement of PTFIN: its word, its operands, its text and what it says. (IBM z/OS SMP/E Reference, MCS:
--- ++FUNCTION, ++PTF, ++APAR, ++USERMOD, ++VER, ++IF, ++HOLD, ++ASSIGN, ++MAC, ++SRC, the data elements, ++MACUPD and ++SRCUPD.)
+-- The form of each statement of PTFIN: its word, its operands, its text and what it says. (IBM z/OS SMP/E Reference,
+-- MCS: ++FUNCTION, ++PTF, ++APAR, ++USERMOD, ++VER, ++IF, ++HOLD, ++ASSIGN, ++MAC, ++SRC, the data elements, ++MACUPD
+-- and ++SRCUPD.)
 use Rattle.std.specs.Prelude.{◌≡◌, ◌≢◌, List, [], ◌∷◌, ◌++◌, All, Contains, Option, Some, None, IsSome, IsSomeAnd, IsTrue, codes}
 use Rattle.terms.specs.declared.kinds.Kind.{Kind}
 use Rattle.terms.specs.declared.kinds.Kind.TheVariants.{Function}
@@ -60,7 +61,8 @@ SuitsKind _ operands =
 abbrev pub lists_of : Ver → List (List Id)
 lists_of v = v.pre ∷ v.req ∷ v.sup ∷ v.npre ∷ v.del ∷ []
 
--- ++VER(srel) [FMID(id)] [PRE(ids)] [REQ(ids)] [SUP(ids)] [NPRE(ids)] [DELETE(ids)], where no operand names the SYSMOD itself
+-- ++VER(srel) [FMID(id)] [PRE(ids)] [REQ(ids)] [SUP(ids)] [NPRE(ids)] [DELETE(ids)], where no operand names the SYSMOD
+-- itself
 pub record IsVerOf (s : Sysmod) (own : Option Text) (operands : List Word) (v : Ver) : Type 0 where
   pub srel : HasOwn IsSrel own v.srel
   pub are_operands : AreOperands ver_operands operands
@@ -75,7 +77,7 @@ pub record IsVerOf (s : Sysmod) (own : Option Text) (operands : List Word) (v : 
   pub others : All (λ ids. ¬ Contains ids s.id) (lists_of v)
   pub no_ifs : v.ifs ≡ []
 
--- ++IF FMID(id) THEN REQ(ids), in this order. The FMID may be the SYSMOD itself; the list does not name it.
+-- ++IF FMID(id) THEN REQ(ids): no other order will do. The FMID may be the SYSMOD itself; the list does not name it.
 pub record IsIfOf (s : Sysmod) (own : Option Text) (operands : List Word) (i : IfReq) : Type 0 where
   pub fmid : Word
   pub req : Word
@@ -111,7 +113,7 @@ HasAction word.UpdateMac operands inline (Updates text) = (operands ≡ []) × (
 HasAction word.UpdateSrc operands inline (Updates text) = (operands ≡ []) × (text ≡ inline)
 HasAction _ operands inline action = ⊥
 
--- ++MAC(name) DISTLIB(name) SYSLIB(name), and the same for the other types; ++MACUPD(name) and ++SRCUPD(name)
+-- ++MAC(name) DISTLIB(name) SYSLIB(name), or so with another type's word; ++MACUPD(name) and ++SRCUPD(name)
 pub record IsChangeOf (w : StatementWord) (own : Option Text) (operands : List Word) (inline : Lines) (c : Change) : Type 0 where
   pub type_is : changed_type w ≡ Some c.elem_type
   pub name : HasOwn IsName own c.name

@@ -51,15 +51,15 @@ is_bypassed_hold b h = covers (reasons_of b h.kind) h.reason || option_map_or (i
 abbrev pub standing_holds : Setting → HoldKind → Id → List Hold
 standing_holds s kind x = filter (λ h. not (is_bypassed_hold s.bypass h)) (holds_of s.global kind x)
 
--- J1: it has a SYSTEM hold that is not bypassed
+-- J1: a SYSTEM hold stands against it
 abbrev pub FailsJ1 : Setting → Id → Type 0
 FailsJ1 s x = standing_holds s System x ≢ []
 
--- J2: it has a USER hold that is not bypassed
+-- J2: a USER hold stands against it
 abbrev pub FailsJ2 : Setting → Id → Type 0
 FailsJ2 s x = standing_holds s User x ≢ []
 
--- J3 (NPRE): in its view an applied SYSMOD stands in its NPRE, or an applied function names it in NPRE
+-- J3: its NPRE names what is applied in its view, or the NPRE of a function that is applied there names it
 abbrev pub FailsJ3 : Setting → Id → Type 0
 FailsJ3 s x = (y : Id) × IsTrue (is_applied (view_of s x) y)
     × (Contains (npre_of s.choice x) y ⊎ (IsTrue (is_function s.global y) × Contains (npre_of s.choice y) x))
@@ -69,11 +69,11 @@ abbrev pub ChangesInView : Setting → Id → Element → Type 0
 ChangesInView s x e = (type : ElemType) × (name : Text)
     × IsTrue (has_change s.global x type name) × (element_of (view_of s x) type name ≡ Some e)
 
--- J4: it changes an element that its view holds under another owner
+-- J4: an element that it changes has another owner in its view
 abbrev pub FailsJ4 : Setting → Id → Type 0
 FailsJ4 s x = (e : Element) × ChangesInView s x e × (e.fmid ≢ owner_of s x)
 
--- J5: it changes an element of its view and is not over its RMID and each UMID, unless BYPASS(ID)
+-- J5: an element that it changes has an RMID or UMID in its view that it is not over; BYPASS(ID) leaves this test out
 abbrev pub FailsJ5 : Setting → Id → Type 0
 FailsJ5 s x = IsFalse s.bypass.same_id
     × ((e : Element) × (z : Id) × ChangesInView s x e × Contains (e.rmid ∷ e.umids) z × ¬ IsOver s.choice x z)
@@ -83,12 +83,12 @@ abbrev pub has_candidate_base : Setting → Id → ElemType → Text → Bool
 has_candidate_base s x type name =
     option_map_or (λ f. is_in s.cands f && has_replacement s.global f type name) (fmid_of s.choice x) false
 
--- J6: it updates an element that its view lacks, and its FMID is no candidate that replaces it
+-- J6: it has an update for what its view lacks, and no replacement of that comes with its FMID as a candidate
 abbrev pub FailsJ6 : Setting → Id → Type 0
 FailsJ6 s x = (type : ElemType) × (name : Text) × IsTrue (has_update s.global x type name)
     × (element_of (view_of s x) type name ≡ None) × IsFalse (has_candidate_base s x type name)
 
--- J7: for ACCEPT it is not applied in the related target zone, or there is none, unless BYPASS(APPLYCHECK)
+-- J7, for ACCEPT: no related target zone has applied it; BYPASS(APPLYCHECK) leaves this test out
 abbrev pub FailsJ7 : Setting → Id → Type 0
 FailsJ7 s x =
     (s.zone.kind ≡ Distribution)
@@ -110,7 +110,7 @@ FailsAlone s x _ = ⊥
 abbrev pub PassesAlone : Setting → Id → Type 0
 PassesAlone s x = Contains s.cands x × ((test : Test) → ¬ FailsAlone s x test)
 
--- J8 (DELETE): it passes these, and its chain meets the DELETE of one that does, which may be its own
+-- J8: among those that pass these, a DELETE names it or an id of its chain; that DELETE may be its own
 abbrev pub FailsJ8 : Setting → Id → Type 0
 FailsJ8 s x = PassesAlone s x
     × ((y : Id) × PassesAlone s y × IsTrue (is_deleted s.global s.choice (del_of s.choice y) x))
@@ -128,7 +128,7 @@ pub record AreSurvivors (s : Setting) (ids : List Id) : Type 0 where
 abbrev pub ShareElement : Global → Id → Id → Type 0
 ShareElement g x y = (type : ElemType) × (name : Text) × IsTrue (has_change g x type name) × IsTrue (has_change g y type name)
 
--- their owners differ, or neither is over the other
+-- they have two owners, or over does not order them
 abbrev pub AreApart : Setting → Id → Id → Type 0
 AreApart s x y = (owner_of s x ≢ owner_of s y) ⊎ ((¬ IsOver s.choice x y) × (¬ IsOver s.choice y x))
 

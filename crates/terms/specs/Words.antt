@@ -17,7 +17,8 @@ list_pieces (Some list) = TheList list ∷ []
 abbrev pub word_pieces : Word → List Piece
 word_pieces w = TheWord w.word ∷ list_pieces w.list
 
--- The pieces, gaps left out, are these words and nothing else: no other character, and no list without a word before it.
+-- The pieces, gaps left out, are these words and nothing else: no other character, and no list without a word before
+-- it.
 abbrev pub HasWords : List Piece → List Word → Type 0
 HasWords pieces words = pieces ≡ flat_map word_pieces words
 

@@ -13,8 +13,8 @@ pub enum CommandWord {
     Report,
 }
 
-/// The fault of a PTFIN or hold file: `Mc1` records or form of a statement, `Mc2` unknown statement,
-/// `Mc3` bad operand, `Mc4` order of statements, `Mc5` text of an element, `Mc6` limit.
+/// What is wrong in a PTFIN or hold file: `Mc1` a record, or how a statement is built; `Mc2` the word that it begins
+/// with; `Mc3` an operand; `Mc4` its place among the others; `Mc5` the text behind it; `Mc6` one of the limits.
 #[derive(Clone, Copy, Debug, PartialEq, Eq, PartialOrd, Ord, Hash)]
 pub enum McCode {
     Mc1,
@@ -25,8 +25,8 @@ pub enum McCode {
     Mc6,
 }
 
-/// The fault of a command file: `Cn1` unknown command, `Cn2` bad operand, `Cn3` operand twice,
-/// `Cn4` RESTORE not with exactly one of SELECT and GROUP, `Cn5` records or form of a command.
+/// What is wrong in a command file: `Cn1` the word of a command; `Cn2` an operand; `Cn3` an operand that comes again;
+/// `Cn4` RESTORE with both SELECT and GROUP or without them; `Cn5` a record, or how a command is built.
 #[derive(Clone, Copy, Debug, PartialEq, Eq, PartialOrd, Ord, Hash)]
 pub enum CnCode {
     Cn1,
@@ -67,7 +67,7 @@ pub enum NeedKind {
 }
 
 /// Why one id was refused: by RECEIVE (`Rc2` a loop, `Rc3` a role, `Rc4` the limit), by `++RELEASE`
-/// (`Rl1` no such hold, `Rl2` an internal hold) or by REJECT (`Rj1` applied somewhere, `Rj2` not received).
+/// (`Rl1` nothing has the key, `Rl2` it came with its SYSMOD) or by REJECT (`Rj1` applied somewhere, `Rj2` not there).
 #[derive(Clone, Copy, Debug, PartialEq, Eq, PartialOrd, Ord, Hash)]
 pub enum IdRefusal {
     Rc2,

@@ -29,7 +29,7 @@ pub enum ElemType {
     Proc,
 }
 
-/// A target zone describes a running system, a distribution zone its permanent level.
+/// APPLY works on a target zone, what runs; ACCEPT on a distribution zone, the level that RESTORE goes back to.
 #[derive(Clone, Copy, Debug, PartialEq, Eq, PartialOrd, Ord, Hash)]
 pub enum ZoneKind {
     Target,

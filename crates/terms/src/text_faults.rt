@@ -3,7 +3,7 @@
 /// What is wrong with a record of a text.
 #[derive(Clone, Copy, Debug, PartialEq, Eq)]
 pub enum TextCode {
-    /// Columns 73 to 80 are not eight digits.
+    /// The record has no number: no eight digits in columns 73 to 80.
     Tx1,
     /// The number of a text does not rise.
     Tx2,

@@ -1,4 +1,6 @@
 //! Texts of elements as records of 80 bytes: numbered texts, updates of them, and their merge.
+//! A text or an update is read just where it is one, else its first bad record is told. `merge` is the merge of the two
+//! maps. Seen in the code alone: it is one pass.
 #![tactic(auto)]
 
 mod control;

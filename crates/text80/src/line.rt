@@ -26,6 +26,7 @@ impl Model for Line {
 }
 
 impl Line {
+    /// A record of these bytes.
     pub fn new(bytes: [u8; RECORD]) -> Line
         ensures { result ≡ bytes }
     {

@@ -34,6 +34,7 @@ impl Model for ZoneDelta {
 }
 
 impl ZoneDelta {
+    /// A delta that changes nothing.
     pub fn new(alloc: Global) -> Self
         ensures entries { result.entries ≡ [] }
         ensures elements { result.elements ≡ [] }
@@ -52,12 +53,14 @@ impl ZoneDelta {
         let _ = self.elements.as_slice();
     }
 
+    /// What is put and removed of entries, rising by id.
     pub fn entries(&self) -> &[Edit<Entry, Id>]
         ensures { result.now ≡ self.now.entries }
     {
         self.entries.as_slice()
     }
 
+    /// What is put and removed of elements, rising by type and name.
     pub fn elements(&self) -> &[Edit<Element, (ElemType, Name)>]
         ensures { result.now ≡ self.now.elements }
     {
@@ -90,6 +93,7 @@ impl ZoneDelta {
         Ok(())
     }
 
+    /// The entry of this id goes.
     pub fn remove_entry(&mut self, id: Id) -> Result<(), AllocError>
         ensures ok { OnOk result
             (self.new ≡ record self.old {
@@ -113,6 +117,7 @@ impl ZoneDelta {
         Ok(())
     }
 
+    /// The element of this type and name goes.
     pub fn remove_element(&mut self, elem_type: ElemType, name: Name) -> Result<(), AllocError>
         ensures ok { OnOk result
             (self.new ≡ record self.old {

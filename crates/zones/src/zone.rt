@@ -74,18 +74,21 @@ impl Zone {
         })
     }
 
+    /// Whether it is a target or a distribution zone.
     pub fn kind(&self) -> ZoneKind
         ensures { result ≡ self.now.kind }
     {
         self.kind
     }
 
+    /// Its SREL.
     pub fn srel(&self) -> Srel
         ensures { result ≡ self.now.srel }
     {
         self.srel
     }
 
+    /// The name of the distribution zone that a target zone is related to.
     pub fn related(&self) -> Option<ZoneName>
         ensures { result ≡ self.now.related }
     {
@@ -109,32 +112,35 @@ impl Zone {
         }
     }
 
+    /// Its entries, rising by id.
     pub fn entries(&self) -> &[Entry]
         ensures { result.now ≡ self.now.entries }
     {
         self.entries.as_slice()
     }
 
+    /// Its elements, rising by type and name.
     pub fn elements(&self) -> &[Element]
         ensures { result.now ≡ self.now.elements }
     {
         self.elements.as_slice()
     }
 
+    /// The entry of this id.
     pub fn entry(&self, id: Id) -> Option<&Entry>
         ensures { option_copied result ≡ entry_of self.now id }
     {
         self.entries.get(id)
     }
 
+    /// The element of this type and name.
     pub fn element(&self, elem_type: ElemType, name: Name) -> Option<&Element>
         ensures { option_copied result ≡ element_of self.now elem_type name }
     {
         self.elements.get((elem_type, name))
     }
 
-    /// Whether the id is applied, in a distribution zone accepted. An id that is looked for as an
-    /// FMID is supplied only so.
+    /// Whether the id is applied, in a distribution zone accepted. Nothing else supplies an FMID.
     pub fn is_applied(&self, id: Id) -> bool
         ensures { result ≡ is_applied self.now id }
     {
