@@ -22,13 +22,12 @@ use Rattle.terms.specs.Candidates.{is_installable}
 use Rattle.terms.specs.Tests.{ShareElement}
 use Rattle.terms.specs.Delta.{IsChanged, edit_key, edit_put, element_eq}
 use Rattle.terms.specs.Install.{Installing, IsInstalled, cleared, deleters, delby_after, replaced, IsReplacer, IsUpdater, HasElementAfter, IsUpdated, Installs}
-use Rattle.terms.proofs.Apart.{here, here_or, none_in, in_map, map_in}
-use Rattle.terms.proofs.Decided.{in_or_not}
+use Rattle.lemmas.proofs.Members.{here, here_or, none_in, in_map, map_in}
+use Rattle.terms.proofs.Ids.{in_or_not}
 use Rattle.terms.proofs.ElementOrder.{element_cmp_total, element_ties, type_from_number}
-use Rattle.terms.proofs.GlobalLookups.{same_from, same_itself, All-find}
+use Rattle.lemmas.proofs.Texts.{same_from, same_itself}
+use Rattle.lemmas.proofs.Searches.{All-find, filter-none, find-gives}
 use Rattle.terms.proofs.NothingDeleted.{deletions-none, is_deleted-none, zone_less-none}
-use Rattle.terms.proofs.RisingLists.{filter-none}
-use Rattle.terms.proofs.SameLists.{find-gives}
 use Rattle.change.specs.Puts.{applied_entry, own_element, puts}
 use Rattle.change.proofs.InTurn.{flat_in, in_flat, find-member, in_turn-none, in_turn-some}
 use Rattle.change.proofs.Installable.{no_del, supersedes_none, no_entry, replaces}

@@ -3,15 +3,15 @@ use Rattle.std.proofs.Common.{◌≡◌, ◌⊎◌, inl, inr, Bool, true, false,
 use Rattle.std.specs.Prelude.{Contains, find, fold, Some}
 use Rattle.std.specs.List.{flat_map}
 use Rattle.std.specs.declared.cmp.Ordering.{Ordering}
-use Rattle.std.specs.declared.cmp.Ordering.TheVariants.{Less, Equal, Greater}
 use Rattle.std.specs.Ordering.{is_eq}
 use Rattle.std.specs.Cmp.{IsTotalOrder}
 use Rattle.std.proofs.lemmas.List.Elements.{Contains-append_left, Contains-append_right, Contains-append_cases}
+use Rattle.lemmas.proofs.Orderings.{Equal-from_is_eq}
 use Rattle.terms.specs.declared.kinds.Edit.TheVariants.{Put}
 use Rattle.terms.specs.Rising.{Rises, with_item}
 use Rattle.terms.proofs.RisingLists.{find-there, Splits-around}
 use Rattle.terms.proofs.Edits.{find-after_edit}
-use Rattle.terms.proofs.Apart.{here, there, here_or, none_in, parts}
+use Rattle.lemmas.proofs.Members.{here, there, here_or, none_in, parts}
 
 -- what lists of lists contain
 pub flat_in : {X Y : Type 0} (f : X → List Y) (xs : List X) (y : Y) → Contains (flat_map f xs) y → (x : X) × Contains xs x × Contains (f x) y
@@ -35,15 +35,9 @@ module _ {X K : Type 0} {R : K → K → Ordering} (o : IsTotalOrder R) (key : X
   pub find-member : (xs : List X) (x : X) (k : K) → Rises R key xs → Contains xs x → E (key x) k ≡ true → find (λ y. E (key y) k) xs ≡ Some x
   find-member xs x k rises h hit =
       let p = parts xs x h in
-      let tie = equal (R (key x) k) (sym (ties (key x) k) ∙ hit) in
+      let tie = Equal-from_is_eq (R (key x) k) (sym (ties (key x) k) ∙ hit) in
       ap (find (λ y. E (key y) k)) p.2
       ∙ find-there o key E ties k p.0 p.1 x (Splits-around o key k p.0 p.1 x (subst (Rises R key) p.2 rises) tie) tie
-    where
-      equal : (r : Ordering) → is_eq r ≡ true → r ≡ Equal
-      equal Less e = absurd (true≢false (sym e))
-      equal Equal e = refl
-      equal Greater e = absurd (true≢false (sym e))
-
   find-with_item : (xs : List X) (x : X) (k : K) → find (λ y. E (key y) k) (with_item R key xs x) ≡ cond (E (key x) k) (Some x) (find (λ y. E (key y) k) xs)
   find-with_item xs x k = find-after_edit o key E ties xs (Put x) k
 

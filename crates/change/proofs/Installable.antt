@@ -5,6 +5,7 @@ use Rattle.std.specs.List.{list_all}
 use Rattle.std.specs.Option.{option_map_or}
 use Rattle.std.specs.Str.{bytes_eq}
 use Rattle.std.proofs.lemmas.Bool.{and_parts, not-true}
+use Rattle.terms.proofs.Nil.{nil_from}
 use Rattle.terms.specs.Types.{Id, kind_number, Ver, Sysmod, Change, Entry, Global, Zone}
 use Rattle.terms.specs.Lookups.{IsZone, is_nil, is_held, sysmod_of, is_function, entry_of, delby_of, is_supplied, changes_of}
 use Rattle.terms.specs.Choice.{by_srel, vers_of, sup_of, del_of}
@@ -12,12 +13,8 @@ use Rattle.terms.specs.Over.{Leads, Supersedes}
 use Rattle.terms.specs.Changes.{is_replacement}
 use Rattle.terms.specs.Served.{is_plain, has_plain_ver, has_plain_changes, is_served}
 use Rattle.terms.specs.Candidates.{is_installable}
-use Rattle.terms.proofs.Apart.{here_or, none_in}
-use Rattle.terms.proofs.GlobalLookups.{All-find}
-
-pub nothing : {X : Type 0} (xs : List X) → is_nil xs ≡ true → xs ≡ []
-nothing [] e = refl
-nothing (x ∷ xs) e = absurd (true≢false (sym e))
+use Rattle.lemmas.proofs.Members.{here_or, none_in}
+use Rattle.lemmas.proofs.Searches.{All-find}
 
 module _ (g : Global) (zone : Zone) (x : Id) (ok : IsTrue (is_installable g zone x)) where
   outer : ((not (is_nil (vers_of g zone.srel x)) && is_served g zone x && not (is_supplied zone x)) ≡ true) × (not (is_some (delby_of zone x)) ≡ true)
@@ -32,7 +29,7 @@ module _ (g : Global) (zone : Zone) (x : Id) (ok : IsTrue (is_installable g zone
   plain : (has_plain_ver g zone x ≡ true) × (option_map_or has_plain_changes (sysmod_of g x) true ≡ true)
   plain = and_parts _ _ (and_parts _ _ (and_parts _ _ served).0).0
 
-  -- it supersedes and deletes nothing
+  -- it supersedes and deletes nil_from
   pub no_sup : sup_of (by_srel g zone.srel) x ≡ []
   no_sup = by (by_srel g zone.srel x) refl
     where
@@ -41,7 +38,7 @@ module _ (g : Global) (zone : Zone) (x : Id) (ok : IsTrue (is_installable g zone
       by (Some v) at =
           let all : is_plain v ≡ true = sym (ap (λ o. option_map_or is_plain o true) at) ∙ plain.0 in
           let front = and_parts _ _ (and_parts _ _ (and_parts _ _ all).0).0 in
-          ap (λ o. option_map_or (λ v. v.sup) o []) at ∙ nothing v.sup (and_parts _ _ front.0).1
+          ap (λ o. option_map_or (λ v. v.sup) o []) at ∙ nil_from v.sup (and_parts _ _ front.0).1
 
   pub no_del : del_of (by_srel g zone.srel) x ≡ []
   no_del = by (by_srel g zone.srel x) refl
@@ -51,7 +48,7 @@ module _ (g : Global) (zone : Zone) (x : Id) (ok : IsTrue (is_installable g zone
       by (Some v) at =
           let all : is_plain v ≡ true = sym (ap (λ o. option_map_or is_plain o true) at) ∙ plain.0 in
           let front = and_parts _ _ (and_parts _ _ all).0 in
-          ap (λ o. option_map_or (λ v. v.del) o []) at ∙ nothing v.del front.1
+          ap (λ o. option_map_or (λ v. v.del) o []) at ∙ nil_from v.del front.1
 
   pub supersedes_none : (z : Id) → ¬ Supersedes (by_srel g zone.srel) x z
   supersedes_none z (between, path) = by between path
@@ -86,7 +83,7 @@ module _ (g : Global) (zone : Zone) (x : Id) (ok : IsTrue (is_installable g zone
         where
           parted : (s : Sysmod) → (b : Bool) → is_nil s.changes ≡ b → has_plain_changes s ≡ true → Contains s.changes h
               → ((kind_number s.kind == 0) ≡ true) × (list_all (λ c. is_replacement c.action) s.changes ≡ true)
-          parted s true e fits within = absurd (none_in h (subst (λ cs. Contains cs h) (nothing s.changes e) within))
+          parted s true e fits within = absurd (none_in h (subst (λ cs. Contains cs h) (nil_from s.changes e) within))
           parted s false e fits within = and_parts _ _ (sym (ap (λ b. b || ((kind_number s.kind == 0) && list_all (λ c. is_replacement c.action) s.changes)) e) ∙ fits)
 
           all_pass : (cs : List Change) → list_all (λ c. is_replacement c.action) cs ≡ true → Contains cs h → is_replacement h.action ≡ true

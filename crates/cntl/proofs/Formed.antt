@@ -7,13 +7,6 @@ use Rattle.terms.specs.Forms.{IsId}
 use Rattle.terms.specs.Words.{Word}
 use Rattle.terms.specs.Operands.{operand}
 use Rattle.terms.specs.CommandForms.{HasSome, HasInstall, HasOperands, command_word}
-use Rattle.operands.specs.declared.errors.OperandError.{OperandError}
-use Rattle.operands.specs.declared.errors.OperandError.TheVariants.{Memory, Bad}
-use Rattle.operands.specs.Failing.{Excludes}
-
-pub excludes_more : (e : OperandError) (P Q : Type 0) → (Q → P) → Excludes e P → Excludes e Q
-excludes_more Memory P Q more h = tt
-excludes_more Bad P Q more h = λ q. h (more q)
 
 -- what a command of each word has
 pub of_reject : (ws : List Word) (c : Command) → command_word c ≡ word.Reject → HasOperands ws c → (ids : List Text) × HasSome IsId (operand (codes "SELECT") ws) ids

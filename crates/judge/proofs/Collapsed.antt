@@ -20,10 +20,10 @@ use Rattle.terms.specs.Deleted.{deletions, is_deleted, zone_less}
 use Rattle.terms.specs.Tests.{Setting, view_of, owner_of, is_bypassed_hold, ChangesInView, FailsJ1, FailsJ2, FailsJ3, FailsJ4, FailsJ5, FailsJ6, FailsJ7, FailsJ8, FailsAlone, Survives, ShareElement, Clash}
 use Rattle.terms.specs.CommandForms.{no_bypass}
 use Rattle.terms.specs.Judged.{setting}
-use Rattle.terms.proofs.SameLists.{find-gives}
-use Rattle.terms.proofs.GlobalLookups.{same_from, same_itself}
+use Rattle.lemmas.proofs.Searches.{find-gives}
+use Rattle.lemmas.proofs.Texts.{same_from, same_itself}
 use Rattle.terms.proofs.ElementOrder.{type_from_number}
-use Rattle.terms.proofs.Apart.{here_or}
+use Rattle.lemmas.proofs.Members.{here_or}
 use Rattle.terms.proofs.NothingDeleted.{view-none, deletions-none, zone_less-none, is_deleted-none}
 use Rattle.judge.proofs.Plain.{IsPlain, all-from, applied-among}
 

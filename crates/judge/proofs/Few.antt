@@ -1,27 +1,20 @@
 -- There are no more candidates than received SYSMODs.
-use Rattle.std.proofs.Common.{◌≡◌, ◌<◌, ◌^◌, refl, true, List, [], Option, None, Some, All, IsTrue, not, sym, ◌∙◌, ap, subst, true≢false, filter, length, map, get_or, Contains, arith}
+use Rattle.std.proofs.Common.{◌≡◌, ◌<◌, ◌^◌, refl, true, List, [], Option, None, Some, All, IsTrue, not, sym, ◌∙◌, ap, subst, true≢false, filter, length, map, Contains, arith}
 use Rattle.std.specs.Option.{option_map_or}
-use Rattle.std.specs.Ordering.{nat_cmp, is_lt}
-use Rattle.std.specs.Cmp.Lexicographic.{slice_cmp}
 use Rattle.std.specs.Str.{bytes_eq}
 use Rattle.std.proofs.lemmas.Bool.{and_parts}
-use Rattle.std.proofs.lemmas.Cmp.{nat_list_cmp_total, tied_itself}
 use Rattle.std.proofs.lemmas.List.{length-map}
 use Rattle.std.proofs.lemmas.List.Elements.{All-contains}
+use Rattle.terms.proofs.Ids.{apart-from_rising}
 use Rattle.terms.specs.Types.{Id, Sysmod, Global, Zone}
 use Rattle.terms.specs.Lookups.{IsRising, is_nil, sysmod_of}
 use Rattle.terms.specs.Choice.{vers_of}
 use Rattle.terms.specs.Candidates.{is_installable}
 use Rattle.terms.specs.Global.{IsGlobal}
-use Rattle.terms.proofs.Apart.{AreApart, apart-le, in_map}
-use Rattle.terms.proofs.GlobalLookups.{same_from}
-use Rattle.terms.proofs.SameLists.{find-gives}
-
-apart-from_rising : (ids : List Id) → IsRising ids → AreApart ids
-apart-from_rising ids rising = λ i j d before below same.
-    let first = get_or ids i d in
-    let tied : slice_cmp nat_cmp first (get_or ids j d) ≡ _ = ap (slice_cmp nat_cmp first) (sym same) ∙ tied_itself nat_list_cmp_total first in
-    true≢false (sym (rising i j d before below) ∙ ap is_lt tied)
+use Rattle.lemmas.proofs.Apart.{apart-le}
+use Rattle.lemmas.proofs.Members.{in_map}
+use Rattle.lemmas.proofs.Texts.{same_from}
+use Rattle.lemmas.proofs.Searches.{find-gives}
 
 module _ (g : Global) (zone : Zone) where
   received : (x : Id) → IsTrue (is_installable g zone x) → Contains (map (λ s. s.id) g.sysmods) x

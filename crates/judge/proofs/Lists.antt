@@ -23,9 +23,6 @@ push-cases [] y (suc i) x e = absurd (cc e)
 push-cases (z ∷ zs) y zero x e = inl e
 push-cases (z ∷ zs) y (suc i) x e = elim (push-cases zs y i x e) [ inl old ↦ inl old | inr last ↦ inr (ap suc last.0, last.1) ]
 
-pub beside-none : {X Y : Type 0} (R : ℕ → X → Y → Type 0) → Beside R [] []
-beside-none R = record { lengths = refl; each = λ n x y e f. absurd (cc e) }
-
 pub beside-more : {X Y : Type 0} (R : ℕ → X → Y → Type 0) (xs : List X) (ys : List Y) (x : X) (y : Y) → Beside R xs ys → R (length xs) x y → Beside R (xs ++ x ∷ []) (ys ++ y ∷ [])
 beside-more R xs ys x y b r = record {
   lengths = length-append ys (y ∷ []) ∙ ap (λ n. n + 1) b.lengths ∙ sym (length-append xs (x ∷ []));

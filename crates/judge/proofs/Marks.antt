@@ -6,14 +6,15 @@ use Rattle.std.specs.Str.{bytes_eq}
 use Rattle.std.proofs.lemmas.Bool.{and_parts, eqb-true, eq-eqb, cases_eq}
 use Rattle.std.proofs.lemmas.List.{append-nil}
 use Rattle.std.proofs.lemmas.List.Elements.{Contains-append_left, Contains-append_right, Contains-append_cases, Contains-push, Contains-push_cases}
+use Rattle.std.proofs.lemmas.Option.{same_Some}
 use Rattle.indexmap.specs.IndexSet.{insert_key}
 use Rattle.indexmap.proofs.CallerLemmas.{Contains-insert_key}
 use Rattle.terms.specs.declared.kinds.ElemType.{ElemType}
 use Rattle.terms.specs.Types.{Text, Id, Global, type_number}
 use Rattle.terms.specs.Lookups.{changes_of}
 use Rattle.terms.proofs.ElementOrder.{eq-types, type_from_number}
-use Rattle.terms.proofs.GlobalLookups.{same_from, same_itself}
-use Rattle.terms.proofs.Apart.{in_map, map_in}
+use Rattle.lemmas.proofs.Texts.{same_from, same_itself}
+use Rattle.lemmas.proofs.Members.{in_map, map_in}
 use Rattle.terms.specs.contracts.kinds.ElemTypePartialEq.TheImpl as type_equality
 use Rattle.judge.specs.declared.own.OwnFaults.{OwnFaults}
 use Rattle.judge.specs.declared.sharing.Claim.{Claim}
@@ -35,16 +36,6 @@ key-itself a =
     ap (λ b. b && bytes_eq a.1 a.1) (eq-types a.0 a.0 ∙ eq-eqb (type_number a.0) (type_number a.0) refl) ∙ same_itself a.1
 
 -- ---- marks
-
-nothing-in : {A X : Type 0} (xs : List X) (x : X) → xs ≡ [] → Contains xs x → A
-nothing-in xs x none h = let t = subst (λ l. Contains l x) none h in absurd (omega (arith, t.1))
-
-pub marked-none : (first : Key → Option ℕ) (shared : List ℕ) → ((key : Key) → first key ≡ None) → shared ≡ [] → AreMarked [] first shared
-marked-none first shared no_first none = record {
-  first_is = λ key n e. let no : None ≡ Some n = sym (no_first key) ∙ e in absurd (cc no);
-  seen = λ key n h. nothing-in [] _ refl h;
-  marks = λ n h. nothing-in shared n none h;
-}
 
 more-shared : (claims : List Claim) (claim : Claim) (n : ℕ) → IsSharedPlace claims n → IsSharedPlace (claims ++ claim ∷ []) n
 more-shared claims claim n s = record {
@@ -207,9 +198,6 @@ marked-all claims first shared m n = (m.marks n, by)
 -- ---- claims
 
 module _ (g : Global) (ids : List Id) (faults : List OwnFaults) where
-  pub claims-none : AreClaims g ids faults 0 []
-  claims-none key n = (λ h. nothing-in [] _ refl h, λ h. absurd (omega (arith, h.below)))
-
   wider : (k : ℕ) (key : Key) (n : ℕ) → HasClaim g ids faults k key n → HasClaim g ids faults (k + 1) key n
   wider k key n h = record {
     below = omega (arith, h.below);
@@ -232,9 +220,6 @@ module _ (g : Global) (ids : List Id) (faults : List OwnFaults) where
     changes = h.changes;
   }
 
-  some-same : {X : Type 0} (a b : X) → Some a ≡ Some b → a ≡ b
-  some-same a b e = cc e
-
   -- the next candidate fails by itself
   pub claims-skip : (k : ℕ) (own : OwnFaults) (claims : List Claim) → slice_get faults k ≡ Some own → passes own ≡ false
       → AreClaims g ids faults k claims → AreClaims g ids faults (k + 1) claims
@@ -243,7 +228,7 @@ module _ (g : Global) (ids : List Id) (faults : List OwnFaults) where
     λ h. elim (cases_eq n k) [
       | inl this ↦
           let here : Some own ≡ Some h.own = sym at ∙ subst (λ m. slice_get faults m ≡ Some h.own) this h.own_at in
-          absurd (true≢false (sym h.passing ∙ ap passes (sym (some-same own h.own here)) ∙ fails))
+          absurd (true≢false (sym h.passing ∙ ap passes (sym (same_Some own h.own here)) ∙ fails))
       | inr other ↦ (are key n).1 (narrower k key n other h)
     ],
   )
@@ -279,7 +264,7 @@ module _ (g : Global) (ids : List Id) (faults : List OwnFaults) where
       takes h = elim (cases_eq n k) [
         | inl this ↦
             let here : Some x ≡ Some h.x = sym at ∙ subst (λ m. slice_get ids m ≡ Some h.x) this h.at in
-            let m = map_in change_key (changes_of g x) key (subst (λ y. Contains (map change_key (changes_of g y)) key) (sym (some-same x h.x here)) h.changes) in
+            let m = map_in change_key (changes_of g x) key (subst (λ y. Contains (map change_key (changes_of g y)) key) (sym (same_Some x h.x here)) h.changes) in
             Contains-append_right claims (claims_at k x) (a_claim key n)
             (subst (Contains (claims_at k x)) (ap₂ a_claim m.2 (sym this)) (in_map (λ h. a_claim (change_key h) k) (changes_of g x) m.0 m.1))
         | inr other ↦ Contains-append_left claims (claims_at k x) (a_claim key n) ((are key n).1 (narrower k key n other h))

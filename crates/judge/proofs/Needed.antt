@@ -20,16 +20,13 @@ use Rattle.terms.specs.Needs.{Needs, Serves, asked, orphans, is_lost, zone_left,
 use Rattle.terms.specs.CommandForms.{no_bypass}
 use Rattle.terms.specs.Judged.{setting}
 use Rattle.terms.specs.Problem.{Demand, Problem}
-use Rattle.terms.proofs.RisingLists.{filter-none}
-use Rattle.terms.proofs.Apart.{here_or, here, there}
+use Rattle.lemmas.proofs.Searches.{filter-none}
+use Rattle.lemmas.proofs.Members.{here_or, here, there, none_in_nil}
 use Rattle.judge.proofs.Plain.{IsPlain}
 use Rattle.judge.proofs.Collapsed.{view-is, zone-left}
 use Rattle.terms.proofs.NothingDeleted.{is_deleted-none}
 use Rattle.judge.specs.Wanted.{open_fmid, ArePlaces, IsWant, AreWants, AddsOpen, HasWants}
 use Rattle.judge.proofs.Lists.{push-old, push-last, push-cases}
-
-none-in : {A : Type 0} {X : Type 0} (l : List X) (z : X) → l ≡ [] → Contains l z → A
-none-in l z none h = let t = subst (λ l. Contains l z) none h in absurd (omega (arith, t.1))
 
 right-false : (a : Bool) → (a && false) ≡ false
 right-false true = refl
@@ -88,14 +85,14 @@ module _ (g : Global) (zone : Zone) (ids : List Id)
   asks-fmid : (x : Id) (kind : NeedKind) (z : Id) → Contains ids x → Contains (asked s survivors x kind) z
       → (kind ≡ Fmid) × (fmid_of c x ≡ Some z)
   asks-fmid x Fmid z in_ids h = (refl, at-most (fmid_of c x) z h)
-  asks-fmid x Pre z in_ids h = none-in (pre_of c x) z (plain x in_ids).names_nothing.pre h
-  asks-fmid x Req z in_ids h = none-in (req_of c x) z (plain x in_ids).names_nothing.req h
-  asks-fmid x Ifreq z in_ids h = none-in (if_needed g c (view_of s x) (is_in ids) x) z (no-ifs x in_ids) h
+  asks-fmid x Pre z in_ids h = none_in_nil (pre_of c x) z (plain x in_ids).names_nothing.pre h
+  asks-fmid x Req z in_ids h = none_in_nil (req_of c x) z (plain x in_ids).names_nothing.req h
+  asks-fmid x Ifreq z in_ids h = none_in_nil (if_needed g c (view_of s x) (is_in ids) x) z (no-ifs x in_ids) h
   asks-fmid x HoldError z in_ids h =
-      none-in (map (λ h. h.reason) (standing_holds s Error x)) z
+      none_in_nil (map (λ h. h.reason) (standing_holds s Error x)) z
       (ap (λ l. map (λ h. h.reason) (filter (λ h. not (is_bypassed_hold no_bypass h)) l)) (plain x in_ids).no_error) h
   asks-fmid x Orphan z in_ids h =
-      none-in (cond (is_in survivors x) (orphans s x) []) z (cond-none (is_in survivors x) (orphans s x) (no-orphans x in_ids)) h
+      none_in_nil (cond (is_in survivors x) (orphans s x) []) z (cond-none (is_in survivors x) (orphans s x) (no-orphans x in_ids)) h
   asks-fmid x Elem z in_ids h = absurd (omega (arith, h.1))
   asks-fmid x Dep z in_ids h = absurd (omega (arith, h.1))
 
@@ -141,15 +138,6 @@ adds-over : (old new : Problem) (d : Demand) → new ≡ record old { demands = 
 adds-over old new d e = (ap (λ (p : Problem). p.size) e, ap (λ (p : Problem). p.eligible) e, ap (λ (p : Problem). p.demands) e)
 
 module _ (wants : Id → Option Id) (ids : List Id) where
-  pub wants-none : AreWants wants ids 0 [] []
-  wants-none = record {
-    lengths = refl;
-    each = λ i d need e f. absurd (cc e);
-    below = λ i d e. absurd (cc e);
-    all = λ n x f below at open_f. absurd (omega (arith, below));
-    once = λ i j d e at_i at_j same. absurd (cc at_i);
-  }
-
   -- the next candidate needs nothing
   pub wants-skip : (k : ℕ) (x : Id) (ds : List Demand) (ns : List (NeedKind × Id)) → slice_get ids k ≡ Some x → wants x ≡ None
       → AreWants wants ids k ds ns → AreWants wants ids (k + 1) ds ns

@@ -3,7 +3,7 @@ use Rattle.std.proofs.Common.{◌≡◌, ◌≢◌, inl, inr, ℕ, zero, suc, �
 use Rattle.std.specs.Prelude.{All, ◌↔◌, ◌==◌, ◌&&◌, nat_eq}
 use Rattle.std.specs.Option.{option_map, option_map_or}
 use Rattle.std.specs.Str.{bytes_eq}
-use Rattle.std.proofs.lemmas.Bool.{and_parts, eqb-true, cases_order, cases_eq}
+use Rattle.std.proofs.lemmas.Bool.{and_parts, eqb-true, cases_order, cases_eq, not-true}
 use Rattle.std.specs.Ordering.{is_lt, nat_cmp}
 use Rattle.std.specs.Cmp.Lexicographic.{slice_cmp}
 use Rattle.std.proofs.lemmas.Map.Lookups.{exact_bytes}
@@ -11,7 +11,7 @@ use Rattle.terms.specs.Rising.{Stands}
 use Rattle.std.proofs.lemmas.Cmp.{nat_list_cmp_total, nat_eq_equiv, tied_itself}
 use Rattle.std.proofs.lemmas.List.{length-map}
 use Rattle.terms.specs.Needs.{Needs, Serves}
-use Rattle.std.proofs.lemmas.Option.{slice_get_within, slice_get-get_or, slice_get-map, get_or_from_slice_get}
+use Rattle.std.proofs.lemmas.Option.{slice_get_within, slice_get-get_or, slice_get-map, get_or_from_slice_get, same_Some}
 use Rattle.std.proofs.lemmas.List.Folds.{Any-from_list_any, list_any-from_Any}
 use Rattle.std.proofs.lemmas.List.Elements.{All-contains, filter_passes}
 use Rattle.std.proofs.lemmas.List.Kept.{AllPairs-filter}
@@ -29,10 +29,10 @@ use Rattle.terms.specs.Tests.{Setting, FailsJ4, FailsJ5, FailsJ7, FailsJ9, Survi
 use Rattle.terms.specs.CommandForms.{no_bypass}
 use Rattle.terms.specs.Judged.{setting, IsInstallProblem}
 use Rattle.terms.specs.Problem.{Problem, IsProblem, holds}
-use Rattle.terms.proofs.RisingLists.{AllPairs-rest}
-use Rattle.terms.proofs.NumberedCauses.{contains_at, found_at}
-use Rattle.terms.proofs.GlobalLookups.{same_from, same_itself}
-use Rattle.terms.proofs.Apart.{map_in, in_map, here_or, here, there}
+use Rattle.lemmas.proofs.Pairs.{AllPairs-rest}
+use Rattle.lemmas.proofs.Places.{contains_at, found_at}
+use Rattle.lemmas.proofs.Texts.{same_from, same_itself}
+use Rattle.lemmas.proofs.Members.{map_in, in_map, here_or, here, filter_in, in_filter}
 use Rattle.machine.specs.Installing.{all_tests}
 use Rattle.judge.specs.declared.own.OwnFaults.{OwnFaults}
 use Rattle.judge.specs.Failed.{AreFailedTests}
@@ -42,23 +42,16 @@ use Rattle.judge.specs.Sharing.{change_key, HasClaim, IsSharedAt}
 use Rattle.judge.specs.Rows.{fails_test, is_among, row_of, is_eligible_at}
 use Rattle.judge.specs.Wanted.{open_fmid, ArePlaces, AreWants}
 use Rattle.terms.proofs.Ids.{is_in-from_Contains}
-use Rattle.judge.proofs.Plain.{IsPlain, in-filter}
+use Rattle.judge.proofs.Plain.{IsPlain}
 use Rattle.judge.proofs.Collapsed.{change-found, change-has, never-held-system, never-held-user, never-prevented, never-bare-update, never-deleted, foreign-from, foreign-gives, lower-from, lower-gives, unapplied-gives, survives-from, clash-shares, share-clashes}
 use Rattle.judge.proofs.Needed.{needs-only, needs-open, serves-itself}
-
-some-is : {X : Type 0} (a b : X) → Some a ≡ Some b → a ≡ b
-some-is a b e = cc e
-
-not-from : (b : Bool) → not b ≡ true → b ≡ false
-not-from true e = absurd (true≢false (sym e))
-not-from false e = refl
 
 off : (b : Bool) → ¬ IsTrue b → not b ≡ true
 off true lacks = absurd (lacks refl)
 off false lacks = refl
 
 bytes-apart : (x y : Id) → not (bytes_eq x y) ≡ true → x ≢ y
-bytes-apart x y e same = true≢false (sym (subst (λ z. bytes_eq x z ≡ true) same (same_itself x)) ∙ not-from (bytes_eq x y) e)
+bytes-apart x y e same = true≢false (sym (subst (λ z. bytes_eq x z ≡ true) same (same_itself x)) ∙ not-true (bytes_eq x y) e)
 
 bytes-differ : (x y : Id) → x ≢ y → not (bytes_eq x y) ≡ true
 bytes-differ x y other = off (bytes_eq x y) (λ same. other (same_from x y same))
@@ -91,7 +84,7 @@ one-place ids rising f x i at is n y at_y = (
   λ h.
       let same : i ≡ n = elim (here_or i [] n h) [ inl here ↦ here | inr later ↦ absurd (omega (arith, later.1)) ] in
       let both : Some x ≡ Some y = sym at ∙ subst (λ k. slice_get ids k ≡ Some y) (sym same) at_y in
-      sym (some-is x y both) ∙ is,
+      sym (same_Some x y both) ∙ is,
   λ e. elim (cases_eq i n) [
     | inl same ↦ (0, omega arith, same)
     | inr other ↦ absurd (two-places ids rising i n x y at at_y other (is ∙ sym e))
@@ -104,18 +97,6 @@ no-place ids f none n y at_y = (
   λ e. absurd (true≢false (sym (is_in-from_Contains ids f (subst (Contains ids) e (contains_at ids n y at_y))) ∙ none)),
 )
 
-from-filter : {X : Type 0} (p : X → Bool) (xs : List X) (x : X) → Contains (filter p xs) x → Contains xs x
-from-filter p [] x h = h
-from-filter {X} p (y ∷ ys) x h = by (from-filter p ys x) (p y) refl
-  where
-    by : (Contains (filter p ys) x → Contains ys x) → (b : Bool) → p y ≡ b → Contains (y ∷ ys) x
-    by rest true e =
-        elim (here_or y (filter p ys) x (subst (λ l. Contains l x) (ap (λ b. cond b (y ∷ filter p ys) (filter p ys)) e) h)) [
-          | inl same ↦ (0, omega arith, same)
-          | inr later ↦ there y ys x (rest later)
-        ]
-    by rest false e = there y ys x (rest (subst (λ l. Contains l x) (ap (λ b. cond b (y ∷ filter p ys) (filter p ys)) e) h))
-
 -- the place of an id and what it fails by itself
 abbrev pub own_of : List Id → List OwnFaults → ℕ → Id → Option (ℕ × OwnFaults)
 own_of [] faults k x = None
@@ -127,13 +108,13 @@ own-at : (ids : List Id) (faults : List OwnFaults) (k : ℕ) → IsRising ids �
 own-at [] faults k rising n m x a at own place = absurd (cc at)
 own-at (y ∷ ys) [] k rising n m x a at own place = absurd (cc own)
 own-at (y ∷ ys) (b ∷ faults) k rising zero m x a at own place =
-    let same : y ≡ x = some-is y x at in
-    let is : b ≡ a = some-is b a own in
+    let same : y ≡ x = same_Some y x at in
+    let is : b ≡ a = same_Some b a own in
     let number : k ≡ m = omega (arith, place) in
     ap (λ t. cond t (Some (k, b)) (own_of ys faults (suc k) x)) (subst (λ z. bytes_eq y z ≡ true) same (same_itself y)) ∙ ap₂ (λ i c. Some (i, c)) number is
 own-at (y ∷ ys) (b ∷ faults) k rising (suc n) m x a at own place =
     let other : y ≢ x = two-places (y ∷ ys) rising 0 (suc n) y x refl at (λ e. omega (arith, e)) in
-    ap (λ t. cond t (Some (k, b)) (own_of ys faults (suc k) x)) (not-from (bytes_eq y x) (bytes-differ y x other))
+    ap (λ t. cond t (Some (k, b)) (own_of ys faults (suc k) x)) (not-true (bytes_eq y x) (bytes-differ y x other))
     ∙ own-at ys faults (suc k) (AllPairs-rest (λ u v. IsTrue (is_before u v)) y ys rising) n m x a at own (omega (arith, place))
 
 module _ (g : Global) (zone : Zone) (ids : List Id) (held : All (λ e. IsTrue (is_held e)) zone.entries) (rising : IsRising ids)
@@ -200,9 +181,9 @@ module _ (g : Global) (zone : Zone) (ids : List Id) (held : All (λ e. IsTrue (i
           let p = and_parts (not a.foreign && not a.lower) (not a.unapplied) on in
           let q = and_parts (not a.foreign) (not a.lower) p.0 in
           survives-from g zone ids held plain x in_ids
-          (λ f. true≢false (sym (four.1 f) ∙ not-from a.foreign q.0))
-          (λ f. true≢false (sym (five.1 f) ∙ not-from a.lower q.1))
-          (λ f. true≢false (sym (seven.1 f) ∙ not-from a.unapplied p.1)),
+          (λ f. true≢false (sym (four.1 f) ∙ not-true a.foreign q.0))
+          (λ f. true≢false (sym (five.1 f) ∙ not-true a.lower q.1))
+          (λ f. true≢false (sym (seven.1 f) ∙ not-true a.unapplied p.1)),
       λ survives.
           let no_four = off a.foreign (λ on. survives.0.1 J4 (four.0 on)) in
           let no_five = off a.lower (λ on. survives.0.1 J5 (five.0 on)) in
@@ -235,14 +216,14 @@ module _ (g : Global) (zone : Zone) (ids : List Id) (held : All (λ e. IsTrue (i
   survivors = filter is_survivor ids
 
   pub survivors-among : (x : Id) → Contains survivors x → Contains ids x
-  survivors-among x h = from-filter is_survivor ids x h
+  survivors-among x h = (filter_in is_survivor ids x h).0
 
   pub are-survivors : AreSurvivors s survivors
   are-survivors = record {
     rising = AllPairs-filter (λ u v. IsTrue (is_before u v)) is_survivor ids rising;
     members = λ x. (
-      λ h. (survivor-if x (from-filter is_survivor ids x h)).0 (All-contains (λ y. is_survivor y ≡ true) survivors x (filter_passes is_survivor ids) h),
-      λ survives. in-filter is_survivor ids x survives.0.0 ((survivor-if x survives.0.0).1 survives),
+      λ h. (survivor-if x (filter_in is_survivor ids x h).0).0 (All-contains (λ y. is_survivor y ≡ true) survivors x (filter_passes is_survivor ids) h),
+      λ survives. in_filter is_survivor ids x survives.0.0 ((survivor-if x survives.0.0).1 survives),
     );
   }
 
@@ -355,7 +336,7 @@ module _ (g : Global) (zone : Zone) (ids : List Id) (held : All (λ e. IsTrue (i
     eligible-if n x a at at_own = (
       λ on.
           let p = and_parts (passes a) (not (is_among shared n)) on in
-          ((survives-if n x a at at_own).0 p.0, λ fails. true≢false (sym ((nine n x at).1 fails) ∙ not-from (is_among shared n) p.1)),
+          ((survives-if n x a at at_own).0 p.0, λ fails. true≢false (sym ((nine n x at).1 fails) ∙ not-true (is_among shared n) p.1)),
       λ eligible.
           let alone = (survives-if n x a at at_own).1 eligible.0 in
           let apart = off (is_among shared n) (λ on. eligible.1 ((nine n x at).0 on)) in

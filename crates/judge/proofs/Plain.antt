@@ -1,5 +1,5 @@
 -- What is installable names its function alone, is held by nothing, and changes elements only as a function.
-use Rattle.std.proofs.Common.{◌≡◌, ◌⊎◌, inl, inr, Bool, true, false, not, List, [], ◌∷◌, Option, None, Some, IsTrue, refl, sym, ap, ◌∙◌, subst, true≢false, filter, Contains, cond, arith}
+use Rattle.std.proofs.Common.{◌≡◌, ◌⊎◌, inl, inr, Bool, true, false, not, List, [], ◌∷◌, Option, None, Some, IsTrue, refl, sym, ap, ◌∙◌, subst, true≢false, filter, Contains, arith}
 use Rattle.std.specs.Prelude.{◌&&◌, ◌==◌, is_some}
 use Rattle.std.specs.List.{list_all}
 use Rattle.std.specs.Option.{option_map_or}
@@ -8,17 +8,14 @@ use Rattle.terms.specs.declared.kinds.HoldKind.TheVariants.{Error, System, User}
 use Rattle.terms.specs.Types.{Id, Ver, Sysmod, Global, Zone, kind_number}
 use Rattle.terms.specs.Lookups.{is_nil, sysmod_of, is_function, changes_of, holds_of, applied_ids, is_applied, entry_of, is_supplied, delby_of}
 use Rattle.std.specs.Str.{bytes_eq}
+use Rattle.terms.proofs.Nil.{nil_from}
 use Rattle.terms.specs.Choice.{Choice, by_srel, vers_of, pre_of, req_of, sup_of, npre_of, del_of, ifs_of}
 use Rattle.terms.specs.Changes.{is_replacement}
 use Rattle.terms.specs.Served.{is_plain, has_plain_ver, has_plain_changes, is_unheld, is_served_zone, is_served}
 use Rattle.terms.specs.Candidates.{is_installable}
-use Rattle.terms.proofs.SameLists.{find-gives}
-use Rattle.terms.proofs.GlobalLookups.{same_from}
-use Rattle.terms.proofs.Apart.{in_map, here_or, there}
-
-pub nil-from : {X : Type 0} (xs : List X) → is_nil xs ≡ true → xs ≡ []
-nil-from [] e = refl
-nil-from (x ∷ xs) e = absurd (true≢false (sym e))
+use Rattle.lemmas.proofs.Searches.{find-gives}
+use Rattle.lemmas.proofs.Texts.{same_from}
+use Rattle.lemmas.proofs.Members.{in_map, here_or, there, in_filter}
 
 -- its ++VER that counts names nothing but its function
 pub record NamesNothing (c : Choice) (x : Id) : Type 0 where
@@ -49,12 +46,12 @@ names-nothing c x plain = by (c x) refl
         let u = and_parts (is_nil v.pre && is_nil v.req) (is_nil v.sup) n.0 in
         let r = and_parts (is_nil v.pre) (is_nil v.req) u.0 in
         record {
-          pre = ap (λ o. option_map_or (λ v. v.pre) o []) e ∙ nil-from v.pre r.0;
-          req = ap (λ o. option_map_or (λ v. v.req) o []) e ∙ nil-from v.req r.1;
-          sup = ap (λ o. option_map_or (λ v. v.sup) o []) e ∙ nil-from v.sup u.1;
-          npre = ap (λ o. option_map_or (λ v. v.npre) o []) e ∙ nil-from v.npre n.1;
-          del = ap (λ o. option_map_or (λ v. v.del) o []) e ∙ nil-from v.del d.1;
-          ifs = ap (λ o. option_map_or (λ v. v.ifs) o []) e ∙ nil-from v.ifs f.1;
+          pre = ap (λ o. option_map_or (λ v. v.pre) o []) e ∙ nil_from v.pre r.0;
+          req = ap (λ o. option_map_or (λ v. v.req) o []) e ∙ nil_from v.req r.1;
+          sup = ap (λ o. option_map_or (λ v. v.sup) o []) e ∙ nil_from v.sup u.1;
+          npre = ap (λ o. option_map_or (λ v. v.npre) o []) e ∙ nil_from v.npre n.1;
+          del = ap (λ o. option_map_or (λ v. v.del) o []) e ∙ nil_from v.del d.1;
+          ifs = ap (λ o. option_map_or (λ v. v.ifs) o []) e ∙ nil_from v.ifs f.1;
         }
 
 -- what an installable SYSMOD is, for the judge
@@ -77,7 +74,7 @@ plain-changes g x plain = by (sysmod_of g x) refl
         let p : has_plain_changes s ≡ true = sym (ap (λ o. option_map_or has_plain_changes o true) e) ∙ plain in
         let are : changes_of g x ≡ s.changes = ap (λ o. option_map_or (λ s. s.changes) o []) e in
         elim (or_cases (is_nil s.changes) ((kind_number s.kind == 0) && list_all (λ h. is_replacement h.action) s.changes) p) [
-          | inl none ↦ inl (are ∙ nil-from s.changes none)
+          | inl none ↦ inl (are ∙ nil_from s.changes none)
           | inr both ↦
               let parts = and_parts (kind_number s.kind == 0) (list_all (λ h. is_replacement h.action) s.changes) both in
               inr (ap (λ o. option_map_or (λ s. kind_number s.kind == 0) o false) e ∙ parts.0, ap (list_all (λ h. is_replacement h.action)) are ∙ parts.1)
@@ -89,22 +86,6 @@ all-from p (y ∷ ys) x all h =
     let parts = and_parts (p y) (list_all p ys) all in
     elim (here_or y ys x h) [ inl same ↦ subst (λ v. p v ≡ true) same parts.0 | inr later ↦ all-from p ys x parts.1 later ]
 
-pub in-filter : {X : Type 0} (p : X → Bool) (xs : List X) (x : X) → Contains xs x → p x ≡ true → Contains (filter p xs) x
-in-filter p [] x h e = h
-in-filter {X} p (y ∷ ys) x h e =
-    elim (here_or y ys x h) [
-      | inl same ↦ first same
-      | inr later ↦ next (in-filter p ys x later e) (p y) refl
-    ]
-  where
-    first : y ≡ x → Contains (filter p (y ∷ ys)) x
-    first same =
-        subst (λ l. Contains l x) (sym (ap (λ b. cond b (y ∷ filter p ys) (filter p ys)) (subst (λ v. p v ≡ true) (sym same) e))) (0, omega arith, same)
-
-    next : Contains (filter p ys) x → (b : Bool) → p y ≡ b → Contains (filter p (y ∷ ys)) x
-    next rest true f = subst (λ l. Contains l x) (sym (ap (λ b. cond b (y ∷ filter p ys) (filter p ys)) f)) (there y (filter p ys) x rest)
-    next rest false f = subst (λ l. Contains l x) (sym (ap (λ b. cond b (y ∷ filter p ys) (filter p ys)) f)) rest
-
 -- an applied id is one of the zone's applied ids
 pub applied-among : (zone : Zone) (y : Id) → IsTrue (is_applied zone y) → Contains (applied_ids zone) y
 applied-among zone y on = by (entry_of zone y) refl
@@ -113,7 +94,7 @@ applied-among zone y on = by (entry_of zone y) refl
     by None e = absurd (true≢false (sym on ∙ ap (λ o. option_map_or (λ e. is_some e.applied) o false) e))
     by (Some f) e =
         let g = find-gives (λ v. bytes_eq v.id y) zone.entries f e in
-        let there = in-filter (λ v. is_some v.applied) zone.entries f g.1 (sym (ap (λ o. option_map_or (λ e. is_some e.applied) o false) e) ∙ on) in
+        let there = in_filter (λ v. is_some v.applied) zone.entries f g.1 (sym (ap (λ o. option_map_or (λ e. is_some e.applied) o false) e) ∙ on) in
         subst (Contains (applied_ids zone)) (same_from f.id y g.0) (in_map (λ v. v.id) (filter (λ v. is_some v.applied) zone.entries) f there)
 
 pub plain-from : (g : Global) (zone : Zone) (x : Id) → IsTrue (is_installable g zone x) → IsPlain g zone x
@@ -132,8 +113,8 @@ plain-from g zone x installable =
     record {
       names_nothing = names-nothing (by_srel g zone.srel) x c.0;
       changes = plain-changes g x c.1;
-      no_error = nil-from (holds_of g Error x) f.0;
-      no_system = nil-from (holds_of g System x) f.1;
-      no_user = nil-from (holds_of g User x) e.1;
+      no_error = nil_from (holds_of g Error x) f.0;
+      no_system = nil_from (holds_of g System x) f.1;
+      no_user = nil_from (holds_of g User x) e.1;
       applied = λ y on. names-nothing (by_srel g zone.srel) y (all-from (has_plain_ver g zone) (applied_ids zone) y a.1 on);
     }

@@ -1,6 +1,7 @@
 -- What a replacement says, and its text.
 use Rattle.std.proofs.Common.{◌≡◌, List, [], Option, Some, refl, sym, ◌∙◌, ap, subst, inl, inr, ◌⊎◌}
 use Rattle.std.specs.List.{flat_map}
+use Rattle.std.proofs.lemmas.Option.{same_Some}
 use Rattle.terms.specs.declared.kinds.ElemType.{ElemType}
 use Rattle.terms.specs.declared.kinds.ElemType.TheVariants.{Mac, Src, Clist, Data, Exec, Parm, Proc}
 use Rattle.terms.specs.declared.statement_words.StatementWord.{StatementWord}
@@ -45,9 +46,6 @@ numbered_form type text (inr e) r = (subst (λ t. IsReplacement t text) e r).1
 pub not_numbered : (type : ElemType) (inline lines : Lines) (fault : TextFault) → (type ≡ Mac) ⊎ (type ≡ Src) → lines ≡ inline → IsNumberedFault lines fault → IsReplacement type inline → ⊥
 not_numbered type inline lines fault is same f r =
     numbered-no_fault lines fault (subst IsNumbered (sym same) (numbered_form type inline is r)) f
-
-some_type : (a b : ElemType) → Some a ≡ Some b → a ≡ b
-some_type a b e = cc (e)
 
 abbrev pub a_change : ElemType → Text → Text → Text → Lines → Change
 a_change type name distlib syslib text = record { elem_type = type; name = name; action = Replaces distlib syslib text }
@@ -111,8 +109,8 @@ update_to w type name text is h = absurd h
 pub update_from : (w : StatementWord) (type : ElemType) (name : Text) (text : Lines) → (changed_type w ≡ Some type) × IsUpdateWord w → IsUpdate name text → IsActionOf type name (Updates text)
 update_from word.UpdateMac Mac name text is h = h
 update_from word.UpdateSrc Src name text is h = h
-update_from word.UpdateMac type name text is h = subst (λ t. IsActionOf t name (Updates text)) (some_type Mac type is.0) h
-update_from word.UpdateSrc type name text is h = subst (λ t. IsActionOf t name (Updates text)) (some_type Src type is.0) h
+update_from word.UpdateMac type name text is h = subst (λ t. IsActionOf t name (Updates text)) (same_Some Mac type is.0) h
+update_from word.UpdateSrc type name text is h = subst (λ t. IsActionOf t name (Updates text)) (same_Some Src type is.0) h
 update_from w type name text is h = absurd is.1
 
 pub not_update : (name : Text) (inline lines : Lines) (fault : TextFault) → lines ≡ inline → IsUpdateFault name lines fault → IsUpdate name inline → ⊥

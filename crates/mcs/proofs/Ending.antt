@@ -1,10 +1,9 @@
 -- Words that are taken one after the other, up to the end.
-use Rattle.std.proofs.Common.{◌≡◌, List, [], ◌∷◌, Option, Some, None, refl, sym, ◌∙◌, ap, subst}
-use Rattle.std.specs.Prelude.{option_map, is_some, true, false}
+use Rattle.std.proofs.Common.{◌≡◌, List, [], ◌∷◌, Option, Some, None, refl, sym, subst}
+use Rattle.std.specs.Prelude.{option_map, is_some, false}
 use Rattle.std.proofs.lemmas.Bool.{true≢false}
-use Rattle.terms.specs.Types.{Text}
 use Rattle.terms.specs.Statement.{Piece}
-use Rattle.terms.specs.Words.{Word, plain, HasWords, TakesWord, BeginsNoWords}
+use Rattle.terms.specs.Words.{Word, HasWords, TakesWord, BeginsNoWords}
 use Rattle.terms.proofs.Solids.{words_more, words_first}
 
 pub some_rest : (rest : List Piece) (w : Word) (more : List Piece) → TakesWord rest w more → rest ≡ [] → ⊥
@@ -27,17 +26,9 @@ no_first pieces v vs none h = cc (none, h)
 pub ended_none : (pieces : List Piece) → HasWords pieces [] → pieces ≡ []
 ended_none pieces h = h
 
--- a word without a list
-pub plain_is : (w : Word) (text : Text) → w.word ≡ text → w.list ≡ None → w ≡ plain text
-plain_is w text is none = ap (λ t. record { word = t; list = w.list }) is ∙ ap (λ l. record { word = text; list = l }) none
-
 pub no_list : {X Y : Type 0} (o : Option X) (f : X → Y) → is_some o ≡ false → option_map f o ≡ None
 no_list None f e = refl
 no_list (Some x) f e = absurd (true≢false e)
-
-pub a_list : {X Y : Type 0} (o : Option X) (f : X → Y) → is_some o ≡ true → option_map f o ≡ None → ⊥
-a_list None f e none = true≢false (sym e)
-a_list (Some x) f e none = cc (none)
 
 -- three words and nothing else
 pub three : (pieces r s t : List Piece) (a b c : Word) → TakesWord pieces a r → TakesWord r b s → TakesWord s c t → t ≡ [] → HasWords pieces (a ∷ b ∷ c ∷ [])

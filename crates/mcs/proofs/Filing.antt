@@ -1,13 +1,13 @@
 -- Statements, one by one.
-use Rattle.std.proofs.Common.{◌≡◌, ◌<◌, ℕ, List, [], ◌∷◌, ◌++◌, length, map, Option, Some, None, refl, sym, ap, subst, arith, length-append, inr}
+use Rattle.std.proofs.Common.{◌≡◌, ℕ, List, [], ◌∷◌, ◌++◌, map, Option, Some, None, refl, sym, ap, subst, inr}
 use Rattle.std.specs.Prelude.{IsSomeAnd, if◌then◌else◌}
 use Rattle.terms.specs.declared.codes.McCode.{McCode}
 use Rattle.terms.specs.Types.{Text, Lines, IfReq, Ver, Hold, Item}
 use Rattle.terms.specs.Records.{HasRecords}
-use Rattle.terms.specs.Groups.{Group, IsGroup, TakesGroup}
+use Rattle.terms.specs.Groups.{Group, TakesGroup}
 use Rattle.terms.specs.Words.{Word}
 use Rattle.terms.specs.Statements.{Statement, SaysHeader, SaysVer, SaysIf, SaysHold, SaysAssign, SaysChange, IsOwnHoldOf}
-use Rattle.terms.specs.Ptfin.{Begun, sysmod_in, is_last, with_if, SoFar, nothing, items_of, after, IsGoodStatement, IsStatementFault, BeginsWithStatements, IsPtfin}
+use Rattle.terms.specs.Ptfin.{Begun, sysmod_in, is_last, with_if, SoFar, nothing, after, IsGoodStatement, IsStatementFault, BeginsWithStatements, IsPtfin}
 use Rattle.terms.proofs.ExactPtfin.{ptfin_fault-no_items}
 use Rattle.mcs_statements.specs.declared.fault.StatementError.{StatementError}
 use Rattle.mcs_statements.specs.declared.fault.StatementError.TheVariants as statement
@@ -16,9 +16,6 @@ use Rattle.mcs_statements.specs.declared.error.McsError.TheVariants.{Memory, Fau
 use Rattle.mcs.specs.Files.{Suits, error_at, IsPtfinError, IsRestError}
 use Rattle.mcs.specs.Said.{IsStatementError}
 
-pub begins_none : (c : SoFar) (n : ℕ) (records : Lines) → BeginsWithStatements c n records [] c n records
-begins_none c n records = (refl, refl, refl)
-
 pub begins_more : (c : SoFar) (n : ℕ) (records : Lines) (ss : List Statement) (d : SoFar) (m : ℕ) (rest : Lines) (g : Group) (next : ℕ) (later : Lines) (s : Statement) → BeginsWithStatements c n records ss d m rest → TakesGroup m rest g next later → IsGoodStatement d.current later g.records s
     → BeginsWithStatements c n records (ss ++ s ∷ []) (after d s) next later
 begins_more c n records [] d m rest g next later s b t good =
@@ -26,13 +23,6 @@ begins_more c n records [] d m rest g next later s b t good =
     (g, next, later, takes, subst (λ x. IsGoodStatement x.current later g.records s) (sym b.0) good, (ap (λ x. after x s) b.0, refl, refl))
 begins_more c n records (s' ∷ ss) d m rest g next later s b t good =
     (b.0, b.1, b.2, b.3, b.4, begins_more (after c s') b.1 b.2 ss d m rest g next later s b.5 t good)
-
-some_records : (g : Lines) → IsGroup g → 0 < length g
-some_records [] h = absurd h
-some_records (r ∷ rs) h = omega arith
-
-pub group_shorter : (n m : ℕ) (records rest : Lines) (g : Group) → TakesGroup n records g m rest → length rest < length records
-group_shorter n m records rest g t = omega (arith, ap length t.records_are, length-append g.records rest, some_records g.records t.is_group)
 
 rest_fault : (c : SoFar) (n : ℕ) (records : Lines) (ss : List Statement) (d : SoFar) (m : ℕ) (rest : Lines) (g : Group) (next : ℕ) (later : Lines) (code : McCode) → BeginsWithStatements c n records ss d m rest → TakesGroup m rest g next later → IsStatementFault d.current later g.records code
     → IsRestError c n records (Fault g.number code)
@@ -46,9 +36,6 @@ rest_error c n records ss d m rest g next later (statement.Fault code) b t f = r
 pub file_error : (bytes : List ℕ) (records : Lines) (error : McsError) → HasRecords bytes records → IsRestError nothing 1 records error → IsPtfinError bytes error
 file_error bytes records Memory h r = tt
 file_error bytes records (Fault number code) h r = inr (records, r.0, r.1, r.2, r.3, h, r.4, r.5)
-
-pub file_items : (bytes : List ℕ) (records : Lines) (ss : List Statement) (d : SoFar) (m : ℕ) (items : List Item) → HasRecords bytes records → BeginsWithStatements nothing 1 records ss d m [] → items ≡ items_of d → IsPtfin bytes items
-file_items bytes records ss d m items h b e = (records, ss, d, m, h, b, e)
 
 -- What is a PTFIN is not read only where memory is wanting.
 pub error_is : (bytes : List ℕ) (error : McsError) (items : List Item) → IsPtfinError bytes error → IsPtfin bytes items → error ≡ Memory

@@ -1,10 +1,11 @@
 -- Second ++VERs and second changes.
-use Rattle.std.proofs.Common.{◌≡◌, Bool, true, List, [], ◌∷◌, Option, Some, None, refl, sym, ◌∙◌, ap, subst, inl, inr, eq-eqb}
+use Rattle.std.proofs.Common.{◌≡◌, Bool, true, List, [], ◌∷◌, Option, Some, sym, ◌∙◌, ap, subst, inl, inr, eq-eqb}
 use Rattle.std.specs.Prelude.{◌&&◌, ◌==◌, IsTrue, Any}
 use Rattle.std.specs.List.{list_any}
 use Rattle.std.specs.Str.{bytes_eq}
 use Rattle.std.proofs.lemmas.Bool.{and_parts, and_from, eqb-true}
 use Rattle.std.proofs.lemmas.List.Folds.{Any-from_list_any, list_any-from_Any}
+use Rattle.std.proofs.lemmas.Option.{same_Some}
 use Rattle.terms.specs.declared.kinds.ElemType.{ElemType}
 use Rattle.terms.specs.declared.statement_words.StatementWord.{StatementWord}
 use Rattle.terms.specs.declared.statement_words.StatementWord.TheVariants as word
@@ -13,10 +14,10 @@ use Rattle.terms.specs.Forms.{IsSrel, IsName}
 use Rattle.terms.specs.Operands.{HasOwn}
 use Rattle.terms.specs.Statements.{changed_type}
 use Rattle.terms.specs.Ptfin.{IsSecond}
-use Rattle.terms.proofs.GlobalLookups.{same_from, same_itself}
+use Rattle.lemmas.proofs.Texts.{same_from, same_itself}
 use Rattle.terms.proofs.ElementOrder.{type_from_number}
 use Rattle.terms.proofs.ExactOperands.{own-only}
-use Rattle.terms.proofs.Updates.{any_here, any_later, any_cases, any_none}
+use Rattle.lemmas.proofs.Each.{any_here, any_later, any_cases, any_none}
 
 any_weaker : {X : Type 0} (P Q : X → Type 0) → ((x : X) → P x → Q x) → (xs : List X) → Any P xs → Any Q xs
 any_weaker P Q imp [] h = absurd (any_none P h)
@@ -41,23 +42,15 @@ second_ver s w own srel has w_is h e =
       λ k. by.1 (subst (λ x. Any (λ v. v.srel ≡ x) s.vers) (own-only IsSrel IsSrel own k.0 srel k.1 h) k.2),
     )
 
-pub no_second_ver : (s : Sysmod) (w : StatementWord) (own : Option Text) → w ≡ word.Ver → ((srel : Text) → HasOwn IsSrel own srel → ⊥) → IsSecond s w own → ⊥
-no_second_ver s w own w_is none k =
-    let k' = subst (λ x. IsSecond s x own) w_is k in
-    none k'.0 k'.1
-
 same_element : (c : Change) (w : StatementWord) (type : ElemType) (name : Text) → changed_type w ≡ Some type → ((type_number c.elem_type == type_number type) && bytes_eq c.name name) ≡ true → (changed_type w ≡ Some c.elem_type) × (c.name ≡ name)
 same_element c w type name is t =
     let parts = and_parts (type_number c.elem_type == type_number type) (bytes_eq c.name name) t in
     let same = type_from_number c.elem_type type (eqb-true (type_number c.elem_type) (type_number type) parts.0) in
     (is ∙ ap (λ x. Some x) (sym same), same_from c.name name parts.1)
 
-some_type : (a b : ElemType) → Some a ≡ Some b → a ≡ b
-some_type a b e = cc (e)
-
 element_same : (c : Change) (w : StatementWord) (type : ElemType) (name : Text) → changed_type w ≡ Some type → (changed_type w ≡ Some c.elem_type) × (c.name ≡ name) → ((type_number c.elem_type == type_number type) && bytes_eq c.name name) ≡ true
 element_same c w type name is h =
-    let same = some_type c.elem_type type (sym h.0 ∙ is) in
+    let same = same_Some c.elem_type type (sym h.0 ∙ is) in
     and_from (type_number c.elem_type == type_number type) (bytes_eq c.name name) (eq-eqb (type_number c.elem_type) (type_number type) (ap type_number same)) (subst (λ x. bytes_eq c.name x ≡ true) h.1 (same_itself c.name))
 
 -- a second change, by the word alone
@@ -84,26 +77,3 @@ second_change s w own type name has is h e =
           let k' = from_second s w own type is k in
           by.1 (subst (λ x. Any (λ c. (changed_type w ≡ Some c.elem_type) × (c.name ≡ x)) s.changes) (own-only IsName IsName own k'.0 name k'.1 h) k'.2),
     )
-
-pub no_second_change : (s : Sysmod) (w : StatementWord) (own : Option Text) (type : ElemType) → changed_type w ≡ Some type → ((name : Text) → HasOwn IsName own name → ⊥) → IsSecond s w own → ⊥
-no_second_change s w own type is none k =
-    let k' = from_second s w own type is k in
-    none k'.0 k'.1
-
-never : (name : Text) (cs : List Change) → Any (λ c. (None ≡ Some c.elem_type) × (c.name ≡ name)) cs → ⊥
-never name [] h = any_none (λ (c : Change). (None ≡ Some c.elem_type) × (c.name ≡ name)) h
-never name (c ∷ cs) h =
-    elim (any_cases (λ (c : Change). (None ≡ Some c.elem_type) × (c.name ≡ name)) c cs h) [
-      | inl here ↦ cc (here.0)
-      | inr later ↦ never name cs later
-    ]
-
--- Of a word that is neither ++VER nor changes an element there is no second one.
-pub no_second : (s : Sysmod) (w : StatementWord) (own : Option Text) → changed_type w ≡ None → (w ≡ word.Ver → ⊥) → IsSecond s w own → ⊥
-no_second s (word.Header kind) own is other k = never k.0 s.changes k.2
-no_second s word.Ver own is other k = other refl
-no_second s word.If own is other k = never k.0 s.changes k.2
-no_second s word.Hold own is other k = never k.0 s.changes k.2
-no_second s word.Release own is other k = never k.0 s.changes k.2
-no_second s word.Assign own is other k = never k.0 s.changes k.2
-no_second s w own is other k = absurd (cc (is))

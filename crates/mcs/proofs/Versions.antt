@@ -3,7 +3,7 @@ use Rattle.std.proofs.Common.{◌≡◌, ◌≢◌, List, [], Option, Some, sym,
 use Rattle.std.specs.Prelude.{All, Contains, IsSomeAnd, IfSome, codes, length, ◌<◌}
 use Rattle.terms.specs.declared.statement_words.StatementWord.{StatementWord}
 use Rattle.terms.specs.declared.statement_words.StatementWord.TheVariants as word
-use Rattle.terms.specs.Types.{Text, Id, Lines, Ver, Sysmod}
+use Rattle.terms.specs.Types.{Text, Lines, Ver, Sysmod}
 use Rattle.terms.specs.Forms.{IsId, IsSrel}
 use Rattle.terms.specs.Statement.{Piece}
 use Rattle.terms.specs.Words.{Word, HasWords, IsShort}
@@ -19,9 +19,6 @@ use Rattle.mcs.specs.VerOperands.{HasLists}
 use Rattle.mcs.specs.Said.{IsSaid, IsSaidError}
 use Rattle.mcs_statements.specs.Faults.{value_error}
 use Rattle.mcs.proofs.Saying.{ver_excludes}
-
-pub a_ver : Text → Option Id → List Id → List Id → List Id → List Id → List Id → Ver
-a_ver srel fmid pre req sup npre del = record { srel = srel; fmid = fmid; pre = pre; req = req; sup = sup; npre = npre; del = del; ifs = [] }
 
 -- the operands of a ++VER, before any is compared with the SYSMOD
 pub record HasVer (own : Option Text) (ws : List Word) (v : Ver) : Type 0 where

@@ -1,21 +1,18 @@
 -- Items, one by one.
-use Rattle.std.proofs.Common.{◌≡◌, ◌<◌, ℕ, List, [], ◌∷◌, ◌++◌, length, refl, sym, ap, subst, arith, length-append, inr, Result, Ok, Err}
+use Rattle.std.proofs.Common.{◌≡◌, ℕ, List, [], ◌∷◌, ◌++◌, refl, sym, ap, subst, inr, Result, Ok, Err}
 use Rattle.std.specs.Prelude.{All, IfOk, IfErr}
 use Rattle.terms.specs.declared.codes.McCode.{McCode}
 use Rattle.terms.specs.Types as terms
 use Rattle.terms.specs.Types.{Lines}
 use Rattle.terms.specs.Records.{HasRecords, IsRecord}
-use Rattle.terms.specs.Groups.{Group, IsGroup, TakesGroup}
+use Rattle.terms.specs.Groups.{Group, TakesGroup}
 use Rattle.terms.specs.HoldFile.{IsGoodItem, IsItemFault, BeginsWithItems, IsHoldFile}
 use Rattle.terms.proofs.ExactHoldFile.{hold_file_fault-no_items}
-use Rattle.mcs_statements.proofs.Printables.{all_front, all_back}
+use Rattle.lemmas.proofs.Each.{All-front, All-back}
 use Rattle.mcs_statements.specs.declared.error.McsError.{McsError}
 use Rattle.mcs_statements.specs.declared.error.McsError.TheVariants.{Memory, Fault}
 use Rattle.mcs_hold.specs.declared.item.HoldItem.{HoldItem}
 use Rattle.mcs_hold.specs.Items.{item_of, items, IsHoldFileError, IsRestError}
-
-pub begins_none : (n : ℕ) (records : Lines) → BeginsWithItems n records [] n records
-begins_none n records = (refl, refl)
 
 begins_more : (n : ℕ) (records : Lines) (found : List terms.HoldItem) (m : ℕ) (rest : Lines) (g : Group) (next : ℕ) (later : Lines) (i : terms.HoldItem) → BeginsWithItems n records found m rest → TakesGroup m rest g next later → IsGoodItem g.records i → BeginsWithItems n records (found ++ i ∷ []) next later
 begins_more n records [] m rest g next later i b t good =
@@ -36,18 +33,11 @@ items_more n records found m rest g next later i b t good =
 rest_records : (n : ℕ) (records : Lines) (found : List terms.HoldItem) (m : ℕ) (rest : Lines) → BeginsWithItems n records found m rest → All IsRecord records → All IsRecord rest
 rest_records n records [] m rest b h = subst (All IsRecord) b.1 h
 rest_records n records (j ∷ found) m rest b h =
-    rest_records b.1 b.2 found m rest b.5 (all_back IsRecord b.0.records b.2 (subst (All IsRecord) b.3.records_are h))
+    rest_records b.1 b.2 found m rest b.5 (All-back IsRecord b.0.records b.2 (subst (All IsRecord) b.3.records_are h))
 
 pub group_records : (n : ℕ) (records : Lines) (found : List terms.HoldItem) (m : ℕ) (rest : Lines) (g : Group) (next : ℕ) (later : Lines) → BeginsWithItems n records found m rest → TakesGroup m rest g next later → All IsRecord records → All IsRecord g.records
 group_records n records found m rest g next later b t h =
-    all_front IsRecord g.records later (subst (All IsRecord) t.records_are (rest_records n records found m rest b h))
-
-some_records : (g : Lines) → IsGroup g → 0 < length g
-some_records [] h = absurd h
-some_records (r ∷ rs) h = omega arith
-
-pub group_shorter : (n m : ℕ) (records rest : Lines) (g : Group) → TakesGroup n records g m rest → length rest < length records
-group_shorter n m records rest g t = omega (arith, ap length t.records_are, length-append g.records rest, some_records g.records t.is_group)
+    All-front IsRecord g.records later (subst (All IsRecord) t.records_are (rest_records n records found m rest b h))
 
 pub rest_fault : (n : ℕ) (records : Lines) (found : List terms.HoldItem) (m : ℕ) (rest : Lines) (g : Group) (next : ℕ) (later : Lines) (code : McCode) → BeginsWithItems n records found m rest → TakesGroup m rest g next later → IsItemFault g.records code → IsRestError n records (Fault g.number code)
 rest_fault n records found m rest g next later code b t f = (found, m, rest, b, (g, next, later, t, refl, f))

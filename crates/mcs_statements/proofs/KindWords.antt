@@ -11,10 +11,11 @@ use Rattle.terms.specs.Words.{Word, plain}
 use Rattle.terms.specs.Operands.{operand, HasFlag}
 use Rattle.terms.specs.HoldStatements.{HasKind}
 use Rattle.terms.proofs.ExactOperands.{flag-only}
-use Rattle.terms.proofs.GlobalLookups.{same_from, find-passes}
+use Rattle.lemmas.proofs.Texts.{same_from}
+use Rattle.lemmas.proofs.Searches.{find-passes}
 use Rattle.mcs_statements.specs.Holds.{kind_from}
 
-plain_is : (name : Text) (w : Word) → w.word ≡ name → w.list ≡ None → w ≡ plain name
+pub plain_is : (name : Text) (w : Word) → w.word ≡ name → w.list ≡ None → w ≡ plain name
 plain_is name w word list = ap (λ x. record w { word = x }) word ∙ ap (λ x. record { word = name; list = x }) list
 
 there : (name : Text) (ws : List Word) → HasFlag (operand name ws) true → operand name ws ≡ Some (plain name)

@@ -2,7 +2,6 @@ pub mod Beginning
 pub mod Owning
 pub mod Remaining
 pub mod Finding
-pub mod Failing
 pub mod KindWords
 pub mod Printables
 pub mod Trimming

@@ -11,8 +11,8 @@ use Rattle.terms.specs.Lookups.{is_in}
 use Rattle.terms.specs.Words.{Word, HasWords, TakesWord, BeginsNoWords}
 use Rattle.terms.specs.Operands.{operand, AreOperands}
 use Rattle.terms.proofs.Solids.{words_more, words_first, no_words}
-use Rattle.terms.proofs.RisingLists.{AllPairs-first, AllPairs-rest}
-use Rattle.terms.proofs.GlobalLookups.{same_from, same_itself}
+use Rattle.lemmas.proofs.Pairs.{AllPairs-first, AllPairs-rest}
+use Rattle.lemmas.proofs.Texts.{same_from, same_itself}
 
 -- The words are operands exactly where those that are left are.
 pub record Remains (names : List Text) (text : List ℕ) (pieces : List Piece) : Type 0 where

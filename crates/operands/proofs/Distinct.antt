@@ -10,7 +10,9 @@ use Rattle.terms.specs.Lookups.{is_before}
 use Rattle.terms.specs.Rising.{Rises}
 use Rattle.terms.specs.Words.{AreDistinct}
 use Rattle.terms.specs.Operands.{AreSorted}
-use Rattle.terms.proofs.Apart.{AreApart, apart-le, apart-from_length, in_map, map_in, pairs_map, pairs_unmap}
+use Rattle.lemmas.proofs.Apart.{AreApart, apart-le, apart-from_length}
+use Rattle.lemmas.proofs.Members.{in_map, map_in}
+use Rattle.lemmas.proofs.Pairs.{pairs_map, pairs_unmap}
 
 -- Values whose order is that of their texts.
 module _ {X : Type 0} (cmp : X → X → Ordering) (text : X → Text) (order : (x y : X) → cmp x y ≡ slice_cmp nat_cmp (text x) (text y)) where

@@ -47,14 +47,6 @@ some_and o f x P is h = subst (λ o. IsSomeAnd (option_map f o) P) is h
 pub and_some : {X Y : Type 0} (o : Option X) (f : X → Y) (x : X) (P : Y → Type 0) → o ≡ Some x → P (f x) → IsSomeAnd (option_map f o) P
 and_some o f x P is h = subst (λ o. IsSomeAnd (option_map f o) P) (sym is) h
 
-pub no_list : {X Y : Type 0} (o : Option X) (f : X → Y) → is_some o ≡ true → option_map f o ≡ None → ⊥
-no_list None f is none = cc (is)
-no_list (Some x) f is none = cc (none)
-
-pub is_none : {X : Type 0} (o : Option X) → is_some o ≡ false → o ≡ None
-is_none None is = refl
-is_none (Some x) is = absurd (cc (is))
-
 pub if_none : {X : Type 0} (o : Option X) (P : Type 0) → is_some o ≡ false → IfNone o P → P
 if_none None P is h = h
 if_none (Some x) P is h = absurd (cc (is))

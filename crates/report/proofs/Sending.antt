@@ -1,8 +1,7 @@
 -- Texts that go out piece by piece.
-use Rattle.std.proofs.Common.{◌≡◌, ℕ, List, [], ◌++◌, Option, Bool, true, false, refl, sym, ◌∙◌, ap, subst, append_assoc}
-use Rattle.std.proofs.lemmas.List.{append-nil}
+use Rattle.std.proofs.Common.{◌≡◌, ℕ, List, ◌++◌, Option, Bool, true, false, sym, ◌∙◌, ap, subst, append_assoc}
 use Rattle.std.specs.Io.KnownBytes.{Appends, Keeps}
-use Rattle.std.proofs.KnownBytes.{Appends-nil, Appends-trans, Appends-kept, Keeps-refl, Keeps-trans}
+use Rattle.std.proofs.KnownBytes.{Appends-trans, Appends-kept, Keeps-trans}
 use Rattle.report.specs.Sent.{WrotePart, Went, Sends}
 
 -- the bytes before the rest went out
@@ -16,10 +15,6 @@ abbrev pub Sending : Option (List ℕ) → Bool → Option (List ℕ) → Bool �
 Sending old true new failed text rest = (failed ≡ true) × Keeps old new
 Sending old false new failed text rest = (failed ≡ false) × IsSending old new text rest
 
-pub sending-start : (a : Option (List ℕ)) (f : Bool) (text : List ℕ) → Sending a f a f text text
-sending-start a true text = (refl, Keeps-refl a)
-sending-start a false text = (refl, record { sent = []; text_is = refl; bytes = Appends-nil a })
-
 pub sending-more : (a : Option (List ℕ)) (f : Bool) (b : Option (List ℕ)) (g : Bool) (c : Option (List ℕ)) (h : Bool) (text rest front back : List ℕ)
     → Sending a f b g text rest → rest ≡ front ++ back → g ≡ false → h ≡ false → Appends b c front → Sending a f c h text back
 sending-more a true b g c h text rest front back s rest_is before after grown = let is : true ≡ false = sym s.0 ∙ before in absurd (cc is)
@@ -31,25 +26,6 @@ sending-more a false b g c h text rest front back s rest_is before after grown =
     bytes = Appends-trans a b c s.1.sent front s.1.bytes grown;
   },
 )
-
--- a failed write takes nothing, so a beginning went out
-pub sending-stop : (a : Option (List ℕ)) (f : Bool) (b : Option (List ℕ)) (g : Bool) (c : Option (List ℕ)) (h : Bool) (text rest : List ℕ)
-    → Sending a f b g text rest → h ≡ true → Keeps b c → Sends a f c h text
-sending-stop a true b g c h text rest s failed kept = (failed, Keeps-trans a b c s.1 kept)
-sending-stop a false b g c h text rest s failed kept =
-    let part : WrotePart a c text = record { piece = s.1.sent; lost = rest; text_is = s.1.text_is; bytes = Appends-kept a b c s.1.sent s.1.bytes kept } in
-    subst (λ v. Went a c v text) (sym failed) part
-
-pub sending-end : (a : Option (List ℕ)) (f : Bool) (b : Option (List ℕ)) (g : Bool) (text rest : List ℕ)
-    → Sending a f b g text rest → rest ≡ [] → Sends a f b g text
-sending-end a true b g text rest s none = s
-sending-end a false b g text rest s none =
-    let all : Appends a b text = subst (Appends a b) (sym (s.1.text_is ∙ ap (λ r. s.1.sent ++ r) none ∙ append-nil s.1.sent)) s.1.bytes in
-    subst (λ v. Went a b v text) (sym s.0) all
-
-pub sends-nil : (a : Option (List ℕ)) (f : Bool) → Sends a f a f []
-sends-nil a true = (refl, Keeps-refl a)
-sends-nil a false = Appends-nil a
 
 -- one text, and then another
 pub sends-then : (a : Option (List ℕ)) (f : Bool) (b : Option (List ℕ)) (g : Bool) (c : Option (List ℕ)) (h : Bool) (xs ys : List ℕ)

@@ -4,6 +4,7 @@ use Rattle.std.specs.Prelude.{max, codes, if◌then◌else◌}
 use Rattle.std.specs.List.{flat_map, join_with_byte}
 use Rattle.std.proofs.lemmas.List.{append-nil, take_more}
 use Rattle.std.proofs.lemmas.Grind.{flat_map-append}
+use Rattle.lemmas.proofs.Lists.{joined}
 use Rattle.machine.specs.Outcome.{line_code, lines_code}
 use Rattle.report.specs.declared.outcome.Line.{Line}
 use Rattle.report.specs.Views.{line_view}
@@ -17,14 +18,10 @@ flat_map-more f xs i d below =
     ∙ sym (flat_map-append f (take i xs) (get_or xs i d ∷ []))
     ∙ ap (flat_map f) (sym (take_more xs i d below))
 
-joined : (x : List ℕ) (xs : List (List ℕ)) → x ++ flat_map (λ y. 44 ∷ y) xs ≡ join_with_byte 44 (x ∷ xs)
-joined x [] = append-nil x
-joined x (y ∷ ys) = ap (λ t. x ++ 44 ∷ t) (joined y ys)
-
 -- a list that is not empty: its first id, and each other one behind a comma
 pub list_text-parts : (xs : List (List ℕ)) (d : List ℕ) → 0 < length xs → get_or xs 0 d ++ flat_map (λ y. 44 ∷ y) (drop 1 xs) ≡ list_text xs
 list_text-parts [] d some = absurd (omega (arith, some))
-list_text-parts (x ∷ xs) d some = joined x xs
+list_text-parts (x ∷ xs) d some = joined 44 x xs
 
 -- a word before others in a line
 pub words_line-more : (x y : List ℕ) (ys : List (List ℕ)) → x ++ 32 ∷ words_line (y ∷ ys) ≡ words_line (x ∷ y ∷ ys)

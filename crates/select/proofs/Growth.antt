@@ -8,14 +8,14 @@ use Rattle.terms.specs.Lookups.{is_in, at_most_one, IsRising}
 use Rattle.terms.specs.Choice.{Choice, by_srel}
 use Rattle.terms.specs.Candidates.{is_installable, is_open, is_start, is_growing_start, is_mass_chosen, BringsIn, IsClosedPair, AreCandidates}
 use Rattle.terms.proofs.Ids.{is_in-from_Contains, Contains-from_is_in}
-use Rattle.terms.proofs.Apart.{here, here_or, none_in}
+use Rattle.lemmas.proofs.Members.{here, here_or, none_in, filter_in, in_filter}
 use Rattle.sysmods_paths.specs.Seen.{AddsAll, IsGoing}
 use Rattle.sysmods_paths.proofs.Growth.{adds-none, adds-insert}
 use Rattle.sysmods_paths.proofs.Going.{going-start, going-next, going-end}
 use Rattle.indexmap.specs.IndexSet.{insert_key}
 use Rattle.std.specs.Str.{bytes_eq}
 use Rattle.select.specs.Growing.{IsGrowing, brought_in}
-use Rattle.select.proofs.Kept.{kept-parts, kept-from, filter_next}
+use Rattle.select.proofs.Kept.{filter_next}
 use Rattle.select.proofs.Opened.{open_parts}
 use Rattle.select.proofs.Needs.{brings_fmid, fmid_brought, brought_parts, brought_from}
 
@@ -84,11 +84,11 @@ module _ (g : Global) (zone : Zone) (sel : Selection) where
     where
       belongs : (z : Id) → Contains (filter brings start) z → IsGrowing g zone sel z
       belongs z there cands set closed =
-          let parts = kept-parts brings start z there in
+          let parts = filter_in brings start z there in
           closed.growing_start z (and_from (is_start g zone sel z) (brings z) ((starts z).0 parts.0) parts.1)
 
       begins : (z : Id) → IsTrue (is_growing_start g zone sel z) → Contains (filter brings start) z
-      begins z grows = let parts = growing_starts z grows in kept-from brings start z ((starts z).1 parts.0) parts.1
+      begins z grows = let parts = growing_starts z grows in in_filter brings start z ((starts z).1 parts.0) parts.1
 
   one_next : (x z : Id) → Contains (next x) z → brought_in g zone sel x ≡ Some z
   one_next x z h = by (brought_in g zone sel x) h

@@ -12,9 +12,9 @@ use Rattle.terms.specs.Choice.{Choice, by_srel, fmid_of, req_of, sup_of}
 use Rattle.terms.specs.Over.{Leads, Supersedes}
 use Rattle.terms.specs.Served.{has_plain_ver, is_served_zone}
 use Rattle.terms.specs.Candidates.{is_open, if_reqs, stated_for, if_needed, needed_ids, open_reasons, BringsIn}
-use Rattle.terms.proofs.Apart.{here, here_or, none_in}
+use Rattle.lemmas.proofs.Members.{here, here_or, none_in, filter_in, in_filter}
 use Rattle.select.specs.Growing.{brought_in}
-use Rattle.select.proofs.Kept.{nil_from, kept-parts, kept-from}
+use Rattle.terms.proofs.Nil.{nil_from}
 use Rattle.select.proofs.Opened.{open_parts, plain_parts}
 
 module _ (g : Global) (zone : Zone) where
@@ -54,7 +54,7 @@ module _ (g : Global) (zone : Zone) where
 
     only_fmid : (x y : Id) → IsTrue (is_open g zone sel x) → Contains (needed_ids g c zone cands x) y → fmid_of c x ≡ Some y
     only_fmid x y opened needed =
-        by (fmid_of c x) (kept-parts (λ z. not (is_applied zone z)) (at_most_one (fmid_of c x)) y (subst (λ ys. Contains ys y) (needed-open x opened) needed)).0
+        by (fmid_of c x) (filter_in (λ z. not (is_applied zone z)) (at_most_one (fmid_of c x)) y (subst (λ ys. Contains ys y) (needed-open x opened) needed)).0
       where
         by : (o : Option Id) → Contains (at_most_one o) y → o ≡ Some y
         by None none = absurd (none_in y none)
@@ -92,7 +92,7 @@ module _ (g : Global) (zone : Zone) where
     fmid_brought x y opened open_y fmid = (open_y, inl (subst (λ ys. Contains ys y) (sym (needed-open x opened)) kept))
       where
         kept : Contains (filter (λ z. not (is_applied zone z)) (at_most_one (fmid_of c x))) y
-        kept = kept-from (λ z. not (is_applied zone z)) (at_most_one (fmid_of c x)) y
+        kept = in_filter (λ z. not (is_applied zone z)) (at_most_one (fmid_of c x)) y
             (subst (λ o. Contains (at_most_one o) y) (sym fmid) (here y []))
             (ap not (open_parts g zone sel y open_y).unapplied)
 

@@ -9,7 +9,7 @@ use Rattle.terms.specs.Lookups.{is_nil, is_in, is_applied, is_supplied, supby_of
 use Rattle.terms.specs.Choice.{vers_of, by_srel, pre_of, req_of, sup_of, ifs_of}
 use Rattle.terms.specs.Served.{is_plain, has_plain_ver, has_plain_changes, is_unheld, is_served_zone, is_served}
 use Rattle.terms.specs.Candidates.{is_installable, is_open}
-use Rattle.select.proofs.Kept.{nil_from, is_some-find}
+use Rattle.terms.proofs.Nil.{nil_from, is_some-find}
 
 -- a ++VER counts exactly if there is one for the SREL
 pub ver_there : (g : Global) (srel : Text) (x : Id) → is_some (by_srel g srel x) ≡ not (is_nil (vers_of g srel x))

@@ -9,9 +9,9 @@ use Rattle.terms.specs.Lookups.{is_in, sysmod_of}
 use Rattle.terms.specs.Choice.{by_srel}
 use Rattle.terms.specs.Candidates.{is_open, has_mass_choice, is_mass_chosen, is_start}
 use Rattle.terms.proofs.Ids.{Contains-from_is_in}
-use Rattle.terms.proofs.Apart.{in_map}
-use Rattle.terms.proofs.GlobalLookups.{same_from, find-passes, All-find}
-use Rattle.select.proofs.Kept.{kept-parts, kept-from}
+use Rattle.lemmas.proofs.Members.{in_map, filter_in, in_filter}
+use Rattle.lemmas.proofs.Texts.{same_from}
+use Rattle.lemmas.proofs.Searches.{find-passes, All-find}
 use Rattle.select.proofs.Opened.{open_parts}
 
 received_there : (g : Global) (srel : Text) (x : Id) → is_some (by_srel g srel x) ≡ true → Contains (map (λ s. s.id) g.sysmods) x
@@ -51,6 +51,6 @@ pub start_members : (g : Global) (zone : Zone) (sel : Selection) (ids start : Li
     → ((x : Id) → IsTrue (is_start g zone sel x) → Contains ids x) → start ≡ filter (is_start g zone sel) ids
     → (x : Id) → Contains start x ↔ IsTrue (is_start g zone sel x)
 start_members g zone sel ids start among same x = (
-  λ h. (kept-parts (is_start g zone sel) ids x (subst (λ xs. Contains xs x) same h)).1,
-  λ h. subst (λ xs. Contains xs x) (sym same) (kept-from (is_start g zone sel) ids x (among x h) h),
+  λ h. (filter_in (is_start g zone sel) ids x (subst (λ xs. Contains xs x) same h)).1,
+  λ h. subst (λ xs. Contains xs x) (sym same) (in_filter (is_start g zone sel) ids x (among x h) h),
 )

@@ -1,18 +1,18 @@
 -- Ids with what they have, sorted by their ids, of which no two are the same.
-use Rattle.std.proofs.Common.{◌≡◌, ◌≢◌, ◌+◌, ◌<◌, true, false, IsPermutation, List, length, map, get_or, ap, arith}
+use Rattle.std.proofs.Common.{◌≡◌, ◌≢◌, ◌+◌, ◌<◌, false, IsPermutation, List, length, map, get_or, arith}
 use Rattle.std.specs.Prelude.{AllPairs}
 use Rattle.std.specs.List.Sorted.{IsSortedByKey}
-use Rattle.std.specs.declared.cmp.Ordering.{Ordering}
-use Rattle.std.specs.declared.cmp.Ordering.TheVariants.{Less, Equal, Greater}
-use Rattle.std.specs.Ordering.{is_lt, nat_cmp, ordering_reverse}
+use Rattle.std.specs.Ordering.{is_lt, nat_cmp}
 use Rattle.std.specs.Cmp.Lexicographic.{slice_cmp}
 use Rattle.std.proofs.lemmas.Cmp.{nat_list_cmp_total}
 use Rattle.std.proofs.lemmas.List.{get_or-map, length-map}
 use Rattle.std.proofs.lemmas.List.Sorted.{IsPermutation-map, length_permutation, Contains-permutation, ranks_by, sorted_far}
 use Rattle.std.proofs.lemmas.Map.Lookups.{exact_bytes}
+use Rattle.lemmas.proofs.Orderings.{is_lt-from_turned}
 use Rattle.terms.specs.Types.{Id}
 use Rattle.terms.specs.Rising.{Rises}
-use Rattle.terms.proofs.Apart.{AreApart, apart-from_length, pairs_unmap}
+use Rattle.lemmas.proofs.Apart.{AreApart, apart-from_length}
+use Rattle.lemmas.proofs.Pairs.{pairs_unmap}
 use Rattle.report.specs.declared.outcome.Status as reported
 use Rattle.report.specs.declared.outcome.Status.TheVariants.{Applied}
 use Rattle.smpe_apply.specs.Statuses.{said}
@@ -24,11 +24,6 @@ sorted_map xs sorted = λ k e low below.
     let short : k + 1 < length xs = let n = length-map xs said in omega arith in
     rw (get_or-map said xs (k + 1) d e short, get_or-map said xs k d e (omega arith)) (sorted k d low short)
 
-unturned : (r s : Ordering) → r ≡ ordering_reverse s → is_lt s ≡ false → (r ≡ Equal → ⊥) → is_lt r ≡ true
-unturned r Less turned low other = absurd cc
-unturned r Equal turned low other = absurd (other turned)
-unturned r Greater turned low other = ap is_lt turned
-
 -- sorted by ids without doubles, a list rises
 pub rises_by_id : {V : Type 0} (all found : List (Id × V)) → IsPermutation all found → IsSortedByKey (λ p. p.0) (slice_cmp nat_cmp) found
     → AreApart (map (λ p. p.0) all) → Rises (slice_cmp nat_cmp) (λ p. p.0) found
@@ -37,7 +32,7 @@ rises_by_id {V = V} all found same sorted apart = λ i j d less within.
     let y = get_or found j d in
     let far : is_lt (slice_cmp nat_cmp y.0 x.0) ≡ false =
     sorted_far (λ p q. is_lt (slice_cmp nat_cmp p.0 q.0)) (ranks_by nat_list_cmp_total (λ (p : Id × V). p.0)) found sorted i j d (omega arith) within in
-    unturned (slice_cmp nat_cmp x.0 y.0) (slice_cmp nat_cmp y.0 x.0) (nat_list_cmp_total.antisymm x.0 y.0) far (λ tie. other i j d less within (exact_bytes x.0 y.0 tie))
+    is_lt-from_turned (slice_cmp nat_cmp x.0 y.0) (slice_cmp nat_cmp y.0 x.0) (nat_list_cmp_total.antisymm x.0 y.0) far (λ tie. other i j d less within (exact_bytes x.0 y.0 tie))
   where
     permuted : IsPermutation (map (λ p. p.0) all) (map (λ p. p.0) found)
     permuted = IsPermutation-map (λ p. p.0) all found same

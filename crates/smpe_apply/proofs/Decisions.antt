@@ -1,13 +1,9 @@
 -- What an APPLY decides, from what its parts answer: the kept ones may be installed together, and the lines are those of the decision.
-use Rattle.std.proofs.Common.{◌≡◌, ◌≢◌, ◌⊎◌, inl, inr, Bool, true, false, not, List, [], ◌∷◌, ◌++◌, Option, None, Some, IsTrue, filter, map, get_or, refl, sym, ap, ◌∙◌, subst, true≢false}
+use Rattle.std.proofs.Common.{◌≡◌, ◌≢◌, ◌⊎◌, inl, inr, Bool, true, false, not, List, [], ◌∷◌, ◌++◌, Option, None, Some, IsTrue, filter, map, refl, sym, ap, ◌∙◌, subst, true≢false}
 use Rattle.std.specs.Prelude.{◌↔◌, ◌&&◌, ◌==◌, All, Contains, IsPermutation, is_some, unwrap_or, if◌then◌else◌}
 use Rattle.std.specs.Str.{bytes_eq}
-use Rattle.std.specs.declared.cmp.Ordering.TheVariants.{Less, Equal}
-use Rattle.std.specs.Ordering.{nat_cmp}
-use Rattle.std.specs.Cmp.Lexicographic.{slice_cmp}
 use Rattle.std.proofs.lemmas.Bool.{not-true}
-use Rattle.std.proofs.lemmas.Cmp.{nat_list_cmp_total, tied_itself}
-use Rattle.std.proofs.lemmas.List.{map-append}
+use Rattle.std.proofs.lemmas.List.{map-append, map-id}
 use Rattle.std.proofs.lemmas.List.Elements.{All-contains, Contains-get_or, Contains-append_left, Contains-append_right, Contains-append_cases}
 use Rattle.std.proofs.lemmas.List.Kept.{AllPairs-filter}
 use Rattle.std.proofs.lemmas.List.Sorted.{IsPermutation-map, IsPermutation-sym, Contains-permutation}
@@ -21,31 +17,19 @@ use Rattle.terms.specs.Candidates.{AreCandidates, is_installable, not_chosen}
 use Rattle.terms.specs.Tests.{Setting, IsEligible, Fails, ShareElement, owner_of}
 use Rattle.terms.specs.Needs.{Needs, Serves}
 use Rattle.terms.specs.Judged.{setting}
-use Rattle.terms.proofs.Apart.{AreApart, map_in, in_map, none_in}
-use Rattle.terms.proofs.GlobalKept.{AllPairs-join}
-use Rattle.terms.proofs.Ids.{is_in-from_Contains, Contains-from_is_in}
-use Rattle.terms.proofs.Leads.{same_or_not}
-use Rattle.terms.proofs.RisingLists.{Less-from_is_lt}
-use Rattle.terms.proofs.SameLists.{find-gives}
+use Rattle.lemmas.proofs.Apart.{AreApart}
+use Rattle.lemmas.proofs.Members.{map_in, in_map, none_in, filter_in, in_filter}
+use Rattle.lemmas.proofs.Pairs.{AllPairs-join}
+use Rattle.terms.proofs.Ids.{is_in-from_Contains, Contains-from_is_in, apart-from_rising}
+use Rattle.lemmas.proofs.Texts.{same_or_not}
+use Rattle.lemmas.proofs.Searches.{find-gives}
 use Rattle.machine.specs.Outcome.{Status, Failure, Failed, Line}
 use Rattle.machine.specs.Installing.{Decision, IsDecision, IsDecided, IsFailure, HasStatus, IsIn, IsUnder, IsOff, IsOut, AreInstallLines, installed_status, not_chosen_status}
 use Rattle.terms.specs.Install.{IsInstalled}
-use Rattle.select.proofs.Kept.{kept-parts, kept-from}
 use Rattle.change.proofs.Installable.{replaces, supersedes_none}
 use Rattle.smpe_apply.specs.Statuses.{kept_statuses, failed_statuses, left_out_statuses, all_statuses, AreById}
 use Rattle.smpe_apply.proofs.ById.{rises_by_id}
 use Rattle.smpe_apply.proofs.InstallLines.{are_install_lines}
-
--- ids that rise are apart
-rising_apart : (xs : List Id) → IsRising xs → AreApart xs
-rising_apart xs rises = λ i j d before below same.
-    let x = get_or xs i d in
-    let y = get_or xs j d in
-    let less : slice_cmp nat_cmp x y ≡ Less = Less-from_is_lt (slice_cmp nat_cmp x y) (rises i j d before below) in
-    let tie : slice_cmp nat_cmp y y ≡ Equal = tied_itself nat_list_cmp_total y in
-    let here : slice_cmp nat_cmp y y ≡ Less = subst (λ z. slice_cmp nat_cmp z y ≡ Less) same less in
-    let both : Equal ≡ Less = sym tie ∙ here in
-    absurd (cc both)
 
 -- lists without doubles that share nothing have none together
 apart_both : {X : Type 0} (xs ys : List X) → AreApart xs → AreApart ys → ((x : X) → Contains xs x → Contains ys x → ⊥) → AreApart (xs ++ ys)
@@ -57,10 +41,6 @@ apart_both xs ys front back off =
 ids_of : {X V : Type 0} (id : X → Id) (value : X → V) (xs : List X) → map (λ (p : Id × V). p.0) (map (λ x. (id x, value x)) xs) ≡ map id xs
 ids_of id value [] = refl
 ids_of id value (x ∷ xs) = ap (λ ys. id x ∷ ys) (ids_of id value xs)
-
-itself : {X : Type 0} (xs : List X) → map (λ x. x) xs ≡ xs
-itself [] = refl
-itself (x ∷ xs) = ap (λ ys. x ∷ ys) (itself xs)
 
 -- what may be installed and is left out is excluded or not named, and has no reason
 no_reason : (g : Global) (zone : Zone) (sel : Selection) (x : Id) (why : NotChosen) → is_installable g zone x ≡ true → not_chosen g zone sel x ≡ Some why → ⊥
@@ -140,11 +120,11 @@ module _ (g : Global) (zone : Zone) (sel : Selection) (date : Text) (cands kept 
 
   not_kept : (x : Id) → Contains failed_ids x → ¬ Contains kept x
   not_kept x h k =
-      let off = not-true (is_in kept x) (kept-parts (λ y. not (is_in kept y)) cands x h).1 in
+      let off = not-true (is_in kept x) (filter_in (λ y. not (is_in kept y)) cands x h).1 in
       true≢false (sym (is_in-from_Contains kept x k) ∙ off)
 
   or_kept : (x : Id) → Contains cands x → (¬ Contains kept x) → Contains failed_ids x
-  or_kept x h off = kept-from (λ y. not (is_in kept y)) cands x h (by (is_in kept x) refl)
+  or_kept x h off = in_filter (λ y. not (is_in kept y)) cands x h (by (is_in kept x) refl)
     where
       by : (b : Bool) → is_in kept x ≡ b → not (is_in kept x) ≡ true
       by true e = absurd (off (Contains-from_is_in kept x e))
@@ -164,7 +144,7 @@ module _ (g : Global) (zone : Zone) (sel : Selection) (date : Text) (cands kept 
         let middle : List (Id × Status) = failed_statuses failed in
         let back : List (Id × Status) = left_out_statuses left_out in
         let id : Id × Status → Id = λ p. p.0 in
-        let a : map id front ≡ kept = ids_of (λ (x : Id). x) (λ x. installed_status zone.kind) kept ∙ itself kept in
+        let a : map id front ≡ kept = ids_of (λ (x : Id). x) (λ x. installed_status zone.kind) kept ∙ map-id kept in
         let b : map id middle ≡ failed_ids = ids_of (λ (f : Id × Failure). f.0) (λ f. Failed f.1) failed ∙ decided.ids in
         let c : map id back ≡ left_ids = ids_of (λ (f : Id × NotChosen). f.0) (λ f. not_chosen_status f.1) left_out in
         map-append id (front ++ middle) back
@@ -179,17 +159,17 @@ module _ (g : Global) (zone : Zone) (sel : Selection) (date : Text) (cands kept 
         let why : not_chosen g zone sel x ≡ Some m.0.1 = ap (not_chosen g zone sel) (sym m.2) ∙ (members m.0.0 m.0.1).0 m.1 in
         no_reason g zone sel x m.0.1 (installable x (elim (Contains-append_cases kept failed_ids x h) [
           | inl k ↦ cand x k
-          | inr f ↦ (kept-parts (λ y. not (is_in kept y)) cands x f).0
+          | inr f ↦ (filter_in (λ y. not (is_in kept y)) cands x f).0
         ])) why
 
     all_apart : AreApart (map (λ p. p.0) all)
     all_apart =
         subst AreApart (sym all_ids)
         (apart_both (kept ++ failed_ids) left_ids
-        (apart_both kept failed_ids (rising_apart kept decided.rising)
-        (AllPairs-filter (λ a b. a ≢ b) (λ x. not (is_in kept x)) cands (rising_apart cands are.rising))
+        (apart_both kept failed_ids (apart-from_rising kept decided.rising)
+        (AllPairs-filter (λ a b. a ≢ b) (λ x. not (is_in kept x)) cands (apart-from_rising cands are.rising))
         (λ x k f. not_kept x f k))
-        (rising_apart left_ids rising) apart_from_left)
+        (apart-from_rising left_ids rising) apart_from_left)
 
     -- each status is one of the id
     has_status : (p : Id × Status) → Contains all p → HasStatus decision sel p.0 p.1
@@ -209,7 +189,7 @@ module _ (g : Global) (zone : Zone) (sel : Selection) (date : Text) (cands kept 
             let m = map_in (λ (f : Id × Failure). (f.0, Failed f.1)) failed p f in
             let id : Contains failed_ids m.0.0 = subst (λ xs. Contains xs m.0.0) decided.ids (in_map (λ (f : Id × Failure). f.0) failed m.0 m.1) in
             let why = All-contains (λ f. IsFailure cands kept (Fails s) (IsEligible s) (Needs s decided.survivors) (Serves s.choice) f.0 f.1) failed m.0 decided.failures m.1 in
-            subst (λ q. HasStatus decision sel q.0 q.1) m.2 (IsOff m.0.1 (kept-parts (λ y. not (is_in kept y)) cands m.0.0 id).0 (not_kept m.0.0 id) why)
+            subst (λ q. HasStatus decision sel q.0 q.1) m.2 (IsOff m.0.1 (filter_in (λ y. not (is_in kept y)) cands m.0.0 id).0 (not_kept m.0.0 id) why)
 
         of_left : Contains (left_out_statuses left_out) p → HasStatus decision sel p.0 p.1
         of_left out =

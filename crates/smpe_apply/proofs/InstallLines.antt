@@ -9,8 +9,9 @@ use Rattle.std.proofs.lemmas.Cmp.{nat_list_cmp_total}
 use Rattle.terms.specs.Types.{Id, Global, Selection}
 use Rattle.terms.specs.Lookups.{is_before}
 use Rattle.terms.specs.Rising.{Rises}
-use Rattle.terms.proofs.Apart.{here, there, map_in, pairs_map}
-use Rattle.terms.proofs.GlobalLookups.{same_itself}
+use Rattle.lemmas.proofs.Members.{here, there, map_in}
+use Rattle.lemmas.proofs.Pairs.{pairs_map}
+use Rattle.lemmas.proofs.Texts.{same_itself}
 use Rattle.machine.specs.Outcome.{Status, Applied, Line, StatusLine}
 use Rattle.machine.specs.Receiving.{place_of}
 use Rattle.machine.specs.Installing.{Decision, HasStatus, AreInstallLines}

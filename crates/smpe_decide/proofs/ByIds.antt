@@ -1,10 +1,10 @@
 -- From the numbers of candidates to their ids: who is kept, and why each other one is not.
-use Rattle.std.proofs.Common.{◌≡◌, inl, inr, ℕ, ◌<◌, Bool, true, false, not, List, [], ◌∷◌, length, map, filter, Some, IsTrue, Contains, refl, sym, ap, ◌∙◌, subst, true≢false, arith, slice_get, slice_index_or, get_or, take_all}
+use Rattle.std.proofs.Common.{◌≡◌, inl, inr, ℕ, ◌<◌, Bool, false, not, List, [], ◌∷◌, length, map, filter, Some, IsTrue, Contains, refl, sym, ap, ◌∙◌, subst, true≢false, arith, slice_get, slice_index_or, get_or, take_all}
 use Rattle.std.specs.Prelude.{All, AllPairs, Vec, ◌↔◌, ◌==◌}
 use Rattle.std.specs.List.{list_any}
 use Rattle.std.specs.declared.alloc.Global.{Global as Heap}
-use Rattle.std.proofs.lemmas.Bool.{cases_eq, and_parts, and_from, eqb-true, eq-eqb}
-use Rattle.std.proofs.lemmas.Option.{slice_get_within, slice_get-get_or, get_or_from_slice_get}
+use Rattle.std.proofs.lemmas.Bool.{cases_eq, and_parts, and_from, eqb-true, eq-eqb, false_from_ne_true, not-true}
+use Rattle.std.proofs.lemmas.Option.{slice_get_within, slice_get-get_or, get_or_from_slice_get, same_Some}
 use Rattle.std.proofs.lemmas.List.Folds.{list_any_none}
 use Rattle.std.proofs.lemmas.List.Elements.{All-map, All-weaker, Contains-get_or}
 use Rattle.terms.specs.declared.codes.NeedKind.{NeedKind}
@@ -17,11 +17,13 @@ use Rattle.terms.specs.Failures.{IsOpenNeed, IsCauser}
 use Rattle.terms.specs.Tests.{Setting, IsEligible, Fails}
 use Rattle.terms.specs.Needs.{Needs, Serves}
 use Rattle.terms.specs.Judged.{IsInstallProblem, Stays}
-use Rattle.terms.proofs.Apart.{in_map, map_in, pairs_map}
-use Rattle.terms.proofs.Numbered.{All-found, stays_from_kept, kept_from_stays}
-use Rattle.terms.proofs.NumberedCauses.{contains_at, found_at, causer_id, causer_number}
+use Rattle.lemmas.proofs.Members.{in_map, map_in}
+use Rattle.lemmas.proofs.Pairs.{pairs_map}
+use Rattle.terms.proofs.Numbered.{stays_from_kept, kept_from_stays}
+use Rattle.lemmas.proofs.Places.{All-found, contains_at, found_at}
+use Rattle.terms.proofs.NumberedCauses.{causer_id, causer_number}
 use Rattle.solve.specs.Rows.{row_at}
-use Rattle.solve.proofs.Passing.{none_passes}
+use Rattle.lemmas.proofs.Searches.{All-from_no_list_any}
 use Rattle.judge.specs.Failed.{AreFailedTests}
 use Rattle.judge.proofs.Places.{two-places}
 use Rattle.machine.specs.Outcome as machine
@@ -37,17 +39,6 @@ one-number ids rising n m x at_n at_m = elim (cases_eq n m) [
   | inl same ↦ same
   | inr other ↦ absurd (two-places ids rising n m x x at_n at_m other refl)
 ]
-
-some-same : {X : Type 0} (x y : X) → Some x ≡ Some y → x ≡ y
-some-same x y e = cc e
-
-not-true : (b : Bool) → ¬ IsTrue b → b ≡ false
-not-true true n = absurd (n refl)
-not-true false n = refl
-
-not-from : (b : Bool) → not b ≡ true → b ≡ false
-not-from true e = absurd (true≢false (sym e))
-not-from false e = refl
 
 -- ids at places that rise, rise
 pub rising-at : (ids : List Id) (places : List ℕ) → IsRising ids → AllPairs (λ a b. a < b) places → All (λ m. m < length ids) places
@@ -84,7 +75,7 @@ module _ (ids kept : List Id) (E : Id → Type 0) (N : Id → NeedKind → Id �
   unserved-id d i kind z at need none y there serves =
       let place = found_at ids y (within y there) in
       let spot = found_at d.any place.0 (((h.demands i d (kind, z) at need).any place.0 y place.1).1 serves) in
-      let off = All-found (λ j. holds flags j ≡ false) d.any spot.0 place.0 (none_passes (holds flags) d.any none) spot.1 in
+      let off = All-found (λ j. holds flags j ≡ false) d.any spot.0 place.0 (All-from_no_list_any (holds flags) d.any none) spot.1 in
       true≢false (sym ((same place.0 y place.1).0 there) ∙ off)
 
   unserved-number : (d : Demand) (i : ℕ) (kind : NeedKind) (z : Id) → slice_get p.demands i ≡ Some d → slice_get needed i ≡ Some (kind, z)
@@ -94,7 +85,7 @@ module _ (ids kept : List Id) (E : Id → Type 0) (N : Id → NeedKind → Id �
       let v = slice_index_or d.any k m in
       let there : Contains d.any v = contains_at d.any k v (slice_get-get_or d.any k m below) in
       let y = id-of d i at v there in
-      not-true (holds flags v) (λ on. unserved y.0 ((same v y.0 y.1).1 on) (((h.demands i d (kind, z) at need).any v y.0 y.1).0 there)))
+      false_from_ne_true (holds flags v) (λ on. unserved y.0 ((same v y.0 y.1).1 on) (((h.demands i d (kind, z) at need).any v y.0 y.1).0 there)))
 
   module _ (rows : List (Vec (NeedKind × Id) Heap)) (opened : HaveOpen flags p.demands needed (length needed) rows) where
     -- the open needs of a number are those of its id
@@ -105,10 +96,10 @@ module _ (ids kept : List Id) (E : Id → Type 0) (N : Id → NeedKind → Id �
           let w = (opened n (kind, z)).0 there in
           let both = and_parts (w.1.of == n) (not (list_any (holds flags) w.1.any)) w.5 in
           let meant = (h.demands w.0 w.1 (kind, z) w.3 w.4).of in
-          let whose : meant.0 ≡ x = some-same meant.0 x (sym meant.1 ∙ ap (slice_get ids) (eqb-true w.1.of n both.0) ∙ at) in
+          let whose : meant.0 ≡ x = same_Some meant.0 x (sym meant.1 ∙ ap (slice_get ids) (eqb-true w.1.of n both.0) ∙ at) in
           record {
             needs = subst (λ v. N v kind z) whose meant.2;
-            unserved = unserved-id w.1 w.0 kind z w.3 w.4 (not-from (list_any (holds flags) w.1.any) both.1);
+            unserved = unserved-id w.1 w.0 kind z w.3 w.4 (not-true (list_any (holds flags) w.1.any) both.1);
           },
       λ need.
           let a = h.all n x z kind at need.needs in

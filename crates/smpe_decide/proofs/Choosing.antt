@@ -4,7 +4,7 @@ use Rattle.std.specs.Prelude.{◌↔◌}
 use Rattle.std.proofs.lemmas.Bool.{cases_lt}
 use Rattle.std.proofs.lemmas.List.Elements.{Contains-append_left, Contains-append_right, Contains-append_cases}
 use Rattle.terms.specs.Problem.{holds}
-use Rattle.terms.proofs.Apart.{here_or}
+use Rattle.lemmas.proofs.Members.{here_or}
 
 -- an item is taken where the test holds
 pub taken : {X : Type 0} (b : Bool) (x z : X) → Contains (cond b (x ∷ []) []) z → IsTrue b × (x ≡ z)

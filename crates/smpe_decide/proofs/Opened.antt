@@ -36,17 +36,10 @@ and-true : (a b : Bool) → b ≡ true → (a && b) ≡ a
 and-true true b e = e
 and-true false b e = refl
 
-and-false : (a b : Bool) → b ≡ false → (a && b) ≡ false
-and-false true b e = e
-and-false false b e = refl
-
 -- a need that nothing kept serves is one of its candidate alone, and one that is served is none
 pub open-where : (kept : List Bool) (d : Demand) (need : NeedKind × Id) (x : ℕ) → list_any (holds kept) d.any ≡ false
     → open_of kept d need x ≡ cond (d.of == x) (need ∷ []) []
 open-where kept d need x unserved = ap (λ b. cond b (need ∷ []) []) (and-true (d.of == x) (not (list_any (holds kept) d.any)) (ap not unserved))
-
-pub open-none : (kept : List Bool) (d : Demand) (need : NeedKind × Id) (x : ℕ) → list_any (holds kept) d.any ≡ true → open_of kept d need x ≡ []
-open-none kept d need x served = ap (λ b. cond b (need ∷ []) []) (and-false (d.of == x) (not (list_any (holds kept) d.any)) (ap not served))
 
 -- one more need
 pub open-next : (kept : List Bool) (demands : List Demand) (needed : List (NeedKind × Id)) (i : ℕ) (d : Demand) (need : NeedKind × Id)

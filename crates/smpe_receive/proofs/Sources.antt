@@ -1,19 +1,21 @@
 -- A SYSMOD that gains a source.
-use Rattle.std.proofs.Common.{◌≡◌, ◌∙◌, Bool, true, false, List, [], ◌∷◌, map, find, refl, sym, ap, subst, Option, None, Some, All, Contains, true≢false, if◌then◌else◌}
-use Rattle.std.specs.declared.cmp.Ordering.{Ordering}
-use Rattle.std.specs.declared.cmp.Ordering.TheVariants.{Less, Equal, Greater}
-use Rattle.std.specs.Ordering.{is_eq, nat_cmp}
+use Rattle.std.proofs.Common.{◌≡◌, ◌∙◌, Bool, true, false, List, [], ◌∷◌, map, find, refl, sym, ap, subst, Option, None, Some, All, Contains, if◌then◌else◌}
+use Rattle.std.specs.Ordering.{nat_cmp}
 use Rattle.std.specs.Cmp.Lexicographic.{slice_cmp, texts_ties}
 use Rattle.std.specs.Option.{option_map}
 use Rattle.std.specs.Str.{bytes_eq}
 use Rattle.std.proofs.lemmas.Cmp.{nat_list_cmp_total}
 use Rattle.std.proofs.lemmas.List.Elements.{All-head, All-tail, All-weaker, All-contains_itself}
+use Rattle.std.proofs.lemmas.List.Folds.{map_fixed}
+use Rattle.lemmas.proofs.Orderings.{Equal-from_is_eq}
 use Rattle.terms.specs.Types.{Text, Id, Sysmod, Global}
 use Rattle.terms.specs.Rising.{Rises}
 use Rattle.terms.specs.Lookups.{sysmod_of}
 use Rattle.terms.specs.Global.{with_source, assign}
-use Rattle.terms.proofs.Apart.{parts}
-use Rattle.terms.proofs.GlobalLookups.{same_from, find-passes, assigned, sysmod_of-assign}
+use Rattle.lemmas.proofs.Members.{parts}
+use Rattle.terms.proofs.GlobalLookups.{assigned, sysmod_of-assign}
+use Rattle.lemmas.proofs.Texts.{same_from}
+use Rattle.lemmas.proofs.Searches.{find-passes}
 use Rattle.terms.proofs.RisingLists.{find-there, Splits-around}
 use Rattle.store.specs.declared.change.GlobalEdit.TheVariants.{ReplaceSources}
 use Rattle.store.specs.Changes.{Fits, EachFits, after_edits}
@@ -27,24 +29,12 @@ map-same f h (x ∷ xs) all =
     let rest = map-same f h xs (All-tail (λ y. f y ≡ h y) x xs all) in
     ap (λ y. y ∷ map f xs) first ∙ ap (λ ys. h x ∷ ys) rest
 
-unchanged : {X : Type 0} (f : X → X) (xs : List X) → All (λ x. f x ≡ x) xs → map f xs ≡ xs
-unchanged f [] all = refl
-unchanged f (x ∷ xs) all =
-    let first = All-head (λ y. f y ≡ y) x xs all in
-    let rest = unchanged f xs (All-tail (λ y. f y ≡ y) x xs all) in
-    ap (λ y. y ∷ map f xs) first ∙ ap (λ ys. x ∷ ys) rest
-
-equal_from : (r : Ordering) → is_eq r ≡ true → r ≡ Equal
-equal_from Less e = absurd (true≢false (sym e))
-equal_from Equal e = refl
-equal_from Greater e = absurd (true≢false (sym e))
-
 module _ (source : Text) (g : Global) (x : Id) (rises : Rises (slice_cmp nat_cmp) (λ (r : Sysmod). r.id) g.sysmods) where
   -- a SYSMOD of the id is found by it
   found : (r : Sysmod) → Contains g.sysmods r → bytes_eq r.id x ≡ true → sysmod_of g x ≡ Some r
   found r h hit =
       let p = parts g.sysmods r h in
-      let tie = equal_from (slice_cmp nat_cmp r.id x) (sym (texts_ties r.id x) ∙ hit) in
+      let tie = Equal-from_is_eq (slice_cmp nat_cmp r.id x) (sym (texts_ties r.id x) ∙ hit) in
       ap (find (λ (y : Sysmod). bytes_eq y.id x)) p.2
       ∙ find-there nat_list_cmp_total (λ (y : Sysmod). y.id) bytes_eq texts_ties x p.0 p.1 r
       (Splits-around nat_list_cmp_total (λ (y : Sysmod). y.id) x p.0 p.1 r (subst (Rises (slice_cmp nat_cmp) (λ (y : Sysmod). y.id)) p.2 rises) tie) tie
@@ -53,7 +43,7 @@ module _ (source : Text) (g : Global) (x : Id) (rises : Rises (slice_cmp nat_cmp
   none-assigned : sysmod_of g x ≡ None → assign g source x ≡ g
   none-assigned none =
       ap (λ ss. record g { sysmods = ss })
-      (unchanged (assigned source x) g.sysmods (All-weaker (Contains g.sysmods) (λ r. assigned source x r ≡ r) each g.sysmods (All-contains_itself g.sysmods)))
+      (map_fixed (assigned source x) g.sysmods (All-weaker (Contains g.sysmods) (λ r. assigned source x r ≡ r) each g.sysmods (All-contains_itself g.sysmods)))
     where
       each : (r : Sysmod) → Contains g.sysmods r → assigned source x r ≡ r
       each r h = by (bytes_eq r.id x) refl

@@ -5,7 +5,7 @@ use Rattle.std.specs.Str.{bytes_eq}
 use Rattle.std.specs.declared.cmp.Ordering.{Ordering}
 use Rattle.std.specs.declared.cmp.Ordering.TheVariants.{Less, Equal, Greater}
 use Rattle.std.specs.Ordering.{is_lt, is_eq, ordering_reverse}
-use Rattle.std.proofs.lemmas.Bool.{cases_lt}
+use Rattle.std.proofs.lemmas.Bool.{cases_lt, and_parts}
 use Rattle.std.proofs.lemmas.List.Elements.{All-head, All-tail, All-cons, All-map, All-from_get_or}
 use Rattle.std.proofs.lemmas.List.Folds.{list_any_at, list_any_none}
 use Rattle.terms.specs.declared.kinds.HoldKind.TheVariants.{System}
@@ -13,8 +13,8 @@ use Rattle.terms.specs.Types.{Id, Hold, Global, hold_number}
 use Rattle.terms.specs.Rising.{Rises}
 use Rattle.terms.specs.Lookups.{is_received, holds_of}
 use Rattle.terms.specs.Global.{IsGlobal, has_key, hold_cmp, without_sysmod}
-use Rattle.terms.proofs.RisingLists.{filter-all}
-use Rattle.terms.proofs.GlobalLookups.{same_itself}
+use Rattle.lemmas.proofs.Searches.{filter-all}
+use Rattle.lemmas.proofs.Texts.{same_itself}
 use Rattle.terms.proofs.GlobalKept.{hold_cmp_total}
 use Rattle.terms.proofs.HoldOrder.{has_key-ties}
 use Rattle.store.specs.declared.change.GlobalEdit.TheVariants.{RemoveSysmod}
@@ -47,10 +47,6 @@ module _ {X : Type 0} where
       by : list_any q (filter p xs) ≡ list_any (λ x. p x && q x) xs → (b : Bool) → p x ≡ b → list_any q (filter p (x ∷ xs)) ≡ list_any (λ x. p x && q x) (x ∷ xs)
       by again true e = rw e (ap (λ b. q x || b) again)
       by again false e = rw e again
-
-and_true : (a b : Bool) → (a && b) ≡ true → (a ≡ true) × (b ≡ true)
-and_true true b e = (refl, e)
-and_true false b e = absurd (true≢false (sym e))
 
 -- what is lower does not tie, nor does what is higher
 lower : (r : Ordering) → is_lt r ≡ true → is_eq r ≡ true → ⊥
@@ -102,7 +98,7 @@ module _ (g : Global) (x : Id) (is : IsGlobal g) where
 
   itself : (o : Hold) → (IsTrue o.internal → (o.kind ≡ System) × IsTrue (is_received g o.id)) → gone o ≡ true → dropped o o ≡ true
   itself o own e =
-      let parts = and_true o.internal (bytes_eq o.id x) e in
+      let parts = and_parts o.internal (bytes_eq o.id x) e in
       let kind = (own parts.0).0 in
       let number : (hold_number o.kind == hold_number System) ≡ true = ap (λ k. hold_number k == hold_number System) kind in
       let alike : (hold_number o.kind == hold_number o.kind) ≡ true = ap (λ k. hold_number k == hold_number k) kind in
@@ -111,9 +107,9 @@ module _ (g : Global) (x : Id) (is : IsGlobal g) where
   -- one that is dropped is internal and on it
   is_gone : (o h : Hold) → dropped o h ≡ true → (gone h ≡ true) × (has_key_of o h ≡ true)
   is_gone o h e =
-      let two = and_true (on h) (h.internal && has_key_of o h) e in
-      let first = and_true (bytes_eq h.id x) (hold_number h.kind == hold_number System) two.0 in
-      let second = and_true h.internal (has_key_of o h) two.1 in
+      let two = and_parts (on h) (h.internal && has_key_of o h) e in
+      let first = and_parts (bytes_eq h.id x) (hold_number h.kind == hold_number System) two.0 in
+      let second = and_parts h.internal (has_key_of o h) two.1 in
       ((λ i. second.0 i && first.0 i), second.1)
 
   goes : (i : ℕ) (d : Hold) → i < length g.holds → list_any (dropped (get_or g.holds i d)) g.holds ≡ gone (get_or g.holds i d)

@@ -1,5 +1,5 @@
 -- A map that finds under each name the zone of that name.
-use Rattle.std.proofs.Common.{◌≡◌, ◌∙◌, ◌||◌, Bool, true, false, List, [], ◌∷◌, map, refl, sym, ap, subst, Option, None, Some, Contains, true≢false, find}
+use Rattle.std.proofs.Common.{◌≡◌, ◌∙◌, ◌||◌, Bool, true, false, List, [], ◌∷◌, refl, sym, ap, subst, Option, None, Some, Contains, true≢false, find}
 use Rattle.std.specs.List.{list_any}
 use Rattle.std.specs.Ordering.{nat_cmp}
 use Rattle.std.specs.Option.{option_map}
@@ -8,12 +8,13 @@ use Rattle.std.specs.Cmp.Lexicographic.{slice_cmp, texts_ties}
 use Rattle.std.proofs.lemmas.Cmp.{nat_list_cmp_total, nat_list_eq_equiv, tied_itself}
 use Rattle.std.proofs.lemmas.List.Folds.{list_any_at}
 use Rattle.std.proofs.lemmas.Map.Views.{hash_map_get_iff}
+use Rattle.lemmas.proofs.Searches.{list_any-map}
 use Rattle.indexmap.specs.IndexMap.{IndexMap, get, values, IsUnique}
 use Rattle.terms.specs.Types.{Text, Id, Zone, NamedZone}
 use Rattle.terms.specs.Rising.{Rises}
 use Rattle.terms.specs.Lookups.{is_applied}
-use Rattle.terms.proofs.Apart.{here, there, parts}
-use Rattle.terms.proofs.GlobalLookups.{same_from}
+use Rattle.lemmas.proofs.Members.{here, there, parts}
+use Rattle.lemmas.proofs.Texts.{same_from}
 use Rattle.terms.proofs.RisingLists.{Splits-around, find-there}
 use Rattle.machine.specs.State.{zone_named}
 use Rattle.smpe_reject.specs.Rejections.{AppliesAlike}
@@ -40,10 +41,6 @@ module _ {X : Type 0} (p : X → Bool) where
       by : (find p xs ≡ Some x → Contains xs x) → (b : Bool) → p y ≡ b → Contains (y ∷ xs) x
       by again true f = let now = rw f at e in let same : y ≡ x = cc in subst (Contains (y ∷ xs)) same (here y xs)
       by again false f = let now = rw f at e in there y xs x (again now)
-
-any-map : {X Y : Type 0} (p : Y → Bool) (f : X → Y) (xs : List X) → list_any p (map f xs) ≡ list_any (λ x. p (f x)) xs
-any-map p f [] = refl
-any-map p f (x ∷ xs) = ap (λ b. p (f x) || b) (any-map p f xs)
 
 same_truth : (a b : Bool) → (a ≡ true → b ≡ true) → (b ≡ true → a ≡ true) → a ≡ b
 same_truth true b to from = sym (to refl)
@@ -84,7 +81,7 @@ module _ {S : Type 0} (zones : IndexMap Text Zone S) (named : List NamedZone) (u
     stored e = is_applied e.1 x
 
     each : list_any (λ zone. is_applied zone x) (values zones) ≡ list_any stored zones.entries
-    each = any-map (λ zone. is_applied zone x) (λ (e : Text × Zone). e.1) zones.entries
+    each = list_any-map (λ zone. is_applied zone x) (λ (e : Text × Zone). e.1) zones.entries
 
     to_map : list_any listed named ≡ true → list_any (λ zone. is_applied zone x) (values zones) ≡ true
     to_map e =

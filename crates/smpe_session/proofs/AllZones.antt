@@ -7,9 +7,9 @@ use Rattle.std.proofs.lemmas.List.Elements.{All-more, All-weaker, recursion_from
 use Rattle.indexmap.specs.IndexMap.{get, IsUnique}
 use Rattle.terms.specs.Types.{Text, Zone, NamedZone}
 use Rattle.terms.specs.Lookups.{is_before}
-use Rattle.terms.proofs.Apart.{pairs_unmap}
-use Rattle.terms.proofs.GlobalLookups.{same_from}
-use Rattle.terms.proofs.SameLists.{find-gives}
+use Rattle.lemmas.proofs.Pairs.{pairs_unmap}
+use Rattle.lemmas.proofs.Texts.{same_from}
+use Rattle.lemmas.proofs.Searches.{find-gives}
 use Rattle.store_schema.specs.Inventory.{IsInventory}
 use Rattle.machine.specs.State.{State, global_name, zone_named}
 use Rattle.smpe_reject.specs.Rejections.{AppliesAlike}
@@ -18,7 +18,7 @@ use Rattle.store.specs.Kept.{kept}
 use Rattle.smpe_session.specs.declared.performing.Session.{Session}
 use Rattle.smpe_session.specs.Steps.{is_known, IsSought, AreSought, HasAllZones}
 use Rattle.smpe_session.proofs.Places.{none-global}
-use Rattle.smpe_session.proofs.Seeking.{or_right}
+use Rattle.std.proofs.lemmas.Bool.{or_right}
 
 abbrev IsHere : State → Session → Text → Type 0
 IsHere s at name = IsTrue (is_known s.zones name) → (name ≡ global_name) ⊎ IsSome (get bytes_eq at.zones name)

@@ -16,9 +16,9 @@ use Rattle.change.specs.Puts.{puts}
 use Rattle.terms.specs.Delta.{ZoneDelta, IsChanged}
 use Rattle.terms.specs.Lookups.{is_before}
 use Rattle.terms.specs.Rising.{Rises, with_item}
-use Rattle.terms.proofs.Apart.{pairs_unmap}
-use Rattle.terms.proofs.GlobalLookups.{same_from, same_itself}
-use Rattle.terms.proofs.RisingLists.{AllPairs-parts, with_item-there}
+use Rattle.lemmas.proofs.Pairs.{pairs_unmap, AllPairs-parts}
+use Rattle.lemmas.proofs.Texts.{same_from, same_itself}
+use Rattle.terms.proofs.RisingLists.{with_item-there}
 use Rattle.store_zones.specs.Zones.{IsZoneChange}
 use Rattle.store_schema.specs.Inventory.{Inventory, IsInventory}
 use Rattle.machine.specs.Installing.{InstallsSelected}

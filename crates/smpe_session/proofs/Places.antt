@@ -6,8 +6,8 @@ use Rattle.std.specs.Str.{bytes_eq}
 use Rattle.indexmap.specs.IndexMap.{get}
 use Rattle.terms.specs.declared.kinds.ZoneKind.TheVariants.{Target, Distribution}
 use Rattle.terms.specs.Types.{Text, zone_number, Zone, NamedZone, Id, ReceiveWhat, Receive, Reject, Install, Apply}
-use Rattle.terms.proofs.GlobalLookups.{same_from, same_itself, All-find}
-use Rattle.terms.proofs.SameLists.{find-gives}
+use Rattle.lemmas.proofs.Texts.{same_from, same_itself}
+use Rattle.lemmas.proofs.Searches.{All-find, find-gives}
 use Rattle.machine.specs.Outcome.{Refusal, Cm1, Cm3}
 use Rattle.store_schema.specs.Inventory.{IsInventory, IsZoneNamed}
 use Rattle.machine.specs.State.{State, global_name, zone_named, at_global, unless_at, misplaced}

@@ -6,7 +6,7 @@ use Rattle.terms.specs.Types.{Text, Global, Item, HoldItem, AHold, ARelease, Rec
 use Rattle.terms.specs.Forms.{IsSource}
 use Rattle.terms.specs.Ptfin.{McsFault, IsPtfin, IsPtfinFault}
 use Rattle.terms.specs.HoldFile.{IsHoldFile, IsHoldFileFault}
-use Rattle.terms.proofs.GlobalGroups.{recursion_weaker}
+use Rattle.lemmas.proofs.Each.{recursion_weaker}
 use Rattle.store_schema.specs.Inventory.{IsInventory}
 use Rattle.machine.specs.Runs.{Runs}
 use Rattle.machine.specs.Receiving.{TakesItem, TakesHoldItem}
@@ -22,7 +22,7 @@ use Rattle.smpe_receive.specs.External.{IsExternal}
 use Rattle.smpe_upkeep.proofs.HoldFileForms.{IsHoldItem, hold_file_formed}
 use Rattle.smpe_upkeep.proofs.ReceivingForms.{take_forms}
 use Rattle.smpe_session.specs.Received.{AreTaken}
-use Rattle.smpe_session.proofs.Edits.{fits-append}
+use Rattle.smpe_receive.proofs.Fitting.{fits-append}
 use Rattle.smpe_session.proofs.Leading.{LeadsBy, leads-by, headed}
 
 external : (item : HoldItem) → IsHoldItem item → IsExternal item

@@ -1,20 +1,17 @@
 -- What SET finds, and the session of the state that it leads to.
-use Rattle.std.proofs.Common.{◌≡◌, ◌⊎◌, ◌∙◌, Bool, true, false, ◌||◌, cond, List, [], Some, None, refl, sym, ap, subst, inl, inr}
+use Rattle.std.proofs.Common.{◌≡◌, ◌⊎◌, ◌∙◌, Bool, true, false, cond, List, [], Some, None, refl, sym, ap, subst, inl, inr}
 use Rattle.std.specs.Prelude.{is_some, IsSome}
 use Rattle.std.specs.Str.{bytes_eq}
+use Rattle.std.proofs.lemmas.Bool.{or_right}
 use Rattle.indexmap.specs.IndexMap.{get, Updates}
 use Rattle.terms.specs.Types.{Text, Zone, Set}
-use Rattle.terms.proofs.GlobalLookups.{same_from}
+use Rattle.lemmas.proofs.Texts.{same_from}
 use Rattle.machine.specs.Outcome.{Line, Cm2, Refused, Ran, header_of}
 use Rattle.machine.specs.State.{State, global_name, zone_named, misplaced}
 use Rattle.machine.specs.Machine.{Files, Performs}
 use Rattle.smpe_session.specs.declared.performing.Session.{Session}
 use Rattle.smpe_session.specs.Sessions.{IsSessionOf}
 use Rattle.smpe_session.specs.Steps.{IsSought}
-
-pub or_right : (a b : Bool) → b ≡ true → a || b ≡ true
-or_right true b e = refl
-or_right false b e = e
 
 -- a zone of the state under its name
 pub zones-updated : (s : State) (at new : Session) (name : Text) (zone : Zone) → ((q : Text) (z : Zone) → bytes_eq name q ≡ false → get bytes_eq at.zones q ≡ Some z → zone_named s.zones q ≡ Some z)

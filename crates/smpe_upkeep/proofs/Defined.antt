@@ -12,17 +12,20 @@ use Rattle.std.proofs.lemmas.Cmp.{nat_list_cmp_total}
 use Rattle.std.proofs.lemmas.Bool.{and_parts}
 use Rattle.std.proofs.lemmas.Map.Lookups.{exact_bytes}
 use Rattle.std.proofs.lemmas.List.Elements.{All-cons, All-weaker, Contains-append_left, Contains-append_right, Contains-append_cases, All-from_recursion}
+use Rattle.lemmas.proofs.Members.{in_middle}
 use Rattle.terms.specs.declared.kinds.ZoneKind.{ZoneKind}
 use Rattle.terms.specs.declared.kinds.ZoneKind.TheVariants.{Target, Distribution}
 use Rattle.terms.specs.Types.{Text, zone_number, Zone, a_zone, NamedZone}
 use Rattle.terms.specs.Lookups.{is_before}
 use Rattle.terms.specs.Rising.{Rises, with_item, Splits}
 use Rattle.terms.specs.Forms.{IsSrel, IsZoneName}
-use Rattle.terms.proofs.Apart.{pairs_map, pairs_unmap}
-use Rattle.terms.proofs.GlobalLookups.{same_from, same_itself}
-use Rattle.terms.proofs.RisingLists.{All-between, AllPairs-between, AllPairs-first, AllPairs-rest, Less-from_is_lt, with_item-new, Rises-between}
+use Rattle.lemmas.proofs.Pairs.{pairs_map, pairs_unmap, AllPairs-between, AllPairs-first, AllPairs-rest}
+use Rattle.lemmas.proofs.Texts.{same_from, same_itself}
+use Rattle.terms.proofs.RisingLists.{with_item-new, Rises-between}
+use Rattle.lemmas.proofs.Each.{All-between, recursion-front, recursion-back}
+use Rattle.lemmas.proofs.Orderings.{Less-from_is_lt}
 use Rattle.store_schema.specs.Inventory.{IsInventory, IsZoneNamed, HasDistribution, IsRelated, AreApart}
-use Rattle.smpe_upkeep.proofs.Lists.{recursion_left, recursion_right, each_alike}
+use Rattle.smpe_upkeep.proofs.Lists.{each_alike}
 use Rattle.smpe_upkeep.proofs.ZonesKept.{stands_among}
 use Rattle.machine.specs.State.{State, zone_named, with_zone, ZoneDefinition, Zn1, Zn2, Zn3, Zn4, define_zone, is_related, has_right_related, has_same_srel, global_name}
 
@@ -121,9 +124,6 @@ module _ (front back : List NamedZone) (z : NamedZone) where
   still_related Target srel (Some name) (y, there, named, kind, has) = (y, stays y there, named, kind, has)
   still_related Distribution srel related is = is
 
-contains_it : (before after : List NamedZone) (z : NamedZone) → Contains (before ++ z ∷ after) z
-contains_it before after z = Contains-append_right before (z ∷ after) z (0, omega arith, refl)
-
 is_distribution : (kind : ZoneKind) → IsTrue (zone_number kind == zone_number Distribution) → kind ≡ Distribution
 is_distribution Target same = absurd (cc same)
 is_distribution Distribution same = refl
@@ -136,7 +136,7 @@ found_related zones srel name None found kind same = absurd (cc kind)
 found_related zones srel name (Some old) found kind same =
     let at = stands_among zones name old found in
     let z : NamedZone = record { name = name; zone = old } in
-    (z, subst (λ zs. Contains zs z) (sym at.zones_are) (contains_it at.before at.after z), refl, is_distribution old.kind kind, same_from old.srel srel same)
+    (z, subst (λ zs. Contains zs z) (sym at.zones_are) (in_middle at.before z at.after), refl, is_distribution old.kind kind, same_from old.srel srel same)
 
 related_new : (zones : List NamedZone) (kind : ZoneKind) (srel : Text) (related : Option Text) → IsTrue (has_right_related zones kind related) → IsTrue (has_same_srel zones srel related)
     → IsRelated zones kind srel related
@@ -217,8 +217,8 @@ definition_kept s t d name srel answers is =
     let pairs = subst (λ zs. AllPairs AreApart zs) parts is.apart in
     let apart = apart_back s.zones d.kind d.related told.right in
     let before = All-from_recursion (λ (y : NamedZone). AreApart y z) at.front
-    (recursion_left (λ (y : NamedZone). AreApart y z) at.front at.back (subst (AllByRecursion (λ (y : NamedZone). AreApart y z)) parts (apart_front d.related s.zones apart))) in
-    let behind = All-from_recursion (AreApart z) at.back (recursion_right (AreApart z) at.front at.back (subst (AllByRecursion (AreApart z)) parts apart)) in
+    (recursion-front (λ (y : NamedZone). AreApart y z) at.front at.back (subst (AllByRecursion (λ (y : NamedZone). AreApart y z)) parts (apart_front d.related s.zones apart))) in
+    let behind = All-from_recursion (AreApart z) at.back (recursion-back (AreApart z) at.front at.back (subst (AllByRecursion (AreApart z)) parts apart)) in
     let inventory : IsInventory (record { global = s.global; zones = zones }) = record {
       global = is.global;
       sysmods = is.sysmods;

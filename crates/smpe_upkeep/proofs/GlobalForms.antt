@@ -11,7 +11,8 @@ use Rattle.terms.specs.Types.{Text, Id, Hold, Sysmod, Global, Release, NamedZone
 use Rattle.terms.specs.Lookups.{is_received, is_applied}
 use Rattle.terms.specs.Forms.{IsSource}
 use Rattle.terms.specs.Global.{IsSysmod, IsGlobal, hold_cmp, has_key, hold_of, marked, hold, Rl2, release_found, release, without_hold, assign, with_sysmod, received, ReceiveFault, HasFault, Rj1, Rj2, without_sysmod, reject}
-use Rattle.terms.proofs.GlobalKept.{All-with_item, Rises-with_item, IsOwned, hold-kept, without_hold-kept, assign-kept, without_sysmod-kept}
+use Rattle.terms.proofs.GlobalKept.{IsOwned, hold-kept, without_hold-kept, assign-kept, without_sysmod-kept}
+use Rattle.terms.proofs.Edits.{All-with_item, Rises-with_item}
 use Rattle.terms.proofs.GlobalLookups.{assigned}
 use Rattle.sysmods.proofs.Receiving.{kept}
 use Rattle.store_schema.specs.Forms.{HasSysmodForms, HasHoldForms}
@@ -51,7 +52,7 @@ marked_forms was h forms = record { id = forms.id; reason = forms.reason; fmid =
 all_held : (g : Global) (h : Hold) → All HasHoldForms g.holds → HasHoldForms h → All HasHoldForms (hold g h).holds
 all_held g h all forms =
     let was = hold_of g h.id h.kind h.reason in
-    All-with_item HasHoldForms hold_cmp (λ (o : Hold). o) g.holds (marked was h) all (marked_forms was h forms)
+    All-with_item hold_cmp (λ (o : Hold). o) HasHoldForms g.holds (marked was h) all (marked_forms was h forms)
 
 -- A hold that is external, or an internal one of a received SYSMOD.
 pub hold_forms : (g : Global) (h : Hold) → HasHoldForms h → IsOwned g h → HasGlobalForms g → HasGlobalForms (hold g h)
@@ -91,7 +92,7 @@ sourced_forms source x s form has = by (bytes_eq s.id x) refl
     by true e = rw e (record {
       id = has.id;
       sources = record {
-        each = All-with_item IsSource (slice_cmp nat_cmp) (λ (t : Text). t) s.sources source has.sources.each form;
+        each = All-with_item (slice_cmp nat_cmp) (λ (t : Text). t) IsSource s.sources source has.sources.each form;
         rising = Rises-with_item nat_list_cmp_total (λ (t : Text). t) s.sources source has.sources.rising;
       };
       some = has.some;
@@ -130,7 +131,7 @@ pub received_forms : (g : Global) (s : Sysmod) → HasSysmodForms s → IsSysmod
 received_forms g s forms is held good has = record {
   is_global = kept g s has.is_global is good;
   sysmods = same_sysmods s.holds (with_sysmod g s)
-      (All-with_item HasSysmodForms (slice_cmp nat_cmp) (λ (r : Sysmod). r.id) g.sysmods (record s { holds = [] }) has.sysmods (laid_aside s forms));
+      (All-with_item (slice_cmp nat_cmp) (λ (r : Sysmod). r.id) HasSysmodForms g.sysmods (record s { holds = [] }) has.sysmods (laid_aside s forms));
   holds = all_holds s.holds (with_sysmod g s) has.holds held;
 }
 

@@ -9,7 +9,7 @@ use Rattle.terms.specs.Statement.{Piece}
 use Rattle.terms.specs.Ptfin.{IsKnown}
 use Rattle.terms.specs.HoldFile.{HasItem, IsWithin, BeginsWithItems, IsHoldFile}
 use Rattle.store_schema.specs.Forms.{HasHoldForms}
-use Rattle.smpe_upkeep.proofs.Lists.{recursion_left, recursion_right}
+use Rattle.lemmas.proofs.Each.{recursion-front, recursion-back}
 use Rattle.smpe_upkeep.proofs.Printable.{operands_printable}
 use Rattle.smpe_upkeep.proofs.StatementForms.{hold_formed}
 
@@ -28,8 +28,8 @@ items_formed : (items : List HoldItem) (n : ℕ) (records : Lines) (m : ℕ) →
 items_formed [] n records m each begins = tt
 items_formed (item ∷ items) n records m each (group, next, later, takes, (w, own, rest, inline, known, stands, has, within), more) =
     let parts = subst (λ rs. AllByRecursion IsRecord rs) takes.records_are each in
-    let inside = recursion_left IsRecord group.records later parts in
-    (item_formed group.records w own rest inline item known has within inside, items_formed items next later m (recursion_right IsRecord group.records later parts) more)
+    let inside = recursion-front IsRecord group.records later parts in
+    (item_formed group.records w own rest inline item known has within inside, items_formed items next later m (recursion-back IsRecord group.records later parts) more)
 
 -- each item of a hold file has its forms, and each of its holds is external
 pub hold_file_formed : (bytes : List ℕ) (items : List HoldItem) → IsHoldFile bytes items → AllByRecursion IsHoldItem items

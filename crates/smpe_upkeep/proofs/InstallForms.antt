@@ -24,8 +24,8 @@ use Rattle.terms.specs.Forms.{IsId, IsName, IsSrel, IsDottedDate}
 use Rattle.terms.specs.Delta.{IsChanged, edit_key, edit_put, after_edits, element_eq}
 use Rattle.terms.proofs.Edits.{All-with_item}
 use Rattle.terms.proofs.ElementOrder.{element_cmp_total, element_ties}
-use Rattle.terms.proofs.GlobalLookups.{same_from, All-find}
-use Rattle.terms.proofs.SameLists.{find-gives}
+use Rattle.lemmas.proofs.Texts.{same_from}
+use Rattle.lemmas.proofs.Searches.{All-find, find-gives}
 use Rattle.store_schema.specs.Forms.{AreListed, HasActionForms, HasChangeForms, HasSysmodForms, HasEntryForms, HasElementForms, HasZoneForms}
 use Rattle.store_schema.specs.Inventory.{Inventory, IsInventory, IsZoneNamed}
 use Rattle.machine.specs.State.{zone_named}

@@ -12,9 +12,8 @@ use Rattle.terms.specs.Words.{Word, list_pieces, word_pieces, HasWords}
 use Rattle.terms.specs.Operands.{operand}
 use Rattle.terms.specs.Statements.{statement_text}
 use Rattle.terms.specs.Ptfin.{IsKnown}
-use Rattle.terms.proofs.GlobalGroups.{recursion-append}
-use Rattle.terms.proofs.GlobalLookups.{All-find}
-use Rattle.smpe_upkeep.proofs.Lists.{recursion_left, recursion_right}
+use Rattle.lemmas.proofs.Each.{recursion-append, recursion-front, recursion-back}
+use Rattle.lemmas.proofs.Searches.{All-find}
 
 abbrev pub ArePrintable : Text → Type 0
 ArePrintable text = AllByRecursion IsPrintable text
@@ -56,10 +55,10 @@ closed_printable (b ∷ bs) after e each = by (b == 42 && slice_index bs 0 == 47
     by false same again = again same
 
 piece_printable : (text : Text) (p : Piece) (after : Text) → TakesPiece text p after → ArePrintable text → HasPrintable p × ArePrintable after
-piece_printable text (TheWord word) after takes each = (tt, recursion_right IsPrintable word after (subst ArePrintable takes.0 each))
+piece_printable text (TheWord word) after takes each = (tt, recursion-back IsPrintable word after (subst ArePrintable takes.0 each))
 piece_printable text (TheList list) after takes each =
     let inside : ArePrintable (list ++ 41 ∷ after) = (subst ArePrintable takes.0 each).1 in
-    (recursion_left IsPrintable list (41 ∷ after) inside, (recursion_right IsPrintable list (41 ∷ after) inside).1)
+    (recursion-front IsPrintable list (41 ∷ after) inside, (recursion-back IsPrintable list (41 ∷ after) inside).1)
 piece_printable text Blank after (b, is, blank) each = (tt, (subst ArePrintable is each).1)
 piece_printable text Comment after (inside, is, closes) each = (tt, closed_printable inside after closes (subst ArePrintable is each).1.1)
 piece_printable text (Stray b) after takes each = (tt, (subst ArePrintable takes.0 each).1)
@@ -92,8 +91,8 @@ list_printable (Some text) h = h.0
 words_printable : (words : List Word) → AllByRecursion HasPrintable (flat_map word_pieces words) → AllByRecursion HasPrintableList words
 words_printable [] h = tt
 words_printable (w ∷ ws) h = (
-  list_printable w.list (recursion_left HasPrintable (list_pieces w.list) (flat_map word_pieces ws) h.1),
-  words_printable ws (recursion_right HasPrintable (list_pieces w.list) (flat_map word_pieces ws) h.1),
+  list_printable w.list (recursion-front HasPrintable (list_pieces w.list) (flat_map word_pieces ws) h.1),
+  words_printable ws (recursion-back HasPrintable (list_pieces w.list) (flat_map word_pieces ws) h.1),
 )
 
 -- the operands of a statement
@@ -102,7 +101,7 @@ pub operands_printable : (records : Lines) (w : StatementWord) (own : Option Tex
 operands_printable records w own rest inline operands known are each =
     let pieces = statement_printable records known.pieces inline known.statement each in
     let first : List Piece = word_pieces (record { word = statement_text w; list = own }) in
-    let behind = recursion_right HasPrintable first rest (subst (λ ps. AllByRecursion HasPrintable ps) known.begins.pieces_are pieces) in
+    let behind = recursion-back HasPrintable first rest (subst (λ ps. AllByRecursion HasPrintable ps) known.begins.pieces_are pieces) in
     words_printable operands (subst (λ ps. AllByRecursion HasPrintable ps) are behind)
 
 pub operand_printable : (name : Text) (words : List Word) → AllByRecursion HasPrintableList words → IfSome (operand name words) HasPrintableList

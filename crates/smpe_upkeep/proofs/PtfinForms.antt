@@ -26,10 +26,10 @@ use Rattle.terms.specs.HoldStatements.{HasShortComment}
 use Rattle.terms.specs.Statements.{changed_type, Statement, SaysHeader, SaysVer, SaysIf, SaysHold, SaysAssign, SaysChange, IsVerOf, IsIfOf, IsOwnHoldOf, IsChangeOf}
 use Rattle.terms.specs.Ptfin.{Begun, SoFar, nothing, items_of, begun, with_ver, with_change, is_last, with_if, with_hold, after, sysmod_in, MayStand, CannotStand, LastHeader, UpdateInFunction, IsHeader, IsUpdateWord, IsPlaced, IsKnown, IsGood, BeginsWithStatements, IsPtfin}
 use Rattle.terms.proofs.ElementOrder.{change_cmp_total}
-use Rattle.terms.proofs.GlobalKept.{All-with_item, Rises-with_item, Rises-map}
-use Rattle.terms.proofs.GlobalGroups.{recursion-append}
+use Rattle.terms.proofs.GlobalKept.{Rises-map}
+use Rattle.terms.proofs.Edits.{All-with_item, Rises-with_item}
+use Rattle.lemmas.proofs.Each.{recursion-append, recursion-front, recursion-back}
 use Rattle.store_schema.specs.Forms.{AreRecords, SuitsKind, HasIfForms, HasVerForms, HasChangeForms, HasHoldForms}
-use Rattle.smpe_upkeep.proofs.Lists.{recursion_left, recursion_right}
 use Rattle.smpe_upkeep.proofs.Printable.{HasPrintableList, operands_printable}
 use Rattle.smpe_upkeep.proofs.StatementForms.{one_form, hold_formed, ver_formed, if_formed, source_formed, change_formed}
 
@@ -100,7 +100,7 @@ ver_growing : (b : Begun) (v : Ver) → IsGrowing b.sysmod → HasVerForms b.sys
 ver_growing b v g forms = record {
   id = g.id;
   no_sources = g.no_sources;
-  vers = All-with_item (HasVerForms b.sysmod.kind b.sysmod.id) (slice_cmp nat_cmp) (λ (w : Ver). w.srel) b.sysmod.vers v g.vers forms;
+  vers = All-with_item (slice_cmp nat_cmp) (λ (w : Ver). w.srel) (HasVerForms b.sysmod.kind b.sysmod.id) b.sysmod.vers v g.vers forms;
   srels = Rises-with_item nat_list_cmp_total (λ (w : Ver). w.srel) b.sysmod.vers v g.srels;
   changes = g.changes;
   elements = g.elements;
@@ -161,7 +161,7 @@ change_growing b c g forms = record {
   no_sources = g.no_sources;
   vers = g.vers;
   srels = g.srels;
-  changes = All-with_item (HasChangeForms b.sysmod.kind) change_cmp (λ (x : Change). x) b.sysmod.changes c g.changes forms;
+  changes = All-with_item change_cmp (λ (x : Change). x) (HasChangeForms b.sysmod.kind) b.sysmod.changes c g.changes forms;
   elements = Rises-with_item change_cmp_total (λ (x : Change). x) b.sysmod.changes c g.elements;
   held = g.held;
   holds = g.holds;
@@ -235,7 +235,7 @@ change_current w own operands inline x left later (Some b) g may other says reco
 -- the inline text is among the records
 inline_records : (records : Lines) (pieces : List Piece) (inline : Lines) → IsStatement records pieces inline → AllByRecursion IsRecord records → AreRecords inline
 inline_records records pieces inline (ps, tail, ends, idle, is) each =
-    let behind_it = recursion_right IsRecord ends.before (ends.place.at ∷ inline) (subst (λ rs. AllByRecursion IsRecord rs) ends.place.records_are each) in
+    let behind_it = recursion-back IsRecord ends.before (ends.place.at ∷ inline) (subst (λ rs. AllByRecursion IsRecord rs) ends.place.records_are each) in
     let those = All-from_recursion IsRecord inline behind_it.1 in
     λ k d below. ((those k d below).0, λ i b within. omega (arith, ((those k d below).1 i b within).1))
 
@@ -284,10 +284,10 @@ all_good : (ss : List Statement) (c : SoFar) (n : ℕ) (records : Lines) (d : So
 all_good [] c n records d m g each (same, at, none) = subst (λ e. IsGoodSoFar e []) same (subst (λ rs. IsGoodSoFar c rs) none g)
 all_good (s ∷ ss) c n records d m g each (group, next, later, takes, (w, own, rest, inline, known, good), more) =
     let parts = subst (λ rs. AllByRecursion IsRecord rs) takes.records_are each in
-    let inside = recursion_left IsRecord group.records later parts in
+    let inside = recursion-front IsRecord group.records later parts in
     all_good ss (after c s) next later d m
     (good_after c later group.records w own rest inline known inside records s g good)
-    (recursion_right IsRecord group.records later parts) more
+    (recursion-back IsRecord group.records later parts) more
 
 last_vers : (left : Lines) (o : Option Begun) → left ≡ [] → IfSome o (IsOpen left) → IfSome o (λ b. b.sysmod.vers ≢ [])
 last_vers left None none g = tt

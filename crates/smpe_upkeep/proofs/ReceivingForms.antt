@@ -17,8 +17,8 @@ use Rattle.terms.specs.Forms.{IsSource}
 use Rattle.terms.specs.Global.{IsSysmod, change_cmp, ReceiveFault, Receives}
 use Rattle.terms.specs.Ptfin.{IsPtfin}
 use Rattle.terms.specs.HoldFile.{IsHoldFile}
-use Rattle.terms.proofs.Apart.{pairs_map}
-use Rattle.terms.proofs.GlobalKept.{All-with_item, Rises-with_item}
+use Rattle.lemmas.proofs.Pairs.{pairs_map}
+use Rattle.terms.proofs.Edits.{All-with_item, Rises-with_item}
 use Rattle.store_schema.specs.Forms.{AreListed, is_change_before, HasSysmodForms, HasHoldForms}
 use Rattle.store_schema.specs.Inventory.{Inventory, IsInventory}
 use Rattle.machine.specs.Outcome.{Line}
@@ -48,7 +48,7 @@ before_from_cmp a b lower = lower_first (type_number a.elem_type) (type_number b
 sources_listed : (source : Option Text) (s : Sysmod) → IfSome source IsSource → s.sources ≡ [] → AreListed IsSource (sourced source s).sources
 sources_listed None s form none = subst (λ ts. AreListed IsSource ts) (sym none) (record { each = λ k d below. absurd (omega arith); rising = λ i j d up below. absurd (omega arith) })
 sources_listed (Some source) s form none = record {
-  each = All-with_item IsSource (slice_cmp nat_cmp) (λ (t : Text). t) s.sources source (subst (λ ts. All IsSource ts) (sym none) (λ k d below. absurd (omega arith))) form;
+  each = All-with_item (slice_cmp nat_cmp) (λ (t : Text). t) IsSource s.sources source (subst (λ ts. All IsSource ts) (sym none) (λ k d below. absurd (omega arith))) form;
   rising = Rises-with_item nat_list_cmp_total (λ (t : Text). t) s.sources source (subst (λ ts. Rises (slice_cmp nat_cmp) (λ (t : Text). t) ts) (sym none) (λ i j d up below. absurd (omega arith)));
 }
 

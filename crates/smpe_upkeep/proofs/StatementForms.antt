@@ -4,6 +4,7 @@ use Rattle.std.specs.Prelude.{IfSome, IsSome, IsSomeAnd, nat_le, codes}
 use Rattle.std.specs.List.{AllByRecursion}
 use Rattle.std.proofs.lemmas.Bool.{le-leb, and_from}
 use Rattle.std.proofs.lemmas.List.Elements.{All-contains, All-contains_itself, All-weaker, All-from_recursion}
+use Rattle.lemmas.proofs.Members.{none_in}
 use Rattle.terms.specs.Types.{Text, Id, Hold, Lines, IfReq, Ver, Action, Replaces, Updates, Change, Sysmod, Assign}
 use Rattle.terms.specs.Records.{IsPrintable}
 use Rattle.terms.specs.Forms.{IsId, IsReason, IsClass, IsDate, BeginsDark, IsTrimmed, IsSource, IsSrel, IsName}
@@ -21,7 +22,7 @@ use Rattle.terms.specs.Ptfin.{IsUpdateWord}
 use Rattle.terms.specs.declared.statement_words.StatementWord.TheVariants as word
 use Rattle.terms.specs.Statements as says
 use Rattle.store_schema.specs.Forms.{AreListed, AreOthers, IsComment, HasHoldForms, AreRecords, IsTextOf, SuitsKind, HasIfForms, HasVerForms, HasActionForms, HasChangeForms}
-use Rattle.smpe_upkeep.proofs.Lists.{recursion_left, recursion_right}
+use Rattle.lemmas.proofs.Each.{recursion-front, recursion-back}
 use Rattle.smpe_upkeep.proofs.Printable.{ArePrintable, HasPrintableList, operand_printable}
 
 -- ---- values
@@ -73,12 +74,9 @@ no_empty : (form : Text → Type 0) (list : Option Text) → IsSomeAnd list (λ 
 no_empty form None h = h
 no_empty form (Some text) h = h.has_members
 
-nothing_in : (x : Text) → Contains [] x → ⊥
-nothing_in x there = omega (arith, there.1)
-
 some_listed : (form : Text → Type 0) (w : Word) (values : List Text) → HasSorted form w values → values ≢ []
 some_listed form w values ([], has, sorted) = λ none. no_empty form w.list has
-some_listed form w values (x ∷ xs, has, sorted) = λ none. nothing_in x (subst (λ vs. Contains vs x) none ((sorted.same x).1 (0, omega arith, refl)))
+some_listed form w values (x ∷ xs, has, sorted) = λ none. none_in x (subst (λ vs. Contains vs x) none ((sorted.same x).1 (0, omega arith, refl)))
 
 -- ---- holds
 
@@ -95,7 +93,7 @@ cut_form : (text cut : Text) → IsTrimmed text cut → ArePrintable text → le
 cut_form text cut (left, right, is, blank, blank_behind, front, back) each short = record {
   least = first_there cut front;
   most = short;
-  characters = printable_characters cut (recursion_right IsPrintable left cut (recursion_left IsPrintable (left ++ cut) right (subst ArePrintable is each)));
+  characters = printable_characters cut (recursion-back IsPrintable left cut (recursion-front IsPrintable (left ++ cut) right (subst ArePrintable is each)));
   front = front;
   back = back;
 }

@@ -7,14 +7,16 @@ use Rattle.std.specs.Ordering.{nat_cmp}
 use Rattle.std.specs.Cmp.Lexicographic.{slice_cmp}
 use Rattle.std.proofs.lemmas.Cmp.{nat_list_cmp_total, tied_itself}
 use Rattle.std.proofs.lemmas.List.Elements.{All-from_recursion, recursion_from_All}
+use Rattle.std.proofs.lemmas.Option.{same_Some}
+use Rattle.lemmas.proofs.Members.{in_middle}
 use Rattle.terms.specs.declared.kinds.ZoneKind.{ZoneKind}
 use Rattle.terms.specs.declared.kinds.ZoneKind.TheVariants.{Target, Distribution}
 use Rattle.terms.specs.Types.{Text, Zone, NamedZone}
 use Rattle.terms.specs.Lookups.{is_before, IsRising, IsZone}
 use Rattle.terms.specs.Rising.{Rises, with_item}
-use Rattle.terms.proofs.Apart.{pairs_map, pairs_unmap}
-use Rattle.terms.proofs.GlobalGroups.{recursion_weaker}
-use Rattle.terms.proofs.GlobalLookups.{same_from}
+use Rattle.lemmas.proofs.Pairs.{pairs_map, pairs_unmap}
+use Rattle.lemmas.proofs.Each.{recursion_weaker}
+use Rattle.lemmas.proofs.Texts.{same_from}
 use Rattle.terms.proofs.RisingLists.{with_item-there}
 use Rattle.store_schema.specs.Forms.{HasZoneForms}
 use Rattle.store_schema.specs.Inventory.{Inventory, IsInventory, IsZoneNamed, HasDistribution, IsRelated, AreApart}
@@ -26,9 +28,6 @@ pub record StandsAmong (zones : List NamedZone) (name : Text) (zone : Zone) : Ty
   pub after : List NamedZone
   pub zones_are : zones ≡ before ++ record { name = name; zone = zone } ∷ after
 
-some_same : (a b : Zone) → Some a ≡ Some b → a ≡ b
-some_same a b e = cc e
-
 same_zone : (z : NamedZone) (name : Text) (zone : Zone) → z.name ≡ name → z.zone ≡ zone → z ≡ record { name = name; zone = zone }
 same_zone z name zone n e = ap (λ t. record { name = t; zone = z.zone }) n ∙ ap (λ y. record { name = name; zone = y }) e
 
@@ -39,7 +38,7 @@ stands_among (z ∷ zs) name zone e = by (bytes_eq z.name name) refl (λ rest. s
     by : (b : Bool) → bytes_eq z.name name ≡ b → (zone_named zs name ≡ Some zone → StandsAmong zs name zone) → StandsAmong (z ∷ zs) name zone
     by true same later =
         let is : Some z.zone ≡ Some zone = subst (λ b. option_map (λ y. y.zone) (if b then Some z else find (λ y. bytes_eq y.name name) zs) ≡ Some zone) same e in
-        record { before = []; after = zs; zones_are = ap (λ y. y ∷ zs) (same_zone z name zone (same_from z.name name same) (some_same z.zone zone is)) }
+        record { before = []; after = zs; zones_are = ap (λ y. y ∷ zs) (same_zone z name zone (same_from z.name name same) (same_Some z.zone zone is)) }
     by false other later =
         let rest = later (subst (λ b. option_map (λ y. y.zone) (if b then Some z else find (λ y. bytes_eq y.name name) zs) ≡ Some zone) other e) in
         record { before = z ∷ rest.before; after = rest.after; zones_are = ap (λ ys. z ∷ ys) rest.zones_are }
@@ -58,10 +57,6 @@ module _ (before after : List NamedZone) (old new : NamedZone) where
   middle_of P [] h = h.0
   middle_of P (z ∷ zs) h = middle_of P zs h.1
 
-  it_stands : (front : List NamedZone) → Contains (front ++ new ∷ after) new
-  it_stands [] = (0, omega arith, refl)
-  it_stands (z ∷ zs) = let there = it_stands zs in (suc there.0, omega (arith, there.1), there.2)
-
   others_stand : (front : List NamedZone) (y : NamedZone) → Contains (front ++ old ∷ after) y → Contains (front ++ new ∷ after) y ⊎ (y ≡ old)
   others_stand [] y (zero, below, at) = inr (sym at)
   others_stand [] y (suc k, below, at) = inl (suc k, below, at)
@@ -76,7 +71,7 @@ module _ (before after : List NamedZone) (old new : NamedZone) where
     distribution : (of of_srel : Text) → HasDistribution (before ++ old ∷ after) of of_srel → HasDistribution (before ++ new ∷ after) of of_srel
     distribution of of_srel (z, there, named, is, has) = elim (others_stand before z there) [
       | inl stands ↦ (z, stands, named, is, has)
-      | inr same ↦ (new, it_stands before, sym name ∙ ap (λ y. y.name) (sym same) ∙ named, sym kind ∙ ap (λ y. y.zone.kind) (sym same) ∙ is, sym srel ∙ ap (λ y. y.zone.srel) (sym same) ∙ has)
+      | inr same ↦ (new, in_middle before new after, sym name ∙ ap (λ y. y.name) (sym same) ∙ named, sym kind ∙ ap (λ y. y.zone.kind) (sym same) ∙ is, sym srel ∙ ap (λ y. y.zone.srel) (sym same) ∙ has)
     ]
 
     relates : (of : ZoneKind) (of_srel : Text) (to : Option Text) → IsRelated (before ++ old ∷ after) of of_srel to → IsRelated (before ++ new ∷ after) of of_srel to

@@ -10,7 +10,7 @@ use Rattle.terms.specs.Problem.{Demand, holds}
 use Rattle.solve.specs.declared.system.Need.{Need}
 use Rattle.solve.specs.Need.{demand}
 use Rattle.solve.proofs.Maps.{Any-map, Any-unmap}
-use Rattle.solve.proofs.Times.{or_true, or_false, eqb-other}
+use Rattle.solve.proofs.Times.{or_false, eqb-other}
 use Rattle.solve.proofs.Marked.{holds-same, holds-other}
 
 abbrev pub is_bare : ℕ → Need → Bool

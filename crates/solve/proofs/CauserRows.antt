@@ -8,7 +8,8 @@ use Rattle.std.proofs.lemmas.List.Elements.{Contains-push_cases, Contains-push, 
 use Rattle.std.proofs.lemmas.List.Quantifiers.{all_pairs_push}
 use Rattle.std.proofs.lemmas.List.Folds.{Any-from_list_any, list_any_at}
 use Rattle.std.proofs.lemmas.Bool.{cases_eq, cases_Bool, and_parts, and_from, ltb-true, lt-ltb}
-use Rattle.solve.proofs.Passing.{clash, none_passes}
+use Rattle.solve.proofs.Passing.{clash}
+use Rattle.lemmas.proofs.Searches.{All-from_no_list_any}
 use Rattle.solve.proofs.Times.{times-from_Contains, Contains-from_times, Contains-from_is_in, is_in-from_Contains}
 use Rattle.terms.specs.Problem.{Problem, Demand, IsDemand, IsProblem, holds, IsSelfSupporting, IsGreatest}
 use Rattle.terms.specs.Causes.{HasFailed, LeadsTo, Steps, Reaches, IsRoot, IsCauser}
@@ -20,13 +21,6 @@ pub record AreCausersBelow (p : Problem) (kept : List Bool) (rows : List (Vec �
   pub size : length rows ≡ p.size
   pub exact : (x z : ℕ) → Contains (row_at rows x) z ↔ ((z < y) × IsCauser p kept x z)
   pub rising : (x : ℕ) → AllPairs (λ a b. a < b) (row_at rows x)
-
-pub causers-none : (p : Problem) (kept : List Bool) (rows : List (Vec ℕ Global)) → length rows ≡ p.size → ((x : ℕ) → row_at rows x ≡ []) → AreCausersBelow p kept rows 0
-causers-none p kept rows size empty = record {
-  size = size;
-  exact = λ x z. (λ c. absurd (omega (arith, (subst (λ row. Contains row z) (empty x) c).1)), λ c. absurd (omega (arith, c.0)));
-  rising = λ x i j d before below. absurd (omega (arith, subst (λ row. j < length row) (empty x) below));
-}
 
 -- y is no root
 pub causers-skip : (p : Problem) (kept : List Bool) (rows : List (Vec ℕ Global)) (y : ℕ) → (IsRoot p kept y → ⊥) → AreCausersBelow p kept rows y → AreCausersBelow p kept rows (y + 1)
@@ -157,7 +151,7 @@ uncaused_served p kept rows valid supported exact d in_demands member =
     elim (cases_Bool (list_any (holds kept) d.any)) [
       | inl some ↦ let a = Any-from_list_any (holds kept) d.any some in (a.0, a.1, a.2, a.3, from_kept p kept rows a.1 a.4)
       | inr none ↦
-          let unmet = none_passes (holds kept) d.any none in
+          let unmet = All-from_no_list_any (holds kept) d.any none in
           elim (cases_Bool (holds kept d.of)) [
             | inl is_kept ↦ absurd (clash (holds kept) d.any (All-contains (λ e. IsTrue (holds kept e.of) → Any (λ y. IsTrue (holds kept y)) e.any) p.demands d supported.served in_demands is_kept) unmet)
             | inr out ↦

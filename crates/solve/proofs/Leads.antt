@@ -1,10 +1,12 @@
 -- Rows of what leads to each candidate, over the demands seen so far.
 use Rattle.std.proofs.Common.{◌≡◌, ◌<◌, ◌+◌, ℕ, Bool, true, false, List, [], ◌∷◌, ◌++◌, length, map, take, get_or, replicate, refl, sym, ◌∙◌, subst, ap, arith, inl, inr}
-use Rattle.std.specs.Prelude.{Vec, IsTrue, ◌↔◌, ◌⊎◌}
+use Rattle.std.specs.Prelude.{Vec, IsTrue, ◌↔◌}
 use Rattle.std.specs.declared.alloc.Global.{Global}
 use Rattle.std.specs.List.{All, Any, Contains}
 use Rattle.std.proofs.lemmas.List.{take_all, map_more}
-use Rattle.std.proofs.lemmas.List.Elements.{Contains-append_left, Contains-append_right, Contains-append_cases, Contains-push, Contains-push_cases, Contains-get_or}
+use Rattle.std.proofs.lemmas.List.Elements.{Contains-append_left, Contains-append_right, Contains-append_cases, Contains-get_or}
+use Rattle.std.proofs.lemmas.List.Quantifiers.{Any-push}
+use Rattle.lemmas.proofs.Each.{Any-push_cases, Any-append_left}
 use Rattle.terms.specs.Problem.{Problem, Demand, holds}
 use Rattle.terms.specs.Causes.{HasFailed, LeadsBy, LeadsTo}
 use Rattle.solve.specs.Rows.{row_at, times}
@@ -14,18 +16,6 @@ use Rattle.solve.proofs.Times.{Contains-replicate, replicate-Contains, Contains-
 -- the rows have what leads by the seen demands
 abbrev pub AreLeadsBy : Problem → List Bool → List Demand → List (Vec ℕ Global) → Type 0
 AreLeadsBy p kept seen rows = (x y : ℕ) → Contains (row_at rows y) x ↔ (HasFailed p kept x × Any (LeadsBy kept x y) seen)
-
-any_push_cases : {X : Type 0} (P : X → Type 0) (xs : List X) (x : X) → Any P (xs ++ x ∷ []) → Any P xs ⊎ P x
-any_push_cases P xs x a = elim (Contains-push_cases xs x a.1 (a.0, a.2, a.3)) [
-  | inl before ↦ inl (before.0, a.1, before.1, before.2, a.4)
-  | inr same ↦ inr (subst P (sym same) a.4)
-]
-
-any_append_left : {X : Type 0} (P : X → Type 0) (xs : List X) (x : X) → Any P xs → Any P (xs ++ x ∷ [])
-any_append_left P xs x a = let c = Contains-append_left xs (x ∷ []) a.1 (a.0, a.2, a.3) in (c.0, a.1, c.1, c.2, a.4)
-
-any_push_here : {X : Type 0} (P : X → Type 0) (xs : List X) (x : X) → P x → Any P (xs ++ x ∷ [])
-any_push_here P xs x h = let c = Contains-push xs x in (c.0, x, c.1, c.2, h)
 
 pub leads-none : (p : Problem) (kept : List Bool) (rows : List (Vec ℕ Global)) → ((y : ℕ) → row_at rows y ≡ []) → AreLeadsBy p kept [] rows
 leads-none p kept rows empty x y = (
@@ -37,8 +27,8 @@ leads-none p kept rows empty x y = (
 pub leads-skip : (p : Problem) (kept : List Bool) (seen : List Demand) (d : Demand) (rows : List (Vec ℕ Global))
     → (HasFailed p kept d.of → All (λ z. holds kept z ≡ false) d.any → ⊥) → AreLeadsBy p kept seen rows → AreLeadsBy p kept (seen ++ d ∷ []) rows
 leads-skip p kept seen d rows nothing so_far x y = (
-  λ c. let led = (so_far x y).0 c in (led.0, any_append_left (LeadsBy kept x y) seen d led.1),
-  λ led. elim (any_push_cases (LeadsBy kept x y) seen d led.1) [
+  λ c. let led = (so_far x y).0 c in (led.0, Any-append_left (LeadsBy kept x y) seen (d ∷ []) led.1),
+  λ led. elim (Any-push_cases (LeadsBy kept x y) seen d led.1) [
     | inl before ↦ (so_far x y).1 (led.0, before)
     | inr here ↦ absurd (nothing (subst (HasFailed p kept) (sym here.0) led.0) here.1)
   ],
@@ -51,12 +41,12 @@ pub leads-add : (p : Problem) (kept : List Bool) (seen : List Demand) (d : Deman
     → AreLeadsBy p kept seen old → AreLeadsBy p kept (seen ++ d ∷ []) new
 leads-add p kept seen d old new failed unmet added so_far x y = (
   λ c. elim (Contains-append_cases (row_at old y) (replicate (times y d.any) d.of) x (subst (λ row. Contains row x) (added y) c)) [
-    | inl before ↦ let led = (so_far x y).0 before in (led.0, any_append_left (LeadsBy kept x y) seen d led.1)
+    | inl before ↦ let led = (so_far x y).0 before in (led.0, Any-append_left (LeadsBy kept x y) seen (d ∷ []) led.1)
     | inr here ↦
         let is = Contains-replicate (times y d.any) d.of x here in
-        (subst (HasFailed p kept) (sym is.1) failed, any_push_here (LeadsBy kept x y) seen d (sym is.1, unmet, Contains-from_times y d.any is.0))
+        (subst (HasFailed p kept) (sym is.1) failed, Any-push (LeadsBy kept x y) seen d (sym is.1, unmet, Contains-from_times y d.any is.0))
   ],
-  λ led. subst (λ row. Contains row x) (sym (added y)) (elim (any_push_cases (LeadsBy kept x y) seen d led.1) [
+  λ led. subst (λ row. Contains row x) (sym (added y)) (elim (Any-push_cases (LeadsBy kept x y) seen d led.1) [
     | inl before ↦ Contains-append_left (row_at old y) (replicate (times y d.any) d.of) x ((so_far x y).1 (led.0, before))
     | inr here ↦ Contains-append_right (row_at old y) (replicate (times y d.any) d.of) x
         (subst (Contains (replicate (times y d.any) d.of)) here.0 (replicate-Contains (times y d.any) d.of (times-from_Contains y d.any here.2)))

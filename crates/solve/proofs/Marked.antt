@@ -2,14 +2,14 @@
 use Rattle.std.proofs.Common.{◌≡◌, ◌<◌, ◌≤◌, ◌+◌, ◌-◌, min, ℕ, zero, suc, Bool, true, false, cond, List, [], ◌∷◌, ◌++◌, length, take, get_or, set, refl, sym, ◌∙◌, subst, ap, arith, inl, inr, eq-eqb}
 use Rattle.std.specs.Prelude.{◌==◌, ◌||◌, ◌&&◌, not, IsTrue, count_by}
 use Rattle.std.specs.List.{All, Contains}
-use Rattle.std.proofs.lemmas.List.{get_or-set_same, get_or-set_other, get_or_past, take-append-le, length-take, length_push, take_all}
+use Rattle.std.proofs.lemmas.List.{get_or-set_same, get_or-set_other, get_or_past, take-append-le, length-take, length_push}
 use Rattle.std.proofs.lemmas.List.Sums.{sum_by-set, sum_by-cons}
-use Rattle.std.proofs.lemmas.Bool.{cases_Bool, cases_eq, cases_lt}
+use Rattle.std.proofs.lemmas.Bool.{cases_Bool, cases_eq, cases_lt, or_right}
 use Rattle.terms.specs.Problem.{holds}
 use Rattle.solve.specs.Parts.{count_of}
 use Rattle.solve.specs.Rows.{times}
 use Rattle.solve.specs.Marks.{AreClear, IsListOf, is_in, IsMarked}
-use Rattle.solve.proofs.Times.{or_true, or_false, is_in-hit, is_in-miss, times-push_same, times-push_other, times-from_Contains, Contains-from_times, is_in-from_Contains}
+use Rattle.solve.proofs.Times.{is_in-hit, is_in-miss, times-push_same, times-push_other, times-from_Contains, Contains-from_times, is_in-from_Contains}
 
 pub holds-same : (flags : List Bool) (i : ℕ) (b : Bool) → i < length flags → holds (set flags i b) i ≡ b
 holds-same flags i b below = get_or-set_same flags i b false below
@@ -37,20 +37,12 @@ count-clear (b ∷ bs) clear =
     let here : weight b ≡ 0 = ap weight (clear 0) in
     omega (arith, here, sum_by-cons (λ (c : Bool). cond c 1 0) b bs, count-clear bs (λ x. clear (suc x)))
 
-pub marked-start : (old : List Bool) (list : List ℕ) → IsMarked [] old old list list
-marked-start old list = record {
-  marks = λ x. sym (or_false (holds old x) (is_in [] x) refl);
-  front = take_all (length list) list (omega arith);
-  count = refl;
-  listed = λ h. h;
-}
-
 -- the next number of the row is marked already
 pub marked-stay : (row : List ℕ) (old now : List Bool) (list more : List ℕ) (i : ℕ) → i < length row → holds now (get_or row i 0) ≡ true
     → IsMarked (take i row) old now list more → IsMarked (take (i + 1) row) old now list more
 marked-stay row old now list more i below there so_far = record {
   marks = λ x. elim (cases_eq x (get_or row i 0)) [
-    | inl same ↦ ap (holds now) same ∙ there ∙ sym (or_true (holds old x) (is_in (take (i + 1) row) x) (is_in-hit row i x below same))
+    | inl same ↦ ap (holds now) same ∙ there ∙ sym (or_right (holds old x) (is_in (take (i + 1) row) x) (is_in-hit row i x below same))
     | inr other ↦ so_far.marks x ∙ ap (λ b. holds old x || b) (sym (is_in-miss row i x below other))
   ];
   front = so_far.front;
@@ -65,7 +57,7 @@ marked-add row old now list more i below small missing so_far =
     let y = get_or row i 0 in
     record {
       marks = λ x. elim (cases_eq x y) [
-        | inl same ↦ ap (holds (set now y true)) same ∙ holds-same now y true small ∙ sym (or_true (holds old x) (is_in (take (i + 1) row) x) (is_in-hit row i x below same))
+        | inl same ↦ ap (holds (set now y true)) same ∙ holds-same now y true small ∙ sym (or_right (holds old x) (is_in (take (i + 1) row) x) (is_in-hit row i x below same))
         | inr other ↦ holds-other now y true x other ∙ so_far.marks x ∙ ap (λ b. holds old x || b) (sym (is_in-miss row i x below other))
       ];
       front =

@@ -4,7 +4,7 @@ use Rattle.std.specs.Prelude.{IsTrue, ◌==◌, ◌&&◌, not, ◌⊎◌, Vec, c
 use Rattle.std.specs.declared.alloc.Global.{Global}
 use Rattle.std.specs.List.{All, Any, Contains, list_any, sum_by}
 use Rattle.std.proofs.lemmas.List.{get_or-set_same, get_or-set_other, get_or-map, get_or_default, length-set, length-map, length_push, same_lists, get_or_append_left, get_or_past, get_or_push, map_more, map_push, take-map, length-take-le}
-use Rattle.std.proofs.lemmas.List.Elements.{All-nil, All-push, All-contains, Contains-get_or, Contains-push}
+use Rattle.std.proofs.lemmas.List.Elements.{All-nil, All-contains, Contains-get_or, Contains-push}
 use Rattle.std.proofs.lemmas.List.Folds.{Any-from_list_any, sum_by-replicate}
 use Rattle.std.proofs.lemmas.List.Sums.{sum_by-set, sum_by-cons, sum-map, get_or-le-sum_by, count_by-le-length, sum_by-le-sum_by, sum_by-le, sum_by-take-le, sum_by_push, sum_by-append}
 use Rattle.std.proofs.lemmas.Bool.{cases_Bool, cases_eq, cases_lt}
@@ -15,43 +15,13 @@ use Rattle.solve.specs.Need.{demand}
 use Rattle.solve.specs.Rows.{row_at, times, one_if}
 use Rattle.solve.specs.Board.{demand_at, AreServed, eligible_in, weight, IsDrop, IsSearch}
 use Rattle.terms.proofs.Rising.{rising-length}
-use Rattle.solve.proofs.Passing.{none_passes}
+use Rattle.lemmas.proofs.Searches.{All-from_no_list_any}
 use Rattle.solve.proofs.Times.{eqb-other, times-push_same, times-push_other, times-from_Contains}
 use Rattle.solve.proofs.Sums.{sum_by-same, sum_by-split, count-part, count-none}
-use Rattle.solve.proofs.Marked.{holds-same, holds-other}
-use Rattle.solve.proofs.Drops.{count-drop, kept_from_parts}
+use Rattle.solve.proofs.Drops.{kept_from_parts}
 
 demand-in : (p : Problem) (k : ℕ) → k < length p.demands → Contains p.demands (demand_at p.demands k)
 demand-in p k below = Contains-get_or p.demands k (record { of = 0; any = [] }) below
-
--- a candidate that stands is dropped, and one that does not is left
-pub drop-standing : (x : ℕ) (standing : List Bool) (dropped : List ℕ) → x < length standing → holds standing x ≡ true → IsDrop x standing dropped (set standing x false) (dropped ++ x ∷ [])
-drop-standing x standing dropped below stands = record {
-  size = length-set standing x false;
-  out = holds-same standing x false below;
-  others = λ y other. holds-other standing x false y other;
-  weights = λ y. elim (cases_eq y x) [
-    | inl same ↦
-        let before : one_if (holds standing y) ≡ one_if true = ap one_if (ap (holds standing) same ∙ stands) in
-        let after : one_if (holds (set standing x false) y) ≡ one_if false = ap one_if (ap (holds (set standing x false)) same ∙ holds-same standing x false below) in
-        omega (arith, before, after, times-push_same y dropped x same)
-    | inr other ↦
-        let stays : one_if (holds (set standing x false) y) ≡ one_if (holds standing y) = ap one_if (holds-other standing x false y other) in
-        omega (arith, stays, times-push_other y dropped x other)
-  ];
-  total = omega (arith, count-drop standing x below stands, length_push dropped x);
-  members = λ n small all. All-push (λ y. y < n) dropped x all small;
-}
-
-pub drop-absent : (x : ℕ) (standing : List Bool) (dropped : List ℕ) → holds standing x ≡ false → IsDrop x standing dropped standing dropped
-drop-absent x standing dropped out = record {
-  size = refl;
-  out = out;
-  others = λ y other. refl;
-  weights = λ y. refl;
-  total = refl;
-  members = λ n small all. all;
-}
 
 drop-within : (x : ℕ) (standing : List Bool) (dropped : List ℕ) (standing' : List Bool) (dropped' : List ℕ) → IsDrop x standing dropped standing' dropped' → IsWithin standing' standing
 drop-within x standing dropped standing' dropped' drop y stands = elim (cases_eq y x) [
@@ -302,7 +272,7 @@ search_kept p standing living strikes room search = kept_from_parts p standing s
     (elim (cases_Bool (list_any (holds standing) d.any)) [
       | inl some ↦ Any-from_list_any (holds standing) d.any some
       | inr none_stands ↦ absurd (
-          let gone = count-none (holds standing) d.any (none_passes (holds standing) d.any none_stands) in
+          let gone = count-none (holds standing) d.any (All-from_no_list_any (holds standing) d.any none_stands) in
           let zero_left : get_or living k 0 ≡ 0 = omega (arith, search.counts k below, no_weight standing d.any, gone) in
           cc (search.bare k below tt zero_left, subst (λ f. IsTrue (holds standing f.of)) same member))
     ]))

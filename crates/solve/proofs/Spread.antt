@@ -5,13 +5,13 @@ use Rattle.std.specs.declared.alloc.Global.{Global}
 use Rattle.std.specs.List.{All, Contains}
 use Rattle.std.proofs.lemmas.List.{take-take, take_all, get_or-take, length-take, length-set}
 use Rattle.std.proofs.lemmas.List.Elements.{All-nil, All-more, All-contains, All-weaker, Contains-get_or}
-use Rattle.std.proofs.lemmas.Bool.{cases_eq}
+use Rattle.std.proofs.lemmas.Bool.{cases_eq, or_right, or_cases}
 use Rattle.terms.specs.Problem.{Problem, holds}
 use Rattle.terms.specs.Causes.{LeadsTo, Steps, Reaches}
 use Rattle.solve.specs.Parts.{count_of}
 use Rattle.solve.specs.Rows.{row_at, times, one_if}
 use Rattle.solve.specs.Marks.{AreLeads, AreClear, IsListOf, IsMarked, is_in}
-use Rattle.solve.proofs.Times.{or_true, or_cases, times-push_same, times-push_other, Contains-from_is_in, is_in-from_Contains}
+use Rattle.solve.proofs.Times.{times-push_same, times-push_other, Contains-from_is_in, is_in-from_Contains}
 use Rattle.solve.proofs.Marked.{holds-same, holds-other, count-mark, count-clear, below-marked, listed-marked, marked-listed}
 
 -- all in the row are marked
@@ -87,7 +87,7 @@ spread-more leads y marks new list more next below size marked so_far =
           (subst (All (λ w. AllMarked new (row_at leads w))) (sym front)
           (All-weaker (λ w. AllMarked marks (row_at leads w)) (λ w. AllMarked new (row_at leads w)) (λ w all k d in_row. stays _ (all k d in_row)) (take next list) so_far.done))
           (subst (λ w. AllMarked new (row_at leads w)) (sym here)
-          (λ k d in_row. marked.marks (get_or row k d) ∙ or_true (holds marks (get_or row k d)) (is_in row (get_or row k d)) (is_in-from_Contains row (get_or row k d) (Contains-get_or row k d in_row))));
+          (λ k d in_row. marked.marks (get_or row k d) ∙ or_right (holds marks (get_or row k d)) (is_in row (get_or row k d)) (is_in-from_Contains row (get_or row k d) (Contains-get_or row k d in_row))));
     }
 
 -- the next one listed has a row

@@ -1,11 +1,11 @@
 -- How often a number stands in a list, and whether.
 use Rattle.std.proofs.Common.{◌≡◌, ◌<◌, ◌≤◌, ◌+◌, ℕ, zero, suc, Bool, true, false, cond, List, [], ◌∷◌, ◌++◌, length, take, get_or, replicate, refl, sym, ◌∙◌, subst, ap, arith, inl, inr, eq-eqb}
-use Rattle.std.specs.Prelude.{◌==◌, ◌||◌, ◌⊎◌}
+use Rattle.std.specs.Prelude.{◌==◌, ◌||◌}
 use Rattle.std.specs.List.{Any, Contains, list_any}
 use Rattle.std.proofs.lemmas.List.{length-replicate, get_or-replicate}
 use Rattle.std.proofs.lemmas.List.Folds.{list_any_more, Any-from_list_any, list_any-from_Any}
 use Rattle.std.proofs.lemmas.List.Sums.{sum_by_push, get_or-le-sum_by, sum_by-cons}
-use Rattle.std.proofs.lemmas.Bool.{cases_Bool, cases_eq}
+use Rattle.std.proofs.lemmas.Bool.{cases_Bool, cases_eq, or_right}
 use borrow.Author.Tests.{eqb-true}
 use Rattle.solve.specs.Rows.{times}
 use Rattle.solve.specs.Marks.{is_in}
@@ -16,17 +16,9 @@ eqb-other a b other = elim (cases_Bool (a == b)) [
   | inr apart ↦ apart
 ]
 
-pub or_true : (b c : Bool) → c ≡ true → (b || c) ≡ true
-or_true true c h = refl
-or_true false c h = h
-
 pub or_false : (b c : Bool) → c ≡ false → (b || c) ≡ b
 or_false true c h = refl
 or_false false c h = h
-
-pub or_cases : (b c : Bool) → (b || c) ≡ true → (b ≡ true) ⊎ (c ≡ true)
-or_cases true c h = inl refl
-or_cases false c h = inr h
 
 pub Contains-from_is_in : (list : List ℕ) (x : ℕ) → is_in list x ≡ true → Contains list x
 Contains-from_is_in list x h =
@@ -39,7 +31,7 @@ is_in-from_Contains list x c = list_any-from_Any (λ y. y == x) list (c.0, x, c.
 
 pub is_in-hit : (list : List ℕ) (i x : ℕ) → i < length list → x ≡ get_or list i 0 → is_in (take (i + 1) list) x ≡ true
 is_in-hit list i x below here =
-    list_any_more (λ y. y == x) list i 0 below ∙ or_true (is_in (take i list) x) (get_or list i 0 == x) (eq-eqb (get_or list i 0) x (sym here))
+    list_any_more (λ y. y == x) list i 0 below ∙ or_right (is_in (take i list) x) (get_or list i 0 == x) (eq-eqb (get_or list i 0) x (sym here))
 
 pub is_in-miss : (list : List ℕ) (i x : ℕ) → i < length list → (x ≡ get_or list i 0 → ⊥) → is_in (take (i + 1) list) x ≡ is_in (take i list) x
 is_in-miss list i x below other =

@@ -5,10 +5,10 @@ use Rattle.std.specs.Ordering.{nat_cmp}
 use Rattle.std.specs.Str.{bytes_eq}
 use Rattle.std.specs.Cmp.Lexicographic.{slice_cmp, texts_ties}
 use Rattle.std.proofs.lemmas.Cmp.{nat_list_cmp_total}
-use Rattle.std.proofs.lemmas.List.Elements.{All-head, All-tail}
 use Rattle.std.proofs.lemmas.List.Sums.{fold_more}
+use Rattle.lemmas.proofs.Each.{All-middle}
 use Rattle.sqlite.specs.Store.{Ghosts}
-use Rattle.sqlite.specs.Held.{Held, state}
+use Rattle.sqlite.specs.Held.{Held}
 use Rattle.terms.specs.declared.kinds.ElemType.{ElemType}
 use Rattle.terms.specs.declared.kinds.Edit.{Edit}
 use Rattle.terms.specs.declared.kinds.Edit.TheVariants.{Put, Remove}
@@ -77,14 +77,6 @@ module _ {S : Type 0} (g : Ghosts S) (name : Text) where
       let second : IsZoneChange name mid is k j = record { before = change.before; after = change.after; was = refl; is = change.is; others = change.others } in
       leads_then g a b c (HasContents store_schema (rows_of i)) (HasContents store_schema (rows_of k)) (HasContents store_schema (rows_of j)) inside (one i k was mid first it.1) (two k j mid is second it.2)
 
-  -- what changes nothing
-  pub changes_none : (a : Held S) (R : Zone → Zone → Type 0) → ((was is : Zone) → R was is → is ≡ was) → ChangesZone g a a name R
-  changes_none a R same i j was is change r clean contents =
-      let zones : change.before ++ record { name = name; zone = is } ∷ change.after ≡ i.zones =
-      ap (λ z. change.before ++ record { name = name; zone = z } ∷ change.after) (same was is r) ∙ sym change.was in
-      let all : j ≡ i = change.is ∙ ap (λ zs. record { global = i.global; zones = zs }) zones in
-      subst (λ (k : Inventory). HasContents store_schema (rows_of k) (state g a).now) (sym all) contents
-
   entries_more : (edits : List (Edit Entry Id)) (i : ℕ) (edit : Edit Entry Id) → i < length edits → edit ≡ get_or edits i edit → (was is : Zone) → HasEditedEntries (take (i + 1) edits) was is
       → (mid : Zone) × HasEditedEntries (take i edits) was mid × HasEditedEntries (edit ∷ []) mid is
   entries_more edits i edit within at was is h =
@@ -131,12 +123,8 @@ is_edited delta was is d zone c =
     (λ k. c.elements k.0 k.1 ∙ sym (find-edited element_cmp_total element_key element_eq element_ties delta.elements d.elements was.elements k)) in
     c.rest ∙ ap₂ (λ xs ys. record was { entries = xs; elements = ys }) entries elements
 
-all_middle : {X : Type 0} (P : X → Type 0) (xs : List X) (x : X) (ys : List X) → All P (xs ++ x ∷ ys) → P x
-all_middle P [] x ys h = All-head P x ys h
-all_middle P (z ∷ xs) x ys h = all_middle P xs x ys (All-tail P z (xs ++ x ∷ ys) h)
-
 -- the zone that changes is one
 pub zone_was : (name : Text) (was is : Zone) (i j : Inventory) → IsInventory i → IsZoneChange name was is i j → IsZone was
 zone_was name was is i j inventory change =
-    let named : IsZoneNamed (record { name = name; zone = was }) = all_middle IsZoneNamed change.before (record { name = name; zone = was }) change.after (subst (All IsZoneNamed) change.was inventory.zones) in
+    let named : IsZoneNamed (record { name = name; zone = was }) = All-middle IsZoneNamed change.before (record { name = name; zone = was }) change.after (subst (All IsZoneNamed) change.was inventory.zones) in
     named.zone

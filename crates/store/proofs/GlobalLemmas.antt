@@ -1,5 +1,5 @@
 -- The edits of the global zone, one after the other, and what they make of the inventory.
-use Rattle.std.proofs.Common.{◌≡◌, ℕ, ◌+◌, ◌<◌, ◌==◌, ◌&&◌, take, length, get_or, Bool, true, false, not, List, [], ◌∷◌, map, IsPermutation, refl, sym, ap, ap₂, subst, ◌∙◌}
+use Rattle.std.proofs.Common.{◌≡◌, ℕ, ◌+◌, ◌<◌, ◌==◌, take, length, get_or, Bool, not, List, ◌∷◌, map, IsPermutation, refl, sym, ap, ap₂, subst, ◌∙◌}
 use Rattle.std.specs.Prelude.{filter}
 use Rattle.std.specs.declared.cmp.Ordering.{Ordering}
 use Rattle.std.specs.declared.cmp.Ordering.TheVariants.{Less, Equal, Greater}
@@ -7,6 +7,7 @@ use Rattle.std.specs.Ordering.{is_eq, ordering_reverse}
 use Rattle.std.specs.Str.{bytes_eq}
 use Rattle.std.proofs.lemmas.List.Sums.{fold_more}
 use Rattle.std.proofs.lemmas.List.Sorted.{IsPermutation-refl, IsPermutation-map}
+use Rattle.lemmas.proofs.Booleans.{and_assoc}
 use Rattle.sqlite.specs.Store.{Ghosts}
 use Rattle.sqlite.specs.Held.{Held, state}
 use Rattle.sqlite_trees.proofs.ListLemmas.{filter-map}
@@ -48,10 +49,6 @@ kinds_alike System User = refl
 kinds_alike User Error = refl
 kinds_alike User System = refl
 kinds_alike User User = refl
-
-and_assoc : (a b c : Bool) → (a && (b && c)) ≡ ((a && b) && c)
-and_assoc true b c = refl
-and_assoc false b c = refl
 
 hold_meets : (x : Id) (kind : HoldKind) (reason : Text) (h : Hold) → has_key (key_row x kind reason) (hold_row h) ≡ rule.has_key x kind reason h
 hold_meets x kind reason h =
@@ -103,9 +100,6 @@ module _ {S : Type 0} (g : Ghosts S) (old new : Held S) where
       (turns clean (rows_of i) was)
 
 -- ---- the loop, of which the next edit is made
-
-pub edits_none : {S : Type 0} (g : Ghosts S) (a : Held S) (edits : List GlobalEdit) → ChangesGlobal g a a (EachFits edits) (after_edits [])
-edits_none g a edits i fits clean was = was
 
 pub edits_go_on : {S : Type 0} (g : Ghosts S) (a b c : Held S) (edits : List GlobalEdit) (k : ℕ) (edit : GlobalEdit) → k < length edits → edit ≡ get_or edits k edit → StaysInside g b c
     → ChangesGlobal g a b (EachFits edits) (after_edits (take k edits)) → ChangesGlobal g b c (λ global. Fits global edit) (λ global. after_edit global edit)

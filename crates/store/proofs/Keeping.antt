@@ -11,10 +11,6 @@ use Rattle.store_schema.specs.declared.error.StoreError.TheVariants.{Fault, Othe
 use Rattle.store.specs.Kept.{kept, Keeps, Stays}
 use Rattle.store.specs.View.{Tables, TablesIfOpen, Leaves}
 
--- nothing was done
-pub stays-unchanged : {S : Type 0} (g : Ghosts S) (at : Held S) (s : State) (a : Act) → Keeps g at s → Stays g at s a
-stays-unchanged g at s a keeps = record { now = λ clean shown. (keeps.now clean).1; crash = λ c left. inl (keeps.crash c left) }
-
 -- what is kept is an inventory
 pub inventory-kept : {S : Type 0} (g : Ghosts S) (at : Held S) (s : State) → Keeps g at s → HasCleanDisk (state g at) → IsInventory (kept s)
 inventory-kept g at s keeps clean = (keeps.now clean).1.inventory

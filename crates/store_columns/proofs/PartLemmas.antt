@@ -8,7 +8,8 @@ use Rattle.terms.specs.Types.{Text}
 use Rattle.terms.specs.Lookups.{is_before}
 use Rattle.terms.specs.Texts.{HasLines}
 use Rattle.store_schema.specs.Forms.{AreListed, AreRecords}
-use Rattle.terms.proofs.RisingLists.{All-between, AllPairs-between}
+use Rattle.lemmas.proofs.Each.{All-between, recursion-front}
+use Rattle.lemmas.proofs.Pairs.{AllPairs-between}
 use Rattle.store_rows.proofs.Pieces.{flat_concat}
 use Rattle.store_schema.proofs.Lists.{IsWord}
 use Rattle.store_columns.specs.Parts.{parts_of}
@@ -80,13 +81,9 @@ whole_of (line ∷ lines) h = let rest = whole_of lines h.1 in omega (arith, len
 pub no_rest : (lines : List (List ℕ)) → AreRecords lines → length (concat lines) % 80 ≡ 0
 no_rest lines h = let whole = whole_of lines (recursion_from_All _ lines (λ k d within. (h k d within).0)) in omega (arith, whole)
 
-parted : {X : Type 0} (P : X → Type 0) (xs ys : List X) → AllByRecursion P (xs ++ ys) → AllByRecursion P xs × AllByRecursion P ys
-parted P [] ys h = (tt, h)
-parted P (x ∷ xs) ys h = let rest = parted P xs ys h.1 in ((h.0, rest.0), rest.1)
-
 bytes_of : (lines : List (List ℕ)) → AllByRecursion (λ b. b < 256) (concat lines) → AllByRecursion (λ line. All (λ b. b < 256) line) lines
 bytes_of [] h = tt
-bytes_of (line ∷ lines) h = let both = parted (λ b. b < 256) line (concat lines) h in (All-from_recursion _ line both.0, bytes_of lines both.1)
+bytes_of (line ∷ lines) h = (All-from_recursion _ line (recursion-front (λ b. b < 256) line (concat lines) h), bytes_of lines (recursion-back (λ b. b < 256) line (concat lines) h))
 
 pub are_records : (bytes : List ℕ) (lines : List (List ℕ)) → HasLines bytes lines → ((i : ℕ) → get_or bytes i 0 < 256) → (bytes ≡ concat lines) × AreRecords lines
 are_records bytes lines h small =

@@ -1,10 +1,8 @@
 -- Keys of texts.
-use Rattle.std.proofs.Common.{◌≡◌, ◌≢◌, inl, inr, ℕ, List, Bool, true, false, ◌&&◌, Some, refl, ap, ◌∙◌}
+use Rattle.std.proofs.Common.{◌≡◌, ℕ, List, Bool, true, false, ◌&&◌, Some, refl, ap, ◌∙◌}
 use Rattle.std.specs.Ordering.{is_eq}
 use Rattle.std.specs.Str.{bytes_eq}
 use Rattle.std.proofs.lemmas.Map.Text.{is_eq-slice_cmp}
-use Rattle.std.proofs.lemmas.Slice.Eq.{bytes_eq-Decides}
-use Rattle.std.proofs.lemmas.Bool.{cases_Bool}
 use Rattle.sqlite.specs.declared.types.Value.TheVariants.{Text}
 use Rattle.sqlite.specs.Collation.TheVariants.{Binary}
 use Rattle.sqlite.specs.Order.{value_cmp}
@@ -24,12 +22,3 @@ equals a b = told (is_eq (value_cmp (Text a) (Text b))) ∙ ap is_eq (value_cmp-
 pub and_true : (b : Bool) → (b && true) ≡ b
 and_true true = refl
 and_true false = refl
-
-pub same_text : (a : List ℕ) → bytes_eq a a ≡ true
-same_text a = (bytes_eq-Decides a a).1 refl
-
-pub other_text : (a b : List ℕ) → a ≢ b → bytes_eq a b ≡ false
-other_text a b other = elim (cases_Bool (bytes_eq a b)) [
-  | inl e ↦ absurd (other ((bytes_eq-Decides a b).0 e))
-  | inr e ↦ e
-]

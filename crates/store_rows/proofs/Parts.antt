@@ -4,6 +4,7 @@ use Rattle.std.specs.List.{AllByRecursion, flat_map}
 use Rattle.std.proofs.lemmas.List.{append_assoc}
 use Rattle.std.proofs.lemmas.List.Elements.{filter-append}
 use Rattle.std.proofs.lemmas.List.Sorted.{IsPermutation-refl, IsPermutation-trans, IsPermutation-append_left, IsPermutation-append_right, IsPermutation-append_comm}
+use Rattle.lemmas.proofs.Each.{recursion-front, recursion-back}
 
 -- nothing of it changes
 pub map_same : {A B : Type 0} (f : A → B) (before : List A) (a b : A) (after : List A) → f a ≡ f b → map f (before ++ a ∷ after) ≡ map f (before ++ b ∷ after)
@@ -13,14 +14,6 @@ map_same f (z ∷ before) a b after e = ap (λ xs. f z ∷ xs) (map_same f befor
 pub flat_same : {A B : Type 0} (f : A → List B) (before : List A) (a b : A) (after : List A) → f a ≡ f b → flat_map f (before ++ a ∷ after) ≡ flat_map f (before ++ b ∷ after)
 flat_same f [] a b after e = ap (λ x. x ++ flat_map f after) e
 flat_same f (z ∷ before) a b after e = ap (λ xs. f z ++ xs) (flat_same f before a b after e)
-
-all_left : {A : Type 0} (P : A → Type 0) (xs ys : List A) → AllByRecursion P (xs ++ ys) → AllByRecursion P xs
-all_left P [] ys h = tt
-all_left P (x ∷ xs) ys h = (h.0, all_left P xs ys h.1)
-
-all_right : {A : Type 0} (P : A → Type 0) (xs ys : List A) → AllByRecursion P (xs ++ ys) → AllByRecursion P ys
-all_right P [] ys h = h
-all_right P (x ∷ xs) ys h = all_right P xs ys h.1
 
 -- what comes in between may stand first
 pub moved_front : {B : Type 0} (xs news ys : List B) → IsPermutation (xs ++ (news ++ ys)) (news ++ (xs ++ ys))
@@ -49,4 +42,4 @@ module _ {A B : Type 0} (f : A → List B) (p : B → Bool) where
   -- one element becomes another, of which some rows are new and the others are left, and all rows of the other elements are left
   pub changed : (before : List A) (a b : A) (after : List A) (news : List B) → AllByRecursion (λ x. filter p (f x) ≡ f x) (before ++ after)
       → IsPermutation (f b) (news ++ filter p (f a)) → IsPermutation (flat_map f (before ++ b ∷ after)) (news ++ filter p (flat_map f (before ++ a ∷ after)))
-  changed before a b after news pass = changed_by before a b after news (all_left _ before after pass) (all_right _ before after pass)
+  changed before a b after news pass = changed_by before a b after news (recursion-front _ before after pass) (recursion-back _ before after pass)

@@ -5,6 +5,8 @@ use Rattle.std.specs.Ordering.{is_eq}
 use Rattle.std.proofs.lemmas.Bool.{cases_Bool}
 use Rattle.std.proofs.lemmas.Cmp.{tied_itself}
 use Rattle.std.proofs.lemmas.List.Sorted.{IsPermutation-refl, IsPermutation-sym, IsPermutation-trans, IsPermutation-cons, IsPermutation-map, IsPermutation-swap, list_any-IsPermutation, Contains-permutation}
+use Rattle.lemmas.proofs.Orderings.{Equal-from_is_eq}
+use Rattle.lemmas.proofs.Searches.{list_any-map}
 use Rattle.sqlite.specs.declared.types.Value.TheVariants.{Int}
 use Rattle.sqlite.specs.Order.{Row, value_cmp}
 use Rattle.sqlite.specs.Tree.{rowid, has_rowid, put_row, without_rowid}
@@ -51,10 +53,6 @@ put_adds new (r ∷ rows) free = go (value_cmp (rowid r) (rowid new)) refl free 
     go Equal e none later = absurd (let wrong = rw e at none in cc)
     go Greater e none later = rw e (IsPermutation-refl (new ∷ r ∷ rows))
 
-any_mapped : {A B : Type 0} (p : B → Bool) (f : A → B) (xs : List A) → list_any p (map f xs) ≡ list_any (λ x. p (f x)) xs
-any_mapped p f [] = refl
-any_mapped p f (x ∷ xs) = ap (λ b. p (f x) || b) (any_mapped p f xs)
-
 pub none_numbered : AreNumbered []
 none_numbered = record { sorted = []; same = IsPermutation-refl []; rise = tt; keyed = tt }
 
@@ -66,7 +64,7 @@ module _ (shown : Row → Row) where
   pub put_numbered : (new : Row) (rows : List Row) → is_taken rows new ≡ false → is_int (rowid new) ≡ true → AreNumbered (map whole rows) → AreNumbered (map whole (put_row new rows))
   put_numbered new rows free keyed h =
       let one = whole new in
-      let also : is_taken h.sorted one ≡ false = sym (list_any-IsPermutation (λ r. is_eq (value_cmp (rowid r) (rowid new))) (map whole rows) h.sorted h.same) ∙ any_mapped (λ r. is_eq (value_cmp (rowid r) (rowid new))) whole rows ∙ free in
+      let also : is_taken h.sorted one ≡ false = sym (list_any-IsPermutation (λ r. is_eq (value_cmp (rowid r) (rowid new))) (map whole rows) h.sorted h.same) ∙ list_any-map (λ r. is_eq (value_cmp (rowid r) (rowid new))) whole rows ∙ free in
       record {
         sorted = put_row one h.sorted;
         same = IsPermutation-trans _ _ _ (IsPermutation-map whole _ _ (IsPermutation-sym _ _ (put_adds new rows free))) (IsPermutation-trans _ _ _ (IsPermutation-cons one _ _ h.same) (put_adds one h.sorted also));
@@ -107,11 +105,6 @@ ids_shown f same rows found h =
     let ids : map (λ r. id_in (rowid r)) (map f rows) ≡ map (λ r. id_in (rowid r)) rows = map-map (λ r. id_in (rowid r)) f rows ∙ (λ i. map (λ r. id_in (same r i)) rows) in
     subst (λ l. IsPermutation l (ids_of found)) ids (IsPermutation-map (λ r. id_in (rowid r)) _ _ h)
 
-equal_is : (o : Ordering) → is_eq o ≡ true → o ≡ Equal
-equal_is Less h = absurd (cc)
-equal_is Equal h = refl
-equal_is Greater h = absurd (cc)
-
 module _ (shown : Row → Row) (rows : List Row) (numbered : AreNumbered (map (whole shown) rows)) where
   in_order : (r : Row) → Has rows r → Has numbered.sorted (whole shown r)
   in_order r h = has_permuted _ _ _ numbered.same (mapped (whole shown) rows r h)
@@ -137,7 +130,7 @@ module _ (shown : Row → Row) (rows : List Row) (numbered : AreNumbered (map (w
           let from = unmapped (λ y. id_in (rowid y)) (filter (λ y. p (shown y)) rows) it.0 it.1 in
           let was = has_filtered (λ y. p (shown y)) rows from.0 from.1 in
           let is : rowid from.0 ≡ Int it.0 = keyed from.0 was.0 ∙ ap Int (sym from.2) in
-          let tie : value_cmp (rowid r) (rowid from.0) ≡ Equal = equal_is _ (ap (λ v. is_eq (value_cmp (rowid r) v)) is ∙ it.2) in
+          let tie : value_cmp (rowid r) (rowid from.0) ≡ Equal = Equal-from_is_eq _ (ap (λ v. is_eq (value_cmp (rowid r) v)) is ∙ it.2) in
           let same = same_shown r from.0 h was.0 tie in
           absurd (let wrong : p (shown r) ≡ true = ap p same ∙ was.1 in cc)
       | inr none ↦ none ∙ sym e

@@ -1,6 +1,6 @@
 -- What one INSERT or DELETE makes of the trees.
-use Rattle.std.proofs.Common.{◌≡◌, ◌⊎◌, inl, inr, ℕ, ◌<◌, ◌≤◌, ◌/◌, length, ◌-◌, ◌+◌, ◌^◌, drop, if◌then◌else◌, MatchBool, filter, pos, negsuc, IsPermutation, List, [], ◌∷◌, ◌++◌, map, slice_get, unwrap_or, Bool, true, false, not, ◌&&◌, Some, None, Ok, Err, Result, IsTrue, arith, refl, sym, ap, subst, ◌∙◌, append-nil}
-use Rattle.std.proofs.lemmas.Bool.{cases_Bool, and_parts}
+use Rattle.std.proofs.Common.{◌≡◌, ◌⊎◌, inl, inr, ℕ, ◌<◌, ◌≤◌, ◌/◌, length, ◌-◌, ◌+◌, ◌^◌, drop, if◌then◌else◌, MatchBool, filter, pos, negsuc, IsPermutation, List, [], ◌∷◌, ◌++◌, map, slice_get, unwrap_or, Bool, true, false, ◌&&◌, Some, None, Ok, Err, Result, IsTrue, arith, refl, sym, ap, subst, ◌∙◌, append-nil}
+use Rattle.std.proofs.lemmas.Bool.{cases_Bool, and_parts, not-true}
 use Rattle.std.specs.List.{flat_map, list_all}
 use Rattle.std.proofs.lemmas.List.Sorted.{IsPermutation-map}
 use Rattle.sqlite.specs.declared.error.Error.{Error}
@@ -111,10 +111,6 @@ module _ (old new : State) (schema : Schema) (has : old.now.schema ≡ schema) (
       let edit = edit_of db table (ids_of given.0) Given 1 given.0 in
       (given.0, given.1, ap (λ (d : Database). d.schema) now, subst (λ (t : Trees). action.Writes schema Enforced db edit (Ok t)) (sym (ap (λ (d : Database). d.trees) now ∙ trees)) written.1)
 
-pub was_free : (b : Bool) → not b ≡ true → b ≡ false
-was_free true h = absurd cc
-was_free false h = refl
-
 -- One row is put in. No foreign key acts on it.
 pub puts_one : (schema : Schema) (table : Table) (db next : Trees) (sources : List Row) (new : Row) → (edit_of db table [] Chosen 0 sources).news ≡ new ∷ []
     → action.Writes schema Enforced db (edit_of db table [] Chosen 0 sources) (Ok next)
@@ -122,7 +118,7 @@ pub puts_one : (schema : Schema) (table : Table) (db next : Trees) (sources : Li
 puts_one schema table db next sources new is w =
     let edit = edit_of db table [] Chosen 0 sources in
     let a = one_step schema Enforced db next edit (no_works schema Enforced 0 table.tree edit.news) w in
-    (was_free _ (and_parts _ _ (subst (λ news. are_fresh (db table.tree) news ≡ true) is a.fresh)).0, a.rows ∙ ap (put_all (db table.tree)) is, a)
+    (not-true _ (and_parts _ _ (subst (λ news. are_fresh (db table.tree) news ≡ true) is a.fresh)).0, a.rows ∙ ap (put_all (db table.tree)) is, a)
 
 scanned : {A B : Type 0} (p : A → Bool) (f : A → B) (xs : List A) → flat_map (λ x. if p x then f x ∷ [] else []) xs ≡ map f (filter p xs)
 scanned p f [] = refl

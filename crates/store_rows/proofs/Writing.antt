@@ -1,5 +1,5 @@
 -- What one statement makes of what the tables hold.
-use Rattle.std.proofs.Common.{◌≡◌, ℕ, zero, suc, ◌+◌, ◌/◌, ◌<◌, ◌≤◌, ◌==◌, length, drop, take, List, [], ◌∷◌, ◌++◌, map, filter, Bool, true, false, not, cond, Ok, IsPermutation, arith, refl, sym, ap, ap₂, subst, ◌∙◌}
+use Rattle.std.proofs.Common.{◌≡◌, ℕ, zero, suc, ◌+◌, ◌/◌, ◌<◌, ◌≤◌, ◌==◌, length, drop, take, List, [], ◌∷◌, ◌++◌, map, filter, Bool, true, false, not, Ok, IsPermutation, arith, refl, sym, ap, ap₂, subst, ◌∙◌}
 use Rattle.std.specs.List.{AllByRecursion, range_with_len, list_all, flat_map, filter_map}
 use Rattle.std.proofs.lemmas.List.{take_all}
 use Rattle.std.proofs.lemmas.List.FromFn.{length-map-range_with_len}
@@ -34,21 +34,18 @@ use Rattle.sqlite_schema.specs.declared.program.Program.{Program}
 use Rattle.store_rows.specs.Rows.{shown, has_key, without, with_row, in_place, AreRows, Contents, HasContents, HaveNone, in_table}
 use Rattle.store_rows.specs.Texts.{key_tests, scan_by, IsTableOf, AreKept, PutsIn, PutsInPlace, TakesOut, TakesOutParent, IsCascade, works_of_update}
 use Rattle.store_rows.proofs.RowLemmas.{filter_same, ids_shown}
-use Rattle.store_rows.proofs.Statements.{was_free, inserts, updates, deletes, puts_one, scans}
+use Rattle.store_rows.proofs.Statements.{inserts, updates, deletes, puts_one, scans}
 use Rattle.store_rows.proofs.Parents.{step_then_idle, cascades_from, taken_meets, idle_cascade}
-use Rattle.std.proofs.lemmas.Bool.{and_parts, ne_eqb}
+use Rattle.std.proofs.lemmas.Bool.{and_parts, ne_eqb, not-true}
 use Rattle.std.proofs.lemmas.List.Sorted.{IsPermutation-refl, IsPermutation-sym, IsPermutation-trans, IsPermutation-cons, IsPermutation-map, IsPermutation-append_left, IsPermutation-middle}
+use Rattle.lemmas.proofs.Booleans.{cond-same}
 use Rattle.store_rows.proofs.ContentsLemmas.{columns_from, meets_from, puts, takes, each_table, held_at}
 
 -- ---- values that their columns keep
 
-pub either : (b : Bool) (x : Value) → cond b x x ≡ x
-either true x = refl
-either false x = refl
-
 cast_null : cast Integer Null ≡ Null
 unfolding unary
-cast_null = either _ Null
+cast_null = cond-same _ Null
 
 pub kept_length : (columns : List Column) (row : Row) → AreKept columns row → length columns ≡ length row
 kept_length [] [] h = refl
@@ -149,7 +146,7 @@ puts_all table [] held rows fresh keyed h = h
 puts_all table (n ∷ news) held rows fresh keyed h =
     let free = and_parts _ _ fresh in
     let ids = and_parts _ _ keyed in
-    let one = puts table held rows n (was_free _ free.0) ids.0 h in
+    let one = puts table held rows n (not-true _ free.0) ids.0 h in
     let all = puts_all table news (shown table n ∷ held) (put_row n rows) free.1 ids.1 one in
     record { same = IsPermutation-trans _ _ _ (IsPermutation-sym _ _ (IsPermutation-middle (map (shown table) news) (shown table n) held)) all.same; numbered = all.numbered }
 

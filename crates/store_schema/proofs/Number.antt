@@ -1,7 +1,7 @@
 -- The number of the schema: what writing it makes of the empty tables, and what reading it says.
-use Rattle.std.proofs.Common.{◌≡◌, ℕ, List, [], ◌∷◌, Bool, true, false, cond, codes, pos, IsPermutation, IsTrue, ℤ, map, drop, arith, refl, sym, ap, subst, ◌∙◌}
+use Rattle.std.proofs.Common.{◌≡◌, ℕ, List, [], ◌∷◌, codes, pos, IsPermutation, IsTrue, ℤ, map, drop, arith, refl, sym, ap, subst, ◌∙◌}
 use Rattle.std.proofs.lemmas.List.Sorted.{IsPermutation-refl}
-use Rattle.sqlite.specs.declared.types.Value.{Value}
+use Rattle.lemmas.proofs.Booleans.{cond-same}
 use Rattle.sqlite.specs.declared.types.Value.TheVariants.{Null, Int, Text}
 use Rattle.sqlite.specs.Ops.{unary}
 use Rattle.sqlite.specs.Cast.{cast}
@@ -48,17 +48,13 @@ insert_plain : IsPlain (understood store_schema insert_meta)
 unfolding understood everything
 insert_plain = (refl, refl)
 
-either : (b : Bool) (x : Value) → cond b x x ≡ x
-either true x = refl
-either false x = refl
-
 cast_null : cast Integer Null ≡ Null
 unfolding unary
-cast_null = either _ Null
+cast_null = cond-same _ Null
 
 cast_one : cast Integer (Int (pos 1)) ≡ Int (pos 1)
 unfolding unary
-cast_one = either _ (Int (pos 1))
+cast_one = cond-same _ (Int (pos 1))
 
 one_numbered : (row : Row) → IsTrue (is_int (rowid row)) → AreNumbered (row ∷ [])
 one_numbered row keyed = record { sorted = row ∷ []; same = IsPermutation-refl (row ∷ []); rise = (tt, tt); keyed = (keyed, tt) }

@@ -21,7 +21,7 @@ use Rattle.std.specs.Ordering.{is_lt}
 use Rattle.std.specs.Cmp.{IsTotalOrder}
 use Rattle.terms.specs.Lookups.{is_before, element_key, element_cmp}
 use Rattle.terms.specs.Global.{hold_cmp}
-use Rattle.terms.proofs.RisingLists.{Less-from_is_lt}
+use Rattle.lemmas.proofs.Orderings.{Less-from_is_lt}
 use Rattle.terms.proofs.ElementOrder.{element_cmp_total}
 use Rattle.terms.proofs.GlobalKept.{hold_cmp_total}
 use Rattle.terms.specs.Forms.{IsId}

@@ -33,10 +33,6 @@ own_id x xs ys v is listed there others same =
 pub one_text : (xs ys : Lines) (v : Value) → v ≡ records xs → AreRecords xs → v ≡ records ys → AreRecords ys → xs ≡ ys
 one_text xs ys v e p f q = text_same xs ys p q (sym e ∙ f)
 
-pub none_left : {X : Type 0} (xs : List X) → length xs ≡ 0 → xs ≡ []
-none_left [] e = refl
-none_left (x ∷ xs) e = absurd (omega arith)
-
 filled : (text : Lines) → text ≢ [] → 0 < length text
 filled [] some = absurd (some refl)
 filled (line ∷ lines) some = omega arith

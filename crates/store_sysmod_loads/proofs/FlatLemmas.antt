@@ -3,7 +3,7 @@ use Rattle.std.proofs.Common.{◌≡◌, ◌≢◌, ℕ, ◌+◌, List, [], ◌�
 use Rattle.std.specs.List.{AllByRecursion, flat_map, enumerate_from}
 use Rattle.std.proofs.lemmas.List.{map-append}
 use Rattle.sqlite.specs.Tree.{IsAscending}
-use Rattle.terms.proofs.GlobalGroups.{recursion-append}
+use Rattle.lemmas.proofs.Each.{recursion-append, recursion_weaker}
 use Rattle.terms.specs.Types.{Text, Id, IfReq, Ver, Change, Sysmod}
 use Rattle.terms.specs.Lookups.{is_before}
 use Rattle.store_schema.proofs.Lists.{ascending}
@@ -90,10 +90,6 @@ taken_flat (x ∷ heads) (s ∷ ss) vers ifs elems h =
 pub recursion_flat : {A X : Type 0} (f : A → List X) (Q : A → Type 0) (P : X → Type 0) → ((a : A) → Q a → AllByRecursion P (f a)) → (xs : List A) → AllByRecursion Q xs → AllByRecursion P (flat_map f xs)
 recursion_flat f Q P each [] h = tt
 recursion_flat f Q P each (x ∷ xs) h = recursion-append P (f x) (flat_map f xs) (each x h.0) (recursion_flat f Q P each xs h.1)
-
-pub recursion_weaker : {X : Type 0} (P Q : X → Type 0) → ((x : X) → P x → Q x) → (xs : List X) → AllByRecursion P xs → AllByRecursion Q xs
-recursion_weaker P Q f [] h = tt
-recursion_weaker P Q f (x ∷ xs) h = (f x h.0, recursion_weaker P Q f xs h.1)
 
 stands_apart : {X K : Type 0} (parent : X → K) (k : K) (xs : List X) → AllByRecursion (λ x. parent x ≢ k) xs → StandsApart parent k xs
 stands_apart parent k [] h begins = begins

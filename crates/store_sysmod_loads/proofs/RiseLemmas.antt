@@ -9,8 +9,8 @@ use Rattle.std.proofs.lemmas.Cmp.{nat_list_cmp_total, tied_itself}
 use Rattle.std.proofs.lemmas.List.Kept.{AllPairs-cons}
 use Rattle.std.proofs.lemmas.List.Elements.{All-from_recursion}
 use Rattle.sqlite.specs.Tree.{IsAscending}
-use Rattle.terms.proofs.GlobalGroups.{recursion-append}
-use Rattle.terms.proofs.RisingLists.{Less-from_is_lt}
+use Rattle.lemmas.proofs.Each.{recursion-append, recursion-map, recursion_weaker}
+use Rattle.lemmas.proofs.Orderings.{Less-from_is_lt}
 use Rattle.terms.specs.declared.kinds.ElemType.{ElemType}
 use Rattle.terms.specs.Types.{Text, Id, IfReq, Ver, Change, Sysmod, type_number}
 use Rattle.terms.specs.Lookups.{is_before}
@@ -26,7 +26,7 @@ use Rattle.store_sysmod_loads.specs.declared.flat.ElemRow.{ElemRow}
 use Rattle.store_sysmod_loads.specs.Runs.{if_rows, ver_rows, elem_rows}
 use Rattle.store_sysmod_loads.specs.Built.{IsBuilt}
 use Rattle.store_sysmod_loads.specs.Flats.{head_of, ifs_of, all_vers, all_ifs, all_elems, AreFormed}
-use Rattle.store_sysmod_loads.proofs.FlatLemmas.{recursion_flat, recursion_weaker, ver_parents, elem_parents, if_ids, BelowId}
+use Rattle.store_sysmod_loads.proofs.FlatLemmas.{recursion_flat, ver_parents, elem_parents, if_ids, BelowId}
 
 asc_append : {X : Type 0} (R : X → X → Type 0) (xs ys : List X) → IsAscending R xs → IsAscending R ys → AllByRecursion (λ x. AllByRecursion (R x) ys) xs → IsAscending R (xs ++ ys)
 asc_append R [] ys p q cross = q
@@ -36,13 +36,9 @@ pub pairs_from : {X : Type 0} (R : X → X → Type 0) (xs : List X) → IsAscen
 pairs_from R [] h = λ i j d less within. absurd (omega (arith, within))
 pairs_from R (x ∷ xs) h = AllPairs-cons R x xs (All-from_recursion (R x) xs h.0) (pairs_from R xs h.1)
 
-all_map : {X Y : Type 0} (g : X → Y) (P : Y → Type 0) (xs : List X) → AllByRecursion (λ x. P (g x)) xs → AllByRecursion P (map g xs)
-all_map g P [] h = tt
-all_map g P (x ∷ xs) h = (h.0, all_map g P xs h.1)
-
 asc_map : {X Y : Type 0} (g : X → Y) (R : Y → Y → Type 0) (xs : List X) → IsAscending (λ a b. R (g a) (g b)) xs → IsAscending R (map g xs)
 asc_map g R [] h = tt
-asc_map g R (x ∷ xs) h = (all_map g (R (g x)) xs h.0, asc_map g R xs h.1)
+asc_map g R (x ∷ xs) h = (recursion-map g (R (g x)) xs h.0, asc_map g R xs h.1)
 
 both : {X : Type 0} (P Q S : X → Type 0) → ((x : X) → P x → Q x → S x) → (xs : List X) → AllByRecursion P xs → AllByRecursion Q xs → AllByRecursion S xs
 both P Q S f [] p q = tt
@@ -158,12 +154,6 @@ changes_derived xs h = λ i j d less within.
     let a = get_or xs i d in
     let b = get_or xs j d in
     ap is_lt (cmp-keys (a.elem_type, a.name) (b.elem_type, b.name)) ∙ h i j d less within
-
-pub changes_by_number : (xs : List Change) → Rises derived_key_cmp (λ (c : Change). (c.elem_type, c.name)) xs → Rises change_cmp (λ c. c) xs
-changes_by_number xs h = λ i j d less within.
-    let a = get_or xs i d in
-    let b = get_or xs j d in
-    ap is_lt (sym (cmp-keys (a.elem_type, a.name) (b.elem_type, b.name))) ∙ h i j d less within
 
 abbrev pub derived_elem_cmp : Id × (ElemType × Text) → Id × (ElemType × Text) → Ordering
 derived_elem_cmp a b = ordering_then (slice_cmp nat_cmp a.0 b.0) (derived_key_cmp a.1 b.1)

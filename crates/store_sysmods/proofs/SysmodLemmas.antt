@@ -15,11 +15,11 @@ use Rattle.sqlite.specs.Effect.{Database}
 use Rattle.sqlite.specs.Order.{Row}
 use Rattle.sqlite_rules.specs.Lists.{Has}
 use Rattle.terms.specs.Types as terms
-use Rattle.terms.specs.Types.{Id, Global, Sysmod}
+use Rattle.terms.specs.Types.{Id, Sysmod}
 use Rattle.terms.specs.Spelling.{kind_text}
-use Rattle.terms.specs.Global.{with_sysmod, with_source, assign}
+use Rattle.terms.specs.Global.{with_sysmod}
 use Rattle.terms.specs.Lookups.{is_received}
-use Rattle.terms.proofs.GlobalLookups.{same_from}
+use Rattle.lemmas.proofs.Texts.{same_from}
 use Rattle.store_rows.specs.Rows.{has_key, without, in_place, in_table, HasContents}
 use Rattle.store_rows.proofs.Keys.{equals, and_true}
 use Rattle.store_rows.proofs.ContentsLemmas.{permuted}
@@ -141,20 +141,3 @@ module _ (s : Sysmod) where
       let kept = λ (f : Sysmod → List Row) (same : (r : Sysmod) → f (record r { sources = s.sources }) ≡ f r). same_rows s.id (flat_kept f sourced (kept_rows f same) all) in
       permuted store_schema (in_table sysmod (in_place (sysmod_key s.id) (sysmod_row s)) (rows_of i)) (rows_of (record i { global = with_sources s.id s.sources i.global })) db
       (IsPermutation-refl _, (same_rows s.id (all_replaced all kinds), (kept vers_of (λ r. refl), (kept ifreqs_of (λ r. refl), (IsPermutation-refl _, (kept elems_of (λ r. refl), (IsPermutation-refl _, (IsPermutation-refl _, (IsPermutation-refl _, tt)))))))))
-
--- where they are the sources that ++ASSIGN gives to the SYSMOD of the id, the global zone is the one that it makes
-pub sources_assigned : (g : Global) (source : terms.Text) (x : Id) (sources : List terms.Text) → All (λ r. r.id ≡ x → sources ≡ (with_source source r).sources) g.sysmods → with_sources x sources g ≡ assign g source x
-sources_assigned g source x sources given = ap (λ ss. record g { sysmods = ss }) (each g.sysmods given)
-  where
-    one : (r : Sysmod) → (r.id ≡ x → sources ≡ (with_source source r).sources) → (if bytes_eq r.id x then record r { sources = sources } else r) ≡ (if bytes_eq r.id x then with_source source r else r)
-    one r is = go (bytes_eq r.id x) refl
-      where
-        go : (b : Bool) → bytes_eq r.id x ≡ b → (if b then record r { sources = sources } else r) ≡ (if b then with_source source r else r)
-        go true e = ap (λ l. record r { sources = l }) (is (same_from r.id x e))
-        go false e = refl
-
-    each : (ss : List Sysmod) → All (λ r. r.id ≡ x → sources ≡ (with_source source r).sources) ss
-        → map (λ (r : Sysmod). if bytes_eq r.id x then record r { sources = sources } else r) ss ≡ map (λ (r : Sysmod). if bytes_eq r.id x then with_source source r else r) ss
-    each [] given = refl
-    each (r ∷ ss) given =
-        ap₂ ◌∷◌ (one r (All-head (λ r. r.id ≡ x → sources ≡ (with_source source r).sources) r ss given)) (each ss (All-tail (λ r. r.id ≡ x → sources ≡ (with_source source r).sources) r ss given))

@@ -11,7 +11,7 @@ use Rattle.store_rows.proofs.Unmapped.{unmapped_permutation}
 use Rattle.terms.specs.Types.{Text, Element, Zone}
 use Rattle.terms.specs.Lookups.{element_cmp, element_key}
 use Rattle.terms.specs.Rising.{Rises}
-use Rattle.terms.proofs.GlobalGroups.{recursion_weaker}
+use Rattle.lemmas.proofs.Each.{recursion_weaker, recursion-map}
 use Rattle.store_schema.specs.Forms.{HasElementForms}
 use Rattle.store_schema.specs.Inventory.{Inventory, IsInventory, IsZoneNamed}
 use Rattle.store_schema.specs.Rows.{zelem_row, zelems_of}
@@ -21,7 +21,8 @@ use Rattle.store_zone_loads.specs.declared.element.ElementRow.{ElementRow}
 use Rattle.store_zone_loads.specs.Found.{zone_in, elements_in}
 use Rattle.store_zone_loads.specs.Read.{row_of_element, HasElementRowForms}
 use Rattle.store_zone_loads.proofs.ZoneRows.{name_key, first_cell, of_zone}
-use Rattle.store_zone_loads.proofs.Zones.{is_named, all_onto, map_itself}
+use Rattle.store_zone_loads.proofs.Zones.{is_named}
+use Rattle.std.proofs.lemmas.List.{map-id}
 
 abbrev pub with_zone : Text → Element → ElementRow
 with_zone name e = record { zone = name; element = e }
@@ -38,7 +39,7 @@ element_forms i h name = go (zone_in i name) (is_named i h name)
     go : (found : Option Zone) → IfSome found (λ zone. IsZoneNamed (record { name = name; zone = zone })) → AllByRecursion HasElementRowForms (map (with_zone name) (option_map_or (λ z. z.elements) found []))
     go None named = tt
     go (Some z) named =
-        all_onto (with_zone name) HasElementRowForms z.elements
+        recursion-map (with_zone name) HasElementRowForms z.elements
         (recursion_weaker HasElementForms (λ e. HasElementRowForms (with_zone name e)) (λ e f. record { zone = named.name; element = f }) z.elements
         (all_by HasElementForms z.elements named.forms.elements))
 
@@ -55,7 +56,7 @@ elements_moved i h name rs forms same =
     let element_of : ElementRow → Element = λ r. r.element in
     let moved : IsPermutation rs own =
     unmapped_permutation row_of_element HasElementRowForms exact rs own forms (element_forms i h name) (subst (IsPermutation (map row_of_element rs)) (elements_filtered i h name) same) in
-    subst (IsPermutation (map element_of rs)) (map-map element_of (with_zone name) (elements_in i name) ∙ map_itself (elements_in i name)) (IsPermutation-map element_of rs own moved)
+    subst (IsPermutation (map element_of rs)) (map-map element_of (with_zone name) (elements_in i name) ∙ map-id (elements_in i name)) (IsPermutation-map element_of rs own moved)
 
 pub elements_rise : (i : Inventory) → IsInventory i → (name : Text) → Rises element_cmp element_key (elements_in i name)
 elements_rise i h name = go (zone_in i name) (is_named i h name)

@@ -10,7 +10,7 @@ use Rattle.store_rows.specs.Rows.{has_key}
 use Rattle.store_rows.proofs.Unmapped.{unmapped_permutation}
 use Rattle.terms.specs.Types.{Text, Entry, Zone}
 use Rattle.terms.specs.Rising.{Rises}
-use Rattle.terms.proofs.GlobalGroups.{recursion_weaker}
+use Rattle.lemmas.proofs.Each.{recursion_weaker, recursion-map}
 use Rattle.store_schema.specs.Forms.{HasEntryForms}
 use Rattle.store_schema.specs.Inventory.{Inventory, IsInventory, IsZoneNamed}
 use Rattle.store_schema.specs.Rows.{entry_row, entries_of}
@@ -20,7 +20,8 @@ use Rattle.store_zone_loads.specs.declared.entry.EntryRow.{EntryRow}
 use Rattle.store_zone_loads.specs.Found.{zone_in, entries_in}
 use Rattle.store_zone_loads.specs.Read.{row_of_entry, HasEntryRowForms}
 use Rattle.store_zone_loads.proofs.ZoneRows.{name_key, first_cell, of_zone}
-use Rattle.store_zone_loads.proofs.Zones.{is_named, all_onto, map_itself}
+use Rattle.store_zone_loads.proofs.Zones.{is_named}
+use Rattle.std.proofs.lemmas.List.{map-id}
 
 abbrev pub with_zone : Text → Entry → EntryRow
 with_zone name e = record { zone = name; entry = e }
@@ -37,7 +38,7 @@ entry_forms i h name = go (zone_in i name) (is_named i h name)
     go : (found : Option Zone) → IfSome found (λ zone. IsZoneNamed (record { name = name; zone = zone })) → AllByRecursion HasEntryRowForms (map (with_zone name) (option_map_or (λ z. z.entries) found []))
     go None named = tt
     go (Some z) named =
-        all_onto (with_zone name) HasEntryRowForms z.entries
+        recursion-map (with_zone name) HasEntryRowForms z.entries
         (recursion_weaker HasEntryForms (λ e. HasEntryRowForms (with_zone name e))
         (λ e f. record { zone = named.name; id = f.id; applied = f.applied; supby = f.supby; delby = f.delby; waived = f.waived }) z.entries
         (all_by HasEntryForms z.entries named.forms.entries))
@@ -55,7 +56,7 @@ entries_moved i h name rs forms same =
     let entry_of : EntryRow → Entry = λ r. r.entry in
     let moved : IsPermutation rs own =
     unmapped_permutation row_of_entry HasEntryRowForms exact rs own forms (entry_forms i h name) (subst (IsPermutation (map row_of_entry rs)) (entries_filtered i h name) same) in
-    subst (IsPermutation (map entry_of rs)) (map-map entry_of (with_zone name) (entries_in i name) ∙ map_itself (entries_in i name)) (IsPermutation-map entry_of rs own moved)
+    subst (IsPermutation (map entry_of rs)) (map-map entry_of (with_zone name) (entries_in i name) ∙ map-id (entries_in i name)) (IsPermutation-map entry_of rs own moved)
 
 pub entries_rise : (i : Inventory) → IsInventory i → (name : Text) → Rises (slice_cmp nat_cmp) (λ (e : Entry). e.id) (entries_in i name)
 entries_rise i h name = go (zone_in i name) (is_named i h name)

@@ -30,7 +30,8 @@ use Rattle.store_zone_loads.specs.declared.head.ZoneHead.{ZoneHead}
 use Rattle.store_zone_loads.specs.Found.{head_in, head_of, zone_in}
 use Rattle.store_zone_loads.specs.Read.{head_row, HasHeadForms}
 use Rattle.store_zone_loads.proofs.ZoneRows.{name_key, first_cell, of_zone}
-use Rattle.store_zone_loads.proofs.Zones.{is_there, all_onto}
+use Rattle.store_zone_loads.proofs.Zones.{is_there}
+use Rattle.lemmas.proofs.Each.{recursion-map}
 
 head_exact : (a b : ZoneHead) → head_row a ≡ head_row b → a ≡ b
 head_exact a b e =
@@ -121,7 +122,7 @@ pub all_head_rows : (i : Inventory) → map head_row (map head_of i.zones) ≡ m
 all_head_rows i = map-map head_row head_of i.zones
 
 pub all_head_forms : (i : Inventory) → IsInventory i → AllByRecursion HasHeadForms (map head_of i.zones)
-all_head_forms i h = all_onto head_of HasHeadForms i.zones (all_from (λ z. HasHeadForms (head_of z)) i.zones (head_forms i h))
+all_head_forms i h = recursion-map head_of HasHeadForms i.zones (all_from (λ z. HasHeadForms (head_of z)) i.zones (head_forms i h))
 
 pub heads_rise : (i : Inventory) → IsInventory i → Rises (slice_cmp nat_cmp) (λ (a : ZoneHead). a.name) (map head_of i.zones)
 heads_rise i h = λ k j d less within.

@@ -7,7 +7,7 @@ use Rattle.std.proofs.Math.ListN.{get_or-map}
 use Rattle.terms.specs.declared.kinds.ZoneKind.{ZoneKind}
 use Rattle.terms.specs.declared.kinds.ZoneKind.TheVariants.{Target, Distribution}
 use Rattle.terms.specs.Types.{Text, NamedZone}
-use Rattle.terms.proofs.Apart.{pairs_map}
+use Rattle.lemmas.proofs.Pairs.{pairs_map}
 use Rattle.store_schema.specs.Inventory as inventory
 use Rattle.store_schema.specs.Inventory.{Inventory, IsInventory, HasDistribution, IsRelated}
 use Rattle.store_zone_loads.specs.Found.{head_of}

@@ -12,11 +12,12 @@ use Rattle.sqlite.specs.Order.{Row}
 use Rattle.sqlite.specs.Tree.{IsAscending}
 use Rattle.sqlite_trees.proofs.ListLemmas.{filter-map}
 use Rattle.store_rows.specs.Rows.{has_key}
-use Rattle.store_rows.proofs.Keys.{equals, and_true, same_text, other_text}
+use Rattle.store_rows.proofs.Keys.{equals, and_true}
+use Rattle.lemmas.proofs.Texts.{same_itself, other_text}
 use Rattle.store_rows.proofs.RowLemmas.{filter_same, filter_all}
 use Rattle.terms.specs.Types.{Text, Zone, NamedZone}
 use Rattle.terms.specs.Lookups.{is_before}
-use Rattle.terms.proofs.GlobalGroups.{recursion_weaker}
+use Rattle.lemmas.proofs.Each.{recursion_weaker}
 use Rattle.store_schema.proofs.OneState.{IsBelow}
 use Rattle.store_schema.proofs.Spelled.{not_before_same}
 
@@ -35,7 +36,7 @@ module _ {X : Type 0} (row : Text → X → Row) (items : Zone → List X) (name
   rows_of_zones zones = flat_map (λ z. map (row z.name) (items z.zone)) zones
 
   own : (xs : List X) → filter (has_key (name_key name)) (map (row name) xs) ≡ map (row name) xs
-  own xs = filter-map (has_key (name_key name)) (row name) xs ∙ ap (map (row name)) (filter_same _ (λ x. true) xs (λ x h. meets name x ∙ same_text name) ∙ filter_all xs)
+  own xs = filter-map (has_key (name_key name)) (row name) xs ∙ ap (map (row name)) (filter_same _ (λ x. true) xs (λ x h. meets name x ∙ same_itself name) ∙ filter_all xs)
 
   others : (other : Text) → other ≢ name → (xs : List X) → filter (has_key (name_key name)) (map (row other) xs) ≡ []
   others other apart [] = refl

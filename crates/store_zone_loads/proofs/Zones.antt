@@ -1,8 +1,7 @@
 -- What holds of the zone of a name.
-use Rattle.std.proofs.Common.{◌≡◌, inl, inr, List, [], ◌∷◌, length, Option, None, Some, IfSome, IsTrue, map, arith, refl, sym, ap, subst, ◌∙◌}
+use Rattle.std.proofs.Common.{◌≡◌, inl, inr, List, [], ◌∷◌, Option, None, Some, IfSome, IsTrue, sym, ap, subst, ◌∙◌}
 use Rattle.std.specs.Prelude.{All, ◌==◌, is_some, option_map}
 use Rattle.std.specs.Option.{option_map_or}
-use Rattle.std.specs.List.{AllByRecursion}
 use Rattle.std.specs.Str.{bytes_eq}
 use Rattle.std.proofs.lemmas.Bool.{cases_Bool}
 use Rattle.std.proofs.lemmas.Option.{IfSome_then}
@@ -33,22 +32,6 @@ is_there i name = among name i.zones
 -- the forms and the order of an inventory's zone
 pub is_named : (i : Inventory) → IsInventory i → (name : Text) → IfSome (zone_in i name) (λ zone. IsZoneNamed (record { name = name; zone = zone }))
 is_named i h name = IfSome_then (zone_in i name) (is_there i name) (λ zone there. has_all IsZoneNamed i.zones (record { name = name; zone = zone }) h.zones there)
-
-pub all_onto : {X Y : Type 0} (f : X → Y) (P : Y → Type 0) (xs : List X) → AllByRecursion (λ x. P (f x)) xs → AllByRecursion P (map f xs)
-all_onto f P [] h = tt
-all_onto f P (x ∷ xs) h = (h.0, all_onto f P xs h.1)
-
-pub map_itself : {X : Type 0} (xs : List X) → map (λ x. x) xs ≡ xs
-map_itself [] = refl
-map_itself (x ∷ xs) = ap (λ ys. x ∷ ys) (map_itself xs)
-
-pub nothing_left : {X : Type 0} (l : List X) → length l ≡ 0 → l ≡ []
-nothing_left [] h = refl
-nothing_left (x ∷ xs) h = absurd (omega arith)
-
-pub none_found : {X Y : Type 0} (f : X → Y) (found : Option X) → None ≡ option_map f found → None ≡ found
-none_found f None e = refl
-none_found f (Some x) e = absurd cc
 
 -- the parts that were read are the zone's
 module _ (name : Text) (head : ZoneHead) (entries : List Entry) (elements : List Element) where

@@ -14,7 +14,8 @@ use Rattle.terms.specs.Spelling.{type_text}
 use Rattle.store_rows.specs.Rows.{has_key, without, with_row, with_put, in_table, HasContents}
 use Rattle.store_rows.proofs.RowLemmas.{filter_same, filter_all}
 use Rattle.store_rows.proofs.ContentsLemmas.{permuted}
-use Rattle.store_rows.proofs.Keys.{equals, and_true, same_text, other_text}
+use Rattle.store_rows.proofs.Keys.{equals, and_true}
+use Rattle.lemmas.proofs.Texts.{same_itself, other_text}
 use Rattle.store_rows.proofs.Parts.{map_same, flat_same, changed}
 use Rattle.store_schema.specs.Inventory.{Inventory}
 use Rattle.store_schema.specs.Rows.{zone_row, entry_row, zelem_row, entries_of, zelems_of}
@@ -39,7 +40,7 @@ module _ {X : Type 0} (row : terms.Text → X → Row) (name : terms.Text) (key 
   own_left : (xs : List X) → without key (map (row name) xs) ≡ map (row name) (filter (λ x. not (test x)) xs)
   own_left xs =
       filter-map (λ r. not (has_key key r)) (row name) xs
-      ∙ ap (map (row name)) (filter_same _ _ xs (λ x h. ap not (meets name x ∙ ap (λ b. b && test x) (same_text name))))
+      ∙ ap (map (row name)) (filter_same _ _ xs (λ x h. ap not (meets name x ∙ ap (λ b. b && test x) (same_itself name))))
 
   -- and none of another zone's
   others_left : (other : terms.Text) → other ≢ name → (xs : List X) → without key (map (row other) xs) ≡ map (row other) xs

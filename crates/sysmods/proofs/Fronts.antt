@@ -12,6 +12,7 @@ use Rattle.std.proofs.lemmas.Map.Text.{is_eq-slice_cmp}
 use Rattle.std.proofs.lemmas.List.{get_or_append_left}
 use Rattle.std.proofs.lemmas.List.Folds.{find-append}
 use Rattle.std.proofs.lemmas.List.Elements.{All-nil, All-weaker}
+use Rattle.lemmas.proofs.Each.{All-front}
 use Rattle.terms.specs.Types.{Text, Id, Hold, Sysmod, Global, a_global, kind_number}
 use Rattle.terms.specs.Rising.{Rises, Splits, with_item}
 use Rattle.terms.specs.Lookups.{is_function}
@@ -19,17 +20,17 @@ use Rattle.terms.specs.Global.{named, names_for, HasLoop, is_service, fits_roles
 use Rattle.terms.proofs.Leads.{reaches_more}
 use Rattle.terms.proofs.GlobalKept.{IsOwned}
 use Rattle.terms.proofs.GlobalRoles.{fits-fewer}
-use Rattle.terms.proofs.RisingLists.{AllPairs-parts, Less-from_is_lt, find-over, with_item-new}
+use Rattle.terms.proofs.RisingLists.{with_item-new}
+use Rattle.lemmas.proofs.Pairs.{AllPairs-parts}
+use Rattle.lemmas.proofs.Orderings.{Less-from_is_lt}
+use Rattle.lemmas.proofs.Searches.{find-over}
 use Rattle.sysmods_received.specs.Held.{found, zone_of}
 use Rattle.sysmods_received.specs.declared.faults.ReceiveFault.{ReceiveFault as Code}
 use Rattle.sysmods_received.specs.declared.faults.ReceiveFault.TheVariants as code
 use Rattle.sysmods_received.specs.Refused.{IsRefusal}
 use Rattle.sysmods.proofs.Receiving.{kept}
 
--- the front of a list that has something, or that is in order
-All-front : {X : Type 0} (P : X → Type 0) (xs ys : List X) → All P (xs ++ ys) → All P xs
-All-front P xs ys all = λ i d below. subst P (get_or_append_left xs ys d i below) (all i d (omega (arith, below, length-append xs ys)))
-
+-- the front of a list that is in order
 Rises-front : {X : Type 0} (R : X → X → Type 0) (xs ys : List X) → AllPairs R (xs ++ ys) → AllPairs R xs
 Rises-front R xs ys all = λ i j d less below.
     let first = get_or_append_left xs ys d i (omega (arith, less, below)) in
@@ -162,18 +163,6 @@ module _ (xs : List Sysmod) (hs : List Hold) where
     no_loop = g.no_loop;
     roles = g.roles;
     internal = owned;
-    none_carried = g.none_carried;
-    size = g.size;
-  }
-
-  pub global-sysmods : IsGlobal (a_global xs hs) → IsGlobal (zone_of xs)
-  global-sysmods g = record {
-    sysmods = g.sysmods;
-    holds = λ i j d less below. absurd (omega (arith, below));
-    formed = g.formed;
-    no_loop = g.no_loop;
-    roles = g.roles;
-    internal = All-nil (IsOwned (zone_of xs));
     none_carried = g.none_carried;
     size = g.size;
   }

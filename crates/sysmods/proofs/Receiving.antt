@@ -13,7 +13,8 @@ use Rattle.sysmods_received.specs.declared.faults.ReceiveFault.{ReceiveFault as 
 use Rattle.sysmods_received.specs.declared.faults.ReceiveFault.TheVariants as code
 use Rattle.sysmods_received.specs.Held.{found, zone_of}
 use Rattle.sysmods_received.specs.Refused.{fault_of}
-use Rattle.sysmods.proofs.Taken.{folded, roles_stable}
+use Rattle.sysmods.proofs.Taken.{folded}
+use Rattle.sysmods_received.proofs.Passed.{roles_stable}
 
 module _ (xs : List Sysmod) (hs : List Hold) (s : Sysmod) where
   -- faults do not look at holds

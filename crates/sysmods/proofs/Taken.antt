@@ -1,30 +1,24 @@
 -- A SYSMOD that is taken in with its holds, and one that is taken out again.
-use Rattle.std.proofs.Common.{if◌then◌else◌, is_some, ap₂, ◌≡◌, Bool, true, false, not, List, [], ◌∷◌, filter, find, fold, cond, refl, sym, ap, ◌∙◌, None, All, IsTrue, true≢false, arith, get_or}
+use Rattle.std.proofs.Common.{if◌then◌else◌, is_some, ap₂, ◌≡◌, true, false, not, List, [], ◌∷◌, filter, find, fold, cond, refl, sym, ap, ◌∙◌, None, All, IsTrue, arith}
 use Rattle.std.specs.declared.cmp.Ordering.{Ordering}
 use Rattle.std.specs.declared.cmp.Ordering.TheVariants.{Less, Equal, Greater}
-use Rattle.std.specs.Ordering.{is_lt, is_eq, nat_cmp, ordering_reverse}
+use Rattle.std.specs.Ordering.{is_lt, is_eq, nat_cmp}
 use Rattle.std.specs.Cmp.Lexicographic.{slice_cmp}
 use Rattle.std.specs.Str.{bytes_eq}
 use Rattle.std.proofs.lemmas.Cmp.{nat_list_cmp_total}
 use Rattle.std.proofs.lemmas.Option.{none-some}
 use Rattle.std.proofs.lemmas.Map.Text.{is_eq-slice_cmp}
 use Rattle.std.proofs.lemmas.List.Elements.{All-cons, All-weaker}
+use Rattle.lemmas.proofs.Texts.{other_from_less, same_itself}
 use Rattle.terms.specs.Types.{Id, Hold, Sysmod, Global, a_global}
 use Rattle.terms.specs.Rising.{Rises, Splits, with_item}
-use Rattle.terms.specs.Global.{hold, fits_roles, RolesFit}
-use Rattle.terms.proofs.GlobalLookups.{same_itself}
-use Rattle.terms.proofs.RisingLists.{AllPairs-first, AllPairs-rest, Less-from_is_lt, with_item-new, filter-all}
+use Rattle.terms.specs.Global.{hold}
+use Rattle.terms.proofs.RisingLists.{with_item-new}
+use Rattle.lemmas.proofs.Pairs.{AllPairs-first, AllPairs-rest}
+use Rattle.lemmas.proofs.Orderings.{Less-from_is_lt, Greater-turned, Less-turned}
+use Rattle.lemmas.proofs.Searches.{filter-all}
 use Rattle.sysmods_received.specs.Held.{found}
 use Rattle.sysmods_holds.specs.Lists.{with_holds}
-
-other : (x y : Id) → slice_cmp nat_cmp x y ≡ Less → bytes_eq x y ≡ false
-other x y less = sym (is_eq-slice_cmp x y) ∙ ap is_eq less
-
-turned : (x y : Id) → slice_cmp nat_cmp x y ≡ Less → slice_cmp nat_cmp y x ≡ Greater
-turned x y less = nat_list_cmp_total.antisymm y x ∙ ap ordering_reverse less
-
-turned_back : (x y : Id) → slice_cmp nat_cmp x y ≡ Greater → slice_cmp nat_cmp y x ≡ Less
-turned_back x y greater = nat_list_cmp_total.antisymm y x ∙ ap ordering_reverse greater
 
 -- A SYSMOD that was new goes again.
 pub taken_out : (xs : List Sysmod) (s : Sysmod) → Rises (slice_cmp nat_cmp) (λ r. r.id) xs → find (λ r. bytes_eq r.id s.id) xs ≡ None
@@ -40,15 +34,15 @@ taken_out (y ∷ ys) s rises none =
         → (c : Ordering) → slice_cmp nat_cmp y.id s.id ≡ c
         → filter (λ r. not (bytes_eq r.id s.id)) (with_item (slice_cmp nat_cmp) (λ r. r.id) (y ∷ ys) s) ≡ y ∷ ys
     by again Less c =
-        let apart : bytes_eq y.id s.id ≡ false = other y.id s.id c in
+        let apart : bytes_eq y.id s.id ≡ false = other_from_less y.id s.id c in
         let rest = rw apart at none in
-        rw (c, turned y.id s.id c, apart) (ap (λ zs. y ∷ zs) (again rest))
+        rw (c, Greater-turned nat_list_cmp_total y.id s.id c, apart) (ap (λ zs. y ∷ zs) (again rest))
     by again Equal c =
         let same : bytes_eq y.id s.id ≡ true = sym (is_eq-slice_cmp y.id s.id) ∙ ap is_eq c in
         let found = rw same at none in
         absurd (none-some y (sym found))
     by again Greater c =
-        let first : slice_cmp nat_cmp s.id y.id ≡ Less = turned_back y.id s.id c in
+        let first : slice_cmp nat_cmp s.id y.id ≡ Less = Less-turned nat_list_cmp_total y.id s.id c in
         let behind : All (λ z. slice_cmp nat_cmp s.id z.id ≡ Less) (y ∷ ys) =
         All-cons (λ z. slice_cmp nat_cmp s.id z.id ≡ Less) y ys first
         (All-weaker (λ z. IsTrue (is_lt (slice_cmp nat_cmp y.id z.id))) (λ z. slice_cmp nat_cmp s.id z.id ≡ Less) (λ z less. nat_list_cmp_total.trans s.id y.id z.id first (Less-from_is_lt (slice_cmp nat_cmp y.id z.id) less)) ys higher) in
@@ -59,7 +53,7 @@ taken_out (y ∷ ys) s rises none =
         (All-weaker (λ z. slice_cmp nat_cmp s.id z.id ≡ Less) (λ z. not (bytes_eq z.id s.id) ≡ true) (λ z less. ap not (behind_other z.id less)) (y ∷ ys) behind)
       where
         behind_other : (x : Id) → slice_cmp nat_cmp s.id x ≡ Less → bytes_eq x s.id ≡ false
-        behind_other x less = sym (is_eq-slice_cmp x s.id) ∙ ap is_eq (turned s.id x less)
+        behind_other x less = sym (is_eq-slice_cmp x s.id) ∙ ap is_eq (Greater-turned nat_list_cmp_total s.id x less)
 
 pub put_back : (xs ys zs : List Sysmod) (s t : Sysmod) (x : Id) → Rises (slice_cmp nat_cmp) (λ r. r.id) xs → found xs s.id ≡ None → t ≡ record s { holds = [] } → x ≡ s.id
     → ys ≡ (if is_some (found xs t.id) then xs else with_item (slice_cmp nat_cmp) (λ r. r.id) xs t) → zs ≡ filter (λ r. not (bytes_eq r.id x)) ys → zs ≡ xs
@@ -74,11 +68,3 @@ put_back xs ys zs s t x rises none t_is x_is ys_is zs_is =
 pub folded : (hs : List Hold) (g : Global) → fold hold g hs ≡ a_global g.sysmods (with_holds g.holds hs)
 folded [] g = refl
 folded (h ∷ hs) g = folded hs (hold g h)
-
--- Roles that cannot but fit fit.
-pub roles_stable : (g : Global) → ¬ (¬ RolesFit g) → RolesFit g
-roles_stable g stable i d below j e within = by (fits_roles g (get_or (get_or g.sysmods i d).vers j e)) refl
-  where
-    by : (b : Bool) → fits_roles g (get_or (get_or g.sysmods i d).vers j e) ≡ b → fits_roles g (get_or (get_or g.sysmods i d).vers j e) ≡ true
-    by true f = f
-    by false f = absurd (stable (λ fit. true≢false (sym (fit i d below j e within) ∙ f)))

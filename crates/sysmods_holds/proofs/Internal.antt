@@ -15,11 +15,13 @@ use Rattle.std.proofs.lemmas.Map.Text.{is_eq-slice_cmp}
 use Rattle.std.proofs.lemmas.List.{append-nil}
 use Rattle.std.proofs.lemmas.List.Elements.{All-head, All-tail}
 use Rattle.std.proofs.lemmas.Map.Keys.{sorted_head, sorted_tail}
+use Rattle.std.proofs.lemmas.Bool.{and_parts}
+use Rattle.lemmas.proofs.Texts.{other_from_less, same_from, same_itself, same_back}
 use Rattle.terms.specs.declared.kinds.HoldKind.{HoldKind}
 use Rattle.terms.specs.declared.kinds.HoldKind.TheVariants.{Error, System, User}
 use Rattle.terms.specs.Types.{Id, Hold, hold_number}
-use Rattle.terms.proofs.GlobalLookups.{same_from, same_itself, same_back}
-use Rattle.terms.proofs.GlobalGroups.{filter_all, recursion_weaker}
+use Rattle.lemmas.proofs.Searches.{filter-all_recursion}
+use Rattle.lemmas.proofs.Each.{recursion_weaker}
 use Rattle.sysmods_holds.specs.declared.key.HoldKey.{HoldKey}
 use Rattle.sysmods_holds.specs.Keys.{key_of, key_cmp, key_cmp_total, place_cmp, before_kind, behind_kind, IsByKey}
 use Rattle.sysmods_holds.specs.Lists.{is_internal_on}
@@ -40,17 +42,13 @@ stays_other x h other = by h.internal
 stays_external : (x : Id) (h : Hold) → h.internal ≡ false → stays x h ≡ true
 stays_external x h external = ap (λ b. not (b && bytes_eq h.id x)) external
 
--- an id that is before another is another
-before_other : (x y : Id) → slice_cmp nat_cmp x y ≡ Less → bytes_eq x y ≡ false
-before_other x y less = sym (is_eq-slice_cmp x y) ∙ ap is_eq less
-
 -- no hold of the id stands before its first place, and none behind its last
 none_before : (x : Id) (h : Hold) → key_cmp (key_of h) (before_kind x Error) ≡ Less → bytes_eq h.id x ≡ false
 none_before x h less = by (slice_cmp nat_cmp h.id x) h.kind refl less
   where
     by : (c : Ordering) (kind : HoldKind) → slice_cmp nat_cmp h.id x ≡ c
         → ordering_then c (ordering_then (nat_cmp (hold_number kind) 0) Greater) ≡ Less → bytes_eq h.id x ≡ false
-    by Less kind e less = before_other h.id x e
+    by Less kind e less = other_from_less h.id x e
     by Equal Error e less = cc
     by Equal System e less = cc
     by Equal User e less = cc
@@ -61,7 +59,7 @@ none_behind x h le = by (slice_cmp nat_cmp x h.id) h.kind refl le
   where
     by : (c : Ordering) (kind : HoldKind) → slice_cmp nat_cmp x h.id ≡ c
         → is_le (ordering_then c (ordering_then (nat_cmp 2 (hold_number kind)) Greater)) ≡ true → bytes_eq h.id x ≡ false
-    by Less kind e le = same_back h.id x ∙ before_other x h.id e
+    by Less kind e le = same_back h.id x ∙ other_from_less x h.id e
     by Equal Error e le = absurd (true≢false (sym le))
     by Equal System e le = absurd (true≢false (sym le))
     by Equal User e le = absurd (true≢false (sym le))
@@ -79,10 +77,6 @@ same_id from k on =
     ∙ on_parts (slice_cmp nat_cmp from.id k.id)
     (ordering_then (nat_cmp (hold_number from.kind) (hold_number k.kind)) (place_cmp from.place k.place))
     (ordering_then (nat_cmp 2 (hold_number k.kind)) (place_cmp (behind_kind from.id User).place k.place)) on)
-
-and_parts : (a b : Bool) → (a && b) ≡ true → (a ≡ true) × (b ≡ true)
-and_parts true b e = (refl, e)
-and_parts false b e = absurd (true≢false (sym e))
 
 -- a key is before another or not
 less_or_not : (a b : HoldKey) → (key_cmp a b ≡ Less) ⊎ (is_le (key_cmp b a) ≡ true)
@@ -263,7 +257,7 @@ module _ (x : Id) (from : HoldKey) (of : from.id ≡ x) (es : Entries) (m : IsBy
 
   -- where there is none more, all is done
   pub done_all : AllByRecursion (λ e. goes_on from e.0 ≡ true → e.1.internal ≡ false) es → values_of es ≡ filter (stays x) (values_of es)
-  done_all none = sym (filter_all (stays x) (values_of es) (values es (both (λ e. key_cmp e.0 from ≡ Less → stays x e.1 ≡ true) (Rest from) (λ e. stays x e.1 ≡ true) step es done rest)))
+  done_all none = sym (filter-all_recursion (stays x) (values_of es) (values es (both (λ e. key_cmp e.0 from ≡ Less → stays x e.1 ≡ true) (Rest from) (λ e. stays x e.1 ≡ true) step es done rest)))
     where
       rest : AllByRecursion (Rest from) es
       rest = both (λ e. key_of e.1 ≡ e.0) (λ e. goes_on from e.0 ≡ true → e.1.internal ≡ false) (Rest from) (λ e a b. (a, b)) es m.known none

@@ -1,11 +1,10 @@
 -- The map of holds, and the list that it stands for.
-use Rattle.std.proofs.Common.{◌≡◌, ◌&&◌, ◌∙◌, Bool, true, false, not, List, [], ◌∷◌, refl, sym, ap, None, Some, filter, true≢false}
+use Rattle.std.proofs.Common.{◌≡◌, ◌&&◌, ◌∙◌, Bool, true, not, List, [], ◌∷◌, refl, sym, ap, None, Some, filter, true≢false}
 use Rattle.std.specs.declared.cmp.Ordering.{Ordering}
 use Rattle.std.specs.declared.cmp.Ordering.TheVariants.{Less, Equal, Greater}
-use Rattle.std.specs.Ordering.{is_eq, is_le, is_gt, nat_cmp, ordering_then}
+use Rattle.std.specs.Ordering.{is_eq, is_le, nat_cmp, ordering_then}
 use Rattle.std.specs.declared.ops.Bound.TheVariants.{Included, Excluded, Unbounded}
 use Rattle.std.specs.BTreeMap.Range.{range_contains, entries_between}
-use Rattle.std.proofs.lemmas.Cmp.{tied_itself, nat_cmp_total, nat_list_cmp_total}
 use Rattle.std.specs.Cmp.Lexicographic.{slice_cmp}
 use Rattle.std.specs.Cmp.{unsigned_ties}
 use Rattle.std.specs.Str.{bytes_eq}
@@ -13,14 +12,16 @@ use Rattle.std.specs.List.Sorted.{IsStrictlySortedBy}
 use Rattle.std.specs.Map.{lookup, remove_entry, keys_of, values_of}
 use Rattle.std.specs.BTreeMap.{insert_entry, is_at}
 use Rattle.std.proofs.lemmas.Map.Text.{is_eq-slice_cmp}
+use Rattle.std.proofs.lemmas.Bool.{and_parts}
 use Rattle.terms.specs.declared.kinds.HoldKind.{HoldKind}
 use Rattle.terms.specs.Types.{Text, Id, Hold, hold_number}
 use Rattle.terms.specs.Global.{has_key, hold_cmp}
 use Rattle.terms.specs.KeyedMaps.{KnowKeys}
 use Rattle.terms.specs.Rising.{Rises, with_item}
-use Rattle.terms.proofs.GlobalLookups.{same_from, same_back}
+use Rattle.lemmas.proofs.Texts.{same_from, same_back}
 use Rattle.terms.proofs.GlobalKept.{kind_from}
-use Rattle.terms.proofs.HoldOrder.{is_eq-then, has_key-ties, number_back}
+use Rattle.terms.proofs.HoldOrder.{has_key-ties, number_back}
+use Rattle.lemmas.proofs.Orderings.{is_eq-then}
 use Rattle.terms.proofs.KeyedMaps as keyed
 use Rattle.sysmods_holds.specs.declared.key.Place.{Place}
 use Rattle.sysmods_holds.specs.declared.key.Place.TheVariants.{First, At, Last}
@@ -36,10 +37,6 @@ abbrev pub key : Id → HoldKind → Text → HoldKey
 key x kind reason = record { id = x; kind = kind; place = At reason }
 
 -- keys that compare alike are one
-and_true : (a b : Bool) → (a && b) ≡ true → (a ≡ true) × (b ≡ true)
-and_true true b e = (refl, e)
-and_true false b e = absurd (true≢false (sym e))
-
 exact_place : (a b : Place) → is_eq (place_cmp a b) ≡ true → a ≡ b
 exact_place First First e = refl
 exact_place First (At b) e = absurd (true≢false (sym e))
@@ -62,8 +59,8 @@ exact_keys a b e =
     let ids = slice_cmp nat_cmp a.id b.id in
     let kinds = nat_cmp (hold_number a.kind) (hold_number b.kind) in
     let places = place_cmp a.place b.place in
-    let first = and_true (is_eq ids) (is_eq (ordering_then kinds places)) (sym (is_eq-then ids (ordering_then kinds places)) ∙ ap is_eq e) in
-    let second = and_true (is_eq kinds) (is_eq places) (sym (is_eq-then kinds places) ∙ first.1) in
+    let first = and_parts (is_eq ids) (is_eq (ordering_then kinds places)) (sym (is_eq-then ids (ordering_then kinds places)) ∙ ap is_eq e) in
+    let second = and_parts (is_eq kinds) (is_eq places) (sym (is_eq-then kinds places) ∙ first.1) in
     one_key a b
     (same_from a.id b.id (sym (is_eq-slice_cmp a.id b.id) ∙ first.0))
     (kind_from a.kind b.kind (unsigned_ties (hold_number a.kind) (hold_number b.kind) ∙ second.0))
@@ -136,11 +133,6 @@ pub listed_kind : (es : Entries) → IsByKey es → (x : Id) (kind : HoldKind)
     → values_of (entries_between key_cmp (Included (before_kind x kind)) (Excluded (behind_kind x kind)) es) ≡ filter (is_on x kind) (values_of es)
 listed_kind es m x kind =
     keyed.values-filter key_cmp_total key_of (range_contains key_cmp (Included (before_kind x kind)) (Excluded (behind_kind x kind))) (is_on x kind) (on_kind x kind) es m.known
-
--- an empty range ends before it goes on
-pub ends_apart : (x : Id) (kind : HoldKind) → is_gt (key_cmp (before_kind x kind) (behind_kind x kind)) ≡ false
-ends_apart x kind =
-    rw (tied_itself nat_list_cmp_total x, tied_itself nat_cmp_total (hold_number kind)) refl
 
 -- all holds
 pub listed_all : (es : Entries) → entries_between key_cmp Unbounded Unbounded es ≡ es

@@ -1,24 +1,23 @@
 -- Holds that rise, put one after another, are their list.
-use Rattle.std.proofs.Common.{◌≡◌, ◌∙◌, Bool, true, false, ◌||◌, List, [], ◌∷◌, ◌++◌, refl, sym, ap, subst, None, find, append_assoc, append-nil, arith}
+use Rattle.std.proofs.Common.{◌≡◌, ◌∙◌, false, List, [], ◌∷◌, ◌++◌, sym, ap, subst, None, find, append_assoc, append-nil, arith}
 use Rattle.std.specs.Prelude.{All, IsTrue}
 use Rattle.std.specs.declared.cmp.Ordering.TheVariants.{Less}
 use Rattle.std.specs.Ordering.{is_lt, is_eq, ordering_reverse}
 use Rattle.std.proofs.lemmas.List.Elements.{All-weaker}
+use Rattle.lemmas.proofs.Booleans.{or_false}
 use Rattle.terms.specs.Types.{Hold}
 use Rattle.terms.specs.Global.{has_key, hold_cmp, marked}
 use Rattle.terms.specs.Rising.{Rises, Splits, with_item}
 use Rattle.terms.proofs.GlobalKept.{hold_cmp_total}
 use Rattle.terms.proofs.HoldOrder.{has_key-ties}
-use Rattle.terms.proofs.RisingLists.{AllPairs-parts, Less-from_is_lt, find-over, with_item-new}
+use Rattle.terms.proofs.RisingLists.{with_item-new}
+use Rattle.lemmas.proofs.Pairs.{AllPairs-parts}
+use Rattle.lemmas.proofs.Orderings.{Less-from_is_lt}
+use Rattle.lemmas.proofs.Searches.{find-over}
 use Rattle.sysmods_holds.specs.Lists.{held, with_hold, with_holds}
 
 unmarked : (h : Hold) → marked None h ≡ h
-unmarked h = ap (λ b. record h { internal = b }) (by h.internal)
-  where
-    by : (b : Bool) → (b || false) ≡ b
-    by true = refl
-    by false = refl
-
+unmarked h = ap (λ b. record h { internal = b }) (or_false h.internal)
 -- one that stands behind all others comes in at the end
 with_hold-last : (front : List Hold) (h : Hold) → All (λ y. IsTrue (is_lt (hold_cmp y h))) front → with_hold front h ≡ front ++ h ∷ []
 with_hold-last front h low =

@@ -5,7 +5,8 @@ use Rattle.std.specs.Ordering.{is_lt}
 use Rattle.std.specs.Cmp.{IsTotalOrder}
 use Rattle.std.proofs.lemmas.List.{take_more, get_or-take, get_or_default, length-take-le}
 use Rattle.terms.specs.Rising.{Rises}
-use Rattle.terms.proofs.RisingLists.{AllPairs-last, All-before_last, Less-from_is_lt}
+use Rattle.terms.proofs.RisingLists.{AllPairs-last, All-before_last}
+use Rattle.lemmas.proofs.Orderings.{Less-from_is_lt}
 
 module _ {X K : Type 0} (R : K → K → Ordering) (key : X → K) where
   -- the first item alone

@@ -1,17 +1,15 @@
 -- How the ids that are seen grow, one insertion after the other.
-use Rattle.std.proofs.Common.{◌≡◌, ℕ, ◌+◌, ◌<◌, ◌≤◌, ◌⊎◌, inl, inr, Bool, true, false, List, [], ◌∷◌, ◌++◌, length, take, get_or, Contains, if◌then◌else◌, refl, sym, subst, ap, ◌∙◌, true≢false, append_assoc, arith}
+use Rattle.std.proofs.Common.{◌≡◌, ℕ, ◌+◌, ◌<◌, ◌≤◌, ◌⊎◌, inl, inr, Bool, true, false, List, [], ◌∷◌, ◌++◌, length, take, get_or, Contains, if◌then◌else◌, refl, sym, subst, ap, ◌∙◌, true≢false, append_assoc}
 use Rattle.std.specs.List.{list_any}
 use Rattle.std.specs.Str.{bytes_eq}
 use Rattle.std.proofs.lemmas.List.{append-nil, take-append-le, take_more}
 use Rattle.std.proofs.lemmas.List.Elements.{Contains-append_left, Contains-append_cases, Contains-push, Contains-push_cases}
+use Rattle.lemmas.proofs.Members.{none_in}
 use Rattle.indexmap.specs.IndexSet.{insert_key}
 use Rattle.terms.specs.Types.{Id}
 use Rattle.terms.specs.Lookups.{is_in}
 use Rattle.terms.proofs.Ids.{Contains-from_is_in, is_in-from_Contains}
 use Rattle.sysmods_paths.specs.Seen.{AddsAll}
-
-none_in_nil : {A : Type 0} {X : Type 0} (x : X) → Contains [] x → A
-none_in_nil x h = absurd (omega (arith, h.1))
 
 -- the keys after an insertion: they stay, or gain the id behind them
 insert_key-cases : (keys : List Id) (x : Id)
@@ -27,8 +25,8 @@ pub adds-none : (old : List Id) → AddsAll old [] old
 adds-none old = record {
   added = [];
   kept = sym (append-nil old);
-  were_named = λ z h. none_in_nil z h;
-  has = λ z h. none_in_nil z h;
+  were_named = λ z h. absurd (none_in z h);
+  has = λ z h. absurd (none_in z h);
 }
 
 -- one more id is named and inserted

@@ -17,8 +17,11 @@ use Rattle.std.proofs.lemmas.List.Elements.{filter-append}
 use Rattle.terms.specs.Types.{Text, Id, Sysmod}
 use Rattle.terms.specs.Rising.{with_item}
 use Rattle.terms.specs.Global.{with_source}
-use Rattle.terms.proofs.GlobalLookups.{same_from, same_back, same_itself, find-passes, assigned}
+use Rattle.terms.proofs.GlobalLookups.{assigned}
+use Rattle.lemmas.proofs.Texts.{same_from, same_back, same_itself}
+use Rattle.lemmas.proofs.Searches.{find-passes, filter-all_recursion, filter-none_recursion}
 use Rattle.terms.proofs.GlobalGroups as groups
+use Rattle.lemmas.proofs.Each.{recursion_weaker}
 use Rattle.sysmods_received.specs.Held.{IsKeyed, found}
 
 abbrev C : Id → Id → Ordering
@@ -71,8 +74,8 @@ pub values-remove : (es : Entries) (x : Id) → IsKeyed es → IsStrictlySortedB
 values-remove es x k sorted =
     sym (flat-values (remove_entry (is_at (C x)) es))
     ∙ groups.flat-remove_entry nat_list_cmp_total (λ r. r.id) one (others x) x refl (filter-append p) rest es (keyed-groups es k) sorted
-    (groups.filter_none p (groups.items_at nat_list_cmp_total (λ r. r.id) one es x)
-    (groups.recursion_weaker (λ s. s.id ≡ x) (λ s. p s ≡ false) gone (groups.items_at nat_list_cmp_total (λ r. r.id) one es x)
+    (filter-none_recursion p (groups.items_at nat_list_cmp_total (λ r. r.id) one es x)
+    (recursion_weaker (λ s. s.id ≡ x) (λ s. p s ≡ false) gone (groups.items_at nat_list_cmp_total (λ r. r.id) one es x)
     (groups.items_at-keys nat_list_cmp_total (λ r. r.id) one exact_bytes es x (keyed-groups es k))))
     ∙ ap (others x) (flat-values es)
   where
@@ -86,7 +89,7 @@ values-remove es x k sorted =
     stays s other = ap not (same_back s.id x ∙ sym (is_eq-slice_cmp x s.id) ∙ other)
 
     rest : (xs : List Sysmod) → AllByRecursion (λ s. is_eq (C x s.id) ≡ false) xs → others x xs ≡ xs
-    rest xs all = groups.filter_all p xs (groups.recursion_weaker (λ s. is_eq (C x s.id) ≡ false) (λ s. p s ≡ true) stays xs all)
+    rest xs all = filter-all_recursion p xs (recursion_weaker (λ s. is_eq (C x s.id) ≡ false) (λ s. p s ≡ true) stays xs all)
 
 pub keyed-remove : (es : Entries) (x : Id) → IsKeyed es → IsKeyed (remove_entry (is_at (C x)) es)
 keyed-remove es x k =

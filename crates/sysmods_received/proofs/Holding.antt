@@ -1,5 +1,5 @@
 -- What stays true of the map and its index as they change.
-use Rattle.std.proofs.Common.{◌≡◌, Bool, true, false, not, List, [], ◌∷◌, get_or, refl, sym, ap, ◌∙◌, subst, Some, All, IsTrue, true≢false, arith}
+use Rattle.std.proofs.Common.{◌≡◌, Bool, true, not, List, [], ◌∷◌, get_or, sym, ap, ◌∙◌, subst, Some, All, IsTrue, arith}
 use Rattle.std.specs.declared.cmp.Ordering.{Ordering}
 use Rattle.std.specs.declared.cmp.Ordering.TheVariants.{Less}
 use Rattle.std.specs.Ordering.{is_lt, nat_cmp}
@@ -14,10 +14,12 @@ use Rattle.std.proofs.lemmas.List.Elements.{All-nil, All-cons, All-filter, All-m
 use Rattle.std.proofs.lemmas.List.Kept.{AllPairs-cons}
 use Rattle.std.proofs.lemmas.Map.Keys.{sorted_head, sorted_tail}
 use Rattle.std.proofs.lemmas.Map.Views.{All-found, All-values-insert_entry, All-values-set_value}
+use Rattle.std.proofs.lemmas.Bool.{not-true}
 use Rattle.terms.specs.Types.{Text, Id, Sysmod}
 use Rattle.terms.specs.Rising.{Rises}
 use Rattle.terms.specs.Global.{IsSysmod, with_source}
-use Rattle.terms.proofs.GlobalLookups.{same_from, same_back, find-passes, All-find}
+use Rattle.lemmas.proofs.Texts.{same_from, same_back}
+use Rattle.lemmas.proofs.Searches.{find-passes, All-find}
 use Rattle.sysmods_received.specs.Index.{Sets, IsIndexed, Grows, KeepsOthers}
 use Rattle.sysmods_received.specs.Held.{IsHeld, IsKeyed, found}
 use Rattle.sysmods_received.proofs.Entries.{find-lookup, keyed-insert, keyed-remove, keyed-assign, values-remove, others}
@@ -90,12 +92,8 @@ held-remove es old new x s there h keeps sorted = record {
     same : s.id ≡ x
     same = same_from s.id x (find-passes (λ r. bytes_eq r.id x) (values_of es) s (find-lookup es x h.keyed ∙ there))
 
-    apart : (b : Bool) → not b ≡ true → b ≡ false
-    apart true e = absurd (true≢false (sym e))
-    apart false e = refl
-
     stays : (r : Sysmod) → not (bytes_eq r.id x) ≡ true → IsIndexed old r → IsIndexed new r
-    stays r passes has z named = keeps z r.id (ap (λ y. bytes_eq y r.id) same ∙ same_back x r.id ∙ apart (bytes_eq r.id x) passes) (has z named)
+    stays r passes has z named = keeps z r.id (ap (λ y. bytes_eq y r.id) same ∙ same_back x r.id ∙ not-true (bytes_eq r.id x) passes) (has z named)
 
 pub held-assign : (es : Entries) (sets : Sets) (source : Text) (x : Id) (s : Sysmod) → lookup (is_at (C x)) es ≡ Some s → IsHeld es sets → IsSysmod (with_source source s)
     → IsStrictlySortedBy C (keys_of (set_value (is_at (C x)) es (with_source source s))) → IsHeld (set_value (is_at (C x)) es (with_source source s)) sets

@@ -14,7 +14,7 @@ use Rattle.std.proofs.lemmas.List.Folds.{list_any_more, list_any-append}
 use Rattle.terms.specs.Types.{Id, Ver}
 use Rattle.terms.specs.Lookups.{is_in, at_most_one}
 use Rattle.terms.specs.Global.{named, named_functions}
-use Rattle.terms.proofs.GlobalLookups.{same_from}
+use Rattle.lemmas.proofs.Texts.{same_from}
 use Rattle.sysmods_received.specs.Index.{Sets, has, HasAll, Grows, KeepsOthers, mentions}
 
 -- one of two tests passes
@@ -31,17 +31,6 @@ grows-then a b c first second z y h = second z y (first z y h)
 -- what it has under each id of a test it has still
 pub has_all-grows : (old new : Sets) (y : Id) (test : Id → Bool) → Grows old new → HasAll old y test → HasAll new y test
 has_all-grows old new y test grows all z h = grows z y (all z h)
-
--- what holds of two tests holds of both
-pub has_all-or : (sets : Sets) (y : Id) (a b : Id → Bool) → HasAll sets y a → HasAll sets y b → HasAll sets y (λ z. a z || b z)
-has_all-or sets y a b left right z h = either (a z) (b z) h (left z) (right z)
-
--- under no id
-pub has_all-none : (sets : Sets) (y : Id) → HasAll sets y (λ z. false)
-has_all-none sets y z h = absurd (elim-false h)
-  where
-    elim-false : false ≡ true → ⊥
-    elim-false e = cc
 
 -- a loop's step: under the ids that the first ones name, and under those that the next names
 pub has_all-more : {X : Type 0} (old new : Sets) (y : Id) (p : Id → X → Bool) (xs : List X) (i : ℕ) (d : X) → i < length xs

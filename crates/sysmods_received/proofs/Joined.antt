@@ -11,13 +11,17 @@ use Rattle.std.proofs.lemmas.Cmp.{nat_list_cmp_total}
 use Rattle.std.proofs.lemmas.Map.Text.{is_eq-slice_cmp}
 use Rattle.std.proofs.lemmas.List.Folds.{list_any-append, list_any_none}
 use Rattle.std.proofs.lemmas.List.Elements.{All-nil, All-cons, All-head, All-tail, All-weaker}
+use Rattle.std.proofs.lemmas.Bool.{not-true}
+use Rattle.lemmas.proofs.Searches.{All-from_no_list_any}
+use Rattle.lemmas.proofs.Each.{All-front, All-back}
 use Rattle.terms.specs.Types.{Id, Ver, Sysmod, Global, kind_number}
 use Rattle.terms.specs.Rising.{before, behind}
 use Rattle.terms.specs.Lookups.{sysmod_of, is_function, is_in, at_most_one}
 use Rattle.terms.specs.Global.{is_service, fits_roles, named_functions, RolesFit, with_sysmod}
-use Rattle.terms.proofs.GlobalLookups.{same_back, sysmod_of-with_sysmod}
-use Rattle.terms.proofs.GlobalRoles.{neither, both_none}
-use Rattle.terms.proofs.GlobalKept.{All-with_item}
+use Rattle.terms.proofs.GlobalLookups.{sysmod_of-with_sysmod}
+use Rattle.lemmas.proofs.Texts.{same_back}
+use Rattle.lemmas.proofs.Booleans.{neither, both_none}
+use Rattle.terms.proofs.Edits.{All-with_item}
 use Rattle.sysmods_received.specs.Held.{found, zone_of}
 
 pub services_in_parts : (g : Global) (v : Ver)
@@ -89,23 +93,6 @@ all_from_parts P x (s ∷ xs) none low high =
     by again false e false f false h =
         elim (ordered x s.id e) [ inl is ↦ absurd (true≢false (sym is ∙ f)) | inr is ↦ absurd (true≢false (sym is ∙ h)) ]
 
--- what holds of all of two lists
-all-left : {X : Type 0} (P : X → Type 0) (xs ys : List X) → All P (xs ++ ys) → All P xs
-all-left P [] ys h = All-nil P
-all-left P (x ∷ xs) ys h = All-cons P x xs (All-head P x (xs ++ ys) h) (all-left P xs ys (All-tail P x (xs ++ ys) h))
-
-all-right : {X : Type 0} (P : X → Type 0) (xs ys : List X) → All P (xs ++ ys) → All P ys
-all-right P [] ys h = h
-all-right P (x ∷ xs) ys h = all-right P xs ys (All-tail P x (xs ++ ys) h)
-
-none_all : {X : Type 0} (p : X → Bool) (xs : List X) → list_any p xs ≡ false → All (λ x. p x ≡ false) xs
-none_all p [] h = All-nil (λ x. p x ≡ false)
-none_all p (x ∷ xs) h = by (none_all p xs) (p x) refl
-  where
-    by : (list_any p xs ≡ false → All (λ x. p x ≡ false) xs) → (b : Bool) → p x ≡ b → All (λ x. p x ≡ false) (x ∷ xs)
-    by again true e = let now = rw e at h in absurd (true≢false now)
-    by again false e = let rest = rw e at h in All-cons (λ x. p x ≡ false) x xs e (again rest)
-
 module _ (xs : List Sysmod) (s : Sysmod) where
   abbrev G : Global
   G = zone_of xs
@@ -160,16 +147,16 @@ module _ (xs : List Sysmod) (s : Sysmod) where
   pub own-fit : RolesFit W → All (λ v. IsTrue (fits_roles W v)) s.vers
   own-fit all =
       All-head Fits (record s { holds = [] }) []
-      (all-right Fits (before (slice_cmp nat_cmp) (λ r. r.id) s.id xs) (record s { holds = [] } ∷ [])
-      (all-left Fits (before (slice_cmp nat_cmp) (λ r. r.id) s.id xs ++ record s { holds = [] } ∷ []) (behind (slice_cmp nat_cmp) (λ r. r.id) s.id xs) all))
+      (All-back Fits (before (slice_cmp nat_cmp) (λ r. r.id) s.id xs) (record s { holds = [] } ∷ [])
+      (All-front Fits (before (slice_cmp nat_cmp) (λ r. r.id) s.id xs ++ record s { holds = [] } ∷ []) (behind (slice_cmp nat_cmp) (λ r. r.id) s.id xs) all))
 
   module _ (new : found xs s.id ≡ None) where
     others-each : RolesFit W → All Fits xs
     others-each all =
         all_from_parts Fits s.id xs new
-        (all-left Fits (before (slice_cmp nat_cmp) (λ r. r.id) s.id xs) (record s { holds = [] } ∷ [])
-        (all-left Fits (before (slice_cmp nat_cmp) (λ r. r.id) s.id xs ++ record s { holds = [] } ∷ []) (behind (slice_cmp nat_cmp) (λ r. r.id) s.id xs) all))
-        (all-right Fits (before (slice_cmp nat_cmp) (λ r. r.id) s.id xs ++ record s { holds = [] } ∷ []) (behind (slice_cmp nat_cmp) (λ r. r.id) s.id xs) all)
+        (All-front Fits (before (slice_cmp nat_cmp) (λ r. r.id) s.id xs) (record s { holds = [] } ∷ [])
+        (All-front Fits (before (slice_cmp nat_cmp) (λ r. r.id) s.id xs ++ record s { holds = [] } ∷ []) (behind (slice_cmp nat_cmp) (λ r. r.id) s.id xs) all))
+        (All-back Fits (before (slice_cmp nat_cmp) (λ r. r.id) s.id xs ++ record s { holds = [] } ∷ []) (behind (slice_cmp nat_cmp) (λ r. r.id) s.id xs) all)
 
     sup-none : is_fn s ≡ true → RolesFit W → Sup ≡ false
     sup-none is all =
@@ -197,10 +184,6 @@ module _ (xs : List Sysmod) (s : Sysmod) where
         by false e = ap (λ b. if b then not Sup else not Fun) e ∙ ap not (fun-none (ap not e) all)
 
   -- what the two tests say of received SYSMODs
-  not-true : (b : Bool) → not b ≡ true → b ≡ false
-  not-true true e = absurd (true≢false (sym e))
-  not-true false e = refl
-
   sup-out : (if is_fn s then not Sup else not Fun) ≡ true → is_fn s ≡ true → Sup ≡ false
   sup-out test is = not-true Sup (sym (ap (λ b. if b then not Sup else not Fun) is) ∙ test)
 
@@ -208,7 +191,7 @@ module _ (xs : List Sysmod) (s : Sysmod) where
   fun-out test is = not-true Fun (sym (ap (λ b. if b then not Sup else not Fun) (not-true (is_fn s) is)) ∙ test)
 
   each-out : (p : Ver → Bool) (b : Bool) → (b ≡ true → list_any (λ r. list_any p r.vers) xs ≡ false) → All (λ r. b ≡ true → All (λ v. p v ≡ false) r.vers) xs
-  each-out p true out = All-weaker (λ r. list_any p r.vers ≡ false) (λ r. true ≡ true → All (λ v. p v ≡ false) r.vers) (λ r none is. none_all p r.vers none) xs (none_all (λ r. list_any p r.vers) xs (out refl))
+  each-out p true out = All-weaker (λ r. list_any p r.vers ≡ false) (λ r. true ≡ true → All (λ v. p v ≡ false) r.vers) (λ r none is. All-from_no_list_any p r.vers none) xs (All-from_no_list_any (λ r. list_any p r.vers) xs (out refl))
   each-out p false out = trivial xs
     where
       trivial : (ys : List Sysmod) → All (λ r. false ≡ true → All (λ v. p v ≡ false) r.vers) ys
@@ -228,7 +211,7 @@ module _ (xs : List Sysmod) (s : Sysmod) where
 
   pub all-fit : RolesFit G → All (λ v. IsTrue (fits_roles W v)) s.vers → (if is_fn s then not Sup else not Fun) ≡ true → RolesFit W
   all-fit was own test =
-      All-with_item Fits (slice_cmp nat_cmp) (λ r. r.id) xs (record s { holds = [] })
+      All-with_item (slice_cmp nat_cmp) (λ r. r.id) Fits xs (record s { holds = [] })
       (λ i d below. sysmod-fits (get_or xs i d) (was i d below)
       (each-out (λ v. is_in v.sup s.id) (is_fn s) (sup-out test) i d below)
       (each-out (λ v. is_in (named_functions v) s.id) (not (is_fn s)) (fun-out test) i d below))

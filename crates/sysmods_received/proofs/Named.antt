@@ -9,7 +9,7 @@ use Rattle.terms.specs.Lookups.{is_in}
 use Rattle.terms.specs.Over.{Leads}
 use Rattle.terms.specs.Global.{named, names_for, HasLoop, with_sysmod}
 use Rattle.terms.proofs.Ids.{is_in-from_Contains}
-use Rattle.terms.proofs.GlobalLookups.{same_from, same_itself}
+use Rattle.lemmas.proofs.Texts.{same_from, same_itself}
 use Rattle.terms.proofs.Loops.{names-own, names-others, all_vers}
 use Rattle.sysmods_received.specs.Held.{found, zone_of}
 use Rattle.sysmods_received.proofs.Namers.{any_found}

@@ -13,11 +13,13 @@ use Rattle.terms.specs.Types.{Text, Id, Ver, Sysmod}
 use Rattle.terms.specs.Lookups.{is_in}
 use Rattle.terms.specs.Rising.{Rises}
 use Rattle.terms.specs.Global.{named, names_for}
-use Rattle.terms.proofs.Apart.{in_map, pairs_map}
-use Rattle.terms.proofs.GlobalLookups.{same_from, same_back, find-passes, find-filter_kept, find-filter_gone, All-find}
+use Rattle.lemmas.proofs.Members.{in_map}
+use Rattle.lemmas.proofs.Pairs.{pairs_map}
+use Rattle.lemmas.proofs.Texts.{same_from, same_back}
+use Rattle.lemmas.proofs.Searches.{find-passes, find-filter_all, find-filter_none, All-find, find-gives}
 use Rattle.terms.proofs.Ids.{is_in-from_Contains, Contains-from_is_in}
 use Rattle.terms.proofs.Loops.{named_by_all}
-use Rattle.terms.proofs.SameLists.{find-gives, rising_same}
+use Rattle.terms.proofs.SameLists.{rising_same}
 use Rattle.sysmods_received.specs.declared.ways.Way.TheVariants.{Named}
 use Rattle.sysmods_received.specs.Index.{Sets, has, IsIndexed}
 use Rattle.sysmods_received.specs.Held.{found, zone_of}
@@ -50,10 +52,10 @@ module _ (test : Id → Bool) (xs ys : List Id) where
   Below a b = IsTrue (is_lt (slice_cmp nat_cmp a b))
 
   passing : (ks : List Id) (k : Id) → test k ≡ true → is_in ks k ≡ true → find (λ y. bytes_eq y k) (filter test ks) ≡ Some k
-  passing ks k passes here = find-filter_kept (λ y. bytes_eq y k) test (λ y same. ap test (same_from y k same) ∙ passes) ks ∙ find_there ks k here
+  passing ks k passes here = find-filter_all (λ y. bytes_eq y k) test (λ y same. ap test (same_from y k same) ∙ passes) ks ∙ find_there ks k here
 
   failing : (ks : List Id) (k : Id) → test k ≡ false → find (λ y. bytes_eq y k) (filter test ks) ≡ None
-  failing ks k fails = find-filter_gone (λ y. bytes_eq y k) test (λ y same. ap test (same_from y k same) ∙ fails) ks
+  failing ks k fails = find-filter_none (λ y. bytes_eq y k) test (λ y same. ap test (same_from y k same) ∙ fails) ks
 
   pub same_passing : Rises (slice_cmp nat_cmp) (λ k. k) xs → Rises (slice_cmp nat_cmp) (λ k. k) ys
       → ((k : Id) → test k ≡ true → is_in xs k ≡ true) → ((k : Id) → test k ≡ true → is_in ys k ≡ true) → filter test xs ≡ filter test ys

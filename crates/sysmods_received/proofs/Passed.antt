@@ -10,8 +10,8 @@ use Rattle.sysmods_received.specs.Held.{found, zone_of}
 use Rattle.sysmods_received.specs.Refused.{IsRefusal}
 
 -- roles that cannot but fit fit
-stable : (g : Global) → ¬ (¬ RolesFit g) → RolesFit g
-stable g never i d below j e within = by (fits_roles g (get_or (get_or g.sysmods i d).vers j e)) refl
+pub roles_stable : (g : Global) → ¬ (¬ RolesFit g) → RolesFit g
+roles_stable g never i d below j e within = by (fits_roles g (get_or (get_or g.sysmods i d).vers j e)) refl
   where
     by : (b : Bool) → fits_roles g (get_or (get_or g.sysmods i d).vers j e) ≡ b → fits_roles g (get_or (get_or g.sysmods i d).vers j e) ≡ true
     by true f = f
@@ -29,7 +29,7 @@ module _ (xs : List Sysmod) (s : Sysmod) (passed : IsRefusal (zone_of xs) s None
   passed-no_loop = passed global.Rc2
 
   pub passed-roles : RolesFit (with_sysmod (zone_of xs) s)
-  passed-roles = stable (with_sysmod (zone_of xs) s) (passed global.Rc3)
+  passed-roles = roles_stable (with_sysmod (zone_of xs) s) (passed global.Rc3)
 
 -- a SYSMOD that carries no holds comes in as it is
 pub with_itself : (xs : List Sysmod) (s : Sysmod) → s.holds ≡ [] → with_sysmod (zone_of xs) s ≡ zone_of (with_item (slice_cmp nat_cmp) (λ r. r.id) xs s)

@@ -4,13 +4,13 @@ use Rattle.std.specs.List.{flat_map, list_any}
 use Rattle.std.specs.Str.{bytes_eq}
 use Rattle.std.proofs.lemmas.Map.Views.{any-filter_same}
 use Rattle.std.proofs.lemmas.List.Elements.{Contains-append_cases, Contains-append_left, Contains-append_right}
+use Rattle.std.proofs.lemmas.Bool.{and_from}
 use Rattle.terms.specs.Types.{Text, Id, Sysmod}
 use Rattle.terms.specs.Lookups.{is_in}
 use Rattle.terms.specs.Global.{named, names_for, with_sysmod}
-use Rattle.terms.proofs.Apart.{here, here_or, none_in}
+use Rattle.lemmas.proofs.Members.{here, here_or, none_in}
 use Rattle.terms.proofs.Ids.{is_in-from_Contains, Contains-from_is_in}
-use Rattle.terms.proofs.GlobalLookups.{same_from}
-use Rattle.terms.proofs.Leads.{same_or_not}
+use Rattle.lemmas.proofs.Texts.{same_from, same_or_not}
 use Rattle.terms.proofs.Loops.{names-own, names-others}
 use Rattle.sysmods_paths.specs.Seen.{IsTurned}
 use Rattle.sysmods_received.specs.Held.{found, zone_of}
@@ -19,10 +19,6 @@ use Rattle.sysmods_received.proofs.NamersFor.{named_for, named-by, named-by_rece
 
 passing : (test : Id → Bool) (ks : List Id) (k : Id) → is_in (filter test ks) k ≡ (test k && is_in ks k)
 passing test ks k = any-filter_same (bytes_eq k) test (test k) (λ y same. ap test (sym (same_from k y same))) ks
-
-both : (a b : Bool) → a ≡ true → b ≡ true → (a && b) ≡ true
-both true b e f = f
-both false b e f = absurd (true≢false (sym e))
 
 first : (a b : Bool) → (a && b) ≡ true → a ≡ true
 first true b e = refl
@@ -55,7 +51,7 @@ module _ (xs : List Sysmod) (s : Sysmod) (srel : Text) (new : found xs s.id ≡ 
           Contains-append_left (namers_for xs srel z) (if Some_own z then s.id ∷ [] else []) y
           (Contains-from_is_in (namers_for xs srel z) y
           (passing (λ k. is_in (names_for (zone_of xs) srel k) z) (map (λ r. r.id) xs) y
-          ∙ both (is_in (names_for (zone_of xs) srel y) z) (is_in (map (λ r. r.id) xs) y) is (named-by_received xs srel z y is)))
+          ∙ and_from (is_in (names_for (zone_of xs) srel y) z) (is_in (map (λ r. r.id) xs) y) is (named-by_received xs srel z y is)))
 
   from-namers : (y z : Id) → Contains (namers_with xs s srel z) y → Contains (names_for (with_sysmod (zone_of xs) s) srel y) z
   from-namers y z there = by (Contains-append_cases (namers_for xs srel z) (if Some_own z then s.id ∷ [] else []) y there)

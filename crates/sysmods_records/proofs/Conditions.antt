@@ -6,12 +6,12 @@ use Rattle.std.specs.declared.cmp.Ordering.TheVariants.{Less}
 use Rattle.std.specs.Ordering.{nat_cmp, is_eq}
 use Rattle.std.specs.Cmp.Lexicographic.{slice_cmp, texts_ties}
 use Rattle.std.proofs.lemmas.Cmp.{nat_list_cmp_total, tied_itself}
-use Rattle.std.proofs.lemmas.List.{map-append, take-append-drop}
+use Rattle.std.proofs.lemmas.List.{map-append, take-append-drop, set_split}
 use Rattle.std.proofs.lemmas.List.Elements.{All-head, All-tail, All-append, All-weaker}
 use Rattle.terms.specs.Types.{Text, IfReq, Ver}
 use Rattle.terms.specs.Rising.{Rises, Splits, Stands}
-use Rattle.terms.proofs.GlobalLookups.{same_back}
-use Rattle.terms.proofs.RisingLists.{Splits-around, set-parts, Rises-set}
+use Rattle.lemmas.proofs.Texts.{same_back}
+use Rattle.terms.proofs.RisingLists.{Splits-around, Rises-set}
 
 abbrev pub with_if : IfReq → Ver → Ver
 with_if i v = record v { ifs = v.ifs ++ i ∷ [] }
@@ -52,4 +52,4 @@ comes srel i vs n x rises below s =
     let last = others_stay srel i back (high_others srel front back split) in
     let middle = here srel i x (texts_ties x.srel srel ∙ ap is_eq s.tie) in
     let parts : map (at_srel srel i) front ++ at_srel srel i x ∷ map (at_srel srel i) back ≡ front ++ with_if i x ∷ back = cc (first, last, middle) in
-    ap (map (at_srel srel i)) s.parts ∙ map-append (at_srel srel i) front (x ∷ back) ∙ parts ∙ sym (set-parts vs n (with_if i x) below)
+    ap (map (at_srel srel i)) s.parts ∙ map-append (at_srel srel i) front (x ∷ back) ∙ parts ∙ sym (set_split vs n (with_if i x) below)

@@ -1,5 +1,5 @@
 -- Commands one after the other, and the word that a command begins with.
-use Rattle.std.proofs.Common.{◌≡◌, ◌<◌, ℕ, false, IsTrue, List, [], ◌∷◌, ◌++◌, length, refl, sym, ◌∙◌, ap, subst, arith, length-append}
+use Rattle.std.proofs.Common.{◌≡◌, ℕ, false, IsTrue, List, [], ◌∷◌, ◌++◌, refl, sym, ◌∙◌, ap, subst}
 use Rattle.std.specs.Prelude.{codes, if◌then◌else◌}
 use Rattle.std.specs.Str.{bytes_eq}
 use Rattle.terms.specs.declared.codes.CommandWord.{CommandWord}
@@ -75,7 +75,3 @@ begins_more n records [] m m' number rest rest' pieces c b t is =
     (pieces, number, m', rest', subst (λ r. TakesCommand n r pieces number m' rest') (sym b.1) t', is, (refl, refl))
 begins_more n records (d ∷ cs) m m' number rest rest' pieces c b t is =
     (b.0, b.1, b.2, b.3, b.4, b.5, begins_more b.2 b.3 cs m m' number rest rest' pieces c b.6 t is)
-
-pub takes_shorter : (n : ℕ) (records : List (List ℕ)) (pieces : List Piece) (number m : ℕ) (rest : List (List ℕ)) → TakesCommand n records pieces number m rest → length rest < length records
-takes_shorter n records pieces number m rest t =
-    omega (arith, ap length t.ends.place.records_are, length-append t.ends.before (t.ends.place.at ∷ rest))

@@ -13,45 +13,14 @@ use Rattle.std.proofs.lemmas.List.Kept.{AllPairs-filter, AllPairs-cons}
 use Rattle.std.proofs.lemmas.List.{append-nil, take_all, get_or-drop, get_or_default}
 use Rattle.std.proofs.lemmas.List.Sums.{fold_more}
 use Rattle.std.proofs.Math.Seq.{drop-cons}
+use Rattle.lemmas.proofs.Orderings.{Equal-from_is_eq, Less-from_is_lt}
+use Rattle.lemmas.proofs.Searches.{find-filter_all, find-filter_none, find-second, find-first, filter-all, filter-none, find-over}
 use Rattle.terms.specs.declared.kinds.Edit.{Edit}
 use Rattle.terms.specs.declared.kinds.Edit.TheVariants.{Put, Remove}
 use Rattle.terms.specs.Rising.{Rises, before, behind, with_item, without_key, Splits}
 use Rattle.terms.specs.Delta.{edit_key, edit_put, after_edit, edited, after_edits}
-use Rattle.terms.proofs.RisingLists.{Less-from_is_lt, filter-all, filter-none, find-over, find-there, find-apart, AllPairs-first, AllPairs-rest, AllPairs-between}
-
--- a filter that lets through what a search looks for changes nothing for it, and one that does not leaves nothing
-pub find-filter_all : {X : Type 0} (p q : X → Bool) → ((x : X) → p x ≡ true → q x ≡ true) → (xs : List X) → find p (filter q xs) ≡ find p xs
-find-filter_all p q h [] = refl
-find-filter_all {X} p q h (x ∷ xs) = by_found (find-filter_all p q h xs) (p x) (q x) refl refl
-  where
-    by_found : find p (filter q xs) ≡ find p xs → (found passes : Bool) → p x ≡ found → q x ≡ passes → find p (filter q (x ∷ xs)) ≡ find p (x ∷ xs)
-    by_found rest true true e f = rw (f, e) refl
-    by_found rest true false e f = absurd (false≢true (sym f ∙ h x e))
-    by_found rest false true e f = rw (f, e) rest
-    by_found rest false false e f = rw (f, e) rest
-
-pub find-filter_none : {X : Type 0} (p q : X → Bool) → ((x : X) → p x ≡ true → q x ≡ false) → (xs : List X) → find p (filter q xs) ≡ None
-find-filter_none p q h [] = refl
-find-filter_none {X} p q h (x ∷ xs) = by_found (find-filter_none p q h xs) (p x) (q x) refl refl
-  where
-    by_found : find p (filter q xs) ≡ None → (found passes : Bool) → p x ≡ found → q x ≡ passes → find p (filter q (x ∷ xs)) ≡ None
-    by_found rest true true e f = absurd (false≢true (sym (h x e) ∙ f))
-    by_found rest true false e f = rw f rest
-    by_found rest false true e f = rw (f, e) rest
-    by_found rest false false e f = rw f rest
-
--- where one of two lists has nothing, the other one decides
-pub find-second : {X : Type 0} (p : X → Bool) (xs ys : List X) → find p xs ≡ None → find p (xs ++ ys) ≡ find p ys
-find-second p [] ys e = refl
-find-second p (x ∷ xs) ys e = by_found (find-second p xs ys) (p x) refl
-  where
-    by_found : (find p xs ≡ None → find p (xs ++ ys) ≡ find p ys) → (found : Bool) → p x ≡ found → find p ((x ∷ xs) ++ ys) ≡ find p ys
-    by_found rest true f = let impossible : Some x ≡ None = rw f at e in cc
-    by_found rest false f = let none : find p xs ≡ None = rw f at e in rw f (rest none)
-
-pub find-first : {X : Type 0} (p : X → Bool) (xs ys : List X) → find p ys ≡ None → find p (xs ++ ys) ≡ find p xs
-find-first p [] ys e = e
-find-first p (x ∷ xs) ys e = ap (λ found. cond (p x) (Some x) found) (find-first p xs ys e)
+use Rattle.terms.proofs.RisingLists.{find-there, find-apart}
+use Rattle.lemmas.proofs.Pairs.{AllPairs-first, AllPairs-rest, AllPairs-between}
 
 -- Some edits are done: `new` has the items that no later edit is about, and `rest` those that one may be about.
 pub record IsEditing {X K : Type 0} (R : K → K → Ordering) (key : X → K) (items : List X) (edits : List (Edit X K)) (done : ℕ) (new rest : List X) : Type 0 where
@@ -179,12 +148,7 @@ module _ {X K : Type 0} {R : K → K → Ordering} (o : IsTotalOrder R) (key : X
   -- At an edit's key stands afterwards what it puts there, and at other keys what stood there.
   module _ (E : K → K → Bool) (ties : (a b : K) → E a b ≡ is_eq (R a b)) where
     tied : (a b : K) → E a b ≡ true → R a b ≡ Equal
-    tied a b e = by_order (R a b) (sym (ties a b) ∙ e)
-      where
-        by_order : (r : Ordering) → is_eq r ≡ true → r ≡ Equal
-        by_order Less e = cc
-        by_order Equal e = refl
-        by_order Greater e = cc
+    tied a b e = Equal-from_is_eq (R a b) (sym (ties a b) ∙ e)
 
     find-put : (xs : List X) (x : X) (k : K) → E (key x) k ≡ true → find (λ y. E (key y) k) (with_item R key xs x) ≡ Some x
     find-put xs x k e =
@@ -258,10 +222,6 @@ pub with_item-agree : {X K : Type 0} (R S : K → K → Ordering) → ((a b : K)
 with_item-agree R S same key xs x =
     ap (λ ys. (ys ++ x ∷ []) ++ behind R key (key x) xs) (filter_agree (λ y. is_lt (R (key y) (key x))) (λ y. is_lt (S (key y) (key x))) (λ y. ap is_lt (same (key y) (key x))) xs)
     ∙ ap (λ ys. (before S key (key x) xs ++ x ∷ []) ++ ys) (filter_agree (λ y. is_lt (R (key x) (key y))) (λ y. is_lt (S (key x) (key y))) (λ y. ap is_lt (same (key x) (key y))) xs)
-
-pub find-agree : {X : Type 0} (p q : X → Bool) → ((x : X) → p x ≡ q x) → (xs : List X) → find p xs ≡ find q xs
-find-agree p q same [] = refl
-find-agree p q same (x ∷ xs) = ap (λ b. cond b (Some x) (find p xs)) (same x) ∙ ap (λ found. cond (q x) (Some x) found) (find-agree p q same xs)
 
 pub without_key-agree : {X K : Type 0} (R S : K → K → Ordering) → ((a b : K) → R a b ≡ S a b) → (key : X → K) (xs : List X) (k : K) → without_key R key xs k ≡ without_key S key xs k
 without_key-agree R S same key xs k =

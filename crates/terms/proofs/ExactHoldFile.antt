@@ -5,7 +5,7 @@ use Rattle.terms.specs.declared.codes.McCode.{McCode}
 use Rattle.terms.specs.declared.codes.McCode.TheVariants.{Mc1, Mc2, Mc3, Mc4, Mc5, Mc6}
 use Rattle.terms.specs.declared.statement_words.StatementWord.{StatementWord}
 use Rattle.terms.specs.Types.{Text, Lines, HoldItem, AHold, ARelease}
-use Rattle.terms.specs.Groups.{Group, TakesGroup, starts_outside}
+use Rattle.terms.specs.Groups.{TakesGroup, starts_outside}
 use Rattle.terms.specs.Statement.{Piece}
 use Rattle.terms.specs.Words.{TakesWord}
 use Rattle.terms.specs.Statements.{statement_text}

@@ -3,7 +3,6 @@ use Rattle.std.proofs.Common.{◌≡◌, Bool, true, IsTrue, List, [], ◌∷◌
 use Rattle.std.specs.Prelude.{Contains, IsSomeAnd}
 use Rattle.std.specs.Ordering.{nat_cmp}
 use Rattle.std.specs.declared.cmp.Ordering.TheVariants.{Less, Greater}
-use Rattle.std.specs.Cmp.{IsTotalOrder}
 use Rattle.std.proofs.lemmas.Cmp.{nat_list_cmp_total}
 use Rattle.std.specs.Ordering.{ordering_reverse}
 use Rattle.std.specs.Cmp.Lexicographic.{slice_cmp}
@@ -11,18 +10,16 @@ use Rattle.terms.specs.Types.{Text}
 use Rattle.terms.specs.Lookups.{is_before, IsRising}
 use Rattle.terms.specs.Words.{Word, HasMembers, IsListOf, IsOneOf, plain}
 use Rattle.terms.specs.Operands.{AreSorted, HasOne, HasListed, HasSorted, HasRequired, HasOptional, HasTexts, HasFlag}
-use Rattle.terms.proofs.Apart.{here, here_or, there, none_in}
+use Rattle.lemmas.proofs.Members.{here, here_or, there, none_in}
 use Rattle.terms.proofs.ExactWords.{members-only, list-only}
-use Rattle.terms.proofs.RisingLists.{AllPairs-first, AllPairs-rest, Less-from_is_lt}
-
-texts_total : IsTotalOrder (slice_cmp nat_cmp)
-texts_total = nat_list_cmp_total
+use Rattle.lemmas.proofs.Pairs.{AllPairs-first, AllPairs-rest}
+use Rattle.lemmas.proofs.Orderings.{Less-from_is_lt}
 
 not_both : (a b : Text) → is_before a b ≡ true → is_before b a ≡ true → ⊥
 not_both a b low high =
     let one : slice_cmp nat_cmp a b ≡ Less = Less-from_is_lt (slice_cmp nat_cmp a b) low in
     let two : slice_cmp nat_cmp b a ≡ Less = Less-from_is_lt (slice_cmp nat_cmp b a) high in
-    let back : Less ≡ Greater = sym one ∙ texts_total.antisymm a b ∙ ap ordering_reverse two in
+    let back : Less ≡ Greater = sym one ∙ nat_list_cmp_total.antisymm a b ∙ ap ordering_reverse two in
     cc (back)
 
 -- what comes behind the first

@@ -18,8 +18,7 @@ use Rattle.terms.specs.Words.{Word, HasWords}
 use Rattle.terms.specs.Operands.{operand, HasSorted}
 use Rattle.terms.specs.CommandForms.{operands_of, command_word, HasSome, HasReceive, HasSelection, HasInstall, HasRestoreList, HasOperands, IsCommand}
 use Rattle.terms.specs.Commands.{words_in, is_often, has_double, is_unchosen, BeginsWith, IsCommandFault}
-use Rattle.terms.proofs.Apart.{pairs_map}
-use Rattle.terms.proofs.RisingLists.{AllPairs-first, AllPairs-rest}
+use Rattle.lemmas.proofs.Pairs.{pairs_map, AllPairs-first, AllPairs-rest}
 use Rattle.terms.proofs.ExactWords.{words-only}
 use Rattle.terms.proofs.ExactOperands.{required-only, optional-only, texts-only, some-only, flag-only}
 use Rattle.terms.proofs.OperandWords.{count, count_same, count_other, words_of, often, seldom}

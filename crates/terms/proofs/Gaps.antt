@@ -3,42 +3,9 @@ use Rattle.std.specs.Prelude.{◌==◌, ◌&&◌, ◌||◌, slice_index, not}
 use Rattle.std.proofs.Common.{◌≡◌, ℕ, Bool, true, false, [], ◌∷◌, Option, Some, None, eq-eqb, ◌≢◌, refl, sym, ◌∙◌, ap}
 use Rattle.std.proofs.lemmas.Bool.{true≢false, false≢true, false_from_ne_true, and_parts, and_from, eqb-true, ne_eqb}
 use Rattle.terms.specs.Types.{Text}
-use Rattle.terms.specs.Statement.{TheWord, TheList, Blank, Comment, Stray, TakesPiece, is_blank, behind_close, OpensComment}
+use Rattle.terms.specs.Statement.{Blank, Comment, Stray, TakesPiece, is_blank, behind_close, OpensComment}
 use Rattle.terms.specs.Forms.{is_word_byte}
 use Rattle.terms.specs.CommandCuts.{BeginsNoGap}
-
-pub no_gap_nil : (text : Text) → text ≡ [] → BeginsNoGap text
-no_gap_nil text none (TheWord w) after t = refl
-no_gap_nil text none (TheList l) after t = refl
-no_gap_nil text none Blank after t = absurd (cc (none, t.1))
-no_gap_nil text none Comment after t = absurd (cc (none, t.1))
-no_gap_nil text none (Stray b) after t = refl
-
--- The first byte is no blank, and does not open a comment with the next one.
-pub no_gap_byte : (text next : Text) (b : ℕ) → text ≡ b ∷ next → is_blank b ≡ false → (b == 47 && slice_index next 0 == 42) ≡ false → BeginsNoGap text
-no_gap_byte text next b text_is dark no_open (TheWord w) after t = refl
-no_gap_byte text next b text_is dark no_open (TheList l) after t = refl
-no_gap_byte text next b text_is dark no_open Blank after t =
-    let same : b ≡ t.0 = cc (text_is, t.1) in
-    absurd (true≢false (sym t.2 ∙ ap is_blank (sym same) ∙ dark))
-no_gap_byte text next b text_is dark no_open Comment after t =
-    let same : b ≡ 47 = cc (text_is, t.1) in
-    let next_is : next ≡ 42 ∷ t.0 = cc (text_is, t.1) in
-    let opens : (b == 47 && slice_index next 0 == 42) ≡ true = ap (λ n. n == 47 && slice_index next 0 == 42) same ∙ ap (λ l. slice_index l 0 == 42) next_is in
-    absurd (true≢false (sym opens ∙ no_open))
-no_gap_byte text next b text_is dark no_open (Stray c) after t = refl
-
--- It opens a comment that does not close.
-pub no_gap_open : (text inside : Text) → text ≡ 47 ∷ 42 ∷ inside → behind_close inside ≡ None → BeginsNoGap text
-no_gap_open text inside text_is open' (TheWord w) after t = refl
-no_gap_open text inside text_is open' (TheList l) after t = refl
-no_gap_open text inside text_is open' Blank after t =
-    let same : 47 ≡ t.0 = cc (text_is, t.1) in
-    absurd (false≢true (ap is_blank same ∙ t.2))
-no_gap_open text inside text_is open' Comment after t =
-    let same : inside ≡ t.0 = cc (text_is, t.1) in
-    absurd (cc (sym open' ∙ ap behind_close same ∙ t.2))
-no_gap_open text inside text_is open' (Stray b) after t = refl
 
 -- A text that begins with no gap begins with no blank, and with no comment that closes.
 pub dark_first : (text next : Text) (b : ℕ) → BeginsNoGap text → text ≡ b ∷ next → is_blank b ≡ false

@@ -1,8 +1,8 @@
 -- Lists that a map keeps in groups by a key: what stands in the map is the groups one after another.
-use Rattle.std.proofs.Common.{◌≡◌, Bool, true, false, List, [], ◌∷◌, ◌++◌, filter, find, cond, refl, sym, ap, ◌∙◌, subst, None, Some, append_assoc, append-nil, true≢false}
+use Rattle.std.proofs.Common.{◌≡◌, Bool, true, false, List, [], ◌∷◌, ◌++◌, find, refl, sym, ap, ◌∙◌, subst, None, append_assoc, append-nil}
 use Rattle.std.specs.declared.cmp.Ordering.{Ordering}
 use Rattle.std.specs.declared.cmp.Ordering.TheVariants.{Less, Equal, Greater}
-use Rattle.std.specs.Ordering.{is_lt, is_eq, ordering_reverse}
+use Rattle.std.specs.Ordering.{is_lt, is_eq}
 use Rattle.std.specs.Cmp.{IsTotalOrder}
 use Rattle.std.specs.List.{AllByRecursion, flat_map}
 use Rattle.std.specs.List.Sorted.{IsStrictlySortedBy}
@@ -12,37 +12,10 @@ use Rattle.std.specs.Option.{option_map_or}
 use Rattle.std.proofs.lemmas.List.Elements.{filter-append}
 use Rattle.std.proofs.lemmas.Map.Lookups.{CmpEqualImpliesEq}
 use Rattle.std.proofs.lemmas.Map.Keys.{sorted_head, sorted_tail}
+use Rattle.lemmas.proofs.Orderings.{Greater-turned, Less-turned, above_lower, above_same, Equal-from_is_eq}
+use Rattle.lemmas.proofs.Each.{recursion_weaker, recursion-append}
+use Rattle.lemmas.proofs.Searches.{filter-all_recursion, filter-none_recursion, find-append_rest, find-append_first}
 use Rattle.terms.specs.Rising.{with_item}
-
--- what all pass a filter keeps, what none pass it drops
-pub filter_all : {X : Type 0} (p : X → Bool) (xs : List X) → AllByRecursion (λ x. p x ≡ true) xs → filter p xs ≡ xs
-filter_all p [] all = refl
-filter_all p (x ∷ xs) all = rw all.0 (ap (λ ys. x ∷ ys) (filter_all p xs all.1))
-
-pub filter_none : {X : Type 0} (p : X → Bool) (xs : List X) → AllByRecursion (λ x. p x ≡ false) xs → filter p xs ≡ []
-filter_none p [] all = refl
-filter_none p (x ∷ xs) all = rw all.0 (filter_none p xs all.1)
-
-pub recursion_weaker : {X : Type 0} (P Q : X → Type 0) → ((x : X) → P x → Q x) → (xs : List X) → AllByRecursion P xs → AllByRecursion Q xs
-recursion_weaker P Q h [] all = tt
-recursion_weaker P Q h (x ∷ xs) all = (h x all.0, recursion_weaker P Q h xs all.1)
-
-pub recursion-append : {X : Type 0} (P : X → Type 0) → (xs ys : List X) → AllByRecursion P xs → AllByRecursion P ys → AllByRecursion P (xs ++ ys)
-recursion-append P [] ys all more = more
-recursion-append P (x ∷ xs) ys all more = (all.0, recursion-append P xs ys all.1 more)
-
--- a search of two lists of which one has nothing that passes
-pub find-append_rest : {X : Type 0} (p : X → Bool) (xs ys : List X) → AllByRecursion (λ x. p x ≡ false) xs → find p (xs ++ ys) ≡ find p ys
-find-append_rest p [] ys none = refl
-find-append_rest p (x ∷ xs) ys none = rw none.0 (find-append_rest p xs ys none.1)
-
-pub find-none : {X : Type 0} (p : X → Bool) (xs : List X) → AllByRecursion (λ x. p x ≡ false) xs → find p xs ≡ None
-find-none p [] none = refl
-find-none p (x ∷ xs) none = rw none.0 (find-none p xs none.1)
-
-pub find-append_first : {X : Type 0} (p : X → Bool) (xs ys : List X) → AllByRecursion (λ x. p x ≡ false) ys → find p (xs ++ ys) ≡ find p xs
-find-append_first p [] ys none = find-none p ys none
-find-append_first p (x ∷ xs) ys none = ap (cond (p x) (Some x)) (find-append_first p xs ys none)
 
 -- An element takes its place behind those before it, and ahead of those after it.
 module _ {X : Type 0} (R : X → X → Ordering) where
@@ -54,14 +27,14 @@ module _ {X : Type 0} (R : X → X → Ordering) where
       → AllByRecursion (λ x. is_lt (R x y) ≡ true) xs → AllByRecursion (λ x. is_lt (R y x) ≡ false) xs
       → put (xs ++ ys) y ≡ xs ++ put ys y
   put-ahead xs ys y ahead apart =
-      rw (filter-append (λ x. is_lt (R x y)) xs ys, filter-append (λ x. is_lt (R y x)) xs ys, filter_all (λ x. is_lt (R x y)) xs ahead, filter_none (λ x. is_lt (R y x)) xs apart)
+      rw (filter-append (λ x. is_lt (R x y)) xs ys, filter-append (λ x. is_lt (R y x)) xs ys, filter-all_recursion (λ x. is_lt (R x y)) xs ahead, filter-none_recursion (λ x. is_lt (R y x)) xs apart)
       (simp append_assoc)
 
   pub put-behind : (xs ys : List X) (y : X)
       → AllByRecursion (λ x. is_lt (R x y) ≡ false) ys → AllByRecursion (λ x. is_lt (R y x) ≡ true) ys
       → put (xs ++ ys) y ≡ put xs y ++ ys
   put-behind xs ys y apart behind =
-      rw (filter-append (λ x. is_lt (R x y)) xs ys, filter-append (λ x. is_lt (R y x)) xs ys, filter_none (λ x. is_lt (R x y)) ys apart, filter_all (λ x. is_lt (R y x)) ys behind, append-nil)
+      rw (filter-append (λ x. is_lt (R x y)) xs ys, filter-append (λ x. is_lt (R y x)) xs ys, filter-none_recursion (λ x. is_lt (R x y)) ys apart, filter-all_recursion (λ x. is_lt (R y x)) ys behind, append-nil)
       (simp append_assoc)
 
 module _ {X K V : Type 0} {C : K → K → Ordering} (o : IsTotalOrder C) (key : X → K) (items : V → List X) where
@@ -85,25 +58,6 @@ module _ {X K V : Type 0} {C : K → K → Ordering} (o : IsTotalOrder C) (key :
       (recursion_weaker (λ x. key x ≡ e.0) (λ x. P (key x)) (λ x same. subst P (sym same) all.0) (items e.1) keyed.0)
       (flat_above P es keyed.1 all.1)
 
-  back : (a b : K) → C a b ≡ Less → C b a ≡ Greater
-  back a b less = o.antisymm b a ∙ ap ordering_reverse less
-
-  forth : (a b : K) → C a b ≡ Greater → C b a ≡ Less
-  forth a b greater = o.antisymm b a ∙ ap ordering_reverse greater
-
-  -- keys above a key are above each lower one
-  above_lower : (k q : K) (ks : List K) → C k q ≡ Less → AllByRecursion (λ p. C q p ≡ Less) ks → AllByRecursion (λ p. C k p ≡ Less) ks
-  above_lower k q ks less all = recursion_weaker (λ p. C q p ≡ Less) (λ p. C k p ≡ Less) (λ p next. o.trans k q p less next) ks all
-
-  -- and above each key that is as high
-  above_same : (k q : K) (ks : List K) → C k q ≡ Equal → AllByRecursion (λ p. C q p ≡ Less) ks → AllByRecursion (λ p. C k p ≡ Less) ks
-  above_same k q ks same all = recursion_weaker (λ p. C q p ≡ Less) (λ p. C k p ≡ Less) (λ p next. o.congr k q p same ∙ next) ks all
-
-  equal_from : (c : Ordering) → is_eq c ≡ true → c ≡ Equal
-  equal_from Less is = absurd (true≢false (sym is))
-  equal_from Equal is = refl
-  equal_from Greater is = absurd (true≢false (sym is))
-
   none_equal : (k : K) (es : List (K × V)) → AllByRecursion (λ q. C k q ≡ Less) (keys_of es) → lookup (is_at (C k)) es ≡ None
   none_equal k [] all = refl
   none_equal k (e ∷ es) all = rw all.0 (none_equal k es all.1)
@@ -117,7 +71,7 @@ module _ {X K V : Type 0} {C : K → K → Ordering} (o : IsTotalOrder C) (key :
     rest_stays e es keyed sorted here =
         others (flat es) (recursion_weaker (λ x. C k (key x) ≡ Less) (λ x. is_eq (C k (key x)) ≡ false) (λ x less. ap is_eq less) (flat es)
         (flat_above (λ q. C k q ≡ Less) es keyed
-        (above_same k e.0 (keys_of es) (equal_from (C k e.0) here) (sorted_head C e.0 (keys_of es) sorted))))
+        (above_same o k e.0 (keys_of es) (Equal-from_is_eq (C k e.0) here) (sorted_head C e.0 (keys_of es) sorted))))
 
     group_stays : (e : K × V) → AllByRecursion (λ x. key x ≡ e.0) (items e.1) → is_at (C k) e.0 ≡ false → f (items e.1) ≡ items e.1
     group_stays e keyed other =
@@ -164,13 +118,13 @@ module _ {X K V : Type 0} {C : K → K → Ordering} (o : IsTotalOrder C) (key :
     behind-key : (xs ys : List X) (y : X) → AllByRecursion (λ x. C (key y) (key x) ≡ Less) ys → put R (xs ++ ys) y ≡ put R xs y ++ ys
     behind-key xs ys y behind =
         put-behind R xs ys y
-        (recursion_weaker (λ x. C (key y) (key x) ≡ Less) (λ x. is_lt (R x y) ≡ false) (λ x h. ap is_lt (greater x y (back (key y) (key x) h))) ys behind)
+        (recursion_weaker (λ x. C (key y) (key x) ≡ Less) (λ x. is_lt (R x y) ≡ false) (λ x h. ap is_lt (greater x y (Greater-turned o (key y) (key x) h))) ys behind)
         (recursion_weaker (λ x. C (key y) (key x) ≡ Less) (λ x. is_lt (R y x) ≡ true) (λ x h. ap is_lt (less y x h)) ys behind)
 
     ahead-key : (xs ys : List X) (y : X) → AllByRecursion (λ x. C (key y) (key x) ≡ Greater) xs → put R (xs ++ ys) y ≡ xs ++ put R ys y
     ahead-key xs ys y ahead =
         put-ahead R xs ys y
-        (recursion_weaker (λ x. C (key y) (key x) ≡ Greater) (λ x. is_lt (R x y) ≡ true) (λ x h. ap is_lt (less x y (forth (key y) (key x) h))) xs ahead)
+        (recursion_weaker (λ x. C (key y) (key x) ≡ Greater) (λ x. is_lt (R x y) ≡ true) (λ x h. ap is_lt (less x y (Less-turned o (key y) (key x) h))) xs ahead)
         (recursion_weaker (λ x. C (key y) (key x) ≡ Greater) (λ x. is_lt (R y x) ≡ false) (λ x h. ap is_lt (greater y x h)) xs ahead)
 
     pub flat-insert_entry : (es : List (K × V)) (y : X) (w : V) → HasKeys es → IsStrictlySortedBy C (keys_of es)
@@ -185,13 +139,13 @@ module _ {X K V : Type 0} {C : K → K → Ordering} (o : IsTotalOrder C) (key :
         by : (items w ≡ put R (items_at es (key y)) y → flat (insert_entry C es (key y) w) ≡ put R (flat es) y)
             → (c : Ordering) → C (key y) e.0 ≡ c → flat (insert_entry C (e ∷ es) (key y) w) ≡ put R (flat (e ∷ es)) y
         by again Less c =
-            let above : AllByRecursion (λ q. C (key y) q ≡ Less) (keys_of (e ∷ es)) = (c, above_lower (key y) e.0 (keys_of es) c higher) in
+            let above : AllByRecursion (λ q. C (key y) q ≡ Less) (keys_of (e ∷ es)) = (c, above_lower o (key y) e.0 (keys_of es) c higher) in
             let now = rw (none_equal (key y) (e ∷ es) above) at is in
             rw c (ap (λ xs. xs ++ flat (e ∷ es)) now ∙ sym (behind-key [] (flat (e ∷ es)) y (flat_above (λ q. C (key y) q ≡ Less) (e ∷ es) keyed above)))
         by again Equal c =
             let now = rw c at is in
             rw c (ap (λ xs. xs ++ flat es) now
-            ∙ sym (behind-key (items e.1) (flat es) y (flat_above (λ q. C (key y) q ≡ Less) es keyed.1 (above_same (key y) e.0 (keys_of es) c higher))))
+            ∙ sym (behind-key (items e.1) (flat es) y (flat_above (λ q. C (key y) q ≡ Less) es keyed.1 (above_same o (key y) e.0 (keys_of es) c higher))))
         by again Greater c =
             let now = rw c at is in
             rw c (ap (λ xs. items e.1 ++ xs) (again now)
@@ -214,7 +168,7 @@ module _ {X K V : Type 0} {C : K → K → Ordering} (o : IsTotalOrder C) (key :
   HasKeys-set_value exact (e ∷ es) k w keyed now = by (HasKeys-set_value exact es k w keyed.1 now) (is_at (C k) e.0) refl
     where
       by : HasKeys (set_value (is_at (C k)) es w) → (b : Bool) → is_at (C k) e.0 ≡ b → HasKeys (set_value (is_at (C k)) (e ∷ es) w)
-      by again true here = rw here (recursion_weaker (λ x. key x ≡ k) (λ x. key x ≡ e.0) (λ x same. same ∙ exact k e.0 (equal_from (C k e.0) here)) (items w) now, keyed.1)
+      by again true here = rw here (recursion_weaker (λ x. key x ≡ k) (λ x. key x ≡ e.0) (λ x same. same ∙ exact k e.0 (Equal-from_is_eq (C k e.0) here)) (items w) now, keyed.1)
       by again false other = rw other (keyed.0, again)
 
   pub HasKeys-remove_entry : (test : K → Bool) (es : List (K × V)) → HasKeys es → HasKeys (remove_entry test es)
@@ -230,7 +184,7 @@ module _ {X K V : Type 0} {C : K → K → Ordering} (o : IsTotalOrder C) (key :
   items_at-keys exact (e ∷ es) k keyed = by (items_at-keys exact es k keyed.1) (is_at (C k) e.0) refl
     where
       by : AllByRecursion (λ x. key x ≡ k) (items_at es k) → (b : Bool) → is_at (C k) e.0 ≡ b → AllByRecursion (λ x. key x ≡ k) (items_at (e ∷ es) k)
-      by again true here = rw here (recursion_weaker (λ x. key x ≡ e.0) (λ x. key x ≡ k) (λ x same. same ∙ sym (exact k e.0 (equal_from (C k e.0) here))) (items e.1) keyed.0)
+      by again true here = rw here (recursion_weaker (λ x. key x ≡ e.0) (λ x. key x ≡ k) (λ x same. same ∙ sym (exact k e.0 (Equal-from_is_eq (C k e.0) here))) (items e.1) keyed.0)
       by again false other = rw other again
 
   -- what only elements of one key pass is found in its group
@@ -248,7 +202,7 @@ module _ {X K V : Type 0} {C : K → K → Ordering} (o : IsTotalOrder C) (key :
           rw here (find-append_first p (items e.1) (flat es)
           (none (flat es) (recursion_weaker (λ x. C k (key x) ≡ Less) (λ x. is_eq (C k (key x)) ≡ false) (λ x less. ap is_eq less) (flat es)
           (flat_above (λ q. C k q ≡ Less) es keyed.1
-          (above_same k e.0 (keys_of es) (equal_from (C k e.0) here) (sorted_head C e.0 (keys_of es) sorted))))))
+          (above_same o k e.0 (keys_of es) (Equal-from_is_eq (C k e.0) here) (sorted_head C e.0 (keys_of es) sorted))))))
       by again false other =
           rw other (find-append_rest p (items e.1) (flat es)
           (none (items e.1) (recursion_weaker (λ x. key x ≡ e.0) (λ x. is_eq (C k (key x)) ≡ false) (λ x same. ap (λ q. is_eq (C k q)) same ∙ other) (items e.1) keyed.0))

@@ -1,17 +1,21 @@
 -- Each change of the global zone leaves one that keeps its rules.
 use Rattle.std.proofs.Common.{◌≡◌, ◌<◌, ◌≤◌, ◌+◌, ◌^◌, Bool, true, false, not, ◌||◌, ◌&&◌, ◌==◌, List, [], ◌∷◌, ◌++◌, length, map, filter, fold, cond, refl, sym, ap, ◌∙◌, subst, Option, None, Some, is_some, IsTrue, All, Contains, true≢false, arith, length-append, get_or}
-use Rattle.std.specs.Prelude.{AllPairs}
 use Rattle.std.proofs.lemmas.List.{length-map}
 use Rattle.std.specs.declared.cmp.Ordering.{Ordering}
 use Rattle.std.specs.Ordering.{is_lt, nat_cmp, ordering_reverse}
 use Rattle.std.specs.Cmp.{IsTotalOrder}
 use Rattle.std.specs.Cmp.Lexicographic.{slice_cmp}
 use Rattle.std.specs.List.{flat_map}
-use Rattle.std.specs.Option.{option_map, option_map_or}
+use Rattle.std.specs.Option.{option_map_or}
 use Rattle.std.specs.Str.{bytes_eq}
 use Rattle.std.proofs.lemmas.Cmp.{nat_cmp_total, nat_list_cmp_total, on_total, then_total}
-use Rattle.std.proofs.lemmas.List.Elements.{All-nil, All-cons, All-head, All-tail, All-append, All-filter, All-map, All-weaker, filter_passes}
+use Rattle.std.proofs.lemmas.List.Elements.{All-nil, All-head, All-tail, All-filter, All-map, All-weaker, filter_passes}
 use Rattle.std.proofs.lemmas.List.Kept.{AllPairs-cons, AllPairs-filter}
+use Rattle.std.proofs.lemmas.Bool.{and_parts}
+use Rattle.terms.proofs.Edits.{All-with_item, Rises-with_item}
+use Rattle.lemmas.proofs.Options.{map_or-map, is_some-map}
+use Rattle.lemmas.proofs.Booleans.{or_false}
+use Rattle.lemmas.proofs.Pairs.{AllPairs-first, AllPairs-rest}
 use Rattle.terms.specs.declared.kinds.HoldKind.{HoldKind}
 use Rattle.terms.specs.declared.kinds.HoldKind.TheVariants.{Error, System, User}
 use Rattle.terms.specs.Types.{Text, Id, Ver, Hold, Sysmod, Global, Release, hold_number, kind_number}
@@ -20,53 +24,14 @@ use Rattle.terms.specs.Lookups.{sysmod_of, is_received, is_function}
 use Rattle.terms.specs.Choice.{vers_of}
 use Rattle.terms.specs.Global.{named, names_for, HasLoop, is_service, fits_roles, RolesFit, has_key, hold_cmp, IsSysmod, IsGlobal, hold_of, marked, hold, without_hold, assign, with_sysmod, without_sysmod, received}
 use Rattle.terms.proofs.Leads.{reaches_more}
-use Rattle.terms.proofs.RisingLists.{AllPairs-first, AllPairs-rest, Less-from_is_lt}
-use Rattle.terms.proofs.GlobalLookups.{same_from, same_itself, same_back, find-passes, All-find, sysmod_of-with_sysmod, sysmod_of-without_sysmod, sysmod_of-assign, assigned, assigned-same}
+use Rattle.lemmas.proofs.Orderings.{Less-from_is_lt}
+use Rattle.terms.proofs.GlobalLookups.{sysmod_of-with_sysmod, sysmod_of-without_sysmod, sysmod_of-assign, assigned, assigned-same}
+use Rattle.lemmas.proofs.Texts.{same_from, same_itself, same_back}
+use Rattle.lemmas.proofs.Searches.{find-passes, All-find}
 use Rattle.terms.proofs.GlobalRoles.{fits-fewer}
 
--- lists in order, one behind the other
-pub AllPairs-join : {X : Type 0} (R : X → X → Type 0) (xs ys : List X) → AllPairs R xs → AllPairs R ys → All (λ x. All (R x) ys) xs → AllPairs R (xs ++ ys)
-AllPairs-join R [] ys front back cross = back
-AllPairs-join R (x ∷ xs) ys front back cross =
-    AllPairs-cons R x (xs ++ ys)
-    (All-append (R x) xs ys (AllPairs-first R x xs front) (All-head (λ x. All (R x) ys) x xs cross))
-    (AllPairs-join R xs ys (AllPairs-rest R x xs front) back (All-tail (λ x. All (R x) ys) x xs cross))
-
--- what all have and the new one has
-pub All-with_item : {X K : Type 0} (P : X → Type 0) (R : K → K → Ordering) (key : X → K) (xs : List X) (x : X) → All P xs → P x → All P (with_item R key xs x)
-All-with_item P R key xs x all here =
-    All-append P (before R key (key x) xs ++ x ∷ []) (behind R key (key x) xs)
-    (All-append P (before R key (key x) xs) (x ∷ []) (All-filter (λ y. is_lt (R (key y) (key x))) P xs all) (All-cons P x [] here (All-nil P)))
-    (All-filter (λ y. is_lt (R (key x) (key y))) P xs all)
-
 module _ {X K : Type 0} {R : K → K → Ordering} (o : IsTotalOrder R) (key : X → K) where
-  Below : X → X → Type 0
-  Below x y = IsTrue (is_lt (R (key x) (key y)))
-
-  below_trans : (x y z : X) → Below x y → Below y z → Below x z
-  unfolding Below
-  below_trans x y z a b = ap is_lt (o.trans (key x) (key y) (key z) (Less-from_is_lt (R (key x) (key y)) a) (Less-from_is_lt (R (key y) (key z)) b))
-
-  -- a list in order stays so where an item takes its place
-  pub Rises-with_item : (xs : List X) (x : X) → Rises R key xs → Rises R key (with_item R key xs x)
-  unfolding Below
-  Rises-with_item xs x rises =
-      let front = before R key (key x) xs in
-      let back = behind R key (key x) xs in
-      let low : All (λ y. Below y x) front = filter_passes (λ y. is_lt (R (key y) (key x))) xs in
-      let high : All (λ y. Below x y) back = filter_passes (λ y. is_lt (R (key x) (key y))) xs in
-      let one : All (λ y. All (Below y) (x ∷ [])) front =
-      All-weaker (λ y. Below y x) (λ y. All (Below y) (x ∷ [])) (λ y h. All-cons (Below y) x [] h (All-nil (Below y))) front low in
-      let cross : All (λ y. All (Below y) back) (front ++ x ∷ []) =
-      All-append (λ y. All (Below y) back) front (x ∷ [])
-      (All-weaker (λ y. Below y x) (λ y. All (Below y) back) (λ y h. All-weaker (Below x) (Below y) (λ z k. below_trans y x z h k) back high) front low)
-      (All-cons (λ y. All (Below y) back) x [] high (All-nil (λ y. All (Below y) back))) in
-      AllPairs-join Below (front ++ x ∷ []) back
-      (AllPairs-join Below front (x ∷ []) (AllPairs-filter Below (λ y. is_lt (R (key y) (key x))) xs rises) (AllPairs-cons Below x [] (All-nil (Below x)) (λ i j d l b. absurd (omega arith))) one)
-      (AllPairs-filter Below (λ y. is_lt (R (key x) (key y))) xs rises)
-      cross
-
-  -- and where items change but for their keys
+  -- a list in order stays so where items change but for their keys
   pub Rises-map : (f : X → X) → ((x : X) → key (f x) ≡ key x) → (xs : List X) → Rises R key xs → Rises R key (map f xs)
   Rises-map f same [] rises = λ i j d l b. absurd (omega arith)
   Rises-map f same (x ∷ xs) rises =
@@ -120,14 +85,6 @@ kind_from User Error e = absurd (true≢false (sym e))
 kind_from User System e = absurd (true≢false (sym e))
 kind_from User User e = refl
 
-and_true : (a b : Bool) → (a && b) ≡ true → (a ≡ true) × (b ≡ true)
-and_true true b e = (refl, e)
-and_true false b e = absurd (true≢false (sym e))
-
-or_none : (b : Bool) → (b || false) ≡ b
-or_none true = refl
-or_none false = refl
-
 -- what a hold of this key has
 pub record HasKey (x : Id) (kind : HoldKind) (reason : Text) (h : Hold) : Type 0 where
   pub id : h.id ≡ x
@@ -136,8 +93,8 @@ pub record HasKey (x : Id) (kind : HoldKind) (reason : Text) (h : Hold) : Type 0
 
 pub key_from : (x : Id) (kind : HoldKind) (reason : Text) (h : Hold) → has_key x kind reason h ≡ true → HasKey x kind reason h
 key_from x kind reason h e =
-    let two = and_true (bytes_eq h.id x && (hold_number h.kind == hold_number kind)) (bytes_eq h.reason reason) e in
-    let first = and_true (bytes_eq h.id x) (hold_number h.kind == hold_number kind) two.0 in
+    let two = and_parts (bytes_eq h.id x && (hold_number h.kind == hold_number kind)) (bytes_eq h.reason reason) e in
+    let first = and_parts (bytes_eq h.id x) (hold_number h.kind == hold_number kind) two.0 in
     record { id = same_from h.id x first.0; kind_is = kind_from h.kind kind first.1; reason_is = same_from h.reason reason two.1 }
 
 pub marked-owned : (g : Global) (h : Hold) → All (IsOwned g) g.holds → IsOwned g h → IsOwned g (marked (hold_of g h.id h.kind h.reason) h)
@@ -154,7 +111,7 @@ marked-owned g h all own = by (hold_of g h.id h.kind h.reason) refl
     mark old found false e internal = inherited old found internal
 
     by : (o : Option Hold) → hold_of g h.id h.kind h.reason ≡ o → IsOwned g (marked o h)
-    by None found = λ internal. own (sym (or_none h.internal) ∙ internal)
+    by None found = λ internal. own (sym (or_false h.internal) ∙ internal)
     by (Some old) found = λ internal. mark old found h.internal refl internal
 
 pub hold-kept : (g : Global) (h : Hold) → IsGlobal g → IsOwned g h → IsGlobal (hold g h)
@@ -164,7 +121,7 @@ hold-kept g h k own = record {
   formed = k.formed;
   no_loop = k.no_loop;
   roles = k.roles;
-  internal = All-with_item (IsOwned g) hold_cmp (λ o. o) g.holds (marked (hold_of g h.id h.kind h.reason) h) k.internal (marked-owned g h k.internal own);
+  internal = All-with_item hold_cmp (λ o. o) (IsOwned g) g.holds (marked (hold_of g h.id h.kind h.reason) h) k.internal (marked-owned g h k.internal own);
   none_carried = k.none_carried;
   size = k.size;
 }
@@ -182,14 +139,6 @@ without_hold-kept g r k = record {
 }
 
 -- ---- sources
-
-map_or-map : {X Y : Type 0} (h : X → Y) (f : X → X) (d : Y) → ((x : X) → h (f x) ≡ h x) → (o : Option X) → option_map_or h (option_map f o) d ≡ option_map_or h o d
-map_or-map h f d same None = refl
-map_or-map h f d same (Some x) = same x
-
-is_some-map : {X : Type 0} (f : X → X) (o : Option X) → is_some (option_map f o) ≡ is_some o
-is_some-map f None = refl
-is_some-map f (Some x) = refl
 
 module _ (g : Global) (source : Text) (x : Id) where
   received-assign : (y : Id) → is_received (assign g source x) y ≡ is_received g y
@@ -322,7 +271,7 @@ module _ (g : Global) (s : Sysmod) (new : is_received g s.id ≡ false) where
   with_sysmod-kept k formed no_loop roles room = record {
     sysmods = Rises-with_item nat_list_cmp_total (λ r. r.id) g.sysmods (record s { holds = [] }) k.sysmods;
     holds = k.holds;
-    formed = All-with_item IsSysmod (slice_cmp nat_cmp) (λ r. r.id) g.sysmods (record s { holds = [] }) k.formed (record {
+    formed = All-with_item (slice_cmp nat_cmp) (λ r. r.id) IsSysmod g.sysmods (record s { holds = [] }) k.formed (record {
       sources = formed.sources;
       vers = formed.vers;
       changes = formed.changes;
@@ -331,7 +280,7 @@ module _ (g : Global) (s : Sysmod) (new : is_received g s.id ≡ false) where
     no_loop = no_loop;
     roles = roles;
     internal = All-weaker (IsOwned g) (IsOwned (with_sysmod g s)) (λ h own internal. ((own internal).0, received-with h.id (own internal).1)) g.holds k.internal;
-    none_carried = All-with_item (λ r. r.holds ≡ []) (slice_cmp nat_cmp) (λ r. r.id) g.sysmods (record s { holds = [] }) k.none_carried refl;
+    none_carried = All-with_item (slice_cmp nat_cmp) (λ r. r.id) (λ r. r.holds ≡ []) g.sysmods (record s { holds = [] }) k.none_carried refl;
     size = omega (arith, room, length-with_item nat_list_cmp_total (λ (r : Sysmod). r.id) g.sysmods (record s { holds = [] }));
   }
 

@@ -1,32 +1,23 @@
 -- The test of a hold's key is that of the order of holds.
-use Rattle.std.proofs.Common.{◌≡◌, ◌==◌, ◌&&◌, ◌∙◌, ℕ, sym, ap, Bool, refl, true, false}
-use Rattle.std.specs.declared.cmp.Ordering.{Ordering}
-use Rattle.std.specs.declared.cmp.Ordering.TheVariants.{Less, Equal, Greater}
+use Rattle.std.proofs.Common.{◌≡◌, ◌==◌, ◌&&◌, ◌∙◌, ℕ, sym, ap}
 use Rattle.std.specs.Ordering.{nat_cmp, ordering_then, is_eq}
 use Rattle.std.specs.Cmp.{unsigned_ties}
 use Rattle.std.proofs.lemmas.Cmp.{nat_eq_equiv}
 use Rattle.std.specs.Cmp.Lexicographic.{slice_cmp}
 use Rattle.std.specs.Str.{bytes_eq}
 use Rattle.std.proofs.lemmas.Map.Text.{is_eq-slice_cmp}
+use Rattle.lemmas.proofs.Booleans.{and_assoc}
+use Rattle.lemmas.proofs.Orderings.{is_eq-then}
 use Rattle.terms.specs.declared.kinds.HoldKind.{HoldKind}
 use Rattle.terms.specs.Types.{Text, Id, Hold, hold_number}
 use Rattle.terms.specs.Global.{has_key}
-use Rattle.terms.proofs.GlobalLookups.{same_back}
-
-pub is_eq-then : (r s : Ordering) → is_eq (ordering_then r s) ≡ (is_eq r && is_eq s)
-is_eq-then Less s = refl
-is_eq-then Equal s = refl
-is_eq-then Greater s = refl
+use Rattle.lemmas.proofs.Texts.{same_back}
 
 pub number_back : (a b : HoldKind) → is_eq (nat_cmp (hold_number a) (hold_number b)) ≡ (hold_number b == hold_number a)
 number_back a b = by (hold_number a) (hold_number b)
   where
     by : (m n : ℕ) → is_eq (nat_cmp m n) ≡ (n == m)
     by m n = sym (unsigned_ties m n) ∙ nat_eq_equiv.symm m n
-
-and_assoc : (a b c : Bool) → (a && (b && c)) ≡ ((a && b) && c)
-and_assoc true b c = refl
-and_assoc false b c = refl
 
 pub has_key-ties : (x : Id) (kind : HoldKind) (reason : Text) (h : Hold)
     → is_eq (ordering_then (slice_cmp nat_cmp x h.id) (ordering_then (nat_cmp (hold_number kind) (hold_number h.kind)) (slice_cmp nat_cmp reason h.reason)))

@@ -1,46 +1,33 @@
 -- Maps whose values know their keys: what the list of the values is after a change of the map.
-use Rattle.std.proofs.Common.{◌≡◌, Bool, true, false, not, List, [], ◌∷◌, ◌++◌, filter, find, cond, refl, sym, ap, ◌∙◌, subst, None, Some, IsTrue, All, true≢false, arith}
+use Rattle.std.proofs.Common.{◌≡◌, Bool, true, false, not, List, [], ◌∷◌, ◌++◌, filter, find, cond, refl, sym, ap, ◌∙◌, subst, None, Some, IsTrue, All, arith}
 use Rattle.std.specs.declared.cmp.Ordering.{Ordering}
 use Rattle.std.specs.declared.cmp.Ordering.TheVariants.{Less, Equal, Greater}
-use Rattle.std.specs.Ordering.{is_lt, is_eq, ordering_reverse}
+use Rattle.std.specs.Ordering.{is_lt, is_eq}
 use Rattle.std.specs.Cmp.{IsTotalOrder}
 use Rattle.std.specs.List.{AllByRecursion}
 use Rattle.std.specs.List.Sorted.{IsStrictlySortedBy}
 use Rattle.std.specs.Map.{lookup, remove_entry, keys_of, values_of}
 use Rattle.std.specs.BTreeMap.{insert_entry, is_at}
-use Rattle.std.proofs.lemmas.Cmp.{tied_itself}
+use Rattle.std.proofs.lemmas.Cmp.{tied_itself, tied_back}
 use Rattle.std.proofs.lemmas.List.Elements.{All-cons, All-nil}
 use Rattle.std.proofs.lemmas.List.Kept.{AllPairs-cons}
 use Rattle.std.proofs.lemmas.Map.Keys.{sorted_head, sorted_tail}
+use Rattle.lemmas.proofs.Orderings.{Greater-turned, Less-turned, above_lower, above_same, Equal-from_is_eq}
 use Rattle.terms.specs.KeyedMaps.{KnowKeys}
 use Rattle.terms.specs.Rising.{Rises, with_item}
-use Rattle.terms.proofs.GlobalGroups.{put-ahead, put-behind, filter_all, recursion_weaker}
+use Rattle.terms.proofs.GlobalGroups.{put-ahead, put-behind}
+use Rattle.lemmas.proofs.Searches.{filter-all_recursion}
+use Rattle.lemmas.proofs.Each.{recursion_weaker}
 
 -- the test by the key's order is the test of the values
 abbrev pub Ties : {X K : Type 0} → (K → Bool) → (X → K) → (X → Bool) → Type 0
 Ties {X} test key p = (x : X) → test (key x) ≡ p x
 
 module _ {X K : Type 0} {C : K → K → Ordering} (o : IsTotalOrder C) (key : X → K) where
-  turned : (a b : K) → C a b ≡ Less → C b a ≡ Greater
-  turned a b less = o.antisymm b a ∙ ap ordering_reverse less
-
-  turned_back : (a b : K) → C a b ≡ Greater → C b a ≡ Less
-  turned_back a b greater = o.antisymm b a ∙ ap ordering_reverse greater
-
-  tied : (a b : K) → C a b ≡ Equal → C b a ≡ Equal
-  tied a b e = o.antisymm b a ∙ ap ordering_reverse e
-
   -- what is known of the keys is known of the values
   pub values_have : (P : K → Type 0) (es : List (K × X)) → KnowKeys key es → AllByRecursion P (keys_of es) → AllByRecursion (λ x. P (key x)) (values_of es)
   values_have P [] known all = tt
   values_have P (e ∷ es) known all = (subst P (sym known.0) all.0, values_have P es known.1 all.1)
-
-  -- keys above a key are above each lower one, and each that is as high
-  above_lower : (k q : K) (ks : List K) → C k q ≡ Less → AllByRecursion (λ p. C q p ≡ Less) ks → AllByRecursion (λ p. C k p ≡ Less) ks
-  above_lower k q ks less all = recursion_weaker (λ p. C q p ≡ Less) (λ p. C k p ≡ Less) (λ p next. o.trans k q p less next) ks all
-
-  above_same : (k q : K) (ks : List K) → C k q ≡ Equal → AllByRecursion (λ p. C q p ≡ Less) ks → AllByRecursion (λ p. C k p ≡ Less) ks
-  above_same k q ks same all = recursion_weaker (λ p. C q p ≡ Less) (λ p. C k p ≡ Less) (λ p next. o.congr k q p same ∙ next) ks all
 
   R : X → X → Ordering
   R a b = C (key a) (key b)
@@ -51,7 +38,7 @@ module _ {X K : Type 0} {C : K → K → Ordering} (o : IsTotalOrder C) (key : X
   all_behind y es known above xs =
       let behind = values_have (λ q. C (key y) q ≡ Less) es known above in
       put-behind R xs (values_of es) y
-      (recursion_weaker (λ x. C (key y) (key x) ≡ Less) (λ x. is_lt (R x y) ≡ false) (λ x h. ap is_lt (turned (key y) (key x) h)) (values_of es) behind)
+      (recursion_weaker (λ x. C (key y) (key x) ≡ Less) (λ x. is_lt (R x y) ≡ false) (λ x h. ap is_lt (Greater-turned o (key y) (key x) h)) (values_of es) behind)
       (recursion_weaker (λ x. C (key y) (key x) ≡ Less) (λ x. is_lt (R y x) ≡ true) (λ x h. ap is_lt h) (values_of es) behind)
 
   -- a value takes its place by its key
@@ -69,12 +56,12 @@ module _ {X K : Type 0} {C : K → K → Ordering} (o : IsTotalOrder C) (key : X
 
       by : values_of (insert_entry C es (key y) y) ≡ with_item C key (values_of es) y
           → (c : Ordering) → C (key y) e.0 ≡ c → values_of (insert_entry C (e ∷ es) (key y) y) ≡ with_item C key (values_of (e ∷ es)) y
-      by again Less c = rw c (sym (all_behind y (e ∷ es) known (c, above_lower (key y) e.0 (keys_of es) c higher) []))
+      by again Less c = rw c (sym (all_behind y (e ∷ es) known (c, above_lower o (key y) e.0 (keys_of es) c higher) []))
       by again Equal c =
-          let alone : with_item C key (e.1 ∷ []) y ≡ y ∷ [] = rw (at Equal c, tied (key y) (key e.1) (at Equal c)) refl in
-          rw c (ap (λ xs. xs ++ values_of es) (sym alone) ∙ sym (all_behind y es known.1 (above_same (key y) e.0 (keys_of es) c higher) (e.1 ∷ [])))
+          let alone : with_item C key (e.1 ∷ []) y ≡ y ∷ [] = rw (at Equal c, tied_back o (key y) (key e.1) (at Equal c)) refl in
+          rw c (ap (λ xs. xs ++ values_of es) (sym alone) ∙ sym (all_behind y es known.1 (above_same o (key y) e.0 (keys_of es) c higher) (e.1 ∷ [])))
       by again Greater c =
-          let first : is_lt (R e.1 y) ≡ true = ap is_lt (turned_back (key y) (key e.1) (at Greater c)) in
+          let first : is_lt (R e.1 y) ≡ true = ap is_lt (Less-turned o (key y) (key e.1) (at Greater c)) in
           let second : is_lt (R y e.1) ≡ false = ap is_lt (at Greater c) in
           rw c (ap (λ xs. e.1 ∷ xs) again ∙ sym (put-ahead R (e.1 ∷ []) (values_of es) y (first, tt) (second, tt)))
 
@@ -105,17 +92,12 @@ module _ {X K : Type 0} {C : K → K → Ordering} (o : IsTotalOrder C) (key : X
       at : (b : Bool) → is_at (C k) e.0 ≡ b → p e.1 ≡ b
       at b is = sym (ties e.1) ∙ ap (λ q. is_at (C k) q) known.0 ∙ is
 
-      equal : (c : Ordering) → is_eq c ≡ true → c ≡ Equal
-      equal Less is = absurd (true≢false (sym is))
-      equal Equal is = refl
-      equal Greater is = absurd (true≢false (sym is))
-
       others_stay : is_at (C k) e.0 ≡ true → filter (λ x. not (p x)) (values_of es) ≡ values_of es
       others_stay here =
-          filter_all (λ x. not (p x)) (values_of es)
+          filter-all_recursion (λ x. not (p x)) (values_of es)
           (recursion_weaker (λ x. C k (key x) ≡ Less) (λ x. not (p x) ≡ true) (λ x less. ap not (sym (ties x) ∙ ap is_eq less)) (values_of es)
           (values_have (λ q. C k q ≡ Less) es known.1
-          (above_same k e.0 (keys_of es) (equal (C k e.0) here) (sorted_head C e.0 (keys_of es) sorted))))
+          (above_same o k e.0 (keys_of es) (Equal-from_is_eq (C k e.0) here) (sorted_head C e.0 (keys_of es) sorted))))
 
       by : values_of (remove_entry (is_at (C k)) es) ≡ filter (λ x. not (p x)) (values_of es)
           → (b : Bool) → is_at (C k) e.0 ≡ b → values_of (remove_entry (is_at (C k)) (e ∷ es)) ≡ filter (λ x. not (p x)) (values_of (e ∷ es))
@@ -179,7 +161,7 @@ module _ {X K : Type 0} {C : K → K → Ordering} (o : IsTotalOrder C) (key : X
       by : (lookup (is_at (C k)) es ≡ Some old → insert_entry C (insert_entry C es k v) k old ≡ es)
           → (c : Ordering) → C k e.0 ≡ c → insert_entry C (insert_entry C (e ∷ es) k v) k old ≡ e ∷ es
       by again Less c =
-          let none = none_above k (e ∷ es) (c, above_lower k e.0 (keys_of es) c (sorted_head C e.0 (keys_of es) sorted)) in
+          let none = none_above k (e ∷ es) (c, above_lower o k e.0 (keys_of es) c (sorted_head C e.0 (keys_of es) sorted)) in
           absurd (none_some (sym none ∙ some))
         where
           none_some : None ≡ Some old → ⊥

@@ -1,7 +1,6 @@
 -- Lists of ids that lead from one to another.
-use Rattle.std.proofs.Common.{◌≡◌, ◌≢◌, ◌⊎◌, inl, inr, List, [], ◌∷◌, ◌++◌, Contains, Bool, true, false, refl, sym, subst, ◌∙◌, true≢false}
-use Rattle.std.specs.Str.{bytes_eq}
-use Rattle.std.proofs.lemmas.Slice.Eq.{bytes_eq-Decides}
+use Rattle.std.proofs.Common.{◌≡◌, ◌≢◌, ◌⊎◌, inl, inr, List, [], ◌∷◌, ◌++◌, Contains, subst}
+use Rattle.lemmas.proofs.Texts.{same_or_not}
 use Rattle.terms.specs.Types.{Id}
 use Rattle.terms.specs.Over.{Leads, Reaches}
 
@@ -58,14 +57,6 @@ pub reaches_more : (next more : Id → List Id) → ((y z : Id) → Contains (ne
 reaches_more next more within x z reached =
     all_reached next (Reaches more x) x (λ w named. reaches_named more x w (within x w named))
     (λ y w to named. reaches_last more x y w to (within y w named)) z reached
-
--- two ids are the same or not
-pub same_or_not : (x y : Id) → (x ≡ y) ⊎ (x ≢ y)
-same_or_not x y = by (bytes_eq x y) refl
-  where
-    by : (b : Bool) → bytes_eq x y ≡ b → (x ≡ y) ⊎ (x ≢ y)
-    by true e = inl ((bytes_eq-Decides x y).0 e)
-    by false e = inr (λ same. true≢false (sym ((bytes_eq-Decides x y).1 same) ∙ e))
 
 -- An id x comes to name more: `more` names for x whatever it does, and for others what `next` names.
 module _ (next more : Id → List Id) (x : Id) (others : (y : Id) → y ≢ x → more y ≡ next y) where

@@ -1,21 +1,14 @@
 -- The least closed set is what the greatest self-supporting set leaves out.
-use Rattle.std.proofs.Common.{◌≡◌, ◌<◌, ℕ, suc, Bool, true, false, List, [], ◌∷◌, length, map, get_or, refl, sym, ◌∙◌, ap, arith, inl, inr}
+use Rattle.std.proofs.Common.{◌≡◌, ◌<◌, ℕ, suc, Bool, false, List, [], ◌∷◌, length, map, get_or, refl, sym, ◌∙◌, ap, arith, inl, inr}
 use Rattle.std.specs.Prelude.{IsTrue, ◌&&◌, not, nat_lt}
 use Rattle.std.specs.List.{All, Any, Contains, list_all}
 use Rattle.std.proofs.lemmas.List.{get_or-map, get_or_past, length-map}
 use Rattle.std.proofs.lemmas.List.Elements.{All-contains, All-map, Contains-get_or}
 use Rattle.std.proofs.lemmas.List.Sums.{AllPass-from_list_all}
-use Rattle.std.proofs.lemmas.Bool.{cases_Bool, cases_lt, and_parts, and_from, ltb-true, lt-ltb}
+use Rattle.std.proofs.lemmas.Bool.{cases_Bool, cases_lt, and_parts, and_from, ltb-true, lt-ltb, not-true}
 use Rattle.terms.specs.Problem.{Problem, Demand, IsDemand, IsProblem, IsSelfSupporting, AreKept, holds}
 use Rattle.terms.specs.Least.{Growth, IsClosed, IsLeast, rule_of, growth_of}
 use Rattle.terms.proofs.Greatest.{greatest_from_kept}
-
--- the least closed set is closed, and part of every closed set
-pub closed_from_least : (g : Growth) (flags : List Bool) → IsLeast g flags → IsClosed g (holds flags)
-closed_from_least g flags least = record {
-  start = λ x starts. (least.members x).1 (λ set closed. closed.start x starts);
-  rules = λ k r below all. (least.members _).1 (λ set closed. closed.rules k r below (λ j y in_list. (least.members _).0 (all j y in_list) set closed));
-}
 
 -- flags that are closed and part of every closed set are the least
 pub least_from_closed : (g : Growth) (flags : List Bool) → length flags ≡ length g.start → IsClosed g (holds flags)
@@ -25,14 +18,6 @@ least_from_closed g flags size closed part = record {
   members = λ x. (λ member set others. part set others x member, λ grown. grown (holds flags) closed);
 }
 
-not_true : (b : Bool) → not b ≡ true → b ≡ false
-not_true true contra = cc
-not_true false _ = refl
-
-not_false : (b : Bool) → not b ≡ false → b ≡ true
-not_false true _ = refl
-not_false false contra = cc
-
 -- the flags turned round, as tests
 pub holds-not : (flags : List Bool) (x : ℕ) → x < length flags → holds (map not flags) x ≡ not (holds flags x)
 holds-not flags x below = get_or-map not flags x false false below
@@ -40,7 +25,7 @@ holds-not flags x below = get_or-map not flags x false false below
 -- a member of the flags turned round is below their number, and no member of the flags
 pub member-not : (flags : List Bool) (x : ℕ) → IsTrue (holds (map not flags) x) → (x < length flags) × (holds flags x ≡ false)
 member-not flags x member = elim (cases_lt x (length flags)) [
-  | inl below ↦ (below, not_true (holds flags x) (sym (holds-not flags x below) ∙ member))
+  | inl below ↦ (below, not-true (holds flags x) (sym (holds-not flags x below) ∙ member))
   | inr past ↦ absurd (
       let long : length (map not flags) ≡ length flags = length-map flags not in
       let out : holds (map not flags) x ≡ false = get_or_past (map not flags) x false (omega arith) in
@@ -50,12 +35,6 @@ member-not flags x member = elim (cases_lt x (length flags)) [
 pub not-member : (flags : List Bool) (x : ℕ) → x < length flags → holds flags x ≡ false → IsTrue (holds (map not flags) x)
 not-member flags x below out = holds-not flags x below ∙ ap not out
 
--- flags turned round twice
-pub turned_twice : (flags : List Bool) → map not (map not flags) ≡ flags
-turned_twice [] = refl
-turned_twice (true ∷ bs) = ap (λ cs. true ∷ cs) (turned_twice bs)
-turned_twice (false ∷ bs) = ap (λ cs. false ∷ cs) (turned_twice bs)
-
 -- the numbers that are candidates and outside of a set
 abbrev outside : Problem → (ℕ → Bool) → ℕ → Bool
 outside p set x = nat_lt x p.size && not (set x)
@@ -64,7 +43,7 @@ outside_from : (p : Problem) (set : ℕ → Bool) (x : ℕ) → x < p.size → s
 outside_from p set x below out = and_from (nat_lt x p.size) (not (set x)) (lt-ltb x p.size below) (ap not out)
 
 outside_parts : (p : Problem) (set : ℕ → Bool) (x : ℕ) → IsTrue (outside p set x) → (x < p.size) × (set x ≡ false)
-outside_parts p set x member = let both = and_parts (nat_lt x p.size) (not (set x)) member in (ltb-true x p.size both.0, not_true (set x) both.1)
+outside_parts p set x member = let both = and_parts (nat_lt x p.size) (not (set x)) member in (ltb-true x p.size both.0, not-true (set x) both.1)
 
 -- a number of the list that fails, where not all of them pass
 some_fails : (set : ℕ → Bool) (xs : List ℕ) → list_all set xs ≡ false → Any (λ y. set y ≡ false) xs

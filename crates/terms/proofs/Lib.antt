@@ -6,18 +6,16 @@ pub mod GlobalKept
 pub mod GlobalLookups
 pub mod GlobalRoles
 pub mod Ids
+pub mod Nil
 pub mod Leads
-pub mod Decided
 pub mod Least
 pub mod Loops
 pub mod Rising
 pub mod RisingLists
-pub mod TextKeys
 pub mod Texts
 pub mod Controls
 pub mod Updates
 pub mod Numbered
-pub mod Eligible
 mod Examples
 pub mod Closings
 pub mod Gaps
@@ -33,7 +31,6 @@ pub mod NumberedCauses
 pub mod SameLists
 pub mod SameZones
 pub mod NothingDeleted
-pub mod Apart
 pub mod OperandWords
 pub mod ExactOperands
 pub mod CommandLines

@@ -8,8 +8,9 @@ use Rattle.terms.specs.Types.{Text, Id, Ver, Sysmod, Global}
 use Rattle.terms.specs.Lookups.{sysmod_of}
 use Rattle.terms.specs.Over.{Reaches}
 use Rattle.terms.specs.Global.{named, names_for, HasLoop, with_sysmod}
-use Rattle.terms.proofs.Leads.{loop_through, last_step, same_or_not}
-use Rattle.terms.proofs.GlobalLookups.{same_from, same_itself, sysmod_of-with_sysmod}
+use Rattle.terms.proofs.Leads.{loop_through, last_step}
+use Rattle.lemmas.proofs.Texts.{same_or_not, same_from, same_itself}
+use Rattle.terms.proofs.GlobalLookups.{sysmod_of-with_sysmod}
 
 -- all ++VERs of a received SYSMOD
 abbrev pub all_vers : Global → Id → List Ver
@@ -78,9 +79,6 @@ module _ (g : Global) (s : Sysmod) where
       let first = first_named (names_for (with_sysmod g s) srel) s.id s.id back in
       let own = some_ver (λ v. ¬ LeadsBack v.srel) srel s.vers first.0 (subst (λ xs. Contains xs first.0) (names-own srel) first.1) searched in
       own.1 (subst LeadsBack (sym own.2) back)
-
-  pub loop-from_search : (v : Ver) → LeadsBack v.srel → HasLoop (with_sysmod g s)
-  loop-from_search v back = (v.srel, s.id, back)
 
   -- and there is none where nothing names it
   pub no_loop-unnamed : ¬ HasLoop g → ((y : Id) → ¬ Contains (flat_map named (all_vers g y)) s.id) → ¬ Contains (flat_map named s.vers) s.id → ¬ HasLoop (with_sysmod g s)

@@ -7,7 +7,7 @@ use Rattle.terms.specs.Lookups.{is_held, is_in, meets, is_applied}
 use Rattle.terms.specs.Choice.{Choice, del_of}
 use Rattle.terms.specs.Over.{chain}
 use Rattle.terms.specs.Deleted.{deletions, is_deleted, is_taken_out, entry_less, entries_less, zone_less, view}
-use Rattle.terms.proofs.RisingLists.{filter-all}
+use Rattle.lemmas.proofs.Searches.{filter-all}
 use Rattle.terms.proofs.Ids.{Contains-from_is_in}
 
 -- no list meets the empty one

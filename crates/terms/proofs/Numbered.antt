@@ -1,12 +1,13 @@
 -- The numbered problem keeps a number exactly if its id stays kept.
-use Rattle.std.specs.Prelude.{◌≡◌, ◌&&◌, ◌||◌, ◌<◌, ℕ, zero, suc, Bool, false, List, [], ◌∷◌, Option, None, Some, All, Any, Contains, IsTrue, slice_get, slice_index_or, refl}
+use Rattle.std.specs.Prelude.{◌≡◌, ◌&&◌, ◌||◌, ◌<◌, ℕ, zero, suc, Bool, false, List, [], ◌∷◌, Option, None, Some, Any, Contains, IsTrue, slice_get, slice_index_or, refl}
 use Rattle.std.specs.Option.{option_map_or}
 use Rattle.std.specs.Str.{bytes_eq}
 use Rattle.std.proofs.Common.{sym, ◌∙◌, ap, subst, inl, inr}
 use Rattle.std.proofs.Math.Bool.{or-true}
 use Rattle.std.proofs.lemmas.Bool.{or_cases, and_parts}
-use Rattle.std.proofs.lemmas.Option.{slice_get_within, slice_get-get_or, get_or_from_slice_get}
+use Rattle.std.proofs.lemmas.Option.{slice_get-get_or, same_Some}
 use Rattle.std.proofs.lemmas.Slice.Eq.{bytes_eq-Decides}
+use Rattle.lemmas.proofs.Places.{All-found}
 use Rattle.terms.specs.Types.{Id}
 use Rattle.terms.specs.declared.codes.NeedKind.{NeedKind}
 use Rattle.terms.specs.declared.codes.NeedKind.TheVariants.{Fmid}
@@ -18,14 +19,11 @@ abbrev pub ids_in : List Id → (ℕ → Bool) → Id → Bool
 ids_in [] set x = false
 ids_in (y ∷ ys) set x = (bytes_eq x y && set zero) || ids_in ys (λ n. set (suc n)) x
 
-some_same : {X : Type 0} (x y : X) → Some x ≡ Some y → x ≡ y
-some_same x y e = cc e
-
 pub ids_in-from : (ids : List Id) (set : ℕ → Bool) (n : ℕ) (x : Id) → slice_get ids n ≡ Some x → IsTrue (set n) → IsTrue (ids_in ids set x)
 ids_in-from [] set n x e m = absurd (cc e)
 ids_in-from (y ∷ ys) set zero x e m =
     ap (λ v. v || ids_in ys (λ n. set (suc n)) x)
-    (ap (λ v. v && set zero) ((bytes_eq-Decides x y).1 (sym (some_same y x e))) ∙ m)
+    (ap (λ v. v && set zero) ((bytes_eq-Decides x y).1 (sym (same_Some y x e))) ∙ m)
 ids_in-from (y ∷ ys) set (suc n) x e m =
     ap (λ v. (bytes_eq x y && set zero) || v) (ids_in-from ys (λ k. set (suc k)) n x e m) ∙ or-true (bytes_eq x y && set zero)
 
@@ -35,10 +33,6 @@ ids_in-gives (y ∷ ys) set x m = elim (or_cases (bytes_eq x y && set zero) (ids
   | inl a ↦ let p = and_parts (bytes_eq x y) (set zero) a in (zero, ap (λ v. Some v) (sym ((bytes_eq-Decides x y).0 p.0)), p.1)
   | inr b ↦ let r = ids_in-gives ys (λ n. set (suc n)) x b in (suc r.0, r.1, r.2)
 ]
-
--- what holds of all elements holds of the one that is found
-pub All-found : {X : Type 0} (P : X → Type 0) (xs : List X) (i : ℕ) (x : X) → All P xs → slice_get xs i ≡ Some x → P x
-All-found P xs i x all e = subst P (get_or_from_slice_get xs i x x e) (all i x (slice_get_within xs i x e))
 
 -- a kept number's id stays kept
 pub stays_from_kept : (ids : List Id) (E : Id → Type 0) (N : Id → NeedKind → Id → Type 0) (S : NeedKind → Id → Id → Type 0)
@@ -89,7 +83,7 @@ kept_from_stays ids E N S p needed h within n x is u = (
         let at_need = slice_get-get_or needed i (Fmid, x) (subst (λ k. i < k) (sym h.lengths) below) in
         let meant = h.demands i demand need at at_need in
         let g = option_gives u.0 (slice_get ids demand.of) m in
-        let member = subst (λ v. IsTrue (u.0 v)) (some_same g.0 meant.of.0 (sym g.1 ∙ meant.of.1)) g.2 in
+        let member = subst (λ v. IsTrue (u.0 v)) (same_Some g.0 meant.of.0 (sym g.1 ∙ meant.of.1)) g.2 in
         let r = u.1.served meant.of.0 need.1 need.0 member meant.of.2 in
         let place = within r.0 (u.1.eligible r.0 r.1) in
         let number = slice_get-get_or ids place.0 r.0 place.1 ∙ ap (λ v. Some v) place.2 in

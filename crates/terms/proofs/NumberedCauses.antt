@@ -1,7 +1,9 @@
 -- The numbered problem has the causers of the ids.
-use Rattle.std.specs.Prelude.{◌≡◌, ◌↔◌, ◌<◌, ℕ, Bool, true, false, List, [], ◌∷◌, Some, All, Any, Contains, IsTrue, slice_get, slice_index_or, length, refl}
+use Rattle.std.specs.Prelude.{◌≡◌, ◌↔◌, ◌<◌, ℕ, Bool, false, List, [], ◌∷◌, Some, All, Contains, IsTrue, slice_get, slice_index_or, length, refl}
 use Rattle.std.proofs.Common.{arith, sym, ◌∙◌, ap, subst, inl, inr, true≢false}
-use Rattle.std.proofs.lemmas.Option.{slice_get_within, slice_get-get_or, get_or_from_slice_get}
+use Rattle.std.proofs.lemmas.Option.{slice_get_within, slice_get-get_or, same_Some}
+use Rattle.std.proofs.lemmas.Bool.{false_from_ne_true}
+use Rattle.lemmas.proofs.Places.{contains_at, found_at, any_at, any_found, All-found}
 use Rattle.terms.specs.Types.{Id}
 use Rattle.terms.specs.declared.codes.NeedKind.{NeedKind}
 use Rattle.terms.specs.declared.codes.NeedKind.TheVariants.{Fmid}
@@ -9,31 +11,10 @@ use Rattle.terms.specs.Problem.{Demand, IsDemand, Problem, holds}
 use Rattle.terms.specs.Kept.{IsProblemOf}
 use Rattle.terms.specs.Causes as numbered
 use Rattle.terms.specs.Failures.{HasFailed, LeadsTo, Steps, HasBareNeed, IsRoot, IsCauser}
-use Rattle.terms.proofs.Numbered.{All-found}
-
-some_same : {X : Type 0} (x y : X) → Some x ≡ Some y → x ≡ y
-some_same x y e = cc e
-
--- what is found at a place
-pub contains_at : {X : Type 0} (xs : List X) (i : ℕ) (x : X) → slice_get xs i ≡ Some x → Contains xs x
-contains_at xs i x e = (i, slice_get_within xs i x e, get_or_from_slice_get xs i x x e)
-
-pub found_at : {X : Type 0} (xs : List X) (x : X) → Contains xs x → (i : ℕ) × (slice_get xs i ≡ Some x)
-found_at xs x h = (h.0, slice_get-get_or xs h.0 x h.1 ∙ ap (λ v. Some v) h.2)
-
-pub any_at : {X : Type 0} (P : X → Type 0) (xs : List X) (i : ℕ) (x : X) → slice_get xs i ≡ Some x → P x → Any P xs
-any_at P xs i x e h = (i, x, slice_get_within xs i x e, get_or_from_slice_get xs i x x e, h)
-
-pub any_found : {X : Type 0} (P : X → Type 0) (xs : List X) → Any P xs → (i : ℕ) × (x : X) × (slice_get xs i ≡ Some x) × P x
-any_found P xs a = (a.0, a.1, slice_get-get_or xs a.0 a.1 a.2 ∙ ap (λ v. Some v) a.3, a.4)
 
 none_within : {X : Type 0} (xs : List X) → ((x : X) → ¬ Contains xs x) → xs ≡ []
 none_within [] none = refl
 none_within (x ∷ xs) none = absurd (none x (contains_at (x ∷ xs) 0 x refl))
-
-not_true : (b : Bool) → ¬ IsTrue b → b ≡ false
-not_true true n = absurd (n refl)
-not_true false n = refl
 
 not_both : {A : Type 0} (b : Bool) → IsTrue b → b ≡ false → A
 not_both b t f = absurd (true≢false (sym t ∙ f))
@@ -43,7 +24,7 @@ module _ (ids kept : List Id) (E : Id → Type 0) (N : Id → NeedKind → Id �
     (same : (n : ℕ) (x : Id) → slice_get ids n ≡ Some x → Contains kept x ↔ IsTrue (holds flags n)) where
   failed_number : (n : ℕ) (x : Id) → slice_get ids n ≡ Some x → HasFailed ids kept E N S x → numbered.HasFailed p flags n
   failed_number n x at failed =
-      (subst (λ k. n < k) (sym h.size) (slice_get_within ids n x at), not_true (holds flags n) (λ t. failed.not_kept ((same n x at).1 t)))
+      (subst (λ k. n < k) (sym h.size) (slice_get_within ids n x at), false_from_ne_true (holds flags n) (λ t. failed.not_kept ((same n x at).1 t)))
 
   failed_id : (n : ℕ) (x : Id) → slice_get ids n ≡ Some x → numbered.HasFailed p flags n → HasFailed ids kept E N S x
   failed_id n x at failed = record {
@@ -65,7 +46,7 @@ module _ (ids kept : List Id) (E : Id → Type 0) (N : Id → NeedKind → Id �
   unserved_numbers d i kind z at need unserved k m below =
       let there : Contains d.any (slice_index_or d.any k m) = contains_at d.any k (slice_index_or d.any k m) (slice_get-get_or d.any k m below) in
       let y = id_of d i at (slice_index_or d.any k m) there in
-      not_true (holds flags (slice_index_or d.any k m)) (λ t.
+      false_from_ne_true (holds flags (slice_index_or d.any k m)) (λ t.
       unserved y.0 ((same (slice_index_or d.any k m) y.0 y.1).1 t) (((h.demands i d (kind, z) at need).any (slice_index_or d.any k m) y.0 y.1).0 there))
 
   unserved_ids : (d : Demand) (i : ℕ) (kind : NeedKind) (z : Id) → slice_get p.demands i ≡ Some d → slice_get needed i ≡ Some (kind, z)
@@ -87,7 +68,7 @@ module _ (ids kept : List Id) (E : Id → Type 0) (N : Id → NeedKind → Id �
       → d.of ≡ n → slice_get ids n ≡ Some x → N x kind z
   need_is d i n x z kind at need of at_x =
       let meant = (h.demands i d (kind, z) at need).of in
-      subst (λ v. N v kind z) (some_same meant.0 x (sym meant.1 ∙ ap (slice_get ids) of ∙ at_x)) meant.2
+      subst (λ v. N v kind z) (same_Some meant.0 x (sym meant.1 ∙ ap (slice_get ids) of ∙ at_x)) meant.2
 
   pub leads_number : (n m : ℕ) (x y : Id) → slice_get ids n ≡ Some x → slice_get ids m ≡ Some y → LeadsTo ids kept E N S x y → numbered.LeadsTo p flags n m
   leads_number n m x y at_x at_y leads =
@@ -123,7 +104,7 @@ module _ (ids kept : List Id) (E : Id → Type 0) (N : Id → NeedKind → Id �
 
     steps_id : (n m : ℕ) (steps : List ℕ) (x y : Id) → slice_get ids n ≡ Some x → slice_get ids m ≡ Some y → numbered.Steps p flags n steps m
         → (ws : List Id) × Steps ids kept E N S x ws y
-    steps_id n m [] x y at_x at_y e = ([], some_same x y (sym at_x ∙ ap (slice_get ids) e ∙ at_y))
+    steps_id n m [] x y at_x at_y e = ([], same_Some x y (sym at_x ∙ ap (slice_get ids) e ∙ at_y))
     steps_id n m (k ∷ ks) x y at_x at_y r =
         let w = led_id n k r.0 in
         let more = steps_id k m ks w.0 y w.1 at_y r.1 in
@@ -165,7 +146,7 @@ module _ (ids kept : List Id) (E : Id → Type 0) (N : Id → NeedKind → Id �
     root_number n x at root = (
       failed_number n x at root.failed,
       elim root.why [
-        | inl off ↦ inl (not_true (holds p.eligible n) (λ t. off ((h.eligible n x at).0 t)))
+        | inl off ↦ inl (false_from_ne_true (holds p.eligible n) (λ t. off ((h.eligible n x at).0 t)))
         | inr bare ↦ inr (bare_number n x at bare)
       ],
     )

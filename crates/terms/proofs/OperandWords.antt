@@ -1,6 +1,6 @@
 -- How often words stand among pieces, and words that are known operands, each at most once.
 use Rattle.std.proofs.Common.{◌≡◌, ◌≢◌, ◌≤◌, ◌<◌, ◌+◌, ℕ, Bool, true, false, IsTrue, List, [], ◌∷◌, ◌++◌, map, Option, Some, None, refl, sym, ◌∙◌, ap, subst, arith, cond, append_assoc, inl, inr}
-use Rattle.std.specs.Prelude.{All, AllPairs, Contains, count_by, ◌||◌}
+use Rattle.std.specs.Prelude.{All, AllPairs, Contains, count_by}
 use Rattle.std.specs.List.{list_any, flat_map}
 use Rattle.std.specs.Str.{bytes_eq}
 use Rattle.std.proofs.lemmas.Bool.{leb-true, leb-false, false_from_ne_true, true_from_ne_false, true≢false}
@@ -10,7 +10,7 @@ use Rattle.std.proofs.lemmas.List.Folds.{list_any_at}
 use Rattle.std.proofs.lemmas.List.Elements.{All-head, All-tail}
 use Rattle.std.proofs.lemmas.List.Kept.{AllPairs-cons}
 use Rattle.std.proofs.lemmas.Grind.{flat_map-append}
-use Rattle.std.proofs.lemmas.Cmp.{nat_list_eq_equiv}
+use Rattle.lemmas.proofs.Texts.{same_itself}
 use Rattle.terms.specs.declared.codes.CommandWord.{CommandWord}
 use Rattle.terms.specs.Types.{Text}
 use Rattle.terms.specs.Lookups.{is_in}
@@ -19,7 +19,8 @@ use Rattle.terms.specs.Words.{Word, HasWords, TakesWord, word_pieces, list_piece
 use Rattle.terms.specs.Operands.{AreOperands}
 use Rattle.terms.specs.CommandForms.{operands_of}
 use Rattle.terms.specs.Commands.{words_in, is_often, has_double}
-use Rattle.terms.proofs.Apart.{pairs_unmap, here, here_or, there}
+use Rattle.lemmas.proofs.Pairs.{pairs_unmap}
+use Rattle.lemmas.proofs.Members.{here, here_or, there}
 use Rattle.terms.proofs.Ids.{Contains-from_is_in}
 
 -- how often a word stands in a list
@@ -43,15 +44,12 @@ count_other name t texts other =
 pub count_up : (name t : Text) (texts : List Text) → count name texts ≤ count name (t ∷ texts)
 count_up name t texts = omega (arith, count_cons name t texts)
 
-itself : (t : Text) → bytes_eq t t ≡ true
-itself t = nat_list_eq_equiv.refl t
-
 -- a word that is there counts
 pub count_there : (t : Text) (texts : List Text) → Contains texts t → 1 ≤ count t texts
 count_there t [] h = absurd (omega (arith, h.1))
 count_there t (s ∷ texts) h =
     elim (here_or s texts t h) [
-      | inl same ↦ omega (arith, count_same t s texts (ap (bytes_eq t) same ∙ itself t))
+      | inl same ↦ omega (arith, count_same t s texts (ap (bytes_eq t) same ∙ same_itself t))
       | inr later ↦ omega (arith, count_there t texts later, count_up t s texts)
     ]
 
@@ -62,7 +60,7 @@ apart_once (t ∷ texts) once =
     AllPairs-cons (λ a b. a ≢ b) t texts
     (λ k d below same.
     let low : 1 ≤ count t texts = count_there t texts (k, below, sym (get_or_default texts k d t below) ∙ sym same) in
-    omega (arith, low, count_same t t texts (itself t), once t (here t texts)))
+    omega (arith, low, count_same t t texts (same_itself t), once t (here t texts)))
     (apart_once texts (λ s h. omega (arith, once s (there t texts s h), count_up s t texts)))
 
 -- the words outside parentheses of pieces that are words
@@ -135,11 +133,6 @@ taken_more pieces before rest after w is t =
     is ∙ ap (λ r. flat_map word_pieces before ++ r) (t.pieces_are ∙ ap (λ f. f ++ after) (sym (append-nil (word_pieces w))))
     ∙ sym (append_assoc (flat_map word_pieces before) (flat_map word_pieces (w ∷ [])) after)
     ∙ ap (λ f. f ++ after) (sym (flat_map-append word_pieces before (w ∷ [])))
-
--- a test over what a function makes of each item
-pub any_map : {X Y : Type 0} (p : Y → Bool) (f : X → Y) (xs : List X) → list_any p (map f xs) ≡ list_any (λ x. p (f x)) xs
-any_map p f [] = refl
-any_map p f (x ∷ xs) = ap (λ b. p (f x) || b) (any_map p f xs)
 
 -- Behind one of a name the next makes it twice.
 pub again : (pieces rest : List Piece) (name : Text) → count name (words_in pieces) ≡ 1 + count name (words_in rest) → is_often 1 rest name ≡ is_often 2 pieces name

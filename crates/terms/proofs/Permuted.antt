@@ -3,7 +3,7 @@ use Rattle.std.proofs.Common.{◌≡◌, inl, inr, ℕ, zero, suc, ◌+◌, ◌<
 use Rattle.std.specs.Prelude.{All, sum_by}
 use Rattle.std.specs.List.Sorted.{IsSortedByKey}
 use Rattle.std.specs.declared.cmp.Ordering.{Ordering}
-use Rattle.std.specs.declared.cmp.Ordering.TheVariants.{Less, Equal, Greater}
+use Rattle.std.specs.declared.cmp.Ordering.TheVariants.{Less, Equal}
 use Rattle.std.specs.Ordering.{is_lt, is_eq, ordering_reverse}
 use Rattle.std.specs.Cmp.{IsTotalOrder}
 use Rattle.std.proofs.lemmas.Bool.{cases_Bool}
@@ -11,13 +11,9 @@ use Rattle.std.proofs.lemmas.Cmp.{tied_itself}
 use Rattle.std.proofs.lemmas.List.Elements.{All-head, All-tail}
 use Rattle.std.proofs.lemmas.List.Recursion.{is_sum_by}
 use Rattle.std.proofs.lemmas.List.Sorted.{sum_by-IsPermutation, sorted_far, ranks_by}
+use Rattle.lemmas.proofs.Orderings.{Equal-from_is_eq, is_lt-from_turned, Less-from_is_lt}
 use Rattle.terms.specs.Rising.{Rises}
-use Rattle.terms.proofs.RisingLists.{Less-from_is_lt, AllPairs-first, AllPairs-rest}
-
-Equal-from_is_eq : (r : Ordering) → is_eq r ≡ true → r ≡ Equal
-Equal-from_is_eq Less e = cc
-Equal-from_is_eq Equal e = refl
-Equal-from_is_eq Greater e = cc
+use Rattle.lemmas.proofs.Pairs.{AllPairs-first, AllPairs-rest}
 
 module _ {X K : Type 0} {R : K → K → Ordering} (o : IsTotalOrder R) (key : X → K) where
   abbrev weight : K → X → ℕ
@@ -69,18 +65,13 @@ module _ {X K : Type 0} {R : K → K → Ordering} (o : IsTotalOrder R) (key : X
   two_at_least k (x ∷ xs) zero (suc j) d less within p q = let later = one_at_least k xs j d (omega (arith, within)) q in rw p (omega (arith, later))
   two_at_least k (x ∷ xs) (suc i) (suc j) d less within p q = let later = two_at_least k xs i j d (omega (arith, less)) (omega (arith, within)) p q in omega (arith, later)
 
-  below : (r s : Ordering) → r ≡ ordering_reverse s → is_lt s ≡ false → (r ≡ Equal → ⊥) → is_lt r ≡ true
-  below r Less e low apart = absurd cc
-  below r Equal e low apart = absurd (apart e)
-  below r Greater e low apart = ap is_lt e
-
   -- the sorted list of what rises in some order rises
   pub rises_sorted : (xs ys : List X) → IsPermutation xs ys → IsSortedByKey key R xs → Rises R key ys → Rises R key xs
   rises_sorted xs ys same sorted rises = λ i j d less within.
       let a = key (get_or xs i d) in
       let b = key (get_or xs j d) in
       let far : is_lt (R b a) ≡ false = sorted_far (λ x y. is_lt (R (key x) (key y))) (ranks_by o key) xs sorted i j d (omega (arith, less)) within in
-      below (R a b) (R b a) (o.antisymm a b) far (λ tie.
+      is_lt-from_turned (R a b) (R b a) (o.antisymm a b) far (λ tie.
       let two = two_at_least b xs i j d less within tie (tied_itself o b) in
       let one = one_at_most b ys rises in
       absurd (omega (arith, two, one, same_count b xs ys same)))

@@ -1,6 +1,6 @@
 -- How a list that rises by a key falls apart at a key, and stays in order when an item comes in between.
-use Rattle.std.proofs.Common.{◌≡◌, ◌<◌, ◌≤◌, ◌+◌, ℕ, suc, Bool, true, false, List, [], ◌∷◌, ◌++◌, length, get_or, take, drop, refl, sym, ap, ◌∙◌, arith, cond, length-drop, append_assoc, inl, inr, ◌-◌, zero, set}
-use Rattle.std.specs.Prelude.{All, AllPairs, filter, find, Some, None}
+use Rattle.std.proofs.Common.{◌≡◌, ◌<◌, ◌≤◌, ◌+◌, ℕ, suc, Bool, true, false, List, [], ◌∷◌, ◌++◌, length, get_or, take, drop, refl, sym, ap, ◌∙◌, arith, cond, length-drop, append_assoc, inl, inr, ◌-◌, set}
+use Rattle.std.specs.Prelude.{All, filter, find, Some, None}
 use Rattle.std.specs.List.{HoldsAt, list_any}
 use Rattle.std.specs.Prelude.{Result, Ok, Err, is_ok, IfOk, IfErr}
 use Rattle.std.specs.List.Sorted.{IsNonDecreasingBy, IsPartitionPoint, IsSearchInRange, IsBinarySearchResult, IsStrictlySortedBy}
@@ -10,84 +10,17 @@ use Rattle.std.specs.declared.cmp.Ordering.TheVariants.{Less, Equal, Greater}
 use Rattle.std.specs.Ordering.{is_lt, is_eq, ordering_index, ordering_reverse}
 use Rattle.std.specs.Cmp.{IsTotalOrder}
 use Rattle.std.proofs.lemmas.Cmp.{alike_right, tied_back}
-use Rattle.std.proofs.lemmas.List.{take-append-drop, get_or-take, get_or-drop, length-take-le, append-nil, get_or_default}
+use Rattle.std.proofs.lemmas.List.{take-append-drop, get_or-take, get_or-drop, length-take-le, append-nil, get_or_default, set_split}
 use Rattle.std.proofs.Math.Seq.{drop-cons}
 use Rattle.std.proofs.lemmas.Bool.{cases_lt}
 use Rattle.std.proofs.lemmas.List.Folds.{list_any_at, list_any_none}
-use Rattle.std.proofs.lemmas.List.Elements.{All-cons, All-head, All-tail, All-append, filter-append}
-use Rattle.std.proofs.lemmas.List.Kept.{AllPairs-cons}
+use Rattle.std.proofs.lemmas.List.Elements.{All-append, filter-append}
 use Rattle.std.proofs.lemmas.List.Sorted.{searchable_from_sorted}
+use Rattle.lemmas.proofs.Pairs.{AllPairs-between, AllPairs-without, AllPairs-parts}
+use Rattle.lemmas.proofs.Searches.{filter-all, filter-none, find-over}
+use Rattle.lemmas.proofs.Orderings.{Less-from_is_lt}
 use Rattle.terms.specs.Rising.{Rises, before, behind, with_item, without_key}
 pub use Rattle.terms.specs.Rising.{Splits, Stands}
-
--- a test that answers so is that order
-pub Less-from_is_lt : (r : Ordering) → is_lt r ≡ true → r ≡ Less
-Less-from_is_lt Less e = refl
-Less-from_is_lt Equal e = cc
-Less-from_is_lt Greater e = cc
-
--- a filter that each item passes, or none
-pub filter-all : {X : Type 0} (p : X → Bool) (xs : List X) → All (λ x. p x ≡ true) xs → filter p xs ≡ xs
-filter-all p [] h = refl
-filter-all p (x ∷ xs) h =
-    rw (All-head (λ x. p x ≡ true) x xs h) (ap (λ ys. x ∷ ys) (filter-all p xs (All-tail (λ x. p x ≡ true) x xs h)))
-
-pub filter-none : {X : Type 0} (p : X → Bool) (xs : List X) → All (λ x. p x ≡ false) xs → filter p xs ≡ []
-filter-none p [] h = refl
-filter-none p (x ∷ xs) h =
-    rw (All-head (λ x. p x ≡ false) x xs h) (filter-none p xs (All-tail (λ x. p x ≡ false) x xs h))
-
--- a fact of all items stays when one comes in between that has it
-pub All-between : {X : Type 0} (P : X → Type 0) (xs ys : List X) (x : X) → All P (xs ++ ys) → P x → All P (xs ++ x ∷ ys)
-All-between P [] ys x h p = All-cons P x ys p h
-All-between P (y ∷ xs) ys x h p =
-    All-cons P y (xs ++ x ∷ ys) (All-head P y (xs ++ ys) h) (All-between P xs ys x (All-tail P y (xs ++ ys) h) p)
-
--- a write at a place
-pub set-parts : {X : Type 0} (xs : List X) (i : ℕ) (y : X) → i < length xs → set xs i y ≡ take i xs ++ y ∷ drop (suc i) xs
-set-parts [] i y below = absurd (omega arith)
-set-parts (x ∷ xs) zero y below = refl
-set-parts (x ∷ xs) (suc i) y below = ap (λ ys. x ∷ ys) (set-parts xs i y (omega arith))
-
--- a search passes over what fails its test
-pub find-over : {X : Type 0} (p : X → Bool) (xs ys : List X) → All (λ x. p x ≡ false) xs → find p (xs ++ ys) ≡ find p ys
-find-over p [] ys h = refl
-find-over p (x ∷ xs) ys h =
-    rw (All-head (λ x. p x ≡ false) x xs h) (find-over p xs ys (All-tail (λ x. p x ≡ false) x xs h))
-
-pub AllPairs-first : {X : Type 0} (R : X → X → Type 0) (x : X) (xs : List X) → AllPairs R (x ∷ xs) → All (R x) xs
-AllPairs-first R x xs h = λ k d below. h 0 (suc k) d (omega arith) (omega arith)
-
-pub AllPairs-rest : {X : Type 0} (R : X → X → Type 0) (x : X) (xs : List X) → AllPairs R (x ∷ xs) → AllPairs R xs
-AllPairs-rest R x xs h = λ i j d less below. h (suc i) (suc j) d (omega arith) (omega arith)
-
--- a list in order stays so when an item comes in between that fits
-pub AllPairs-between : {X : Type 0} (R : X → X → Type 0) (xs ys : List X) (x : X) → AllPairs R (xs ++ ys) → All (λ y. R y x) xs → All (R x) ys → AllPairs R (xs ++ x ∷ ys)
-AllPairs-between R [] ys x h low high = AllPairs-cons R x ys high h
-AllPairs-between R (y ∷ xs) ys x h low high =
-    AllPairs-cons R y (xs ++ x ∷ ys) (All-between (R y) xs ys x (AllPairs-first R y (xs ++ ys) h) (All-head (λ y. R y x) y xs low)) (AllPairs-between R xs ys x (AllPairs-rest R y (xs ++ ys) h) (All-tail (λ y. R y x) y xs low) high)
-
--- and when one goes
-pub AllPairs-without : {X : Type 0} (R : X → X → Type 0) (xs ys : List X) (x : X) → AllPairs R (xs ++ x ∷ ys) → AllPairs R (xs ++ ys)
-AllPairs-without R [] ys x h = AllPairs-rest R x ys h
-AllPairs-without R (y ∷ xs) ys x h =
-    AllPairs-cons R y (xs ++ ys) (All-skip (R y) xs ys x (AllPairs-first R y (xs ++ x ∷ ys) h)) (AllPairs-without R xs ys x (AllPairs-rest R y (xs ++ x ∷ ys) h))
-  where
-    All-skip : {X : Type 0} (P : X → Type 0) (xs ys : List X) (x : X) → All P (xs ++ x ∷ ys) → All P (xs ++ ys)
-    All-skip P [] ys x h = All-tail P x ys h
-    All-skip P (y ∷ xs) ys x h =
-        All-cons P y (xs ++ ys) (All-head P y (xs ++ x ∷ ys) h) (All-skip P xs ys x (All-tail P y (xs ++ x ∷ ys) h))
-
--- what stands before the first of two parts, and behind the second
-pub AllPairs-parts : {X : Type 0} (R : X → X → Type 0) (xs ys : List X) (x : X) → AllPairs R (xs ++ x ∷ ys) → All (λ y. R y x) xs × All (R x) ys
-AllPairs-parts R [] ys x h = (λ k d below. absurd (omega arith), AllPairs-first R x ys h)
-AllPairs-parts R (y ∷ xs) ys x h =
-    let rest = AllPairs-parts R xs ys x (AllPairs-rest R y (xs ++ x ∷ ys) h) in
-    (All-cons (λ y. R y x) y xs (All-middle (R y) xs ys x (AllPairs-first R y (xs ++ x ∷ ys) h)) rest.0, rest.1)
-  where
-    All-middle : {X : Type 0} (P : X → Type 0) (xs ys : List X) (x : X) → All P (xs ++ x ∷ ys) → P x
-    All-middle P [] ys x h = All-head P x ys h
-    All-middle P (y ∷ xs) ys x h = All-middle P xs ys x (All-tail P y (xs ++ x ∷ ys) h)
 
 -- keys that are strictly sorted rise
 pub Rises-from_sorted : {K : Type 0} (R : K → K → Ordering) (ks : List K) → IsStrictlySortedBy R ks → Rises R (λ k. k) ks
@@ -282,12 +215,12 @@ module _ {X K : Type 0} {R : K → K → Ordering} (o : IsTotalOrder R) (key : X
   pub with_item-set : (xs : List X) (i : ℕ) (x y : X) → Rises R key xs → i < length xs → Stands R key (key y) xs i x → with_item R key xs y ≡ set xs i y
   with_item-set xs i x y rises below s =
       let whole : Rises R key (take i xs ++ x ∷ drop (suc i) xs) = rw (← s.parts) rises in
-      ap (λ ys. with_item R key ys y) s.parts ∙ with_item-there (take i xs) (drop (suc i) xs) y x whole s.tie ∙ sym (set-parts xs i y below)
+      ap (λ ys. with_item R key ys y) s.parts ∙ with_item-there (take i xs) (drop (suc i) xs) y x whole s.tie ∙ sym (set_split xs i y below)
 
   pub Rises-set : (xs : List X) (i : ℕ) (x y : X) → Rises R key xs → i < length xs → Stands R key (key y) xs i x → Rises R key (set xs i y)
   Rises-set xs i x y rises below s =
       let whole : Rises R key (take i xs ++ x ∷ drop (suc i) xs) = rw (← s.parts) rises in
-      rw (set-parts xs i y below) (Rises-there (take i xs) (drop (suc i) xs) x y whole s.tie)
+      rw (set_split xs i y below) (Rises-there (take i xs) (drop (suc i) xs) x y whole s.tie)
 
   -- what a binary search answers
   pub found-search : (k : K) (xs : List X) → Rises R key xs → (r : Result ℕ ℕ) → IsSearchInRange r (length xs) → IsBinarySearchResult (λ y. R (key y) k) xs r → IfOk r (λ i. (i < length xs) × ((x : X) × Stands R key k xs i x))

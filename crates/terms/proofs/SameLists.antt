@@ -1,37 +1,19 @@
 -- Lists that rise by a key and have the same at each key are one, and so are zones.
-use Rattle.std.proofs.Common.{◌≡◌, suc, Bool, true, false, IsTrue, List, [], ◌∷◌, refl, sym, ap, ◌∙◌, arith, cond, true≢false, subst}
+use Rattle.std.proofs.Common.{◌≡◌, Bool, true, false, IsTrue, List, [], ◌∷◌, refl, sym, ap, ◌∙◌, cond, true≢false, subst}
 use Rattle.std.specs.Prelude.{Contains, find, Option, Some, None}
 use Rattle.std.specs.declared.cmp.Ordering.{Ordering}
-use Rattle.std.specs.declared.cmp.Ordering.TheVariants.{Less, Equal, Greater}
+use Rattle.std.specs.declared.cmp.Ordering.TheVariants.{Equal}
 use Rattle.std.specs.Ordering.{is_lt, is_eq, ordering_reverse}
 use Rattle.std.specs.Cmp.{IsTotalOrder}
 use Rattle.std.proofs.lemmas.Cmp.{tied_itself, alike_right}
+use Rattle.lemmas.proofs.Orderings.{Equal-from_is_eq, Less-from_is_lt}
+use Rattle.lemmas.proofs.Searches.{find-gives}
 use Rattle.terms.specs.Rising.{Rises}
-use Rattle.terms.proofs.RisingLists.{Less-from_is_lt, AllPairs-first, AllPairs-rest}
-
--- what is found is there and passes the test
-pub find-gives : {X : Type 0} (p : X → Bool) (xs : List X) (x : X) → find p xs ≡ Some x → IsTrue (p x) × Contains xs x
-find-gives p [] x e = absurd (cc e)
-find-gives {X} p (y ∷ ys) x e = by_found (find-gives p ys x) (p y) refl
-  where
-    by_found : (find p ys ≡ Some x → IsTrue (p x) × Contains ys x) → (found : Bool) → p y ≡ found → IsTrue (p x) × Contains (y ∷ ys) x
-    by_found rest true f =
-        let same : Some y ≡ Some x = rw f at e in
-        let is : y ≡ x = cc same in
-        (subst (λ v. IsTrue (p v)) is f, (0, omega arith, is))
-    by_found rest false f =
-        let later : find p ys ≡ Some x = rw f at e in
-        let g = rest later in
-        (g.0, (suc g.1.0, omega (arith, g.1.1), g.1.2))
+use Rattle.lemmas.proofs.Pairs.{AllPairs-first, AllPairs-rest}
 
 module _ {X K : Type 0} {R : K → K → Ordering} (o : IsTotalOrder R) (key : X → K) (E : K → K → Bool) (ties : (a b : K) → E a b ≡ is_eq (R a b)) where
   itself : (k : K) → E k k ≡ true
   itself k = ties k k ∙ ap is_eq (tied_itself o k)
-
-  tie_from : (r : Ordering) → is_eq r ≡ true → r ≡ Equal
-  tie_from Less e = cc
-  tie_from Equal e = refl
-  tie_from Greater e = cc
 
   not_below : {A : Type 0} (r : Ordering) → r ≡ Equal → is_lt r ≡ true → A
   not_below r e l = absurd (true≢false (sym l ∙ ap is_lt e))
@@ -50,8 +32,8 @@ module _ {X K : Type 0} {R : K → K → Ordering} (o : IsTotalOrder R) (key : X
       by_found None f = f
       by_found (Some y) f =
           let g = find-gives (λ v. E (key v) k) xs y f in
-          let at_x = tie_from (R (key x) k) (sym (ties (key x) k) ∙ tie) in
-          let at_y = tie_from (R (key y) k) (sym (ties (key y) k) ∙ g.0) in
+          let at_x = Equal-from_is_eq (R (key x) k) (sym (ties (key x) k) ∙ tie) in
+          let at_y = Equal-from_is_eq (R (key y) k) (sym (ties (key y) k) ∙ g.0) in
           not_below (R (key x) (key y)) (alike_right o (key y) k (key x) at_y ∙ at_x) (above x xs y rises g.1)
 
   abbrev pub Same : List X → List X → Type 0

@@ -10,8 +10,9 @@ use Rattle.terms.specs.Types.{Text, Id, Entry, Zone, a_zone}
 use Rattle.terms.specs.Lookups.{IsZone, is_nil, is_held, entry_of, element_of, element_key, applied_of, supby_of, delby_of, waived_of}
 use Rattle.terms.specs.Delta.{element_eq}
 use Rattle.terms.proofs.ElementOrder.{element_cmp_total, element_ties}
-use Rattle.terms.proofs.GlobalLookups.{same_from}
-use Rattle.terms.proofs.SameLists.{rising_same, find-gives}
+use Rattle.lemmas.proofs.Texts.{same_from}
+use Rattle.terms.proofs.SameLists.{rising_same}
+use Rattle.lemmas.proofs.Searches.{find-gives}
 
 all_fields : (a b : Zone) → a.kind ≡ b.kind → a.srel ≡ b.srel → a.related ≡ b.related → a.entries ≡ b.entries → a.elements ≡ b.elements → a ≡ b
 all_fields a b k s r e l =

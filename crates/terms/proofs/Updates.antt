@@ -1,10 +1,11 @@
 -- Updates: what they touch, that a merge is determined, and that what is good has no fault.
-use Rattle.std.proofs.Common.{◌≡◌, ◌<◌, ◌≤◌, ◌+◌, ◌⊎◌, ℕ, zero, suc, false, not, List, [], ◌∷◌, ◌++◌, length, codes, refl, sym, ◌∙◌, ap, subst, arith, inl, inr, Option, None, Some, get_or}
-use Rattle.std.specs.List.{All, Any}
+use Rattle.std.proofs.Common.{◌≡◌, ◌<◌, ◌≤◌, ◌+◌, ◌⊎◌, ℕ, false, not, List, [], ◌∷◌, ◌++◌, codes, refl, sym, ◌∙◌, ap, subst, arith, inl, inr, Option, None, Some, get_or}
+use Rattle.std.specs.List.{All}
 use Rattle.std.specs.Prelude.{IsTrue, IsSome}
 use Rattle.std.proofs.lemmas.Bool.{true≢false, both_ways, cases_Bool, cases_lt, cond-true, cond-false, not_from_true, not_from_false, false_from_ne_true}
 use Rattle.std.proofs.lemmas.List.{append_cancel_left}
 use Rattle.std.proofs.lemmas.List.Elements.{All-nil, All-cons, All-head, All-tail, filter-append}
+use Rattle.lemmas.proofs.Each.{any_here, any_later, any_cases, any_none, All-middle}
 use Rattle.terms.specs.declared.text_faults.TextCode.{TextCode}
 use Rattle.terms.specs.declared.text_faults.TextCode.TheVariants.{Tx1, Tx2, Tx3, Tx4, Tx5, Tx6}
 use Rattle.terms.specs.declared.text_faults.TextFault.{TextFault}
@@ -12,24 +13,6 @@ use Rattle.terms.specs.Types.{Text, Lines}
 use Rattle.terms.specs.Texts.{IsNumberedLine, number_of, IsNumbered, line_at, IsChange, IsDelete, IsSomeDelete, is_control, given, Deletes, Touches, IsMerge, FollowChange, IsUpdate, BreaksOrder, HasNumberedFault, HasChangeFault, HasRestFault, IsNumberedFault, IsUpdateFault}
 use Rattle.terms.proofs.Texts.{Rises, Rises-numbered, same_text}
 use Rattle.terms.proofs.Controls.{begins_control, change-no_delete, same_delete, same_control}
-
--- some element of a list
-
-pub any_here : {X : Type 0} (P : X → Type 0) (x : X) (xs : List X) → P x → Any P (x ∷ xs)
-any_here P x xs p = (0, x, omega arith, refl, p)
-
-pub any_later : {X : Type 0} (P : X → Type 0) (x : X) (xs : List X) → Any P xs → Any P (x ∷ xs)
-any_later P x xs a = (suc a.0, a.1, omega (arith, a.2), a.3, a.4)
-
-any_at : {X : Type 0} (P : X → Type 0) (x : X) (xs : List X) (k : ℕ) (y : X) → k < length (x ∷ xs) → get_or (x ∷ xs) k y ≡ y → P y → P x ⊎ Any P xs
-any_at P x xs zero y below at p = inl (subst P (sym at) p)
-any_at P x xs (suc k) y below at p = inr (k, y, omega (arith, below), at, p)
-
-pub any_cases : {X : Type 0} (P : X → Type 0) (x : X) (xs : List X) → Any P (x ∷ xs) → P x ⊎ Any P xs
-any_cases P x xs a = any_at P x xs a.0 a.1 a.2 a.3 a.4
-
-pub any_none : {X : Type 0} (P : X → Type 0) → Any P [] → ⊥
-any_none P a = let below = a.2 in omega arith
 
 -- what an update touches
 
@@ -114,10 +97,6 @@ all_below least (x ∷ xs) line after h =
     let first = least_below (number_of x + 1) xs line after h.1 in
     All-cons (λ b. number_of b < number_of line) x xs (omega (arith, first)) (all_below (number_of x + 1) xs line after h.1)
 
-at_middle : {X : Type 0} (P : X → Type 0) (before : List X) (x : X) (after : List X) → All P (before ++ x ∷ after) → P x
-at_middle P [] x after h = All-head P x after h
-at_middle P (y ∷ before) x after h = at_middle P before x after (All-tail P y (before ++ x ∷ after) h)
-
 in_order : (before : Lines) (line : List ℕ) (after : Lines) → IsNumbered (before ++ line ∷ after) → BreaksOrder before line → ⊥
 in_order before line after h b =
     let below = all_below 0 before line after (Rises-numbered (before ++ line ∷ after) h) in
@@ -127,7 +106,7 @@ in_order before line after h b =
     omega (arith, one, same, not_above)
 
 numbered_code : (code : TextCode) (before : Lines) (line : List ℕ) (after : Lines) → IsNumbered (before ++ line ∷ after) → HasNumberedFault before line code → ⊥
-numbered_code Tx1 before line after h f = f (at_middle IsNumberedLine before line after h.numbers)
+numbered_code Tx1 before line after h f = f (All-middle IsNumberedLine before line after h.numbers)
 numbered_code Tx2 before line after h f = in_order before line after h f
 numbered_code Tx3 before line after h f = f
 numbered_code Tx4 before line after h f = f
@@ -152,11 +131,11 @@ given_middle before line after other =
     ∙ ap (λ l. given before ++ l) (given-other line after (false_from_ne_true (is_control line) other))
 
 rest_code : (before : Lines) (line : List ℕ) (after : Lines) (code : TextCode) → FollowChange (before ++ line ∷ after) → HasRestFault before line code → ⊥
-rest_code before line after Tx1 h f = f.1 (at_middle IsNumberedLine (given before) line (given after) (subst IsNumbered (given_middle before line after f.0) h.numbered).numbers)
+rest_code before line after Tx1 h f = f.1 (All-middle IsNumberedLine (given before) line (given after) (subst IsNumbered (given_middle before line after f.0) h.numbered).numbers)
 rest_code before line after Tx2 h f = f
 rest_code before line after Tx3 h f = f
 rest_code before line after Tx4 h f = f
-rest_code before line after Tx5 h f = f.1 (at_middle (λ l. IsTrue (is_control l) → IsSomeDelete l) before line after h.controls f.0)
+rest_code before line after Tx5 h f = f.1 (All-middle (λ l. IsTrue (is_control l) → IsSomeDelete l) before line after h.controls f.0)
 rest_code before line after Tx6 h f = in_order (given before) line (given after) (subst IsNumbered (given_middle before line after f.0) h.numbered) f.1
 
 -- An update has no fault.

@@ -3,7 +3,7 @@ use Rattle.std.proofs.Common.{◌≡◌, ◌<◌, ◌≤◌, ◌+◌, ◌⊎◌,
 use Rattle.std.specs.List.{All, Any}
 use Rattle.std.proofs.lemmas.Bool.{cases_lt}
 use Rattle.std.proofs.lemmas.List.{take-append-drop, drop_more, length-take-le, take_more}
-use Rattle.std.proofs.lemmas.List.Elements.{All-nil, All-push, All-weaker}
+use Rattle.std.proofs.lemmas.List.Elements.{All-push, All-weaker}
 use Rattle.std.proofs.lemmas.List.Quantifiers.{Any-push}
 use Rattle.terms.specs.declared.text_faults.TextCode.{TextCode}
 use Rattle.terms.specs.declared.text_faults.TextCode.TheVariants.{Tx1, Tx2}
@@ -11,7 +11,7 @@ use Rattle.terms.specs.declared.text_faults.TextFault.{TextFault}
 use Rattle.terms.specs.Types.{Lines}
 use Rattle.terms.specs.Texts.{IsNumberedLine, number_of, IsNumbered, BreaksOrder, HasNumberedFault, IsFirstFault, IsNumberedFault}
 use Rattle.terms.proofs.Texts.{Rises, Rises-numbered, increasing_from_Rises}
-use Rattle.terms.proofs.Updates.{any_here, any_later}
+use Rattle.lemmas.proofs.Each.{any_here, any_later}
 use Rattle.text80.specs.Rising.{IsNumberFault}
 
 -- These records are a numbered text, and the next number has to be `least` or higher.
@@ -19,13 +19,6 @@ pub record IsRead (seen : Lines) (least : ℕ) : Type 0 where
   pub numbered : IsNumbered seen
   pub below : All (λ b. number_of b < least) seen
   pub reached : (n : ℕ) → n < least → Any (λ b. n ≤ number_of b) seen
-
-pub read_none : IsRead [] 0
-read_none = record {
-  numbered = record { numbers = All-nil _; rising = λ k below. absurd (omega (arith, below)) };
-  below = All-nil _;
-  reached = λ n low. absurd (omega (arith, low));
-}
 
 rises_push : (least : ℕ) (seen : Lines) (line : List ℕ) → Rises least seen → All (λ b. number_of b < number_of line) seen → least ≤ number_of line → Rises least (seen ++ line ∷ [])
 rises_push least [] line h below from = (from, tt)

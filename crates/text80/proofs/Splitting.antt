@@ -1,11 +1,11 @@
 -- Splitting the records behind a CHANGE record into what they give and what they delete.
-use Rattle.std.proofs.Common.{◌≡◌, ◌<◌, ◌≤◌, ◌+◌, ◌⊎◌, ℕ, Bool, true, false, not, List, [], ◌∷◌, ◌++◌, length, take, drop, get_or, refl, sym, ◌∙◌, ap, subst, arith, inl, inr}
+use Rattle.std.proofs.Common.{◌≡◌, ◌<◌, ◌≤◌, ◌+◌, ℕ, Bool, true, false, not, List, [], ◌∷◌, ◌++◌, length, take, drop, get_or, sym, ◌∙◌, ap, subst, arith, inl, inr}
 use Rattle.std.specs.Prelude.{IsTrue, nat_le, ◌&&◌, ◌||◌}
-use Rattle.std.specs.List.{All, Any, list_any}
+use Rattle.std.specs.List.{All, list_any}
 use Rattle.std.specs.List.Sorted.{IsPermutation, IsNonDecreasingBy}
 use Rattle.std.proofs.lemmas.Bool.{cases_Bool, both_ways, and_parts, and_from, or_cases, or_left, or_right, leb-true, le-leb}
-use Rattle.std.proofs.lemmas.List.{append-nil, length-append, get_or_append_left, take_more, length-take-le, take_all}
-use Rattle.std.proofs.lemmas.List.Elements.{All-nil, All-push, filter-append}
+use Rattle.std.proofs.lemmas.List.{append-nil, take_more, length-take-le, take_all}
+use Rattle.std.proofs.lemmas.List.Elements.{All-push, filter-append}
 use Rattle.std.proofs.lemmas.List.Folds.{list_any-append}
 use Rattle.std.proofs.lemmas.List.Quantifiers.{Any-push}
 use Rattle.std.proofs.lemmas.List.Sorted.{list_any-IsPermutation}
@@ -15,26 +15,13 @@ use Rattle.terms.specs.declared.text_faults.TextFault.{TextFault}
 use Rattle.terms.specs.Types.{Text, Lines}
 use Rattle.terms.specs.Texts.{IsNumbered, IsNumberedLine, number_of, is_control, IsDelete, IsSomeDelete, given, Deletes, FollowChange, IsChange, IsUpdate, BreaksOrder, HasRestFault, IsFirstFault}
 use Rattle.terms.proofs.Controls.{begins_control, same_delete}
-use Rattle.terms.proofs.Updates.{any_here, any_later, any_cases, any_none, given-control, given-other, deletes-change}
+use Rattle.terms.proofs.Updates.{given-control, given-other, deletes-change}
+use Rattle.lemmas.proofs.Each.{any_later, Any-append_left, Any-push_cases}
 use Rattle.text80.specs.declared.control.Range.{Range}
 use Rattle.text80.specs.Rising.{IsNumberFault}
 use Rattle.text80.specs.Ranges.{covers, AreRangesOf}
 use Rattle.text80.specs.Updates.{StandsBefore, AreParts, IsSound}
-use Rattle.text80.proofs.Reading.{IsRead, read_none, read_more, split_at_place, breaks}
-
-any_append : {X : Type 0} (P : X → Type 0) (xs ys : List X) → Any P xs → Any P (xs ++ ys)
-any_append P xs ys a =
-    let len = length-append xs ys in
-    let below = a.2 in
-    (a.0, a.1, omega (arith, len, below), get_or_append_left xs ys a.1 a.0 below ∙ a.3, a.4)
-
-any_push_cases : {X : Type 0} (P : X → Type 0) (xs : List X) (y : X) → Any P (xs ++ y ∷ []) → Any P xs ⊎ P y
-any_push_cases P [] y a = elim (any_cases P y [] a) [ inl here ↦ inr here | inr none ↦ absurd (any_none P none) ]
-any_push_cases P (x ∷ xs) y a =
-    elim (any_cases P x (xs ++ y ∷ []) a) [
-      | inl here ↦ inl (any_here P x xs here)
-      | inr rest ↦ elim (any_push_cases P xs y rest) [ inl later ↦ inl (any_later P x xs later) | inr last ↦ inr last ]
-    ]
+use Rattle.text80.proofs.Reading.{IsRead, read_more, split_at_place, breaks}
 
 abbrev Hits : ℕ → List ℕ → Type 0
 Hits n line = (low high : ℕ) × IsDelete low high line × (low ≤ n) × (n ≤ high)
@@ -49,19 +36,11 @@ pub record IsSplit (seen givens : Lines) (ranges : List Range) (least : ℕ) : T
   pub read : IsRead givens least
   pub ranges_are : AreRangesOf seen ranges
 
-pub split_none : IsSplit [] [] [] 0
-split_none = record {
-  controls = All-nil _;
-  given_is = refl;
-  read = read_none;
-  ranges_are = λ n. (λ e. absurd (cc e), λ a. absurd (any_none (Hits n) a));
-}
-
 ranges_push : (seen : Lines) (line : List ℕ) (ranges : List Range) (r : Range) → IsDelete r.low r.high line → AreRangesOf seen ranges → AreRangesOf (seen ++ line ∷ []) (ranges ++ r ∷ [])
 ranges_push seen line ranges r d h n =
     let parts = list_any-append (holds_number n) ranges (r ∷ []) in (
       λ e. elim (or_cases (covers ranges n) (list_any (holds_number n) (r ∷ [])) (sym parts ∙ e)) [
-        | inl before ↦ any_append (Hits n) seen (line ∷ []) ((h n).0 before)
+        | inl before ↦ Any-append_left (Hits n) seen (line ∷ []) ((h n).0 before)
         | inr here ↦ elim (or_cases (holds_number n r) false here) [
           | inl holds ↦
               let p = and_parts (nat_le r.low n) (nat_le n r.high) holds in
@@ -69,7 +48,7 @@ ranges_push seen line ranges r d h n =
           | inr none ↦ absurd (cc none)
         ]
       ],
-      λ a. parts ∙ elim (any_push_cases (Hits n) seen line a) [
+      λ a. parts ∙ elim (Any-push_cases (Hits n) seen line a) [
         | inl before ↦ or_left (covers ranges n) (list_any (holds_number n) (r ∷ [])) ((h n).1 before)
         | inr hit ↦
             let same = same_delete line hit.0 hit.1 r.low r.high hit.2 d in
@@ -91,8 +70,8 @@ split_control seen givens ranges least line r h yes' d = record {
 
 ranges_other : (seen : Lines) (line : List ℕ) (ranges : List Range) → is_control line ≡ false → AreRangesOf seen ranges → AreRangesOf (seen ++ line ∷ []) ranges
 ranges_other seen line ranges no' h n = (
-  λ e. any_append (Hits n) seen (line ∷ []) ((h n).0 e),
-  λ a. elim (any_push_cases (Hits n) seen line a) [
+  λ e. Any-append_left (Hits n) seen (line ∷ []) ((h n).0 e),
+  λ a. elim (Any-push_cases (Hits n) seen line a) [
     | inl before ↦ (h n).1 before
     | inr hit ↦ absurd (both_ways (is_control line) no' (begins_control _ _ line hit.2.1))
   ],

@@ -8,6 +8,7 @@ use Rattle.std.proofs.lemmas.List.{drop_more, drop_all, append-nil, append_assoc
 use Rattle.std.proofs.lemmas.List.Elements.{All-tail, All-head, All-drop}
 use Rattle.std.proofs.lemmas.List.Folds.{list_any_none}
 use Rattle.std.proofs.lemmas.List.Sorted.{IsNonDecreasingBy-drop}
+use Rattle.lemmas.proofs.Booleans.{or_false}
 use Rattle.terms.specs.Types.{Lines}
 use Rattle.terms.specs.Texts.{IsNumberedLine, number_of, IsNumbered}
 use Rattle.terms.proofs.Texts.{Rises, Rises-numbered, Rises-lower}
@@ -60,14 +61,10 @@ none_covers n (r ∷ rs) h above =
     let later : r.low ≤ (get_or (r ∷ rs) k d).low = h 0 k d (omega arith) inside in
     and_left (nat_le (get_or (r ∷ rs) k d).low n) (nat_le n (get_or (r ∷ rs) k d).high) (lt-leb (get_or (r ∷ rs) k d).low n (omega (arith, later, above))))
 
-no_more : (b : Bool) → (b || false) ≡ b
-no_more true = refl
-no_more false = refl
-
 -- past the ranges that begin at or below the number, `reach` tells
 pub covered_by_reach : (all : List Range) (n : ℕ) (left : List Range) (reach : ℕ) → IsSwept all n left reach → IfSome (slice_get left 0) (λ r. n < r.low) → covers all n ≡ nat_lt n reach
 covered_by_reach all n left reach s above =
-    s.covered n (omega arith) ∙ ap (λ b. nat_lt n reach || b) (none_covers n left s.rising above) ∙ no_more (nat_lt n reach)
+    s.covered n (omega arith) ∙ ap (λ b. nat_lt n reach || b) (none_covers n left s.rising above) ∙ or_false (nat_lt n reach)
 
 -- records
 

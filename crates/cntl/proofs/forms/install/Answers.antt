@@ -1,6 +1,6 @@
 use Rattle.std.proofs.Common.{refl}
 use Rattle.std.proofs.lemmas.Result.{err_from_is_err_and}
-use Rattle.cntl.proofs.Formed.{excludes_more}
+use Rattle.operands.proofs.Failing.{excludes_more}
 use Rattle.cntl.proofs.forms.install.Goals as goal
 
 pub returns-in_err-selection-clause-bad : goal.returns-in_err-selection-clause-bad

@@ -1,6 +1,7 @@
 use Rattle.std.proofs.Common.{◌∙◌, ap}
 use Rattle.std.proofs.lemmas.Result.{err_from_is_err_and}
-use Rattle.cntl.proofs.Formed.{excludes_more, of_reject, of_apply}
+use Rattle.cntl.proofs.Formed.{of_reject, of_apply}
+use Rattle.operands.proofs.Failing.{excludes_more}
 use Rattle.cntl.specs.Views.{command_word_of}
 use Rattle.cntl.proofs.forms.read_operands.Goals as goal
 

@@ -1,5 +1,5 @@
 use Rattle.std.proofs.lemmas.Result.{err_from_is_err_and}
-use Rattle.cntl.proofs.Formed.{excludes_more}
+use Rattle.operands.proofs.Failing.{excludes_more}
 use Rattle.cntl.proofs.forms.selection.Goals as goal
 
 pub returns-in_err-functions-clause-bad : goal.returns-in_err-functions-clause-bad

@@ -4,7 +4,7 @@ use Rattle.terms.specs.Types.{Hold}
 use Rattle.terms.specs.Words.{Word, HasWords}
 use Rattle.terms.specs.HoldStatements.{IsHoldOf}
 use Rattle.mcs_statements.specs.KnownWords.{own_list}
-use Rattle.mcs_statements.proofs.Failing.{excludes_map}
+use Rattle.operands.proofs.Failing.{excludes_more}
 use Rattle.mcs.proofs.Holding.{OwnHoldOf, not_own, own_hold}
 use Rattle.mcs.proofs.holds.read_own_hold.Goals as goal
 
@@ -14,7 +14,7 @@ returns-in-Err-clause-bad c = λ rest h printable.
     let Own : Type 0 = (x : Hold) × OwnHoldOf c.args.sysmod.now own rest x in
     let Any : Type 0 = (ws : List Word) × (x : Hold) × HasWords rest ws × IsHoldOf own ws x in
     let pick : Own → Any = λ x. (x.1.0, x.0, x.1.1, x.1.2.hold) in
-    excludes_map c.in-Err.error Any Own pick (c.in-Err.ensures.bad rest h printable)
+    excludes_more c.in-Err.error Any Own pick (c.in-Err.ensures.bad rest h printable)
 
 pub returns-then-not-is_own-clause-bad : goal.returns-then-not-is_own-clause-bad
 returns-then-not-is_own-clause-bad c = λ rest h printable x.

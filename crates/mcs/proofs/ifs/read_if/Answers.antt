@@ -8,14 +8,15 @@ use Rattle.terms.proofs.Ids.{is_in-from_Contains, Contains-from_is_in}
 use Rattle.rec80.specs.Cursors.{text_of}
 use Rattle.rec80.specs.Views.{word_of}
 use Rattle.mcs_statements.specs.KnownWords.{own_list}
-use Rattle.mcs_statements.proofs.Failing.{excludes_map}
-use Rattle.mcs.proofs.Ending.{no_list, a_list}
+use Rattle.operands.proofs.Failing.{excludes_more}
+use Rattle.mcs.proofs.Ending.{no_list}
+use Rattle.lemmas.proofs.Options.{map-not_none}
 use Rattle.mcs.proofs.Conditions.{IfOf, words_are, function_of, ids_of, ids_are, if_is}
 use Rattle.mcs.proofs.ifs.read_if.Goals as goal
 
 pub returns-then-is_some-clause-bad : goal.returns-then-is_some-clause-bad
 returns-then-is_some-clause-bad c = λ rest h x.
-    a_list c.args.known.now.first.list text_of (sym c.is_some.ensures ∙ c.if-is_some.true) x.1.2.no_list
+    map-not_none c.args.known.now.first.list text_of (sym c.is_some.ensures ∙ c.if-is_some.true) x.1.2.no_list
 
 pub returns-in_default-clause-bad : goal.returns-in_default-clause-bad
 returns-in_default-clause-bad c = λ rest h x.
@@ -33,7 +34,7 @@ returns-in-Err-clause-bad c = λ rest h.
     let All : Type 0 = (i : IfReq) × IfOf c.args.sysmod.now (own_list c.args.known.now) rest i in
     let One : Type 0 = (ids : List Id) × HasSorted IsId (word_of c.in-Some.lists.req) ids in
     let pick : All → One = λ x. (x.0.req, ids_of c.args.sysmod.now (own_list c.args.known.now) x.1.0 x.0 rest (word_of c.in-Some.lists.fmid) (word_of c.in-Some.lists.req) x.1.1 x.1.2 l.0) in
-    excludes_map c.in-Err.error One All pick c.in-Err.ensures.bad
+    excludes_more c.in-Err.error One All pick c.in-Err.ensures.bad
 
 pub returns-then-contains-clause-bad : goal.returns-then-contains-clause-bad
 returns-then-contains-clause-bad c = λ rest h x.

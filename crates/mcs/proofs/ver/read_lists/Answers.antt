@@ -4,7 +4,7 @@ use Rattle.terms.specs.Types.{Id}
 use Rattle.terms.specs.Forms.{IsId}
 use Rattle.terms.specs.Operands.{operand, HasTexts}
 use Rattle.mcs.specs.VerOperands.{HasLists}
-use Rattle.mcs_statements.proofs.Failing.{excludes_map}
+use Rattle.operands.proofs.Failing.{excludes_more}
 use Rattle.mcs.proofs.ver.read_lists.Goals as goal
 
 pub returns-in_err-pre-clause-bad : goal.returns-in_err-pre-clause-bad
@@ -13,7 +13,7 @@ returns-in_err-pre-clause-bad c = λ ws h.
     let One : Type 0 = (ids : List Id) × HasTexts IsId (operand (codes "PRE") ws) ids in
     let All : Type 0 = (pre req sup npre del : List Id) × HasLists ws pre req sup npre del in
     let pick : All → One = λ l. (l.0, l.5.has_pre) in
-    rw (p.1, p.2) (excludes_map c.in_err-pre.field-0.0 One All pick (c.in_err-pre.ensures.bad ws h))
+    rw (p.1, p.2) (excludes_more c.in_err-pre.field-0.0 One All pick (c.in_err-pre.ensures.bad ws h))
 
 pub returns-in_err-req-clause-bad : goal.returns-in_err-req-clause-bad
 returns-in_err-req-clause-bad c = λ ws h.
@@ -21,7 +21,7 @@ returns-in_err-req-clause-bad c = λ ws h.
     let One : Type 0 = (ids : List Id) × HasTexts IsId (operand (codes "REQ") ws) ids in
     let All : Type 0 = (pre req sup npre del : List Id) × HasLists ws pre req sup npre del in
     let pick : All → One = λ l. (l.1, l.5.has_req) in
-    rw (p.1, p.2) (excludes_map c.in_err-req.field-0.0 One All pick (c.in_err-req.ensures.bad ws h))
+    rw (p.1, p.2) (excludes_more c.in_err-req.field-0.0 One All pick (c.in_err-req.ensures.bad ws h))
 
 pub returns-in_err-sup-clause-bad : goal.returns-in_err-sup-clause-bad
 returns-in_err-sup-clause-bad c = λ ws h.
@@ -29,7 +29,7 @@ returns-in_err-sup-clause-bad c = λ ws h.
     let One : Type 0 = (ids : List Id) × HasTexts IsId (operand (codes "SUP") ws) ids in
     let All : Type 0 = (pre req sup npre del : List Id) × HasLists ws pre req sup npre del in
     let pick : All → One = λ l. (l.2, l.5.has_sup) in
-    rw (p.1, p.2) (excludes_map c.in_err-sup.field-0.0 One All pick (c.in_err-sup.ensures.bad ws h))
+    rw (p.1, p.2) (excludes_more c.in_err-sup.field-0.0 One All pick (c.in_err-sup.ensures.bad ws h))
 
 pub returns-in_err-npre-clause-bad : goal.returns-in_err-npre-clause-bad
 returns-in_err-npre-clause-bad c = λ ws h.
@@ -37,7 +37,7 @@ returns-in_err-npre-clause-bad c = λ ws h.
     let One : Type 0 = (ids : List Id) × HasTexts IsId (operand (codes "NPRE") ws) ids in
     let All : Type 0 = (pre req sup npre del : List Id) × HasLists ws pre req sup npre del in
     let pick : All → One = λ l. (l.3, l.5.has_npre) in
-    rw (p.1, p.2) (excludes_map c.in_err-npre.field-0.0 One All pick (c.in_err-npre.ensures.bad ws h))
+    rw (p.1, p.2) (excludes_more c.in_err-npre.field-0.0 One All pick (c.in_err-npre.ensures.bad ws h))
 
 pub returns-in_err-del-clause-bad : goal.returns-in_err-del-clause-bad
 returns-in_err-del-clause-bad c = λ ws h.
@@ -45,4 +45,4 @@ returns-in_err-del-clause-bad c = λ ws h.
     let One : Type 0 = (ids : List Id) × HasTexts IsId (operand (codes "DELETE") ws) ids in
     let All : Type 0 = (pre req sup npre del : List Id) × HasLists ws pre req sup npre del in
     let pick : All → One = λ l. (l.4, l.5.has_del) in
-    rw (p.1, p.2) (excludes_map c.in_err-del.field-0.0 One All pick (c.in_err-del.ensures.bad ws h))
+    rw (p.1, p.2) (excludes_more c.in_err-del.field-0.0 One All pick (c.in_err-del.ensures.bad ws h))

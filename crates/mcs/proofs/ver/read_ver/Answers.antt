@@ -10,7 +10,7 @@ use Rattle.operands.specs.Left.{LeavesWords}
 use Rattle.mcs_statements.specs.KnownWords.{own_list}
 use Rattle.mcs.specs.VerOperands.{HasLists}
 use Rattle.mcs.proofs.NotNaming.{free_all, all_free}
-use Rattle.mcs_statements.proofs.Failing.{excludes_map}
+use Rattle.operands.proofs.Failing.{excludes_more}
 use Rattle.mcs.proofs.Versions.{HasVer, ver_is, lists_in, fmid_is, lists_are}
 use Rattle.mcs.proofs.ver.read_ver.Goals as goal
 use Rattle.mcs.proofs.ver.read_ver.Goals.{After-made_of-ver}
@@ -28,7 +28,7 @@ returns-in-Err-read_lists-clause-bad c = λ ws h.
     let All : Type 0 = (pre req sup npre del : List Id) × HasLists ws pre req sup npre del in
     let One : Type 0 = (v : Ver) × IsVerOf c.args.sysmod.now (own_list c.args.known.now) ws v in
     let pick : One → All = λ x. (x.0.pre, x.0.req, x.0.sup, x.0.npre, x.0.del, lists_in c.args.sysmod.now (own_list c.args.known.now) ws x.0 x.1) in
-    excludes_map c.in-Err-read_lists.error All One pick (c.in-Err-read_lists.ensures.bad ws h)
+    excludes_more c.in-Err-read_lists.error All One pick (c.in-Err-read_lists.ensures.bad ws h)
 
 same_id : (c : After-made_of-ver) → c.sysmod.inside.id ≡ c.args.sysmod.now.id
 same_id c = ap (λ (s : Sysmod). s.id) c.sysmod.view_is

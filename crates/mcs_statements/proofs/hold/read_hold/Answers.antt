@@ -8,7 +8,7 @@ use Rattle.terms.proofs.ExactWords.{words-only}
 use Rattle.operands.specs.Left.{LeavesWords}
 use Rattle.mcs_statements.specs.KnownWords.{own_list}
 use Rattle.mcs_statements.specs.Holds.{HasKey}
-use Rattle.mcs_statements.proofs.Failing.{excludes_map}
+use Rattle.operands.proofs.Failing.{excludes_more}
 use Rattle.mcs_statements.proofs.Holding.{key_of, hold_key}
 use Rattle.mcs_statements.proofs.Printables.{operand_printable}
 use Rattle.mcs_statements.proofs.hold.read_hold.Goals as goal
@@ -31,7 +31,7 @@ returns-in-Err-clause-bad c = λ rest h printable.
     let One : Type 0 = (comment : Option Text) × HasComment (operand (codes "COMMENT") y.0) comment in
     let All : Type 0 = (ws : List Word) × (hold : Hold) × HasWords rest ws × IsHoldOf (own_list c.args.known.now) ws hold in
     let pick : All → One = λ x. (x.1.comment, subst (λ l. HasComment (operand (codes "COMMENT") l) x.1.comment) (words-only rest x.0 y.0 x.2 y.1) x.3.comment) in
-    excludes_map c.in-Err.error One All pick (c.in-Err.ensures.bad y.0 (rest, h, y.1) (operand_printable rest y.0 (codes "COMMENT") printable y.1))
+    excludes_more c.in-Err.error One All pick (c.in-Err.ensures.bad y.0 (rest, h, y.1) (operand_printable rest y.0 (codes "COMMENT") printable y.1))
 
 pub returns-clause-ok : goal.returns-clause-ok
 returns-clause-ok c = λ rest h.

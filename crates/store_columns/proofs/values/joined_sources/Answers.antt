@@ -1,7 +1,7 @@
 use Rattle.std.proofs.Common.{◌≡◌, ◌∷◌, ◌++◌, take, rules, arith, sym, ap, ap₂, ◌∙◌}
 use Rattle.std.specs.List.{flat_map, join_with_byte}
 use Rattle.std.proofs.lemmas.List.{take_all}
-use Rattle.store_rows.proofs.Pieces.{joined_is}
+use Rattle.lemmas.proofs.Lists.{joined}
 use Rattle.store_columns.proofs.values.joined_sources.Goals as goal
 
 pub returns : goal.returns
@@ -11,4 +11,4 @@ returns c =
     let front : c.extend_from_slice.new.self.items ≡ first = search rules in
     let all : take c.loop-source.source-index rest ≡ rest = take_all c.loop-source.source-index rest (omega (arith, c.loop-source-test.false)) in
     let sources : c.args.sources.now ≡ first ∷ rest = search rules in
-    c.loop-source.invariant ∙ ap₂ (λ a b. a ++ flat_map (λ id. 44 ∷ id) b) front all ∙ joined_is first rest ∙ ap (join_with_byte 44) (sym sources)
+    c.loop-source.invariant ∙ ap₂ (λ a b. a ++ flat_map (λ id. 44 ∷ id) b) front all ∙ joined 44 first rest ∙ ap (join_with_byte 44) (sym sources)

@@ -7,7 +7,7 @@ use Rattle.store_sysmod_loads.specs.declared.flat.VerRow.{VerRow}
 use Rattle.store_sysmod_loads.specs.declared.flat.IfRow.{IfRow}
 use Rattle.store_sysmod_loads.specs.declared.flat.ElemRow.{ElemRow}
 use Rattle.store_sysmod_loads.specs.Built.{AreTaken}
-use Rattle.store_sysmod_loads.proofs.CellLemmas.{none_left}
+use Rattle.std.proofs.lemmas.List.{nil_from_length}
 use Rattle.store_sysmod_loads.proofs.RunLemmas.{next_left}
 use Rattle.store_sysmod_loads.proofs.FlatLemmas.{taken_step}
 use Rattle.store_sysmod_loads.proofs.building.assemble.Goals as goal
@@ -55,8 +55,8 @@ loop-head-preserved c =
 
 pub returns-clause-told : goal.returns-clause-told
 returns-clause-told c =
-    let vers : c.loop-head.vers.items ≡ [] = none_left c.loop-head.vers.items (grind (arith, common_steps)) in
-    let ifs : c.loop-head.ifs.items ≡ [] = none_left c.loop-head.ifs.items (grind (arith, common_steps)) in
-    let elems : c.loop-head.elems.items ≡ [] = none_left c.loop-head.elems.items (grind (arith, common_steps)) in
+    let vers : c.loop-head.vers.items ≡ [] = nil_from_length c.loop-head.vers.items (grind (arith, common_steps)) in
+    let ifs : c.loop-head.ifs.items ≡ [] = nil_from_length c.loop-head.ifs.items (grind (arith, common_steps)) in
+    let elems : c.loop-head.elems.items ≡ [] = nil_from_length c.loop-head.elems.items (grind (arith, common_steps)) in
     let there = subst (λ (heads : List HeadRow). AreTaken heads [] c.loop-head.vers.items c.loop-head.ifs.items c.loop-head.elems.items) (sym c.in_default.ensures.none) (vers, ifs, elems) in
     subst (λ (ss : List Sysmod). AreTaken c.args.heads.items ss c.args.vers.items c.args.ifs.items c.args.elems.items) (append-nil c.loop-head.sysmods.items) (c.loop-head.invariant.told [] there)

@@ -5,7 +5,8 @@ use Rattle.store_rows.proofs.InsideLemmas.{if_ok, on_ok_of}
 use Rattle.store_schema.specs.Tables.{sysmod, ver, ifreq, elem}
 use Rattle.store_schema.specs.Stands.{rows_of}
 use Rattle.store_sysmod_loads.specs.Flat.{row_of_head, row_of_ver, row_of_if, row_of_elem, HasHeadForms, HasVerRowForms, HasIfRowForms, HasElemRowForms}
-use Rattle.store_sysmod_loads.proofs.FlatLemmas.{recursion_weaker, rows_of_heads, rows_of_vers, rows_of_ifs, rows_of_elems}
+use Rattle.store_sysmod_loads.proofs.FlatLemmas.{rows_of_heads, rows_of_vers, rows_of_ifs, rows_of_elems}
+use Rattle.lemmas.proofs.Each.{recursion_weaker}
 use Rattle.store_sysmod_loads.proofs.Standing.{inventory_formed, inventory_rows}
 use Rattle.store_sysmod_loads.proofs.load.load_sysmods.Goals as goal
 

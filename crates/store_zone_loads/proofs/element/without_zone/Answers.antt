@@ -1,9 +1,8 @@
 use Rattle.std.proofs.Common.{◌≡◌, ◌∷◌, [], ◌++◌, map, length, sym, ap, ◌∙◌, append_assoc, append-nil, arith}
 use Rattle.std.specs.Vec.Iter.{into_iter_items}
-use Rattle.std.proofs.lemmas.List.{map-append}
+use Rattle.std.proofs.lemmas.List.{map-append, nil_from_length}
 use Rattle.zones.specs.declared.entries.Element.{Element}
 use Rattle.store_zone_loads.specs.declared.element.ElementRow.{ElementRow}
-use Rattle.store_zone_loads.proofs.Zones.{nothing_left}
 use Rattle.store_zone_loads.proofs.element.without_zone.Goals as goal
 
 element_of : ElementRow → Element
@@ -27,6 +26,6 @@ pub returns : goal.returns
 unfolding element_of
 returns c =
     let at = c.loop-row in
-    let empty : into_iter_items at.row-iterator ≡ [] = nothing_left _ (sym at.invariant.2 ∙ c.in-None.ensures.steps.0) in
+    let empty : into_iter_items at.row-iterator ≡ [] = nil_from_length _ (sym at.invariant.2 ∙ c.in-None.ensures.steps.0) in
     let all = sym (append-nil at.yielded) ∙ rw empty at at.invariant.0 ∙ c.into_iter-row-iterator.ensures.into_iter_gives.0 in
     at.invariant.1 ∙ ap (map element_of) all

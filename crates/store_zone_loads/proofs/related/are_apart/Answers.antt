@@ -2,7 +2,7 @@ use Rattle.std.proofs.Common.{◌≡◌, ◌<◌, ◌+◌, ◌∷◌, [], ◌++�
 use Rattle.std.specs.Prelude.{All, AllPairs}
 use Rattle.std.proofs.lemmas.List.{append-nil, take_more, take_all, get_or-take, get_or_default, length-take-le}
 use Rattle.std.proofs.lemmas.List.Elements.{All-nil}
-use Rattle.terms.proofs.RisingLists.{AllPairs-between}
+use Rattle.lemmas.proofs.Pairs.{AllPairs-between}
 use Rattle.store_zone_loads.specs.Related.{AreApart}
 use Rattle.store_zone_loads.proofs.related.are_apart.Goals as goal
 

@@ -1,7 +1,7 @@
 use Rattle.std.proofs.Common.{◌≡◌, ◌∙◌, [], ◌∷◌, ◌++◌, sym, ap, append_assoc}
 use Rattle.terms.specs.Types.{Hold}
 use Rattle.sysmods_holds.proofs.Internal.{at_middle, first_at, none_at}
-use Rattle.terms.proofs.GlobalGroups.{recursion-append}
+use Rattle.lemmas.proofs.Each.{recursion-append}
 use Rattle.std.proofs.Common.{subst, All, false, Some}
 use Rattle.std.specs.BTreeMap.{get}
 use Rattle.sysmods_holds.specs.Keys.{key_cmp}

@@ -1,17 +1,10 @@
-use Rattle.std.proofs.Common.{◌≡◌, ◌∙◌, true, sym, refl}
-use Rattle.std.specs.Ordering.{is_eq}
-use Rattle.std.specs.declared.cmp.Ordering.{Ordering}
-use Rattle.std.specs.declared.cmp.Ordering.TheVariants.{Less, Equal, Greater}
+use Rattle.std.proofs.Common.{◌∙◌, sym}
 use Rattle.std.proofs.lemmas.List.Filters.{dedup_is}
 use Rattle.std.proofs.lemmas.List.Kept.{IsStrictlySortedBy-dedup, Contains-dedup, Contains-from_dedup}
 use Rattle.std.proofs.lemmas.List.Sorted.{Contains-permutation, IsPermutation-sym}
+use Rattle.lemmas.proofs.Orderings.{Equal-from_is_eq}
 use Rattle.terms.proofs.RisingLists.{Rises-from_sorted}
 use Rattle.fields.proofs.lists.Rising.from_vec.Goals as goal
-
-Equal-from_is_eq : (r : Ordering) → is_eq r ≡ true → r ≡ Equal
-Equal-from_is_eq Less e = cc
-Equal-from_is_eq Equal e = refl
-Equal-from_is_eq Greater e = cc
 
 pub invariant_of-result : goal.invariant_of-result
 invariant_of-result g c =

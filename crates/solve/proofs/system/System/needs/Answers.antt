@@ -1,6 +1,6 @@
 use Rattle.std.specs.List.{All}
 use Rattle.terms.specs.Problem.{IsDemand}
-use Rattle.solve.proofs.Maps.{All-unmap}
+use Rattle.lemmas.proofs.Each.{All-unmap}
 use Rattle.solve.specs.Need.{demand}
 use Rattle.solve.proofs.system.System.needs.Goals as goal
 

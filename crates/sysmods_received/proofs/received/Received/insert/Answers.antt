@@ -1,10 +1,11 @@
-use Rattle.std.proofs.Common.{◌≡◌, ◌∙◌, ap, sym, subst, refl, List, is_some, false, None, Some, Option, Bool}
+use Rattle.std.proofs.Common.{◌≡◌, ◌∙◌, ap, sym, subst, refl, List, is_some, None, Bool}
 use Rattle.std.specs.Ordering.{nat_cmp}
 use Rattle.std.specs.Cmp.Lexicographic.{slice_cmp}
 use Rattle.std.specs.List.Sorted.{IsStrictlySortedBy}
 use Rattle.std.specs.declared.cmp.Ordering.{Ordering}
 use Rattle.std.specs.Map.{lookup, keys_of, values_of}
 use Rattle.std.specs.BTreeMap.{is_at, insert_entry}
+use Rattle.lemmas.proofs.Options.{None-from_is_some}
 use Rattle.terms.specs.Types.{Id, Sysmod}
 use Rattle.terms.specs.Rising.{with_item}
 use Rattle.sysmods_received.specs.Held.{found, IsHeld, IsKeyed}
@@ -18,10 +19,6 @@ C = slice_cmp nat_cmp
 -- whether there is one of the id
 there-is : (es : List (Id × Sysmod)) (xs : List Sysmod) (x : Id) (b : Bool) → IsKeyed es → values_of es ≡ xs → b ≡ is_some (lookup (is_at (slice_cmp nat_cmp x)) es) → is_some (found xs x) ≡ b
 there-is es xs x b k same e = ap (λ ys. is_some (found ys x)) (sym same) ∙ ap is_some (find-lookup es x k) ∙ sym e
-
-none-of : (o : Option Sysmod) → is_some o ≡ false → o ≡ None
-none-of None e = refl
-none-of (Some s) e = cc
 
 pub returns-then-contains_key-clause-back : goal.returns-then-contains_key-clause-back
 returns-then-contains_key-clause-back c =
@@ -57,6 +54,6 @@ returns-clause-ok c =
     let s = c.args.sysmod in
     let entries : c.insert.new.self.entries ≡ insert_entry C es s.id s = c.in_ok-insert.ensures.entries ∙ ap (λ x. insert_entry C es x s) (ap (λ r. r.id) c.sysmod.view_is) in
     let none : lookup (is_at (C s.id)) es ≡ None =
-    subst (λ x. lookup (is_at (C x)) es ≡ None) (ap (λ r. r.id) c.sysmod.view_is) (none-of (lookup (is_at (C c.sysmod.inside.id)) es) (sym c.contains_key.ensures ∙ c.if-contains_key.false)) in
+    subst (λ x. lookup (is_at (C x)) es ≡ None) (ap (λ r. r.id) c.sysmod.view_is) (None-from_is_some (lookup (is_at (C c.sysmod.inside.id)) es) (sym c.contains_key.ensures ∙ c.if-contains_key.false)) in
     rw (ap is_some (ap (found c.args.self.now) (ap (λ s. s.id) (sym c.sysmod.view_is))) ∙ there-is c.self.inside.by_id.entries c.args.self.now c.sysmod.inside.id c.contains_key.result c.self.invariant.keyed c.self.view_is c.contains_key.ensures ∙ c.if-contains_key.false)
     (ap values_of entries ∙ values-insert es s c.self.invariant.keyed c.self.invariant.sorted none ∙ ap (λ xs. with_item C (λ r. r.id) xs s) c.self.view_is)

@@ -1,6 +1,6 @@
 use Rattle.std.proofs.Common.{◌∙◌, ◌&&◌, ap}
 use Rattle.std.specs.Str.{bytes_eq}
-use Rattle.terms.proofs.Edits.{find-agree}
+use Rattle.lemmas.proofs.Searches.{find-agree}
 use Rattle.terms.proofs.ElementOrder.{eq-types}
 use Rattle.zones.proofs.zone.Zone.element.Goals as goal
 

@@ -1,0 +1,30 @@
+-- Booleans, beyond what std has on them.
+use Rattle.std.proofs.Common.{◌≡◌, ◌&&◌, Bool, refl, true, false, ◌||◌, not, sym, IsTrue, true≢false, List, [], ◌∷◌, map, ap, cond}
+
+pub and_assoc : (a b c : Bool) → (a && (b && c)) ≡ ((a && b) && c)
+and_assoc true b c = refl
+and_assoc false b c = refl
+
+pub or_false : (b : Bool) → (b || false) ≡ b
+or_false true = refl
+or_false false = refl
+
+-- two denials together
+pub neither : (a b : Bool) → IsTrue (not a && not b) → (a ≡ false) × (b ≡ false)
+neither true b fits = absurd (true≢false (sym fits))
+neither false true fits = absurd (true≢false (sym fits))
+neither false false fits = (refl, refl)
+
+pub both_none : (a b : Bool) → a ≡ false → b ≡ false → IsTrue (not a && not b)
+both_none a b e f = rw (e, f) refl
+
+-- flags turned round twice
+pub turned_twice : (flags : List Bool) → map not (map not flags) ≡ flags
+turned_twice [] = refl
+turned_twice (true ∷ bs) = ap (λ cs. true ∷ cs) (turned_twice bs)
+turned_twice (false ∷ bs) = ap (λ cs. false ∷ cs) (turned_twice bs)
+
+-- either way the same
+pub cond-same : {X : Type 0} (b : Bool) (x : X) → cond b x x ≡ x
+cond-same true x = refl
+cond-same false x = refl

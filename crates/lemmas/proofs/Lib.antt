@@ -1,0 +1,11 @@
+pub mod Booleans
+pub mod Options
+pub mod Each
+pub mod Orderings
+pub mod Members
+pub mod Places
+pub mod Searches
+pub mod Pairs
+pub mod Apart
+pub mod Lists
+pub mod Texts
