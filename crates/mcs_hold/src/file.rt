@@ -34,7 +34,7 @@ fn read_items(alloc: Global, groups: Groups<'_>) -> Result<Vec<HoldItem>, McsErr
 }
 
 /// The holds and releases of a hold file, or its first fault.
-pub fn read_hold_file(alloc: Global, bytes: &[u8]) -> Result<Vec<HoldItem>, McsError>
+pub fn read_hold(alloc: Global, bytes: &[u8]) -> Result<Vec<HoldItem>, McsError>
     ensures items { IfOk result (λ found. IsHoldFile bytes.now (items found.items)) }
     ensures good { (found : List AnyItem) → IsHoldFile bytes.now found → IfErr result (λ e. e ≡ Memory) }
     ensures fault { IfErr result (IsHoldFileError bytes.now) }

@@ -13,7 +13,7 @@ fn card(text: &[u8]) -> [u8; 80] {
 
 /// The first fault of these records.
 fn fault(rt: &HostRuntime, cards: &[[u8; 80]]) -> Option<(usize, McCode)> {
-    match read_hold_file(rt.alloc(), cards.as_flattened()) {
+    match read_hold(rt.alloc(), cards.as_flattened()) {
         Err(McsError::Fault { record, code }) => Some((record, code)),
         _ => None,
     }
@@ -21,7 +21,7 @@ fn fault(rt: &HostRuntime, cards: &[[u8; 80]]) -> Option<(usize, McCode)> {
 
 /// The number of items, if nothing is at fault.
 fn count(rt: &HostRuntime, cards: &[[u8; 80]]) -> Option<usize> {
-    match read_hold_file(rt.alloc(), cards.as_flattened()) {
+    match read_hold(rt.alloc(), cards.as_flattened()) {
         Ok(items) => Some(items.len()),
         Err(_) => None,
     }
@@ -35,7 +35,7 @@ fn hold_and_release(rt: HostRuntime) -> Result<(), Fail> {
         card(b"  COMMENT(  SEE THE /* LETTER (A), FIRST. ) ."),
         card(b"++RELEASE (UA00002) FMID(HAA1100), USER REASON(X)."),
     ];
-    let items = read_hold_file(rt.alloc(), cards.as_flattened())?;
+    let items = read_hold(rt.alloc(), cards.as_flattened())?;
     assert_eq!(rt; items.len(), 2);
     let HoldItem::Hold(hold) = &items[0] else {
         return Err(Fail::from("no hold"));

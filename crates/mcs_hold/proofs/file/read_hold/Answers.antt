@@ -3,7 +3,7 @@ use Rattle.terms.specs.declared.codes.McCode.TheVariants.{Mc4}
 use Rattle.mcs_statements.specs.declared.error.McsError.TheVariants.{Fault}
 use Rattle.mcs_hold.specs.Items.{items}
 use Rattle.mcs_hold.proofs.Filing.{file_items, file_fault, file_good, error_is}
-use Rattle.mcs_hold.proofs.file.read_hold_file.Goals as goal
+use Rattle.mcs_hold.proofs.file.read_hold.Goals as goal
 
 pub returns-in_default-clause-good : goal.returns-in_default-clause-good
 returns-in_default-clause-good c = λ found p.
