@@ -12,8 +12,6 @@ mod order;
 mod ptfin;
 mod said;
 mod statement;
-#[cfg(test)]
-mod tests;
 mod ver;
 
 pub use file::{Assign, Item};

@@ -3,8 +3,6 @@
 
 mod file;
 mod item;
-#[cfg(test)]
-mod tests;
 
 pub use file::read_hold;
 pub use item::HoldItem;

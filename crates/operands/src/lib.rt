@@ -6,8 +6,6 @@ mod find;
 mod lists;
 mod member;
 mod members;
-#[cfg(test)]
-mod tests;
 mod values;
 
 pub use errors::{BadOperand, OperandError};

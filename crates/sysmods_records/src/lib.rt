@@ -16,6 +16,3 @@ pub use hold::Hold;
 pub use sysmod::Sysmod;
 pub use terms::{ElemType, HoldKind, Kind};
 pub use ver::{IfReq, Ver};
-
-#[cfg(test)]
-mod tests;
