@@ -9,8 +9,9 @@ ghost use Rattle.cntl.specs.Views.{command_word_of, command_of};
 
 use crate::command::{Command, Install, ReceiveWhat, Selection};
 use crate::known_word::KnownWord;
-use crate::values::{flag_of, id_list, some_ids, source, source_list, zone};
-use operands::{BadOperand, OperandError};
+use crate::values::{flag_of, id_list, some_ids, source_list, zone};
+use fields::Source;
+use operands::{BadOperand, OperandError, optional};
 use rec80::Words;
 use std::alloc::Global;
 
@@ -20,7 +21,7 @@ fn receive(words: &Words<'_>) -> Result<ReceiveWhat, BadOperand>
 {
     let sysmods = flag_of(words, b"SYSMODS")?;
     let holddata = flag_of(words, b"HOLDDATA")?;
-    let source = source(words)?;
+    let source = optional::<Source>(words, b"SOURCEID")?;
     Ok(ReceiveWhat {
         sysmods: sysmods || !holddata,
         holddata: holddata || !sysmods,

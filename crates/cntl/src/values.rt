@@ -1,16 +1,16 @@
 //! The values of single operands.
-ghost use Rattle.std.specs.Prelude.{◌≡◌, ◌≤◌, ℕ, Bool, List, Option, codes, map, IfOk, IfErr, OnErr};
+ghost use Rattle.std.specs.Prelude.{◌≡◌, ◌≤◌, ℕ, Bool, List, codes, map, IfOk, IfErr, OnErr};
 ghost use Rattle.terms.specs.Forms.{IsId, IsSource, IsZoneName};
 ghost use Rattle.terms.specs.Words as grammar;
 ghost use Rattle.terms.specs.Words.{IsShort};
-ghost use Rattle.terms.specs.Operands.{operand, HasFlag, HasSorted, HasRequired, HasOptional};
+ghost use Rattle.terms.specs.Operands.{operand, HasFlag, HasSorted, HasRequired};
 ghost use Rattle.terms.specs.CommandForms.{HasShort, HasSome};
 ghost use Rattle.rec80.specs.Views.{word_of};
 ghost use Rattle.operands.specs.Left.{LeavesWords};
 ghost use Rattle.operands.specs.Failing.{Excludes};
 
 use fields::{Id, IdList, Rising, Source, SourceList, ZoneName};
-use operands::{BadOperand, Member, OperandError, flag, one_member, operand, rising};
+use operands::{BadOperand, Member, OperandError, flag, operand, required, rising};
 use rec80::{Word, Words};
 use std::alloc::Global;
 
@@ -27,36 +27,15 @@ pub fn flag_of(words: &Words<'_>, name: &[u8]) -> Result<bool, BadOperand>
 
 /// The zone that SET names.
 pub fn zone(words: &Words<'_>) -> Result<ZoneName, BadOperand>
-    ensures ok { (ws : List grammar.Word) → LeavesWords words.now ws → IfOk result (λ zone. HasRequired IsZoneName (operand (codes "BDY") ws) zone) }
-    ensures bad { (ws : List grammar.Word) → LeavesWords words.now ws → OnErr result ((zone : List ℕ) → HasRequired IsZoneName (operand (codes "BDY") ws) zone → ⊥) }
+    ensures ok { (ws : List grammar.Word) → LeavesWords words.now ws
+        → IfOk result (λ zone. HasRequired IsZoneName (operand (codes "BDY") ws) zone) }
+    ensures bad { (ws : List grammar.Word) → LeavesWords words.now ws
+        → OnErr result ((zone : List ℕ) → HasRequired IsZoneName (operand (codes "BDY") ws) zone → ⊥) }
 {
-    let Some(word) = operand(words, b"BDY") else {
-        return Err(BadOperand);
-    };
-    let Some(member) = one_member(&word) else {
-        return Err(BadOperand);
-    };
-    let Some(zone) = ZoneName::read(member) else {
-        return Err(BadOperand);
-    };
-    Ok(zone)
-}
-
-/// The source that RECEIVE adds, if it names one.
-pub fn source(words: &Words<'_>) -> Result<Option<Source>, BadOperand>
-    ensures ok { (ws : List grammar.Word) → LeavesWords words.now ws → IfOk result (λ source. HasOptional IsSource (operand (codes "SOURCEID") ws) source) }
-    ensures bad { (ws : List grammar.Word) → LeavesWords words.now ws → OnErr result ((source : Option (List ℕ)) → HasOptional IsSource (operand (codes "SOURCEID") ws) source → ⊥) }
-{
-    let Some(word) = operand(words, b"SOURCEID") else {
-        return Ok(None);
-    };
-    let Some(member) = one_member(&word) else {
-        return Err(BadOperand);
-    };
-    let Some(source) = Source::read(member) else {
-        return Err(BadOperand);
-    };
-    Ok(Some(source))
+    match required::<ZoneName>(words, b"BDY") {
+        Some(zone) => Ok(zone),
+        None => Err(BadOperand),
+    }
 }
 
 /// The members of the word's list in rising order, where they are no more than a list may have.

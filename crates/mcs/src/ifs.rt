@@ -8,15 +8,15 @@ ghost use Rattle.terms.specs.Ptfin.{is_last};
 ghost use Rattle.operands.specs.Failing.{Excludes};
 ghost use Rattle.rec80.specs.Views.{left_of, word_of};
 ghost use Rattle.mcs_statements.specs.KnownWords.{own_list};
-ghost use Rattle.mcs.specs.Files.{begun_of, begun_in};
-ghost use Rattle.mcs.specs.Said.{IsSaid, IsSaidError};
-ghost use Rattle.mcs.specs.Statements.{statement_of};
+ghost use Rattle.mcs.specs.Files.{begun_of};
+ghost use Rattle.mcs.specs.Said.{Says, Fails};
 
 use crate::ended::is_ended;
 use crate::file::Begun;
 use crate::said::Statement;
-use mcs_statements::{Known, StatementError, no_value, one_id};
-use operands::{OperandError, ids};
+use fields::Id;
+use mcs_statements::{Known, StatementError, no_value};
+use operands::{OperandError, ids, one};
 use rec80::{Word, Words};
 use std::alloc::Global;
 use sysmods_records::{IfReq, Sysmod, Ver};
@@ -96,7 +96,7 @@ fn read_if(alloc: Global, sysmod: &Sysmod, known: &Known<'_>) -> Result<IfReq, O
     let Some(lists) = read_lists(&known.rest) else {
         return Err(OperandError::Bad);
     };
-    let Some(function) = one_id(&lists.fmid) else {
+    let Some(function) = one::<Id>(&lists.fmid) else {
         return Err(OperandError::Bad);
     };
     let req = match ids(alloc, &lists.req) {
@@ -147,10 +147,8 @@ pub fn if_statement(
     known: &Known<'_>,
 ) -> Result<Statement, StatementError>
     requires { known.now.word ≡ word.If }
-    ensures said { (rest : List Piece) → HasSolid (left_of known.now.rest) rest
-        → IfOk result (λ s. IsSaid (begun_in current.now) known.now.word (own_list known.now) rest known.now.rest.inline.now (statement_of s)) }
-    ensures fault { (rest : List Piece) → HasSolid (left_of known.now.rest) rest
-        → IfErr result (IsSaidError (begun_in current.now) known.now.word (own_list known.now) rest known.now.rest.inline.now) }
+    ensures said { Says current.now known.now result }
+    ensures fault { Fails current.now known.now result }
 {
     let Some(begun) = current else {
         return Err(StatementError::Fault(McCode::Mc3));

@@ -7,7 +7,9 @@ ghost use Rattle.mcs_statements.specs.KnownWords.{own_list};
 ghost use Rattle.mcs.specs.Files.{begun_in};
 
 use crate::file::Begun;
-use mcs_statements::{Known, one_name, one_srel};
+use fields::{Name, Srel};
+use mcs_statements::Known;
+use operands::one;
 use rec80::Record;
 use sysmods_records::{Kind, Sysmod};
 use terms::{ElemType, StatementWord};
@@ -68,7 +70,7 @@ fn is_second_ver(sysmod: &Sysmod, known: &Known<'_>) -> bool
     requires { known.now.word ≡ word.Ver }
     ensures { IsTrue result ↔ IsSecond sysmod.now known.now.word (own_list known.now) }
 {
-    match one_srel(&known.first) {
+    match one::<Srel>(&known.first) {
         Some(srel) => sysmod.has_srel(srel),
         None => false,
     }
@@ -79,7 +81,7 @@ fn is_second_change(sysmod: &Sysmod, elem_type: ElemType, known: &Known<'_>) -> 
     requires { changed_type known.now.word ≡ Some elem_type }
     ensures { IsTrue result ↔ IsSecond sysmod.now known.now.word (own_list known.now) }
 {
-    match one_name(&known.first) {
+    match one::<Name>(&known.first) {
         Some(name) => sysmod.has_change(elem_type, name),
         None => false,
     }

@@ -4,26 +4,20 @@ ghost use Rattle.terms.specs.Types.{Ver as AnyVer};
 ghost use Rattle.std.specs.List.{list_all};
 ghost use Rattle.terms.specs.Lookups.{is_in};
 ghost use Rattle.terms.specs.Words as grammar;
-ghost use Rattle.terms.specs.Statement.{Piece, HasSolid};
 ghost use Rattle.terms.specs.Statements.{IsVerOf, SuitsKind, ver_operands, lists_of};
 ghost use Rattle.terms.specs.Operands.{AreOperands};
 ghost use Rattle.terms.specs.Words.{IsShort};
 ghost use Rattle.operands.specs.Left.{LeavesWords};
 ghost use Rattle.operands.specs.Failing.{Excludes};
-ghost use Rattle.rec80.specs.Views.{left_of};
 ghost use Rattle.mcs_statements.specs.KnownWords.{own_list};
 ghost use Rattle.mcs.specs.VerOperands.{HasLists};
-ghost use Rattle.mcs.specs.Files.{begun_in};
-ghost use Rattle.mcs.specs.Said.{IsSaid, IsSaidError};
-ghost use Rattle.mcs.specs.Statements.{statement_of};
+ghost use Rattle.mcs.specs.Said.{Says, Fails};
 
 use crate::file::Begun;
 use crate::said::Statement;
 use fields::{Id, IdList, Srel};
-use mcs_statements::{
-    Known, StatementError, are_operands, listed_ids, no_value, one_srel, optional_id,
-};
-use operands::{OperandError, operand};
+use mcs_statements::{Known, StatementError, are_operands, listed_ids, no_value};
+use operands::{OperandError, one, operand, optional};
 use rec80::Words;
 use std::alloc::Global;
 use sysmods_records::{Kind, Sysmod, Ver};
@@ -132,13 +126,13 @@ fn read_ver(alloc: Global, sysmod: &Sysmod, known: &Known<'_>) -> Result<Ver, Op
     ensures bad { (ws : List grammar.Word) → LeavesWords known.now.rest ws
         → IfErr result (λ e. Excludes e ((v : AnyVer) × IsVerOf sysmod.now (own_list known.now) ws v)) }
 {
-    let Some(srel) = one_srel(&known.first) else {
+    let Some(srel) = one::<Srel>(&known.first) else {
         return Err(OperandError::Bad);
     };
     if !suits_kind(sysmod.kind, &known.rest) {
         return Err(OperandError::Bad);
     }
-    let fmid = match optional_id(&known.rest, b"FMID") {
+    let fmid = match optional::<Id>(&known.rest, b"FMID") {
         Ok(fmid) => fmid,
         Err(_) => return Err(OperandError::Bad),
     };
@@ -181,10 +175,8 @@ pub fn ver_statement(
     known: &Known<'_>,
 ) -> Result<Statement, StatementError>
     requires { known.now.word ≡ word.Ver }
-    ensures said { (rest : List Piece) → HasSolid (left_of known.now.rest) rest
-        → IfOk result (λ s. IsSaid (begun_in current.now) known.now.word (own_list known.now) rest known.now.rest.inline.now (statement_of s)) }
-    ensures fault { (rest : List Piece) → HasSolid (left_of known.now.rest) rest
-        → IfErr result (IsSaidError (begun_in current.now) known.now.word (own_list known.now) rest known.now.rest.inline.now) }
+    ensures said { Says current.now known.now result }
+    ensures fault { Fails current.now known.now result }
 {
     let Some(begun) = current else {
         return Err(StatementError::Fault(McCode::Mc3));

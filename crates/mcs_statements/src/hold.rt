@@ -12,10 +12,9 @@ ghost use Rattle.mcs_statements.specs.Holds.{HasKey, ArePrintable};
 use crate::begin::Known;
 use crate::comment::optional_comment;
 use crate::kind::kind_word;
-use crate::own::one_id;
-use crate::values::{are_operands, optional_class, optional_date, required_id, required_reason};
-use fields::{Id, Reason};
-use operands::{BadOperand, OperandError};
+use crate::values::{are_operands, required_reason};
+use fields::{Class, HoldDate, Id, Reason};
+use operands::{BadOperand, OperandError, one, optional, required};
 use std::alloc::Global;
 use std::marker::Model;
 use sysmods_records::Hold;
@@ -56,13 +55,13 @@ fn read_key(known: &Known<'_>) -> Option<Release>
     ensures some { (ws : List grammar.Word) → LeavesWords known.now.rest ws → IfSome result (λ r. HasKey (own_list known.now) ws r) }
     ensures none { (ws : List grammar.Word) → LeavesWords known.now.rest ws → IfNone result ((r : AnyRelease) → HasKey (own_list known.now) ws r → ⊥) }
 {
-    let Some(id) = one_id(&known.first) else {
+    let Some(id) = one::<Id>(&known.first) else {
         return None;
     };
     let Some(kind) = kind_word(&known.rest) else {
         return None;
     };
-    let Some(fmid) = required_id(&known.rest, b"FMID") else {
+    let Some(fmid) = required::<Id>(&known.rest, b"FMID") else {
         return None;
     };
     let Some(reason) = required_reason(kind, &known.rest, b"REASON") else {
@@ -106,10 +105,10 @@ pub fn read_hold(alloc: Global, known: &Known<'_>, internal: bool) -> Result<Hol
     let Some(key) = read_key(known) else {
         return Err(OperandError::Bad);
     };
-    let Ok(class) = optional_class(&known.rest, b"CLASS") else {
+    let Ok(class) = optional::<Class>(&known.rest, b"CLASS") else {
         return Err(OperandError::Bad);
     };
-    let Ok(date) = optional_date(&known.rest, b"DATE") else {
+    let Ok(date) = optional::<HoldDate>(&known.rest, b"DATE") else {
         return Err(OperandError::Bad);
     };
     let comment = match optional_comment(alloc, &known.rest, b"COMMENT") {
