@@ -26,9 +26,11 @@ const OPERANDS: &[&[u8]] = &[b"SOURCEID", b"TO"];
 
 /// The ids of the operand, which must be there, as they stand.
 fn required_ids(alloc: Global, words: &Words<'_>, name: &[u8]) -> Result<Vec<Id>, OperandError>
-    ensures ok { (ws : List grammar.Word) → LeavesWords words.now ws → IfOk result (λ ids. IsSomeAnd (operand name.now ws) (λ w. HasListed IsId w ids.items)) }
+    ensures ok { (ws : List grammar.Word) → LeavesWords words.now ws
+        → IfOk result (λ ids. IsSomeAnd (operand name.now ws) (λ w. HasListed IsId w ids.items)) }
     ensures bad { (ws : List grammar.Word) → LeavesWords words.now ws
-        → IfErr result (λ e. Excludes e ((ids : List (List ℕ)) × IsSomeAnd (operand name.now ws) (λ w. HasListed IsId w ids))) }
+        → IfErr result (λ e. Excludes e ((ids : List (List ℕ))
+        × IsSomeAnd (operand name.now ws) (λ w. HasListed IsId w ids))) }
 {
     let Some(word) = operand(words, name) else {
         return Err(OperandError::Bad);
@@ -39,9 +41,11 @@ fn required_ids(alloc: Global, words: &Words<'_>, name: &[u8]) -> Result<Vec<Id>
 /// The `++ASSIGN`.
 fn read_assign(alloc: Global, known: &Known<'_>) -> Result<Assign, OperandError>
     ensures ok { (rest : List Piece) → HasSolid (left_of known.now.rest) rest
-        → IfOk result (λ a. (ws : List grammar.Word) × grammar.HasWords rest ws × IsAssignOf (own_list known.now) ws a) }
+        → IfOk result (λ a. (ws : List grammar.Word) × grammar.HasWords rest ws
+        × IsAssignOf (own_list known.now) ws a) }
     ensures bad { (rest : List Piece) → HasSolid (left_of known.now.rest) rest
-        → IfErr result (λ e. Excludes e ((a : AnyAssign) × ((ws : List grammar.Word) × grammar.HasWords rest ws × IsAssignOf (own_list known.now) ws a))) }
+        → IfErr result (λ e. Excludes e ((a : AnyAssign) × ((ws : List grammar.Word) × grammar.HasWords rest ws
+        × IsAssignOf (own_list known.now) ws a))) }
 {
     if known.first.list.is_some() {
         return Err(OperandError::Bad);

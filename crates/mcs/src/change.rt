@@ -35,9 +35,11 @@ struct Names {
 
 fn read_names(known: &Known<'_>) -> Option<Names>
     ensures some { (rest : List Piece) → HasSolid (left_of known.now.rest) rest
-        → IfSome result (λ n. (ws : List grammar.Word) × grammar.HasWords rest ws × HasNames (own_list known.now) ws n.name n.distlib n.syslib) }
+        → IfSome result (λ n. (ws : List grammar.Word) × grammar.HasWords rest ws
+        × HasNames (own_list known.now) ws n.name n.distlib n.syslib) }
     ensures none { (rest : List Piece) → HasSolid (left_of known.now.rest) rest
-        → IfNone result ((ws : List grammar.Word) (name distlib syslib : List ℕ) → grammar.HasWords rest ws → HasNames (own_list known.now) ws name distlib syslib → ⊥) }
+        → IfNone result ((ws : List grammar.Word) (name distlib syslib : List ℕ) → grammar.HasWords rest ws
+        → HasNames (own_list known.now) ws name distlib syslib → ⊥) }
 {
     if !are_operands(&known.rest, OPERANDS) {
         return None;
@@ -180,7 +182,8 @@ pub fn update_statement(
 
 /// Whether the SYSMOD may have one element more, and the text is no longer than the limit.
 fn is_within(current: &Option<Begun>, inline: &[Record]) -> bool
-    ensures { IsTrue result ↔ (IfSome (begun_in current.now) (λ b. length b.sysmod.changes < 999) × (length inline.now ≤ 99999)) }
+    ensures { IsTrue result ↔ (IfSome (begun_in current.now) (λ b. length b.sysmod.changes < 999)
+        × (length inline.now ≤ 99999)) }
 {
     let fits = match current {
         Some(begun) => begun.sysmod.changes.len() < 999,

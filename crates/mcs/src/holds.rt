@@ -29,9 +29,11 @@ fn is_own(sysmod: &Sysmod, hold: &Hold) -> bool
 /// The `++HOLD` of the SYSMOD.
 fn read_own_hold(alloc: Global, sysmod: &Sysmod, known: &Known<'_>) -> Result<Hold, OperandError>
     ensures ok { (rest : List Piece) → HasSolid (left_of known.now.rest) rest
-        → IfOk result (λ h. (ws : List grammar.Word) × grammar.HasWords rest ws × IsOwnHoldOf sysmod.now (own_list known.now) ws h) }
+        → IfOk result (λ h. (ws : List grammar.Word) × grammar.HasWords rest ws
+        × IsOwnHoldOf sysmod.now (own_list known.now) ws h) }
     ensures bad { (rest : List Piece) → HasSolid (left_of known.now.rest) rest → ArePrintable rest
-        → IfErr result (λ e. Excludes e ((h : AnyHold) × ((ws : List grammar.Word) × grammar.HasWords rest ws × IsOwnHoldOf sysmod.now (own_list known.now) ws h))) }
+        → IfErr result (λ e. Excludes e ((h : AnyHold) × ((ws : List grammar.Word) × grammar.HasWords rest ws
+        × IsOwnHoldOf sysmod.now (own_list known.now) ws h))) }
 {
     let hold = match read_hold(alloc, known, true) {
         Ok(hold) => hold,

@@ -110,7 +110,9 @@ fn is_update_in_function(sysmod: &Sysmod, word: StatementWord) -> bool
 
 /// Whether the statement is out of order behind the statements so far.
 pub fn is_misplaced(current: &Option<Begun>, later: &[Record], known: &Known<'_>) -> bool
-    ensures { IsTrue result ↔ ((why : Disorder) × IsMisplaced (sysmod_in (begun_in current.now)) later.now known.now.word (own_list known.now) known.now.rest.inline.now why) }
+    ensures { IsTrue result ↔ ((why : Disorder)
+        × IsMisplaced (sysmod_in (begun_in current.now)) later.now known.now.word (own_list known.now)
+        known.now.rest.inline.now why) }
 {
     if !may_stand(current, known.word) {
         return true;

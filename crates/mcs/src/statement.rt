@@ -50,8 +50,10 @@ pub fn read_statement(
     later: &[Record],
     group: &Group<'_>,
 ) -> Result<Statement, StatementError>
-    ensures good { IfOk result (λ s. IsGoodStatement (begun_in current.now) later.now group.now.records.now (statement_of s)) }
-    ensures fault { All IsRecord group.now.records.now → IfErr result (IsStatementError (begun_in current.now) later.now group.now.records.now) }
+    ensures good { IfOk result (λ s. IsGoodStatement (begun_in current.now) later.now group.now.records.now
+        (statement_of s)) }
+    ensures fault { All IsRecord group.now.records.now
+        → IfErr result (IsStatementError (begun_in current.now) later.now group.now.records.now) }
 {
     let known = match begun(group) {
         Ok(known) => known,

@@ -79,7 +79,8 @@ fn has_fmid(ver: &Ver, id: Id) -> bool
 }
 
 fn read_lists(alloc: Global, words: &Words<'_>) -> Result<VerLists, OperandError>
-    ensures ok { (ws : List grammar.Word) → LeavesWords words.now ws → IfOk result (λ lists. HasLists ws lists.pre lists.req lists.sup lists.npre lists.del) }
+    ensures ok { (ws : List grammar.Word) → LeavesWords words.now ws
+        → IfOk result (λ lists. HasLists ws lists.pre lists.req lists.sup lists.npre lists.del) }
     ensures bad { (ws : List grammar.Word) → LeavesWords words.now ws
         → IfErr result (λ e. Excludes e ((pre req sup npre del : List (List ℕ)) × HasLists ws pre req sup npre del)) }
 {
@@ -98,7 +99,16 @@ fn read_lists(alloc: Global, words: &Words<'_>) -> Result<VerLists, OperandError
 }
 
 fn made_of(alloc: Global, srel: Srel, fmid: Option<Id>, lists: VerLists) -> Ver
-    ensures { result ≡ record { srel = srel; fmid = fmid; pre = lists.pre; req = lists.req; sup = lists.sup; npre = lists.npre; del = lists.del; ifs = [] } }
+    ensures { result ≡ record {
+      srel = srel;
+      fmid = fmid;
+      pre = lists.pre;
+      req = lists.req;
+      sup = lists.sup;
+      npre = lists.npre;
+      del = lists.del;
+      ifs = [];
+    } }
 {
     let VerLists {
         pre,

@@ -52,8 +52,10 @@ impl Model for Release {
 
 /// The key of a hold and its FMID.
 fn read_key(known: &Known<'_>) -> Option<Release>
-    ensures some { (ws : List grammar.Word) → LeavesWords known.now.rest ws → IfSome result (λ r. HasKey (own_list known.now) ws r) }
-    ensures none { (ws : List grammar.Word) → LeavesWords known.now.rest ws → IfNone result ((r : AnyRelease) → HasKey (own_list known.now) ws r → ⊥) }
+    ensures some { (ws : List grammar.Word) → LeavesWords known.now.rest ws
+        → IfSome result (λ r. HasKey (own_list known.now) ws r) }
+    ensures none { (ws : List grammar.Word) → LeavesWords known.now.rest ws → IfNone result ((r : AnyRelease)
+        → HasKey (own_list known.now) ws r → ⊥) }
 {
     let Some(id) = one::<Id>(&known.first) else {
         return None;
@@ -78,9 +80,11 @@ fn read_key(known: &Known<'_>) -> Option<Release>
 /// What a `++RELEASE` says.
 pub fn read_release(known: &Known<'_>) -> Result<Release, BadOperand>
     ensures ok { (rest : List Piece) → HasSolid (left_of known.now.rest) rest
-        → IfOk result (λ r. (ws : List grammar.Word) × grammar.HasWords rest ws × IsReleaseOf (own_list known.now) ws r) }
+        → IfOk result (λ r. (ws : List grammar.Word) × grammar.HasWords rest ws
+        × IsReleaseOf (own_list known.now) ws r) }
     ensures bad { (rest : List Piece) → HasSolid (left_of known.now.rest) rest
-        → OnErr result ((ws : List grammar.Word) (r : AnyRelease) → grammar.HasWords rest ws → IsReleaseOf (own_list known.now) ws r → ⊥) }
+        → OnErr result ((ws : List grammar.Word) (r : AnyRelease) → grammar.HasWords rest ws
+        → IsReleaseOf (own_list known.now) ws r → ⊥) }
 {
     if !are_operands(&known.rest, RELEASE_OPERANDS) {
         return Err(BadOperand);
@@ -97,7 +101,8 @@ pub fn read_hold(alloc: Global, known: &Known<'_>, internal: bool) -> Result<Hol
         → IfOk result (λ h. (ws : List grammar.Word) × grammar.HasWords rest ws × IsHoldOf (own_list known.now) ws h) }
     ensures internal { IfOk result (λ h. h.internal ≡ internal) }
     ensures bad { (rest : List Piece) → HasSolid (left_of known.now.rest) rest → ArePrintable rest
-        → IfErr result (λ e. Excludes e ((ws : List grammar.Word) × (h : AnyHold) × grammar.HasWords rest ws × IsHoldOf (own_list known.now) ws h)) }
+        → IfErr result (λ e. Excludes e ((ws : List grammar.Word) × (h : AnyHold) × grammar.HasWords rest ws
+        × IsHoldOf (own_list known.now) ws h)) }
 {
     if !are_operands(&known.rest, HOLD_OPERANDS) {
         return Err(OperandError::Bad);

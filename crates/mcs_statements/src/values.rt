@@ -27,7 +27,8 @@ pub fn are_operands(words: &Words<'_>, names: &[&[u8]]) -> bool
     ensures yes { (pieces : List Piece) → HasSolid (left_of words.now) pieces → IsTrue result
         → (ws : List grammar.Word) × grammar.HasWords pieces ws × AreOperands (map (λ name. name.now) names.now) ws }
     ensures no { (pieces : List Piece) → HasSolid (left_of words.now) pieces → result ≡ false
-        → (ws : List grammar.Word) → grammar.HasWords pieces ws → AreOperands (map (λ name. name.now) names.now) ws → ⊥ }
+        → (ws : List grammar.Word) → grammar.HasWords pieces ws → AreOperands (map (λ name. name.now) names.now) ws
+        → ⊥ }
 {
     let mut left = *words;
     loop {
@@ -74,8 +75,10 @@ pub fn required_reason(kind: HoldKind, words: &Words<'_>, name: &[u8]) -> Option
 
 /// The ids of an operand, none where it is absent.
 pub fn listed_ids(alloc: Global, words: &Words<'_>, name: &[u8]) -> Result<IdList, OperandError>
-    ensures ok { (ws : List grammar.Word) → LeavesWords words.now ws → IfOk result (λ ids. HasTexts IsId (operand name.now ws) ids) }
-    ensures bad { (ws : List grammar.Word) → LeavesWords words.now ws → IfErr result (λ e. Excludes e ((ids : List (List ℕ)) × HasTexts IsId (operand name.now ws) ids)) }
+    ensures ok { (ws : List grammar.Word) → LeavesWords words.now ws
+        → IfOk result (λ ids. HasTexts IsId (operand name.now ws) ids) }
+    ensures bad { (ws : List grammar.Word) → LeavesWords words.now ws
+        → IfErr result (λ e. Excludes e ((ids : List (List ℕ)) × HasTexts IsId (operand name.now ws) ids)) }
 {
     let Some(word) = operand(words, name) else {
         return Ok(IdList::new(alloc));

@@ -32,7 +32,7 @@ pub returns-clause-fault : goal.returns-clause-fault
 returns-clause-fault c = λ each.
     let k = c.in-Ok.ensures.ok in
     let printable = known_printable c.args.group.now.records.now c.in-Ok.known.word (own_list c.in-Ok.known) k.0
-      c.in-Ok.known.rest.inline.now each k.1 in
+    c.in-Ok.known.rest.inline.now each k.1 in
     bad_statement (begun_in c.args.current.now) c.args.later.now c.args.group.now.records.now c.in-Ok.known.word
     (own_list c.in-Ok.known) k.0 c.in-Ok.known.rest.inline.now c.said_by.result
     (at (goal.at.returns-clause-fault c).Else-is_misplaced) (c.said_by.ensures.fault k.0 k.2 printable)
