@@ -29,7 +29,8 @@ pub fn flag(found: &Option<Word<'_>>) -> Result<bool, BadOperand>
 /// The only member of the word's list.
 pub fn one_member<'a>(word: &Word<'a>) -> Option<&'a [u8]>
     ensures one { IfSome result (λ m. IsSomeAnd (word_of word.now).list (λ text. HasMembers text (plain m.now ∷ []))) }
-    ensures none { IfNone result ((m : List ℕ) → IsSomeAnd (word_of word.now).list (λ text. HasMembers text (plain m ∷ [])) → ⊥) }
+    ensures none { IfNone result ((m : List ℕ) → IsSomeAnd (word_of word.now).list
+        (λ text. HasMembers text (plain m ∷ [])) → ⊥) }
 {
     let list = word.list?;
     let mut members = list.members();
