@@ -19,8 +19,10 @@ const MOST: usize = 1000;
 
 /// Whether the operand of that name is there, which has no list.
 pub fn flag_of(words: &Words<'_>, name: &[u8]) -> Result<bool, BadOperand>
-    ensures ok { (ws : List grammar.Word) → LeavesWords words.now ws → IfOk result (λ flag. HasFlag (operand name.now ws) flag) }
-    ensures bad { (ws : List grammar.Word) → LeavesWords words.now ws → OnErr result ((flag : Bool) → HasFlag (operand name.now ws) flag → ⊥) }
+    ensures ok { (ws : List grammar.Word) → LeavesWords words.now ws
+        → IfOk result (λ flag. HasFlag (operand name.now ws) flag) }
+    ensures bad { (ws : List grammar.Word) → LeavesWords words.now ws → OnErr result ((flag : Bool)
+        → HasFlag (operand name.now ws) flag → ⊥) }
 {
     flag(&operand(words, name))
 }
@@ -40,8 +42,10 @@ pub fn zone(words: &Words<'_>) -> Result<ZoneName, BadOperand>
 
 /// The members of the word's list in rising order, where they are no more than a list may have.
 fn short_list<T: Member>(alloc: Global, word: &Word<'_>) -> Result<Rising<T>, OperandError>
-    ensures ok { IfOk result (λ list. HasSorted T.form (word_of word.now) (map T.text list) × IsShort (map T.text list)) }
-    ensures bad { IfErr result (λ e. Excludes e ((values : List (List ℕ)) × (HasSorted T.form (word_of word.now) values × IsShort values))) }
+    ensures ok { IfOk result (λ list. HasSorted T.form (word_of word.now) (map T.text list)
+        × IsShort (map T.text list)) }
+    ensures bad { IfErr result (λ e. Excludes e ((values : List (List ℕ))
+        × (HasSorted T.form (word_of word.now) values × IsShort values))) }
 {
     let list: Rising<T> = rising(alloc, word)?;
     if list.len() > MOST {
@@ -52,8 +56,10 @@ fn short_list<T: Member>(alloc: Global, word: &Word<'_>) -> Result<Rising<T>, Op
 
 /// The ids of an operand, none where it is absent.
 pub fn id_list(alloc: Global, words: &Words<'_>, name: &[u8]) -> Result<IdList, OperandError>
-    ensures ok { (ws : List grammar.Word) → LeavesWords words.now ws → IfOk result (λ list. HasShort IsId (operand name.now ws) list) }
-    ensures bad { (ws : List grammar.Word) → LeavesWords words.now ws → IfErr result (λ e. Excludes e ((list : List (List ℕ)) × HasShort IsId (operand name.now ws) list)) }
+    ensures ok { (ws : List grammar.Word) → LeavesWords words.now ws
+        → IfOk result (λ list. HasShort IsId (operand name.now ws) list) }
+    ensures bad { (ws : List grammar.Word) → LeavesWords words.now ws
+        → IfErr result (λ e. Excludes e ((list : List (List ℕ)) × HasShort IsId (operand name.now ws) list)) }
 {
     match operand(words, name) {
         Some(word) => short_list::<Id>(alloc, &word),
@@ -63,8 +69,10 @@ pub fn id_list(alloc: Global, words: &Words<'_>, name: &[u8]) -> Result<IdList, 
 
 /// The ids of an operand that must be there.
 pub fn some_ids(alloc: Global, words: &Words<'_>, name: &[u8]) -> Result<IdList, OperandError>
-    ensures ok { (ws : List grammar.Word) → LeavesWords words.now ws → IfOk result (λ list. HasSome IsId (operand name.now ws) list) }
-    ensures bad { (ws : List grammar.Word) → LeavesWords words.now ws → IfErr result (λ e. Excludes e ((list : List (List ℕ)) × HasSome IsId (operand name.now ws) list)) }
+    ensures ok { (ws : List grammar.Word) → LeavesWords words.now ws
+        → IfOk result (λ list. HasSome IsId (operand name.now ws) list) }
+    ensures bad { (ws : List grammar.Word) → LeavesWords words.now ws
+        → IfErr result (λ e. Excludes e ((list : List (List ℕ)) × HasSome IsId (operand name.now ws) list)) }
 {
     match operand(words, name) {
         Some(word) => short_list::<Id>(alloc, &word),
@@ -78,8 +86,10 @@ pub fn source_list(
     words: &Words<'_>,
     name: &[u8],
 ) -> Result<SourceList, OperandError>
-    ensures ok { (ws : List grammar.Word) → LeavesWords words.now ws → IfOk result (λ list. HasShort IsSource (operand name.now ws) list) }
-    ensures bad { (ws : List grammar.Word) → LeavesWords words.now ws → IfErr result (λ e. Excludes e ((list : List (List ℕ)) × HasShort IsSource (operand name.now ws) list)) }
+    ensures ok { (ws : List grammar.Word) → LeavesWords words.now ws
+        → IfOk result (λ list. HasShort IsSource (operand name.now ws) list) }
+    ensures bad { (ws : List grammar.Word) → LeavesWords words.now ws
+        → IfErr result (λ e. Excludes e ((list : List (List ℕ)) × HasShort IsSource (operand name.now ws) list)) }
 {
     match operand(words, name) {
         Some(word) => short_list::<Source>(alloc, &word),
