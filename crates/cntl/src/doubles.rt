@@ -24,8 +24,11 @@ fn is_named(piece: &Piece<'_>, name: &[u8]) -> bool
 
 /// What stands behind the first word of that name.
 fn behind_word<'a>(words: &Words<'a>, name: &[u8]) -> Option<Words<'a>>
-    ensures found { IfSome result (λ after. (pieces : List AnyPiece) → LeavesPieces words.now pieces → (rest : List AnyPiece) × LeavesPieces after rest × (count name.now (words_in pieces) ≡ 1 + count name.now (words_in rest))) }
-    ensures none { IfNone result ((pieces : List AnyPiece) → LeavesPieces words.now pieces → count name.now (words_in pieces) ≡ 0) }
+    ensures found { IfSome result (λ after. (pieces : List AnyPiece) → LeavesPieces words.now pieces
+        → (rest : List AnyPiece) × LeavesPieces after rest × (count name.now (words_in pieces) ≡ 1 + count name.now
+        (words_in rest))) }
+    ensures none { IfNone result ((pieces : List AnyPiece) → LeavesPieces words.now pieces
+        → count name.now (words_in pieces) ≡ 0) }
 {
     let mut left = *words;
     while let Some(piece) = left.next_piece() {
@@ -47,7 +50,8 @@ fn is_twice(words: &Words<'_>, name: &[u8]) -> bool
 
 /// Whether one of the names is there twice.
 fn any_twice(names: &[&[u8]], words: &Words<'_>) -> bool
-    ensures { (pieces : List AnyPiece) → LeavesPieces words.now pieces → result ≡ list_any (λ name. is_often 2 pieces name.now) names.now }
+    ensures { (pieces : List AnyPiece) → LeavesPieces words.now pieces
+        → result ≡ list_any (λ name. is_often 2 pieces name.now) names.now }
 {
     for name in names {
         if is_twice(words, name) {
@@ -59,7 +63,8 @@ fn any_twice(names: &[&[u8]], words: &Words<'_>) -> bool
 
 /// Whether a known operand of the command is there twice.
 pub fn has_double(word: KnownWord, words: &Words<'_>) -> bool
-    ensures { (pieces : List AnyPiece) → LeavesPieces words.now pieces → result ≡ has_double (command_word_of word) pieces }
+    ensures { (pieces : List AnyPiece) → LeavesPieces words.now pieces
+        → result ≡ has_double (command_word_of word) pieces }
 {
     any_twice(operands_of(word), words)
 }

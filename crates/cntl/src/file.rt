@@ -17,7 +17,9 @@ use terms::CnCode;
 
 /// Takes the next command. Behind the last one there is none.
 fn read_next(alloc: Global, left: &mut Commands<'_>) -> Result<Option<Command>, CntlError>
-    ensures command { IfOk result (λ found. IfSome found (λ c. (pieces : List Piece) × (number : ℕ) × TakesCommand left.old.number left.old.rest.now pieces number left.new.number left.new.rest.now × IsCommand pieces (command_of c))) }
+    ensures command { IfOk result (λ found. IfSome found (λ c. (pieces : List Piece) × (number : ℕ)
+        × TakesCommand left.old.number left.old.rest.now pieces number left.new.number left.new.rest.now
+        × IsCommand pieces (command_of c))) }
     ensures end { IfOk result (λ found. IfNone found (IsIdle (joined left.old.rest.now))) }
     ensures fault { IfErr result (λ e. FailsNext left.old.number left.old.rest.now e) }
     ensures shorter { IfOk result (λ found. IfSome found (λ c. length left.new.rest.now < length left.old.rest.now)) }

@@ -9,18 +9,20 @@ ghost use Rattle.cntl.specs.Views.{command_word_of, command_of};
 
 use crate::command::{Command, Install, ReceiveWhat, Selection};
 use crate::known_word::KnownWord;
-use crate::values::{flag_of, id_list, some_ids, source, source_list, zone};
-use operands::{BadOperand, OperandError};
+use crate::values::{flag_of, id_list, some_ids, source_list, zone};
+use fields::Source;
+use operands::{BadOperand, OperandError, optional};
 use rec80::Words;
 use std::alloc::Global;
 
 fn receive(words: &Words<'_>) -> Result<ReceiveWhat, BadOperand>
     ensures ok { (ws : List grammar.Word) → LeavesWords words.now ws → IfOk result (λ what. HasReceive ws what) }
-    ensures bad { (ws : List grammar.Word) → LeavesWords words.now ws → OnErr result ((what : terms.ReceiveWhat) → HasReceive ws what → ⊥) }
+    ensures bad { (ws : List grammar.Word) → LeavesWords words.now ws → OnErr result ((what : terms.ReceiveWhat)
+        → HasReceive ws what → ⊥) }
 {
     let sysmods = flag_of(words, b"SYSMODS")?;
     let holddata = flag_of(words, b"HOLDDATA")?;
-    let source = source(words)?;
+    let source = optional::<Source>(words, b"SOURCEID")?;
     Ok(ReceiveWhat {
         sysmods: sysmods || !holddata,
         holddata: holddata || !sysmods,
@@ -30,7 +32,8 @@ fn receive(words: &Words<'_>) -> Result<ReceiveWhat, BadOperand>
 
 fn selection(alloc: Global, words: &Words<'_>) -> Result<Selection, OperandError>
     ensures ok { (ws : List grammar.Word) → LeavesWords words.now ws → IfOk result (λ s. HasSelection ws s) }
-    ensures bad { (ws : List grammar.Word) → LeavesWords words.now ws → IfErr result (λ e. Excludes e ((s : terms.Selection) × HasSelection ws s)) }
+    ensures bad { (ws : List grammar.Word) → LeavesWords words.now ws
+        → IfErr result (λ e. Excludes e ((s : terms.Selection) × HasSelection ws s)) }
 {
     let functions = flag_of(words, b"FUNCTIONS")?;
     let ptfs = flag_of(words, b"PTFS")?;
@@ -58,7 +61,8 @@ fn selection(alloc: Global, words: &Words<'_>) -> Result<Selection, OperandError
 
 fn install(alloc: Global, words: &Words<'_>) -> Result<Install, OperandError>
     ensures ok { (ws : List grammar.Word) → LeavesWords words.now ws → IfOk result (λ i. HasInstall ws i) }
-    ensures bad { (ws : List grammar.Word) → LeavesWords words.now ws → IfErr result (λ e. Excludes e ((i : terms.Install) × HasInstall ws i)) }
+    ensures bad { (ws : List grammar.Word) → LeavesWords words.now ws
+        → IfErr result (λ e. Excludes e ((i : terms.Install) × HasInstall ws i)) }
 {
     let check = flag_of(words, b"CHECK")?;
     let selection = selection(alloc, words)?;
@@ -72,8 +76,11 @@ pub fn read_operands(
     words: &Words<'_>,
 ) -> Result<Command, OperandError>
     ensures word { IfOk result (λ c. command_word (command_of c) ≡ command_word_of word) }
-    ensures ok { (ws : List grammar.Word) → LeavesWords words.now ws → IfOk result (λ c. HasOperands ws (command_of c)) }
-    ensures bad { (ws : List grammar.Word) → LeavesWords words.now ws → IfErr result (λ e. Excludes e ((c : terms.Command) × ((command_word c ≡ command_word_of word) × HasOperands ws c))) }
+    ensures ok { (ws : List grammar.Word) → LeavesWords words.now ws
+        → IfOk result (λ c. HasOperands ws (command_of c)) }
+    ensures bad { (ws : List grammar.Word) → LeavesWords words.now ws
+        → IfErr result (λ e. Excludes e ((c : terms.Command) × ((command_word c ≡ command_word_of word)
+        × HasOperands ws c))) }
 {
     match word {
         KnownWord::Set => Ok(Command::Set(zone(words)?)),

@@ -27,8 +27,10 @@ fn is_operand(word: KnownWord, text: &[u8]) -> bool
 
 /// Whether words that the command may have as operands are left, and nothing else.
 pub fn are_operands(word: KnownWord, words: &Words<'_>) -> bool
-    ensures known { result ≡ true → (pieces : List Piece) → LeavesPieces words.now pieces → (ws : List grammar.Word) × grammar.HasWords pieces ws × AreKnown (command_word_of word) ws }
-    ensures unknown { result ≡ false → (ws : List grammar.Word) → LeavesWords words.now ws → AreKnown (command_word_of word) ws → ⊥ }
+    ensures known { result ≡ true → (pieces : List Piece) → LeavesPieces words.now pieces → (ws : List grammar.Word)
+        × grammar.HasWords pieces ws × AreKnown (command_word_of word) ws }
+    ensures unknown { result ≡ false → (ws : List grammar.Word) → LeavesWords words.now ws
+        → AreKnown (command_word_of word) ws → ⊥ }
 {
     let mut left = *words;
     while let Ok(found) = left.next_word() {

@@ -12,8 +12,6 @@ mod known;
 mod known_word;
 mod read;
 mod tables;
-#[cfg(test)]
-mod tests;
 mod values;
 
 pub use command::{Command, Install, ReceiveWhat, Selection};

@@ -21,8 +21,10 @@ use terms::CnCode;
 
 /// Takes the word that a known command begins with.
 fn take_command_word(left: &mut Words<'_>) -> Option<KnownWord>
-    ensures word { IfSome result (λ w. (pieces : List AnyPiece) → LeavesPieces left.old pieces → (rest : List AnyPiece) × BeginsWith pieces (command_word_of w) rest × LeavesPieces left.new rest) }
-    ensures none { IfNone result ((pieces : List AnyPiece) → LeavesPieces left.old pieces → (w : CommandWord) (rest : List AnyPiece) → BeginsWith pieces w rest → ⊥) }
+    ensures word { IfSome result (λ w. (pieces : List AnyPiece) → LeavesPieces left.old pieces
+        → (rest : List AnyPiece) × BeginsWith pieces (command_word_of w) rest × LeavesPieces left.new rest) }
+    ensures none { IfNone result ((pieces : List AnyPiece) → LeavesPieces left.old pieces
+        → (w : CommandWord) (rest : List AnyPiece) → BeginsWith pieces w rest → ⊥) }
 {
     let piece = left.next_piece()?;
     let Piece::Word(text) = piece else {
@@ -33,8 +35,10 @@ fn take_command_word(left: &mut Words<'_>) -> Option<KnownWord>
 
 /// The command of these words, or the first that applies of Cn1, Cn3 and Cn2. Cn4 is RESTORE's.
 pub fn read_command(alloc: Global, words: &Words<'_>) -> Result<Command, CommandError>
-    ensures command { (pieces : List AnyPiece) → LeavesPieces words.now pieces → IfOk result (λ c. IsCommand pieces (command_of c)) }
-    ensures fault { (pieces : List AnyPiece) → LeavesPieces words.now pieces → IfErr result (λ e. FailsCommand pieces e) }
+    ensures command { (pieces : List AnyPiece) → LeavesPieces words.now pieces
+        → IfOk result (λ c. IsCommand pieces (command_of c)) }
+    ensures fault { (pieces : List AnyPiece) → LeavesPieces words.now pieces
+        → IfErr result (λ e. FailsCommand pieces e) }
 {
     let mut rest = *words;
     let Some(word) = take_command_word(&mut rest) else {

@@ -1,16 +1,16 @@
 //! The values of single operands.
-ghost use Rattle.std.specs.Prelude.{◌≡◌, ◌≤◌, ℕ, Bool, List, Option, codes, map, IfOk, IfErr, OnErr};
+ghost use Rattle.std.specs.Prelude.{◌≡◌, ◌≤◌, ℕ, Bool, List, codes, map, IfOk, IfErr, OnErr};
 ghost use Rattle.terms.specs.Forms.{IsId, IsSource, IsZoneName};
 ghost use Rattle.terms.specs.Words as grammar;
 ghost use Rattle.terms.specs.Words.{IsShort};
-ghost use Rattle.terms.specs.Operands.{operand, HasFlag, HasSorted, HasRequired, HasOptional};
+ghost use Rattle.terms.specs.Operands.{operand, HasFlag, HasSorted, HasRequired};
 ghost use Rattle.terms.specs.CommandForms.{HasShort, HasSome};
 ghost use Rattle.rec80.specs.Views.{word_of};
 ghost use Rattle.operands.specs.Left.{LeavesWords};
 ghost use Rattle.operands.specs.Failing.{Excludes};
 
 use fields::{Id, IdList, Rising, Source, SourceList, ZoneName};
-use operands::{BadOperand, Member, OperandError, flag, one_member, operand, rising};
+use operands::{BadOperand, Member, OperandError, flag, operand, required, rising};
 use rec80::{Word, Words};
 use std::alloc::Global;
 
@@ -19,50 +19,33 @@ const MOST: usize = 1000;
 
 /// Whether the operand of that name is there, which has no list.
 pub fn flag_of(words: &Words<'_>, name: &[u8]) -> Result<bool, BadOperand>
-    ensures ok { (ws : List grammar.Word) → LeavesWords words.now ws → IfOk result (λ flag. HasFlag (operand name.now ws) flag) }
-    ensures bad { (ws : List grammar.Word) → LeavesWords words.now ws → OnErr result ((flag : Bool) → HasFlag (operand name.now ws) flag → ⊥) }
+    ensures ok { (ws : List grammar.Word) → LeavesWords words.now ws
+        → IfOk result (λ flag. HasFlag (operand name.now ws) flag) }
+    ensures bad { (ws : List grammar.Word) → LeavesWords words.now ws → OnErr result ((flag : Bool)
+        → HasFlag (operand name.now ws) flag → ⊥) }
 {
     flag(&operand(words, name))
 }
 
 /// The zone that SET names.
 pub fn zone(words: &Words<'_>) -> Result<ZoneName, BadOperand>
-    ensures ok { (ws : List grammar.Word) → LeavesWords words.now ws → IfOk result (λ zone. HasRequired IsZoneName (operand (codes "BDY") ws) zone) }
-    ensures bad { (ws : List grammar.Word) → LeavesWords words.now ws → OnErr result ((zone : List ℕ) → HasRequired IsZoneName (operand (codes "BDY") ws) zone → ⊥) }
+    ensures ok { (ws : List grammar.Word) → LeavesWords words.now ws
+        → IfOk result (λ zone. HasRequired IsZoneName (operand (codes "BDY") ws) zone) }
+    ensures bad { (ws : List grammar.Word) → LeavesWords words.now ws
+        → OnErr result ((zone : List ℕ) → HasRequired IsZoneName (operand (codes "BDY") ws) zone → ⊥) }
 {
-    let Some(word) = operand(words, b"BDY") else {
-        return Err(BadOperand);
-    };
-    let Some(member) = one_member(&word) else {
-        return Err(BadOperand);
-    };
-    let Some(zone) = ZoneName::read(member) else {
-        return Err(BadOperand);
-    };
-    Ok(zone)
-}
-
-/// The source that RECEIVE adds, if it names one.
-pub fn source(words: &Words<'_>) -> Result<Option<Source>, BadOperand>
-    ensures ok { (ws : List grammar.Word) → LeavesWords words.now ws → IfOk result (λ source. HasOptional IsSource (operand (codes "SOURCEID") ws) source) }
-    ensures bad { (ws : List grammar.Word) → LeavesWords words.now ws → OnErr result ((source : Option (List ℕ)) → HasOptional IsSource (operand (codes "SOURCEID") ws) source → ⊥) }
-{
-    let Some(word) = operand(words, b"SOURCEID") else {
-        return Ok(None);
-    };
-    let Some(member) = one_member(&word) else {
-        return Err(BadOperand);
-    };
-    let Some(source) = Source::read(member) else {
-        return Err(BadOperand);
-    };
-    Ok(Some(source))
+    match required::<ZoneName>(words, b"BDY") {
+        Some(zone) => Ok(zone),
+        None => Err(BadOperand),
+    }
 }
 
 /// The members of the word's list in rising order, where they are no more than a list may have.
 fn short_list<T: Member>(alloc: Global, word: &Word<'_>) -> Result<Rising<T>, OperandError>
-    ensures ok { IfOk result (λ list. HasSorted T.form (word_of word.now) (map T.text list) × IsShort (map T.text list)) }
-    ensures bad { IfErr result (λ e. Excludes e ((values : List (List ℕ)) × (HasSorted T.form (word_of word.now) values × IsShort values))) }
+    ensures ok { IfOk result (λ list. HasSorted T.form (word_of word.now) (map T.text list)
+        × IsShort (map T.text list)) }
+    ensures bad { IfErr result (λ e. Excludes e ((values : List (List ℕ))
+        × (HasSorted T.form (word_of word.now) values × IsShort values))) }
 {
     let list: Rising<T> = rising(alloc, word)?;
     if list.len() > MOST {
@@ -73,8 +56,10 @@ fn short_list<T: Member>(alloc: Global, word: &Word<'_>) -> Result<Rising<T>, Op
 
 /// The ids of an operand, none where it is absent.
 pub fn id_list(alloc: Global, words: &Words<'_>, name: &[u8]) -> Result<IdList, OperandError>
-    ensures ok { (ws : List grammar.Word) → LeavesWords words.now ws → IfOk result (λ list. HasShort IsId (operand name.now ws) list) }
-    ensures bad { (ws : List grammar.Word) → LeavesWords words.now ws → IfErr result (λ e. Excludes e ((list : List (List ℕ)) × HasShort IsId (operand name.now ws) list)) }
+    ensures ok { (ws : List grammar.Word) → LeavesWords words.now ws
+        → IfOk result (λ list. HasShort IsId (operand name.now ws) list) }
+    ensures bad { (ws : List grammar.Word) → LeavesWords words.now ws
+        → IfErr result (λ e. Excludes e ((list : List (List ℕ)) × HasShort IsId (operand name.now ws) list)) }
 {
     match operand(words, name) {
         Some(word) => short_list::<Id>(alloc, &word),
@@ -84,8 +69,10 @@ pub fn id_list(alloc: Global, words: &Words<'_>, name: &[u8]) -> Result<IdList, 
 
 /// The ids of an operand that must be there.
 pub fn some_ids(alloc: Global, words: &Words<'_>, name: &[u8]) -> Result<IdList, OperandError>
-    ensures ok { (ws : List grammar.Word) → LeavesWords words.now ws → IfOk result (λ list. HasSome IsId (operand name.now ws) list) }
-    ensures bad { (ws : List grammar.Word) → LeavesWords words.now ws → IfErr result (λ e. Excludes e ((list : List (List ℕ)) × HasSome IsId (operand name.now ws) list)) }
+    ensures ok { (ws : List grammar.Word) → LeavesWords words.now ws
+        → IfOk result (λ list. HasSome IsId (operand name.now ws) list) }
+    ensures bad { (ws : List grammar.Word) → LeavesWords words.now ws
+        → IfErr result (λ e. Excludes e ((list : List (List ℕ)) × HasSome IsId (operand name.now ws) list)) }
 {
     match operand(words, name) {
         Some(word) => short_list::<Id>(alloc, &word),
@@ -99,8 +86,10 @@ pub fn source_list(
     words: &Words<'_>,
     name: &[u8],
 ) -> Result<SourceList, OperandError>
-    ensures ok { (ws : List grammar.Word) → LeavesWords words.now ws → IfOk result (λ list. HasShort IsSource (operand name.now ws) list) }
-    ensures bad { (ws : List grammar.Word) → LeavesWords words.now ws → IfErr result (λ e. Excludes e ((list : List (List ℕ)) × HasShort IsSource (operand name.now ws) list)) }
+    ensures ok { (ws : List grammar.Word) → LeavesWords words.now ws
+        → IfOk result (λ list. HasShort IsSource (operand name.now ws) list) }
+    ensures bad { (ws : List grammar.Word) → LeavesWords words.now ws
+        → IfErr result (λ e. Excludes e ((list : List (List ℕ)) × HasShort IsSource (operand name.now ws) list)) }
 {
     match operand(words, name) {
         Some(word) => short_list::<Source>(alloc, &word),

@@ -22,6 +22,3 @@ pub type IdList = Rising<Id>;
 
 /// Source ids in rising order.
 pub type SourceList = Rising<Source>;
-
-#[cfg(test)]
-mod tests;

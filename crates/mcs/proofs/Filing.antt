@@ -1,5 +1,5 @@
 -- Statements, one by one.
-use Rattle.std.proofs.Common.{◌≡◌, ℕ, List, [], ◌∷◌, ◌++◌, map, Option, Some, None, refl, sym, ap, subst, inr}
+use Rattle.std.proofs.Common.{◌≡◌, ℕ, List, [], ◌∷◌, ◌++◌, map, Option, Some, None, refl, sym, ap, subst, inr, ◌<◌, length, arith, length-append, inl}
 use Rattle.std.specs.Prelude.{IsSomeAnd, if◌then◌else◌}
 use Rattle.terms.specs.declared.codes.McCode.{McCode}
 use Rattle.terms.specs.Types.{Text, Lines, IfReq, Ver, Hold, Item}
@@ -11,9 +11,10 @@ use Rattle.terms.specs.Ptfin.{Begun, sysmod_in, is_last, with_if, SoFar, nothing
 use Rattle.terms.proofs.ExactPtfin.{ptfin_fault-no_items}
 use Rattle.mcs_statements.specs.declared.fault.StatementError.{StatementError}
 use Rattle.mcs_statements.specs.declared.fault.StatementError.TheVariants as statement
+use Rattle.mcs_statements.specs.Files.{error_at, IsFileError}
 use Rattle.mcs_statements.specs.declared.error.McsError.{McsError}
 use Rattle.mcs_statements.specs.declared.error.McsError.TheVariants.{Memory, Fault}
-use Rattle.mcs.specs.Files.{Suits, error_at, IsPtfinError, IsRestError}
+use Rattle.mcs.specs.Files.{Suits, IsPtfinError, IsRestError}
 use Rattle.mcs.specs.Said.{IsStatementError}
 
 pub begins_more : (c : SoFar) (n : ℕ) (records : Lines) (ss : List Statement) (d : SoFar) (m : ℕ) (rest : Lines) (g : Group) (next : ℕ) (later : Lines) (s : Statement) → BeginsWithStatements c n records ss d m rest → TakesGroup m rest g next later → IsGoodStatement d.current later g.records s
@@ -32,6 +33,10 @@ pub rest_error : (c : SoFar) (n : ℕ) (records : Lines) (ss : List Statement) (
     → IsRestError c n records (error_at g.number error)
 rest_error c n records ss d m rest g next later statement.Memory b t f = tt
 rest_error c n records ss d m rest g next later (statement.Fault code) b t f = rest_fault c n records ss d m rest g next later code b t f
+
+pub first_error : (bytes : List ℕ) (error : McsError) → IsFileError bytes error → IsPtfinError bytes error
+first_error bytes Memory f = tt
+first_error bytes (Fault n code) f = inl f
 
 pub file_error : (bytes : List ℕ) (records : Lines) (error : McsError) → HasRecords bytes records → IsRestError nothing 1 records error → IsPtfinError bytes error
 file_error bytes records Memory h r = tt

@@ -44,6 +44,6 @@ may_not_release None h = h
 may_not_release (Some s) h = h
 
 -- ++RELEASE stands nowhere.
-pub no_release : (current : Option Begun) (later records : Lines) (w : StatementWord) (own : Option Text) (rest : List Piece) (inline : Lines) → w ≡ word.Release → Stands current later records w own rest inline → ⊥
-no_release current later records w own rest inline is at =
+pub no_release : (current : Option Begun) (later records : Lines) (w : StatementWord) (own : Option Text) (rest : List Piece) (inline : Lines) → Stands current later records w own rest inline → w ≡ word.Release → ⊥
+no_release current later records w own rest inline at is =
     at.placed CannotStand (λ may. may_not_release (sysmod_in current) (subst (MayStand (sysmod_in current)) is may))

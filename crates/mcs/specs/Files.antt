@@ -10,8 +10,6 @@ use Rattle.mcs.specs.declared.file.Item.{Item}
 use Rattle.mcs.specs.declared.file.Item.TheVariants.{Sysmod, Assign}
 use Rattle.mcs.specs.declared.file.Begun.{Begun}
 use Rattle.mcs.specs.declared.file.SoFar.{SoFar}
-use Rattle.mcs_statements.specs.declared.fault.StatementError.{StatementError}
-use Rattle.mcs_statements.specs.declared.fault.StatementError.TheVariants as statement
 use Rattle.mcs_statements.specs.declared.error.McsError.{McsError}
 use Rattle.mcs_statements.specs.declared.error.McsError.TheVariants.{Memory, Fault}
 
@@ -35,11 +33,6 @@ so_far c = record { whole = items c.whole.items; current = begun_in c.current }
 abbrev pub Suits : Option ptfin.Begun → Statement → Type 0
 Suits current (SaysHold h) = IfSome current (λ b. IsTrue h.internal × (h.kind ≡ System) × (h.id ≡ b.sysmod.id))
 Suits current _ = Unit {0}
-
--- the error of a statement that begins at the record
-abbrev pub error_at : ℕ → StatementError → McsError
-error_at n statement.Memory = Memory
-error_at n (statement.Fault code) = Fault n code
 
 -- the first fault of the file, or want of memory
 abbrev pub IsPtfinError : List ℕ → McsError → Type 0

@@ -1,12 +1,20 @@
 -- What a statement says that stands in order, and what is at fault with it.
-use Rattle.std.specs.Prelude.{List, Option}
+use Rattle.std.specs.Prelude.{List, Option, Result, IfOk, IfErr}
 use Rattle.terms.specs.declared.codes.McCode.{McCode}
 use Rattle.terms.specs.declared.codes.McCode.TheVariants.{Mc3, Mc5, Mc6}
 use Rattle.terms.specs.declared.statement_words.StatementWord.{StatementWord}
 use Rattle.terms.specs.Types.{Text, Lines}
-use Rattle.terms.specs.Statement.{Piece}
+use Rattle.terms.specs.Statement.{Piece, HasSolid}
 use Rattle.terms.specs.Statements.{Statement}
 use Rattle.terms.specs.Ptfin.{Begun, sysmod_in, HasValue, IsWithin, HasGoodText, IsStatementFault}
+use Rattle.rec80.specs.Views.{left_of}
+use Rattle.mcs_statements.specs.declared.begin.Known.{Known}
+use Rattle.mcs_statements.specs.KnownWords.{own_list}
+use Rattle.mcs_statements.specs.Holds.{ArePrintable}
+use Rattle.mcs.specs.declared.file.Begun as file
+use Rattle.mcs.specs.declared.said.Statement.{Statement as Said}
+use Rattle.mcs.specs.Files.{begun_in}
+use Rattle.mcs.specs.Statements.{statement_of}
 use Rattle.mcs_statements.specs.declared.fault.StatementError.{StatementError}
 use Rattle.mcs_statements.specs.declared.fault.StatementError.TheVariants.{Memory, Fault}
 
@@ -32,3 +40,21 @@ IsSaidError current w own rest inline (Fault code) = IsSaidFault current w own r
 abbrev pub IsStatementError : Option Begun → Lines → Lines → StatementError → Type 0
 IsStatementError current later records Memory = Unit {0}
 IsStatementError current later records (Fault code) = IsStatementFault current later records code
+
+-- A statement of a known word says what is answered.
+abbrev pub Says : Option file.Begun → Known → Result Said StatementError → Type 0
+Says current known result =
+    (rest : List Piece) → HasSolid (left_of known.rest) rest
+    → IfOk result (λ s. IsSaid (begun_in current) known.word (own_list known) rest known.rest.inline.now (statement_of s))
+
+-- It says nothing, and the error is its first fault, or want of memory.
+abbrev pub Fails : Option file.Begun → Known → Result Said StatementError → Type 0
+Fails current known result =
+    (rest : List Piece) → HasSolid (left_of known.rest) rest
+    → IfErr result (IsSaidError (begun_in current) known.word (own_list known) rest known.rest.inline.now)
+
+-- The same where its lists have no byte that a record has not.
+abbrev pub FailsPrintable : Option file.Begun → Known → Result Said StatementError → Type 0
+FailsPrintable current known result =
+    (rest : List Piece) → HasSolid (left_of known.rest) rest → ArePrintable rest
+    → IfErr result (IsSaidError (begun_in current) known.word (own_list known) rest known.rest.inline.now)

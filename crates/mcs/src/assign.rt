@@ -1,24 +1,22 @@
-ghost use Rattle.std.specs.Prelude.{◌≡◌, ◌↔◌, ℕ, List, IsTrue, IfOk, IfErr, IfSome, IfNone, IsSomeAnd};
+ghost use Rattle.std.specs.Prelude.{◌≡◌, ◌↔◌, ℕ, List, IsTrue, IfOk, IfErr, IsSomeAnd};
 ghost use Rattle.terms.specs.declared.statement_words.StatementWord.TheVariants as word;
 ghost use Rattle.terms.specs.Types.{Assign as AnyAssign};
-ghost use Rattle.terms.specs.Forms.{IsId, IsSource};
+ghost use Rattle.terms.specs.Forms.{IsId};
 ghost use Rattle.terms.specs.Words as grammar;
-ghost use Rattle.terms.specs.Operands.{operand, HasOwn, HasListed, HasRequired};
+ghost use Rattle.terms.specs.Operands.{operand, HasListed};
 ghost use Rattle.terms.specs.Statement.{Piece, HasSolid};
 ghost use Rattle.terms.specs.Statements.{IsAssignOf};
 ghost use Rattle.operands.specs.Left.{LeavesWords};
 ghost use Rattle.operands.specs.Failing.{Excludes};
-ghost use Rattle.rec80.specs.Views.{left_of, word_of};
+ghost use Rattle.rec80.specs.Views.{left_of};
 ghost use Rattle.mcs_statements.specs.KnownWords.{own_list};
-ghost use Rattle.mcs.specs.Files.{begun_in};
-ghost use Rattle.mcs.specs.Said.{IsSaid, IsSaidError};
-ghost use Rattle.mcs.specs.Statements.{statement_of};
+ghost use Rattle.mcs.specs.Said.{Says, Fails};
 
 use crate::file::{Assign, Begun};
 use crate::said::Statement;
 use mcs_statements::{Known, StatementError, are_operands, no_value};
-use operands::{OperandError, listed_ids, one_member, operand};
-use rec80::{Word, Words};
+use operands::{OperandError, listed_ids, operand, required};
+use rec80::Words;
 use std::alloc::Global;
 use sysmods_records::{Id, Source};
 use terms::McCode;
@@ -26,33 +24,13 @@ use terms::McCode;
 /// The operands of `++ASSIGN`.
 const OPERANDS: &[&[u8]] = &[b"SOURCEID", b"TO"];
 
-/// The source that is all there is in the word's list.
-fn one_source(word: &Word<'_>) -> Option<Source>
-    ensures one { IfSome result (λ source. HasOwn IsSource (word_of word.now).list source) }
-    ensures none { IfNone result ((source : List ℕ) → HasOwn IsSource (word_of word.now).list source → ⊥) }
-{
-    let Some(member) = one_member(word) else {
-        return None;
-    };
-    Source::read(member)
-}
-
-/// The source of the operand, which must be there.
-fn required_source(words: &Words<'_>, name: &[u8]) -> Option<Source>
-    ensures some { (ws : List grammar.Word) → LeavesWords words.now ws → IfSome result (λ v. HasRequired IsSource (operand name.now ws) v) }
-    ensures none { (ws : List grammar.Word) → LeavesWords words.now ws → IfNone result ((v : List ℕ) → HasRequired IsSource (operand name.now ws) v → ⊥) }
-{
-    let Some(word) = operand(words, name) else {
-        return None;
-    };
-    one_source(&word)
-}
-
 /// The ids of the operand, which must be there, as they stand.
 fn required_ids(alloc: Global, words: &Words<'_>, name: &[u8]) -> Result<Vec<Id>, OperandError>
-    ensures ok { (ws : List grammar.Word) → LeavesWords words.now ws → IfOk result (λ ids. IsSomeAnd (operand name.now ws) (λ w. HasListed IsId w ids.items)) }
+    ensures ok { (ws : List grammar.Word) → LeavesWords words.now ws
+        → IfOk result (λ ids. IsSomeAnd (operand name.now ws) (λ w. HasListed IsId w ids.items)) }
     ensures bad { (ws : List grammar.Word) → LeavesWords words.now ws
-        → IfErr result (λ e. Excludes e ((ids : List (List ℕ)) × IsSomeAnd (operand name.now ws) (λ w. HasListed IsId w ids))) }
+        → IfErr result (λ e. Excludes e ((ids : List (List ℕ))
+        × IsSomeAnd (operand name.now ws) (λ w. HasListed IsId w ids))) }
 {
     let Some(word) = operand(words, name) else {
         return Err(OperandError::Bad);
@@ -63,9 +41,11 @@ fn required_ids(alloc: Global, words: &Words<'_>, name: &[u8]) -> Result<Vec<Id>
 /// The `++ASSIGN`.
 fn read_assign(alloc: Global, known: &Known<'_>) -> Result<Assign, OperandError>
     ensures ok { (rest : List Piece) → HasSolid (left_of known.now.rest) rest
-        → IfOk result (λ a. (ws : List grammar.Word) × grammar.HasWords rest ws × IsAssignOf (own_list known.now) ws a) }
+        → IfOk result (λ a. (ws : List grammar.Word) × grammar.HasWords rest ws
+        × IsAssignOf (own_list known.now) ws a) }
     ensures bad { (rest : List Piece) → HasSolid (left_of known.now.rest) rest
-        → IfErr result (λ e. Excludes e ((a : AnyAssign) × ((ws : List grammar.Word) × grammar.HasWords rest ws × IsAssignOf (own_list known.now) ws a))) }
+        → IfErr result (λ e. Excludes e ((a : AnyAssign) × ((ws : List grammar.Word) × grammar.HasWords rest ws
+        × IsAssignOf (own_list known.now) ws a))) }
 {
     if known.first.list.is_some() {
         return Err(OperandError::Bad);
@@ -73,7 +53,7 @@ fn read_assign(alloc: Global, known: &Known<'_>) -> Result<Assign, OperandError>
     if !are_operands(&known.rest, OPERANDS) {
         return Err(OperandError::Bad);
     }
-    let Some(source) = required_source(&known.rest, b"SOURCEID") else {
+    let Some(source) = required::<Source>(&known.rest, b"SOURCEID") else {
         return Err(OperandError::Bad);
     };
     let to = match required_ids(alloc, &known.rest, b"TO") {
@@ -97,10 +77,8 @@ pub fn assign_statement(
     known: &Known<'_>,
 ) -> Result<Statement, StatementError>
     requires { known.now.word ≡ word.Assign }
-    ensures said { (rest : List Piece) → HasSolid (left_of known.now.rest) rest
-        → IfOk result (λ s. IsSaid (begun_in current.now) known.now.word (own_list known.now) rest known.now.rest.inline.now (statement_of s)) }
-    ensures fault { (rest : List Piece) → HasSolid (left_of known.now.rest) rest
-        → IfErr result (IsSaidError (begun_in current.now) known.now.word (own_list known.now) rest known.now.rest.inline.now) }
+    ensures said { Says current.now known.now result }
+    ensures fault { Fails current.now known.now result }
 {
     let _ = current;
     let assign = match read_assign(alloc, known) {

@@ -9,13 +9,13 @@ ghost use Rattle.rec80.specs.Views.{left_of};
 ghost use Rattle.mcs_statements.specs.KnownWords.{own_list};
 ghost use Rattle.mcs.specs.Elements.{HasNames, IsTextError, IsUpdateTextError};
 ghost use Rattle.mcs.specs.Files.{begun_in};
-ghost use Rattle.mcs.specs.Said.{IsSaid, IsSaidError};
-ghost use Rattle.mcs.specs.Statements.{statement_of};
+ghost use Rattle.mcs.specs.Said.{Says, Fails};
 
 use crate::ended::is_ended;
 use crate::file::Begun;
 use crate::said::Statement;
-use mcs_statements::{Known, StatementError, are_operands, one_name, required_name};
+use mcs_statements::{Known, StatementError, are_operands};
+use operands::{one, required};
 use rec80::Record;
 use std::alloc::{AllocError, Global};
 use sysmods_records::{Action, ElemChange, ElemType, Name};
@@ -35,20 +35,22 @@ struct Names {
 
 fn read_names(known: &Known<'_>) -> Option<Names>
     ensures some { (rest : List Piece) → HasSolid (left_of known.now.rest) rest
-        → IfSome result (λ n. (ws : List grammar.Word) × grammar.HasWords rest ws × HasNames (own_list known.now) ws n.name n.distlib n.syslib) }
+        → IfSome result (λ n. (ws : List grammar.Word) × grammar.HasWords rest ws
+        × HasNames (own_list known.now) ws n.name n.distlib n.syslib) }
     ensures none { (rest : List Piece) → HasSolid (left_of known.now.rest) rest
-        → IfNone result ((ws : List grammar.Word) (name distlib syslib : List ℕ) → grammar.HasWords rest ws → HasNames (own_list known.now) ws name distlib syslib → ⊥) }
+        → IfNone result ((ws : List grammar.Word) (name distlib syslib : List ℕ) → grammar.HasWords rest ws
+        → HasNames (own_list known.now) ws name distlib syslib → ⊥) }
 {
     if !are_operands(&known.rest, OPERANDS) {
         return None;
     }
-    let Some(name) = one_name(&known.first) else {
+    let Some(name) = one::<Name>(&known.first) else {
         return None;
     };
-    let Some(distlib) = required_name(&known.rest, b"DISTLIB") else {
+    let Some(distlib) = required::<Name>(&known.rest, b"DISTLIB") else {
         return None;
     };
-    let Some(syslib) = required_name(&known.rest, b"SYSLIB") else {
+    let Some(syslib) = required::<Name>(&known.rest, b"SYSLIB") else {
         return None;
     };
     Some(Names {
@@ -101,10 +103,8 @@ pub fn change_statement(
     known: &Known<'_>,
 ) -> Result<Statement, StatementError>
     requires { known.now.word ≡ word.Replace elem_type }
-    ensures said { (rest : List Piece) → HasSolid (left_of known.now.rest) rest
-        → IfOk result (λ s. IsSaid (begun_in current.now) known.now.word (own_list known.now) rest known.now.rest.inline.now (statement_of s)) }
-    ensures fault { (rest : List Piece) → HasSolid (left_of known.now.rest) rest
-        → IfErr result (IsSaidError (begun_in current.now) known.now.word (own_list known.now) rest known.now.rest.inline.now) }
+    ensures said { Says current.now known.now result }
+    ensures fault { Fails current.now known.now result }
 {
     let Some(names) = read_names(known) else {
         return Err(StatementError::Fault(McCode::Mc3));
@@ -156,15 +156,13 @@ pub fn update_statement(
     known: &Known<'_>,
 ) -> Result<Statement, StatementError>
     requires { (changed_type known.now.word ≡ Some elem_type) × IsUpdateWord known.now.word }
-    ensures said { (rest : List Piece) → HasSolid (left_of known.now.rest) rest
-        → IfOk result (λ s. IsSaid (begun_in current.now) known.now.word (own_list known.now) rest known.now.rest.inline.now (statement_of s)) }
-    ensures fault { (rest : List Piece) → HasSolid (left_of known.now.rest) rest
-        → IfErr result (IsSaidError (begun_in current.now) known.now.word (own_list known.now) rest known.now.rest.inline.now) }
+    ensures said { Says current.now known.now result }
+    ensures fault { Fails current.now known.now result }
 {
     if !is_ended(&known.rest) {
         return Err(StatementError::Fault(McCode::Mc3));
     }
-    let Some(name) = one_name(&known.first) else {
+    let Some(name) = one::<Name>(&known.first) else {
         return Err(StatementError::Fault(McCode::Mc3));
     };
     let inline = known.rest.inline;
@@ -184,7 +182,8 @@ pub fn update_statement(
 
 /// Whether the SYSMOD may have one element more, and the text is no longer than the limit.
 fn is_within(current: &Option<Begun>, inline: &[Record]) -> bool
-    ensures { IsTrue result ↔ (IfSome (begun_in current.now) (λ b. length b.sysmod.changes < 999) × (length inline.now ≤ 99999)) }
+    ensures { IsTrue result ↔ (IfSome (begun_in current.now) (λ b. length b.sysmod.changes < 999)
+        × (length inline.now ≤ 99999)) }
 {
     let fits = match current {
         Some(begun) => begun.sysmod.changes.len() < 999,

@@ -49,7 +49,10 @@ pub(crate) struct SoFar {
 
 /// The items with the SYSMOD behind them.
 fn with_current(mut whole: Vec<Item>, current: Option<Begun>) -> Result<Vec<Item>, AllocError>
-    ensures { IfOk result (λ found. items found.items ≡ items_of (record { whole = items whole.items; current = begun_in current })) }
+    ensures { IfOk result (λ found. items found.items ≡ items_of (record {
+      whole = items whole.items;
+      current = begun_in current;
+    })) }
 {
     if let Some(begun) = current {
         whole.push(Item::Sysmod(begun.sysmod))?;
@@ -63,7 +66,10 @@ fn with_assign(
     current: Option<Begun>,
     assign: Assign,
 ) -> Result<Vec<Item>, AllocError>
-    ensures { IfOk result (λ found. items found.items ≡ items_of (record { whole = items whole.items; current = begun_in current }) ++ AnAssign assign ∷ []) }
+    ensures { IfOk result (λ found. items found.items ≡ items_of (record {
+      whole = items whole.items;
+      current = begun_in current;
+    }) ++ AnAssign assign ∷ []) }
 {
     let mut whole = with_current(whole, current)?;
     whole.push(Item::Assign(assign))?;

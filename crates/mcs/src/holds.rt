@@ -9,9 +9,7 @@ ghost use Rattle.operands.specs.Failing.{Excludes};
 ghost use Rattle.rec80.specs.Views.{left_of};
 ghost use Rattle.mcs_statements.specs.KnownWords.{own_list};
 ghost use Rattle.mcs_statements.specs.Holds.{ArePrintable};
-ghost use Rattle.mcs.specs.Files.{begun_in};
-ghost use Rattle.mcs.specs.Said.{IsSaid, IsSaidError};
-ghost use Rattle.mcs.specs.Statements.{statement_of};
+ghost use Rattle.mcs.specs.Said.{Says, FailsPrintable};
 
 use crate::file::Begun;
 use crate::said::Statement;
@@ -31,9 +29,11 @@ fn is_own(sysmod: &Sysmod, hold: &Hold) -> bool
 /// The `++HOLD` of the SYSMOD.
 fn read_own_hold(alloc: Global, sysmod: &Sysmod, known: &Known<'_>) -> Result<Hold, OperandError>
     ensures ok { (rest : List Piece) → HasSolid (left_of known.now.rest) rest
-        → IfOk result (λ h. (ws : List grammar.Word) × grammar.HasWords rest ws × IsOwnHoldOf sysmod.now (own_list known.now) ws h) }
+        → IfOk result (λ h. (ws : List grammar.Word) × grammar.HasWords rest ws
+        × IsOwnHoldOf sysmod.now (own_list known.now) ws h) }
     ensures bad { (rest : List Piece) → HasSolid (left_of known.now.rest) rest → ArePrintable rest
-        → IfErr result (λ e. Excludes e ((h : AnyHold) × ((ws : List grammar.Word) × grammar.HasWords rest ws × IsOwnHoldOf sysmod.now (own_list known.now) ws h))) }
+        → IfErr result (λ e. Excludes e ((h : AnyHold) × ((ws : List grammar.Word) × grammar.HasWords rest ws
+        × IsOwnHoldOf sysmod.now (own_list known.now) ws h))) }
 {
     let hold = match read_hold(alloc, known, true) {
         Ok(hold) => hold,
@@ -52,10 +52,8 @@ pub fn hold_statement(
     known: &Known<'_>,
 ) -> Result<Statement, StatementError>
     requires { known.now.word ≡ word.Hold }
-    ensures said { (rest : List Piece) → HasSolid (left_of known.now.rest) rest
-        → IfOk result (λ s. IsSaid (begun_in current.now) known.now.word (own_list known.now) rest known.now.rest.inline.now (statement_of s)) }
-    ensures fault { (rest : List Piece) → HasSolid (left_of known.now.rest) rest → ArePrintable rest
-        → IfErr result (IsSaidError (begun_in current.now) known.now.word (own_list known.now) rest known.now.rest.inline.now) }
+    ensures said { Says current.now known.now result }
+    ensures fault { FailsPrintable current.now known.now result }
 {
     let Some(begun) = current else {
         return Err(StatementError::Fault(McCode::Mc3));

@@ -8,15 +8,15 @@ ghost use Rattle.terms.specs.Ptfin.{is_last};
 ghost use Rattle.operands.specs.Failing.{Excludes};
 ghost use Rattle.rec80.specs.Views.{left_of, word_of};
 ghost use Rattle.mcs_statements.specs.KnownWords.{own_list};
-ghost use Rattle.mcs.specs.Files.{begun_of, begun_in};
-ghost use Rattle.mcs.specs.Said.{IsSaid, IsSaidError};
-ghost use Rattle.mcs.specs.Statements.{statement_of};
+ghost use Rattle.mcs.specs.Files.{begun_of};
+ghost use Rattle.mcs.specs.Said.{Says, Fails};
 
 use crate::ended::is_ended;
 use crate::file::Begun;
 use crate::said::Statement;
-use mcs_statements::{Known, StatementError, no_value, one_id};
-use operands::{OperandError, ids};
+use fields::Id;
+use mcs_statements::{Known, StatementError, no_value};
+use operands::{OperandError, ids, one};
 use rec80::{Word, Words};
 use std::alloc::Global;
 use sysmods_records::{IfReq, Sysmod, Ver};
@@ -32,9 +32,11 @@ fn is_named(word: &Word<'_>, name: &[u8]) -> bool
 /// Takes the next word, where it is this one.
 fn take_named<'a>(words: &mut Words<'a>, name: &[u8]) -> Option<Word<'a>>
     ensures some { (pieces : List Piece) → HasSolid (left_of words.old) pieces
-        → IfSome result (λ w. ((word_of w).word ≡ name.now) × ((rest : List Piece) × grammar.TakesWord pieces (word_of w) rest × HasSolid (left_of words.new) rest)) }
+        → IfSome result (λ w. ((word_of w).word ≡ name.now) × ((rest : List Piece)
+        × grammar.TakesWord pieces (word_of w) rest × HasSolid (left_of words.new) rest)) }
     ensures none { (pieces : List Piece) → HasSolid (left_of words.old) pieces
-        → IfNone result ((w : grammar.Word) (ws : List grammar.Word) → w.word ≡ name.now → grammar.HasWords pieces (w ∷ ws) → ⊥) }
+        → IfNone result ((w : grammar.Word) (ws : List grammar.Word) → w.word ≡ name.now
+        → grammar.HasWords pieces (w ∷ ws) → ⊥) }
 {
     let Ok(found) = words.next_word() else {
         return None;
@@ -58,7 +60,8 @@ struct Lists<'a> {
 /// FMID, THEN and REQ, in this order.
 fn read_lists<'a>(words: &Words<'a>) -> Option<Lists<'a>>
     ensures some { (pieces : List Piece) → HasSolid (left_of words.now) pieces
-        → IfSome result (λ l. grammar.HasWords pieces (word_of l.fmid ∷ grammar.plain (codes "THEN") ∷ word_of l.req ∷ [])
+        → IfSome result (λ l.
+        grammar.HasWords pieces (word_of l.fmid ∷ grammar.plain (codes "THEN") ∷ word_of l.req ∷ [])
         × ((word_of l.fmid).word ≡ codes "FMID") × ((word_of l.req).word ≡ codes "REQ")) }
     ensures none { (pieces : List Piece) → HasSolid (left_of words.now) pieces
         → IfNone result ((fmid req : grammar.Word) → fmid.word ≡ codes "FMID" → req.word ≡ codes "REQ"
@@ -86,9 +89,11 @@ fn read_lists<'a>(words: &Words<'a>) -> Option<Lists<'a>>
 /// The `++IF`.
 fn read_if(alloc: Global, sysmod: &Sysmod, known: &Known<'_>) -> Result<IfReq, OperandError>
     ensures ok { (rest : List Piece) → HasSolid (left_of known.now.rest) rest
-        → IfOk result (λ i. (ws : List grammar.Word) × grammar.HasWords rest ws × IsIfOf sysmod.now (own_list known.now) ws i) }
+        → IfOk result (λ i. (ws : List grammar.Word) × grammar.HasWords rest ws
+        × IsIfOf sysmod.now (own_list known.now) ws i) }
     ensures bad { (rest : List Piece) → HasSolid (left_of known.now.rest) rest
-        → IfErr result (λ e. Excludes e ((i : AnyIf) × ((ws : List grammar.Word) × grammar.HasWords rest ws × IsIfOf sysmod.now (own_list known.now) ws i))) }
+        → IfErr result (λ e. Excludes e ((i : AnyIf) × ((ws : List grammar.Word) × grammar.HasWords rest ws
+        × IsIfOf sysmod.now (own_list known.now) ws i))) }
 {
     if known.first.list.is_some() {
         return Err(OperandError::Bad);
@@ -96,7 +101,7 @@ fn read_if(alloc: Global, sysmod: &Sysmod, known: &Known<'_>) -> Result<IfReq, O
     let Some(lists) = read_lists(&known.rest) else {
         return Err(OperandError::Bad);
     };
-    let Some(function) = one_id(&lists.fmid) else {
+    let Some(function) = one::<Id>(&lists.fmid) else {
         return Err(OperandError::Bad);
     };
     let req = match ids(alloc, &lists.req) {
@@ -128,14 +133,16 @@ fn has_place(begun: &Begun, ver: &Ver) -> bool
 
 /// Whether the last `++VER` may have one `++IF` more.
 fn have_place(begun: &Begun) -> bool
-    ensures { IsTrue result ↔ All (λ v. IsTrue (is_last (begun_of begun.now) v) → length v.ifs < 100) begun.now.sysmod.vers }
+    ensures { IsTrue result ↔ All (λ v. IsTrue (is_last (begun_of begun.now) v)
+        → length v.ifs < 100) begun.now.sysmod.vers }
 {
     begun.sysmod.vers.iter().all(|ver| has_place(begun, ver))
 }
 
 /// Whether the last `++VER` may have this `++IF` too.
 fn is_within(begun: &Begun, condition: &IfReq) -> bool
-    ensures { IsTrue result ↔ (All (λ v. IsTrue (is_last (begun_of begun.now) v) → length v.ifs < 100) begun.now.sysmod.vers × grammar.IsShort condition.now.req) }
+    ensures { IsTrue result ↔ (All (λ v. IsTrue (is_last (begun_of begun.now) v)
+        → length v.ifs < 100) begun.now.sysmod.vers × grammar.IsShort condition.now.req) }
 {
     have_place(begun) && condition.req.len() <= 1000
 }
@@ -147,10 +154,8 @@ pub fn if_statement(
     known: &Known<'_>,
 ) -> Result<Statement, StatementError>
     requires { known.now.word ≡ word.If }
-    ensures said { (rest : List Piece) → HasSolid (left_of known.now.rest) rest
-        → IfOk result (λ s. IsSaid (begun_in current.now) known.now.word (own_list known.now) rest known.now.rest.inline.now (statement_of s)) }
-    ensures fault { (rest : List Piece) → HasSolid (left_of known.now.rest) rest
-        → IfErr result (IsSaidError (begun_in current.now) known.now.word (own_list known.now) rest known.now.rest.inline.now) }
+    ensures said { Says current.now known.now result }
+    ensures fault { Fails current.now known.now result }
 {
     let Some(begun) = current else {
         return Err(StatementError::Fault(McCode::Mc3));

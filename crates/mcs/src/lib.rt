@@ -1,4 +1,4 @@
-//! PTFIN: its SYSMODs, or its first fault.
+//! PTFIN and hold files: their items, or their first fault.
 #![tactic(auto)]
 
 mod assign;
@@ -12,10 +12,9 @@ mod order;
 mod ptfin;
 mod said;
 mod statement;
-#[cfg(test)]
-mod tests;
 mod ver;
 
 pub use file::{Assign, Item};
+pub use mcs_hold::{HoldItem, Release, read_hold};
 pub use mcs_statements::McsError;
 pub use ptfin::read_ptfin;

@@ -7,7 +7,9 @@ ghost use Rattle.mcs_statements.specs.KnownWords.{own_list};
 ghost use Rattle.mcs.specs.Files.{begun_in};
 
 use crate::file::Begun;
-use mcs_statements::{Known, one_name, one_srel};
+use fields::{Name, Srel};
+use mcs_statements::Known;
+use operands::one;
 use rec80::Record;
 use sysmods_records::{Kind, Sysmod};
 use terms::{ElemType, StatementWord};
@@ -68,7 +70,7 @@ fn is_second_ver(sysmod: &Sysmod, known: &Known<'_>) -> bool
     requires { known.now.word ≡ word.Ver }
     ensures { IsTrue result ↔ IsSecond sysmod.now known.now.word (own_list known.now) }
 {
-    match one_srel(&known.first) {
+    match one::<Srel>(&known.first) {
         Some(srel) => sysmod.has_srel(srel),
         None => false,
     }
@@ -79,7 +81,7 @@ fn is_second_change(sysmod: &Sysmod, elem_type: ElemType, known: &Known<'_>) -> 
     requires { changed_type known.now.word ≡ Some elem_type }
     ensures { IsTrue result ↔ IsSecond sysmod.now known.now.word (own_list known.now) }
 {
-    match one_name(&known.first) {
+    match one::<Name>(&known.first) {
         Some(name) => sysmod.has_change(elem_type, name),
         None => false,
     }
@@ -108,7 +110,9 @@ fn is_update_in_function(sysmod: &Sysmod, word: StatementWord) -> bool
 
 /// Whether the statement is out of order behind the statements so far.
 pub fn is_misplaced(current: &Option<Begun>, later: &[Record], known: &Known<'_>) -> bool
-    ensures { IsTrue result ↔ ((why : Disorder) × IsMisplaced (sysmod_in (begun_in current.now)) later.now known.now.word (own_list known.now) known.now.rest.inline.now why) }
+    ensures { IsTrue result ↔ ((why : Disorder)
+        × IsMisplaced (sysmod_in (begun_in current.now)) later.now known.now.word (own_list known.now)
+        known.now.rest.inline.now why) }
 {
     if !may_stand(current, known.word) {
         return true;

@@ -1,8 +1,9 @@
-ghost use Rattle.std.specs.Prelude.{◌≡◌, All, IfOk, IfErr};
+ghost use Rattle.std.specs.Prelude.{◌≡◌, ◌≢◌, All, IfOk, IfErr};
+ghost use Rattle.terms.specs.declared.statement_words.StatementWord.TheVariants as word;
 ghost use Rattle.terms.specs.Records.{IsRecord};
 ghost use Rattle.terms.specs.Ptfin.{IsGoodStatement};
 ghost use Rattle.mcs.specs.Files.{begun_in};
-ghost use Rattle.mcs.specs.Said.{IsStatementError};
+ghost use Rattle.mcs.specs.Said.{Says, FailsPrintable, IsStatementError};
 ghost use Rattle.mcs.specs.Statements.{statement_of};
 
 use crate::assign::assign_statement;
@@ -14,10 +15,33 @@ use crate::ifs::if_statement;
 use crate::order::is_misplaced;
 use crate::said::Statement;
 use crate::ver::ver_statement;
-use mcs_statements::{StatementError, begun};
+use mcs_statements::{Known, StatementError, begun};
 use rec80::{Group, Record};
 use std::alloc::Global;
 use terms::{ElemType, McCode, StatementWord};
+
+/// What a statement of this word says.
+fn said_by(
+    alloc: Global,
+    current: &Option<Begun>,
+    known: &Known<'_>,
+) -> Result<Statement, StatementError>
+    requires { known.now.word ≢ word.Release }
+    ensures said { Says current.now known.now result }
+    ensures fault { FailsPrintable current.now known.now result }
+{
+    match known.word {
+        StatementWord::Header(kind) => header_statement(current, kind, known),
+        StatementWord::Ver => ver_statement(alloc, current, known),
+        StatementWord::If => if_statement(alloc, current, known),
+        StatementWord::Hold => hold_statement(alloc, current, known),
+        StatementWord::Release => Err(StatementError::Fault(McCode::Mc4)),
+        StatementWord::Assign => assign_statement(alloc, current, known),
+        StatementWord::Replace(elem_type) => change_statement(alloc, current, elem_type, known),
+        StatementWord::UpdateMac => update_statement(alloc, current, ElemType::Mac, known),
+        StatementWord::UpdateSrc => update_statement(alloc, current, ElemType::Src, known),
+    }
+}
 
 /// What a statement says behind those so far, or its first fault.
 pub fn read_statement(
@@ -26,8 +50,10 @@ pub fn read_statement(
     later: &[Record],
     group: &Group<'_>,
 ) -> Result<Statement, StatementError>
-    ensures good { IfOk result (λ s. IsGoodStatement (begun_in current.now) later.now group.now.records.now (statement_of s)) }
-    ensures fault { All IsRecord group.now.records.now → IfErr result (IsStatementError (begun_in current.now) later.now group.now.records.now) }
+    ensures good { IfOk result (λ s. IsGoodStatement (begun_in current.now) later.now group.now.records.now
+        (statement_of s)) }
+    ensures fault { All IsRecord group.now.records.now
+        → IfErr result (IsStatementError (begun_in current.now) later.now group.now.records.now) }
 {
     let known = match begun(group) {
         Ok(known) => known,
@@ -36,15 +62,5 @@ pub fn read_statement(
     if is_misplaced(current, later, &known) {
         return Err(StatementError::Fault(McCode::Mc4));
     }
-    match known.word {
-        StatementWord::Header(kind) => header_statement(current, kind, &known),
-        StatementWord::Ver => ver_statement(alloc, current, &known),
-        StatementWord::If => if_statement(alloc, current, &known),
-        StatementWord::Hold => hold_statement(alloc, current, &known),
-        StatementWord::Release => Err(StatementError::Fault(McCode::Mc4)),
-        StatementWord::Assign => assign_statement(alloc, current, &known),
-        StatementWord::Replace(elem_type) => change_statement(alloc, current, elem_type, &known),
-        StatementWord::UpdateMac => update_statement(alloc, current, ElemType::Mac, &known),
-        StatementWord::UpdateSrc => update_statement(alloc, current, ElemType::Src, &known),
-    }
+    said_by(alloc, current, &known)
 }

@@ -4,26 +4,20 @@ ghost use Rattle.terms.specs.Types.{Ver as AnyVer};
 ghost use Rattle.std.specs.List.{list_all};
 ghost use Rattle.terms.specs.Lookups.{is_in};
 ghost use Rattle.terms.specs.Words as grammar;
-ghost use Rattle.terms.specs.Statement.{Piece, HasSolid};
 ghost use Rattle.terms.specs.Statements.{IsVerOf, SuitsKind, ver_operands, lists_of};
 ghost use Rattle.terms.specs.Operands.{AreOperands};
 ghost use Rattle.terms.specs.Words.{IsShort};
 ghost use Rattle.operands.specs.Left.{LeavesWords};
 ghost use Rattle.operands.specs.Failing.{Excludes};
-ghost use Rattle.rec80.specs.Views.{left_of};
 ghost use Rattle.mcs_statements.specs.KnownWords.{own_list};
 ghost use Rattle.mcs.specs.VerOperands.{HasLists};
-ghost use Rattle.mcs.specs.Files.{begun_in};
-ghost use Rattle.mcs.specs.Said.{IsSaid, IsSaidError};
-ghost use Rattle.mcs.specs.Statements.{statement_of};
+ghost use Rattle.mcs.specs.Said.{Says, Fails};
 
 use crate::file::Begun;
 use crate::said::Statement;
 use fields::{Id, IdList, Srel};
-use mcs_statements::{
-    Known, StatementError, are_operands, listed_ids, no_value, one_srel, optional_id,
-};
-use operands::{OperandError, operand};
+use mcs_statements::{Known, StatementError, are_operands, listed_ids, no_value};
+use operands::{OperandError, one, operand, optional};
 use rec80::Words;
 use std::alloc::Global;
 use sysmods_records::{Kind, Sysmod, Ver};
@@ -85,7 +79,8 @@ fn has_fmid(ver: &Ver, id: Id) -> bool
 }
 
 fn read_lists(alloc: Global, words: &Words<'_>) -> Result<VerLists, OperandError>
-    ensures ok { (ws : List grammar.Word) → LeavesWords words.now ws → IfOk result (λ lists. HasLists ws lists.pre lists.req lists.sup lists.npre lists.del) }
+    ensures ok { (ws : List grammar.Word) → LeavesWords words.now ws
+        → IfOk result (λ lists. HasLists ws lists.pre lists.req lists.sup lists.npre lists.del) }
     ensures bad { (ws : List grammar.Word) → LeavesWords words.now ws
         → IfErr result (λ e. Excludes e ((pre req sup npre del : List (List ℕ)) × HasLists ws pre req sup npre del)) }
 {
@@ -104,7 +99,16 @@ fn read_lists(alloc: Global, words: &Words<'_>) -> Result<VerLists, OperandError
 }
 
 fn made_of(alloc: Global, srel: Srel, fmid: Option<Id>, lists: VerLists) -> Ver
-    ensures { result ≡ record { srel = srel; fmid = fmid; pre = lists.pre; req = lists.req; sup = lists.sup; npre = lists.npre; del = lists.del; ifs = [] } }
+    ensures { result ≡ record {
+      srel = srel;
+      fmid = fmid;
+      pre = lists.pre;
+      req = lists.req;
+      sup = lists.sup;
+      npre = lists.npre;
+      del = lists.del;
+      ifs = [];
+    } }
 {
     let VerLists {
         pre,
@@ -132,13 +136,13 @@ fn read_ver(alloc: Global, sysmod: &Sysmod, known: &Known<'_>) -> Result<Ver, Op
     ensures bad { (ws : List grammar.Word) → LeavesWords known.now.rest ws
         → IfErr result (λ e. Excludes e ((v : AnyVer) × IsVerOf sysmod.now (own_list known.now) ws v)) }
 {
-    let Some(srel) = one_srel(&known.first) else {
+    let Some(srel) = one::<Srel>(&known.first) else {
         return Err(OperandError::Bad);
     };
     if !suits_kind(sysmod.kind, &known.rest) {
         return Err(OperandError::Bad);
     }
-    let fmid = match optional_id(&known.rest, b"FMID") {
+    let fmid = match optional::<Id>(&known.rest, b"FMID") {
         Ok(fmid) => fmid,
         Err(_) => return Err(OperandError::Bad),
     };
@@ -181,10 +185,8 @@ pub fn ver_statement(
     known: &Known<'_>,
 ) -> Result<Statement, StatementError>
     requires { known.now.word ≡ word.Ver }
-    ensures said { (rest : List Piece) → HasSolid (left_of known.now.rest) rest
-        → IfOk result (λ s. IsSaid (begun_in current.now) known.now.word (own_list known.now) rest known.now.rest.inline.now (statement_of s)) }
-    ensures fault { (rest : List Piece) → HasSolid (left_of known.now.rest) rest
-        → IfErr result (IsSaidError (begun_in current.now) known.now.word (own_list known.now) rest known.now.rest.inline.now) }
+    ensures said { Says current.now known.now result }
+    ensures fault { Fails current.now known.now result }
 {
     let Some(begun) = current else {
         return Err(StatementError::Fault(McCode::Mc3));

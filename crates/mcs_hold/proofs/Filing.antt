@@ -1,5 +1,5 @@
 -- Items, one by one.
-use Rattle.std.proofs.Common.{◌≡◌, ℕ, List, [], ◌∷◌, ◌++◌, refl, sym, ap, subst, inr, Result, Ok, Err}
+use Rattle.std.proofs.Common.{◌≡◌, ℕ, List, [], ◌∷◌, ◌++◌, refl, sym, ap, subst, inr, Result, Ok, Err, ◌<◌, length, arith, length-append, inl}
 use Rattle.std.specs.Prelude.{All, IfOk, IfErr}
 use Rattle.terms.specs.declared.codes.McCode.{McCode}
 use Rattle.terms.specs.Types as terms
@@ -9,10 +9,14 @@ use Rattle.terms.specs.Groups.{Group, TakesGroup}
 use Rattle.terms.specs.HoldFile.{IsGoodItem, IsItemFault, BeginsWithItems, IsHoldFile}
 use Rattle.terms.proofs.ExactHoldFile.{hold_file_fault-no_items}
 use Rattle.lemmas.proofs.Each.{All-front, All-back}
+use Rattle.mcs_statements.proofs.Printables.{all_front, all_back}
+use Rattle.mcs_statements.specs.declared.fault.StatementError.{StatementError}
+use Rattle.mcs_statements.specs.declared.fault.StatementError.TheVariants as statement
+use Rattle.mcs_statements.specs.Files.{error_at, IsFileError}
 use Rattle.mcs_statements.specs.declared.error.McsError.{McsError}
 use Rattle.mcs_statements.specs.declared.error.McsError.TheVariants.{Memory, Fault}
 use Rattle.mcs_hold.specs.declared.item.HoldItem.{HoldItem}
-use Rattle.mcs_hold.specs.Items.{item_of, items, IsHoldFileError, IsRestError}
+use Rattle.mcs_hold.specs.Items.{item_of, items, IsHoldFileError, IsItemError, IsRestError}
 
 begins_more : (n : ℕ) (records : Lines) (found : List terms.HoldItem) (m : ℕ) (rest : Lines) (g : Group) (next : ℕ) (later : Lines) (i : terms.HoldItem) → BeginsWithItems n records found m rest → TakesGroup m rest g next later → IsGoodItem g.records i → BeginsWithItems n records (found ++ i ∷ []) next later
 begins_more n records [] m rest g next later i b t good =
@@ -39,8 +43,17 @@ pub group_records : (n : ℕ) (records : Lines) (found : List terms.HoldItem) (m
 group_records n records found m rest g next later b t h =
     All-front IsRecord g.records later (subst (All IsRecord) t.records_are (rest_records n records found m rest b h))
 
-pub rest_fault : (n : ℕ) (records : Lines) (found : List terms.HoldItem) (m : ℕ) (rest : Lines) (g : Group) (next : ℕ) (later : Lines) (code : McCode) → BeginsWithItems n records found m rest → TakesGroup m rest g next later → IsItemFault g.records code → IsRestError n records (Fault g.number code)
+rest_fault : (n : ℕ) (records : Lines) (found : List terms.HoldItem) (m : ℕ) (rest : Lines) (g : Group) (next : ℕ) (later : Lines) (code : McCode) → BeginsWithItems n records found m rest → TakesGroup m rest g next later → IsItemFault g.records code → IsRestError n records (Fault g.number code)
 rest_fault n records found m rest g next later code b t f = (found, m, rest, b, (g, next, later, t, refl, f))
+
+pub rest_error : (n : ℕ) (records : Lines) (found : List terms.HoldItem) (m : ℕ) (rest : Lines) (g : Group) (next : ℕ) (later : Lines) (error : StatementError)
+    → BeginsWithItems n records found m rest → TakesGroup m rest g next later → IsItemError g.records error → IsRestError n records (error_at g.number error)
+rest_error n records found m rest g next later statement.Memory b t f = tt
+rest_error n records found m rest g next later (statement.Fault code) b t f = rest_fault n records found m rest g next later code b t f
+
+pub first_error : (bytes : List ℕ) (error : McsError) → IsFileError bytes error → IsHoldFileError bytes error
+first_error bytes Memory f = tt
+first_error bytes (Fault n code) f = inl f
 
 file_error : (bytes : List ℕ) (records : Lines) (error : McsError) → HasRecords bytes records → IsRestError 1 records error → IsHoldFileError bytes error
 file_error bytes records Memory h r = tt
@@ -52,17 +65,15 @@ error_is bytes Memory found e p = refl
 error_is bytes (Fault number code) found e p = absurd (hold_file_fault-no_items bytes (record { number = number; code = code }) found e p)
 
 -- The whole file's items, and its fault.
-pub file_items : {X : Type 0} (seen : X → List terms.HoldItem) (bytes : List ℕ) (records rest : Lines) (n : ℕ) (r : Result X McsError) → HasRecords bytes records → n ≡ 1 → rest ≡ records
-    → IfOk r (λ x. (m : ℕ) × BeginsWithItems n rest (seen x) m []) → IfOk r (λ x. IsHoldFile bytes (seen x))
-file_items seen bytes records rest n (Ok x) h one same b =
-    (records, b.0, h, subst (λ k. BeginsWithItems k records (seen x) b.0 []) one (subst (λ l. BeginsWithItems n l (seen x) b.0 []) same b.1))
-file_items seen bytes records rest n (Err e) h one same b = tt
+pub file_items : {X : Type 0} (seen : X → List terms.HoldItem) (bytes : List ℕ) (records : Lines) (n : ℕ) (r : Result X McsError) → HasRecords bytes records → n ≡ 1
+    → IfOk r (λ x. (m : ℕ) × BeginsWithItems n records (seen x) m []) → IfOk r (λ x. IsHoldFile bytes (seen x))
+file_items seen bytes records n (Ok x) h one b = (records, b.0, h, subst (λ k. BeginsWithItems k records (seen x) b.0 []) one b.1)
+file_items seen bytes records n (Err e) h one b = tt
 
-pub file_fault : {X : Type 0} (bytes : List ℕ) (records rest : Lines) (n : ℕ) (r : Result X McsError) → HasRecords bytes records → n ≡ 1 → rest ≡ records
-    → (All IsRecord rest → IfErr r (IsRestError n rest)) → IfErr r (IsHoldFileError bytes)
-file_fault bytes records rest n (Ok x) h one same f = tt
-file_fault bytes records rest n (Err e) h one same f =
-    file_error bytes records e h (subst (λ k. IsRestError k records e) one (subst (λ l. IsRestError n l e) same (f (subst (All IsRecord) (sym same) h.each))))
+pub file_fault : {X : Type 0} (bytes : List ℕ) (records : Lines) (n : ℕ) (r : Result X McsError) → HasRecords bytes records → n ≡ 1
+    → (All IsRecord records → IfErr r (IsRestError n records)) → IfErr r (IsHoldFileError bytes)
+file_fault bytes records n (Ok x) h one f = tt
+file_fault bytes records n (Err e) h one f = file_error bytes records e h (subst (λ k. IsRestError k records e) one (f h.each))
 
 pub file_good : {X : Type 0} (bytes : List ℕ) (r : Result X McsError) (found : List terms.HoldItem) → IfErr r (IsHoldFileError bytes) → IsHoldFile bytes found → IfErr r (λ e. e ≡ Memory)
 file_good bytes (Ok x) found f p = tt

@@ -6,53 +6,37 @@ ghost use Rattle.mcs_statements.specs.declared.error.McsError.TheVariants.{Memor
 ghost use Rattle.mcs_hold.specs.Items.{items, IsHoldFileError, IsRestError};
 
 use crate::item::{HoldItem, read_item};
-use mcs_statements::{McsError, StatementError};
-use rec80::{Groups, records};
+use mcs_statements::{McsError, error_at, statements};
+use rec80::Groups;
 use std::alloc::Global;
-use terms::McCode;
 
 /// The items of the statements that are left.
 fn read_items(alloc: Global, groups: Groups<'_>) -> Result<Vec<HoldItem>, McsError>
-    ensures good { IfOk result (λ found. (m : ℕ) × BeginsWithItems groups.entry.number groups.entry.rest.now (items found.items) m []) }
-    ensures fault { All IsRecord groups.entry.rest.now → IfErr result (IsRestError groups.entry.number groups.entry.rest.now) }
+    ensures good { IfOk result (λ found. (m : ℕ) × BeginsWithItems groups.entry.number groups.entry.rest.now
+        (items found.items) m []) }
+    ensures fault { All IsRecord groups.entry.rest.now
+        → IfErr result (IsRestError groups.entry.number groups.entry.rest.now) }
 {
     let mut left = groups;
     let mut found = Vec::new(alloc);
     while let Some(group) = left.next_group() {
         match read_item(alloc, &group) {
             Ok(item) => found.push(item)?,
-            Err(StatementError::Memory) => return Err(McsError::Memory),
-            Err(StatementError::Fault(code)) => {
-                return Err(McsError::Fault {
-                    record: group.number,
-                    code,
-                });
-            }
+            Err(error) => return Err(error_at(group.number, error)),
         }
     }
     Ok(found)
 }
 
 /// The holds and releases of a hold file, or its first fault.
-pub fn read_hold_file(alloc: Global, bytes: &[u8]) -> Result<Vec<HoldItem>, McsError>
+pub fn read_hold(alloc: Global, bytes: &[u8]) -> Result<Vec<HoldItem>, McsError>
     ensures items { IfOk result (λ found. IsHoldFile bytes.now (items found.items)) }
     ensures good { (found : List AnyItem) → IsHoldFile bytes.now found → IfErr result (λ e. e ≡ Memory) }
     ensures fault { IfErr result (IsHoldFileError bytes.now) }
 {
-    let file = match records(bytes) {
-        Ok(file) => file,
-        Err(error) => {
-            return Err(McsError::Fault {
-                record: error.record(),
-                code: McCode::Mc1,
-            });
-        }
-    };
-    let Ok(groups) = file.groups() else {
-        return Err(McsError::Fault {
-            record: 1,
-            code: McCode::Mc4,
-        });
+    let groups = match statements(bytes) {
+        Ok(groups) => groups,
+        Err(error) => return Err(error),
     };
     read_items(alloc, groups)
 }

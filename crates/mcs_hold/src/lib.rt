@@ -4,9 +4,7 @@
 
 mod file;
 mod item;
-#[cfg(test)]
-mod tests;
 
-pub use file::read_hold_file;
+pub use file::read_hold;
 pub use item::HoldItem;
 pub use mcs_statements::{McsError, Release};

@@ -1,5 +1,4 @@
 pub mod Beginning
-pub mod Owning
 pub mod Remaining
 pub mod Finding
 pub mod KindWords

@@ -3,3 +3,4 @@ pub mod KnownWords
 pub mod Faults
 pub mod Holds
 pub mod Trimmed
+pub mod Files

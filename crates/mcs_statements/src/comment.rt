@@ -73,7 +73,8 @@ fn trimmed(text: &[u8]) -> Option<&[u8]>
 /// The text with the blanks at both ends cut.
 fn comment_in(alloc: Global, text: &Text<'_>) -> Result<String, OperandError>
     ensures cut { IfOk result (λ comment. IsTrimmed (text_of text.now) (string_bytes comment)) }
-    ensures bad { All IsPrintable (text_of text.now) → IfErr result (λ e. Excludes e ((cut : List ℕ) × IsTrimmed (text_of text.now) cut)) }
+    ensures bad { All IsPrintable (text_of text.now) → IfErr result (λ e. Excludes e ((cut : List ℕ)
+        × IsTrimmed (text_of text.now) cut)) }
 {
     let bytes = bytes_of(alloc, text)?;
     let Some(cut) = trimmed(bytes.as_slice()) else {
@@ -91,8 +92,10 @@ pub fn optional_comment(
     words: &Words<'_>,
     name: &[u8],
 ) -> Result<Option<String>, OperandError>
-    ensures ok { (ws : List grammar.Word) → LeavesWords words.now ws → IfOk result (λ comment. HasComment (operand name.now ws) (option_map string_bytes comment)) }
-    ensures bad { (ws : List grammar.Word) → LeavesWords words.now ws → IfSome (operand name.now ws) (λ w. IfSome w.list (All IsPrintable))
+    ensures ok { (ws : List grammar.Word) → LeavesWords words.now ws
+        → IfOk result (λ comment. HasComment (operand name.now ws) (option_map string_bytes comment)) }
+    ensures bad { (ws : List grammar.Word) → LeavesWords words.now ws
+        → IfSome (operand name.now ws) (λ w. IfSome w.list (All IsPrintable))
         → IfErr result (λ e. Excludes e ((comment : Option (List ℕ)) × HasComment (operand name.now ws) comment)) }
 {
     let Some(word) = operand(words, name) else {

@@ -12,10 +12,9 @@ ghost use Rattle.mcs_statements.specs.Holds.{HasKey, ArePrintable};
 use crate::begin::Known;
 use crate::comment::optional_comment;
 use crate::kind::kind_word;
-use crate::own::one_id;
-use crate::values::{are_operands, optional_class, optional_date, required_id, required_reason};
-use fields::{Id, Reason};
-use operands::{BadOperand, OperandError};
+use crate::values::{are_operands, required_reason};
+use fields::{Class, HoldDate, Id, Reason};
+use operands::{BadOperand, OperandError, one, optional, required};
 use std::alloc::Global;
 use std::marker::Model;
 use sysmods_records::Hold;
@@ -53,16 +52,18 @@ impl Model for Release {
 
 /// The key of a hold and its FMID.
 fn read_key(known: &Known<'_>) -> Option<Release>
-    ensures some { (ws : List grammar.Word) → LeavesWords known.now.rest ws → IfSome result (λ r. HasKey (own_list known.now) ws r) }
-    ensures none { (ws : List grammar.Word) → LeavesWords known.now.rest ws → IfNone result ((r : AnyRelease) → HasKey (own_list known.now) ws r → ⊥) }
+    ensures some { (ws : List grammar.Word) → LeavesWords known.now.rest ws
+        → IfSome result (λ r. HasKey (own_list known.now) ws r) }
+    ensures none { (ws : List grammar.Word) → LeavesWords known.now.rest ws → IfNone result ((r : AnyRelease)
+        → HasKey (own_list known.now) ws r → ⊥) }
 {
-    let Some(id) = one_id(&known.first) else {
+    let Some(id) = one::<Id>(&known.first) else {
         return None;
     };
     let Some(kind) = kind_word(&known.rest) else {
         return None;
     };
-    let Some(fmid) = required_id(&known.rest, b"FMID") else {
+    let Some(fmid) = required::<Id>(&known.rest, b"FMID") else {
         return None;
     };
     let Some(reason) = required_reason(kind, &known.rest, b"REASON") else {
@@ -79,9 +80,11 @@ fn read_key(known: &Known<'_>) -> Option<Release>
 /// What a `++RELEASE` says.
 pub fn read_release(known: &Known<'_>) -> Result<Release, BadOperand>
     ensures ok { (rest : List Piece) → HasSolid (left_of known.now.rest) rest
-        → IfOk result (λ r. (ws : List grammar.Word) × grammar.HasWords rest ws × IsReleaseOf (own_list known.now) ws r) }
+        → IfOk result (λ r. (ws : List grammar.Word) × grammar.HasWords rest ws
+        × IsReleaseOf (own_list known.now) ws r) }
     ensures bad { (rest : List Piece) → HasSolid (left_of known.now.rest) rest
-        → OnErr result ((ws : List grammar.Word) (r : AnyRelease) → grammar.HasWords rest ws → IsReleaseOf (own_list known.now) ws r → ⊥) }
+        → OnErr result ((ws : List grammar.Word) (r : AnyRelease) → grammar.HasWords rest ws
+        → IsReleaseOf (own_list known.now) ws r → ⊥) }
 {
     if !are_operands(&known.rest, RELEASE_OPERANDS) {
         return Err(BadOperand);
@@ -98,7 +101,8 @@ pub fn read_hold(alloc: Global, known: &Known<'_>, internal: bool) -> Result<Hol
         → IfOk result (λ h. (ws : List grammar.Word) × grammar.HasWords rest ws × IsHoldOf (own_list known.now) ws h) }
     ensures internal { IfOk result (λ h. h.internal ≡ internal) }
     ensures bad { (rest : List Piece) → HasSolid (left_of known.now.rest) rest → ArePrintable rest
-        → IfErr result (λ e. Excludes e ((ws : List grammar.Word) × (h : AnyHold) × grammar.HasWords rest ws × IsHoldOf (own_list known.now) ws h)) }
+        → IfErr result (λ e. Excludes e ((ws : List grammar.Word) × (h : AnyHold) × grammar.HasWords rest ws
+        × IsHoldOf (own_list known.now) ws h)) }
 {
     if !are_operands(&known.rest, HOLD_OPERANDS) {
         return Err(OperandError::Bad);
@@ -106,10 +110,10 @@ pub fn read_hold(alloc: Global, known: &Known<'_>, internal: bool) -> Result<Hol
     let Some(key) = read_key(known) else {
         return Err(OperandError::Bad);
     };
-    let Ok(class) = optional_class(&known.rest, b"CLASS") else {
+    let Ok(class) = optional::<Class>(&known.rest, b"CLASS") else {
         return Err(OperandError::Bad);
     };
-    let Ok(date) = optional_date(&known.rest, b"DATE") else {
+    let Ok(date) = optional::<HoldDate>(&known.rest, b"DATE") else {
         return Err(OperandError::Bad);
     };
     let comment = match optional_comment(alloc, &known.rest, b"COMMENT") {

@@ -24,7 +24,8 @@ fn kind_from(error: bool, system: bool, user: bool) -> Option<HoldKind>
 /// The kind of a hold, whose word stands among the operands.
 pub fn kind_word(words: &Words<'_>) -> Option<HoldKind>
     ensures some { (ws : List grammar.Word) → LeavesWords words.now ws → IfSome result (λ kind. HasKind ws kind) }
-    ensures none { (ws : List grammar.Word) → LeavesWords words.now ws → IfNone result ((kind : AnyKind) → HasKind ws kind → ⊥) }
+    ensures none { (ws : List grammar.Word) → LeavesWords words.now ws → IfNone result ((kind : AnyKind)
+        → HasKind ws kind → ⊥) }
 {
     let Ok(error) = flag(&operand(words, b"ERROR")) else {
         return None;

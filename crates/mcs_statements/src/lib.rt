@@ -8,15 +8,15 @@ mod begin;
 mod comment;
 mod error;
 mod fault;
+mod file;
 mod hold;
 mod kind;
-mod own;
 mod values;
 mod words;
 
 pub use begin::{Known, begun};
 pub use error::McsError;
 pub use fault::{StatementError, no_value};
+pub use file::{error_at, statements};
 pub use hold::{Release, has_short_comment, read_hold, read_release};
-pub use own::{one_id, one_name, one_srel};
-pub use values::{are_operands, listed_ids, optional_id, required_id, required_name};
+pub use values::{are_operands, listed_ids};

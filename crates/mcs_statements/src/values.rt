@@ -1,17 +1,16 @@
-ghost use Rattle.std.specs.Prelude.{◌≡◌, ◌↔◌, ℕ, Bool, true, false, List, Option, map, IsTrue, IfOk, IfErr, IfSome, IfNone, OnErr};
+ghost use Rattle.std.specs.Prelude.{◌≡◌, ◌↔◌, ℕ, Bool, true, false, List, map, IsTrue, IfOk, IfErr, IfSome, IfNone};
 ghost use Rattle.terms.specs.Statement.{Piece, HasSolid};
 ghost use Rattle.terms.specs.Words as grammar;
-ghost use Rattle.terms.specs.Forms.{IsId, IsName, IsClass, IsDate, IsReason};
+ghost use Rattle.terms.specs.Forms.{IsId, IsReason};
 ghost use Rattle.std.specs.List.{list_any};
 ghost use Rattle.std.specs.Str.{bytes_eq};
-ghost use Rattle.terms.specs.Operands.{operand, AreOperands, HasRequired, HasOptional, HasTexts};
+ghost use Rattle.terms.specs.Operands.{operand, AreOperands, HasRequired, HasTexts};
 ghost use Rattle.rec80.specs.Views.{left_of};
 ghost use Rattle.operands.specs.Left.{LeavesWords};
 ghost use Rattle.operands.specs.Failing.{Excludes};
 
-use crate::own::{one_class, one_date, one_id, one_name, one_reason};
-use fields::{Class, HoldDate, Id, IdList, Name, Reason};
-use operands::{BadOperand, OperandError, ids, operand};
+use fields::{IdList, Reason};
+use operands::{OperandError, ids, operand, required};
 use rec80::Words;
 use std::alloc::Global;
 use terms::HoldKind;
@@ -28,7 +27,8 @@ pub fn are_operands(words: &Words<'_>, names: &[&[u8]]) -> bool
     ensures yes { (pieces : List Piece) → HasSolid (left_of words.now) pieces → IsTrue result
         → (ws : List grammar.Word) × grammar.HasWords pieces ws × AreOperands (map (λ name. name.now) names.now) ws }
     ensures no { (pieces : List Piece) → HasSolid (left_of words.now) pieces → result ≡ false
-        → (ws : List grammar.Word) → grammar.HasWords pieces ws → AreOperands (map (λ name. name.now) names.now) ws → ⊥ }
+        → (ws : List grammar.Word) → grammar.HasWords pieces ws → AreOperands (map (λ name. name.now) names.now) ws
+        → ⊥ }
 {
     let mut left = *words;
     loop {
@@ -47,85 +47,38 @@ pub fn are_operands(words: &Words<'_>, names: &[&[u8]]) -> bool
     }
 }
 
-/// The id of an operand that may be absent.
-pub fn optional_id(words: &Words<'_>, name: &[u8]) -> Result<Option<Id>, BadOperand>
-    ensures ok { (ws : List grammar.Word) → LeavesWords words.now ws → IfOk result (λ id. HasOptional IsId (operand name.now ws) id) }
-    ensures bad { (ws : List grammar.Word) → LeavesWords words.now ws → OnErr result ((id : Option (List ℕ)) → HasOptional IsId (operand name.now ws) id → ⊥) }
+/// Whether the reason is one of a hold of the kind.
+fn suits_kind(kind: HoldKind, reason: Reason) -> bool
+    ensures { IsTrue result ↔ IsReason kind reason }
 {
-    let Some(word) = operand(words, name) else {
-        return Ok(None);
-    };
-    match one_id(&word) {
-        Some(id) => Ok(Some(id)),
-        None => Err(BadOperand),
+    match kind {
+        HoldKind::Error => reason.is_id(),
+        HoldKind::System | HoldKind::User => true,
     }
-}
-
-/// The class of an operand that may be absent.
-pub fn optional_class(words: &Words<'_>, name: &[u8]) -> Result<Option<Class>, BadOperand>
-    ensures ok { (ws : List grammar.Word) → LeavesWords words.now ws → IfOk result (λ class. HasOptional IsClass (operand name.now ws) class) }
-    ensures bad { (ws : List grammar.Word) → LeavesWords words.now ws → OnErr result ((class : Option (List ℕ)) → HasOptional IsClass (operand name.now ws) class → ⊥) }
-{
-    let Some(word) = operand(words, name) else {
-        return Ok(None);
-    };
-    match one_class(&word) {
-        Some(class) => Ok(Some(class)),
-        None => Err(BadOperand),
-    }
-}
-
-/// The date of an operand that may be absent.
-pub fn optional_date(words: &Words<'_>, name: &[u8]) -> Result<Option<HoldDate>, BadOperand>
-    ensures ok { (ws : List grammar.Word) → LeavesWords words.now ws → IfOk result (λ date. HasOptional IsDate (operand name.now ws) date) }
-    ensures bad { (ws : List grammar.Word) → LeavesWords words.now ws → OnErr result ((date : Option (List ℕ)) → HasOptional IsDate (operand name.now ws) date → ⊥) }
-{
-    let Some(word) = operand(words, name) else {
-        return Ok(None);
-    };
-    match one_date(&word) {
-        Some(date) => Ok(Some(date)),
-        None => Err(BadOperand),
-    }
-}
-
-/// The id of an operand that must be there.
-pub fn required_id(words: &Words<'_>, name: &[u8]) -> Option<Id>
-    ensures some { (ws : List grammar.Word) → LeavesWords words.now ws → IfSome result (λ v. HasRequired IsId (operand name.now ws) v) }
-    ensures none { (ws : List grammar.Word) → LeavesWords words.now ws → IfNone result ((v : List ℕ) → HasRequired IsId (operand name.now ws) v → ⊥) }
-{
-    let Some(word) = operand(words, name) else {
-        return None;
-    };
-    one_id(&word)
 }
 
 /// The reason that must be there, of a hold of the kind.
 pub fn required_reason(kind: HoldKind, words: &Words<'_>, name: &[u8]) -> Option<Reason>
-    ensures some { (ws : List grammar.Word) → LeavesWords words.now ws → IfSome result (λ v. HasRequired (IsReason kind) (operand name.now ws) v) }
-    ensures none { (ws : List grammar.Word) → LeavesWords words.now ws → IfNone result ((v : List ℕ) → HasRequired (IsReason kind) (operand name.now ws) v → ⊥) }
+    ensures some { (ws : List grammar.Word) → LeavesWords words.now ws
+        → IfSome result (λ v. HasRequired (IsReason kind) (operand name.now ws) v) }
+    ensures none { (ws : List grammar.Word) → LeavesWords words.now ws
+        → IfNone result ((v : List ℕ) → HasRequired (IsReason kind) (operand name.now ws) v → ⊥) }
 {
-    let Some(word) = operand(words, name) else {
+    let Some(reason) = required::<Reason>(words, name) else {
         return None;
     };
-    one_reason(kind, &word)
-}
-
-/// The name of an operand that must be there.
-pub fn required_name(words: &Words<'_>, name: &[u8]) -> Option<Name>
-    ensures some { (ws : List grammar.Word) → LeavesWords words.now ws → IfSome result (λ v. HasRequired IsName (operand name.now ws) v) }
-    ensures none { (ws : List grammar.Word) → LeavesWords words.now ws → IfNone result ((v : List ℕ) → HasRequired IsName (operand name.now ws) v → ⊥) }
-{
-    let Some(word) = operand(words, name) else {
+    if !suits_kind(kind, reason) {
         return None;
-    };
-    one_name(&word)
+    }
+    Some(reason)
 }
 
 /// The ids of an operand, none where it is absent.
 pub fn listed_ids(alloc: Global, words: &Words<'_>, name: &[u8]) -> Result<IdList, OperandError>
-    ensures ok { (ws : List grammar.Word) → LeavesWords words.now ws → IfOk result (λ ids. HasTexts IsId (operand name.now ws) ids) }
-    ensures bad { (ws : List grammar.Word) → LeavesWords words.now ws → IfErr result (λ e. Excludes e ((ids : List (List ℕ)) × HasTexts IsId (operand name.now ws) ids)) }
+    ensures ok { (ws : List grammar.Word) → LeavesWords words.now ws
+        → IfOk result (λ ids. HasTexts IsId (operand name.now ws) ids) }
+    ensures bad { (ws : List grammar.Word) → LeavesWords words.now ws
+        → IfErr result (λ e. Excludes e ((ids : List (List ℕ)) × HasTexts IsId (operand name.now ws) ids)) }
 {
     let Some(word) = operand(words, name) else {
         return Ok(IdList::new(alloc));

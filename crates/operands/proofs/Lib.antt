@@ -2,3 +2,4 @@ pub mod Finding
 pub mod Reading
 pub mod Distinct
 pub mod Failing
+pub mod Owning

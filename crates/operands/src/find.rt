@@ -8,7 +8,8 @@ use rec80::{Word, Words};
 
 /// Takes the next word. There is none behind the last one, and none where something else follows.
 fn take_word<'a>(left: &mut Words<'a>) -> Option<Word<'a>>
-    ensures word { IfSome result (λ w. (ws : List grammar.Word) → LeavesWords left.old ws → (more : List grammar.Word) × (ws ≡ word_of w ∷ more) × LeavesWords left.new more) }
+    ensures word { IfSome result (λ w. (ws : List grammar.Word) → LeavesWords left.old ws
+        → (more : List grammar.Word) × (ws ≡ word_of w ∷ more) × LeavesWords left.new more) }
     ensures none { IfNone result ((ws : List grammar.Word) → LeavesWords left.old ws → ws ≡ []) }
     ensures shorter { IfSome result (λ w. length (left_of left.new) < length (left_of left.old)) }
 {

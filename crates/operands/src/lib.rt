@@ -8,12 +8,10 @@ mod find;
 mod lists;
 mod member;
 mod members;
-#[cfg(test)]
-mod tests;
 mod values;
 
 pub use errors::{BadOperand, OperandError};
 pub use find::operand;
 pub use lists::{ids, listed, listed_ids, rising, sources};
 pub use member::Member;
-pub use values::{flag, one_member};
+pub use values::{flag, one, one_member, optional, required};

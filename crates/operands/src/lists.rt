@@ -14,7 +14,8 @@ use std::alloc::Global;
 /// The members of the word's list in rising order. One that stands there twice is a bad operand.
 pub fn rising<T: Member>(alloc: Global, word: &Word<'_>) -> Result<Rising<T>, OperandError>
     ensures sorted { IfOk result (λ list. HasSorted T.form (word_of word.now) (map T.text list)) }
-    ensures bad { IfErr result (λ e. Excludes e ((values : List (List ℕ)) × HasSorted T.form (word_of word.now) values)) }
+    ensures bad { IfErr result (λ e. Excludes e ((values : List (List ℕ))
+        × HasSorted T.form (word_of word.now) values)) }
 {
     let Some(list) = word.list else {
         return Err(OperandError::Bad);
@@ -31,7 +32,8 @@ pub fn rising<T: Member>(alloc: Global, word: &Word<'_>) -> Result<Rising<T>, Op
 /// The members of the word's list, as they stand. One that stands there twice is a bad operand.
 pub fn listed<T: Member>(alloc: Global, word: &Word<'_>) -> Result<Vec<T>, OperandError>
     ensures listed { IfOk result (λ list. HasListed T.form (word_of word.now) (map T.text list.items)) }
-    ensures bad { IfErr result (λ e. Excludes e ((values : List (List ℕ)) × HasListed T.form (word_of word.now) values)) }
+    ensures bad { IfErr result (λ e. Excludes e ((values : List (List ℕ))
+        × HasListed T.form (word_of word.now) values)) }
 {
     let Some(list) = word.list else {
         return Err(OperandError::Bad);
@@ -64,7 +66,8 @@ pub fn ids(alloc: Global, word: &Word<'_>) -> Result<IdList, OperandError>
 /// The sources of the word's list in rising order.
 pub fn sources(alloc: Global, word: &Word<'_>) -> Result<SourceList, OperandError>
     ensures sorted { IfOk result (λ list. HasSorted IsSource (word_of word.now) list) }
-    ensures bad { IfErr result (λ e. Excludes e ((values : List (List ℕ)) × HasSorted IsSource (word_of word.now) values)) }
+    ensures bad { IfErr result (λ e. Excludes e ((values : List (List ℕ))
+        × HasSorted IsSource (word_of word.now) values)) }
 {
     rising::<Source>(alloc, word)
 }

@@ -26,9 +26,11 @@ pub(crate) fn read_members<T: Member>(
     list: &Text<'_>,
 ) -> Result<Vec<T>, OperandError>
     ensures members { IfOk result (λ read. HasMembers (text_of list.now) (map plain (map T.text read.items))) }
-    ensures only { IfOk result (λ read. (ms : List (List ℕ)) → HasMembers (text_of list.now) (map plain ms) → ms ≡ map T.text read.items) }
+    ensures only { IfOk result (λ read. (ms : List (List ℕ)) → HasMembers (text_of list.now) (map plain ms)
+        → ms ≡ map T.text read.items) }
     ensures forms { IfOk result (λ read. All T.form (map T.text read.items)) }
-    ensures bad { IfErr result (λ e. Excludes e ((ms : List (List ℕ)) × HasMembers (text_of list.now) (map plain ms) × All T.form ms)) }
+    ensures bad { IfErr result (λ e. Excludes e ((ms : List (List ℕ)) × HasMembers (text_of list.now) (map plain ms)
+        × All T.form ms)) }
 {
     let mut read = Vec::new(alloc);
     let mut members = list.members();

@@ -1,10 +1,14 @@
-ghost use Rattle.std.specs.Prelude.{◌≡◌, ℕ, Bool, List, [], ◌∷◌, option_map, IfOk, IfSome, IfNone, OnErr, IsSomeAnd};
+ghost use Rattle.std.specs.Prelude.{◌≡◌, ℕ, Bool, List, Option, [], ◌∷◌, option_map, IfOk, IfSome, IfNone, OnErr, IsSomeAnd};
 ghost use Rattle.terms.specs.Words.{HasMembers, plain};
-ghost use Rattle.terms.specs.Operands.{HasFlag};
+ghost use Rattle.terms.specs.Words as grammar;
+ghost use Rattle.terms.specs.Operands.{operand, HasFlag, HasOwn, HasOptional, HasRequired};
 ghost use Rattle.rec80.specs.Views.{word_of};
+ghost use Rattle.operands.specs.Left.{LeavesWords};
 
 use crate::errors::BadOperand;
-use rec80::Word;
+use crate::find::operand;
+use crate::member::Member;
+use rec80::{Word, Words};
 
 /// Whether an operand that has no list is there.
 pub fn flag(found: &Option<Word<'_>>) -> Result<bool, BadOperand>
@@ -25,7 +29,8 @@ pub fn flag(found: &Option<Word<'_>>) -> Result<bool, BadOperand>
 /// The only member of the word's list.
 pub fn one_member<'a>(word: &Word<'a>) -> Option<&'a [u8]>
     ensures one { IfSome result (λ m. IsSomeAnd (word_of word.now).list (λ text. HasMembers text (plain m.now ∷ []))) }
-    ensures none { IfNone result ((m : List ℕ) → IsSomeAnd (word_of word.now).list (λ text. HasMembers text (plain m ∷ [])) → ⊥) }
+    ensures none { IfNone result ((m : List ℕ) → IsSomeAnd (word_of word.now).list
+        (λ text. HasMembers text (plain m ∷ [])) → ⊥) }
 {
     let list = word.list?;
     let mut members = list.members();
@@ -43,4 +48,44 @@ pub fn one_member<'a>(word: &Word<'a>) -> Option<&'a [u8]>
         return None;
     }
     Some(member.word)
+}
+
+/// The value that is all there is in the word's list.
+pub fn one<T: Member>(word: &Word<'_>) -> Option<T>
+    ensures one { IfSome result (λ value. HasOwn T.form (word_of word.now).list (T.text value)) }
+    ensures none { IfNone result ((value : List ℕ) → HasOwn T.form (word_of word.now).list value → ⊥) }
+{
+    let Some(member) = one_member(word) else {
+        return None;
+    };
+    T::read(member)
+}
+
+/// The value of an operand that must be there.
+pub fn required<T: Member>(words: &Words<'_>, name: &[u8]) -> Option<T>
+    ensures some { (ws : List grammar.Word) → LeavesWords words.now ws
+        → IfSome result (λ value. HasRequired T.form (operand name.now ws) (T.text value)) }
+    ensures none { (ws : List grammar.Word) → LeavesWords words.now ws
+        → IfNone result ((value : List ℕ) → HasRequired T.form (operand name.now ws) value → ⊥) }
+{
+    let Some(word) = operand(words, name) else {
+        return None;
+    };
+    one::<T>(&word)
+}
+
+/// The value of an operand that may be absent.
+pub fn optional<T: Member>(words: &Words<'_>, name: &[u8]) -> Result<Option<T>, BadOperand>
+    ensures ok { (ws : List grammar.Word) → LeavesWords words.now ws
+        → IfOk result (λ found. HasOptional T.form (operand name.now ws) (option_map T.text found)) }
+    ensures bad { (ws : List grammar.Word) → LeavesWords words.now ws
+        → OnErr result ((value : Option (List ℕ)) → HasOptional T.form (operand name.now ws) value → ⊥) }
+{
+    let Some(word) = operand(words, name) else {
+        return Ok(None);
+    };
+    match one::<T>(&word) {
+        Some(value) => Ok(Some(value)),
+        None => Err(BadOperand),
+    }
 }

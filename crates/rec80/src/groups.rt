@@ -80,7 +80,8 @@ impl<'a> Groups<'a> {
 
     /// Takes the next statement. Behind the last one there is none.
     pub fn next_group(&mut self) -> Option<Group<'a>>
-        ensures group { IfSome result (λ g. TakesGroup self.old.number self.old.rest.now (group_of g) self.new.number self.new.rest.now) }
+        ensures group { IfSome result (λ g. TakesGroup self.old.number self.old.rest.now
+            (group_of g) self.new.number self.new.rest.now) }
         ensures end { IfNone result (self.old.rest.now ≡ []) }
     {
         if self.rest.is_empty() {

@@ -16,8 +16,6 @@ mod piece;
 mod read;
 mod scan;
 mod statements;
-#[cfg(test)]
-mod tests;
 mod text;
 mod walk;
 mod words;

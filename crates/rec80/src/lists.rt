@@ -55,7 +55,8 @@ fn behind_byte<'a>(text: &Text<'a>, byte: u8) -> Option<Text<'a>>
 /// A member's own list, if it has one, and what follows. None: a list begins and does not close.
 fn own_list<'a>(behind: &Text<'a>) -> Option<(Option<Text<'a>>, Text<'a>)>
     ensures list { IfSome result (λ x. TakesInner (text_of behind.now) (option_map text_of x.0) (text_of x.1)) }
-    ensures none { IfNone result ((list : Option (List ℕ)) (after : List ℕ) → TakesInner (text_of behind.now) list after → ⊥) }
+    ensures none { IfNone result ((list : Option (List ℕ)) (after : List ℕ)
+        → TakesInner (text_of behind.now) list after → ⊥) }
 {
     let dark = behind_blanks(behind);
     let Some(inside) = behind_byte(&dark, b'(') else {
@@ -71,7 +72,8 @@ fn own_list<'a>(behind: &Text<'a>) -> Option<(Option<Text<'a>>, Text<'a>)>
 /// Where the next member begins, if one may begin there.
 fn member_start<'a>(rest: &Text<'a>, first: bool) -> Option<Text<'a>>
     ensures start { IfSome result (λ t. (gap : List ℕ) × (text_of rest.now ≡ gap ++ text_of t) × IsBefore first gap) }
-    ensures only { (gap next : List ℕ) → text_of rest.now ≡ gap ++ next → IsBefore first gap → BeginsMember next → MatchOption result ⊥ (λ t. next ≡ text_of t) }
+    ensures only { (gap next : List ℕ) → text_of rest.now ≡ gap ++ next → IsBefore first gap → BeginsMember next
+        → MatchOption result ⊥ (λ t. next ≡ text_of t) }
 {
     let dark = behind_blanks(rest);
     if first {
@@ -89,7 +91,8 @@ fn member_start<'a>(rest: &Text<'a>, first: bool) -> Option<Text<'a>>
 /// The next member, and what follows it.
 fn member_in<'a>(rest: &Text<'a>, first: bool) -> Option<(Word<'a>, Text<'a>)>
     ensures member { IfSome result (λ x. TakesNext first (text_of rest.now) (word_of x.0) (text_of x.1)) }
-    ensures none { IfNone result ((m : grammar.Word) (after : List ℕ) → TakesNext first (text_of rest.now) m after → ⊥) }
+    ensures none { IfNone result ((m : grammar.Word) (after : List ℕ) → TakesNext first (text_of rest.now) m after
+        → ⊥) }
 {
     let Some(start) = member_start(rest, first) else {
         return None;
@@ -114,13 +117,17 @@ fn is_blank(rest: &Text) -> bool
 impl<'a> Members<'a> {
     /// Takes the next member, with its own list. Behind the last one there is none. An `Err` changes nothing.
     pub fn next_member(&mut self) -> Result<Option<Word<'a>>, NoMembers>
-        ensures member { IfOk result (λ found. IfSome found (λ m. (ms : List grammar.Word) → LeavesMembers self.new ms → LeavesMembers self.old (word_of m ∷ ms))) }
-        ensures only { IfOk result (λ found. IfSome found (λ m. (ms : List grammar.Word) → LeavesMembers self.old ms → (rest : List grammar.Word) × (ms ≡ word_of m ∷ rest) × LeavesMembers self.new rest)) }
+        ensures member { IfOk result (λ found. IfSome found (λ m. (ms : List grammar.Word)
+            → LeavesMembers self.new ms → LeavesMembers self.old (word_of m ∷ ms))) }
+        ensures only { IfOk result (λ found. IfSome found (λ m. (ms : List grammar.Word) → LeavesMembers self.old ms
+            → (rest : List grammar.Word) × (ms ≡ word_of m ∷ rest) × LeavesMembers self.new rest)) }
         ensures end { IfOk result (λ found. IfNone found (LeavesMembers self.old [])) }
-        ensures end_only { IfOk result (λ found. IfNone found ((ms : List grammar.Word) → LeavesMembers self.old ms → ms ≡ [])) }
+        ensures end_only { IfOk result (λ found. IfNone found ((ms : List grammar.Word) → LeavesMembers self.old ms
+            → ms ≡ [])) }
         ensures bad { OnErr result ((ms : List grammar.Word) → LeavesMembers self.old ms → ⊥) }
         ensures err { OnErr result (self.new ≡ self.old) }
-        ensures shorter { IfOk result (λ found. IfSome found (λ m. length (members_text self.new) < length (members_text self.old))) }
+        ensures shorter { IfOk result (λ found. IfSome found (λ m. length (members_text self.new) < length
+            (members_text self.old))) }
     {
         if !self.first && is_blank(&self.rest) {
             return Ok(None);

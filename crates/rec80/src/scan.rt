@@ -22,7 +22,8 @@ pub fn behind_both<'a>(byte: u8, next: &Cursor<'a>, first: u8, second: u8) -> Op
 /// The place behind the first `*/`.
 #[tactic(auto, using(crate::proofs::Places::ahead_trans))]
 pub fn behind_comment<'a>(inside: &Cursor<'a>) -> Option<Cursor<'a>>
-    ensures end { MatchOption result (behind_close (rest_of inside.now) ≡ None) (λ x. behind_close (rest_of inside.now) ≡ Some (rest_of x)) }
+    ensures end { MatchOption result (behind_close (rest_of inside.now) ≡ None)
+        (λ x. behind_close (rest_of inside.now) ≡ Some (rest_of x)) }
     ensures ahead { IfSome result (λ x. IsAhead inside.now x) }
 {
     let mut at = *inside;
@@ -38,7 +39,8 @@ pub fn behind_comment<'a>(inside: &Cursor<'a>) -> Option<Cursor<'a>>
 /// The text up to the parenthesis that closes it, and the place behind that. None: it is not closed, or a third one
 /// opens.
 pub fn behind_parens<'a>(inside: &Cursor<'a>) -> Option<(Text<'a>, Cursor<'a>)>
-    ensures end { MatchOption result (behind_list false (rest_of inside.now) ≡ None) (λ x. behind_list false (rest_of inside.now) ≡ Some (rest_of x.1)) }
+    ensures end { MatchOption result (behind_list false (rest_of inside.now) ≡ None)
+        (λ x. behind_list false (rest_of inside.now) ≡ Some (rest_of x.1)) }
     ensures text { IfSome result (λ x. rest_of inside.now ≡ text_of x.0 ++ 41 ∷ rest_of x.1) }
     ensures ahead { IfSome result (λ x. IsAhead inside.now x.1) }
 {

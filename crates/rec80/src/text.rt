@@ -22,7 +22,8 @@ impl<'a> Text<'a> {
 
     /// The text from the next record on, if it goes on there.
     pub fn next_line(&self) -> Option<Text<'a>>
-        ensures { MatchOption result (text_of self.now ≡ line_of self.now) (λ next. text_of self.now ≡ line_of self.now ++ 32 ∷ text_of next) }
+        ensures { MatchOption result (text_of self.now ≡ line_of self.now)
+            (λ next. text_of self.now ≡ line_of self.now ++ 32 ∷ text_of next) }
     {
         if self.more == 0 {
             return None;

@@ -50,7 +50,8 @@ fn is_idle(tail: &[u8]) -> bool
 
 /// The records behind the one in which the statement ends that begins here.
 pub fn inline_behind<'a>(from: &Cursor<'a>) -> Result<&'a [Record], StmtError>
-    ensures ok { IfOk result (λ inline. (ps : List Piece) × (tail : List ℕ) × EndsFrom from.now ps tail inline.now × IsIdle tail) }
+    ensures ok { IfOk result (λ inline. (ps : List Piece) × (tail : List ℕ) × EndsFrom from.now ps tail inline.now
+        × IsIdle tail) }
     ensures fault { IfErr result (λ e. BreaksFrom from.now e) }
 {
     let (at, stop) = first_stop(from);

@@ -48,12 +48,16 @@ impl<'a> Words<'a> {
     /// Takes the next word, with its list. Behind the last one there is none. An `Err` changes nothing.
     pub fn next_word(&mut self) -> Result<Option<Word<'a>>, NoWord>
         ensures word { (pieces : List AnyPiece) → HasSolid (left_of self.old) pieces
-            → IfOk result (λ found. IfSome found (λ w. (rest : List AnyPiece) × TakesWord pieces (word_of w) rest × HasSolid (left_of self.new) rest)) }
-        ensures end { (pieces : List AnyPiece) → HasSolid (left_of self.old) pieces → IfOk result (λ found. IfNone found (pieces ≡ [])) }
-        ensures bad { (pieces : List AnyPiece) → HasSolid (left_of self.old) pieces → OnErr result (BeginsNoWords pieces) }
+            → IfOk result (λ found. IfSome found (λ w. (rest : List AnyPiece) × TakesWord pieces (word_of w) rest
+            × HasSolid (left_of self.new) rest)) }
+        ensures end { (pieces : List AnyPiece) → HasSolid (left_of self.old) pieces
+            → IfOk result (λ found. IfNone found (pieces ≡ [])) }
+        ensures bad { (pieces : List AnyPiece) → HasSolid (left_of self.old) pieces
+            → OnErr result (BeginsNoWords pieces) }
         ensures err { OnErr result (self.new ≡ self.old) }
         ensures inline { self.new.inline.now ≡ self.old.inline.now }
-        ensures shorter { IfOk result (λ found. IfSome found (λ w. length (left_of self.new) < length (left_of self.old))) }
+        ensures shorter { IfOk result (λ found. IfSome found (λ w. length (left_of self.new) < length
+            (left_of self.old))) }
     {
         let at = behind_gaps(&self.rest);
         let Ok((piece, next)) = solid_piece(&at) else {
@@ -77,7 +81,8 @@ impl<'a> Words<'a> {
     /// Takes the next word, list or other character. Behind the last one there is none.
     pub fn next_piece(&mut self) -> Option<Piece<'a>>
         ensures piece { (pieces : List AnyPiece) → HasSolid (left_of self.old) pieces
-            → MatchOption result (pieces ≡ []) (λ p. (rest : List AnyPiece) × (pieces ≡ piece_of p ∷ rest) × HasSolid (left_of self.new) rest) }
+            → MatchOption result (pieces ≡ []) (λ p. (rest : List AnyPiece) × (pieces ≡ piece_of p ∷ rest)
+            × HasSolid (left_of self.new) rest) }
         ensures inline { self.new.inline.now ≡ self.old.inline.now }
         ensures shorter { IfSome result (λ p. length (left_of self.new) < length (left_of self.old)) }
     {

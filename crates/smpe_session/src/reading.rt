@@ -9,8 +9,7 @@ ghost use Rattle.smpe_session.specs.Received.{HasRead, HasFound};
 
 use crate::files::Files;
 use cntl::ReceiveWhat;
-use mcs::{Item, McsError, read_ptfin};
-use mcs_hold::{HoldItem, read_hold_file};
+use mcs::{HoldItem, Item, McsError, read_hold, read_ptfin};
 use report::Refusal;
 use std::alloc::{AllocError, Global as Heap};
 
@@ -53,7 +52,7 @@ fn read_holds(
     if !reads {
         return Ok(Ok(Vec::new(alloc)));
     }
-    match read_hold_file(alloc, holds) {
+    match read_hold(alloc, holds) {
         Ok(found) => Ok(Ok(found)),
         Err(
             McsError::Fault {

@@ -46,7 +46,10 @@ impl Sysmod {
 
     /// The `++VER` comes in at its place, where it takes the place of one of its SREL.
     pub fn add_ver(&mut self, ver: Ver) -> Result<(), AllocError>
-        ensures ok { OnOk result (self.new ≡ record self.old { vers = with_item (slice_cmp nat_cmp) (λ v. v.srel) self.old.vers ver }) }
+        ensures ok { OnOk result (self.new ≡ record self.old {
+          vers = with_item (slice_cmp nat_cmp)
+              (λ v. v.srel) self.old.vers ver;
+        }) }
         ensures err { OnErr result (self.new ≡ self.old) }
     {
         match ver_place(&self.vers, ver.srel) {
@@ -59,7 +62,10 @@ impl Sysmod {
     /// The `++IF` comes in behind those of the `++VER` of the SREL, where there is one.
     pub fn add_if(&mut self, srel: Srel, condition: IfReq) -> Result<(), AllocError>
         ensures ok { OnOk result (self.new ≡ record self.old {
-          vers = map (λ (v : AnyVer). if bytes_eq v.srel srel then record v { ifs = v.ifs ++ condition ∷ [] } else v) self.old.vers;
+          vers = map (λ (v : AnyVer). if bytes_eq v.srel srel then record v {
+            ifs
+                = v.ifs ++ condition ∷ [];
+          } else v) self.old.vers;
         }) }
         ensures err { OnErr result (self.new ≡ self.old) }
     {
@@ -81,7 +87,10 @@ impl Sysmod {
 
     /// The element statement comes in at its place, where it takes the place of one for its element.
     pub fn add_change(&mut self, change: ElemChange) -> Result<(), AllocError>
-        ensures ok { OnOk result (self.new ≡ record self.old { changes = with_item change_cmp (λ c. c) self.old.changes change }) }
+        ensures ok { OnOk result (self.new ≡ record self.old {
+          changes = with_item change_cmp
+              (λ c. c) self.old.changes change;
+        }) }
         ensures err { OnErr result (self.new ≡ self.old) }
     {
         match change_place(&self.changes, &change) {
@@ -98,7 +107,8 @@ fn ver_place(vers: &[Ver], srel: Srel) -> Result<usize, usize>
     ensures found { IfOk result
         (λ i. (i < length vers.now) × ((x : AnyVer) × Stands (slice_cmp nat_cmp) (λ v. v.srel) srel vers.now i x)) }
     ensures missing { IfErr result
-        (λ i. (i ≤ length vers.now) × Splits (slice_cmp nat_cmp) (λ v. v.srel) srel (take i vers.now) (drop i vers.now)) }
+        (λ i. (i ≤ length vers.now) × Splits (slice_cmp nat_cmp)
+        (λ v. v.srel) srel (take i vers.now) (drop i vers.now)) }
 {
     vers.binary_search_by_key(&srel, |ver| ver.srel)
 }
@@ -109,7 +119,8 @@ fn change_place(changes: &[ElemChange], change: &ElemChange) -> Result<usize, us
     ensures found { IfOk result
         (λ i. (i < length changes.now) × ((x : AnyChange) × Stands change_cmp (λ c. c) change.now changes.now i x)) }
     ensures missing { IfErr result
-        (λ i. (i ≤ length changes.now) × Splits change_cmp (λ c. c) change.now (take i changes.now) (drop i changes.now)) }
+        (λ i. (i ≤ length changes.now) × Splits change_cmp (λ c. c) change.now (take i changes.now)
+        (drop i changes.now)) }
 {
     changes.binary_search_by(|other| other.order(change))
 }

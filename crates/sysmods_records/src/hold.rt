@@ -28,7 +28,16 @@ impl Model for Hold {
 
     ghost Value = { terms.Hold };
 
-    ghost view = { λ a. record { id = a.id; kind = a.kind; reason = a.reason; fmid = a.fmid; class = a.class; date = a.date; comment = option_map string_bytes a.comment; internal = a.internal } };
+    ghost view = { λ a. record {
+      id = a.id;
+      kind = a.kind;
+      reason = a.reason;
+      fmid = a.fmid;
+      class = a.class;
+      date = a.date;
+      comment = option_map string_bytes a.comment;
+      internal = a.internal;
+    } };
 }
 
 impl Hold {

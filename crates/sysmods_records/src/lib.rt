@@ -18,6 +18,3 @@ pub use hold::Hold;
 pub use sysmod::Sysmod;
 pub use terms::{ElemType, HoldKind, Kind};
 pub use ver::{IfReq, Ver};
-
-#[cfg(test)]
-mod tests;

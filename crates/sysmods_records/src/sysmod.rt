@@ -64,7 +64,8 @@ impl Sysmod {
 
     /// Appends the ids that its `++VER`s for the SREL name in PRE, SUP and FMID.
     pub fn append_named(&self, srel: Srel, found: &mut Vec<Id>) -> Result<(), AllocError>
-        ensures { OnOk result (found.new.items ≡ found.old.items ++ flat_map named (filter (λ v. bytes_eq v.srel srel) self.now.vers)) }
+        ensures { OnOk result (found.new.items ≡ found.old.items ++ flat_map named (filter
+            (λ v. bytes_eq v.srel srel) self.now.vers)) }
     {
         for ver in self.vers.iter() {
             if ver.srel == srel {

@@ -40,7 +40,16 @@ impl Model for Ver {
 
     ghost Value = { terms.Ver };
 
-    ghost view = { λ a. record { srel = a.srel; fmid = a.fmid; pre = a.pre; req = a.req; sup = a.sup; npre = a.npre; del = a.del; ifs = a.ifs.items } };
+    ghost view = { λ a. record {
+      srel = a.srel;
+      fmid = a.fmid;
+      pre = a.pre;
+      req = a.req;
+      sup = a.sup;
+      npre = a.npre;
+      del = a.del;
+      ifs = a.ifs.items;
+    } };
 }
 
 impl Ver {

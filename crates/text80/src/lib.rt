@@ -8,8 +8,6 @@ mod error;
 mod line;
 mod merging;
 mod numbered;
-#[cfg(test)]
-mod tests;
 mod update;
 
 pub use control::Range;

@@ -65,7 +65,8 @@ fn split_number(lines: &[Line], number: u32) -> (Option<&Line>, &[Line])
 /// The ranges that begin above the number, and how far those before them reach: the numbers from
 /// this one on are deleted that are below `reach` or in a range that is left.
 fn sweep(ranges: &[Range], reach: u64, number: u32) -> (&[Range], u64)
-    ensures swept { (all : List DeletedRange) → IsSwept all number ranges.now reach → IsSwept all number result.0.now result.1 }
+    ensures swept { (all : List DeletedRange) → IsSwept all number ranges.now reach
+        → IsSwept all number result.0.now result.1 }
     ensures above { IfSome (slice_get result.0.now 0) (λ range. number < range.low) }
 {
     let mut end = reach;

@@ -12,7 +12,7 @@ returns-clause-some c = λ rest h.
       record {
         name = c.in-Some.ensures.one;
         are_operands = y.2;
-        has_distlib = c.in-Some-required_name.ensures.some y.0 (rest, h, y.1);
-        has_syslib = c.in-Some-required_name-2.ensures.some y.0 (rest, h, y.1);
+        has_distlib = c.in-Some-required.ensures.some y.0 (rest, h, y.1);
+        has_syslib = c.in-Some-required-2.ensures.some y.0 (rest, h, y.1);
       },
     )

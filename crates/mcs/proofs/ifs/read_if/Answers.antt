@@ -23,10 +23,10 @@ returns-in_default-clause-bad c = λ rest h x.
     let i = x.1.2 in
     c.in_default.ensures.none rest h i.fmid i.req i.fmid_word i.req_word (words_are c.args.sysmod.now (own_list c.args.known.now) x.1.0 x.0 rest x.1.1 i)
 
-pub returns-in_default-one_id-clause-bad : goal.returns-in_default-one_id-clause-bad
-returns-in_default-one_id-clause-bad c = λ rest h x.
+pub returns-in_default-one-clause-bad : goal.returns-in_default-one-clause-bad
+returns-in_default-one-clause-bad c = λ rest h x.
     let l = c.in-Some.ensures.some rest h in
-    c.in_default-one_id.ensures.none x.0.function (function_of c.args.sysmod.now (own_list c.args.known.now) x.1.0 x.0 rest (word_of c.in-Some.lists.fmid) (word_of c.in-Some.lists.req) x.1.1 x.1.2 l.0)
+    c.in_default-one.ensures.none x.0.function (function_of c.args.sysmod.now (own_list c.args.known.now) x.1.0 x.0 rest (word_of c.in-Some.lists.fmid) (word_of c.in-Some.lists.req) x.1.1 x.1.2 l.0)
 
 pub returns-in-Err-clause-bad : goal.returns-in-Err-clause-bad
 returns-in-Err-clause-bad c = λ rest h.
@@ -49,6 +49,6 @@ returns-clause-ok c = λ rest h.
     let l = c.in-Some.ensures.some rest h in
     let own : c.sysmod.inside.id ≡ c.args.sysmod.now.id = ap (λ (s : Sysmod). s.id) c.sysmod.view_is in
     let free : is_in c.in-Ok.req c.sysmod.inside.id ≡ false = sym c.contains.ensures ∙ c.if-contains.false in
-    if_is c.args.sysmod.now (own_list c.args.known.now) rest (word_of c.in-Some.lists.fmid) (word_of c.in-Some.lists.req) (record { function = c.in-Some-one_id.function; req = c.in-Ok.req })
-    (no_list c.args.known.now.first.list text_of (sym c.is_some.ensures ∙ c.if-is_some.false)) l.1 l.2 l.0 c.in-Some-one_id.ensures.one c.in-Ok.ensures.sorted
+    if_is c.args.sysmod.now (own_list c.args.known.now) rest (word_of c.in-Some.lists.fmid) (word_of c.in-Some.lists.req) (record { function = c.in-Some-one.function; req = c.in-Ok.req })
+    (no_list c.args.known.now.first.list text_of (sym c.is_some.ensures ∙ c.if-is_some.false)) l.1 l.2 l.0 c.in-Some-one.ensures.one c.in-Ok.ensures.sorted
     (λ there. true≢false (sym (is_in-from_Contains c.in-Ok.req c.args.sysmod.now.id there) ∙ ap (is_in c.in-Ok.req) (sym own) ∙ free))

@@ -1,12 +1,15 @@
 use Rattle.std.proofs.Common.{◌≡◌, ◌∙◌, sym, ap, subst, refl, Some, true, false}
-use Rattle.std.specs.Prelude.{List, not}
+use Rattle.std.specs.Prelude.{List, not, codes}
 use Rattle.std.specs.List.{list_all}
 use Rattle.std.proofs.lemmas.Bool.{true≢false}
 use Rattle.terms.specs.Types.{Id, Ver, Sysmod}
+use Rattle.terms.specs.Forms.{IsId}
 use Rattle.terms.specs.Lookups.{is_in}
+use Rattle.terms.specs.Operands.{operand}
 use Rattle.terms.specs.Statements.{IsVerOf, SuitsKind, lists_of}
 use Rattle.terms.specs.Words.{Word}
 use Rattle.operands.specs.Left.{LeavesWords}
+use Rattle.operands.proofs.Owning.{optional_text}
 use Rattle.mcs_statements.specs.KnownWords.{own_list}
 use Rattle.mcs.specs.VerOperands.{HasLists}
 use Rattle.mcs.proofs.NotNaming.{free_all, all_free}
@@ -18,7 +21,7 @@ use Rattle.mcs.proofs.ver.read_ver.Goals.{After-made_of-ver}
 made : (c : After-made_of-ver) (ws : List Word) → LeavesWords c.args.known.now.rest ws → HasVer (own_list c.args.known.now) ws c.made_of-ver.result
 made c ws h = rw c.made_of-ver.ensures record {
   has_srel = c.in-Some.ensures.one;
-  has_fmid = c.in-Ok.ensures.ok ws h;
+  has_fmid = optional_text IsId (operand (codes "FMID") ws) c.in-Ok.fmid (c.in-Ok.ensures.ok ws h);
   has_lists = c.in-Ok-read_lists.ensures.ok ws h;
   no_ifs = refl;
 }

@@ -1,6 +1,7 @@
 use Rattle.std.proofs.Common.{refl, sym, subst, List, Option}
 use Rattle.std.specs.Prelude.{codes}
 use Rattle.terms.specs.Types.{Text, Hold}
+use Rattle.terms.specs.Forms.{IsClass, IsDate}
 use Rattle.terms.specs.Words.{Word, HasWords}
 use Rattle.terms.specs.Operands.{operand}
 use Rattle.terms.specs.HoldStatements.{HasComment, IsHoldOf}
@@ -9,6 +10,8 @@ use Rattle.operands.specs.Left.{LeavesWords}
 use Rattle.mcs_statements.specs.KnownWords.{own_list}
 use Rattle.mcs_statements.specs.Holds.{HasKey}
 use Rattle.operands.proofs.Failing.{excludes_more}
+use Rattle.operands.proofs.Owning.{optional_text}
+use Rattle.mcs_statements.proofs.Failing.{excludes_map}
 use Rattle.mcs_statements.proofs.Holding.{key_of, hold_key}
 use Rattle.mcs_statements.proofs.Printables.{operand_printable}
 use Rattle.mcs_statements.proofs.hold.read_hold.Goals as goal
@@ -19,11 +22,11 @@ returns-then-not-are_operands-clause-bad c = λ rest h printable x. c.if-not-are
 pub returns-in_default-clause-bad : goal.returns-in_default-clause-bad
 returns-in_default-clause-bad c = λ rest h printable x. c.in_default.ensures.none x.0 (rest, h, x.2) (key_of x.1) (hold_key (own_list c.args.known.now) x.0 x.1 x.3)
 
-pub returns-in_default-optional_class-clause-bad : goal.returns-in_default-optional_class-clause-bad
-returns-in_default-optional_class-clause-bad c = λ rest h printable x. c.in_default-optional_class.ensures.bad x.0 (rest, h, x.2) x.1.class x.3.class
+pub returns-in_default-optional-clause-bad : goal.returns-in_default-optional-clause-bad
+returns-in_default-optional-clause-bad c = λ rest h printable x. c.in_default-optional.ensures.bad x.0 (rest, h, x.2) x.1.class x.3.class
 
-pub returns-in_default-optional_date-clause-bad : goal.returns-in_default-optional_date-clause-bad
-returns-in_default-optional_date-clause-bad c = λ rest h printable x. c.in_default-optional_date.ensures.bad x.0 (rest, h, x.2) x.1.date x.3.date
+pub returns-in_default-optional-2-clause-bad : goal.returns-in_default-optional-2-clause-bad
+returns-in_default-optional-2-clause-bad c = λ rest h printable x. c.in_default-optional-2.ensures.bad x.0 (rest, h, x.2) x.1.date x.3.date
 
 pub returns-in-Err-clause-bad : goal.returns-in-Err-clause-bad
 returns-in-Err-clause-bad c = λ rest h printable.
@@ -46,8 +49,8 @@ returns-clause-ok c = λ rest h.
         kind = k.kind;
         fmid = k.fmid;
         reason = k.reason;
-        class = c.in-Ok.ensures.ok y.0 left;
-        date = c.in-Ok-optional_date.ensures.ok y.0 left;
+        class = optional_text IsClass (operand (codes "CLASS") y.0) c.in-Ok.class (c.in-Ok.ensures.ok y.0 left);
+        date = optional_text IsDate (operand (codes "DATE") y.0) c.in-Ok-optional.date (c.in-Ok-optional.ensures.ok y.0 left);
         comment = c.in-Ok-optional_comment.ensures.ok y.0 left;
       },
     )

@@ -12,6 +12,6 @@ pub returns-clause-some : goal.returns-clause-some
 returns-clause-some c = λ ws h. record {
   id = c.in-Some.ensures.one;
   kind = c.in-Some-kind_word.ensures.some ws h;
-  fmid = c.in-Some-required_id.ensures.some ws h;
+  fmid = c.in-Some-required.ensures.some ws h;
   reason = c.in-Some-required_reason.ensures.some ws h;
 }

@@ -1,10 +1,10 @@
 //! What a SYSMOD names, and how it grows.
 
-use crate::{Action, ElemChange, Sysmod, Ver};
-use fields::{Id, IdList, Name, Source, Srel};
 use std::alloc::{AllocError, Global};
 use std::test::Fail;
-use terms::{ElemType, Kind};
+use sysmods_records::{
+    Action, ElemChange, ElemType, Id, IdList, Kind, Name, Source, Srel, Sysmod, Ver,
+};
 use text80::Line;
 
 fn id(text: &[u8]) -> Result<Id, &'static str> {
@@ -47,49 +47,57 @@ fn data(alloc: Global, name: Name) -> Result<ElemChange, AllocError> {
     })
 }
 
-#[test]
-fn names(rt: HostRuntime) -> Result<(), Fail> {
-    let alloc = rt.alloc();
-    let (function, before, old) = (id(b"HAA1100")?, id(b"UA00001")?, id(b"UA00002")?);
-    let mut only = ver(alloc, srel(b"Z038")?, function);
-    only.pre.insert(before)?;
-    only.sup.insert(old)?;
-    only.req.insert(id(b"UA00003")?)?;
+/// A PTF with a `++VER` for each SREL.
+fn with_vers(alloc: Global, id: Id, fmid: Id, srels: &[Srel]) -> Result<Sysmod, AllocError> {
+    let mut sysmod = Sysmod::new(alloc, Kind::Ptf, id);
+    for srel in srels {
+        sysmod.add_ver(ver(alloc, *srel, fmid))?;
+    }
+    Ok(sysmod)
+}
+
+/// A PTF with a data element of each name.
+fn with_data(alloc: Global, id: Id, names: &[Name]) -> Result<Sysmod, AllocError> {
+    let mut sysmod = Sysmod::new(alloc, Kind::Ptf, id);
+    for name in names {
+        sysmod.add_change(data(alloc, *name)?)?;
+    }
+    Ok(sysmod)
+}
+
+/// The ids that it names for the SREL.
+fn named_for(alloc: Global, sysmod: &Sysmod, srel: Srel) -> Result<Vec<Id>, AllocError> {
     let mut found = Vec::new(alloc);
-    only.append_named(&mut found)?;
-    assert_eq!(rt; found.as_slice(), [before, old, function].as_slice());
+    sysmod.append_named(srel, &mut found)?;
+    Ok(found)
+}
+
+#[test]
+fn vers(rt: HostRuntime) -> Result<(), Fail> {
+    let (function, fix) = (id(b"HAA1100")?, id(b"UA00003")?);
+    let (low, high, none) = (srel(b"P004")?, srel(b"Z038")?, srel(b"C150")?);
+    let fix = with_vers(rt.alloc(), fix, function, &[high, low, high])?;
+    assert_eq!(rt; fix.vers.len(), 2);
+    assert!(rt; fix.has_srel(low) && fix.has_srel(high) && !fix.has_srel(none));
+    assert!(rt; fix.names(function) && fix.names_function(function) && !fix.supersedes(function));
+    assert!(rt; fix.names_for(high, function) && !fix.names_for(none, function));
+    assert_eq!(rt; named_for(rt.alloc(), &fix, none)?.len(), 0);
+    assert_eq!(rt;
+        named_for(rt.alloc(), &fix, high)?.as_slice(),
+        [function].as_slice()
+    );
     Ok(())
 }
 
 #[test]
-fn grows(rt: HostRuntime) -> Result<(), Fail> {
-    let alloc = rt.alloc();
-    let (function, fix) = (id(b"HAA1100")?, id(b"UA00003")?);
-    let (low, high, none) = (srel(b"P004")?, srel(b"Z038")?, srel(b"C150")?);
-    let mut fix = Sysmod::new(alloc, Kind::Ptf, fix);
-    for next in [high, low, high] {
-        fix.add_ver(ver(alloc, next, function))?;
-    }
-    assert_eq!(rt; fix.vers.len(), 2);
-    assert_eq!(rt; fix.vers.first().map(|ver| ver.srel), Some(low));
-    assert!(rt; fix.has_srel(low) && fix.has_srel(high) && !fix.has_srel(none));
-    let mut found = Vec::new(alloc);
-    fix.append_named(none, &mut found)?;
-    assert_eq!(rt; found.len(), 0);
-    fix.append_named(high, &mut found)?;
-    assert_eq!(rt; found.as_slice(), [function].as_slice());
-    assert!(rt; fix.names(function) && fix.names_function(function) && !fix.supersedes(function));
-    assert!(rt; fix.names_for(high, function) && !fix.names_for(none, function));
+fn changes(rt: HostRuntime) -> Result<(), Fail> {
     let (first, second) = (name(b"AABC")?, name(b"BABC")?);
-    for next in [second, first, second] {
-        fix.add_change(data(alloc, next)?)?;
-    }
+    let mut fix = with_data(rt.alloc(), id(b"UA00003")?, &[second, first, second])?;
     assert_eq!(rt; fix.changes.len(), 2);
-    assert_eq!(rt; fix.changes.first().map(|change| change.name), Some(first));
     assert!(rt; fix.has_change(ElemType::Data, second));
     assert!(rt; !fix.has_change(ElemType::Exec, second));
     fix.add_source(Source::read(b"RSU2404").ok_or("no source")?)?;
     assert_eq!(rt; fix.sources.len(), 1);
-    assert_eq!(rt; fix.take_holds(alloc).len(), 0);
+    assert_eq!(rt; fix.take_holds(rt.alloc()).len(), 0);
     Ok(())
 }

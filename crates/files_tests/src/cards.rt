@@ -1,0 +1,74 @@
+//! Text cards as records, and what is read from them as text.
+
+use fields::IdList;
+use rec80::Record;
+use std::alloc::{AllocError, Global};
+
+/// A record with this text.
+pub(crate) fn record(card: &str) -> Record {
+    let mut record = [b' '; 80];
+    for (place, letter) in record.iter_mut().zip(card.as_bytes()) {
+        *place = *letter;
+    }
+    record
+}
+
+/// The records of a file.
+pub(crate) fn file(alloc: Global, cards: &[&str]) -> Result<Vec<u8>, AllocError> {
+    let mut bytes = Vec::new(alloc);
+    for card in cards {
+        bytes.extend_from_slice(&record(card))?;
+    }
+    Ok(bytes)
+}
+
+/// A text of up to 240 bytes. What does not fit is left out.
+#[derive(Clone, Copy)]
+pub(crate) struct Spelled {
+    bytes: [u8; 240],
+    len: usize,
+}
+
+impl Spelled {
+    pub(crate) fn new() -> Spelled {
+        Spelled {
+            bytes: [0; 240],
+            len: 0,
+        }
+    }
+
+    pub(crate) fn put(&mut self, text: &[u8]) {
+        for byte in text {
+            if let Some(place) = self.bytes.get_mut(self.len) {
+                *place = *byte;
+                self.len = self.len.saturating_add(1);
+            }
+        }
+    }
+
+    /// A number below 10.
+    pub(crate) fn put_digit(&mut self, number: usize) {
+        self.put(&[b'0' + (number % 10) as u8]);
+    }
+
+    /// The ids in parentheses behind the name, where there are any.
+    pub(crate) fn put_ids(&mut self, name: &[u8], ids: &IdList) {
+        if ids.is_empty() {
+            return;
+        }
+        self.put(name);
+        self.put(b"(");
+        for id in ids.iter() {
+            self.put(id.as_bytes());
+            self.put(b" ");
+        }
+        self.put(b")");
+    }
+
+    pub(crate) fn text(&self) -> &str {
+        match self.bytes.split_at_checked(self.len) {
+            Some((text, _)) => std::str::from_utf8(text).unwrap_or("no text"),
+            None => "too long",
+        }
+    }
+}

@@ -1,0 +1,219 @@
+//! Operands and command files.
+
+use crate::cards::{Spelled, file, record};
+use cntl::{CntlError, Command, Install, ReceiveWhat, read_cntl};
+use operands::{flag, ids, one_member, operand, sources};
+use rec80::{Record, Records, Word};
+use spelling::cn_text;
+use std::alloc::{AllocError, Global};
+use std::test::Fail;
+
+/// The operand of this name in the first command.
+fn operand_in<'a>(cards: &'a [Record], name: &[u8]) -> Option<Word<'a>> {
+    let mut commands = Records { all: cards }.commands();
+    let Ok(Some(command)) = commands.next_command() else {
+        return None;
+    };
+    operand(&command.words, name)
+}
+
+/// The ids of the operand.
+fn ids_in(alloc: Global, cards: &[Record], name: &[u8]) -> Spelled {
+    let mut spelled = Spelled::new();
+    let Some(word) = operand_in(cards, name) else {
+        return spelled;
+    };
+    match ids(alloc, &word) {
+        Ok(list) => spelled.put_ids(name, &list),
+        Err(_) => spelled.put(b"bad"),
+    }
+    spelled
+}
+
+fn sources_in(alloc: Global, cards: &[Record], name: &[u8]) -> Spelled {
+    let mut spelled = Spelled::new();
+    let Some(word) = operand_in(cards, name) else {
+        return spelled;
+    };
+    if let Ok(list) = sources(alloc, &word) {
+        for source in list.iter() {
+            spelled.put(source.as_bytes());
+        }
+    }
+    spelled
+}
+
+/// What the operand is without a list, and the only member of its list.
+fn flag_in(cards: &[Record], name: &[u8]) -> Spelled {
+    let mut spelled = Spelled::new();
+    let found = operand_in(cards, name);
+    spelled.put(match flag(&found) {
+        Ok(true) => b"there",
+        Ok(false) => b"none",
+        Err(_) => b"list ",
+    });
+    if let Some(word) = found
+        && let Some(member) = one_member(&word)
+    {
+        spelled.put(member);
+    }
+    spelled
+}
+
+#[test]
+fn operands(rt: HostRuntime) {
+    let cards = [
+        record("APPLY SELECT(UA00002, UA00001) SOURCEID( B A ) CHECK"),
+        record(" GROUP(UA00001,UA00002,UA00001) BDY(T)."),
+    ];
+    let alloc = rt.alloc();
+    assert_eq!(rt;
+        ids_in(alloc, &cards, b"SELECT").text(),
+        "SELECT(UA00001 UA00002 )"
+    );
+    assert_eq!(rt; ids_in(alloc, &cards, b"GROUP").text(), "bad");
+    assert_eq!(rt; sources_in(alloc, &cards, b"SOURCEID").text(), "AB");
+    assert_eq!(rt; flag_in(&cards, b"CHECK").text(), "there");
+    assert_eq!(rt; flag_in(&cards, b"TEXT").text(), "none");
+    assert_eq!(rt; flag_in(&cards, b"GROUP").text(), "list ");
+    assert_eq!(rt; flag_in(&cards, b"BDY").text(), "list T");
+}
+
+/// Two cards, and their commands, or the record and the code of the first fault.
+const FILES: &[[&str; 3]] = &[
+    ["", "", ""],
+    ["SET BDY(GLOBAL).", "", "SET GLOBAL all;"],
+    ["SET BDY(TGT1).", "APPLY CHECK.", "SET TGT1;APPLY CHECK;"],
+    [
+        "APPLY SELECT(UA00002,",
+        "UA00001) PTFS GROUPEXTEND.",
+        "APPLY PTFS EXTEND SELECT(UA00001 UA00002 );",
+    ],
+    [
+        "REJECT SELECT(UA00003 UA00001).",
+        "",
+        "REJECT SELECT(UA00001 UA00003 );",
+    ],
+    ["RECEIVE.", "", "RECEIVE SYSMODS HOLDDATA;"],
+    [
+        "RECEIVE SOURCEID(PUT2401).",
+        "",
+        "RECEIVE SYSMODS HOLDDATA PUT2401;",
+    ],
+    ["RECEIVE HOLDDATA SYSMODS.", "", "RECEIVE SYSMODS HOLDDATA;"],
+    ["RECEIVE SYSMODS.", "", "RECEIVE SYSMODS;"],
+    ["RECEIVE HOLDDATA.", "", "RECEIVE HOLDDATA;"],
+    [" , RECEIVE /* , */ ,(A).", "", "1 Cn2"],
+    ["RECEIVE SYSMODS SYSMODS.", "", "1 Cn3"],
+    ["RECEIVE SYSMODS(A).", "", "1 Cn2"],
+    ["RECEIVE SOURCEID(A B).", "", "1 Cn2"],
+    ["RECEIVE SELECT(UA00001).", "", "1 Cn2"],
+    ["REJECT SELECT(UA00001).", "REJECT.", "2 Cn2"],
+    ["REJECT SELECT.", "", "1 Cn2"],
+    ["REJECT GROUP(UA00001).", "", "1 Cn2"],
+    ["REJECT SELECT(UA00001) CHECK.", "", "1 Cn2"],
+    ["REJECT SELECT(UA00001) SELECT(UA00002).", "", "1 Cn3"],
+    ["SET BDY(TGT1).", "APPLY!.", "2 Cn2"],
+    ["SET BDY(1).", "", "1 Cn2"],
+    ["SET BDY(A) BDY.", "", "1 Cn3"],
+    ["APPLY CHECK - CHECK.", "", "1 Cn3"],
+    ["APPLY NEW NEW.", "", "1 Cn2"],
+    ["APPLY SELECT(UA00001 UA00001).", "", "1 Cn2"],
+    ["APPLY SELECT(UA0001).", "", "1 Cn2"],
+    ["APPLY SELECT.", "", "1 Cn2"],
+    ["APPLY CHECK(A).", "", "1 Cn2"],
+    ["APPLY(A) CHECK.", "", "1 Cn2"],
+    ["/* between", "*/ APPLY NO.", "2 Cn2"],
+    ["UNDO NO.", "LIST", "1 Cn1"],
+    [".", "", "1 Cn1"],
+    ["(APPLY).", "", "1 Cn1"],
+    ["APPLY. APPLY.", "", "1 Cn5"],
+    ["APPLY.", "/* open", "2 Cn5"],
+    ["APPLY.", "APPLY NO", "2 Cn5"],
+    ["ACCEPT CHECK CHECK.", "", "1 Cn1"],
+    ["APPLY.", "RESTORE SELECT(UA00001).", "2 Cn1"],
+    ["LIST.", "", "1 Cn1"],
+];
+
+fn put_flag(spelled: &mut Spelled, is_there: bool, word: &[u8]) {
+    if is_there {
+        spelled.put(word);
+    }
+}
+
+fn put_receive(spelled: &mut Spelled, what: &ReceiveWhat) {
+    spelled.put(b"RECEIVE");
+    put_flag(spelled, what.sysmods, b" SYSMODS");
+    put_flag(spelled, what.holddata, b" HOLDDATA");
+    if let Some(source) = what.source {
+        spelled.put(b" ");
+        spelled.put(source.as_bytes());
+    }
+}
+
+fn put_apply(spelled: &mut Spelled, install: &Install) {
+    spelled.put(b"APPLY");
+    put_flag(spelled, install.selection.ptfs, b" PTFS");
+    put_flag(spelled, install.selection.groupextend, b" EXTEND");
+    put_flag(spelled, install.check, b" CHECK");
+    spelled.put_ids(b" SELECT", &install.selection.select);
+}
+
+fn put_command(spelled: &mut Spelled, command: &Command) {
+    match command {
+        Command::Set(zone) => {
+            spelled.put(b"SET ");
+            spelled.put(zone.as_bytes());
+            put_flag(spelled, zone.is_global(), b" all");
+        }
+        Command::Receive(what) => put_receive(spelled, what),
+        Command::Reject(ids) => {
+            spelled.put(b"REJECT");
+            spelled.put_ids(b" SELECT", ids);
+        }
+        Command::Apply(install) => put_apply(spelled, install),
+    }
+    spelled.put(b";");
+}
+
+fn put_commands(spelled: &mut Spelled, commands: &[Command]) {
+    for command in commands {
+        put_command(spelled, command);
+    }
+}
+
+fn put_error(spelled: &mut Spelled, error: CntlError) {
+    match error {
+        CntlError::Memory => spelled.put(b"memory"),
+        CntlError::Fault { number, code } => {
+            spelled.put_digit(number);
+            spelled.put(b" ");
+            spelled.put(cn_text(code));
+        }
+    }
+}
+
+fn commanded(alloc: Global, bytes: &[u8]) -> Spelled {
+    let mut spelled = Spelled::new();
+    match read_cntl(alloc, bytes) {
+        Ok(commands) => put_commands(&mut spelled, commands.as_slice()),
+        Err(error) => put_error(&mut spelled, error),
+    }
+    spelled
+}
+
+fn commanded_by(alloc: Global, cards: &[&str]) -> Result<Spelled, AllocError> {
+    let bytes = file(alloc, cards)?;
+    Ok(commanded(alloc, bytes.as_slice()))
+}
+
+#[test]
+fn command_files(rt: HostRuntime) -> Result<(), Fail> {
+    for [first, second, wanted] in FILES {
+        let spelled = commanded_by(rt.alloc(), &[first, second])?;
+        assert_eq!(rt; spelled.text(), *wanted, "{first}");
+    }
+    assert_eq!(rt; commanded(rt.alloc(), &[]).text(), "");
+    assert_eq!(rt; commanded(rt.alloc(), b"SET").text(), "1 Cn5");
+    Ok(())
+}

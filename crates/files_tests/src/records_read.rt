@@ -1,0 +1,286 @@
+//! Records, statements, commands and their words.
+
+use crate::cards::{Spelled, record};
+use rec80::{
+    Commands, Group, Piece, RecError, Record, Records, StmtError, Text, Words, records, statement,
+};
+
+/// Each member with its own list in parentheses and a semicolon; a `?` where there is no member.
+fn put_members(spelled: &mut Spelled, list: &Text<'_>) {
+    let mut members = list.members();
+    for _ in 0..9 {
+        match members.next_member() {
+            Ok(Some(member)) => {
+                spelled.put(member.word);
+                if let Some(inner) = member.list {
+                    spelled.put(b"(");
+                    spelled.put(inner.line());
+                    spelled.put(b")");
+                }
+                spelled.put(b";");
+            }
+            Ok(None) => return,
+            Err(_) => {
+                spelled.put(b"?");
+                return;
+            }
+        }
+    }
+}
+
+/// Each word with its members in parentheses and a blank; a `?` where there is no word.
+fn put_words(spelled: &mut Spelled, words: Words<'_>) {
+    let mut words = words;
+    for _ in 0..9 {
+        match words.next_word() {
+            Ok(Some(word)) => {
+                spelled.put(word.word);
+                if let Some(list) = word.list {
+                    spelled.put(b"(");
+                    put_members(spelled, &list);
+                    spelled.put(b")");
+                }
+                spelled.put(b" ");
+            }
+            Ok(None) => return,
+            Err(_) => {
+                spelled.put(b"?");
+                return;
+            }
+        }
+    }
+}
+
+fn put_fault(spelled: &mut Spelled, error: StmtError) {
+    spelled.put(match error {
+        StmtError::NoPeriod => b"St1",
+        StmtError::OpenComment => b"St2",
+        StmtError::BadParens => b"St3",
+        StmtError::TextAfterPeriod => b"St4",
+    });
+}
+
+/// Two cards, and the words of their statement or its fault.
+const STATEMENTS: &[[&str; 3]] = &[
+    ["++PTF(UA00001).", "", "++PTF(UA00001;) "],
+    [
+        "++VER(Z038) PRE (A1,",
+        " B2)REQ(C3).",
+        "++VER(Z038;) PRE(A1;B2;) REQ(C3;) ",
+    ],
+    ["++PTF /* , */ ,(A). /* ) */ ,", "", "++PTF(A;) "],
+    ["++MAC(M1).", "any text /*", "++MAC(M1;) "],
+    [
+        "++PTF(A).                                                              X00000010",
+        "",
+        "St4",
+    ],
+    [
+        "++PTF(A).                                                               00000010",
+        "",
+        "++PTF(A;) ",
+    ],
+    ["++PTF(/*A).", "", "++PTF(/*A;) "],
+    ["++PTF-X(A).", "", "++PTF ?"],
+    ["++PTF(A)(B).", "", "++PTF(A;) ?"],
+    ["++PTF(A,,B).", "", "++PTF(A;?) "],
+    [
+        "++PTF(,A) X(A,) Y() Z( B C ).",
+        "",
+        "++PTF(?) X(A;?) Y(?) Z(B;C;) ",
+    ],
+    [
+        "++X(HOLDUSER (A,B) PRE) Y(U(A)PRE).",
+        "",
+        "++X(HOLDUSER(A,B);PRE;) Y(U(A);?) ",
+    ],
+    ["++PTF(UA00001)", "", "St1"],
+    ["++PTF(A) /*/.", " .", "St2"],
+    ["++PTF(A(B(C))).", "", "St3"],
+    ["++PTF(A)).", "", "St3"],
+    ["++PTF(A", "", "St3"],
+    ["++PTF(A). X", "", "St4"],
+    ["++PTF(A). /* open", "*/", "St4"],
+];
+
+fn stated(first: &str, second: &str) -> Spelled {
+    let cards = [record(first), record(second)];
+    let group = Group {
+        number: 1,
+        records: &cards,
+    };
+    let mut spelled = Spelled::new();
+    match statement(&group) {
+        Ok(words) => put_words(&mut spelled, words),
+        Err(error) => put_fault(&mut spelled, error),
+    }
+    spelled
+}
+
+#[test]
+fn statements(rt: HostRuntime) {
+    for [first, second, wanted] in STATEMENTS {
+        assert_eq!(rt; stated(first, second).text(), *wanted, "{first}");
+    }
+}
+
+/// How many records each of a file's statements has.
+fn grouped(cards: &[Record]) -> Spelled {
+    let mut spelled = Spelled::new();
+    let records = Records { all: cards };
+    let Ok(mut groups) = records.groups() else {
+        spelled.put(b"outside");
+        return spelled;
+    };
+    for _ in 0..9 {
+        if let Some(group) = groups.next_group() {
+            spelled.put_digit(group.records.len());
+        }
+    }
+    spelled
+}
+
+#[test]
+fn files_of_statements(rt: HostRuntime) {
+    let cards = [
+        record("++PTF(A) /* ."),
+        record("++VER(Z038)."),
+        record("text"),
+    ];
+    assert_eq!(rt; grouped(&cards).text(), "12");
+    assert_eq!(rt; grouped(&cards[2..]).text(), "outside");
+}
+
+/// The fault of a file of 161 bytes, one of which is this one.
+fn fault_at(place: usize, byte: u8) -> Option<RecError> {
+    let mut bytes = [b' '; 161];
+    if let Some(at) = bytes.get_mut(place) {
+        *at = byte;
+    }
+    records(&bytes).err()
+}
+
+#[test]
+fn records_are_read(rt: HostRuntime) {
+    let (record, column) = (2, 80);
+    assert_eq!(rt;
+        fault_at(159, 0x7F),
+        Some(RecError::Rec2 { record, column })
+    );
+    assert_eq!(rt; fault_at(159, b'~'), Some(RecError::Rec1 { record: 3 }));
+    assert_eq!(rt; fault_at(160, 0), Some(RecError::Rec1 { record: 3 }));
+    assert!(rt; records(&[b' '; 160]).is_ok_and(|found| found.all.len() == 2));
+}
+
+/// Three cards, and the words of their commands, each behind the number of its record, or the first fault.
+const COMMANDS: &[[&str; 4]] = &[
+    ["SET BDY(TGT1)., /* . */", " , ", "", "1 SET BDY(TGT1;) "],
+    [
+        "SET BDY(A).",
+        "/* between",
+        "them */ APPLY CHECK - CHECK.",
+        "1 SET BDY(A;) 3 APPLY CHECK ?",
+    ],
+    ["LIST.", "", "/* open", "1 LIST 3 St2"],
+    ["LIST. X", "", "", "1 St4"],
+    ["", "LIST(", "", "2 St3"],
+    ["LIST", "", "", "1 St1"],
+    [" /* nothing */", " , ", "", ""],
+];
+
+/// Answers whether there may be a next one.
+fn put_next(spelled: &mut Spelled, commands: &mut Commands<'_>) -> bool {
+    match commands.next_command() {
+        Ok(Some(command)) => {
+            spelled.put_digit(command.number);
+            spelled.put(b" ");
+            put_words(spelled, command.words);
+            true
+        }
+        Ok(None) => false,
+        Err(error) => {
+            spelled.put_digit(error.number);
+            spelled.put(b" ");
+            put_fault(spelled, error.why);
+            false
+        }
+    }
+}
+
+fn commanded(first: &str, second: &str, third: &str) -> Spelled {
+    let cards = [record(first), record(second), record(third)];
+    let mut commands = Records { all: &cards }.commands();
+    let mut spelled = Spelled::new();
+    for _ in 0..9 {
+        if !put_next(&mut spelled, &mut commands) {
+            break;
+        }
+    }
+    spelled
+}
+
+#[test]
+fn commands(rt: HostRuntime) {
+    for [first, second, third, wanted] in COMMANDS {
+        assert_eq!(rt; commanded(first, second, third).text(), *wanted, "{first}");
+    }
+}
+
+/// A letter for each piece, and the characters that stand in no word.
+fn pieces_of(card: &str) -> Spelled {
+    let cards = [record(card)];
+    let mut spelled = Spelled::new();
+    let mut commands = Records { all: &cards }.commands();
+    let Ok(Some(command)) = commands.next_command() else {
+        return spelled;
+    };
+    let mut words = command.words;
+    for _ in 0..9 {
+        match words.next_piece() {
+            Some(Piece::Word(_)) => spelled.put(b"W"),
+            Some(Piece::List(_)) => spelled.put(b"L"),
+            Some(Piece::Stray(byte)) => spelled.put(&[byte]),
+            None => {}
+        }
+    }
+    spelled
+}
+
+#[test]
+fn pieces(rt: HostRuntime) {
+    assert_eq!(rt; pieces_of("APPLY CHECK -, (A) CHECK.").text(), "WW-LW");
+}
+
+/// The lines of the list of the statement's first word, and the first byte of the last one.
+fn lines_of(first: &str, second: &str) -> Spelled {
+    let cards = [record(first), record(second)];
+    let group = Group {
+        number: 1,
+        records: &cards,
+    };
+    let mut spelled = Spelled::new();
+    let Ok(mut words) = statement(&group) else {
+        return spelled;
+    };
+    let Ok(Some(word)) = words.next_word() else {
+        return spelled;
+    };
+    let Some(text) = word.list else {
+        return spelled;
+    };
+    spelled.put(text.line().trim_ascii());
+    let Some(next) = text.next_line() else {
+        return spelled;
+    };
+    spelled.put(b"/");
+    spelled.put(next.line());
+    if let Some((byte, _)) = next.next_byte() {
+        spelled.put(&[b'/', byte]);
+    }
+    spelled
+}
+
+#[test]
+fn a_list_of_two_records(rt: HostRuntime) {
+    assert_eq!(rt; lines_of("++HOLD(one", "two).").text(), "one/two/t");
+}

@@ -1,0 +1,172 @@
+//! Numbered texts, updates and merges.
+
+use crate::cards::record;
+use std::alloc::{AllocError, Global};
+use std::test::Fail;
+use terms::{TextCode, TextFault};
+use text80::{Line, Numbered, TextError, Update, bytes_of, lines_of, merge};
+
+const OLD_TEN: &str =
+    "O                                                                       00000010";
+
+const OLD_TWENTY: &str =
+    "O                                                                       00000020";
+
+const FIVE: &str =
+    "U                                                                       00000005";
+
+const TEN: &str =
+    "U                                                                       00000010";
+
+const TWENTY: &str =
+    "U                                                                       00000020";
+
+const CHANGE: &str = "./ CHANGE NAME=M1";
+
+const DELETE_TEN: &str = "./ DELETE SEQ1=00000010,SEQ2=00000010";
+
+const DELETE_ALL: &str = "./ DELETE SEQ1=00000000,SEQ2=99999999";
+
+fn lines(alloc: Global, cards: &[&str]) -> Result<Vec<Line>, AllocError> {
+    let mut lines = Vec::new(alloc);
+    for card in cards {
+        lines.push(Line::new(record(card)))?;
+    }
+    Ok(lines)
+}
+
+/// The records of an update of M1, and what it makes of the two old records.
+const MERGES: &[[&[&str]; 2]] = &[
+    [&[CHANGE, FIVE, DELETE_TEN, TWENTY], &[FIVE, TWENTY]],
+    [
+        &[CHANGE, FIVE, TEN, DELETE_TEN, TWENTY],
+        &[FIVE, TEN, TWENTY],
+    ],
+    [&[CHANGE, DELETE_ALL], &[]],
+    [&[CHANGE], &[OLD_TEN, OLD_TWENTY]],
+];
+
+fn merged(alloc: Global, cards: &[&str]) -> Result<Numbered, TextError> {
+    let old = Numbered::read(lines(alloc, &[OLD_TEN, OLD_TWENTY])?)?;
+    let update = Update::read(alloc, lines(alloc, cards)?, b"M1")?;
+    Ok(merge(alloc, &old, &update)?)
+}
+
+#[test]
+fn merges(rt: HostRuntime) -> Result<(), Fail> {
+    for [cards, wanted] in MERGES {
+        let merged = merged(rt.alloc(), cards)?;
+        assert_eq!(rt; merged.lines(), lines(rt.alloc(), wanted)?.as_slice());
+    }
+    Ok(())
+}
+
+/// Records, and the first fault of what they are read as.
+struct Faulty {
+    cards: &'static [&'static str],
+    number: usize,
+    code: TextCode,
+}
+
+const TEXTS: &[Faulty] = &[
+    Faulty {
+        cards: &[TEN, "U"],
+        number: 2,
+        code: TextCode::Tx1,
+    },
+    Faulty {
+        cards: &[TEN, TWENTY, TWENTY],
+        number: 3,
+        code: TextCode::Tx2,
+    },
+];
+
+const UPDATES: &[Faulty] = &[
+    Faulty {
+        cards: &[CHANGE, TEN, "U"],
+        number: 3,
+        code: TextCode::Tx1,
+    },
+    Faulty {
+        cards: &[],
+        number: 1,
+        code: TextCode::Tx3,
+    },
+    Faulty {
+        cards: &[TEN, CHANGE],
+        number: 1,
+        code: TextCode::Tx3,
+    },
+    Faulty {
+        cards: &["./ CHANGE NAME=M2"],
+        number: 1,
+        code: TextCode::Tx4,
+    },
+    Faulty {
+        cards: &[CHANGE, TEN, "./ DELETE SEQ1=00000020,SEQ2=00000010"],
+        number: 3,
+        code: TextCode::Tx5,
+    },
+    Faulty {
+        cards: &[CHANGE, CHANGE],
+        number: 2,
+        code: TextCode::Tx5,
+    },
+    Faulty {
+        cards: &[CHANGE, TWENTY, TEN],
+        number: 3,
+        code: TextCode::Tx6,
+    },
+];
+
+fn text_fault(alloc: Global, cards: &[&str]) -> Result<Option<TextFault>, AllocError> {
+    Ok(Numbered::read(lines(alloc, cards)?).err())
+}
+
+fn update_fault(alloc: Global, cards: &[&str]) -> Result<Option<TextFault>, AllocError> {
+    match Update::read(alloc, lines(alloc, cards)?, b"M1") {
+        Ok(_) => Ok(None),
+        Err(TextError::Fault(fault)) => Ok(Some(fault)),
+        Err(TextError::Memory) => Err(AllocError),
+    }
+}
+
+fn fault_of(row: &Faulty) -> Option<TextFault> {
+    Some(TextFault {
+        number: row.number,
+        code: row.code,
+    })
+}
+
+#[test]
+fn faults(rt: HostRuntime) -> Result<(), Fail> {
+    for row in TEXTS {
+        assert_eq!(rt; text_fault(rt.alloc(), row.cards)?, fault_of(row));
+    }
+    for row in UPDATES {
+        assert_eq!(rt; update_fault(rt.alloc(), row.cards)?, fault_of(row));
+    }
+    Ok(())
+}
+
+#[test]
+fn records_are_bytes(rt: HostRuntime) -> Result<(), Fail> {
+    let bytes = [b'A'; 160];
+    let lines = lines_of(rt.alloc(), &bytes)?;
+    assert_eq!(rt; lines.len(), 2);
+    assert_eq!(rt; bytes_of(rt.alloc(), &lines)?.as_slice(), bytes.as_slice());
+    Ok(())
+}
+
+fn update_copy(alloc: Global) -> Result<Update, TextError> {
+    let update = Update::read(alloc, lines(alloc, &[CHANGE, TEN])?, b"M1")?;
+    Ok(update.clone()?)
+}
+
+#[test]
+fn updates_are_copied(rt: HostRuntime) -> Result<(), Fail> {
+    let update = update_copy(rt.alloc())?;
+    assert_eq!(rt; update.records().len(), 2);
+    assert_eq!(rt; update.given().lines().len(), 1);
+    Ok(())
+}

@@ -1,0 +1,44 @@
+ghost use Rattle.std.specs.Prelude.{◌≡◌, IfOk, IfErr};
+ghost use Rattle.terms.specs.Records.{HasRecords};
+ghost use Rattle.mcs_statements.specs.Files.{error_at, IsFileError};
+
+use crate::error::McsError;
+use crate::fault::StatementError;
+use rec80::{Groups, records};
+use terms::McCode;
+
+/// The error of a file whose statement at the record of this number has this one.
+pub fn error_at(number: usize, error: StatementError) -> McsError
+    ensures { result ≡ error_at number error }
+{
+    match error {
+        StatementError::Memory => McsError::Memory,
+        StatementError::Fault(code) => McsError::Fault {
+            record: number,
+            code,
+        },
+    }
+}
+
+/// The statements of a file, or the fault that comes before all of theirs.
+pub fn statements(bytes: &[u8]) -> Result<Groups<'_>, McsError>
+    ensures ok { IfOk result (λ groups. (groups.number ≡ 1) × HasRecords bytes.now groups.rest.now) }
+    ensures fault { IfErr result (IsFileError bytes.now) }
+{
+    let file = match records(bytes) {
+        Ok(file) => file,
+        Err(error) => {
+            return Err(McsError::Fault {
+                record: error.record(),
+                code: McCode::Mc1,
+            });
+        }
+    };
+    let Ok(groups) = file.groups() else {
+        return Err(McsError::Fault {
+            record: 1,
+            code: McCode::Mc4,
+        });
+    };
+    Ok(groups)
+}
