@@ -1,6 +1,6 @@
 -- That the tables of the store can be compared.
 use Rattle.std.proofs.Common.{refl}
-use Rattle.store_same_schema.specs.Plain.{IsPlainTable, IsPlain}
+use Rattle.store_schema.specs.Plain.{IsPlainTable, IsPlain}
 use Rattle.store_schema.specs.Tables.{meta, sysmod, ver, ifreq, hold, elem, zone, entry, zelem, store_schema}
 
 plain_meta : IsPlainTable meta

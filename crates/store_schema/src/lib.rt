@@ -7,6 +7,7 @@
 mod error;
 mod known;
 mod law;
+mod same;
 mod tables;
 
 pub use error::StoreError;

@@ -10,10 +10,10 @@ ghost use Rattle.store_schema.specs.Stands.{StandsFor};
 ghost use Rattle.store_rows.specs.Inside.{StaysInside, Leads, IsMade, Holds};
 ghost use Rattle.store_schema.specs.Tables.{meta, global_tables, all_tables, store_schema, schema_of};
 
+use crate::same::same_schema;
 use sqlite::{Alter, Connection, Error, Transaction};
 use sqlite_schema::schema::Schema;
 use std::alloc::Global;
-use store_same_schema::same_schema;
 
 fn run<S: Alter>(tx: &mut Transaction<'_, S>, sql: &str) -> Result<(), Error>
     ensures same_reference { tx.new.conn.ghost_name ≡ tx.old.conn.ghost_name }

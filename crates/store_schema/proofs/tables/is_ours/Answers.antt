@@ -1,6 +1,6 @@
 use Rattle.std.proofs.Common.{◌≡◌, ◌∙◌, sym, subst}
 use Rattle.sqlite.proofs.Callers.{memory_is_clean}
-use Rattle.store_same_schema.specs.Plain.{IsPlain}
+use Rattle.store_schema.specs.Plain.{IsPlain}
 use Rattle.store_schema.specs.Tables.{store_schema}
 use Rattle.store_schema.proofs.Plain.{store_is_plain}
 use Rattle.store_schema.proofs.tables.is_ours.Goals as goal

@@ -1,20 +1,19 @@
 //! Whether two schemas of a SQL database are the same. It compares all but expressions: a schema with
 //! a CHECK, a DEFAULT or a view is never told to be another's equal.
-#![tactic(auto)]
 
 mod column;
 mod key;
 mod table;
 
 ghost use Rattle.std.specs.Prelude.{◌≡◌, IsTrue};
-ghost use Rattle.store_same_schema.specs.Plain.{IsPlain};
+ghost use Rattle.store_schema.specs.Plain.{IsPlain};
 
-use crate::table::{same_indexes, same_tables};
+use crate::same::table::{same_indexes, same_tables};
 use sqlite_schema::schema::Schema;
 
 /// Whether the two are the same. A schema with an expression, a default or a view is not even the
 /// same as itself.
-pub fn same_schema(a: &Schema, b: &Schema) -> bool
+pub(crate) fn same_schema(a: &Schema, b: &Schema) -> bool
     ensures same { IsTrue result → a.now ≡ b.now }
     ensures found { IsPlain a.now → a.now ≡ b.now → IsTrue result }
 {

@@ -3,9 +3,9 @@
 ghost use Rattle.std.specs.Prelude.{◌≡◌, ◌↔◌, IsTrue};
 ghost use Rattle.std.specs.List.{AllByRecursion};
 ghost use Rattle.sqlite_value.specs.declared.value.Value.TheVariants.{Null};
-ghost use Rattle.store_same_schema.specs.Plain.{HasNoDefault};
+ghost use Rattle.store_schema.specs.Plain.{HasNoDefault};
 
-use crate::key::same_name;
+use crate::same::key::same_name;
 use sqlite_schema::schema::Column;
 use sqlite_value::value::Value;
 

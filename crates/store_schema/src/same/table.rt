@@ -2,10 +2,10 @@
 
 ghost use Rattle.std.specs.Prelude.{◌≡◌, ◌↔◌, [], IsTrue};
 ghost use Rattle.std.specs.List.{AllByRecursion};
-ghost use Rattle.store_same_schema.specs.Plain.{HasNoDefault, IsPlainTable, no_stamps};
+ghost use Rattle.store_schema.specs.Plain.{HasNoDefault, IsPlainTable, no_stamps};
 
-use crate::column::same_columns;
-use crate::key::{
+use crate::same::column::same_columns;
+use crate::same::key::{
     same_keys, same_name, same_order, same_orders, same_places, same_references, same_rowid,
 };
 use sqlite_schema::code::Terms;
