@@ -3,13 +3,13 @@ ghost use Rattle.std.specs.Prelude.{◌≡◌, ◌<◌, ◌≤◌, map, is_err, 
 ghost use Rattle.std.specs.List.{flat_map};
 ghost use Rattle.machine.specs.Outcome.{status_code, line_code, lines_code, outcome_code, Control};
 ghost use Rattle.machine.specs.Report.{line_text, code_text, text};
-ghost use Rattle.report.specs.Sent.{Sends};
+ghost use Rattle.report.specs.Sent.{Sent};
 ghost use Rattle.report.specs.Views.{status_view, line_view, outcome_view};
 
 use crate::lines::{put_header, put_line, put_refusal};
 use crate::outcome::{Line, Outcome, Status};
-use crate::pieces::put_number;
-use crate::sink::{Sink, WriteFault, put, write_all};
+use crate::pieces::{put, put_number, write_all};
+use crate::sink::{Sink, WriteFault};
 use spelling::cn_text;
 use terms::{CnCode, IdRefusal};
 
@@ -38,7 +38,7 @@ fn line_code(line: &Line) -> u8
 
 /// Writes lines, and answers the greatest of their codes, 0 where there are none.
 fn put_lines<W: Sink>(lines: &[Line], w: &mut W) -> u8
-    ensures sends { Sends (W.taken w.old) (W.has_failed w.old) (W.taken w.new) (W.has_failed w.new) (flat_map line_text (map line_view lines.now)) }
+    ensures sends { Sent W.Sink w.old w.new (flat_map line_text (map line_view lines.now)) }
     ensures code { result ≡ lines_code (map line_view lines.now) }
     ensures most { result ≤ 12 }
 {
@@ -53,7 +53,7 @@ fn put_lines<W: Sink>(lines: &[Line], w: &mut W) -> u8
 /// Writes the last line of a report, and so learns whether all of it went out.
 fn finish<W: Sink>(code: u8, w: &mut W) -> Result<u8, WriteFault>
     requires { code ≤ 12 }
-    ensures sends { Sends (W.taken w.old) (W.has_failed w.old) (W.taken w.new) (W.has_failed w.new) (code_text code) }
+    ensures sends { Sent W.Sink w.old w.new (code_text code) }
     ensures fault { W.has_failed w.new ≡ is_err result }
     ensures code { IfOk result (λ told. told ≡ code) }
 {
@@ -66,7 +66,7 @@ fn finish<W: Sink>(code: u8, w: &mut W) -> Result<u8, WriteFault>
 
 /// Writes the one line of a command file that is at fault.
 fn write_control<W: Sink>(number: usize, code: CnCode, w: &mut W) -> Result<u8, WriteFault>
-    ensures sends { Sends (W.taken w.old) (W.has_failed w.old) (W.taken w.new) (W.has_failed w.new) (text (Control (record { number = number; code = code }))) }
+    ensures sends { Sent W.Sink w.old w.new (text (Control (record { number = number; code = code }))) }
     ensures fault { W.has_failed w.new ≡ is_err result }
     ensures code { IfOk result (λ told. told ≡ 12) }
 {
@@ -80,7 +80,7 @@ fn write_control<W: Sink>(number: usize, code: CnCode, w: &mut W) -> Result<u8, 
 
 /// Writes the text of an outcome and answers its return code. After a fault a beginning of the text went out.
 pub fn write_report<W: Sink>(outcome: &Outcome, w: &mut W) -> Result<u8, WriteFault>
-    ensures sends { Sends (W.taken w.old) (W.has_failed w.old) (W.taken w.new) (W.has_failed w.new) (text (outcome_view outcome.now)) }
+    ensures sends { Sent W.Sink w.old w.new (text (outcome_view outcome.now)) }
     ensures fault { W.has_failed w.new ≡ is_err result }
     ensures code { IfOk result (λ code. code ≡ outcome_code (outcome_view outcome.now)) }
 {

@@ -1,7 +1,7 @@
 use Rattle.std.proofs.Common.{take, arith}
 use Rattle.std.proofs.lemmas.Grind.{common_steps}
 use Rattle.report.proofs.Sending.{sending-more}
-use Rattle.report.proofs.sink.write_all.Goals as goal
+use Rattle.report.proofs.pieces.write_all.Goals as goal
 
 pub loop-rest-preserved : goal.loop-rest-preserved
 loop-rest-preserved g c = record {

@@ -1,4 +1,4 @@
-use Rattle.std.proofs.Common.{◌≡◌, ◌∙◌, ap, take, map, arith, sym}
+use Rattle.std.proofs.Common.{◌∙◌, ap, take, map, arith, sym}
 use Rattle.std.specs.List.{flat_map}
 use Rattle.std.specs.Prelude.{max}
 use Rattle.std.proofs.Common.{take_all, ◌++◌, ◌+◌, drop}
@@ -8,7 +8,7 @@ use Rattle.machine.specs.Report.{line_text}
 use Rattle.report.specs.Views.{line_view}
 use Rattle.report.proofs.Sending.{sends-then, sends-as}
 use Rattle.report.proofs.Texts.{flat_map-more, codes-more}
-use Rattle.report.proofs.writing.put_lines.Goals as goal
+use Rattle.report.proofs.write.put_lines.Goals as goal
 
 pub loop-line-preserved : goal.loop-line-preserved
 loop-line-preserved g c = record {

@@ -1,7 +1,7 @@
-use Rattle.std.proofs.Common.{◌++◌, append_assoc, sym, ◌∙◌, map, refl}
+use Rattle.std.proofs.Common.{refl}
 use Rattle.machine.specs.Report.{text}
 use Rattle.report.proofs.Sending.{sends-then, sends-as}
-use Rattle.report.proofs.writing.write_report.Goals as goal
+use Rattle.report.proofs.write.write_report.Goals as goal
 
 pub returns-in-Ran-clause-sends : goal.returns-in-Ran-clause-sends
 unfolding text

@@ -3,7 +3,7 @@ use Rattle.terms.specs.Spelling.{cn_text}
 use Rattle.machine.specs.Report.{text}
 use Rattle.report.proofs.Sending.{sends-then, sends-as}
 use Rattle.report.proofs.Texts.{control_parts}
-use Rattle.report.proofs.writing.write_control.Goals as goal
+use Rattle.report.proofs.write.write_control.Goals as goal
 
 pub returns-in_err-write_all-clause-sends : goal.returns-in_err-write_all-clause-sends
 unfolding text

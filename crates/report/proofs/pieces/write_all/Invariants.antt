@@ -1,6 +1,6 @@
 use Rattle.std.proofs.Common.{◌≡◌, ◌<◌, ◌≤◌, length, false}
 use Rattle.report.proofs.Sending.{Sending}
-use Rattle.report.proofs.sink.write_all.Given as goal
+use Rattle.report.proofs.pieces.write_all.Given as goal
 
 abbrev pub invariant-loop-rest : goal.invariant-loop-rest
 invariant-loop-rest g l = record {
