@@ -5,7 +5,5 @@ mod applying;
 mod lines;
 mod places;
 mod statuses;
-#[cfg(test)]
-mod tests;
 
 pub use applying::{Applied, apply};

@@ -7,6 +7,3 @@ mod kept;
 mod needs;
 
 pub use deciding::{Decided, decide};
-
-#[cfg(test)]
-mod tests;

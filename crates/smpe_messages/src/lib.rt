@@ -6,6 +6,3 @@ mod zone;
 
 pub use fault::{FAULT_STATUS, Fault, fault_line};
 pub use zone::zone_line;
-
-#[cfg(test)]
-mod tests;

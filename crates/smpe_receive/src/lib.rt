@@ -6,8 +6,6 @@ mod edits;
 mod holding;
 mod taken;
 mod taking;
-#[cfg(test)]
-mod tests;
 
 pub use holding::receive_holds;
 pub use taken::Taken;

@@ -3,7 +3,5 @@
 
 mod edits;
 mod rejecting;
-#[cfg(test)]
-mod tests;
 
 pub use rejecting::{Rejected, reject};
