@@ -1,12 +1,12 @@
 //! RECEIVE: what the items of a PTFIN and of a hold file make of the global zone, and what is printed of each.
 #![tactic(auto)]
 
-mod assigning;
+mod assign;
 mod edits;
-mod holding;
+mod holddata;
+mod ptfin;
 mod taken;
-mod taking;
 
-pub use holding::receive_holds;
+pub use holddata::receive_holds;
+pub use ptfin::receive;
 pub use taken::Taken;
-pub use taking::receive;

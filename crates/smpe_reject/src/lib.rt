@@ -2,6 +2,6 @@
 #![tactic(auto)]
 
 mod edits;
-mod rejecting;
+mod rejected;
 
-pub use rejecting::{Rejected, reject};
+pub use rejected::{Rejected, reject};

@@ -11,7 +11,7 @@ use Rattle.machine.specs.Machine.{Files, Performs}
 use Rattle.store.specs.declared.change.GlobalEdit.{GlobalEdit}
 use Rattle.store.specs.Changes.{EachFits, after_edits}
 use Rattle.store.specs.Kept.{kept}
-use Rattle.smpe_session.specs.declared.performing.Session.{Session}
+use Rattle.smpe_session.specs.declared.session.Session.{Session}
 use Rattle.smpe_session.specs.Sessions.{IsSessionOf}
 use Rattle.smpe_session.specs.Steps.{LeadsTo}
 

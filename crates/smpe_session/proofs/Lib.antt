@@ -1,5 +1,4 @@
 mod AllZones
-mod Edits
 mod Installed
 mod Leading
 mod Places

@@ -19,10 +19,10 @@ use Rattle.store.specs.declared.change.GlobalEdit.{GlobalEdit}
 use Rattle.store.specs.Changes.{after_edit, EachFits, after_edits}
 use Rattle.store.specs.Kept.{kept}
 use Rattle.smpe_receive.specs.External.{IsExternal}
+use Rattle.smpe_receive.proofs.Fitting.{fits-append}
 use Rattle.smpe_upkeep.proofs.HoldFileForms.{IsHoldItem, hold_file_formed}
 use Rattle.smpe_upkeep.proofs.ReceivingForms.{take_forms}
 use Rattle.smpe_session.specs.Received.{AreTaken}
-use Rattle.smpe_session.proofs.Edits.{fits-append}
 use Rattle.smpe_session.proofs.Leading.{LeadsBy, leads-by, headed}
 
 external : (item : HoldItem) → IsHoldItem item → IsExternal item

@@ -1,16 +1,16 @@
 //! A job under way: its commands, each performed over the store.
 #![tactic(auto)]
 
+mod apply;
+mod boundary;
 mod files;
-mod installing;
 mod lines;
-mod loading;
-mod performing;
-mod placing;
-mod reading;
-mod removing;
-mod setting;
-mod taking;
+mod load;
+mod read;
+mod receive;
+mod reject;
+mod session;
+mod set;
 
 pub use files::Files;
-pub use performing::Session;
+pub use session::Session;

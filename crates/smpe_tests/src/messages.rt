@@ -3,10 +3,7 @@
 use crate::play::compare;
 use fields::ZoneName;
 use report::Out;
-use smpe::{Answer, JobError};
-use smpe_invocation::ArgFault;
-use smpe_messages::{Fault, fault_line, zone_line};
-use smpe_zones::ZoneFault;
+use smpe::{Answer, ArgFault, Fault, JobError, ZoneFault, fault_line, zone_line};
 use std::alloc::Global;
 use std::test::Fail;
 use store_schema::StoreError;

@@ -2,8 +2,7 @@
 
 use fields::{Srel, YyDdd, ZoneName};
 use report::Out;
-use smpe::{Answer, Job, run_jobs};
-use smpe_zones::ZoneFault;
+use smpe::{Answer, Job, ZoneFault, run_jobs};
 use sqlite::{Alter, Connection};
 use std::alloc::Global;
 use std::test::Fail;

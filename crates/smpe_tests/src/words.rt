@@ -1,7 +1,7 @@
 //! Command lines, and what they ask for.
 
 use crate::play::compare;
-use smpe_invocation::{ArgFault, Invocation, invocation};
+use smpe::{ArgFault, Invocation, invocation};
 use std::alloc::Global;
 use std::test::Fail;
 

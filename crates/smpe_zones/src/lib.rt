@@ -1,9 +1,9 @@
 //! The definition of a zone.
 #![tactic(auto)]
 
-mod defining;
+mod define;
 mod error;
 mod faults;
 
-pub use defining::define_zone;
+pub use define::define_zone;
 pub use error::{ZoneError, ZoneFault};
