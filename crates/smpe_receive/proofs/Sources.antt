@@ -15,8 +15,8 @@ use Rattle.terms.specs.Global.{with_source, assign}
 use Rattle.terms.proofs.Apart.{parts}
 use Rattle.terms.proofs.GlobalLookups.{same_from, find-passes, assigned, sysmod_of-assign}
 use Rattle.terms.proofs.RisingLists.{find-there, Splits-around}
-use Rattle.store.specs.declared.change.GlobalEdit.TheVariants.{ReplaceSources}
-use Rattle.store.specs.Changes.{Fits, EachFits, after_edits}
+use Rattle.sysmods.specs.declared.edit.GlobalEdit.TheVariants.{ReplaceSources}
+use Rattle.sysmods.specs.Edits.{Fits, EachFits, after_edits}
 use Rattle.smpe_receive.specs.Edits.{head_of, source_edits}
 use Rattle.smpe_receive.proofs.Fitting.{fits-none, fits-one}
 

@@ -13,8 +13,7 @@ use fields::{Id, Source};
 use mcs::Assign;
 use report::{Line, Place, Status};
 use std::alloc::{AllocError, Global as Heap};
-use store::GlobalEdit;
-use sysmods::Global;
+use sysmods::{Global, GlobalEdit};
 use sysmods_records::Sysmod;
 
 /// The SYSMOD with its sources, but without its statements.

@@ -7,7 +7,7 @@ ghost use Rattle.machine.specs.Outcome.{Held, Replaced};
 ghost use Rattle.machine.specs.Receiving.{TakesHoldItem, release_status};
 ghost use Rattle.machine.specs.Runs.{Runs};
 ghost use Rattle.report.specs.Views.{line_view, status_view};
-ghost use Rattle.store.specs.Changes.{EachFits, after_edits};
+ghost use Rattle.sysmods.specs.Edits.{EachFits, after_edits};
 ghost use Rattle.smpe_receive.specs.Edits.{release_answer, release_edits};
 ghost use Rattle.smpe_receive.specs.External.{IsExternal};
 ghost use Rattle.mcs_hold.specs.Items.{item_of, items};
@@ -18,8 +18,7 @@ use fields::{Id, Reason};
 use mcs_hold::{HoldItem, Release};
 use report::{Line, Place, Status};
 use std::alloc::{AllocError, Global as Heap};
-use store::GlobalEdit;
-use sysmods::{Global, Placed, ReleaseError};
+use sysmods::{Global, GlobalEdit, Placed, ReleaseError};
 use sysmods_records::Hold;
 use terms::{HoldKind, IdRefusal};
 

@@ -5,7 +5,7 @@ ghost use Rattle.machine.specs.Runs.{Runs};
 ghost use Rattle.machine.specs.Receiving.{TakesItem, sourced, receive_status};
 ghost use Rattle.mcs.specs.Files.{item_of, items};
 ghost use Rattle.report.specs.Views.{line_view, status_view};
-ghost use Rattle.store.specs.Changes.{EachFits, after_edits};
+ghost use Rattle.sysmods.specs.Edits.{EachFits, after_edits};
 ghost use Rattle.smpe_receive.specs.Edits.{answer_of};
 ghost use Rattle.smpe_receive.specs.Taken.{IsTaken};
 

@@ -7,7 +7,7 @@ ghost use Rattle.machine.specs.Runs.{Runs};
 ghost use Rattle.machine.specs.Receiving.{place_of};
 ghost use Rattle.machine.specs.Rejecting.{RejectsId};
 ghost use Rattle.report.specs.Views.{line_view, place_view};
-ghost use Rattle.store.specs.Changes.{EachFits, after_edits};
+ghost use Rattle.sysmods.specs.Edits.{EachFits, after_edits};
 ghost use Rattle.smpe_reject.specs.Rejections.{AppliesAlike, IsAnswered, IsRejected};
 
 use crate::edits::write_rejected;
@@ -15,8 +15,7 @@ use fields::{Id, IdList, ZoneName};
 use indexmap::IndexMap;
 use report::{Line, Place, Status};
 use std::alloc::{AllocError, Global as Heap};
-use store::GlobalEdit;
-use sysmods::Global;
+use sysmods::{Global, GlobalEdit};
 use terms::IdRefusal;
 use zones::Zone;
 

@@ -4,7 +4,7 @@ use Rattle.terms.specs.Global.{is_replacing}
 use Rattle.machine.specs.Outcome.{StatusLine, OfHold, Held, Replaced}
 use Rattle.report.specs.declared.outcome.Line.TheVariants.{Status}
 use Rattle.report.specs.declared.outcome.Place.TheVariants as place
-use Rattle.store.specs.declared.change.GlobalEdit.TheVariants.{PutHold}
+use Rattle.sysmods.specs.declared.edit.GlobalEdit.TheVariants.{PutHold}
 use Rattle.smpe_receive.proofs.Fitting.{fits-one}
 use Rattle.smpe_receive.proofs.Holds.{marked-written}
 use Rattle.smpe_receive.proofs.holddata.take_hold.Goals as goal
