@@ -1,6 +1,7 @@
 -- What went out of a text.
 use Rattle.std.specs.Prelude.{◌≡◌, ℕ, List, ◌++◌, Option, Bool, true, false}
 use Rattle.std.specs.Io.KnownBytes.{Appends, Keeps}
+use Rattle.report.specs.declared.sink.Sink.{Ghosts}
 
 -- a beginning of the text went out
 pub record WrotePart (old new : Option (List ℕ)) (text : List ℕ) : Type 0 where
@@ -18,3 +19,7 @@ Went old new true text = WrotePart old new text
 abbrev pub Sends : Option (List ℕ) → Bool → Option (List ℕ) → Bool → List ℕ → Type 0
 Sends old true new failed text = (failed ≡ true) × Keeps old new
 Sends old false new failed text = Went old new failed text
+
+-- the same of a sink, before and after
+abbrev pub Sent : {W : Type 0} → Ghosts W → W → W → List ℕ → Type 0
+Sent g old new text = Sends (g.taken old) (g.has_failed old) (g.taken new) (g.has_failed new) text

@@ -1,5 +1,5 @@
 -- What the code's outcomes stand for.
-use Rattle.std.specs.Prelude.{List, map, Option, None, Some, ℕ}
+use Rattle.std.specs.Prelude.{map}
 use Rattle.machine.specs.Outcome as machine
 use Rattle.report.specs.declared.outcome.Header.{Header}
 use Rattle.report.specs.declared.outcome.Refusal.{Refusal}

@@ -7,11 +7,9 @@ mod lines;
 mod outcome;
 mod pieces;
 mod sink;
-mod writing;
+mod write;
 
 pub use outcome::{Failure, Header, Line, OpenNeed, Outcome, Place, Refusal, Status};
-pub use sink::{Out, Sink, WriteFault, put, write_all};
-pub use writing::write_report;
-
-#[cfg(test)]
-mod tests;
+pub use pieces::{put, write_all};
+pub use sink::{Out, Sink, WriteFault};
+pub use write::write_report;

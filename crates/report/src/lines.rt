@@ -5,12 +5,12 @@ ghost use Rattle.terms.specs.Spelling.{mc_text, test_text, need_text};
 ghost use Rattle.machine.specs.Outcome.{StatusLine};
 ghost use Rattle.machine.specs.Report.{words_line, optional_text, header_text, refused_text, place_text, status_word, status_detail, failure_text, details, line_text, detail_line};
 ghost use Rattle.terms.specs.Lookups.{at_most_one};
-ghost use Rattle.report.specs.Sent.{Sends};
+ghost use Rattle.report.specs.Sent.{Sent};
 ghost use Rattle.report.specs.Views.{header_view, refusal_view, place_view, status_view, failure_view, line_view};
 
 use crate::outcome::{Failure, Header, Line, OpenNeed, Place, Refusal, Status};
-use crate::pieces::{put_left, put_number};
-use crate::sink::{Sink, put};
+use crate::pieces::{put, put_left, put_number};
+use crate::sink::Sink;
 use fields::{Id, ZoneName};
 use spelling::{hold_text, kind_text, mc_text, need_text, refusal_text, test_text, word_text};
 use terms::{McCode, Test};
@@ -32,7 +32,7 @@ fn check_text(check: bool) -> &'static [u8]
 
 /// A command's word, its boundary or `-`, and CHECK.
 pub(crate) fn put_header<W: Sink>(header: &Header, w: &mut W)
-    ensures { Sends (W.taken w.old) (W.has_failed w.old) (W.taken w.new) (W.has_failed w.new) (header_text (header_view header.now)) }
+    ensures { Sent W.Sink w.old w.new (header_text (header_view header.now)) }
 {
     put(word_text(header.word), w);
     put(b" ", w);
@@ -43,7 +43,7 @@ pub(crate) fn put_header<W: Sink>(header: &Header, w: &mut W)
 
 /// The place of a fault, and its code.
 fn put_fault<W: Sink>(word: &[u8], number: usize, code: McCode, w: &mut W)
-    ensures { Sends (W.taken w.old) (W.has_failed w.old) (W.taken w.new) (W.has_failed w.new)
+    ensures { Sent W.Sink w.old w.new
         (words_line (codes "REFUSED" ∷ word.now ∷ codes "RECORD" ∷ decimal number ∷ mc_text code ∷ [])) }
 {
     put(b"REFUSED ", w);
@@ -57,7 +57,7 @@ fn put_fault<W: Sink>(word: &[u8], number: usize, code: McCode, w: &mut W)
 
 /// The one line of a refused command.
 pub(crate) fn put_refusal<W: Sink>(refusal: &Refusal, w: &mut W)
-    ensures { Sends (W.taken w.old) (W.has_failed w.old) (W.taken w.new) (W.has_failed w.new) (refused_text (refusal_view refusal.now)) }
+    ensures { Sent W.Sink w.old w.new (refused_text (refusal_view refusal.now)) }
 {
     match refusal {
         Refusal::NoBoundary => put(b"REFUSED Cm1\n", w),
@@ -118,7 +118,7 @@ fn status_detail(status: &Status) -> Option<&[u8]>
 
 /// `TEST` lines.
 fn put_tests<W: Sink>(tests: &[Test], w: &mut W)
-    ensures { Sends (W.taken w.old) (W.has_failed w.old) (W.taken w.new) (W.has_failed w.new)
+    ensures { Sent W.Sink w.old w.new
         (flat_map (λ t. detail_line (codes "TEST" ∷ test_text t ∷ [])) tests.now) }
 {
     for test in tests {
@@ -130,7 +130,7 @@ fn put_tests<W: Sink>(tests: &[Test], w: &mut W)
 
 /// `NEED` lines.
 fn put_needs<W: Sink>(needs: &[OpenNeed], w: &mut W)
-    ensures { Sends (W.taken w.old) (W.has_failed w.old) (W.taken w.new) (W.has_failed w.new)
+    ensures { Sent W.Sink w.old w.new
         (flat_map (λ n. detail_line (codes "NEED" ∷ need_text n.kind ∷ n.id ∷ [])) needs.now) }
 {
     for need in needs {
@@ -144,7 +144,7 @@ fn put_needs<W: Sink>(needs: &[OpenNeed], w: &mut W)
 
 /// `CAUSER` lines.
 fn put_causers<W: Sink>(causers: &[Id], w: &mut W)
-    ensures { Sends (W.taken w.old) (W.has_failed w.old) (W.taken w.new) (W.has_failed w.new)
+    ensures { Sent W.Sink w.old w.new
         (flat_map (λ id. detail_line (codes "CAUSER" ∷ id ∷ [])) causers.now) }
 {
     for causer in causers {
@@ -156,7 +156,7 @@ fn put_causers<W: Sink>(causers: &[Id], w: &mut W)
 
 /// The lines behind FAILED.
 fn put_failure<W: Sink>(failure: &Failure, w: &mut W)
-    ensures { Sends (W.taken w.old) (W.has_failed w.old) (W.taken w.new) (W.has_failed w.new) (failure_text (failure_view failure.now)) }
+    ensures { Sent W.Sink w.old w.new (failure_text (failure_view failure.now)) }
 {
     put_tests(&failure.tests, w);
     put_needs(&failure.needs, w);
@@ -165,7 +165,7 @@ fn put_failure<W: Sink>(failure: &Failure, w: &mut W)
 
 /// A status line, and the lines behind FAILED.
 fn put_status<W: Sink>(id: Id, place: &Place, status: &Status, w: &mut W)
-    ensures { Sends (W.taken w.old) (W.has_failed w.old) (W.taken w.new) (W.has_failed w.new)
+    ensures { Sent W.Sink w.old w.new
         (line_text (StatusLine id (place_view place.now) (status_view status.now))) }
 {
     put(id.as_bytes(), w);
@@ -180,7 +180,7 @@ fn put_status<W: Sink>(id: Id, place: &Place, status: &Status, w: &mut W)
 
 /// A word behind a blank, if there is one.
 fn put_detail<W: Sink>(detail: Option<&[u8]>, w: &mut W)
-    ensures { Sends (W.taken w.old) (W.has_failed w.old) (W.taken w.new) (W.has_failed w.new)
+    ensures { Sent W.Sink w.old w.new
         (flat_map (λ t. 32 ∷ t) (at_most_one (option_map (λ t. t.now) detail.entry))) }
 {
     if let Some(text) = detail {
@@ -191,7 +191,7 @@ fn put_detail<W: Sink>(detail: Option<&[u8]>, w: &mut W)
 
 /// The lines behind FAILED; behind another status there are none.
 fn put_details<W: Sink>(status: &Status, w: &mut W)
-    ensures { Sends (W.taken w.old) (W.has_failed w.old) (W.taken w.new) (W.has_failed w.new) (details (status_view status.now)) }
+    ensures { Sent W.Sink w.old w.new (details (status_view status.now)) }
 {
     if let Status::Failed(failure) = status {
         put_failure(failure, w);
@@ -200,7 +200,7 @@ fn put_details<W: Sink>(status: &Status, w: &mut W)
 
 /// A line, with the lines that belong to it.
 pub(crate) fn put_line<W: Sink>(line: &Line, w: &mut W)
-    ensures { Sends (W.taken w.old) (W.has_failed w.old) (W.taken w.new) (W.has_failed w.new) (line_text (line_view line.now)) }
+    ensures { Sent W.Sink w.old w.new (line_text (line_view line.now)) }
 {
     match line {
         Line::Status { id, place, status } => put_status(*id, place, status, w),

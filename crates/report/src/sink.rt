@@ -1,6 +1,5 @@
 ghost use Rattle.std.specs.Prelude.{◌≡◌, ◌<◌, ◌≤◌, List, ℕ, Bool, Option, true, false, length, take, IfOk, OnOk, OnErr, is_err};
 ghost use Rattle.std.specs.Io.KnownBytes.{Appends, Keeps};
-ghost use Rattle.report.specs.Sent.{Sends};
 
 use std::io::Write;
 use thiserror::Error;
@@ -66,25 +65,4 @@ impl<W: Write> Sink for Out<W> {
             }
         }
     }
-}
-
-/// Writes all of a piece, in as many writes as the sink needs.
-pub fn write_all<W: Sink>(piece: &[u8], w: &mut W) -> Result<(), WriteFault>
-    ensures sends { Sends (W.taken w.old) (W.has_failed w.old) (W.taken w.new) (W.has_failed w.new) piece.now }
-    ensures after { 0 < length piece.now → W.has_failed w.new ≡ is_err result }
-    ensures some { OnErr result (0 < length piece.now) }
-{
-    let mut rest = piece;
-    while !rest.is_empty() {
-        let n = w.write(rest)?;
-        rest = &rest[n..];
-    }
-    Ok(())
-}
-
-/// Writes a piece of a text. Whether it went out is told by the sink's next write, since a sink that has failed takes no more.
-pub fn put<W: Sink>(piece: &[u8], w: &mut W)
-    ensures { Sends (W.taken w.old) (W.has_failed w.old) (W.taken w.new) (W.has_failed w.new) piece.now }
-{
-    let _ = write_all(piece, w);
 }

@@ -5,3 +5,4 @@ mod Taken
 mod Commanding
 mod Single
 mod Listing
+mod ZoneLines

@@ -1,11 +1,14 @@
-//! What an APPLY makes of a zone, and what it prints of each id.
+//! APPLY: which candidates are kept and why each other one failed, what becomes of the zone, and what is printed of each id.
 #![tactic(auto)]
 
-mod applying;
+mod applied;
+mod decided;
+mod failures;
+mod kept;
 mod lines;
+mod needs;
 mod places;
 mod statuses;
-#[cfg(test)]
-mod tests;
 
-pub use applying::{Applied, apply};
+pub use applied::{Applied, apply};
+pub use decided::{Decided, decide};

@@ -15,6 +15,3 @@ pub use asked::Invocation;
 pub use date::read_date;
 pub use fault::ArgFault;
 pub use read::invocation;
-
-#[cfg(test)]
-mod tests;

@@ -1,6 +1,5 @@
 //! The files of a job, read whole.
-use smpe::JobError;
-use smpe_messages::Fault;
+use smpe::{Fault, JobError};
 use std::fs;
 use std::io::ErrorKind;
 

@@ -4,13 +4,12 @@
 
 mod database;
 mod files;
-mod performing;
+mod status;
 mod words;
 
-use performing::status_of;
 use report::Out;
-use smpe_invocation::ArgFault;
-use smpe_messages::{FAULT_STATUS, Fault, fault_line};
+use smpe::{ArgFault, FAULT_STATUS, Fault, fault_line};
+use status::status_of;
 use std::process::ExitCode;
 use words::asked;
 

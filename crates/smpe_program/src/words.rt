@@ -1,5 +1,5 @@
 //! The words of the command line.
-use smpe_invocation::{ArgFault, Invocation, invocation};
+use smpe::{ArgFault, Invocation, invocation};
 use std::env;
 use std::io::{self, ErrorKind};
 

@@ -9,9 +9,9 @@ use Rattle.terms.specs.Types.{Global, Sysmod, Hold}
 use Rattle.terms.specs.Global.{IsSysmod, hold_cmp, hold_of, marked, hold, with_sysmod, received}
 use Rattle.terms.specs.Rising.{with_item}
 use Rattle.terms.specs.Lookups.{is_received}
-use Rattle.store.specs.declared.change.GlobalEdit.{GlobalEdit}
-use Rattle.store.specs.declared.change.GlobalEdit.TheVariants.{PutHold, InsertSysmod}
-use Rattle.store.specs.Changes.{with_hold, Fits, after_edit, EachFits, after_edits}
+use Rattle.sysmods.specs.declared.edit.GlobalEdit.{GlobalEdit}
+use Rattle.sysmods.specs.declared.edit.GlobalEdit.TheVariants.{PutHold, InsertSysmod}
+use Rattle.sysmods.specs.Edits.{with_hold, Fits, after_edit, EachFits, after_edits}
 use Rattle.smpe_receive.specs.Edits.{edits_of}
 
 pub fits-none : (g : Global) → EachFits [] g

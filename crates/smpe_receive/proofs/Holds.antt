@@ -6,8 +6,8 @@ use Rattle.terms.specs.Global.{Rl2, hold_of, marked, hold, without_hold, release
 use Rattle.machine.specs.Receiving.{or_same}
 use Rattle.sysmods_holds.specs.declared.holds.ReleaseError.{ReleaseError}
 use Rattle.sysmods.specs.Faults.{a_release, release_fault}
-use Rattle.store.specs.declared.change.GlobalEdit.TheVariants.{PutHold, RemoveHold}
-use Rattle.store.specs.Changes.{with_hold, EachFits, after_edits}
+use Rattle.sysmods.specs.declared.edit.GlobalEdit.TheVariants.{PutHold, RemoveHold}
+use Rattle.sysmods.specs.Edits.{with_hold, EachFits, after_edits}
 use Rattle.smpe_receive.specs.Edits.{release_answer, release_edits}
 use Rattle.smpe_receive.specs.External.{IsExternal}
 use Rattle.mcs_hold.specs.Items.{item_of, items}

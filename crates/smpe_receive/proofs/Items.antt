@@ -7,7 +7,7 @@ use Rattle.machine.specs.Outcome as machine
 use Rattle.machine.specs.Runs.{Runs}
 use Rattle.machine.proofs.Joined.{runs-append, runs-one}
 use Rattle.report.specs.Views.{line_view}
-use Rattle.store.specs.Changes.{after_edit, EachFits, after_edits}
+use Rattle.sysmods.specs.Edits.{after_edit, EachFits, after_edits}
 use Rattle.smpe_receive.specs.declared.taken.Taken.{Taken}
 use Rattle.smpe_receive.specs.Taken.{IsTaken}
 use Rattle.smpe_receive.proofs.Fitting.{fits-none, fits-append}

@@ -17,8 +17,8 @@ use Rattle.terms.proofs.GlobalLookups.{assigned, sysmod_of-assign}
 use Rattle.lemmas.proofs.Texts.{same_from}
 use Rattle.lemmas.proofs.Searches.{find-passes}
 use Rattle.terms.proofs.RisingLists.{find-there, Splits-around}
-use Rattle.store.specs.declared.change.GlobalEdit.TheVariants.{ReplaceSources}
-use Rattle.store.specs.Changes.{Fits, EachFits, after_edits}
+use Rattle.sysmods.specs.declared.edit.GlobalEdit.TheVariants.{ReplaceSources}
+use Rattle.sysmods.specs.Edits.{Fits, EachFits, after_edits}
 use Rattle.smpe_receive.specs.Edits.{head_of, source_edits}
 use Rattle.smpe_receive.proofs.Fitting.{fits-none, fits-one}
 

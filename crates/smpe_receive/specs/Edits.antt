@@ -7,8 +7,8 @@ use Rattle.sysmods_received.specs.declared.faults.ReceiveFault.{ReceiveFault}
 use Rattle.sysmods_received.specs.Refused.{fault_of}
 use Rattle.sysmods_holds.specs.declared.holds.ReleaseError.{ReleaseError}
 use Rattle.sysmods.specs.Faults.{release_fault}
-use Rattle.store.specs.declared.change.GlobalEdit.{GlobalEdit}
-use Rattle.store.specs.declared.change.GlobalEdit.TheVariants.{PutHold, RemoveHold, InsertSysmod, ReplaceSources}
+use Rattle.sysmods.specs.declared.edit.GlobalEdit.{GlobalEdit}
+use Rattle.sysmods.specs.declared.edit.GlobalEdit.TheVariants.{PutHold, RemoveHold, InsertSysmod, ReplaceSources}
 
 -- what RECEIVE answers of a SYSMOD
 abbrev pub answer_of : Global → Option ReceiveFault → Result Global rule.ReceiveFault

@@ -4,8 +4,8 @@ use Rattle.terms.specs.Types.{Global}
 use Rattle.machine.specs.Outcome as machine
 use Rattle.report.specs.declared.outcome.Line.{Line}
 use Rattle.report.specs.Views.{line_view}
-use Rattle.store.specs.declared.change.GlobalEdit.{GlobalEdit}
-use Rattle.store.specs.Changes.{EachFits, after_edits}
+use Rattle.sysmods.specs.declared.edit.GlobalEdit.{GlobalEdit}
+use Rattle.sysmods.specs.Edits.{EachFits, after_edits}
 use Rattle.smpe_receive.specs.declared.taken.Taken.{Taken}
 
 -- The global zone g has become new, and of that these lines are printed. The edits fit, and lead there too. Edits and

@@ -3,8 +3,7 @@ ghost use Rattle.std.specs.Prelude.{◌≡◌, ◌++◌, map, OnOk};
 ghost use Rattle.smpe_receive.specs.Edits.{edits_after};
 
 use std::alloc::{AllocError, Global as Heap};
-use store::GlobalEdit;
-use sysmods::ReceiveFault;
+use sysmods::{GlobalEdit, ReceiveFault};
 use sysmods_records::{Hold, Sysmod};
 
 fn put_holds(edits: &mut Vec<GlobalEdit>, holds: Vec<Hold>) -> Result<(), AllocError>

@@ -3,14 +3,12 @@
 //! edits that fit and make the same of the global zone. Nothing says what it holds after `AllocError`.
 #![tactic(auto)]
 
-mod assigning;
+mod assign;
 mod edits;
-mod holding;
+mod holddata;
+mod ptfin;
 mod taken;
-mod taking;
-#[cfg(test)]
-mod tests;
 
-pub use holding::receive_holds;
+pub use holddata::receive_holds;
+pub use ptfin::receive;
 pub use taken::Taken;
-pub use taking::receive;

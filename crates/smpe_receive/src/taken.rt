@@ -3,7 +3,7 @@ ghost use Rattle.std.specs.Prelude.{◌≡◌, []};
 
 use report::Line;
 use std::alloc::Global as Heap;
-use store::GlobalEdit;
+use sysmods::GlobalEdit;
 
 /// What a RECEIVE writes, the first edit first, and its lines.
 #[derive(Drop)]

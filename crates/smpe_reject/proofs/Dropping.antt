@@ -17,8 +17,8 @@ use Rattle.lemmas.proofs.Searches.{filter-all}
 use Rattle.lemmas.proofs.Texts.{same_itself}
 use Rattle.terms.proofs.GlobalKept.{hold_cmp_total}
 use Rattle.terms.proofs.HoldOrder.{has_key-ties}
-use Rattle.store.specs.declared.change.GlobalEdit.TheVariants.{RemoveSysmod}
-use Rattle.store.specs.Changes.{less_hold, after_edit, after_edits}
+use Rattle.sysmods.specs.declared.edit.GlobalEdit.TheVariants.{RemoveSysmod}
+use Rattle.sysmods.specs.Edits.{less_hold, after_edit, after_edits}
 use Rattle.smpe_reject.specs.Rejections.{removal, edits_of, FitsAlways}
 
 module _ {X : Type 0} where

@@ -16,8 +16,8 @@ use Rattle.machine.specs.Rejecting.{reject_status, RejectsId}
 use Rattle.report.specs.declared.outcome.Status.TheVariants.{Rejected}
 use Rattle.report.specs.declared.outcome.Line.{Line}
 use Rattle.report.specs.Views.{line_view}
-use Rattle.store.specs.declared.change.GlobalEdit.{GlobalEdit}
-use Rattle.store.specs.Changes.{after_edit, after_edits, EachFits}
+use Rattle.sysmods.specs.declared.edit.GlobalEdit.{GlobalEdit}
+use Rattle.sysmods.specs.Edits.{after_edit, after_edits, EachFits}
 use Rattle.smpe_reject.specs.Rejections.{AppliesAlike, edits_of, FitsAlways, IsAnswered, AreRejected, IsRejected}
 use Rattle.smpe_reject.proofs.Dropping.{edits-make, edits-fit}
 

@@ -12,9 +12,9 @@ use Rattle.machine.specs.Rejecting.{reject_status, RejectsId}
 use Rattle.report.specs.declared.outcome.Status.{Status}
 use Rattle.report.specs.declared.outcome.Line.{Line}
 use Rattle.report.specs.Views.{line_view, status_view}
-use Rattle.store.specs.declared.change.GlobalEdit.{GlobalEdit}
-use Rattle.store.specs.declared.change.GlobalEdit.TheVariants.{RemoveHold, RemoveSysmod}
-use Rattle.store.specs.Changes.{Fits, after_edits}
+use Rattle.sysmods.specs.declared.edit.GlobalEdit.{GlobalEdit}
+use Rattle.sysmods.specs.declared.edit.GlobalEdit.TheVariants.{RemoveHold, RemoveSysmod}
+use Rattle.sysmods.specs.Edits.{Fits, after_edits}
 
 -- Some zone of the map has an id applied just where one of the named zones has.
 abbrev pub AppliesAlike : {S : Type 0} → IndexMap Text Zone S → List NamedZone → Type 0

@@ -6,8 +6,7 @@ ghost use Rattle.smpe_reject.specs.Rejections.{removal, edits_of};
 
 use fields::Id;
 use std::alloc::AllocError;
-use store::GlobalEdit;
-use sysmods::Global;
+use sysmods::{Global, GlobalEdit};
 use terms::HoldKind;
 
 fn remove_internal_holds(

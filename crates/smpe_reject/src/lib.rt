@@ -4,8 +4,6 @@
 #![tactic(auto)]
 
 mod edits;
-mod rejecting;
-#[cfg(test)]
-mod tests;
+mod rejected;
 
-pub use rejecting::{Rejected, reject};
+pub use rejected::{Rejected, reject};

@@ -1,13 +1,13 @@
 -- What APPLY leads to: a state with one zone changed, whose tables are an inventory's.
 use Rattle.std.proofs.Common.{◌≡◌, ◌≢◌, ◌∙◌, Bool, true, false, List, [], ◌∷◌, ◌++◌, Option, Some, None, All, IsTrue, refl, sym, ap, subst, inl, inr, true≢false}
-use Rattle.std.specs.Prelude.{find, option_map, if◌then◌else◌}
+use Rattle.std.specs.Prelude.{IsSome, find, option_map, if◌then◌else◌}
 use Rattle.std.specs.List.{AllByRecursion}
 use Rattle.std.specs.Str.{bytes_eq}
 use Rattle.std.specs.Ordering.{nat_cmp, is_lt}
 use Rattle.std.specs.Cmp.Lexicographic.{slice_cmp}
 use Rattle.std.proofs.lemmas.Cmp.{nat_list_cmp_total, tied_itself}
 use Rattle.std.proofs.lemmas.List.Elements.{All-append, All-weaker, recursion_from_All}
-use Rattle.indexmap.specs.IndexMap.{Updates}
+use Rattle.indexmap.specs.IndexMap.{get, Updates}
 use Rattle.terms.specs.declared.codes.CommandWord.TheVariants as word
 use Rattle.terms.specs.Types.{Text, Zone, NamedZone, Selection, Install, Apply}
 use Rattle.terms.specs.CommandForms.{no_bypass}
@@ -28,7 +28,7 @@ use Rattle.machine.specs.Machine.{Files, Performs}
 use Rattle.store.specs.Kept.{kept}
 use Rattle.smpe_upkeep.proofs.ZonesKept.{stands_among}
 use Rattle.smpe_upkeep.proofs.InstallForms.{apply_kept}
-use Rattle.smpe_session.specs.declared.performing.Session.{Session}
+use Rattle.smpe_session.specs.declared.session.Session.{Session}
 use Rattle.smpe_session.specs.Sessions.{IsSessionOf}
 use Rattle.smpe_session.specs.Targets.{IsTarget, IsPlan}
 use Rattle.smpe_session.proofs.Seeking.{zones-updated, some-updated}
@@ -137,10 +137,16 @@ module _ (date : Text) (files : Files) (i : Install) (s : State) (at : Session) 
     },
   )
 
-  pub install-inventory : IsInventory (kept s) → IsInventory (kept (with_zone s name new))
+  install-inventory : IsInventory (kept s) → IsInventory (kept (with_zone s name new))
   install-inventory is = apply_kept (kept s) name zone new date plan.kept plan.dated is target.is_there
       (subst (λ g. All (λ x. IsTrue (is_installable g zone x)) plan.kept) here.global plan.installable)
       (subst (λ g. IsChanged (puts g date plan.kept) zone new) here.global (subst (λ d. IsChanged d zone new) plan.puts plan.changed))
+
+  -- what a commit of the change asks for
+  pub install-commits : {Committed : Type 0} → IsInventory (kept s)
+      → ((was : Zone) → IsZoneChange name was new (kept s) (kept (with_zone s name new)) → IsChanged delta was new → IsInventory (kept (with_zone s name new)) → IsSome (get bytes_eq at.zones name) → Committed) → Committed
+  install-commits is commits =
+      commits zone (zone-change (kept s) name zone new is target.is_there) plan.changed (install-inventory is) (subst IsSome (sym target.has) refl)
 
 -- APPLY where it can't run
 pub install-refused : (date : Text) (files : Files) (i : Install) (s : State) (boundary : Option Text) (check : Bool) (why : Refusal) → boundary ≡ s.boundary → i.check ≡ check → misplaced s (Apply i) ≡ Some why

@@ -8,10 +8,10 @@ use Rattle.store_schema.specs.Inventory.{IsInventory}
 use Rattle.machine.specs.Outcome.{Header, Line, Outcome, Refusal, Ran, Refused, header_of}
 use Rattle.machine.specs.State.{State, global_name, misplaced}
 use Rattle.machine.specs.Machine.{Files, Performs}
-use Rattle.store.specs.declared.change.GlobalEdit.{GlobalEdit}
-use Rattle.store.specs.Changes.{EachFits, after_edits}
+use Rattle.sysmods.specs.declared.edit.GlobalEdit.{GlobalEdit}
+use Rattle.sysmods.specs.Edits.{EachFits, after_edits}
 use Rattle.store.specs.Kept.{kept}
-use Rattle.smpe_session.specs.declared.performing.Session.{Session}
+use Rattle.smpe_session.specs.declared.session.Session.{Session}
 use Rattle.smpe_session.specs.Sessions.{IsSessionOf}
 use Rattle.smpe_session.specs.Steps.{LeadsTo}
 

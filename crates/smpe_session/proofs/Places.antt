@@ -12,7 +12,7 @@ use Rattle.machine.specs.Outcome.{Refusal, Cm1, Cm3}
 use Rattle.store_schema.specs.Inventory.{IsInventory, IsZoneNamed}
 use Rattle.machine.specs.State.{State, global_name, zone_named, at_global, unless_at, misplaced}
 use Rattle.store.specs.Kept.{kept}
-use Rattle.smpe_session.specs.declared.performing.Session.{Session}
+use Rattle.smpe_session.specs.declared.session.Session.{Session}
 use Rattle.smpe_session.specs.Sessions.{IsSessionOf}
 
 -- whether the boundary is the global zone

@@ -15,10 +15,11 @@ use Rattle.machine.specs.State.{State, misplaced}
 use Rattle.machine.specs.Machine.{Files, HasItems, Performs, Takes, TakesAll, TakesNone, TakesNoHold}
 use Rattle.report.specs.declared.outcome.Refusal.{Refusal}
 use Rattle.report.specs.Views.{refusal_view}
-use Rattle.store.specs.declared.change.GlobalEdit.{GlobalEdit}
-use Rattle.store.specs.Changes.{after_edit, EachFits, after_edits}
+use Rattle.sysmods.specs.declared.edit.GlobalEdit.{GlobalEdit}
+use Rattle.sysmods.specs.Edits.{after_edit, EachFits, after_edits}
 use Rattle.store.specs.Kept.{kept}
 use Rattle.smpe_receive.specs.External.{IsExternal}
+use Rattle.smpe_receive.proofs.Fitting.{fits-append}
 use Rattle.smpe_upkeep.proofs.HoldFileForms.{IsHoldItem, hold_file_formed}
 use Rattle.smpe_upkeep.proofs.ReceivingForms.{take_forms}
 use Rattle.smpe_session.specs.Received.{AreTaken}

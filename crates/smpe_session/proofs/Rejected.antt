@@ -7,8 +7,8 @@ use Rattle.machine.specs.Rejecting.{RejectsId}
 use Rattle.machine.specs.Outcome.{Line}
 use Rattle.machine.specs.State.{State, misplaced}
 use Rattle.machine.specs.Machine.{Files}
-use Rattle.store.specs.declared.change.GlobalEdit.{GlobalEdit}
-use Rattle.store.specs.Changes.{EachFits, after_edits}
+use Rattle.sysmods.specs.declared.edit.GlobalEdit.{GlobalEdit}
+use Rattle.sysmods.specs.Edits.{EachFits, after_edits}
 use Rattle.store.specs.Kept.{kept}
 use Rattle.smpe_upkeep.proofs.RejectingForms.{reject_forms}
 use Rattle.smpe_session.proofs.Leading.{LeadsBy, leads-by}

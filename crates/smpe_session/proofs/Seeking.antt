@@ -9,7 +9,7 @@ use Rattle.lemmas.proofs.Texts.{same_from}
 use Rattle.machine.specs.Outcome.{Line, Cm2, Refused, Ran, header_of}
 use Rattle.machine.specs.State.{State, global_name, zone_named, misplaced}
 use Rattle.machine.specs.Machine.{Files, Performs}
-use Rattle.smpe_session.specs.declared.performing.Session.{Session}
+use Rattle.smpe_session.specs.declared.session.Session.{Session}
 use Rattle.smpe_session.specs.Sessions.{IsSessionOf}
 use Rattle.smpe_session.specs.Steps.{IsSought}
 

@@ -19,7 +19,7 @@ use Rattle.store.specs.declared.change.Change.{Change}
 use Rattle.store.specs.Changes.{Makes}
 use Rattle.store.specs.Kept.{kept, Keeps, Stays}
 use Rattle.store.specs.View.{Tables, TablesIfOpen, Leaves}
-use Rattle.smpe_session.specs.declared.performing.Session.{Session}
+use Rattle.smpe_session.specs.declared.session.Session.{Session}
 use Rattle.smpe_session.specs.Sessions.{HasBegun, HasPerformed}
 use Rattle.smpe_session.specs.Steps.{Unmoved, Unsettled, EndsUnmoved, EndsUnsettled, EndsStaying, HasLoaded, HasCommitted, HasRun}
 

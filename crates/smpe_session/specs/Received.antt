@@ -12,8 +12,8 @@ use Rattle.machine.specs.Runs.{Runs}
 use Rattle.machine.specs.Machine.{Files, HasItems, Takes}
 use Rattle.report.specs.declared.outcome.Refusal.{Refusal}
 use Rattle.report.specs.Views.{refusal_view}
-use Rattle.store.specs.declared.change.GlobalEdit.{GlobalEdit}
-use Rattle.store.specs.Changes.{EachFits, after_edits}
+use Rattle.sysmods.specs.declared.edit.GlobalEdit.{GlobalEdit}
+use Rattle.sysmods.specs.Edits.{EachFits, after_edits}
 
 -- A file has these items where it is read, or else it has the first fault that is refused.
 abbrev pub HasRead : {X : Type 0} → (List ℕ → List X → Type 0) → (List ℕ → McsFault → Type 0) → (ℕ → McCode → machine.Refusal) → Bool → List ℕ

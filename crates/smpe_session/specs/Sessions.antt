@@ -12,7 +12,7 @@ use Rattle.report.specs.Views.{outcome_view}
 use Rattle.store_schema.specs.declared.error.StoreError.{StoreError}
 use Rattle.store_schema.specs.declared.error.StoreError.TheVariants.{Fault, Memory}
 use Rattle.store.specs.Kept.{Keeps, Stays}
-use Rattle.smpe_session.specs.declared.performing.Session.{Session}
+use Rattle.smpe_session.specs.declared.session.Session.{Session}
 
 -- The session has the state's global zone and boundary, and zones of the state, among them the one that the boundary
 -- names.

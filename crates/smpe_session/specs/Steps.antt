@@ -13,7 +13,7 @@ use Rattle.store_schema.specs.declared.error.StoreError.{StoreError}
 use Rattle.store_schema.specs.declared.error.StoreError.TheVariants.{Fault, Memory}
 use Rattle.store.specs.Kept.{kept, Keeps, Stays}
 use Rattle.store.specs.View.{TablesIfOpen, Leaves}
-use Rattle.smpe_session.specs.declared.performing.Session.{Session}
+use Rattle.smpe_session.specs.declared.session.Session.{Session}
 use Rattle.smpe_session.specs.Sessions.{IsSessionOf}
 
 module _ {S : Type 0} (g : Ghosts S) (at : Held S) (s : State) where

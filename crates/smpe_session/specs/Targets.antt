@@ -13,7 +13,7 @@ use Rattle.machine.specs.Outcome.{Line, or_nothing}
 use Rattle.machine.specs.State.{State, zone_named, misplaced}
 use Rattle.report.specs.declared.outcome.Refusal.{Refusal}
 use Rattle.report.specs.Views.{refusal_view}
-use Rattle.smpe_session.specs.declared.performing.Session.{Session}
+use Rattle.smpe_session.specs.declared.session.Session.{Session}
 
 -- The boundary names a target zone, which the session has.
 pub record IsTarget (s : State) (at : Session) (i : Install) (name : Text) (zone : Zone) : Type 0 where

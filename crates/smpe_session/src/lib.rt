@@ -4,16 +4,16 @@
 //! before, and a crash leaves that one or the one that the command leads to. No contract says when these come.
 #![tactic(auto)]
 
+mod apply;
+mod boundary;
 mod files;
-mod installing;
 mod lines;
-mod loading;
-mod performing;
-mod placing;
-mod reading;
-mod removing;
-mod setting;
-mod taking;
+mod load;
+mod read;
+mod receive;
+mod reject;
+mod session;
+mod set;
 
 pub use files::Files;
-pub use performing::Session;
+pub use session::Session;

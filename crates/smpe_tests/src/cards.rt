@@ -2,6 +2,7 @@
 
 use crate::play::Step;
 
+/// A function with one macro.
 pub(crate) const FUNCTION: &[&str] = &[
     "++FUNCTION(HAA1100).",
     "++VER(Z038).",
@@ -10,24 +11,38 @@ pub(crate) const FUNCTION: &[&str] = &[
     "         MEND                                                           00000020",
 ];
 
-const FUNCTION_AND_FIX: &[&str] = &[
-    "++FUNCTION(HAA1100).",
+/// A function with the same macro.
+const OTHER_FUNCTION: &[&str] = &[
+    "++FUNCTION(HBB2200).",
     "++VER(Z038).",
     "++MAC(M1) DISTLIB(AMACLIB) SYSLIB(MACLIB).",
     "         MACRO                                                          00000010",
-    "         MEND                                                           00000020",
-    "++PTF(UA00024).",
-    "++VER(Z038) FMID(HAA1100).",
 ];
+
+/// A fix for the first function.
+pub(crate) const FIX: &[&str] = &["++PTF(UA00024).", "++VER(Z038) FMID(HAA1100)."];
 
 pub(crate) const RECEIVE: &[&str] = &["SET BDY(GLOBAL).", "RECEIVE SYSMODS."];
 
-pub(crate) const RECEIVED: &str =
-    "SET GLOBAL\nRC 00\nRECEIVE GLOBAL\nHAA1100 FUNCTION RECEIVED\nRC 00\n";
+/// The function is received.
+pub(crate) const FUNCTION_RECEIVED: Step = Step {
+    cntl: RECEIVE,
+    ptfin: &[FUNCTION],
+    rest: "",
+    hold: &[],
+    report: "SET GLOBAL\nRC 00\nRECEIVE GLOBAL\nHAA1100 FUNCTION RECEIVED\nRC 00\n",
+    code: 0,
+};
 
-pub(crate) const INSTALL: &[&str] = &["SET BDY(TGT1).", "APPLY SELECT(HAA1100)."];
-
-pub(crate) const INSTALLED: &str = "SET TGT1\nRC 00\nAPPLY TGT1\nHAA1100 FUNCTION APPLIED\nRC 00\n";
+/// The function is applied.
+pub(crate) const FUNCTION_INSTALLED: Step = Step {
+    cntl: &["SET BDY(TGT1).", "APPLY SELECT(HAA1100)."],
+    ptfin: &[],
+    rest: "",
+    hold: &[],
+    report: "SET TGT1\nRC 00\nAPPLY TGT1\nHAA1100 FUNCTION APPLIED\nRC 00\n",
+    code: 0,
+};
 
 /// A function and its fix are received and applied in one job.
 pub(crate) const FUNCTION_WITH_FIX: &[Step] = &[Step {
@@ -37,10 +52,11 @@ pub(crate) const FUNCTION_WITH_FIX: &[Step] = &[Step {
         "SET BDY(TGT1).",
         "APPLY SELECT(HAA1100,UA00024).",
     ],
-    ptfin: FUNCTION_AND_FIX,
+    ptfin: &[FUNCTION, FIX],
     rest: "",
     hold: &[],
-    report: "SET GLOBAL\nRC 00\nRECEIVE GLOBAL\nHAA1100 FUNCTION RECEIVED\nUA00024 PTF      RECEIVED\nRC 00\nSET TGT1\nRC 00\nAPPLY TGT1\nHAA1100 FUNCTION APPLIED\nUA00024 PTF      APPLIED\nRC 00\n",
+    report: "SET GLOBAL\nRC 00\nRECEIVE GLOBAL\nHAA1100 FUNCTION RECEIVED\nUA00024 PTF      RECEIVED\nRC 00\n\
+        SET TGT1\nRC 00\nAPPLY TGT1\nHAA1100 FUNCTION APPLIED\nUA00024 PTF      APPLIED\nRC 00\n",
     code: 0,
 }];
 
@@ -52,31 +68,34 @@ pub(crate) const FIX_ALONE: &[Step] = &[Step {
         "SET BDY(TGT1).",
         "APPLY SELECT(UA00024).",
     ],
-    ptfin: FUNCTION_AND_FIX,
+    ptfin: &[FUNCTION, FIX],
     rest: "",
     hold: &[],
-    report: "SET GLOBAL\nRC 00\nRECEIVE GLOBAL\nHAA1100 FUNCTION RECEIVED\nUA00024 PTF      RECEIVED\nRC 00\nSET TGT1\nRC 00\nAPPLY TGT1\nUA00024 PTF      FAILED\n  NEED FMID HAA1100\n  CAUSER UA00024\nRC 08\n",
+    report: "SET GLOBAL\nRC 00\nRECEIVE GLOBAL\nHAA1100 FUNCTION RECEIVED\nUA00024 PTF      RECEIVED\nRC 00\n\
+        SET TGT1\nRC 00\nAPPLY TGT1\nUA00024 PTF      FAILED\n  NEED FMID HAA1100\n  CAUSER UA00024\nRC 08\n",
+    code: 8,
+}];
+
+/// Two functions with one macro fail together.
+pub(crate) const CLASH: &[Step] = &[Step {
+    cntl: &[
+        "SET BDY(GLOBAL).",
+        "RECEIVE SYSMODS.",
+        "SET BDY(TGT1).",
+        "APPLY SELECT(HAA1100,HBB2200).",
+    ],
+    ptfin: &[FUNCTION, OTHER_FUNCTION],
+    rest: "",
+    hold: &[],
+    report: "SET GLOBAL\nRC 00\nRECEIVE GLOBAL\nHAA1100 FUNCTION RECEIVED\nHBB2200 FUNCTION RECEIVED\nRC 00\n\
+        SET TGT1\nRC 00\nAPPLY TGT1\nHAA1100 FUNCTION FAILED\n  TEST J9\n  CAUSER HAA1100\n\
+        HBB2200 FUNCTION FAILED\n  TEST J9\n  CAUSER HBB2200\nRC 08\n",
     code: 8,
 }];
 
 /// A command file of 0 bytes does nothing and prints nothing.
 pub(crate) const NO_COMMAND: &[Step] = &[
-    Step {
-        cntl: RECEIVE,
-        ptfin: FUNCTION,
-        rest: "",
-        hold: &[],
-        report: RECEIVED,
-        code: 0,
-    },
-    Step {
-        cntl: INSTALL,
-        ptfin: &[],
-        rest: "",
-        hold: &[],
-        report: INSTALLED,
-        code: 0,
-    },
+    FUNCTION_RECEIVED,
     Step {
         cntl: &[],
         ptfin: &[],
@@ -89,17 +108,10 @@ pub(crate) const NO_COMMAND: &[Step] = &[
 
 /// A PTFIN whose length is no multiple of 80, and one whose statement has no period.
 pub(crate) const BAD_PTFIN: &[Step] = &[
+    FUNCTION_RECEIVED,
     Step {
         cntl: RECEIVE,
-        ptfin: FUNCTION,
-        rest: "",
-        hold: &[],
-        report: RECEIVED,
-        code: 0,
-    },
-    Step {
-        cntl: RECEIVE,
-        ptfin: &[""],
+        ptfin: &[&[""]],
         rest: "X",
         hold: &[],
         report: "SET GLOBAL\nRC 00\nRECEIVE GLOBAL\nREFUSED Cm4 RECORD 2 Mc1\nRC 12\n",
@@ -107,7 +119,7 @@ pub(crate) const BAD_PTFIN: &[Step] = &[
     },
     Step {
         cntl: RECEIVE,
-        ptfin: &["++PTF(UA00001)"],
+        ptfin: &[&["++PTF(UA00001)"]],
         rest: "",
         hold: &[],
         report: "SET GLOBAL\nRC 00\nRECEIVE GLOBAL\nREFUSED Cm4 RECORD 1 Mc1\nRC 12\n",
@@ -117,22 +129,8 @@ pub(crate) const BAD_PTFIN: &[Step] = &[
 
 /// What is there already, CHECK, and the boundary that does not live on into the next job.
 pub(crate) const AGAIN: &[Step] = &[
-    Step {
-        cntl: RECEIVE,
-        ptfin: FUNCTION,
-        rest: "",
-        hold: &[],
-        report: RECEIVED,
-        code: 0,
-    },
-    Step {
-        cntl: INSTALL,
-        ptfin: &[],
-        rest: "",
-        hold: &[],
-        report: INSTALLED,
-        code: 0,
-    },
+    FUNCTION_RECEIVED,
+    FUNCTION_INSTALLED,
     Step {
         cntl: &[
             "SET BDY(GLOBAL).",
@@ -144,10 +142,13 @@ pub(crate) const AGAIN: &[Step] = &[
             "SET BDY(GLOBAL).",
             "RECEIVE SYSMODS.",
         ],
-        ptfin: &["++PTF(UA00024).", "++VER(Z038) FMID(HAA1100)."],
+        ptfin: &[FIX],
         rest: "",
         hold: &[],
-        report: "SET GLOBAL\nRC 00\nRECEIVE GLOBAL\nUA00024 PTF      RECEIVED\nRC 00\nSET TGT1\nRC 00\nAPPLY TGT1 CHECK\nUA00024 PTF      APPLIED\nRC 00\nAPPLY TGT1\nUA00024 PTF      APPLIED\nRC 00\nAPPLY TGT1\nUA00024 PTF      ALREADY\nRC 04\nSET GLOBAL\nRC 00\nRECEIVE GLOBAL\nUA00024 PTF      ALREADY\nRC 04\n",
+        report: "SET GLOBAL\nRC 00\nRECEIVE GLOBAL\nUA00024 PTF      RECEIVED\nRC 00\n\
+            SET TGT1\nRC 00\nAPPLY TGT1 CHECK\nUA00024 PTF      APPLIED\nRC 00\n\
+            APPLY TGT1\nUA00024 PTF      APPLIED\nRC 00\nAPPLY TGT1\nUA00024 PTF      ALREADY\nRC 04\n\
+            SET GLOBAL\nRC 00\nRECEIVE GLOBAL\nUA00024 PTF      ALREADY\nRC 04\n",
         code: 4,
     },
     Step {
@@ -175,7 +176,9 @@ pub(crate) const REFUSALS: &[Step] = &[
         ptfin: &[],
         rest: "",
         hold: &[],
-        report: "SET TGT2\nREFUSED Cm2\nRC 12\nSET TGT1\nRC 00\nRECEIVE TGT1\nREFUSED Cm3\nRC 12\nAPPLY TGT1\nNOTHING\nRC 04\nAPPLY TGT1\nUA00099 -        MISSING\nRC 08\nSET DLB1\nRC 00\nAPPLY DLB1\nREFUSED Cm3\nRC 12\n",
+        report: "SET TGT2\nREFUSED Cm2\nRC 12\nSET TGT1\nRC 00\nRECEIVE TGT1\nREFUSED Cm3\nRC 12\n\
+            APPLY TGT1\nNOTHING\nRC 04\nAPPLY TGT1\nUA00099 -        MISSING\nRC 08\n\
+            SET DLB1\nRC 00\nAPPLY DLB1\nREFUSED Cm3\nRC 12\n",
         code: 12,
     },
     Step {

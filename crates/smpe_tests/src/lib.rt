@@ -1,11 +1,16 @@
-//! Whole jobs, from the bytes in to the bytes out, in memory and on disks in memory. There is no code here but tests.
+//! Whole jobs, from the bytes in to the bytes out, in memory and on disks in memory, and the program's words and lines.
+//! There is no code here but tests.
 #![tactic(auto)]
 
 #[cfg(test)]
 mod cards;
+#[cfg(test)]
+mod messages;
 #[cfg(test)]
 mod play;
 #[cfg(test)]
 mod receives;
 #[cfg(test)]
 mod tests;
+#[cfg(test)]
+mod words;

@@ -1,30 +1,50 @@
-//! Jobs over holds, assigned sources and rejected SYSMODs, as text cards.
+//! Jobs over sources, holds and rejected SYSMODs, as text cards.
 
-use crate::cards::{FUNCTION, INSTALL, INSTALLED, RECEIVE, RECEIVED};
+use crate::cards::{FIX, FUNCTION, FUNCTION_INSTALLED, FUNCTION_RECEIVED, RECEIVE};
 use crate::play::Step;
 
-const FUNCTION_RECEIVED: Step = Step {
-    cntl: RECEIVE,
-    ptfin: FUNCTION,
-    rest: "",
-    hold: &[],
-    report: RECEIVED,
-    code: 0,
-};
+const RECEIVE_BOTH: &[&str] = &["SET BDY(GLOBAL).", "RECEIVE."];
 
-const FUNCTION_INSTALLED: Step = Step {
-    cntl: INSTALL,
-    ptfin: &[],
-    rest: "",
-    hold: &[],
-    report: INSTALLED,
-    code: 0,
-};
+/// RECEIVE gives its source to what it receives, and APPLY chooses by it: the fix that came before has none.
+pub(crate) const SOURCE: &[Step] = &[
+    Step {
+        cntl: RECEIVE,
+        ptfin: &[FIX],
+        rest: "",
+        hold: &[],
+        report: "SET GLOBAL\nRC 00\nRECEIVE GLOBAL\nUA00024 PTF      RECEIVED\nRC 00\n",
+        code: 0,
+    },
+    Step {
+        cntl: &[
+            "SET BDY(GLOBAL).",
+            "RECEIVE SYSMODS SOURCEID(PUT2401).",
+            "SET BDY(TGT1).",
+            "APPLY FUNCTIONS PTFS SOURCEID(PUT2401).",
+        ],
+        ptfin: &[
+            FUNCTION,
+            &[
+                "++PTF(UA00001).",
+                "++VER(Z038) FMID(HAA1100).",
+                "++PTF(UA00001).",
+                "++VER(Z038) FMID(HAA1100).",
+                "++PTF(UA00002).",
+                "++VER(Z038) FMID(UA00001).",
+            ],
+        ],
+        rest: "",
+        hold: &[],
+        report: "SET GLOBAL\nRC 00\nRECEIVE GLOBAL\nHAA1100 FUNCTION RECEIVED\nUA00001 PTF      RECEIVED\n\
+            UA00001 PTF      ALREADY\nUA00002 PTF      REFUSED Rc3\nRC 08\n\
+            SET TGT1\nRC 00\nAPPLY TGT1\nHAA1100 FUNCTION APPLIED\nUA00001 PTF      APPLIED\nRC 00\n",
+        code: 8,
+    },
+];
 
 /// A hold given twice is held and replaced, a release given twice releases and is refused.
 pub(crate) const HOLDS: &[Step] = &[
     FUNCTION_RECEIVED,
-    FUNCTION_INSTALLED,
     Step {
         cntl: &["SET BDY(GLOBAL).", "RECEIVE HOLDDATA."],
         ptfin: &[],
@@ -35,7 +55,8 @@ pub(crate) const HOLDS: &[Step] = &[
             "++RELEASE(UA00001) ERROR FMID(HAA1100) REASON(AA00009).",
             "++RELEASE(UA00001) ERROR FMID(HAA1100) REASON(AA00009).",
         ],
-        report: "SET GLOBAL\nRC 00\nRECEIVE GLOBAL\nUA00001 ERROR    HELD AA00009\nUA00001 ERROR    REPLACED AA00009\nUA00001 ERROR    RELEASED AA00009\nUA00001 ERROR    REFUSED Rl1\nRC 04\n",
+        report: "SET GLOBAL\nRC 00\nRECEIVE GLOBAL\nUA00001 ERROR    HELD AA00009\nUA00001 ERROR    REPLACED AA00009\n\
+            UA00001 ERROR    RELEASED AA00009\nUA00001 ERROR    REFUSED Rl1\nRC 04\n",
         code: 4,
     },
 ];
@@ -48,27 +69,58 @@ pub(crate) const SOURCES_AND_REJECTS: &[Step] = &[
         cntl: &[
             "SET BDY(GLOBAL).",
             "RECEIVE SYSMODS.",
-            "REJECT SELECT(HAA1100,UA00024).",
+            "REJECT SELECT(HAA1100,UA00024,UA00099).",
         ],
-        ptfin: &[
-            "++PTF(UA00024).",
-            "++VER(Z038) FMID(HAA1100).",
-            "++ASSIGN SOURCEID(SRC1) TO(UA00024,UA00099).",
-        ],
+        ptfin: &[FIX, &["++ASSIGN SOURCEID(SRC1) TO(UA00024,UA00099)."]],
         rest: "",
         hold: &[],
-        report: "SET GLOBAL\nRC 00\nRECEIVE GLOBAL\nUA00024 PTF      RECEIVED\nUA00024 PTF      ASSIGNED SRC1\nUA00099 -        UNKNOWN\nRC 04\nREJECT GLOBAL\nHAA1100 FUNCTION REFUSED Rj1\nUA00024 PTF      REJECTED\nRC 08\n",
+        report: "SET GLOBAL\nRC 00\nRECEIVE GLOBAL\nUA00024 PTF      RECEIVED\nUA00024 PTF      ASSIGNED SRC1\n\
+            UA00099 -        UNKNOWN\nRC 04\nREJECT GLOBAL\nHAA1100 FUNCTION REFUSED Rj1\n\
+            UA00024 PTF      REJECTED\nUA00099 -        REFUSED Rj2\nRC 08\n",
         code: 8,
+    },
+];
+
+/// The hold inside a SYSMOD can't be released and goes with it when it is rejected. The other hold on it stays.
+pub(crate) const INTERNAL_HOLD: &[Step] = &[
+    Step {
+        cntl: RECEIVE_BOTH,
+        ptfin: &[
+            FIX,
+            &["++HOLD(UA00024) SYSTEM FMID(HAA1100) REASON(ACTION)."],
+        ],
+        rest: "",
+        hold: &[
+            "++HOLD(UA00024) SYSTEM FMID(HAA1100) REASON(DOC).",
+            "++RELEASE(UA00024) SYSTEM FMID(HAA1100) REASON(ACTION).",
+        ],
+        report: "SET GLOBAL\nRC 00\nRECEIVE GLOBAL\nUA00024 PTF      RECEIVED\nUA00024 SYSTEM   HELD DOC\n\
+            UA00024 SYSTEM   REFUSED Rl2\nRC 04\n",
+        code: 4,
+    },
+    Step {
+        cntl: &[
+            "SET BDY(GLOBAL).",
+            "REJECT SELECT(UA00024).",
+            "RECEIVE HOLDDATA.",
+        ],
+        ptfin: &[],
+        rest: "",
+        hold: &[
+            "++HOLD(UA00024) SYSTEM FMID(HAA1100) REASON(ACTION).",
+            "++HOLD(UA00024) SYSTEM FMID(HAA1100) REASON(DOC).",
+        ],
+        report: "SET GLOBAL\nRC 00\nREJECT GLOBAL\nUA00024 PTF      REJECTED\nRC 00\nRECEIVE GLOBAL\n\
+            UA00024 SYSTEM   HELD ACTION\nUA00024 SYSTEM   REPLACED DOC\nRC 00\n",
+        code: 0,
     },
 ];
 
 /// A SYSMOD that would close a loop of prerequisites is refused.
 pub(crate) const LOOP: &[Step] = &[
-    FUNCTION_RECEIVED,
-    FUNCTION_INSTALLED,
     Step {
         cntl: RECEIVE,
-        ptfin: &["++PTF(UA00031).", "++VER(Z038) FMID(HAA1100) PRE(UA00032)."],
+        ptfin: &[&["++PTF(UA00031).", "++VER(Z038) FMID(HAA1100) PRE(UA00032)."]],
         rest: "",
         hold: &[],
         report: "SET GLOBAL\nRC 00\nRECEIVE GLOBAL\nUA00031 PTF      RECEIVED\nRC 00\n",
@@ -76,7 +128,7 @@ pub(crate) const LOOP: &[Step] = &[
     },
     Step {
         cntl: RECEIVE,
-        ptfin: &["++PTF(UA00032).", "++VER(Z038) FMID(HAA1100) PRE(UA00031)."],
+        ptfin: &[&["++PTF(UA00032).", "++VER(Z038) FMID(HAA1100) PRE(UA00031)."]],
         rest: "",
         hold: &[],
         report: "SET GLOBAL\nRC 00\nRECEIVE GLOBAL\nUA00032 PTF      REFUSED Rc2\nRC 08\n",
@@ -84,15 +136,12 @@ pub(crate) const LOOP: &[Step] = &[
     },
 ];
 
-const RECEIVE_BOTH: &[&str] = &["SET BDY(GLOBAL).", "RECEIVE."];
-
-const FIX: &[&str] = &["++PTF(UA00024).", "++VER(Z038) FMID(HAA1100)."];
-
-/// Where the hold file is at fault nothing is taken in: the same SYSMOD and hold are new afterwards. A fault of PTFIN comes first.
+/// Where the hold file is at fault nothing is taken in: the same SYSMOD and hold are new afterwards. A fault of PTFIN
+/// comes first.
 pub(crate) const BAD_HOLDS: &[Step] = &[
     Step {
         cntl: RECEIVE_BOTH,
-        ptfin: FIX,
+        ptfin: &[FIX],
         rest: "",
         hold: &[
             "++HOLD(UA00001) ERROR FMID(HAA1100) REASON(AA00009).",
@@ -103,7 +152,7 @@ pub(crate) const BAD_HOLDS: &[Step] = &[
     },
     Step {
         cntl: RECEIVE_BOTH,
-        ptfin: &["++PTF(UA00024)"],
+        ptfin: &[&["++PTF(UA00024)"]],
         rest: "",
         hold: &["++PTF(UA00024)."],
         report: "SET GLOBAL\nRC 00\nRECEIVE GLOBAL\nREFUSED Cm4 RECORD 1 Mc1\nRC 12\n",
@@ -111,7 +160,7 @@ pub(crate) const BAD_HOLDS: &[Step] = &[
     },
     Step {
         cntl: RECEIVE_BOTH,
-        ptfin: FIX,
+        ptfin: &[FIX],
         rest: "",
         hold: &["++HOLD(UA00001) ERROR FMID(HAA1100) REASON(AA00009)."],
         report: "SET GLOBAL\nRC 00\nRECEIVE GLOBAL\nUA00024 PTF      RECEIVED\nUA00001 ERROR    HELD AA00009\nRC 00\n",

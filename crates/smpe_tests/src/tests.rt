@@ -1,11 +1,11 @@
-//! Each list of jobs in memory, and on disks in memory.
+//! Each list of jobs in memory, with one open for all, and on disks in memory, with an open for each.
 
 ghost use Rattle.std.specs.Prelude.{IsTrue};
 ghost use Rattle.sqlite_disk.specs.Memory.{memory_is_usable};
 
-use crate::cards::{AGAIN, BAD_PTFIN, FIX_ALONE, FUNCTION_WITH_FIX, NO_COMMAND, REFUSALS};
-use crate::play::{Step, play, play_each};
-use crate::receives::{BAD_HOLDS, HOLDS, LOOP, SOURCES_AND_REJECTS};
+use crate::cards::{AGAIN, BAD_PTFIN, CLASH, FIX_ALONE, FUNCTION_WITH_FIX, NO_COMMAND, REFUSALS};
+use crate::play::{Step, play_all, play_each};
+use crate::receives::{BAD_HOLDS, HOLDS, INTERNAL_HOLD, LOOP, SOURCE, SOURCES_AND_REJECTS};
 use sqlite::{Connection, Error, FileStore, Files, Options};
 use sqlite_disk::Memory;
 use std::alloc::Global;
@@ -14,26 +14,24 @@ use std::test::Fail;
 const ALL: &[&[Step]] = &[
     FUNCTION_WITH_FIX,
     FIX_ALONE,
+    CLASH,
     NO_COMMAND,
     BAD_PTFIN,
     AGAIN,
     REFUSALS,
+    SOURCE,
     HOLDS,
     SOURCES_AND_REJECTS,
+    INTERNAL_HOLD,
     LOOP,
     BAD_HOLDS,
 ];
 
-fn in_memory_each(alloc: Global, steps: &[Step]) -> Result<(), Fail> {
-    let _conn = play(alloc, Connection::open_in_memory(alloc)?, steps)?;
-    let _again = play_each(alloc, Connection::open_in_memory(alloc)?, steps)?;
-    Ok(())
-}
-
 #[test]
 fn in_memory(rt: HostRuntime) -> Result<(), Fail> {
+    let alloc = rt.alloc();
     for steps in ALL {
-        in_memory_each(rt.alloc(), steps)?;
+        let _conn = play_all(alloc, Connection::open_in_memory(alloc)?, steps)?;
     }
     Ok(())
 }
@@ -47,18 +45,12 @@ fn files(alloc: Global, log: Memory, db: Memory) -> Result<Connection<FileStore<
     }
 }
 
-fn on_disks_each(alloc: Global, steps: &[Step]) -> Result<(), Fail> {
-    let conn = files(alloc, Memory::new(alloc), Memory::new(alloc))?;
-    let _conn = play(alloc, conn, steps)?;
-    let conn = files(alloc, Memory::new(alloc), Memory::new(alloc))?;
-    let _again = play_each(alloc, conn, steps)?;
-    Ok(())
-}
-
 #[test]
 fn on_disks(rt: HostRuntime) -> Result<(), Fail> {
+    let alloc = rt.alloc();
     for steps in ALL {
-        on_disks_each(rt.alloc(), steps)?;
+        let conn = files(alloc, Memory::new(alloc), Memory::new(alloc))?;
+        let _conn = play_each(alloc, conn, steps)?;
     }
     Ok(())
 }

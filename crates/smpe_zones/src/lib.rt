@@ -3,9 +3,9 @@
 //! After want of memory or a fault of the store the tables stand for the state before.
 #![tactic(auto)]
 
-mod defining;
+mod define;
 mod error;
 mod faults;
 
-pub use defining::define_zone;
+pub use define::define_zone;
 pub use error::{ZoneError, ZoneFault};

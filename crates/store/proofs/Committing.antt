@@ -21,8 +21,9 @@ use Rattle.store_sysmods.specs.Sysmods.{ChangesGlobal}
 use Rattle.store_zones.specs.Zones.{ChangesZone, AddsZone, empty_zone}
 use Rattle.store.specs.declared.change.Change.{Change}
 use Rattle.store.specs.declared.change.Change.TheVariants.{NewZone, Zone, Global}
-use Rattle.store.specs.declared.change.GlobalEdit.{GlobalEdit}
-use Rattle.store.specs.Changes.{EachFits, after_edits, Makes}
+use Rattle.sysmods.specs.declared.edit.GlobalEdit.{GlobalEdit}
+use Rattle.sysmods.specs.Edits.{EachFits, after_edits}
+use Rattle.store.specs.Changes.{Makes}
 use Rattle.store.specs.Writes.{HasEdited, Writes, HasCommitted, IsOutcome}
 use Rattle.store.proofs.DeltaLemmas.{is_edited, zone_was}
 

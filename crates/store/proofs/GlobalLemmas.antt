@@ -32,9 +32,9 @@ use Rattle.store_schema.specs.Stands.{rows_of}
 use Rattle.store_schema.specs.Tables.{hold as hold_table, store_schema}
 use Rattle.store_holds.specs.Keys.{hold_key, key_row}
 use Rattle.store_sysmods.specs.Sysmods.{ChangesGlobal}
-use Rattle.store.specs.declared.change.GlobalEdit.{GlobalEdit}
-use Rattle.store.specs.declared.change.GlobalEdit.TheVariants.{PutHold, RemoveHold}
-use Rattle.store.specs.Changes.{with_hold, less_hold, Fits, after_edit, EachFits, after_edits}
+use Rattle.sysmods.specs.declared.edit.GlobalEdit.{GlobalEdit}
+use Rattle.sysmods.specs.declared.edit.GlobalEdit.TheVariants.{PutHold, RemoveHold}
+use Rattle.sysmods.specs.Edits.{with_hold, less_hold, Fits, after_edit, EachFits, after_edits}
 use Rattle.store.proofs.Parts.{put_parts}
 
 -- ---- the keys of holds

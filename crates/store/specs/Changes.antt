@@ -1,18 +1,12 @@
 -- What a change makes of the inventory for which the tables stand.
-use Rattle.std.specs.Prelude.{◌≡◌, ◌<◌, ℕ, false, not, List, ◌∷◌, ◌++◌, All, filter, fold, length, get_or, take}
-use Rattle.terms.specs.declared.kinds.HoldKind.{HoldKind}
-use Rattle.terms.specs.Types.{Text, Id, Hold, Zone as AZone, NamedZone, Global as AGlobal}
+use Rattle.std.specs.Prelude.{◌≡◌, List, ◌∷◌, ◌++◌}
+use Rattle.terms.specs.Types.{Zone as AZone, NamedZone}
 use Rattle.terms.specs.Delta.{IsChanged}
-use Rattle.terms.specs.Global.{has_key, hold_cmp, with_sysmod}
-use Rattle.terms.specs.Lookups.{is_received}
-use Rattle.terms.specs.Rising.{with_item}
+use Rattle.sysmods.specs.Edits.{EachFits, after_edits}
 use Rattle.store_schema.specs.Inventory.{Inventory}
-use Rattle.store_sysmods.specs.Sysmods.{with_sources, less_sysmod}
 use Rattle.store_zones.specs.Zones.{IsZoneChange, empty_zone}
 use Rattle.store.specs.declared.change.Change.{Change}
 use Rattle.store.specs.declared.change.Change.TheVariants.{NewZone, Zone, Global}
-use Rattle.store.specs.declared.change.GlobalEdit.{GlobalEdit}
-use Rattle.store.specs.declared.change.GlobalEdit.TheVariants.{PutHold, RemoveHold, InsertSysmod, ReplaceSources, RemoveSysmod}
 
 -- There is one more zone, at any place.
 pub record IsZoneAdded (zone : NamedZone) (i j : Inventory) : Type 0 where
@@ -20,36 +14,6 @@ pub record IsZoneAdded (zone : NamedZone) (i j : Inventory) : Type 0 where
   pub after : List NamedZone
   pub was : i.zones ≡ before ++ after
   pub is : j ≡ record { global = i.global; zones = before ++ zone ∷ after }
-
--- the hold at its place, where it takes the place of the one of its key
-abbrev pub with_hold : Hold → AGlobal → AGlobal
-with_hold h g = record g { holds = with_item hold_cmp (λ (o : Hold). o) g.holds h }
-
--- the global zone less the hold of this key
-abbrev pub less_hold : Id → HoldKind → Text → AGlobal → AGlobal
-less_hold x kind reason g = record g { holds = filter (λ h. not (has_key x kind reason h)) g.holds }
-
--- what an edit makes of the global zone
-abbrev pub after_edit : AGlobal → GlobalEdit → AGlobal
-after_edit g (PutHold h) = with_hold h g
-after_edit g (RemoveHold x kind reason) = less_hold x kind reason g
-after_edit g (InsertSysmod s) = with_sysmod g s
-after_edit g (ReplaceSources s) = with_sources s.id s.sources g
-after_edit g (RemoveSysmod x) = less_sysmod x g
-
--- A SYSMOD that is inserted is not received, and one whose sources are replaced keeps its kind.
-abbrev pub Fits : AGlobal → GlobalEdit → Type 0
-Fits g (InsertSysmod s) = is_received g s.id ≡ false
-Fits g (ReplaceSources s) = All (λ r. r.id ≡ s.id → r.kind ≡ s.kind) g.sysmods
-Fits g _ = Unit {0}
-
--- the global zone after one edit and the next
-abbrev pub after_edits : List GlobalEdit → AGlobal → AGlobal
-after_edits edits g = fold after_edit g edits
-
--- each edit fits what those before it make of the global zone
-abbrev pub EachFits : List GlobalEdit → AGlobal → Type 0
-EachFits edits g = (k : ℕ) (edit : GlobalEdit) → k < length edits → edit ≡ get_or edits k edit → Fits (after_edits (take k edits) g) edit
 
 -- the second is what the change makes of the first
 abbrev pub Makes : Change → Inventory → Inventory → Type 0

@@ -1,8 +1,8 @@
 //! What one commit changes.
 
-use fields::{Id, Reason, Srel, ZoneName};
-use sysmods_records::{Hold, Sysmod};
-use terms::{HoldKind, ZoneKind};
+use fields::{Srel, ZoneName};
+use sysmods::GlobalEdit;
+use terms::ZoneKind;
 use zones::ZoneDelta;
 
 /// What one transaction changes.
@@ -14,18 +14,4 @@ pub enum Change {
     Zone(ZoneName, ZoneDelta),
     /// The global zone is edited, by the first edit first.
     Global(Vec<GlobalEdit>),
-}
-
-/// An edit of the global zone.
-#[derive(Drop)]
-pub enum GlobalEdit {
-    /// The hold stands in place of the one of its key, if there is one.
-    PutHold(Hold),
-    RemoveHold(Id, HoldKind, Reason),
-    /// The SYSMOD is received. Its holds are put by edits of their own.
-    InsertSysmod(Sysmod),
-    /// The received SYSMOD of this id, which has this kind, has these sources.
-    ReplaceSources(Sysmod),
-    /// The SYSMOD goes, and the holds on it stay.
-    RemoveSysmod(Id),
 }

@@ -3,13 +3,13 @@
 ghost use Rattle.std.specs.Prelude.{◌≡◌, OnOk};
 ghost use Rattle.store_rows.specs.Inside.{StaysInside};
 ghost use Rattle.store_sysmods.specs.Sysmods.{ChangesGlobal};
-ghost use Rattle.store.specs.Changes.{Fits, after_edit, EachFits, after_edits};
+ghost use Rattle.sysmods.specs.Edits.{Fits, after_edit, EachFits, after_edits};
 
-use crate::change::GlobalEdit;
 use sqlite::{Alter, Error, Transaction};
 use std::alloc::Global;
 use store_holds::{put_hold, remove_hold};
 use store_sysmods::{insert_sysmod, remove_sysmod, replace_sources};
+use sysmods::GlobalEdit;
 
 fn write_edit<S: Alter>(
     alloc: Global,

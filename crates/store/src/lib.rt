@@ -13,8 +13,9 @@ mod load;
 mod open;
 mod write;
 
-pub use change::{Change, GlobalEdit};
+pub use change::Change;
 pub use open::Store;
+pub use sysmods::GlobalEdit;
 
 #[cfg(test)]
 mod tests;

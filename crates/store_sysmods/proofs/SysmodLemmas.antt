@@ -20,6 +20,8 @@ use Rattle.terms.specs.Spelling.{kind_text}
 use Rattle.terms.specs.Global.{with_sysmod}
 use Rattle.terms.specs.Lookups.{is_received}
 use Rattle.lemmas.proofs.Texts.{same_from}
+use Rattle.terms.proofs.GlobalLookups.{same_from}
+use Rattle.sysmods_records.specs.Edited.{with_sources, less_sysmod}
 use Rattle.store_rows.specs.Rows.{has_key, without, in_place, in_table, HasContents}
 use Rattle.store_rows.proofs.Keys.{equals, and_true}
 use Rattle.store_rows.proofs.ContentsLemmas.{permuted}
@@ -27,7 +29,7 @@ use Rattle.store_schema.specs.Inventory.{Inventory}
 use Rattle.store_schema.specs.Rows.{ids, sysmod_row, ver_row, vers_of, ifreq_row, ifreqs_of, elem_row, elems_of}
 use Rattle.store_schema.specs.Stands.{rows_of}
 use Rattle.store_schema.specs.Tables.{store_schema, sysmod}
-use Rattle.store_sysmods.specs.Sysmods.{with_sysmod_rows, without_sysmod_rows, sysmod_key, with_sources, less_sysmod}
+use Rattle.store_sysmods.specs.Sysmods.{with_sysmod_rows, without_sysmod_rows, sysmod_key}
 use Rattle.store_sysmods.proofs.Partings.{between, all_map, all_flat, without_items, flat_kept}
 
 -- ---- a SYSMOD comes

@@ -1,6 +1,5 @@
 -- What the rows of a SYSMOD make of the tables, and of the inventory that the tables stand for.
-use Rattle.std.specs.Prelude.{◌≡◌, false, not, List, [], ◌∷◌, ◌++◌, map, filter, All, if◌then◌else◌}
-use Rattle.std.specs.Str.{bytes_eq}
+use Rattle.std.specs.Prelude.{◌≡◌, false, List, [], ◌∷◌, ◌++◌, All}
 use Rattle.sqlite.specs.declared.types.Value.TheVariants as value
 use Rattle.sqlite.specs.Order.{Row}
 use Rattle.sqlite.specs.Store.{Ghosts}
@@ -9,6 +8,7 @@ use Rattle.sqlite.specs.Table.{Table}
 use Rattle.terms.specs.Types.{Text, Id, Sysmod, Global}
 use Rattle.terms.specs.Global.{with_sysmod}
 use Rattle.terms.specs.Lookups.{is_received}
+use Rattle.sysmods_records.specs.Edited.{with_sources, less_sysmod}
 use Rattle.store_rows.specs.Inside.{Leads, Turns}
 use Rattle.store_rows.specs.Rows.{Contents, HasContents, in_table, with_row, without}
 use Rattle.store_schema.specs.Inventory.{Inventory}
@@ -50,17 +50,9 @@ ChangesGlobal g old new Fits make =
 abbrev pub AddsSysmod : {S : Type 0} → Ghosts S → Held S → Held S → Sysmod → Type 0
 AddsSysmod g old new s = ChangesGlobal g old new (λ global. is_received global s.id ≡ false) (λ global. with_sysmod global s)
 
--- the SYSMOD of the id has these sources
-abbrev pub with_sources : Id → List Text → Global → Global
-with_sources id sources global = record global { sysmods = map (λ (s : Sysmod). if bytes_eq s.id id then record s { sources = sources } else s) global.sysmods }
-
 -- The SYSMOD's sources take the place of those that it had.
 abbrev pub ReplacesSources : {S : Type 0} → Ghosts S → Held S → Held S → Sysmod → Type 0
 ReplacesSources g old new s = ChangesGlobal g old new (λ global. All (λ r. r.id ≡ s.id → r.kind ≡ s.kind) global.sysmods) (with_sources s.id s.sources)
-
--- the global zone less the SYSMOD, with all holds
-abbrev pub less_sysmod : Id → Global → Global
-less_sysmod id global = record global { sysmods = filter (λ s. not (bytes_eq s.id id)) global.sysmods }
 
 -- The SYSMOD goes, and all holds stay.
 abbrev pub RemovesSysmod : {S : Type 0} → Ghosts S → Held S → Held S → Id → Type 0

@@ -1,3 +1,4 @@
 pub mod Choices
+pub mod Edits
 pub mod Faults
 pub mod Parts

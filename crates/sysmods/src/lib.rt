@@ -6,12 +6,14 @@
 
 mod chain;
 mod choice;
+mod edit;
 mod parts;
 mod receive;
 mod zone;
 
 pub use chain::Chain;
 pub use choice::VerChoice;
+pub use edit::GlobalEdit;
 pub use sysmods_holds::{Placed, ReleaseError};
 pub use sysmods_received::ReceiveFault;
 pub use zone::{Global, RejectError};

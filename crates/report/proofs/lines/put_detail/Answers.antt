@@ -1,8 +1,5 @@
-use Rattle.std.proofs.Common.{◌∷◌, ◌++◌, ◌≡◌, ap, sym, ◌∙◌, []}
-use Rattle.std.specs.Prelude.{option_map}
-use Rattle.std.specs.List.{flat_map}
+use Rattle.std.proofs.Common.{◌∷◌, ap, sym}
 use Rattle.std.proofs.lemmas.List.{append-nil}
-use Rattle.terms.specs.Lookups.{at_most_one}
 use Rattle.report.proofs.Sending.{sends-then, sends-as}
 use Rattle.report.proofs.lines.put_detail.Goals as goal
 

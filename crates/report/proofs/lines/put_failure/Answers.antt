@@ -1,4 +1,4 @@
-use Rattle.std.proofs.Common.{◌≡◌, ◌++◌, ◌∙◌, ap, sym, append_assoc, refl}
+use Rattle.std.proofs.Common.{refl}
 use Rattle.std.proofs.lemmas.List.Folds.{flat_map-map}
 use Rattle.report.proofs.Sending.{sends-then, sends-as}
 use Rattle.report.proofs.lines.put_failure.Goals as goal

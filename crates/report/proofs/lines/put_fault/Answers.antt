@@ -1,4 +1,3 @@
-use Rattle.std.proofs.Common.{◌∙◌, ap}
 use Rattle.std.specs.Prelude.{decimal}
 use Rattle.terms.specs.Spelling.{mc_text}
 use Rattle.report.proofs.Sending.{sends-then, sends-as}

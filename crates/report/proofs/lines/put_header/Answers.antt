@@ -1,4 +1,3 @@
-use Rattle.std.proofs.Common.{◌∙◌, ap, ◌++◌, ◌∷◌, []}
 use Rattle.report.proofs.Sending.{sends-then, sends-as}
 use Rattle.report.proofs.Texts.{header_parts}
 use Rattle.report.proofs.lines.put_header.Goals as goal

@@ -1,6 +1,4 @@
-use Rattle.std.proofs.Common.{◌∷◌, ◌++◌, ◌≡◌, ap, ◌∙◌, []}
-use Rattle.std.specs.List.{flat_map}
-use Rattle.machine.specs.Report.{left_in, place_text, status_word, status_detail, details}
+use Rattle.machine.specs.Report.{left_in, place_text, status_word, status_detail}
 use Rattle.report.specs.Views.{place_view, status_view}
 use Rattle.report.proofs.Sending.{sends-then, sends-as}
 use Rattle.report.proofs.Texts.{status_parts}

@@ -1,4 +1,4 @@
-use Rattle.std.proofs.Common.{◌∷◌, ◌++◌, ◌-◌, ◌≤◌, ◌∙◌, ap, take, length, refl, arith, rules}
+use Rattle.std.proofs.Common.{◌++◌, ◌-◌, ◌≤◌, ap, length, arith}
 use Rattle.std.proofs.lemmas.List.{take-replicate}
 use Rattle.report.proofs.Sending.{sends-then, sends-as}
 use Rattle.report.proofs.pieces.put_left.Goals as goal

@@ -1,4 +1,4 @@
-use Rattle.std.proofs.Common.{◌∷◌, ◌++◌, ◌∙◌, ap, sym, take, get_or}
+use Rattle.std.proofs.Common.{◌∷◌, ◌++◌, ◌∙◌, ap, take}
 use Rattle.std.specs.List.{flat_map}
 use Rattle.report.proofs.Sending.{sends-then, sends-as}
 use Rattle.report.proofs.Texts.{flat_map-more}

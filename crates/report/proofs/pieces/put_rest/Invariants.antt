@@ -1,9 +1,9 @@
 use Rattle.std.proofs.Common.{◌∷◌, take}
 use Rattle.std.specs.List.{flat_map}
-use Rattle.report.specs.Sent.{Sends}
+use Rattle.report.specs.Sent.{Sent}
 use Rattle.report.proofs.pieces.put_rest.Given as goal
 
 abbrev pub invariant-loop-id : goal.invariant-loop-id
 invariant-loop-id g l =
-    Sends (g.W.Sink.taken l.initial.w) (g.W.Sink.has_failed l.initial.w) (g.W.Sink.taken l.w) (g.W.Sink.has_failed l.w)
+    Sent g.W.Sink l.initial.w l.w
     (flat_map (λ id. 44 ∷ id) (take l.id-index l.ids))

@@ -1,6 +1,6 @@
 use Rattle.std.proofs.Common.{◌≡◌, ◌++◌, length, map}
 use Rattle.std.specs.Vec.Iter.{into_iter_items, into_iter_len}
-use Rattle.store.specs.declared.change.GlobalEdit.TheVariants.{PutHold}
+use Rattle.sysmods.specs.declared.edit.GlobalEdit.TheVariants.{PutHold}
 use Rattle.smpe_receive.proofs.edits.put_holds.Given as goal
 
 -- the holds so far

@@ -1,7 +1,7 @@
 use Rattle.std.proofs.Common.{◌≡◌, take}
 use Rattle.store_rows.specs.Inside.{StaysInside}
 use Rattle.store_sysmods.specs.Sysmods.{ChangesGlobal}
-use Rattle.store.specs.Changes.{EachFits, after_edits}
+use Rattle.sysmods.specs.Edits.{EachFits, after_edits}
 use Rattle.store.proofs.edits.write_edits.Given as goal
 
 abbrev pub invariant-loop-edit : goal.invariant-loop-edit

@@ -1,0 +1,126 @@
+//! RECEIVE: the items of PTFIN and of the hold file come into the global zone.
+ghost use Rattle.std.specs.Prelude.{◌≡◌, ◌++◌, All, None, IfOk, IfSome, OnOk, map};
+ghost use Rattle.sqlite.specs.Held.{state};
+ghost use Rattle.sqlite.specs.State.{HasCleanDisk};
+ghost use Rattle.terms.specs.Types.{Text, ReceiveWhat as AWhat, Receive};
+ghost use Rattle.terms.specs.Forms.{IsSource};
+ghost use Rattle.terms.specs.Ptfin.{IsPtfin};
+ghost use Rattle.terms.specs.HoldFile.{IsHoldFile};
+ghost use Rattle.machine.specs.State.{State, misplaced};
+ghost use Rattle.machine.specs.Machine.{Files as AllFiles, HasItems, Perform};
+ghost use Rattle.mcs.specs.Files.{items};
+ghost use Rattle.mcs_hold.specs.Items.{items as hold_items};
+ghost use Rattle.smpe_receive.specs.External.{IsExternal};
+ghost use Rattle.report.specs.Views.{line_view};
+ghost use Rattle.store.specs.Kept.{Keeps};
+ghost use Rattle.smpe_session.specs.Sessions.{IsSessionOf, HasPerformed};
+ghost use Rattle.smpe_session.specs.Steps.{HasRun, LeadsTo};
+ghost use Rattle.smpe_session.specs.Received.{AreTaken};
+
+use crate::boundary::unless_global;
+use crate::files::Files;
+use crate::lines::or_nothing;
+use crate::load::commit_change;
+use crate::read::{Found, read_files};
+use crate::session::Session;
+use cntl::ReceiveWhat;
+use fields::Source;
+use report::{Header, Line, Outcome};
+use smpe_receive::{Taken, receive, receive_holds};
+use sqlite::Alter;
+use std::alloc::{AllocError, Global as Heap};
+use store::{Change, Store};
+use store_schema::StoreError;
+use sysmods::Global;
+use terms::CommandWord;
+
+/// That a source has its form. The call does nothing.
+fn known_source(source: Option<Source>)
+    ensures { IfSome source IsSource }
+{
+    if let Some(source) = source {
+        let _ = source.as_bytes();
+    }
+}
+
+/// The second list behind the first.
+fn append<T: Drop>(front: &mut Vec<T>, back: Vec<T>) -> Result<(), AllocError>
+    ensures { OnOk result (front.new.items ≡ front.old.items ++ back.items) }
+{
+    for item in back {
+        front.push(item)?;
+    }
+    Ok(())
+}
+
+/// Takes in the items of PTFIN, and then those of the hold file.
+fn take_found(
+    alloc: Heap,
+    global: &mut Global,
+    found: Found,
+    source: Option<Source>,
+) -> Result<Taken, AllocError>
+    requires { All IsExternal (hold_items found.holds.items) }
+    ensures { IfOk result (λ t. AreTaken source (items found.items.items) (hold_items found.holds.items) global.old global.new t.edits.items (map line_view t.lines.items)) }
+{
+    let Taken {
+        mut edits,
+        mut lines,
+    } = receive(alloc, global, found.items, source)?;
+    let more = receive_holds(alloc, global, found.holds)?;
+    append(&mut edits, more.edits)?;
+    append(&mut lines, more.lines)?;
+    Ok(Taken { edits, lines })
+}
+
+/// Takes the items in, and commits what they change.
+fn take_items<S: Alter>(
+    alloc: Heap,
+    store: &mut Store<S>,
+    global: &mut Global,
+    found: Found,
+    source: Option<Source>,
+) -> Result<Vec<Line>, StoreError>
+    requires { All IsExternal (hold_items found.holds.items) }
+    ensures clean { HasCleanDisk (state S.Store store.new) → HasCleanDisk (state S.Store store.old) }
+    ensures ended { HasCleanDisk (state S.Store store.new) → (s : State) → s.global ≡ global.old → Keeps S.Store store.old s
+        → (date : Text) (files : AllFiles) (what : AWhat) → misplaced s (Receive what) ≡ None → what.source ≡ source → IfSome source IsSource
+        → HasItems IsPtfin what.sysmods files.ptfin (items found.items.items) → HasItems IsHoldFile what.holddata files.holds (hold_items found.holds.items)
+        → HasRun S.Store store.new s (Perform date files (Receive what)) (LeadsTo date files (Receive what) s global.new) (λ v. map line_view v.items) result }
+{
+    let Taken { edits, lines } = take_found(alloc, global, found, source)?;
+    let lines = or_nothing(lines)?;
+    commit_change(store, &Change::Global(edits))?;
+    Ok(lines)
+}
+
+impl Session {
+    pub(crate) fn receive<S: Alter>(
+        &mut self,
+        alloc: Heap,
+        store: &mut Store<S>,
+        files: &Files<'_>,
+        what: &ReceiveWhat,
+    ) -> Result<Outcome, StoreError>
+        ensures clean { HasCleanDisk (state S.Store store.new) → HasCleanDisk (state S.Store store.old) }
+        ensures ended { HasCleanDisk (state S.Store store.new) → (s : State) → IsSessionOf s self.old → Keeps S.Store store.old s
+            → (date : Text) → HasPerformed S.Store store.new s self.new date files.now (Receive what.now) result }
+    {
+        let header = Header {
+            word: CommandWord::Receive,
+            boundary: self.boundary,
+            check: false,
+        };
+        if let Some(refusal) = unless_global(self.boundary) {
+            return Ok(Outcome::Refused { header, refusal });
+        }
+        known_source(what.source);
+        match read_files(alloc, files, what)? {
+            Ok(found) => {
+                let lines = take_items(alloc, store, &mut self.global, found, what.source)?;
+                Ok(Outcome::Ran { header, lines })
+            }
+            Err(refusal) => Ok(Outcome::Refused { header, refusal }),
+        }
+    }
+}

@@ -1,0 +1,65 @@
+//! What a job has in memory, and how a command goes.
+ghost use Rattle.sqlite.specs.Held.{state};
+ghost use Rattle.sqlite.specs.State.{HasCleanDisk};
+ghost use Rattle.machine.specs.State.{State};
+ghost use Rattle.cntl.specs.Views.{command_of};
+ghost use Rattle.store.specs.Kept.{Keeps};
+ghost use Rattle.smpe_session.specs.Sessions.{IsSessionOf, HasBegun, HasPerformed};
+
+use crate::files::Files;
+use crate::load::load_global;
+use cntl::Command;
+use fields::{YyDdd, ZoneName};
+use indexmap::IndexMap;
+use report::Outcome;
+use sqlite::Alter;
+use std::alloc::Global as Heap;
+use store::Store;
+use store_schema::StoreError;
+use sysmods::Global;
+use zones::Zone;
+
+/// What a job has in memory of what the tables hold: the global zone and the zones that its SETs have named. And its
+/// boundary.
+#[derive(Drop)]
+pub struct Session {
+    pub(crate) global: Global,
+    pub(crate) zones: IndexMap<ZoneName, Zone>,
+    pub(crate) boundary: Option<ZoneName>,
+}
+
+impl Session {
+    /// A job begins: the global zone is loaded, and there is no boundary.
+    pub fn begin<S: Alter>(alloc: Heap, store: &mut Store<S>) -> Result<Session, StoreError>
+        ensures clean { HasCleanDisk (state S.Store store.new) → HasCleanDisk (state S.Store store.old) }
+        ensures ended { HasCleanDisk (state S.Store store.new) → (s : State) → Keeps S.Store store.old s → HasBegun S.Store store.new s result }
+    {
+        let global = load_global(store)?;
+        Ok(Session {
+            global,
+            zones: IndexMap::new(alloc),
+            boundary: None,
+        })
+    }
+
+    /// Performs a command, which is committed before its outcome is answered.
+    pub fn perform<S: Alter>(
+        &mut self,
+        alloc: Heap,
+        store: &mut Store<S>,
+        date: YyDdd,
+        files: &Files<'_>,
+        command: &Command,
+    ) -> Result<Outcome, StoreError>
+        ensures clean { HasCleanDisk (state S.Store store.new) → HasCleanDisk (state S.Store store.old) }
+        ensures ended { HasCleanDisk (state S.Store store.new) → (s : State) → IsSessionOf s self.old → Keeps S.Store store.old s
+            → HasPerformed S.Store store.new s self.new date files.now (command_of command.now) result }
+    {
+        match command {
+            Command::Set(name) => self.set(alloc, store, *name),
+            Command::Receive(what) => self.receive(alloc, store, files, what),
+            Command::Reject(ids) => self.reject(alloc, store, ids),
+            Command::Apply(install) => self.apply(alloc, store, date, install),
+        }
+    }
+}
