@@ -38,9 +38,18 @@ impl Model for Selection {
 
     ghost Value = { terms.Selection };
 
-    ghost view = { λ a. record { functions = a.functions; ptfs = a.ptfs; apars = a.apars; usermods = a.usermods;
-        select = a.select; exclude = a.exclude; sourceid = a.sourceid; forfmid = a.forfmid; group = a.group;
-        groupextend = a.groupextend } };
+    ghost view = { λ a. record {
+      functions = a.functions;
+      ptfs = a.ptfs;
+      apars = a.apars;
+      usermods = a.usermods;
+      select = a.select;
+      exclude = a.exclude;
+      sourceid = a.sourceid;
+      forfmid = a.forfmid;
+      group = a.group;
+      groupextend = a.groupextend;
+    } };
 }
 
 /// The operands of APPLY.

@@ -9,7 +9,6 @@ use Rattle.terms.specs.Groups.{Group, TakesGroup}
 use Rattle.terms.specs.HoldFile.{IsGoodItem, IsItemFault, BeginsWithItems, IsHoldFile}
 use Rattle.terms.proofs.ExactHoldFile.{hold_file_fault-no_items}
 use Rattle.lemmas.proofs.Each.{All-front, All-back}
-use Rattle.mcs_statements.proofs.Printables.{all_front, all_back}
 use Rattle.mcs_statements.specs.declared.fault.StatementError.{StatementError}
 use Rattle.mcs_statements.specs.declared.fault.StatementError.TheVariants as statement
 use Rattle.mcs_statements.specs.Files.{error_at, IsFileError}

@@ -8,7 +8,7 @@ use Rattle.terms.specs.Types.{Text}
 use Rattle.terms.specs.Lookups.{is_before}
 use Rattle.terms.specs.Texts.{HasLines}
 use Rattle.store_schema.specs.Forms.{AreListed, AreRecords}
-use Rattle.lemmas.proofs.Each.{All-between, recursion-front}
+use Rattle.lemmas.proofs.Each.{All-between, recursion-back, recursion-front}
 use Rattle.lemmas.proofs.Pairs.{AllPairs-between}
 use Rattle.store_rows.proofs.Pieces.{flat_concat}
 use Rattle.store_schema.proofs.Lists.{IsWord}

@@ -20,7 +20,6 @@ use Rattle.terms.specs.Spelling.{kind_text}
 use Rattle.terms.specs.Global.{with_sysmod}
 use Rattle.terms.specs.Lookups.{is_received}
 use Rattle.lemmas.proofs.Texts.{same_from}
-use Rattle.terms.proofs.GlobalLookups.{same_from}
 use Rattle.sysmods_records.specs.Edited.{with_sources, less_sysmod}
 use Rattle.store_rows.specs.Rows.{has_key, without, in_place, in_table, HasContents}
 use Rattle.store_rows.proofs.Keys.{equals, and_true}

@@ -18,6 +18,7 @@ use Rattle.sysmods_holds.specs.Lists.{held, with_hold, with_holds}
 
 unmarked : (h : Hold) → marked None h ≡ h
 unmarked h = ap (λ b. record h { internal = b }) (or_false h.internal)
+
 -- one that stands behind all others comes in at the end
 with_hold-last : (front : List Hold) (h : Hold) → All (λ y. IsTrue (is_lt (hold_cmp y h))) front → with_hold front h ≡ front ++ h ∷ []
 with_hold-last front h low =

@@ -11,7 +11,6 @@ use Rattle.mcs_statements.specs.KnownWords.{own_list}
 use Rattle.mcs_statements.specs.Holds.{HasKey}
 use Rattle.operands.proofs.Failing.{excludes_more}
 use Rattle.operands.proofs.Owning.{optional_text}
-use Rattle.mcs_statements.proofs.Failing.{excludes_map}
 use Rattle.mcs_statements.proofs.Holding.{key_of, hold_key}
 use Rattle.mcs_statements.proofs.Printables.{operand_printable}
 use Rattle.mcs_statements.proofs.hold.read_hold.Goals as goal
