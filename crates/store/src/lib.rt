@@ -12,6 +12,3 @@ mod write;
 
 pub use change::{Change, GlobalEdit};
 pub use open::Store;
-
-#[cfg(test)]
-mod tests;

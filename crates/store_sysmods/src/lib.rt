@@ -8,6 +8,3 @@ mod sysmod;
 mod ver;
 
 pub use sysmod::{insert_sysmod, remove_sysmod, replace_sources};
-
-#[cfg(test)]
-mod tests;
