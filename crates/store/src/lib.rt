@@ -16,6 +16,3 @@ mod write;
 pub use change::Change;
 pub use open::Store;
 pub use sysmods::GlobalEdit;
-
-#[cfg(test)]
-mod tests;

@@ -17,6 +17,3 @@ pub use texts::{
     optional_zone_name_in, srel_in, zone_name_in,
 };
 pub use values::{id_value, joined_ids, joined_sources};
-
-#[cfg(test)]
-mod tests;

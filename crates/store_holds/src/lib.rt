@@ -10,6 +10,3 @@ mod writing;
 pub use reading::load_holds;
 pub use sysmods_records::Hold;
 pub use writing::{put_hold, remove_hold};
-
-#[cfg(test)]
-mod tests;

@@ -13,6 +13,3 @@ mod tables;
 pub use error::StoreError;
 pub use known::set_up;
 pub use law::one_state;
-
-#[cfg(test)]
-mod tests;

@@ -15,6 +15,3 @@ mod rows_of;
 mod tables;
 
 pub use load::load_sysmods;
-
-#[cfg(test)]
-mod tests;

@@ -10,6 +10,3 @@ mod sysmod;
 mod ver;
 
 pub use sysmod::{insert_sysmod, remove_sysmod, replace_sources};
-
-#[cfg(test)]
-mod tests;

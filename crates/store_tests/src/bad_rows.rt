@@ -1,7 +1,6 @@
 //! Rows edited by hand that stand for no state.
-use crate::known::{again, files, filled, joined, opened, zone_name};
-use sqlite::{Alter, Connection, MemStore};
-use sqlite_disk::Memory;
+use crate::known::{filled, joined, opened, zone_name};
+use sqlite::{Alter, Connection};
 use sqlite_value::value::ValueRef;
 use std::alloc::Global;
 use std::test::Fail;
@@ -9,7 +8,7 @@ use store::Store;
 use store_schema::StoreError;
 
 /// Edits that move only within what may stand: loops of REQ and of several releases are free.
-const GOOD: [&str; 8] = [
+const GOOD: &[&str] = &[
     "UPDATE ver SET req = 'UAA0001' WHERE id = 'LLL0001'",
     "UPDATE ver SET req = 'LLL0001' WHERE id = 'UAA0001' AND srel = 'Z038'",
     "UPDATE ver SET pre = 'LLL0001' WHERE id = 'UAA0001' AND srel = 'Z039'",
@@ -21,7 +20,7 @@ const GOOD: [&str; 8] = [
 ];
 
 /// SYSMODs.
-const SYSMODS: [&str; 16] = [
+const SYSMODS: &[&str] = &[
     "INSERT INTO sysmod (id, kind, sources) VALUES ('UAA001', 'PTF', ''); INSERT INTO ver (id, srel, fmid, pre, req, sup, npre, del) VALUES ('UAA001', 'Z038', 'HAA1100', '', '', '', '', '')",
     "INSERT INTO sysmod (id, kind, sources) VALUES ('UAA00011', 'PTF', ''); INSERT INTO ver (id, srel, fmid, pre, req, sup, npre, del) VALUES ('UAA00011', 'Z038', 'HAA1100', '', '', '', '', '')",
     "INSERT INTO sysmod (id, kind, sources) VALUES ('uaa0001', 'PTF', ''); INSERT INTO ver (id, srel, fmid, pre, req, sup, npre, del) VALUES ('uaa0001', 'Z038', 'HAA1100', '', '', '', '', '')",
@@ -41,7 +40,7 @@ const SYSMODS: [&str; 16] = [
 ];
 
 /// `++VER`s, by themselves and for the kind of their SYSMOD.
-const VERS: [&str; 44] = [
+const VERS: &[&str] = &[
     "UPDATE ver SET srel = 'Z38' WHERE id = 'AAA0003'",
     "UPDATE ver SET srel = 'Z0380' WHERE id = 'AAA0003'",
     "UPDATE ver SET srel = 'z038' WHERE id = 'AAA0003'",
@@ -89,7 +88,7 @@ const VERS: [&str; 44] = [
 ];
 
 /// `++IF`s.
-const IFS: [&str; 18] = [
+const IFS: &[&str] = &[
     "UPDATE ifreq SET srel = 'Z040' WHERE srel = 'Z039'",
     "UPDATE ifreq SET srel = 'Z38' WHERE srel = 'Z039'",
     "UPDATE ifreq SET id = 'AAA0003' WHERE srel = 'Z039'",
@@ -111,7 +110,7 @@ const IFS: [&str; 18] = [
 ];
 
 /// Element statements.
-const ELEMS: [&str; 30] = [
+const ELEMS: &[&str] = &[
     "UPDATE elem SET type = 'mac' WHERE id = 'HAA1100' AND type = 'MAC'",
     "UPDATE elem SET type = 'MACUPD' WHERE id = 'HAA1100' AND type = 'MAC'",
     "UPDATE elem SET type = '' WHERE id = 'HAA1100' AND type = 'MAC'",
@@ -145,7 +144,7 @@ const ELEMS: [&str; 30] = [
 ];
 
 /// Holds.
-const HOLDS: [&str; 34] = [
+const HOLDS: &[&str] = &[
     "UPDATE hold SET id = 'UZZ999' WHERE kind = 'USER'",
     "UPDATE hold SET id = 'uzz9999' WHERE kind = 'USER'",
     "UPDATE hold SET id = '' WHERE kind = 'USER'",
@@ -183,7 +182,7 @@ const HOLDS: [&str; 34] = [
 ];
 
 /// SYSMODs that lead to themselves or have other roles than others give them.
-const BETWEEN: [&str; 12] = [
+const BETWEEN: &[&str] = &[
     "UPDATE ver SET pre = 'LLL0001' WHERE id = 'UAA0001' AND srel = 'Z038'",
     "UPDATE ver SET sup = 'LLL0001' WHERE id = 'UAA0001' AND srel = 'Z038'",
     "UPDATE ver SET pre = 'LLL0001', sup = '' WHERE id = 'UAA0001' AND srel = 'Z038'",
@@ -199,7 +198,7 @@ const BETWEEN: [&str; 12] = [
 ];
 
 /// The zone TGT1, its entries and its elements.
-const ZONE: [&str; 67] = [
+const ZONE: &[&str] = &[
     "UPDATE zone SET kind = 'TARGET' WHERE name = 'TGT1'",
     "UPDATE zone SET kind = 'dlib' WHERE name = 'TGT1'",
     "UPDATE zone SET kind = '' WHERE name = 'TGT1'",
@@ -270,7 +269,7 @@ const ZONE: [&str; 67] = [
 ];
 
 /// Zones, and what they say of each other.
-const ZONES: [&str; 21] = [
+const ZONES: &[&str] = &[
     "UPDATE zone SET name = 'GLOBAL' WHERE name = 'DLB3'",
     "UPDATE zone SET name = '1DLB' WHERE name = 'DLB3'",
     "UPDATE zone SET name = 'dlb3' WHERE name = 'DLB3'",
@@ -294,11 +293,36 @@ const ZONES: [&str; 21] = [
     "UPDATE zone SET kind = 'target', related = 'DLB1' WHERE name = 'DLB3'",
 ];
 
-/// The number of the schema.
-const META: [&str; 3] = [
+/// Comments as long as they may be, and of any printable characters.
+const GOOD_COMMENTS: &[&str] = &[
+    "UPDATE hold SET comment = replace('XXXXXXXXXXXXXXXXXXXX', 'X', 'XXXXXXXXXX') WHERE kind = 'ERROR'",
+    "UPDATE hold SET comment = '~' WHERE kind = 'ERROR'",
+];
+
+/// Comments too long, empty, with blanks at an end, and with characters that are not printable.
+const COMMENTS: &[&str] = &[
+    "UPDATE hold SET comment = 'X' || replace('XXXXXXXXXXXXXXXXXXXX', 'X', 'XXXXXXXXXX') WHERE kind = 'ERROR'",
+    "UPDATE hold SET comment = '' WHERE kind = 'ERROR'",
+    "UPDATE hold SET comment = ' A' WHERE kind = 'ERROR'",
+    "UPDATE hold SET comment = 'A ' WHERE kind = 'ERROR'",
+    "UPDATE hold SET comment = CAST(x'410a42' AS TEXT) WHERE kind = 'ERROR'",
+    "UPDATE hold SET comment = CAST(x'417f42' AS TEXT) WHERE kind = 'ERROR'",
+    "UPDATE hold SET comment = CAST(x'c3a9' AS TEXT) WHERE kind = 'ERROR'",
+    "UPDATE hold SET comment = CAST(x'ff' AS TEXT) WHERE kind = 'ERROR'",
+];
+
+/// The number of the schema, of which there is to be one, and a table less.
+const META: &[&str] = &[
     "DELETE FROM meta",
     "UPDATE meta SET k = 'Schema'",
     "INSERT INTO meta (k, v) VALUES ('other', 1)",
+    "DROP TABLE zelem",
+];
+
+/// Another number, whatever the tables are.
+const NUMBERS: &[&str] = &[
+    "UPDATE meta SET v = 2",
+    "UPDATE meta SET v = 2; DROP TABLE zelem",
 ];
 
 /// What is loaded of a store.
@@ -310,8 +334,7 @@ enum Part {
     Heads,
 }
 
-/// Why the part of the store is not loaded, if it is not.
-fn fault<S: Alter>(store: &mut Store<S>, part: Part) -> Result<Option<StoreError>, Fail> {
+fn fault_of_part<S: Alter>(store: &mut Store<S>, part: Part) -> Result<Option<StoreError>, Fail> {
     Ok(match part {
         Part::Global => store.load_global().err(),
         Part::Zone => store.load_zone(zone_name(b"TGT1")?).err(),
@@ -320,15 +343,26 @@ fn fault<S: Alter>(store: &mut Store<S>, part: Part) -> Result<Option<StoreError
     })
 }
 
-/// The database of the known rows, once these statements have changed them.
-fn edited(alloc: Global, sql: &str) -> Result<Connection<MemStore>, Fail> {
-    let mut conn = filled(alloc, Connection::open_in_memory(alloc)?)?;
-    conn.execute_batch(sql)?;
-    Ok(conn)
+/// Why the store is not opened, or the part is not loaded, if it is not.
+fn fault<S: Alter + Drop>(
+    alloc: Global,
+    conn: Connection<S>,
+    part: Part,
+) -> Result<Option<StoreError>, Fail> {
+    if !conn.is_autocommit() {
+        return Err(Fail::from("a transaction is under way"));
+    }
+    match Store::open(alloc, conn) {
+        Ok(mut store) => fault_of_part(&mut store, part),
+        Err((_, error)) => Ok(Some(error)),
+    }
 }
 
+/// What is told of the part, once these statements have changed the known rows.
 fn fault_after(alloc: Global, sql: &str, part: Part) -> Result<Option<StoreError>, Fail> {
-    fault(&mut opened(alloc, edited(alloc, sql)?)?, part)
+    let mut conn = filled(alloc, Connection::open_in_memory(alloc)?)?;
+    conn.execute_batch(sql)?;
+    fault(alloc, conn, part)
 }
 
 /// The first of the edits after which something else is told of the part.
@@ -336,111 +370,50 @@ fn first_other(
     alloc: Global,
     edits: &[&'static str],
     part: Part,
-    told: Option<StoreError>,
+    wanted: Option<StoreError>,
 ) -> Result<Option<&'static str>, Fail> {
     for sql in edits {
-        if fault_after(alloc, sql, part)? != told {
+        if fault_after(alloc, sql, part)? != wanted {
             return Ok(Some(sql));
         }
     }
     Ok(None)
 }
 
-/// The first of the edits after which the part is loaded.
-fn first_loaded(
-    alloc: Global,
-    edits: &[&'static str],
-    part: Part,
-) -> Result<Option<&'static str>, Fail> {
-    first_other(alloc, edits, part, Some(StoreError::NoState))
-}
-
 #[test]
-fn good_rows(rt: HostRuntime) -> Result<(), Fail> {
-    let alloc = rt.alloc();
-    for part in [Part::Global, Part::Zone, Part::Names, Part::Heads] {
-        assert_eq!(rt; first_other(alloc, &GOOD, part, None)?, None);
+fn good_rows_are_loaded(rt: HostRuntime) -> Result<(), Fail> {
+    for (edits, part) in [
+        (GOOD, Part::Global),
+        (GOOD, Part::Zone),
+        (GOOD, Part::Names),
+        (GOOD, Part::Heads),
+        (GOOD_COMMENTS, Part::Global),
+    ] {
+        assert_eq!(rt; first_other(rt.alloc(), edits, part, None)?, None);
     }
     Ok(())
 }
 
 #[test]
-fn sysmods(rt: HostRuntime) -> Result<(), Fail> {
-    assert_eq!(rt; first_loaded(rt.alloc(), &SYSMODS, Part::Global)?, None);
-    Ok(())
-}
-
-#[test]
-fn vers(rt: HostRuntime) -> Result<(), Fail> {
-    assert_eq!(rt; first_loaded(rt.alloc(), &VERS, Part::Global)?, None);
-    assert_eq!(rt; first_loaded(rt.alloc(), &IFS, Part::Global)?, None);
-    Ok(())
-}
-
-#[test]
-fn element_statements(rt: HostRuntime) -> Result<(), Fail> {
-    assert_eq!(rt; first_loaded(rt.alloc(), &ELEMS, Part::Global)?, None);
-    Ok(())
-}
-
-#[test]
-fn holds(rt: HostRuntime) -> Result<(), Fail> {
-    assert_eq!(rt; first_loaded(rt.alloc(), &HOLDS, Part::Global)?, None);
-    Ok(())
-}
-
-#[test]
-fn between_sysmods(rt: HostRuntime) -> Result<(), Fail> {
-    assert_eq!(rt; first_loaded(rt.alloc(), &BETWEEN, Part::Global)?, None);
-    Ok(())
-}
-
-#[test]
-fn zone(rt: HostRuntime) -> Result<(), Fail> {
-    assert_eq!(rt; first_loaded(rt.alloc(), &ZONE, Part::Zone)?, None);
-    Ok(())
-}
-
-#[test]
-fn zones(rt: HostRuntime) -> Result<(), Fail> {
-    assert_eq!(rt; first_loaded(rt.alloc(), &ZONES, Part::Names)?, None);
-    assert_eq!(rt; first_loaded(rt.alloc(), &ZONES, Part::Heads)?, None);
-    Ok(())
-}
-
-/// Why the store is not opened again once these statements have changed its rows, if it is not.
-fn fault_at_open(alloc: Global, sql: &str) -> Result<Option<StoreError>, Fail> {
-    let conn = edited(alloc, sql)?;
-    if !conn.is_autocommit() {
-        return Err(Fail::from("a transaction is under way"));
-    }
-    match Store::open(alloc, conn) {
-        Ok(_) => Ok(None),
-        Err((_, error)) => Ok(Some(error)),
-    }
-}
-
-#[test]
-fn schema_number(rt: HostRuntime) -> Result<(), Fail> {
-    for sql in META {
-        assert_eq!(rt;
-            (sql, fault_at_open(rt.alloc(), sql)?),
-            (sql, Some(StoreError::NoState))
-        );
+fn other_rows_are_told(rt: HostRuntime) -> Result<(), Fail> {
+    for (edits, part, told) in [
+        (SYSMODS, Part::Global, StoreError::NoState),
+        (VERS, Part::Global, StoreError::NoState),
+        (IFS, Part::Global, StoreError::NoState),
+        (ELEMS, Part::Global, StoreError::NoState),
+        (HOLDS, Part::Global, StoreError::NoState),
+        (COMMENTS, Part::Global, StoreError::NoState),
+        (BETWEEN, Part::Global, StoreError::NoState),
+        (ZONE, Part::Zone, StoreError::NoState),
+        (ZONES, Part::Names, StoreError::NoState),
+        (ZONES, Part::Heads, StoreError::NoState),
+        (META, Part::Names, StoreError::NoState),
+        (NUMBERS, Part::Names, StoreError::OtherSchema),
+        (&["DROP TABLE meta"], Part::Names, StoreError::Fault),
+    ] {
+        assert_eq!(rt; first_other(rt.alloc(), edits, part, Some(told))?, None);
     }
     Ok(())
-}
-
-/// What is told of the part, once the statement with this value has changed the known rows.
-fn fault_with(
-    alloc: Global,
-    sql: &str,
-    value: ValueRef<'_>,
-    part: Part,
-) -> Result<Option<StoreError>, Fail> {
-    let mut conn = filled(alloc, Connection::open_in_memory(alloc)?)?;
-    conn.execute(sql, &[value])?;
-    fault(&mut opened(alloc, conn)?, part)
 }
 
 const REPLACED: &str = "UPDATE elem SET text = ?1 WHERE type = 'MAC' AND upd = 0";
@@ -451,7 +424,7 @@ const INSTALLED: &str = "UPDATE zelem SET text = ?1 WHERE zone = 'TGT1' AND type
 
 /// Texts and numbers of records, and whether they are a text of a macro, an update of MAC1 and a text
 /// of an installed source.
-const TEXTS: [(&[(&str, &str)], [bool; 3]); 14] = [
+const TEXTS: &[(&[(&str, &str)], [bool; 3])] = &[
     (&[], [false, false, true]),
     (&[("A", "00000010"), ("B", "00000020")], [true, false, true]),
     (
@@ -512,8 +485,20 @@ const TEXTS: [(&[(&str, &str)], [bool; 3]); 14] = [
     ),
 ];
 
+/// What is told of the part, once the statement with this text has changed the known rows.
+fn fault_with(
+    alloc: Global,
+    sql: &str,
+    text: &[u8],
+    part: Part,
+) -> Result<Option<StoreError>, Fail> {
+    let mut conn = filled(alloc, Connection::open_in_memory(alloc)?)?;
+    conn.execute(sql, &[ValueRef::Blob(text)])?;
+    fault(alloc, conn, part)
+}
+
 fn is_loaded_with(alloc: Global, sql: &str, text: &[u8], part: Part) -> Result<bool, Fail> {
-    match fault_with(alloc, sql, ValueRef::Blob(text), part)? {
+    match fault_with(alloc, sql, text, part)? {
         None => Ok(true),
         Some(StoreError::NoState) => Ok(false),
         Some(_) => Err(Fail::from("another fault")),
@@ -531,31 +516,9 @@ fn uses(alloc: Global, records: &[(&str, &str)]) -> Result<[bool; 3], Fail> {
 }
 
 #[test]
-fn texts(rt: HostRuntime) -> Result<(), Fail> {
+fn texts_are_read(rt: HostRuntime) -> Result<(), Fail> {
     for (records, told) in TEXTS {
-        assert_eq!(rt; (records, uses(rt.alloc(), records)?), (records, told));
-    }
-    Ok(())
-}
-
-const COMMENT: &str = "UPDATE hold SET comment = ?1 WHERE kind = 'ERROR'";
-
-#[test]
-fn comments(rt: HostRuntime) -> Result<(), Fail> {
-    for (text, told) in [
-        ([b'X'; 200].as_slice(), None),
-        (b"~".as_slice(), None),
-        ([b'X'; 201].as_slice(), Some(StoreError::NoState)),
-        (b"".as_slice(), Some(StoreError::NoState)),
-        (b" A".as_slice(), Some(StoreError::NoState)),
-        (b"A ".as_slice(), Some(StoreError::NoState)),
-        (b"A\nB".as_slice(), Some(StoreError::NoState)),
-        (b"A\x7fB".as_slice(), Some(StoreError::NoState)),
-        (b"\xc3\xa9".as_slice(), Some(StoreError::NoState)),
-        (b"\xff".as_slice(), Some(StoreError::NoState)),
-    ] {
-        let value = ValueRef::Text(text);
-        assert_eq!(rt; fault_with(rt.alloc(), COMMENT, value, Part::Global)?, told);
+        assert_eq!(rt; (*records, uses(rt.alloc(), records)?), (*records, *told));
     }
     Ok(())
 }
@@ -570,7 +533,7 @@ const THEIR_VERS: &str =
     "INSERT INTO ver (id, srel, fmid, pre, req, sup, npre, del) SELECT id, 'Z038', 'HAA1100', '', '', '', '', '' FROM sysmod WHERE id > 'M' AND id < 'N'";
 
 /// 65,536 SYSMODs more.
-fn add_many(conn: &mut Connection<MemStore>) -> Result<(), Fail> {
+fn add_many<S: Alter>(conn: &mut Connection<S>) -> Result<(), Fail> {
     conn.execute(FIRST, &[])?;
     for power in 0..16_u32 {
         conn.execute(AGAIN, &[ValueRef::Int(1 << power)])?;
@@ -579,61 +542,38 @@ fn add_many(conn: &mut Connection<MemStore>) -> Result<(), Fail> {
     Ok(())
 }
 
-/// The known rows and as many SYSMODs more, once the statement has taken some out.
-fn many(alloc: Global, sql: &str) -> Result<Connection<MemStore>, Fail> {
-    let mut conn = filled(alloc, Connection::open_in_memory(alloc)?)?;
-    add_many(&mut conn)?;
-    conn.execute(sql, &[])?;
-    Ok(conn)
+/// How many SYSMODs are loaded, or why none are.
+fn size<S: Alter>(store: &mut Store<S>) -> Result<usize, StoreError> {
+    Ok(store.load_global()?.len())
 }
 
-/// How many SYSMODs are loaded, or why none are.
-fn size_after(alloc: Global, sql: &str) -> Result<Result<usize, StoreError>, Fail> {
-    match opened(alloc, many(alloc, sql)?)?.load_global() {
-        Ok(global) => Ok(Ok(global.len())),
-        Err(error) => Ok(Err(error)),
-    }
+/// The same of the known rows and as many SYSMODs more, once the statement has taken some out.
+fn size_after<S: Alter + Drop>(
+    alloc: Global,
+    conn: Connection<S>,
+    sql: &str,
+) -> Result<Result<usize, StoreError>, Fail> {
+    let mut conn = filled(alloc, conn)?;
+    add_many(&mut conn)?;
+    conn.execute(sql, &[])?;
+    Ok(size(&mut opened(alloc, conn)?))
 }
 
 #[test]
 fn too_many_sysmods(rt: HostRuntime) -> Result<(), Fail> {
-    assert_eq!(rt;
-        size_after(
-            rt.alloc(),
-            "DELETE FROM sysmod WHERE id > 'M' AND id < 'M100005'"
-        )?,
-        Err(StoreError::NoState)
-    );
-    assert_eq!(rt;
-        size_after(
-            rt.alloc(),
-            "DELETE FROM sysmod WHERE id > 'M' AND id < 'M100006'"
-        )?,
-        Ok(65_535)
-    );
-    Ok(())
-}
-
-/// What is told of the part of a store over files, once these statements have changed the known rows
-/// and the files were opened again.
-fn fault_in_files(alloc: Global, sql: &str, part: Part) -> Result<Option<StoreError>, Fail> {
-    let fresh = files(alloc, Memory::new(alloc), Memory::new(alloc))?;
-    let mut conn = filled(alloc, fresh)?;
-    conn.execute_batch(sql)?;
-    fault(&mut opened(alloc, again(alloc, conn)?)?, part)
-}
-
-#[test]
-fn over_files(rt: HostRuntime) -> Result<(), Fail> {
-    for (sql, part) in [
-        (HOLDS[0], Part::Global),
-        (ZONE[0], Part::Zone),
-        (ZONES[0], Part::Names),
+    let alloc = rt.alloc();
+    for (sql, told) in [
+        (
+            "DELETE FROM sysmod WHERE id > 'M' AND id < 'M100005'",
+            Err(StoreError::NoState),
+        ),
+        (
+            "DELETE FROM sysmod WHERE id > 'M' AND id < 'M100006'",
+            Ok(65_535),
+        ),
     ] {
-        assert_eq!(rt;
-            fault_in_files(rt.alloc(), sql, part)?,
-            Some(StoreError::NoState)
-        );
+        let conn = Connection::open_in_memory(alloc)?;
+        assert_eq!(rt; size_after(alloc, conn, sql)?, told);
     }
     Ok(())
 }

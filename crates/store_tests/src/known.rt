@@ -13,7 +13,7 @@ use store::Store;
 use store_schema::StoreError;
 use text80::RECORD;
 
-const ROWS: [&str; 40] = [
+const ROWS: &[&str] = &[
     "INSERT INTO sysmod (id, kind, sources) VALUES ('HAA1100', 'FUNCTION', '')",
     "INSERT INTO sysmod (id, kind, sources) VALUES ('HAA1200', 'FUNCTION', 'PUT2401,SMCREC01')",
     "INSERT INTO sysmod (id, kind, sources) VALUES ('UAA0001', 'PTF', 'PUT2401')",
@@ -60,6 +60,23 @@ const ROWS: [&str; 40] = [
 const ELEMENTS: &str =
     "INSERT INTO zelem (zone, type, name, fmid, rmid, umid, distlib, syslib, text) SELECT 'TGT1', type, name, id, id, '', distlib, syslib, text FROM elem WHERE id = 'HAA1100'";
 
+/// The texts of element statements: the statement that sets each, and its records with their numbers.
+const TEXTS: &[(&str, &[(&str, &str)])] = &[
+    ("UPDATE elem SET text = ?1", &[("ANY TEXT", "")]),
+    (
+        "UPDATE elem SET text = ?1 WHERE upd = 0 AND (type = 'MAC' OR type = 'SRC')",
+        &[(" MACRO", "00000010"), (" MEND", "00000020")],
+    ),
+    (
+        "UPDATE elem SET text = ?1 WHERE upd = 1",
+        &[
+            ("./ CHANGE NAME=MAC1", ""),
+            ("./ DELETE SEQ1=00000020,SEQ2=00000030", ""),
+            (" NEW", "00000025"),
+        ],
+    ),
+];
+
 /// The text stands in the record from the place on.
 fn put_text(record: &mut [u8; RECORD], place: usize, text: &[u8]) {
     for i in place..RECORD {
@@ -86,18 +103,6 @@ pub(crate) fn joined(alloc: Global, records: &[(&str, &str)]) -> Result<Vec<u8>,
     Ok(bytes)
 }
 
-/// 300 ids, rising.
-fn long_list(alloc: Global) -> Result<Vec<u8>, Fail> {
-    let mut list = Vec::new(alloc);
-    for n in 100..400_u32 {
-        if n > 100 {
-            list.push(b',')?;
-        }
-        list.extend_from_slice(format!(in alloc; "B000{n}")?.as_bytes())?;
-    }
-    Ok(list)
-}
-
 fn run<S: Alter>(conn: &mut Connection<S>, sql: &str, values: &[ValueRef<'_>]) -> Result<(), Fail> {
     if conn.execute(sql, values)? == 0 {
         return Err(Fail::from(sql));
@@ -105,55 +110,21 @@ fn run<S: Alter>(conn: &mut Connection<S>, sql: &str, values: &[ValueRef<'_>]) -
     Ok(())
 }
 
-fn fill_text<S: Alter>(
-    alloc: Global,
-    conn: &mut Connection<S>,
-    sql: &str,
-    records: &[(&str, &str)],
-) -> Result<(), Fail> {
-    let text = joined(alloc, records)?;
-    run(conn, sql, &[ValueRef::Blob(text.as_slice())])
+/// Writes the rows into tables that are empty.
+fn fill_rows<S: Alter>(conn: &mut Connection<S>) -> Result<(), Fail> {
+    for row in ROWS {
+        run(conn, row, &[])?;
+    }
+    Ok(())
 }
 
 /// Gives the element statements their texts.
 fn fill_texts<S: Alter>(alloc: Global, conn: &mut Connection<S>) -> Result<(), Fail> {
-    fill_text(
-        alloc,
-        conn,
-        "UPDATE elem SET text = ?1",
-        &[("ANY TEXT", "")],
-    )?;
-    fill_text(
-        alloc,
-        conn,
-        "UPDATE elem SET text = ?1 WHERE upd = 0 AND (type = 'MAC' OR type = 'SRC')",
-        &[(" MACRO", "00000010"), (" MEND", "00000020")],
-    )?;
-    fill_text(
-        alloc,
-        conn,
-        "UPDATE elem SET text = ?1 WHERE upd = 1",
-        &[
-            ("./ CHANGE NAME=MAC1", ""),
-            ("./ DELETE SEQ1=00000020,SEQ2=00000030", ""),
-            (" NEW", "00000025"),
-        ],
-    )
-}
-
-/// Writes the rows into tables that are empty.
-pub(crate) fn fill<S: Alter>(alloc: Global, conn: &mut Connection<S>) -> Result<(), Fail> {
-    for row in ROWS {
-        run(conn, row, &[])?;
+    for (sql, records) in TEXTS {
+        let text = joined(alloc, records)?;
+        run(conn, sql, &[ValueRef::Blob(text.as_slice())])?;
     }
-    fill_texts(alloc, conn)?;
-    let list = long_list(alloc)?;
-    run(
-        conn,
-        "UPDATE ver SET sup = ?1 WHERE id = 'LLL0001'",
-        &[ValueRef::Text(list.as_slice())],
-    )?;
-    run(conn, ELEMENTS, &[])
+    Ok(())
 }
 
 pub(crate) fn committed(answer: Result<(), StoreError>) -> Result<(), Fail> {
@@ -199,7 +170,9 @@ pub(crate) fn filled<S: Alter + Drop>(
     conn: Connection<S>,
 ) -> Result<Connection<S>, Fail> {
     let mut conn = opened(alloc, conn)?.close();
-    fill(alloc, &mut conn)?;
+    fill_rows(&mut conn)?;
+    fill_texts(alloc, &mut conn)?;
+    run(&mut conn, ELEMENTS, &[])?;
     Ok(conn)
 }
 

@@ -5,10 +5,8 @@
 #[cfg(test)]
 mod bad_rows;
 #[cfg(test)]
+mod changes;
+#[cfg(test)]
 mod known;
 #[cfg(test)]
-mod large;
-#[cfg(test)]
 mod round_trip;
-#[cfg(test)]
-mod same;

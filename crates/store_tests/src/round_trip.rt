@@ -1,8 +1,7 @@
 //! What is committed is loaded again, in memory and over files.
 use crate::known::{again, committed, files, filled, lines, opened};
-use crate::same::{same_global, same_zone};
 use fields::ZoneName;
-use sqlite::{Alter, Connection, MemStore};
+use sqlite::{Alter, Connection, FileStore};
 use sqlite_disk::Memory;
 use std::alloc::Global as Heap;
 use std::test::Fail;
@@ -11,6 +10,7 @@ use sysmods::Global;
 use sysmods_records::Hold;
 use zones::{Keyed, Zone, ZoneDelta};
 
+/// All rows of all tables.
 const TABLES: [&str; 8] = [
     "SELECT id || '/' || kind || '/' || sources FROM sysmod ORDER BY id",
     "SELECT id || '/' || srel || '/' || ifnull(fmid, '-') || '/' || pre || '/' || req || '/' || sup || '/' || npre || '/' || del FROM ver ORDER BY id, srel",
@@ -84,151 +84,87 @@ fn put_elements(alloc: Heap, delta: &mut ZoneDelta, zone: &Zone) -> Result<(), F
 }
 
 /// The change by which an empty zone of this name becomes this one.
-fn delta_to(alloc: Heap, name: ZoneName, zone: &Zone) -> Result<Change, Fail> {
+pub(crate) fn delta_to(alloc: Heap, name: ZoneName, zone: &Zone) -> Result<Change, Fail> {
     let mut delta = ZoneDelta::new(alloc);
     put_entries(alloc, &mut delta, zone)?;
     put_elements(alloc, &mut delta, zone)?;
     Ok(Change::Zone(name, delta))
 }
 
-fn loaded_global<S: Alter>(store: &mut Store<S>) -> Result<Global, Fail> {
-    match store.load_global() {
-        Ok(global) => Ok(global),
-        Err(_) => Err(Fail::from("global zone")),
-    }
-}
-
-fn loaded_zone<S: Alter>(store: &mut Store<S>, name: ZoneName) -> Result<Zone, Fail> {
-    match store.load_zone(name) {
-        Ok(Some(zone)) => Ok(zone),
-        _ => Err(Fail::from("zone")),
-    }
-}
-
-fn names<S: Alter>(store: &mut Store<S>) -> Result<Vec<ZoneName>, Fail> {
-    match store.zone_names() {
-        Ok(names) => Ok(names),
-        Err(_) => Err(Fail::from("names")),
-    }
-}
-
-fn copy_global<S: Alter>(
+fn copy_global<S: Alter, T: Alter>(
     alloc: Heap,
-    from: &mut Store<MemStore>,
-    to: &mut Store<S>,
+    from: &mut Store<S>,
+    to: &mut Store<T>,
 ) -> Result<(), Fail> {
-    let global = loaded_global(from)?;
+    let Ok(global) = from.load_global() else {
+        return Err(Fail::from("global zone"));
+    };
     committed(to.commit(&edits_to(alloc, &global)?))
 }
 
-fn copy_zone<S: Alter>(
+fn copy_zone<S: Alter, T: Alter>(
     alloc: Heap,
-    from: &mut Store<MemStore>,
-    to: &mut Store<S>,
+    from: &mut Store<S>,
+    to: &mut Store<T>,
     name: ZoneName,
 ) -> Result<(), Fail> {
-    let zone = loaded_zone(from, name)?;
+    let Ok(Some(zone)) = from.load_zone(name) else {
+        return Err(Fail::from("zone"));
+    };
     let change = Change::NewZone(name, zone.kind(), zone.srel(), zone.related());
     committed(to.commit(&change))?;
     committed(to.commit(&delta_to(alloc, name, &zone)?))
 }
 
 /// Commits all that one store holds to another that is empty.
-fn copy_all<S: Alter>(
+fn copy_all<S: Alter, T: Alter>(
     alloc: Heap,
-    from: &mut Store<MemStore>,
-    to: &mut Store<S>,
+    from: &mut Store<S>,
+    to: &mut Store<T>,
 ) -> Result<(), Fail> {
     copy_global(alloc, from, to)?;
-    for name in names(from)? {
+    let Ok(names) = from.zone_names() else {
+        return Err(Fail::from("names"));
+    };
+    for name in names {
         copy_zone(alloc, from, to, name)?;
     }
     Ok(())
 }
 
-fn have_same_global<S: Alter>(
-    first: &mut Store<MemStore>,
-    second: &mut Store<S>,
-) -> Result<bool, Fail> {
-    let global = loaded_global(first)?;
-    Ok(same_global(&global, &loaded_global(second)?))
-}
-
-fn have_same_zone<S: Alter>(
-    first: &mut Store<MemStore>,
-    second: &mut Store<S>,
-    name: ZoneName,
-) -> Result<bool, Fail> {
-    let zone = loaded_zone(first, name)?;
-    Ok(same_zone(&zone, &loaded_zone(second, name)?))
-}
-
-fn have_same_names<S: Alter>(
-    first: &mut Store<MemStore>,
-    second: &mut Store<S>,
-) -> Result<bool, Fail> {
-    let names_here = names(first)?;
-    Ok(names_here.as_slice() == names(second)?.as_slice())
-}
-
-/// Whether the same is loaded from both.
-fn agree<S: Alter>(first: &mut Store<MemStore>, second: &mut Store<S>) -> Result<bool, Fail> {
-    if !have_same_global(first, second)? || !have_same_names(first, second)? {
-        return Ok(false);
-    }
-    for name in names(first)? {
-        if !have_same_zone(first, second, name)? {
-            return Ok(false);
-        }
-    }
-    Ok(true)
-}
-
-/// The store of the known rows.
-fn known(alloc: Heap) -> Result<Store<MemStore>, Fail> {
-    opened(alloc, filled(alloc, Connection::open_in_memory(alloc)?)?)
-}
-
-/// What becomes of a database without tables when all that the store holds is committed to it.
-fn copied<S: Alter + Drop>(
+/// What becomes of a database without tables when all that another holds is committed to it.
+fn copied<S: Alter + Drop, T: Alter + Drop>(
     alloc: Heap,
-    from: &mut Store<MemStore>,
-    to: Connection<S>,
-) -> Result<Connection<S>, Fail> {
-    let mut store = opened(alloc, to)?;
-    copy_all(alloc, from, &mut store)?;
-    Ok(store.close())
+    from: Connection<S>,
+    to: Connection<T>,
+) -> Result<Connection<T>, Fail> {
+    let mut from = opened(alloc, from)?;
+    let mut to = opened(alloc, to)?;
+    copy_all(alloc, &mut from, &mut to)?;
+    Ok(to.close())
 }
 
-/// Whether the same rows are in the tables of both, once the same was loaded from both.
-fn is_copy<S: Alter + Drop>(
+/// The copy in files, which were closed and are opened again.
+fn in_files<S: Alter + Drop>(
     alloc: Heap,
-    mut from: Store<MemStore>,
-    to: Connection<S>,
-) -> Result<bool, Fail> {
-    let mut store = opened(alloc, to)?;
-    if !agree(&mut from, &mut store)? {
-        return Ok(false);
-    }
-    let rows = all_lines(alloc, &mut from.close())?;
-    Ok(rows.as_str() == all_lines(alloc, &mut store.close())?.as_str())
-}
-
-#[test]
-fn in_memory(rt: HostRuntime) -> Result<(), Fail> {
-    let alloc = rt.alloc();
-    let mut from = known(alloc)?;
-    let conn = copied(alloc, &mut from, Connection::open_in_memory(alloc)?)?;
-    assert!(rt; is_copy(alloc, from, conn)?);
-    Ok(())
-}
-
-#[test]
-fn over_files(rt: HostRuntime) -> Result<(), Fail> {
-    let alloc = rt.alloc();
-    let mut from = known(alloc)?;
+    from: Connection<S>,
+) -> Result<Connection<FileStore<Memory>>, Fail> {
     let fresh = files(alloc, Memory::new(alloc), Memory::new(alloc))?;
-    let conn = again(alloc, copied(alloc, &mut from, fresh)?)?;
-    assert!(rt; is_copy(alloc, from, conn)?);
+    Ok(again(alloc, copied(alloc, from, fresh)?)?)
+}
+
+/// The rows of the copy in memory.
+fn rows_of_copy<S: Alter + Drop>(alloc: Heap, from: Connection<S>) -> Result<String, Fail> {
+    let mut conn = copied(alloc, from, Connection::open_in_memory(alloc)?)?;
+    all_lines(alloc, &mut conn)
+}
+
+#[test]
+fn all_is_loaded_again(rt: HostRuntime) -> Result<(), Fail> {
+    let alloc = rt.alloc();
+    let mut known = filled(alloc, Connection::open_in_memory(alloc)?)?;
+    let rows = all_lines(alloc, &mut known)?;
+    let copy = rows_of_copy(alloc, in_files(alloc, known)?)?;
+    assert_eq!(rt; copy.as_str(), rows.as_str());
     Ok(())
 }

@@ -11,6 +11,3 @@ mod zone;
 
 pub use head::{ZoneHead, zone_heads, zone_names};
 pub use zone::load_zone;
-
-#[cfg(test)]
-mod tests;

@@ -1,0 +1,154 @@
+//! Removals, sources in place of others, and what a commit leaves alone.
+use crate::known::{committed, filled, lines, opened, zone_name};
+use crate::round_trip::delta_to;
+use fields::{Id, IdList, Name, Reason, Source, YyDdd};
+use sqlite::{Alter, Connection};
+use sqlite_value::value::ValueRef;
+use std::alloc::Global;
+use std::test::Fail;
+use store::{Change, GlobalEdit, Store};
+use store_schema::StoreError;
+use sysmods_records::Sysmod;
+use terms::{ElemType, HoldKind, Kind};
+use zones::{Entry, ZoneDelta};
+
+fn id(text: &[u8]) -> Result<Id, Fail> {
+    Ok(Id::read(text).ok_or("no id")?)
+}
+
+/// An entry and an element of TGT1 go.
+fn removals(alloc: Global) -> Result<Change, Fail> {
+    let mut delta = ZoneDelta::new(alloc);
+    delta.remove_entry(id(b"UAA0001")?)?;
+    delta.remove_element(ElemType::Mac, Name::read(b"MAC2").ok_or("no name")?)?;
+    Ok(Change::Zone(zone_name(b"TGT1")?, delta))
+}
+
+fn new_sources(alloc: Global) -> Result<Change, Fail> {
+    let mut sysmod = Sysmod::new(alloc, Kind::Apar, id(b"AAA0003")?);
+    sysmod.add_source(Source::read(b"PUT2402").ok_or("no source")?)?;
+    Ok(Change::Global(vec![in alloc; GlobalEdit::ReplaceSources(sysmod)]?))
+}
+
+/// A hold and a SYSMOD go.
+fn rejections(alloc: Global) -> Result<Change, Fail> {
+    let reason = Reason::read(b"MINE").ok_or("no reason")?;
+    Ok(Change::Global(vec![in alloc;
+        GlobalEdit::RemoveHold(id(b"UZZ9999")?, HoldKind::User, reason),
+        GlobalEdit::RemoveSysmod(id(b"LLL0001")?),
+    ]?))
+}
+
+fn commit_all<S: Alter>(alloc: Global, store: &mut Store<S>) -> Result<(), Fail> {
+    committed(store.commit(&removals(alloc)?))?;
+    committed(store.commit(&new_sources(alloc)?))?;
+    committed(store.commit(&rejections(alloc)?))
+}
+
+const LEFT: &str =
+    "SELECT id || ' ' || sources FROM sysmod UNION ALL SELECT id || ' ' || reason FROM hold UNION ALL SELECT zone || ' ' || id FROM entry UNION ALL SELECT zone || ' ' || name FROM zelem WHERE type = 'MAC' ORDER BY 1";
+
+/// What is left of the known rows.
+fn left<S: Alter + Drop>(alloc: Global, conn: Connection<S>) -> Result<String, Fail> {
+    let mut store = opened(alloc, filled(alloc, conn)?)?;
+    commit_all(alloc, &mut store)?;
+    lines(alloc, &mut store.close(), LEFT)
+}
+
+#[test]
+fn rows_go_and_are_replaced(rt: HostRuntime) -> Result<(), Fail> {
+    let conn = Connection::open_in_memory(rt.alloc())?;
+    assert_eq!(rt;
+        left(rt.alloc(), conn)?.as_str(),
+        "AAA0003 PUT2402\nDLB1 HAA1100\nDLB1 MAC1\nHAA1100 \nHAA1200 PUT2401,SMCREC01\nTGT1 AAA0001\nTGT1 HAA1000\nTGT1 HAA1100\nTGT1 MAC1\nUAA0001 AAA0009\nUAA0001 ACTION\nUAA0001 DOC\nUAA0001 PUT2401\n"
+    );
+    Ok(())
+}
+
+/// What is told of the entries and elements of TGT1 for a zone that is not there.
+fn told_of_no_zone<S: Alter>(
+    alloc: Global,
+    store: &mut Store<S>,
+) -> Result<Result<(), StoreError>, Fail> {
+    let Ok(Some(zone)) = store.load_zone(zone_name(b"TGT1")?) else {
+        return Err(Fail::from("zone"));
+    };
+    Ok(store.commit(&delta_to(alloc, zone_name(b"TGT9")?, &zone)?))
+}
+
+#[test]
+fn a_zone_that_is_not_there(rt: HostRuntime) -> Result<(), Fail> {
+    let alloc = rt.alloc();
+    let conn = filled(alloc, Connection::open_in_memory(alloc)?)?;
+    let told = told_of_no_zone(alloc, &mut opened(alloc, conn)?)?;
+    assert_eq!(rt; told, Err(StoreError::Fault));
+    Ok(())
+}
+
+/// The first of many entries of DLB1, and of many elements.
+const FIRST: &str =
+    "INSERT INTO entry (zone, id, date, supby, delby, waived) VALUES ('DLB1', 'U100000', '24.138', '', NULL, ''); INSERT INTO zelem (zone, type, name, fmid, rmid, umid, distlib, syslib, text) VALUES ('DLB1', 'MAC', 'M100000', 'HAA1100', 'HAA1100', '', 'AMACLIB', 'MACLIB', x'')";
+
+/// As many again, by numbers that are greater by this one.
+const AGAIN: [&str; 2] = [
+    "INSERT INTO entry (zone, id, date, supby, delby, waived) SELECT zone, 'U' || (CAST(substr(id, 2) AS INTEGER) + ?1), date, supby, delby, waived FROM entry WHERE id >= 'U1' AND id < 'U2'",
+    "INSERT INTO zelem (zone, type, name, fmid, rmid, umid, distlib, syslib, text) SELECT zone, type, 'M' || (CAST(substr(name, 2) AS INTEGER) + ?1), fmid, rmid, umid, distlib, syslib, text FROM zelem WHERE name >= 'M1' AND name < 'M2'",
+];
+
+/// 1,024 entries and as many elements.
+fn add_many<S: Alter>(conn: &mut Connection<S>) -> Result<(), Fail> {
+    conn.execute_batch(FIRST)?;
+    for power in 0..10_u32 {
+        for sql in AGAIN {
+            conn.execute(sql, &[ValueRef::Int(1 << power)])?;
+        }
+    }
+    Ok(())
+}
+
+/// One of the entries has another date.
+fn one_entry(alloc: Global) -> Result<Change, Fail> {
+    let mut delta = ZoneDelta::new(alloc);
+    let entry = Entry {
+        id: id(b"U100500")?,
+        applied: YyDdd::read(b"24.139"),
+        supby: IdList::new(alloc),
+        delby: None,
+        waived: IdList::new(alloc),
+    };
+    if entry.is_held() && entry.waives_applied() {
+        delta.put_entry(entry)?;
+    }
+    Ok(Change::Zone(zone_name(b"DLB1")?, delta))
+}
+
+/// The rows of all entries but that one, and of all elements, by their places.
+const OTHERS: &str =
+    "SELECT rowid || ' ' || zone || ' ' || id || ' ' || ifnull(date, '-') FROM entry WHERE id <> 'U100500' UNION ALL SELECT rowid || ' ' || zone || ' ' || type || ' ' || name FROM zelem";
+
+const CHANGED: &str = "SELECT zone || ' ' || id || ' ' || date FROM entry WHERE id = 'U100500'";
+
+/// The row that is changed, if all others are as they were.
+fn only_changed<S: Alter + Drop>(
+    alloc: Global,
+    mut conn: Connection<S>,
+) -> Result<Option<String>, Fail> {
+    let before = lines(alloc, &mut conn, OTHERS)?;
+    let mut store = opened(alloc, conn)?;
+    committed(store.commit(&one_entry(alloc)?))?;
+    let mut conn = store.close();
+    if lines(alloc, &mut conn, OTHERS)?.as_str() != before.as_str() {
+        return Ok(None);
+    }
+    Ok(Some(lines(alloc, &mut conn, CHANGED)?))
+}
+
+#[test]
+fn other_rows_stay(rt: HostRuntime) -> Result<(), Fail> {
+    let alloc = rt.alloc();
+    let mut conn = filled(alloc, Connection::open_in_memory(alloc)?)?;
+    add_many(&mut conn)?;
+    let changed = only_changed(alloc, conn)?;
+    assert_eq!(rt; changed.as_deref(), Some("DLB1 U100500 24.139\n"));
+    Ok(())
+}
