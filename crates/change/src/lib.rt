@@ -4,6 +4,3 @@
 mod installing;
 
 pub use installing::install;
-
-#[cfg(test)]
-mod tests;

@@ -8,6 +8,3 @@ mod sharing;
 mod wanted;
 
 pub use judging::{Judged, judge};
-
-#[cfg(test)]
-mod tests;

@@ -9,7 +9,7 @@ use std::test::Fail;
 use store::{Change, GlobalEdit, Store};
 use sysmods::Global;
 use sysmods_records::Hold;
-use zones::{Keyed, Zone, ZoneDelta};
+use zones::{TryClone, Zone, ZoneDelta};
 
 const TABLES: [&str; 8] = [
     "SELECT id || '/' || kind || '/' || sources FROM sysmod ORDER BY id",
