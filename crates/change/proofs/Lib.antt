@@ -1,5 +1,4 @@
 pub mod InTurn
 pub mod Installable
 pub mod Putting
-pub mod Ready
 pub mod AfterInstall

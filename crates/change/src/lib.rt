@@ -7,6 +7,3 @@
 mod installing;
 
 pub use installing::install;
-
-#[cfg(test)]
-mod tests;

@@ -12,6 +12,3 @@ mod sharing;
 mod wanted;
 
 pub use judging::{Judged, judge};
-
-#[cfg(test)]
-mod tests;

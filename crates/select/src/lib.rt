@@ -14,6 +14,3 @@ mod start;
 
 pub use chosen::candidates;
 pub use left_out::not_chosen;
-
-#[cfg(test)]
-mod tests;

@@ -68,7 +68,7 @@ fn plan(
     known_date(date);
     let Applied { delta, lines } = apply(alloc, global, zone, selection, date)?;
     let lines = or_nothing(lines)?;
-    let zone = zone.changed(alloc, &delta)?;
+    let zone = delta.apply(alloc, zone)?;
     Ok(Planned { delta, zone, lines })
 }
 

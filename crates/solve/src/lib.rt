@@ -10,8 +10,6 @@ mod rows;
 mod sets;
 mod sweep;
 mod system;
-#[cfg(test)]
-mod tests;
 mod worklist;
 
 ghost use Rattle.std.specs.Prelude.{IfOk};

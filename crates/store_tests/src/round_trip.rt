@@ -8,7 +8,7 @@ use std::test::Fail;
 use store::{Change, GlobalEdit, Store};
 use sysmods::Global;
 use sysmods_records::Hold;
-use zones::{Keyed, Zone, ZoneDelta};
+use zones::{TryClone, Zone, ZoneDelta};
 
 /// All rows of all tables.
 const TABLES: [&str; 8] = [

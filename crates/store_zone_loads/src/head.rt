@@ -23,7 +23,7 @@ use std::alloc::{AllocError, Global};
 use store_columns::{optional_zone_name_in, srel_in, zone_kind_in, zone_name_in};
 use store_rows::{FromRow, ReadError, load};
 use terms::ZoneKind;
-use zones::{Keyed, Table};
+use zones::{Keyed, Table, TryClone};
 
 /// A zone without its entries and elements.
 #[derive(Clone, Copy, Debug, PartialEq, Eq)]
@@ -42,7 +42,9 @@ impl Keyed for ZoneHead {
     fn key(&self) -> ZoneName {
         self.name
     }
+}
 
+impl TryClone for ZoneHead {
     fn try_clone(&self, _alloc: Global) -> Result<Self, AllocError> {
         Ok(*self)
     }

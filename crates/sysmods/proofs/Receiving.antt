@@ -1,12 +1,12 @@
 -- RECEIVE of one SYSMOD.
-use Rattle.std.proofs.Common.{◌≡◌, ◌<◌, ◌+◌, ◌^◌, Bool, true, false, [], List, length, refl, sym, ap, ap₂, ◌∙◌, Option, None, Some, is_some, inl, inr}
+use Rattle.std.proofs.Common.{◌≡◌, ◌<◌, ◌+◌, ◌^◌, Bool, true, false, [], List, length, refl, sym, ap, ap₂, ◌∙◌, Option, None, Some, is_some, inl, inr, true≢false, get_or}
 use Rattle.std.proofs.lemmas.Bool.{cases_lt}
 use Rattle.std.specs.Ordering.{nat_cmp}
 use Rattle.std.specs.Cmp.Lexicographic.{slice_cmp}
 use Rattle.terms.specs.Types.{Hold, Sysmod, Global, a_global}
 use Rattle.terms.specs.Rising.{with_item}
 use Rattle.terms.specs.Lookups.{is_received}
-use Rattle.terms.specs.Global.{IsGlobal, IsSysmod, HasFault, RefusedBy, ReceiveFault, Rc1, Rc2, Rc3, Rc4, with_sysmod, received}
+use Rattle.terms.specs.Global.{IsGlobal, IsSysmod, HasFault, RefusedBy, ReceiveFault, Rc1, Rc2, Rc3, Rc4, with_sysmod, received, fits_roles, RolesFit}
 use Rattle.terms.proofs.GlobalKept.{received-kept}
 use Rattle.sysmods_holds.specs.Lists.{with_holds}
 use Rattle.sysmods_received.specs.declared.faults.ReceiveFault.{ReceiveFault as Code}
@@ -14,7 +14,15 @@ use Rattle.sysmods_received.specs.declared.faults.ReceiveFault.TheVariants as co
 use Rattle.sysmods_received.specs.Held.{found, zone_of}
 use Rattle.sysmods_received.specs.Refused.{fault_of}
 use Rattle.sysmods.proofs.Taken.{folded}
-use Rattle.sysmods_received.proofs.Passed.{roles_stable}
+
+-- roles that cannot but fit fit
+roles_stable : (g : Global) → ¬ (¬ RolesFit g) → RolesFit g
+roles_stable g never i d below j e within = by (fits_roles g (get_or (get_or g.sysmods i d).vers j e)) refl
+  where
+    by : (b : Bool) → fits_roles g (get_or (get_or g.sysmods i d).vers j e) ≡ b
+        → fits_roles g (get_or (get_or g.sysmods i d).vers j e) ≡ true
+    by true f = f
+    by false f = absurd (never (λ fit. true≢false (sym (fit i d below j e within) ∙ f)))
 
 module _ (xs : List Sysmod) (hs : List Hold) (s : Sysmod) where
   -- faults do not look at holds

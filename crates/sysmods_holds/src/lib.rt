@@ -13,6 +13,3 @@ mod undo;
 pub use holds::{Holds, Placed, ReleaseError};
 pub use iter::Iter;
 pub use sysmods_records::Hold;
-
-#[cfg(test)]
-mod tests;

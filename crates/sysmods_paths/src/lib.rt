@@ -4,7 +4,5 @@
 #![tactic(auto)]
 
 mod search;
-#[cfg(test)]
-mod tests;
 
 pub use search::{Names, ends, leads, leads_from_both_ends};

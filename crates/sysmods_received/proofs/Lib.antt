@@ -5,5 +5,4 @@ pub mod Joined
 pub mod Named
 pub mod Namers
 pub mod NamersFor
-pub mod Passed
 pub mod Turned

@@ -46,11 +46,3 @@ others-unnamed xs z none y = by (found xs y) refl
         let now : Contains (flat_map named r.vers) z = subst (λ o. Contains (flat_map named (option_map_or (λ q. q.vers) o [])) z) e here in
         let names = sym (any-flat r.vers z) ∙ is_in-from_Contains (flat_map named r.vers) z now in
         true≢false (sym (any_found (λ q. list_any (λ v. is_in (named v) z) q.vers) (λ q. bytes_eq q.id y) xs r e names) ∙ none)
-
--- of no SYSMODs
-pub no_loop-none : ¬ HasLoop (zone_of [])
-no_loop-none (srel, x, loop) = by x loop.0 loop.1
-  where
-    by : (y : Id) (between : List Id) → Leads (names_for (zone_of []) srel) y between x → ⊥
-    by y [] last = absurd (omega (arith, last.1))
-    by y (w ∷ ws) leads = absurd (omega (arith, leads.0.1))

@@ -16,6 +16,3 @@ mod ways;
 pub use faults::ReceiveFault;
 pub use received::Received;
 pub use refused::refusal;
-
-#[cfg(test)]
-mod tests;

@@ -1,17 +1,18 @@
 //! How a command changes a zone.
-ghost use Rattle.std.specs.Prelude.{◌≡◌, [], IsTrue, OnOk, OnErr};
+ghost use Rattle.std.specs.Prelude.{◌≡◌, [], IsTrue, IfOk, OnOk, OnErr};
 ghost use Rattle.std.specs.Ordering.{nat_cmp};
 ghost use Rattle.std.specs.Cmp.Lexicographic.{slice_cmp};
 ghost use Rattle.terms.specs.declared.kinds.Edit.TheVariants.{Put, Remove};
 ghost use Rattle.terms.specs.Lookups.{element_cmp, element_key, is_held, waives_applied};
 ghost use Rattle.terms.specs.Rising.{with_item};
-ghost use Rattle.terms.specs.Delta.{IsDelta, edit_key};
+ghost use Rattle.terms.specs.Delta.{IsChanged, IsDelta, edit_key};
 
 use crate::entries::{Element, Entry};
-use crate::table::Table;
+use crate::zone::Zone;
 use fields::{Id, Name};
 use std::alloc::{AllocError, Global};
 use std::marker::Model;
+use tables::Table;
 use terms::{Edit, ElemType};
 
 /// Entries and elements that are put and removed, one edit at a key.
@@ -127,5 +128,12 @@ impl ZoneDelta {
     {
         self.elements.put(Edit::Remove((elem_type, name)))?;
         Ok(())
+    }
+
+    /// The zone with what the delta puts and without what it removes. It goes over both once.
+    pub fn apply(&self, alloc: Global, zone: &Zone) -> Result<Zone, AllocError>
+        ensures { IfOk result (IsChanged self.now zone.now) }
+    {
+        zone.changed(alloc, self)
     }
 }

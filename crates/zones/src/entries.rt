@@ -2,10 +2,10 @@
 ghost use Rattle.std.specs.Prelude.{◌≡◌};
 ghost use Rattle.terms.specs.Lookups.{IsRising, is_held, waives_applied};
 
-use crate::table::Keyed;
 use fields::{Id, IdList, Name, YyDdd};
 use std::alloc::{AllocError, Global};
 use std::marker::Model;
+use tables::{Keyed, TryClone};
 use terms::ElemType;
 use text80::Line;
 
@@ -60,7 +60,9 @@ impl Keyed for Entry {
     fn key(&self) -> Id {
         self.id
     }
+}
 
+impl TryClone for Entry {
     fn try_clone(&self, alloc: Global) -> Result<Self, AllocError> {
         Ok(Entry {
             id: self.id,
@@ -102,7 +104,9 @@ impl Keyed for Element {
     fn key(&self) -> (ElemType, Name) {
         (self.elem_type, self.name)
     }
+}
 
+impl TryClone for Element {
     fn try_clone(&self, alloc: Global) -> Result<Self, AllocError> {
         Ok(Element {
             elem_type: self.elem_type,

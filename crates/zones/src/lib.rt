@@ -4,15 +4,13 @@
 #![tactic(auto)]
 
 mod delta;
-mod edits;
 mod entries;
-mod table;
 mod zone;
 
 pub use delta::ZoneDelta;
 pub use entries::{Element, Entry};
-pub use table::{Keyed, Table};
+pub use fields::{Id, IdList, Name, Srel, YyDdd, ZoneName};
+pub use tables::{Keyed, Table, TryClone};
+pub use terms::{Edit, ElemType, ZoneKind};
+pub use text80::Line;
 pub use zone::Zone;
-
-#[cfg(test)]
-mod tests;

@@ -6,10 +6,10 @@ ghost use Rattle.terms.specs.Lookups.{IsRising, IsZone, entry_of, element_of, is
 
 use crate::delta::ZoneDelta;
 use crate::entries::{Element, Entry};
-use crate::table::Table;
 use fields::{Id, Name, Srel, ZoneName};
 use std::alloc::{AllocError, Global};
 use std::marker::Model;
+use tables::Table;
 use terms::{ElemType, ZoneKind};
 
 /// A target zone, with its related distribution zone, or a distribution zone.
@@ -160,8 +160,8 @@ impl Zone {
         }
     }
 
-    /// The zone with what the delta puts and without what it removes. It goes over both once.
-    pub fn changed(&self, alloc: Global, delta: &ZoneDelta) -> Result<Zone, AllocError>
+    /// The zone as the delta changes it.
+    pub(crate) fn changed(&self, alloc: Global, delta: &ZoneDelta) -> Result<Zone, AllocError>
         ensures { IfOk result (IsChanged delta.now self.now) }
     {
         delta.known();

@@ -1,0 +1,157 @@
+//! The greatest set that supports itself, who causes failures, and the least set that grows.
+use solve::{Need, Rule, Rules, Solver, Sweep, System, Worklist, causers, least};
+use std::alloc::{AllocError, Global};
+use std::process::Abort;
+
+/// A list of candidates with their needs: who needs which of these.
+type Needs<'a> = &'a [(u32, &'a [u32])];
+
+/// A system of these candidates and needs.
+fn system(alloc: Global, eligible: &[bool], needs: Needs<'_>) -> Result<System, AllocError> {
+    let mut s = System::new(alloc, Vec::new(alloc));
+    for flag in eligible {
+        if s.size() < 100 {
+            s.add_candidate(*flag)?;
+        }
+    }
+    for (of, any) in needs {
+        if s.admits(*of, any) {
+            s.add_need(Need {
+                of: *of,
+                any: any.to_vec(alloc)?,
+            })?;
+        }
+    }
+    Ok(s)
+}
+
+#[derive(Clone, Copy)]
+struct Case<'a> {
+    eligible: &'a [bool],
+    needs: Needs<'a>,
+    kept: &'a [bool],
+    strikes: u128,
+    causers: &'a [&'a [u32]],
+}
+
+const CASES: [Case<'static>; 6] = [
+    // a cascade from one that is not eligible
+    Case {
+        eligible: &[true, true, false],
+        needs: &[(0, &[1]), (1, &[2])],
+        kept: &[false, false, false],
+        strikes: 1,
+        causers: &[&[2], &[2], &[2]],
+    },
+    // a circle, and one that leans on it
+    Case {
+        eligible: &[true, true, true],
+        needs: &[(0, &[1]), (1, &[0]), (2, &[0])],
+        kept: &[true, true, true],
+        strikes: 0,
+        causers: &[&[], &[], &[]],
+    },
+    // one of two serves
+    Case {
+        eligible: &[true, false, true],
+        needs: &[(0, &[1, 2])],
+        kept: &[true, false, true],
+        strikes: 0,
+        causers: &[&[], &[1], &[]],
+    },
+    // the same need from two, which nothing serves in the end
+    Case {
+        eligible: &[true, true, true, true],
+        needs: &[(0, &[2]), (1, &[2]), (2, &[])],
+        kept: &[false, false, false, true],
+        strikes: 2,
+        causers: &[&[2], &[2], &[2], &[]],
+    },
+    // it serves itself
+    Case {
+        eligible: &[true, false],
+        needs: &[(0, &[0]), (1, &[1])],
+        kept: &[true, false],
+        strikes: 0,
+        causers: &[&[], &[1]],
+    },
+    // several causers
+    Case {
+        eligible: &[true, true, false, true, true, true, true],
+        needs: &[(0, &[1]), (1, &[2, 3]), (3, &[]), (4, &[3]), (5, &[6])],
+        kept: &[false, false, false, false, false, true, true],
+        strikes: 3,
+        causers: &[&[2, 3], &[2, 3], &[2], &[3], &[3], &[], &[]],
+    },
+];
+
+fn check(rt: &impl Abort, alloc: Global, case: &Case<'_>) -> Result<(), AllocError> {
+    let s = system(alloc, case.eligible, case.needs)?;
+    let swept = Sweep.greatest(alloc, &s)?;
+    let (kept, count) = Worklist::count(alloc, &s)?;
+    assert_eq!(rt; swept.flags(), case.kept);
+    assert_eq!(rt; kept.flags(), case.kept);
+    assert_eq!(rt; count.strikes, case.strikes);
+    let rows = causers(alloc, &s, &kept)?;
+    assert_eq!(rt; rows.len(), case.causers.len());
+    for (row, wanted) in rows.iter().zip(case.causers.iter()) {
+        assert_eq!(rt; row.as_slice(), *wanted);
+    }
+    Ok(())
+}
+
+#[test]
+fn each_case(rt: HostRuntime) -> Result<(), AllocError> {
+    for case in &CASES {
+        check(&rt, rt.alloc(), case)?;
+    }
+    Ok(())
+}
+
+/// So many eligible candidates, each of which needs the next one, and the last one `end`.
+fn chain(alloc: Global, n: u32, end: &[u32]) -> Result<System, AllocError> {
+    let mut s = System::new(alloc, vec![in alloc; true; n as usize]?);
+    for k in 0..n {
+        let next = [k.saturating_add(1)];
+        let any = if next[0] < n { &next } else { end };
+        if s.admits(k, any) {
+            s.add_need(Need {
+                of: k,
+                any: any.to_vec(alloc)?,
+            })?;
+        }
+    }
+    Ok(s)
+}
+
+#[test]
+fn long_chains(rt: HostRuntime) -> Result<(), AllocError> {
+    // one falls from its end, and one ends in its begin
+    for (end, members, strikes) in [(&[][..], 0, 4999), (&[0][..], 5000, 0)] {
+        let s = chain(rt.alloc(), 5000, end)?;
+        let (kept, count) = Worklist::count(rt.alloc(), &s)?;
+        assert_eq!(rt; s.needs().len(), 5000);
+        assert_eq!(rt; kept.flags().iter().filter(|flag| **flag).count(), members);
+        assert_eq!(rt; count.strikes, strikes);
+    }
+    Ok(())
+}
+
+#[test]
+fn a_set_grows_by_its_rules(rt: HostRuntime) -> Result<(), AllocError> {
+    let mut rules = Rules::new(rt.alloc(), &[true, false, false])?;
+    rules.add_number(false)?;
+    let listed: [(&[u32], u32); 3] = [(&[0], 1), (&[1, 2], 3), (&[3], 2)];
+    for (these, that) in listed {
+        if rules.admits(these, that) {
+            rules.add_rule(Rule {
+                these: these.to_vec(rt.alloc())?,
+                that,
+            })?;
+        }
+    }
+    let set = least(rt.alloc(), &rules)?;
+    assert_eq!(rt; rules.size(), 4);
+    assert_eq!(rt; set.as_slice(), [true, true, false, false].as_slice());
+    Ok(())
+}

@@ -1,0 +1,57 @@
+//! What stands under a key, and lists that rise by their keys.
+ghost use Rattle.std.specs.Prelude.{◌≡◌, ◌<◌, ◌≤◌, ◌↔◌, length, take, drop, IsTrue, All, IfOk, IfErr};
+ghost use Rattle.std.specs.Ordering.{is_lt};
+ghost use Rattle.terms.specs.Rising.{Rises, Splits, Stands};
+
+use std::alloc::{AllocError, Global};
+
+/// What stands under a key.
+pub trait Keyed {
+    type Key: Ord + Copy;
+
+    ghost key_of: { Self → Self.Key };
+
+    fn key(&self) -> Self::Key
+        ensures { result ≡ key_of self.now };
+}
+
+/// What can be copied where memory lasts.
+pub trait TryClone: Drop {
+    fn try_clone(&self, alloc: Global) -> Result<Self, AllocError>
+        ensures { IfOk result (λ copy. copy ≡ self.now) };
+}
+
+/// Where the key is, or where it would come in.
+pub(crate) fn place<T: Keyed>(items: &[T], key: T::Key) -> Result<usize, usize>
+    requires { Rises T.Key.cmp T.key_of items.now }
+    ensures found { IfOk result
+        (λ i. (i < length items.now) × ((x : T) × Stands T.Key.cmp T.key_of key items.now i x)) }
+    ensures missing { IfErr result
+        (λ i. (i ≤ length items.now)
+        × Splits T.Key.cmp T.key_of key (take i items.now) (drop i items.now)) }
+{
+    items.binary_search_by_key(&key, |item| item.key())
+}
+
+/// Whether all items stand before the key.
+pub(crate) fn stands_last<T: Keyed>(items: &[T], key: T::Key) -> bool
+    requires { Rises T.Key.cmp T.key_of items.now }
+    ensures { IsTrue result ↔ All (λ x. IsTrue (is_lt (T.Key.cmp (T.key_of x) key))) items.now }
+{
+    match items.last() {
+        Some(last) => last.key() < key,
+        None => true,
+    }
+}
+
+/// Whether the keys rise, none twice.
+pub fn are_rising<T: Keyed>(items: &[T]) -> bool
+    ensures { IsTrue result ↔ Rises T.Key.cmp T.key_of items.now }
+{
+    for i in 0..items.len() {
+        if !stands_last(&items[..i], items[i].key()) {
+            return false;
+        }
+    }
+    true
+}
