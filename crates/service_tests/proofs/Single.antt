@@ -1,6 +1,6 @@
 -- A list of one item.
 use Rattle.std.proofs.Common.{◌≡◌, ◌⊎◌, ◌∙◌, inl, inr, List, [], ◌∷◌, length, Contains, sym, arith}
-use Rattle.terms.proofs.Apart.{here_or, none_in}
+use Rattle.lemmas.proofs.Members.{here_or, none_in}
 
 is_it : {X : Type 0} (z x : X) → (z ≡ x) ⊎ Contains [] x → z ≡ x
 is_it z x (inl same) = same
