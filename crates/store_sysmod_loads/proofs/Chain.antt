@@ -1,8 +1,8 @@
 -- Queries of the store, one after the other.
 use Rattle.std.proofs.Common.{◌≡◌, arith, sym, subst}
-use Rattle.sqlite.specs.State.{State, HasCleanDisk, IsUnchanged, KeepsCommit, Survives}
+use Rattle.sqlite.specs.State.{State, HasCleanDisk, IsUnchanged, Survives}
 use Rattle.store_rows.specs.Rows.{Contents, HasContents}
-use Rattle.store_rows.proofs.Queries.{same_then, kept_then, crash_then}
+use Rattle.store_rows.proofs.Queries.{same_then, crash_then}
 use Rattle.store_schema.specs.Tables.{store_schema}
 
 -- what a query that ran leaves
@@ -15,12 +15,6 @@ follows_then a b c p q = record {
   same = same_then store_schema a b c p.same q.crash q.same;
   crash = crash_then store_schema a b c p.same p.crash q.crash;
 }
-
-pub kept_by : (a b c : State) → Follows a b → Survives b c (λ _. ¬ (b.now.schema ≡ store_schema)) → (HasCleanDisk c → b.now.schema ≡ store_schema → KeepsCommit b c) → HasCleanDisk c → a.now.schema ≡ store_schema → KeepsCommit a c
-kept_by a b c p later next = kept_then store_schema a b c p.same later next
-
-pub crash_by : (a b c : State) → Follows a b → Survives b c (λ _. ¬ (b.now.schema ≡ store_schema)) → Survives a c (λ _. ¬ (a.now.schema ≡ store_schema))
-crash_by a b c p later = crash_then store_schema a b c p.same p.crash later
 
 pub clean_before : (b c : State) (P : Rattle.sqlite.specs.Tree.Trees → Type 0) → Survives b c P → HasCleanDisk c → HasCleanDisk b
 clean_before b c P later clean = omega (arith, later.clean, clean)
