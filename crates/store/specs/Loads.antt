@@ -5,7 +5,7 @@ use Rattle.store_schema.specs.declared.error.StoreError.{StoreError}
 use Rattle.store_schema.specs.declared.error.StoreError.TheVariants.{Fault, NoState, Memory}
 
 -- rows that stand for nothing stand for no state
-abbrev pub told : ReadError → StoreError
-told read.Memory = Memory
-told read.Fault = Fault
-told read.BadRow = NoState
+abbrev pub store_error : ReadError → StoreError
+store_error read.Memory = Memory
+store_error read.Fault = Fault
+store_error read.BadRow = NoState

@@ -6,7 +6,7 @@ ghost use Rattle.sqlite.specs.State.{HasCleanDisk};
 ghost use Rattle.store_schema.specs.Inventory.{Inventory};
 ghost use Rattle.store_zone_loads.specs.Found.{zone_in, head_of};
 ghost use Rattle.store.specs.View.{Tables, TablesIfOpen, Leaves};
-ghost use Rattle.store.specs.Loads.{told};
+ghost use Rattle.store.specs.Loads.{store_error};
 
 use crate::global_load::load_global;
 use crate::open::Store;
@@ -19,8 +19,8 @@ use sysmods::Global;
 use zones::Zone;
 
 /// How an error of reading is told: rows that stand for nothing stand for no state.
-fn told(error: ReadError) -> StoreError
-    ensures value { result ≡ told error }
+fn store_error(error: ReadError) -> StoreError
+    ensures value { result ≡ store_error error }
     ensures which { result ≢ StoreError.OtherSchema }
 {
     match error {
@@ -45,7 +45,7 @@ impl<S: Alter> Store<S> {
         prove!(self.conn.is_autocommit());
         match load_global(self.alloc, &mut self.conn) {
             Ok(global) => Ok(global),
-            Err(error) => Err(told(error)),
+            Err(error) => Err(store_error(error)),
         }
     }
 
@@ -63,7 +63,7 @@ impl<S: Alter> Store<S> {
         prove!(self.conn.is_autocommit());
         match store_zone_loads::load_zone(self.alloc, &mut self.conn, name) {
             Ok(zone) => Ok(zone),
-            Err(error) => Err(told(error)),
+            Err(error) => Err(store_error(error)),
         }
     }
 
@@ -81,7 +81,7 @@ impl<S: Alter> Store<S> {
         prove!(self.conn.is_autocommit());
         match store_zone_loads::zone_heads(self.alloc, &mut self.conn) {
             Ok(heads) => Ok(heads),
-            Err(error) => Err(told(error)),
+            Err(error) => Err(store_error(error)),
         }
     }
 
@@ -99,7 +99,7 @@ impl<S: Alter> Store<S> {
         prove!(self.conn.is_autocommit());
         match store_zone_loads::zone_names(self.alloc, &mut self.conn) {
             Ok(names) => Ok(names),
-            Err(error) => Err(told(error)),
+            Err(error) => Err(store_error(error)),
         }
     }
 }

@@ -1,4 +1,5 @@
 pub mod Numbered
+pub mod Reads
 pub mod Rows
 pub mod Inside
 pub mod Texts

@@ -16,9 +16,6 @@ follows_then a b c p q = record {
   crash = crash_then store_schema a b c p.same p.crash q.crash;
 }
 
-pub crash_by : (a b c : State) → Follows a b → Survives b c (λ _. ¬ (b.now.schema ≡ store_schema)) → Survives a c (λ _. ¬ (a.now.schema ≡ store_schema))
-crash_by a b c p later = crash_then store_schema a b c p.same p.crash later
-
 pub clean_before : (b c : State) (P : Rattle.sqlite.specs.Tree.Trees → Type 0) → Survives b c P → HasCleanDisk c → HasCleanDisk b
 clean_before b c P later clean = omega (arith, later.clean, clean)
 

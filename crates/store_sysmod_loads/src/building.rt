@@ -96,7 +96,7 @@ fn take_sysmod(
 ) -> Result<Sysmod, ReadError>
     requires { AreBare vers.old.items }
     ensures bare { AreBare vers.new.items }
-    ensures told { IfOk result (λ s. IsTaken head s vers.old.items ifs.old.items elems.old.items vers.new.items ifs.new.items elems.new.items) }
+    ensures taken { IfOk result (λ s. IsTaken head s vers.old.items ifs.old.items elems.old.items vers.new.items ifs.new.items elems.new.items) }
     ensures only { IfOk result (λ s. (other : SysmodTerm) (vs : List VerLine) (is : List IfLine) (es : List ElemLine) → IsTaken head other vers.old.items ifs.old.items elems.old.items vs is es
         → (other ≡ s) × (vs ≡ vers.new.items) × (is ≡ ifs.new.items) × (es ≡ elems.new.items)) }
     ensures none { IsErrOf result ReadError.BadRow → (other : SysmodTerm) (vs : List VerLine) (is : List IfLine) (es : List ElemLine) → ¬ IsTaken head other vers.old.items ifs.old.items elems.old.items vs is es }
@@ -123,7 +123,7 @@ pub(crate) fn assemble(
     mut elems: VecDeque<ElemRow>,
 ) -> Result<Vec<Sysmod>, ReadError>
     requires { AreBare vers.items }
-    ensures told { IfOk result (λ ss. AreTaken heads.items ss.items vers.items ifs.items elems.items) }
+    ensures taken { IfOk result (λ ss. AreTaken heads.items ss.items vers.items ifs.items elems.items) }
     ensures only { IfOk result (λ ss. (others : List SysmodTerm) → AreTaken heads.items others vers.items ifs.items elems.items → others ≡ ss.items) }
     ensures none { IsErrOf result ReadError.BadRow → (others : List SysmodTerm) → ¬ AreTaken heads.items others vers.items ifs.items elems.items }
 {

@@ -1,8 +1,9 @@
 //! The SYSMODs of the global zone.
 
-ghost use Rattle.std.specs.Prelude.{◌≡◌, false, List, OnOk, IfOk, IsErrOf};
+ghost use Rattle.std.specs.Prelude.{◌≡◌, List, IfOk, IsErrOf};
 ghost use Rattle.sqlite.specs.Held.{state};
-ghost use Rattle.sqlite.specs.State.{HasCleanDisk, IsUnchanged, KeepsCommit, Survives};
+ghost use Rattle.sqlite.specs.State.{HasCleanDisk};
+ghost use Rattle.store_rows.specs.Reads.{OnlyReads};
 ghost use Rattle.store_rows.specs.Rows.{Contents, HasContents};
 ghost use Rattle.store_schema.specs.Inventory.{Inventory};
 ghost use Rattle.store_schema.specs.Stands.{StandsFor};
@@ -28,10 +29,7 @@ pub fn load_sysmods<S: Alter>(
     ensures none { HasCleanDisk (state S.Store conn.new) → IsErrOf result ReadError.BadRow → (contents : Contents) → HasContents store_schema contents (state S.Store conn.old).now
         → (sysmods : List SysmodTerm) → AreFormed sysmods → ¬ AreRowsOf sysmods contents }
     ensures no_state { HasCleanDisk (state S.Store conn.new) → IsErrOf result ReadError.BadRow → (i : Inventory) → ¬ StandsFor i (state S.Store conn.old).now }
-    ensures same { HasCleanDisk (state S.Store conn.new) → conn.old.schema ≡ store_schema → OnOk result (IsUnchanged (state S.Store conn.old) (state S.Store conn.new)) }
-    ensures kept { HasCleanDisk (state S.Store conn.new) → conn.old.schema ≡ store_schema → KeepsCommit (state S.Store conn.old) (state S.Store conn.new) }
-    ensures crash { Survives (state S.Store conn.old) (state S.Store conn.new) (λ _. ¬ (conn.old.schema ≡ store_schema)) }
-    ensures mode { conn.old.in_transaction ≡ false → conn.new.in_transaction ≡ false }
+    ensures reads { OnlyReads S.Store (conn.old.schema ≡ store_schema) conn.old conn.new result }
 {
     let rows = load_rows(alloc, conn)?;
     gathered(alloc, rows)

@@ -1,9 +1,10 @@
 //! The rows of a table, sorted.
 
-ghost use Rattle.std.specs.Prelude.{◌≡◌, false, List, map, OnOk, IfOk, IsErrOf, IsPermutation};
+ghost use Rattle.std.specs.Prelude.{◌≡◌, List, map, IfOk, IsErrOf, IsPermutation};
 ghost use Rattle.std.specs.List.{AllByRecursion};
 ghost use Rattle.sqlite.specs.Held.{state};
-ghost use Rattle.sqlite.specs.State.{HasCleanDisk, IsUnchanged, KeepsCommit, Survives};
+ghost use Rattle.sqlite.specs.State.{HasCleanDisk};
+ghost use Rattle.store_rows.specs.Reads.{OnlyReads};
 ghost use Rattle.store_rows.specs.Rows.{Contents, HasContents};
 ghost use Rattle.store_schema.specs.Tables.{store_schema};
 ghost use Rattle.terms.specs.Rising.{Rises};
@@ -58,10 +59,7 @@ pub(crate) fn load_sorted<S: Alter, T: Listed>(
         → IfOk result (λ items. (xs : List T.Item) → AllByRecursion T.has_form xs → Rises T.Key.cmp T.key_of xs → IsPermutation (map T.row_of xs) (contents T.table.tree) → items.items ≡ xs) }
     ensures none { HasCleanDisk (state S.Store conn.new) → IsErrOf result ReadError.BadRow → (contents : Contents) → HasContents store_schema contents (state S.Store conn.old).now
         → (xs : List T.Item) → AllByRecursion T.has_form xs → ¬ IsPermutation (map T.row_of xs) (contents T.table.tree) }
-    ensures same { HasCleanDisk (state S.Store conn.new) → conn.old.schema ≡ store_schema → OnOk result (IsUnchanged (state S.Store conn.old) (state S.Store conn.new)) }
-    ensures kept { HasCleanDisk (state S.Store conn.new) → conn.old.schema ≡ store_schema → KeepsCommit (state S.Store conn.old) (state S.Store conn.new) }
-    ensures crash { Survives (state S.Store conn.old) (state S.Store conn.new) (λ _. ¬ (conn.old.schema ≡ store_schema)) }
-    ensures mode { conn.old.in_transaction ≡ false → conn.new.in_transaction ≡ false }
+    ensures reads { OnlyReads S.Store (conn.old.schema ≡ store_schema) conn.old conn.new result }
 {
     let items = load::<S, T>(alloc, conn, T::query(), &[])?;
     Ok(sorted::<T>(items))

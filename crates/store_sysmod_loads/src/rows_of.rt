@@ -1,8 +1,9 @@
 //! All rows of SYSMODs, and the SYSMODs that they are.
 
-ghost use Rattle.std.specs.Prelude.{◌≡◌, false, List, OnOk, IfOk, IsErrOf};
+ghost use Rattle.std.specs.Prelude.{◌≡◌, List, IfOk, IsErrOf};
 ghost use Rattle.sqlite.specs.Held.{state};
-ghost use Rattle.sqlite.specs.State.{HasCleanDisk, IsUnchanged, KeepsCommit, Survives};
+ghost use Rattle.sqlite.specs.State.{HasCleanDisk};
+ghost use Rattle.store_rows.specs.Reads.{OnlyReads};
 ghost use Rattle.store_rows.specs.Rows.{Contents, HasContents};
 ghost use Rattle.store_schema.specs.Tables.{store_schema};
 ghost use Rattle.terms.specs.Types.{Sysmod as SysmodTerm};
@@ -40,10 +41,7 @@ pub(crate) fn load_rows<S: Alter>(
         → IfOk result (λ rows. (sysmods : List SysmodTerm) → AreFormed sysmods → AreRowsOf sysmods contents → HasRows rows sysmods) }
     ensures none { HasCleanDisk (state S.Store conn.new) → IsErrOf result ReadError.BadRow → (contents : Contents) → HasContents store_schema contents (state S.Store conn.old).now
         → (sysmods : List SysmodTerm) → AreFormed sysmods → ¬ AreRowsOf sysmods contents }
-    ensures same { HasCleanDisk (state S.Store conn.new) → conn.old.schema ≡ store_schema → OnOk result (IsUnchanged (state S.Store conn.old) (state S.Store conn.new)) }
-    ensures kept { HasCleanDisk (state S.Store conn.new) → conn.old.schema ≡ store_schema → KeepsCommit (state S.Store conn.old) (state S.Store conn.new) }
-    ensures crash { Survives (state S.Store conn.old) (state S.Store conn.new) (λ _. ¬ (conn.old.schema ≡ store_schema)) }
-    ensures mode { conn.old.in_transaction ≡ false → conn.new.in_transaction ≡ false }
+    ensures reads { OnlyReads S.Store (conn.old.schema ≡ store_schema) conn.old conn.new result }
 {
     let heads = load_sorted::<S, Heads>(alloc, conn)?;
     let vers = load_sorted::<S, Vers>(alloc, conn)?;
@@ -60,7 +58,7 @@ pub(crate) fn load_rows<S: Alter>(
 /// The SYSMODs whose rows these are.
 pub(crate) fn gathered(alloc: Global, rows: FlatRows) -> Result<Vec<Sysmod>, ReadError>
     requires { AreBare rows.vers.items }
-    ensures told { IfOk result (λ sysmods. IsGathered rows sysmods.items) }
+    ensures taken { IfOk result (λ sysmods. IsGathered rows sysmods.items) }
     ensures only { IfOk result (λ sysmods. (others : List SysmodTerm) → AreFormed others → HasRows rows others → others ≡ sysmods.items) }
     ensures none { IsErrOf result ReadError.BadRow → (others : List SysmodTerm) → AreFormed others → ¬ HasRows rows others }
 {

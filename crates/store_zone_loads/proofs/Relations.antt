@@ -11,7 +11,7 @@ use Rattle.lemmas.proofs.Pairs.{pairs_map}
 use Rattle.store_schema.specs.Inventory as inventory
 use Rattle.store_schema.specs.Inventory.{Inventory, IsInventory, HasDistribution, IsRelated}
 use Rattle.store_zone_loads.specs.Found.{head_of}
-use Rattle.store_zone_loads.specs.Related.{IsDistributionOf, IsRelatedAmong, AreApart, AreRelated}
+use Rattle.store_zone_loads.specs.Related.{IsDistributionOf, IsRelatedAmong, HeadsAreApart, AreRelated}
 
 distribution : (zones : List NamedZone) (name srel : Text) → HasDistribution zones name srel → Any (IsDistributionOf name srel) (map head_of zones)
 distribution zones name srel h =
@@ -27,5 +27,5 @@ related_among zones Distribution srel related r = subst (λ o. IfSome o (λ name
 pub heads_related : (i : Inventory) → IsInventory i → AreRelated (map head_of i.zones)
 heads_related i h = record {
   related = All-map (IsRelatedAmong (map head_of i.zones)) head_of i.zones (λ k d within. let z = get_or i.zones k d in related_among i.zones z.zone.kind z.zone.srel z.zone.related (h.related k d within));
-  apart = pairs_map inventory.AreApart AreApart head_of (λ a b apart. apart) i.zones h.apart;
+  apart = pairs_map inventory.AreApart HeadsAreApart head_of (λ a b apart. apart) i.zones h.apart;
 }

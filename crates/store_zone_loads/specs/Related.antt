@@ -14,10 +14,10 @@ abbrev pub IsRelatedAmong : List ZoneHead → ZoneHead → Type 0
 IsRelatedAmong heads h = IfSome h.related (λ name. Any (IsDistributionOf name h.srel) heads)
 
 -- the second names no zone that the first names
-abbrev pub AreApart : ZoneHead → ZoneHead → Type 0
-AreApart a b = IfSome a.related (λ name. b.related ≢ Some name)
+abbrev pub HeadsAreApart : ZoneHead → ZoneHead → Type 0
+HeadsAreApart a b = IfSome a.related (λ name. b.related ≢ Some name)
 
 -- Each related zone is there, and no two zones name one.
 pub record AreRelated (heads : List ZoneHead) : Type 0 where
   pub related : All (IsRelatedAmong heads) heads
-  pub apart : AllPairs AreApart heads
+  pub apart : AllPairs HeadsAreApart heads

@@ -1,11 +1,12 @@
 //! The table of zones.
 
-ghost use Rattle.std.specs.Prelude.{◌≡◌, ◌≢◌, ◌==◌, false, List, Option, map, option_map, IfOk, OnOk, OnErr, IsErrOf, IsPermutation};
+ghost use Rattle.std.specs.Prelude.{◌≡◌, ◌≢◌, ◌==◌, List, Option, map, option_map, IfOk, OnErr, IsErrOf, IsPermutation};
 ghost use Rattle.std.specs.Option.{option_to_list};
 ghost use Rattle.std.specs.Ordering.{nat_cmp};
 ghost use Rattle.std.specs.Cmp.Lexicographic.{slice_cmp};
 ghost use Rattle.sqlite.specs.Held.{state};
-ghost use Rattle.sqlite.specs.State.{HasCleanDisk, IsUnchanged, KeepsCommit, Survives};
+ghost use Rattle.sqlite.specs.State.{HasCleanDisk};
+ghost use Rattle.store_rows.specs.Reads.{OnlyReads};
 ghost use Rattle.terms.specs.Rising.{Rises};
 ghost use Rattle.store_schema.specs.Inventory.{Inventory};
 ghost use Rattle.store_schema.specs.Stands.{StandsFor};
@@ -114,10 +115,7 @@ fn head_rows<S: Alter>(
 ) -> Result<Vec<ZoneHead>, ReadError>
     ensures found { HasCleanDisk (state S.Store conn.new) → (i : Inventory) → StandsFor i (state S.Store conn.old).now → IfOk result (λ heads. heads.items ≡ option_to_list (option_map (head_in name.now) (zone_in i name.now))) }
     ensures none { HasCleanDisk (state S.Store conn.new) → IsErrOf result ReadError.BadRow → (i : Inventory) → ¬ StandsFor i (state S.Store conn.old).now }
-    ensures same { HasCleanDisk (state S.Store conn.new) → conn.old.schema ≡ store_schema → OnOk result (IsUnchanged (state S.Store conn.old) (state S.Store conn.new)) }
-    ensures kept { HasCleanDisk (state S.Store conn.new) → conn.old.schema ≡ store_schema → KeepsCommit (state S.Store conn.old) (state S.Store conn.new) }
-    ensures crash { Survives (state S.Store conn.old) (state S.Store conn.new) (λ _. ¬ (conn.old.schema ≡ store_schema)) }
-    ensures mode { conn.old.in_transaction ≡ false → conn.new.in_transaction ≡ false }
+    ensures reads { OnlyReads S.Store (conn.old.schema ≡ store_schema) conn.old conn.new result }
 {
     load::<S, Heads>(
         alloc,
@@ -146,10 +144,7 @@ pub(crate) fn zone_head<S: Alter>(
 ) -> Result<Option<ZoneHead>, ReadError>
     ensures found { HasCleanDisk (state S.Store conn.new) → (i : Inventory) → StandsFor i (state S.Store conn.old).now → IfOk result (λ head. head ≡ option_map (head_in name.now) (zone_in i name.now)) }
     ensures none { HasCleanDisk (state S.Store conn.new) → IsErrOf result ReadError.BadRow → (i : Inventory) → ¬ StandsFor i (state S.Store conn.old).now }
-    ensures same { HasCleanDisk (state S.Store conn.new) → conn.old.schema ≡ store_schema → OnOk result (IsUnchanged (state S.Store conn.old) (state S.Store conn.new)) }
-    ensures kept { HasCleanDisk (state S.Store conn.new) → conn.old.schema ≡ store_schema → KeepsCommit (state S.Store conn.old) (state S.Store conn.new) }
-    ensures crash { Survives (state S.Store conn.old) (state S.Store conn.new) (λ _. ¬ (conn.old.schema ≡ store_schema)) }
-    ensures mode { conn.old.in_transaction ≡ false → conn.new.in_transaction ≡ false }
+    ensures reads { OnlyReads S.Store (conn.old.schema ≡ store_schema) conn.old conn.new result }
 {
     let heads = head_rows(alloc, conn, name)?;
     at_most_one(heads.as_slice())
@@ -162,10 +157,7 @@ fn all_head_rows<S: Alter>(
 ) -> Result<Vec<ZoneHead>, ReadError>
     ensures found { HasCleanDisk (state S.Store conn.new) → (i : Inventory) → StandsFor i (state S.Store conn.old).now → IfOk result (λ heads. IsPermutation heads.items (map head_of i.zones)) }
     ensures none { HasCleanDisk (state S.Store conn.new) → IsErrOf result ReadError.BadRow → (i : Inventory) → ¬ StandsFor i (state S.Store conn.old).now }
-    ensures same { HasCleanDisk (state S.Store conn.new) → conn.old.schema ≡ store_schema → OnOk result (IsUnchanged (state S.Store conn.old) (state S.Store conn.new)) }
-    ensures kept { HasCleanDisk (state S.Store conn.new) → conn.old.schema ≡ store_schema → KeepsCommit (state S.Store conn.old) (state S.Store conn.new) }
-    ensures crash { Survives (state S.Store conn.old) (state S.Store conn.new) (λ _. ¬ (conn.old.schema ≡ store_schema)) }
-    ensures mode { conn.old.in_transaction ≡ false → conn.new.in_transaction ≡ false }
+    ensures reads { OnlyReads S.Store (conn.old.schema ≡ store_schema) conn.old conn.new result }
 {
     load::<S, Heads>(
         alloc,
@@ -196,10 +188,7 @@ pub fn zone_heads<S: Alter>(
     ensures found { HasCleanDisk (state S.Store conn.new) → (i : Inventory) → StandsFor i (state S.Store conn.old).now → IfOk result (λ heads. heads.items ≡ map head_of i.zones) }
     ensures related { IfOk result (λ heads. AreRelated heads.items) }
     ensures none { HasCleanDisk (state S.Store conn.new) → IsErrOf result ReadError.BadRow → (i : Inventory) → ¬ StandsFor i (state S.Store conn.old).now }
-    ensures same { HasCleanDisk (state S.Store conn.new) → conn.old.schema ≡ store_schema → OnOk result (IsUnchanged (state S.Store conn.old) (state S.Store conn.new)) }
-    ensures kept { HasCleanDisk (state S.Store conn.new) → conn.old.schema ≡ store_schema → KeepsCommit (state S.Store conn.old) (state S.Store conn.new) }
-    ensures crash { Survives (state S.Store conn.old) (state S.Store conn.new) (λ _. ¬ (conn.old.schema ≡ store_schema)) }
-    ensures mode { conn.old.in_transaction ≡ false → conn.new.in_transaction ≡ false }
+    ensures reads { OnlyReads S.Store (conn.old.schema ≡ store_schema) conn.old conn.new result }
 {
     let heads = all_head_rows(alloc, conn)?;
     let sorted = by_name(heads)?;
@@ -223,10 +212,7 @@ pub fn zone_names<S: Alter>(
 ) -> Result<Vec<ZoneName>, ReadError>
     ensures found { HasCleanDisk (state S.Store conn.new) → (i : Inventory) → StandsFor i (state S.Store conn.old).now → IfOk result (λ names. names.items ≡ map (λ z. z.name) i.zones) }
     ensures none { HasCleanDisk (state S.Store conn.new) → IsErrOf result ReadError.BadRow → (i : Inventory) → ¬ StandsFor i (state S.Store conn.old).now }
-    ensures same { HasCleanDisk (state S.Store conn.new) → conn.old.schema ≡ store_schema → OnOk result (IsUnchanged (state S.Store conn.old) (state S.Store conn.new)) }
-    ensures kept { HasCleanDisk (state S.Store conn.new) → conn.old.schema ≡ store_schema → KeepsCommit (state S.Store conn.old) (state S.Store conn.new) }
-    ensures crash { Survives (state S.Store conn.old) (state S.Store conn.new) (λ _. ¬ (conn.old.schema ≡ store_schema)) }
-    ensures mode { conn.old.in_transaction ≡ false → conn.new.in_transaction ≡ false }
+    ensures reads { OnlyReads S.Store (conn.old.schema ≡ store_schema) conn.old conn.new result }
 {
     let heads = zone_heads(alloc, conn)?;
     Ok(names_of(alloc, heads.as_slice())?)

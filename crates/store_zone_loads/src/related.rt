@@ -2,7 +2,7 @@
 
 ghost use Rattle.std.specs.Prelude.{◌≡◌, ◌↔◌, IsTrue, All, AllPairs, IfOk, IsErrOf};
 ghost use Rattle.std.specs.List.{Any};
-ghost use Rattle.store_zone_loads.specs.Related.{IsDistributionOf, IsRelatedAmong, AreApart, AreRelated};
+ghost use Rattle.store_zone_loads.specs.Related.{IsDistributionOf, IsRelatedAmong, HeadsAreApart, AreRelated};
 
 use crate::head::ZoneHead;
 use fields::{Srel, ZoneName};
@@ -40,7 +40,7 @@ fn are_related(heads: &[ZoneHead]) -> bool
 
 /// Whether the second names no zone that the first names.
 fn is_apart(head: &ZoneHead, other: &ZoneHead) -> bool
-    ensures { IsTrue result ↔ AreApart head.now other.now }
+    ensures { IsTrue result ↔ HeadsAreApart head.now other.now }
 {
     match head.related {
         Some(name) => other.related != Some(name),
@@ -49,13 +49,13 @@ fn is_apart(head: &ZoneHead, other: &ZoneHead) -> bool
 }
 
 fn is_apart_from(heads: &[ZoneHead], other: &ZoneHead) -> bool
-    ensures { IsTrue result ↔ All (λ head. AreApart head other.now) heads.now }
+    ensures { IsTrue result ↔ All (λ head. HeadsAreApart head other.now) heads.now }
 {
     heads.iter().all(|head| is_apart(head, other))
 }
 
 fn are_apart(heads: &[ZoneHead]) -> bool
-    ensures { IsTrue result ↔ AllPairs AreApart heads.now }
+    ensures { IsTrue result ↔ AllPairs HeadsAreApart heads.now }
 {
     for i in 0..heads.len() {
         if !is_apart_from(&heads[..i], &heads[i]) {

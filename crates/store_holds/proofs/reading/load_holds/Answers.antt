@@ -1,10 +1,8 @@
-use Rattle.std.proofs.Common.{IsErrOf, map, rules, sym, subst}
+use Rattle.std.proofs.Common.{IsErrOf, map, rules}
 use Rattle.std.proofs.lemmas.List.Sorted.{IsPermutation-sym, IsPermutation-trans, IsPermutation-map}
 use Rattle.sqlite.specs.Held.{state}
-use Rattle.sqlite.specs.Given.{IsPlain}
-use Rattle.sqlite.specs.Listing.{understood}
-use Rattle.sqlite.proofs.StateLemmas.{survives_weaker}
 use Rattle.sqlite_rules.proofs.ListLemmas.{all_has, all_from}
+use Rattle.store_rows.proofs.Queries.{reads_err, reads_more, reads_text}
 use Rattle.store_rows.specs.declared.error.ReadError.TheVariants.{BadRow}
 use Rattle.store_rows.proofs.ContentsLemmas.{held_at, all_found, found_all}
 use Rattle.store_rows.proofs.RowLemmas.{has_permuted}
@@ -31,13 +29,6 @@ returns-in_err-holds-clause-no_state g c clean bad i stands =
     c.load.ensures.none clean failed store_schema hold reads_holds stands.tables.schema_is i.global.holds (holds_formed i stands.inventory)
     (found_all hold (rows_of i hold.tree) (map hold_row i.global.holds) (trees hold.tree) are (holds_rows i))
 
-pub returns-in_err-holds-clause-kept : goal.returns-in_err-holds-clause-kept
-returns-in_err-holds-clause-kept g c clean has = c.load.ensures.kept clean (subst (λ s. IsPlain (understood s select_holds)) (sym has) reads_holds.plain)
-
-pub returns-in_err-holds-clause-crash : goal.returns-in_err-holds-clause-crash
-returns-in_err-holds-clause-crash g c =
-    survives_weaker _ _ _ _ (λ _ db foreign has. foreign (subst (λ s. IsPlain (understood s select_holds)) (sym has) reads_holds.plain)) c.load.ensures.crash
-
 pub returns-clause-found : goal.returns-clause-found
 returns-clause-found g c clean contents was =
     let trees = (state g.S.Store c.args.conn.now).now.trees in
@@ -58,12 +49,12 @@ returns-clause-forms g c =
     let new = c.by_key.result.items in
     all_from HasHoldForms new (λ x there. all_has HasHoldForms old x c.in_ok-holds.ensures.forms (has_permuted new old x (IsPermutation-sym _ _ c.by_key.ensures.same) there))
 
-pub returns-clause-same : goal.returns-clause-same
-returns-clause-same g c clean has = c.in_ok-holds.ensures.same clean (subst (λ s. IsPlain (understood s select_holds)) (sym has) reads_holds.plain)
+pub returns-in_err-holds-clause-reads : goal.returns-in_err-holds-clause-reads
+returns-in_err-holds-clause-reads g c =
+    reads_err g.S.Store _ c.args.conn.now c.load.new.conn c.load.result _ (search rules)
+    (reads_text g.S.Store store_schema select_holds c.args.conn.now c.load.new.conn c.load.result reads_holds.plain c.load.ensures.reads)
 
-pub returns-clause-kept : goal.returns-clause-kept
-returns-clause-kept g c clean has = c.load.ensures.kept clean (subst (λ s. IsPlain (understood s select_holds)) (sym has) reads_holds.plain)
-
-pub returns-clause-crash : goal.returns-clause-crash
-returns-clause-crash g c =
-    survives_weaker _ _ _ _ (λ _ db foreign has. foreign (subst (λ s. IsPlain (understood s select_holds)) (sym has) reads_holds.plain)) c.load.ensures.crash
+pub returns-clause-reads : goal.returns-clause-reads
+returns-clause-reads g c =
+    reads_more g.S.Store _ c.args.conn.now c.load.new.conn c.load.result c.in_ok-holds.holds _ c.in_ok-holds.was
+    (reads_text g.S.Store store_schema select_holds c.args.conn.now c.load.new.conn c.load.result reads_holds.plain c.load.ensures.reads)

@@ -8,12 +8,16 @@ use Rattle.store_rows.proofs.InsideLemmas.{if_ok, on_ok_of}
 use Rattle.store_rows.proofs.ReadLemmas.{found_in, shown_unchanged, shown_keeps, failed_keeps, commits_nothing}
 use Rattle.store_rows.proofs.reading.load.Goals as goal
 
-pub returns-in_err-rows-clause-kept : goal.returns-in_err-rows-clause-kept
-returns-in_err-rows-clause-kept g c clean plain =
-    failed_keeps c.args.sql.now (bound c.args.key.now) (state g.S.Store c.args.conn.now) (state g.S.Store c.query_all.new.self) _ plain (c.in_err-rows.ensures.err clean)
-
-pub returns-in_err-rows-clause-crash : goal.returns-in_err-rows-clause-crash
-returns-in_err-rows-clause-crash g c = commits_nothing c.args.sql.now (bound c.args.key.now) _ _ c.query_all.ensures.survives
+pub returns-in_err-rows-clause-reads : goal.returns-in_err-rows-clause-reads
+returns-in_err-rows-clause-reads g c =
+    let old = state g.S.Store c.args.conn.now in
+    let new = state g.S.Store c.query_all.new.self in
+    record {
+      same = λ clean plain. search rules;
+      kept = λ clean plain. failed_keeps c.args.sql.now (bound c.args.key.now) old new _ plain (c.in_err-rows.ensures.err clean);
+      crash = commits_nothing c.args.sql.now (bound c.args.key.now) old new c.query_all.ensures.survives;
+      mode = search rules;
+    }
 
 pub returns-clause-found : goal.returns-clause-found
 returns-clause-found g c clean =
@@ -34,13 +38,15 @@ returns-clause-none g c clean bad schema table text has items forms found =
     let same : IsPermutation (map g.T.FromRow.row_of items) rows = IsPermutation-trans _ _ _ found (IsPermutation-sym _ _ all) in
     c.read_all.ensures.none bad items forms (rw c.as_slice.ensures.value same)
 
-pub returns-clause-same : goal.returns-clause-same
-returns-clause-same g c clean plain =
-    on_ok_of c.read_all.result (shown_unchanged c.args.sql.now (bound c.args.key.now) (state g.S.Store c.args.conn.now) (state g.S.Store c.query_all.new.self) c.in_ok-rows.rows.items plain (c.in_ok-rows.ensures.ok clean))
-
-pub returns-clause-kept : goal.returns-clause-kept
-returns-clause-kept g c clean plain =
-    shown_keeps c.args.sql.now (bound c.args.key.now) (state g.S.Store c.args.conn.now) (state g.S.Store c.query_all.new.self) c.in_ok-rows.rows.items plain (c.in_ok-rows.ensures.ok clean)
-
-pub returns-clause-crash : goal.returns-clause-crash
-returns-clause-crash g c = commits_nothing c.args.sql.now (bound c.args.key.now) _ _ c.query_all.ensures.survives
+pub returns-clause-reads : goal.returns-clause-reads
+returns-clause-reads g c =
+    let key = bound c.args.key.now in
+    let old = state g.S.Store c.args.conn.now in
+    let new = state g.S.Store c.query_all.new.self in
+    let rows = c.in_ok-rows.rows.items in
+    record {
+      same = λ clean plain. on_ok_of c.read_all.result (shown_unchanged c.args.sql.now key old new rows plain (c.in_ok-rows.ensures.ok clean));
+      kept = λ clean plain. shown_keeps c.args.sql.now key old new rows plain (c.in_ok-rows.ensures.ok clean);
+      crash = commits_nothing c.args.sql.now key old new c.query_all.ensures.survives;
+      mode = search rules;
+    }

@@ -39,7 +39,7 @@ loop-head-preserved c =
       bare = c.in_ok-sysmod.ensures.bare;
       told = λ more h.
           subst (λ (ss : List Sysmod). AreTaken c.args.heads.items ss c.args.vers.items c.args.ifs.items c.args.elems.items) (sym (ap (λ (ss : List Sysmod). ss ++ more) pushed ∙ append_assoc sysmods (s ∷ []) more))
-          (c.loop-head.invariant.told (s ∷ more) (subst (λ (heads : List HeadRow). AreTaken heads (s ∷ more) vers ifs elems) (sym c.in-Some.ensures.some) (next_vers, next_ifs, next_elems, c.in_ok-sysmod.ensures.told, h)));
+          (c.loop-head.invariant.told (s ∷ more) (subst (λ (heads : List HeadRow). AreTaken heads (s ∷ more) vers ifs elems) (sym c.in-Some.ensures.some) (next_vers, next_ifs, next_elems, c.in_ok-sysmod.ensures.taken, h)));
       only = λ others h.
           let it = c.loop-head.invariant.only others h in
           let there = subst (λ (heads : List HeadRow). AreTaken heads it.0 vers ifs elems) c.in-Some.ensures.some it.2 in
@@ -53,8 +53,8 @@ loop-head-preserved c =
           );
     }
 
-pub returns-clause-told : goal.returns-clause-told
-returns-clause-told c =
+pub returns-clause-taken : goal.returns-clause-taken
+returns-clause-taken c =
     let vers : c.loop-head.vers.items ≡ [] = nil_from_length c.loop-head.vers.items (grind (arith, common_steps)) in
     let ifs : c.loop-head.ifs.items ≡ [] = nil_from_length c.loop-head.ifs.items (grind (arith, common_steps)) in
     let elems : c.loop-head.elems.items ≡ [] = nil_from_length c.loop-head.elems.items (grind (arith, common_steps)) in

@@ -32,7 +32,7 @@ loop-row-preserved c =
       told = subst (λ vs. c.args.rows.now.items ≡ Rattle.store_sysmod_loads.specs.Runs.ver_rows x vs ++ new) (sym grown)
           (vers_told x c.args.rows.now.items vers row c.loop-row.rows.items new found c.loop-row.invariant.told c.in-Some.ensures.some.0 c.in-Some.ensures.some.1 bare.0);
       told_ifs = subst (λ vs. HasAllIfs x c.args.ifs.now.items vs c.filled.new.ifs.items) (sym grown)
-          (all_ifs_more x c.args.ifs.now.items vers ver c.loop-row.ifs.items c.filled.new.ifs.items c.loop-row.invariant.told_ifs c.in_ok-ver.ensures.told);
+          (all_ifs_more x c.args.ifs.now.items vers ver c.loop-row.ifs.items c.filled.new.ifs.items c.loop-row.invariant.told_ifs c.in_ok-ver.ensures.taken);
       only = λ others rest more h.
           let it = c.loop-row.invariant.only others rest more h in
           let there = subst (λ (rows : List VerRow). HasVers x rows c.loop-row.ifs.items it.0 rest more) c.in-Some.ensures.some.0 it.2 in

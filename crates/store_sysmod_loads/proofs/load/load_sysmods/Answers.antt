@@ -1,7 +1,8 @@
 use Rattle.std.proofs.Common.{◌≡◌, [], IsErrOf, IsPermutation, map, rules, sym, ap, subst, ◌∙◌}
 use Rattle.std.specs.List.{AllByRecursion}
+use Rattle.store_rows.proofs.Queries.{reads_err, reads_more}
 use Rattle.store_rows.specs.declared.error.ReadError.TheVariants.{BadRow}
-use Rattle.store_rows.proofs.InsideLemmas.{if_ok, on_ok_of}
+use Rattle.store_rows.proofs.InsideLemmas.{if_ok}
 use Rattle.store_schema.specs.Tables.{sysmod, ver, ifreq, elem}
 use Rattle.store_schema.specs.Stands.{rows_of}
 use Rattle.store_sysmod_loads.specs.Flat.{row_of_head, row_of_ver, row_of_if, row_of_elem, HasHeadForms, HasVerRowForms, HasIfRowForms, HasElemRowForms}
@@ -39,7 +40,7 @@ returns-clause-rows g c clean contents was =
       vers = subst (λ rows. IsPermutation rows (contents ver.tree)) (ap (map row_of_ver) told.rows_are.vers ∙ rows_of_vers ss) found.vers;
       ifs = subst (λ rows. IsPermutation rows (contents ifreq.tree)) (ap (map row_of_if) told.rows_are.ifs ∙ rows_of_ifs ss) found.ifs;
       elems = subst (λ rows. IsPermutation rows (contents elem.tree)) (ap (map row_of_elem) told.rows_are.elems ∙ rows_of_elems ss) found.elems;
-    }) c.gathered.ensures.told
+    }) c.gathered.ensures.taken
 
 pub returns-clause-forms : goal.returns-clause-forms
 returns-clause-forms g c =
@@ -52,7 +53,7 @@ returns-clause-forms g c =
       built = told.built;
       ids = told.ids;
       none_carried = told.none_carried;
-    }) c.gathered.ensures.told
+    }) c.gathered.ensures.taken
 
 pub returns-clause-none : goal.returns-clause-none
 returns-clause-none g c clean bad contents was ss formed rows = c.gathered.ensures.none bad ss formed (c.in_ok-rows.ensures.only clean contents was ss formed rows)
@@ -62,5 +63,10 @@ returns-clause-no_state g c clean bad i stands =
     let formed = inventory_formed i stands.inventory in
     c.gathered.ensures.none bad i.global.sysmods formed (c.in_ok-rows.ensures.only clean (rows_of i) stands.tables i.global.sysmods formed (inventory_rows i))
 
-pub returns-clause-same : goal.returns-clause-same
-returns-clause-same g c clean has = on_ok_of c.gathered.result (c.in_ok-rows.ensures.same clean has)
+pub returns-in_err-rows-clause-reads : goal.returns-in_err-rows-clause-reads
+returns-in_err-rows-clause-reads g c =
+    reads_err g.S.Store _ c.args.conn.now c.load_rows.new.conn c.load_rows.result _ (search rules) c.load_rows.ensures.reads
+
+pub returns-clause-reads : goal.returns-clause-reads
+returns-clause-reads g c =
+    reads_more g.S.Store _ c.args.conn.now c.load_rows.new.conn c.load_rows.result c.in_ok-rows.rows _ c.in_ok-rows.was c.load_rows.ensures.reads

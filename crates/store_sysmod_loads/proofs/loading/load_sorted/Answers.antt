@@ -3,6 +3,7 @@ use Rattle.std.proofs.lemmas.List.Sorted.{IsPermutation-sym, IsPermutation-trans
 use Rattle.sqlite.specs.Held.{state}
 use Rattle.sqlite_rules.proofs.ListLemmas.{all_has, all_from}
 use Rattle.store_schema.specs.Tables.{store_schema}
+use Rattle.store_rows.proofs.Queries.{reads_err, reads_more, reads_text}
 use Rattle.store_rows.specs.declared.error.ReadError.TheVariants.{BadRow}
 use Rattle.store_rows.proofs.ContentsLemmas.{held_at, all_found, found_all}
 use Rattle.store_rows.proofs.RowLemmas.{has_permuted}
@@ -40,3 +41,13 @@ returns-clause-only g c clean contents was xs forms rises same =
     let all = all_found table (contents table.tree) (map g.T.FromRow.row_of items) (trees table.tree) are (c.in_ok-items.ensures.found clean store_schema table c.query.ensures.reads was.schema_is) in
     let rows : IsPermutation (map g.T.FromRow.row_of items) (map g.T.FromRow.row_of xs) = IsPermutation-trans _ _ _ all (IsPermutation-sym _ _ same) in
     c.sorted.ensures.only xs (unmapped_permutation g.T.FromRow.row_of g.T.FromRow.has_form c.query.ensures.exact items xs c.in_ok-items.ensures.forms forms rows) rises
+
+pub returns-in_err-items-clause-reads : goal.returns-in_err-items-clause-reads
+returns-in_err-items-clause-reads g c =
+    reads_err g.S.Store _ c.args.conn.now c.load.new.conn c.load.result _ (search rules)
+    (reads_text g.S.Store store_schema c.query.result.now c.args.conn.now c.load.new.conn c.load.result c.query.ensures.reads.plain c.load.ensures.reads)
+
+pub returns-clause-reads : goal.returns-clause-reads
+returns-clause-reads g c =
+    reads_more g.S.Store _ c.args.conn.now c.load.new.conn c.load.result c.in_ok-items.items _ c.in_ok-items.was
+    (reads_text g.S.Store store_schema c.query.result.now c.args.conn.now c.load.new.conn c.load.result c.query.ensures.reads.plain c.load.ensures.reads)

@@ -15,8 +15,8 @@ returns-then-not-are_rising-clause-none c bad others formed has =
     let not_rising : c.are_rising.result ≡ false = c.if-not-are_rising.true in
     absurd cc
 
-pub returns-clause-told : goal.returns-clause-told
-returns-clause-told c =
+pub returns-clause-taken : goal.returns-clause-taken
+returns-clause-taken c =
     let up : Rises (slice_cmp nat_cmp) (λ (h : HeadRow). h.id) c.args.rows.heads.items = rw c.as_slice.ensures.value at (c.are_rising.ensures.0 c.if-not-are_rising.false) in
     if_ok c.assemble.result _ _ (λ sysmods told.
     let flat = taken_flat c.from.result.items sysmods.items c.from-2.result.items c.from-3.result.items c.from-4.result.items told in
@@ -31,7 +31,7 @@ returns-clause-told c =
       built = flat.built;
       ids = ids_rise sysmods.items (subst (λ (hs : List HeadRow). Rises (slice_cmp nat_cmp) (λ h. h.id) hs) heads up);
       none_carried = flat.none_carried;
-    }) c.assemble.ensures.told
+    }) c.assemble.ensures.taken
 
 pub returns-clause-only : goal.returns-clause-only
 returns-clause-only c =

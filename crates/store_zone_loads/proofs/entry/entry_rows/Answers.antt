@@ -1,9 +1,7 @@
 use Rattle.std.proofs.Common.{◌≡◌, map, sym, ap, subst}
 use Rattle.sqlite.specs.Held.{state}
-use Rattle.sqlite.specs.Given.{IsPlain}
-use Rattle.sqlite.specs.Listing.{understood}
 use Rattle.sqlite.specs.Order.{Row}
-use Rattle.sqlite.proofs.StateLemmas.{survives_weaker}
+use Rattle.store_rows.proofs.Queries.{reads_text}
 use Rattle.store_rows.specs.Rows.{AreFound}
 use Rattle.store_rows.proofs.RowLemmas.{same_rows}
 use Rattle.store_rows.proofs.ContentsLemmas.{held_at, found_are, found_with}
@@ -38,12 +36,6 @@ returns-clause-none g c clean bad i stands =
     c.load.ensures.none clean bad store_schema entry reads_entries stands.tables.schema_is own (entry_forms i stands.inventory name)
     (subst (λ (k : Row). AreFound entry k (map row_of_entry own) (trees entry.tree)) key there)
 
-pub returns-clause-same : goal.returns-clause-same
-returns-clause-same g c clean has = c.load.ensures.same clean (subst (λ s. IsPlain (understood s select_entries)) (sym has) reads_entries.plain)
-
-pub returns-clause-kept : goal.returns-clause-kept
-returns-clause-kept g c clean has = c.load.ensures.kept clean (subst (λ s. IsPlain (understood s select_entries)) (sym has) reads_entries.plain)
-
-pub returns-clause-crash : goal.returns-clause-crash
-returns-clause-crash g c =
-    survives_weaker _ _ _ _ (λ _ db foreign has. foreign (subst (λ s. IsPlain (understood s select_entries)) (sym has) reads_entries.plain)) c.load.ensures.crash
+pub returns-clause-reads : goal.returns-clause-reads
+returns-clause-reads g c =
+    reads_text g.S.Store store_schema select_entries c.args.conn.now c.load.new.conn c.load.result reads_entries.plain c.load.ensures.reads

@@ -1,8 +1,6 @@
-use Rattle.std.proofs.Common.{map, sym, subst}
+use Rattle.std.proofs.Common.{map}
 use Rattle.sqlite.specs.Held.{state}
-use Rattle.sqlite.specs.Given.{IsPlain}
-use Rattle.sqlite.specs.Listing.{understood}
-use Rattle.sqlite.proofs.StateLemmas.{survives_weaker}
+use Rattle.store_rows.proofs.Queries.{reads_text}
 use Rattle.store_rows.proofs.RowLemmas.{same_rows}
 use Rattle.store_rows.proofs.ContentsLemmas.{held_at, all_found, found_all}
 use Rattle.store_rows.proofs.InsideLemmas.{if_ok}
@@ -29,12 +27,6 @@ returns-clause-none g c clean bad i stands =
     c.load.ensures.none clean bad store_schema zone reads_heads stands.tables.schema_is own (all_head_forms i stands.inventory)
     (found_all zone (rows_of i zone.tree) (map head_row own) (trees zone.tree) are (same_rows (all_head_rows i)))
 
-pub returns-clause-same : goal.returns-clause-same
-returns-clause-same g c clean has = c.load.ensures.same clean (subst (λ s. IsPlain (understood s select_heads)) (sym has) reads_heads.plain)
-
-pub returns-clause-kept : goal.returns-clause-kept
-returns-clause-kept g c clean has = c.load.ensures.kept clean (subst (λ s. IsPlain (understood s select_heads)) (sym has) reads_heads.plain)
-
-pub returns-clause-crash : goal.returns-clause-crash
-returns-clause-crash g c =
-    survives_weaker _ _ _ _ (λ _ db foreign has. foreign (subst (λ s. IsPlain (understood s select_heads)) (sym has) reads_heads.plain)) c.load.ensures.crash
+pub returns-clause-reads : goal.returns-clause-reads
+returns-clause-reads g c =
+    reads_text g.S.Store store_schema select_heads c.args.conn.now c.load.new.conn c.load.result reads_heads.plain c.load.ensures.reads

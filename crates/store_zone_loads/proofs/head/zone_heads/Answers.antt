@@ -1,6 +1,7 @@
 use Rattle.std.proofs.Common.{◌≡◌, map, IsErrOf, rules, subst, sym, ◌∙◌}
 use Rattle.std.proofs.lemmas.Cmp.{nat_list_cmp_total}
 use Rattle.std.proofs.lemmas.List.Sorted.{IsPermutation-sym, IsPermutation-trans}
+use Rattle.store_rows.proofs.Queries.{reads_err, reads_more}
 use Rattle.store_rows.specs.declared.error.ReadError.TheVariants.{BadRow}
 use Rattle.store_rows.proofs.InsideLemmas.{if_ok}
 use Rattle.store_schema.proofs.Lists.{rising_same}
@@ -29,3 +30,15 @@ returns-clause-none g c clean bad i stands =
     let sorted = c.in_ok-sorted.sorted.items in
     let is : sorted ≡ map head_of i.zones = rising_same nat_list_cmp_total (λ (h : ZoneHead). h.name) sorted (map head_of i.zones) (IsPermutation-trans _ _ _ (IsPermutation-sym _ _ c.in_ok-sorted.ensures.same) rows) c.in_ok-sorted.ensures.rising (heads_rise i stands.inventory) in
     c.only_related.ensures.none bad (subst AreRelated (sym is) (heads_related i stands.inventory))
+
+pub returns-in_err-heads-clause-reads : goal.returns-in_err-heads-clause-reads
+returns-in_err-heads-clause-reads g c =
+    reads_err g.S.Store _ c.args.conn.now c.all_head_rows.new.conn c.all_head_rows.result _ (search rules) c.all_head_rows.ensures.reads
+
+pub returns-in_err-sorted-clause-reads : goal.returns-in_err-sorted-clause-reads
+returns-in_err-sorted-clause-reads g c =
+    reads_more g.S.Store _ c.args.conn.now c.all_head_rows.new.conn c.all_head_rows.result c.in_ok-heads.heads _ c.in_ok-heads.was c.all_head_rows.ensures.reads
+
+pub returns-clause-reads : goal.returns-clause-reads
+returns-clause-reads g c =
+    reads_more g.S.Store _ c.args.conn.now c.all_head_rows.new.conn c.all_head_rows.result c.in_ok-heads.heads _ c.in_ok-heads.was c.all_head_rows.ensures.reads
