@@ -1,6 +1,8 @@
 -- Whatever zone the puts make of the old one is the one that the kept SYSMODs ask for.
-use Rattle.std.proofs.Common.{◌≡◌, ◌⊎◌, inl, inr, Bool, true, false, List, [], ◌∷◌, Option, Some, None, refl, sym, ap, ◌∙◌, subst, true≢false, IsTrue, All, map, arith}
-use Rattle.std.specs.Prelude.{◌&&◌, ◌==◌, ◌↔◌, is_some, find, Contains, filter, slice_get, unwrap_or, IsFalse, if◌then◌else◌}
+use Rattle.std.proofs.Common.{◌≡◌, ◌⊎◌, inl, inr, Bool, true, false, List, [], ◌∷◌, Option, Some, None, refl, sym, ap}
+use Rattle.std.proofs.Common.{◌∙◌, subst, true≢false, IsTrue, All, map, arith}
+use Rattle.std.specs.Prelude.{◌&&◌, ◌==◌, ◌↔◌, is_some, find, Contains, filter, slice_get, unwrap_or, IsFalse}
+use Rattle.std.specs.Prelude.{if◌then◌else◌}
 use Rattle.std.specs.List.{flat_map}
 use Rattle.std.specs.Option.{option_map_or, option_and_then}
 use Rattle.std.specs.Ordering.{is_eq}
@@ -10,8 +12,11 @@ use Rattle.std.proofs.lemmas.Cmp.{nat_list_cmp_total, tied_itself}
 use Rattle.std.proofs.lemmas.Bool.{and_parts, eqb-true}
 use Rattle.terms.specs.declared.kinds.ElemType.{ElemType}
 use Rattle.terms.specs.declared.kinds.Edit.TheVariants.{Put}
-use Rattle.terms.specs.Types.{Text, Id, Lines, type_number, Action, Replaces, Updates, Change, Sysmod, Global, Entry, Element, Zone}
-use Rattle.terms.specs.Lookups.{IsRising, IsZone, is_in, sysmod_of, is_function, change_of, changes_of, has_change, element_cmp, element_key, entry_of, element_of, supby_of, delby_of, waived_of, is_supplied}
+use Rattle.terms.specs.Types.{Text, Id, Lines, type_number, Action, Replaces, Updates, Change, Sysmod, Global, Entry}
+use Rattle.terms.specs.Types.{Element, Zone}
+use Rattle.terms.specs.Lookups.{IsRising, IsZone, is_in, sysmod_of, is_function, change_of, changes_of, has_change}
+use Rattle.terms.specs.Lookups.{element_cmp, element_key, entry_of, element_of, supby_of, delby_of, waived_of}
+use Rattle.terms.specs.Lookups.{is_supplied}
 use Rattle.terms.specs.Rising.{Rises}
 use Rattle.terms.specs.Choice.{Choice, by_srel, del_of, fmid_of}
 use Rattle.terms.specs.Over.{Supersedes}
@@ -21,7 +26,8 @@ use Rattle.terms.specs.Global.{IsGlobal, IsSysmod}
 use Rattle.terms.specs.Candidates.{is_installable}
 use Rattle.terms.specs.Tests.{ShareElement}
 use Rattle.terms.specs.Delta.{IsChanged, edit_key, edit_put, element_eq}
-use Rattle.terms.specs.Install.{Installing, IsInstalled, cleared, deleters, delby_after, replaced, IsReplacer, IsUpdater, HasElementAfter, IsUpdated, Installs}
+use Rattle.terms.specs.Install.{Installing, IsInstalled, cleared, deleters, delby_after, replaced, IsReplacer}
+use Rattle.terms.specs.Install.{IsUpdater, HasElementAfter, IsUpdated, Installs}
 use Rattle.lemmas.proofs.Members.{here, here_or, none_in, in_map, map_in}
 use Rattle.terms.proofs.Ids.{in_or_not}
 use Rattle.terms.proofs.ElementOrder.{element_cmp_total, element_ties, type_from_number}
@@ -31,7 +37,8 @@ use Rattle.terms.proofs.NothingDeleted.{deletions-none, is_deleted-none, zone_le
 use Rattle.change.specs.Puts.{applied_entry, own_element, puts}
 use Rattle.change.proofs.InTurn.{flat_in, in_flat, find-member, in_turn-none, in_turn-some}
 use Rattle.change.proofs.Installable.{no_del, supersedes_none, no_entry, replaces}
-use Rattle.change.proofs.Putting.{EntryEdit, ElementEdit, made_of, made_by, entry_of_date, elements_of, entries-puts, elements-puts}
+use Rattle.change.proofs.Putting.{EntryEdit, ElementEdit, made_of, made_by, entry_of_date, elements_of, entries-puts}
+use Rattle.change.proofs.Putting.{elements-puts}
 
 abbrev entry_key : EntryEdit → Id
 entry_key = edit_key (λ e. e.id)
@@ -43,7 +50,8 @@ abbrev change_key : Change → ElemType × Text
 change_key h = (h.elem_type, h.name)
 
 -- what a statement puts has its key
-made-key : (x : Id) (type : ElemType) (name : Text) (a : Action) (y : ElementEdit) → Contains (made_of x type name a) y → put_key y ≡ (type, name)
+made-key : (x : Id) (type : ElemType) (name : Text) (a : Action) (y : ElementEdit) → Contains (made_of x type name a) y
+    → put_key y ≡ (type, name)
 made-key x type name (Replaces distlib syslib lines) y h =
     elim (here_or (Put (own_element x type name distlib syslib lines)) [] y h) [
       | inl same ↦ sym (ap put_key same)
@@ -58,7 +66,8 @@ made-replaces : (x : Id) (type : ElemType) (name : Text) (h : Change) (distlib s
 made-replaces x type name h distlib syslib lines at action =
     let both = and_parts (type_number h.elem_type == type_number type) (bytes_eq h.name name) at in
     ap (made_of x h.elem_type h.name) action
-    ∙ ap (λ t. Put (own_element x t h.name distlib syslib lines) ∷ []) (type_from_number h.elem_type type (eqb-true _ _ both.0))
+    ∙ ap (λ t. Put (own_element x t h.name distlib syslib lines) ∷ [])
+    (type_from_number h.elem_type type (eqb-true _ _ both.0))
     ∙ ap (λ n. Put (own_element x type n distlib syslib lines) ∷ []) (same_from h.name name both.1)
 
 none_rise : IsRising []
@@ -84,15 +93,20 @@ module _ (g : Global) (zone : Zone) (kept : List Id) (date : Text) (is_global : 
 
   same_zone : cleared i ≡ zone
   same_zone =
-      ap (λ dels. zone_less g choice dels zone) (deletions-none choice kept (λ k d h. no_del g zone _ (installable k d h)))
+      ap (λ dels. zone_less g choice dels zone) (deletions-none choice kept
+      (λ k d h. no_del g zone _ (installable k d h)))
       ∙ zone_less-none g choice zone is_zone.held
 
   deleters_none : (x : Id) → deleters i x ≡ []
   deleters_none x = by (is_function g x && is_taken_out g choice (deletions choice kept) zone x)
     where
-      by : (b : Bool) → (if b then filter (λ k. is_deleted g choice (del_of choice k) x) kept else filter (λ k. is_in (del_of choice k) x) kept) ≡ []
-      by true = filter-none (λ k. is_deleted g choice (del_of choice k) x) kept (λ k d h. ap (λ dels. is_deleted g choice dels x) (no_del g zone _ (installable k d h)) ∙ is_deleted-none g choice x)
-      by false = filter-none (λ k. is_in (del_of choice k) x) kept (λ k d h. ap (λ dels. is_in dels x) (no_del g zone _ (installable k d h)))
+      by : (b : Bool) → (if b then filter (λ k. is_deleted g choice (del_of choice k) x) kept else filter
+          (λ k. is_in (del_of choice k) x) kept) ≡ []
+      by true = filter-none (λ k. is_deleted g choice (del_of choice k) x) kept
+          (λ k d h. ap (λ dels. is_deleted g choice dels x) (no_del g zone _ (installable k d h))
+          ∙ is_deleted-none g choice x)
+      by false = filter-none (λ k. is_in (del_of choice k) x) kept
+          (λ k d h. ap (λ dels. is_in dels x) (no_del g zone _ (installable k d h)))
 
   delby_same : (x : Id) → delby_after i x ≡ delby_of zone x
   unfolding delby_after
@@ -104,23 +118,29 @@ module _ (g : Global) (zone : Zone) (kept : List Id) (date : Text) (is_global : 
 
   -- ---- entries
 
-  entry_put : (x : Id) → Contains kept x → find (λ d. bytes_eq (entry_key d) x) (puts g date kept).entries ≡ Some (Put (applied_entry date x))
+  entry_put : (x : Id) → Contains kept x → find (λ d. bytes_eq (entry_key d) x) (puts g date kept).entries ≡ Some
+      (Put (applied_entry date x))
   entry_put x h =
       ap (find (λ d. bytes_eq (entry_key d) x)) (entries-puts g date kept)
-      ∙ in_turn-some nat_list_cmp_total entry_key bytes_eq texts_ties (map (entry_of_date date) kept) [] x (Put (applied_entry date x)) (same_itself x) only
+      ∙ in_turn-some nat_list_cmp_total entry_key bytes_eq texts_ties (map (entry_of_date date) kept) [] x
+      (Put (applied_entry date x)) (same_itself x) only
       (inr (in_map (entry_of_date date) kept x h))
     where
-      only : (y : EntryEdit) → Contains (map (entry_of_date date) kept) y → bytes_eq (entry_key y) x ≡ true → y ≡ Put (applied_entry date x)
+      only : (y : EntryEdit) → Contains (map (entry_of_date date) kept) y → bytes_eq (entry_key y) x ≡ true
+          → y ≡ Put (applied_entry date x)
       only y there hit =
           let m = map_in (entry_of_date date) kept y there in
           sym m.2 ∙ ap (entry_of_date date) (same_from m.0 x (ap (λ v. bytes_eq (entry_key v) x) m.2 ∙ hit))
 
-  entry_not_put : (x : Id) → (¬ Contains kept x) → find (λ d. bytes_eq (entry_key d) x) (puts g date kept).entries ≡ None
+  entry_not_put : (x : Id) → (¬ Contains kept x) → find (λ d. bytes_eq (entry_key d) x) (puts g date kept).entries
+      ≡ None
   entry_not_put x out =
       ap (find (λ d. bytes_eq (entry_key d) x)) (entries-puts g date kept)
-      ∙ in_turn-none nat_list_cmp_total entry_key bytes_eq texts_ties (map (entry_of_date date) kept) [] x (λ y there. by y there (bytes_eq (entry_key y) x) refl)
+      ∙ in_turn-none nat_list_cmp_total entry_key bytes_eq texts_ties (map (entry_of_date date) kept) [] x
+      (λ y there. by y there (bytes_eq (entry_key y) x) refl)
     where
-      by : (y : EntryEdit) → Contains (map (entry_of_date date) kept) y → (b : Bool) → bytes_eq (entry_key y) x ≡ b → bytes_eq (entry_key y) x ≡ false
+      by : (y : EntryEdit) → Contains (map (entry_of_date date) kept) y → (b : Bool) → bytes_eq (entry_key y) x ≡ b
+          → bytes_eq (entry_key y) x ≡ false
       by y there false e = e
       by y there true e =
           let m = map_in (entry_of_date date) kept y there in
@@ -136,50 +156,75 @@ module _ (g : Global) (zone : Zone) (kept : List Id) (date : Text) (is_global : 
       by (Some s) at = (All-find IsSysmod (λ s. bytes_eq s.id x) g.sysmods s is_global.formed at).changes
 
   -- who puts an element
-  put_by : (type : ElemType) (name : Text) (y : ElementEdit) → Contains (flat_map (elements_of g) kept) y → element_eq (put_key y) (type, name) ≡ true
+  put_by : (type : ElemType) (name : Text) (y : ElementEdit) → Contains (flat_map (elements_of g) kept) y
+      → element_eq (put_key y) (type, name) ≡ true
       → (x : Id) × Contains kept x × ((h : Change) × (change_of g x type name ≡ Some h) × Contains (made_by x h) y)
   put_by type name y there hit =
       let m = flat_in (elements_of g) kept y there in
       let n = flat_in (made_by m.0) (changes_of g m.0) y m.2 in
-      let at : element_eq (change_key n.0) (type, name) ≡ true = ap (λ k. element_eq k (type, name)) (sym (made-key m.0 n.0.elem_type n.0.name n.0.action y n.2)) ∙ hit in
-      (m.0, m.1, (n.0, find-member element_cmp_total change_key element_eq element_ties (changes_of g m.0) n.0 (type, name) (changes_rise m.0) n.1 at, n.2))
+      let at : element_eq (change_key n.0) (type, name) ≡ true =
+      ap (λ k. element_eq k (type, name)) (sym (made-key m.0 n.0.elem_type n.0.name n.0.action y n.2)) ∙ hit in (
+        m.0,
+        m.1,
+        (
+          n.0,
+          find-member element_cmp_total change_key element_eq element_ties (changes_of g m.0) n.0
+              (type, name) (changes_rise m.0) n.1 at,
+          n.2,
+        ),
+      )
 
-  changes_it : (x : Id) (type : ElemType) (name : Text) (h : Change) → change_of g x type name ≡ Some h → IsTrue (has_change g x type name)
+  changes_it : (x : Id) (type : ElemType) (name : Text) (h : Change) → change_of g x type name ≡ Some h
+      → IsTrue (has_change g x type name)
   changes_it x type name h at = ap is_some at
 
-  element_put : (x : Id) (type : ElemType) (name : Text) (h : Change) (distlib syslib : Text) (lines : Lines) → Contains kept x
+  element_put : (x : Id) (type : ElemType) (name : Text) (h : Change) (distlib syslib : Text) (lines : Lines)
+      → Contains kept x
       → change_of g x type name ≡ Some h → h.action ≡ Replaces distlib syslib lines
-      → find (λ d. element_eq (put_key d) (type, name)) (puts g date kept).elements ≡ Some (Put (own_element x type name distlib syslib lines))
+      → find (λ d. element_eq (put_key d) (type, name)) (puts g date kept).elements ≡ Some
+      (Put (own_element x type name distlib syslib lines))
   element_put x type name h distlib syslib lines within at action =
       let found = find-gives (λ c. element_eq (change_key c) (type, name)) (changes_of g x) h at in
       let item : ElementEdit = Put (own_element x type name distlib syslib lines) in
       let made = made-replaces x type name h distlib syslib lines found.0 action in
-      let there = in_flat (elements_of g) kept x item within (in_flat (made_by x) (changes_of g x) h item found.1 (subst (λ ys. Contains ys item) (sym made) (here item []))) in
+      let there = in_flat (elements_of g) kept x item within
+      (in_flat (made_by x) (changes_of g x) h item found.1
+      (subst (λ ys. Contains ys item) (sym made) (here item []))) in
       ap (find (λ d. element_eq (put_key d) (type, name))) (elements-puts g date kept)
-      ∙ in_turn-some element_cmp_total put_key element_eq element_ties (flat_map (elements_of g) kept) [] (type, name) item (itself (type, name))
+      ∙ in_turn-some element_cmp_total put_key element_eq element_ties (flat_map (elements_of g) kept) [] (type, name)
+      item (itself (type, name))
       (only made) (inr there)
     where
       itself : (k : ElemType × Text) → element_eq k k ≡ true
       itself k = element_ties k k ∙ ap is_eq (tied_itself element_cmp_total k)
 
-      only : made_by x h ≡ Put (own_element x type name distlib syslib lines) ∷ [] → (y : ElementEdit) → Contains (flat_map (elements_of g) kept) y
+      only : made_by x h ≡ Put (own_element x type name distlib syslib lines) ∷ [] → (y : ElementEdit)
+          → Contains (flat_map (elements_of g) kept) y
           → element_eq (put_key y) (type, name) ≡ true → y ≡ Put (own_element x type name distlib syslib lines)
       only made y there hit =
           let p = put_by type name y there hit in
-          let same : p.0 ≡ x = apart p.0 x p.1 within (type, name, changes_it p.0 type name p.2.0 p.2.1, changes_it x type name h at) in
+          let same : p.0 ≡ x = apart p.0 x p.1 within (
+            type,
+            name,
+            changes_it p.0 type name p.2.0 p.2.1,
+            changes_it x type name h at,
+          ) in
           let both : Some p.2.0 ≡ Some h = sym p.2.1 ∙ ap (λ v. change_of g v type name) same ∙ at in
           let change : p.2.0 ≡ h = cc both in
           let one : Contains (Put (own_element x type name distlib syslib lines) ∷ []) y =
           subst (λ ys. Contains ys y) (ap (λ v. made_by v p.2.0) same ∙ ap (made_by x) change ∙ made) p.2.2 in
-          elim (here_or (Put (own_element x type name distlib syslib lines)) [] y one) [ inl is ↦ sym is | inr later ↦ absurd (none_in y later) ]
+          elim (here_or (Put (own_element x type name distlib syslib lines)) [] y one)
+          [ inl is ↦ sym is | inr later ↦ absurd (none_in y later) ]
 
   element_not_put : (type : ElemType) (name : Text) → ((x : Id) → Contains kept x → has_change g x type name ≡ false)
       → find (λ d. element_eq (put_key d) (type, name)) (puts g date kept).elements ≡ None
   element_not_put type name none =
       ap (find (λ d. element_eq (put_key d) (type, name))) (elements-puts g date kept)
-      ∙ in_turn-none element_cmp_total put_key element_eq element_ties (flat_map (elements_of g) kept) [] (type, name) (λ y there. by y there (element_eq (put_key y) (type, name)) refl)
+      ∙ in_turn-none element_cmp_total put_key element_eq element_ties (flat_map (elements_of g) kept) [] (type, name)
+      (λ y there. by y there (element_eq (put_key y) (type, name)) refl)
     where
-      by : (y : ElementEdit) → Contains (flat_map (elements_of g) kept) y → (b : Bool) → element_eq (put_key y) (type, name) ≡ b → element_eq (put_key y) (type, name) ≡ false
+      by : (y : ElementEdit) → Contains (flat_map (elements_of g) kept) y → (b : Bool)
+          → element_eq (put_key y) (type, name) ≡ b → element_eq (put_key y) (type, name) ≡ false
       by y there false e = e
       by y there true e =
           let p = put_by type name y there e in
@@ -189,9 +234,11 @@ module _ (g : Global) (zone : Zone) (kept : List Id) (date : Text) (is_global : 
   replaced_is : (x : Id) (type : ElemType) (name distlib syslib : Text) (lines : Lines) → is_function g x ≡ true
       → own_element x type name distlib syslib lines ≡ replaced i x type name distlib syslib lines
   replaced_is x type name distlib syslib lines function =
-      ap (λ b. record (own_element x type name distlib syslib lines) { fmid = if b then x else unwrap_or (fmid_of choice x) x }) (sym function)
+      ap (λ b. record (own_element x type name distlib syslib lines)
+      { fmid = if b then x else unwrap_or (fmid_of choice x) x }) (sym function)
 
-  no_updater : (type : ElemType) (name : Text) (replacer : Option Id) (y : Id) (update : Lines) → IsUpdater i type name replacer y update → ⊥
+  no_updater : (type : ElemType) (name : Text) (replacer : Option Id) (y : Id) (update : Lines)
+      → IsUpdater i type name replacer y update → ⊥
   no_updater type name replacer y update u =
       let h = u.updates.0 in
       let found = find-gives (λ c. element_eq (change_key c) (type, name)) (changes_of g y) h u.updates.1 in
@@ -199,8 +246,10 @@ module _ (g : Global) (zone : Zone) (kept : List Id) (date : Text) (is_global : 
       true≢false (sym only ∙ ap is_replacement u.updates.2)
 
   -- the element that a kept function replaces
-  element_after : (type : ElemType) (name : Text) (x : Id) (h : Change) (distlib syslib : Text) (lines : Lines) → Contains kept x
-      → change_of g x type name ≡ Some h → h.action ≡ Replaces distlib syslib lines → HasElementAfter i type name (own_element x type name distlib syslib lines)
+  element_after : (type : ElemType) (name : Text) (x : Id) (h : Change) (distlib syslib : Text) (lines : Lines)
+      → Contains kept x
+      → change_of g x type name ≡ Some h → h.action ≡ Replaces distlib syslib lines
+      → HasElementAfter i type name (own_element x type name distlib syslib lines)
   element_after type name x h distlib syslib lines within at action =
       let found = find-gives (λ c. element_eq (change_key c) (type, name)) (changes_of g x) h at in
       let function = (replaces g zone x (ok x within) h found.1).1 in
@@ -208,9 +257,11 @@ module _ (g : Global) (zone : Zone) (kept : List Id) (date : Text) (is_global : 
       let only : IsReplacer i type name x = record {
         installed = installed x within;
         replaces = ap (λ o. option_map_or (λ c. is_replacement c.action) o false) at ∙ ap is_replacement action;
-        over = λ y ins also other. absurd (other (apart y x ins.kept within (type, name, some_change y type name also, changes_it x type name h at)));
+        over = λ y ins also other. absurd (other (apart y x ins.kept within
+            (type, name, some_change y type name also, changes_it x type name h at)));
       } in
-      let same : IsUpdated i type name (Some x) (own_element x type name distlib syslib lines) (own_element x type name distlib syslib lines) = record {
+      let same : IsUpdated i type name (Some x) (own_element x type name distlib syslib lines)
+      (own_element x type name distlib syslib lines) = record {
         rest = refl;
         rising = none_rise;
         umids = λ y. (λ h. inl h, λ h. elim h [ inl old ↦ old | inr new ↦ absurd (none y new.0 new.1) ]);
@@ -218,10 +269,15 @@ module _ (g : Global) (zone : Zone) (kept : List Id) (date : Text) (is_global : 
         others = λ n out. refl;
         numbered = λ y update u. absurd (none y update u);
         same = λ out. refl;
-      } in
-      (Some x, own_element x type name distlib syslib lines, (only, (h, distlib, syslib, lines, at, action, replaced_is x type name distlib syslib lines function)), same)
+      } in (
+        Some x,
+        own_element x type name distlib syslib lines,
+        (only, (h, distlib, syslib, lines, at, action, replaced_is x type name distlib syslib lines function)),
+        same,
+      )
     where
-      some_change : (y : Id) (type : ElemType) (name : Text) → IsTrue (has_replacement g y type name) → IsTrue (has_change g y type name)
+      some_change : (y : Id) (type : ElemType) (name : Text) → IsTrue (has_replacement g y type name)
+          → IsTrue (has_change g y type name)
       some_change y type name also = by (change_of g y type name) also
         where
           by : (o : Option Change) → option_map_or (λ c. is_replacement c.action) o false ≡ true → is_some o ≡ true
@@ -240,25 +296,31 @@ module _ (g : Global) (zone : Zone) (kept : List Id) (date : Text) (is_global : 
     old_lists : (x : Id) → IsRising (supby_of zone x) × IsRising (waived_of zone x)
     old_lists x = by (entry_of zone x) refl
       where
-        by : (o : Option Entry) → entry_of zone x ≡ o → IsRising (option_map_or (λ e. e.supby) o []) × IsRising (option_map_or (λ e. e.waived) o [])
+        by : (o : Option Entry) → entry_of zone x ≡ o → IsRising (option_map_or (λ e. e.supby) o [])
+            × IsRising (option_map_or (λ e. e.waived) o [])
         by None at = (none_rise, none_rise)
-        by (Some e) at = All-find (λ e. IsRising e.supby × IsRising e.waived) (λ e. bytes_eq e.id x) zone.entries e lists at
+        by (Some e) at = All-find (λ e. IsRising e.supby × IsRising e.waived) (λ e. bytes_eq e.id x) zone.entries e
+            lists at
 
     -- a field that has the same value in a new entry as where there is none
-    field_same : {X : Type 0} (field : Option Entry → X) (x : Id) → field (Some (applied_entry date x)) ≡ field None → field (entry_of new x) ≡ field (entry_of zone x)
+    field_same : {X : Type 0} (field : Option Entry → X) (x : Id) → field (Some (applied_entry date x)) ≡ field None
+        → field (entry_of new x) ≡ field (entry_of zone x)
     field_same field x bare =
         elim (in_or_not kept x) [
           | inl h ↦ ap field (entry_kept x h) ∙ bare ∙ sym (ap field (no_entry g zone x (ok x h) is_zone))
           | inr out ↦ ap field (entry_other x out)
         ]
 
-    field_other : {X : Type 0} (field : Option Entry → X) (x : Id) → (¬ IsInstalled i x) → field (entry_of new x) ≡ field (entry_of (cleared i) x)
-    field_other field x out = ap field (entry_other x (λ h. out (installed x h))) ∙ ap (λ z. field (entry_of z x)) (sym same_zone)
+    field_other : {X : Type 0} (field : Option Entry → X) (x : Id) → (¬ IsInstalled i x)
+        → field (entry_of new x) ≡ field (entry_of (cleared i) x)
+    field_other field x out = ap field (entry_other x (λ h. out (installed x h)))
+        ∙ ap (λ z. field (entry_of z x)) (sym same_zone)
 
     supby_same : (x : Id) → supby_of new x ≡ supby_of (cleared i) x
     supby_same x = field_same (λ o. option_map_or (λ e. e.supby) o []) x refl ∙ ap (λ z. supby_of z x) (sym same_zone)
 
-    supby_is : (x y : Id) → Contains (supby_of new x) y ↔ (Contains (supby_of (cleared i) x) y ⊎ (IsInstalled i y × Supersedes choice y x))
+    supby_is : (x y : Id) → Contains (supby_of new x) y ↔ (Contains (supby_of (cleared i) x) y
+        ⊎ (IsInstalled i y × Supersedes choice y x))
     supby_is x y = (
       λ h. inl (subst (λ ys. Contains ys y) (supby_same x) h),
       λ h. elim h [
@@ -267,9 +329,11 @@ module _ (g : Global) (zone : Zone) (kept : List Id) (date : Text) (is_global : 
       ],
     )
 
-    waived_is : (x z : Id) → IsInstalled i x → Contains (waived_of new x) z ↔ (Contains i.bypassed (x, z) × IsFalse (is_supplied new z))
+    waived_is : (x z : Id) → IsInstalled i x → Contains (waived_of new x) z ↔
+        (Contains i.bypassed (x, z) × IsFalse (is_supplied new z))
     waived_is x z ins = (
-      λ h. absurd (none_in z (subst (λ zs. Contains zs z) (ap (λ o. option_map_or (λ e. e.waived) o []) (entry_kept x ins.kept)) h)),
+      λ h. absurd (none_in z (subst (λ zs. Contains zs z) (ap (λ o. option_map_or (λ e. e.waived) o [])
+          (entry_kept x ins.kept)) h)),
       λ h. absurd (none_in (x, z) h.0),
     )
 
@@ -277,24 +341,29 @@ module _ (g : Global) (zone : Zone) (kept : List Id) (date : Text) (is_global : 
         → (e : Element) × (element_of new type name ≡ Some e) × HasElementAfter i type name e
     element_changed type name x ins has = by (change_of g x type name) refl
       where
-        by : (o : Option Change) → change_of g x type name ≡ o → (e : Element) × (element_of new type name ≡ Some e) × HasElementAfter i type name e
+        by : (o : Option Change) → change_of g x type name ≡ o
+            → (e : Element) × (element_of new type name ≡ Some e) × HasElementAfter i type name e
         by None at = absurd (true≢false (sym has ∙ ap is_some at))
         by (Some h) at = by_action h.action refl
           where
-            by_action : (a : Action) → h.action ≡ a → (e : Element) × (element_of new type name ≡ Some e) × HasElementAfter i type name e
+            by_action : (a : Action) → h.action ≡ a → (e : Element) × (element_of new type name ≡ Some e)
+                × HasElementAfter i type name e
             by_action (Replaces distlib syslib lines) action = (
               own_element x type name distlib syslib lines,
-              changed.elements type name ∙ ap (λ o. option_map_or edit_put o (element_of zone type name)) (element_put x type name h distlib syslib lines ins.kept at action),
+              changed.elements type name ∙ ap (λ o. option_map_or edit_put o (element_of zone type name))
+                  (element_put x type name h distlib syslib lines ins.kept at action),
               element_after type name x h distlib syslib lines ins.kept at action,
             )
             by_action (Updates lines) action =
                 let found = find-gives (λ c. element_eq (change_key c) (type, name)) (changes_of g x) h at in
                 absurd (true≢false (sym (replaces g zone x (ok x ins.kept) h found.1).0 ∙ ap is_replacement action))
 
-    element_unchanged : (type : ElemType) (name : Text) → ((x : Id) → IsInstalled i x → IsFalse (has_change g x type name)) → element_of new type name ≡ element_of (cleared i) type name
+    element_unchanged : (type : ElemType) (name : Text) → ((x : Id) → IsInstalled i x
+        → IsFalse (has_change g x type name)) → element_of new type name ≡ element_of (cleared i) type name
     element_unchanged type name none =
         changed.elements type name
-        ∙ ap (λ o. option_map_or edit_put o (element_of zone type name)) (element_not_put type name (λ x h. none x (installed x h)))
+        ∙ ap (λ o. option_map_or edit_put o (element_of zone type name))
+        (element_not_put type name (λ x h. none x (installed x h)))
         ∙ ap (λ z. element_of z type name) (sym same_zone)
 
     pub installs : Installs i new
@@ -303,10 +372,12 @@ module _ (g : Global) (zone : Zone) (kept : List Id) (date : Text) (is_global : 
       is_zone = changed.is_zone;
       applied = λ x ins. ap (option_and_then (λ e. e.applied)) (entry_kept x ins.kept);
       not_applied = field_other (option_and_then (λ e. e.applied));
-      supby_rising = λ x. subst IsRising (sym (field_same (λ o. option_map_or (λ e. e.supby) o []) x refl)) (old_lists x).0;
+      supby_rising = λ x. subst IsRising (sym (field_same (λ o. option_map_or (λ e. e.supby) o []) x refl))
+          (old_lists x).0;
       supby = supby_is;
       delby = λ x. field_same (option_and_then (λ e. e.delby)) x refl ∙ sym (delby_same x);
-      waived_rising = λ x. subst IsRising (sym (field_same (λ o. option_map_or (λ e. e.waived) o []) x refl)) (old_lists x).1;
+      waived_rising = λ x. subst IsRising (sym (field_same (λ o. option_map_or (λ e. e.waived) o []) x refl))
+          (old_lists x).1;
       waived = waived_is;
       not_waived = field_other (λ o. option_map_or (λ e. e.waived) o []);
       changed = element_changed;

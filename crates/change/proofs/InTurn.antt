@@ -1,5 +1,6 @@
 -- What stands at a key after items were put into a list one after the other.
-use Rattle.std.proofs.Common.{◌≡◌, ◌⊎◌, inl, inr, Bool, true, false, List, [], ◌∷◌, refl, sym, ap, ◌∙◌, subst, cond, true≢false}
+use Rattle.std.proofs.Common.{◌≡◌, ◌⊎◌, inl, inr, Bool, true, false, List, [], ◌∷◌, refl, sym, ap, ◌∙◌, subst, cond}
+use Rattle.std.proofs.Common.{true≢false}
 use Rattle.std.specs.Prelude.{Contains, find, fold, Some}
 use Rattle.std.specs.List.{flat_map}
 use Rattle.std.specs.declared.cmp.Ordering.{Ordering}
@@ -14,7 +15,8 @@ use Rattle.terms.proofs.Edits.{find-after_edit}
 use Rattle.lemmas.proofs.Members.{here, there, here_or, none_in, parts}
 
 -- what lists of lists contain
-pub flat_in : {X Y : Type 0} (f : X → List Y) (xs : List X) (y : Y) → Contains (flat_map f xs) y → (x : X) × Contains xs x × Contains (f x) y
+pub flat_in : {X Y : Type 0} (f : X → List Y) (xs : List X) (y : Y) → Contains (flat_map f xs) y
+    → (x : X) × Contains xs x × Contains (f x) y
 flat_in f [] y h = absurd (none_in y h)
 flat_in f (x ∷ xs) y h =
     elim (Contains-append_cases (f x) (flat_map f xs) y h) [
@@ -22,7 +24,8 @@ flat_in f (x ∷ xs) y h =
       | inr later ↦ let m = flat_in f xs y later in (m.0, there x xs m.0 m.1, m.2)
     ]
 
-pub in_flat : {X Y : Type 0} (f : X → List Y) (xs : List X) (x : X) (y : Y) → Contains xs x → Contains (f x) y → Contains (flat_map f xs) y
+pub in_flat : {X Y : Type 0} (f : X → List Y) (xs : List X) (x : X) (y : Y) → Contains xs x → Contains (f x) y
+    → Contains (flat_map f xs) y
 in_flat f [] x y h k = absurd (none_in x h)
 in_flat f (z ∷ xs) x y h k =
     elim (here_or z xs x h) [
@@ -30,16 +33,19 @@ in_flat f (z ∷ xs) x y h k =
       | inr later ↦ Contains-append_right (f z) (flat_map f xs) y (in_flat f xs x y later k)
     ]
 
-module _ {X K : Type 0} {R : K → K → Ordering} (o : IsTotalOrder R) (key : X → K) (E : K → K → Bool) (ties : (a b : K) → E a b ≡ is_eq (R a b)) where
+module _ {X K : Type 0} {R : K → K → Ordering} (o : IsTotalOrder R) (key : X → K) (E : K → K → Bool)
+    (ties : (a b : K) → E a b ≡ is_eq (R a b)) where
   -- an item of a list that rises is found by its key
-  pub find-member : (xs : List X) (x : X) (k : K) → Rises R key xs → Contains xs x → E (key x) k ≡ true → find (λ y. E (key y) k) xs ≡ Some x
+  pub find-member : (xs : List X) (x : X) (k : K) → Rises R key xs → Contains xs x → E (key x) k ≡ true
+      → find (λ y. E (key y) k) xs ≡ Some x
   find-member xs x k rises h hit =
       let p = parts xs x h in
       let tie = Equal-from_is_eq (R (key x) k) (sym (ties (key x) k) ∙ hit) in
       ap (find (λ y. E (key y) k)) p.2
       ∙ find-there o key E ties k p.0 p.1 x (Splits-around o key k p.0 p.1 x (subst (Rises R key) p.2 rises) tie) tie
 
-  find-with_item : (xs : List X) (x : X) (k : K) → find (λ y. E (key y) k) (with_item R key xs x) ≡ cond (E (key x) k) (Some x) (find (λ y. E (key y) k) xs)
+  find-with_item : (xs : List X) (x : X) (k : K) → find (λ y. E (key y) k) (with_item R key xs x) ≡ cond (E (key x) k)
+      (Some x) (find (λ y. E (key y) k) xs)
   find-with_item xs x k = find-after_edit o key E ties xs (Put x) k
 
   -- a key that none of them has
@@ -51,18 +57,24 @@ module _ {X K : Type 0} {R : K → K → Ordering} (o : IsTotalOrder R) (key : X
       ∙ find-with_item xs y k ∙ ap (λ b. cond b (Some y) (find (λ y. E (key y) k) xs)) (none y (here y ys))
 
   -- a key that one item alone has
-  pub in_turn-some : (items xs : List X) (k : K) (x : X) → E (key x) k ≡ true → ((y : X) → Contains items y → E (key y) k ≡ true → y ≡ x)
-      → (find (λ y. E (key y) k) xs ≡ Some x) ⊎ Contains items x → find (λ y. E (key y) k) (fold (with_item R key) xs items) ≡ Some x
+  pub in_turn-some : (items xs : List X) (k : K) (x : X) → E (key x) k ≡ true
+      → ((y : X) → Contains items y → E (key y) k ≡ true → y ≡ x)
+      → (find (λ y. E (key y) k) xs ≡ Some x) ⊎ Contains items x
+      → find (λ y. E (key y) k) (fold (with_item R key) xs items) ≡ Some x
   in_turn-some [] xs k x hit only (inl at) = at
   in_turn-some [] xs k x hit only (inr h) = absurd (none_in x h)
-  in_turn-some (y ∷ ys) xs k x hit only standing = by (in_turn-some ys (with_item R key xs y) k x hit (λ z h. only z (there y ys z h))) standing (E (key y) k) refl
+  in_turn-some (y ∷ ys) xs k x hit only standing = by (in_turn-some ys (with_item R key xs y) k x hit
+      (λ z h. only z (there y ys z h))) standing (E (key y) k) refl
     where
-      by : ((find (λ z. E (key z) k) (with_item R key xs y) ≡ Some x) ⊎ Contains ys x → find (λ z. E (key z) k) (fold (with_item R key) (with_item R key xs y) ys) ≡ Some x)
+      by : ((find (λ z. E (key z) k) (with_item R key xs y) ≡ Some x) ⊎ Contains ys x
+          → find (λ z. E (key z) k) (fold (with_item R key) (with_item R key xs y) ys) ≡ Some x)
           → (find (λ z. E (key z) k) xs ≡ Some x) ⊎ Contains (y ∷ ys) x → (b : Bool) → E (key y) k ≡ b
           → find (λ z. E (key z) k) (fold (with_item R key) (with_item R key xs y) ys) ≡ Some x
       by rest standing true e =
-          rest (inl (find-with_item xs y k ∙ ap (λ b. cond b (Some y) (find (λ z. E (key z) k) xs)) e ∙ ap (λ v. Some v) (only y (here y ys) e)))
-      by rest (inl at) false e = rest (inl (find-with_item xs y k ∙ ap (λ b. cond b (Some y) (find (λ z. E (key z) k) xs)) e ∙ at))
+          rest (inl (find-with_item xs y k ∙ ap (λ b. cond b (Some y) (find (λ z. E (key z) k) xs)) e
+          ∙ ap (λ v. Some v) (only y (here y ys) e)))
+      by rest (inl at) false e = rest (inl (find-with_item xs y k
+          ∙ ap (λ b. cond b (Some y) (find (λ z. E (key z) k) xs)) e ∙ at))
       by rest (inr h) false e =
           elim (here_or y ys x h) [
             | inl same ↦ absurd (true≢false (sym hit ∙ ap (λ v. E (key v) k) (sym same) ∙ e))

@@ -1,5 +1,6 @@
 -- What is known of an installable SYSMOD, as only those are served that need their function alone.
-use Rattle.std.proofs.Common.{◌≡◌, inl, inr, Bool, true, false, not, List, [], ◌∷◌, Option, Some, None, refl, sym, ap, ◌∙◌, subst, true≢false, IsTrue}
+use Rattle.std.proofs.Common.{◌≡◌, inl, inr, Bool, true, false, not, List, [], ◌∷◌, Option, Some, None, refl, sym, ap}
+use Rattle.std.proofs.Common.{◌∙◌, subst, true≢false, IsTrue}
 use Rattle.std.specs.Prelude.{◌&&◌, ◌||◌, ◌==◌, is_some, Contains}
 use Rattle.std.specs.List.{list_all}
 use Rattle.std.specs.Option.{option_map_or}
@@ -7,7 +8,8 @@ use Rattle.std.specs.Str.{bytes_eq}
 use Rattle.std.proofs.lemmas.Bool.{and_parts, not-true}
 use Rattle.terms.proofs.Nil.{nil_from}
 use Rattle.terms.specs.Types.{Id, kind_number, Ver, Sysmod, Change, Entry, Global, Zone}
-use Rattle.terms.specs.Lookups.{IsZone, is_nil, is_held, sysmod_of, is_function, entry_of, delby_of, is_supplied, changes_of}
+use Rattle.terms.specs.Lookups.{IsZone, is_nil, is_held, sysmod_of, is_function, entry_of, delby_of, is_supplied}
+use Rattle.terms.specs.Lookups.{changes_of}
 use Rattle.terms.specs.Choice.{by_srel, vers_of, sup_of, del_of}
 use Rattle.terms.specs.Over.{Leads, Supersedes}
 use Rattle.terms.specs.Changes.{is_replacement}
@@ -17,7 +19,8 @@ use Rattle.lemmas.proofs.Members.{here_or, none_in}
 use Rattle.lemmas.proofs.Searches.{All-find}
 
 module _ (g : Global) (zone : Zone) (x : Id) (ok : IsTrue (is_installable g zone x)) where
-  outer : ((not (is_nil (vers_of g zone.srel x)) && is_served g zone x && not (is_supplied zone x)) ≡ true) × (not (is_some (delby_of zone x)) ≡ true)
+  outer : ((not (is_nil (vers_of g zone.srel x)) && is_served g zone x && not (is_supplied zone x)) ≡ true)
+      × (not (is_some (delby_of zone x)) ≡ true)
   outer = and_parts _ _ ok
 
   inner : ((not (is_nil (vers_of g zone.srel x)) && is_served g zone x) ≡ true) × (not (is_supplied zone x) ≡ true)
@@ -64,13 +67,16 @@ module _ (g : Global) (zone : Zone) (x : Id) (ok : IsTrue (is_installable g zone
       by : (o : Option Entry) → entry_of zone x ≡ o → entry_of zone x ≡ None
       by None at = at
       by (Some e) at =
-          let held : is_held e ≡ true = All-find (λ e. IsTrue (is_held e)) (λ v. bytes_eq v.id x) zone.entries e is_zone.held at in
-          let date_and_supby : (is_some e.applied || not (is_nil e.supby)) ≡ false = rw at at (not-true (is_supplied zone x) inner.1) in
+          let held : is_held e ≡ true = All-find (λ e. IsTrue (is_held e)) (λ v. bytes_eq v.id x) zone.entries e
+          is_zone.held at in
+          let date_and_supby : (is_some e.applied || not (is_nil e.supby)) ≡ false =
+          rw at at (not-true (is_supplied zone x) inner.1) in
           let delby : is_some e.delby ≡ false = rw at at (not-true (is_some (delby_of zone x)) outer.1) in
           absurd (true≢false (sym held ∙ ap (λ b. b || is_some e.delby) date_and_supby ∙ delby))
 
   -- its element statements only replace, and it is a function if it has any
-  pub replaces : (h : Change) → Contains (changes_of g x) h → (is_replacement h.action ≡ true) × (is_function g x ≡ true)
+  pub replaces : (h : Change) → Contains (changes_of g x) h → (is_replacement h.action ≡ true)
+      × (is_function g x ≡ true)
   replaces h there = by (sysmod_of g x) refl
     where
       by : (o : Option Sysmod) → sysmod_of g x ≡ o → (is_replacement h.action ≡ true) × (is_function g x ≡ true)
@@ -84,9 +90,11 @@ module _ (g : Global) (zone : Zone) (x : Id) (ok : IsTrue (is_installable g zone
           parted : (s : Sysmod) → (b : Bool) → is_nil s.changes ≡ b → has_plain_changes s ≡ true → Contains s.changes h
               → ((kind_number s.kind == 0) ≡ true) × (list_all (λ c. is_replacement c.action) s.changes ≡ true)
           parted s true e fits within = absurd (none_in h (subst (λ cs. Contains cs h) (nil_from s.changes e) within))
-          parted s false e fits within = and_parts _ _ (sym (ap (λ b. b || ((kind_number s.kind == 0) && list_all (λ c. is_replacement c.action) s.changes)) e) ∙ fits)
+          parted s false e fits within = and_parts _ _ (sym (ap
+              (λ b. b || ((kind_number s.kind == 0) && list_all (λ c. is_replacement c.action) s.changes)) e) ∙ fits)
 
-          all_pass : (cs : List Change) → list_all (λ c. is_replacement c.action) cs ≡ true → Contains cs h → is_replacement h.action ≡ true
+          all_pass : (cs : List Change) → list_all (λ c. is_replacement c.action) cs ≡ true → Contains cs h
+              → is_replacement h.action ≡ true
           all_pass [] all within = absurd (none_in h within)
           all_pass (c ∷ cs) all within =
               let both = and_parts (is_replacement c.action) (list_all (λ c. is_replacement c.action) cs) all in

@@ -12,7 +12,8 @@ use Rattle.terms.specs.Types.{Text, Id, Action, Replaces, Updates, Change, Globa
 use Rattle.terms.specs.Lookups.{element_cmp, element_key, changes_of}
 use Rattle.terms.specs.Rising.{with_item}
 use Rattle.terms.specs.Delta.{ZoneDelta, edit_key}
-use Rattle.change.specs.Puts.{applied_entry, own_element, with_entry, after_action, after_change, after_sysmod, no_edits, puts}
+use Rattle.change.specs.Puts.{applied_entry, own_element, with_entry, after_action, after_change, after_sysmod}
+use Rattle.change.specs.Puts.{no_edits, puts}
 
 abbrev pub EntryEdit : Type 0
 EntryEdit = Edit Entry Id
@@ -42,11 +43,13 @@ abbrev pub elements_of : Global → Id → List ElementEdit
 elements_of g x = flat_map (made_by x) (changes_of g x)
 
 module _ (x : Id) where
-  entries-action : (d : ZoneDelta) (type : ElemType) (name : Text) (a : Action) → (after_action x d type name a).entries ≡ d.entries
+  entries-action : (d : ZoneDelta) (type : ElemType) (name : Text) (a : Action)
+      → (after_action x d type name a).entries ≡ d.entries
   entries-action d type name (Replaces distlib syslib lines) = refl
   entries-action d type name (Updates lines) = refl
 
-  elements-action : (d : ZoneDelta) (type : ElemType) (name : Text) (a : Action) → (after_action x d type name a).elements ≡ put_elements d.elements (made_of x type name a)
+  elements-action : (d : ZoneDelta) (type : ElemType) (name : Text) (a : Action)
+      → (after_action x d type name a).elements ≡ put_elements d.elements (made_of x type name a)
   elements-action d type name (Replaces distlib syslib lines) = refl
   elements-action d type name (Updates lines) = refl
 
@@ -54,26 +57,33 @@ module _ (x : Id) where
   entries-changes d [] = refl
   entries-changes d (h ∷ hs) = entries-changes (after_change x d h) hs ∙ entries-action d h.elem_type h.name h.action
 
-  elements-changes : (d : ZoneDelta) (hs : List Change) → (fold (after_change x) d hs).elements ≡ put_elements d.elements (flat_map (made_by x) hs)
+  elements-changes : (d : ZoneDelta) (hs : List Change) → (fold (after_change x) d hs).elements ≡ put_elements
+      d.elements (flat_map (made_by x) hs)
   elements-changes d [] = refl
   elements-changes d (h ∷ hs) =
       elements-changes (after_change x d h) hs
       ∙ ap (λ es. put_elements es (flat_map (made_by x) hs)) (elements-action d h.elem_type h.name h.action)
-      ∙ sym (fold-append (with_item element_cmp (edit_key element_key)) d.elements (made_by x h) (flat_map (made_by x) hs))
+      ∙ sym (fold-append (with_item element_cmp (edit_key element_key)) d.elements (made_by x h)
+      (flat_map (made_by x) hs))
 
 module _ (g : Global) (date : Text) where
-  entries-sysmods : (d : ZoneDelta) (xs : List Id) → (fold (after_sysmod g date) d xs).entries ≡ put_entries d.entries (map (entry_of_date date) xs)
+  entries-sysmods : (d : ZoneDelta) (xs : List Id) → (fold (after_sysmod g date) d xs).entries ≡ put_entries d.entries
+      (map (entry_of_date date) xs)
   entries-sysmods d [] = refl
   entries-sysmods d (x ∷ xs) =
       entries-sysmods (after_sysmod g date d x) xs
-      ∙ ap (λ es. put_entries es (map (entry_of_date date) xs)) (entries-changes x (with_entry d (applied_entry date x)) (changes_of g x))
+      ∙ ap (λ es. put_entries es (map (entry_of_date date) xs))
+      (entries-changes x (with_entry d (applied_entry date x)) (changes_of g x))
 
-  elements-sysmods : (d : ZoneDelta) (xs : List Id) → (fold (after_sysmod g date) d xs).elements ≡ put_elements d.elements (flat_map (elements_of g) xs)
+  elements-sysmods : (d : ZoneDelta) (xs : List Id) → (fold (after_sysmod g date) d xs).elements ≡ put_elements
+      d.elements (flat_map (elements_of g) xs)
   elements-sysmods d [] = refl
   elements-sysmods d (x ∷ xs) =
       elements-sysmods (after_sysmod g date d x) xs
-      ∙ ap (λ es. put_elements es (flat_map (elements_of g) xs)) (elements-changes x (with_entry d (applied_entry date x)) (changes_of g x))
-      ∙ sym (fold-append (with_item element_cmp (edit_key element_key)) d.elements (elements_of g x) (flat_map (elements_of g) xs))
+      ∙ ap (λ es. put_elements es (flat_map (elements_of g) xs))
+      (elements-changes x (with_entry d (applied_entry date x)) (changes_of g x))
+      ∙ sym (fold-append (with_item element_cmp (edit_key element_key)) d.elements (elements_of g x)
+      (flat_map (elements_of g) xs))
 
   pub entries-puts : (kept : List Id) → (puts g date kept).entries ≡ put_entries [] (map (entry_of_date date) kept)
   entries-puts kept = entries-sysmods no_edits kept

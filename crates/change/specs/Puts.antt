@@ -34,7 +34,8 @@ with_element d e = record d { elements = with_item element_cmp (edit_key element
 
 -- the delta with the element that the statement gives, if it replaces one
 abbrev pub after_action : Id → ZoneDelta → ElemType → Text → Action → ZoneDelta
-after_action x d type name (Replaces distlib syslib lines) = with_element d (own_element x type name distlib syslib lines)
+after_action x d type name (Replaces distlib syslib lines) =
+    with_element d (own_element x type name distlib syslib lines)
 after_action x d type name (Updates lines) = d
 
 abbrev pub after_change : Id → ZoneDelta → Change → ZoneDelta

@@ -26,7 +26,14 @@ pub fn install(
     requires apart { (x y : AnId) → Contains kept.now x → Contains kept.now y → ShareElement global.now x y → x ≡ y }
     ensures puts { IfOk result (λ delta. delta ≡ puts global.now date kept.now) }
     ensures installs { IfOk result (λ delta. (new : AZone) → IsChanged delta zone.now new →
-        Installs (record { global = global.now; choice = by_srel global.now zone.now.srel; zone = zone.now; kept = kept.now; bypassed = []; date = date }) new) }
+        Installs (record {
+          global = global.now;
+          choice = by_srel global.now zone.now.srel;
+          zone = zone.now;
+          kept = kept.now;
+          bypassed = [];
+          date = date;
+        }) new) }
 {
     global.known();
     zone.known();

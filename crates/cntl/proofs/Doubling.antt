@@ -9,7 +9,9 @@ use Rattle.rec80.specs.declared.words.Words.{Words}
 use Rattle.operands.specs.Left.{LeavesPieces}
 
 pub there_is : (found : Option Words) (text name : Text)
-    → IfSome found (λ after. (pieces : List Piece) → HasSolid text pieces → (rest : List Piece) × LeavesPieces after rest × (count name (words_in pieces) ≡ 1 + count name (words_in rest)))
+    → IfSome found (λ after. (pieces : List Piece) → HasSolid text pieces
+    → (rest : List Piece) × LeavesPieces after rest × (count name (words_in pieces) ≡ 1 + count name
+    (words_in rest)))
     → IfNone found ((pieces : List Piece) → HasSolid text pieces → count name (words_in pieces) ≡ 0)
     → (pieces : List Piece) → HasSolid text pieces → is_some found ≡ is_often 1 pieces name
 there_is None text name some none pieces h = sym (seldom 1 pieces name (omega (arith, none pieces h)))

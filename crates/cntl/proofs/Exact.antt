@@ -8,11 +8,14 @@ use Rattle.cntl.specs.declared.errors.CntlError.{CntlError}
 use Rattle.cntl.specs.declared.errors.CntlError.TheVariants.{Memory, Fault}
 use Rattle.cntl.specs.Faults.{FailsFile}
 
-pub good_file : {T : Type 0} (bytes : List ℕ) (r : Result T CntlError) → IfErr r (λ e. FailsFile bytes e) → (cs : List terms.Command) → IsCommandFile bytes cs → IfErr r (λ e. e ≡ Memory)
+pub good_file : {T : Type 0} (bytes : List ℕ) (r : Result T CntlError) → IfErr r (λ e. FailsFile bytes e)
+    → (cs : List terms.Command) → IsCommandFile bytes cs → IfErr r (λ e. e ≡ Memory)
 good_file bytes (Ok x) fails cs is = tt
 good_file bytes (Err Memory) fails cs is = refl
-good_file bytes (Err (Fault number code)) fails cs is = absurd (fault-no_file bytes cs (record { number = number; code = code }) is fails)
+good_file bytes (Err (Fault number code)) fails cs is = absurd
+    (fault-no_file bytes cs (record { number = number; code = code }) is fails)
 
-pub faulty_file : {T : Type 0} (bytes : List ℕ) (r : Result T CntlError) (view : T → List terms.Command) → IfOk r (λ x. IsCommandFile bytes (view x)) → (fault : CntlFault) → IsCommandFileFault bytes fault → OnOk r ⊥
+pub faulty_file : {T : Type 0} (bytes : List ℕ) (r : Result T CntlError) (view : T → List terms.Command)
+    → IfOk r (λ x. IsCommandFile bytes (view x)) → (fault : CntlFault) → IsCommandFileFault bytes fault → OnOk r ⊥
 faulty_file bytes (Ok x) view is fault f = fault-no_file bytes (view x) fault is f
 faulty_file bytes (Err e) view is fault f = tt

@@ -13,6 +13,7 @@ pub of_reject : (ws : List Word) (c : Command) → command_word c ≡ word.Rejec
 of_reject ws (Reject ids) e h = (ids, h)
 of_reject ws c e h = absurd (cc (e))
 
-pub of_apply : (ws : List Word) (c : Command) → command_word c ≡ word.Apply → HasOperands ws c → (i : Install) × HasInstall ws i
+pub of_apply : (ws : List Word) (c : Command) → command_word c ≡ word.Apply → HasOperands ws c
+    → (i : Install) × HasInstall ws i
 of_apply ws (Apply i) e h = (i, h)
 of_apply ws c e h = absurd (cc (e))

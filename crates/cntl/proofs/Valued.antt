@@ -6,5 +6,6 @@ use Rattle.terms.specs.Operands.{HasSorted}
 use Rattle.terms.proofs.ExactOperands.{has_sorted-only}
 
 -- a list above the limit
-pub too_long : (form : Text → Type 0) (w : Word) (list : List Text) → HasSorted form w list → 1000 < length list → ((others : List Text) × (HasSorted form w others × IsShort others)) → ⊥
+pub too_long : (form : Text → Type 0) (w : Word) (list : List Text) → HasSorted form w list → 1000 < length list
+    → ((others : List Text) × (HasSorted form w others × IsShort others)) → ⊥
 too_long form w list h long x = omega (arith, long, x.1.1, ap length (has_sorted-only form w x.0 list x.1.0 h))

@@ -18,7 +18,8 @@ use Rattle.cntl.specs.Views.{command_word_of}
 pub no_piece : (ps : List Piece) (w : CommandWord) (rest : List Piece) → ps ≡ [] → BeginsWith ps w rest → ⊥
 no_piece ps w rest none b = let begins : ps ≡ TheWord (word_text w) ∷ rest = b.0 in cc (none, begins)
 
-pub no_word : (p : Read) → ((text : _) → p ≡ ReadWord text → ⊥) → (t : Text) (ps qs : List Piece) → piece_of p ∷ ps ≡ TheWord t ∷ qs → ⊥
+pub no_word : (p : Read) → ((text : _) → p ≡ ReadWord text → ⊥) → (t : Text) (ps qs : List Piece)
+    → piece_of p ∷ ps ≡ TheWord t ∷ qs → ⊥
 no_word (ReadWord text) other t ps qs e = other text refl
 no_word (ReadList list) other t ps qs e = cc (e)
 no_word (ReadStray b) other t ps qs e = cc (e)
@@ -38,17 +39,22 @@ chosen known.Apply rest = refl
 
 -- the text begins with that word
 abbrev Begins : Text → Text → Text → Type 0
-Begins left word after = (pieces : List Piece) → HasSolid left pieces → (rest : List Piece) × (pieces ≡ TheWord word ∷ rest) × HasSolid after rest
+Begins left word after = (pieces : List Piece) → HasSolid left pieces
+    → (rest : List Piece) × (pieces ≡ TheWord word ∷ rest) × HasSolid after rest
 
-pub word_taken : (found : Option KnownWord) (text left after : Text) → IfSome found (λ w. word_text (command_word_of w) ≡ text) → Begins left text after
-    → IfSome found (λ w. (pieces : List Piece) → HasSolid left pieces → (rest : List Piece) × BeginsWith pieces (command_word_of w) rest × HasSolid after rest)
+pub word_taken : (found : Option KnownWord) (text left after : Text)
+    → IfSome found (λ w. word_text (command_word_of w) ≡ text) → Begins left text after
+    → IfSome found (λ w. (pieces : List Piece) → HasSolid left pieces
+    → (rest : List Piece) × BeginsWith pieces (command_word_of w) rest × HasSolid after rest)
 word_taken None text left after is takes = tt
 word_taken (Some w) text left after is takes = λ pieces h.
     let t = takes pieces h in
     (t.0, (t.1 ∙ ap (λ s. TheWord s ∷ t.0) (sym is), known_is w), t.2)
 
-pub word_unknown : (found : Option KnownWord) (text left after : Text) → IfNone found ((other : CommandWord) → IsTrue (is_known other) → word_text other ≢ text) → Begins left text after
-    → IfNone found ((pieces : List Piece) → HasSolid left pieces → (w : CommandWord) (rest : List Piece) → BeginsWith pieces w rest → ⊥)
+pub word_unknown : (found : Option KnownWord) (text left after : Text)
+    → IfNone found ((other : CommandWord) → IsTrue (is_known other) → word_text other ≢ text) → Begins left text after
+    → IfNone found ((pieces : List Piece) → HasSolid left pieces → (w : CommandWord) (rest : List Piece)
+    → BeginsWith pieces w rest → ⊥)
 word_unknown None text left after none takes = λ pieces h w rest b.
     let t = takes pieces h in
     none w b.1 (sym (same_text text (word_text w) t.0 rest (sym t.1 ∙ b.0)))

@@ -1,6 +1,8 @@
 -- The tests of candidates that are all installable: they look at the zone itself, and only those on elements, on ACCEPT and on
 -- shared elements can fail.
-use Rattle.std.proofs.Common.{◌≡◌, ◌≢◌, ◌⊎◌, inl, inr, zero, suc, Bool, true, false, not, List, [], ◌∷◌, Option, None, Some, IsTrue, refl, sym, ap, ◌∙◌, subst, true≢false, filter, find, Contains, cond, arith, eq-eqb}
+use Rattle.std.proofs.Common.{◌≡◌, ◌≢◌, ◌⊎◌, inl, inr, zero, suc, Bool, true, false, not, List, [], ◌∷◌, Option, None}
+use Rattle.std.proofs.Common.{Some, IsTrue, refl, sym, ap, ◌∙◌, subst, true≢false, filter, find, Contains, cond, arith}
+use Rattle.std.proofs.Common.{eq-eqb}
 use Rattle.std.specs.Prelude.{All, Any, is_some, unwrap_or, ◌↔◌, ◌==◌, ◌&&◌}
 use Rattle.std.specs.List.{list_all}
 use Rattle.std.specs.Option.{option_map_or}
@@ -17,7 +19,8 @@ use Rattle.terms.specs.Choice.{Choice, by_srel, fmid_of, npre_of}
 use Rattle.terms.specs.Over.{IsOver}
 use Rattle.terms.specs.Changes.{is_replacement, has_update}
 use Rattle.terms.specs.Deleted.{deletions, is_deleted, zone_less}
-use Rattle.terms.specs.Tests.{Setting, view_of, owner_of, is_bypassed_hold, ChangesInView, FailsJ1, FailsJ2, FailsJ3, FailsJ4, FailsJ5, FailsJ6, FailsJ7, FailsJ8, FailsAlone, Survives, ShareElement, Clash}
+use Rattle.terms.specs.Tests.{Setting, view_of, owner_of, is_bypassed_hold, ChangesInView, FailsJ1, FailsJ2, FailsJ3}
+use Rattle.terms.specs.Tests.{FailsJ4, FailsJ5, FailsJ6, FailsJ7, FailsJ8, FailsAlone, Survives, ShareElement, Clash}
 use Rattle.terms.specs.CommandForms.{no_bypass}
 use Rattle.terms.specs.Judged.{setting}
 use Rattle.lemmas.proofs.Searches.{find-gives}
@@ -38,12 +41,18 @@ pub change-found : (g : Global) (x : Id) (type : ElemType) (name : Text) → IsT
     → (h : Change) × Contains (changes_of g x) h × (h.elem_type ≡ type) × (h.name ≡ name)
 change-found g x type name has = by (change_of g x type name) refl
   where
-    by : (o : Option Change) → change_of g x type name ≡ o → (h : Change) × Contains (changes_of g x) h × (h.elem_type ≡ type) × (h.name ≡ name)
+    by : (o : Option Change) → change_of g x type name ≡ o → (h : Change) × Contains (changes_of g x) h
+        × (h.elem_type ≡ type) × (h.name ≡ name)
     by None e = absurd (true≢false (sym has ∙ ap is_some e))
     by (Some h) e =
-        let found = find-gives (λ h. (type_number h.elem_type == type_number type) && bytes_eq h.name name) (changes_of g x) h e in
-        let parts = and_parts (type_number h.elem_type == type_number type) (bytes_eq h.name name) found.0 in
-        (h, found.1, type_from_number h.elem_type type (eqb-true (type_number h.elem_type) (type_number type) parts.0), same_from h.name name parts.1)
+        let found = find-gives (λ h. (type_number h.elem_type == type_number type) && bytes_eq h.name name)
+        (changes_of g x) h e in
+        let parts = and_parts (type_number h.elem_type == type_number type) (bytes_eq h.name name) found.0 in (
+          h,
+          found.1,
+          type_from_number h.elem_type type (eqb-true (type_number h.elem_type) (type_number type) parts.0),
+          same_from h.name name parts.1,
+        )
 
 finds : {X : Type 0} (p : X → Bool) (xs : List X) (x : X) → Contains xs x → p x ≡ true → is_some (find p xs) ≡ true
 finds p [] x h e = absurd (omega (arith, h.1))
@@ -58,7 +67,8 @@ finds p (y ∷ ys) x h e =
     by false f rest = ap (λ b. is_some (cond b (Some y) (find p ys))) f ∙ rest
 
 -- and each of its statements is a change
-pub change-has : (g : Global) (x : Id) (h : Change) → Contains (changes_of g x) h → IsTrue (has_change g x h.elem_type h.name)
+pub change-has : (g : Global) (x : Id) (h : Change) → Contains (changes_of g x) h
+    → IsTrue (has_change g x h.elem_type h.name)
 change-has g x h of =
     finds (λ k. (type_number k.elem_type == type_number h.elem_type) && bytes_eq k.name h.name) (changes_of g x) h of
     (ap (λ b. b && bytes_eq h.name h.name) (eqb-itself (type_number h.elem_type)) ∙ same_itself h.name)
@@ -80,10 +90,12 @@ module _ (g : Global) (zone : Zone) (ids : List Id)
   view-is x = view-none g C ids zone x held (λ y h. (plain y h).names_nothing.del)
 
   -- what survives deletes nothing
-  pub zone-left : (survivors : List Id) → ((x : Id) → Contains survivors x → Contains ids x) → zone_less g C (deletions C survivors) zone ≡ zone
+  pub zone-left : (survivors : List Id) → ((x : Id) → Contains survivors x → Contains ids x)
+      → zone_less g C (deletions C survivors) zone ≡ zone
   zone-left survivors among =
       ap (λ dels. zone_less g C dels zone)
-      (deletions-none C survivors (λ i d below. (plain _ (among _ (Contains-get_or survivors i d below))).names_nothing.del))
+      (deletions-none C survivors (λ i d below. (plain _ (among _
+      (Contains-get_or survivors i d below))).names_nothing.del))
       ∙ zone_less-none g C zone held
 
   module _ (x : Id) (in_ids : Contains ids x) where
@@ -94,7 +106,8 @@ module _ (g : Global) (zone : Zone) (ids : List Id)
     pub owner-is : (h : Change) → Contains (changes_of g x) h → owner_of S x ≡ x
     owner-is h of = by own.changes
       where
-        by : (changes_of g x ≡ []) ⊎ (IsTrue (is_function g x) × IsTrue (list_all (λ h. is_replacement h.action) (changes_of g x))) → owner_of S x ≡ x
+        by : (changes_of g x ≡ []) ⊎ (IsTrue (is_function g x)
+            × IsTrue (list_all (λ h. is_replacement h.action) (changes_of g x))) → owner_of S x ≡ x
         by (inl none) = absurd (none_there (subst (λ l. Contains l h) none of))
           where
             none_there : Contains [] h → ⊥
@@ -112,8 +125,12 @@ module _ (g : Global) (zone : Zone) (ids : List Id)
         }
 
     pub touches-gives : (e : Element) → Touches g zone x e → ChangesInView S x e
-    touches-gives e t =
-        (t.change.elem_type, t.change.name, change-has g x t.change t.of, ap (λ z. element_of z t.change.elem_type t.change.name) (view-is x) ∙ t.at)
+    touches-gives e t = (
+      t.change.elem_type,
+      t.change.name,
+      change-has g x t.change t.of,
+      ap (λ z. element_of z t.change.elem_type t.change.name) (view-is x) ∙ t.at,
+    )
 
     pub never-held-system : ¬ FailsJ1 S x
     never-held-system fails = fails (ap (filter (λ h. not (is_bypassed_hold no_bypass h))) own.no_system)
@@ -127,7 +144,8 @@ module _ (g : Global) (zone : Zone) (ids : List Id)
     pub never-prevented : ¬ FailsJ3 S x
     never-prevented (y, on, inl named) = none_named (npre_of C x) y own.names_nothing.npre named
     never-prevented (y, on, inr (is_function, named)) =
-        none_named (npre_of C y) x (own.applied y (applied-among zone y (sym (ap (λ z. is_applied z y) (view-is x)) ∙ on))).npre named
+        none_named (npre_of C y) x (own.applied y (applied-among zone y
+        (sym (ap (λ z. is_applied z y) (view-is x)) ∙ on))).npre named
 
     pub never-updates : (type : ElemType) (name : Text) → has_update g x type name ≡ false
     never-updates type name = by (change_of g x type name) refl
@@ -137,9 +155,11 @@ module _ (g : Global) (zone : Zone) (ids : List Id)
         by (Some h) e = ap (λ o. option_map_or (λ h. not (is_replacement h.action)) o false) e ∙ replaces own.changes
           where
             found : Contains (changes_of g x) h
-            found = (find-gives (λ h. (type_number h.elem_type == type_number type) && bytes_eq h.name name) (changes_of g x) h e).1
+            found = (find-gives (λ h. (type_number h.elem_type == type_number type) && bytes_eq h.name name)
+                (changes_of g x) h e).1
 
-            replaces : (changes_of g x ≡ []) ⊎ (IsTrue (is_function g x) × IsTrue (list_all (λ h. is_replacement h.action) (changes_of g x)))
+            replaces : (changes_of g x ≡ []) ⊎ (IsTrue (is_function g x)
+                × IsTrue (list_all (λ h. is_replacement h.action) (changes_of g x)))
                 → not (is_replacement h.action) ≡ false
             replaces (inl none) = let t = subst (λ l. Contains l h) none found in absurd (omega (arith, t.1))
             replaces (inr both) = ap not (all-from (λ h. is_replacement h.action) (changes_of g x) h both.1 found)
@@ -149,7 +169,8 @@ module _ (g : Global) (zone : Zone) (ids : List Id)
 
     pub never-deleted : ¬ FailsJ8 S x
     never-deleted (passes, (y, passes_y, deleted)) =
-        true≢false (sym deleted ∙ ap (λ dels. is_deleted g C dels x) (plain y passes_y.0).names_nothing.del ∙ is_deleted-none g C x)
+        true≢false (sym deleted ∙ ap (λ dels. is_deleted g C dels x) (plain y passes_y.0).names_nothing.del
+        ∙ is_deleted-none g C x)
 
     -- it changes an element that another owns
     pub foreign-from : FailsJ4 S x → (e : Element) × Touches g zone x e × (e.fmid ≢ x)
@@ -160,10 +181,12 @@ module _ (g : Global) (zone : Zone) (ids : List Id)
     foreign-gives e t other = (e, touches-gives e t, λ same. other (same ∙ owner-is t.change t.of))
 
     -- it changes an element that others made later
-    pub lower-from : FailsJ5 S x → (e : Element) × (z : Id) × Touches g zone x e × Contains (e.rmid ∷ e.umids) z × ¬ IsOver C x z
+    pub lower-from : FailsJ5 S x → (e : Element) × (z : Id) × Touches g zone x e × Contains (e.rmid ∷ e.umids) z
+        × ¬ IsOver C x z
     lower-from (off, (e, z, changes, of, lacks)) = (e, z, touches-from e changes, of, lacks)
 
-    pub lower-gives : (e : Element) (z : Id) → Touches g zone x e → Contains (e.rmid ∷ e.umids) z → ¬ IsOver C x z → FailsJ5 S x
+    pub lower-gives : (e : Element) (z : Id) → Touches g zone x e → Contains (e.rmid ∷ e.umids) z → ¬ IsOver C x z
+        → FailsJ5 S x
     lower-gives e z t of lacks = (refl, (e, z, touches-gives e t, of, lacks))
 
     pub unapplied-gives : zone.kind ≡ Distribution → FailsJ7 S x
@@ -197,13 +220,19 @@ module _ (g : Global) (zone : Zone) (ids : List Id)
   share-clashes x y in_x in_y other (type, name, has_x, has_y) =
       let hx = change-found g x type name has_x in
       let hy = change-found g y type name has_y in
-      inr (inr ((type, name, has_x, has_y), inl (λ same. other (sym (owner-is x in_x hx.0 hx.1) ∙ same ∙ owner-is y in_y hy.0 hy.1))))
+      inr (inr (
+        (type, name, has_x, has_y),
+        inl (λ same. other
+            (sym (owner-is x in_x hx.0 hx.1) ∙ same ∙ owner-is y in_y hy.0 hy.1)),
+      ))
 
 -- what is not over the SYSMODs that made an element
-pub lower-first : (c : Choice) (x rmid : Id) (umids : List Id) → ¬ IsOver c x rmid → IsTrue true ↔ Any (λ z. ¬ IsOver c x z) (rmid ∷ umids)
+pub lower-first : (c : Choice) (x rmid : Id) (umids : List Id) → ¬ IsOver c x rmid
+    → IsTrue true ↔ Any (λ z. ¬ IsOver c x z) (rmid ∷ umids)
 lower-first c x rmid umids lacks = (λ on. (0, rmid, omega arith, refl, lacks), λ lower. refl)
 
-pub lower-rest : (c : Choice) (x rmid : Id) (umids : List Id) (b : Bool) → IsOver c x rmid → IsTrue b ↔ Any (λ z. ¬ IsOver c x z) umids
+pub lower-rest : (c : Choice) (x rmid : Id) (umids : List Id) (b : Bool) → IsOver c x rmid
+    → IsTrue b ↔ Any (λ z. ¬ IsOver c x z) umids
     → IsTrue b ↔ Any (λ z. ¬ IsOver c x z) (rmid ∷ umids)
 lower-rest c x rmid umids b over rest = (
   λ on. let any = rest.0 on in (suc any.0, any.1, omega (arith, any.2), any.3, any.4),

@@ -1,5 +1,6 @@
 -- There are no more candidates than received SYSMODs.
-use Rattle.std.proofs.Common.{◌≡◌, ◌<◌, ◌^◌, refl, true, List, [], Option, None, Some, All, IsTrue, not, sym, ◌∙◌, ap, subst, true≢false, filter, length, map, Contains, arith}
+use Rattle.std.proofs.Common.{◌≡◌, ◌<◌, ◌^◌, refl, true, List, [], Option, None, Some, All, IsTrue, not, sym, ◌∙◌, ap}
+use Rattle.std.proofs.Common.{subst, true≢false, filter, length, map, Contains, arith}
 use Rattle.std.specs.Option.{option_map_or}
 use Rattle.std.specs.Str.{bytes_eq}
 use Rattle.std.proofs.lemmas.Bool.{and_parts}
@@ -24,13 +25,21 @@ module _ (g : Global) (zone : Zone) where
       has_ver = (and_parts _ _ (and_parts _ _ (and_parts _ _ ok).0).0).0
 
       by : (s : Option Sysmod) → sysmod_of g x ≡ s → Contains (map (λ s. s.id) g.sysmods) x
-      by None at = absurd (true≢false (sym has_ver ∙ ap (λ s. not (is_nil (option_map_or (λ s. filter (λ v. bytes_eq v.srel zone.srel) s.vers) s []))) at))
+      by None at = absurd (true≢false (sym has_ver ∙ ap (λ s.
+          not (is_nil (option_map_or (λ s. filter (λ v. bytes_eq v.srel zone.srel) s.vers) s []))) at))
       by (Some s) at =
           let found = find-gives (λ s. bytes_eq s.id x) g.sysmods s at in
-          subst (Contains (map (λ s. s.id) g.sysmods)) (same_from s.id x found.0) (in_map (λ s. s.id) g.sysmods s found.1)
+          subst (Contains (map (λ s. s.id) g.sysmods)) (same_from s.id x found.0)
+          (in_map (λ s. s.id) g.sysmods s found.1)
 
-  pub few : IsGlobal g → (ids : List Id) → IsRising ids → All (λ x. IsTrue (is_installable g zone x)) ids → length ids < 2 ^ 32
+  pub few : IsGlobal g → (ids : List Id) → IsRising ids → All (λ x. IsTrue (is_installable g zone x)) ids
+      → length ids < 2 ^ 32
   few global ids rising ok =
       let within : (x : Id) → Contains ids x → Contains (map (λ s. s.id) g.sysmods) x =
       λ x h. received x (All-contains (λ x. IsTrue (is_installable g zone x)) ids x ok h) in
-      omega (arith, global.size, length-map g.sysmods (λ s. s.id), apart-le ids (map (λ s. s.id) g.sysmods) (apart-from_rising ids rising) within)
+      omega (
+        arith,
+        global.size,
+        length-map g.sysmods (λ s. s.id),
+        apart-le ids (map (λ s. s.id) g.sysmods) (apart-from_rising ids rising) within,
+      )

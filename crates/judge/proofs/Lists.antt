@@ -1,5 +1,6 @@
 -- Lists that grow by one, beside lists that a loop goes over.
-use Rattle.std.proofs.Common.{◌≡◌, ◌⊎◌, inl, inr, ℕ, zero, suc, ◌<◌, ◌≤◌, ◌+◌, List, [], ◌∷◌, ◌++◌, length, length-append, Some, refl, sym, ap, ◌∙◌, subst, arith, slice_get}
+use Rattle.std.proofs.Common.{◌≡◌, ◌⊎◌, inl, inr, ℕ, zero, suc, ◌<◌, ◌≤◌, ◌+◌, List, [], ◌∷◌, ◌++◌, length}
+use Rattle.std.proofs.Common.{length-append, Some, refl, sym, ap, ◌∙◌, subst, arith, slice_get}
 use Rattle.std.specs.Prelude.{All, get_or, take}
 use Rattle.std.proofs.lemmas.List.{take_more, take_all, length-take-le}
 use Rattle.std.proofs.lemmas.List.Elements.{All-push}
@@ -7,7 +8,8 @@ use Rattle.std.proofs.lemmas.Option.{slice_get_within, get_or_from_slice_get}
 use Rattle.judge.specs.Placed.{Beside}
 
 -- one more at the end of a list
-pub push-old : {X : Type 0} (xs : List X) (y : X) (i : ℕ) (x : X) → slice_get xs i ≡ Some x → slice_get (xs ++ y ∷ []) i ≡ Some x
+pub push-old : {X : Type 0} (xs : List X) (y : X) (i : ℕ) (x : X) → slice_get xs i ≡ Some x
+    → slice_get (xs ++ y ∷ []) i ≡ Some x
 push-old [] y i x e = absurd (cc e)
 push-old (z ∷ zs) y zero x e = e
 push-old (z ∷ zs) y (suc i) x e = push-old zs y i x e
@@ -21,9 +23,11 @@ pub push-cases : {X : Type 0} (xs : List X) (y : X) (i : ℕ) (x : X) → slice_
 push-cases [] y zero x e = inr (refl, cc e)
 push-cases [] y (suc i) x e = absurd (cc e)
 push-cases (z ∷ zs) y zero x e = inl e
-push-cases (z ∷ zs) y (suc i) x e = elim (push-cases zs y i x e) [ inl old ↦ inl old | inr last ↦ inr (ap suc last.0, last.1) ]
+push-cases (z ∷ zs) y (suc i) x e = elim (push-cases zs y i x e)
+    [ inl old ↦ inl old | inr last ↦ inr (ap suc last.0, last.1) ]
 
-pub beside-more : {X Y : Type 0} (R : ℕ → X → Y → Type 0) (xs : List X) (ys : List Y) (x : X) (y : Y) → Beside R xs ys → R (length xs) x y → Beside R (xs ++ x ∷ []) (ys ++ y ∷ [])
+pub beside-more : {X Y : Type 0} (R : ℕ → X → Y → Type 0) (xs : List X) (ys : List Y) (x : X) (y : Y) → Beside R xs ys
+    → R (length xs) x y → Beside R (xs ++ x ∷ []) (ys ++ y ∷ [])
 beside-more R xs ys x y b r = record {
   lengths = length-append ys (y ∷ []) ∙ ap (λ n. n + 1) b.lengths ∙ sym (length-append xs (x ∷ []));
   each = λ n v w e f. elim (push-cases xs x n v e) [
@@ -33,13 +37,15 @@ beside-more R xs ys x y b r = record {
     ]
     | inr last_x ↦ elim (push-cases ys y n w f) [
       | inl old_y ↦ absurd (omega (arith, slice_get_within ys n w old_y, last_x.0, b.lengths))
-      | inr last ↦ subst (λ k. R k v w) (sym last_x.0) (subst (λ k. R (length xs) k w) last_x.1 (subst (R (length xs) x) last.1 r))
+      | inr last ↦ subst (λ k. R k v w) (sym last_x.0) (subst (λ k. R (length xs) k w) last_x.1
+          (subst (R (length xs) x) last.1 r))
     ]
   ];
 }
 
 -- the next of a list, as a loop goes over it
-pub beside-next : {X Y : Type 0} (R : ℕ → X → Y → Type 0) (xs : List X) (ys new : List Y) (i : ℕ) (x : X) (y : Y) → i < length xs → x ≡ get_or xs i x
+pub beside-next : {X Y : Type 0} (R : ℕ → X → Y → Type 0) (xs : List X) (ys new : List Y) (i : ℕ) (x : X) (y : Y)
+    → i < length xs → x ≡ get_or xs i x
     → new ≡ ys ++ y ∷ [] → R i x y → Beside R (take i xs) ys → Beside R (take (i + 1) xs) new
 beside-next R xs ys new i x y below at made r b =
     let len : length (take i xs) ≡ i = length-take-le i xs (omega (arith, below)) in
@@ -48,15 +54,20 @@ beside-next R xs ys new i x y below at made r b =
     (beside-more R (take i xs) ys x y b (subst (λ k. R k x y) (sym len) r)))
 
 -- what all in front of a place have, and the one there has too
-pub all-next : {X : Type 0} (P : X → Type 0) (xs : List X) (i : ℕ) (x : X) → i < length xs → x ≡ get_or xs i x → P x → All P (take i xs) → All P (take (i + 1) xs)
+pub all-next : {X : Type 0} (P : X → Type 0) (xs : List X) (i : ℕ) (x : X) → i < length xs → x ≡ get_or xs i x → P x
+    → All P (take i xs) → All P (take (i + 1) xs)
 all-next P xs i x below at p all =
-    subst (All P) (sym (take_more xs i x below ∙ ap (λ v. take i xs ++ v ∷ []) (sym at))) (All-push P (take i xs) x all p)
+    subst (All P) (sym (take_more xs i x below ∙ ap (λ v. take i xs ++ v ∷ []) (sym at)))
+    (All-push P (take i xs) x all p)
 
-pub beside-at : {X Y : Type 0} (R : ℕ → X → Y → Type 0) (xs : List X) (ys new : List Y) (i : ℕ) (x : X) (y : Y) → slice_get xs i ≡ Some x
+pub beside-at : {X Y : Type 0} (R : ℕ → X → Y → Type 0) (xs : List X) (ys new : List Y) (i : ℕ) (x : X) (y : Y)
+    → slice_get xs i ≡ Some x
     → new ≡ ys ++ y ∷ [] → R i x y → Beside R (take i xs) ys → Beside R (take (i + 1) xs) new
-beside-at R xs ys new i x y at = beside-next R xs ys new i x y (slice_get_within xs i x at) (sym (get_or_from_slice_get xs i x x at))
+beside-at R xs ys new i x y at = beside-next R xs ys new i x y (slice_get_within xs i x at)
+    (sym (get_or_from_slice_get xs i x x at))
 
-pub beside-through : {X Y : Type 0} (R : ℕ → X → Y → Type 0) (xs : List X) (ys : List Y) (i : ℕ) → length xs ≤ i → Beside R (take i xs) ys → Beside R xs ys
+pub beside-through : {X Y : Type 0} (R : ℕ → X → Y → Type 0) (xs : List X) (ys : List Y) (i : ℕ) → length xs ≤ i
+    → Beside R (take i xs) ys → Beside R xs ys
 beside-through R xs ys i whole b = subst (λ l. Beside R l ys) (take_all i xs whole) b
 
 -- all have been gone through

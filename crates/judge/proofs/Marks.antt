@@ -1,11 +1,13 @@
 -- Who shares an element: the claims of the candidates, and the marks that one pass over them makes.
-use Rattle.std.proofs.Common.{◌≡◌, ◌≢◌, ◌⊎◌, inl, inr, ℕ, ◌+◌, Bool, true, false, List, [], ◌∷◌, ◌++◌, Option, None, Some, refl, sym, ap, ap₂, ◌∙◌, subst, true≢false, map, Contains, cond, arith, slice_get}
+use Rattle.std.proofs.Common.{◌≡◌, ◌≢◌, ◌⊎◌, inl, inr, ℕ, ◌+◌, Bool, true, false, List, [], ◌∷◌, ◌++◌, Option, None}
+use Rattle.std.proofs.Common.{Some, refl, sym, ap, ap₂, ◌∙◌, subst, true≢false, map, Contains, cond, arith, slice_get}
 use Rattle.std.specs.Prelude.{◌↔◌, ◌&&◌}
 use Rattle.std.specs.List.{list_any}
 use Rattle.std.specs.Str.{bytes_eq}
 use Rattle.std.proofs.lemmas.Bool.{and_parts, eqb-true, eq-eqb, cases_eq}
 use Rattle.std.proofs.lemmas.List.{append-nil}
-use Rattle.std.proofs.lemmas.List.Elements.{Contains-append_left, Contains-append_right, Contains-append_cases, Contains-push, Contains-push_cases}
+use Rattle.std.proofs.lemmas.List.Elements.{Contains-append_left, Contains-append_right, Contains-append_cases}
+use Rattle.std.proofs.lemmas.List.Elements.{Contains-push, Contains-push_cases}
 use Rattle.std.proofs.lemmas.Option.{same_Some}
 use Rattle.indexmap.specs.IndexSet.{insert_key}
 use Rattle.indexmap.proofs.CallerLemmas.{Contains-insert_key}
@@ -19,7 +21,8 @@ use Rattle.terms.specs.contracts.kinds.ElemTypePartialEq.TheImpl as type_equalit
 use Rattle.judge.specs.declared.own.OwnFaults.{OwnFaults}
 use Rattle.judge.specs.declared.sharing.Claim.{Claim}
 use Rattle.judge.specs.Own.{passes}
-use Rattle.judge.specs.Sharing.{change_key, key_eq, a_claim, HasClaim, AreClaims, IsSharedPlace, AreMarked, MarksOne, IsSharedAt}
+use Rattle.judge.specs.Sharing.{change_key, key_eq, a_claim, HasClaim, AreClaims, IsSharedPlace, AreMarked, MarksOne}
+use Rattle.judge.specs.Sharing.{IsSharedAt}
 
 abbrev Key : Type 0
 Key = ElemType × Text
@@ -27,17 +30,20 @@ Key = ElemType × Text
 pub key-from : (a b : Key) → key_eq a b ≡ true → a ≡ b
 key-from a b e =
     let parts = and_parts (type_equality.ghosts.eq a.0 b.0) (bytes_eq a.1 b.1) e in
-    let types : a.0 ≡ b.0 = type_from_number a.0 b.0 (eqb-true (type_number a.0) (type_number b.0) (sym (eq-types a.0 b.0) ∙ parts.0)) in
+    let types : a.0 ≡ b.0 = type_from_number a.0 b.0 (eqb-true (type_number a.0) (type_number b.0)
+    (sym (eq-types a.0 b.0) ∙ parts.0)) in
     let names : a.1 ≡ b.1 = same_from a.1 b.1 parts.1 in
     ap₂ (λ t n. (t, n)) types names
 
 pub key-itself : (a : Key) → key_eq a a ≡ true
 key-itself a =
-    ap (λ b. b && bytes_eq a.1 a.1) (eq-types a.0 a.0 ∙ eq-eqb (type_number a.0) (type_number a.0) refl) ∙ same_itself a.1
+    ap (λ b. b && bytes_eq a.1 a.1) (eq-types a.0 a.0 ∙ eq-eqb (type_number a.0) (type_number a.0) refl)
+    ∙ same_itself a.1
 
 -- ---- marks
 
-more-shared : (claims : List Claim) (claim : Claim) (n : ℕ) → IsSharedPlace claims n → IsSharedPlace (claims ++ claim ∷ []) n
+more-shared : (claims : List Claim) (claim : Claim) (n : ℕ) → IsSharedPlace claims n
+    → IsSharedPlace (claims ++ claim ∷ []) n
 more-shared claims claim n s = record {
   key = s.key;
   other = s.other;
@@ -76,7 +82,8 @@ module _ (claim : Claim) (first : Key → Option ℕ) (shared : List ℕ) (first
     ];
   }
     where
-      both : (claims : List Claim) → AreMarked claims first shared → (n : ℕ) → Meets n → IsSharedPlace (claims ++ claim ∷ []) n
+      both : (claims : List Claim) → AreMarked claims first shared → (n : ℕ) → Meets n
+          → IsSharedPlace (claims ++ claim ∷ []) n
       both claims m n (p, at, apart, who) =
           let earlier : Contains (claims ++ claim ∷ []) (a_claim claim.element p) =
           Contains-append_left claims (claim ∷ []) (a_claim claim.element p) (m.first_is claim.element p at) in
@@ -99,12 +106,17 @@ module _ (claim : Claim) (first : Key → Option ℕ) (shared : List ℕ) (first
           ]
 
   -- nobody has claimed it
-  pub marks-first : first claim.element ≡ None → ((q : Key) → first' q ≡ cond (key_eq claim.element q) (Some claim.place) (first q))
+  pub marks-first : first claim.element ≡ None → ((q : Key) → first' q ≡ cond (key_eq claim.element q)
+      (Some claim.place) (first q))
       → shared' ≡ shared → MarksOne claim first shared first' shared'
   unfolding Meets Knows
   marks-first none updated same =
-      marks-step kept only
-      (claim.place, updated claim.element ∙ ap (λ b. cond b (Some claim.place) (first claim.element)) (key-itself claim.element), inl refl)
+      marks-step kept only (
+        claim.place,
+        updated claim.element ∙ ap (λ b. cond b (Some claim.place) (first claim.element))
+            (key-itself claim.element),
+        inl refl,
+      )
       (λ m h. subst (λ l. Contains l m) (sym same) h)
       (λ m h. inl (subst (λ l. Contains l m) same h))
     where
@@ -120,13 +132,15 @@ module _ (claim : Claim) (first : Key → Option ℕ) (shared : List ℕ) (first
         where
           by : (b : Bool) → key_eq claim.element k ≡ b → (first k ≡ Some p) ⊎ (claim ≡ a_claim k p)
           by true is =
-              let it : Some claim.place ≡ Some p = sym (updated k ∙ ap (λ b. cond b (Some claim.place) (first k)) is) ∙ e in
+              let it : Some claim.place ≡ Some p = sym (updated k ∙ ap (λ b. cond b (Some claim.place) (first k)) is)
+              ∙ e in
               let place : claim.place ≡ p = cc it in
               inr (ap₂ a_claim (key-from claim.element k is) place)
           by false is = inl (sym (updated k ∙ ap (λ b. cond b (Some claim.place) (first k)) is) ∙ e)
 
   -- it has claimed it itself
-  pub marks-again : (p : ℕ) → first claim.element ≡ Some p → p ≡ claim.place → ((q : Key) → first' q ≡ first q) → shared' ≡ shared
+  pub marks-again : (p : ℕ) → first claim.element ≡ Some p → p ≡ claim.place → ((q : Key) → first' q ≡ first q)
+      → shared' ≡ shared
       → MarksOne claim first shared first' shared'
   unfolding Meets Knows
   marks-again p at own same_first same =
@@ -151,9 +165,11 @@ module _ (eq : ℕ → ℕ → Bool) (exact : (a b : ℕ) → eq a b ≡ true �
       by false h = elim (Contains-push_cases ks k m h) [ inl old ↦ inl old | inr is ↦ inr (sym is) ]
 
   -- another has claimed it
-  pub marks-other : (claim : Claim) (first : Key → Option ℕ) (shared : List ℕ) (first' : Key → Option ℕ) (middle shared' : List ℕ) (p : ℕ)
+  pub marks-other : (claim : Claim) (first : Key → Option ℕ) (shared : List ℕ) (first' : Key → Option ℕ)
+      (middle shared' : List ℕ) (p : ℕ)
       → first claim.element ≡ Some p → p ≢ claim.place → ((q : Key) → first' q ≡ first q)
-      → middle ≡ insert_key eq shared p → shared' ≡ insert_key eq middle claim.place → MarksOne claim first shared first' shared'
+      → middle ≡ insert_key eq shared p → shared' ≡ insert_key eq middle claim.place
+      → MarksOne claim first shared first' shared'
   unfolding Meets Knows
   marks-other claim first shared first' middle shared' p at other same_first to_middle to_end =
       marks-step claim first shared first' shared' (λ k q e. same_first k ∙ e) (λ k q e. inl (sym (same_first k) ∙ e)) (
@@ -237,7 +253,8 @@ module _ (g : Global) (ids : List Id) (faults : List OwnFaults) where
   claims_at k x = map (λ h. a_claim (change_key h) k) (changes_of g x)
 
   -- the next candidate claims what it changes
-  pub claims-more : (k : ℕ) (x : Id) (own : OwnFaults) (claims : List Claim) → slice_get ids k ≡ Some x → slice_get faults k ≡ Some own
+  pub claims-more : (k : ℕ) (x : Id) (own : OwnFaults) (claims : List Claim) → slice_get ids k ≡ Some x
+      → slice_get faults k ≡ Some own
       → passes own ≡ true → AreClaims g ids faults k claims
       → AreClaims g ids faults (k + 1) (claims ++ claims_at k x)
   claims-more k x own claims at own_at passing are key n = (gives, takes)
@@ -256,7 +273,8 @@ module _ (g : Global) (ids : List Id) (faults : List OwnFaults) where
               own = own;
               own_at = own_at;
               passing = passing;
-              changes = subst (Contains (map change_key (changes_of g x))) element (in_map change_key (changes_of g x) m.0 m.1);
+              changes = subst (Contains (map change_key (changes_of g x))) element
+                  (in_map change_key (changes_of g x) m.0 m.1);
             })
       ]
 
@@ -264,13 +282,17 @@ module _ (g : Global) (ids : List Id) (faults : List OwnFaults) where
       takes h = elim (cases_eq n k) [
         | inl this ↦
             let here : Some x ≡ Some h.x = sym at ∙ subst (λ m. slice_get ids m ≡ Some h.x) this h.at in
-            let m = map_in change_key (changes_of g x) key (subst (λ y. Contains (map change_key (changes_of g y)) key) (sym (same_Some x h.x here)) h.changes) in
+            let m = map_in change_key (changes_of g x) key (subst (λ y. Contains (map change_key (changes_of g y)) key)
+            (sym (same_Some x h.x here)) h.changes) in
             Contains-append_right claims (claims_at k x) (a_claim key n)
-            (subst (Contains (claims_at k x)) (ap₂ a_claim m.2 (sym this)) (in_map (λ h. a_claim (change_key h) k) (changes_of g x) m.0 m.1))
-        | inr other ↦ Contains-append_left claims (claims_at k x) (a_claim key n) ((are key n).1 (narrower k key n other h))
+            (subst (Contains (claims_at k x)) (ap₂ a_claim m.2 (sym this))
+            (in_map (λ h. a_claim (change_key h) k) (changes_of g x) m.0 m.1))
+        | inr other ↦ Contains-append_left claims (claims_at k x) (a_claim key n)
+            ((are key n).1 (narrower k key n other h))
       ]
 
-  pub claims-next : (k : ℕ) (x : Id) (own : OwnFaults) (claims new : List Claim) → slice_get ids k ≡ Some x → slice_get faults k ≡ Some own
+  pub claims-next : (k : ℕ) (x : Id) (own : OwnFaults) (claims new : List Claim) → slice_get ids k ≡ Some x
+      → slice_get faults k ≡ Some own
       → new ≡ claims ++ cond (passes own) (map (λ h. a_claim (change_key h) k) (changes_of g x)) []
       → AreClaims g ids faults k claims → AreClaims g ids faults (k + 1) new
   claims-next k x own claims new at own_at made are = by (passes own) refl
@@ -280,12 +302,26 @@ module _ (g : Global) (ids : List Id) (faults : List OwnFaults) where
           subst (AreClaims g ids faults (k + 1)) (sym (made ∙ ap (λ b. claims ++ cond b (claims_at k x) []) on))
           (claims-more k x own claims at own_at on are)
       by false fails =
-          subst (AreClaims g ids faults (k + 1)) (sym (made ∙ ap (λ b. claims ++ cond b (claims_at k x) []) fails ∙ append-nil claims))
+          subst (AreClaims g ids faults (k + 1)) (sym (made ∙ ap (λ b. claims ++ cond b (claims_at k x) []) fails
+          ∙ append-nil claims))
           (claims-skip k own claims own_at fails are)
 
   -- who shares a place shares an element
-  pub shared-at : (claims : List Claim) (end : ℕ) → AreClaims g ids faults end claims → (n : ℕ) → IsSharedPlace claims n ↔ IsSharedAt g ids faults end n
+  pub shared-at : (claims : List Claim) (end : ℕ) → AreClaims g ids faults end claims → (n : ℕ)
+      → IsSharedPlace claims n ↔ IsSharedAt g ids faults end n
   shared-at claims end are n = (
-    λ s. record { key = s.key; other = s.other; own = (are s.key n).0 s.own; others = (are s.key s.other).0 s.others; apart = s.apart },
-    λ s. record { key = s.key; other = s.other; own = (are s.key n).1 s.own; others = (are s.key s.other).1 s.others; apart = s.apart },
+    λ s. record {
+      key = s.key;
+      other = s.other;
+      own = (are s.key n).0 s.own;
+      others = (are s.key s.other).0 s.others;
+      apart = s.apart;
+    },
+    λ s. record {
+      key = s.key;
+      other = s.other;
+      own = (are s.key n).1 s.own;
+      others = (are s.key s.other).1 s.others;
+      apart = s.apart;
+    },
   )

@@ -1,5 +1,7 @@
 -- What the places of the candidates tell: each fails the tests that are marked at its place, and no others.
-use Rattle.std.proofs.Common.{◌≡◌, ◌≢◌, inl, inr, ℕ, zero, suc, ◌<◌, ◌+◌, Bool, true, false, not, List, [], ◌∷◌, length, Option, None, Some, IsTrue, refl, sym, ap, ap₂, ◌∙◌, subst, true≢false, filter, map, Contains, cond, arith, slice_get, get_or}
+use Rattle.std.proofs.Common.{◌≡◌, ◌≢◌, inl, inr, ℕ, zero, suc, ◌<◌, ◌+◌, Bool, true, false, not, List, [], ◌∷◌, length}
+use Rattle.std.proofs.Common.{Option, None, Some, IsTrue, refl, sym, ap, ap₂, ◌∙◌, subst, true≢false, filter, map}
+use Rattle.std.proofs.Common.{Contains, cond, arith, slice_get, get_or}
 use Rattle.std.specs.Prelude.{All, ◌↔◌, ◌==◌, ◌&&◌, nat_eq}
 use Rattle.std.specs.Option.{option_map, option_map_or}
 use Rattle.std.specs.Str.{bytes_eq}
@@ -11,7 +13,8 @@ use Rattle.terms.specs.Rising.{Stands}
 use Rattle.std.proofs.lemmas.Cmp.{nat_list_cmp_total, nat_eq_equiv, tied_itself}
 use Rattle.std.proofs.lemmas.List.{length-map}
 use Rattle.terms.specs.Needs.{Needs, Serves}
-use Rattle.std.proofs.lemmas.Option.{slice_get_within, slice_get-get_or, slice_get-map, get_or_from_slice_get, same_Some}
+use Rattle.std.proofs.lemmas.Option.{slice_get_within, slice_get-get_or, slice_get-map, get_or_from_slice_get}
+use Rattle.std.proofs.lemmas.Option.{same_Some}
 use Rattle.std.proofs.lemmas.List.Folds.{Any-from_list_any, list_any-from_Any}
 use Rattle.std.proofs.lemmas.List.Elements.{All-contains, filter_passes}
 use Rattle.std.proofs.lemmas.List.Kept.{AllPairs-filter}
@@ -43,7 +46,9 @@ use Rattle.judge.specs.Rows.{fails_test, is_among, row_of, is_eligible_at}
 use Rattle.judge.specs.Wanted.{open_fmid, ArePlaces, AreWants}
 use Rattle.terms.proofs.Ids.{is_in-from_Contains}
 use Rattle.judge.proofs.Plain.{IsPlain}
-use Rattle.judge.proofs.Collapsed.{change-found, change-has, never-held-system, never-held-user, never-prevented, never-bare-update, never-deleted, foreign-from, foreign-gives, lower-from, lower-gives, unapplied-gives, survives-from, clash-shares, share-clashes}
+use Rattle.judge.proofs.Collapsed.{change-found, change-has, never-held-system, never-held-user, never-prevented}
+use Rattle.judge.proofs.Collapsed.{never-bare-update, never-deleted, foreign-from, foreign-gives, lower-from}
+use Rattle.judge.proofs.Collapsed.{lower-gives, unapplied-gives, survives-from, clash-shares, share-clashes}
 use Rattle.judge.proofs.Needed.{needs-only, needs-open, serves-itself}
 
 off : (b : Bool) → ¬ IsTrue b → not b ≡ true
@@ -51,7 +56,8 @@ off true lacks = absurd (lacks refl)
 off false lacks = refl
 
 bytes-apart : (x y : Id) → not (bytes_eq x y) ≡ true → x ≢ y
-bytes-apart x y e same = true≢false (sym (subst (λ z. bytes_eq x z ≡ true) same (same_itself x)) ∙ not-true (bytes_eq x y) e)
+bytes-apart x y e same = true≢false (sym (subst (λ z. bytes_eq x z ≡ true) same (same_itself x))
+    ∙ not-true (bytes_eq x y) e)
 
 bytes-differ : (x y : Id) → x ≢ y → not (bytes_eq x y) ≡ true
 bytes-differ x y other = off (bytes_eq x y) (λ same. other (same_from x y same))
@@ -64,11 +70,14 @@ before-apart x y below same = true≢false (sym (subst (λ z. is_before x z ≡ 
     not_below x = ap is_lt (tied_itself nat_list_cmp_total x)
 
 -- ids at two places are two
-places-apart : (ids : List Id) → IsRising ids → (n m : ℕ) (x y : Id) → slice_get ids n ≡ Some x → slice_get ids m ≡ Some y → n < m → x ≢ y
+places-apart : (ids : List Id) → IsRising ids → (n m : ℕ) (x y : Id) → slice_get ids n ≡ Some x
+    → slice_get ids m ≡ Some y → n < m → x ≢ y
 places-apart ids rising n m x y at_x at_y below =
-    before-apart x y (rw (← get_or_from_slice_get ids n x x at_x, ← get_or_from_slice_get ids m y x at_y) (rising n m x below (slice_get_within ids m y at_y)))
+    before-apart x y (rw (← get_or_from_slice_get ids n x x at_x, ← get_or_from_slice_get ids m y x at_y)
+    (rising n m x below (slice_get_within ids m y at_y)))
 
-pub two-places : (ids : List Id) → IsRising ids → (n m : ℕ) (x y : Id) → slice_get ids n ≡ Some x → slice_get ids m ≡ Some y → n ≢ m → x ≢ y
+pub two-places : (ids : List Id) → IsRising ids → (n m : ℕ) (x y : Id) → slice_get ids n ≡ Some x
+    → slice_get ids m ≡ Some y → n ≢ m → x ≢ y
 two-places ids rising n m x y at_x at_y other = elim (cases_order n m) [
   | inl same ↦ absurd (other same)
   | inr apart ↦ elim apart [
@@ -79,7 +88,8 @@ two-places ids rising n m x y at_x at_y other = elim (cases_order n m) [
 
 -- where a function stands among them
 
-pub one-place : (ids : List Id) → IsRising ids → (f x : Id) (i : ℕ) → slice_get ids i ≡ Some x → x ≡ f → ArePlaces ids f (i ∷ [])
+pub one-place : (ids : List Id) → IsRising ids → (f x : Id) (i : ℕ) → slice_get ids i ≡ Some x → x ≡ f
+    → ArePlaces ids f (i ∷ [])
 one-place ids rising f x i at is n y at_y = (
   λ h.
       let same : i ≡ n = elim (here_or i [] n h) [ inl here ↦ here | inr later ↦ absurd (omega (arith, later.1)) ] in
@@ -111,13 +121,16 @@ own-at (y ∷ ys) (b ∷ faults) k rising zero m x a at own place =
     let same : y ≡ x = same_Some y x at in
     let is : b ≡ a = same_Some b a own in
     let number : k ≡ m = omega (arith, place) in
-    ap (λ t. cond t (Some (k, b)) (own_of ys faults (suc k) x)) (subst (λ z. bytes_eq y z ≡ true) same (same_itself y)) ∙ ap₂ (λ i c. Some (i, c)) number is
+    ap (λ t. cond t (Some (k, b)) (own_of ys faults (suc k) x)) (subst (λ z. bytes_eq y z ≡ true) same (same_itself y))
+    ∙ ap₂ (λ i c. Some (i, c)) number is
 own-at (y ∷ ys) (b ∷ faults) k rising (suc n) m x a at own place =
     let other : y ≢ x = two-places (y ∷ ys) rising 0 (suc n) y x refl at (λ e. omega (arith, e)) in
     ap (λ t. cond t (Some (k, b)) (own_of ys faults (suc k) x)) (not-true (bytes_eq y x) (bytes-differ y x other))
-    ∙ own-at ys faults (suc k) (AllPairs-rest (λ u v. IsTrue (is_before u v)) y ys rising) n m x a at own (omega (arith, place))
+    ∙ own-at ys faults (suc k) (AllPairs-rest (λ u v. IsTrue (is_before u v)) y ys rising) n m x a at own
+    (omega (arith, place))
 
-module _ (g : Global) (zone : Zone) (ids : List Id) (held : All (λ e. IsTrue (is_held e)) zone.entries) (rising : IsRising ids)
+module _ (g : Global) (zone : Zone) (ids : List Id) (held : All (λ e. IsTrue (is_held e)) zone.entries)
+    (rising : IsRising ids)
     (plain : (x : Id) → Contains ids x → IsPlain g zone x)
     (faults : List OwnFaults) (own : Beside (λ n x a. HasFaults g zone x a) ids faults) where
   abbrev s : Setting
@@ -127,19 +140,28 @@ module _ (g : Global) (zone : Zone) (ids : List Id) (held : All (λ e. IsTrue (i
     abbrev in_ids : Contains ids x
     in_ids = contains_at ids n x at
 
-    foreign-at : (h : Change) → is_foreign_at zone x h ≡ true → (e : Element) × (element_of zone h.elem_type h.name ≡ Some e) × (e.fmid ≢ x)
+    foreign-at : (h : Change) → is_foreign_at zone x h ≡ true
+        → (e : Element) × (element_of zone h.elem_type h.name ≡ Some e) × (e.fmid ≢ x)
     foreign-at h foreign = by (element_of zone h.elem_type h.name) refl
       where
-        by : (o : Option Element) → element_of zone h.elem_type h.name ≡ o → (e : Element) × (element_of zone h.elem_type h.name ≡ Some e) × (e.fmid ≢ x)
+        by : (o : Option Element) → element_of zone h.elem_type h.name ≡ o
+            → (e : Element) × (element_of zone h.elem_type h.name ≡ Some e) × (e.fmid ≢ x)
         by None e = absurd (true≢false (sym foreign ∙ ap (λ o. option_map_or (λ e. not (bytes_eq e.fmid x)) o false) e))
-        by (Some v) e = (v, e, bytes-apart v.fmid x (sym (ap (λ o. option_map_or (λ e. not (bytes_eq e.fmid x)) o false) e) ∙ foreign))
+        by (Some v) e = (
+          v,
+          e,
+          bytes-apart v.fmid x (sym (ap (λ o. option_map_or (λ e. not (bytes_eq e.fmid x)) o false)
+              e) ∙ foreign),
+        )
 
     four : IsTrue a.foreign ↔ FailsJ4 s x
     four = (
       λ foreign.
-          let any = Any-from_list_any (is_foreign_at zone x) (changes_of g x) (sym (own.each n x a at at_own).foreign ∙ foreign) in
+          let any = Any-from_list_any (is_foreign_at zone x) (changes_of g x)
+          (sym (own.each n x a at at_own).foreign ∙ foreign) in
           let found = foreign-at any.1 any.4 in
-          foreign-gives g zone ids held plain x in_ids found.0 (record { change = any.1; of = (any.0, any.2, any.3); at = found.1 }) found.2,
+          foreign-gives g zone ids held plain x in_ids found.0
+          (record { change = any.1; of = (any.0, any.2, any.3); at = found.1 }) found.2,
       λ fails.
           let t = foreign-from g zone ids held plain x in_ids fails in
           (own.each n x a at at_own).foreign ∙ list_any-from_Any (is_foreign_at zone x) (changes_of g x) (
@@ -157,7 +179,8 @@ module _ (g : Global) (zone : Zone) (ids : List Id) (held : All (λ e. IsTrue (i
           let any = (own.each n x a at at_own).lower.0 lower in
           let e = any.4.0 in
           let z = any.4.2 in
-          lower-gives g zone ids held plain x in_ids e z.1 (record { change = any.1; of = (any.0, any.2, any.3); at = any.4.1 }) (z.0, z.2, z.3) z.4,
+          lower-gives g zone ids held plain x in_ids e z.1 (record
+          { change = any.1; of = (any.0, any.2, any.3); at = any.4.1 }) (z.0, z.2, z.3) z.4,
       λ fails.
           let t = lower-from g zone ids held plain x in_ids fails in
           let touch = t.2 in
@@ -167,7 +190,8 @@ module _ (g : Global) (zone : Zone) (ids : List Id) (held : All (λ e. IsTrue (i
 
     seven : IsTrue a.unapplied ↔ FailsJ7 s x
     seven = (
-      λ off. unapplied-gives g zone ids held plain x in_ids (kind-is zone.kind (sym (own.each n x a at at_own).unapplied ∙ off)),
+      λ off. unapplied-gives g zone ids held plain x in_ids (kind-is zone.kind
+          (sym (own.each n x a at at_own).unapplied ∙ off)),
       λ fails. (own.each n x a at at_own).unapplied ∙ ap (λ k. zone_number k == 1) fails.0,
     )
       where
@@ -208,7 +232,8 @@ module _ (g : Global) (zone : Zone) (ids : List Id) (held : All (λ e. IsTrue (i
       let found = found_at ids x in_ids in
       let a = beside-own found.0 x found.1 in
       let is : is_survivor x ≡ passes a.0 =
-      ap (λ o. option_map_or (λ p. passes p.1) o false) (own-at ids faults 0 rising found.0 found.0 x a.0 found.1 a.1 (omega arith)) in
+      ap (λ o. option_map_or (λ p. passes p.1) o false) (own-at ids faults 0 rising found.0 found.0 x a.0 found.1 a.1
+      (omega arith)) in
       let both = survives-if found.0 x a.0 found.1 a.1 in
       (λ on. both.0 (sym is ∙ on), λ survives. is ∙ both.1 survives)
 
@@ -222,7 +247,8 @@ module _ (g : Global) (zone : Zone) (ids : List Id) (held : All (λ e. IsTrue (i
   are-survivors = record {
     rising = AllPairs-filter (λ u v. IsTrue (is_before u v)) is_survivor ids rising;
     members = λ x. (
-      λ h. (survivor-if x (filter_in is_survivor ids x h).0).0 (All-contains (λ y. is_survivor y ≡ true) survivors x (filter_passes is_survivor ids) h),
+      λ h. (survivor-if x (filter_in is_survivor ids x h).0).0
+          (All-contains (λ y. is_survivor y ≡ true) survivors x (filter_passes is_survivor ids) h),
       λ survives. in_filter is_survivor ids x survives.0.0 ((survivor-if x survives.0.0).1 survives),
     );
   }
@@ -231,12 +257,14 @@ module _ (g : Global) (zone : Zone) (ids : List Id) (held : All (λ e. IsTrue (i
     same-at : (n : ℕ) (x y : Id) → slice_get ids n ≡ Some x → slice_get ids n ≡ Some y → x ≡ y
     same-at n x y e f = let both : Some x ≡ Some y = sym e ∙ f in cc both
 
-    has-claimed : (key : ElemType × Text) (x : Id) → Contains (map change_key (changes_of g x)) key → IsTrue (has_change g x key.0 key.1)
+    has-claimed : (key : ElemType × Text) (x : Id) → Contains (map change_key (changes_of g x)) key
+        → IsTrue (has_change g x key.0 key.1)
     has-claimed key x h =
         let m = map_in change_key (changes_of g x) key h in
         subst (λ k. IsTrue (has_change g x k.0 k.1)) m.2 (change-has g x m.0 m.1)
 
-    a-claim : (n : ℕ) (x : Id) → slice_get ids n ≡ Some x → Survives s x → (type : ElemType) (name : Text) → IsTrue (has_change g x type name)
+    a-claim : (n : ℕ) (x : Id) → slice_get ids n ≡ Some x → Survives s x → (type : ElemType) (name : Text)
+        → IsTrue (has_change g x type name)
         → HasClaim g ids faults (length ids) (type, name) n
     a-claim n x at survives type name has =
         let a = beside-own n x at in
@@ -248,7 +276,8 @@ module _ (g : Global) (zone : Zone) (ids : List Id) (held : All (λ e. IsTrue (i
           own = a.0;
           own_at = a.1;
           passing = (survives-if n x a.0 at a.1).1 survives;
-          changes = subst (Contains (map change_key (changes_of g x))) (ap₂ (λ t m. (t, m)) found.2 found.3) (in_map change_key (changes_of g x) found.0 found.1);
+          changes = subst (Contains (map change_key (changes_of g x))) (ap₂ (λ t m. (t, m)) found.2 found.3)
+              (in_map change_key (changes_of g x) found.0 found.1);
         }
 
     pub nine : (n : ℕ) (x : Id) → slice_get ids n ≡ Some x → IsTrue (is_among shared n) ↔ FailsJ9 s x
@@ -256,7 +285,8 @@ module _ (g : Global) (zone : Zone) (ids : List Id) (held : All (λ e. IsTrue (i
       λ on.
           let sh = (shares n).0 (Contains-list_any nat_eq eqb-true shared n on) in
           let same = same-at n sh.own.x x sh.own.at at in
-          let survives = subst (Survives s) same ((survives-if n sh.own.x sh.own.own sh.own.at sh.own.own_at).0 sh.own.passing) in
+          let survives = subst (Survives s) same ((survives-if n sh.own.x sh.own.own sh.own.at sh.own.own_at).0
+          sh.own.passing) in
           let y = sh.others.x in
           let survives_y = (survives-if sh.other y sh.others.own sh.others.at sh.others.own_at).0 sh.others.passing in
           let other : x ≢ y = two-places ids rising n sh.other x y at sh.others.at sh.apart in (
@@ -265,8 +295,13 @@ module _ (g : Global) (zone : Zone) (ids : List Id) (held : All (λ e. IsTrue (i
               y,
               survives_y,
               other,
-              share-clashes g zone ids held plain x y survives.0.0 survives_y.0.0 other
-                  (sh.key.0, sh.key.1, subst (λ v. IsTrue (has_change g v sh.key.0 sh.key.1)) same (has-claimed sh.key sh.own.x sh.own.changes), has-claimed sh.key y sh.others.changes),
+              share-clashes g zone ids held plain x y survives.0.0 survives_y.0.0 other (
+                sh.key.0,
+                sh.key.1,
+                subst (λ v. IsTrue (has_change g v sh.key.0 sh.key.1)) same
+                    (has-claimed sh.key sh.own.x sh.own.changes),
+                has-claimed sh.key y sh.others.changes,
+              ),
             ),
           ),
       λ fails.
@@ -289,12 +324,16 @@ module _ (g : Global) (zone : Zone) (ids : List Id) (held : All (λ e. IsTrue (i
 
     test-fails : (n : ℕ) (x : Id) (a : OwnFaults) → slice_get ids n ≡ Some x → slice_get faults n ≡ Some a
         → (t : Test) → IsTrue (fails_test a (is_among shared n) t) ↔ Fails s x t
-    test-fails n x a at at_own J1 = none (Fails s x J1) (never-held-system g zone ids held plain x (contains_at ids n x at))
-    test-fails n x a at at_own J2 = none (Fails s x J2) (never-held-user g zone ids held plain x (contains_at ids n x at))
-    test-fails n x a at at_own J3 = none (Fails s x J3) (never-prevented g zone ids held plain x (contains_at ids n x at))
+    test-fails n x a at at_own J1 = none (Fails s x J1) (never-held-system g zone ids held plain x
+        (contains_at ids n x at))
+    test-fails n x a at at_own J2 = none (Fails s x J2) (never-held-user g zone ids held plain x
+        (contains_at ids n x at))
+    test-fails n x a at at_own J3 = none (Fails s x J3) (never-prevented g zone ids held plain x
+        (contains_at ids n x at))
     test-fails n x a at at_own J4 = four n x a at at_own
     test-fails n x a at at_own J5 = five n x a at at_own
-    test-fails n x a at at_own J6 = none (Fails s x J6) (never-bare-update g zone ids held plain x (contains_at ids n x at))
+    test-fails n x a at at_own J6 = none (Fails s x J6) (never-bare-update g zone ids held plain x
+        (contains_at ids n x at))
     test-fails n x a at at_own J7 = seven n x a at at_own
     test-fails n x a at at_own J8 = none (Fails s x J8) (never-deleted g zone ids held plain x (contains_at ids n x at))
     test-fails n x a at at_own J9 = nine n x at
@@ -306,7 +345,8 @@ module _ (g : Global) (zone : Zone) (ids : List Id) (held : All (λ e. IsTrue (i
     fails_at o t = option_map_or (λ p. fails_test p.1 (is_among shared p.0) t) o false
 
     -- the rows of failed tests
-    pub are-failed : {R : Type 0} (items : R → List Test) (rows : List R) → Beside (λ n a row. items row ≡ row_of shared n a) faults rows → AreFailedTests s (map items rows)
+    pub are-failed : {R : Type 0} (items : R → List Test) (rows : List R)
+        → Beside (λ n a row. items row ≡ row_of shared n a) faults rows → AreFailedTests s (map items rows)
     are-failed {R} items rows beside = record {
       lengths = length-map rows items ∙ beside.lengths ∙ own.lengths;
       fails = λ x. fails_at (own_of ids faults 0 x);
@@ -323,20 +363,25 @@ module _ (g : Global) (zone : Zone) (ids : List Id) (held : All (λ e. IsTrue (i
         row-beside (r ∷ rs) zero below = (r, refl)
         row-beside (r ∷ rs) (suc n) below = row-beside rs n (omega (arith, below))
 
-        row-at : (n : ℕ) (x : Id) → slice_get ids n ≡ Some x → slice_get (map items rows) n ≡ Some (filter (fails_at (own_of ids faults 0 x)) all_tests)
+        row-at : (n : ℕ) (x : Id) → slice_get ids n ≡ Some x
+            → slice_get (map items rows) n ≡ Some (filter (fails_at (own_of ids faults 0 x)) all_tests)
         row-at n x at =
             let a = beside-own n x at in
             let is = own-at ids faults 0 rising n n x a.0 at a.1 (omega arith) in
             let row = row-beside rows n (subst (λ k. n < k) (sym beside.lengths) (slice_get_within faults n a.0 a.1)) in
-            slice_get-map items rows n ∙ ap (option_map items) row.1 ∙ ap (λ l. Some l) (beside.each n a.0 row.0 a.1 row.1)
+            slice_get-map items rows n ∙ ap (option_map items) row.1
+            ∙ ap (λ l. Some l) (beside.each n a.0 row.0 a.1 row.1)
             ∙ ap (λ o. Some (filter (fails_at o) all_tests)) (sym is)
 
     eligible-if : (n : ℕ) (x : Id) (a : OwnFaults) → slice_get ids n ≡ Some x → slice_get faults n ≡ Some a
         → IsTrue (is_eligible_at shared n a) ↔ IsEligible s x
     eligible-if n x a at at_own = (
       λ on.
-          let p = and_parts (passes a) (not (is_among shared n)) on in
-          ((survives-if n x a at at_own).0 p.0, λ fails. true≢false (sym ((nine n x at).1 fails) ∙ not-true (is_among shared n) p.1)),
+          let p = and_parts (passes a) (not (is_among shared n)) on in (
+            (survives-if n x a at at_own).0 p.0,
+            λ fails. true≢false
+                (sym ((nine n x at).1 fails) ∙ not-true (is_among shared n) p.1),
+          ),
       λ eligible.
           let alone = (survives-if n x a at at_own).1 eligible.0 in
           let apart = off (is_among shared n) (λ on. eligible.1 ((nine n x at).0 on)) in
@@ -356,9 +401,11 @@ module _ (g : Global) (zone : Zone) (ids : List Id) (held : All (λ e. IsTrue (i
         size = size;
         eligible = λ n x at.
             let a = beside-own n x at in
-            let below : n < length p.eligible = subst (λ k. n < k) (sym flags.lengths) (slice_get_within faults n a.0 a.1) in
+            let below : n < length p.eligible = subst (λ k. n < k) (sym flags.lengths)
+            (slice_get_within faults n a.0 a.1) in
             let flag = slice_get-get_or p.eligible n false below in
-            let is : holds p.eligible n ≡ is_eligible_at shared n a.0 = flags.each n a.0 (get_or p.eligible n false) a.1 flag in
+            let is : holds p.eligible n ≡ is_eligible_at shared n a.0 =
+            flags.each n a.0 (get_or p.eligible n false) a.1 flag in
             let both = eligible-if n x a.0 at a.1 in
             (λ on. both.0 (sym is ∙ on), λ eligible. is ∙ both.1 eligible);
         lengths = wants.lengths;
@@ -369,7 +416,8 @@ module _ (g : Global) (zone : Zone) (ids : List Id) (held : All (λ e. IsTrue (i
                 w.x,
                 w.of,
                 subst (λ k. Needs s survivors w.x k need.1) (sym w.kind)
-                    (needs-open g zone ids held plain survivors survivors-among w.x need.1 (contains_at ids d.of w.x w.of) w.fmid),
+                    (needs-open g zone ids held plain survivors survivors-among w.x need.1
+                    (contains_at ids d.of w.x w.of) w.fmid),
               );
               any = λ n y at_y.
                   let both = w.any n y at_y in
@@ -385,7 +433,8 @@ module _ (g : Global) (zone : Zone) (ids : List Id) (held : All (λ e. IsTrue (i
     }
 
 -- what a search finds
-pub stands-at : (ids : List Id) (f : Id) (i : ℕ) → i < length ids → (x : Id) → Stands (slice_cmp nat_cmp) (λ y. y) f ids i x
+pub stands-at : (ids : List Id) (f : Id) (i : ℕ) → i < length ids → (x : Id)
+    → Stands (slice_cmp nat_cmp) (λ y. y) f ids i x
     → (slice_get ids i ≡ Some x) × (x ≡ f)
 stands-at ids f i below x s = (
   slice_get-get_or ids i x below ∙ ap (λ v. Some v) (s.at x),

@@ -1,12 +1,14 @@
 -- What is installable names its function alone, is held by nothing, and changes elements only as a function.
-use Rattle.std.proofs.Common.{◌≡◌, ◌⊎◌, inl, inr, Bool, true, false, not, List, [], ◌∷◌, Option, None, Some, IsTrue, refl, sym, ap, ◌∙◌, subst, true≢false, filter, Contains, arith}
+use Rattle.std.proofs.Common.{◌≡◌, ◌⊎◌, inl, inr, Bool, true, false, not, List, [], ◌∷◌, Option, None, Some, IsTrue}
+use Rattle.std.proofs.Common.{refl, sym, ap, ◌∙◌, subst, true≢false, filter, Contains, arith}
 use Rattle.std.specs.Prelude.{◌&&◌, ◌==◌, is_some}
 use Rattle.std.specs.List.{list_all}
 use Rattle.std.specs.Option.{option_map_or}
 use Rattle.std.proofs.lemmas.Bool.{and_parts, or_cases}
 use Rattle.terms.specs.declared.kinds.HoldKind.TheVariants.{Error, System, User}
 use Rattle.terms.specs.Types.{Id, Ver, Sysmod, Global, Zone, kind_number}
-use Rattle.terms.specs.Lookups.{is_nil, sysmod_of, is_function, changes_of, holds_of, applied_ids, is_applied, entry_of, is_supplied, delby_of}
+use Rattle.terms.specs.Lookups.{is_nil, sysmod_of, is_function, changes_of, holds_of, applied_ids, is_applied, entry_of}
+use Rattle.terms.specs.Lookups.{is_supplied, delby_of}
 use Rattle.std.specs.Str.{bytes_eq}
 use Rattle.terms.proofs.Nil.{nil_from}
 use Rattle.terms.specs.Choice.{Choice, by_srel, vers_of, pre_of, req_of, sup_of, npre_of, del_of, ifs_of}
@@ -40,7 +42,8 @@ names-nothing c x plain = by (c x) refl
     }
     by (Some v) e =
         let p : is_plain v ≡ true = sym (ap (λ o. option_map_or is_plain o true) e) ∙ plain in
-        let f = and_parts (is_nil v.pre && is_nil v.req && is_nil v.sup && is_nil v.npre && is_nil v.del) (is_nil v.ifs) p in
+        let f = and_parts (is_nil v.pre && is_nil v.req && is_nil v.sup && is_nil v.npre && is_nil v.del) (is_nil v.ifs)
+        p in
         let d = and_parts (is_nil v.pre && is_nil v.req && is_nil v.sup && is_nil v.npre) (is_nil v.del) f.0 in
         let n = and_parts (is_nil v.pre && is_nil v.req && is_nil v.sup) (is_nil v.npre) d.0 in
         let u = and_parts (is_nil v.pre && is_nil v.req) (is_nil v.sup) n.0 in
@@ -57,34 +60,47 @@ names-nothing c x plain = by (c x) refl
 -- what an installable SYSMOD is, for the judge
 pub record IsPlain (g : Global) (zone : Zone) (x : Id) : Type 0 where
   pub names_nothing : NamesNothing (by_srel g zone.srel) x
-  pub changes : (changes_of g x ≡ []) ⊎ (IsTrue (is_function g x) × IsTrue (list_all (λ h. is_replacement h.action) (changes_of g x)))
+  pub changes : (changes_of g x ≡ []) ⊎ (IsTrue (is_function g x)
+      × IsTrue (list_all (λ h. is_replacement h.action) (changes_of g x)))
   pub no_error : holds_of g Error x ≡ []
   pub no_system : holds_of g System x ≡ []
   pub no_user : holds_of g User x ≡ []
   pub applied : (y : Id) → Contains (applied_ids zone) y → NamesNothing (by_srel g zone.srel) y
 
 plain-changes : (g : Global) (x : Id) → option_map_or has_plain_changes (sysmod_of g x) true ≡ true
-    → (changes_of g x ≡ []) ⊎ (IsTrue (is_function g x) × IsTrue (list_all (λ h. is_replacement h.action) (changes_of g x)))
+    → (changes_of g x ≡ []) ⊎ (IsTrue (is_function g x) × IsTrue
+    (list_all (λ h. is_replacement h.action) (changes_of g x)))
 plain-changes g x plain = by (sysmod_of g x) refl
   where
     by : (o : Option Sysmod) → sysmod_of g x ≡ o
-        → (changes_of g x ≡ []) ⊎ (IsTrue (is_function g x) × IsTrue (list_all (λ h. is_replacement h.action) (changes_of g x)))
+        → (changes_of g x ≡ []) ⊎ (IsTrue (is_function g x) × IsTrue
+        (list_all (λ h. is_replacement h.action) (changes_of g x)))
     by None e = inl (ap (λ o. option_map_or (λ s. s.changes) o []) e)
     by (Some s) e =
         let p : has_plain_changes s ≡ true = sym (ap (λ o. option_map_or has_plain_changes o true) e) ∙ plain in
         let are : changes_of g x ≡ s.changes = ap (λ o. option_map_or (λ s. s.changes) o []) e in
-        elim (or_cases (is_nil s.changes) ((kind_number s.kind == 0) && list_all (λ h. is_replacement h.action) s.changes) p) [
+        elim (or_cases (is_nil s.changes) ((kind_number s.kind == 0) && list_all (λ h. is_replacement h.action)
+        s.changes) p) [
           | inl none ↦ inl (are ∙ nil_from s.changes none)
           | inr both ↦
-              let parts = and_parts (kind_number s.kind == 0) (list_all (λ h. is_replacement h.action) s.changes) both in
-              inr (ap (λ o. option_map_or (λ s. kind_number s.kind == 0) o false) e ∙ parts.0, ap (list_all (λ h. is_replacement h.action)) are ∙ parts.1)
+              let parts = and_parts (kind_number s.kind == 0) (list_all (λ h. is_replacement h.action) s.changes) both
+              in
+              inr (
+                ap (λ o. option_map_or (λ s. kind_number s.kind == 0) o false) e
+                    ∙ parts.0,
+                ap (list_all (λ h. is_replacement h.action)) are ∙ parts.1,
+              )
         ]
 
 pub all-from : {X : Type 0} (p : X → Bool) (xs : List X) (x : X) → list_all p xs ≡ true → Contains xs x → p x ≡ true
 all-from p [] x all h = absurd (omega (arith, h.1))
 all-from p (y ∷ ys) x all h =
     let parts = and_parts (p y) (list_all p ys) all in
-    elim (here_or y ys x h) [ inl same ↦ subst (λ v. p v ≡ true) same parts.0 | inr later ↦ all-from p ys x parts.1 later ]
+    elim (here_or y ys x h) [
+      | inl same ↦ subst (λ v. p v ≡ true) same parts.0
+      | inr later ↦ all-from p ys x parts.1
+          later
+    ]
 
 -- an applied id is one of the zone's applied ids
 pub applied-among : (zone : Zone) (y : Id) → IsTrue (is_applied zone y) → Contains (applied_ids zone) y
@@ -94,13 +110,16 @@ applied-among zone y on = by (entry_of zone y) refl
     by None e = absurd (true≢false (sym on ∙ ap (λ o. option_map_or (λ e. is_some e.applied) o false) e))
     by (Some f) e =
         let g = find-gives (λ v. bytes_eq v.id y) zone.entries f e in
-        let there = in_filter (λ v. is_some v.applied) zone.entries f g.1 (sym (ap (λ o. option_map_or (λ e. is_some e.applied) o false) e) ∙ on) in
-        subst (Contains (applied_ids zone)) (same_from f.id y g.0) (in_map (λ v. v.id) (filter (λ v. is_some v.applied) zone.entries) f there)
+        let there = in_filter (λ v. is_some v.applied) zone.entries f g.1
+        (sym (ap (λ o. option_map_or (λ e. is_some e.applied) o false) e) ∙ on) in
+        subst (Contains (applied_ids zone)) (same_from f.id y g.0)
+        (in_map (λ v. v.id) (filter (λ v. is_some v.applied) zone.entries) f there)
 
 pub plain-from : (g : Global) (zone : Zone) (x : Id) → IsTrue (is_installable g zone x) → IsPlain g zone x
 plain-from g zone x installable =
     let has_ver : Bool = not (is_nil (vers_of g zone.srel x)) in
-    let off = and_parts (has_ver && is_served g zone x && not (is_supplied zone x)) (not (is_some (delby_of zone x))) installable in
+    let off = and_parts (has_ver && is_served g zone x && not (is_supplied zone x)) (not (is_some (delby_of zone x)))
+    installable in
     let free = and_parts (has_ver && is_served g zone x) (not (is_supplied zone x)) off.0 in
     let served = (and_parts has_ver (is_served g zone x) free.0).1 in
     let ver : Bool = has_plain_ver g zone x in
@@ -116,5 +135,6 @@ plain-from g zone x installable =
       no_error = nil_from (holds_of g Error x) f.0;
       no_system = nil_from (holds_of g System x) f.1;
       no_user = nil_from (holds_of g User x) e.1;
-      applied = λ y on. names-nothing (by_srel g zone.srel) y (all-from (has_plain_ver g zone) (applied_ids zone) y a.1 on);
+      applied = λ y on. names-nothing (by_srel g zone.srel) y
+          (all-from (has_plain_ver g zone) (applied_ids zone) y a.1 on);
     }

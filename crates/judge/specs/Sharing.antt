@@ -1,5 +1,6 @@
 -- Which candidates change one element with another.
-use Rattle.std.specs.Prelude.{◌≡◌, ◌≢◌, ◌↔◌, ◌<◌, ◌&&◌, ◌⊎◌, ℕ, Bool, List, [], ◌∷◌, ◌++◌, Option, Some, IsTrue, Contains, map, slice_get}
+use Rattle.std.specs.Prelude.{◌≡◌, ◌≢◌, ◌↔◌, ◌<◌, ◌&&◌, ◌⊎◌, ℕ, Bool, List, [], ◌∷◌, ◌++◌, Option, Some, IsTrue}
+use Rattle.std.specs.Prelude.{Contains, map, slice_get}
 use Rattle.std.specs.Str.{bytes_eq}
 use Rattle.terms.specs.contracts.kinds.ElemTypePartialEq.TheImpl as type_equality
 use Rattle.terms.specs.declared.kinds.ElemType.{ElemType}
@@ -22,7 +23,8 @@ abbrev pub a_claim : ElemType × Text → ℕ → Claim
 a_claim key n = record { element = key; place = n }
 
 -- the candidate at the place passes by itself and changes the element
-pub record HasClaim (g : Global) (ids : List Id) (faults : List OwnFaults) (end : ℕ) (key : ElemType × Text) (n : ℕ) : Type 0 where
+pub record HasClaim (g : Global) (ids : List Id) (faults : List OwnFaults) (end : ℕ) (key : ElemType × Text) (n : ℕ) :
+    Type 0 where
   pub below : n < end
   pub x : Id
   pub at : slice_get ids n ≡ Some x

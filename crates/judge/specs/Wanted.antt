@@ -1,5 +1,6 @@
 -- What a candidate needs where it is installable: its function, unless that is applied.
-use Rattle.std.specs.Prelude.{◌≡◌, ◌↔◌, ◌<◌, ℕ, Bool, List, [], ◌∷◌, ◌++◌, Option, None, Some, length, Contains, slice_get, if◌then◌else◌}
+use Rattle.std.specs.Prelude.{◌≡◌, ◌↔◌, ◌<◌, ℕ, Bool, List, [], ◌∷◌, ◌++◌, Option, None, Some, length, Contains}
+use Rattle.std.specs.Prelude.{slice_get, if◌then◌else◌}
 use Rattle.std.specs.Option.{option_and_then}
 use Rattle.terms.specs.declared.codes.NeedKind.{NeedKind}
 use Rattle.terms.specs.declared.codes.NeedKind.TheVariants.{Fmid}
@@ -25,16 +26,20 @@ pub record IsWant (wants : Id → Option Id) (ids : List Id) (d : Demand) (need 
   pub any : ArePlaces ids need.1 d.any
 
 -- the needs of the candidates in front of a place, each once
-pub record AreWants (wants : Id → Option Id) (ids : List Id) (end : ℕ) (demands : List Demand) (needed : List (NeedKind × Id)) : Type 0 where
+pub record AreWants (wants : Id → Option Id) (ids : List Id) (end : ℕ) (demands : List Demand)
+    (needed : List (NeedKind × Id)) : Type 0 where
   pub lengths : length needed ≡ length demands
-  pub each : (i : ℕ) (d : Demand) (need : NeedKind × Id) → slice_get demands i ≡ Some d → slice_get needed i ≡ Some need → IsWant wants ids d need
+  pub each : (i : ℕ) (d : Demand) (need : NeedKind × Id) → slice_get demands i ≡ Some d → slice_get needed i ≡ Some need
+      → IsWant wants ids d need
   pub below : (i : ℕ) (d : Demand) → slice_get demands i ≡ Some d → d.of < end
   pub all : (n : ℕ) (x f : Id) → n < end → slice_get ids n ≡ Some x → wants x ≡ Some f
       → (i : ℕ) × (d : Demand) × (slice_get demands i ≡ Some d) × (slice_get needed i ≡ Some (Fmid, f)) × (d.of ≡ n)
-  pub once : (i j : ℕ) (d e : Demand) → slice_get demands i ≡ Some d → slice_get demands j ≡ Some e → d.of ≡ e.of → i ≡ j
+  pub once : (i j : ℕ) (d e : Demand) → slice_get demands i ≡ Some d → slice_get demands j ≡ Some e → d.of ≡ e.of
+      → i ≡ j
 
 -- the problem and its needs with the need of the candidate at a place for this function
-pub record AddsWant (ids : List Id) (of : ℕ) (f : Id) (old : Problem) (old_needed : List (NeedKind × Id)) (new : Problem) (new_needed : List (NeedKind × Id)) : Type 0 where
+pub record AddsWant (ids : List Id) (of : ℕ) (f : Id) (old : Problem) (old_needed : List (NeedKind × Id))
+    (new : Problem) (new_needed : List (NeedKind × Id)) : Type 0 where
   pub any : List ℕ
   pub places : ArePlaces ids f any
   pub problem : new ≡ record old { demands = old.demands ++ (record { of = of; any = any }) ∷ [] }
@@ -46,7 +51,8 @@ AddsOpen ids of None old old_needed new new_needed = (new ≡ old) × (new_neede
 AddsOpen ids of (Some f) old old_needed new new_needed = AddsWant ids of f old old_needed new new_needed
 
 -- the problem of the candidates with these flags has the needs of those in front of a place
-pub record HasWants (wants : Id → Option Id) (ids : List Id) (flags : List Bool) (end : ℕ) (p : Problem) (needed : List (NeedKind × Id)) : Type 0 where
+pub record HasWants (wants : Id → Option Id) (ids : List Id) (flags : List Bool) (end : ℕ) (p : Problem)
+    (needed : List (NeedKind × Id)) : Type 0 where
   pub size : p.size ≡ length ids
   pub eligible : p.eligible ≡ flags
   pub needs : AreWants wants ids end p.demands needed

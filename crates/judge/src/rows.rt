@@ -50,7 +50,8 @@ pub(crate) fn all_rows(
     shared: &IndexSet<u32>,
 ) -> Result<Vec<Vec<Test>>, AllocError>
     requires { length faults.now < 2 ^ 32 }
-    ensures { IfOk result (λ rows. Beside (λ n own row. row.items ≡ row_of shared.now.keys n own) faults.now rows.items) }
+    ensures { IfOk result (λ rows. Beside (λ n own row. row.items ≡ row_of shared.now.keys n own) faults.now
+        rows.items) }
 {
     let mut rows = Vec::new(alloc);
     for i in 0..faults.len() {
@@ -67,7 +68,8 @@ pub(crate) fn all_eligible(
     shared: &IndexSet<u32>,
 ) -> Result<Vec<bool>, AllocError>
     requires { length faults.now < 2 ^ 32 }
-    ensures { IfOk result (λ flags. Beside (λ n own flag. flag ≡ is_eligible_at shared.now.keys n own) faults.now flags.items) }
+    ensures { IfOk result (λ flags. Beside (λ n own flag. flag ≡ is_eligible_at shared.now.keys n own) faults.now
+        flags.items) }
 {
     let mut flags = Vec::new(alloc);
     for i in 0..faults.len() {

@@ -2,7 +2,8 @@
 ghost use Rattle.std.specs.Prelude.{◌≡◌, ◌↔◌, ◌<◌, ◌^◌, ◌++◌, [], ℕ, length, map, Contains, OnOk, IfOk, if◌then◌else◌};
 ghost use Rattle.judge.specs.Own.{passes};
 ghost use Rattle.indexmap.specs.IndexMap.{get};
-ghost use Rattle.judge.specs.Sharing.{change_key, key_eq, a_claim, AreClaims, HasClaim, IsSharedAt, IsSharedPlace, MarksOne};
+ghost use Rattle.judge.specs.Sharing.{change_key, key_eq, a_claim, AreClaims, HasClaim, IsSharedAt, IsSharedPlace};
+ghost use Rattle.judge.specs.Sharing.{MarksOne};
 
 use crate::own::{OwnFaults, changes_of, own_at};
 use fields::{Id, Name};
@@ -84,7 +85,8 @@ fn mark(
     first: &mut IndexMap<(ElemType, Name), u32>,
     shared: &mut IndexSet<u32>,
 ) -> Result<(), AllocError>
-    ensures { OnOk result (MarksOne claim (get key_eq first.old) shared.old.keys (get key_eq first.new) shared.new.keys) }
+    ensures { OnOk result (MarksOne claim (get key_eq first.old) shared.old.keys (get key_eq first.new)
+        shared.new.keys) }
 {
     let Some(place) = first_place(first, claim.element) else {
         first.insert(claim.element, claim.place)?;
@@ -118,7 +120,8 @@ pub(crate) fn shared_places(
 ) -> Result<IndexSet<u32>, AllocError>
     requires lengths { length faults.now ≡ length ids.now }
     requires fits { length ids.now < 2 ^ 32 }
-    ensures { IfOk result (λ shared. (n : ℕ) → Contains shared.keys n ↔ IsSharedAt global.now ids.now faults.now (length ids.now) n) }
+    ensures { IfOk result (λ shared. (n : ℕ) → Contains shared.keys n ↔ IsSharedAt global.now ids.now faults.now
+        (length ids.now) n) }
 {
     let claims = claims_of(alloc, global, ids, faults)?;
     shared_among(alloc, claims.as_slice())

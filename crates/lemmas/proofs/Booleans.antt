@@ -1,5 +1,6 @@
 -- Booleans, beyond what std has on them.
-use Rattle.std.proofs.Common.{◌≡◌, ◌&&◌, Bool, refl, true, false, ◌||◌, not, sym, IsTrue, true≢false, List, [], ◌∷◌, map, ap, cond}
+use Rattle.std.proofs.Common.{◌≡◌, ◌&&◌, Bool, refl, true, false, ◌||◌, not, sym, IsTrue, true≢false, List, [], ◌∷◌}
+use Rattle.std.proofs.Common.{map, ap, cond}
 
 pub and_assoc : (a b c : Bool) → (a && (b && c)) ≡ ((a && b) && c)
 and_assoc true b c = refl

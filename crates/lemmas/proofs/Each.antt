@@ -1,11 +1,13 @@
 -- What holds of each item of a list, or of some item.
-use Rattle.std.proofs.Common.{List, [], ◌∷◌, ◌++◌, ◌<◌, map, subst, sym, refl, arith, suc, ◌≡◌, ◌⊎◌, ℕ, zero, length, inl, inr, get_or, ◌∙◌}
+use Rattle.std.proofs.Common.{List, [], ◌∷◌, ◌++◌, ◌<◌, map, subst, sym, refl, arith, suc, ◌≡◌, ◌⊎◌, ℕ, zero, length}
+use Rattle.std.proofs.Common.{inl, inr, get_or, ◌∙◌}
 use Rattle.std.specs.List.{All, AllByRecursion, Any}
 use Rattle.std.proofs.Math.ListN.{get_or-map}
 use Rattle.std.proofs.lemmas.List.{length-map, length-append, get_or_append_left}
 use Rattle.std.proofs.lemmas.List.Elements.{All-head, All-tail, All-cons, All-nil}
 
-pub All-middle : {X : Type 0} (P : X → Type 0) (before : List X) (x : X) (after : List X) → All P (before ++ x ∷ after) → P x
+pub All-middle : {X : Type 0} (P : X → Type 0) (before : List X) (x : X) (after : List X) → All P (before ++ x ∷ after)
+    → P x
 All-middle P [] x after h = All-head P x after h
 All-middle P (y ∷ before) x after h = All-middle P before x after (All-tail P y (before ++ x ∷ after) h)
 
@@ -35,11 +37,13 @@ All-unmap P f xs h k d below =
     subst P (get_or-map f xs k d) (h k (f d) (subst (λ n. k < n) (sym (length-map xs f)) below))
 
 -- the same of facts that are stated by recursion over the list
-pub recursion_weaker : {X : Type 0} (P Q : X → Type 0) → ((x : X) → P x → Q x) → (xs : List X) → AllByRecursion P xs → AllByRecursion Q xs
+pub recursion_weaker : {X : Type 0} (P Q : X → Type 0) → ((x : X) → P x → Q x) → (xs : List X) → AllByRecursion P xs
+    → AllByRecursion Q xs
 recursion_weaker P Q h [] all = tt
 recursion_weaker P Q h (x ∷ xs) all = (h x all.0, recursion_weaker P Q h xs all.1)
 
-pub recursion-append : {X : Type 0} (P : X → Type 0) → (xs ys : List X) → AllByRecursion P xs → AllByRecursion P ys → AllByRecursion P (xs ++ ys)
+pub recursion-append : {X : Type 0} (P : X → Type 0) → (xs ys : List X) → AllByRecursion P xs → AllByRecursion P ys
+    → AllByRecursion P (xs ++ ys)
 recursion-append P [] ys all more = more
 recursion-append P (x ∷ xs) ys all more = (all.0, recursion-append P xs ys all.1 more)
 
@@ -51,11 +55,13 @@ pub recursion-back : {A : Type 0} (P : A → Type 0) (xs ys : List A) → AllByR
 recursion-back P [] ys h = h
 recursion-back P (x ∷ xs) ys h = recursion-back P xs ys h.1
 
-pub recursion-map : {X Y : Type 0} (f : X → Y) (P : Y → Type 0) (xs : List X) → AllByRecursion (λ x. P (f x)) xs → AllByRecursion P (map f xs)
+pub recursion-map : {X Y : Type 0} (f : X → Y) (P : Y → Type 0) (xs : List X) → AllByRecursion (λ x. P (f x)) xs
+    → AllByRecursion P (map f xs)
 recursion-map f P [] h = tt
 recursion-map f P (x ∷ xs) h = (h.0, recursion-map f P xs h.1)
 
-pub recursion-unmap : {X Y : Type 0} (f : X → Y) (P : Y → Type 0) (xs : List X) → AllByRecursion P (map f xs) → AllByRecursion (λ x. P (f x)) xs
+pub recursion-unmap : {X Y : Type 0} (f : X → Y) (P : Y → Type 0) (xs : List X) → AllByRecursion P (map f xs)
+    → AllByRecursion (λ x. P (f x)) xs
 recursion-unmap f P [] h = tt
 recursion-unmap f P (x ∷ xs) h = (h.0, recursion-unmap f P xs h.1)
 
@@ -66,7 +72,8 @@ any_here P x xs p = (0, x, omega arith, refl, p)
 pub any_later : {X : Type 0} (P : X → Type 0) (x : X) (xs : List X) → Any P xs → Any P (x ∷ xs)
 any_later P x xs a = (suc a.0, a.1, omega (arith, a.2), a.3, a.4)
 
-pub any_at_place : {X : Type 0} (P : X → Type 0) (x : X) (xs : List X) (k : ℕ) (y : X) → k < length (x ∷ xs) → get_or (x ∷ xs) k y ≡ y → P y → P x ⊎ Any P xs
+pub any_at_place : {X : Type 0} (P : X → Type 0) (x : X) (xs : List X) (k : ℕ) (y : X) → k < length (x ∷ xs)
+    → get_or (x ∷ xs) k y ≡ y → P y → P x ⊎ Any P xs
 any_at_place P x xs zero y below at p = inl (subst P (sym at) p)
 any_at_place P x xs (suc k) y below at p = inr (k, y, omega (arith, below), at, p)
 

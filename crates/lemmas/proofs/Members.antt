@@ -1,6 +1,8 @@
 -- What stands in a list.
-use Rattle.std.proofs.Common.{List, ◌∷◌, refl, arith, suc, ◌≡◌, zero, inl, inr, ◌⊎◌, [], ◌++◌, ap, ◌≢◌, map, subst, Bool, true, false, filter, Contains, sym, ◌∙◌, true≢false}
-use Rattle.std.proofs.lemmas.List.Elements.{Contains-append_left, Contains-append_right, Contains-append_cases, All-filter, Contains-get_or, filter_passes}
+use Rattle.std.proofs.Common.{List, ◌∷◌, refl, arith, suc, ◌≡◌, zero, inl, inr, ◌⊎◌, [], ◌++◌, ap, ◌≢◌, map, subst}
+use Rattle.std.proofs.Common.{Bool, true, false, filter, Contains, sym, ◌∙◌, true≢false}
+use Rattle.std.proofs.lemmas.List.Elements.{Contains-append_left, Contains-append_right, Contains-append_cases}
+use Rattle.std.proofs.lemmas.List.Elements.{All-filter, Contains-get_or, filter_passes}
 
 pub here : {X : Type 0} (x : X) (xs : List X) → Contains (x ∷ xs) x
 here x xs = (0, omega arith, refl)
@@ -29,11 +31,16 @@ parts (y ∷ xs) x h =
     ]
 
 -- an item but that one
-pub but : {X : Type 0} (front back : List X) (x z : X) → x ≢ z → Contains (front ++ x ∷ back) z → Contains (front ++ back) z
+pub but : {X : Type 0} (front back : List X) (x z : X) → x ≢ z → Contains (front ++ x ∷ back) z
+    → Contains (front ++ back) z
 but front back x z other h =
     elim (Contains-append_cases front (x ∷ back) z h) [
       | inl before ↦ Contains-append_left front back z before
-      | inr after ↦ elim (here_or x back z after) [ inl same ↦ absurd (other same) | inr later ↦ Contains-append_right front back z later ]
+      | inr after ↦ elim (here_or x back z after) [
+        | inl same ↦ absurd (other same)
+        | inr later ↦ Contains-append_right
+            front back z later
+      ]
     ]
 
 -- what stands in the image of a list
@@ -45,7 +52,8 @@ in_map f (y ∷ xs) x h =
       | inr later ↦ there (f y) (map f xs) (f x) (in_map f xs x later)
     ]
 
-pub map_in : {X Y : Type 0} (f : X → Y) (xs : List X) (t : Y) → Contains (map f xs) t → (x : X) × Contains xs x × (f x ≡ t)
+pub map_in : {X Y : Type 0} (f : X → Y) (xs : List X) (t : Y) → Contains (map f xs) t
+    → (x : X) × Contains xs x × (f x ≡ t)
 map_in f [] t h = absurd (none_in t h)
 map_in f (y ∷ xs) t h =
     elim (here_or (f y) (map f xs) t h) [
@@ -54,17 +62,20 @@ map_in f (y ∷ xs) t h =
     ]
 
 -- what stands in what a filter keeps
-pub in_filter : {X : Type 0} (p : X → Bool) (xs : List X) (x : X) → Contains xs x → p x ≡ true → Contains (filter p xs) x
+pub in_filter : {X : Type 0} (p : X → Bool) (xs : List X) (x : X) → Contains xs x → p x ≡ true
+    → Contains (filter p xs) x
 in_filter p [] x at passes = absurd (none_in x at)
 in_filter {X} p (y ∷ ys) x at passes = by (in_filter p ys x) (here_or y ys x at) (p y) refl
   where
-    by : (Contains ys x → p x ≡ true → Contains (filter p ys) x) → (y ≡ x) ⊎ Contains ys x → (b : Bool) → p y ≡ b → Contains (filter p (y ∷ ys)) x
+    by : (Contains ys x → p x ≡ true → Contains (filter p ys) x) → (y ≡ x) ⊎ Contains ys x → (b : Bool) → p y ≡ b
+        → Contains (filter p (y ∷ ys)) x
     by again (inl same) true e = rw e (subst (Contains (y ∷ filter p ys)) same (here y (filter p ys)))
     by again (inl same) false e = absurd (true≢false (sym passes ∙ ap p (sym same) ∙ e))
     by again (inr rest) true e = rw e (there y (filter p ys) x (again rest passes))
     by again (inr rest) false e = rw e (again rest passes)
 
-pub filter_in : {X : Type 0} (p : X → Bool) (xs : List X) (x : X) → Contains (filter p xs) x → Contains xs x × (p x ≡ true)
+pub filter_in : {X : Type 0} (p : X → Bool) (xs : List X) (x : X) → Contains (filter p xs) x
+    → Contains xs x × (p x ≡ true)
 filter_in {X} p xs x at = (
   subst (Contains xs) at.2 (All-filter p (Contains xs) xs (λ i d below. Contains-get_or xs i d below) at.0 x at.1),
   subst (λ y. p y ≡ true) at.2 (filter_passes p xs at.0 x at.1),

@@ -16,7 +16,8 @@ option_or-none None = refl
 option_or-none (Some x) = refl
 
 -- a test that does not see the change
-pub map_or-map : {X Y : Type 0} (h : X → Y) (f : X → X) (d : Y) → ((x : X) → h (f x) ≡ h x) → (o : Option X) → option_map_or h (option_map f o) d ≡ option_map_or h o d
+pub map_or-map : {X Y : Type 0} (h : X → Y) (f : X → X) (d : Y) → ((x : X) → h (f x) ≡ h x) → (o : Option X)
+    → option_map_or h (option_map f o) d ≡ option_map_or h o d
 map_or-map h f d same None = refl
 map_or-map h f d same (Some x) = same x
 

@@ -36,8 +36,12 @@ module _ {K : Type 0} {R : K → K → Ordering} (o : IsTotalOrder R) where
   Less-turned a b greater = o.antisymm b a ∙ ap ordering_reverse greater
 
   -- keys above a key are above each lower one, and above each that is as high
-  pub above_lower : (k q : K) (ks : List K) → R k q ≡ Less → AllByRecursion (λ p. R q p ≡ Less) ks → AllByRecursion (λ p. R k p ≡ Less) ks
-  above_lower k q ks less all = recursion_weaker (λ p. R q p ≡ Less) (λ p. R k p ≡ Less) (λ p next. o.trans k q p less next) ks all
+  pub above_lower : (k q : K) (ks : List K) → R k q ≡ Less → AllByRecursion (λ p. R q p ≡ Less) ks
+      → AllByRecursion (λ p. R k p ≡ Less) ks
+  above_lower k q ks less all = recursion_weaker (λ p. R q p ≡ Less) (λ p. R k p ≡ Less)
+      (λ p next. o.trans k q p less next) ks all
 
-  pub above_same : (k q : K) (ks : List K) → R k q ≡ Equal → AllByRecursion (λ p. R q p ≡ Less) ks → AllByRecursion (λ p. R k p ≡ Less) ks
-  above_same k q ks same all = recursion_weaker (λ p. R q p ≡ Less) (λ p. R k p ≡ Less) (λ p next. o.congr k q p same ∙ next) ks all
+  pub above_same : (k q : K) (ks : List K) → R k q ≡ Equal → AllByRecursion (λ p. R q p ≡ Less) ks
+      → AllByRecursion (λ p. R k p ≡ Less) ks
+  above_same k q ks same all = recursion_weaker (λ p. R q p ≡ Less) (λ p. R k p ≡ Less)
+      (λ p next. o.congr k q p same ∙ next) ks all

@@ -12,26 +12,33 @@ pub AllPairs-rest : {X : Type 0} (R : X → X → Type 0) (x : X) (xs : List X) 
 AllPairs-rest R x xs h = λ i j d less below. h (suc i) (suc j) d (omega arith) (omega arith)
 
 -- a list in order stays so when an item comes in between that fits
-pub AllPairs-between : {X : Type 0} (R : X → X → Type 0) (xs ys : List X) (x : X) → AllPairs R (xs ++ ys) → All (λ y. R y x) xs → All (R x) ys → AllPairs R (xs ++ x ∷ ys)
+pub AllPairs-between : {X : Type 0} (R : X → X → Type 0) (xs ys : List X) (x : X) → AllPairs R (xs ++ ys)
+    → All (λ y. R y x) xs → All (R x) ys → AllPairs R (xs ++ x ∷ ys)
 AllPairs-between R [] ys x h low high = AllPairs-cons R x ys high h
 AllPairs-between R (y ∷ xs) ys x h low high =
-    AllPairs-cons R y (xs ++ x ∷ ys) (All-between (R y) xs ys x (AllPairs-first R y (xs ++ ys) h) (All-head (λ y. R y x) y xs low)) (AllPairs-between R xs ys x (AllPairs-rest R y (xs ++ ys) h) (All-tail (λ y. R y x) y xs low) high)
+    AllPairs-cons R y (xs ++ x ∷ ys) (All-between (R y) xs ys x (AllPairs-first R y (xs ++ ys) h)
+    (All-head (λ y. R y x) y xs low)) (AllPairs-between R xs ys x (AllPairs-rest R y (xs ++ ys) h)
+    (All-tail (λ y. R y x) y xs low) high)
 
 -- and when one goes
-pub AllPairs-without : {X : Type 0} (R : X → X → Type 0) (xs ys : List X) (x : X) → AllPairs R (xs ++ x ∷ ys) → AllPairs R (xs ++ ys)
+pub AllPairs-without : {X : Type 0} (R : X → X → Type 0) (xs ys : List X) (x : X) → AllPairs R (xs ++ x ∷ ys)
+    → AllPairs R (xs ++ ys)
 AllPairs-without R [] ys x h = AllPairs-rest R x ys h
 AllPairs-without R (y ∷ xs) ys x h =
-    AllPairs-cons R y (xs ++ ys) (All-skip (R y) xs ys x (AllPairs-first R y (xs ++ x ∷ ys) h)) (AllPairs-without R xs ys x (AllPairs-rest R y (xs ++ x ∷ ys) h))
+    AllPairs-cons R y (xs ++ ys) (All-skip (R y) xs ys x (AllPairs-first R y (xs ++ x ∷ ys) h))
+    (AllPairs-without R xs ys x (AllPairs-rest R y (xs ++ x ∷ ys) h))
 
 -- what stands before the first of two parts, and behind the second
-pub AllPairs-parts : {X : Type 0} (R : X → X → Type 0) (xs ys : List X) (x : X) → AllPairs R (xs ++ x ∷ ys) → All (λ y. R y x) xs × All (R x) ys
+pub AllPairs-parts : {X : Type 0} (R : X → X → Type 0) (xs ys : List X) (x : X) → AllPairs R (xs ++ x ∷ ys)
+    → All (λ y. R y x) xs × All (R x) ys
 AllPairs-parts R [] ys x h = (λ k d below. absurd (omega arith), AllPairs-first R x ys h)
 AllPairs-parts R (y ∷ xs) ys x h =
     let rest = AllPairs-parts R xs ys x (AllPairs-rest R y (xs ++ x ∷ ys) h) in
     (All-cons (λ y. R y x) y xs (All-middle (R y) xs x ys (AllPairs-first R y (xs ++ x ∷ ys) h)) rest.0, rest.1)
 
 -- lists in order, one behind the other
-pub AllPairs-join : {X : Type 0} (R : X → X → Type 0) (xs ys : List X) → AllPairs R xs → AllPairs R ys → All (λ x. All (R x) ys) xs → AllPairs R (xs ++ ys)
+pub AllPairs-join : {X : Type 0} (R : X → X → Type 0) (xs ys : List X) → AllPairs R xs → AllPairs R ys
+    → All (λ x. All (R x) ys) xs → AllPairs R (xs ++ ys)
 AllPairs-join R [] ys front back cross = back
 AllPairs-join R (x ∷ xs) ys front back cross =
     AllPairs-cons R x (xs ++ ys)
@@ -39,14 +46,18 @@ AllPairs-join R (x ∷ xs) ys front back cross =
     (AllPairs-join R xs ys (AllPairs-rest R x xs front) back (All-tail (λ x. All (R x) ys) x xs cross))
 
 -- an image in order, from the list and back
-pub pairs_map : {X Y : Type 0} (R : X → X → Type 0) (S : Y → Y → Type 0) (f : X → Y) → ((x y : X) → R x y → S (f x) (f y)) → (xs : List X) → AllPairs R xs → AllPairs S (map f xs)
+pub pairs_map : {X Y : Type 0} (R : X → X → Type 0) (S : Y → Y → Type 0) (f : X → Y)
+    → ((x y : X) → R x y → S (f x) (f y)) → (xs : List X) → AllPairs R xs → AllPairs S (map f xs)
 pairs_map R S f more [] h = λ i j d before below. absurd (omega (arith, below))
 pairs_map R S f more (x ∷ xs) h =
-    AllPairs-cons S (f x) (map f xs) (All-map (S (f x)) f xs (All-weaker (R x) (λ y. S (f x) (f y)) (more x) xs (AllPairs-first R x xs h)))
+    AllPairs-cons S (f x) (map f xs) (All-map (S (f x)) f xs
+    (All-weaker (R x) (λ y. S (f x) (f y)) (more x) xs (AllPairs-first R x xs h)))
     (pairs_map R S f more xs (AllPairs-rest R x xs h))
 
-pub pairs_unmap : {X Y : Type 0} (R : X → X → Type 0) (S : Y → Y → Type 0) (f : X → Y) → ((x y : X) → S (f x) (f y) → R x y) → (xs : List X) → AllPairs S (map f xs) → AllPairs R xs
+pub pairs_unmap : {X Y : Type 0} (R : X → X → Type 0) (S : Y → Y → Type 0) (f : X → Y)
+    → ((x y : X) → S (f x) (f y) → R x y) → (xs : List X) → AllPairs S (map f xs) → AllPairs R xs
 pairs_unmap R S f more [] h = λ i j d before below. absurd (omega (arith, below))
 pairs_unmap R S f more (x ∷ xs) h =
-    AllPairs-cons R x xs (All-weaker (λ y. S (f x) (f y)) (R x) (more x) xs (All-unmap (S (f x)) f xs (AllPairs-first S (f x) (map f xs) h)))
+    AllPairs-cons R x xs (All-weaker (λ y. S (f x) (f y)) (R x) (more x) xs
+    (All-unmap (S (f x)) f xs (AllPairs-first S (f x) (map f xs) h)))
     (pairs_unmap R S f more xs (AllPairs-rest S (f x) (map f xs) h))

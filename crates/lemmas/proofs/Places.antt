@@ -12,7 +12,8 @@ found_at xs x h = (h.0, slice_get-get_or xs h.0 x h.1 ∙ ap (λ v. Some v) h.2)
 pub any_at : {X : Type 0} (P : X → Type 0) (xs : List X) (i : ℕ) (x : X) → slice_get xs i ≡ Some x → P x → Any P xs
 any_at P xs i x e h = (i, x, slice_get_within xs i x e, get_or_from_slice_get xs i x x e, h)
 
-pub any_found : {X : Type 0} (P : X → Type 0) (xs : List X) → Any P xs → (i : ℕ) × (x : X) × (slice_get xs i ≡ Some x) × P x
+pub any_found : {X : Type 0} (P : X → Type 0) (xs : List X) → Any P xs
+    → (i : ℕ) × (x : X) × (slice_get xs i ≡ Some x) × P x
 any_found P xs a = (a.0, a.1, slice_get-get_or xs a.0 a.1 a.2 ∙ ap (λ v. Some v) a.3, a.4)
 
 -- what holds of all elements holds of the one that is found

@@ -1,5 +1,6 @@
 -- Searches, tests of all items and filters.
-use Rattle.std.proofs.Common.{◌≡◌, Bool, true, List, [], ◌∷◌, refl, ap, false, filter, ◌++◌, find, None, cond, Some, subst, suc, IsTrue, arith, All, sym, ◌∙◌, map, true≢false, get_or, inl, inr}
+use Rattle.std.proofs.Common.{◌≡◌, Bool, true, List, [], ◌∷◌, refl, ap, false, filter, ◌++◌, find, None, cond, Some}
+use Rattle.std.proofs.Common.{subst, suc, IsTrue, arith, All, sym, ◌∙◌, map, true≢false, get_or, inl, inr}
 use Rattle.std.specs.List.{AllByRecursion, list_any}
 use Rattle.std.specs.Option.{option_map}
 use Rattle.std.specs.Prelude.{Contains, ◌||◌}
@@ -18,11 +19,13 @@ filter-none p [] h = refl
 filter-none p (x ∷ xs) h =
     rw (All-head (λ x. p x ≡ false) x xs h) (filter-none p xs (All-tail (λ x. p x ≡ false) x xs h))
 
-pub filter-all_recursion : {X : Type 0} (p : X → Bool) (xs : List X) → AllByRecursion (λ x. p x ≡ true) xs → filter p xs ≡ xs
+pub filter-all_recursion : {X : Type 0} (p : X → Bool) (xs : List X) → AllByRecursion (λ x. p x ≡ true) xs
+    → filter p xs ≡ xs
 filter-all_recursion p [] all = refl
 filter-all_recursion p (x ∷ xs) all = rw all.0 (ap (λ ys. x ∷ ys) (filter-all_recursion p xs all.1))
 
-pub filter-none_recursion : {X : Type 0} (p : X → Bool) (xs : List X) → AllByRecursion (λ x. p x ≡ false) xs → filter p xs ≡ []
+pub filter-none_recursion : {X : Type 0} (p : X → Bool) (xs : List X) → AllByRecursion (λ x. p x ≡ false) xs
+    → filter p xs ≡ []
 filter-none_recursion p [] all = refl
 filter-none_recursion p (x ∷ xs) all = rw all.0 (filter-none_recursion p xs all.1)
 
@@ -32,7 +35,8 @@ find-over p [] ys h = refl
 find-over p (x ∷ xs) ys h =
     rw (All-head (λ x. p x ≡ false) x xs h) (find-over p xs ys (All-tail (λ x. p x ≡ false) x xs h))
 
-pub find-append_rest : {X : Type 0} (p : X → Bool) (xs ys : List X) → AllByRecursion (λ x. p x ≡ false) xs → find p (xs ++ ys) ≡ find p ys
+pub find-append_rest : {X : Type 0} (p : X → Bool) (xs ys : List X) → AllByRecursion (λ x. p x ≡ false) xs
+    → find p (xs ++ ys) ≡ find p ys
 find-append_rest p [] ys none = refl
 find-append_rest p (x ∷ xs) ys none = rw none.0 (find-append_rest p xs ys none.1)
 
@@ -40,7 +44,8 @@ pub find-none : {X : Type 0} (p : X → Bool) (xs : List X) → AllByRecursion (
 find-none p [] none = refl
 find-none p (x ∷ xs) none = rw none.0 (find-none p xs none.1)
 
-pub find-append_first : {X : Type 0} (p : X → Bool) (xs ys : List X) → AllByRecursion (λ x. p x ≡ false) ys → find p (xs ++ ys) ≡ find p xs
+pub find-append_first : {X : Type 0} (p : X → Bool) (xs ys : List X) → AllByRecursion (λ x. p x ≡ false) ys
+    → find p (xs ++ ys) ≡ find p xs
 find-append_first p [] ys none = find-none p ys none
 find-append_first p (x ∷ xs) ys none = ap (cond (p x) (Some x)) (find-append_first p xs ys none)
 
@@ -49,7 +54,8 @@ pub find-second : {X : Type 0} (p : X → Bool) (xs ys : List X) → find p xs �
 find-second p [] ys e = refl
 find-second p (x ∷ xs) ys e = by_found (find-second p xs ys) (p x) refl
   where
-    by_found : (find p xs ≡ None → find p (xs ++ ys) ≡ find p ys) → (found : Bool) → p x ≡ found → find p ((x ∷ xs) ++ ys) ≡ find p ys
+    by_found : (find p xs ≡ None → find p (xs ++ ys) ≡ find p ys) → (found : Bool) → p x ≡ found
+        → find p ((x ∷ xs) ++ ys) ≡ find p ys
     by_found rest true f = let impossible : Some x ≡ None = rw f at e in cc
     by_found rest false f = let none : find p xs ≡ None = rw f at e in rw f (rest none)
 
@@ -70,7 +76,8 @@ pub find-gives : {X : Type 0} (p : X → Bool) (xs : List X) (x : X) → find p 
 find-gives p [] x e = absurd (cc e)
 find-gives {X} p (y ∷ ys) x e = by_found (find-gives p ys x) (p y) refl
   where
-    by_found : (find p ys ≡ Some x → IsTrue (p x) × Contains ys x) → (found : Bool) → p y ≡ found → IsTrue (p x) × Contains (y ∷ ys) x
+    by_found : (find p ys ≡ Some x → IsTrue (p x) × Contains ys x) → (found : Bool) → p y ≡ found
+        → IsTrue (p x) × Contains (y ∷ ys) x
     by_found rest true f =
         let same : Some y ≡ Some x = rw f at e in
         let is : y ≡ x = cc same in
@@ -92,45 +99,54 @@ All-find P p (y ∷ xs) x all found = by (All-find P p xs x (All-tail P y xs all
     by again false e = let now = rw e at found in again now
 
 -- a filter that lets through what a search looks for changes nothing for it, and one that does not leaves nothing
-pub find-filter_all : {X : Type 0} (p q : X → Bool) → ((x : X) → p x ≡ true → q x ≡ true) → (xs : List X) → find p (filter q xs) ≡ find p xs
+pub find-filter_all : {X : Type 0} (p q : X → Bool) → ((x : X) → p x ≡ true → q x ≡ true) → (xs : List X)
+    → find p (filter q xs) ≡ find p xs
 find-filter_all p q h [] = refl
 find-filter_all {X} p q h (x ∷ xs) = by_found (find-filter_all p q h xs) (p x) (q x) refl refl
   where
-    by_found : find p (filter q xs) ≡ find p xs → (found passes : Bool) → p x ≡ found → q x ≡ passes → find p (filter q (x ∷ xs)) ≡ find p (x ∷ xs)
+    by_found : find p (filter q xs) ≡ find p xs → (found passes : Bool) → p x ≡ found → q x ≡ passes
+        → find p (filter q (x ∷ xs)) ≡ find p (x ∷ xs)
     by_found rest true true e f = rw (f, e) refl
     by_found rest true false e f = absurd (false≢true (sym f ∙ h x e))
     by_found rest false true e f = rw (f, e) rest
     by_found rest false false e f = rw (f, e) rest
 
-pub find-filter_none : {X : Type 0} (p q : X → Bool) → ((x : X) → p x ≡ true → q x ≡ false) → (xs : List X) → find p (filter q xs) ≡ None
+pub find-filter_none : {X : Type 0} (p q : X → Bool) → ((x : X) → p x ≡ true → q x ≡ false) → (xs : List X)
+    → find p (filter q xs) ≡ None
 find-filter_none p q h [] = refl
 find-filter_none {X} p q h (x ∷ xs) = by_found (find-filter_none p q h xs) (p x) (q x) refl refl
   where
-    by_found : find p (filter q xs) ≡ None → (found passes : Bool) → p x ≡ found → q x ≡ passes → find p (filter q (x ∷ xs)) ≡ None
+    by_found : find p (filter q xs) ≡ None → (found passes : Bool) → p x ≡ found → q x ≡ passes
+        → find p (filter q (x ∷ xs)) ≡ None
     by_found rest true true e f = absurd (false≢true (sym (h x e) ∙ f))
     by_found rest true false e f = rw f rest
     by_found rest false true e f = rw (f, e) rest
     by_found rest false false e f = rw f rest
 
 -- a search that does not see the difference
-pub find-map : {X : Type 0} (p : X → Bool) (f : X → X) → ((x : X) → p (f x) ≡ p x) → (xs : List X) → find p (map f xs) ≡ option_map f (find p xs)
+pub find-map : {X : Type 0} (p : X → Bool) (f : X → X) → ((x : X) → p (f x) ≡ p x) → (xs : List X)
+    → find p (map f xs) ≡ option_map f (find p xs)
 find-map p f same [] = refl
 find-map p f same (x ∷ xs) = by (find-map p f same xs) (p x) refl
   where
-    by : find p (map f xs) ≡ option_map f (find p xs) → (b : Bool) → p x ≡ b → find p (map f (x ∷ xs)) ≡ option_map f (find p (x ∷ xs))
+    by : find p (map f xs) ≡ option_map f (find p xs) → (b : Bool) → p x ≡ b
+        → find p (map f (x ∷ xs)) ≡ option_map f (find p (x ∷ xs))
     by again true e = rw (same x, e) refl
     by again false e = rw (same x, e) again
 
 pub find-agree : {X : Type 0} (p q : X → Bool) → ((x : X) → p x ≡ q x) → (xs : List X) → find p xs ≡ find q xs
 find-agree p q same [] = refl
-find-agree p q same (x ∷ xs) = ap (λ b. cond b (Some x) (find p xs)) (same x) ∙ ap (λ found. cond (q x) (Some x) found) (find-agree p q same xs)
+find-agree p q same (x ∷ xs) = ap (λ b. cond b (Some x) (find p xs)) (same x)
+    ∙ ap (λ found. cond (q x) (Some x) found) (find-agree p q same xs)
 
-pub list_any-map : {X Y : Type 0} (p : Y → Bool) (f : X → Y) (xs : List X) → list_any p (map f xs) ≡ list_any (λ x. p (f x)) xs
+pub list_any-map : {X Y : Type 0} (p : Y → Bool) (f : X → Y) (xs : List X)
+    → list_any p (map f xs) ≡ list_any (λ x. p (f x)) xs
 list_any-map p f [] = refl
 list_any-map p f (x ∷ xs) = ap (λ b. p (f x) || b) (list_any-map p f xs)
 
 -- fewer pass
-pub list_any-fewer : {X : Type 0} (p q : X → Bool) (xs : List X) → ((x : X) → p x ≡ false → q x ≡ false) → list_any p xs ≡ false → list_any q xs ≡ false
+pub list_any-fewer : {X : Type 0} (p q : X → Bool) (xs : List X) → ((x : X) → p x ≡ false → q x ≡ false)
+    → list_any p xs ≡ false → list_any q xs ≡ false
 list_any-fewer p q [] fewer none = refl
 list_any-fewer p q (x ∷ xs) fewer none = by (list_any-fewer p q xs fewer) (p x) refl
   where

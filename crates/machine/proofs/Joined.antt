@@ -1,5 +1,6 @@
 -- Runs one after another.
-use Rattle.std.proofs.Common.{◌≡◌, ℕ, List, [], ◌∷◌, ◌++◌, ◌⊎◌, Option, refl, sym, ◌∙◌, ap, subst, append_assoc, inl, inr}
+use Rattle.std.proofs.Common.{◌≡◌, ℕ, List, [], ◌∷◌, ◌++◌, ◌⊎◌, Option, refl, sym, ◌∙◌, ap, subst, append_assoc, inl}
+use Rattle.std.proofs.Common.{inr}
 use Rattle.std.specs.Io.KnownBytes.{Appends}
 use Rattle.std.proofs.lemmas.List.{append-nil}
 use Rattle.std.proofs.KnownBytes.{Appends-nil, Appends-trans}
@@ -7,11 +8,19 @@ use Rattle.machine.specs.Runs.{Runs, Stands, Ran, IsAfterNext, Stopped, BrokeOff
 
 module _ {S A B : Type 0} (Steps : S → A → S → List B → Type 0) where
   -- two runs are one
-  pub runs-append : (s t u : S) (xs ys : List A) (front back : List B) → Runs Steps s xs t front → Runs Steps t ys u back → Runs Steps s (xs ++ ys) u (front ++ back)
+  pub runs-append : (s t u : S) (xs ys : List A) (front back : List B) → Runs Steps s xs t front
+      → Runs Steps t ys u back → Runs Steps s (xs ++ ys) u (front ++ back)
   runs-append s t u [] ys front back r q =
       subst (λ printed. Runs Steps s ys u (printed ++ back)) (sym r.1) (subst (λ v. Runs Steps v ys u back) r.0 q)
-  runs-append s t u (x ∷ xs) ys front back (m, first, later, step, r, is) q =
-      (m, first, later ++ back, step, runs-append m t u xs ys later back r q, ap (λ printed. printed ++ back) is ∙ append_assoc first later back)
+  runs-append s t u (x ∷ xs) ys front back (m, first, later, step, r, is) q = (
+    m,
+    first,
+    later ++ back,
+    step,
+    runs-append m t u xs ys later back r q,
+    ap (λ printed. printed ++ back) is
+        ∙ append_assoc first later back,
+  )
 
   -- one step is a run
   pub runs-one : (s t : S) (a : A) (printed : List B) → Steps s a t printed → Runs Steps s (a ∷ []) t printed
@@ -20,12 +29,20 @@ module _ {S A B : Type 0} (Steps : S → A → S → List B → Type 0) where
 module _ {S A : Type 0} (Steps : S → A → S → List ℕ → Type 0) where
   module _ {C : Type 0} (kept : S → C) where
     -- no act, and nothing printed
-    pub ran-none : (s : S) (Tables Leaves : C → Type 0) (a : Option (List ℕ)) → Stands Tables Leaves (kept s) → Ran Steps kept s [] Tables Leaves a a
-    ran-none s Tables Leaves a stands = record { end = s; bytes = []; runs = (refl, refl); stands = stands; appends = Appends-nil a }
+    pub ran-none : (s : S) (Tables Leaves : C → Type 0) (a : Option (List ℕ)) → Stands Tables Leaves (kept s)
+        → Ran Steps kept s [] Tables Leaves a a
+    ran-none s Tables Leaves a stands = record {
+      end = s;
+      bytes = [];
+      runs = (refl, refl);
+      stands = stands;
+      appends = Appends-nil a;
+    }
 
     -- a run, and then one from where it led
     pub ran-append : (s : S) (xs ys : List A) (Tables Leaves Tables' Leaves' : C → Type 0) (a b c : Option (List ℕ))
-        → (front : Ran Steps kept s xs Tables Leaves a b) → Ran Steps kept front.end ys Tables' Leaves' b c → Ran Steps kept s (xs ++ ys) Tables' Leaves' a c
+        → (front : Ran Steps kept s xs Tables Leaves a b) → Ran Steps kept front.end ys Tables' Leaves' b c
+        → Ran Steps kept s (xs ++ ys) Tables' Leaves' a c
     ran-append s xs ys Tables Leaves Tables' Leaves' a b c front back = record {
       end = back.end;
       bytes = front.bytes ++ back.bytes;
@@ -36,7 +53,8 @@ module _ {S A : Type 0} (Steps : S → A → S → List ℕ → Type 0) where
 
     -- a run, and then one that stopped
     pub stopped-after : (s : S) (xs ys : List A) (Tables Leaves Tables' Leaves' : C → Type 0) (a b c : Option (List ℕ))
-        → (front : Ran Steps kept s xs Tables Leaves a b) → Stopped Steps kept front.end ys Tables' Leaves' b c → Stopped Steps kept s (xs ++ ys) Tables' Leaves' a c
+        → (front : Ran Steps kept s xs Tables Leaves a b) → Stopped Steps kept front.end ys Tables' Leaves' b c
+        → Stopped Steps kept s (xs ++ ys) Tables' Leaves' a c
     stopped-after s xs ys Tables Leaves Tables' Leaves' a b c front back = record {
       done = xs ++ back.done;
       rest = back.rest;
@@ -50,11 +68,13 @@ module _ {S A : Type 0} (Steps : S → A → S → List ℕ → Type 0) where
     }
 
     -- with acts behind it that were never begun
-    after-more : (s : S) (rest more : List A) (c : C) → IsAfterNext Steps kept s rest c → IsAfterNext Steps kept s (rest ++ more) c
+    after-more : (s : S) (rest more : List A) (c : C) → IsAfterNext Steps kept s rest c
+        → IsAfterNext Steps kept s (rest ++ more) c
     after-more s [] more c h = absurd h
     after-more s (next ∷ rest) more c h = h
 
-    pub stopped-more : (s : S) (xs ys : List A) (Tables Leaves : C → Type 0) (a b : Option (List ℕ)) → Stopped Steps kept s xs Tables Leaves a b → Stopped Steps kept s (xs ++ ys) Tables Leaves a b
+    pub stopped-more : (s : S) (xs ys : List A) (Tables Leaves : C → Type 0) (a b : Option (List ℕ))
+        → Stopped Steps kept s xs Tables Leaves a b → Stopped Steps kept s (xs ++ ys) Tables Leaves a b
     stopped-more s xs ys Tables Leaves a b stop = record {
       done = stop.done;
       rest = stop.rest ++ ys;
@@ -67,13 +87,15 @@ module _ {S A : Type 0} (Steps : S → A → S → List ℕ → Type 0) where
       appends = stop.appends;
     }
       where
-        weaker : (c : C) → (c ≡ kept stop.end) ⊎ IsAfterNext Steps kept stop.end stop.rest c → (c ≡ kept stop.end) ⊎ IsAfterNext Steps kept stop.end (stop.rest ++ ys) c
+        weaker : (c : C) → (c ≡ kept stop.end) ⊎ IsAfterNext Steps kept stop.end stop.rest c
+            → (c ≡ kept stop.end) ⊎ IsAfterNext Steps kept stop.end (stop.rest ++ ys) c
         weaker c (inl is) = inl is
         weaker c (inr after) = inr (after-more stop.end stop.rest ys c after)
 
     -- a run, and then one that broke off
     pub broke-after : (s : S) (xs ys : List A) (Tables Leaves Tables' Leaves' : C → Type 0) (a b c : Option (List ℕ))
-        → (front : Ran Steps kept s xs Tables Leaves a b) → BrokeOff Steps kept front.end ys Tables' Leaves' b c → BrokeOff Steps kept s (xs ++ ys) Tables' Leaves' a c
+        → (front : Ran Steps kept s xs Tables Leaves a b) → BrokeOff Steps kept front.end ys Tables' Leaves' b c
+        → BrokeOff Steps kept s (xs ++ ys) Tables' Leaves' a c
     broke-after s xs ys Tables Leaves Tables' Leaves' a b c front back = record {
       done = xs ++ back.done;
       last = back.last;
@@ -89,10 +111,12 @@ module _ {S A : Type 0} (Steps : S → A → S → List ℕ → Type 0) where
       piece = back.piece;
       lost = back.lost;
       text_is = back.text_is;
-      appends = subst (Appends a c) (sym (append_assoc front.bytes back.bytes back.piece)) (Appends-trans a b c front.bytes (back.bytes ++ back.piece) front.appends back.appends);
+      appends = subst (Appends a c) (sym (append_assoc front.bytes back.bytes back.piece))
+          (Appends-trans a b c front.bytes (back.bytes ++ back.piece) front.appends back.appends);
     }
 
-    pub broke-more : (s : S) (xs ys : List A) (Tables Leaves : C → Type 0) (a b : Option (List ℕ)) → BrokeOff Steps kept s xs Tables Leaves a b → BrokeOff Steps kept s (xs ++ ys) Tables Leaves a b
+    pub broke-more : (s : S) (xs ys : List A) (Tables Leaves : C → Type 0) (a b : Option (List ℕ))
+        → BrokeOff Steps kept s xs Tables Leaves a b → BrokeOff Steps kept s (xs ++ ys) Tables Leaves a b
     broke-more s xs ys Tables Leaves a b broke = record {
       done = broke.done;
       last = broke.last;

@@ -26,6 +26,7 @@ pub record Resolves (g : Global) (zone : Zone) (reason y : Id) : Type 0 where
 pub record AreErrsysmods (g : Global) (zone : Zone) (lines : List Line) : Type 0 where
   pub resolvers : Id → List Id
   pub lines_are : lines
-      ≡ flat_map (λ e. map (λ h. ErrsysmodLine e.id h.reason (resolvers h.reason)) (open_errors g zone e)) (filter is_current zone.entries)
+      ≡ flat_map (λ e. map (λ h. ErrsysmodLine e.id h.reason (resolvers h.reason)) (open_errors g zone e))
+      (filter is_current zone.entries)
   pub rising : (reason : Id) → IsRising (resolvers reason)
   pub all : (reason y : Id) → Contains (resolvers reason) y ↔ Resolves g zone reason y

@@ -19,20 +19,23 @@ use Rattle.terms.specs.Candidates.{AreCandidates, not_chosen}
 use Rattle.terms.specs.Judged.{setting, Stays, IsKeptSet}
 use Rattle.terms.specs.Failures.{IsOpenNeed, IsCauser}
 use Rattle.terms.specs.Install.{Installing, IsInstalled, Installs}
-use Rattle.machine.specs.Outcome.{Status, Already, Applied, Accepted, Superseded, Failed, Failure, Deleted, Missing, NoVer, NotApplied, Line, StatusLine}
+use Rattle.machine.specs.Outcome.{Status, Already, Applied, Accepted, Superseded, Failed, Failure, Deleted, Missing}
+use Rattle.machine.specs.Outcome.{NoVer, NotApplied, Line, StatusLine}
 use Rattle.machine.specs.Receiving.{place_of}
 
 -- the tests by their numbers, and the kinds of needs, in the order of reports
 abbrev pub all_tests : List Test
 all_tests =
-    test.J1 ∷ test.J2 ∷ test.J3 ∷ test.J4 ∷ test.J5 ∷ test.J6 ∷ test.J7 ∷ test.J8 ∷ test.J9 ∷ test.J10 ∷ test.J11 ∷ test.J12 ∷ []
+    test.J1 ∷ test.J2 ∷ test.J3 ∷ test.J4 ∷ test.J5 ∷ test.J6 ∷ test.J7 ∷ test.J8 ∷ test.J9 ∷ test.J10 ∷ test.J11 ∷
+    test.J12 ∷ []
 
 abbrev pub all_needs : List NeedKind
 all_needs = need.Fmid ∷ need.Pre ∷ need.Req ∷ need.Ifreq ∷ need.HoldError ∷ need.Orphan ∷ need.Elem ∷ need.Dep ∷ []
 
 -- Why a candidate is not kept: its failed tests, its open needs by kind and id, and its causers.
 -- Given are the candidates and the kept ones, the tests they fail, which are eligible, and the needs.
-module _ (cands kept : List Id) (FailsTest : Id → Test → Type 0) (Eligible : Id → Type 0) (Wants : Id → NeedKind → Id → Type 0) (ServedBy : NeedKind → Id → Id → Type 0) where
+module _ (cands kept : List Id) (FailsTest : Id → Test → Type 0) (Eligible : Id → Type 0)
+    (Wants : Id → NeedKind → Id → Type 0) (ServedBy : NeedKind → Id → Id → Type 0) where
   pub record IsFailure (x : Id) (f : Failure) : Type 0 where
     pub fails : Test → Bool
     pub tests : f.tests ≡ filter fails all_tests
@@ -40,7 +43,8 @@ module _ (cands kept : List Id) (FailsTest : Id → Test → Type 0) (Eligible :
     pub ids_of : NeedKind → List Id
     pub needs : f.needs ≡ flat_map (λ kind. map (λ z. record { kind = kind; id = z }) (ids_of kind)) all_needs
     pub ids_rising : (kind : NeedKind) → IsRising (ids_of kind)
-    pub are_open : (kind : NeedKind) (z : Id) → Contains (ids_of kind) z ↔ IsOpenNeed cands kept Eligible Wants ServedBy x kind z
+    pub are_open : (kind : NeedKind) (z : Id) → Contains (ids_of kind) z ↔ IsOpenNeed cands kept Eligible Wants ServedBy
+        x kind z
     pub causers_rising : IsRising f.causers
     pub causers : (y : Id) → Contains f.causers y ↔ IsCauser cands kept Eligible Wants ServedBy x y
 
@@ -52,7 +56,8 @@ pub record Decision : Type 0 where
   pub installing : Installing
 
 -- They are those of the selection and BYPASS in this zone, with the related target zone of ACCEPT.
-pub record IsDecision (g : Global) (zone : Zone) (related : Option Zone) (sel : Selection) (bypass : Bypass) (date : Text) (d : Decision) : Type 0 where
+pub record IsDecision (g : Global) (zone : Zone) (related : Option Zone) (sel : Selection) (bypass : Bypass)
+    (date : Text) (d : Decision) : Type 0 where
   pub cands : List Id
   pub candidates : AreCandidates g (by_srel g zone.srel) zone sel cands
   pub setting : d.setting ≡ setting g zone related cands bypass
@@ -60,7 +65,14 @@ pub record IsDecision (g : Global) (zone : Zone) (related : Option Zone) (sel : 
   pub kept : IsKeptSet d.setting d.kept
   pub bypassed : List (Id × Id)
   pub are_bypassed : (x z : Id) → Contains bypassed (x, z) ↔ (Contains d.kept x × Contains (bypassed_ids d.setting x) z)
-  pub installing : d.installing ≡ record { global = g; choice = by_srel g zone.srel; zone = zone; kept = d.kept; bypassed = bypassed; date = date }
+  pub installing : d.installing ≡ record {
+    global = g;
+    choice = by_srel g zone.srel;
+    zone = zone;
+    kept = d.kept;
+    bypassed = bypassed;
+    date = date;
+  }
 
 -- which candidates of a setting are kept, rising, and why each other one is not, in the order of the candidates
 pub record IsDecided (s : Setting) (kept : List Id) (failed : List (Id × Failure)) : Type 0 where
@@ -69,7 +81,8 @@ pub record IsDecided (s : Setting) (kept : List Id) (failed : List (Id × Failur
   pub rising : IsRising kept
   pub members : (x : Id) → Contains kept x ↔ Stays s survivors x
   pub ids : map (λ p. p.0) failed ≡ filter (λ x. not (is_in kept x)) s.cands
-  pub failures : All (λ p. IsFailure s.cands kept (Fails s) (IsEligible s) (Needs s survivors) (Serves s.choice) p.0 p.1) failed
+  pub failures : All (λ p. IsFailure s.cands kept (Fails s) (IsEligible s) (Needs s survivors) (Serves s.choice) p.0
+      p.1) failed
 
 -- the status of what is installed
 abbrev pub installed_status : ZoneKind → Status
@@ -88,9 +101,11 @@ pub data HasStatus (d : Decision) (sel : Selection) (x : Id) : Status → Type 0
   IsIn : IsInstalled d.installing x → HasStatus d sel x (installed_status d.setting.zone.kind)
   IsUnder : Contains d.kept x → (¬ IsInstalled d.installing x) → HasStatus d sel x Superseded
   IsOff : (f : Failure) → Contains d.setting.cands x → (¬ Contains d.kept x)
-      → IsFailure d.setting.cands d.kept (Fails d.setting) (IsEligible d.setting) (Needs d.setting d.survivors) (Serves d.setting.choice) x f
+      → IsFailure d.setting.cands d.kept (Fails d.setting) (IsEligible d.setting) (Needs d.setting d.survivors)
+      (Serves d.setting.choice) x f
       → HasStatus d sel x (Failed f)
-  IsOut : (why : NotChosen) → not_chosen d.setting.global d.setting.zone sel x ≡ Some why → HasStatus d sel x (not_chosen_status why)
+  IsOut : (why : NotChosen) → not_chosen d.setting.global d.setting.zone sel x ≡ Some why
+      → HasStatus d sel x (not_chosen_status why)
 
 -- The lines by id: one for each id that has a status.
 pub record AreInstallLines (d : Decision) (sel : Selection) (lines : List Line) : Type 0 where
@@ -102,7 +117,8 @@ pub record AreInstallLines (d : Decision) (sel : Selection) (lines : List Line) 
   pub all : (x : Id) (s : Status) → HasStatus d sel x s → Contains ids x
 
 -- the new zone and the lines; CHECK comes to the same lines
-pub record InstallsSelected (g : Global) (zone : Zone) (related : Option Zone) (sel : Selection) (bypass : Bypass) (date : Text) (new : Zone) (lines : List Line) : Type 0 where
+pub record InstallsSelected (g : Global) (zone : Zone) (related : Option Zone) (sel : Selection) (bypass : Bypass)
+    (date : Text) (new : Zone) (lines : List Line) : Type 0 where
   pub decision : Decision
   pub decides : IsDecision g zone related sel bypass date decision
   pub lines_are : AreInstallLines decision sel lines

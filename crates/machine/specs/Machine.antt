@@ -1,12 +1,15 @@
 -- The machine: what each act makes of the state and prints, and what a list of jobs does.
 -- (IBM z/OS SMP/E Commands: SET, RECEIVE, REJECT and APPLY. The other commands are not known yet.)
-use Rattle.std.specs.Prelude.{◌≡◌, ◌⊎◌, ℕ, Bool, true, false, IsTrue, List, [], ◌∷◌, ◌++◌, map, None, Some, Result, Ok, Err, if◌then◌else◌}
+use Rattle.std.specs.Prelude.{◌≡◌, ◌⊎◌, ℕ, Bool, true, false, IsTrue, List, [], ◌∷◌, ◌++◌, map, None, Some, Result, Ok}
+use Rattle.std.specs.Prelude.{Err, if◌then◌else◌}
 use Rattle.std.specs.List.{flat_map}
-use Rattle.terms.specs.Types.{Text, Id, Global, Zone, Item, HoldItem, ReceiveWhat, Install, Command, Set, Receive, Reject, Apply}
+use Rattle.terms.specs.Types.{Text, Id, Global, Zone, Item, HoldItem, ReceiveWhat, Install, Command, Set, Receive}
+use Rattle.terms.specs.Types.{Reject, Apply}
 use Rattle.terms.specs.Ptfin.{McsFault, IsPtfin, IsPtfinFault}
 use Rattle.terms.specs.HoldFile.{IsHoldFile, IsHoldFileFault}
 use Rattle.terms.specs.Commands.{CntlFault, IsCommandFile, IsCommandFileFault}
-use Rattle.machine.specs.Outcome.{Line, Refusal, Cm4, Cm5, ControlFault, Outcome, Ran, Refused, Control, header_of, or_nothing, job_code}
+use Rattle.machine.specs.Outcome.{Line, Refusal, Cm4, Cm5, ControlFault, Outcome, Ran, Refused, Control, header_of}
+use Rattle.machine.specs.Outcome.{or_nothing, job_code}
 use Rattle.machine.specs.Report.{text}
 use Rattle.machine.specs.State.{State, zone_named, with_zone, misplaced, ZoneDefinition, ZoneFault, define_zone}
 use Rattle.machine.specs.Receiving.{TakesItem, TakesHoldItem}
@@ -30,7 +33,8 @@ pub data Takes (files : Files) (s : State) (what : ReceiveWhat) : State → Outc
   TakesAll : (items : List Item) (holds : List HoldItem) (middle g : Global) (lines more : List Line)
       → HasItems IsPtfin what.sysmods files.ptfin items → HasItems IsHoldFile what.holddata files.holds holds
       → Runs (TakesItem what.source) s.global items middle lines → Runs TakesHoldItem middle holds g more
-      → Takes files s what (record s { global = g }) (Ran (header_of (Receive what) s.boundary) (or_nothing (lines ++ more)))
+      → Takes files s what (record s { global = g }) (Ran (header_of (Receive what) s.boundary)
+      (or_nothing (lines ++ more)))
   TakesNone : (fault : McsFault) → IsTrue what.sysmods → IsPtfinFault files.ptfin fault
       → Takes files s what s (Refused (header_of (Receive what) s.boundary) (Cm4 fault.number fault.code))
   TakesNoHold : (items : List Item) (fault : McsFault) → HasItems IsPtfin what.sysmods files.ptfin items
@@ -87,7 +91,8 @@ or_same s (Err why) = s
 
 abbrev pub Steps : State → Act → State → List Outcome → Type 0
 Steps s Begin t outcomes = (t ≡ record s { boundary = None }) × (outcomes ≡ [])
-Steps s (Perform date files c) t outcomes = (outcome : Outcome) × Performs date files s c t outcome × (outcomes ≡ outcome ∷ [])
+Steps s (Perform date files c) t outcomes = (outcome : Outcome) × Performs date files s c t outcome
+    × (outcomes ≡ outcome ∷ [])
 Steps s (Faulty fault) t outcomes = (t ≡ s) × (outcomes ≡ Control fault ∷ [])
 Steps s (Define d) t outcomes = (t ≡ or_same s (define_zone s d)) × (outcomes ≡ [])
 

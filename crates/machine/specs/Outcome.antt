@@ -5,7 +5,8 @@ use Rattle.terms.specs.declared.kinds.Kind.{Kind}
 use Rattle.terms.specs.declared.kinds.HoldKind.{HoldKind}
 use Rattle.terms.specs.declared.kinds.ElemType.{ElemType}
 use Rattle.terms.specs.declared.kinds.ZoneKind.{ZoneKind}
-use Rattle.terms.specs.Types.{Text, Id, Global, Entry, Element, Zone, Command, Set, Receive, Reject, Apply, Accept, Restore, ListZone, Report}
+use Rattle.terms.specs.Types.{Text, Id, Global, Entry, Element, Zone, Command, Set, Receive, Reject, Apply, Accept}
+use Rattle.terms.specs.Types.{Restore, ListZone, Report}
 use Rattle.terms.specs.declared.codes.CommandWord.{CommandWord}
 use Rattle.terms.specs.declared.codes.CommandWord.TheVariants as word
 use Rattle.terms.specs.declared.codes.IdRefusal.{IdRefusal}
@@ -122,7 +123,15 @@ list_global g =
     ++ map (λ h. HoldLine h.id h.kind h.reason h.internal) g.holds
 
 abbrev pub row_of : Element → ElementRow
-row_of e = record { elem_type = e.elem_type; name = e.name; fmid = e.fmid; rmid = e.rmid; umids = e.umids; distlib = e.distlib; syslib = e.syslib }
+row_of e = record {
+  elem_type = e.elem_type;
+  name = e.name;
+  fmid = e.fmid;
+  rmid = e.rmid;
+  umids = e.umids;
+  distlib = e.distlib;
+  syslib = e.syslib;
+}
 
 -- an element's line, and with TEXT its records
 abbrev pub element_lines : Bool → Element → List Line

@@ -3,10 +3,13 @@
 use Rattle.std.specs.Prelude.{◌≡◌, List, [], ◌∷◌, Option, None, Some, Result, Ok, Err, if◌then◌else◌}
 use Rattle.std.specs.Option.{option_map_or}
 use Rattle.terms.specs.declared.codes.IdRefusal.TheVariants as refusal
-use Rattle.terms.specs.Types.{Text, Id, Hold, Sysmod, Global, Release, Item, ASysmod, AnAssign, HoldItem, AHold, ARelease}
+use Rattle.terms.specs.Types.{Text, Id, Hold, Sysmod, Global, Release, Item, ASysmod, AnAssign, HoldItem, AHold}
+use Rattle.terms.specs.Types.{ARelease}
 use Rattle.terms.specs.Lookups.{sysmod_of, is_received}
-use Rattle.terms.specs.Global.{hold, is_replacing, ReleaseFault, Rl1, Rl2, release, assign, with_source, ReceiveFault, Rc1, Rc2, Rc3, Rc4, Receives}
-use Rattle.machine.specs.Outcome.{Place, OfKind, OfHold, NotReceived, Status, Received, Already, RefusedId, Assigned, Unknown, Held, Replaced, Released, Line, StatusLine}
+use Rattle.terms.specs.Global.{hold, is_replacing, ReleaseFault, Rl1, Rl2, release, assign, with_source, ReceiveFault}
+use Rattle.terms.specs.Global.{Rc1, Rc2, Rc3, Rc4, Receives}
+use Rattle.machine.specs.Outcome.{Place, OfKind, OfHold, NotReceived, Status, Received, Already, RefusedId, Assigned}
+use Rattle.machine.specs.Outcome.{Unknown, Held, Replaced, Released, Line, StatusLine}
 use Rattle.machine.specs.Runs.{Runs}
 
 -- the zone that is answered, or else the one that was there

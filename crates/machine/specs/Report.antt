@@ -1,11 +1,18 @@
 -- The text of an outcome.
-use Rattle.std.specs.Prelude.{ℕ, ◌+◌, ◌-◌, ◌/◌, ◌%◌, Bool, true, false, List, [], ◌∷◌, ◌++◌, length, replicate, Option, Some, None, codes, decimal, if◌then◌else◌}
+use Rattle.std.specs.Prelude.{ℕ, ◌+◌, ◌-◌, ◌/◌, ◌%◌, Bool, true, false, List, [], ◌∷◌, ◌++◌, length, replicate, Option}
+use Rattle.std.specs.Prelude.{Some, None, codes, decimal, if◌then◌else◌}
 use Rattle.std.specs.List.{flat_map, join_with_byte}
 use Rattle.terms.specs.declared.kinds.ZoneKind.{ZoneKind}
 use Rattle.terms.specs.declared.kinds.ZoneKind.TheVariants.{Target, Distribution}
 use Rattle.terms.specs.Types.{Text, Id, Entry}
-use Rattle.terms.specs.Spelling.{word_text, kind_text, hold_text, type_text, mc_text, cn_text, test_text, need_text, refusal_text}
-use Rattle.machine.specs.Outcome.{Header, Refusal, Cm1, Cm2, Cm3, Cm4, Cm5, Place, OfKind, OfHold, NotReceived, Failure, Status, Received, Already, RefusedId, Assigned, Unknown, Held, Replaced, Released, Rejected, Applied, Accepted, Superseded, Failed, Deleted, Missing, NoVer, Restored, NotApplied, ElementRow, Line, StatusLine, NothingLine, SysmodLine, HoldLine, EntryLine, ElementLine, TextLine, ErrsysmodLine, Outcome, Ran, Refused, Control, lines_code}
+use Rattle.terms.specs.Spelling.{word_text, kind_text, hold_text, type_text, mc_text, cn_text, test_text, need_text}
+use Rattle.terms.specs.Spelling.{refusal_text}
+use Rattle.machine.specs.Outcome.{Header, Refusal, Cm1, Cm2, Cm3, Cm4, Cm5, Place, OfKind, OfHold, NotReceived, Failure}
+use Rattle.machine.specs.Outcome.{Status, Received, Already, RefusedId, Assigned, Unknown, Held, Replaced, Released}
+use Rattle.machine.specs.Outcome.{Rejected, Applied, Accepted, Superseded, Failed, Deleted, Missing, NoVer, Restored}
+use Rattle.machine.specs.Outcome.{NotApplied, ElementRow, Line, StatusLine, NothingLine, SysmodLine, HoldLine}
+use Rattle.machine.specs.Outcome.{EntryLine, ElementLine, TextLine, ErrsysmodLine, Outcome, Ran, Refused, Control}
+use Rattle.machine.specs.Outcome.{lines_code}
 
 -- words with one blank between them, and the newline
 abbrev pub words_line : List Text → Text

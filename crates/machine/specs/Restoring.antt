@@ -5,7 +5,8 @@ use Rattle.terms.specs.Types.{Id, Global, Zone, RestoreList}
 use Rattle.terms.specs.Lookups.{IsRising, is_in}
 use Rattle.terms.specs.Choice.{by_srel}
 use Rattle.terms.specs.Needs.{Serves}
-use Rattle.terms.specs.Restore.{Restoring, NeedsInRestore, AreListed, restore_candidates, FailsRestore, MayBeRestored, IsRestored, Restores}
+use Rattle.terms.specs.Restore.{Restoring, NeedsInRestore, AreListed, restore_candidates, FailsRestore, MayBeRestored}
+use Rattle.terms.specs.Restore.{IsRestored, Restores}
 use Rattle.machine.specs.Outcome.{Status, Restored, NotApplied, Failed, Failure, Line, StatusLine}
 use Rattle.machine.specs.Receiving.{place_of}
 use Rattle.machine.specs.Installing.{IsFailure}
@@ -14,12 +15,14 @@ use Rattle.machine.specs.Installing.{IsFailure}
 pub data HasRestoreStatus (r : Restoring) (ids kept : List Id) (x : Id) : Status → Type 0 where
   IsBack : Contains kept x → HasRestoreStatus r ids kept x Restored
   StaysOn : (f : Failure) → Contains (restore_candidates r ids) x → (¬ Contains kept x)
-      → IsFailure (restore_candidates r ids) kept (FailsRestore r) (MayBeRestored r ids) (NeedsInRestore r (is_in ids)) (Serves r.choice) x f
+      → IsFailure (restore_candidates r ids) kept (FailsRestore r) (MayBeRestored r ids) (NeedsInRestore r (is_in ids))
+      (Serves r.choice) x f
       → HasRestoreStatus r ids kept x (Failed f)
   WasNotOn : Contains ids x → (¬ Contains (restore_candidates r ids) x) → HasRestoreStatus r ids kept x NotApplied
 
 -- the new target zone and the lines, by id; CHECK comes to the same lines
-pub record RestoresListed (g : Global) (zone accepted : Zone) (what : RestoreList) (new : Zone) (lines : List Line) : Type 0 where
+pub record RestoresListed (g : Global) (zone accepted : Zone) (what : RestoreList) (new : Zone) (lines : List Line) :
+    Type 0 where
   pub setting : Restoring
   pub setting_is : setting ≡ record { global = g; choice = by_srel g zone.srel; zone = zone; accepted = accepted }
   pub ids : List Id

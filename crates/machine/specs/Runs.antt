@@ -15,7 +15,8 @@ pub record Stands {C : Type 0} (Tables Leaves : C → Type 0) (c : C) : Type 0 w
   pub crash : (d : C) → Leaves d → d ≡ c
 
 -- All acts ran: the tables stand for what they lead to, and the bytes are theirs.
-pub record Ran {S A C : Type 0} (Steps : S → A → S → List ℕ → Type 0) (kept : S → C) (s : S) (acts : List A) (Tables Leaves : C → Type 0) (old new : Option (List ℕ)) : Type 0 where
+pub record Ran {S A C : Type 0} (Steps : S → A → S → List ℕ → Type 0) (kept : S → C) (s : S) (acts : List A)
+    (Tables Leaves : C → Type 0) (old new : Option (List ℕ)) : Type 0 where
   pub end : S
   pub bytes : List ℕ
   pub runs : Runs Steps s acts end bytes
@@ -28,7 +29,8 @@ IsAfterNext Steps kept s [] c = ⊥
 IsAfterNext {S} Steps kept s (next ∷ rest) c = (m : S) × (text : List ℕ) × Steps s next m text × (c ≡ kept m)
 
 -- The acts of a beginning ran, and the next had no effect and no report. A crash may leave its effect.
-pub record Stopped {S A C : Type 0} (Steps : S → A → S → List ℕ → Type 0) (kept : S → C) (s : S) (acts : List A) (Tables Leaves : C → Type 0) (old new : Option (List ℕ)) : Type 0 where
+pub record Stopped {S A C : Type 0} (Steps : S → A → S → List ℕ → Type 0) (kept : S → C) (s : S) (acts : List A)
+    (Tables Leaves : C → Type 0) (old new : Option (List ℕ)) : Type 0 where
   pub done : List A
   pub rest : List A
   pub acts_are : acts ≡ done ++ rest
@@ -40,7 +42,8 @@ pub record Stopped {S A C : Type 0} (Steps : S → A → S → List ℕ → Type
   pub appends : Appends old new bytes
 
 -- The acts up to and with some last one ran, and of its report a beginning went out.
-pub record BrokeOff {S A C : Type 0} (Steps : S → A → S → List ℕ → Type 0) (kept : S → C) (s : S) (acts : List A) (Tables Leaves : C → Type 0) (old new : Option (List ℕ)) : Type 0 where
+pub record BrokeOff {S A C : Type 0} (Steps : S → A → S → List ℕ → Type 0) (kept : S → C) (s : S) (acts : List A)
+    (Tables Leaves : C → Type 0) (old new : Option (List ℕ)) : Type 0 where
   pub done : List A
   pub last : A
   pub rest : List A

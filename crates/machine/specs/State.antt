@@ -1,6 +1,7 @@
 -- The machine's state, where a command may run, and how zones are defined.
 -- (IBM z/OS SMP/E Commands, the SET command; Reference, the GLOBALZONE, TARGETZONE and DLIBZONE entries.)
-use Rattle.std.specs.Prelude.{◌&&◌, ◌||◌, ◌==◌, Bool, false, not, List, [], length, find, option_map, Option, None, Some, is_some, Result, Ok, Err, codes, nat_le, if◌then◌else◌}
+use Rattle.std.specs.Prelude.{◌&&◌, ◌||◌, ◌==◌, Bool, false, not, List, [], length, find, option_map, Option, None}
+use Rattle.std.specs.Prelude.{Some, is_some, Result, Ok, Err, codes, nat_le, if◌then◌else◌}
 use Rattle.std.specs.List.{list_any}
 use Rattle.std.specs.Option.{option_map_or, option_and_then}
 use Rattle.std.specs.Str.{bytes_eq}
@@ -8,7 +9,8 @@ use Rattle.std.specs.Cmp.Lexicographic.{slice_cmp}
 use Rattle.std.specs.Ordering.{nat_cmp}
 use Rattle.terms.specs.declared.kinds.ZoneKind.{ZoneKind}
 use Rattle.terms.specs.declared.kinds.ZoneKind.TheVariants.{Target, Distribution}
-use Rattle.terms.specs.Types.{Text, zone_number, Global, Zone, a_zone, NamedZone, Command, Set, Receive, Reject, Apply, Accept, Restore, ListZone, Report}
+use Rattle.terms.specs.Types.{Text, zone_number, Global, Zone, a_zone, NamedZone, Command, Set, Receive, Reject, Apply}
+use Rattle.terms.specs.Types.{Accept, Restore, ListZone, Report}
 use Rattle.terms.specs.Rising.{with_item}
 use Rattle.machine.specs.Outcome.{Refusal, Cm1, Cm2, Cm3}
 
@@ -35,7 +37,10 @@ target_of zones name = option_map (λ z. z.zone) (find (λ z. option_map_or (byt
 
 -- the state with the zone in place of the one of its name
 abbrev pub with_zone : State → Text → Zone → State
-with_zone s name zone = record s { zones = with_item (slice_cmp nat_cmp) (λ z. z.name) s.zones (record { name = name; zone = zone }) }
+with_zone s name zone = record s {
+  zones = with_item (slice_cmp nat_cmp) (λ z. z.name) s.zones
+      (record { name = name; zone = zone });
+}
 
 -- whether the boundary is the global zone, a zone of this kind, or a zone of any kind
 abbrev pub at_global : State → Bool
@@ -96,7 +101,8 @@ has_right_related zones Distribution related = not (is_some related)
 -- whether the related zone, if there is one, has this SREL
 abbrev pub has_same_srel : List NamedZone → Text → Option Text → Bool
 has_same_srel zones srel related =
-    option_map_or (λ name. option_map_or (λ z. bytes_eq z.srel srel) (zone_named zones name) false) related (not (is_some related))
+    option_map_or (λ name. option_map_or (λ z. bytes_eq z.srel srel) (zone_named zones name) false) related
+    (not (is_some related))
 
 -- the zones with an empty one more, or the first fault that applies
 unfoldable pub define_zone : State → ZoneDefinition → Result State ZoneFault

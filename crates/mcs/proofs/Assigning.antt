@@ -17,12 +17,22 @@ use Rattle.mcs.proofs.Saying.{assign_excludes}
 abbrev pub AssignOf : Option Text → List Piece → Assign → Type 0
 AssignOf own rest a = (ws : List Word) × HasWords rest ws × IsAssignOf own ws a
 
-pub assign_value : (current : Option Begun) (w : StatementWord) (own : Option Text) (rest : List Piece) (inline : Lines) (a : Assign) → w ≡ word.Assign → AssignOf own rest a → HasValue (sysmod_in current) w own rest inline (SaysAssign a)
+pub assign_value : (current : Option Begun) (w : StatementWord) (own : Option Text) (rest : List Piece) (inline : Lines)
+    (a : Assign) → w ≡ word.Assign → AssignOf own rest a → HasValue (sysmod_in current) w own rest inline (SaysAssign a)
 assign_value current w own rest inline a is h = (h.0, h.1, (is, h.2))
 
-pub assign_error : (current : Option Begun) (w : StatementWord) (own : Option Text) (rest : List Piece) (inline : Lines) (error : OperandError) → w ≡ word.Assign → Excludes error ((a : Assign) × AssignOf own rest a) → IsSaidError current w own rest inline (value_error error)
+pub assign_error : (current : Option Begun) (w : StatementWord) (own : Option Text) (rest : List Piece) (inline : Lines)
+    (error : OperandError) → w ≡ word.Assign → Excludes error ((a : Assign) × AssignOf own rest a)
+    → IsSaidError current w own rest inline (value_error error)
 assign_error current w own rest inline Memory is x = tt
-assign_error current w own rest inline Bad is x = assign_excludes (sysmod_in current) w own rest inline is (λ ws a h k. x (a, (ws, h, k)))
+assign_error current w own rest inline Bad is x = assign_excludes (sysmod_in current) w own rest inline is
+    (λ ws a h k. x (a, (ws, h, k)))
 
-pub assign_said : (current : Option Begun) (w : StatementWord) (own : Option Text) (rest : List Piece) (inline : Lines) (a : Assign) → w ≡ word.Assign → AssignOf own rest a → IsShort a.to → IsSaid current w own rest inline (SaysAssign a)
-assign_said current w own rest inline a is h within = record { value = assign_value current w own rest inline a is h; within = within; text = tt }
+pub assign_said : (current : Option Begun) (w : StatementWord) (own : Option Text) (rest : List Piece) (inline : Lines)
+    (a : Assign) → w ≡ word.Assign → AssignOf own rest a → IsShort a.to
+    → IsSaid current w own rest inline (SaysAssign a)
+assign_said current w own rest inline a is h within = record {
+  value = assign_value current w own rest inline a is h;
+  within = within;
+  text = tt;
+}

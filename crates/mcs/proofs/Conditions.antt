@@ -30,47 +30,86 @@ lists_are s own ws i rest fmid req words h read =
     (cc (same), cc (same))
 
 pub function_of : (s : Sysmod) (own : Option Text) (ws : List Word) (i : IfReq) (rest : List Piece) (fmid req : Word) → HasWords rest ws → IsIfOf s own ws i → HasWords rest (fmid ∷ plain (codes "THEN") ∷ req ∷ []) → HasOne IsId fmid i.function
-function_of s own ws i rest fmid req words h read = subst (λ w. HasOne IsId w i.function) (lists_are s own ws i rest fmid req words h read).0 h.function
+function_of s own ws i rest fmid req words h read = subst (λ w. HasOne IsId w i.function)
+    (lists_are s own ws i rest fmid req words h read).0 h.function
 
 pub ids_of : (s : Sysmod) (own : Option Text) (ws : List Word) (i : IfReq) (rest : List Piece) (fmid req : Word) → HasWords rest ws → IsIfOf s own ws i → HasWords rest (fmid ∷ plain (codes "THEN") ∷ req ∷ []) → HasSorted IsId req i.req
-ids_of s own ws i rest fmid req words h read = subst (λ w. HasSorted IsId w i.req) (lists_are s own ws i rest fmid req words h read).1 h.ids
+ids_of s own ws i rest fmid req words h read = subst (λ w. HasSorted IsId w i.req)
+    (lists_are s own ws i rest fmid req words h read).1 h.ids
 
 -- the list is determined
 pub ids_are : (s : Sysmod) (own : Option Text) (ws : List Word) (i : IfReq) (rest : List Piece) (fmid req : Word) (ids : List Id) → HasWords rest ws → IsIfOf s own ws i → HasWords rest (fmid ∷ plain (codes "THEN") ∷ req ∷ []) → HasSorted IsId req ids → i.req ≡ ids
-ids_are s own ws i rest fmid req ids words h read sorted = has_sorted-only IsId req i.req ids (ids_of s own ws i rest fmid req words h read) sorted
+ids_are s own ws i rest fmid req ids words h read sorted = has_sorted-only IsId req i.req ids
+    (ids_of s own ws i rest fmid req words h read) sorted
 
 pub if_is : (s : Sysmod) (own : Option Text) (rest : List Piece) (fmid req : Word) (i : IfReq) → own ≡ None → fmid.word ≡ codes "FMID" → req.word ≡ codes "REQ" → HasWords rest (fmid ∷ plain (codes "THEN") ∷ req ∷ []) → HasOne IsId fmid i.function → HasSorted IsId req i.req → (Contains i.req s.id → ⊥)
     → (ws : List Word) × HasWords rest ws × IsIfOf s own ws i
 if_is s own rest fmid req i no_list fmid_word req_word words function ids others = (
   fmid ∷ plain (codes "THEN") ∷ req ∷ [],
   words,
-  record { fmid = fmid; req = req; no_list = no_list; are_operands = refl; fmid_word = fmid_word; req_word = req_word; function = function; ids = ids; others = others },
+  record {
+    fmid = fmid;
+    req = req;
+    no_list = no_list;
+    are_operands = refl;
+    fmid_word = fmid_word;
+    req_word = req_word;
+    function = function;
+    ids = ids;
+    others = others;
+  },
 )
 
 abbrev pub IfOf : Sysmod → Option Text → List Piece → IfReq → Type 0
 IfOf s own rest i = (ws : List Word) × HasWords rest ws × IsIfOf s own ws i
 
-pub if_value : (current : Option Begun) (b : Begun) (w : StatementWord) (own : Option Text) (rest : List Piece) (inline : Lines) (i : IfReq) → current ≡ Some b → w ≡ word.If → IfOf b.sysmod own rest i → HasValue (sysmod_in current) w own rest inline (SaysIf i)
-if_value current b w own rest inline i at is h = (h.0, h.1, (is, subst (λ c. IsSomeAnd (sysmod_in c) (λ x. IsIfOf x own h.0 i)) (sym at) h.2))
+pub if_value : (current : Option Begun) (b : Begun) (w : StatementWord) (own : Option Text) (rest : List Piece)
+    (inline : Lines) (i : IfReq) → current ≡ Some b → w ≡ word.If → IfOf b.sysmod own rest i
+    → HasValue (sysmod_in current) w own rest inline (SaysIf i)
+if_value current b w own rest inline i at is h = (
+  h.0,
+  h.1,
+  (
+    is,
+    subst (λ c. IsSomeAnd (sysmod_in c) (λ x. IsIfOf x own h.0 i)) (sym at) h.2,
+  ),
+)
 
-pub if_error : (current : Option Begun) (b : Begun) (w : StatementWord) (own : Option Text) (rest : List Piece) (inline : Lines) (error : OperandError) → current ≡ Some b → w ≡ word.If → Excludes error ((i : IfReq) × IfOf b.sysmod own rest i) → IsSaidError current w own rest inline (value_error error)
+pub if_error : (current : Option Begun) (b : Begun) (w : StatementWord) (own : Option Text) (rest : List Piece)
+    (inline : Lines) (error : OperandError) → current ≡ Some b → w ≡ word.If
+    → Excludes error ((i : IfReq) × IfOf b.sysmod own rest i)
+    → IsSaidError current w own rest inline (value_error error)
 if_error current b w own rest inline Memory at is x = tt
 if_error current b w own rest inline Bad at is x =
-    if_excludes (sysmod_in current) w own rest inline is (λ ws i h k. x (i, (ws, h, subst (λ c. IsSomeAnd (sysmod_in c) (λ y. IsIfOf y own ws i)) at k)))
+    if_excludes (sysmod_in current) w own rest inline is (λ ws i h k.
+    x (i, (ws, h, subst (λ c. IsSomeAnd (sysmod_in c) (λ y. IsIfOf y own ws i)) at k)))
 
 abbrev pub HasPlace : Begun → IfReq → Type 0
 HasPlace b i = All (λ v. IsTrue (is_last b v) → length v.ifs < 100) b.sysmod.vers × IsShort i.req
 
-pub if_within : (current : Option Begun) (b : Begun) (i : IfReq) (inline : Lines) → current ≡ Some b → IsWithin current (SaysIf i) inline → HasPlace b i
-if_within current b i inline at h = (subst (λ c. IfSome c (λ x. All (λ v. IsTrue (is_last x v) → length v.ifs < 100) x.sysmod.vers)) at h.0, h.1)
+pub if_within : (current : Option Begun) (b : Begun) (i : IfReq) (inline : Lines) → current ≡ Some b
+    → IsWithin current (SaysIf i) inline → HasPlace b i
+if_within current b i inline at h = (
+  subst (λ c. IfSome c (λ x.
+      All (λ v. IsTrue (is_last x v) → length v.ifs < 100) x.sysmod.vers)) at h.0,
+  h.1,
+)
 
-pub if_said : (current : Option Begun) (b : Begun) (w : StatementWord) (own : Option Text) (rest : List Piece) (inline : Lines) (i : IfReq) → current ≡ Some b → w ≡ word.If → IfOf b.sysmod own rest i → HasPlace b i → IsSaid current w own rest inline (SaysIf i)
+pub if_said : (current : Option Begun) (b : Begun) (w : StatementWord) (own : Option Text) (rest : List Piece)
+    (inline : Lines) (i : IfReq) → current ≡ Some b → w ≡ word.If → IfOf b.sysmod own rest i → HasPlace b i
+    → IsSaid current w own rest inline (SaysIf i)
 if_said current b w own rest inline i at is h within = record {
   value = if_value current b w own rest inline i at is h;
-  within = (subst (λ c. IfSome c (λ x. All (λ v. IsTrue (is_last x v) → length v.ifs < 100) x.sysmod.vers)) (sym at) within.0, within.1);
+  within = (
+    subst (λ c. IfSome c (λ x. All (λ v. IsTrue (is_last x v) → length v.ifs < 100) x.sysmod.vers)) (sym at)
+        within.0,
+    within.1,
+  );
   text = tt;
 }
 
 -- nothing is said outside a SYSMOD
-pub if_outside : (current : Option Begun) (w : StatementWord) (own : Option Text) (rest : List Piece) (inline : Lines) → current ≡ None → w ≡ word.If → IsSaidError current w own rest inline (value_error Bad)
-if_outside current w own rest inline at is = if_excludes (sysmod_in current) w own rest inline is (λ ws i h k. subst (λ c. IsSomeAnd (sysmod_in c) (λ y. IsIfOf y own ws i)) at k)
+pub if_outside : (current : Option Begun) (w : StatementWord) (own : Option Text) (rest : List Piece) (inline : Lines)
+    → current ≡ None → w ≡ word.If → IsSaidError current w own rest inline (value_error Bad)
+if_outside current w own rest inline at is = if_excludes (sysmod_in current) w own rest inline is
+    (λ ws i h k. subst (λ c. IsSomeAnd (sysmod_in c) (λ y. IsIfOf y own ws i)) at k)

@@ -13,7 +13,8 @@ pub bad_rest : (rest : List Piece) → BeginsNoWords rest → rest ≡ [] → �
 bad_rest rest bad none = subst BeginsNoWords none bad
 
 -- The first word is the one that is taken, and the others follow.
-pub first_is : (pieces : List Piece) (w : Word) (rest : List Piece) (v : Word) (vs : List Word) → TakesWord pieces w rest → HasWords pieces (v ∷ vs) → (v ≡ w) × HasWords rest vs
+pub first_is : (pieces : List Piece) (w : Word) (rest : List Piece) (v : Word) (vs : List Word)
+    → TakesWord pieces w rest → HasWords pieces (v ∷ vs) → (v ≡ w) × HasWords rest vs
 first_is pieces w rest v vs t h =
     let f = words_first pieces w rest (v ∷ vs) t h in
     let more : vs ≡ f.0 = cc (f.1) in
@@ -31,6 +32,7 @@ no_list None f e = refl
 no_list (Some x) f e = absurd (true≢false e)
 
 -- three words and nothing else
-pub three : (pieces r s t : List Piece) (a b c : Word) → TakesWord pieces a r → TakesWord r b s → TakesWord s c t → t ≡ [] → HasWords pieces (a ∷ b ∷ c ∷ [])
+pub three : (pieces r s t : List Piece) (a b c : Word) → TakesWord pieces a r → TakesWord r b s → TakesWord s c t
+    → t ≡ [] → HasWords pieces (a ∷ b ∷ c ∷ [])
 three pieces r s t a b c ta tb tc none =
     words_more pieces a r (b ∷ c ∷ []) ta (words_more r b s (c ∷ []) tb (words_more s c t [] tc none))

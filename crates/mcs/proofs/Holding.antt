@@ -25,27 +25,57 @@ abbrev pub OwnHoldOf : Sysmod → Option Text → List Piece → Hold → Type 0
 OwnHoldOf s own rest h = (ws : List Word) × HasWords rest ws × IsOwnHoldOf s own ws h
 
 -- A hold that is not the SYSMOD's own keeps out every other.
-pub not_own : (s : Sysmod) (own : Option Text) (rest : List Piece) (ws : List Word) (h : Hold) → HasWords rest ws → IsHoldOf own ws h → ((h.kind ≡ System) × (h.id ≡ s.id) → ⊥) → (x : Hold) → OwnHoldOf s own rest x → ⊥
+pub not_own : (s : Sysmod) (own : Option Text) (rest : List Piece) (ws : List Word) (h : Hold) → HasWords rest ws
+    → IsHoldOf own ws h → ((h.kind ≡ System) × (h.id ≡ s.id) → ⊥) → (x : Hold) → OwnHoldOf s own rest x → ⊥
 not_own s own rest ws h words is other x o =
     let same = words-only rest o.0 ws o.1 words in
     let kinds = kind-only ws h.kind x.kind is.kind (subst (λ l. IsHoldOf own l x) same o.2.hold).kind in
     let ids = own-only IsId IsId own h.id x.id is.id o.2.hold.id in
     other (kinds ∙ o.2.kind, ids ∙ o.2.own_id)
 
-pub own_hold : (s : Sysmod) (own : Option Text) (rest : List Piece) (ws : List Word) (h : Hold) → HasWords rest ws → IsHoldOf own ws h → (h.kind ≡ System) × (h.id ≡ s.id) → IsTrue h.internal → OwnHoldOf s own rest h
-own_hold s own rest ws h words is at internal = (ws, words, record { hold = is; kind = at.0; own_id = at.1; internal = internal })
+pub own_hold : (s : Sysmod) (own : Option Text) (rest : List Piece) (ws : List Word) (h : Hold) → HasWords rest ws
+    → IsHoldOf own ws h → (h.kind ≡ System) × (h.id ≡ s.id) → IsTrue h.internal → OwnHoldOf s own rest h
+own_hold s own rest ws h words is at internal = (
+  ws,
+  words,
+  record {
+    hold = is;
+    kind = at.0;
+    own_id = at.1;
+    internal = internal;
+  },
+)
 
-pub hold_value : (current : Option Begun) (b : Begun) (w : StatementWord) (own : Option Text) (rest : List Piece) (inline : Lines) (h : Hold) → current ≡ Some b → w ≡ word.Hold → OwnHoldOf b.sysmod own rest h → HasValue (sysmod_in current) w own rest inline (SaysHold h)
-hold_value current b w own rest inline h at is o = (o.0, o.1, (is, subst (λ c. IsSomeAnd (sysmod_in c) (λ x. IsOwnHoldOf x own o.0 h)) (sym at) o.2))
+pub hold_value : (current : Option Begun) (b : Begun) (w : StatementWord) (own : Option Text) (rest : List Piece)
+    (inline : Lines) (h : Hold) → current ≡ Some b → w ≡ word.Hold → OwnHoldOf b.sysmod own rest h
+    → HasValue (sysmod_in current) w own rest inline (SaysHold h)
+hold_value current b w own rest inline h at is o = (
+  o.0,
+  o.1,
+  (is, subst (λ c. IsSomeAnd (sysmod_in c) (λ x. IsOwnHoldOf x own o.0 h)) (sym at) o.2),
+)
 
-pub hold_error : (current : Option Begun) (b : Begun) (w : StatementWord) (own : Option Text) (rest : List Piece) (inline : Lines) (error : OperandError) → current ≡ Some b → w ≡ word.Hold → Excludes error ((h : Hold) × OwnHoldOf b.sysmod own rest h) → IsSaidError current w own rest inline (value_error error)
+pub hold_error : (current : Option Begun) (b : Begun) (w : StatementWord) (own : Option Text) (rest : List Piece)
+    (inline : Lines) (error : OperandError) → current ≡ Some b → w ≡ word.Hold
+    → Excludes error ((h : Hold) × OwnHoldOf b.sysmod own rest h)
+    → IsSaidError current w own rest inline (value_error error)
 hold_error current b w own rest inline Memory at is x = tt
 hold_error current b w own rest inline Bad at is x =
-    hold_excludes (sysmod_in current) w own rest inline is (λ ws h k o. x (h, (ws, k, subst (λ c. IsSomeAnd (sysmod_in c) (λ y. IsOwnHoldOf y own ws h)) at o)))
+    hold_excludes (sysmod_in current) w own rest inline is (λ ws h k o.
+    x (h, (ws, k, subst (λ c. IsSomeAnd (sysmod_in c) (λ y. IsOwnHoldOf y own ws h)) at o)))
 
-pub hold_said : (current : Option Begun) (b : Begun) (w : StatementWord) (own : Option Text) (rest : List Piece) (inline : Lines) (h : Hold) → current ≡ Some b → w ≡ word.Hold → OwnHoldOf b.sysmod own rest h → HasShortComment h → IsSaid current w own rest inline (SaysHold h)
-hold_said current b w own rest inline h at is o within = record { value = hold_value current b w own rest inline h at is o; within = within; text = tt }
+pub hold_said : (current : Option Begun) (b : Begun) (w : StatementWord) (own : Option Text) (rest : List Piece)
+    (inline : Lines) (h : Hold) → current ≡ Some b → w ≡ word.Hold → OwnHoldOf b.sysmod own rest h → HasShortComment h
+    → IsSaid current w own rest inline (SaysHold h)
+hold_said current b w own rest inline h at is o within = record {
+  value =
+      hold_value current b w own rest inline h at is o;
+  within = within;
+  text = tt;
+}
 
 -- nothing is said outside a SYSMOD
-pub hold_outside : (current : Option Begun) (w : StatementWord) (own : Option Text) (rest : List Piece) (inline : Lines) → current ≡ None → w ≡ word.Hold → IsSaidError current w own rest inline (value_error Bad)
-hold_outside current w own rest inline at is = hold_excludes (sysmod_in current) w own rest inline is (λ ws h k o. subst (λ c. IsSomeAnd (sysmod_in c) (λ y. IsOwnHoldOf y own ws h)) at o)
+pub hold_outside : (current : Option Begun) (w : StatementWord) (own : Option Text) (rest : List Piece) (inline : Lines)
+    → current ≡ None → w ≡ word.Hold → IsSaidError current w own rest inline (value_error Bad)
+hold_outside current w own rest inline at is = hold_excludes (sysmod_in current) w own rest inline is
+    (λ ws h k o. subst (λ c. IsSomeAnd (sysmod_in c) (λ y. IsOwnHoldOf y own ws h)) at o)

@@ -7,7 +7,8 @@ use Rattle.terms.specs.declared.statement_words.StatementWord.{StatementWord}
 use Rattle.terms.specs.declared.statement_words.StatementWord.TheVariants as word
 use Rattle.terms.specs.Types.{Text, Lines, Sysmod}
 use Rattle.terms.specs.Statement.{Piece}
-use Rattle.terms.specs.Ptfin.{Begun, sysmod_in, MayStand, IsKnown, IsPlaced, IsMisplaced, Disorder, CannotStand, IsGoodStatement}
+use Rattle.terms.specs.Ptfin.{Begun, sysmod_in, MayStand, IsKnown, IsPlaced, IsMisplaced, Disorder, CannotStand}
+use Rattle.terms.specs.Ptfin.{IsGoodStatement}
 use Rattle.mcs.specs.declared.said.Statement.{Statement as Read}
 use Rattle.mcs_statements.specs.declared.fault.StatementError.{StatementError}
 use Rattle.mcs_statements.specs.declared.fault.StatementError.TheVariants.{Memory, Fault}
@@ -15,35 +16,64 @@ use Rattle.mcs.specs.Said.{IsSaid, IsSaidError, IsStatementError}
 use Rattle.mcs.specs.Statements.{statement_of}
 
 -- a statement of a known word in order
-pub record Stands (current : Option Begun) (later records : Lines) (w : StatementWord) (own : Option Text) (rest : List Piece) (inline : Lines) : Type 0 where
+pub record Stands (current : Option Begun) (later records : Lines) (w : StatementWord) (own : Option Text)
+    (rest : List Piece) (inline : Lines) : Type 0 where
   pub known : IsKnown records w own rest inline
   pub placed : IsPlaced (sysmod_in current) later w own inline
 
-pub stands : (current : Option Begun) (later records : Lines) (w : StatementWord) (own : Option Text) (rest : List Piece) (inline : Lines) (b : Bool) → IsKnown records w own rest inline → (IsTrue b ↔ ((why : Disorder) × IsMisplaced (sysmod_in current) later w own inline why)) → b ≡ false → Stands current later records w own rest inline
-stands current later records w own rest inline b known test in_order = record { known = known; placed = λ why m. true≢false (sym (test.1 (why, m)) ∙ in_order) }
+pub stands : (current : Option Begun) (later records : Lines) (w : StatementWord) (own : Option Text)
+    (rest : List Piece) (inline : Lines) (b : Bool) → IsKnown records w own rest inline
+    → (IsTrue b ↔ ((why : Disorder) × IsMisplaced (sysmod_in current) later w own inline why)) → b ≡ false
+    → Stands current later records w own rest inline
+stands current later records w own rest inline b known test in_order =
+    record { known = known; placed = λ why m. true≢false (sym (test.1 (why, m)) ∙ in_order) }
 
-pub good_statement : (current : Option Begun) (later records : Lines) (w : StatementWord) (own : Option Text) (rest : List Piece) (inline : Lines) (r : Result Read StatementError) → Stands current later records w own rest inline → IfOk r (λ s. IsSaid current w own rest inline (statement_of s)) → IfOk r (λ s. IsGoodStatement current later records (statement_of s))
-good_statement current later records w own rest inline (Ok s) at said = (w, own, rest, inline, at.known, record { placed = at.placed; value = said.value; within = said.within; text = said.text })
+pub good_statement : (current : Option Begun) (later records : Lines) (w : StatementWord) (own : Option Text)
+    (rest : List Piece) (inline : Lines) (r : Result Read StatementError)
+    → Stands current later records w own rest inline → IfOk r (λ s. IsSaid current w own rest inline (statement_of s))
+    → IfOk r (λ s. IsGoodStatement current later records (statement_of s))
+good_statement current later records w own rest inline (Ok s) at said = (
+  w,
+  own,
+  rest,
+  inline,
+  at.known,
+  record {
+    placed = at.placed;
+    value = said.value;
+    within = said.within;
+    text = said.text;
+  },
+)
 good_statement current later records w own rest inline (Err e) at said = tt
 
-error_of : (current : Option Begun) (later records : Lines) (w : StatementWord) (own : Option Text) (rest : List Piece) (inline : Lines) (e : StatementError) → Stands current later records w own rest inline → IsSaidError current w own rest inline e → IsStatementError current later records e
+error_of : (current : Option Begun) (later records : Lines) (w : StatementWord) (own : Option Text) (rest : List Piece)
+    (inline : Lines) (e : StatementError) → Stands current later records w own rest inline
+    → IsSaidError current w own rest inline e → IsStatementError current later records e
 error_of current later records w own rest inline Memory at f = tt
 error_of current later records w own rest inline (Fault Mc1) at f = absurd f
 error_of current later records w own rest inline (Fault Mc2) at f = absurd f
 error_of current later records w own rest inline (Fault Mc3) at f = (w, own, rest, inline, at.known, (at.placed, f))
 error_of current later records w own rest inline (Fault Mc4) at f = absurd f
-error_of current later records w own rest inline (Fault Mc5) at f = (w, own, rest, inline, at.known, (f.0, at.placed, f.1, f.2, f.3))
-error_of current later records w own rest inline (Fault Mc6) at f = (w, own, rest, inline, at.known, (f.0, at.placed, f.1, f.2))
+error_of current later records w own rest inline (Fault Mc5) at f =
+    (w, own, rest, inline, at.known, (f.0, at.placed, f.1, f.2, f.3))
+error_of current later records w own rest inline (Fault Mc6) at f =
+    (w, own, rest, inline, at.known, (f.0, at.placed, f.1, f.2))
 
-pub bad_statement : (current : Option Begun) (later records : Lines) (w : StatementWord) (own : Option Text) (rest : List Piece) (inline : Lines) (r : Result Read StatementError) → Stands current later records w own rest inline → IfErr r (IsSaidError current w own rest inline) → IfErr r (IsStatementError current later records)
+pub bad_statement : (current : Option Begun) (later records : Lines) (w : StatementWord) (own : Option Text)
+    (rest : List Piece) (inline : Lines) (r : Result Read StatementError)
+    → Stands current later records w own rest inline → IfErr r (IsSaidError current w own rest inline)
+    → IfErr r (IsStatementError current later records)
 bad_statement current later records w own rest inline (Ok s) at f = tt
-bad_statement current later records w own rest inline (Err e) at f = error_of current later records w own rest inline e at f
+bad_statement current later records w own rest inline (Err e) at f =
+    error_of current later records w own rest inline e at f
 
 may_not_release : (s : Option Sysmod) → MayStand s word.Release → ⊥
 may_not_release None h = h
 may_not_release (Some s) h = h
 
 -- ++RELEASE stands nowhere.
-pub no_release : (current : Option Begun) (later records : Lines) (w : StatementWord) (own : Option Text) (rest : List Piece) (inline : Lines) → Stands current later records w own rest inline → w ≡ word.Release → ⊥
+pub no_release : (current : Option Begun) (later records : Lines) (w : StatementWord) (own : Option Text)
+    (rest : List Piece) (inline : Lines) → Stands current later records w own rest inline → w ≡ word.Release → ⊥
 no_release current later records w own rest inline at is =
     at.placed CannotStand (λ may. may_not_release (sysmod_in current) (subst (MayStand (sysmod_in current)) is may))

@@ -11,25 +11,39 @@ use Rattle.terms.specs.Forms.{IsId}
 use Rattle.terms.specs.Statement.{Piece}
 use Rattle.terms.specs.Words.{Word, word_pieces, HasWords}
 use Rattle.terms.specs.Operands.{HasOwn}
-use Rattle.terms.specs.Statements.{changed_type, Statement, SaysHeader, SaysVer, SaysIf, SaysHold, SaysAssign, SaysChange, IsVerOf, IsIfOf, IsOwnHoldOf, IsAssignOf, IsChangeOf}
+use Rattle.terms.specs.Statements.{changed_type, Statement, SaysHeader, SaysVer, SaysIf, SaysHold, SaysAssign}
+use Rattle.terms.specs.Statements.{SaysChange, IsVerOf, IsIfOf, IsOwnHoldOf, IsAssignOf, IsChangeOf}
 use Rattle.terms.specs.Ptfin.{Begun, HasValue}
 use Rattle.mcs.specs.Said.{IsSaid}
 
-no_change : (w : StatementWord) (own : Option Text) (ws : List Word) (inline : Lines) (c : Change) → changed_type w ≡ None → IsChangeOf w own ws inline c → ⊥
+no_change : (w : StatementWord) (own : Option Text) (ws : List Word) (inline : Lines) (c : Change)
+    → changed_type w ≡ None → IsChangeOf w own ws inline c → ⊥
 no_change w own ws inline c none h = cc (none, h.type_is)
 
-pub header_said : (current : Option Begun) (w : StatementWord) (own : Option Text) (rest : List Piece) (inline : Lines) (kind : Kind) (id : Id) → w ≡ word.Header kind → HasOwn IsId own id → rest ≡ [] → IsSaid current w own rest inline (SaysHeader kind id)
-header_said current w own rest inline kind id is h none = record { value = ([], none, (is, (h, refl))); within = tt; text = tt }
+pub header_said : (current : Option Begun) (w : StatementWord) (own : Option Text) (rest : List Piece) (inline : Lines)
+    (kind : Kind) (id : Id) → w ≡ word.Header kind → HasOwn IsId own id → rest ≡ []
+    → IsSaid current w own rest inline (SaysHeader kind id)
+header_said current w own rest inline kind id is h none = record {
+  value = ([], none, (is, (h, refl)));
+  within = tt;
+  text = tt;
+}
 
-pub header_excludes : (current : Option Sysmod) (w : StatementWord) (own : Option Text) (rest : List Piece) (inline : Lines) (kind : Kind) → w ≡ word.Header kind → ((id : Id) → HasOwn IsId own id → rest ≡ [] → ⊥) → (s : Statement) → HasValue current w own rest inline s → ⊥
-header_excludes current w own rest inline kind is none (SaysHeader k id) v = none id v.2.1.0 (v.1 ∙ ap (flat_map word_pieces) v.2.1.1)
+pub header_excludes : (current : Option Sysmod) (w : StatementWord) (own : Option Text) (rest : List Piece)
+    (inline : Lines) (kind : Kind) → w ≡ word.Header kind → ((id : Id) → HasOwn IsId own id → rest ≡ [] → ⊥)
+    → (s : Statement) → HasValue current w own rest inline s → ⊥
+header_excludes current w own rest inline kind is none (SaysHeader k id) v =
+    none id v.2.1.0 (v.1 ∙ ap (flat_map word_pieces) v.2.1.1)
 header_excludes current w own rest inline kind is none (SaysVer x) v = absurd (cc (is, v.2.0))
 header_excludes current w own rest inline kind is none (SaysIf x) v = absurd (cc (is, v.2.0))
 header_excludes current w own rest inline kind is none (SaysHold x) v = absurd (cc (is, v.2.0))
 header_excludes current w own rest inline kind is none (SaysAssign x) v = absurd (cc (is, v.2.0))
-header_excludes current w own rest inline kind is none (SaysChange c) v = no_change w own v.0 inline c (ap changed_type is) v.2
+header_excludes current w own rest inline kind is none (SaysChange c) v =
+    no_change w own v.0 inline c (ap changed_type is) v.2
 
-pub ver_excludes : (current : Option Sysmod) (w : StatementWord) (own : Option Text) (rest : List Piece) (inline : Lines) → w ≡ word.Ver → ((ws : List Word) (v : Ver) → HasWords rest ws → IsSomeAnd current (λ s. IsVerOf s own ws v) → ⊥) → (s : Statement) → HasValue current w own rest inline s → ⊥
+pub ver_excludes : (current : Option Sysmod) (w : StatementWord) (own : Option Text) (rest : List Piece)
+    (inline : Lines) → w ≡ word.Ver → ((ws : List Word) (v : Ver) → HasWords rest ws
+    → IsSomeAnd current (λ s. IsVerOf s own ws v) → ⊥) → (s : Statement) → HasValue current w own rest inline s → ⊥
 ver_excludes current w own rest inline is none (SaysHeader k id) v = absurd (cc (is, v.2.0))
 ver_excludes current w own rest inline is none (SaysVer x) v = none v.0 x v.1 v.2.1
 ver_excludes current w own rest inline is none (SaysIf x) v = absurd (cc (is, v.2.0))
@@ -37,7 +51,9 @@ ver_excludes current w own rest inline is none (SaysHold x) v = absurd (cc (is, 
 ver_excludes current w own rest inline is none (SaysAssign x) v = absurd (cc (is, v.2.0))
 ver_excludes current w own rest inline is none (SaysChange c) v = no_change w own v.0 inline c (ap changed_type is) v.2
 
-pub if_excludes : (current : Option Sysmod) (w : StatementWord) (own : Option Text) (rest : List Piece) (inline : Lines) → w ≡ word.If → ((ws : List Word) (i : IfReq) → HasWords rest ws → IsSomeAnd current (λ s. IsIfOf s own ws i) → ⊥) → (s : Statement) → HasValue current w own rest inline s → ⊥
+pub if_excludes : (current : Option Sysmod) (w : StatementWord) (own : Option Text) (rest : List Piece) (inline : Lines)
+    → w ≡ word.If → ((ws : List Word) (i : IfReq) → HasWords rest ws → IsSomeAnd current (λ s. IsIfOf s own ws i) → ⊥)
+    → (s : Statement) → HasValue current w own rest inline s → ⊥
 if_excludes current w own rest inline is none (SaysHeader k id) v = absurd (cc (is, v.2.0))
 if_excludes current w own rest inline is none (SaysVer x) v = absurd (cc (is, v.2.0))
 if_excludes current w own rest inline is none (SaysIf x) v = none v.0 x v.1 v.2.1
@@ -45,7 +61,9 @@ if_excludes current w own rest inline is none (SaysHold x) v = absurd (cc (is, v
 if_excludes current w own rest inline is none (SaysAssign x) v = absurd (cc (is, v.2.0))
 if_excludes current w own rest inline is none (SaysChange c) v = no_change w own v.0 inline c (ap changed_type is) v.2
 
-pub hold_excludes : (current : Option Sysmod) (w : StatementWord) (own : Option Text) (rest : List Piece) (inline : Lines) → w ≡ word.Hold → ((ws : List Word) (h : Hold) → HasWords rest ws → IsSomeAnd current (λ s. IsOwnHoldOf s own ws h) → ⊥) → (s : Statement) → HasValue current w own rest inline s → ⊥
+pub hold_excludes : (current : Option Sysmod) (w : StatementWord) (own : Option Text) (rest : List Piece)
+    (inline : Lines) → w ≡ word.Hold → ((ws : List Word) (h : Hold) → HasWords rest ws
+    → IsSomeAnd current (λ s. IsOwnHoldOf s own ws h) → ⊥) → (s : Statement) → HasValue current w own rest inline s → ⊥
 hold_excludes current w own rest inline is none (SaysHeader k id) v = absurd (cc (is, v.2.0))
 hold_excludes current w own rest inline is none (SaysVer x) v = absurd (cc (is, v.2.0))
 hold_excludes current w own rest inline is none (SaysIf x) v = absurd (cc (is, v.2.0))
@@ -53,16 +71,22 @@ hold_excludes current w own rest inline is none (SaysHold x) v = none v.0 x v.1 
 hold_excludes current w own rest inline is none (SaysAssign x) v = absurd (cc (is, v.2.0))
 hold_excludes current w own rest inline is none (SaysChange c) v = no_change w own v.0 inline c (ap changed_type is) v.2
 
-pub assign_excludes : (current : Option Sysmod) (w : StatementWord) (own : Option Text) (rest : List Piece) (inline : Lines) → w ≡ word.Assign → ((ws : List Word) (a : Assign) → HasWords rest ws → IsAssignOf own ws a → ⊥) → (s : Statement) → HasValue current w own rest inline s → ⊥
+pub assign_excludes : (current : Option Sysmod) (w : StatementWord) (own : Option Text) (rest : List Piece)
+    (inline : Lines) → w ≡ word.Assign → ((ws : List Word) (a : Assign) → HasWords rest ws → IsAssignOf own ws a → ⊥)
+    → (s : Statement) → HasValue current w own rest inline s → ⊥
 assign_excludes current w own rest inline is none (SaysHeader k id) v = absurd (cc (is, v.2.0))
 assign_excludes current w own rest inline is none (SaysVer x) v = absurd (cc (is, v.2.0))
 assign_excludes current w own rest inline is none (SaysIf x) v = absurd (cc (is, v.2.0))
 assign_excludes current w own rest inline is none (SaysHold x) v = absurd (cc (is, v.2.0))
 assign_excludes current w own rest inline is none (SaysAssign x) v = none v.0 x v.1 v.2.1
-assign_excludes current w own rest inline is none (SaysChange c) v = no_change w own v.0 inline c (ap changed_type is) v.2
+assign_excludes current w own rest inline is none (SaysChange c) v =
+    no_change w own v.0 inline c (ap changed_type is) v.2
 
 -- of a word that changes an element
-pub change_excludes : (current : Option Sysmod) (w : StatementWord) (own : Option Text) (rest : List Piece) (inline : Lines) (type : ElemType) → changed_type w ≡ Some type → ((ws : List Word) (c : Change) → HasWords rest ws → IsChangeOf w own ws inline c → ⊥) → (s : Statement) → HasValue current w own rest inline s → ⊥
+pub change_excludes : (current : Option Sysmod) (w : StatementWord) (own : Option Text) (rest : List Piece)
+    (inline : Lines) (type : ElemType) → changed_type w ≡ Some type
+    → ((ws : List Word) (c : Change) → HasWords rest ws → IsChangeOf w own ws inline c → ⊥) → (s : Statement)
+    → HasValue current w own rest inline s → ⊥
 change_excludes current w own rest inline type is none (SaysHeader k id) v = absurd (cc (is, ap changed_type v.2.0))
 change_excludes current w own rest inline type is none (SaysVer x) v = absurd (cc (is, ap changed_type v.2.0))
 change_excludes current w own rest inline type is none (SaysIf x) v = absurd (cc (is, ap changed_type v.2.0))

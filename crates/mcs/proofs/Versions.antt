@@ -27,7 +27,8 @@ pub record HasVer (own : Option Text) (ws : List Word) (v : Ver) : Type 0 where
   pub has_lists : HasLists ws v.pre v.req v.sup v.npre v.del
   pub no_ifs : v.ifs ≡ []
 
-pub ver_is : (s : Sysmod) (own : Option Text) (ws : List Word) (v : Ver) → HasVer own ws v → AreOperands ver_operands ws → SuitsKind s.kind ws → v.fmid ≢ Some s.id → All (λ ids. Contains ids s.id → ⊥) (lists_of v) → IsVerOf s own ws v
+pub ver_is : (s : Sysmod) (own : Option Text) (ws : List Word) (v : Ver) → HasVer own ws v → AreOperands ver_operands ws
+    → SuitsKind s.kind ws → v.fmid ≢ Some s.id → All (λ ids. Contains ids s.id → ⊥) (lists_of v) → IsVerOf s own ws v
 ver_is s own ws v h are suits fmid others = record {
   srel = h.has_srel;
   are_operands = are;
@@ -43,15 +44,18 @@ ver_is s own ws v h are suits fmid others = record {
   no_ifs = h.no_ifs;
 }
 
-pub lists_in : (s : Sysmod) (own : Option Text) (ws : List Word) (v : Ver) → IsVerOf s own ws v → HasLists ws v.pre v.req v.sup v.npre v.del
+pub lists_in : (s : Sysmod) (own : Option Text) (ws : List Word) (v : Ver) → IsVerOf s own ws v
+    → HasLists ws v.pre v.req v.sup v.npre v.del
 lists_in s own ws v i = record { has_pre = i.pre; has_req = i.req; has_sup = i.sup; has_npre = i.npre; has_del = i.del }
 
 -- The FMID is determined.
-pub fmid_is : (s : Sysmod) (own : Option Text) (ws : List Word) (v w : Ver) → IsVerOf s own ws v → HasVer own ws w → w.fmid ≡ v.fmid
+pub fmid_is : (s : Sysmod) (own : Option Text) (ws : List Word) (v w : Ver) → IsVerOf s own ws v → HasVer own ws w
+    → w.fmid ≡ v.fmid
 fmid_is s own ws v w i h = optional-only IsId (operand (codes "FMID") ws) w.fmid v.fmid h.has_fmid i.fmid
 
 -- So are the lists.
-pub lists_are : (s : Sysmod) (own : Option Text) (ws : List Word) (v w : Ver) → IsVerOf s own ws v → HasVer own ws w → lists_of w ≡ lists_of v
+pub lists_are : (s : Sysmod) (own : Option Text) (ws : List Word) (v w : Ver) → IsVerOf s own ws v → HasVer own ws w
+    → lists_of w ≡ lists_of v
 lists_are s own ws v w i h =
     let a = texts-only IsId (operand (codes "PRE") ws) w.pre v.pre h.has_lists.has_pre i.pre in
     let b = texts-only IsId (operand (codes "REQ") ws) w.req v.req h.has_lists.has_req i.req in
@@ -60,22 +64,34 @@ lists_are s own ws v w i h =
     let e = texts-only IsId (operand (codes "DELETE") ws) w.del v.del h.has_lists.has_del i.del in
     cc (a, b, c, d, e)
 
-pub ver_value : (current : Option Begun) (b : Begun) (w : StatementWord) (own : Option Text) (rest : List Piece) (inline : Lines) (ws : List Word) (v : Ver) → current ≡ Some b → w ≡ word.Ver → HasWords rest ws → IsVerOf b.sysmod own ws v → HasValue (sysmod_in current) w own rest inline (SaysVer v)
-ver_value current b w own rest inline ws v at is h i = (ws, h, (is, subst (λ c. IsSomeAnd (sysmod_in c) (λ x. IsVerOf x own ws v)) (sym at) i))
+pub ver_value : (current : Option Begun) (b : Begun) (w : StatementWord) (own : Option Text) (rest : List Piece)
+    (inline : Lines) (ws : List Word) (v : Ver) → current ≡ Some b → w ≡ word.Ver → HasWords rest ws
+    → IsVerOf b.sysmod own ws v → HasValue (sysmod_in current) w own rest inline (SaysVer v)
+ver_value current b w own rest inline ws v at is h i = (
+  ws,
+  h,
+  (is, subst (λ c. IsSomeAnd (sysmod_in c) (λ x. IsVerOf x own ws v)) (sym at) i),
+)
 
-pub ver_error : (current : Option Begun) (b : Begun) (w : StatementWord) (own : Option Text) (rest : List Piece) (inline : Lines) (ws : List Word) (error : OperandError) → current ≡ Some b → w ≡ word.Ver → HasWords rest ws → Excludes error ((v : Ver) × IsVerOf b.sysmod own ws v) → IsSaidError current w own rest inline (value_error error)
+pub ver_error : (current : Option Begun) (b : Begun) (w : StatementWord) (own : Option Text) (rest : List Piece)
+    (inline : Lines) (ws : List Word) (error : OperandError) → current ≡ Some b → w ≡ word.Ver → HasWords rest ws
+    → Excludes error ((v : Ver) × IsVerOf b.sysmod own ws v) → IsSaidError current w own rest inline (value_error error)
 ver_error current b w own rest inline ws Memory at is h x = tt
 ver_error current b w own rest inline ws Bad at is h x =
     ver_excludes (sysmod_in current) w own rest inline is (λ ws' v h' i.
     let here : IsVerOf b.sysmod own ws' v = subst (λ c. IsSomeAnd (sysmod_in c) (λ y. IsVerOf y own ws' v)) at i in
     x (v, subst (λ l. IsVerOf b.sysmod own l v) (words-only rest ws' ws h' h) here))
 
-pub ver_said : (current : Option Begun) (b : Begun) (w : StatementWord) (own : Option Text) (rest : List Piece) (inline : Lines) (ws : List Word) (v : Ver) → current ≡ Some b → w ≡ word.Ver → HasWords rest ws → IsVerOf b.sysmod own ws v → (length b.sysmod.vers < 8) × All IsShort (lists_of v) → IsSaid current w own rest inline (SaysVer v)
+pub ver_said : (current : Option Begun) (b : Begun) (w : StatementWord) (own : Option Text) (rest : List Piece)
+    (inline : Lines) (ws : List Word) (v : Ver) → current ≡ Some b → w ≡ word.Ver → HasWords rest ws
+    → IsVerOf b.sysmod own ws v → (length b.sysmod.vers < 8) × All IsShort (lists_of v)
+    → IsSaid current w own rest inline (SaysVer v)
 ver_said current b w own rest inline ws v at is h i within = record {
   value = ver_value current b w own rest inline ws v at is h i;
   within = (subst (λ c. IfSome c (λ x. length x.sysmod.vers < 8)) (sym at) within.0, within.1);
   text = tt;
 }
 
-pub ver_within : (current : Option Begun) (b : Begun) (v : Ver) (inline : Lines) → current ≡ Some b → IsWithin current (SaysVer v) inline → (length b.sysmod.vers < 8) × All IsShort (lists_of v)
+pub ver_within : (current : Option Begun) (b : Begun) (v : Ver) (inline : Lines) → current ≡ Some b
+    → IsWithin current (SaysVer v) inline → (length b.sysmod.vers < 8) × All IsShort (lists_of v)
 ver_within current b v inline at h = (subst (λ c. IfSome c (λ x. length x.sysmod.vers < 8)) at h.0, h.1)

@@ -44,4 +44,5 @@ abbrev pub IsRestError : ptfin.SoFar → ℕ → Lines → McsError → Type 0
 IsRestError c n records Memory = Unit {0}
 IsRestError c n records (Fault number code) =
     (ss : List Statement) × (d : ptfin.SoFar) × (m : ℕ) × (rest : Lines)
-    × ptfin.BeginsWithStatements c n records ss d m rest × ptfin.IsNextFault d m rest (record { number = number; code = code })
+    × ptfin.BeginsWithStatements c n records ss d m rest × ptfin.IsNextFault d m rest
+    (record { number = number; code = code })

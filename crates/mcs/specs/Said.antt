@@ -19,7 +19,8 @@ use Rattle.mcs_statements.specs.declared.fault.StatementError.{StatementError}
 use Rattle.mcs_statements.specs.declared.fault.StatementError.TheVariants.{Memory, Fault}
 
 -- The statement says so, within its limits and with a good text.
-pub record IsSaid (current : Option Begun) (w : StatementWord) (own : Option Text) (rest : List Piece) (inline : Lines) (s : Statement) : Type 0 where
+pub record IsSaid (current : Option Begun) (w : StatementWord) (own : Option Text) (rest : List Piece) (inline : Lines)
+    (s : Statement) : Type 0 where
   pub value : HasValue (sysmod_in current) w own rest inline s
   pub within : IsWithin current s inline
   pub text : HasGoodText s
@@ -27,7 +28,8 @@ pub record IsSaid (current : Option Begun) (w : StatementWord) (own : Option Tex
 -- It says nothing, or too much, or its text is bad.
 abbrev pub IsSaidFault : Option Begun → StatementWord → Option Text → List Piece → Lines → McCode → Type 0
 IsSaidFault current w own rest inline Mc3 = (s : Statement) → ¬ HasValue (sysmod_in current) w own rest inline s
-IsSaidFault current w own rest inline Mc6 = (s : Statement) × HasValue (sysmod_in current) w own rest inline s × (¬ IsWithin current s inline)
+IsSaidFault current w own rest inline Mc6 = (s : Statement) × HasValue (sysmod_in current) w own rest inline s
+    × (¬ IsWithin current s inline)
 IsSaidFault current w own rest inline Mc5 =
     (s : Statement) × HasValue (sysmod_in current) w own rest inline s × IsWithin current s inline × (¬ HasGoodText s)
 IsSaidFault current w own rest inline _ = ⊥
@@ -45,7 +47,8 @@ IsStatementError current later records (Fault code) = IsStatementFault current l
 abbrev pub Says : Option file.Begun → Known → Result Said StatementError → Type 0
 Says current known result =
     (rest : List Piece) → HasSolid (left_of known.rest) rest
-    → IfOk result (λ s. IsSaid (begun_in current) known.word (own_list known) rest known.rest.inline.now (statement_of s))
+    → IfOk result (λ s. IsSaid (begun_in current) known.word (own_list known) rest known.rest.inline.now
+    (statement_of s))
 
 -- It says nothing, and the error is its first fault, or want of memory.
 abbrev pub Fails : Option file.Begun → Known → Result Said StatementError → Type 0

@@ -1,7 +1,8 @@
 ghost use Rattle.std.specs.Prelude.{◌≡◌, ◌++◌, ◌∷◌, [], IfOk, option_map};
 ghost use Rattle.terms.specs.Types.{AnAssign};
 ghost use Rattle.terms.specs.Statements.{SaysHold};
-ghost use Rattle.terms.specs.Ptfin.{nothing, after, items_of, with_ver as begun_with_ver, with_if as begun_with_if, with_hold as begun_with_hold, with_change as begun_with_change};
+ghost use Rattle.terms.specs.Ptfin.{nothing, after, items_of, with_ver as begun_with_ver, with_if as begun_with_if};
+ghost use Rattle.terms.specs.Ptfin.{with_hold as begun_with_hold, with_change as begun_with_change};
 ghost use Rattle.mcs.specs.Statements.{statement_of};
 ghost use Rattle.mcs.specs.Files.{Suits, begun_in, so_far, items};
 

@@ -11,7 +11,8 @@ use Rattle.terms.proofs.ExactOperands.{has_member, one_of}
 use Rattle.terms.proofs.ExactHolds.{kind-only}
 use Rattle.mcs_statements.specs.Holds.{HasKey}
 
-pub release_is : (own : Option Text) (ws : List Word) (r : Release) → AreOperands release_operands ws → HasKey own ws r → IsReleaseOf own ws r
+pub release_is : (own : Option Text) (ws : List Word) (r : Release) → AreOperands release_operands ws → HasKey own ws r
+    → IsReleaseOf own ws r
 release_is own ws r are k = record { id = k.id; are_operands = are; kind = k.kind; fmid = k.fmid; reason = k.reason }
 
 abbrev pub key_of : Hold → Release
@@ -21,8 +22,11 @@ pub hold_key : (own : Option Text) (ws : List Word) (h : Hold) → IsHoldOf own 
 hold_key own ws h i = record { id = i.id; kind = i.kind; fmid = i.fmid; reason = i.reason }
 
 -- A reason that is none of one kind is none of the statement's.
-pub reason_of : (own : Option Text) (ws : List Word) (found : Option Word) (kind : HoldKind) (r : Release) → HasKind ws kind → HasKind ws r.kind → HasRequired (IsReason r.kind) found r.reason → HasRequired (IsReason kind) found r.reason
-reason_of own ws found kind r h k reason = subst (λ x. HasRequired (IsReason x) found r.reason) (kind-only ws r.kind kind k h) reason
+pub reason_of : (own : Option Text) (ws : List Word) (found : Option Word) (kind : HoldKind) (r : Release)
+    → HasKind ws kind → HasKind ws r.kind → HasRequired (IsReason r.kind) found r.reason
+    → HasRequired (IsReason kind) found r.reason
+reason_of own ws found kind r h k reason = subst (λ x. HasRequired (IsReason x) found r.reason)
+    (kind-only ws r.kind kind k h) reason
 
 -- A reason of a kind has the form of any reason.
 class_of : (kind : HoldKind) (t : Text) → IsReason kind t → IsClass t
@@ -31,14 +35,17 @@ class_of System t h = h
 class_of User t h = h
 
 module _ (kind : HoldKind) where
-  pub reason_class : (found : Option Word) (v : Text) → HasRequired (IsReason kind) found v → HasRequired IsClass found v
+  pub reason_class : (found : Option Word) (v : Text) → HasRequired (IsReason kind) found v
+      → HasRequired IsClass found v
   reason_class None v h = absurd h
-  reason_class (Some w) v h = let k = has_member (IsReason kind) w.list v h in one_of IsClass w.list v k.0 (class_of kind v k.1)
+  reason_class (Some w) v h = let k = has_member (IsReason kind) w.list v h
+      in one_of IsClass w.list v k.0 (class_of kind v k.1)
 
   pub reason_form : (found : Option Word) (v : Text) → HasRequired (IsReason kind) found v → IsReason kind v
   reason_form None v h = absurd h
   reason_form (Some w) v h = (has_member (IsReason kind) w.list v h).1
 
-  pub class_reason : (found : Option Word) (v : Text) → HasRequired IsClass found v → IsReason kind v → HasRequired (IsReason kind) found v
+  pub class_reason : (found : Option Word) (v : Text) → HasRequired IsClass found v → IsReason kind v
+      → HasRequired (IsReason kind) found v
   class_reason None v h f = absurd h
   class_reason (Some w) v h f = one_of (IsReason kind) w.list v (has_member IsClass w.list v h).0 f

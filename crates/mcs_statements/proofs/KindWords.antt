@@ -23,7 +23,8 @@ there name ws h = by (operand name ws) refl h
   where
     by : (found : Option Word) → operand name ws ≡ found → HasFlag found true → operand name ws ≡ Some (plain name)
     by None e flag = absurd (true≢false flag)
-    by (Some w) e flag = e ∙ ap (λ x. Some x) (plain_is name w (same_from w.word name (find-passes (λ x. bytes_eq x.word name) ws w e)) flag.1)
+    by (Some w) e flag = e ∙ ap (λ x. Some x) (plain_is name w
+        (same_from w.word name (find-passes (λ x. bytes_eq x.word name) ws w e)) flag.1)
 
 absent : (found : Option Word) → HasFlag found false → found ≡ None
 absent None flag = refl
@@ -35,7 +36,8 @@ pub record HasFlags (ws : List Word) (error system user : Bool) : Type 0 where
   pub system_flag : HasFlag (operand (codes "SYSTEM") ws) system
   pub user_flag : HasFlag (operand (codes "USER") ws) user
 
-pub kind_is : (ws : List Word) (error system user : Bool) → HasFlags ws error system user → IfSome (kind_from error system user) (λ kind. HasKind ws kind)
+pub kind_is : (ws : List Word) (error system user : Bool) → HasFlags ws error system user
+    → IfSome (kind_from error system user) (λ kind. HasKind ws kind)
 kind_is ws true false false f = record { there = there (codes "ERROR") ws f.error_flag; alone = alone }
   where
     alone : (other : HoldKind) → other ≢ Error → operand (hold_text other) ws ≡ None
@@ -74,7 +76,8 @@ lacks : (found : Option Word) → found ≡ None → HasFlag found false
 lacks found e = subst (λ o. HasFlag o false) (sym e) refl
 
 -- Where there is one kind word, each of the three has a flag.
-pub kind_flag : (ws : List Word) (kind other : HoldKind) → HasKind ws kind → HasFlag (operand (hold_text other) ws) (is_kind kind other)
+pub kind_flag : (ws : List Word) (kind other : HoldKind) → HasKind ws kind
+    → HasFlag (operand (hold_text other) ws) (is_kind kind other)
 kind_flag ws Error Error h = stands (codes "ERROR") _ h.there
 kind_flag ws Error System h = lacks _ (h.alone System (λ e. cc (e)))
 kind_flag ws Error User h = lacks _ (h.alone User (λ e. cc (e)))
@@ -91,16 +94,20 @@ from_own System = refl
 from_own User = refl
 
 -- and the kind is read from them.
-pub kind_found : (ws : List Word) (error system user : Bool) (kind : HoldKind) → HasFlags ws error system user → HasKind ws kind → kind_from error system user ≡ Some kind
+pub kind_found : (ws : List Word) (error system user : Bool) (kind : HoldKind) → HasFlags ws error system user
+    → HasKind ws kind → kind_from error system user ≡ Some kind
 kind_found ws error system user kind f h =
     let a : error ≡ is_kind kind Error = flag-only (operand (codes "ERROR") ws) error (is_kind kind Error) f.error_flag (kind_flag ws kind Error h) in
     let b : system ≡ is_kind kind System = flag-only (operand (codes "SYSTEM") ws) system (is_kind kind System) f.system_flag (kind_flag ws kind System h) in
     let c : user ≡ is_kind kind User = flag-only (operand (codes "USER") ws) user (is_kind kind User) f.user_flag (kind_flag ws kind User h) in
-    ap (λ x. kind_from x system user) a ∙ ap (λ x. kind_from (is_kind kind Error) x user) b ∙ ap (λ x. kind_from (is_kind kind Error) (is_kind kind System) x) c ∙ from_own kind
+    ap (λ x. kind_from x system user) a ∙ ap (λ x. kind_from (is_kind kind Error) x user) b
+    ∙ ap (λ x. kind_from (is_kind kind Error) (is_kind kind System) x) c ∙ from_own kind
 
-pub kind_none : (ws : List Word) (error system user : Bool) → HasFlags ws error system user → IfNone (kind_from error system user) ((kind : HoldKind) → HasKind ws kind → ⊥)
+pub kind_none : (ws : List Word) (error system user : Bool) → HasFlags ws error system user
+    → IfNone (kind_from error system user) ((kind : HoldKind) → HasKind ws kind → ⊥)
 kind_none ws error system user f = by (kind_from error system user) refl
   where
-    by : (found : Option HoldKind) → kind_from error system user ≡ found → IfNone found ((kind : HoldKind) → HasKind ws kind → ⊥)
+    by : (found : Option HoldKind) → kind_from error system user ≡ found
+        → IfNone found ((kind : HoldKind) → HasKind ws kind → ⊥)
     by (Some k) e = tt
     by None e = λ kind h. absurd (cc (sym (kind_found ws error system user kind f h) ∙ e))

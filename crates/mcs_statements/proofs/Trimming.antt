@@ -11,11 +11,13 @@ use Rattle.terms.specs.Forms.{AreBlanks, BeginsDark, IsTrimmed}
 use Rattle.lemmas.proofs.Each.{All-front, All-back}
 use Rattle.mcs_statements.specs.Trimmed.{SkipsBlanks, DropsBlanks}
 
-pub skips_more : (text rest next : Text) (b : ℕ) → SkipsBlanks text rest → rest ≡ b ∷ next → b ≡ 32 → SkipsBlanks text next
+pub skips_more : (text rest next : Text) (b : ℕ) → SkipsBlanks text rest → rest ≡ b ∷ next → b ≡ 32
+    → SkipsBlanks text next
 skips_more text rest next b s e blank = record {
   left = s.left ++ b ∷ [];
   text_is = s.text_is ∙ ap (λ r. s.left ++ r) e ∙ sym (append_assoc s.left (b ∷ []) next);
-  blanks = All-append (λ c. c ≡ 32) s.left (b ∷ []) s.blanks (All-cons (λ c. c ≡ 32) b [] blank (All-nil (λ c. c ≡ 32)));
+  blanks = All-append (λ c. c ≡ 32) s.left (b ∷ []) s.blanks
+      (All-cons (λ c. c ≡ 32) b [] blank (All-nil (λ c. c ≡ 32)));
 }
 
 turned : (text : Text) → reverse text ≡ [] → text ≡ []
@@ -31,10 +33,12 @@ no_dark [] h d = d
 no_dark (b ∷ cut) h d = d (All-head (λ c. c ≡ 32) b cut h)
 
 -- A text of blanks alone has no cut.
-pub no_cut : (text inner cut other : Text) → SkipsBlanks text inner → DropsBlanks inner cut → cut ≡ [] → IsTrimmed text other → ⊥
+pub no_cut : (text inner cut other : Text) → SkipsBlanks text inner → DropsBlanks inner cut → cut ≡ []
+    → IsTrimmed text other → ⊥
 no_cut text inner cut other s d none t =
     let inner_is : inner ≡ d.right = d.text_is ∙ ap (λ c. c ++ d.right) none in
-    let all : AreBlanks text = subst AreBlanks (sym (s.text_is ∙ ap (λ r. s.left ++ r) inner_is)) (All-append (λ c. c ≡ 32) s.left d.right s.blanks d.blanks) in
+    let all : AreBlanks text = subst AreBlanks (sym (s.text_is ∙ ap (λ r. s.left ++ r) inner_is))
+    (All-append (λ c. c ≡ 32) s.left d.right s.blanks d.blanks) in
     let front = All-front (λ c. c ≡ 32) (t.0 ++ other) t.1 (subst AreBlanks t.2 all) in
     no_dark other (All-back (λ c. c ≡ 32) t.0 other front) t.5
 

@@ -11,7 +11,8 @@ abbrev pub HasOneMember : Option Text → Text → Type 0
 HasOneMember own m = IsSomeAnd own (λ text. HasMembers text (plain m ∷ []))
 
 pub read_one : {X : Type 0} (form : Text → Type 0) (spelled : X → Text) (own : Option Text) (m : Text) (o : Option X)
-    → HasOneMember own m → (IsSome o ↔ form m) → IfSome o (λ r. spelled r ≡ m) → IfSome o (λ r. HasOwn form own (spelled r))
+    → HasOneMember own m → (IsSome o ↔ form m) → IfSome o (λ r. spelled r ≡ m)
+    → IfSome o (λ r. HasOwn form own (spelled r))
 read_one form spelled own m None h f s = tt
 read_one form spelled own m (Some r) h f s = subst (HasOwn form own) (sym s) (one_of form own m h (f.0 refl))
 
@@ -23,6 +24,7 @@ read_none form own m None h f = λ v k.
     false≢true (f.1 (subst form (members_one own v m has.0 h) has.1))
 
 -- the value of an operand, as a text
-pub optional_text : (form : Text → Type 0) (found : Option Word) (v : Option Text) → HasOptional form found (option_map (λ t. t) v) → HasOptional form found v
+pub optional_text : (form : Text → Type 0) (found : Option Word) (v : Option Text)
+    → HasOptional form found (option_map (λ t. t) v) → HasOptional form found v
 optional_text form found None h = h
 optional_text form found (Some t) h = h

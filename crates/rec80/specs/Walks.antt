@@ -1,7 +1,8 @@
 -- Ways over the pieces of a text: over gaps, to where no piece begins, and over a whole statement.
 use Rattle.std.specs.Prelude.{◌≡◌, ℕ, List, [], ◌∷◌, ◌++◌}
 use Rattle.terms.specs.Records.{front}
-use Rattle.terms.specs.Statement.{Piece, HasPieces, solid, followed, IsPlace, IsIdle, OpensComment, BreaksPairs, StFault, St1, St2, St3, St4}
+use Rattle.terms.specs.Statement.{Piece, HasPieces, solid, followed, IsPlace, IsIdle, OpensComment, BreaksPairs}
+use Rattle.terms.specs.Statement.{StFault, St1, St2, St3, St4}
 use Rattle.terms.specs.CommandCuts.{BeginsNoGap}
 use Rattle.rec80.specs.declared.cursor.Cursor.{Cursor}
 use Rattle.rec80.specs.declared.errors.StmtError.{StmtError}
@@ -21,7 +22,8 @@ Walks text after = (ps : List Piece) × HasPieces text ps after
 -- Behind these pieces the period comes, and the tail and the inline text behind it.
 pub record EndsFrom (from : Cursor) (pieces : List Piece) (tail : List ℕ) (inline : List (List ℕ)) : Type 0 where
   pub has_pieces : HasPieces (rest_of from) pieces (46 ∷ tail ++ followed inline)
-  pub place : (records : List (List ℕ)) → IsIn records from → (before : List (List ℕ)) × IsPlace records before (46 ∷ tail) inline
+  pub place : (records : List (List ℕ)) → IsIn records from → (before : List (List ℕ))
+      × IsPlace records before (46 ∷ tail) inline
 
 -- why no statement begins there
 abbrev pub BreaksFrom : Cursor → StmtError → Type 0

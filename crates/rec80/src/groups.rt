@@ -1,4 +1,5 @@
-ghost use Rattle.std.specs.Prelude.{◌≡◌, ◌<◌, ◌+◌, ◌^◌, not, false, [], ◌++◌, length, IfOk, IfSome, IfNone, IsErr, IsTrue, ◌↔◌};
+ghost use Rattle.std.specs.Prelude.{◌≡◌, ◌<◌, ◌+◌, ◌^◌, not, false, [], ◌++◌, length, IfOk, IfSome, IfNone, IsErr};
+ghost use Rattle.std.specs.Prelude.{IsTrue, ◌↔◌};
 ghost use Rattle.std.specs.List.{prefix_len};
 ghost use Rattle.terms.specs.Groups.{begins_statement, starts_outside, IsGroup, TakesGroup};
 

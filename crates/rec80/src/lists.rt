@@ -1,4 +1,5 @@
-ghost use Rattle.std.specs.Prelude.{◌≡◌, ◌<◌, length, ◌++◌, ℕ, false, List, Option, [], ◌∷◌, All, true, IfOk, IfSome, IfNone, OnErr, MatchOption, option_map};
+ghost use Rattle.std.specs.Prelude.{◌≡◌, ◌<◌, length, ◌++◌, ℕ, false, List, Option, [], ◌∷◌, All, true, IfOk, IfSome};
+ghost use Rattle.std.specs.Prelude.{IfNone, OnErr, MatchOption, option_map};
 ghost use Rattle.terms.specs.Words.{is_inner_byte, TakesInner, Stops, IsBefore, TakesNext};
 ghost use Rattle.terms.specs.Words as grammar;
 ghost use Rattle.terms.specs.Forms.{AreBlanks};

@@ -1,4 +1,5 @@
-ghost use Rattle.std.specs.Prelude.{◌≡◌, ◌==◌, ◌++◌, ℕ, List, Option, [], ◌∷◌, All, true, IfOk, IfSome, IfNone, OnErr, MatchOption, option_map, IsTrue};
+ghost use Rattle.std.specs.Prelude.{◌≡◌, ◌==◌, ◌++◌, ℕ, List, Option, [], ◌∷◌, All, true, IfOk, IfSome, IfNone, OnErr};
+ghost use Rattle.std.specs.Prelude.{MatchOption, option_map, IsTrue};
 ghost use Rattle.std.specs.List.{prefix_len};
 ghost use Rattle.terms.specs.Forms.{AreBlanks};
 ghost use Rattle.terms.specs.Words.{is_member_byte, is_inner_byte, TakesRun, TakesInner, Stops, IsBefore, HasMembers};

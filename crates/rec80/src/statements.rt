@@ -26,7 +26,8 @@ pub fn start<'a>(records: &'a [Record]) -> Option<Cursor<'a>>
 
 /// The words and the inline records of a statement, or what is wrong with its form.
 pub fn statement<'a>(group: &Group<'a>) -> Result<Words<'a>, StmtError>
-    ensures ok { IfOk result (λ words. (pieces : List Piece) × IsStatement group.now.records.now pieces words.inline.now × HasSolid (left_of words) pieces) }
+    ensures ok { IfOk result (λ words. (pieces : List Piece) × IsStatement group.now.records.now pieces words.inline.now
+        × HasSolid (left_of words) pieces) }
     ensures good { (pieces : List Piece) (inline : List (List ℕ)) → IsStatement group.now.records.now pieces inline
         → IsOk result }
     ensures fault { IfErr result (λ e. IsStFault group.now.records.now (st_fault e)) }

@@ -15,9 +15,12 @@ abbrev pub Sending : Option (List ℕ) → Bool → Option (List ℕ) → Bool �
 Sending old true new failed text rest = (failed ≡ true) × Keeps old new
 Sending old false new failed text rest = (failed ≡ false) × IsSending old new text rest
 
-pub sending-more : (a : Option (List ℕ)) (f : Bool) (b : Option (List ℕ)) (g : Bool) (c : Option (List ℕ)) (h : Bool) (text rest front back : List ℕ)
-    → Sending a f b g text rest → rest ≡ front ++ back → g ≡ false → h ≡ false → Appends b c front → Sending a f c h text back
-sending-more a true b g c h text rest front back s rest_is before after grown = let is : true ≡ false = sym s.0 ∙ before in absurd (cc is)
+pub sending-more : (a : Option (List ℕ)) (f : Bool) (b : Option (List ℕ)) (g : Bool) (c : Option (List ℕ)) (h : Bool)
+    (text rest front back : List ℕ)
+    → Sending a f b g text rest → rest ≡ front ++ back → g ≡ false → h ≡ false → Appends b c front
+    → Sending a f c h text back
+sending-more a true b g c h text rest front back s rest_is before after grown = let is : true ≡ false = sym s.0 ∙ before
+    in absurd (cc is)
 sending-more a false b g c h text rest front back s rest_is before after grown = (
   after,
   record {
@@ -28,7 +31,8 @@ sending-more a false b g c h text rest front back s rest_is before after grown =
 )
 
 -- one text, and then another
-pub sends-then : (a : Option (List ℕ)) (f : Bool) (b : Option (List ℕ)) (g : Bool) (c : Option (List ℕ)) (h : Bool) (xs ys : List ℕ)
+pub sends-then : (a : Option (List ℕ)) (f : Bool) (b : Option (List ℕ)) (g : Bool) (c : Option (List ℕ)) (h : Bool)
+    (xs ys : List ℕ)
     → Sends a f b g xs → Sends b g c h ys → Sends a f c h (xs ++ ys)
 sends-then a true b true c h xs ys s t = (t.0, Keeps-trans a b c s.1 t.1)
 sends-then a true b false c h xs ys s t = let is : false ≡ true = s.0 in absurd (cc is)
@@ -48,5 +52,6 @@ sends-then a false b false c true xs ys s t = record {
 }
 
 -- the same text, written otherwise
-pub sends-as : (a : Option (List ℕ)) (f : Bool) (b : Option (List ℕ)) (g : Bool) (xs ys : List ℕ) → xs ≡ ys → Sends a f b g xs → Sends a f b g ys
+pub sends-as : (a : Option (List ℕ)) (f : Bool) (b : Option (List ℕ)) (g : Bool) (xs ys : List ℕ) → xs ≡ ys
+    → Sends a f b g xs → Sends a f b g ys
 sends-as a f b g xs ys is s = subst (Sends a f b g) is s

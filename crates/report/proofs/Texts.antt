@@ -1,5 +1,6 @@
 -- Texts of lists and of places, as pieces.
-use Rattle.std.proofs.Common.{◌≡◌, ◌<◌, ◌+◌, ℕ, List, [], ◌∷◌, ◌++◌, length, take, drop, get_or, Bool, true, false, refl, sym, ◌∙◌, ap, arith, append_assoc, map, add-one, drop-cons}
+use Rattle.std.proofs.Common.{◌≡◌, ◌<◌, ◌+◌, ℕ, List, [], ◌∷◌, ◌++◌, length, take, drop, get_or, Bool, true, false}
+use Rattle.std.proofs.Common.{refl, sym, ◌∙◌, ap, arith, append_assoc, map, add-one, drop-cons}
 use Rattle.std.specs.Prelude.{max, codes, if◌then◌else◌}
 use Rattle.std.specs.List.{flat_map, join_with_byte}
 use Rattle.std.proofs.lemmas.List.{append-nil, take_more}
@@ -19,7 +20,8 @@ flat_map-more f xs i d below =
     ∙ ap (flat_map f) (sym (take_more xs i d below))
 
 -- a list that is not empty: its first id, and each other one behind a comma
-pub list_text-parts : (xs : List (List ℕ)) (d : List ℕ) → 0 < length xs → get_or xs 0 d ++ flat_map (λ y. 44 ∷ y) (drop 1 xs) ≡ list_text xs
+pub list_text-parts : (xs : List (List ℕ)) (d : List ℕ) → 0 < length xs
+    → get_or xs 0 d ++ flat_map (λ y. 44 ∷ y) (drop 1 xs) ≡ list_text xs
 list_text-parts [] d some = absurd (omega (arith, some))
 list_text-parts (x ∷ xs) d some = joined 44 x xs
 
@@ -52,13 +54,16 @@ need_parts kind id = ap (λ t. codes "  NEED " ++ t) (words_line-more kind id []
 
 -- the words of a status line
 pub status_parts : (id place status : List ℕ) (detail : List (List ℕ))
-    → id ++ (32 ∷ (place ++ (32 ∷ (status ++ (flat_map (λ t. 32 ∷ t) detail ++ 10 ∷ []))))) ≡ words_line (id ∷ place ∷ status ∷ detail)
+    → id ++ (32 ∷ (place ++ (32 ∷ (status ++ (flat_map (λ t. 32 ∷ t) detail ++ 10 ∷ []))))) ≡ words_line
+    (id ∷ place ∷ status ∷ detail)
 status_parts id place status detail =
-    ap (λ t. id ++ (32 ∷ (place ++ (32 ∷ t)))) (behind status detail) ∙ ap (λ t. id ++ (32 ∷ t)) (words_line-more place status detail) ∙ words_line-more id place (status ∷ detail)
+    ap (λ t. id ++ (32 ∷ (place ++ (32 ∷ t)))) (behind status detail)
+    ∙ ap (λ t. id ++ (32 ∷ t)) (words_line-more place status detail) ∙ words_line-more id place (status ∷ detail)
   where
     behind : (x : List ℕ) (xs : List (List ℕ)) → x ++ (flat_map (λ t. 32 ∷ t) xs ++ 10 ∷ []) ≡ words_line (x ∷ xs)
     behind x [] = refl
-    behind x (y ∷ ys) = ap (λ t. x ++ (32 ∷ t)) (append_assoc y (flat_map (λ t. 32 ∷ t) ys) (10 ∷ []) ∙ behind y ys) ∙ words_line-more x y ys
+    behind x (y ∷ ys) = ap (λ t. x ++ (32 ∷ t)) (append_assoc y (flat_map (λ t. 32 ∷ t) ys) (10 ∷ []) ∙ behind y ys)
+        ∙ words_line-more x y ys
 
 -- the words of the fault of a command file
 pub control_parts : (number code : List ℕ) → codes "CONTROL RECORD " ++ (number ++ (32 ∷ (code ++ 10 ∷ []))) ≡ words_line (codes "CONTROL" ∷ codes "RECORD" ∷ number ∷ code ∷ [])
@@ -76,4 +81,5 @@ pub codes-more : (lines : List Line) (i : ℕ) (d : Line) (code : ℕ) → i < l
     ≡ max code (lines_code (map line_view (drop i lines)))
 codes-more lines i d code below =
     max-parts code (line_code (line_view (get_or lines i d))) (lines_code (map line_view (drop (i + 1) lines)))
-    ∙ sym (ap (λ xs. max code (lines_code (map line_view xs))) (drop-cons lines i d below ∙ ap (λ k. get_or lines i d ∷ drop k lines) (sym (add-one i))))
+    ∙ sym (ap (λ xs. max code (lines_code (map line_view xs)))
+    (drop-cons lines i d below ∙ ap (λ k. get_or lines i d ∷ drop k lines) (sym (add-one i))))

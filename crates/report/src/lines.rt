@@ -3,7 +3,8 @@ ghost use Rattle.std.specs.Prelude.{◌≡◌, ◌∷◌, [], ◌++◌, codes, d
 ghost use Rattle.std.specs.List.{flat_map};
 ghost use Rattle.terms.specs.Spelling.{mc_text, test_text, need_text};
 ghost use Rattle.machine.specs.Outcome.{StatusLine};
-ghost use Rattle.machine.specs.Report.{words_line, optional_text, header_text, refused_text, place_text, status_word, status_detail, failure_text, details, line_text, detail_line};
+ghost use Rattle.machine.specs.Report.{words_line, optional_text, header_text, refused_text, place_text, status_word};
+ghost use Rattle.machine.specs.Report.{status_detail, failure_text, details, line_text, detail_line};
 ghost use Rattle.terms.specs.Lookups.{at_most_one};
 ghost use Rattle.report.specs.Sent.{Sent};
 ghost use Rattle.report.specs.Views.{header_view, refusal_view, place_view, status_view, failure_view, line_view};

@@ -16,4 +16,5 @@ pub fmids_there : (g : Global) (srel : Text) (x : Id) (wanted : List Id) (s : Sy
     → list_any (has_fmid_for srel wanted) s.vers ≡ meets (flat_map (λ v. at_most_one v.fmid) (vers_of g srel x)) wanted
 fmids_there g srel x wanted s e =
     any_kept (λ v. bytes_eq v.srel srel) (λ v. at_most_one v.fmid) (is_in wanted) s.vers
-    ∙ ap (λ o. meets (flat_map (λ v. at_most_one v.fmid) (option_map_or (λ r. filter (λ v. bytes_eq v.srel srel) r.vers) o [])) wanted) e
+    ∙ ap (λ o. meets (flat_map (λ v. at_most_one v.fmid) (option_map_or (λ r. filter (λ v. bytes_eq v.srel srel) r.vers)
+    o [])) wanted) e

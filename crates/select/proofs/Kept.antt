@@ -1,5 +1,6 @@
 -- What a filter keeps, and tests of what it keeps.
-use Rattle.std.proofs.Common.{◌≡◌, ◌<◌, ◌+◌, ℕ, length, take, get_or, Bool, true, false, not, ◌&&◌, ◌||◌, List, [], ◌∷◌, ◌++◌, map, filter, cond, refl, sym, ap, ◌∙◌}
+use Rattle.std.proofs.Common.{◌≡◌, ◌<◌, ◌+◌, ℕ, length, take, get_or, Bool, true, false, not, ◌&&◌, ◌||◌, List, [], ◌∷◌}
+use Rattle.std.proofs.Common.{◌++◌, map, filter, cond, refl, sym, ap, ◌∙◌}
 use Rattle.std.specs.List.{list_all, list_any, flat_map}
 use Rattle.std.proofs.lemmas.List.Folds.{list_any-append}
 use Rattle.std.proofs.lemmas.List.Elements.{filter_more}
@@ -11,7 +12,8 @@ all_kept p f q [] = refl
 all_kept p f q (x ∷ xs) = by (all_kept p f q xs) (p x)
   where
     by : list_all (λ x. not (p x) || q (f x)) xs ≡ list_all q (map f (filter p xs)) → (b : Bool)
-        → ((not b || q (f x)) && list_all (λ x. not (p x) || q (f x)) xs) ≡ list_all q (map f (cond b (x ∷ filter p xs) (filter p xs)))
+        → ((not b || q (f x)) && list_all (λ x. not (p x) || q (f x)) xs) ≡ list_all q
+        (map f (cond b (x ∷ filter p xs) (filter p xs)))
     by rest true = ap (λ r. q (f x) && r) rest
     by rest false = rest
 
@@ -22,7 +24,8 @@ any_kept p f q [] = refl
 any_kept p f q (x ∷ xs) = by (any_kept p f q xs) (p x)
   where
     by : list_any (λ x. p x && list_any q (f x)) xs ≡ list_any q (flat_map f (filter p xs)) → (b : Bool)
-        → ((b && list_any q (f x)) || list_any (λ x. p x && list_any q (f x)) xs) ≡ list_any q (flat_map f (cond b (x ∷ filter p xs) (filter p xs)))
+        → ((b && list_any q (f x)) || list_any (λ x. p x && list_any q (f x)) xs) ≡ list_any q
+        (flat_map f (cond b (x ∷ filter p xs) (filter p xs)))
     by rest true = ap (λ r. list_any q (f x) || r) rest ∙ sym (list_any-append q (f x) (flat_map f (filter p xs)))
     by rest false = rest
 

@@ -30,22 +30,29 @@ pub record OpenParts (g : Global) (zone : Zone) (sel : Selection) (x : Id) : Typ
   pub unapplied : is_applied zone x ≡ false
   pub installable : is_installable g zone x ≡ true
 
-pub open_parts : (g : Global) (zone : Zone) (sel : Selection) (x : Id) → is_open g zone sel x ≡ true → OpenParts g zone sel x
+pub open_parts : (g : Global) (zone : Zone) (sel : Selection) (x : Id) → is_open g zone sel x ≡ true
+    → OpenParts g zone sel x
 open_parts g zone sel x opened =
     let whole = and_parts (is_installable g zone x) (not (is_in sel.exclude x)) opened in
-    let kept = and_parts (not (is_nil (vers_of g zone.srel x)) && is_served g zone x && not (is_supplied zone x)) (not (is_some (delby_of zone x))) whole.0 in
-    let unsupplied = and_parts (not (is_nil (vers_of g zone.srel x)) && is_served g zone x) (not (is_supplied zone x)) kept.0 in
+    let kept = and_parts (not (is_nil (vers_of g zone.srel x)) && is_served g zone x && not (is_supplied zone x))
+    (not (is_some (delby_of zone x))) whole.0 in
+    let unsupplied = and_parts (not (is_nil (vers_of g zone.srel x)) && is_served g zone x) (not (is_supplied zone x))
+    kept.0 in
     let served = and_parts (not (is_nil (vers_of g zone.srel x))) (is_served g zone x) unsupplied.0 in
-    let in_zone = and_parts (has_plain_ver g zone x && option_map_or has_plain_changes (sysmod_of g x) true && is_unheld g x) (is_served_zone g zone) served.1 in
-    let free = and_parts (has_plain_ver g zone x && option_map_or has_plain_changes (sysmod_of g x) true) (is_unheld g x) in_zone.0 in
+    let in_zone = and_parts (has_plain_ver g zone x && option_map_or has_plain_changes (sysmod_of g x) true && is_unheld
+    g x) (is_served_zone g zone) served.1 in
+    let free = and_parts (has_plain_ver g zone x && option_map_or has_plain_changes (sysmod_of g x) true)
+    (is_unheld g x) in_zone.0 in
     let plain = and_parts (has_plain_ver g zone x) (option_map_or has_plain_changes (sysmod_of g x) true) free.0 in
-    let not_user = and_parts (is_nil (holds_of g Error x) && is_nil (holds_of g System x)) (is_nil (holds_of g User x)) free.1 in
+    let not_user = and_parts (is_nil (holds_of g Error x) && is_nil (holds_of g System x)) (is_nil (holds_of g User x))
+    free.1 in
     record {
       ver = ver_there g zone.srel x ∙ served.0;
       plain = plain.0;
       no_error = (and_parts (is_nil (holds_of g Error x)) (is_nil (holds_of g System x)) not_user.0).0;
       zone_served = in_zone.1;
-      unapplied = (or_parts (is_applied zone x) (not (is_nil (supby_of zone x))) (not-true (is_supplied zone x) unsupplied.1)).0;
+      unapplied = (or_parts (is_applied zone x) (not (is_nil (supby_of zone x)))
+          (not-true (is_supplied zone x) unsupplied.1)).0;
       installable = whole.0;
     }
 
@@ -65,11 +72,14 @@ plain_parts g zone x plain = record {
 }
   where
     by : (o : Option Ver) → option_map_or is_plain o true ≡ true
-        → (option_map_or (λ v. v.pre) o [] ≡ []) × (option_map_or (λ v. v.req) o [] ≡ []) × (option_map_or (λ v. v.sup) o [] ≡ []) × (option_map_or (λ v. v.ifs) o [] ≡ [])
+        → (option_map_or (λ v. v.pre) o [] ≡ []) × (option_map_or (λ v. v.req) o [] ≡ [])
+        × (option_map_or (λ v. v.sup) o [] ≡ []) × (option_map_or (λ v. v.ifs) o [] ≡ [])
     by None p = (refl, refl, refl, refl)
     by (Some v) p =
-        let without_ifs = and_parts (is_nil v.pre && is_nil v.req && is_nil v.sup && is_nil v.npre && is_nil v.del) (is_nil v.ifs) p in
-        let without_del = and_parts (is_nil v.pre && is_nil v.req && is_nil v.sup && is_nil v.npre) (is_nil v.del) without_ifs.0 in
+        let without_ifs = and_parts (is_nil v.pre && is_nil v.req && is_nil v.sup && is_nil v.npre && is_nil v.del)
+        (is_nil v.ifs) p in
+        let without_del = and_parts (is_nil v.pre && is_nil v.req && is_nil v.sup && is_nil v.npre) (is_nil v.del)
+        without_ifs.0 in
         let without_npre = and_parts (is_nil v.pre && is_nil v.req && is_nil v.sup) (is_nil v.npre) without_del.0 in
         let without_sup = and_parts (is_nil v.pre && is_nil v.req) (is_nil v.sup) without_npre.0 in
         let first = and_parts (is_nil v.pre) (is_nil v.req) without_sup.0 in

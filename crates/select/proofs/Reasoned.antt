@@ -1,5 +1,7 @@
 -- Ids of a list that have a reason, each with it.
-use Rattle.std.proofs.Common.{◌≡◌, ◌<◌, ◌+◌, ℕ, length, take, get_or, ◌⊎◌, inl, inr, Bool, true, false, List, [], ◌∷◌, ◌++◌, map, filter, cond, Option, None, Some, is_some, Contains, IsTrue, refl, sym, subst, ap, ◌∙◌, ◌↔◌}
+use Rattle.std.proofs.Common.{◌≡◌, ◌<◌, ◌+◌, ℕ, length, take, get_or, ◌⊎◌, inl, inr, Bool, true, false, List, [], ◌∷◌}
+use Rattle.std.proofs.Common.{◌++◌, map, filter, cond, Option, None, Some, is_some, Contains, IsTrue, refl, sym, subst}
+use Rattle.std.proofs.Common.{ap, ◌∙◌, ◌↔◌}
 use Rattle.std.specs.List.{filter_map, cons_option}
 use Rattle.terms.specs.declared.not_chosen.NotChosen.{NotChosen}
 use Rattle.terms.specs.Types.{Id, Global, Zone, Selection}
@@ -26,7 +28,8 @@ module _ (g : Global) (zone : Zone) (sel : Selection) where
   firsts (x ∷ xs) = by (firsts xs) (not_chosen g zone sel x)
     where
       by : map (λ f. f.0) (found xs) ≡ filter has_reason xs → (o : Option NotChosen)
-          → map (λ f. f.0) (cons_option (beside x o) (found xs)) ≡ cond (is_some o) (x ∷ filter has_reason xs) (filter has_reason xs)
+          → map (λ f. f.0) (cons_option (beside x o) (found xs)) ≡ cond (is_some o) (x ∷ filter has_reason xs)
+          (filter has_reason xs)
       by rest None = rest
       by rest (Some why) = ap (λ ys. x ∷ ys) rest
 
@@ -36,21 +39,25 @@ module _ (g : Global) (zone : Zone) (sel : Selection) where
   found_next xs i x old new below at is was =
       is ∙ ap (λ ps. ps ++ option_to_list (with_reason g zone sel x)) was
       ∙ ap (λ ps. found (take i xs) ++ ps) (one (with_reason g zone sel x))
-      ∙ sym (ap found (take_more xs i x below ∙ ap (λ y. take i xs ++ y ∷ []) (sym at)) ∙ filter_map-append (with_reason g zone sel) (take i xs) (x ∷ []))
+      ∙ sym (ap found (take_more xs i x below ∙ ap (λ y. take i xs ++ y ∷ []) (sym at))
+      ∙ filter_map-append (with_reason g zone sel) (take i xs) (x ∷ []))
     where
       one : (o : Option (Id × NotChosen)) → option_to_list o ≡ cons_option o []
       one None = refl
       one (Some p) = refl
 
   pub found_rising : (xs : List Id) → IsRising xs → IsRising (map (λ f. f.0) (found xs))
-  found_rising xs rising = subst IsRising (sym (firsts xs)) (AllPairs-filter (λ x y. IsTrue (is_before x y)) has_reason xs rising)
+  found_rising xs rising = subst IsRising (sym (firsts xs)) (AllPairs-filter (λ x y. IsTrue (is_before x y)) has_reason
+      xs rising)
 
   -- what is found has its reason
-  found_reason : (xs : List Id) (x : Id) (why : NotChosen) → Contains (found xs) (x, why) → not_chosen g zone sel x ≡ Some why
+  found_reason : (xs : List Id) (x : Id) (why : NotChosen) → Contains (found xs) (x, why)
+      → not_chosen g zone sel x ≡ Some why
   found_reason [] x why h = absurd (none_in (x, why) h)
   found_reason (y ∷ ys) x why h = by (found_reason ys x why) (not_chosen g zone sel y) refl h
     where
-      by : (Contains (found ys) (x, why) → not_chosen g zone sel x ≡ Some why) → (o : Option NotChosen) → not_chosen g zone sel y ≡ o
+      by : (Contains (found ys) (x, why) → not_chosen g zone sel x ≡ Some why) → (o : Option NotChosen)
+          → not_chosen g zone sel y ≡ o
           → Contains (cons_option (beside y o) (found ys)) (x, why) → not_chosen g zone sel x ≡ Some why
       by rest None e h = rest h
       by rest (Some other) e h = elim (here_or (y, other) (found ys) (x, why) h) [
@@ -59,16 +66,20 @@ module _ (g : Global) (zone : Zone) (sel : Selection) where
       ]
 
   -- an id of the list that has a reason is found
-  reason_found : (xs : List Id) (x : Id) (why : NotChosen) → Contains xs x → not_chosen g zone sel x ≡ Some why → Contains (found xs) (x, why)
+  reason_found : (xs : List Id) (x : Id) (why : NotChosen) → Contains xs x → not_chosen g zone sel x ≡ Some why
+      → Contains (found xs) (x, why)
   reason_found [] x why h e = absurd (none_in x h)
-  reason_found (y ∷ ys) x why h e = by (λ within. reason_found ys x why within e) (not_chosen g zone sel y) refl (here_or y ys x h)
+  reason_found (y ∷ ys) x why h e = by (λ within. reason_found ys x why within e) (not_chosen g zone sel y) refl
+      (here_or y ys x h)
     where
-      by : (Contains ys x → Contains (found ys) (x, why)) → (o : Option NotChosen) → not_chosen g zone sel y ≡ o → (y ≡ x) ⊎ Contains ys x
+      by : (Contains ys x → Contains (found ys) (x, why)) → (o : Option NotChosen) → not_chosen g zone sel y ≡ o
+          → (y ≡ x) ⊎ Contains ys x
           → Contains (cons_option (beside y o) (found ys)) (x, why)
       by rest None none (inl same) = absurd (cc (sym e ∙ ap (not_chosen g zone sel) (sym same) ∙ none))
       by rest None none (inr within) = rest within
       by rest (Some other) is (inl same) =
-          subst (Contains ((y, other) ∷ found ys)) (pair same (sym is ∙ ap (not_chosen g zone sel) same ∙ e)) (here (y, other) (found ys))
+          subst (Contains ((y, other) ∷ found ys)) (pair same (sym is ∙ ap (not_chosen g zone sel) same ∙ e))
+          (here (y, other) (found ys))
         where
           pair : y ≡ x → Some other ≡ Some why → ◌≡◌ {A = Id × NotChosen} (y, other) (x, why)
           pair p q = cc
@@ -85,4 +96,8 @@ module _ (g : Global) (zone : Zone) (sel : Selection) where
 
   pub found_members : (xs : List Id) → ((x : Id) → Contains xs x ↔ Contains (sel.select ++ sel.group) x)
       → (x : Id) (why : NotChosen) → Contains (found xs) (x, why) ↔ (not_chosen g zone sel x ≡ Some why)
-  found_members xs named x why = (found_reason xs x why, λ e. reason_found xs x why ((named x).1 (reason_named x why e)) e)
+  found_members xs named x why = (
+    found_reason xs x why,
+    λ e.
+        reason_found xs x why ((named x).1 (reason_named x why e)) e,
+  )

@@ -1,5 +1,6 @@
 -- Where the ids of the start are looked for.
-use Rattle.std.proofs.Common.{◌≡◌, ◌⊎◌, inl, inr, true, false, ◌||◌, List, ◌++◌, map, filter, find, Option, None, Some, is_some, Contains, IsTrue, refl, sym, subst, ◌∙◌, true≢false, ◌↔◌}
+use Rattle.std.proofs.Common.{◌≡◌, ◌⊎◌, inl, inr, true, false, ◌||◌, List, ◌++◌, map, filter, find, Option, None, Some}
+use Rattle.std.proofs.Common.{is_some, Contains, IsTrue, refl, sym, subst, ◌∙◌, true≢false, ◌↔◌}
 use Rattle.std.specs.Option.{option_and_then}
 use Rattle.std.specs.Str.{bytes_eq}
 use Rattle.std.proofs.lemmas.Bool.{and_parts, or_cases}
@@ -14,18 +15,24 @@ use Rattle.lemmas.proofs.Texts.{same_from}
 use Rattle.lemmas.proofs.Searches.{find-passes, All-find}
 use Rattle.select.proofs.Opened.{open_parts}
 
-received_there : (g : Global) (srel : Text) (x : Id) → is_some (by_srel g srel x) ≡ true → Contains (map (λ s. s.id) g.sysmods) x
+received_there : (g : Global) (srel : Text) (x : Id) → is_some (by_srel g srel x) ≡ true
+    → Contains (map (λ s. s.id) g.sysmods) x
 received_there g srel x there = by (sysmod_of g x) refl there
   where
-    by : (o : Option Sysmod) → sysmod_of g x ≡ o → is_some (option_and_then (λ s. find (λ v. bytes_eq v.srel srel) s.vers) o) ≡ true → Contains (map (λ s. s.id) g.sysmods) x
+    by : (o : Option Sysmod) → sysmod_of g x ≡ o → is_some (option_and_then
+        (λ s. find (λ v. bytes_eq v.srel srel) s.vers) o) ≡ true → Contains (map (λ s. s.id) g.sysmods) x
     by None e none = absurd (true≢false (sym none))
     by (Some s) e _ =
-        subst (Contains (map (λ s. s.id) g.sysmods)) (same_from s.id x (find-passes (λ s. bytes_eq s.id x) g.sysmods s e))
-        (in_map (λ s. s.id) g.sysmods s (All-find (Contains g.sysmods) (λ s. bytes_eq s.id x) g.sysmods s (All-contains_itself g.sysmods) e))
+        subst (Contains (map (λ s. s.id) g.sysmods)) (same_from s.id x
+        (find-passes (λ s. bytes_eq s.id x) g.sysmods s e))
+        (in_map (λ s. s.id) g.sysmods s (All-find (Contains g.sysmods) (λ s. bytes_eq s.id x) g.sysmods s
+        (All-contains_itself g.sysmods) e))
 
 module _ (g : Global) (zone : Zone) (sel : Selection) (x : Id) (start : IsTrue (is_start g zone sel x)) where
-  parts : IsTrue (is_open g zone sel x) × IsTrue (is_in sel.select x || is_in sel.group x || is_mass_chosen g zone sel x)
-  parts = and_parts (is_open g zone sel x) (is_in sel.select x || is_in sel.group x || is_mass_chosen g zone sel x) start
+  parts : IsTrue (is_open g zone sel x) × IsTrue (is_in sel.select x || is_in sel.group x || is_mass_chosen g zone sel
+      x)
+  parts = and_parts (is_open g zone sel x) (is_in sel.select x || is_in sel.group x || is_mass_chosen g zone sel x)
+      start
 
   -- what the start has is received
   pub start_received : Contains (map (λ s. s.id) g.sysmods) x
@@ -39,7 +46,8 @@ module _ (g : Global) (zone : Zone) (sel : Selection) (x : Id) (start : IsTrue (
       named (inl s) = Contains-append_left sel.select sel.group x (Contains-from_is_in sel.select x s)
       named (inr r) = Contains-append_right sel.select sel.group x (Contains-from_is_in sel.group x r)
 
-      by : IsTrue (is_in sel.select x || is_in sel.group x) ⊎ IsTrue (is_mass_chosen g zone sel x) → Contains (sel.select ++ sel.group) x
+      by : IsTrue (is_in sel.select x || is_in sel.group x) ⊎ IsTrue (is_mass_chosen g zone sel x)
+          → Contains (sel.select ++ sel.group) x
       by (inl h) = named (or_cases (is_in sel.select x) (is_in sel.group x) h)
       by (inr mass) = absurd (true≢false (sym (and_left mass) ∙ none))
         where

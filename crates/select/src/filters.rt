@@ -54,7 +54,8 @@ fn is_for_and_among(ver: &Ver, srel: Srel, wanted: &IdList) -> bool
 }
 
 fn some_ver_among(vers: &[Ver], srel: Srel, wanted: &IdList) -> bool
-    ensures { result ≡ list_any (λ v. bytes_eq v.srel srel && list_any (is_in wanted.now) (at_most_one v.fmid)) vers.now }
+    ensures { result ≡ list_any (λ v. bytes_eq v.srel srel && list_any (is_in wanted.now) (at_most_one v.fmid))
+        vers.now }
 {
     vers.iter().any(|ver| is_for_and_among(ver, srel, wanted))
 }

@@ -56,7 +56,8 @@ fn only_replaces(changes: &[ElemChange]) -> bool
 }
 
 fn replaces_as_function(sysmod: &Sysmod) -> bool
-    ensures { result ≡ ((kind_number sysmod.now.kind == 0) && list_all (λ h. is_replacement h.action) sysmod.now.changes) }
+    ensures { result ≡ ((kind_number sysmod.now.kind == 0) && list_all (λ h. is_replacement h.action)
+        sysmod.now.changes) }
 {
     sysmod.kind == Kind::Function && only_replaces(sysmod.changes.as_slice())
 }

@@ -13,7 +13,8 @@ use std::alloc::{AllocError, Global as Heap};
 use sysmods::Global;
 
 fn passes(scope: &Scope, id: Id) -> bool
-    ensures { result ≡ option_map_or (passes_filters scope.now.global.now scope.now.zone.now scope.now.selection.now) (sysmod_of scope.now.global.now id) false }
+    ensures { result ≡ option_map_or (passes_filters scope.now.global.now scope.now.zone.now scope.now.selection.now)
+        (sysmod_of scope.now.global.now id) false }
 {
     match scope.global.get(id) {
         Some(sysmod) => passes_filters(scope.global, scope.zone, scope.selection, sysmod),

@@ -1,5 +1,6 @@
 -- The commands of one job, one after another.
-use Rattle.std.proofs.Common.{◌≡◌, ℕ, List, [], ◌∷◌, ◌++◌, Option, Result, Ok, Err, map, max, refl, sym, ◌∙◌, ap, subst, arith, append-nil}
+use Rattle.std.proofs.Common.{◌≡◌, ℕ, List, [], ◌∷◌, ◌++◌, Option, Result, Ok, Err, map, max, refl, sym, ◌∙◌, ap, subst}
+use Rattle.std.proofs.Common.{arith, append-nil}
 use Rattle.std.specs.List.{flat_map}
 use Rattle.std.specs.Io.KnownBytes.{Appends}
 use Rattle.std.proofs.KnownBytes.{Appends-nil, Appends-trans}
@@ -35,15 +36,19 @@ codes-append (x ∷ xs) ys = let e = codes-append xs ys in omega arith
 
 module _ {S : Type 0} (g : Ghosts S) (date : Text) (files : Files) where
   -- the exit of a `?`
-  pub commands-err : (at : Held S) (s : State) (session : Session) (cs : List Command) (a b : Option (List ℕ)) (r : Result ℕ JobError) (e : JobError)
-      → IsErrAnd r (λ y. y ≡ e) → EndsEarly g at s (map (Perform date files) cs) a b e → EndsCommands g at s session date files cs a b r
+  pub commands-err : (at : Held S) (s : State) (session : Session) (cs : List Command) (a b : Option (List ℕ))
+      (r : Result ℕ JobError) (e : JobError)
+      → IsErrAnd r (λ y. y ≡ e) → EndsEarly g at s (map (Perform date files) cs) a b e
+      → EndsCommands g at s session date files cs a b r
   commands-err at s session cs a b r e failed early =
       let p = err_from_is_err_and r failed in
       subst (EndsCommands g at s session date files cs a b) (sym (p.1 ∙ ap (λ y. Err y) p.2)) early
 
   -- a command was not performed
-  pub unperformed : (at : Held S) (s : State) (session : Session) (c : Command) (taken : Option (List ℕ)) (e : StoreError)
-      → HasPerformed g at s session date files c (Err e) → EndsEarly g at s (Perform date files c ∷ []) taken taken (job_error e)
+  pub unperformed : (at : Held S) (s : State) (session : Session) (c : Command) (taken : Option (List ℕ))
+      (e : StoreError)
+      → HasPerformed g at s session date files c (Err e) → EndsEarly g at s (Perform date files c ∷ []) taken taken
+      (job_error e)
   unperformed at s session c taken store.Fault stays = stopped-first g at s (Perform date files c) [] taken stays
   unperformed at s session c taken store.Memory stays = stopped-first g at s (Perform date files c) [] taken stays
   unperformed at s session c taken store.OtherSchema impossible = absurd impossible
@@ -51,13 +56,17 @@ module _ {S : Type 0} (g : Ghosts S) (date : Text) (files : Files) where
 
   -- it was, and its report broke off
   pub unreported : (at : Held S) (s t : State) (c : Command) (outcome : Outcome) (old new : Option (List ℕ))
-      → Performs date files s c t outcome → Keeps g at t → WrotePart old new (text outcome) → EndsEarly g at s (Perform date files c ∷ []) old new Write
+      → Performs date files s c t outcome → Keeps g at t → WrotePart old new (text outcome)
+      → EndsEarly g at s (Perform date files c ∷ []) old new Write
   unreported at s t c outcome old new performs keeps part =
-      broke-first g at s (Perform date files c) t (text outcome) old new (outcome ∷ [], (outcome, performs, refl), sym (append-nil (text outcome))) keeps part
+      broke-first g at s (Perform date files c) t (text outcome) old new
+      (outcome ∷ [], (outcome, performs, refl), sym (append-nil (text outcome))) keeps part
 
   -- it was, and was reported
-  pub reported : (at : Held S) (s t : State) (session : Session) (c : Command) (outcome : Outcome) (old new : Option (List ℕ)) (code : ℕ)
-      → Performs date files s c t outcome → IsSessionOf t session → Keeps g at t → Appends old new (text outcome) → code ≡ outcome_code outcome
+  pub reported : (at : Held S) (s t : State) (session : Session) (c : Command) (outcome : Outcome)
+      (old new : Option (List ℕ)) (code : ℕ)
+      → Performs date files s c t outcome → IsSessionOf t session → Keeps g at t → Appends old new (text outcome)
+      → code ≡ outcome_code outcome
       → EndsCommands g at s session date files (c ∷ []) old new (Ok code)
   reported at s t session c outcome old new code performs is keeps appends told = (
     t,
@@ -70,37 +79,48 @@ module _ {S : Type 0} (g : Ghosts S) (date : Text) (files : Files) where
   )
 
   -- no command yet
-  pub commands-none : (at : Held S) (s : State) (session : Session) (taken : Option (List ℕ)) → IsSessionOf s session → Keeps g at s → EndsCommands g at s session date files [] taken taken (Ok 0)
+  pub commands-none : (at : Held S) (s : State) (session : Session) (taken : Option (List ℕ)) → IsSessionOf s session
+      → Keeps g at s → EndsCommands g at s session date files [] taken taken (Ok 0)
   commands-none at s session taken is keeps = (s, [], (refl, refl), is, keeps, Appends-nil taken, refl)
 
-  module _ (s : State) (before at : Held S) (session session' : Session) (xs ys : List Command) (a b c : Option (List ℕ)) (code : ℕ) where
+  module _ (s : State) (before at : Held S) (session session' : Session) (xs ys : List Command)
+      (a b c : Option (List ℕ)) (code : ℕ) where
     abbrev GoesOn : Result ℕ JobError → Type 0
     GoesOn r = (t : State) → IsSessionOf t session → Keeps g before t → EndsCommands g at t session' date files ys b c r
 
     -- commands, and then others
-    pub commands-more : (next : ℕ) → EndsCommands g before s session date files xs a b (Ok code) → GoesOn (Ok next) → EndsCommands g at s session' date files (xs ++ ys) a c (Ok (max code next))
+    pub commands-more : (next : ℕ) → EndsCommands g before s session date files xs a b (Ok code) → GoesOn (Ok next)
+        → EndsCommands g at s session' date files (xs ++ ys) a c (Ok (max code next))
     commands-more next (t, front, runs, is, keeps, appends, told) goes_on = joined (goes_on t is keeps)
       where
-        joined : EndsCommands g at t session' date files ys b c (Ok next) → EndsCommands g at s session' date files (xs ++ ys) a c (Ok (max code next))
+        joined : EndsCommands g at t session' date files ys b c (Ok next)
+            → EndsCommands g at s session' date files (xs ++ ys) a c (Ok (max code next))
         joined (u, back, runs', is', keeps', appends', told') = (
           u,
           front ++ back,
-          subst (λ acts. Runs Steps s acts u (front ++ back)) (sym (map-append (Perform date files) xs ys)) (runs-append Steps s t u (map (Perform date files) xs) (map (Perform date files) ys) front back runs runs'),
+          subst (λ acts. Runs Steps s acts u (front ++ back)) (sym (map-append (Perform date files) xs ys))
+              (runs-append Steps s t u (map (Perform date files) xs) (map (Perform date files) ys) front back runs
+              runs'),
           is',
           keeps',
-          subst (Appends a c) (sym (flat_map-append text front back)) (Appends-trans a b c (flat_map text front) (flat_map text back) appends appends'),
+          subst (Appends a c) (sym (flat_map-append text front back))
+              (Appends-trans a b c (flat_map text front) (flat_map text back) appends appends'),
           ap (λ n. max n next) told ∙ ap (λ n. max (job_code front) n) told' ∙ sym (codes-append front back),
         )
 
     -- commands, and then some that ended early
-    pub commands-stop : (e : JobError) → EndsCommands g before s session date files xs a b (Ok code) → GoesOn (Err e) → EndsEarly g at s (map (Perform date files) (xs ++ ys)) a c e
+    pub commands-stop : (e : JobError) → EndsCommands g before s session date files xs a b (Ok code) → GoesOn (Err e)
+        → EndsEarly g at s (map (Perform date files) (xs ++ ys)) a c e
     commands-stop e (t, front, runs, is, keeps, appends, told) goes_on =
         subst (λ acts. EndsEarly g at s acts a c e) (sym (map-append (Perform date files) xs ys))
-        (early-after g at s before t (map (Perform date files) xs) (map (Perform date files) ys) (flat_map text front) a b c e
+        (early-after g at s before t (map (Perform date files) xs) (map (Perform date files) ys) (flat_map text front) a
+        b c e
         (runs-printed s t (map (Perform date files) xs) front runs) keeps appends (goes_on t is keeps))
 
   -- with commands behind that were never begun
-  pub commands-early : (at : Held S) (s : State) (xs ys : List Command) (a b : Option (List ℕ)) (e : JobError) → EndsEarly g at s (map (Perform date files) xs) a b e → EndsEarly g at s (map (Perform date files) (xs ++ ys)) a b e
+  pub commands-early : (at : Held S) (s : State) (xs ys : List Command) (a b : Option (List ℕ)) (e : JobError)
+      → EndsEarly g at s (map (Perform date files) xs) a b e
+      → EndsEarly g at s (map (Perform date files) (xs ++ ys)) a b e
   commands-early at s xs ys a b e early =
       subst (λ acts. EndsEarly g at s acts a b e) (sym (map-append (Perform date files) xs ys))
       (early-more g at s (map (Perform date files) xs) (map (Perform date files) ys) a b e early)

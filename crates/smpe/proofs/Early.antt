@@ -18,7 +18,8 @@ use Rattle.smpe.specs.Ending.{EndsEarly, EndsAmong}
 
 module _ {S : Type 0} (g : Ghosts S) (at : Held S) (s : State) where
   -- the first of these acts had no effect
-  pub stopped-first : (a : Act) (more : List Act) (taken : Option (List ℕ)) → Stays g at s a → Stopped Prints kept s (a ∷ more) (TablesIfOpen g at) (Leaves g at) taken taken
+  pub stopped-first : (a : Act) (more : List Act) (taken : Option (List ℕ)) → Stays g at s a
+      → Stopped Prints kept s (a ∷ more) (TablesIfOpen g at) (Leaves g at) taken taken
   stopped-first a more taken stays = record {
     done = [];
     rest = a ∷ more;
@@ -32,7 +33,8 @@ module _ {S : Type 0} (g : Ghosts S) (at : Held S) (s : State) where
   }
 
   -- of the report of an act a beginning went out
-  pub broke-first : (a : Act) (t : State) (text : List ℕ) (old new : Option (List ℕ)) → Prints s a t text → Keeps g at t → WrotePart old new text → BrokeOff Prints kept s (a ∷ []) (Tables g at) (Leaves g at) old new
+  pub broke-first : (a : Act) (t : State) (text : List ℕ) (old new : Option (List ℕ)) → Prints s a t text → Keeps g at t
+      → WrotePart old new text → BrokeOff Prints kept s (a ∷ []) (Tables g at) (Leaves g at) old new
   broke-first a t text old new prints keeps part = record {
     done = [];
     last = a;
@@ -53,22 +55,30 @@ module _ {S : Type 0} (g : Ghosts S) (at : Held S) (s : State) where
 
   -- a run, and then a call that ended early
   module _ (before : Held S) (t : State) (xs ys : List Act) (bytes : List ℕ) (a b c : Option (List ℕ)) where
-    run : Runs Prints s xs t bytes → Keeps g before t → Appends a b bytes → Ran Prints kept s xs (Tables g before) (Leaves g before) a b
+    run : Runs Prints s xs t bytes → Keeps g before t → Appends a b bytes
+        → Ran Prints kept s xs (Tables g before) (Leaves g before) a b
     run runs keeps appends = record { end = t; bytes = bytes; runs = runs; stands = keeps; appends = appends }
 
-    pub early-after : (e : JobError) → Runs Prints s xs t bytes → Keeps g before t → Appends a b bytes → EndsEarly g at t ys b c e → EndsEarly g at s (xs ++ ys) a c e
+    pub early-after : (e : JobError) → Runs Prints s xs t bytes → Keeps g before t → Appends a b bytes
+        → EndsEarly g at t ys b c e → EndsEarly g at s (xs ++ ys) a c e
     unfolding run
-    early-after Memory runs keeps appends back = stopped-after Prints kept s xs ys (Tables g before) (Leaves g before) (TablesIfOpen g at) (Leaves g at) a b c (run runs keeps appends) back
-    early-after (Store store.Fault) runs keeps appends back = stopped-after Prints kept s xs ys (Tables g before) (Leaves g before) (TablesIfOpen g at) (Leaves g at) a b c (run runs keeps appends) back
+    early-after Memory runs keeps appends back = stopped-after Prints kept s xs ys (Tables g before) (Leaves g before)
+        (TablesIfOpen g at) (Leaves g at) a b c (run runs keeps appends) back
+    early-after (Store store.Fault) runs keeps appends back =
+        stopped-after Prints kept s xs ys (Tables g before) (Leaves g before) (TablesIfOpen g at) (Leaves g at) a b c
+        (run runs keeps appends) back
     early-after (Store store.OtherSchema) runs keeps appends back = back
     early-after (Store store.NoState) runs keeps appends back = back
     early-after (Store store.Memory) runs keeps appends back = back
-    early-after Write runs keeps appends back = broke-after Prints kept s xs ys (Tables g before) (Leaves g before) (Tables g at) (Leaves g at) a b c (run runs keeps appends) back
+    early-after Write runs keeps appends back = broke-after Prints kept s xs ys (Tables g before) (Leaves g before)
+        (Tables g at) (Leaves g at) a b c (run runs keeps appends) back
 
   -- with acts behind that were never begun
-  pub early-more : (xs ys : List Act) (a b : Option (List ℕ)) (e : JobError) → EndsEarly g at s xs a b e → EndsEarly g at s (xs ++ ys) a b e
+  pub early-more : (xs ys : List Act) (a b : Option (List ℕ)) (e : JobError) → EndsEarly g at s xs a b e
+      → EndsEarly g at s (xs ++ ys) a b e
   early-more xs ys a b Memory early = stopped-more Prints kept s xs ys (TablesIfOpen g at) (Leaves g at) a b early
-  early-more xs ys a b (Store store.Fault) early = stopped-more Prints kept s xs ys (TablesIfOpen g at) (Leaves g at) a b early
+  early-more xs ys a b (Store store.Fault) early = stopped-more Prints kept s xs ys (TablesIfOpen g at) (Leaves g at) a
+      b early
   early-more xs ys a b (Store store.OtherSchema) early = early
   early-more xs ys a b (Store store.NoState) early = early
   early-more xs ys a b (Store store.Memory) early = early
@@ -79,7 +89,8 @@ module _ {S : Type 0} (g : Ghosts S) (at : Held S) (s : State) where
   none_begun (job ∷ more) = inl refl
 
   -- want of memory before the first act
-  pub ends-unbegun : (jobs : List Job) (taken : Option (List ℕ)) → Keeps g at s → EndsAmong g at s jobs taken taken Memory
+  pub ends-unbegun : (jobs : List Job) (taken : Option (List ℕ)) → Keeps g at s
+      → EndsAmong g at s jobs taken taken Memory
   ends-unbegun jobs taken keeps = (
     [],
     none_begun jobs,

@@ -1,5 +1,6 @@
 -- Jobs one after another.
-use Rattle.std.proofs.Common.{◌≡◌, ℕ, List, [], ◌∷◌, ◌++◌, Option, Result, Ok, Err, refl, sym, ◌∙◌, ap, subst, append_assoc, append-nil, inl, inr}
+use Rattle.std.proofs.Common.{◌≡◌, ℕ, List, [], ◌∷◌, ◌++◌, Option, Result, Ok, Err, refl, sym, ◌∙◌, ap, subst}
+use Rattle.std.proofs.Common.{append_assoc, append-nil, inl, inr}
 use Rattle.std.specs.Result.{IsErrAnd}
 use Rattle.std.proofs.KnownBytes.{Appends-nil, Appends-trans}
 use Rattle.std.proofs.lemmas.Result.{err_from_is_err_and}
@@ -16,8 +17,10 @@ use Rattle.smpe.proofs.Early.{early-after}
 use Rattle.smpe.proofs.Printing.{runs-printed}
 
 -- one job more
-pub runs-more : (s t u : State) (jobs : List Job) (job : Job) (front back : List ℕ) (answers : List Answer) (answer : Answer)
-    → RunsJobs s jobs t front answers → RunsJob t job u back answer → RunsJobs s (jobs ++ job ∷ []) u (front ++ back) (answers ++ answer ∷ [])
+pub runs-more : (s t u : State) (jobs : List Job) (job : Job) (front back : List ℕ) (answers : List Answer)
+    (answer : Answer)
+    → RunsJobs s jobs t front answers → RunsJob t job u back answer
+    → RunsJobs s (jobs ++ job ∷ []) u (front ++ back) (answers ++ answer ∷ [])
 runs-more s t u [] job front back answers answer (at, none, no_answers) run = (
   u,
   back,
@@ -46,26 +49,32 @@ pub first-more : (jobs more : List Job) (acts : List Act) → AreFirstActs jobs 
 first-more [] [] acts is = is
 first-more [] (job ∷ more) acts is = inl is
 first-more (job ∷ jobs) more acts (inl is) = inl is
-first-more (job ∷ jobs) more acts (inr (front, back, has, rest, is)) = inr (front, back, has, first-more jobs more back rest, is)
+first-more (job ∷ jobs) more acts (inr (front, back, has, rest, is)) =
+    inr (front, back, has, first-more jobs more back rest, is)
 
 -- jobs that ran, as acts, with first acts of others behind
 pub acts-of-jobs : (s t : State) (jobs more : List Job) (bytes : List ℕ) (answers : List Answer) (back : List Act)
-    → RunsJobs s jobs t bytes answers → AreFirstActs more back → (acts : List Act) × Runs Prints s acts t bytes × AreFirstActs (jobs ++ more) (acts ++ back)
+    → RunsJobs s jobs t bytes answers → AreFirstActs more back
+    → (acts : List Act) × Runs Prints s acts t bytes × AreFirstActs (jobs ++ more) (acts ++ back)
 acts-of-jobs s t [] more bytes answers back (at, none, no_answers) first = ([], (at, none), first)
 acts-of-jobs s t (job ∷ jobs) more bytes answers back (m, front, later, answer, others, ran, rest, is, are) first =
     let behind = acts-of-jobs m t jobs more later others back rest first in (
       ran.acts ++ behind.0,
       subst (Runs Prints s (ran.acts ++ behind.0) t) (sym is)
-          (runs-append Prints s m t ran.acts behind.0 front later (subst (Runs Prints s ran.acts m) (sym ran.bytes_are) (runs-printed s m ran.acts ran.outcomes ran.runs)) behind.1),
+          (runs-append Prints s m t ran.acts behind.0 front later
+          (subst (Runs Prints s ran.acts m) (sym ran.bytes_are) (runs-printed s m ran.acts ran.outcomes ran.runs))
+          behind.1),
       inr (ran.acts, behind.0 ++ back, ran.has_acts, behind.2, append_assoc ran.acts behind.0 back),
     )
 
 module _ {S : Type 0} (g : Ghosts S) (s : State) where
-  pub jobs-none : (at : Held S) (taken : Option (List ℕ)) → Keeps g at s → EndsJobs g at s [] taken taken (λ answers. answers) (Ok [])
+  pub jobs-none : (at : Held S) (taken : Option (List ℕ)) → Keeps g at s
+      → EndsJobs g at s [] taken taken (λ answers. answers) (Ok [])
   jobs-none at taken keeps = (s, [], (refl, refl, refl), keeps, Appends-nil taken)
 
   -- the exit of a `?`
-  pub jobs-err : {V : Type 0} (at : Held S) (jobs : List Job) (a b : Option (List ℕ)) (answers : V → List Answer) (r : Result V JobError) (e : JobError)
+  pub jobs-err : {V : Type 0} (at : Held S) (jobs : List Job) (a b : Option (List ℕ)) (answers : V → List Answer)
+      (r : Result V JobError) (e : JobError)
       → IsErrAnd r (λ y. y ≡ e) → EndsAmong g at s jobs a b e → EndsJobs g at s jobs a b answers r
   jobs-err at jobs a b answers r e failed ends =
       let p = err_from_is_err_and r failed in
@@ -73,15 +82,24 @@ module _ {S : Type 0} (g : Ghosts S) (s : State) where
 
   module _ (before at : Held S) (jobs : List Job) (job : Job) (a b c : Option (List ℕ)) (answers : List Answer) where
     -- jobs, and then one more
-    pub jobs-more : (answer : Answer) → EndsJobs g before s jobs a b (λ told. told) (Ok answers) → ((t : State) → Keeps g before t → EndsJob g at t job b c (λ told. told) (Ok answer))
+    pub jobs-more : (answer : Answer) → EndsJobs g before s jobs a b (λ told. told) (Ok answers)
+        → ((t : State) → Keeps g before t → EndsJob g at t job b c (λ told. told) (Ok answer))
         → EndsJobs g at s (jobs ++ job ∷ []) a c (λ told. told) (Ok (answers ++ answer ∷ []))
     jobs-more answer (t, front, ran, keeps, appends) goes_on = joined (goes_on t keeps)
       where
-        joined : EndsJob g at t job b c (λ told. told) (Ok answer) → EndsJobs g at s (jobs ++ job ∷ []) a c (λ told. told) (Ok (answers ++ answer ∷ []))
-        joined (u, back, run, stands, appends') = (u, front ++ back, runs-more s t u jobs job front back answers answer ran run, stands, Appends-trans a b c front back appends appends')
+        joined : EndsJob g at t job b c (λ told. told) (Ok answer)
+            → EndsJobs g at s (jobs ++ job ∷ []) a c (λ told. told) (Ok (answers ++ answer ∷ []))
+        joined (u, back, run, stands, appends') = (
+          u,
+          front ++ back,
+          runs-more s t u jobs job front back answers answer ran run,
+          stands,
+          Appends-trans a b c front back appends appends',
+        )
 
     -- jobs, and then one that ended early, with others behind that were never begun
-    pub jobs-stop : (more : List Job) (e : JobError) → EndsJobs g before s jobs a b (λ told. told) (Ok answers) → ((t : State) → Keeps g before t → EndsAmong g at t (job ∷ []) b c e)
+    pub jobs-stop : (more : List Job) (e : JobError) → EndsJobs g before s jobs a b (λ told. told) (Ok answers)
+        → ((t : State) → Keeps g before t → EndsAmong g at t (job ∷ []) b c e)
         → EndsAmong g at s ((jobs ++ job ∷ []) ++ more) a c e
     jobs-stop more e (t, front, ran, keeps, appends) goes_on = joined (goes_on t keeps)
       where

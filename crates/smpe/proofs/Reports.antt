@@ -9,13 +9,20 @@ appends-none (Some xs) None keeps = absurd keeps
 appends-none (Some xs) (Some ys) keeps = keeps ∙ sym (append-nil xs)
 
 -- all of it, where the sink has not failed
-pub sent-all : (a b : Option (List ℕ)) (failed failed' : Bool) (text : List ℕ) → Sends a failed b failed' text → failed' ≡ false → Appends a b text
+pub sent-all : (a b : Option (List ℕ)) (failed failed' : Bool) (text : List ℕ) → Sends a failed b failed' text
+    → failed' ≡ false → Appends a b text
 sent-all a b false false text sends is = sends
 sent-all a b false true text sends is = cc
 sent-all a b true failed' text sends is = let e = sends.0 in cc
 
 -- a beginning, where it has
-pub sent-part : (a b : Option (List ℕ)) (failed failed' : Bool) (text : List ℕ) → Sends a failed b failed' text → failed' ≡ true → WrotePart a b text
+pub sent-part : (a b : Option (List ℕ)) (failed failed' : Bool) (text : List ℕ) → Sends a failed b failed' text
+    → failed' ≡ true → WrotePart a b text
 sent-part a b false false text sends is = cc
 sent-part a b false true text sends is = sends
-sent-part a b true failed' text sends is = record { piece = []; lost = text; text_is = refl; bytes = appends-none a b sends.1 }
+sent-part a b true failed' text sends is = record {
+  piece = [];
+  lost = text;
+  text_is = refl;
+  bytes = appends-none a b sends.1;
+}

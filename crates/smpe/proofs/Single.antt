@@ -1,5 +1,6 @@
 -- How one job ends.
-use Rattle.std.proofs.Common.{◌≡◌, ℕ, List, [], ◌∷◌, Option, None, Result, Ok, Err, map, refl, sym, ◌∙◌, ap, subst, append-nil, inl, inr}
+use Rattle.std.proofs.Common.{◌≡◌, ℕ, List, [], ◌∷◌, Option, None, Result, Ok, Err, map, refl, sym, ◌∙◌, ap, subst}
+use Rattle.std.proofs.Common.{append-nil, inl, inr}
 use Rattle.std.specs.List.{flat_map}
 use Rattle.std.specs.Io.KnownBytes.{Appends}
 use Rattle.std.specs.Result.{IsErrAnd}
@@ -14,7 +15,8 @@ use Rattle.machine.specs.State.{State, ZoneDefinition, define_zone}
 use Rattle.machine.specs.Outcome.{ControlFault, Control}
 use Rattle.machine.specs.Report.{text}
 use Rattle.machine.specs.Machine as machine
-use Rattle.machine.specs.Machine.{Files, Act, Begin, Perform, Faulty, Define, Prints, Job, RunFiles, NewZone, HasActs, AreFirstActs, RunsJob, Code, or_same, defined}
+use Rattle.machine.specs.Machine.{Files, Act, Begin, Perform, Faulty, Define, Prints, Job, RunFiles, NewZone, HasActs}
+use Rattle.machine.specs.Machine.{AreFirstActs, RunsJob, Code, or_same, defined}
 use Rattle.machine.specs.Runs.{Stopped}
 use Rattle.store_schema.specs.declared.error.StoreError.{StoreError}
 use Rattle.store_schema.specs.declared.error.StoreError.TheVariants as store
@@ -43,12 +45,15 @@ unset s = record s { boundary = None }
 abbrev control : CntlFault → ControlFault
 control fault = record { number = fault.number; code = fault.code }
 
-pub control-same : {n m : ℕ} {a b : CnCode} → n ≡ m → a ≡ b → text (Control (record { number = n; code = a })) ≡ text (Control (record { number = m; code = b }))
-control-same {n} {m} {a} {b} numbers codes = ap (λ k. text (Control (record { number = k; code = a }))) numbers ∙ ap (λ k. text (Control (record { number = m; code = k }))) codes
+pub control-same : {n m : ℕ} {a b : CnCode} → n ≡ m → a ≡ b → text (Control (record { number = n; code = a })) ≡ text
+    (Control (record { number = m; code = b }))
+control-same {n} {m} {a} {b} numbers codes = ap (λ k. text (Control (record { number = k; code = a }))) numbers
+    ∙ ap (λ k. text (Control (record { number = m; code = k }))) codes
 
 module _ {S : Type 0} (g : Ghosts S) (at : Held S) (s : State) where
   -- the exit of a `?`
-  pub job-err : {V : Type 0} (job : Job) (a b : Option (List ℕ)) (answer : V → machine.Answer) (r : Result V JobError) (e : JobError)
+  pub job-err : {V : Type 0} (job : Job) (a b : Option (List ℕ)) (answer : V → machine.Answer) (r : Result V JobError)
+      (e : JobError)
       → IsErrAnd r (λ y. y ≡ e) → EndsAmong g at s (job ∷ []) a b e → EndsJob g at s job a b answer r
   job-err job a b answer r e failed ends =
       let p = err_from_is_err_and r failed in
@@ -56,7 +61,8 @@ module _ {S : Type 0} (g : Ghosts S) (at : Held S) (s : State) where
 
   module _ (date : Text) (cntl : List ℕ) (files : Files) where
     -- the command file is at fault, and that is reported
-    pub faulty-ran : (fault : CntlFault) (old new : Option (List ℕ)) (code : ℕ) → IsCommandFileFault cntl fault → Keeps g at s → Appends old new (text (Control (control fault))) → code ≡ 12
+    pub faulty-ran : (fault : CntlFault) (old new : Option (List ℕ)) (code : ℕ) → IsCommandFileFault cntl fault
+        → Keeps g at s → Appends old new (text (Control (control fault))) → code ≡ 12
         → EndsJob g at s (RunFiles date cntl files) old new Code (Ok code)
     faulty-ran fault old new code is keeps appends told = (
       unset s,
@@ -65,7 +71,14 @@ module _ {S : Type 0} (g : Ghosts S) (at : Held S) (s : State) where
         acts = Begin ∷ Faulty (control fault) ∷ [];
         has_acts = inr (fault, is, refl);
         outcomes = Control (control fault) ∷ [];
-        runs = (unset s, [], Control (control fault) ∷ [], (refl, refl), (unset s, Control (control fault) ∷ [], [], (refl, refl), (refl, refl), refl), refl);
+        runs = (
+          unset s,
+          [],
+          Control (control fault) ∷ [],
+          (refl, refl),
+          (unset s, Control (control fault) ∷ [], [], (refl, refl), (refl, refl), refl),
+          refl,
+        );
         bytes_are = refl;
         answers = ap Code told;
       },
@@ -74,7 +87,8 @@ module _ {S : Type 0} (g : Ghosts S) (at : Held S) (s : State) where
     )
 
     -- the report of that broke off
-    pub faulty-broke : (fault : CntlFault) (old new : Option (List ℕ)) → IsCommandFileFault cntl fault → Keeps g at s → WrotePart old new (text (Control (control fault)))
+    pub faulty-broke : (fault : CntlFault) (old new : Option (List ℕ)) → IsCommandFileFault cntl fault → Keeps g at s
+        → WrotePart old new (text (Control (control fault)))
         → EndsAmong g at s (RunFiles date cntl files ∷ []) old new Write
     faulty-broke fault old new is keeps part = (
       Begin ∷ Faulty (control fault) ∷ [],
@@ -99,19 +113,27 @@ module _ {S : Type 0} (g : Ghosts S) (at : Held S) (s : State) where
     )
 
     -- the job could not begin
-    pub unbegun : (cs : List Command) (taken : Option (List ℕ)) (e : StoreError) → IsCommandFile cntl cs → HasBegun g at s (Err e) → EndsAmong g at s (RunFiles date cntl files ∷ []) taken taken (job_error e)
-    unbegun cs taken e is begun =
-        (Begin ∷ map (Perform date files) cs, one-job (RunFiles date cntl files) (Begin ∷ map (Perform date files) cs) (inl (cs, is, refl)), by_error e begun)
+    pub unbegun : (cs : List Command) (taken : Option (List ℕ)) (e : StoreError) → IsCommandFile cntl cs
+        → HasBegun g at s (Err e) → EndsAmong g at s (RunFiles date cntl files ∷ []) taken taken (job_error e)
+    unbegun cs taken e is begun = (
+      Begin ∷ map (Perform date files) cs,
+      one-job (RunFiles date cntl files) (Begin ∷ map (Perform date files) cs)
+          (inl (cs, is, refl)),
+      by_error e begun,
+    )
       where
-        by_error : (e : StoreError) → HasBegun g at s (Err e) → EndsEarly g at s (Begin ∷ map (Perform date files) cs) taken taken (job_error e)
+        by_error : (e : StoreError) → HasBegun g at s (Err e)
+            → EndsEarly g at s (Begin ∷ map (Perform date files) cs) taken taken (job_error e)
         by_error store.Fault stays = stopped-first g at s Begin (map (Perform date files) cs) taken stays
         by_error store.Memory stays = stopped-first g at s Begin (map (Perform date files) cs) taken stays
         by_error store.OtherSchema impossible = absurd impossible
         by_error store.NoState impossible = absurd impossible
 
     -- it began, and its commands ended so
-    pub begun : (before : Held S) (session : Session) (cs : List Command) (old new : Option (List ℕ)) (r : Result ℕ JobError) → IsCommandFile cntl cs → Keeps g before s
-        → EndsCommands g at (unset s) session date files cs old new r → EndsJob g at s (RunFiles date cntl files) old new Code r
+    pub begun : (before : Held S) (session : Session) (cs : List Command) (old new : Option (List ℕ))
+        (r : Result ℕ JobError) → IsCommandFile cntl cs → Keeps g before s
+        → EndsCommands g at (unset s) session date files cs old new r
+        → EndsJob g at s (RunFiles date cntl files) old new Code r
     begun before session cs old new (Ok code) is keeps (t, outcomes, runs, of, stands, appends, told) = (
       t,
       flat_map text outcomes,
@@ -134,7 +156,8 @@ module _ {S : Type 0} (g : Ghosts S) (at : Held S) (s : State) where
     )
 
   module _ (d : ZoneDefinition) (taken : Option (List ℕ)) where
-    runs-define : (t : State) (answer : machine.Answer) → t ≡ or_same s (define_zone s d) → answer ≡ defined (define_zone s d) → RunsJob s (NewZone d) t [] answer
+    runs-define : (t : State) (answer : machine.Answer) → t ≡ or_same s (define_zone s d)
+        → answer ≡ defined (define_zone s d) → RunsJob s (NewZone d) t [] answer
     runs-define t answer leads told = record {
       acts = Define d ∷ [];
       has_acts = refl;
@@ -144,29 +167,54 @@ module _ {S : Type 0} (g : Ghosts S) (at : Held S) (s : State) where
       answers = told;
     }
 
-    pub define-done : (t : State) → define_zone s d ≡ Ok t → Keeps g at t → EndsJob g at s (NewZone d) taken taken (λ answer. answer) (Ok machine.Defined)
-    define-done t is keeps = (t, [], runs-define t machine.Defined (sym (ap (or_same s) is)) (sym (ap defined is)), keeps, Appends-nil taken)
+    pub define-done : (t : State) → define_zone s d ≡ Ok t → Keeps g at t
+        → EndsJob g at s (NewZone d) taken taken (λ answer. answer) (Ok machine.Defined)
+    define-done t is keeps = (
+      t,
+      [],
+      runs-define t machine.Defined (sym (ap (or_same s) is)) (sym (ap defined is)),
+      keeps,
+      Appends-nil taken,
+    )
 
     -- an error that is this one
     abbrev Fails : ZoneError → Type 0
     Fails e = HasDefined g at s d {U = ℕ} (Err e)
 
-    pub define-refused : (why : ZoneFault) (e : ZoneError) → e ≡ zone_error.Refused why → Fails e → EndsJob g at s (NewZone d) taken taken (λ answer. answer) (Ok (machine.NotDefined (fault_of why)))
+    pub define-refused : (why : ZoneFault) (e : ZoneError) → e ≡ zone_error.Refused why → Fails e
+        → EndsJob g at s (NewZone d) taken taken (λ answer. answer) (Ok (machine.NotDefined (fault_of why)))
     define-refused why e told fails = by_fault (subst Fails told fails)
       where
-        by_fault : Fails (zone_error.Refused why) → EndsJob g at s (NewZone d) taken taken (λ answer. answer) (Ok (machine.NotDefined (fault_of why)))
-        by_fault (is, keeps) = (s, [], runs-define s (machine.NotDefined (fault_of why)) (sym (ap (or_same s) is)) (sym (ap defined is)), keeps, Appends-nil taken)
+        by_fault : Fails (zone_error.Refused why) → EndsJob g at s (NewZone d) taken taken (λ answer. answer)
+            (Ok (machine.NotDefined (fault_of why)))
+        by_fault (is, keeps) = (
+          s,
+          [],
+          runs-define s (machine.NotDefined (fault_of why)) (sym (ap (or_same s) is))
+              (sym (ap defined is)),
+          keeps,
+          Appends-nil taken,
+        )
 
-    unbegun-definition : Stays g at s (Define d) → (acts : List Act) × AreFirstActs (NewZone d ∷ []) acts × Stopped Prints kept s acts (TablesIfOpen g at) (Leaves g at) taken taken
-    unbegun-definition stays = (Define d ∷ [], one-job (NewZone d) (Define d ∷ []) refl, stopped-first g at s (Define d) [] taken stays)
+    unbegun-definition : Stays g at s (Define d) → (acts : List Act) × AreFirstActs (NewZone d ∷ []) acts
+        × Stopped Prints kept s acts (TablesIfOpen g at) (Leaves g at) taken taken
+    unbegun-definition stays = (
+      Define d ∷ [],
+      one-job (NewZone d) (Define d ∷ []) refl,
+      stopped-first g at s (Define d) [] taken stays,
+    )
 
-    pub define-memory : (e : ZoneError) → e ≡ zone_error.Memory → Fails e → EndsAmong g at s (NewZone d ∷ []) taken taken Memory
+    pub define-memory : (e : ZoneError) → e ≡ zone_error.Memory → Fails e
+        → EndsAmong g at s (NewZone d ∷ []) taken taken Memory
     define-memory e told fails = unbegun-definition (subst Fails told fails)
 
-    pub define-fault : (fault : StoreError) (e : ZoneError) (result : JobError) → e ≡ zone_error.Store fault → result ≡ job_error fault → Fails e → EndsAmong g at s (NewZone d ∷ []) taken taken result
-    define-fault fault e result told becomes fails = subst (EndsAmong g at s (NewZone d ∷ []) taken taken) (sym becomes) (by_fault fault (subst Fails told fails))
+    pub define-fault : (fault : StoreError) (e : ZoneError) (result : JobError) → e ≡ zone_error.Store fault
+        → result ≡ job_error fault → Fails e → EndsAmong g at s (NewZone d ∷ []) taken taken result
+    define-fault fault e result told becomes fails = subst (EndsAmong g at s (NewZone d ∷ []) taken taken) (sym becomes)
+        (by_fault fault (subst Fails told fails))
       where
-        by_fault : (fault : StoreError) → Fails (zone_error.Store fault) → EndsAmong g at s (NewZone d ∷ []) taken taken (job_error fault)
+        by_fault : (fault : StoreError) → Fails (zone_error.Store fault)
+            → EndsAmong g at s (NewZone d ∷ []) taken taken (job_error fault)
         by_fault store.Fault stays = unbegun-definition stays
         by_fault store.Memory impossible = absurd impossible
         by_fault store.OtherSchema impossible = absurd impossible

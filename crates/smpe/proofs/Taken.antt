@@ -4,9 +4,11 @@ use Rattle.std.proofs.lemmas.List.{take_more, take-append-drop, map-append}
 
 module _ {A B : Type 0} (f : A → B) (xs : List A) (i : ℕ) (x : A) where
   pub taken-more : i < length xs → x ≡ get_or xs i x → map f (take (i + 1) xs) ≡ map f (take i xs) ++ f x ∷ []
-  taken-more below is = ap (map f) (take_more xs i x below ∙ ap (λ y. take i xs ++ y ∷ []) (sym is)) ∙ map-append f (take i xs) (x ∷ [])
+  taken-more below is = ap (map f) (take_more xs i x below ∙ ap (λ y. take i xs ++ y ∷ []) (sym is))
+      ∙ map-append f (take i xs) (x ∷ [])
 
-  pub taken-split : i < length xs → x ≡ get_or xs i x → map f xs ≡ (map f (take i xs) ++ f x ∷ []) ++ map f (drop (i + 1) xs)
+  pub taken-split : i < length xs → x ≡ get_or xs i x → map f xs ≡ (map f (take i xs) ++ f x ∷ [])
+      ++ map f (drop (i + 1) xs)
   taken-split below is =
       ap (map f) (sym (take-append-drop (i + 1) xs)) ∙ map-append f (take (i + 1) xs) (drop (i + 1) xs)
       ∙ ap (λ ys. ys ++ map f (drop (i + 1) xs)) (taken-more below is)

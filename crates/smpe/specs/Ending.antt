@@ -50,13 +50,15 @@ module _ {S : Type 0} (g : Ghosts S) (at : Held S) (s : State) where
 
   -- The job ran, and this is its answer: the tables stand for what it led to, a crash leaves that, and its bytes went
   -- out.
-  abbrev pub EndsJob : machine.Job → Option (List ℕ) → Option (List ℕ) → {V : Type 0} → (V → machine.Answer) → Result V JobError → Type 0
+  abbrev pub EndsJob : machine.Job → Option (List ℕ) → Option (List ℕ) → {V : Type 0} → (V → machine.Answer)
+      → Result V JobError → Type 0
   EndsJob job old new answer (Ok v) =
       (t : State) × (bytes : List ℕ) × RunsJob s job t bytes (answer v) × Keeps g at t × Appends old new bytes
   EndsJob job old new answer (Err error) = EndsAmong (job ∷ []) old new error
 
   -- All jobs ran one after the other, and these are their answers.
-  abbrev pub EndsJobs : List machine.Job → Option (List ℕ) → Option (List ℕ) → {V : Type 0} → (V → List machine.Answer) → Result V JobError → Type 0
+  abbrev pub EndsJobs : List machine.Job → Option (List ℕ) → Option (List ℕ) → {V : Type 0} → (V → List machine.Answer)
+      → Result V JobError → Type 0
   EndsJobs jobs old new answers (Ok v) =
       (t : State) × (bytes : List ℕ) × RunsJobs s jobs t bytes (answers v) × Keeps g at t × Appends old new bytes
   EndsJobs jobs old new answers (Err error) = EndsAmong jobs old new error

@@ -30,8 +30,10 @@ fn run_command<S: Alter, W: Sink>(
     w: &mut W,
 ) -> Result<u8, JobError>
     ensures clean { HasCleanDisk (state S.Store store.new) → HasCleanDisk (state S.Store store.old) }
-    ensures ended { HasCleanDisk (state S.Store store.new) → (s : State) → IsSessionOf s session.old → Keeps S.Store store.old s
-        → EndsCommands S.Store store.new s session.new date files.now (command_of command.now ∷ []) (W.taken w.old) (W.taken w.new) result }
+    ensures ended { HasCleanDisk (state S.Store store.new) → (s : State) → IsSessionOf s session.old
+        → Keeps S.Store store.old s
+        → EndsCommands S.Store store.new s session.new date files.now (command_of command.now ∷ []) (W.taken w.old)
+        (W.taken w.new) result }
     ensures fault { W.has_failed w.old ≡ false → W.has_failed w.new ≡ is_write result }
 {
     let outcome = session.perform(alloc, store, date, files, command)?;
@@ -49,8 +51,10 @@ fn run_commands<S: Alter, W: Sink>(
     w: &mut W,
 ) -> Result<u8, JobError>
     ensures clean { HasCleanDisk (state S.Store store.new) → HasCleanDisk (state S.Store store.old) }
-    ensures ended { HasCleanDisk (state S.Store store.new) → (s : State) → IsSessionOf s session.old → Keeps S.Store store.old s
-        → EndsCommands S.Store store.new s session.new date files.now (map command_of commands.now) (W.taken w.old) (W.taken w.new) result }
+    ensures ended { HasCleanDisk (state S.Store store.new) → (s : State) → IsSessionOf s session.old
+        → Keeps S.Store store.old s
+        → EndsCommands S.Store store.new s session.new date files.now (map command_of commands.now) (W.taken w.old)
+        (W.taken w.new) result }
     ensures fault { W.has_failed w.old ≡ false → W.has_failed w.new ≡ is_write result }
 {
     let mut code: u8 = 0;
@@ -74,7 +78,8 @@ pub fn run_job<S: Alter, W: Sink>(
 ) -> Result<u8, JobError>
     ensures clean { HasCleanDisk (state S.Store store.new) → HasCleanDisk (state S.Store store.old) }
     ensures ended { HasCleanDisk (state S.Store store.new) → (s : State) → Keeps S.Store store.old s
-        → EndsJob S.Store store.new s (RunFiles date cntl.now (record { ptfin = ptfin.now; holds = hold.now })) (W.taken w.old) (W.taken w.new) Code result }
+        → EndsJob S.Store store.new s (RunFiles date cntl.now (record { ptfin = ptfin.now; holds = hold.now }))
+        (W.taken w.old) (W.taken w.new) Code result }
     ensures fault { W.has_failed w.old ≡ false → W.has_failed w.new ≡ is_write result }
 {
     let commands = match read_cntl(alloc, cntl) {

@@ -52,7 +52,8 @@ fn define<S: Alter>(
     related: Option<ZoneName>,
 ) -> Result<Answer, JobError>
     ensures clean { HasCleanDisk (state S.Store store.new) → HasCleanDisk (state S.Store store.old) }
-    ensures ended { HasCleanDisk (state S.Store store.new) → (s : State) → Keeps S.Store store.old s → (taken : Option (List ℕ))
+    ensures ended { HasCleanDisk (state S.Store store.new) → (s : State) → Keeps S.Store store.old s
+        → (taken : Option (List ℕ))
         → EndsJob S.Store store.new s (NewZone (definition name kind srel related)) taken taken answer_of result }
     ensures fault { is_write result ≡ false }
 {
@@ -104,7 +105,8 @@ pub fn run_jobs<S: Alter, W: Sink>(
 ) -> Result<Vec<Answer>, JobError>
     ensures clean { HasCleanDisk (state S.Store store.new) → HasCleanDisk (state S.Store store.old) }
     ensures ended { HasCleanDisk (state S.Store store.new) → (s : State) → Keeps S.Store store.old s
-        → EndsJobs S.Store store.new s (map job_of jobs.now) (W.taken w.old) (W.taken w.new) (λ v. map answer_of v.items) result }
+        → EndsJobs S.Store store.new s (map job_of jobs.now) (W.taken w.old) (W.taken w.new)
+        (λ v. map answer_of v.items) result }
     ensures fault { W.has_failed w.old ≡ false → W.has_failed w.new ≡ is_write result }
 {
     let mut answers = Vec::with_capacity(alloc, jobs.len())?;

@@ -4,7 +4,8 @@ ghost use Rattle.report.specs.Sent.{Sent};
 ghost use Rattle.machine.specs.Machine.{Defined, NotDefined};
 ghost use Rattle.smpe_zones.specs.Definitions.{fault_of};
 ghost use Rattle.smpe.specs.Ending.{answer_of};
-ghost use Rattle.smpe.specs.Messages.{answer_status, fault_status, fault_text, job_text, program_line, refused_text, store_text, zone_fault_text, zone_text};
+ghost use Rattle.smpe.specs.Messages.{answer_status, fault_status, fault_text, job_text, program_line, refused_text};
+ghost use Rattle.smpe.specs.Messages.{store_text, zone_fault_text, zone_text};
 
 use crate::error::JobError;
 use crate::jobs::Answer;

@@ -1,5 +1,7 @@
 -- From the numbers of candidates to their ids: who is kept, and why each other one is not.
-use Rattle.std.proofs.Common.{◌≡◌, inl, inr, ℕ, ◌<◌, Bool, false, not, List, [], ◌∷◌, length, map, filter, Some, IsTrue, Contains, refl, sym, ap, ◌∙◌, subst, true≢false, arith, slice_get, slice_index_or, get_or, take_all}
+use Rattle.std.proofs.Common.{◌≡◌, inl, inr, ℕ, ◌<◌, Bool, false, not, List, [], ◌∷◌, length, map, filter, Some, IsTrue}
+use Rattle.std.proofs.Common.{Contains, refl, sym, ap, ◌∙◌, subst, true≢false, arith, slice_get, slice_index_or, get_or}
+use Rattle.std.proofs.Common.{take_all}
 use Rattle.std.specs.Prelude.{All, AllPairs, Vec, ◌↔◌, ◌==◌}
 use Rattle.std.specs.List.{list_any}
 use Rattle.std.specs.declared.alloc.Global.{Global as Heap}
@@ -34,14 +36,16 @@ use Rattle.smpe_apply.specs.declared.failures.Findings.{Findings}
 use Rattle.smpe_apply.specs.Open.{HaveOpen}
 use Rattle.smpe_apply.specs.Findings.{IsFailureAt, IsFailed, AreFailures}
 
-pub one-number : (ids : List Id) → IsRising ids → (n m : ℕ) (x : Id) → slice_get ids n ≡ Some x → slice_get ids m ≡ Some x → n ≡ m
+pub one-number : (ids : List Id) → IsRising ids → (n m : ℕ) (x : Id) → slice_get ids n ≡ Some x
+    → slice_get ids m ≡ Some x → n ≡ m
 one-number ids rising n m x at_n at_m = elim (cases_eq n m) [
   | inl same ↦ same
   | inr other ↦ absurd (two-places ids rising n m x x at_n at_m other refl)
 ]
 
 -- ids at places that rise, rise
-pub rising-at : (ids : List Id) (places : List ℕ) → IsRising ids → AllPairs (λ a b. a < b) places → All (λ m. m < length ids) places
+pub rising-at : (ids : List Id) (places : List ℕ) → IsRising ids → AllPairs (λ a b. a < b) places
+    → All (λ m. m < length ids) places
     → IsRising (map (λ m. slice_index_or ids m []) places)
 rising-at ids places rising up within =
     pairs_map (λ a b. (a < b) × (b < length ids)) (λ x y. IsTrue (is_before x y)) (λ m. slice_index_or ids m [])
@@ -49,11 +53,13 @@ rising-at ids places rising up within =
     (λ i j d less below. (up i j d less below, within j d below))
 
 module _ (ids kept : List Id) (E : Id → Type 0) (N : Id → NeedKind → Id → Type 0) (S : NeedKind → Id → Id → Type 0)
-    (p : Problem) (needed : List (NeedKind × Id)) (h : IsProblemOf E N S ids p needed) (rising : IsRising ids) (flags : List Bool)
+    (p : Problem) (needed : List (NeedKind × Id)) (h : IsProblemOf E N S ids p needed) (rising : IsRising ids)
+    (flags : List Bool)
     (members : (x : Id) → Contains kept x ↔ ((n : ℕ) × (slice_get ids n ≡ Some x) × IsTrue (holds flags n))) where
   same : (n : ℕ) (x : Id) → slice_get ids n ≡ Some x → Contains kept x ↔ IsTrue (holds flags n)
   same n x at = (
-    λ there. let w = (members x).0 there in subst (λ k. IsTrue (holds flags k)) (one-number ids rising w.0 n x w.1 at) w.2,
+    λ there. let w = (members x).0 there in subst (λ k. IsTrue (holds flags k)) (one-number ids rising w.0 n x w.1 at)
+        w.2,
     λ on. (members x).1 (n, at, on),
   )
 
@@ -64,30 +70,37 @@ module _ (ids kept : List Id) (E : Id → Type 0) (N : Id → NeedKind → Id �
   once = one-number ids rising
 
   -- the id of each number that serves
-  id-of : (d : Demand) (i : ℕ) → slice_get p.demands i ≡ Some d → (m : ℕ) → Contains d.any m → (y : Id) × (slice_get ids m ≡ Some y)
+  id-of : (d : Demand) (i : ℕ) → slice_get p.demands i ≡ Some d → (m : ℕ) → Contains d.any m
+      → (y : Id) × (slice_get ids m ≡ Some y)
   id-of d i at m there =
       let found = found_at d.any m there in
-      let below = All-found (λ k. k < p.size) d.any found.0 m (All-found (IsDemand p.size) p.demands i d h.numbers.demands at).any found.1 in
+      let below = All-found (λ k. k < p.size) d.any found.0 m
+      (All-found (IsDemand p.size) p.demands i d h.numbers.demands at).any found.1 in
       (slice_index_or ids m [], slice_get-get_or ids m [] (subst (λ k. m < k) h.size below))
 
-  unserved-id : (d : Demand) (i : ℕ) (kind : NeedKind) (z : Id) → slice_get p.demands i ≡ Some d → slice_get needed i ≡ Some (kind, z)
+  unserved-id : (d : Demand) (i : ℕ) (kind : NeedKind) (z : Id) → slice_get p.demands i ≡ Some d
+      → slice_get needed i ≡ Some (kind, z)
       → list_any (holds flags) d.any ≡ false → (y : Id) → Contains kept y → ¬ S kind y z
   unserved-id d i kind z at need none y there serves =
       let place = found_at ids y (within y there) in
       let spot = found_at d.any place.0 (((h.demands i d (kind, z) at need).any place.0 y place.1).1 serves) in
-      let off = All-found (λ j. holds flags j ≡ false) d.any spot.0 place.0 (All-from_no_list_any (holds flags) d.any none) spot.1 in
+      let off = All-found (λ j. holds flags j ≡ false) d.any spot.0 place.0
+      (All-from_no_list_any (holds flags) d.any none) spot.1 in
       true≢false (sym ((same place.0 y place.1).0 there) ∙ off)
 
-  unserved-number : (d : Demand) (i : ℕ) (kind : NeedKind) (z : Id) → slice_get p.demands i ≡ Some d → slice_get needed i ≡ Some (kind, z)
+  unserved-number : (d : Demand) (i : ℕ) (kind : NeedKind) (z : Id) → slice_get p.demands i ≡ Some d
+      → slice_get needed i ≡ Some (kind, z)
       → ((y : Id) → Contains kept y → ¬ S kind y z) → list_any (holds flags) d.any ≡ false
   unserved-number d i kind z at need unserved =
       list_any_none (holds flags) d.any (λ k m below.
       let v = slice_index_or d.any k m in
       let there : Contains d.any v = contains_at d.any k v (slice_get-get_or d.any k m below) in
       let y = id-of d i at v there in
-      false_from_ne_true (holds flags v) (λ on. unserved y.0 ((same v y.0 y.1).1 on) (((h.demands i d (kind, z) at need).any v y.0 y.1).0 there)))
+      false_from_ne_true (holds flags v) (λ on. unserved y.0 ((same v y.0 y.1).1 on)
+      (((h.demands i d (kind, z) at need).any v y.0 y.1).0 there)))
 
-  module _ (rows : List (Vec (NeedKind × Id) Heap)) (opened : HaveOpen flags p.demands needed (length needed) rows) where
+  module _ (rows : List (Vec (NeedKind × Id) Heap)) (opened :
+      HaveOpen flags p.demands needed (length needed) rows) where
     -- the open needs of a number are those of its id
     pub open-needs : (n : ℕ) (x : Id) → slice_get ids n ≡ Some x → (kind : NeedKind) (z : Id)
         → Contains (row_at rows n) (kind, z) ↔ IsOpenNeed ids kept E N S x kind z
@@ -96,7 +109,8 @@ module _ (ids kept : List Id) (E : Id → Type 0) (N : Id → NeedKind → Id �
           let w = (opened n (kind, z)).0 there in
           let both = and_parts (w.1.of == n) (not (list_any (holds flags) w.1.any)) w.5 in
           let meant = (h.demands w.0 w.1 (kind, z) w.3 w.4).of in
-          let whose : meant.0 ≡ x = same_Some meant.0 x (sym meant.1 ∙ ap (slice_get ids) (eqb-true w.1.of n both.0) ∙ at) in
+          let whose : meant.0 ≡ x = same_Some meant.0 x (sym meant.1 ∙ ap (slice_get ids) (eqb-true w.1.of n both.0)
+          ∙ at) in
           record {
             needs = subst (λ v. N v kind z) whose meant.2;
             unserved = unserved-id w.1 w.0 kind z w.3 w.4 (not-true (list_any (holds flags) w.1.any) both.1);
@@ -114,7 +128,8 @@ module _ (ids kept : List Id) (E : Id → Type 0) (N : Id → NeedKind → Id �
           ),
     )
 
-  module _ (rows : List (Vec ℕ Heap)) (exact : (x y : ℕ) → Contains (row_at rows x) y ↔ numbered.IsCauser p flags x y) where
+  module _ (rows : List (Vec ℕ Heap)) (exact : (x y : ℕ) → Contains (row_at rows x) y ↔ numbered.IsCauser p flags x
+      y) where
     -- the causers of a number are those of its id
     pub causers-are : (n : ℕ) (x : Id) → slice_get ids n ≡ Some x → (y : Id)
         → Contains (map (λ m. slice_index_or ids m []) (row_at rows n)) y ↔ IsCauser ids kept E N S x y
@@ -129,16 +144,20 @@ module _ (ids kept : List Id) (E : Id → Type 0) (N : Id → NeedKind → Id �
           let m = found_at ids y causer.root.failed.cand in
           let number = causer_number ids kept E N S p needed h flags same within once n m.0 x y at m.1 causer in
           let there = in_map (λ m. slice_index_or ids m []) (row_at rows n) m.0 ((exact n m.0).1 number) in
-          subst (Contains (map (λ m. slice_index_or ids m []) (row_at rows n))) (get_or_from_slice_get ids m.0 y [] m.1) there,
+          subst (Contains (map (λ m. slice_index_or ids m []) (row_at rows n))) (get_or_from_slice_get ids m.0 y [] m.1)
+          there,
     )
 
 -- causers are candidates
 pub causers-within : (p : Problem) (flags : List Bool) (rows : List (Vec ℕ Heap))
-    → ((x y : ℕ) → Contains (row_at rows x) y ↔ numbered.IsCauser p flags x y) → (n : ℕ) → All (λ m. m < p.size) (row_at rows n)
-causers-within p flags rows exact n k d below = ((exact n (get_or (row_at rows n) k d)).0 (Contains-get_or (row_at rows n) k d below)).0.0.0
+    → ((x y : ℕ) → Contains (row_at rows x) y ↔ numbered.IsCauser p flags x y) → (n : ℕ)
+    → All (λ m. m < p.size) (row_at rows n)
+causers-within p flags rows exact n k d below = ((exact n (get_or (row_at rows n) k d)).0
+    (Contains-get_or (row_at rows n) k d below)).0.0.0
 
 -- What is found of the candidates by their places decides all.
-module _ (s : Setting) (rising : IsRising s.cands) (p : Problem) (needed : List (NeedKind × Id)) (h : IsInstallProblem s p needed)
+module _ (s : Setting) (rising : IsRising s.cands) (p : Problem) (needed : List (NeedKind × Id))
+    (h : IsInstallProblem s p needed)
     (flags : List Bool) (are_kept : AreKept p flags) (kept : List Id) (kept_rising : IsRising kept)
     (members : (x : Id) → Contains kept x ↔ ((n : ℕ) × (slice_get s.cands n ≡ Some x) × IsTrue (holds flags n))) where
   abbrev E : Id → Type 0
@@ -157,7 +176,8 @@ module _ (s : Setting) (rising : IsRising s.cands) (p : Problem) (needed : List 
         stays_from_kept s.cands E N S p needed h.problem w.0 x w.1 ((are_kept.members w.0).0 w.2),
     λ stays.
         let place = found_at s.cands x (stays.1.eligible x stays.2).0.0.0 in
-        let on = (are_kept.members place.0).1 (kept_from_stays s.cands E N S p needed h.problem (λ y eligible. eligible.0.0.0) place.0 x place.1 stays) in
+        let on = (are_kept.members place.0).1 (kept_from_stays s.cands E N S p needed h.problem
+        (λ y eligible. eligible.0.0.0) place.0 x place.1 stays) in
         (members x).1 (place.0, place.1, on),
   )
 
@@ -170,16 +190,19 @@ module _ (s : Setting) (rising : IsRising s.cands) (p : Problem) (needed : List 
         → IsFailure s.cands kept (Fails s) E N S x f
     failure n x f at is = record {
       fails = tests.fails x;
-      tests = is.tests_are ∙ get_or_from_slice_get (map (λ row. row.items) found.tests.items) n (filter (tests.fails x) all_tests) [] (tests.rows_are n x at);
+      tests = is.tests_are ∙ get_or_from_slice_get (map (λ row. row.items) found.tests.items) n
+          (filter (tests.fails x) all_tests) [] (tests.rows_are n x at);
       failed = tests.failed n x at;
       ids_of = is.needs.ids_of;
       needs = is.needs.needs_are;
       ids_rising = λ kind. (is.needs.are_ids kind).rising;
       are_open = λ kind z.
           let own = (is.needs.are_ids kind).members z in
-          let same = open-needs s.cands kept E N S p needed h.problem rising flags members found.unserved.items opened n x at kind z in
+          let same = open-needs s.cands kept E N S p needed h.problem rising flags members found.unserved.items opened n
+          x at kind z in
           (λ there. same.0 (own.0 there), λ need. own.1 (same.1 need));
-      causers_rising = subst IsRising (sym is.causers_are) (rising-at s.cands (row_at found.causers.items n) rising (up n) (within n));
+      causers_rising = subst IsRising (sym is.causers_are) (rising-at s.cands (row_at found.causers.items n) rising
+          (up n) (within n));
       causers = λ y. subst (λ l. Contains l y ↔ IsCauser s.cands kept E N S x y) (sym is.causers_are)
           (causers-are s.cands kept E N S p needed h.problem rising flags members found.causers.items exact n x at y);
     }
@@ -187,18 +210,22 @@ module _ (s : Setting) (rising : IsRising s.cands) (p : Problem) (needed : List 
     abbrev Fits : Id × machine.Failure → Type 0
     Fits q = IsFailure s.cands kept (Fails s) E N S q.0 q.1
 
-    pub decided : (end : ℕ) (failed : List (Id × Failure)) → length s.cands ≡ end → AreFailures s.cands kept found end failed
+    pub decided : (end : ℕ) (failed : List (Id × Failure)) → length s.cands ≡ end
+        → AreFailures s.cands kept found end failed
         → IsDecided s kept (map (λ f. (f.0, failure_view f.1)) failed)
     decided end failed whole are = record {
       survivors = h.survivors;
       are_survivors = h.are_survivors;
       rising = kept_rising;
       members = stays;
-      ids = ids-of failed ∙ are.ids_are ∙ ap (filter (λ x. not (is_in kept x))) (take_all end s.cands (omega (arith, whole)));
+      ids = ids-of failed ∙ are.ids_are ∙ ap (filter (λ x. not (is_in kept x)))
+          (take_all end s.cands (omega (arith, whole)));
       failures = All-map Fits (λ f. (f.0, failure_view f.1)) failed
-          (All-weaker (IsFailed s.cands found) (λ f. Fits (f.0, failure_view f.1)) (λ f is. failure is.0 f.0 (failure_view f.1) is.1 is.2) failed are.each);
+          (All-weaker (IsFailed s.cands found) (λ f. Fits (f.0, failure_view f.1))
+          (λ f is. failure is.0 f.0 (failure_view f.1) is.1 is.2) failed are.each);
     }
       where
-        ids-of : (fs : List (Id × Failure)) → map (λ (q : Id × machine.Failure). q.0) (map (λ f. (f.0, failure_view f.1)) fs) ≡ map (λ q. q.0) fs
+        ids-of : (fs : List (Id × Failure)) → map (λ (q : Id × machine.Failure). q.0)
+            (map (λ f. (f.0, failure_view f.1)) fs) ≡ map (λ q. q.0) fs
         ids-of [] = refl
         ids-of (f ∷ fs) = ap (λ l. f.0 ∷ l) (ids-of fs)

@@ -1,10 +1,12 @@
 -- What an APPLY decides, from what its parts answer: the kept ones may be installed together, and the lines are those of the decision.
-use Rattle.std.proofs.Common.{◌≡◌, ◌≢◌, ◌⊎◌, inl, inr, Bool, true, false, not, List, [], ◌∷◌, ◌++◌, Option, None, Some, IsTrue, filter, map, refl, sym, ap, ◌∙◌, subst, true≢false}
+use Rattle.std.proofs.Common.{◌≡◌, ◌≢◌, ◌⊎◌, inl, inr, Bool, true, false, not, List, [], ◌∷◌, ◌++◌, Option, None, Some}
+use Rattle.std.proofs.Common.{IsTrue, filter, map, refl, sym, ap, ◌∙◌, subst, true≢false}
 use Rattle.std.specs.Prelude.{◌↔◌, ◌&&◌, ◌==◌, All, Contains, IsPermutation, is_some, unwrap_or, if◌then◌else◌}
 use Rattle.std.specs.Str.{bytes_eq}
 use Rattle.std.proofs.lemmas.Bool.{not-true}
 use Rattle.std.proofs.lemmas.List.{map-append, map-id}
-use Rattle.std.proofs.lemmas.List.Elements.{All-contains, Contains-get_or, Contains-append_left, Contains-append_right, Contains-append_cases}
+use Rattle.std.proofs.lemmas.List.Elements.{All-contains, Contains-get_or, Contains-append_left, Contains-append_right}
+use Rattle.std.proofs.lemmas.List.Elements.{Contains-append_cases}
 use Rattle.std.proofs.lemmas.List.Kept.{AllPairs-filter}
 use Rattle.std.proofs.lemmas.List.Sorted.{IsPermutation-map, IsPermutation-sym, Contains-permutation}
 use Rattle.terms.specs.declared.kinds.ElemType.{ElemType}
@@ -24,7 +26,8 @@ use Rattle.terms.proofs.Ids.{is_in-from_Contains, Contains-from_is_in, apart-fro
 use Rattle.lemmas.proofs.Texts.{same_or_not}
 use Rattle.lemmas.proofs.Searches.{find-gives}
 use Rattle.machine.specs.Outcome.{Status, Failure, Failed, Line}
-use Rattle.machine.specs.Installing.{Decision, IsDecision, IsDecided, IsFailure, HasStatus, IsIn, IsUnder, IsOff, IsOut, AreInstallLines, installed_status, not_chosen_status}
+use Rattle.machine.specs.Installing.{Decision, IsDecision, IsDecided, IsFailure, HasStatus, IsIn, IsUnder, IsOff, IsOut}
+use Rattle.machine.specs.Installing.{AreInstallLines, installed_status, not_chosen_status}
 use Rattle.terms.specs.Install.{IsInstalled}
 use Rattle.change.proofs.Installable.{replaces, supersedes_none}
 use Rattle.smpe_apply.specs.Statuses.{kept_statuses, failed_statuses, left_out_statuses, all_statuses, AreById}
@@ -32,18 +35,21 @@ use Rattle.smpe_apply.proofs.ById.{rises_by_id}
 use Rattle.smpe_apply.proofs.InstallLines.{are_install_lines}
 
 -- lists without doubles that share nothing have none together
-apart_both : {X : Type 0} (xs ys : List X) → AreApart xs → AreApart ys → ((x : X) → Contains xs x → Contains ys x → ⊥) → AreApart (xs ++ ys)
+apart_both : {X : Type 0} (xs ys : List X) → AreApart xs → AreApart ys → ((x : X) → Contains xs x → Contains ys x → ⊥)
+    → AreApart (xs ++ ys)
 apart_both xs ys front back off =
     AllPairs-join (λ a b. a ≢ b) xs ys front back (λ i d below. λ j e within same.
     off _ (subst (Contains xs) same (Contains-get_or xs i d below)) (Contains-get_or ys j e within))
 
 -- the ids of what is made of a list
-ids_of : {X V : Type 0} (id : X → Id) (value : X → V) (xs : List X) → map (λ (p : Id × V). p.0) (map (λ x. (id x, value x)) xs) ≡ map id xs
+ids_of : {X V : Type 0} (id : X → Id) (value : X → V) (xs : List X)
+    → map (λ (p : Id × V). p.0) (map (λ x. (id x, value x)) xs) ≡ map id xs
 ids_of id value [] = refl
 ids_of id value (x ∷ xs) = ap (λ ys. id x ∷ ys) (ids_of id value xs)
 
 -- what may be installed and is left out is excluded or not named, and has no reason
-no_reason : (g : Global) (zone : Zone) (sel : Selection) (x : Id) (why : NotChosen) → is_installable g zone x ≡ true → not_chosen g zone sel x ≡ Some why → ⊥
+no_reason : (g : Global) (zone : Zone) (sel : Selection) (x : Id) (why : NotChosen) → is_installable g zone x ≡ true
+    → not_chosen g zone sel x ≡ Some why → ⊥
 unfolding not_chosen
 no_reason g zone sel x why ok is = by (is_in (sel.select ++ sel.group) x) (is_in sel.exclude x) refl refl
   where
@@ -52,7 +58,8 @@ no_reason g zone sel x why ok is = by (is_in (sel.select ++ sel.group) x) (is_in
     by true true n e = let none = rw (n, e) at is in absurd cc
     by true false n e = let none = rw (n, e, ok) at is in absurd cc
 
-module _ (g : Global) (zone : Zone) (sel : Selection) (date : Text) (cands kept : List Id) (failed : List (Id × Failure))
+module _ (g : Global) (zone : Zone) (sel : Selection) (date : Text) (cands kept : List Id)
+    (failed : List (Id × Failure))
     (are : AreCandidates g (by_srel g zone.srel) zone sel cands)
     (ok : All (λ x. IsTrue (is_installable g zone x)) cands)
     (decided : IsDecided (setting g zone None cands no_bypass) kept failed) where
@@ -72,14 +79,17 @@ module _ (g : Global) (zone : Zone) (sel : Selection) (date : Text) (cands kept 
   kept_installable = λ i d below. installable _ (cand _ (Contains-get_or kept i d below))
 
   -- what changes an element is a function, and so its own owner
-  own : (x : Id) (type : ElemType) (name : Text) → Contains kept x → IsTrue (has_change g x type name) → owner_of s x ≡ x
+  own : (x : Id) (type : ElemType) (name : Text) → Contains kept x → IsTrue (has_change g x type name)
+      → owner_of s x ≡ x
   own x type name h changes = by (change_of g x type name) refl
     where
       by : (o : Option Change) → change_of g x type name ≡ o → owner_of s x ≡ x
       by None at = absurd (true≢false (sym changes ∙ ap is_some at))
       by (Some c) at =
-          let found = find-gives (λ c. (type_number c.elem_type == type_number type) && bytes_eq c.name name) (changes_of g x) c at in
-          ap (λ b. if b then x else unwrap_or (fmid_of s.choice x) x) (replaces g zone x (installable x (cand x h)) c found.1).1
+          let found = find-gives (λ c. (type_number c.elem_type == type_number type) && bytes_eq c.name name)
+          (changes_of g x) c at in
+          ap (λ b. if b then x else unwrap_or (fmid_of s.choice x) x)
+          (replaces g zone x (installable x (cand x h)) c found.1).1
 
   pub kept_apart : (x y : Id) → Contains kept x → Contains kept y → ShareElement g x y → x ≡ y
   kept_apart x y h k shared = by (same_or_not x y)
@@ -96,7 +106,14 @@ module _ (g : Global) (zone : Zone) (sel : Selection) (date : Text) (cands kept 
     setting = setting g zone None cands no_bypass;
     survivors = decided.survivors;
     kept = kept;
-    installing = record { global = g; choice = by_srel g zone.srel; zone = zone; kept = kept; bypassed = []; date = date };
+    installing = record {
+      global = g;
+      choice = by_srel g zone.srel;
+      zone = zone;
+      kept = kept;
+      bypassed = [];
+      date = date;
+    };
   }
 
   pub decides : IsDecision g zone None sel no_bypass date decision
@@ -105,7 +122,12 @@ module _ (g : Global) (zone : Zone) (sel : Selection) (date : Text) (cands kept 
     candidates = are;
     setting = refl;
     survivors = decided.are_survivors;
-    kept = record { survivors = decided.survivors; are_survivors = decided.are_survivors; rising = decided.rising; members = decided.members };
+    kept = record {
+      survivors = decided.survivors;
+      are_survivors = decided.are_survivors;
+      rising = decided.rising;
+      members = decided.members;
+    };
     bypassed = [];
     are_bypassed = λ x z. (λ h. absurd (none_in (x, z) h), λ h. absurd (none_in z h.1));
     installing = refl;
@@ -113,7 +135,11 @@ module _ (g : Global) (zone : Zone) (sel : Selection) (date : Text) (cands kept 
 
   -- nothing kept is superseded
   installed : (x : Id) → Contains kept x → IsInstalled decision.installing x
-  installed x h = record { kept = h; first = λ y there other. supersedes_none g zone y (installable y (cand y there)) x }
+  installed x h = record {
+    kept = h;
+    first = λ y there other.
+        supersedes_none g zone y (installable y (cand y there)) x;
+  }
 
   abbrev failed_ids : List Id
   failed_ids = filter (λ x. not (is_in kept x)) cands
@@ -145,7 +171,8 @@ module _ (g : Global) (zone : Zone) (sel : Selection) (date : Text) (cands kept 
         let back : List (Id × Status) = left_out_statuses left_out in
         let id : Id × Status → Id = λ p. p.0 in
         let a : map id front ≡ kept = ids_of (λ (x : Id). x) (λ x. installed_status zone.kind) kept ∙ map-id kept in
-        let b : map id middle ≡ failed_ids = ids_of (λ (f : Id × Failure). f.0) (λ f. Failed f.1) failed ∙ decided.ids in
+        let b : map id middle ≡ failed_ids = ids_of (λ (f : Id × Failure). f.0) (λ f. Failed f.1) failed ∙ decided.ids
+        in
         let c : map id back ≡ left_ids = ids_of (λ (f : Id × NotChosen). f.0) (λ f. not_chosen_status f.1) left_out in
         map-append id (front ++ middle) back
         ∙ ap (λ xs. xs ++ map id back) (map-append id front middle)
@@ -156,7 +183,8 @@ module _ (g : Global) (zone : Zone) (sel : Selection) (date : Text) (cands kept 
     apart_from_left : (x : Id) → Contains (kept ++ failed_ids) x → Contains left_ids x → ⊥
     apart_from_left x h out =
         let m = map_in (λ (f : Id × NotChosen). f.0) left_out x out in
-        let why : not_chosen g zone sel x ≡ Some m.0.1 = ap (not_chosen g zone sel) (sym m.2) ∙ (members m.0.0 m.0.1).0 m.1 in
+        let why : not_chosen g zone sel x ≡ Some m.0.1 = ap (not_chosen g zone sel) (sym m.2)
+        ∙ (members m.0.0 m.0.1).0 m.1 in
         no_reason g zone sel x m.0.1 (installable x (elim (Contains-append_cases kept failed_ids x h) [
           | inl k ↦ cand x k
           | inr f ↦ (filter_in (λ y. not (is_in kept y)) cands x f).0
@@ -174,8 +202,10 @@ module _ (g : Global) (zone : Zone) (sel : Selection) (date : Text) (cands kept 
     -- each status is one of the id
     has_status : (p : Id × Status) → Contains all p → HasStatus decision sel p.0 p.1
     has_status p h =
-        elim (Contains-append_cases (kept_statuses zone.kind kept ++ failed_statuses failed) (left_out_statuses left_out) p h) [
-          | inl first ↦ elim (Contains-append_cases (kept_statuses zone.kind kept) (failed_statuses failed) p first) [ inl k ↦ of_kept k | inr f ↦ of_failed f ]
+        elim (Contains-append_cases (kept_statuses zone.kind kept ++ failed_statuses failed)
+        (left_out_statuses left_out) p h) [
+          | inl first ↦ elim (Contains-append_cases (kept_statuses zone.kind kept) (failed_statuses failed) p first)
+              [ inl k ↦ of_kept k | inr f ↦ of_failed f ]
           | inr out ↦ of_left out
         ]
       where
@@ -187,9 +217,12 @@ module _ (g : Global) (zone : Zone) (sel : Selection) (date : Text) (cands kept 
         of_failed : Contains (failed_statuses failed) p → HasStatus decision sel p.0 p.1
         of_failed f =
             let m = map_in (λ (f : Id × Failure). (f.0, Failed f.1)) failed p f in
-            let id : Contains failed_ids m.0.0 = subst (λ xs. Contains xs m.0.0) decided.ids (in_map (λ (f : Id × Failure). f.0) failed m.0 m.1) in
-            let why = All-contains (λ f. IsFailure cands kept (Fails s) (IsEligible s) (Needs s decided.survivors) (Serves s.choice) f.0 f.1) failed m.0 decided.failures m.1 in
-            subst (λ q. HasStatus decision sel q.0 q.1) m.2 (IsOff m.0.1 (filter_in (λ y. not (is_in kept y)) cands m.0.0 id).0 (not_kept m.0.0 id) why)
+            let id : Contains failed_ids m.0.0 = subst (λ xs. Contains xs m.0.0) decided.ids
+            (in_map (λ (f : Id × Failure). f.0) failed m.0 m.1) in
+            let why = All-contains (λ f. IsFailure cands kept (Fails s) (IsEligible s) (Needs s decided.survivors)
+            (Serves s.choice) f.0 f.1) failed m.0 decided.failures m.1 in
+            subst (λ q. HasStatus decision sel q.0 q.1) m.2 (IsOff m.0.1
+            (filter_in (λ y. not (is_in kept y)) cands m.0.0 id).0 (not_kept m.0.0 id) why)
 
         of_left : Contains (left_out_statuses left_out) p → HasStatus decision sel p.0 p.1
         of_left out =
@@ -198,15 +231,23 @@ module _ (g : Global) (zone : Zone) (sel : Selection) (date : Text) (cands kept 
 
     -- each id with a status is there
     listed : (x : Id) {st : Status} → HasStatus decision sel x st → Contains (kept ++ failed_ids ++ left_ids) x
-    listed x (IsIn i) = Contains-append_left (kept ++ failed_ids) left_ids x (Contains-append_left kept failed_ids x i.kept)
-    listed x (IsUnder k _) = Contains-append_left (kept ++ failed_ids) left_ids x (Contains-append_left kept failed_ids x k)
-    listed x (IsOff f c off _) = Contains-append_left (kept ++ failed_ids) left_ids x (Contains-append_right kept failed_ids x (or_kept x c off))
+    listed x (IsIn i) = Contains-append_left (kept ++ failed_ids) left_ids x
+        (Contains-append_left kept failed_ids x i.kept)
+    listed x (IsUnder k _) = Contains-append_left (kept ++ failed_ids) left_ids x
+        (Contains-append_left kept failed_ids x k)
+    listed x (IsOff f c off _) = Contains-append_left (kept ++ failed_ids) left_ids x
+        (Contains-append_right kept failed_ids x (or_kept x c off))
     listed x (IsOut why is) =
-        Contains-append_right (kept ++ failed_ids) left_ids x (in_map (λ (f : Id × NotChosen). f.0) left_out (x, why) ((members x why).1 is))
+        Contains-append_right (kept ++ failed_ids) left_ids x
+        (in_map (λ (f : Id × NotChosen). f.0) left_out (x, why) ((members x why).1 is))
 
     pub install_lines : (lines : List Line) → AreById g all lines → AreInstallLines decision sel lines
     install_lines lines made =
-        let same : IsPermutation (map (λ p. p.0) all) (map (λ p. p.0) made.found) = IsPermutation-map (λ p. p.0) all made.found made.by_id.same in
-        are_install_lines decision sel made.found lines (rises_by_id all made.found made.by_id.same made.by_id.sorted all_apart) made.lines_are
-        (λ p h. has_status p (Contains-permutation made.found all p (IsPermutation-sym all made.found made.by_id.same) h))
-        (λ x st h. Contains-permutation (map (λ p. p.0) all) (map (λ p. p.0) made.found) x same (subst (λ xs. Contains xs x) (sym all_ids) (listed x h)))
+        let same : IsPermutation (map (λ p. p.0) all) (map (λ p. p.0) made.found) =
+        IsPermutation-map (λ p. p.0) all made.found made.by_id.same in
+        are_install_lines decision sel made.found lines (rises_by_id all made.found made.by_id.same made.by_id.sorted
+        all_apart) made.lines_are
+        (λ p h. has_status p (Contains-permutation made.found all p (IsPermutation-sym all made.found made.by_id.same)
+        h))
+        (λ x st h. Contains-permutation (map (λ p. p.0) all) (map (λ p. p.0) made.found) x same
+        (subst (λ xs. Contains xs x) (sym all_ids) (listed x h)))

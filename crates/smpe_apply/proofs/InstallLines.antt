@@ -26,14 +26,17 @@ module _ (found : List (Id × Status)) where
   status-is : Rises (slice_cmp nat_cmp) (λ p. p.0) found → (p : Id × Status) → Contains found p → status_in p.0 ≡ p.1
   unfolding status_in
   status-is rises p h =
-      ap (λ o. option_map_or (λ p. p.1) o Applied) (find-member nat_list_cmp_total (λ (p : Id × Status). p.0) bytes_eq texts_ties found p p.0 rises h (same_itself p.0))
+      ap (λ o. option_map_or (λ p. p.1) o Applied) (find-member nat_list_cmp_total (λ (p : Id × Status). p.0) bytes_eq
+      texts_ties found p p.0 rises h (same_itself p.0))
 
 -- lines as a function of the ids
-lines_by_ids : (g : Global) (status : Id → Status) (found : List (Id × Status)) → ((p : Id × Status) → Contains found p → status p.0 ≡ p.1)
+lines_by_ids : (g : Global) (status : Id → Status) (found : List (Id × Status))
+    → ((p : Id × Status) → Contains found p → status p.0 ≡ p.1)
     → map (status_line g) found ≡ map (λ x. StatusLine x (place_of g x) (status x)) (map (λ p. p.0) found)
 lines_by_ids g status [] is = refl
 lines_by_ids g status (p ∷ found) is =
-    let first : status_line g p ≡ StatusLine p.0 (place_of g p.0) (status p.0) = ap (StatusLine p.0 (place_of g p.0)) (sym (is p (here p found))) in
+    let first : status_line g p ≡ StatusLine p.0 (place_of g p.0) (status p.0) =
+    ap (StatusLine p.0 (place_of g p.0)) (sym (is p (here p found))) in
     let rest = lines_by_ids g status found (λ q h. is q (there p found q h)) in
     cc
 
@@ -45,11 +48,13 @@ pub are_install_lines : (d : Decision) (sel : Selection) (found : List (Id × St
     → AreInstallLines d sel lines
 are_install_lines d sel found lines rises lines_are each all = record {
   ids = map (λ p. p.0) found;
-  rising = pairs_map (λ p q. is_before p.0 q.0 ≡ true) (λ x y. is_before x y ≡ true) (λ p. p.0) (λ p q h. h) found rises;
+  rising = pairs_map (λ p q. is_before p.0 q.0 ≡ true) (λ x y. is_before x y ≡ true) (λ p. p.0) (λ p q h. h) found
+      rises;
   status = status_in found;
   lines_are = lines_are ∙ lines_by_ids d.setting.global (status_in found) found (status-is found rises);
   each = λ x h.
       let m = map_in (λ (p : Id × Status). p.0) found x h in
-      subst (λ y. HasStatus d sel y (status_in found y)) m.2 (subst (HasStatus d sel m.0.0) (sym (status-is found rises m.0 m.1)) (each m.0 m.1));
+      subst (λ y. HasStatus d sel y (status_in found y)) m.2
+      (subst (HasStatus d sel m.0.0) (sym (status-is found rises m.0 m.1)) (each m.0 m.1));
   all = all;
 }

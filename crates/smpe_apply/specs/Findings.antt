@@ -1,5 +1,6 @@
 -- What is known of candidates by their places, and the failures that are made of it.
-use Rattle.std.specs.Prelude.{◌≡◌, ◌<◌, ℕ, not, List, [], ◌∷◌, ◌++◌, Some, All, length, map, filter, take, slice_get, slice_index_or}
+use Rattle.std.specs.Prelude.{◌≡◌, ◌<◌, ℕ, not, List, [], ◌∷◌, ◌++◌, Some, All, length, map, filter, take, slice_get}
+use Rattle.std.specs.Prelude.{slice_index_or}
 use Rattle.terms.specs.declared.codes.NeedKind.{NeedKind}
 use Rattle.terms.specs.declared.codes.Test.{Test}
 use Rattle.terms.specs.Types.{Id}
@@ -19,14 +20,16 @@ pub record AreFindings (size : ℕ) (f : Findings) : Type 0 where
   pub within : (n : ℕ) → All (λ m. m < size) (row_at f.causers.items n)
 
 -- the failure with these tests and needs, and with the ids at these places as causers
-pub record IsFailureOf (ids : List Id) (tests : List Test) (unserved : List (NeedKind × Id)) (causers : List ℕ) (f : machine.Failure) : Type 0 where
+pub record IsFailureOf (ids : List Id) (tests : List Test) (unserved : List (NeedKind × Id)) (causers : List ℕ)
+    (f : machine.Failure) : Type 0 where
   pub tests_are : f.tests ≡ tests
   pub needs : AreNeedsOf unserved f.needs
   pub causers_are : f.causers ≡ map (λ m. slice_index_or ids m []) causers
 
 -- the failure of the candidate at a place
 abbrev pub IsFailureAt : List Id → Findings → ℕ → machine.Failure → Type 0
-IsFailureAt ids found n f = IsFailureOf ids (row_at found.tests.items n) (row_at found.unserved.items n) (row_at found.causers.items n) f
+IsFailureAt ids found n f = IsFailureOf ids (row_at found.tests.items n) (row_at found.unserved.items n)
+    (row_at found.causers.items n) f
 
 -- an id with the failure of the candidate at its place
 abbrev pub IsFailed : List Id → Findings → Id × Failure → Type 0
@@ -37,7 +40,8 @@ abbrev pub not_kept : List Id → List Id → List Id
 not_kept kept ids = filter (λ x. not (is_in kept x)) ids
 
 -- the candidate at a place is added with its failure, unless it is kept
-pub record AddsFailure (ids kept : List Id) (found : Findings) (place : ℕ) (old new : List (Id × Failure)) : Type 0 where
+pub record AddsFailure (ids kept : List Id) (found : Findings) (place : ℕ) (old new : List (Id × Failure)) :
+    Type 0 where
   pub more : List (Id × Failure)
   pub added : new ≡ old ++ more
   pub ids_are : (x : Id) → slice_get ids place ≡ Some x → map (λ p. p.0) more ≡ not_kept kept (x ∷ [])

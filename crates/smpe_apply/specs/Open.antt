@@ -1,5 +1,6 @@
 -- The open needs of candidates by their places, and a candidate's by kind and id.
-use Rattle.std.specs.Prelude.{◌≡◌, ◌↔◌, ◌<◌, ◌==◌, ◌&&◌, ℕ, Bool, not, List, [], ◌∷◌, ◌++◌, Some, IsTrue, Contains, Vec, map, slice_get, if◌then◌else◌}
+use Rattle.std.specs.Prelude.{◌≡◌, ◌↔◌, ◌<◌, ◌==◌, ◌&&◌, ℕ, Bool, not, List, [], ◌∷◌, ◌++◌, Some, IsTrue, Contains, Vec}
+use Rattle.std.specs.Prelude.{map, slice_get, if◌then◌else◌}
 use Rattle.std.specs.List.{list_any, flat_map}
 use Rattle.std.specs.declared.alloc.Global.{Global}
 use Rattle.terms.specs.declared.codes.NeedKind.{NeedKind}
@@ -21,7 +22,8 @@ open_of kept d need x = if is_open_of kept d x then need ∷ [] else []
 -- each candidate's row has its open needs among those in front of a place
 abbrev pub HaveOpen : List Bool → List Demand → List (NeedKind × Id) → ℕ → List (Vec (NeedKind × Id) Global) → Type 0
 HaveOpen kept demands needed end rows = (x : ℕ) (need : NeedKind × Id) → Contains (row_at rows x) need
-    ↔ ((i : ℕ) × (d : Demand) × (i < end) × (slice_get demands i ≡ Some d) × (slice_get needed i ≡ Some need) × IsTrue (is_open_of kept d x))
+    ↔ ((i : ℕ) × (d : Demand) × (i < end) × (slice_get demands i ≡ Some d) × (slice_get needed i ≡ Some need)
+    × IsTrue (is_open_of kept d x))
 
 -- the needs of a kind, by their ids
 abbrev pub of_kind : NeedKind → List Id → List OpenNeed

@@ -36,9 +36,11 @@ pub(crate) fn decide_judged(
     requires needed { length judged.needed.items ≡ length judged.system.demands }
     requires tests { length judged.tests.items ≡ length ids.now }
     ensures { IfOk result (λ d. (g : AGlobal) (zone : AZone)
-        → IsInstallProblem (setting g zone None ids.now no_bypass) judged.system (map (λ n. (n.0, n.1)) judged.needed.items)
+        → IsInstallProblem (setting g zone None ids.now no_bypass) judged.system
+        (map (λ n. (n.0, n.1)) judged.needed.items)
         → AreFailedTests (setting g zone None ids.now no_bypass) (map (λ row. row.items) judged.tests.items)
-        → IsDecided (setting g zone None ids.now no_bypass) d.kept (map (λ f. (f.0, failure_view f.1)) d.failed.items)) }
+        → IsDecided (setting g zone None ids.now no_bypass) d.kept
+        (map (λ f. (f.0, failure_view f.1)) d.failed.items)) }
 {
     let Judged {
         system,

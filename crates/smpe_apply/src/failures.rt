@@ -1,5 +1,6 @@
 //! Why each candidate that is not kept failed.
-ghost use Rattle.std.specs.Prelude.{◌≡◌, ◌<◌, ◌++◌, [], ◌∷◌, All, IfOk, OnOk, length, map, filter, not, slice_get, Some};
+ghost use Rattle.std.specs.Prelude.{◌≡◌, ◌<◌, ◌++◌, [], ◌∷◌, All, IfOk, OnOk, length, map, filter, not, slice_get};
+ghost use Rattle.std.specs.Prelude.{Some};
 ghost use Rattle.terms.specs.Lookups.{is_in};
 ghost use Rattle.solve.specs.Rows.{row_at};
 ghost use Rattle.report.specs.Views.{failure_view};

@@ -1,5 +1,6 @@
 //! The ids of the kept candidates.
-ghost use Rattle.std.specs.Prelude.{◌≡◌, ◌↔◌, ◌<◌, ◌++◌, [], ◌∷◌, ℕ, Some, All, Contains, IsTrue, IfOk, OnOk, length, map, slice_get, slice_index_or, if◌then◌else◌};
+ghost use Rattle.std.specs.Prelude.{◌≡◌, ◌↔◌, ◌<◌, ◌++◌, [], ◌∷◌, ℕ, Some, All, Contains, IsTrue, IfOk, OnOk, length};
+ghost use Rattle.std.specs.Prelude.{map, slice_get, slice_index_or, if◌then◌else◌};
 ghost use Rattle.terms.specs.Types.{Id as AnId};
 ghost use Rattle.terms.specs.Problem.{holds};
 

@@ -33,7 +33,8 @@ fn lines_of(
     global: &Global,
     statuses: Vec<(Id, Status)>,
 ) -> Result<Vec<Line>, AllocError>
-    ensures { IfOk result (λ lines. map line_view lines.items ≡ map (status_line global.now) (map said statuses.items)) }
+    ensures { IfOk result (λ lines. map line_view lines.items ≡ map (status_line global.now)
+        (map said statuses.items)) }
 {
     let mut lines = Vec::new(alloc);
     for (id, status) in statuses {

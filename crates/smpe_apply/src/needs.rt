@@ -61,7 +61,8 @@ pub(crate) fn open_needs(
     requires kept { length kept.now ≡ system.now.size }
     requires needed { length needed.now ≡ length system.now.demands }
     ensures size { IfOk result (λ rows. length rows.items ≡ system.now.size) }
-    ensures unserved { IfOk result (λ rows. HaveOpen kept.now system.now.demands needed.now (length needed.now) rows.items) }
+    ensures unserved { IfOk result (λ rows. HaveOpen kept.now system.now.demands needed.now (length needed.now)
+        rows.items) }
 {
     let mut rows = empty_rows(alloc, system.size())?;
     let needs = system.needs();

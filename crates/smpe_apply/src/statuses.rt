@@ -2,7 +2,8 @@
 ghost use Rattle.std.specs.Prelude.{◌≡◌, ◌++◌, map, IfOk, OnOk};
 ghost use Rattle.machine.specs.Installing.{installed_status, not_chosen_status};
 ghost use Rattle.report.specs.Views.{status_view};
-ghost use Rattle.smpe_apply.specs.Statuses.{said, why_failed, kept_statuses, failed_statuses, left_out_statuses, all_statuses};
+ghost use Rattle.smpe_apply.specs.Statuses.{said, why_failed, kept_statuses, failed_statuses, left_out_statuses};
+ghost use Rattle.smpe_apply.specs.Statuses.{all_statuses};
 
 use fields::Id;
 use report::{Failure, Status};
@@ -60,7 +61,8 @@ fn push_left_out(
     statuses: &mut Vec<(Id, Status)>,
     left_out: &[(Id, NotChosen)],
 ) -> Result<(), AllocError>
-    ensures { OnOk result (map said statuses.new.items ≡ map said statuses.old.items ++ left_out_statuses left_out.now) }
+    ensures { OnOk result (map said statuses.new.items ≡ map said statuses.old.items
+        ++ left_out_statuses left_out.now) }
 {
     for (id, why) in left_out {
         statuses.push((*id, left_out_status(*why)))?;

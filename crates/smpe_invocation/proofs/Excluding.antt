@@ -5,7 +5,8 @@ use Rattle.terms.specs.Types.{Text}
 use Rattle.terms.specs.declared.kinds.ZoneKind.{ZoneKind}
 use Rattle.clap.specs.Words.{Row}
 use Rattle.smpe_invocation.specs.Answers.{Excludes}
-use Rattle.smpe_invocation.specs.Values.{HasDate, HasKind, HasRelated, HasRun, HasSrel, HasText, HasValues, HasZone, HasZoneName}
+use Rattle.smpe_invocation.specs.Values.{HasDate, HasKind, HasRelated, HasRun, HasSrel, HasText, HasValues, HasZone}
+use Rattle.smpe_invocation.specs.Values.{HasZoneName}
 use Rattle.smpe_invocation.specs.declared.fault.ArgFault.{ArgFault}
 use Rattle.smpe_invocation.specs.declared.fault.ArgFault.TheVariants.{Memory, Clap, BadOperand}
 use Rattle.smpe_invocation.specs.declared.asked.Invocation.{Invocation}

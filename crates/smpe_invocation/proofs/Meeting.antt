@@ -3,7 +3,8 @@ use Rattle.std.proofs.Common.{◌≡◌, List, [], ap, ap₂, refl, inl, inr, op
 use Rattle.terms.specs.Types.{Text}
 use Rattle.std.specs.Borrow.{Bor}
 use Rattle.std.specs.Box.{box_value}
-use Rattle.clap.specs.Words.{App, HasKind, Row, fault_of, found_of, rows_of, subcommand_name_of, subcommand_of, subcommand_rows, subcommand_rows_of}
+use Rattle.clap.specs.Words.{App, HasKind, Row, fault_of, found_of, rows_of, subcommand_name_of, subcommand_of}
+use Rattle.clap.specs.Words.{subcommand_rows, subcommand_rows_of}
 use Rattle.clap.specs.declared.parser.matches.ArgMatches.{ArgMatches}
 use Rattle.clap.specs.declared.parser.matches.ArgMatches.TheViews.{out-ArgMatches, out-SubCommand}
 use Rattle.clap.specs.declared.error.Error.{Error}
@@ -15,15 +16,19 @@ use Rattle.smpe_invocation.specs.declared.asked.Invocation.{Invocation}
 
 -- two halves that agree make pairs that agree
 pub paired : {X Y A B : Type 0} (r : Option X) (f : X → A) (g : X → B) (o : Option Y) (h : Y → A) (k : Y → B)
-    → option_map f r ≡ option_map h o → option_map g r ≡ option_map (λ p. p.1) (option_map {U = A × B} (λ y. (h y, k y)) o)
+    → option_map f r ≡ option_map h o → option_map g r ≡ option_map (λ p. p.1)
+    (option_map {U = A × B} (λ y. (h y, k y)) o)
     → option_map {U = A × B} (λ x. (f x, g x)) r ≡ option_map (λ y. (h y, k y)) o
 paired None f g None h k a b = refl
 paired None f g (Some y) h k a b = cc
 paired (Some x) f g None h k a b = cc
-paired (Some x) f g (Some y) h k a b = ap₂ (λ u v. Some (u, v)) (ap (λ o. unwrap_or o (f x)) a) (ap (λ o. unwrap_or o (g x)) b)
+paired (Some x) f g (Some y) h k a b = ap₂ (λ u v. Some (u, v)) (ap (λ o. unwrap_or o (f x)) a)
+    (ap (λ o. unwrap_or o (g x)) b)
 
-pub met_pairs : (m : ArgMatches) (r : Option (Bor Text × Bor ArgMatches)) → option_map (λ p. p.0.now) r ≡ subcommand_name_of m
-    → option_map (λ p. rows_of (found_of p.1.now)) r ≡ option_map (λ p. p.1) (subcommand_rows (out-ArgMatches m).subcommand)
+pub met_pairs : (m : ArgMatches) (r : Option (Bor Text × Bor ArgMatches))
+    → option_map (λ p. p.0.now) r ≡ subcommand_name_of m
+    → option_map (λ p. rows_of (found_of p.1.now)) r ≡ option_map (λ p. p.1)
+    (subcommand_rows (out-ArgMatches m).subcommand)
     → option_map {U = Text × List Row} (λ p. (p.0.now, rows_of (found_of p.1.now))) r ≡ subcommand_rows_of m
 met_pairs m r = paired r (λ p. p.0.now) (λ p. rows_of (found_of p.1.now)) (out-ArgMatches m).subcommand
     (λ b. (out-SubCommand (box_value b)).name.now) (λ b. rows_of (found_of (out-SubCommand (box_value b)).matches))
@@ -35,7 +40,8 @@ refused_by_clap words app line error BadOperand kinds of = absurd of
 refused_by_clap words app line error (Clap own) (inl memory) of = absurd (of.1 memory)
 refused_by_clap words app line error (Clap own) (inr among) of = (app, line, rw of.0 among)
 
-pub refused_by_value : (words : List Text) (app : App) → IsCommandLine app → fault_of app words ≡ [] → (fault : ArgFault)
+pub refused_by_value : (words : List Text) (app : App) → IsCommandLine app → fault_of app words ≡ []
+    → (fault : ArgFault)
     → Excludes fault ((i : Invocation) × IsMet (subcommand_of app words) i) → IsRefused words fault
 refused_by_value words app line none Memory h = tt
 refused_by_value words app line none (Clap error) h = absurd h

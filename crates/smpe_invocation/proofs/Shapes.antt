@@ -11,9 +11,11 @@ use Rattle.smpe_invocation.specs.CommandLine.{smpe, with_options}
 
 -- a command with these options, no subcommand and no global argument
 abbrev pub HasOptions : Command → Text → List Rule → Type 0
-HasOptions c name rules = (app_of c ≡ record { top = with_options name rules; subs = [] }) × ((fields_of c).has_globals ≡ false)
+HasOptions c name rules = (app_of c ≡ record { top = with_options name rules; subs = [] })
+    × ((fields_of c).has_globals ≡ false)
 
-pub one_more : (old new : Command) (a : Arg) (name : Text) (rules : List Rule) (r : Rule) → HasOptions old name rules → AddsArg old a new
+pub one_more : (old new : Command) (a : Arg) (name : Text) (rules : List Rule) (r : Rule) → HasOptions old name rules
+    → AddsArg old a new
     → rule_of a ≡ r → a.global ≡ false → HasOptions new name (rules ++ r ∷ [])
 one_more old new a name rules r has added rule global = (
   added.shape global ∙ ap₂ with_rule has.0 rule,

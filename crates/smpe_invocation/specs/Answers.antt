@@ -29,7 +29,8 @@ IsMet (Some met) invocation = HasValues met invocation
 
 -- `clap` takes the words, and these are the subcommand and the values that it finds
 abbrev pub IsRead : List Text → Invocation → Type 0
-IsRead words invocation = (app : App) × IsCommandLine app × (fault_of app words ≡ []) × IsMet (subcommand_of app words) invocation
+IsRead words invocation = (app : App) × IsCommandLine app × (fault_of app words ≡ [])
+    × IsMet (subcommand_of app words) invocation
 
 -- want of memory; a fault of the words that `clap` names; or `clap` takes them, and no invocation has the values that
 -- it finds

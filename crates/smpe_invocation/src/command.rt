@@ -3,7 +3,8 @@ ghost use Rattle.std.specs.Prelude.{◌≡◌, false, true, map, IfOk};
 ghost use Rattle.clap.specs.Words.{app_of, rule_of, shape_of};
 ghost use Rattle.clap.specs.declared.builder.command.Command.TheViews.{out-Command as fields_of};
 ghost use Rattle.clap.specs.declared.builder.value_parser.ValueParser.{ValueParser};
-ghost use Rattle.smpe_invocation.specs.CommandLine.{IsCommandLine, IsKindParser, kind_option, needed, option, run_shape, zone_shape};
+ghost use Rattle.smpe_invocation.specs.CommandLine.{IsCommandLine, IsKindParser, kind_option, needed, option};
+ghost use Rattle.smpe_invocation.specs.CommandLine.{run_shape, zone_shape};
 
 use clap::{Arg, Command};
 use std::alloc::{AllocError, Global};

@@ -2,7 +2,8 @@
 ghost use Rattle.std.specs.Prelude.{◌≡◌, ◌↔◌, IsSome, IfSome, IsTrue, ◌<◌, ◌≤◌, length, pos};
 ghost use Rattle.std.specs.Str.Parse.{digits_value};
 ghost use Rattle.jiff_core.specs.Date.{IsYmd, ordinal};
-ghost use Rattle.smpe_invocation.specs.Dates.{AreDigits, HasDateDigits, HasDateForm, IsCalendarDay, day_of, dotted, month_of, year_of};
+ghost use Rattle.smpe_invocation.specs.Dates.{AreDigits, HasDateDigits, HasDateForm, IsCalendarDay, day_of, dotted};
+ghost use Rattle.smpe_invocation.specs.Dates.{month_of, year_of};
 
 use fields::YyDdd;
 use jiff::civil::Date;

@@ -24,7 +24,8 @@ pub fn invocation<'a>(alloc: Global, words: &'a [&'a str]) -> Result<Invocation,
 // The subcommand that was met, with its matches.
 fn met(alloc: Global, met: Option<(&str, &ArgMatches<'_>)>) -> Result<Invocation, ArgFault>
     ensures ok { IfOk result (IsMet (option_map (λ p. (p.0.now, rows_of (found_of p.1.now))) met.entry)) }
-    ensures err { IfErr result (λ e. Excludes e ((invocation : Invocation) × IsMet (option_map (λ p. (p.0.now, rows_of (found_of p.1.now))) met.entry) invocation)) }
+    ensures err { IfErr result (λ e. Excludes e ((invocation : Invocation)
+        × IsMet (option_map (λ p. (p.0.now, rows_of (found_of p.1.now))) met.entry) invocation)) }
 {
     let Some((name, found)) = met else {
         return Err(ArgFault::BadOperand);
@@ -40,7 +41,8 @@ fn met(alloc: Global, met: Option<(&str, &ArgMatches<'_>)>) -> Result<Invocation
 
 fn zone(alloc: Global, found: &ArgMatches<'_>) -> Result<Invocation, ArgFault>
     ensures ok { IfOk result (HasZone (rows_of (found_of found.now))) }
-    ensures err { IfErr result (λ e. Excludes e ((invocation : Invocation) × HasZone (rows_of (found_of found.now)) invocation)) }
+    ensures err { IfErr result (λ e. Excludes e ((invocation : Invocation)
+        × HasZone (rows_of (found_of found.now)) invocation)) }
 {
     let name = zone_name(found, "name")?;
     let kind = kind(found)?;
@@ -58,7 +60,8 @@ fn zone(alloc: Global, found: &ArgMatches<'_>) -> Result<Invocation, ArgFault>
 
 fn run(alloc: Global, found: &ArgMatches<'_>) -> Result<Invocation, ArgFault>
     ensures ok { IfOk result (HasRun (rows_of (found_of found.now))) }
-    ensures err { IfErr result (λ e. Excludes e ((invocation : Invocation) × HasRun (rows_of (found_of found.now)) invocation)) }
+    ensures err { IfErr result (λ e. Excludes e ((invocation : Invocation)
+        × HasRun (rows_of (found_of found.now)) invocation)) }
 {
     let date = date(found)?;
     let db = text(alloc, found, "db")?;

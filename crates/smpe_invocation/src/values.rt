@@ -51,7 +51,8 @@ pub(crate) fn optional_text(
 
 pub(crate) fn zone_name(found: &ArgMatches<'_>, id: &str) -> Result<ZoneName, ArgFault>
     ensures ok { IfOk result (λ name. HasZoneName id.now (rows_of (found_of found.now)) name) }
-    ensures err { IfErr result (λ e. Excludes e ((name : Text) × HasZoneName id.now (rows_of (found_of found.now)) name)) }
+    ensures err { IfErr result (λ e. Excludes e ((name : Text)
+        × HasZoneName id.now (rows_of (found_of found.now)) name)) }
 {
     ZoneName::read(needed(found, id)?.as_bytes()).ok_or(ArgFault::BadOperand)
 }

@@ -1,5 +1,6 @@
 -- Edits one after another, and edits that put holds.
-use Rattle.std.proofs.Common.{◌≡◌, ◌∙◌, zero, suc, false, ◌||◌, List, [], ◌∷◌, ◌++◌, map, fold, IsTrue, refl, sym, ap, subst, Option, arith}
+use Rattle.std.proofs.Common.{◌≡◌, ◌∙◌, zero, suc, false, ◌||◌, List, [], ◌∷◌, ◌++◌, map, fold, IsTrue, refl, sym, ap}
+use Rattle.std.proofs.Common.{subst, Option, arith}
 use Rattle.std.specs.Prelude.{All}
 use Rattle.std.specs.Option.{option_map_or}
 use Rattle.std.proofs.lemmas.Bool.{false_from_ne_true}
@@ -17,7 +18,8 @@ use Rattle.smpe_receive.specs.Edits.{edits_of}
 pub fits-none : (g : Global) → EachFits [] g
 fits-none g k edit below at = absurd (omega (arith, below))
 
-fits-first : (g : Global) (e : GlobalEdit) (es : List GlobalEdit) → Fits g e → EachFits es (after_edit g e) → EachFits (e ∷ es) g
+fits-first : (g : Global) (e : GlobalEdit) (es : List GlobalEdit) → Fits g e → EachFits es (after_edit g e)
+    → EachFits (e ∷ es) g
 fits-first g e es one more zero edit below at = subst (Fits g) (sym at) one
 fits-first g e es one more (suc k) edit below at = more k edit (omega (arith, below)) at
 
@@ -25,10 +27,12 @@ fits-rest : (g : Global) (e : GlobalEdit) (es : List GlobalEdit) → EachFits (e
 fits-rest g e es fits k edit below at = fits (suc k) edit (omega (arith, below)) at
 
 -- edits that fit, and then others that fit what the former make
-pub fits-append : (g : Global) (es fs : List GlobalEdit) → EachFits es g → EachFits fs (after_edits es g) → EachFits (es ++ fs) g
+pub fits-append : (g : Global) (es fs : List GlobalEdit) → EachFits es g → EachFits fs (after_edits es g)
+    → EachFits (es ++ fs) g
 fits-append g [] fs front back = back
 fits-append g (e ∷ es) fs front back =
-    fits-first g e (es ++ fs) (front zero e (omega arith) refl) (fits-append (after_edit g e) es fs (fits-rest g e es front) back)
+    fits-first g e (es ++ fs) (front zero e (omega arith) refl)
+    (fits-append (after_edit g e) es fs (fits-rest g e es front) back)
 
 -- one edit
 pub fits-one : (g : Global) (e : GlobalEdit) → Fits g e → EachFits (e ∷ []) g
@@ -46,9 +50,11 @@ marked-internal was h is =
 
 put-internal : (g : Global) (h : Hold) → IsTrue h.internal → with_hold h g ≡ hold g h
 put-internal g h is =
-    ap (λ (m : Hold). record g { holds = with_item hold_cmp (λ (o : Hold). o) g.holds m }) (sym (marked-internal (hold_of g h.id h.kind h.reason) h is))
+    ap (λ (m : Hold). record g { holds = with_item hold_cmp (λ (o : Hold). o) g.holds m })
+    (sym (marked-internal (hold_of g h.id h.kind h.reason) h is))
 
-puts-make : (g : Global) (hs : List Hold) → All (λ h. IsTrue h.internal) hs → after_edits (map (λ h. PutHold h) hs) g ≡ fold hold g hs
+puts-make : (g : Global) (hs : List Hold) → All (λ h. IsTrue h.internal) hs
+    → after_edits (map (λ h. PutHold h) hs) g ≡ fold hold g hs
 puts-make g [] all = refl
 puts-make g (h ∷ hs) all =
     puts-make (with_hold h g) hs (All-tail (λ h. IsTrue h.internal) h hs all)
@@ -64,4 +70,5 @@ module _ (g : Global) (s : Sysmod) where
   pub sysmod-makes : IsSysmod s → after_edits (edits_of s) g ≡ received g s
   sysmod-makes known =
       puts-make (with_sysmod g s) s.holds
-      (All-weaker (λ h. IsTrue h.internal × (h.kind ≡ System) × (h.id ≡ s.id)) (λ h. IsTrue h.internal) (λ h k. k.0) s.holds known.holds)
+      (All-weaker (λ h. IsTrue h.internal × (h.kind ≡ System) × (h.id ≡ s.id)) (λ h. IsTrue h.internal) (λ h k. k.0)
+      s.holds known.holds)

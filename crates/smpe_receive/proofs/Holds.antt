@@ -1,5 +1,6 @@
 -- Holds and releases of a hold file.
-use Rattle.std.proofs.Common.{◌≡◌, ◌∙◌, Bool, true, false, List, [], ◌∷◌, ◌++◌, All, sym, ap, Option, None, Some, Result, Ok, Err, OnOk, OnErr, IfErr, if◌then◌else◌}
+use Rattle.std.proofs.Common.{◌≡◌, ◌∙◌, Bool, true, false, List, [], ◌∷◌, ◌++◌, All, sym, ap, Option, None, Some}
+use Rattle.std.proofs.Common.{Result, Ok, Err, OnOk, OnErr, IfErr, if◌then◌else◌}
 use Rattle.std.proofs.lemmas.List.Elements.{All-head, All-tail}
 use Rattle.terms.specs.Types.{Id, Hold, Release, Global}
 use Rattle.terms.specs.Global.{Rl2, hold_of, marked, hold, without_hold, release_found, release}
@@ -15,7 +16,8 @@ use Rattle.mcs_hold.specs.declared.item.HoldItem.{HoldItem}
 use Rattle.smpe_receive.proofs.Fitting.{fits-none, fits-one}
 
 -- the hold that is written has its mark already
-pub marked-written : (g : Global) (h copy : Hold) → copy ≡ marked (hold_of g h.id h.kind h.reason) h → after_edits (PutHold copy ∷ []) g ≡ hold g h
+pub marked-written : (g : Global) (h copy : Hold) → copy ≡ marked (hold_of g h.id h.kind h.reason) h
+    → after_edits (PutHold copy ∷ []) g ≡ hold g h
 marked-written g h copy is = ap (λ c. with_hold c g) is
 
 -- what is left where a hold is released
@@ -56,6 +58,8 @@ release_taken g new r (Err why) ok refused err =
     }
 
 -- the next item is external, as all are
-pub next-external : (front back : List HoldItem) (x : HoldItem) → All IsExternal (items (front ++ x ∷ back)) → IsExternal (item_of x)
+pub next-external : (front back : List HoldItem) (x : HoldItem) → All IsExternal (items (front ++ x ∷ back))
+    → IsExternal (item_of x)
 next-external [] back x all = All-head IsExternal (item_of x) (items back) all
-next-external (y ∷ front) back x all = next-external front back x (All-tail IsExternal (item_of y) (items (front ++ x ∷ back)) all)
+next-external (y ∷ front) back x all = next-external front back x
+    (All-tail IsExternal (item_of y) (items (front ++ x ∷ back)) all)

@@ -26,26 +26,32 @@ module _ {I : Type 0} (Takes : Global → I → Global → List machine.Line →
 
   -- one item more
   pub more_taken : (g middle new : Global) (items : List I) (item : I) (first then last : Taken)
-      → IsTaken (Runs Takes g items) g middle first then → IsTaken (Takes middle item) middle new then last → IsTaken (Runs Takes g (items ++ item ∷ [])) g new first last
+      → IsTaken (Runs Takes g items) g middle first then → IsTaken (Takes middle item) middle new then last
+      → IsTaken (Runs Takes g (items ++ item ∷ [])) g new first last
   more_taken g middle new items item first then last front back = record {
     own = front.own ++ back.own;
-    edits_are = back.edits_are ∙ ap (λ es. es ++ back.own) front.edits_are ∙ append_assoc first.edits.items front.own back.own;
+    edits_are = back.edits_are ∙ ap (λ es. es ++ back.own) front.edits_are
+        ∙ append_assoc first.edits.items front.own back.own;
     lines = front.lines ++ back.lines;
-    lines_are = back.lines_are ∙ ap (λ ls. ls ++ back.lines) front.lines_are ∙ append_assoc first.lines.items front.lines back.lines;
+    lines_are = back.lines_are ∙ ap (λ ls. ls ++ back.lines) front.lines_are
+        ∙ append_assoc first.lines.items front.lines back.lines;
     prints = subst (Runs Takes g (items ++ item ∷ []) new) (sym (map-append line_view front.lines back.lines))
-        (runs-append Takes g middle new items (item ∷ []) (map line_view front.lines) (map line_view back.lines) front.prints
+        (runs-append Takes g middle new items (item ∷ []) (map line_view front.lines) (map line_view back.lines)
+        front.prints
         (runs-one Takes middle new item (map line_view back.lines) back.prints));
     fits = fits-append g front.own back.own front.fits (subst (EachFits back.own) (sym front.after) back.fits);
     after = fold-append after_edit g front.own back.own ∙ ap (after_edits back.own) front.after ∙ back.after;
   }
 
-module _ (Prints : Global → List machine.Line → Type 0) (g new : Global) (none all : Taken) (taken : IsTaken Prints g new none all) where
+module _ (Prints : Global → List machine.Line → Type 0) (g new : Global) (none all : Taken)
+    (taken : IsTaken Prints g new none all) where
   -- where nothing stood before
   edits-own : none.edits.items ≡ [] → taken.own ≡ all.edits.items
   edits-own nothing = sym (taken.edits_are ∙ ap (λ es. es ++ taken.own) nothing)
 
   pub all-printed : none.lines.items ≡ [] → Prints new (map line_view all.lines.items)
-  all-printed nothing = subst (λ ls. Prints new (map line_view ls)) (sym (taken.lines_are ∙ ap (λ ls. ls ++ taken.lines) nothing)) taken.prints
+  all-printed nothing = subst (λ ls. Prints new (map line_view ls))
+      (sym (taken.lines_are ∙ ap (λ ls. ls ++ taken.lines) nothing)) taken.prints
 
   pub all-fit : none.edits.items ≡ [] → EachFits all.edits.items g
   all-fit nothing = subst (λ es. EachFits es g) (edits-own nothing) taken.fits

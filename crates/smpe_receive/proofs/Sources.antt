@@ -1,5 +1,6 @@
 -- A SYSMOD that gains a source.
-use Rattle.std.proofs.Common.{◌≡◌, ◌∙◌, Bool, true, false, List, [], ◌∷◌, map, find, refl, sym, ap, subst, Option, None, Some, All, Contains, if◌then◌else◌}
+use Rattle.std.proofs.Common.{◌≡◌, ◌∙◌, Bool, true, false, List, [], ◌∷◌, map, find, refl, sym, ap, subst, Option, None}
+use Rattle.std.proofs.Common.{Some, All, Contains, if◌then◌else◌}
 use Rattle.std.specs.Ordering.{nat_cmp}
 use Rattle.std.specs.Cmp.Lexicographic.{slice_cmp, texts_ties}
 use Rattle.std.specs.Option.{option_map}
@@ -29,7 +30,8 @@ map-same f h (x ∷ xs) all =
     let rest = map-same f h xs (All-tail (λ y. f y ≡ h y) x xs all) in
     ap (λ y. y ∷ map f xs) first ∙ ap (λ ys. h x ∷ ys) rest
 
-module _ (source : Text) (g : Global) (x : Id) (rises : Rises (slice_cmp nat_cmp) (λ (r : Sysmod). r.id) g.sysmods) where
+module _ (source : Text) (g : Global) (x : Id) (rises : Rises (slice_cmp nat_cmp) (λ (r : Sysmod). r.id)
+    g.sysmods) where
   -- a SYSMOD of the id is found by it
   found : (r : Sysmod) → Contains g.sysmods r → bytes_eq r.id x ≡ true → sysmod_of g x ≡ Some r
   found r h hit =
@@ -37,13 +39,15 @@ module _ (source : Text) (g : Global) (x : Id) (rises : Rises (slice_cmp nat_cmp
       let tie = Equal-from_is_eq (slice_cmp nat_cmp r.id x) (sym (texts_ties r.id x) ∙ hit) in
       ap (find (λ (y : Sysmod). bytes_eq y.id x)) p.2
       ∙ find-there nat_list_cmp_total (λ (y : Sysmod). y.id) bytes_eq texts_ties x p.0 p.1 r
-      (Splits-around nat_list_cmp_total (λ (y : Sysmod). y.id) x p.0 p.1 r (subst (Rises (slice_cmp nat_cmp) (λ (y : Sysmod). y.id)) p.2 rises) tie) tie
+      (Splits-around nat_list_cmp_total (λ (y : Sysmod). y.id) x p.0 p.1 r
+      (subst (Rises (slice_cmp nat_cmp) (λ (y : Sysmod). y.id)) p.2 rises) tie) tie
 
   -- an id that is not received
   none-assigned : sysmod_of g x ≡ None → assign g source x ≡ g
   none-assigned none =
       ap (λ ss. record g { sysmods = ss })
-      (map_fixed (assigned source x) g.sysmods (All-weaker (Contains g.sysmods) (λ r. assigned source x r ≡ r) each g.sysmods (All-contains_itself g.sysmods)))
+      (map_fixed (assigned source x) g.sysmods (All-weaker (Contains g.sysmods) (λ r. assigned source x r ≡ r) each
+      g.sysmods (All-contains_itself g.sysmods)))
     where
       each : (r : Sysmod) → Contains g.sysmods r → assigned source x r ≡ r
       each r h = by (bytes_eq r.id x) refl
@@ -64,7 +68,8 @@ module _ (source : Text) (g : Global) (x : Id) (rises : Rises (slice_cmp nat_cmp
     replaced : after_edits (ReplaceSources (head_of (with_source source s)) ∷ []) g ≡ assign g source x
     replaced =
         ap (λ ss. record g { sysmods = ss })
-        (map-same (put s.id) (assigned source x) g.sysmods (All-weaker (Contains g.sysmods) (λ r. put s.id r ≡ assigned source x r) each g.sysmods (All-contains_itself g.sysmods)))
+        (map-same (put s.id) (assigned source x) g.sysmods (All-weaker (Contains g.sysmods)
+        (λ r. put s.id r ≡ assigned source x r) each g.sysmods (All-contains_itself g.sysmods)))
       where
         put : Id → Sysmod → Sysmod
         put y r = if bytes_eq r.id y then record r { sources = (with_source source s).sources } else r
@@ -77,18 +82,25 @@ module _ (source : Text) (g : Global) (x : Id) (rises : Rises (slice_cmp nat_cmp
             by false e = rw e refl
 
     replaced-fits : Fits g (ReplaceSources (head_of (with_source source s)))
-    replaced-fits = All-weaker (Contains g.sysmods) (λ r. r.id ≡ s.id → r.kind ≡ s.kind) each g.sysmods (All-contains_itself g.sysmods)
+    replaced-fits = All-weaker (Contains g.sysmods) (λ r. r.id ≡ s.id → r.kind ≡ s.kind) each g.sysmods
+        (All-contains_itself g.sysmods)
       where
         each : (r : Sysmod) → Contains g.sysmods r → r.id ≡ s.id → r.kind ≡ s.kind
         each r h same = ap (λ (y : Sysmod). y.kind) (alone r h (ap (λ y. bytes_eq y x) same ∙ named))
 
   -- what is written of an id leads where it is to lead
-  pub assigned-written : (o : Option Sysmod) → sysmod_of (assign g source x) x ≡ o → EachFits (source_edits o) g × (after_edits (source_edits o) g ≡ assign g source x)
-  assigned-written o is = subst (λ p. EachFits (source_edits p) g × (after_edits (source_edits p) g ≡ assign g source x)) (sym (sysmod_of-assign g source x x) ∙ is) (by (sysmod_of g x) refl)
+  pub assigned-written : (o : Option Sysmod) → sysmod_of (assign g source x) x ≡ o
+      → EachFits (source_edits o) g × (after_edits (source_edits o) g ≡ assign g source x)
+  assigned-written o is = subst (λ p. EachFits (source_edits p) g
+      × (after_edits (source_edits p) g ≡ assign g source x)) (sym (sysmod_of-assign g source x x) ∙ is)
+      (by (sysmod_of g x) refl)
     where
-      by : (p : Option Sysmod) → sysmod_of g x ≡ p → EachFits (source_edits (option_map (assigned source x) p)) g × (after_edits (source_edits (option_map (assigned source x) p)) g ≡ assign g source x)
+      by : (p : Option Sysmod) → sysmod_of g x ≡ p → EachFits (source_edits (option_map (assigned source x) p)) g
+          × (after_edits (source_edits (option_map (assigned source x) p)) g ≡ assign g source x)
       by None none = (fits-none g, sym (none-assigned none))
       by (Some s) there =
-          let same : assigned source x s ≡ with_source source s = ap (λ b. if b then with_source source s else s) (named s there) in
-          subst (λ r. EachFits (source_edits (Some r)) g × (after_edits (source_edits (Some r)) g ≡ assign g source x)) (sym same)
+          let same : assigned source x s ≡ with_source source s =
+          ap (λ b. if b then with_source source s else s) (named s there) in
+          subst (λ r. EachFits (source_edits (Some r)) g × (after_edits (source_edits (Some r)) g ≡ assign g source x))
+          (sym same)
           (fits-one g (ReplaceSources (head_of (with_source source s))) (replaced-fits s there), replaced s there)

@@ -14,8 +14,10 @@ use Rattle.smpe_receive.specs.Edits.{answer_of, edits_after}
 use Rattle.smpe_receive.specs.Taken.{IsTaken}
 use Rattle.smpe_receive.proofs.Fitting.{fits-none, sysmod-fits, sysmod-makes}
 
-module _ (source : Option Text) (g new : Global) (s : Sysmod) (line : Line) (was is : Taken) (told : is.lines.items ≡ was.lines.items ++ line ∷ []) where
-  sysmod_taken : (refused : Option ReceiveFault) → is.edits.items ≡ was.edits.items ++ edits_after refused (sourced source s)
+module _ (source : Option Text) (g new : Global) (s : Sysmod) (line : Line) (was is : Taken)
+    (told : is.lines.items ≡ was.lines.items ++ line ∷ []) where
+  sysmod_taken : (refused : Option ReceiveFault) → is.edits.items ≡ was.edits.items
+      ++ edits_after refused (sourced source s)
       → IsSysmod (sourced source s) → IsReceived g (sourced source s) new refused
       → line_view line ≡ StatusLine s.id (OfKind s.kind) (receive_status (answer_of new refused))
       → IsTaken (TakesItem source g (ASysmod s)) g new was is

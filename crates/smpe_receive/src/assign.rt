@@ -93,7 +93,8 @@ fn assign_each(
     ids: &[Id],
     taken: &mut Taken,
 ) -> Result<(), AllocError>
-    ensures { OnOk result (IsTaken (Runs (AssignsId source) global.old ids.now) global.old global.new taken.old taken.new) }
+    ensures { OnOk result (IsTaken (Runs (AssignsId source) global.old ids.now) global.old global.new taken.old
+        taken.new) }
 {
     for id in ids {
         assign_id(alloc, global, source, *id, taken)?;
@@ -108,7 +109,8 @@ pub(crate) fn take_assign(
     assign: Assign,
     taken: &mut Taken,
 ) -> Result<(), AllocError>
-    ensures { OnOk result (IsTaken (Runs (AssignsId assign.source) global.old assign.to) global.old global.new taken.old taken.new) }
+    ensures { OnOk result (IsTaken (Runs (AssignsId assign.source) global.old assign.to) global.old global.new taken.old
+        taken.new) }
 {
     let Assign { source, to } = assign;
     assign_each(alloc, global, source, to.as_slice(), taken)

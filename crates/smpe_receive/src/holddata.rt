@@ -24,7 +24,8 @@ use terms::{HoldKind, IdRefusal};
 
 /// A copy of the hold, marked as internal where the one of its key is.
 fn marked_copy(global: &Global, hold: &Hold) -> Result<Hold, AllocError>
-    ensures { IfOk result (λ copy. copy ≡ marked (hold_of global.now hold.now.id hold.now.kind hold.now.reason) hold.now) }
+    ensures { IfOk result (λ copy. copy ≡ marked (hold_of global.now hold.now.id hold.now.kind hold.now.reason)
+        hold.now) }
 {
     let was_internal = match global.hold_of(hold.id, hold.kind, hold.reason) {
         Some(old) => old.internal,
@@ -43,7 +44,8 @@ fn marked_copy(global: &Global, hold: &Hold) -> Result<Hold, AllocError>
 }
 
 fn hold_status(placed: Placed, reason: Reason) -> Status
-    ensures { (replaces : Bool) → placed ≡ (if replaces then Placed.Replaced else Placed.New) → status_view result ≡ (if replaces then Replaced reason else Held reason) }
+    ensures { (replaces : Bool) → placed ≡ (if replaces then Placed.Replaced else Placed.New)
+        → status_view result ≡ (if replaces then Replaced reason else Held reason) }
 {
     match placed {
         Placed::New => Status::Held(reason),
@@ -53,7 +55,8 @@ fn hold_status(placed: Placed, reason: Reason) -> Status
 
 fn take_hold(global: &mut Global, hold: Hold, taken: &mut Taken) -> Result<(), AllocError>
     requires { hold.internal ≡ false }
-    ensures { OnOk result (IsTaken (TakesHoldItem global.old (terms.AHold hold)) global.old global.new taken.old taken.new) }
+    ensures { OnOk result (IsTaken (TakesHoldItem global.old (terms.AHold hold)) global.old global.new taken.old
+        taken.new) }
 {
     let id = hold.id;
     let kind = hold.kind;
@@ -70,7 +73,8 @@ fn take_hold(global: &mut Global, hold: Hold, taken: &mut Taken) -> Result<(), A
 }
 
 fn release_status(answer: Result<(), ReleaseError>, reason: Reason) -> Status
-    ensures { (new : AGlobal) (r : ARelease) → r.reason ≡ reason → status_view result ≡ release_status r (release_answer new answer) }
+    ensures { (new : AGlobal) (r : ARelease) → r.reason ≡ reason
+        → status_view result ≡ release_status r (release_answer new answer) }
 {
     match answer {
         Ok(()) => Status::Released(reason),
@@ -96,7 +100,8 @@ fn write_release(
 }
 
 fn take_release(global: &mut Global, release: Release, taken: &mut Taken) -> Result<(), AllocError>
-    ensures { OnOk result (IsTaken (TakesHoldItem global.old (terms.ARelease release)) global.old global.new taken.old taken.new) }
+    ensures { OnOk result (IsTaken (TakesHoldItem global.old (terms.ARelease release)) global.old global.new taken.old
+        taken.new) }
 {
     let id = release.id;
     let kind = release.kind;
@@ -113,7 +118,8 @@ fn take_release(global: &mut Global, release: Release, taken: &mut Taken) -> Res
 
 fn take_hold_item(global: &mut Global, item: HoldItem, taken: &mut Taken) -> Result<(), AllocError>
     requires { IsExternal (item_of item) }
-    ensures { OnOk result (IsTaken (TakesHoldItem global.old (item_of item)) global.old global.new taken.old taken.new) }
+    ensures { OnOk result (IsTaken (TakesHoldItem global.old (item_of item)) global.old global.new taken.old
+        taken.new) }
 {
     match item {
         HoldItem::Hold(hold) => take_hold(global, hold, taken),
@@ -127,7 +133,8 @@ fn take_hold_items(
     taken: &mut Taken,
 ) -> Result<(), AllocError>
     requires { All IsExternal (items found.items) }
-    ensures { OnOk result (IsTaken (Runs TakesHoldItem global.old (items found.items)) global.old global.new taken.old taken.new) }
+    ensures { OnOk result (IsTaken (Runs TakesHoldItem global.old (items found.items)) global.old global.new taken.old
+        taken.new) }
 {
     for item in found {
         take_hold_item(global, item, taken)?;
@@ -142,7 +149,8 @@ pub fn receive_holds(
     found: Vec<HoldItem>,
 ) -> Result<Taken, AllocError>
     requires { All IsExternal (items found.items) }
-    ensures runs { IfOk result (λ t. Runs TakesHoldItem global.old (items found.items) global.new (map line_view t.lines.items)) }
+    ensures runs { IfOk result (λ t. Runs TakesHoldItem global.old (items found.items) global.new
+        (map line_view t.lines.items)) }
     ensures fits { IfOk result (λ t. EachFits t.edits.items global.old) }
     ensures edits { IfOk result (λ t. after_edits t.edits.items global.old ≡ global.new) }
 {

@@ -50,7 +50,8 @@ fn take_sysmod(
     source: &Option<Source>,
     taken: &mut Taken,
 ) -> Result<(), AllocError>
-    ensures { OnOk result (IsTaken (TakesItem source.now global.old (ASysmod sysmod)) global.old global.new taken.old taken.new) }
+    ensures { OnOk result (IsTaken (TakesItem source.now global.old (ASysmod sysmod)) global.old global.new taken.old
+        taken.new) }
 {
     let id = sysmod.id;
     let kind = sysmod.kind;
@@ -74,7 +75,8 @@ fn take_item(
     source: &Option<Source>,
     taken: &mut Taken,
 ) -> Result<(), AllocError>
-    ensures { OnOk result (IsTaken (TakesItem source.now global.old (item_of item)) global.old global.new taken.old taken.new) }
+    ensures { OnOk result (IsTaken (TakesItem source.now global.old (item_of item)) global.old global.new taken.old
+        taken.new) }
 {
     match item {
         Item::Sysmod(sysmod) => take_sysmod(alloc, global, sysmod, source, taken),
@@ -89,7 +91,8 @@ fn take_items(
     source: &Option<Source>,
     taken: &mut Taken,
 ) -> Result<(), AllocError>
-    ensures { OnOk result (IsTaken (Runs (TakesItem source.now) global.old (items found.items)) global.old global.new taken.old taken.new) }
+    ensures { OnOk result (IsTaken (Runs (TakesItem source.now) global.old (items found.items)) global.old global.new
+        taken.old taken.new) }
 {
     for item in found {
         take_item(alloc, global, item, source, taken)?;
@@ -105,7 +108,8 @@ pub fn receive(
     found: Vec<Item>,
     source: Option<Source>,
 ) -> Result<Taken, AllocError>
-    ensures runs { IfOk result (λ t. Runs (TakesItem source) global.old (items found.items) global.new (map line_view t.lines.items)) }
+    ensures runs { IfOk result (λ t. Runs (TakesItem source) global.old (items found.items) global.new
+        (map line_view t.lines.items)) }
     ensures fits { IfOk result (λ t. EachFits t.edits.items global.old) }
     ensures edits { IfOk result (λ t. after_edits t.edits.items global.old ≡ global.new) }
 {

@@ -1,5 +1,6 @@
 -- Dropping the internal holds on a SYSMOD by their keys, one after the other.
-use Rattle.std.proofs.Common.{◌≡◌, ◌∙◌, ◌&&◌, ◌||◌, ◌==◌, ◌<◌, inl, inr, ℕ, Bool, true, false, not, List, [], ◌∷◌, length, get_or, map, filter, cond, refl, sym, ap, IsTrue, All, true≢false, arith}
+use Rattle.std.proofs.Common.{◌≡◌, ◌∙◌, ◌&&◌, ◌||◌, ◌==◌, ◌<◌, inl, inr, ℕ, Bool, true, false, not, List, [], ◌∷◌}
+use Rattle.std.proofs.Common.{length, get_or, map, filter, cond, refl, sym, ap, IsTrue, All, true≢false, arith}
 use Rattle.std.specs.List.{list_any}
 use Rattle.std.specs.Str.{bytes_eq}
 use Rattle.std.specs.declared.cmp.Ordering.{Ordering}
@@ -23,12 +24,14 @@ use Rattle.smpe_reject.specs.Rejections.{removal, edits_of, FitsAlways}
 
 module _ {X : Type 0} where
   -- two filters, one after the other
-  filter-twice : (p q : X → Bool) (xs : List X) → filter (λ x. not (q x)) (filter (λ x. not (p x)) xs) ≡ filter (λ x. not (p x || q x)) xs
+  filter-twice : (p q : X → Bool) (xs : List X) → filter (λ x. not (q x)) (filter (λ x. not (p x)) xs) ≡ filter
+      (λ x. not (p x || q x)) xs
   filter-twice p q [] = refl
   filter-twice p q (x ∷ xs) = by (filter-twice p q xs) (p x) refl
     where
       by : filter (λ x. not (q x)) (filter (λ x. not (p x)) xs) ≡ filter (λ x. not (p x || q x)) xs
-          → (b : Bool) → p x ≡ b → filter (λ x. not (q x)) (filter (λ x. not (p x)) (x ∷ xs)) ≡ filter (λ x. not (p x || q x)) (x ∷ xs)
+          → (b : Bool) → p x ≡ b → filter (λ x. not (q x)) (filter (λ x. not (p x)) (x ∷ xs)) ≡ filter
+          (λ x. not (p x || q x)) (x ∷ xs)
       by again true e = rw e again
       by again false e = rw e (ap (λ ys. cond (not (q x)) (x ∷ ys) ys) again)
 
@@ -44,7 +47,8 @@ module _ {X : Type 0} where
   any-filter p q [] = refl
   any-filter p q (x ∷ xs) = by (any-filter p q xs) (p x) refl
     where
-      by : list_any q (filter p xs) ≡ list_any (λ x. p x && q x) xs → (b : Bool) → p x ≡ b → list_any q (filter p (x ∷ xs)) ≡ list_any (λ x. p x && q x) (x ∷ xs)
+      by : list_any q (filter p xs) ≡ list_any (λ x. p x && q x) xs → (b : Bool) → p x ≡ b
+          → list_any q (filter p (x ∷ xs)) ≡ list_any (λ x. p x && q x) (x ∷ xs)
       by again true e = rw e (ap (λ b. q x || b) again)
       by again false e = rw e again
 
@@ -64,14 +68,17 @@ abbrev pub has_key_of : Hold → Hold → Bool
 has_key_of o h = has_key h.id h.kind h.reason o
 
 -- the holds less those of these keys
-removals-make : (g : Global) (hs : List Hold) → after_edits (map removal hs) g ≡ record g { holds = filter (λ o. not (list_any (has_key_of o) hs)) g.holds }
-removals-make g [] = ap (λ os. record g { holds = os }) (sym (filter-all (λ (o : Hold). true) g.holds (λ i d below. refl)))
+removals-make : (g : Global) (hs : List Hold) → after_edits (map removal hs) g ≡ record g
+    { holds = filter (λ o. not (list_any (has_key_of o) hs)) g.holds }
+removals-make g [] = ap (λ os. record g { holds = os }) (sym
+    (filter-all (λ (o : Hold). true) g.holds (λ i d below. refl)))
 removals-make g (h ∷ hs) =
     removals-make (less_hold h.id h.kind h.reason g) hs
     ∙ ap (λ os. record g { holds = os }) (filter-twice (λ o. has_key_of o h) (λ o. list_any (has_key_of o) hs) g.holds)
 
 -- holds of one key in a list that rises are one
-one_hold : (hs : List Hold) (i j : ℕ) (d : Hold) → Rises hold_cmp (λ h. h) hs → i < length hs → j < length hs → has_key_of (get_or hs i d) (get_or hs j d) ≡ true → get_or hs j d ≡ get_or hs i d
+one_hold : (hs : List Hold) (i j : ℕ) (d : Hold) → Rises hold_cmp (λ h. h) hs → i < length hs → j < length hs
+    → has_key_of (get_or hs i d) (get_or hs j d) ≡ true → get_or hs j d ≡ get_or hs i d
 one_hold hs i j d rises below_i below_j has =
     let o = get_or hs i d in
     let h = get_or hs j d in
@@ -79,7 +86,8 @@ one_hold hs i j d rises below_i below_j has =
     elim (cases_lt j i) [
       | inl less ↦ absurd (lower (hold_cmp h o) (rises j i d less below_i) tie)
       | inr le ↦ elim (cases_lt i j) [
-        | inl less ↦ absurd (higher (hold_cmp o h) (rises i j d less below_j) (ap is_eq (sym (hold_cmp_total.antisymm h o)) ∙ tie))
+        | inl less ↦ absurd (higher (hold_cmp o h) (rises i j d less below_j)
+            (ap is_eq (sym (hold_cmp_total.antisymm h o)) ∙ tie))
         | inr ge ↦ let same : j ≡ i = omega (arith, le, ge) in ap (λ k. get_or hs k d) same
       ]
     ]
@@ -96,11 +104,13 @@ module _ (g : Global) (x : Id) (is : IsGlobal g) where
   abbrev dropped : Hold → Hold → Bool
   dropped o h = on h && (h.internal && has_key_of o h)
 
-  itself : (o : Hold) → (IsTrue o.internal → (o.kind ≡ System) × IsTrue (is_received g o.id)) → gone o ≡ true → dropped o o ≡ true
+  itself : (o : Hold) → (IsTrue o.internal → (o.kind ≡ System) × IsTrue (is_received g o.id)) → gone o ≡ true
+      → dropped o o ≡ true
   itself o own e =
       let parts = and_parts o.internal (bytes_eq o.id x) e in
       let kind = (own parts.0).0 in
-      let number : (hold_number o.kind == hold_number System) ≡ true = ap (λ k. hold_number k == hold_number System) kind in
+      let number : (hold_number o.kind == hold_number System) ≡ true =
+      ap (λ k. hold_number k == hold_number System) kind in
       let alike : (hold_number o.kind == hold_number o.kind) ≡ true = ap (λ k. hold_number k == hold_number k) kind in
       (λ i. (parts.1 i && number i) && (parts.0 i && ((same_itself o.id i && alike i) && same_itself o.reason i)))
 
@@ -112,25 +122,32 @@ module _ (g : Global) (x : Id) (is : IsGlobal g) where
       let second = and_parts h.internal (has_key_of o h) two.1 in
       ((λ i. second.0 i && first.0 i), second.1)
 
-  goes : (i : ℕ) (d : Hold) → i < length g.holds → list_any (dropped (get_or g.holds i d)) g.holds ≡ gone (get_or g.holds i d)
+  goes : (i : ℕ) (d : Hold) → i < length g.holds → list_any (dropped (get_or g.holds i d)) g.holds ≡ gone
+      (get_or g.holds i d)
   goes i d below = by (gone (get_or g.holds i d)) refl
     where
-      none : gone (get_or g.holds i d) ≡ false → (j : ℕ) → j < length g.holds → (b : Bool) → dropped (get_or g.holds i d) (get_or g.holds j d) ≡ b → b ≡ false
+      none : gone (get_or g.holds i d) ≡ false → (j : ℕ) → j < length g.holds → (b : Bool)
+          → dropped (get_or g.holds i d) (get_or g.holds j d) ≡ b → b ≡ false
       none stays j under true e =
           let h = is_gone (get_or g.holds i d) (get_or g.holds j d) e in
           absurd (true≢false (sym h.0 ∙ ap gone (one_hold g.holds i j d is.holds below under h.1) ∙ stays))
       none stays j under false e = refl
 
-      by : (b : Bool) → gone (get_or g.holds i d) ≡ b → list_any (dropped (get_or g.holds i d)) g.holds ≡ gone (get_or g.holds i d)
-      by true e = list_any_at (dropped (get_or g.holds i d)) g.holds i d below (itself (get_or g.holds i d) (is.internal i d below) e) ∙ sym e
+      by : (b : Bool) → gone (get_or g.holds i d) ≡ b → list_any (dropped (get_or g.holds i d)) g.holds ≡ gone
+          (get_or g.holds i d)
+      by true e = list_any_at (dropped (get_or g.holds i d)) g.holds i d below
+          (itself (get_or g.holds i d) (is.internal i d below) e) ∙ sym e
       by false e =
           list_any_none (dropped (get_or g.holds i d)) g.holds
-          (All-from_get_or (λ h. dropped (get_or g.holds i d) h ≡ false) g.holds d (λ j under. none e j under (dropped (get_or g.holds i d) (get_or g.holds j d)) refl))
+          (All-from_get_or (λ h. dropped (get_or g.holds i d) h ≡ false) g.holds d
+          (λ j under. none e j under (dropped (get_or g.holds i d) (get_or g.holds j d)) refl))
           ∙ sym e
 
   -- what a key says of a hold
-  keyed : (o : Hold) → list_any (has_key_of o) (filter (λ h. h.internal) (holds_of g System x)) ≡ list_any (dropped o) g.holds
-  keyed o = any-filter (λ h. h.internal) (has_key_of o) (holds_of g System x) ∙ any-filter on (λ h. h.internal && has_key_of o h) g.holds
+  keyed : (o : Hold) → list_any (has_key_of o) (filter (λ h. h.internal) (holds_of g System x)) ≡ list_any (dropped o)
+      g.holds
+  keyed o = any-filter (λ h. h.internal) (has_key_of o) (holds_of g System x)
+      ∙ any-filter on (λ h. h.internal && has_key_of o h) g.holds
 
   pub edits-make : after_edits (edits_of g x) g ≡ without_sysmod g x
   edits-make =
@@ -144,4 +161,5 @@ module _ (g : Global) (x : Id) (is : IsGlobal g) where
 pub edits-fit : (g : Global) (x : Id) → All FitsAlways (edits_of g x)
 edits-fit g x =
     let hs = filter (λ h. h.internal) (holds_of g System x) in
-    All-cons FitsAlways (RemoveSysmod x) (map removal hs) (λ any. tt) (All-map FitsAlways removal hs (λ i d below any. tt))
+    All-cons FitsAlways (RemoveSysmod x) (map removal hs) (λ any. tt)
+    (All-map FitsAlways removal hs (λ i d below any. tt))

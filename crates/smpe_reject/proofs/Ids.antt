@@ -1,5 +1,6 @@
 -- Ids that are rejected, one after another.
-use Rattle.std.proofs.Common.{◌≡◌, ◌∙◌, Bool, true, false, not, List, [], ◌∷◌, ◌++◌, map, take, All, sym, ap, subst, Ok, Err, true≢false, if◌then◌else◌}
+use Rattle.std.proofs.Common.{◌≡◌, ◌∙◌, Bool, true, false, not, List, [], ◌∷◌, ◌++◌, map, take, All, sym, ap, subst, Ok}
+use Rattle.std.proofs.Common.{Err, true≢false, if◌then◌else◌}
 use Rattle.std.specs.Prelude.{Result, IsOk, OnOk}
 use Rattle.std.specs.List.{list_any}
 use Rattle.std.proofs.lemmas.List.{map-append}
@@ -33,10 +34,13 @@ module _ {S : Type 0} (zones : IndexMap Text Zone S) (g : Global) (x : Id) where
   abbrev applied : Bool
   applied = list_any (λ zone. is_applied zone x) (values zones)
 
-  answered : (named : List NamedZone) → AppliesAlike zones named → (r a : Bool) → is_received g x ≡ r → applied ≡ a → reject g named x ≡ answer g x r a
-  answered named alike r a received is = ap (λ b. answer g x b (list_any (λ z. is_applied z.zone x) named)) received ∙ ap (answer g x r) (alike x ∙ is)
+  answered : (named : List NamedZone) → AppliesAlike zones named → (r a : Bool) → is_received g x ≡ r → applied ≡ a
+      → reject g named x ≡ answer g x r a
+  answered named alike r a received is = ap (λ b. answer g x b (list_any (λ z. is_applied z.zone x) named)) received
+      ∙ ap (answer g x r) (alike x ∙ is)
 
-  pub taken-out : (new : Global) (edits later : List GlobalEdit) → IsGlobal g → is_received g x ≡ true → applied ≡ false → later ≡ edits ++ edits_of g x → new ≡ without_sysmod g x
+  pub taken-out : (new : Global) (edits later : List GlobalEdit) → IsGlobal g → is_received g x ≡ true → applied ≡ false
+      → later ≡ edits ++ edits_of g x → new ≡ without_sysmod g x
       → IsAnswered zones g x new edits later Rejected
   taken-out new edits later known there free written out = record {
     own = edits_of g x;
@@ -54,13 +58,17 @@ on_ok P (Err e) is done = absurd (true≢false (sym is))
 
 module _ {S : Type 0} (zones : IndexMap Text Zone S) (g : Global) where
   -- one id more
-  pub more_rejected : (m new : Global) (ids : List Id) (x : Id) (edits later : List GlobalEdit) (lines printed : List Line)
-      → AreRejected zones g ids m edits lines → IsRejected zones m x new edits later lines printed → AreRejected zones g (ids ++ x ∷ []) new later printed
+  pub more_rejected : (m new : Global) (ids : List Id) (x : Id) (edits later : List GlobalEdit)
+      (lines printed : List Line)
+      → AreRejected zones g ids m edits lines → IsRejected zones m x new edits later lines printed
+      → AreRejected zones g (ids ++ x ∷ []) new later printed
   more_rejected m new ids x edits later lines printed front back =
       let step = back.rejected in
       let made : AreRejected zones g (ids ++ x ∷ []) new (edits ++ back.own) (lines ++ back.line ∷ []) = record {
-        runs = λ named alike. subst (Runs (RejectsId named) g (ids ++ x ∷ []) new) (sym (map-append line_view lines (back.line ∷ [])))
-            (runs-append (RejectsId named) g m new ids (x ∷ []) (map line_view lines) (line_view back.line ∷ []) (front.runs named alike) (step.runs named alike));
+        runs = λ named alike. subst (Runs (RejectsId named) g (ids ++ x ∷ []) new)
+            (sym (map-append line_view lines (back.line ∷ [])))
+            (runs-append (RejectsId named) g m new ids (x ∷ []) (map line_view lines) (line_view back.line ∷ [])
+            (front.runs named alike) (step.runs named alike));
         fits = All-append FitsAlways edits back.own front.fits step.fits;
         after = fold-append after_edit g edits back.own ∙ ap (after_edits back.own) front.after ∙ step.after;
       } in

@@ -1,5 +1,6 @@
 -- A map that finds under each name the zone of that name.
-use Rattle.std.proofs.Common.{◌≡◌, ◌∙◌, ◌||◌, Bool, true, false, List, [], ◌∷◌, refl, sym, ap, subst, Option, None, Some, Contains, true≢false, find}
+use Rattle.std.proofs.Common.{◌≡◌, ◌∙◌, ◌||◌, Bool, true, false, List, [], ◌∷◌, refl, sym, ap, subst, Option, None}
+use Rattle.std.proofs.Common.{Some, Contains, true≢false, find}
 use Rattle.std.specs.List.{list_any}
 use Rattle.std.specs.Ordering.{nat_cmp}
 use Rattle.std.specs.Option.{option_map}
@@ -24,9 +25,11 @@ module _ {X : Type 0} (p : X → Bool) where
   passing [] e = absurd (true≢false (sym e))
   passing (x ∷ xs) e = by (passing xs) (p x) refl
     where
-      by : (list_any p xs ≡ true → (y : X) × Contains xs y × (p y ≡ true)) → (b : Bool) → p x ≡ b → (y : X) × Contains (x ∷ xs) y × (p y ≡ true)
+      by : (list_any p xs ≡ true → (y : X) × Contains xs y × (p y ≡ true)) → (b : Bool) → p x ≡ b
+          → (y : X) × Contains (x ∷ xs) y × (p y ≡ true)
       by again true f = (x, here x xs, f)
-      by again false f = let later = again (sym (ap (λ b. b || list_any p xs) f) ∙ e) in (later.0, there x xs later.0 later.1, later.2)
+      by again false f = let later = again (sym (ap (λ b. b || list_any p xs) f) ∙ e)
+          in (later.0, there x xs later.0 later.1, later.2)
 
   any-member : (xs : List X) (x : X) → Contains xs x → p x ≡ true → list_any p xs ≡ true
   any-member xs x h e = list_any_at p xs h.0 x h.1 (ap p h.2 ∙ e)
@@ -48,14 +51,16 @@ same_truth false true to from = from refl
 same_truth false false to from = refl
 
 -- what a mapped search finds
-found-mapped : {X Y : Type 0} (f : X → Y) (o : Option X) (y : Y) → option_map f o ≡ Some y → (x : X) × (o ≡ Some x) × (f x ≡ y)
+found-mapped : {X Y : Type 0} (f : X → Y) (o : Option X) (y : Y) → option_map f o ≡ Some y
+    → (x : X) × (o ≡ Some x) × (f x ≡ y)
 found-mapped f None y e = absurd (none e)
   where
     none : None ≡ Some y → ⊥
     none e = cc
 found-mapped f (Some x) y e = (x, refl, cc)
 
-module _ {S : Type 0} (zones : IndexMap Text Zone S) (named : List NamedZone) (unique : IsUnique bytes_eq zones) (rises : Rises (slice_cmp nat_cmp) (λ (z : NamedZone). z.name) named)
+module _ {S : Type 0} (zones : IndexMap Text Zone S) (named : List NamedZone) (unique : IsUnique bytes_eq zones)
+    (rises : Rises (slice_cmp nat_cmp) (λ (z : NamedZone). z.name) named)
     (same : (name : Text) → get bytes_eq zones name ≡ zone_named named name) where
   named-found : (z : NamedZone) → Contains named z → zone_named named z.name ≡ Some z.zone
   named-found z h =
@@ -64,7 +69,8 @@ module _ {S : Type 0} (zones : IndexMap Text Zone S) (named : List NamedZone) (u
       ap (option_map (λ (y : NamedZone). y.zone)) (
       ap (find (λ y. bytes_eq y.name z.name)) at.2
       ∙ find-there nat_list_cmp_total (λ (y : NamedZone). y.name) bytes_eq texts_ties z.name at.0 at.1 z
-      (Splits-around nat_list_cmp_total (λ (y : NamedZone). y.name) z.name at.0 at.1 z (subst (Rises (slice_cmp nat_cmp) (λ (y : NamedZone). y.name)) at.2 rises) tie) tie
+      (Splits-around nat_list_cmp_total (λ (y : NamedZone). y.name) z.name at.0 at.1 z
+      (subst (Rises (slice_cmp nat_cmp) (λ (y : NamedZone). y.name)) at.2 rises) tie) tie
       )
 
   in_map : (name : Text) (zone : Zone) → get bytes_eq zones name ≡ Some zone → Contains zones.entries (name, zone)
@@ -86,14 +92,18 @@ module _ {S : Type 0} (zones : IndexMap Text Zone S) (named : List NamedZone) (u
     to_map : list_any listed named ≡ true → list_any (λ zone. is_applied zone x) (values zones) ≡ true
     to_map e =
         let z = passing listed named e in
-        each ∙ any-member stored zones.entries (z.0.name, z.0.zone) (in_map z.0.name z.0.zone (same z.0.name ∙ named-found z.0 z.1)) z.2
+        each ∙ any-member stored zones.entries (z.0.name, z.0.zone)
+        (in_map z.0.name z.0.zone (same z.0.name ∙ named-found z.0 z.1)) z.2
 
     to_list : list_any (λ zone. is_applied zone x) (values zones) ≡ true → list_any listed named ≡ true
     to_list e =
         let m = passing stored zones.entries (sym each ∙ e) in
-        let f = found-mapped (λ (z : NamedZone). z.zone) (find (λ z. bytes_eq z.name m.0.0) named) m.0.1 (sym (same m.0.0) ∙ from_map m.0.0 m.0.1 m.1) in
-        any-member listed named f.0 (found-member (λ z. bytes_eq z.name m.0.0) named f.0 f.1) (ap (λ zone. is_applied zone x) f.2 ∙ m.2)
+        let f = found-mapped (λ (z : NamedZone). z.zone) (find (λ z. bytes_eq z.name m.0.0) named) m.0.1
+        (sym (same m.0.0) ∙ from_map m.0.0 m.0.1 m.1) in
+        any-member listed named f.0 (found-member (λ z. bytes_eq z.name m.0.0) named f.0 f.1)
+        (ap (λ zone. is_applied zone x) f.2 ∙ m.2)
 
   -- Where the map and the list find the same zones under all names, the same ids are applied in them.
   pub applies-alike : AppliesAlike zones named
-  applies-alike x = same_truth (list_any (λ z. is_applied z.zone x) named) (list_any (λ zone. is_applied zone x) (values zones)) (to_map x) (to_list x)
+  applies-alike x = same_truth (list_any (λ z. is_applied z.zone x) named)
+      (list_any (λ zone. is_applied zone x) (values zones)) (to_map x) (to_list x)

@@ -18,7 +18,8 @@ use Rattle.sysmods.specs.Edits.{Fits, after_edits}
 
 -- Some zone of the map has an id applied just where one of the named zones has.
 abbrev pub AppliesAlike : {S : Type 0} → IndexMap Text Zone S → List NamedZone → Type 0
-AppliesAlike zones named = (x : Id) → list_any (λ z. is_applied z.zone x) named ≡ list_any (λ zone. is_applied zone x) (values zones)
+AppliesAlike zones named = (x : Id) → list_any (λ z. is_applied z.zone x) named ≡ list_any (λ zone. is_applied zone x)
+    (values zones)
 
 abbrev pub removal : Hold → GlobalEdit
 removal h = RemoveHold h.id h.kind h.reason
@@ -32,7 +33,8 @@ abbrev pub FitsAlways : GlobalEdit → Type 0
 FitsAlways e = (g : Global) → Fits g e
 
 -- The id is rejected or refused, and the edits, behind those before, lead where it does.
-pub record IsAnswered {S : Type 0} (zones : IndexMap Text Zone S) (g : Global) (x : Id) (new : Global) (edits later : List GlobalEdit) (status : Status) : Type 0 where
+pub record IsAnswered {S : Type 0} (zones : IndexMap Text Zone S) (g : Global) (x : Id) (new : Global)
+    (edits later : List GlobalEdit) (status : Status) : Type 0 where
   pub own : List GlobalEdit
   pub edits_are : later ≡ edits ++ own
   pub fits : All FitsAlways own
@@ -41,13 +43,16 @@ pub record IsAnswered {S : Type 0} (zones : IndexMap Text Zone S) (g : Global) (
   pub told : (named : List NamedZone) → AppliesAlike zones named → status_view status ≡ reject_status (reject g named x)
 
 -- The ids lead from g to new, and print these lines. The edits lead there too.
-pub record AreRejected {S : Type 0} (zones : IndexMap Text Zone S) (g : Global) (ids : List Id) (new : Global) (edits : List GlobalEdit) (lines : List Line) : Type 0 where
-  pub runs : (named : List NamedZone) → AppliesAlike zones named → Runs (RejectsId named) g ids new (map line_view lines)
+pub record AreRejected {S : Type 0} (zones : IndexMap Text Zone S) (g : Global) (ids : List Id) (new : Global)
+    (edits : List GlobalEdit) (lines : List Line) : Type 0 where
+  pub runs : (named : List NamedZone) → AppliesAlike zones named
+      → Runs (RejectsId named) g ids new (map line_view lines)
   pub fits : All FitsAlways edits
   pub after : after_edits edits g ≡ new
 
 -- One id, behind what was written and printed before.
-pub record IsRejected {S : Type 0} (zones : IndexMap Text Zone S) (g : Global) (x : Id) (new : Global) (edits later : List GlobalEdit) (lines printed : List Line) : Type 0 where
+pub record IsRejected {S : Type 0} (zones : IndexMap Text Zone S) (g : Global) (x : Id) (new : Global)
+    (edits later : List GlobalEdit) (lines printed : List Line) : Type 0 where
   pub own : List GlobalEdit
   pub edits_are : later ≡ edits ++ own
   pub line : Line

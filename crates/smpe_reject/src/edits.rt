@@ -14,7 +14,8 @@ fn remove_internal_holds(
     global: &Global,
     id: Id,
 ) -> Result<(), AllocError>
-    ensures { OnOk result (edits.new.items ≡ edits.old.items ++ map removal (filter (λ h. h.internal) (holds_of global.now System id))) }
+    ensures { OnOk result (edits.new.items ≡ edits.old.items
+        ++ map removal (filter (λ h. h.internal) (holds_of global.now System id))) }
 {
     for hold in global.holds_of(HoldKind::System, id) {
         if hold.internal {

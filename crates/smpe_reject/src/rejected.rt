@@ -70,7 +70,8 @@ fn reject_one(
     id: Id,
     rejected: &mut Rejected,
 ) -> Result<(), AllocError>
-    ensures { OnOk result (IsRejected zones.now global.old id global.new rejected.old.edits.items rejected.new.edits.items rejected.old.lines.items rejected.new.lines.items) }
+    ensures { OnOk result (IsRejected zones.now global.old id global.new rejected.old.edits.items
+        rejected.new.edits.items rejected.old.lines.items rejected.new.lines.items) }
 {
     let place = place_of(global, id);
     let status = take_out(global, zones, id, &mut rejected.edits)?;
@@ -86,7 +87,8 @@ pub fn reject(
     zones: &IndexMap<ZoneName, Zone>,
     ids: &IdList,
 ) -> Result<Rejected, AllocError>
-    ensures runs { IfOk result (λ r. (named : List NamedZone) → AppliesAlike zones.now named → Runs (RejectsId named) global.old ids.now global.new (map line_view r.lines.items)) }
+    ensures runs { IfOk result (λ r. (named : List NamedZone) → AppliesAlike zones.now named
+        → Runs (RejectsId named) global.old ids.now global.new (map line_view r.lines.items)) }
     ensures fits { IfOk result (λ r. EachFits r.edits.items global.old) }
     ensures edits { IfOk result (λ r. after_edits r.edits.items global.old ≡ global.new) }
 {

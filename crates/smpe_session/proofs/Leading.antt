@@ -16,14 +16,17 @@ use Rattle.smpe_session.specs.Sessions.{IsSessionOf}
 use Rattle.smpe_session.specs.Steps.{LeadsTo}
 
 -- the change that is committed, and where it leads
-pub record LeadsBy (date : Text) (files : Files) (c : Command) (s : State) (new : Global) (edits : List GlobalEdit) (lines : List Line) : Type 0 where
+pub record LeadsBy (date : Text) (files : Files) (c : Command) (s : State) (new : Global) (edits : List GlobalEdit)
+    (lines : List Line) : Type 0 where
   pub fits : EachFits edits s.global
   pub makes : kept (record s { global = new }) ≡ record (kept s) { global = after_edits edits s.global }
   pub inventory : IsInventory (kept (record s { global = new }))
   pub leads : LeadsTo date files c s new (record s { global = new }) lines
 
-pub leads-by : (date : Text) (files : Files) (c : Command) (s : State) (old new : Global) (edits : List GlobalEdit) (lines : List Line) → s.global ≡ old
-    → EachFits edits old → after_edits edits old ≡ new → IsInventory (kept (record s { global = new })) → LeadsTo date files c s new (record s { global = new }) lines
+pub leads-by : (date : Text) (files : Files) (c : Command) (s : State) (old new : Global) (edits : List GlobalEdit)
+    (lines : List Line) → s.global ≡ old
+    → EachFits edits old → after_edits edits old ≡ new → IsInventory (kept (record s { global = new }))
+    → LeadsTo date files c s new (record s { global = new }) lines
     → LeadsBy date files c s new edits lines
 leads-by date files c s old new edits lines global fits after inventory leads = record {
   fits = subst (EachFits edits) (sym global) fits;
@@ -33,19 +36,27 @@ leads-by date files c s old new edits lines global fits after inventory leads = 
 }
 
 -- the header under the session's boundary
-pub headed : (date : Text) (files : Files) (c : Command) (s t : State) (boundary : Option Text) (outcome : Header → Outcome) → boundary ≡ s.boundary
-    → Performs date files s c t (outcome (header_of c s.boundary)) → Performs date files s c t (outcome (header_of c boundary))
-headed date files c s t boundary outcome same performs = subst (λ b. Performs date files s c t (outcome (header_of c b))) (sym same) performs
+pub headed : (date : Text) (files : Files) (c : Command) (s t : State) (boundary : Option Text)
+    (outcome : Header → Outcome) → boundary ≡ s.boundary
+    → Performs date files s c t (outcome (header_of c s.boundary))
+    → Performs date files s c t (outcome (header_of c boundary))
+headed date files c s t boundary outcome same performs = subst
+    (λ b. Performs date files s c t (outcome (header_of c b))) (sym same) performs
 
-pub led : (date : Text) (files : Files) (c : Command) (s t : State) (new : Global) (boundary : Option Text) (lines : List Line) → boundary ≡ s.boundary → LeadsTo date files c s new t lines
+pub led : (date : Text) (files : Files) (c : Command) (s t : State) (new : Global) (boundary : Option Text)
+    (lines : List Line) → boundary ≡ s.boundary → LeadsTo date files c s new t lines
     → Performs date files s c t (Ran (header_of c boundary) lines)
-led date files c s t new boundary lines same leads = headed date files c s t boundary (λ h. Ran h lines) same leads.performs
+led date files c s t new boundary lines same leads = headed date files c s t boundary (λ h. Ran h lines) same
+    leads.performs
 
-pub refused : (date : Text) (files : Files) (c : Command) (s : State) (boundary : Option Text) (why : Refusal) → boundary ≡ s.boundary → misplaced s c ≡ Some why
+pub refused : (date : Text) (files : Files) (c : Command) (s : State) (boundary : Option Text) (why : Refusal)
+    → boundary ≡ s.boundary → misplaced s c ≡ Some why
     → Performs date files s c s (Refused (header_of c boundary) why)
-refused date files c s boundary why same at = headed date files c s s boundary (λ h. Refused h why) same (inl (why, at, refl, refl))
+refused date files c s boundary why same at = headed date files c s s boundary (λ h. Refused h why) same
+    (inl (why, at, refl, refl))
 
-pub led-session : (s t : State) (at new : Session) → IsSessionOf s at → t ≡ record s { global = new.global } → new.zones ≡ at.zones → new.boundary ≡ at.boundary → IsSessionOf t new
+pub led-session : (s t : State) (at new : Session) → IsSessionOf s at → t ≡ record s { global = new.global }
+    → new.zones ≡ at.zones → new.boundary ≡ at.boundary → IsSessionOf t new
 led-session s t at new is state zones boundary = subst (λ u. IsSessionOf u new) (sym state) record {
   global = refl;
   boundary = boundary ∙ is.boundary;

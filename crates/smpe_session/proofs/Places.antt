@@ -1,5 +1,6 @@
 -- Where commands may run, by the boundary.
-use Rattle.std.proofs.Common.{◌≡◌, ◌≢◌, ◌∙◌, ◌==◌, Bool, true, false, not, List, All, Option, Some, None, refl, sym, ap, inl, inr}
+use Rattle.std.proofs.Common.{◌≡◌, ◌≢◌, ◌∙◌, ◌==◌, Bool, true, false, not, List, All, Option, Some, None, refl, sym, ap}
+use Rattle.std.proofs.Common.{inl, inr}
 use Rattle.std.specs.Prelude.{if◌then◌else◌, is_some, find, option_map}
 use Rattle.std.specs.Option.{option_map_or, option_and_then}
 use Rattle.std.specs.Str.{bytes_eq}
@@ -17,7 +18,8 @@ use Rattle.smpe_session.specs.Sessions.{IsSessionOf}
 
 -- whether the boundary is the global zone
 abbrev refusal_at : Option Text → Option Refusal
-refusal_at boundary = if not (is_some boundary) then Some Cm1 else if option_map_or (bytes_eq global_name) boundary false then None else Some Cm3
+refusal_at boundary = if not (is_some boundary) then Some Cm1 else if option_map_or (bytes_eq global_name) boundary
+    false then None else Some Cm3
 
 pub receive-at : (s : State) (what : ReceiveWhat) → unless_at (at_global s) s ≡ misplaced s (Receive what)
 unfolding misplaced
@@ -33,11 +35,14 @@ by_boundary s = refl
 pub at-nowhere : (s : State) → s.boundary ≡ None → Some Cm1 ≡ unless_at (at_global s) s
 at-nowhere s at = sym (by_boundary s ∙ ap refusal_at at)
 
-pub at-global : (s : State) (name : Text) → s.boundary ≡ Some name → name ≡ global_name → None ≡ unless_at (at_global s) s
+pub at-global : (s : State) (name : Text) → s.boundary ≡ Some name → name ≡ global_name
+    → None ≡ unless_at (at_global s) s
 at-global s name at is =
-    sym (by_boundary s ∙ ap refusal_at (at ∙ ap Some is) ∙ ap (λ b. if b then None else Some Cm3) (same_itself global_name))
+    sym (by_boundary s ∙ ap refusal_at (at ∙ ap Some is) ∙ ap (λ b. if b then None else Some Cm3)
+    (same_itself global_name))
 
-pub at-elsewhere : (s : State) (name : Text) → s.boundary ≡ Some name → name ≢ global_name → Some Cm3 ≡ unless_at (at_global s) s
+pub at-elsewhere : (s : State) (name : Text) → s.boundary ≡ Some name → name ≢ global_name
+    → Some Cm3 ≡ unless_at (at_global s) s
 at-elsewhere s name at other = sym (by_boundary s ∙ ap refusal_at at ∙ by (bytes_eq global_name name) refl)
   where
     by : (b : Bool) → bytes_eq global_name name ≡ b → (if b then None else Some Cm3) ≡ Some Cm3
@@ -46,35 +51,46 @@ at-elsewhere s name at other = sym (by_boundary s ∙ ap refusal_at at ∙ by (b
 
 -- whether it names a zone that is a target zone
 abbrev refusal_of_kind : Option Text → Option Zone → Option Refusal
-refusal_of_kind boundary zone = if not (is_some boundary) then Some Cm1 else if option_map_or (λ z. zone_number z.kind == zone_number Target) zone false then None else Some Cm3
+refusal_of_kind boundary zone = if not (is_some boundary) then Some Cm1 else if option_map_or
+    (λ z. zone_number z.kind == zone_number Target) zone false then None else Some Cm3
 
-by_kind : (s : State) (i : Install) → misplaced s (Apply i) ≡ refusal_of_kind s.boundary (option_and_then (zone_named s.zones) s.boundary)
+by_kind : (s : State) (i : Install) → misplaced s (Apply i) ≡ refusal_of_kind s.boundary
+    (option_and_then (zone_named s.zones) s.boundary)
 unfolding misplaced
 by_kind s i = refl
 
 pub apply-nowhere : (s : State) (i : Install) → s.boundary ≡ None → misplaced s (Apply i) ≡ Some Cm1
 apply-nowhere s i at = by_kind s i ∙ ap (λ b. refusal_of_kind b (option_and_then (zone_named s.zones) b)) at
 
-at_zone : (s : State) (i : Install) (name : Text) (found : Option Zone) → s.boundary ≡ Some name → zone_named s.zones name ≡ found
+at_zone : (s : State) (i : Install) (name : Text) (found : Option Zone) → s.boundary ≡ Some name
+    → zone_named s.zones name ≡ found
     → misplaced s (Apply i) ≡ refusal_of_kind (Some name) found
-at_zone s i name found at there = by_kind s i ∙ ap (λ b. refusal_of_kind b (option_and_then (zone_named s.zones) b)) at ∙ ap (refusal_of_kind (Some name)) there
+at_zone s i name found at there = by_kind s i ∙ ap (λ b. refusal_of_kind b (option_and_then (zone_named s.zones) b)) at
+    ∙ ap (refusal_of_kind (Some name)) there
 
-pub apply-target : (s : State) (i : Install) (name : Text) (zone : Zone) → s.boundary ≡ Some name → zone_named s.zones name ≡ Some zone → zone.kind ≡ Target → misplaced s (Apply i) ≡ None
-apply-target s i name zone at there kind = at_zone s i name (Some zone) at there ∙ ap (λ k. if zone_number k == zone_number Target then None else Some Cm3) kind
+pub apply-target : (s : State) (i : Install) (name : Text) (zone : Zone) → s.boundary ≡ Some name
+    → zone_named s.zones name ≡ Some zone → zone.kind ≡ Target → misplaced s (Apply i) ≡ None
+apply-target s i name zone at there kind = at_zone s i name (Some zone) at there
+    ∙ ap (λ k. if zone_number k == zone_number Target then None else Some Cm3) kind
 
-pub apply-distribution : (s : State) (i : Install) (name : Text) (zone : Zone) → s.boundary ≡ Some name → zone_named s.zones name ≡ Some zone → zone.kind ≡ Distribution → misplaced s (Apply i) ≡ Some Cm3
-apply-distribution s i name zone at there kind = at_zone s i name (Some zone) at there ∙ ap (λ k. if zone_number k == zone_number Target then None else Some Cm3) kind
+pub apply-distribution : (s : State) (i : Install) (name : Text) (zone : Zone) → s.boundary ≡ Some name
+    → zone_named s.zones name ≡ Some zone → zone.kind ≡ Distribution → misplaced s (Apply i) ≡ Some Cm3
+apply-distribution s i name zone at there kind = at_zone s i name (Some zone) at there
+    ∙ ap (λ k. if zone_number k == zone_number Target then None else Some Cm3) kind
 
 -- no zone of an inventory has the global zone's name
 pub none-global : (zones : List NamedZone) → All IsZoneNamed zones → zone_named zones global_name ≡ None
 none-global zones all = by (find (λ z. bytes_eq z.name global_name) zones) refl
   where
-    by : (z : Option NamedZone) → find (λ z. bytes_eq z.name global_name) zones ≡ z → option_map (λ z. z.zone) (find (λ z. bytes_eq z.name global_name) zones) ≡ None
+    by : (z : Option NamedZone) → find (λ z. bytes_eq z.name global_name) zones ≡ z
+        → option_map (λ z. z.zone) (find (λ z. bytes_eq z.name global_name) zones) ≡ None
     by None at = ap (option_map (λ z. z.zone)) at
-    by (Some z) at = absurd ((All-find IsZoneNamed (λ z. bytes_eq z.name global_name) zones z all at).not_global (same_from z.name global_name (find-gives (λ z. bytes_eq z.name global_name) zones z at).0))
+    by (Some z) at = absurd ((All-find IsZoneNamed (λ z. bytes_eq z.name global_name) zones z all at).not_global
+        (same_from z.name global_name (find-gives (λ z. bytes_eq z.name global_name) zones z at).0))
 
 -- a boundary that is no zone of the session is the global zone
-pub apply-global : (s : State) (at : Session) (i : Install) (name : Text) → IsSessionOf s at → IsInventory (kept s) → s.boundary ≡ Some name → get bytes_eq at.zones name ≡ None → misplaced s (Apply i) ≡ Some Cm3
+pub apply-global : (s : State) (at : Session) (i : Install) (name : Text) → IsSessionOf s at → IsInventory (kept s)
+    → s.boundary ≡ Some name → get bytes_eq at.zones name ≡ None → misplaced s (Apply i) ≡ Some Cm3
 apply-global s at i name is inventory named none = at_zone s i name None named (elim (is.current name named) [
   | inl same ↦ ap (zone_named s.zones) same ∙ none-global s.zones inventory.zones
   | inr some ↦ absurd (cc (sym (ap is_some none) ∙ some))

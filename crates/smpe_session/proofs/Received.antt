@@ -1,5 +1,6 @@
 -- What RECEIVE leads to: a state that the edits make, whose tables are an inventory's.
-use Rattle.std.proofs.Common.{◌≡◌, ◌∙◌, Bool, true, false, ℕ, List, [], ◌++◌, All, Option, None, IfSome, IsTrue, refl, sym, ap, subst, inr}
+use Rattle.std.proofs.Common.{◌≡◌, ◌∙◌, Bool, true, false, ℕ, List, [], ◌++◌, All, Option, None, IfSome, IsTrue, refl}
+use Rattle.std.proofs.Common.{sym, ap, subst, inr}
 use Rattle.std.proofs.lemmas.List.Elements.{All-from_recursion}
 use Rattle.std.proofs.lemmas.List.Sums.{fold-append}
 use Rattle.terms.specs.Types.{Text, Global, Item, HoldItem, AHold, ARelease, ReceiveWhat, Receive}
@@ -31,65 +32,83 @@ external (AHold h) is = is.1
 external (ARelease r) is = tt
 
 -- The holds of a hold file, where it is read, are external.
-pub each-external : (reads : Bool) (bytes : List ℕ) (holds : List HoldItem) → HasItems IsHoldFile reads bytes holds → All IsExternal holds
-each-external true bytes holds has = All-from_recursion IsExternal holds (recursion_weaker IsHoldItem IsExternal external holds (hold_file_formed bytes holds has))
+pub each-external : (reads : Bool) (bytes : List ℕ) (holds : List HoldItem) → HasItems IsHoldFile reads bytes holds
+    → All IsExternal holds
+each-external true bytes holds has = All-from_recursion IsExternal holds
+    (recursion_weaker IsHoldItem IsExternal external holds (hold_file_formed bytes holds has))
 each-external false bytes holds none = subst (All IsExternal) (sym none) (All-from_recursion IsExternal [] tt)
 
 -- the items of PTFIN, and then those of the hold file
-pub both-taken : (source : Option Text) (items : List Item) (holds : List HoldItem) (g middle new : Global) (edits later all : List GlobalEdit) (first more lines : List Line)
+pub both-taken : (source : Option Text) (items : List Item) (holds : List HoldItem) (g middle new : Global)
+    (edits later all : List GlobalEdit) (first more lines : List Line)
     → Runs (TakesItem source) g items middle first → EachFits edits g → after_edits edits g ≡ middle
     → Runs TakesHoldItem middle holds new more → EachFits later middle → after_edits later middle ≡ new
     → all ≡ edits ++ later → lines ≡ first ++ more → AreTaken source items holds g new all lines
-both-taken source items holds g middle new edits later all first more lines runs fits after runs_holds fits_holds after_holds all_are lines_are = record {
-  middle = middle;
-  first = first;
-  more = more;
-  runs = runs;
-  runs_holds = runs_holds;
-  lines_are = lines_are;
-  fits = subst (λ es. EachFits es g) (sym all_are) (fits-append g edits later fits (subst (EachFits later) (sym after) fits_holds));
-  after = ap (λ es. after_edits es g) all_are ∙ fold-append after_edit g edits later ∙ ap (after_edits later) after ∙ after_holds;
-}
+both-taken source items holds g middle new edits later all first more lines runs fits after runs_holds fits_holds
+    after_holds all_are lines_are = record {
+      middle = middle;
+      first = first;
+      more = more;
+      runs = runs;
+      runs_holds = runs_holds;
+      lines_are = lines_are;
+      fits = subst (λ es. EachFits es g) (sym all_are) (fits-append g edits later fits
+          (subst (EachFits later) (sym after) fits_holds));
+      after = ap (λ es. after_edits es g) all_are ∙ fold-append after_edit g edits later ∙ ap (after_edits later) after
+          ∙ after_holds;
+    }
 
-pub received : (date : Text) (files : Files) (what : ReceiveWhat) (s : State) (old new : Global) (source : Option Text) (items : List Item) (holds : List HoldItem)
+pub received : (date : Text) (files : Files) (what : ReceiveWhat) (s : State) (old new : Global) (source : Option Text)
+    (items : List Item) (holds : List HoldItem)
     (edits : List GlobalEdit) (printed lines : List Line)
-    → s.global ≡ old → IsInventory (kept s) → misplaced s (Receive what) ≡ None → what.source ≡ source → IfSome source IsSource
+    → s.global ≡ old → IsInventory (kept s) → misplaced s (Receive what) ≡ None → what.source ≡ source
+    → IfSome source IsSource
     → HasItems IsPtfin what.sysmods files.ptfin items → HasItems IsHoldFile what.holddata files.holds holds
     → AreTaken source items holds old new edits printed → lines ≡ or_nothing printed
     → LeadsBy date files (Receive what) s new edits lines
-received date files what s old new source items holds edits printed lines global is at sources form reads reads_holds taken all =
+received date files what s old new source items holds edits printed lines global is at sources form reads reads_holds
+    taken all =
     let runs = subst (λ o. Runs (TakesItem o) s.global items taken.middle taken.first) (sym sources)
     (subst (λ k. Runs (TakesItem source) k items taken.middle taken.first) (sym global) taken.runs) in
     leads-by date files (Receive what) s old new edits lines global taken.fits taken.after
-    (take_forms files what items holds (kept s) taken.middle new taken.first taken.more (subst (λ o. IfSome o IsSource) (sym sources) form) reads reads_holds is runs taken.runs_holds)
+    (take_forms files what items holds (kept s) taken.middle new taken.first taken.more
+    (subst (λ o. IfSome o IsSource) (sym sources) form) reads reads_holds is runs taken.runs_holds)
     record {
       state = refl;
       performs = inr (
         at,
-        subst (λ ls. Takes files s what (record s { global = new }) (Ran (header_of (Receive what) s.boundary) ls)) (sym (all ∙ ap or_nothing taken.lines_are))
+        subst (λ ls. Takes files s what (record s { global = new }) (Ran (header_of (Receive what) s.boundary) ls))
+            (sym (all ∙ ap or_nothing taken.lines_are))
             (TakesAll items holds taken.middle new taken.first taken.more reads reads_holds runs taken.runs_holds),
       );
     }
 
 -- a fault of a file
-pub take-faulty : (date : Text) (files : Files) (what : ReceiveWhat) (s : State) (boundary : Option Text) (why : Refusal) → boundary ≡ s.boundary → misplaced s (Receive what) ≡ None
+pub take-faulty : (date : Text) (files : Files) (what : ReceiveWhat) (s : State) (boundary : Option Text)
+    (why : Refusal) → boundary ≡ s.boundary → misplaced s (Receive what) ≡ None
     → ((u : State) → Takes files u what u (Refused (header_of (Receive what) u.boundary) (refusal_view why)))
     → Performs date files s (Receive what) s (Refused (header_of (Receive what) boundary) (refusal_view why))
-take-faulty date files what s boundary why same at takes = headed date files (Receive what) s s boundary (λ h. Refused h (refusal_view why)) same (inr (at, takes s))
+take-faulty date files what s boundary why same at takes = headed date files (Receive what) s s boundary
+    (λ h. Refused h (refusal_view why)) same (inr (at, takes s))
 
 -- PTFIN has a fault, or the hold file has one where PTFIN has none
-module _ (files : Files) (what : ReceiveWhat) (why : Refusal) (sysmods : Bool) (ptfin : List ℕ) (same_sysmods : what.sysmods ≡ sysmods) (same_ptfin : files.ptfin ≡ ptfin) where
-  pub ptfin-faulty : IsTrue sysmods × ((fault : McsFault) × IsPtfinFault ptfin fault × (refusal_view why ≡ Cm4 fault.number fault.code))
+module _ (files : Files) (what : ReceiveWhat) (why : Refusal) (sysmods : Bool) (ptfin : List ℕ)
+    (same_sysmods : what.sysmods ≡ sysmods) (same_ptfin : files.ptfin ≡ ptfin) where
+  pub ptfin-faulty : IsTrue sysmods × ((fault : McsFault) × IsPtfinFault ptfin fault
+      × (refusal_view why ≡ Cm4 fault.number fault.code))
       → (s : State) → Takes files s what s (Refused (header_of (Receive what) s.boundary) (refusal_view why))
   ptfin-faulty (reads, (fault, is, code)) s =
       subst (λ r. Takes files s what s (Refused (header_of (Receive what) s.boundary) r)) (sym code)
       (TakesNone fault (same_sysmods ∙ reads) (subst (λ b. IsPtfinFault b fault) (sym same_ptfin) is))
 
-  pub hold_file-faulty : (items : List Item) (holddata : Bool) (holds : List ℕ) → what.holddata ≡ holddata → files.holds ≡ holds → HasItems IsPtfin sysmods ptfin items
-      → IsTrue holddata × ((fault : McsFault) × IsHoldFileFault holds fault × (refusal_view why ≡ Cm5 fault.number fault.code))
+  pub hold_file-faulty : (items : List Item) (holddata : Bool) (holds : List ℕ) → what.holddata ≡ holddata
+      → files.holds ≡ holds → HasItems IsPtfin sysmods ptfin items
+      → IsTrue holddata × ((fault : McsFault) × IsHoldFileFault holds fault
+      × (refusal_view why ≡ Cm5 fault.number fault.code))
       → (s : State) → Takes files s what s (Refused (header_of (Receive what) s.boundary) (refusal_view why))
   hold_file-faulty items holddata holds same_holddata same_holds has (reads, (fault, is, code)) s =
       subst (λ r. Takes files s what s (Refused (header_of (Receive what) s.boundary) r)) (sym code)
       (TakesNoHold items fault
-      (subst (λ b. HasItems IsPtfin b files.ptfin items) (sym same_sysmods) (subst (λ b. HasItems IsPtfin sysmods b items) (sym same_ptfin) has))
+      (subst (λ b. HasItems IsPtfin b files.ptfin items) (sym same_sysmods)
+      (subst (λ b. HasItems IsPtfin sysmods b items) (sym same_ptfin) has))
       (same_holddata ∙ reads) (subst (λ b. IsHoldFileFault b fault) (sym same_holds) is))

@@ -13,7 +13,8 @@ use Rattle.store.specs.Kept.{kept}
 use Rattle.smpe_upkeep.proofs.RejectingForms.{reject_forms}
 use Rattle.smpe_session.proofs.Leading.{LeadsBy, leads-by}
 
-pub rejected : (date : Text) (files : Files) (ids : List Id) (s : State) (old new : Global) (edits : List GlobalEdit) (lines : List Line)
+pub rejected : (date : Text) (files : Files) (ids : List Id) (s : State) (old new : Global) (edits : List GlobalEdit)
+    (lines : List Line)
     → s.global ≡ old → IsInventory (kept s) → misplaced s (Reject ids) ≡ None
     → Runs (RejectsId s.zones) old ids new lines → EachFits edits old → after_edits edits old ≡ new
     → LeadsBy date files (Reject ids) s new edits lines

@@ -1,5 +1,6 @@
 -- What SET finds, and the session of the state that it leads to.
-use Rattle.std.proofs.Common.{◌≡◌, ◌⊎◌, ◌∙◌, Bool, true, false, cond, List, [], Some, None, refl, sym, ap, subst, inl, inr}
+use Rattle.std.proofs.Common.{◌≡◌, ◌⊎◌, ◌∙◌, Bool, true, false, cond, List, [], Some, None, refl, sym, ap, subst, inl}
+use Rattle.std.proofs.Common.{inr}
 use Rattle.std.specs.Prelude.{is_some, IsSome}
 use Rattle.std.specs.Str.{bytes_eq}
 use Rattle.std.proofs.lemmas.Bool.{or_right}
@@ -14,28 +15,37 @@ use Rattle.smpe_session.specs.Sessions.{IsSessionOf}
 use Rattle.smpe_session.specs.Steps.{IsSought}
 
 -- a zone of the state under its name
-pub zones-updated : (s : State) (at new : Session) (name : Text) (zone : Zone) → ((q : Text) (z : Zone) → bytes_eq name q ≡ false → get bytes_eq at.zones q ≡ Some z → zone_named s.zones q ≡ Some z)
+pub zones-updated : (s : State) (at new : Session) (name : Text) (zone : Zone)
+    → ((q : Text) (z : Zone) → bytes_eq name q ≡ false → get bytes_eq at.zones q ≡ Some z
+    → zone_named s.zones q ≡ Some z)
     → Updates bytes_eq at.zones new.zones name (Some zone) → zone_named s.zones name ≡ Some zone
     → (q : Text) (z : Zone) → get bytes_eq new.zones q ≡ Some z → zone_named s.zones q ≡ Some z
 zones-updated s at new name zone zones updates there q z found = by (bytes_eq name q) refl
   where
     by : (b : Bool) → bytes_eq name q ≡ b → zone_named s.zones q ≡ Some z
     by true same =
-        let is : Some zone ≡ Some z = sym (updates.0 q ∙ ap (λ b. cond b (Some zone) (get bytes_eq at.zones q)) same) ∙ found in
+        let is : Some zone ≡ Some z = sym (updates.0 q ∙ ap (λ b. cond b (Some zone) (get bytes_eq at.zones q)) same)
+        ∙ found in
         ap (λ n. zone_named s.zones n) (sym (same_from name q same)) ∙ there ∙ is
-    by false other = zones q z other (sym (updates.0 q ∙ ap (λ b. cond b (Some zone) (get bytes_eq at.zones q)) other) ∙ found)
+    by false other = zones q z other (sym (updates.0 q ∙ ap (λ b. cond b (Some zone) (get bytes_eq at.zones q)) other)
+        ∙ found)
 
 -- what stood in the map stands in it still
-pub some-updated : (at new : Session) (name q : Text) (zone : Zone) → Updates bytes_eq at.zones new.zones name (Some zone) → IsSome (get bytes_eq at.zones q) → IsSome (get bytes_eq new.zones q)
+pub some-updated : (at new : Session) (name q : Text) (zone : Zone)
+    → Updates bytes_eq at.zones new.zones name (Some zone) → IsSome (get bytes_eq at.zones q)
+    → IsSome (get bytes_eq new.zones q)
 some-updated at new name q zone updates some = by (bytes_eq name q) refl
   where
     by : (b : Bool) → bytes_eq name q ≡ b → IsSome (get bytes_eq new.zones q)
     by true same = subst IsSome (sym (updates.0 q ∙ ap (λ b. cond b (Some zone) (get bytes_eq at.zones q)) same)) refl
-    by false other = subst IsSome (sym (updates.0 q ∙ ap (λ b. cond b (Some zone) (get bytes_eq at.zones q)) other)) some
+    by false other = subst IsSome (sym (updates.0 q ∙ ap (λ b. cond b (Some zone) (get bytes_eq at.zones q)) other))
+        some
 
 -- a zone that was loaded
-pub sought-loaded : (s : State) (at new : Session) (name : Text) (zone : Zone) → IsSessionOf s at → zone_named s.zones name ≡ Some zone
-    → new.global ≡ at.global → new.boundary ≡ at.boundary → Updates bytes_eq at.zones new.zones name (Some zone) → IsSought s new name true
+pub sought-loaded : (s : State) (at new : Session) (name : Text) (zone : Zone) → IsSessionOf s at
+    → zone_named s.zones name ≡ Some zone
+    → new.global ≡ at.global → new.boundary ≡ at.boundary → Updates bytes_eq at.zones new.zones name (Some zone)
+    → IsSought s new name true
 sought-loaded s at new name zone is there global boundary updates = record {
   session = record {
     global = global ∙ is.global;
@@ -51,21 +61,28 @@ sought-loaded s at new name zone is there global boundary updates = record {
 }
 
 -- SET of no zone
-pub set-refused : (s : State) (at : Session) (name date : Text) (files : Files) (answer : Bool) → IsSought s at name answer → answer ≡ false
+pub set-refused : (s : State) (at : Session) (name date : Text) (files : Files) (answer : Bool)
+    → IsSought s at name answer → answer ≡ false
     → Performs date files s (Set name) s (Refused (header_of (Set name) s.boundary) Cm2)
 unfolding misplaced
 set-refused s at name date files true is none = absurd (cc none)
 set-refused s at name date files false is none = inl (Cm2, ap (λ b. cond b None (Some Cm2)) (sym is.found), refl, refl)
 
 -- SET of a zone
-pub set-ran : (s : State) (at : Session) (name date : Text) (files : Files) (lines : List Line) (answer : Bool) → IsSought s at name answer → answer ≡ true → lines ≡ []
+pub set-ran : (s : State) (at : Session) (name date : Text) (files : Files) (lines : List Line) (answer : Bool)
+    → IsSought s at name answer → answer ≡ true → lines ≡ []
     → Performs date files s (Set name) (record s { boundary = Some name }) (Ran (header_of (Set name) s.boundary) lines)
 unfolding misplaced
-set-ran s at name date files lines true is some none = inr (ap (λ b. cond b None (Some Cm2)) (sym is.found), (refl, ap (λ ls. Ran (header_of (Set name) s.boundary) ls) none))
+set-ran s at name date files lines true is some none = inr (
+  ap (λ b. cond b None (Some Cm2)) (sym is.found),
+  (refl, ap (λ ls. Ran (header_of (Set name) s.boundary) ls) none),
+)
 set-ran s at name date files lines false is some none = absurd (cc some)
 
-pub set-session : (s : State) (at new : Session) (name : Text) (answer : Bool) → IsSought s at name answer → answer ≡ true
-    → new.global ≡ at.global → new.zones ≡ at.zones → new.boundary ≡ Some name → IsSessionOf (record s { boundary = Some name }) new
+pub set-session : (s : State) (at new : Session) (name : Text) (answer : Bool) → IsSought s at name answer
+    → answer ≡ true
+    → new.global ≡ at.global → new.zones ≡ at.zones → new.boundary ≡ Some name
+    → IsSessionOf (record s { boundary = Some name }) new
 set-session s at new name false is some global zones boundary = absurd (cc some)
 set-session s at new name true is some global zones boundary = record {
   global = global ∙ is.session.global;

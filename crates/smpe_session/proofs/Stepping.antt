@@ -21,7 +21,8 @@ use Rattle.store.specs.Kept.{kept, Keeps, Stays}
 use Rattle.store.specs.View.{Tables, TablesIfOpen, Leaves}
 use Rattle.smpe_session.specs.declared.session.Session.{Session}
 use Rattle.smpe_session.specs.Sessions.{HasBegun, HasPerformed}
-use Rattle.smpe_session.specs.Steps.{Unmoved, Unsettled, EndsUnmoved, EndsUnsettled, EndsStaying, HasLoaded, HasCommitted, HasRun}
+use Rattle.smpe_session.specs.Steps.{Unmoved, Unsettled, EndsUnmoved, EndsUnsettled, EndsStaying, HasLoaded}
+use Rattle.smpe_session.specs.Steps.{HasCommitted, HasRun}
 
 module _ {S : Type 0} (g : Ghosts S) (at : Held S) (s : State) where
   pub stays-unmoved : (a : Act) → Unmoved g at s → Stays g at s a
@@ -37,8 +38,10 @@ module _ {S : Type 0} (g : Ghosts S) (at : Held S) (s : State) where
   begun-by NoState un = un
   begun-by Memory un = stays-unmoved Begin un
 
-  pub begun-unmoved : (r : Result Session StoreError) (e : StoreError) → IsErrAnd r (λ y. y ≡ e) → EndsUnmoved g at s e → HasBegun g at s r
-  begun-unmoved r e is un = let p = err_from_is_err_and r is in subst (λ q. HasBegun g at s q) (sym (p.1 ∙ ap Err p.2)) (begun-by e un)
+  pub begun-unmoved : (r : Result Session StoreError) (e : StoreError) → IsErrAnd r (λ y. y ≡ e) → EndsUnmoved g at s e
+      → HasBegun g at s r
+  begun-unmoved r e is un = let p = err_from_is_err_and r is
+      in subst (λ q. HasBegun g at s q) (sym (p.1 ∙ ap Err p.2)) (begun-by e un)
 
   module _ (session : Session) (date : Text) (files : Files) (c : Command) where
     performs-by : (e : StoreError) → EndsUnmoved g at s e → HasPerformed g at s session date files c (Err e)
@@ -47,25 +50,32 @@ module _ {S : Type 0} (g : Ghosts S) (at : Held S) (s : State) where
     performs-by NoState un = un
     performs-by Memory un = stays-unmoved (Perform date files c) un
 
-    pub performs-unmoved : (r : Result Outcome StoreError) (e : StoreError) → IsErrAnd r (λ y. y ≡ e) → EndsUnmoved g at s e → HasPerformed g at s session date files c r
-    performs-unmoved r e is un = let p = err_from_is_err_and r is in subst (λ q. HasPerformed g at s session date files c q) (sym (p.1 ∙ ap Err p.2)) (performs-by e un)
+    pub performs-unmoved : (r : Result Outcome StoreError) (e : StoreError) → IsErrAnd r (λ y. y ≡ e)
+        → EndsUnmoved g at s e → HasPerformed g at s session date files c r
+    performs-unmoved r e is un = let p = err_from_is_err_and r is
+        in subst (λ q. HasPerformed g at s session date files c q) (sym (p.1 ∙ ap Err p.2)) (performs-by e un)
 
     -- want of memory before the store is asked
-    pub performs-short : (r : Result Outcome StoreError) → IsErrAnd r (λ y. y ≡ Memory) → Keeps g at s → HasPerformed g at s session date files c r
+    pub performs-short : (r : Result Outcome StoreError) → IsErrAnd r (λ y. y ≡ Memory) → Keeps g at s
+        → HasPerformed g at s session date files c r
     performs-short r is keeps = performs-unmoved r Memory is (unmoved-kept keeps)
 
     -- what a command that ran part of the way ends with
-    staying-by : (e : StoreError) → EndsStaying g at s (Perform date files c) e → HasPerformed g at s session date files c (Err e)
+    staying-by : (e : StoreError) → EndsStaying g at s (Perform date files c) e
+        → HasPerformed g at s session date files c (Err e)
     staying-by Fault stays = stays
     staying-by OtherSchema stays = stays
     staying-by NoState stays = stays
     staying-by Memory stays = stays
 
-    pub performs-staying : (r : Result Outcome StoreError) (e : StoreError) → IsErrAnd r (λ y. y ≡ e) → EndsStaying g at s (Perform date files c) e → HasPerformed g at s session date files c r
-    performs-staying r e is stays = let p = err_from_is_err_and r is in subst (λ q. HasPerformed g at s session date files c q) (sym (p.1 ∙ ap Err p.2)) (staying-by e stays)
+    pub performs-staying : (r : Result Outcome StoreError) (e : StoreError) → IsErrAnd r (λ y. y ≡ e)
+        → EndsStaying g at s (Perform date files c) e → HasPerformed g at s session date files c r
+    performs-staying r e is stays = let p = err_from_is_err_and r is
+        in subst (λ q. HasPerformed g at s session date files c q) (sym (p.1 ∙ ap Err p.2)) (staying-by e stays)
 
   -- where the commit of what a command leads to failed
-  module _ (date : Text) (files : Files) (c : Command) (t : State) (outcome : machine.Outcome) (performs : Performs date files s c t outcome) where
+  module _ (date : Text) (files : Files) (c : Command) (t : State) (outcome : machine.Outcome)
+      (performs : Performs date files s c t outcome) where
     stays-unsettled : Unsettled g at s t → Stays g at s (Perform date files c)
     stays-unsettled un = record {
       now = un.now;
@@ -82,18 +92,25 @@ module _ {S : Type 0} (g : Ghosts S) (at : Held S) (s : State) where
     staying-unsettled Memory un = stays-unsettled un
 
   module _ (a : Act) (LeadsTo : State → List machine.Line → Type 0) {V : Type 0} (lines : V → List machine.Line) where
-    pub run-staying : (r : Result V StoreError) (e : StoreError) → IsErrAnd r (λ y. y ≡ e) → EndsStaying g at s a e → HasRun g at s a LeadsTo lines r
-    run-staying r e is stays = let p = err_from_is_err_and r is in subst (λ q. HasRun g at s a LeadsTo lines q) (sym (p.1 ∙ ap Err p.2)) stays
+    pub run-staying : (r : Result V StoreError) (e : StoreError) → IsErrAnd r (λ y. y ≡ e) → EndsStaying g at s a e
+        → HasRun g at s a LeadsTo lines r
+    run-staying r e is stays = let p = err_from_is_err_and r is
+        in subst (λ q. HasRun g at s a LeadsTo lines q) (sym (p.1 ∙ ap Err p.2)) stays
 
     -- want of memory before the store is asked
-    pub run-short : (r : Result V StoreError) → IsErrAnd r (λ y. y ≡ Memory) → Keeps g at s → HasRun g at s a LeadsTo lines r
+    pub run-short : (r : Result V StoreError) → IsErrAnd r (λ y. y ≡ Memory) → Keeps g at s
+        → HasRun g at s a LeadsTo lines r
     run-short r is keeps = run-staying r Memory is (stays-unmoved a (unmoved-kept keeps))
 
-  pub loaded-err : {X : Type 0} (Found : X → Type 0) (r : Result X StoreError) (e : StoreError) → IsErrAnd r (λ y. y ≡ e) → EndsUnmoved g at s e → HasLoaded g at s Found r
-  loaded-err Found r e is un = let p = err_from_is_err_and r is in subst (λ q. HasLoaded g at s Found q) (sym (p.1 ∙ ap Err p.2)) un
+  pub loaded-err : {X : Type 0} (Found : X → Type 0) (r : Result X StoreError) (e : StoreError)
+      → IsErrAnd r (λ y. y ≡ e) → EndsUnmoved g at s e → HasLoaded g at s Found r
+  loaded-err Found r e is un = let p = err_from_is_err_and r is
+      in subst (λ q. HasLoaded g at s Found q) (sym (p.1 ∙ ap Err p.2)) un
 
-  pub committed-err : (t : State) (r : Result Unit StoreError) (e : StoreError) → IsErrAnd r (λ y. y ≡ e) → EndsUnsettled g at s t e → HasCommitted g at s t r
-  committed-err t r e is un = let p = err_from_is_err_and r is in subst (λ q. HasCommitted g at s t q) (sym (p.1 ∙ ap Err p.2)) un
+  pub committed-err : (t : State) (r : Result Unit StoreError) (e : StoreError) → IsErrAnd r (λ y. y ≡ e)
+      → EndsUnsettled g at s t e → HasCommitted g at s t r
+  committed-err t r e is un = let p = err_from_is_err_and r is
+      in subst (λ q. HasCommitted g at s t q) (sym (p.1 ∙ ap Err p.2)) un
 
   -- what the store keeps is an inventory
   pub kept-inventory : HasCleanDisk (state g at) → Keeps g at s → IsInventory (kept s)
@@ -105,7 +122,10 @@ module _ {S : Type 0} (g : Ghosts S) (old new : Held S) (s : State) where
   NoneLost = (i : Inventory) → Tables g old i → (c : Inventory) → Leaves g new c → Leaves g old c
 
   unmoved : ((i : Inventory) → Tables g old i → TablesIfOpen g new i) → NoneLost → Keeps g old s → Unmoved g new s
-  unmoved err lost keeps = record { now = err (kept s) keeps.now; crash = λ c left. keeps.crash c (lost (kept s) keeps.now c left) }
+  unmoved err lost keeps = record {
+    now = err (kept s) keeps.now;
+    crash = λ c left. keeps.crash c (lost (kept s) keeps.now c left);
+  }
 
   pub loaded : {X : Type 0} (Found : Inventory → X → Type 0) (result : Result X StoreError)
       → HasCleanDisk (state g new)
@@ -125,8 +145,10 @@ module _ {S : Type 0} (g : Ghosts S) (old new : Held S) (s : State) where
   loaded Found (Err Memory) clean found none same err which lost keeps = unmoved err lost keeps
 
   -- the clauses of a commit of what makes t
-  module _ (change : Change) (t : State) (keeps : Keeps g old s) (makes : Makes change (kept s) (kept t)) (is : IsInventory (kept t)) where
-    unsettled : ((i j : Inventory) → Makes change i j → IsInventory j → Tables g old i → (c : Inventory) → Leaves g new c → Leaves g old c ⊎ (j ≡ c)) → TablesIfOpen g new (kept s) → Unsettled g new s t
+  module _ (change : Change) (t : State) (keeps : Keeps g old s) (makes : Makes change (kept s) (kept t))
+      (is : IsInventory (kept t)) where
+    unsettled : ((i j : Inventory) → Makes change i j → IsInventory j → Tables g old i → (c : Inventory)
+        → Leaves g new c → Leaves g old c ⊎ (j ≡ c)) → TablesIfOpen g new (kept s) → Unsettled g new s t
     unsettled lost err = record {
       now = err;
       crash = λ c left. elim (lost (kept s) (kept t) makes is keeps.now c left) [
@@ -137,9 +159,11 @@ module _ {S : Type 0} (g : Ghosts S) (old new : Held S) (s : State) where
 
     pub committed : (result : Result Unit StoreError)
         → OnOk result ((i j : Inventory) → Makes change i j → IsInventory j → Tables g old i → Tables g new j)
-        → OnOk result ((i j : Inventory) → Makes change i j → IsInventory j → Tables g old i → (c : Inventory) → Leaves g new c → j ≡ c)
+        → OnOk result ((i j : Inventory) → Makes change i j → IsInventory j → Tables g old i → (c : Inventory)
+        → Leaves g new c → j ≡ c)
         → OnErr result ((i : Inventory) → Tables g old i → TablesIfOpen g new i)
-        → ((i j : Inventory) → Makes change i j → IsInventory j → Tables g old i → (c : Inventory) → Leaves g new c → Leaves g old c ⊎ (j ≡ c))
+        → ((i j : Inventory) → Makes change i j → IsInventory j → Tables g old i → (c : Inventory) → Leaves g new c
+        → Leaves g old c ⊎ (j ≡ c))
         → IfErr result (λ e. (e ≡ Fault) ⊎ (e ≡ Memory))
         → HasCommitted g new s t result
     committed (Ok x) ok durable err lost which = record {

@@ -16,14 +16,16 @@ use Rattle.sysmods.specs.declared.edit.GlobalEdit.{GlobalEdit}
 use Rattle.sysmods.specs.Edits.{EachFits, after_edits}
 
 -- A file has these items where it is read, or else it has the first fault that is refused.
-abbrev pub HasRead : {X : Type 0} → (List ℕ → List X → Type 0) → (List ℕ → McsFault → Type 0) → (ℕ → McCode → machine.Refusal) → Bool → List ℕ
+abbrev pub HasRead : {X : Type 0} → (List ℕ → List X → Type 0) → (List ℕ → McsFault → Type 0)
+    → (ℕ → McCode → machine.Refusal) → Bool → List ℕ
     → {V : Type 0} → (V → List X) → Result V Refusal → Type 0
 HasRead Is IsFault refused reads bytes items (Ok v) = HasItems Is reads bytes (items v)
 HasRead Is IsFault refused reads bytes items (Err why) =
     IsTrue reads × ((fault : McsFault) × IsFault bytes fault × (refusal_view why ≡ refused fault.number fault.code))
 
 -- The files have these items, or else RECEIVE is refused so.
-abbrev pub HasFound : Files → ReceiveWhat → {V : Type 0} → (V → List Item) → (V → List HoldItem) → Result V Refusal → Type 0
+abbrev pub HasFound : Files → ReceiveWhat → {V : Type 0} → (V → List Item) → (V → List HoldItem) → Result V Refusal
+    → Type 0
 HasFound files what items holds (Ok v) =
     HasItems IsPtfin what.sysmods files.ptfin (items v) × HasItems IsHoldFile what.holddata files.holds (holds v)
 HasFound files what items holds (Err why) =
@@ -31,7 +33,8 @@ HasFound files what items holds (Err why) =
 
 -- The items of PTFIN, and then those of the hold file, lead from g to new and print these lines. The edits lead there
 -- too.
-pub record AreTaken (source : Option Text) (items : List Item) (holds : List HoldItem) (g new : Global) (edits : List GlobalEdit) (lines : List Line) : Type 0 where
+pub record AreTaken (source : Option Text) (items : List Item) (holds : List HoldItem) (g new : Global)
+    (edits : List GlobalEdit) (lines : List Line) : Type 0 where
   pub middle : Global
   pub first : List Line
   pub more : List Line

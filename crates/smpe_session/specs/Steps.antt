@@ -61,7 +61,8 @@ pub record IsSought (s : State) (at : Session) (name : Text) (answer : Bool) : T
 -- The session knows of each name whether there is such a zone, and has those that are there.
 pub record AreSought (s : State) (at : Session) (names : List Text) : Type 0 where
   pub session : IsSessionOf s at
-  pub here : All (λ name. IsTrue (is_known s.zones name) → (name ≡ global_name) ⊎ IsSome (get bytes_eq at.zones name)) names
+  pub here : All (λ name. IsTrue (is_known s.zones name) → (name ≡ global_name) ⊎ IsSome (get bytes_eq at.zones name))
+      names
 
 -- The session has each zone of the state.
 pub record HasAllZones (s : State) (at : Session) : Type 0 where
@@ -81,6 +82,7 @@ module _ {S : Type 0} (g : Ghosts S) (at : Held S) (s : State) (a : Act) where
   HasRun LeadsTo lines (Err error) = EndsStaying error
 
 -- The command leads so to a state that has this global zone.
-pub record LeadsTo (date : Text) (files : Files) (c : Command) (s : State) (new : Global) (t : State) (lines : List Line) : Type 0 where
+pub record LeadsTo (date : Text) (files : Files) (c : Command) (s : State) (new : Global) (t : State)
+    (lines : List Line) : Type 0 where
   pub state : t ≡ record s { global = new }
   pub performs : Performs date files s c t (Ran (header_of c s.boundary) lines)

@@ -28,7 +28,8 @@ HasTarget s at i name zone (Ok v) = IsTarget s at i (name v) (zone v)
 HasTarget s at i name zone (Err why) = misplaced s (Apply i) ≡ Some (refusal_view why)
 
 -- The change, the changed zone and the lines are those of an APPLY.
-pub record IsPlan (g : Global) (zone : Zone) (sel : Selection) (date : Text) (delta : ZoneDelta) (new : Zone) (lines : List Line) : Type 0 where
+pub record IsPlan (g : Global) (zone : Zone) (sel : Selection) (date : Text) (delta : ZoneDelta) (new : Zone)
+    (lines : List Line) : Type 0 where
   pub dated : IsDottedDate date
   pub kept : List Id
   pub installable : All (λ x. IsTrue (is_installable g zone x)) kept

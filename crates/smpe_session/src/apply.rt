@@ -63,7 +63,8 @@ fn plan(
     selection: &Selection,
     date: YyDdd,
 ) -> Result<Planned, AllocError>
-    ensures { IfOk result (λ p. IsPlan global.now zone.now selection.now date p.delta p.zone (map line_view p.lines.items)) }
+    ensures { IfOk result (λ p. IsPlan global.now zone.now selection.now date p.delta p.zone
+        (map line_view p.lines.items)) }
 {
     known_date(date);
     let Applied { delta, lines } = apply(alloc, global, zone, selection, date)?;
@@ -81,7 +82,8 @@ fn replace_zone<S: Alter>(
     zone: Zone,
 ) -> Result<(), StoreError>
     ensures clean { HasCleanDisk (state S.Store store.new) → HasCleanDisk (state S.Store store.old) }
-    ensures ended { (s t : State) (was : AZone) → Keeps S.Store store.old s → IsZoneChange name was zone (kept s) (kept t) → IsChanged delta was zone
+    ensures ended { (s t : State) (was : AZone) → Keeps S.Store store.old s
+        → IsZoneChange name was zone (kept s) (kept t) → IsChanged delta was zone
         → IsInventory (kept t) → IsSome (get bytes_eq zones.old name) → HasCommitted S.Store store.new s t result }
     ensures updates { OnOk result (Updates bytes_eq zones.old zones.new name (Some zone)) }
 {
@@ -93,7 +95,8 @@ fn replace_zone<S: Alter>(
 impl Session {
     /// The zone of the boundary, where it is a target zone.
     fn target(&self) -> Result<Place<'_>, Refusal>
-        ensures { (s : State) (i : AnInstall) → IsSessionOf s self.now → IsInventory (kept s) → HasTarget s self.now i (λ v. v.name) (λ v. v.zone.now) result }
+        ensures { (s : State) (i : AnInstall) → IsSessionOf s self.now → IsInventory (kept s)
+            → HasTarget s self.now i (λ v. v.name) (λ v. v.zone.now) result }
     {
         let Some(name) = self.boundary else {
             return Err(Refusal::NoBoundary);
@@ -115,7 +118,8 @@ impl Session {
         install: &Install,
     ) -> Result<Outcome, StoreError>
         ensures clean { HasCleanDisk (state S.Store store.new) → HasCleanDisk (state S.Store store.old) }
-        ensures ended { HasCleanDisk (state S.Store store.new) → (s : State) → IsSessionOf s self.old → Keeps S.Store store.old s
+        ensures ended { HasCleanDisk (state S.Store store.new) → (s : State) → IsSessionOf s self.old
+            → Keeps S.Store store.old s
             → (files : Files) → HasPerformed S.Store store.new s self.new date files (Apply install.now) result }
     {
         let header = Header {

@@ -48,7 +48,8 @@ pub(crate) fn commit_change<S: Alter>(
     change: &Change,
 ) -> Result<(), StoreError>
     ensures clean { HasCleanDisk (state S.Store store.new) → HasCleanDisk (state S.Store store.old) }
-    ensures ended { (s t : State) → Keeps S.Store store.old s → Makes change.now (kept s) (kept t) → IsInventory (kept t)
+    ensures ended { (s t : State) → Keeps S.Store store.old s → Makes change.now (kept s) (kept t)
+        → IsInventory (kept t)
         → HasCommitted S.Store store.new s t result }
 {
     store.commit(change)

@@ -61,7 +61,8 @@ fn take_found(
     source: Option<Source>,
 ) -> Result<Taken, AllocError>
     requires { All IsExternal (hold_items found.holds.items) }
-    ensures { IfOk result (λ t. AreTaken source (items found.items.items) (hold_items found.holds.items) global.old global.new t.edits.items (map line_view t.lines.items)) }
+    ensures { IfOk result (λ t. AreTaken source (items found.items.items) (hold_items found.holds.items) global.old
+        global.new t.edits.items (map line_view t.lines.items)) }
 {
     let Taken {
         mut edits,
@@ -83,10 +84,14 @@ fn take_items<S: Alter>(
 ) -> Result<Vec<Line>, StoreError>
     requires { All IsExternal (hold_items found.holds.items) }
     ensures clean { HasCleanDisk (state S.Store store.new) → HasCleanDisk (state S.Store store.old) }
-    ensures ended { HasCleanDisk (state S.Store store.new) → (s : State) → s.global ≡ global.old → Keeps S.Store store.old s
-        → (date : Text) (files : AllFiles) (what : AWhat) → misplaced s (Receive what) ≡ None → what.source ≡ source → IfSome source IsSource
-        → HasItems IsPtfin what.sysmods files.ptfin (items found.items.items) → HasItems IsHoldFile what.holddata files.holds (hold_items found.holds.items)
-        → HasRun S.Store store.new s (Perform date files (Receive what)) (LeadsTo date files (Receive what) s global.new) (λ v. map line_view v.items) result }
+    ensures ended { HasCleanDisk (state S.Store store.new) → (s : State) → s.global ≡ global.old
+        → Keeps S.Store store.old s
+        → (date : Text) (files : AllFiles) (what : AWhat) → misplaced s (Receive what) ≡ None → what.source ≡ source
+        → IfSome source IsSource
+        → HasItems IsPtfin what.sysmods files.ptfin (items found.items.items)
+        → HasItems IsHoldFile what.holddata files.holds (hold_items found.holds.items)
+        → HasRun S.Store store.new s (Perform date files (Receive what))
+        (LeadsTo date files (Receive what) s global.new) (λ v. map line_view v.items) result }
 {
     let Taken { edits, lines } = take_found(alloc, global, found, source)?;
     let lines = or_nothing(lines)?;
@@ -103,7 +108,8 @@ impl Session {
         what: &ReceiveWhat,
     ) -> Result<Outcome, StoreError>
         ensures clean { HasCleanDisk (state S.Store store.new) → HasCleanDisk (state S.Store store.old) }
-        ensures ended { HasCleanDisk (state S.Store store.new) → (s : State) → IsSessionOf s self.old → Keeps S.Store store.old s
+        ensures ended { HasCleanDisk (state S.Store store.new) → (s : State) → IsSessionOf s self.old
+            → Keeps S.Store store.old s
             → (date : Text) → HasPerformed S.Store store.new s self.new date files.now (Receive what.now) result }
     {
         let header = Header {

@@ -44,9 +44,11 @@ fn reject_ids<S: Alter>(
     ids: &IdList,
 ) -> Result<Vec<Line>, StoreError>
     ensures clean { HasCleanDisk (state S.Store store.new) → HasCleanDisk (state S.Store store.old) }
-    ensures ended { HasCleanDisk (state S.Store store.new) → (s : State) → s.global ≡ global.old → AppliesAlike zones.now s.zones → Keeps S.Store store.old s
+    ensures ended { HasCleanDisk (state S.Store store.new) → (s : State) → s.global ≡ global.old
+        → AppliesAlike zones.now s.zones → Keeps S.Store store.old s
         → (date : Text) (files : Files) → misplaced s (Reject ids.now) ≡ None
-        → HasRun S.Store store.new s (Perform date files (Reject ids.now)) (LeadsTo date files (Reject ids.now) s global.new) (λ v. map line_view v.items) result }
+        → HasRun S.Store store.new s (Perform date files (Reject ids.now))
+        (LeadsTo date files (Reject ids.now) s global.new) (λ v. map line_view v.items) result }
 {
     let Rejected { edits, lines } = reject(alloc, global, zones, ids)?;
     commit_change(store, &Change::Global(edits))?;
@@ -61,7 +63,8 @@ impl Session {
         names: &[ZoneName],
     ) -> Result<(), StoreError>
         ensures clean { HasCleanDisk (state S.Store store.new) → HasCleanDisk (state S.Store store.old) }
-        ensures ended { HasCleanDisk (state S.Store store.new) → (s : State) → IsSessionOf s self.old → Keeps S.Store store.old s
+        ensures ended { HasCleanDisk (state S.Store store.new) → (s : State) → IsSessionOf s self.old
+            → Keeps S.Store store.old s
             → HasLoaded S.Store store.new s (λ _. AreSought s self.new names.now) result }
     {
         for name in names {
@@ -73,7 +76,8 @@ impl Session {
     /// Loads each zone that it does not have yet.
     fn load_zones<S: Alter>(&mut self, store: &mut Store<S>) -> Result<(), StoreError>
         ensures clean { HasCleanDisk (state S.Store store.new) → HasCleanDisk (state S.Store store.old) }
-        ensures ended { HasCleanDisk (state S.Store store.new) → (s : State) → IsSessionOf s self.old → Keeps S.Store store.old s
+        ensures ended { HasCleanDisk (state S.Store store.new) → (s : State) → IsSessionOf s self.old
+            → Keeps S.Store store.old s
             → HasLoaded S.Store store.new s (λ _. HasAllZones s self.new) result }
     {
         let names = load_names(store)?;
@@ -88,8 +92,10 @@ impl Session {
         ids: &IdList,
     ) -> Result<Outcome, StoreError>
         ensures clean { HasCleanDisk (state S.Store store.new) → HasCleanDisk (state S.Store store.old) }
-        ensures ended { HasCleanDisk (state S.Store store.new) → (s : State) → IsSessionOf s self.old → Keeps S.Store store.old s
-            → (date : Text) (files : Files) → HasPerformed S.Store store.new s self.new date files (Reject ids.now) result }
+        ensures ended { HasCleanDisk (state S.Store store.new) → (s : State) → IsSessionOf s self.old
+            → Keeps S.Store store.old s
+            → (date : Text) (files : Files) → HasPerformed S.Store store.new s self.new date files (Reject ids.now)
+            result }
     {
         let header = Header {
             word: CommandWord::Reject,

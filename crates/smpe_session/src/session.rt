@@ -32,7 +32,8 @@ impl Session {
     /// A job begins: the global zone is loaded, and there is no boundary.
     pub fn begin<S: Alter>(alloc: Heap, store: &mut Store<S>) -> Result<Session, StoreError>
         ensures clean { HasCleanDisk (state S.Store store.new) → HasCleanDisk (state S.Store store.old) }
-        ensures ended { HasCleanDisk (state S.Store store.new) → (s : State) → Keeps S.Store store.old s → HasBegun S.Store store.new s result }
+        ensures ended { HasCleanDisk (state S.Store store.new) → (s : State) → Keeps S.Store store.old s
+            → HasBegun S.Store store.new s result }
     {
         let global = load_global(store)?;
         Ok(Session {
@@ -52,7 +53,8 @@ impl Session {
         command: &Command,
     ) -> Result<Outcome, StoreError>
         ensures clean { HasCleanDisk (state S.Store store.new) → HasCleanDisk (state S.Store store.old) }
-        ensures ended { HasCleanDisk (state S.Store store.new) → (s : State) → IsSessionOf s self.old → Keeps S.Store store.old s
+        ensures ended { HasCleanDisk (state S.Store store.new) → (s : State) → IsSessionOf s self.old
+            → Keeps S.Store store.old s
             → HasPerformed S.Store store.new s self.new date files.now (command_of command.now) result }
     {
         match command {

@@ -50,9 +50,11 @@ impl Session {
         name: ZoneName,
     ) -> Result<bool, StoreError>
         ensures clean { HasCleanDisk (state S.Store store.new) → HasCleanDisk (state S.Store store.old) }
-        ensures ended { HasCleanDisk (state S.Store store.new) → (s : State) → IsSessionOf s self.old → Keeps S.Store store.old s
+        ensures ended { HasCleanDisk (state S.Store store.new) → (s : State) → IsSessionOf s self.old
+            → Keeps S.Store store.old s
             → HasLoaded S.Store store.new s (IsSought s self.new name) result }
-        ensures stay { OnOk result ((q : Text) → IsSome (get bytes_eq self.old.zones q) → IsSome (get bytes_eq self.new.zones q)) }
+        ensures stay { OnOk result ((q : Text) → IsSome (get bytes_eq self.old.zones q)
+            → IsSome (get bytes_eq self.new.zones q)) }
     {
         if name.is_global() || self.has(name) {
             return Ok(true);
@@ -71,7 +73,8 @@ impl Session {
         name: ZoneName,
     ) -> Result<Outcome, StoreError>
         ensures clean { HasCleanDisk (state S.Store store.new) → HasCleanDisk (state S.Store store.old) }
-        ensures ended { HasCleanDisk (state S.Store store.new) → (s : State) → IsSessionOf s self.old → Keeps S.Store store.old s
+        ensures ended { HasCleanDisk (state S.Store store.new) → (s : State) → IsSessionOf s self.old
+            → Keeps S.Store store.old s
             → (date : Text) (files : Files) → HasPerformed S.Store store.new s self.new date files (Set name) result }
     {
         let header = Header {

@@ -1,5 +1,6 @@
 -- Each change of the global zone keeps the forms of what stands in it.
-use Rattle.std.proofs.Common.{◌≡◌, Bool, true, false, not, ◌&&◌, List, [], ◌∷◌, fold, Option, None, Some, All, refl, sym, ◌∙◌, subst, true≢false}
+use Rattle.std.proofs.Common.{◌≡◌, Bool, true, false, not, ◌&&◌, List, [], ◌∷◌, fold, Option, None, Some, All, refl}
+use Rattle.std.proofs.Common.{sym, ◌∙◌, subst, true≢false}
 use Rattle.std.specs.Prelude.{Ok, Err, if◌then◌else◌}
 use Rattle.std.specs.List.{AllByRecursion, list_any}
 use Rattle.std.specs.Ordering.{nat_cmp}
@@ -10,7 +11,9 @@ use Rattle.std.proofs.lemmas.List.Elements.{All-filter, All-map, All-weaker}
 use Rattle.terms.specs.Types.{Text, Id, Hold, Sysmod, Global, Release, NamedZone}
 use Rattle.terms.specs.Lookups.{is_received, is_applied}
 use Rattle.terms.specs.Forms.{IsSource}
-use Rattle.terms.specs.Global.{IsSysmod, IsGlobal, hold_cmp, has_key, hold_of, marked, hold, Rl2, release_found, release, without_hold, assign, with_sysmod, received, ReceiveFault, HasFault, Rj1, Rj2, without_sysmod, reject}
+use Rattle.terms.specs.Global.{IsSysmod, IsGlobal, hold_cmp, has_key, hold_of, marked, hold, Rl2, release_found}
+use Rattle.terms.specs.Global.{release, without_hold, assign, with_sysmod, received, ReceiveFault, HasFault, Rj1, Rj2}
+use Rattle.terms.specs.Global.{without_sysmod, reject}
 use Rattle.terms.proofs.GlobalKept.{IsOwned, hold-kept, without_hold-kept, assign-kept, without_sysmod-kept}
 use Rattle.terms.proofs.Edits.{All-with_item, Rises-with_item}
 use Rattle.terms.proofs.GlobalLookups.{assigned}
@@ -31,14 +34,24 @@ pub global_forms : (i : Inventory) → IsInventory i → HasGlobalForms i.global
 global_forms i is = record { is_global = is.global; sysmods = is.sysmods; holds = is.holds }
 
 -- An inventory's invariants between its zones do not speak of the global zone.
-pub with_global : (i : Inventory) (new : Global) → IsInventory i → HasGlobalForms new → IsInventory (record i { global = new })
+pub with_global : (i : Inventory) (new : Global) → IsInventory i → HasGlobalForms new
+    → IsInventory (record i { global = new })
 with_global i new is has =
-    record { global = has.is_global; sysmods = has.sysmods; holds = has.holds; names = is.names; zones = is.zones; related = is.related; apart = is.apart }
+    record {
+      global = has.is_global;
+      sysmods = has.sysmods;
+      holds = has.holds;
+      names = is.names;
+      zones = is.zones;
+      related = is.related;
+      apart = is.apart;
+    }
 
 -- Steps that keep them do so one after the other.
 pub runs_forms : {A : Type 0} (Steps : Global → A → Global → List Line → Type 0) (P : A → Type 0)
     → ((g new : Global) (a : A) (lines : List Line) → P a → HasGlobalForms g → Steps g a new lines → HasGlobalForms new)
-    → (acts : List A) (g new : Global) (lines : List Line) → AllByRecursion P acts → HasGlobalForms g → Runs Steps g acts new lines → HasGlobalForms new
+    → (acts : List A) (g new : Global) (lines : List Line) → AllByRecursion P acts → HasGlobalForms g
+    → Runs Steps g acts new lines → HasGlobalForms new
 runs_forms Steps P step [] g new lines each has (same, none) = subst HasGlobalForms (sym same) has
 runs_forms Steps P step (a ∷ more) g new lines each has (m, front, back, takes, runs, are) =
     runs_forms Steps P step more m new back each.1 (step g m a front each.0 has takes) runs
@@ -47,7 +60,14 @@ runs_forms Steps P step (a ∷ more) g new lines each has (m, front, back, takes
 
 -- its mark has no form
 marked_forms : (was : Option Hold) (h : Hold) → HasHoldForms h → HasHoldForms (marked was h)
-marked_forms was h forms = record { id = forms.id; reason = forms.reason; fmid = forms.fmid; class = forms.class; date = forms.date; comment = forms.comment }
+marked_forms was h forms = record {
+  id = forms.id;
+  reason = forms.reason;
+  fmid = forms.fmid;
+  class = forms.class;
+  date = forms.date;
+  comment = forms.comment;
+}
 
 all_held : (g : Global) (h : Hold) → All HasHoldForms g.holds → HasHoldForms h → All HasHoldForms (hold g h).holds
 all_held g h all forms =
@@ -85,7 +105,8 @@ release_forms g r has = found (hold_of g r.id r.kind r.reason)
 
 -- ---- sources
 
-sourced_forms : (source : Text) (x : Id) (s : Sysmod) → IsSource source → HasSysmodForms s → HasSysmodForms (assigned source x s)
+sourced_forms : (source : Text) (x : Id) (s : Sysmod) → IsSource source → HasSysmodForms s
+    → HasSysmodForms (assigned source x s)
 sourced_forms source x s form has = by (bytes_eq s.id x) refl
   where
     by : (b : Bool) → bytes_eq s.id x ≡ b → HasSysmodForms (assigned source x s)
@@ -103,11 +124,13 @@ sourced_forms source x s form has = by (bytes_eq s.id x) refl
     })
     by false e = rw e has
 
-pub assign_forms : (g : Global) (source : Text) (x : Id) → IsSource source → HasGlobalForms g → HasGlobalForms (assign g source x)
+pub assign_forms : (g : Global) (source : Text) (x : Id) → IsSource source → HasGlobalForms g
+    → HasGlobalForms (assign g source x)
 assign_forms g source x form has = record {
   is_global = assign-kept g source x has.is_global;
   sysmods = All-map HasSysmodForms (assigned source x) g.sysmods
-      (All-weaker HasSysmodForms (λ s. HasSysmodForms (assigned source x s)) (λ s forms. sourced_forms source x s form forms) g.sysmods has.sysmods);
+      (All-weaker HasSysmodForms (λ s. HasSysmodForms (assigned source x s))
+      (λ s forms. sourced_forms source x s form forms) g.sysmods has.sysmods);
   holds = has.holds;
 }
 
@@ -115,28 +138,41 @@ assign_forms g source x form has = record {
 
 -- its holds have no place in its forms
 laid_aside : (s : Sysmod) → HasSysmodForms s → HasSysmodForms (record s { holds = [] })
-laid_aside s has = record { id = has.id; sources = has.sources; some = has.some; vers = has.vers; srels = has.srels; changes = has.changes; elements = has.elements }
+laid_aside s has = record {
+  id = has.id;
+  sources = has.sources;
+  some = has.some;
+  vers = has.vers;
+  srels = has.srels;
+  changes = has.changes;
+  elements = has.elements;
+}
 
-same_sysmods : (hs : List Hold) (g : Global) → All HasSysmodForms g.sysmods → All HasSysmodForms (fold hold g hs).sysmods
+same_sysmods : (hs : List Hold) (g : Global) → All HasSysmodForms g.sysmods
+    → All HasSysmodForms (fold hold g hs).sysmods
 same_sysmods [] g all = all
 same_sysmods (h ∷ hs) g all = same_sysmods hs (hold g h) all
 
-all_holds : (hs : List Hold) (g : Global) → All HasHoldForms g.holds → AllByRecursion HasHoldForms hs → All HasHoldForms (fold hold g hs).holds
+all_holds : (hs : List Hold) (g : Global) → All HasHoldForms g.holds → AllByRecursion HasHoldForms hs
+    → All HasHoldForms (fold hold g hs).holds
 all_holds [] g all each = all
 all_holds (h ∷ hs) g all each = all_holds hs (hold g h) (all_held g h all each.0) each.1
 
 -- A SYSMOD comes in with its internal holds.
-pub received_forms : (g : Global) (s : Sysmod) → HasSysmodForms s → IsSysmod s → AllByRecursion HasHoldForms s.holds → ((f : ReceiveFault) → ¬ HasFault g s f)
+pub received_forms : (g : Global) (s : Sysmod) → HasSysmodForms s → IsSysmod s → AllByRecursion HasHoldForms s.holds
+    → ((f : ReceiveFault) → ¬ HasFault g s f)
     → HasGlobalForms g → HasGlobalForms (received g s)
 received_forms g s forms is held good has = record {
   is_global = kept g s has.is_global is good;
   sysmods = same_sysmods s.holds (with_sysmod g s)
-      (All-with_item (slice_cmp nat_cmp) (λ (r : Sysmod). r.id) HasSysmodForms g.sysmods (record s { holds = [] }) has.sysmods (laid_aside s forms));
+      (All-with_item (slice_cmp nat_cmp) (λ (r : Sysmod). r.id) HasSysmodForms g.sysmods (record s { holds = [] })
+      has.sysmods (laid_aside s forms));
   holds = all_holds s.holds (with_sysmod g s) has.holds held;
 }
 
 -- A SYSMOD that is rejected goes with its internal holds.
-pub rejected_forms : (g : Global) (zones : List NamedZone) (x : Id) → HasGlobalForms g → HasGlobalForms (or_same g (reject g zones x))
+pub rejected_forms : (g : Global) (zones : List NamedZone) (x : Id) → HasGlobalForms g
+    → HasGlobalForms (or_same g (reject g zones x))
 rejected_forms g zones x has = by (is_received g x) (list_any (λ (z : NamedZone). is_applied z.zone x) zones)
   where
     without : HasGlobalForms (without_sysmod g x)
@@ -146,7 +182,8 @@ rejected_forms g zones x has = by (is_received g x) (list_any (λ (z : NamedZone
       holds = All-filter (λ h. not (h.internal && bytes_eq h.id x)) HasHoldForms g.holds has.holds;
     }
 
-    by : (there applied : Bool) → HasGlobalForms (or_same g (if not there then Err Rj2 else if applied then Err Rj1 else Ok (without_sysmod g x)))
+    by : (there applied : Bool) → HasGlobalForms (or_same g (if not there then Err Rj2 else if applied then Err Rj1 else
+        Ok (without_sysmod g x)))
     by false applied = has
     by true true = has
     by true false = without

@@ -1,5 +1,6 @@
 -- RECEIVE leads from an inventory to an inventory.
-use Rattle.std.proofs.Common.{◌≡◌, ℕ, ◌&&◌, ◌||◌, ◌==◌, Bool, true, false, List, [], Option, Some, None, All, IsTrue, get_or, refl, sym, ap, subst, inl, inr, arith, true≢false, IfSome}
+use Rattle.std.proofs.Common.{◌≡◌, ℕ, ◌&&◌, ◌||◌, ◌==◌, Bool, true, false, List, [], Option, Some, None, All, IsTrue}
+use Rattle.std.proofs.Common.{get_or, refl, sym, ap, subst, inl, inr, arith, true≢false, IfSome}
 use Rattle.std.specs.Prelude.{Result, Ok, Err, nat_lt}
 use Rattle.std.specs.List.{AllByRecursion}
 use Rattle.std.specs.declared.cmp.Ordering.{Ordering}
@@ -10,7 +11,8 @@ use Rattle.std.specs.Cmp.Lexicographic.{slice_cmp}
 use Rattle.std.proofs.lemmas.Bool.{cases_lt, lt-ltb, eq-eqb, or_right, and_from}
 use Rattle.std.proofs.lemmas.Cmp.{nat_list_cmp_total}
 use Rattle.std.proofs.lemmas.List.Elements.{All-from_recursion}
-use Rattle.terms.specs.Types.{Text, type_number, Ver, Change, Sysmod, Global, Item, ASysmod, AnAssign, HoldItem, AHold, ARelease, ReceiveWhat}
+use Rattle.terms.specs.Types.{Text, type_number, Ver, Change, Sysmod, Global, Item, ASysmod, AnAssign, HoldItem, AHold}
+use Rattle.terms.specs.Types.{ARelease, ReceiveWhat}
 use Rattle.terms.specs.Lookups.{is_before}
 use Rattle.terms.specs.Rising.{Rises}
 use Rattle.terms.specs.Forms.{IsSource}
@@ -26,30 +28,41 @@ use Rattle.machine.specs.Receiving.{sourced, or_same, AssignsId, TakesItem, Take
 use Rattle.machine.specs.Machine.{Files, HasItems}
 use Rattle.machine.specs.Runs.{Runs}
 use Rattle.smpe_upkeep.proofs.Lists.{each_alike}
-use Rattle.smpe_upkeep.proofs.GlobalForms.{HasGlobalForms, runs_forms, hold_forms, external_owned, release_forms, assign_forms, received_forms, global_forms, with_global}
+use Rattle.smpe_upkeep.proofs.GlobalForms.{HasGlobalForms, runs_forms, hold_forms, external_owned, release_forms}
+use Rattle.smpe_upkeep.proofs.GlobalForms.{assign_forms, received_forms, global_forms, with_global}
 use Rattle.smpe_upkeep.proofs.PtfinForms.{IsOwnHold, IsWhole, IsItem, ptfin_formed}
 use Rattle.smpe_upkeep.proofs.HoldFileForms.{IsHoldItem, hold_file_formed}
 
 -- ---- SYSMODs
 
-lower_first : (m n : ℕ) (r : Ordering) → IsTrue (is_lt (ordering_then (nat_cmp m n) r)) → IsTrue (nat_lt m n || ((m == n) && is_lt r))
+lower_first : (m n : ℕ) (r : Ordering) → IsTrue (is_lt (ordering_then (nat_cmp m n) r))
+    → IsTrue (nat_lt m n || ((m == n) && is_lt r))
 lower_first m n r lower = elim (cases_lt m n) [
   | inl less ↦ ap (λ b. b || ((m == n) && is_lt r)) (lt-ltb m n less)
   | inr more ↦ elim (cases_lt n m) [
-    | inl greater ↦ absurd (true≢false (sym (subst (λ o. IsTrue (is_lt (ordering_then o r))) (sym (nat_cmp_is m n Greater greater)) lower)))
-    | inr least ↦ or_right (nat_lt m n) ((m == n) && is_lt r) (and_from (m == n) (is_lt r) (eq-eqb m n (omega (arith, more, least)))
-        (subst (λ o. IsTrue (is_lt (ordering_then o r))) (sym (nat_cmp_is m n Equal (omega (arith, more, least)))) lower))
+    | inl greater ↦ absurd (true≢false (sym (subst (λ o. IsTrue (is_lt (ordering_then o r)))
+        (sym (nat_cmp_is m n Greater greater)) lower)))
+    | inr least ↦ or_right (nat_lt m n) ((m == n) && is_lt r)
+        (and_from (m == n) (is_lt r) (eq-eqb m n (omega (arith, more, least)))
+        (subst (λ o. IsTrue (is_lt (ordering_then o r))) (sym (nat_cmp_is m n Equal (omega (arith, more, least))))
+        lower))
   ]
 ]
 
 before_from_cmp : (a b : Change) → IsTrue (is_lt (change_cmp a b)) → IsTrue (is_change_before a b)
-before_from_cmp a b lower = lower_first (type_number a.elem_type) (type_number b.elem_type) (slice_cmp nat_cmp a.name b.name) lower
+before_from_cmp a b lower = lower_first (type_number a.elem_type) (type_number b.elem_type)
+    (slice_cmp nat_cmp a.name b.name) lower
 
-sources_listed : (source : Option Text) (s : Sysmod) → IfSome source IsSource → s.sources ≡ [] → AreListed IsSource (sourced source s).sources
-sources_listed None s form none = subst (λ ts. AreListed IsSource ts) (sym none) (record { each = λ k d below. absurd (omega arith); rising = λ i j d up below. absurd (omega arith) })
+sources_listed : (source : Option Text) (s : Sysmod) → IfSome source IsSource → s.sources ≡ []
+    → AreListed IsSource (sourced source s).sources
+sources_listed None s form none = subst (λ ts. AreListed IsSource ts) (sym none)
+    (record { each = λ k d below. absurd (omega arith); rising = λ i j d up below. absurd (omega arith) })
 sources_listed (Some source) s form none = record {
-  each = All-with_item (slice_cmp nat_cmp) (λ (t : Text). t) IsSource s.sources source (subst (λ ts. All IsSource ts) (sym none) (λ k d below. absurd (omega arith))) form;
-  rising = Rises-with_item nat_list_cmp_total (λ (t : Text). t) s.sources source (subst (λ ts. Rises (slice_cmp nat_cmp) (λ (t : Text). t) ts) (sym none) (λ i j d up below. absurd (omega arith)));
+  each = All-with_item (slice_cmp nat_cmp) (λ (t : Text). t) IsSource s.sources source
+      (subst (λ ts. All IsSource ts) (sym none) (λ k d below. absurd (omega arith))) form;
+  rising = Rises-with_item nat_list_cmp_total (λ (t : Text). t) s.sources source
+      (subst (λ ts. Rises (slice_cmp nat_cmp) (λ (t : Text). t) ts) (sym none)
+      (λ i j d up below. absurd (omega arith)));
 }
 
 same_rest : (source : Option Text) (s : Sysmod) → sourced source s ≡ record s { sources = (sourced source s).sources }
@@ -57,18 +70,22 @@ same_rest None s = refl
 same_rest (Some source) s = refl
 
 -- a SYSMOD that is read, with the source of the command
-with_forms : (s : Sysmod) (sources : List Text) → IsWhole s → AreListed IsSource sources → HasSysmodForms (record s { sources = sources })
+with_forms : (s : Sysmod) (sources : List Text) → IsWhole s → AreListed IsSource sources
+    → HasSysmodForms (record s { sources = sources })
 with_forms s sources whole listed = record {
   id = whole.growing.id;
   sources = listed;
   some = whole.some;
   vers = whole.growing.vers;
-  srels = pairs_map (λ (a b : Ver). IsTrue (is_lt (slice_cmp nat_cmp a.srel b.srel))) (λ (x y : Text). IsTrue (is_before x y)) (λ (v : Ver). v.srel) (λ a b lower. lower) s.vers whole.growing.srels;
+  srels = pairs_map (λ (a b : Ver). IsTrue (is_lt (slice_cmp nat_cmp a.srel b.srel)))
+      (λ (x y : Text). IsTrue (is_before x y)) (λ (v : Ver). v.srel) (λ a b lower. lower) s.vers whole.growing.srels;
   changes = whole.growing.changes;
-  elements = λ i j d less below. before_from_cmp (get_or s.changes i d) (get_or s.changes j d) (whole.growing.elements i j d less below);
+  elements = λ i j d less below. before_from_cmp (get_or s.changes i d) (get_or s.changes j d)
+      (whole.growing.elements i j d less below);
 }
 
-is_sysmod : (s : Sysmod) (sources : List Text) → IsWhole s → AreListed IsSource sources → IsSysmod (record s { sources = sources })
+is_sysmod : (s : Sysmod) (sources : List Text) → IsWhole s → AreListed IsSource sources
+    → IsSysmod (record s { sources = sources })
 is_sysmod s sources whole listed = record {
   sources = listed.rising;
   vers = whole.growing.srels;
@@ -76,14 +93,17 @@ is_sysmod s sources whole listed = record {
   holds = All-from_recursion (IsOwnHold s.id) s.holds whole.growing.holds;
 }
 
-taken_forms : (g : Global) (s : Sysmod) (answer : Result Global ReceiveFault) → HasSysmodForms s → IsSysmod s → AllByRecursion HasHoldForms s.holds
+taken_forms : (g : Global) (s : Sysmod) (answer : Result Global ReceiveFault) → HasSysmodForms s → IsSysmod s
+    → AllByRecursion HasHoldForms s.holds
     → HasGlobalForms g → Receives g s answer → HasGlobalForms (or_same g answer)
-taken_forms g s (Ok new) forms is held has (good, new_is) = subst HasGlobalForms (sym new_is) (received_forms g s forms is held good has)
+taken_forms g s (Ok new) forms is held has (good, new_is) = subst HasGlobalForms (sym new_is)
+    (received_forms g s forms is held good has)
 taken_forms g s (Err why) forms is held has refused = has
 
 -- ---- the items of PTFIN
 
-item_forms : (source : Option Text) → IfSome source IsSource → (g new : Global) (item : Item) (lines : List Line) → IsItem item → HasGlobalForms g → TakesItem source g item new lines → HasGlobalForms new
+item_forms : (source : Option Text) → IfSome source IsSource → (g new : Global) (item : Item) (lines : List Line)
+    → IsItem item → HasGlobalForms g → TakesItem source g item new lines → HasGlobalForms new
 item_forms source form g new (ASysmod s) lines whole has (answer, receives, new_is, printed) =
     let listed = sources_listed source s form whole.growing.no_sources in
     let sources = (sourced source s).sources in
@@ -96,39 +116,52 @@ item_forms source form g new (ASysmod s) lines whole has (answer, receives, new_
     has receives)
 item_forms source form g new (AnAssign a) lines is has takes =
     runs_forms (AssignsId a.source) (λ x. IsSource a.source)
-    (λ g new x lines here has takes. subst HasGlobalForms (sym takes.0) (assign_forms g a.source x here has)) a.to g new lines
+    (λ g new x lines here has takes. subst HasGlobalForms (sym takes.0) (assign_forms g a.source x here has)) a.to g new
+    lines
     (each_alike (IsSource a.source) is a.to) has takes
 
 -- ---- the items of the hold file
 
-hold_item_forms : (g new : Global) (item : HoldItem) (lines : List Line) → IsHoldItem item → HasGlobalForms g → TakesHoldItem g item new lines → HasGlobalForms new
-hold_item_forms g new (AHold h) lines is has takes = subst HasGlobalForms (sym takes.0) (hold_forms g h is.0 (external_owned g h is.1) has)
+hold_item_forms : (g new : Global) (item : HoldItem) (lines : List Line) → IsHoldItem item → HasGlobalForms g
+    → TakesHoldItem g item new lines → HasGlobalForms new
+hold_item_forms g new (AHold h) lines is has takes = subst HasGlobalForms (sym takes.0)
+    (hold_forms g h is.0 (external_owned g h is.1) has)
 hold_item_forms g new (ARelease r) lines is has takes = subst HasGlobalForms (sym takes.0) (release_forms g r has)
 
 -- RECEIVE of a PTFIN leads from an inventory to one.
-pub receive_forms : (bytes : List ℕ) (source : Option Text) (items : List Item) (i : Inventory) (new : Global) (lines : List Line) → IfSome source IsSource → IsPtfin bytes items → IsInventory i
+pub receive_forms : (bytes : List ℕ) (source : Option Text) (items : List Item) (i : Inventory) (new : Global)
+    (lines : List Line) → IfSome source IsSource → IsPtfin bytes items → IsInventory i
     → Runs (TakesItem source) i.global items new lines → IsInventory (record i { global = new })
 receive_forms bytes source items i new lines form reads is runs =
-    with_global i new is (runs_forms (TakesItem source) IsItem (item_forms source form) items i.global new lines (ptfin_formed bytes items reads) (global_forms i is) runs)
+    with_global i new is (runs_forms (TakesItem source) IsItem (item_forms source form) items i.global new lines
+    (ptfin_formed bytes items reads) (global_forms i is) runs)
 
 -- And so does RECEIVE of a hold file.
-pub receive_holds_forms : (bytes : List ℕ) (items : List HoldItem) (i : Inventory) (new : Global) (lines : List Line) → IsHoldFile bytes items → IsInventory i
+pub receive_holds_forms : (bytes : List ℕ) (items : List HoldItem) (i : Inventory) (new : Global) (lines : List Line)
+    → IsHoldFile bytes items → IsInventory i
     → Runs TakesHoldItem i.global items new lines → IsInventory (record i { global = new })
 receive_holds_forms bytes items i new lines reads is runs =
-    with_global i new is (runs_forms TakesHoldItem IsHoldItem hold_item_forms items i.global new lines (hold_file_formed bytes items reads) (global_forms i is) runs)
+    with_global i new is (runs_forms TakesHoldItem IsHoldItem hold_item_forms items i.global new lines
+    (hold_file_formed bytes items reads) (global_forms i is) runs)
 
 -- A file that is not read has no items.
-items_formed : {X : Type 0} (Is : List ℕ → List X → Type 0) (P : X → Type 0) → ((bytes : List ℕ) (items : List X) → Is bytes items → AllByRecursion P items)
+items_formed : {X : Type 0} (Is : List ℕ → List X → Type 0) (P : X → Type 0)
+    → ((bytes : List ℕ) (items : List X) → Is bytes items → AllByRecursion P items)
     → (reads : Bool) (bytes : List ℕ) (items : List X) → HasItems Is reads bytes items → AllByRecursion P items
 items_formed Is P formed true bytes items has = formed bytes items has
 items_formed Is P formed false bytes items none = subst (AllByRecursion P) (sym none) tt
 
 -- RECEIVE of the files that the command reads leads from an inventory to one.
-pub take_forms : (files : Files) (what : ReceiveWhat) (items : List Item) (holds : List HoldItem) (i : Inventory) (middle new : Global) (lines more : List Line) → IfSome what.source IsSource
-    → HasItems IsPtfin what.sysmods files.ptfin items → HasItems IsHoldFile what.holddata files.holds holds → IsInventory i
-    → Runs (TakesItem what.source) i.global items middle lines → Runs TakesHoldItem middle holds new more → IsInventory (record i { global = new })
+pub take_forms : (files : Files) (what : ReceiveWhat) (items : List Item) (holds : List HoldItem) (i : Inventory)
+    (middle new : Global) (lines more : List Line) → IfSome what.source IsSource
+    → HasItems IsPtfin what.sysmods files.ptfin items → HasItems IsHoldFile what.holddata files.holds holds
+    → IsInventory i
+    → Runs (TakesItem what.source) i.global items middle lines → Runs TakesHoldItem middle holds new more
+    → IsInventory (record i { global = new })
 take_forms files what items holds i middle new lines more form reads reads_holds is runs runs_holds =
     let sysmods = runs_forms (TakesItem what.source) IsItem (item_forms what.source form) items i.global middle lines
     (items_formed IsPtfin IsItem ptfin_formed what.sysmods files.ptfin items reads) (global_forms i is) runs in
     with_global i new is
-    (runs_forms TakesHoldItem IsHoldItem hold_item_forms holds middle new more (items_formed IsHoldFile IsHoldItem hold_file_formed what.holddata files.holds holds reads_holds) sysmods runs_holds)
+    (runs_forms TakesHoldItem IsHoldItem hold_item_forms holds middle new more
+    (items_formed IsHoldFile IsHoldItem hold_file_formed what.holddata files.holds holds reads_holds) sysmods
+    runs_holds)

@@ -1,5 +1,6 @@
 -- What a good statement says has its forms.
-use Rattle.std.proofs.Common.{◌≡◌, ◌≢◌, ◌≤◌, ◌&&◌, List, [], ◌∷◌, ◌++◌, length, get_or, Option, Some, None, All, Contains, IsTrue, refl, sym, subst, arith, ◌<◌, ap}
+use Rattle.std.proofs.Common.{◌≡◌, ◌≢◌, ◌≤◌, ◌&&◌, List, [], ◌∷◌, ◌++◌, length, get_or, Option, Some, None, All}
+use Rattle.std.proofs.Common.{Contains, IsTrue, refl, sym, subst, arith, ◌<◌, ap}
 use Rattle.std.specs.Prelude.{IfSome, IsSome, IsSomeAnd, nat_le, codes}
 use Rattle.std.specs.List.{AllByRecursion}
 use Rattle.std.proofs.lemmas.Bool.{le-leb, and_from}
@@ -21,14 +22,16 @@ use Rattle.terms.specs.Statements.{IsVerOf, IsIfOf, IsAssignOf, HasAction, IsCha
 use Rattle.terms.specs.Ptfin.{IsUpdateWord}
 use Rattle.terms.specs.declared.statement_words.StatementWord.TheVariants as word
 use Rattle.terms.specs.Statements as says
-use Rattle.store_schema.specs.Forms.{AreListed, AreOthers, IsComment, HasHoldForms, AreRecords, IsTextOf, SuitsKind, HasIfForms, HasVerForms, HasActionForms, HasChangeForms}
+use Rattle.store_schema.specs.Forms.{AreListed, AreOthers, IsComment, HasHoldForms, AreRecords, IsTextOf, SuitsKind}
+use Rattle.store_schema.specs.Forms.{HasIfForms, HasVerForms, HasActionForms, HasChangeForms}
 use Rattle.lemmas.proofs.Each.{recursion-front, recursion-back}
 use Rattle.smpe_upkeep.proofs.Printable.{ArePrintable, HasPrintableList, operand_printable}
 
 -- ---- values
 
 -- a value of its form in a list of one
-pub one_form : (form : Text → Type 0) (own : Option Text) (value : Text) → IsSomeAnd own (λ text. IsOneOf form text value) → form value
+pub one_form : (form : Text → Type 0) (own : Option Text) (value : Text)
+    → IsSomeAnd own (λ text. IsOneOf form text value) → form value
 one_form form None value h = absurd h
 one_form form (Some text) value h = h.form_is
 
@@ -36,35 +39,42 @@ required_form : (form : Text → Type 0) (found : Option Word) (value : Text) �
 required_form form None value h = absurd h
 required_form form (Some w) value h = one_form form w.list value h
 
-optional_form : (form : Text → Type 0) (found : Option Word) (value : Option Text) → HasOptional form found value → IfSome value form
+optional_form : (form : Text → Type 0) (found : Option Word) (value : Option Text) → HasOptional form found value
+    → IfSome value form
 optional_form form None value is = subst (λ v. IfSome v form) (sym is) tt
 optional_form form (Some w) None h = absurd h
 optional_form form (Some w) (Some value) h = one_form form w.list value h
 
-listed_form : (form : Text → Type 0) (list : Option Text) (values : List Text) → IsSomeAnd list (λ text. IsListOf form text values) → All form values
+listed_form : (form : Text → Type 0) (list : Option Text) (values : List Text)
+    → IsSomeAnd list (λ text. IsListOf form text values) → All form values
 listed_form form None values h = absurd h
 listed_form form (Some text) values h = h.each
 
 none_listed : {form : Text → Type 0} → AreListed form []
 none_listed = record { each = λ k d below. absurd (omega arith); rising = λ i j d up below. absurd (omega arith) }
 
-texts_listed : (form : Text → Type 0) (found : Option Word) (values : List Text) → HasTexts form found values → AreListed form values
+texts_listed : (form : Text → Type 0) (found : Option Word) (values : List Text) → HasTexts form found values
+    → AreListed form values
 texts_listed form None values is = subst (λ vs. AreListed form vs) (sym is) none_listed
 texts_listed form (Some w) values (listed, has, sorted) = record {
-  each = λ k d below. All-contains form listed (get_or values k d) (listed_form form w.list listed has) ((sorted.same (get_or values k d)).0 (All-contains_itself values k d below));
+  each = λ k d below. All-contains form listed (get_or values k d) (listed_form form w.list listed has)
+      ((sorted.same (get_or values k d)).0 (All-contains_itself values k d below));
   rising = sorted.rising;
 }
 
-others_listed : (x : Id) (found : Option Word) (values : List Text) → HasTexts IsId found values → ¬ Contains values x → AreOthers x values
+others_listed : (x : Id) (found : Option Word) (values : List Text) → HasTexts IsId found values → ¬ Contains values x
+    → AreOthers x values
 others_listed x found values has others = record { listed = texts_listed IsId found values has; others = others }
 
 -- an operand that is not there has no values
-none_there : (form : Text → Type 0) (found : Option Word) (values : List Text) → found ≡ None → HasTexts form found values → values ≡ []
+none_there : (form : Text → Type 0) (found : Option Word) (values : List Text) → found ≡ None
+    → HasTexts form found values → values ≡ []
 none_there form None values absent has = has
 none_there form (Some w) values absent has = absurd (cc absent)
 
 -- an operand that is there has its value
-some_there : (form : Text → Type 0) (found : Option Word) (value : Option Text) → IsSome found → HasOptional form found value → IsSome value
+some_there : (form : Text → Type 0) (found : Option Word) (value : Option Text) → IsSome found
+    → HasOptional form found value → IsSome value
 some_there form None value there has = absurd (cc there)
 some_there form (Some w) None there has = absurd has
 some_there form (Some w) (Some value) there has = refl
@@ -76,7 +86,8 @@ no_empty form (Some text) h = h.has_members
 
 some_listed : (form : Text → Type 0) (w : Word) (values : List Text) → HasSorted form w values → values ≢ []
 some_listed form w values ([], has, sorted) = λ none. no_empty form w.list has
-some_listed form w values (x ∷ xs, has, sorted) = λ none. none_in x (subst (λ vs. Contains vs x) none ((sorted.same x).1 (0, omega arith, refl)))
+some_listed form w values (x ∷ xs, has, sorted) = λ none. none_in x
+    (subst (λ vs. Contains vs x) none ((sorted.same x).1 (0, omega arith, refl)))
 
 -- ---- holds
 
@@ -86,29 +97,34 @@ first_there (b ∷ bs) dark = omega arith
 
 printable_characters : (text : Text) → ArePrintable text → All (λ b. IsTrue (nat_le 32 b && nat_le b 126)) text
 printable_characters text each =
-    All-weaker IsPrintable (λ b. IsTrue (nat_le 32 b && nat_le b 126)) (λ b is. and_from (nat_le 32 b) (nat_le b 126) (le-leb 32 b is.0) (le-leb b 126 is.1)) text
+    All-weaker IsPrintable (λ b. IsTrue (nat_le 32 b && nat_le b 126))
+    (λ b is. and_from (nat_le 32 b) (nat_le b 126) (le-leb 32 b is.0) (le-leb b 126 is.1)) text
     (All-from_recursion IsPrintable text each)
 
 cut_form : (text cut : Text) → IsTrimmed text cut → ArePrintable text → length cut ≤ 200 → IsComment cut
 cut_form text cut (left, right, is, blank, blank_behind, front, back) each short = record {
   least = first_there cut front;
   most = short;
-  characters = printable_characters cut (recursion-back IsPrintable left cut (recursion-front IsPrintable (left ++ cut) right (subst ArePrintable is each)));
+  characters = printable_characters cut (recursion-back IsPrintable left cut
+      (recursion-front IsPrintable (left ++ cut) right (subst ArePrintable is each)));
   front = front;
   back = back;
 }
 
-list_comment : (list comment : Option Text) → IsSomeAnd list (λ text. IsSomeAnd comment (λ cut. IsTrimmed text cut)) → IfSome list ArePrintable
+list_comment : (list comment : Option Text) → IsSomeAnd list (λ text. IsSomeAnd comment (λ cut. IsTrimmed text cut))
+    → IfSome list ArePrintable
     → IfSome comment (λ text. length text ≤ 200) → IfSome comment IsComment
 list_comment None comment has each short = absurd has
 list_comment (Some text) None has each short = tt
 list_comment (Some text) (Some cut) has each short = cut_form text cut has each short
 
-comment_form : (found : Option Word) (comment : Option Text) → HasComment found comment → IfSome found HasPrintableList → IfSome comment (λ text. length text ≤ 200) → IfSome comment IsComment
+comment_form : (found : Option Word) (comment : Option Text) → HasComment found comment → IfSome found HasPrintableList
+    → IfSome comment (λ text. length text ≤ 200) → IfSome comment IsComment
 comment_form None comment is each short = subst (λ c. IfSome c IsComment) (sym is) tt
 comment_form (Some w) comment has each short = list_comment w.list comment has each short
 
-pub hold_formed : (own : Option Text) (operands : List Word) (h : Hold) → IsHoldOf own operands h → HasShortComment h → AllByRecursion HasPrintableList operands → HasHoldForms h
+pub hold_formed : (own : Option Text) (operands : List Word) (h : Hold) → IsHoldOf own operands h → HasShortComment h
+    → AllByRecursion HasPrintableList operands → HasHoldForms h
 hold_formed own operands h is short each = record {
   id = one_form IsId own h.id is.id;
   reason = required_form (IsReason h.kind) _ h.reason is.reason;
@@ -127,7 +143,11 @@ fmid_form x (Some f) form other = (form, λ same. other (ap (λ v. Some v) same)
 module _ (s : Sysmod) (own : Option Text) (operands : List Word) (v : Ver) (is : IsVerOf s own operands v) where
   suits : (kind : Kind) → says.SuitsKind kind operands → SuitsKind kind v
   suits Function h = tt
-  suits _ h = (some_there IsId _ v.fmid h.0 is.fmid, none_there IsId _ v.npre h.1 is.npre, none_there IsId _ v.del h.2 is.del)
+  suits _ h = (
+    some_there IsId _ v.fmid h.0 is.fmid,
+    none_there IsId _ v.npre h.1 is.npre,
+    none_there IsId _ v.del h.2 is.del,
+  )
 
   pub ver_formed : HasVerForms s.kind s.id v
   ver_formed = record {
@@ -142,7 +162,8 @@ module _ (s : Sysmod) (own : Option Text) (operands : List Word) (v : Ver) (is :
     suits = suits s.kind is.suits;
   }
 
-pub if_formed : (s : Sysmod) (own : Option Text) (operands : List Word) (i : IfReq) → IsIfOf s own operands i → HasIfForms s.id i
+pub if_formed : (s : Sysmod) (own : Option Text) (operands : List Word) (i : IfReq) → IsIfOf s own operands i
+    → HasIfForms s.id i
 if_formed s own operands i is = record {
   function = one_form IsId is.fmid.list i.function is.function;
   req = others_listed s.id (Some is.req) i.req is.ids is.others;
@@ -151,7 +172,8 @@ if_formed s own operands i is = record {
 
 -- ---- ++ASSIGN
 
-pub source_formed : (own : Option Text) (operands : List Word) (a : Assign) → IsAssignOf own operands a → IsSource a.source
+pub source_formed : (own : Option Text) (operands : List Word) (a : Assign) → IsAssignOf own operands a
+    → IsSource a.source
 source_formed own operands a is = required_form IsSource _ a.source is.source
 
 -- ---- elements
@@ -165,25 +187,33 @@ some_lines : (text : Lines) → 0 < length text → text ≢ []
 some_lines [] some = absurd (omega (arith, some))
 some_lines (line ∷ lines) some = λ e. absurd (cc e)
 
-update_form : (kind : Kind) (type : ElemType) (name : Text) (text : Lines) → kind ≢ Function → AreRecords text → IsActionOf type name (Updates text) → HasActionForms kind type name (Updates text)
+update_form : (kind : Kind) (type : ElemType) (name : Text) (text : Lines) → kind ≢ Function → AreRecords text
+    → IsActionOf type name (Updates text) → HasActionForms kind type name (Updates text)
 update_form kind Mac name text other records good = (other, tt, records, good)
 update_form kind Src name text other records good = (other, tt, records, good)
 update_form kind _ name text other records good = absurd good
 
-action_form : (w : StatementWord) (kind : Kind) (type : ElemType) (name : Text) (a : Action) (operands : List Word) (inline : Lines)
-    → HasAction w operands inline a → AreRecords inline → IsActionOf type name a → (IsUpdateWord w → kind ≢ Function) → HasActionForms kind type name a
-action_form (word.Replace t) kind type name (Replaces distlib syslib text) operands inline (are, has_distlib, has_syslib, is) records good other = (
-  required_form IsName _ distlib has_distlib,
-  required_form IsName _ syslib has_syslib,
-  text_form type text (subst AreRecords (sym is) records) good.1,
-  some_lines text good.0,
-)
-action_form word.UpdateMac kind type name (Updates text) operands inline (none, is) records good other = update_form kind type name text (other tt) (subst AreRecords (sym is) records) good
-action_form word.UpdateSrc kind type name (Updates text) operands inline (none, is) records good other = update_form kind type name text (other tt) (subst AreRecords (sym is) records) good
+action_form : (w : StatementWord) (kind : Kind) (type : ElemType) (name : Text) (a : Action) (operands : List Word)
+    (inline : Lines)
+    → HasAction w operands inline a → AreRecords inline → IsActionOf type name a → (IsUpdateWord w → kind ≢ Function)
+    → HasActionForms kind type name a
+action_form (word.Replace t) kind type name (Replaces distlib syslib text) operands inline
+    (are, has_distlib, has_syslib, is) records good other = (
+      required_form IsName _ distlib has_distlib,
+      required_form IsName _ syslib has_syslib,
+      text_form type text (subst AreRecords (sym is) records) good.1,
+      some_lines text good.0,
+    )
+action_form word.UpdateMac kind type name (Updates text) operands inline (none, is) records good other =
+    update_form kind type name text (other tt) (subst AreRecords (sym is) records) good
+action_form word.UpdateSrc kind type name (Updates text) operands inline (none, is) records good other =
+    update_form kind type name text (other tt) (subst AreRecords (sym is) records) good
 action_form _ kind type name a operands inline has records good other = absurd has
 
-pub change_formed : (w : StatementWord) (kind : Kind) (own : Option Text) (operands : List Word) (inline : Lines) (c : Change)
-    → IsChangeOf w own operands inline c → AreRecords inline → IsActionOf c.elem_type c.name c.action → (IsUpdateWord w → kind ≢ Function) → HasChangeForms kind c
+pub change_formed : (w : StatementWord) (kind : Kind) (own : Option Text) (operands : List Word) (inline : Lines)
+    (c : Change)
+    → IsChangeOf w own operands inline c → AreRecords inline → IsActionOf c.elem_type c.name c.action
+    → (IsUpdateWord w → kind ≢ Function) → HasChangeForms kind c
 change_formed w kind own operands inline c is records good other = record {
   name = one_form IsName own c.name is.name;
   action = action_form w kind c.elem_type c.name c.action operands inline is.action records good other;

@@ -11,7 +11,8 @@ use Rattle.smpe_zones.specs.declared.error.ZoneError.{ZoneError}
 use Rattle.smpe_zones.specs.Definitions.{HasDefined, told}
 
 -- a fault of the store, or want of memory
-pub ends-early : {S U : Type 0} (g : Ghosts S) (at : Held S) (s : State) (d : ZoneDefinition) (e : StoreError) (r : Result U ZoneError) → r ≡ Err (told e)
+pub ends-early : {S U : Type 0} (g : Ghosts S) (at : Held S) (s : State) (d : ZoneDefinition) (e : StoreError)
+    (r : Result U ZoneError) → r ≡ Err (told e)
     → (e ≡ Fault) ⊎ (e ≡ Memory) → Stays g at s (Define d) → HasDefined g at s d r
 ends-early {S = S} {U = U} g at s d e r is which stays = subst (HasDefined g at s d) (sym is) (by which)
   where

@@ -1,5 +1,6 @@
 -- The faults of a definition, looked for among the heads of the zones that are there.
-use Rattle.std.specs.Prelude.{◌&&◌, ◌||◌, ◌==◌, Bool, false, not, List, length, find, Option, None, Some, is_some, nat_le, if◌then◌else◌}
+use Rattle.std.specs.Prelude.{◌&&◌, ◌||◌, ◌==◌, Bool, false, not, List, length, find, Option, None, Some, is_some}
+use Rattle.std.specs.Prelude.{nat_le, if◌then◌else◌}
 use Rattle.std.specs.List.{list_any}
 use Rattle.std.specs.Option.{option_map_or}
 use Rattle.std.specs.Str.{bytes_eq}
@@ -31,7 +32,8 @@ abbrev pub has_srel : Text → Option ZoneHead → Bool
 has_srel srel head = option_map_or (λ h. bytes_eq h.srel srel) head false
 
 abbrev pub has_same_srel : List ZoneHead → Text → Option Text → Bool
-has_same_srel heads srel related = option_map_or (λ name. has_srel srel (named heads name)) related (not (is_some related))
+has_same_srel heads srel related = option_map_or (λ name. has_srel srel (named heads name)) related
+    (not (is_some related))
 
 abbrev pub is_taken : List ZoneHead → Text → Bool
 is_taken heads name = bytes_eq name global_name || is_some (named heads name)

@@ -1,5 +1,6 @@
 -- Needs that no candidate serves, by tests.
-use Rattle.std.proofs.Common.{◌≡◌, ◌<◌, ◌+◌, ℕ, Bool, true, false, List, [], length, map, take, get_or, set, refl, sym, ◌∙◌, subst, ap, eq-eqb, arith, inl, inr}
+use Rattle.std.proofs.Common.{◌≡◌, ◌<◌, ◌+◌, ℕ, Bool, true, false, List, [], length, map, take, get_or, set, refl, sym}
+use Rattle.std.proofs.Common.{◌∙◌, subst, ap, eq-eqb, arith, inl, inr}
 use borrow.Author.Tests.{eqb-true}
 use Rattle.std.proofs.lemmas.List.{nil_from_length}
 use Rattle.std.proofs.lemmas.Bool.{and_parts, and_from, cases_eq, cases_Bool}
@@ -17,17 +18,21 @@ abbrev pub is_bare : ℕ → Need → Bool
 is_bare x n = (n.of == x) && (length n.any.items == 0)
 
 bare_to : (x : ℕ) (n : Need) → is_bare x n ≡ true → ((demand n).of ≡ x) × ((demand n).any ≡ [])
-bare_to x n h = let both = and_parts (n.of == x) (length n.any.items == 0) h in (eqb-true n.of x both.0, nil_from_length n.any.items (eqb-true _ 0 both.1))
+bare_to x n h = let both = and_parts (n.of == x) (length n.any.items == 0) h
+    in (eqb-true n.of x both.0, nil_from_length n.any.items (eqb-true _ 0 both.1))
 
 bare_from : (x : ℕ) (n : Need) → ((demand n).of ≡ x) × ((demand n).any ≡ []) → is_bare x n ≡ true
 bare_from x n h = and_from (n.of == x) (length n.any.items == 0) (eq-eqb n.of x h.0) (ap (λ xs. length xs == 0) h.1)
 
-pub bare_exact : (ds : List Demand) (needs : List Need) (x : ℕ) → map demand needs ≡ ds → (list_any (is_bare x) needs ≡ true) ↔ Any (λ d. (d.of ≡ x) × (d.any ≡ [])) ds
+pub bare_exact : (ds : List Demand) (needs : List Need) (x : ℕ) → map demand needs ≡ ds
+    → (list_any (is_bare x) needs ≡ true) ↔ Any (λ d. (d.of ≡ x) × (d.any ≡ [])) ds
 bare_exact ds needs x maps = (
   λ some.
       let a = Any-from_list_any (is_bare x) needs some in
-      subst (Any (λ d. (d.of ≡ x) × (d.any ≡ []))) maps (Any-map (λ d. (d.of ≡ x) × (d.any ≡ [])) demand needs (a.0, a.1, a.2, a.3, bare_to x a.1 a.4)),
+      subst (Any (λ d. (d.of ≡ x) × (d.any ≡ []))) maps (Any-map (λ d. (d.of ≡ x) × (d.any ≡ [])) demand needs
+      (a.0, a.1, a.2, a.3, bare_to x a.1 a.4)),
   λ bare.
-      let a = Any-unmap (λ d. (d.of ≡ x) × (d.any ≡ [])) demand needs (subst (Any (λ d. (d.of ≡ x) × (d.any ≡ []))) (sym maps) bare) in
+      let a = Any-unmap (λ d. (d.of ≡ x) × (d.any ≡ [])) demand needs
+      (subst (Any (λ d. (d.of ≡ x) × (d.any ≡ []))) (sym maps) bare) in
       list_any-from_Any (is_bare x) needs (a.0, a.1, a.2, a.3, bare_from x a.1 a.4),
 )

@@ -1,10 +1,12 @@
 -- The rows of causers so far, and that no failure is without one.
-use Rattle.std.proofs.Common.{◌≡◌, ◌<◌, ◌≤◌, ◌+◌, ℕ, zero, suc, Bool, true, false, cond, List, [], ◌∷◌, ◌++◌, length, get_or, replicate, refl, sym, ◌∙◌, subst, ap, arith, inl, inr}
+use Rattle.std.proofs.Common.{◌≡◌, ◌<◌, ◌≤◌, ◌+◌, ℕ, zero, suc, Bool, true, false, cond, List, [], ◌∷◌, ◌++◌, length}
+use Rattle.std.proofs.Common.{get_or, replicate, refl, sym, ◌∙◌, subst, ap, arith, inl, inr}
 use Rattle.std.specs.Prelude.{Vec, IsTrue, ◌↔◌, ◌&&◌, ◌||◌, nat_lt}
 use Rattle.std.specs.declared.alloc.Global.{Global}
 use Rattle.std.specs.List.{All, Any, AllPairs, Contains, list_any}
 use Rattle.std.proofs.lemmas.List.{append-nil}
-use Rattle.std.proofs.lemmas.List.Elements.{Contains-push_cases, Contains-push, Contains-append_left, Contains-get_or, All-contains}
+use Rattle.std.proofs.lemmas.List.Elements.{Contains-push_cases, Contains-push, Contains-append_left, Contains-get_or}
+use Rattle.std.proofs.lemmas.List.Elements.{All-contains}
 use Rattle.std.proofs.lemmas.List.Quantifiers.{all_pairs_push}
 use Rattle.std.proofs.lemmas.List.Folds.{Any-from_list_any, list_any_at}
 use Rattle.std.proofs.lemmas.Bool.{cases_eq, cases_Bool, and_parts, and_from, ltb-true, lt-ltb}
@@ -23,7 +25,8 @@ pub record AreCausersBelow (p : Problem) (kept : List Bool) (rows : List (Vec �
   pub rising : (x : ℕ) → AllPairs (λ a b. a < b) (row_at rows x)
 
 -- y is no root
-pub causers-skip : (p : Problem) (kept : List Bool) (rows : List (Vec ℕ Global)) (y : ℕ) → (IsRoot p kept y → ⊥) → AreCausersBelow p kept rows y → AreCausersBelow p kept rows (y + 1)
+pub causers-skip : (p : Problem) (kept : List Bool) (rows : List (Vec ℕ Global)) (y : ℕ) → (IsRoot p kept y → ⊥)
+    → AreCausersBelow p kept rows y → AreCausersBelow p kept rows (y + 1)
 causers-skip p kept rows y no_root so_far = record {
   size = so_far.size;
   exact = λ x z. (
@@ -36,7 +39,8 @@ causers-skip p kept rows y no_root so_far = record {
   rising = so_far.rising;
 }
 
-row_below : (p : Problem) (kept : List Bool) (rows : List (Vec ℕ Global)) (y x : ℕ) → AreCausersBelow p kept rows y → (k d : ℕ) → k < length (row_at rows x) → get_or (row_at rows x) k d < y
+row_below : (p : Problem) (kept : List Bool) (rows : List (Vec ℕ Global)) (y x : ℕ) → AreCausersBelow p kept rows y
+    → (k d : ℕ) → k < length (row_at rows x) → get_or (row_at rows x) k d < y
 row_below p kept rows y x so_far k d below = ((so_far.exact x _).0 (Contains-get_or (row_at rows x) k d below)).0
 
 -- the rows with the root added where the list has the candidate
@@ -54,7 +58,8 @@ appended old new list y once added x false away =
     none (suc n) is = absurd (cc (away, is_in-from_Contains list x (Contains-from_times x list (omega (arith, is)))))
 
 -- y is a root, and the list has what reaches it
-pub causers-add : (p : Problem) (kept : List Bool) (old new : List (Vec ℕ Global)) (list : List ℕ) (y : ℕ) → IsRoot p kept y → length new ≡ length old
+pub causers-add : (p : Problem) (kept : List Bool) (old new : List (Vec ℕ Global)) (list : List ℕ) (y : ℕ)
+    → IsRoot p kept y → length new ≡ length old
     → ((x : ℕ) → times x list ≤ 1)
     → ((x : ℕ) → Contains list x ↔ Reaches p kept x y)
     → ((x : ℕ) → row_at new x ≡ row_at old x ++ replicate (times x list) y)
@@ -67,7 +72,11 @@ causers-add p kept old new list y root size once reached added so_far =
         | inl here ↦ (
           λ c. elim (Contains-push_cases (row_at old x) y z (subst (λ row. Contains row z) (row_is x true here) c)) [
             | inl before ↦ (omega (arith, ((so_far.exact x z).0 before).0), ((so_far.exact x z).0 before).1)
-            | inr same ↦ (omega (arith, same), subst (IsCauser p kept x) same (root, (reached x).0 (Contains-from_is_in list x here)))
+            | inr same ↦ (
+              omega (arith, same),
+              subst (IsCauser p kept x) same
+                  (root, (reached x).0 (Contains-from_is_in list x here)),
+            )
           ],
           λ c. subst (λ row. Contains row z) (sym (row_is x true here)) (elim (cases_eq z y) [
             | inl same ↦ subst (λ n. Contains (row_at old x ++ y ∷ []) n) (sym same) (Contains-push (row_at old x) y)
@@ -75,20 +84,27 @@ causers-add p kept old new list y root size once reached added so_far =
           ]),
         )
         | inr away ↦ (
-          λ c. let before = (so_far.exact x z).0 (subst (λ row. Contains row z) (row_is x false away) c) in (omega (arith, before.0), before.1),
+          λ c. let before = (so_far.exact x z).0 (subst (λ row. Contains row z) (row_is x false away) c)
+              in (omega (arith, before.0), before.1),
           λ c. subst (λ row. Contains row z) (sym (row_is x false away)) (elim (cases_eq z y) [
-            | inl same ↦ absurd (cc (away, is_in-from_Contains list x ((reached x).1 (subst (Reaches p kept x) same c.1.1))))
+            | inl same ↦ absurd (cc (
+              away,
+              is_in-from_Contains list x
+                  ((reached x).1 (subst (Reaches p kept x) same c.1.1)),
+            ))
             | inr other ↦ (so_far.exact x z).1 (omega arith, c.1)
           ]),
         )
       ];
       rising = λ x. elim (cases_Bool (is_in list x)) [
-        | inl here ↦ subst (AllPairs (λ a b. a < b)) (sym (row_is x true here)) (all_pairs_push (λ a b. a < b) (row_at old x) y (so_far.rising x) (row_below p kept old y x so_far))
+        | inl here ↦ subst (AllPairs (λ a b. a < b)) (sym (row_is x true here))
+            (all_pairs_push (λ a b. a < b) (row_at old x) y (so_far.rising x) (row_below p kept old y x so_far))
         | inr away ↦ subst (AllPairs (λ a b. a < b)) (sym (row_is x false away)) (so_far.rising x)
       ];
     }
 
-pub causers-all : (p : Problem) (kept : List Bool) (rows : List (Vec ℕ Global)) → AreCausersBelow p kept rows p.size → (x y : ℕ) → Contains (row_at rows x) y ↔ IsCauser p kept x y
+pub causers-all : (p : Problem) (kept : List Bool) (rows : List (Vec ℕ Global)) → AreCausersBelow p kept rows p.size
+    → (x y : ℕ) → Contains (row_at rows x) y ↔ IsCauser p kept x y
 causers-all p kept rows so_far x y = (λ c. ((so_far.exact x y).0 c).1, λ c. (so_far.exact x y).1 (c.0.0.0, c))
 
 abbrev is_nil : List ℕ → Bool
@@ -103,10 +119,12 @@ nil_has_none : (row : List ℕ) (y : ℕ) → is_nil row ≡ true → Contains r
 nil_has_none [] y nil c = omega (arith, c.1)
 nil_has_none (x ∷ xs) y nil c = cc
 
-from_kept : (p : Problem) (kept : List Bool) (rows : List (Vec ℕ Global)) (x : ℕ) → IsTrue (holds kept x) → IsTrue (uncaused p kept rows x)
+from_kept : (p : Problem) (kept : List Bool) (rows : List (Vec ℕ Global)) (x : ℕ) → IsTrue (holds kept x)
+    → IsTrue (uncaused p kept rows x)
 from_kept p kept rows x h = ap (λ b. b || (nat_lt x p.size && is_nil (row_at rows x))) h
 
-from_nil : (p : Problem) (kept : List Bool) (rows : List (Vec ℕ Global)) (x : ℕ) → x < p.size → is_nil (row_at rows x) ≡ true → IsTrue (uncaused p kept rows x)
+from_nil : (p : Problem) (kept : List Bool) (rows : List (Vec ℕ Global)) (x : ℕ) → x < p.size
+    → is_nil (row_at rows x) ≡ true → IsTrue (uncaused p kept rows x)
 from_nil p kept rows x below nil =
     let both = and_from (nat_lt x p.size) (is_nil (row_at rows x)) (lt-ltb x p.size below) nil in
     elim (cases_Bool (holds kept x)) [
@@ -115,27 +133,35 @@ from_nil p kept rows x below nil =
     ]
 
 -- a candidate that is not kept and has no causer is eligible
-uncaused_eligible : (p : Problem) (kept : List Bool) (rows : List (Vec ℕ Global)) → IsSelfSupporting p (holds kept) → ((x y : ℕ) → Contains (row_at rows x) y ↔ IsCauser p kept x y) → (x : ℕ) → IsTrue (uncaused p kept rows x) → IsTrue (holds p.eligible x)
+uncaused_eligible : (p : Problem) (kept : List Bool) (rows : List (Vec ℕ Global)) → IsSelfSupporting p (holds kept)
+    → ((x y : ℕ) → Contains (row_at rows x) y ↔ IsCauser p kept x y) → (x : ℕ) → IsTrue (uncaused p kept rows x)
+    → IsTrue (holds p.eligible x)
 uncaused_eligible p kept rows supported exact x member =
     elim (cases_Bool (holds kept x)) [
       | inl is_kept ↦ supported.eligible x is_kept
       | inr out ↦ elim (cases_Bool (holds p.eligible x)) [
         | inl good ↦ good
         | inr bad ↦ absurd (
-            let both = and_parts (nat_lt x p.size) (is_nil (row_at rows x)) (subst (λ b. (b || (nat_lt x p.size && is_nil (row_at rows x))) ≡ true) out member) in
-            nil_has_none (row_at rows x) x both.1 ((exact x x).1 (((ltb-true x p.size both.0, out), inl bad), ([], refl))))
+            let both = and_parts (nat_lt x p.size) (is_nil (row_at rows x))
+            (subst (λ b. (b || (nat_lt x p.size && is_nil (row_at rows x))) ≡ true) out member) in
+            nil_has_none (row_at rows x) x both.1 ((exact x x).1
+            (((ltb-true x p.size both.0, out), inl bad), ([], refl))))
       ]
     ]
 
 -- the first of some that serve is an uncaused one, where the needing candidate is
-first_uncaused : (p : Problem) (kept : List Bool) (rows : List (Vec ℕ Global)) → IsProblem p → ((x y : ℕ) → Contains (row_at rows x) y ↔ IsCauser p kept x y)
-    → (d : Demand) → Contains p.demands d → HasFailed p kept d.of → is_nil (row_at rows d.of) ≡ true → All (λ z. holds kept z ≡ false) d.any
+first_uncaused : (p : Problem) (kept : List Bool) (rows : List (Vec ℕ Global)) → IsProblem p
+    → ((x y : ℕ) → Contains (row_at rows x) y ↔ IsCauser p kept x y)
+    → (d : Demand) → Contains p.demands d → HasFailed p kept d.of → is_nil (row_at rows d.of) ≡ true
+    → All (λ z. holds kept z ≡ false) d.any
     → (ys : List ℕ) → d.any ≡ ys → Any (λ y. IsTrue (uncaused p kept rows y)) ys
 first_uncaused p kept rows valid exact d in_demands failed nil unmet [] bare =
-    absurd (nil_has_none (row_at rows d.of) d.of nil ((exact d.of d.of).1 ((failed, inr (in_demands.0, d, in_demands.1, in_demands.2, (refl, bare))), ([], refl))))
+    absurd (nil_has_none (row_at rows d.of) d.of nil ((exact d.of d.of).1
+    ((failed, inr (in_demands.0, d, in_demands.1, in_demands.2, (refl, bare))), ([], refl))))
 first_uncaused p kept rows valid exact d in_demands failed nil unmet (w ∷ ws) is =
     let among : Contains d.any w = subst (λ ys. Contains ys w) (sym is) (0, omega arith, refl) in
-    let below : w < p.size = All-contains (λ y. y < p.size) d.any w (All-contains (IsDemand p.size) p.demands d valid.demands in_demands).any among in
+    let below : w < p.size = All-contains (λ y. y < p.size) d.any w
+    (All-contains (IsDemand p.size) p.demands d valid.demands in_demands).any among in
     let lead : LeadsTo p kept d.of w = (failed, (in_demands.0, d, in_demands.1, in_demands.2, (refl, unmet, among))) in
     (0, w, omega arith, refl, no_row (row_at rows w) refl below lead)
   where
@@ -145,31 +171,48 @@ first_uncaused p kept rows valid exact d in_demands failed nil unmet (w ∷ ws) 
         let cause = (exact w c).0 (subst (λ r. Contains r c) (sym full) (0, omega arith, refl)) in
         nil_has_none (row_at rows d.of) c nil ((exact d.of c).1 (cause.0, (w ∷ cause.1.0, (lead, cause.1.1)))))
 
-uncaused_served : (p : Problem) (kept : List Bool) (rows : List (Vec ℕ Global)) → IsProblem p → IsSelfSupporting p (holds kept) → ((x y : ℕ) → Contains (row_at rows x) y ↔ IsCauser p kept x y)
-    → (d : Demand) → Contains p.demands d → IsTrue (uncaused p kept rows d.of) → Any (λ y. IsTrue (uncaused p kept rows y)) d.any
+uncaused_served : (p : Problem) (kept : List Bool) (rows : List (Vec ℕ Global)) → IsProblem p
+    → IsSelfSupporting p (holds kept) → ((x y : ℕ) → Contains (row_at rows x) y ↔ IsCauser p kept x y)
+    → (d : Demand) → Contains p.demands d → IsTrue (uncaused p kept rows d.of)
+    → Any (λ y. IsTrue (uncaused p kept rows y)) d.any
 uncaused_served p kept rows valid supported exact d in_demands member =
     elim (cases_Bool (list_any (holds kept) d.any)) [
-      | inl some ↦ let a = Any-from_list_any (holds kept) d.any some in (a.0, a.1, a.2, a.3, from_kept p kept rows a.1 a.4)
+      | inl some ↦ let a = Any-from_list_any (holds kept) d.any some
+          in (a.0, a.1, a.2, a.3, from_kept p kept rows a.1 a.4)
       | inr none ↦
           let unmet = All-from_no_list_any (holds kept) d.any none in
           elim (cases_Bool (holds kept d.of)) [
-            | inl is_kept ↦ absurd (clash (holds kept) d.any (All-contains (λ e. IsTrue (holds kept e.of) → Any (λ y. IsTrue (holds kept y)) e.any) p.demands d supported.served in_demands is_kept) unmet)
+            | inl is_kept ↦ absurd (clash (holds kept) d.any
+                (All-contains (λ e. IsTrue (holds kept e.of) → Any (λ y. IsTrue (holds kept y)) e.any) p.demands d
+                supported.served in_demands is_kept) unmet)
             | inr out ↦
-                let both = and_parts (nat_lt d.of p.size) (is_nil (row_at rows d.of)) (subst (λ b. (b || (nat_lt d.of p.size && is_nil (row_at rows d.of))) ≡ true) out member) in
-                first_uncaused p kept rows valid exact d in_demands (ltb-true d.of p.size both.0, out) both.1 unmet d.any refl
+                let both = and_parts (nat_lt d.of p.size) (is_nil (row_at rows d.of))
+                (subst (λ b. (b || (nat_lt d.of p.size && is_nil (row_at rows d.of))) ≡ true) out member) in
+                first_uncaused p kept rows valid exact d in_demands (ltb-true d.of p.size both.0, out) both.1 unmet
+                d.any refl
           ]
     ]
 
-uncaused_supported : (p : Problem) (kept : List Bool) (rows : List (Vec ℕ Global)) → IsProblem p → IsSelfSupporting p (holds kept) → ((x y : ℕ) → Contains (row_at rows x) y ↔ IsCauser p kept x y) → IsSelfSupporting p (uncaused p kept rows)
+uncaused_supported : (p : Problem) (kept : List Bool) (rows : List (Vec ℕ Global)) → IsProblem p
+    → IsSelfSupporting p (holds kept) → ((x y : ℕ) → Contains (row_at rows x) y ↔ IsCauser p kept x y)
+    → IsSelfSupporting p (uncaused p kept rows)
 uncaused_supported p kept rows valid supported exact = record {
   eligible = uncaused_eligible p kept rows supported exact;
-  served = λ k e below member. uncaused_served p kept rows valid supported exact (get_or p.demands k e) (Contains-get_or p.demands k e below) member;
+  served = λ k e below member. uncaused_served p kept rows valid supported exact (get_or p.demands k e)
+      (Contains-get_or p.demands k e below) member;
 }
 
 -- where the kept set is the greatest, each failure has a cause
-pub has_causer : (p : Problem) (kept : List Bool) (rows : List (Vec ℕ Global)) → IsProblem p → ((x y : ℕ) → Contains (row_at rows x) y ↔ IsCauser p kept x y) → IsGreatest p kept → (x : ℕ) → HasFailed p kept x → (y : ℕ) × IsCauser p kept x y
+pub has_causer : (p : Problem) (kept : List Bool) (rows : List (Vec ℕ Global)) → IsProblem p
+    → ((x y : ℕ) → Contains (row_at rows x) y ↔ IsCauser p kept x y) → IsGreatest p kept → (x : ℕ) → HasFailed p kept x
+    → (y : ℕ) × IsCauser p kept x y
 has_causer p kept rows valid exact greatest x failed = row_has (row_at rows x) refl
   where
     row_has : (row : List ℕ) → row_at rows x ≡ row → (y : ℕ) × IsCauser p kept x y
     row_has (y ∷ ys) full = (y, (exact x y).0 (subst (λ r. Contains r y) (sym full) (0, omega arith, refl)))
-    row_has [] empty = absurd (cc (failed.1, greatest.greatest (uncaused p kept rows) (uncaused_supported p kept rows valid greatest.self_supporting exact) x (from_nil p kept rows x failed.0 (ap is_nil empty))))
+    row_has [] empty = absurd (cc (
+      failed.1,
+      greatest.greatest (uncaused p kept rows)
+          (uncaused_supported p kept rows valid greatest.self_supporting exact) x
+          (from_nil p kept rows x failed.0 (ap is_nil empty)),
+    ))

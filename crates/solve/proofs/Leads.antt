@@ -1,10 +1,12 @@
 -- Rows of what leads to each candidate, over the demands seen so far.
-use Rattle.std.proofs.Common.{◌≡◌, ◌<◌, ◌+◌, ℕ, Bool, true, false, List, [], ◌∷◌, ◌++◌, length, map, take, get_or, replicate, refl, sym, ◌∙◌, subst, ap, arith, inl, inr}
+use Rattle.std.proofs.Common.{◌≡◌, ◌<◌, ◌+◌, ℕ, Bool, true, false, List, [], ◌∷◌, ◌++◌, length, map, take, get_or}
+use Rattle.std.proofs.Common.{replicate, refl, sym, ◌∙◌, subst, ap, arith, inl, inr}
 use Rattle.std.specs.Prelude.{Vec, IsTrue, ◌↔◌}
 use Rattle.std.specs.declared.alloc.Global.{Global}
 use Rattle.std.specs.List.{All, Any, Contains}
 use Rattle.std.proofs.lemmas.List.{take_all, map_more}
-use Rattle.std.proofs.lemmas.List.Elements.{Contains-append_left, Contains-append_right, Contains-append_cases, Contains-get_or}
+use Rattle.std.proofs.lemmas.List.Elements.{Contains-append_left, Contains-append_right, Contains-append_cases}
+use Rattle.std.proofs.lemmas.List.Elements.{Contains-get_or}
 use Rattle.std.proofs.lemmas.List.Quantifiers.{Any-push}
 use Rattle.lemmas.proofs.Each.{Any-push_cases, Any-append_left}
 use Rattle.terms.specs.Problem.{Problem, Demand, holds}
@@ -15,9 +17,11 @@ use Rattle.solve.proofs.Times.{Contains-replicate, replicate-Contains, Contains-
 
 -- the rows have what leads by the seen demands
 abbrev pub AreLeadsBy : Problem → List Bool → List Demand → List (Vec ℕ Global) → Type 0
-AreLeadsBy p kept seen rows = (x y : ℕ) → Contains (row_at rows y) x ↔ (HasFailed p kept x × Any (LeadsBy kept x y) seen)
+AreLeadsBy p kept seen rows = (x y : ℕ) → Contains (row_at rows y) x ↔
+    (HasFailed p kept x × Any (LeadsBy kept x y) seen)
 
-pub leads-none : (p : Problem) (kept : List Bool) (rows : List (Vec ℕ Global)) → ((y : ℕ) → row_at rows y ≡ []) → AreLeadsBy p kept [] rows
+pub leads-none : (p : Problem) (kept : List Bool) (rows : List (Vec ℕ Global)) → ((y : ℕ) → row_at rows y ≡ [])
+    → AreLeadsBy p kept [] rows
 leads-none p kept rows empty x y = (
   λ c. absurd (omega (arith, (subst (λ row. Contains row x) (empty y) c).1)),
   λ led. absurd (omega (arith, led.1.2)),
@@ -25,7 +29,8 @@ leads-none p kept rows empty x y = (
 
 -- one more demand, through which nothing leads
 pub leads-skip : (p : Problem) (kept : List Bool) (seen : List Demand) (d : Demand) (rows : List (Vec ℕ Global))
-    → (HasFailed p kept d.of → All (λ z. holds kept z ≡ false) d.any → ⊥) → AreLeadsBy p kept seen rows → AreLeadsBy p kept (seen ++ d ∷ []) rows
+    → (HasFailed p kept d.of → All (λ z. holds kept z ≡ false) d.any → ⊥) → AreLeadsBy p kept seen rows
+    → AreLeadsBy p kept (seen ++ d ∷ []) rows
 leads-skip p kept seen d rows nothing so_far x y = (
   λ c. let led = (so_far x y).0 c in (led.0, Any-append_left (LeadsBy kept x y) seen (d ∷ []) led.1),
   λ led. elim (Any-push_cases (LeadsBy kept x y) seen d led.1) [
@@ -40,21 +45,28 @@ pub leads-add : (p : Problem) (kept : List Bool) (seen : List Demand) (d : Deman
     → ((y : ℕ) → row_at new y ≡ row_at old y ++ replicate (times y d.any) d.of)
     → AreLeadsBy p kept seen old → AreLeadsBy p kept (seen ++ d ∷ []) new
 leads-add p kept seen d old new failed unmet added so_far x y = (
-  λ c. elim (Contains-append_cases (row_at old y) (replicate (times y d.any) d.of) x (subst (λ row. Contains row x) (added y) c)) [
-    | inl before ↦ let led = (so_far x y).0 before in (led.0, Any-append_left (LeadsBy kept x y) seen (d ∷ []) led.1)
-    | inr here ↦
-        let is = Contains-replicate (times y d.any) d.of x here in
-        (subst (HasFailed p kept) (sym is.1) failed, Any-push (LeadsBy kept x y) seen d (sym is.1, unmet, Contains-from_times y d.any is.0))
-  ],
+  λ c. elim (Contains-append_cases (row_at old y) (replicate (times y d.any) d.of) x
+      (subst (λ row. Contains row x) (added y) c)) [
+        | inl before ↦ let led = (so_far x y).0 before in (led.0, Any-append_left (LeadsBy kept x y) seen (d ∷ []) led.1)
+        | inr here ↦
+            let is = Contains-replicate (times y d.any) d.of x here in (
+              subst (HasFailed p kept) (sym is.1) failed,
+              Any-push (LeadsBy kept x y) seen d
+                  (sym is.1, unmet, Contains-from_times y d.any is.0),
+            )
+      ],
   λ led. subst (λ row. Contains row x) (sym (added y)) (elim (Any-push_cases (LeadsBy kept x y) seen d led.1) [
-    | inl before ↦ Contains-append_left (row_at old y) (replicate (times y d.any) d.of) x ((so_far x y).1 (led.0, before))
+    | inl before ↦ Contains-append_left (row_at old y) (replicate (times y d.any) d.of) x
+        ((so_far x y).1 (led.0, before))
     | inr here ↦ Contains-append_right (row_at old y) (replicate (times y d.any) d.of) x
-        (subst (Contains (replicate (times y d.any) d.of)) here.0 (replicate-Contains (times y d.any) d.of (times-from_Contains y d.any here.2)))
+        (subst (Contains (replicate (times y d.any) d.of)) here.0
+        (replicate-Contains (times y d.any) d.of (times-from_Contains y d.any here.2)))
   ]),
 )
 
 -- what leads to a candidate is a candidate
-pub leads-small : (p : Problem) (kept : List Bool) (leads : List (Vec ℕ Global)) → AreLeads p kept leads → (z : ℕ) → All (λ x. x < length leads) (row_at leads z)
+pub leads-small : (p : Problem) (kept : List Bool) (leads : List (Vec ℕ Global)) → AreLeads p kept leads → (z : ℕ)
+    → All (λ x. x < length leads) (row_at leads z)
 leads-small p kept leads is z k d below =
     let lead = (is.exact (get_or (row_at leads z) k d) z).0 (Contains-get_or (row_at leads z) k d below) in
     omega (arith, is.size, lead.0.0)

@@ -1,5 +1,6 @@
 -- A search backwards from y, over plain lists.
-use Rattle.std.proofs.Common.{◌≡◌, ◌<◌, ◌≤◌, ◌+◌, ◌-◌, min, ℕ, Bool, true, false, cond, List, [], ◌∷◌, ◌++◌, length, take, get_or, set, refl, sym, ◌∙◌, subst, ap, arith, inl, inr}
+use Rattle.std.proofs.Common.{◌≡◌, ◌<◌, ◌≤◌, ◌+◌, ◌-◌, min, ℕ, Bool, true, false, cond, List, [], ◌∷◌, ◌++◌, length}
+use Rattle.std.proofs.Common.{take, get_or, set, refl, sym, ◌∙◌, subst, ap, arith, inl, inr}
 use Rattle.std.specs.Prelude.{IsTrue, Vec, ◌↔◌, ◌||◌}
 use Rattle.std.specs.declared.alloc.Global.{Global}
 use Rattle.std.specs.List.{All, Contains}
@@ -12,7 +13,8 @@ use Rattle.solve.specs.Parts.{count_of}
 use Rattle.solve.specs.Rows.{row_at, times, one_if}
 use Rattle.solve.specs.Marks.{AreLeads, AreClear, IsListOf, IsMarked, is_in}
 use Rattle.solve.proofs.Times.{times-push_same, times-push_other, Contains-from_is_in, is_in-from_Contains}
-use Rattle.solve.proofs.Marked.{holds-same, holds-other, count-mark, count-clear, below-marked, listed-marked, marked-listed}
+use Rattle.solve.proofs.Marked.{holds-same, holds-other, count-mark, count-clear, below-marked, listed-marked}
+use Rattle.solve.proofs.Marked.{marked-listed}
 
 -- all in the row are marked
 abbrev pub AllMarked : List Bool → List ℕ → Type 0
@@ -25,17 +27,21 @@ pub record IsSpread (leads : List (Vec ℕ Global)) (y : ℕ) (marks : List Bool
   pub count : length list ≡ count_of marks
   pub place : next ≤ length list
   pub start : IsTrue (holds marks y)
-  pub reach : (p : Problem) (kept : List Bool) → AreLeads p kept leads → (x : ℕ) → IsTrue (holds marks x) → Reaches p kept x y
+  pub reach : (p : Problem) (kept : List Bool) → AreLeads p kept leads → (x : ℕ) → IsTrue (holds marks x)
+      → Reaches p kept x y
   pub done : All (λ z. AllMarked marks (row_at leads z)) (take next list)
 
-pub spread-start : (leads : List (Vec ℕ Global)) (y : ℕ) (old : List Bool) → length old ≡ length leads → y < length leads → AreClear old → IsSpread leads y (set old y true) (y ∷ []) 0
+pub spread-start : (leads : List (Vec ℕ Global)) (y : ℕ) (old : List Bool) → length old ≡ length leads
+    → y < length leads → AreClear old → IsSpread leads y (set old y true) (y ∷ []) 0
 spread-start leads y old size below clear =
     let small : y < length old = omega (arith, size, below) in
     record {
       size = length-set_is old y ∙ size;
       listed = λ x. elim (cases_eq x y) [
-        | inl same ↦ times-push_same x [] y same ∙ one (holds (set old y true) x) (ap (holds (set old y true)) same ∙ holds-same old y true small)
-        | inr other ↦ times-push_other x [] y other ∙ none (holds (set old y true) x) (holds-other old y true x other ∙ clear x)
+        | inl same ↦ times-push_same x [] y same ∙ one (holds (set old y true) x)
+            (ap (holds (set old y true)) same ∙ holds-same old y true small)
+        | inr other ↦ times-push_other x [] y other ∙ none (holds (set old y true) x)
+            (holds-other old y true x other ∙ clear x)
       ];
       count = omega (arith, count-mark old y small (clear y), count-clear old clear);
       place = omega arith;
@@ -57,12 +63,15 @@ spread-start leads y old size below clear =
     none b h = ap one_if (sym h)
 
 -- the row of the next one listed is marked
-pub spread-more : (leads : List (Vec ℕ Global)) (y : ℕ) (marks new : List Bool) (list more : List ℕ) (next : ℕ) → next < length list → length new ≡ length marks
-    → IsMarked (row_at leads (get_or list next 0)) marks new list more → IsSpread leads y marks list next → IsSpread leads y new more (next + 1)
+pub spread-more : (leads : List (Vec ℕ Global)) (y : ℕ) (marks new : List Bool) (list more : List ℕ) (next : ℕ)
+    → next < length list → length new ≡ length marks
+    → IsMarked (row_at leads (get_or list next 0)) marks new list more → IsSpread leads y marks list next
+    → IsSpread leads y new more (next + 1)
 spread-more leads y marks new list more next below size marked so_far =
     let z = get_or list next 0 in
     let row = row_at leads z in
-    let stays : (x : ℕ) → IsTrue (holds marks x) → IsTrue (holds new x) = λ x h. marked.marks x ∙ ap (λ b. b || is_in row x) h in
+    let stays : (x : ℕ) → IsTrue (holds marks x) → IsTrue (holds new x) =
+    λ x h. marked.marks x ∙ ap (λ b. b || is_in row x) h in
     let within : Contains list z = Contains-get_or list next 0 below in
     let z_marked = listed-marked marks list so_far.listed z within in
     let front : take next more ≡ take next list =
@@ -85,24 +94,30 @@ spread-more leads y marks new list more next below size marked so_far =
       ];
       done = All-more (λ w. AllMarked new (row_at leads w)) more next 0 (omega (arith, long))
           (subst (All (λ w. AllMarked new (row_at leads w))) (sym front)
-          (All-weaker (λ w. AllMarked marks (row_at leads w)) (λ w. AllMarked new (row_at leads w)) (λ w all k d in_row. stays _ (all k d in_row)) (take next list) so_far.done))
+          (All-weaker (λ w. AllMarked marks (row_at leads w)) (λ w. AllMarked new (row_at leads w))
+          (λ w all k d in_row. stays _ (all k d in_row)) (take next list) so_far.done))
           (subst (λ w. AllMarked new (row_at leads w)) (sym here)
-          (λ k d in_row. marked.marks (get_or row k d) ∙ or_right (holds marks (get_or row k d)) (is_in row (get_or row k d)) (is_in-from_Contains row (get_or row k d) (Contains-get_or row k d in_row))));
+          (λ k d in_row. marked.marks (get_or row k d) ∙ or_right (holds marks (get_or row k d))
+          (is_in row (get_or row k d)) (is_in-from_Contains row (get_or row k d)
+          (Contains-get_or row k d in_row))));
     }
 
 -- the next one listed has a row
-pub spread-next : (leads : List (Vec ℕ Global)) (y : ℕ) (marks : List Bool) (list : List ℕ) (next : ℕ) → next < length list → IsSpread leads y marks list next → get_or list next 0 < length leads
+pub spread-next : (leads : List (Vec ℕ Global)) (y : ℕ) (marks : List Bool) (list : List ℕ) (next : ℕ)
+    → next < length list → IsSpread leads y marks list next → get_or list next 0 < length leads
 spread-next leads y marks list next below spread =
     let marked = listed-marked marks list spread.listed (get_or list next 0) (Contains-get_or list next 0 below) in
     omega (arith, spread.size, below-marked marks (get_or list next 0) marked)
 
-pub spread-within : (leads : List (Vec ℕ Global)) (y : ℕ) (marks : List Bool) (list : List ℕ) (next : ℕ) → IsSpread leads y marks list next → All (λ x. x < length leads) list
+pub spread-within : (leads : List (Vec ℕ Global)) (y : ℕ) (marks : List Bool) (list : List ℕ) (next : ℕ)
+    → IsSpread leads y marks list next → All (λ x. x < length leads) list
 spread-within leads y marks list next spread k d below =
     let marked = listed-marked marks list spread.listed (get_or list k d) (Contains-get_or list k d below) in
     omega (arith, spread.size, below-marked marks (get_or list k d) marked)
 
 -- where all listed ones are done, whatever reaches a marked one is marked
-marked-steps : (p : Problem) (kept : List Bool) (leads : List (Vec ℕ Global)) (marks : List Bool) → AreLeads p kept leads
+marked-steps : (p : Problem) (kept : List Bool) (leads : List (Vec ℕ Global)) (marks : List Bool)
+    → AreLeads p kept leads
     → ((z : ℕ) → IsTrue (holds marks z) → AllMarked marks (row_at leads z))
     → (x : ℕ) (steps : List ℕ) (y : ℕ) → Steps p kept x steps y → IsTrue (holds marks y) → IsTrue (holds marks x)
 marked-steps p kept leads marks is closed x [] y same marked = subst (λ n. IsTrue (holds marks n)) (sym same) marked
@@ -110,12 +125,15 @@ marked-steps p kept leads marks is closed x (z ∷ zs) y steps marked =
     let next = marked-steps p kept leads marks is closed z zs y steps.1 marked in
     All-contains (λ w. IsTrue (holds marks w)) (row_at leads z) x (closed z next) ((is.exact x z).1 steps.0)
 
-pub spread_exact : (leads : List (Vec ℕ Global)) (y : ℕ) (marks : List Bool) (list : List ℕ) (next : ℕ) → length list ≤ next → IsSpread leads y marks list next
+pub spread_exact : (leads : List (Vec ℕ Global)) (y : ℕ) (marks : List Bool) (list : List ℕ) (next : ℕ)
+    → length list ≤ next → IsSpread leads y marks list next
     → (p : Problem) (kept : List Bool) → AreLeads p kept leads → (x : ℕ) → Contains list x ↔ Reaches p kept x y
 spread_exact leads y marks list next end spread p kept is x =
     let closed : (z : ℕ) → IsTrue (holds marks z) → AllMarked marks (row_at leads z) = λ z marked.
     All-contains (λ w. AllMarked marks (row_at leads w)) list z
-    (subst (All (λ w. AllMarked marks (row_at leads w))) (take_all next list end) spread.done) (marked-listed marks list spread.listed z marked) in (
+    (subst (All (λ w. AllMarked marks (row_at leads w))) (take_all next list end) spread.done)
+    (marked-listed marks list spread.listed z marked) in (
       λ c. spread.reach p kept is x (listed-marked marks list spread.listed x c),
-      λ led. marked-listed marks list spread.listed x (marked-steps p kept leads marks is closed x led.0 y led.1 spread.start),
+      λ led. marked-listed marks list spread.listed x (marked-steps p kept leads marks is closed x led.0 y led.1
+          spread.start),
     )

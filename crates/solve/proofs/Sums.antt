@@ -1,5 +1,6 @@
 -- Sums over lists.
-use Rattle.std.proofs.Common.{◌≡◌, ◌<◌, ◌≤◌, ◌+◌, ◌*◌, ℕ, Bool, true, false, List, [], ◌∷◌, length, refl, sym, ◌∙◌, ap, arith, inl, inr}
+use Rattle.std.proofs.Common.{◌≡◌, ◌<◌, ◌≤◌, ◌+◌, ◌*◌, ℕ, Bool, true, false, List, [], ◌∷◌, length, refl, sym, ◌∙◌, ap}
+use Rattle.std.proofs.Common.{arith, inl, inr}
 use Rattle.std.specs.Prelude.{◌&&◌, ◌==◌, not, IsTrue, count_by}
 use Rattle.std.specs.List.{All, sum_by, slice_index_or}
 use Rattle.std.proofs.lemmas.List.Sums.{sum_by-cons, sum_by-le}
@@ -11,16 +12,26 @@ pub sum_by-same : {X : Type 0} (f g : X → ℕ) (xs : List X) → ((x : X) → 
 sum_by-same f g [] same = refl
 sum_by-same f g (x ∷ xs) same = omega (arith, sum_by-cons f x xs, sum_by-cons g x xs, same x, sum_by-same f g xs same)
 
-pub sum_by-split : {X : Type 0} (f g h : X → ℕ) (xs : List X) → ((x : X) → f x ≡ g x + h x) → sum_by f xs ≡ sum_by g xs + sum_by h xs
+pub sum_by-split : {X : Type 0} (f g h : X → ℕ) (xs : List X) → ((x : X) → f x ≡ g x + h x)
+    → sum_by f xs ≡ sum_by g xs + sum_by h xs
 sum_by-split f g h [] same = refl
-sum_by-split f g h (x ∷ xs) same = omega (arith, sum_by-cons f x xs, sum_by-cons g x xs, sum_by-cons h x xs, same x, sum_by-split f g h xs same)
+sum_by-split f g h (x ∷ xs) same = omega (
+  arith,
+  sum_by-cons f x xs,
+  sum_by-cons g x xs,
+  sum_by-cons h x xs,
+  same x,
+  sum_by-split f g h xs same,
+)
 
 -- the members of a set, and those of a part of it
-pub count-part : (whole part : ℕ → Bool) (xs : List ℕ) → ((x : ℕ) → IsTrue (part x) → IsTrue (whole x)) → count_by whole xs ≡ count_by (λ x. whole x && not (part x)) xs + count_by part xs
-count-part whole part xs within = sum_by-split (λ x. one_if (whole x)) (λ x. one_if (whole x && not (part x))) (λ x. one_if (part x)) xs (λ x. elim (cases_Bool (part x)) [
-  | inl inside ↦ yes_part (whole x) (part x) (within x inside) inside
-  | inr outside ↦ no_part (whole x) (part x) outside
-])
+pub count-part : (whole part : ℕ → Bool) (xs : List ℕ) → ((x : ℕ) → IsTrue (part x) → IsTrue (whole x))
+    → count_by whole xs ≡ count_by (λ x. whole x && not (part x)) xs + count_by part xs
+count-part whole part xs within = sum_by-split (λ x. one_if (whole x)) (λ x. one_if (whole x && not (part x)))
+    (λ x. one_if (part x)) xs (λ x. elim (cases_Bool (part x)) [
+      | inl inside ↦ yes_part (whole x) (part x) (within x inside) inside
+      | inr outside ↦ no_part (whole x) (part x) outside
+    ])
   where
     yes_part : (w b : Bool) → w ≡ true → b ≡ true → one_if w ≡ one_if (w && not b) + one_if b
     yes_part true true a h = refl
@@ -35,7 +46,8 @@ count-part whole part xs within = sum_by-split (λ x. one_if (whole x)) (λ x. o
 
 pub count-none : (test : ℕ → Bool) (xs : List ℕ) → All (λ x. test x ≡ false) xs → count_by test xs ≡ 0
 count-none test xs none =
-    let small = sum_by-le (λ x. one_if (test x)) 0 xs (λ k d below. zero_if (test (slice_index_or xs k d)) (none k d below)) in
+    let small = sum_by-le (λ x. one_if (test x)) 0 xs (λ k d below.
+    zero_if (test (slice_index_or xs k d)) (none k d below)) in
     omega (arith, small)
   where
     zero_if : (b : Bool) → b ≡ false → one_if b ≤ 0

@@ -1,5 +1,6 @@
 -- How often a number stands in a list, and whether.
-use Rattle.std.proofs.Common.{◌≡◌, ◌<◌, ◌≤◌, ◌+◌, ℕ, zero, suc, Bool, true, false, cond, List, [], ◌∷◌, ◌++◌, length, take, get_or, replicate, refl, sym, ◌∙◌, subst, ap, arith, inl, inr, eq-eqb}
+use Rattle.std.proofs.Common.{◌≡◌, ◌<◌, ◌≤◌, ◌+◌, ℕ, zero, suc, Bool, true, false, cond, List, [], ◌∷◌, ◌++◌, length}
+use Rattle.std.proofs.Common.{take, get_or, replicate, refl, sym, ◌∙◌, subst, ap, arith, inl, inr, eq-eqb}
 use Rattle.std.specs.Prelude.{◌==◌, ◌||◌}
 use Rattle.std.specs.List.{Any, Contains, list_any}
 use Rattle.std.proofs.lemmas.List.{length-replicate, get_or-replicate}
@@ -31,11 +32,14 @@ is_in-from_Contains list x c = list_any-from_Any (λ y. y == x) list (c.0, x, c.
 
 pub is_in-hit : (list : List ℕ) (i x : ℕ) → i < length list → x ≡ get_or list i 0 → is_in (take (i + 1) list) x ≡ true
 is_in-hit list i x below here =
-    list_any_more (λ y. y == x) list i 0 below ∙ or_right (is_in (take i list) x) (get_or list i 0 == x) (eq-eqb (get_or list i 0) x (sym here))
+    list_any_more (λ y. y == x) list i 0 below ∙ or_right (is_in (take i list) x) (get_or list i 0 == x)
+    (eq-eqb (get_or list i 0) x (sym here))
 
-pub is_in-miss : (list : List ℕ) (i x : ℕ) → i < length list → (x ≡ get_or list i 0 → ⊥) → is_in (take (i + 1) list) x ≡ is_in (take i list) x
+pub is_in-miss : (list : List ℕ) (i x : ℕ) → i < length list → (x ≡ get_or list i 0 → ⊥)
+    → is_in (take (i + 1) list) x ≡ is_in (take i list) x
 is_in-miss list i x below other =
-    list_any_more (λ y. y == x) list i 0 below ∙ or_false (is_in (take i list) x) (get_or list i 0 == x) (eqb-other (get_or list i 0) x (λ same. other (sym same)))
+    list_any_more (λ y. y == x) list i 0 below ∙ or_false (is_in (take i list) x) (get_or list i 0 == x)
+    (eqb-other (get_or list i 0) x (λ same. other (sym same)))
 
 pub times-push_same : (x : ℕ) (list : List ℕ) (y : ℕ) → x ≡ y → times x (list ++ y ∷ []) ≡ times x list + 1
 times-push_same x list y same =

@@ -1,5 +1,6 @@
 -- A search for the greatest set that counts, for each demand, its living members.
-use Rattle.std.specs.Prelude.{◌≡◌, ◌<◌, ◌≤◌, ◌+◌, ℕ, Bool, false, List, [], map, length, All, IsTrue, Vec, count_by, sum}
+use Rattle.std.specs.Prelude.{◌≡◌, ◌<◌, ◌≤◌, ◌+◌, ℕ, Bool, false, List, [], map, length, All, IsTrue, Vec, count_by}
+use Rattle.std.specs.Prelude.{sum}
 use Rattle.std.specs.List.{slice_index_or, sum_by}
 use Rattle.std.specs.declared.alloc.Global.{Global}
 use Rattle.terms.specs.Problem.{Problem, Demand, holds}
@@ -24,7 +25,8 @@ abbrev pub weight : List Bool → List ℕ → ℕ → ℕ
 weight standing dropped x = one_if (holds standing x) + times x dropped
 
 -- x does not stand any more, and waits for its strikes if it stood
-pub record IsDrop (x : ℕ) (standing : List Bool) (dropped : List ℕ) (standing' : List Bool) (dropped' : List ℕ) : Type 0 where
+pub record IsDrop (x : ℕ) (standing : List Bool) (dropped : List ℕ) (standing' : List Bool) (dropped' : List ℕ) :
+    Type 0 where
   pub size : length standing' ≡ length standing
   pub out : holds standing' x ≡ false
   pub others : (y : ℕ) → (y ≡ x → ⊥) → holds standing' y ≡ holds standing y
@@ -33,7 +35,8 @@ pub record IsDrop (x : ℕ) (standing : List Bool) (dropped : List ℕ) (standin
   pub members : (n : ℕ) → x < n → All (λ y. y < n) dropped → All (λ y. y < n) dropped'
 
 -- The strikes still due are on these demands. Of a settled demand with no living member the candidate does not stand.
-pub record IsSearch (p : Problem) (due : List ℕ) (settled : ℕ → Type 0) (standing : List Bool) (living dropped : List ℕ) (strikes room : ℕ) : Type 0 where
+pub record IsSearch (p : Problem) (due : List ℕ) (settled : ℕ → Type 0) (standing : List Bool) (living dropped : List ℕ)
+    (strikes room : ℕ) : Type 0 where
   pub size : length standing ≡ p.size
   pub needs : length living ≡ length p.demands
   pub members : All (λ x. x < p.size) dropped
@@ -41,17 +44,21 @@ pub record IsSearch (p : Problem) (due : List ℕ) (settled : ℕ → Type 0) (s
   pub fits : p.size ≤ room
   pub every : HasEvery p standing
   pub within : IsWithin standing p.eligible
-  pub counts : (k : ℕ) → k < length p.demands → slice_index_or living k 0 ≡ sum_by (weight standing dropped) (demand_at p.demands k).any + times k due
-  pub bare : (k : ℕ) → k < length p.demands → settled k → slice_index_or living k 0 ≡ 0 → holds standing (demand_at p.demands k).of ≡ false
+  pub counts : (k : ℕ) → k < length p.demands → slice_index_or living k 0 ≡ sum_by (weight standing dropped)
+      (demand_at p.demands k).any + times k due
+  pub bare : (k : ℕ) → k < length p.demands → settled k → slice_index_or living k 0 ≡ 0
+      → holds standing (demand_at p.demands k).of ≡ false
   pub struck : strikes + sum living ≡ sum_by (eligible_in p) p.demands
 
 -- all demands are settled
 abbrev pub AtRest : Problem → List ℕ → Board → Type 0
-AtRest p due b = IsSearch p due (λ k. Unit {0}) b.standing.items b.living.items b.dropped.items b.count.strikes b.dropped.cap
+AtRest p due b = IsSearch p due (λ k. Unit {0}) b.standing.items b.living.items b.dropped.items b.count.strikes
+    b.dropped.cap
 
 -- the demands below k are settled
 abbrev pub SettledBelow : Problem → ℕ → Board → Type 0
-SettledBelow p k b = IsSearch p [] (λ j. j < k) b.standing.items b.living.items b.dropped.items b.count.strikes b.dropped.cap
+SettledBelow p k b = IsSearch p [] (λ j. j < k) b.standing.items b.living.items b.dropped.items b.count.strikes
+    b.dropped.cap
 
 -- how many candidates stand or wait for their strikes
 abbrev pub open_in : Board → ℕ

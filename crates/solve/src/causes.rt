@@ -1,4 +1,5 @@
-ghost use Rattle.std.specs.Prelude.{◌≡◌, ◌<◌, ◌↔◌, ◌≤◌, ◌&&◌, ℕ, List, Bool, false, not, IfOk, OnOk, IsTrue, length, All, AllPairs, Contains};
+ghost use Rattle.std.specs.Prelude.{◌≡◌, ◌<◌, ◌↔◌, ◌≤◌, ◌&&◌, ℕ, List, Bool, false, not, IfOk, OnOk, IsTrue, length};
+ghost use Rattle.std.specs.Prelude.{All, AllPairs, Contains};
 ghost use Rattle.terms.specs.Problem.{Problem, AreKept, holds};
 ghost use Rattle.terms.specs.Causes.{HasFailed, HasBareNeed, IsRoot, IsCauser, Reaches};
 ghost use Rattle.solve.specs.Rows.{row_at, times};

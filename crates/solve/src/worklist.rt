@@ -1,4 +1,5 @@
-ghost use Rattle.std.specs.Prelude.{◌≡◌, ◌<◌, ◌≤◌, ◌+◌, ◌*◌, ◌^◌, ◌∷◌, [], ℕ, List, IfOk, IsTrue, length, map, All, count_by};
+ghost use Rattle.std.specs.Prelude.{◌≡◌, ◌<◌, ◌≤◌, ◌+◌, ◌*◌, ◌^◌, ◌∷◌, [], ℕ, List, IfOk, IsTrue, length, map, All};
+ghost use Rattle.std.specs.Prelude.{count_by};
 ghost use Rattle.terms.specs.Problem.{AreKept, holds, pairs_of, strikes_of, most_turns};
 ghost use Rattle.solve.specs.Rows.{row_at};
 ghost use Rattle.solve.specs.Board.{AreServed, AtRest, SettledBelow, IsDrop, open_in, eligible_in};
@@ -45,7 +46,8 @@ impl Board {
     fn drop_candidate(&mut self, x: u32)
         requires x { x < length self.old.standing.items }
         requires room { open_in self.old ≤ self.old.dropped.cap }
-        ensures drop { IsDrop x self.old.standing.items self.old.dropped.items self.new.standing.items self.new.dropped.items }
+        ensures drop { IsDrop x self.old.standing.items self.old.dropped.items self.new.standing.items
+            self.new.dropped.items }
         ensures room { self.new.dropped.cap ≡ self.old.dropped.cap }
         ensures living { self.new.living ≡ self.old.living }
         ensures count { self.new.count ≡ self.old.count }
@@ -131,7 +133,8 @@ impl Board {
 fn prepare(alloc: Global, s: &System) -> Result<(Board, Vec<Vec<usize>>), AllocError>
     ensures board { IfOk result (λ r. SettledBelow s.now 0 r.0) }
     ensures strikes { IfOk result (λ r. r.0.count.strikes ≡ 0) }
-    ensures turns { IfOk result (λ r. r.0.count.turns ≡ s.now.size + length s.now.demands + 2 * pairs_of s.now.demands) }
+    ensures turns { IfOk result (λ r. r.0.count.turns ≡ s.now.size + length s.now.demands + 2 * pairs_of
+        s.now.demands) }
     ensures served { IfOk result (λ r. AreServed s.now.demands r.1.items) }
     ensures size { IfOk result (λ r. length r.1.items ≡ s.now.size) }
     ensures few { IfOk result (λ r. pairs_of s.now.demands < 2 ^ 96) }

@@ -8,7 +8,8 @@ ghost use Rattle.terms.specs.declared.kinds.HoldKind.{HoldKind};
 ghost use Rattle.terms.specs.declared.kinds.ElemType.{ElemType};
 ghost use Rattle.terms.specs.declared.kinds.ZoneKind.{ZoneKind};
 ghost use Rattle.terms.specs.declared.codes.CommandWord.{CommandWord};
-ghost use Rattle.terms.specs.Spelling.{kind_text, hold_text, type_text, zone_kind_text, mc_text, cn_text, word_text, test_text, need_text, refusal_text};
+ghost use Rattle.terms.specs.Spelling.{kind_text, hold_text, type_text, zone_kind_text, mc_text, cn_text, word_text};
+ghost use Rattle.terms.specs.Spelling.{test_text, need_text, refusal_text};
 
 use terms::{
     CnCode, CommandWord, ElemType, HoldKind, IdRefusal, Kind, McCode, NeedKind, Test, ZoneKind,

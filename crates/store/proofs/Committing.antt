@@ -28,44 +28,60 @@ use Rattle.store.specs.Writes.{HasEdited, Writes, HasCommitted, IsOutcome}
 use Rattle.store.proofs.DeltaLemmas.{is_edited, zone_was}
 
 module _ {S : Type 0} (g : Ghosts S) (old new : Held S) where
-  pub zone_written : (name : Text) (kind : ZoneKind) (srel : Text) (related : Option Text) → AddsZone g old new (empty_zone name kind srel related) → Writes g old (NewZone name kind srel related) new
+  pub zone_written : (name : Text) (kind : ZoneKind) (srel : Text) (related : Option Text)
+      → AddsZone g old new (empty_zone name kind srel related) → Writes g old (NewZone name kind srel related) new
   zone_written name kind srel related adds i j added inventory clean contents =
-      let was : i ≡ record { global = i.global; zones = added.before ++ added.after } = ap (λ zs. record { global = i.global; zones = zs }) added.was in
+      let was : i ≡ record { global = i.global; zones = added.before ++ added.after } =
+      ap (λ zs. record { global = i.global; zones = zs }) added.was in
       subst (λ (k : Inventory). HasContents store_schema (rows_of k) (state g new).now) (sym added.is)
-      (adds i.global added.before added.after clean (subst (λ (k : Inventory). HasContents store_schema (rows_of k) (state g old).now) was contents))
+      (adds i.global added.before added.after clean (subst (λ (k : Inventory).
+      HasContents store_schema (rows_of k) (state g old).now) was contents))
 
-  pub delta_written : (name : Text) (delta : ZoneDelta) → IsDelta delta → ChangesZone g old new name (HasEdited delta) → Writes g old (Zone name delta) new
+  pub delta_written : (name : Text) (delta : ZoneDelta) → IsDelta delta → ChangesZone g old new name (HasEdited delta)
+      → Writes g old (Zone name delta) new
   delta_written name delta is_delta changes i j made inventory =
-      changes i j made.0 made.1 made.2 (is_edited delta made.0 made.1 is_delta (zone_was name made.0 made.1 i j inventory made.2) made.3)
+      changes i j made.0 made.1 made.2 (is_edited delta made.0 made.1 is_delta
+      (zone_was name made.0 made.1 i j inventory made.2) made.3)
 
-  pub edits_written : (edits : Vec GlobalEdit AnyGlobal) → ChangesGlobal g old new (EachFits edits.items) (after_edits edits.items) → Writes g old (Global edits) new
+  pub edits_written : (edits : Vec GlobalEdit AnyGlobal) → ChangesGlobal g old new (EachFits edits.items)
+      (after_edits edits.items) → Writes g old (Global edits) new
   edits_written edits changes i j makes inventory clean was =
-      subst (λ (k : Inventory). HasContents store_schema (rows_of k) (state g new).now) (sym makes.1) (changes i makes.0 clean was)
+      subst (λ (k : Inventory). HasContents store_schema (rows_of k) (state g new).now) (sym makes.1)
+      (changes i makes.0 clean was)
 
 -- `old` outside a transaction, `last` at its end, and `done` after the commit
-module _ {S : Type 0} (g : Ghosts S) (old last done : Held S) (change : Change) (settled : IsTrue (state g old).is_open → (state g old).now ≡ (state g old).committed)
-    (inside : StaysInside g (record old { in_transaction = true }) last) (written : Writes g (record old { in_transaction = true }) change last) where
-  made : (i j : Inventory) → Makes change i j → IsInventory j → HasCleanDisk (state g last) → IsTrue (state g old).is_open → StandsFor i (state g old).committed → StandsFor j (state g last).now
+module _ {S : Type 0} (g : Ghosts S) (old last done : Held S) (change : Change)
+    (settled : IsTrue (state g old).is_open → (state g old).now ≡ (state g old).committed)
+    (inside : StaysInside g (record old { in_transaction = true }) last)
+    (written : Writes g (record old { in_transaction = true }) change last) where
+  made : (i j : Inventory) → Makes change i j → IsInventory j → HasCleanDisk (state g last)
+      → IsTrue (state g old).is_open → StandsFor i (state g old).committed → StandsFor j (state g last).now
   made i j makes inventory clean is_open stands =
-      let was : StandsFor i (state g old).now = subst (λ (db : Database). StandsFor i db) (sym (settled is_open)) stands in
+      let was : StandsFor i (state g old).now = subst (λ (db : Database). StandsFor i db) (sym (settled is_open)) stands
+      in
       record { tables = written i j makes was.inventory clean was.tables; inventory = inventory }
 
-  pub crashed : Survives (state g last) (state g done) (λ db. db ≡ (state g last).now.trees) → Survives (state g old) (state g done) (IsOutcome g old change)
+  pub crashed : Survives (state g last) (state g done) (λ db. db ≡ (state g last).now.trees)
+      → Survives (state g old) (state g done) (IsOutcome g old change)
   crashed commit =
-      survives_then (state g old) (state g last) (state g done) (λ _. ⊥) _ (IsOutcome g old change) (λ _ db none. absurd none)
+      survives_then (state g old) (state g last) (state g done) (λ _. ⊥) _ (IsOutcome g old change)
+      (λ _ db none. absurd none)
       (λ clean db is. (
         last.schema,
         λ i j makes inventory is_open stands.
-            subst (λ (trees : Trees). StandsFor j (record { schema = last.schema; trees = trees })) (sym is) (made i j makes inventory (omega (arith, commit.clean)) is_open stands),
+            subst (λ (trees : Trees). StandsFor j (record { schema = last.schema; trees = trees })) (sym is)
+            (made i j makes inventory (omega (arith, commit.clean)) is_open stands),
       ))
       (survives_begin g old (state g last) (λ _. ⊥) inside.survives) commit
 
-  pub committed : doubt (state g last).is_clean ≤ doubt (state g done).is_clean → HasCleanDisk (state g done) → Shows (state g last) (state g done) (state g last).now (state g last).now false → HasCommitted g old change done
+  pub committed : doubt (state g last).is_clean ≤ doubt (state g done).is_clean → HasCleanDisk (state g done)
+      → Shows (state g last) (state g done) (state g last).now (state g last).now false → HasCommitted g old change done
   committed falls late shows =
       let clean : HasCleanDisk (state g last) = omega (arith, falls, late) in
       let was_open = (inside.kept clean).was_open shows.was_open in
       record {
         was_open = was_open;
         is_open = shows.is_open;
-        stands = λ i j makes inventory stands. subst (λ (db : Database). StandsFor j db) (sym shows.committed_is) (made i j makes inventory clean was_open stands);
+        stands = λ i j makes inventory stands. subst (λ (db : Database). StandsFor j db) (sym shows.committed_is)
+            (made i j makes inventory clean was_open stands);
       }

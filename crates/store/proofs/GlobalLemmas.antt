@@ -1,5 +1,6 @@
 -- The edits of the global zone, one after the other, and what they make of the inventory.
-use Rattle.std.proofs.Common.{◌≡◌, ℕ, ◌+◌, ◌<◌, ◌==◌, take, length, get_or, Bool, not, List, ◌∷◌, map, IsPermutation, refl, sym, ap, ap₂, subst, ◌∙◌}
+use Rattle.std.proofs.Common.{◌≡◌, ℕ, ◌+◌, ◌<◌, ◌==◌, take, length, get_or, Bool, not, List, ◌∷◌, map, IsPermutation}
+use Rattle.std.proofs.Common.{refl, sym, ap, ap₂, subst, ◌∙◌}
 use Rattle.std.specs.Prelude.{filter}
 use Rattle.std.specs.declared.cmp.Ordering.{Ordering}
 use Rattle.std.specs.declared.cmp.Ordering.TheVariants.{Less, Equal, Greater}
@@ -50,9 +51,11 @@ kinds_alike User Error = refl
 kinds_alike User System = refl
 kinds_alike User User = refl
 
-hold_meets : (x : Id) (kind : HoldKind) (reason : Text) (h : Hold) → has_key (key_row x kind reason) (hold_row h) ≡ rule.has_key x kind reason h
+hold_meets : (x : Id) (kind : HoldKind) (reason : Text) (h : Hold)
+    → has_key (key_row x kind reason) (hold_row h) ≡ rule.has_key x kind reason h
 hold_meets x kind reason h =
-    ap₂ ◌&&◌ (equals h.id x) (ap₂ ◌&&◌ (equals (hold_text h.kind) (hold_text kind) ∙ kinds_alike h.kind kind) (and_true _ ∙ equals h.reason reason))
+    ap₂ ◌&&◌ (equals h.id x) (ap₂ ◌&&◌ (equals (hold_text h.kind) (hold_text kind) ∙ kinds_alike h.kind kind)
+    (and_true _ ∙ equals h.reason reason))
     ∙ and_assoc (bytes_eq h.id x) (hold_number h.kind == hold_number kind) (bytes_eq h.reason reason)
 
 same_key : Hold → Hold → Bool
@@ -65,51 +68,97 @@ eq_back Greater = refl
 
 hold_ties : (a b : Hold) → same_key a b ≡ is_eq (hold_cmp a b)
 unfolding same_key
-hold_ties a b = sym (has_key-ties b.id b.kind b.reason a) ∙ eq_back (hold_cmp b a) ∙ ap is_eq (sym (hold_cmp_total.antisymm a b))
+hold_ties a b = sym (has_key-ties b.id b.kind b.reason a) ∙ eq_back (hold_cmp b a)
+    ∙ ap is_eq (sym (hold_cmp_total.antisymm a b))
 
 -- ---- the rows of holds
 
-others : (x : Id) (kind : HoldKind) (reason : Text) (holds : List Hold) → map hold_row (filter (λ h. not (rule.has_key x kind reason h)) holds) ≡ without (key_row x kind reason) (map hold_row holds)
+others : (x : Id) (kind : HoldKind) (reason : Text) (holds : List Hold)
+    → map hold_row (filter (λ h. not (rule.has_key x kind reason h)) holds) ≡ without (key_row x kind reason)
+    (map hold_row holds)
 others x kind reason holds =
     let key = key_row x kind reason in
-    ap (map hold_row) (filter_same _ _ holds (λ h there. ap not (sym (hold_meets x kind reason h)))) ∙ sym (filter-map (λ r. not (has_key key r)) hold_row holds)
+    ap (map hold_row) (filter_same _ _ holds (λ h there. ap not (sym (hold_meets x kind reason h))))
+    ∙ sym (filter-map (λ r. not (has_key key r)) hold_row holds)
 
-put_rows : (h : Hold) (holds : List Hold) → IsPermutation (map hold_row (with_item hold_cmp (λ (o : Hold). o) holds h)) (hold_row h ∷ without (hold_key h) (map hold_row holds))
+put_rows : (h : Hold) (holds : List Hold) → IsPermutation (map hold_row (with_item hold_cmp (λ (o : Hold). o) holds h))
+    (hold_row h ∷ without (hold_key h) (map hold_row holds))
 unfolding same_key
 put_rows h holds =
-    subst (λ rows. IsPermutation (map hold_row (with_item hold_cmp (λ (o : Hold). o) holds h)) (hold_row h ∷ rows)) (others h.id h.kind h.reason holds)
+    subst (λ rows. IsPermutation (map hold_row (with_item hold_cmp (λ (o : Hold). o) holds h)) (hold_row h ∷ rows))
+    (others h.id h.kind h.reason holds)
     (IsPermutation-map hold_row _ _ (put_parts hold_cmp_total (λ (o : Hold). o) same_key hold_ties h holds))
 
-left_rows : (x : Id) (kind : HoldKind) (reason : Text) (holds : List Hold) → IsPermutation (map hold_row (filter (λ h. not (rule.has_key x kind reason h)) holds)) (without (key_row x kind reason) (map hold_row holds))
+left_rows : (x : Id) (kind : HoldKind) (reason : Text) (holds : List Hold)
+    → IsPermutation (map hold_row (filter (λ h. not (rule.has_key x kind reason h)) holds))
+    (without (key_row x kind reason) (map hold_row holds))
 left_rows x kind reason holds =
-    subst (IsPermutation (map hold_row (filter (λ h. not (rule.has_key x kind reason h)) holds))) (others x kind reason holds) (IsPermutation-refl _)
+    subst (IsPermutation (map hold_row (filter (λ h. not (rule.has_key x kind reason h)) holds)))
+    (others x kind reason holds) (IsPermutation-refl _)
 
 module _ {S : Type 0} (g : Ghosts S) (old new : Held S) where
   pub hold_put : (h : Hold) → Turns g old new (HasContents store_schema) (with_put hold_table (hold_key h) (hold_row h))
       → ChangesGlobal g old new (λ global. Fits global (PutHold h)) (λ global. after_edit global (PutHold h))
   hold_put h turns i fits clean was =
-      permuted store_schema (with_put hold_table (hold_key h) (hold_row h) (rows_of i)) (rows_of (record i { global = with_hold h i.global })) (state g new).now
-      (IsPermutation-refl _, (IsPermutation-refl _, (IsPermutation-refl _, (IsPermutation-refl _, (put_rows h i.global.holds, (IsPermutation-refl _, (IsPermutation-refl _, (IsPermutation-refl _, (IsPermutation-refl _, tt)))))))))
+      permuted store_schema (with_put hold_table (hold_key h) (hold_row h) (rows_of i))
+      (rows_of (record i { global = with_hold h i.global })) (state g new).now (
+        IsPermutation-refl _,
+        (
+          IsPermutation-refl _,
+          (
+            IsPermutation-refl _,
+            (
+              IsPermutation-refl _,
+              (
+                put_rows h i.global.holds,
+                (IsPermutation-refl _, (IsPermutation-refl _, (IsPermutation-refl _, (IsPermutation-refl _, tt)))),
+              ),
+            ),
+          ),
+        ),
+      )
       (turns clean (rows_of i) was)
 
-  pub hold_removed : (x : Id) (kind : HoldKind) (reason : Text) → Turns g old new (HasContents store_schema) (in_table hold_table (without (key_row x kind reason)))
-      → ChangesGlobal g old new (λ global. Fits global (RemoveHold x kind reason)) (λ global. after_edit global (RemoveHold x kind reason))
+  pub hold_removed : (x : Id) (kind : HoldKind) (reason : Text)
+      → Turns g old new (HasContents store_schema) (in_table hold_table (without (key_row x kind reason)))
+      → ChangesGlobal g old new (λ global. Fits global (RemoveHold x kind reason))
+      (λ global. after_edit global (RemoveHold x kind reason))
   hold_removed x kind reason turns i fits clean was =
-      permuted store_schema (in_table hold_table (without (key_row x kind reason)) (rows_of i)) (rows_of (record i { global = less_hold x kind reason i.global })) (state g new).now
-      (IsPermutation-refl _, (IsPermutation-refl _, (IsPermutation-refl _, (IsPermutation-refl _, (left_rows x kind reason i.global.holds, (IsPermutation-refl _, (IsPermutation-refl _, (IsPermutation-refl _, (IsPermutation-refl _, tt)))))))))
+      permuted store_schema (in_table hold_table (without (key_row x kind reason)) (rows_of i))
+      (rows_of (record i { global = less_hold x kind reason i.global })) (state g new).now (
+        IsPermutation-refl _,
+        (
+          IsPermutation-refl _,
+          (
+            IsPermutation-refl _,
+            (
+              IsPermutation-refl _,
+              (
+                left_rows x kind reason i.global.holds,
+                (IsPermutation-refl _, (IsPermutation-refl _, (IsPermutation-refl _, (IsPermutation-refl _, tt)))),
+              ),
+            ),
+          ),
+        ),
+      )
       (turns clean (rows_of i) was)
 
 -- ---- the loop, of which the next edit is made
 
-pub edits_go_on : {S : Type 0} (g : Ghosts S) (a b c : Held S) (edits : List GlobalEdit) (k : ℕ) (edit : GlobalEdit) → k < length edits → edit ≡ get_or edits k edit → StaysInside g b c
-    → ChangesGlobal g a b (EachFits edits) (after_edits (take k edits)) → ChangesGlobal g b c (λ global. Fits global edit) (λ global. after_edit global edit)
+pub edits_go_on : {S : Type 0} (g : Ghosts S) (a b c : Held S) (edits : List GlobalEdit) (k : ℕ) (edit : GlobalEdit)
+    → k < length edits → edit ≡ get_or edits k edit → StaysInside g b c
+    → ChangesGlobal g a b (EachFits edits) (after_edits (take k edits))
+    → ChangesGlobal g b c (λ global. Fits global edit) (λ global. after_edit global edit)
     → ChangesGlobal g a c (EachFits edits) (after_edits (take (k + 1) edits))
 edits_go_on g a b c edits k edit within at inside one two i fits =
     let mid : Inventory = record i { global = after_edits (take k edits) i.global } in
     let more : after_edits (take (k + 1) edits) i.global ≡ after_edit (after_edits (take k edits) i.global) edit =
-    fold_more after_edit i.global edits k edit within ∙ ap (after_edit (after_edits (take k edits) i.global)) (sym at) in
+    fold_more after_edit i.global edits k edit within ∙ ap (after_edit (after_edits (take k edits) i.global)) (sym at)
+    in
     let next : Inventory = record i { global = after_edit (after_edits (take k edits) i.global) edit } in
     let last : Inventory = record i { global = after_edits (take (k + 1) edits) i.global } in
     let same : next ≡ last = ap (λ global. record i { global = global }) (sym more) in
-    subst (λ (j : Inventory). Leads g a c (HasContents store_schema (rows_of i)) (HasContents store_schema (rows_of j))) same
-    (leads_then g a b c (HasContents store_schema (rows_of i)) (HasContents store_schema (rows_of mid)) (HasContents store_schema (rows_of next)) inside (one i fits) (two mid (fits k edit within at)))
+    subst (λ (j : Inventory). Leads g a c (HasContents store_schema (rows_of i)) (HasContents store_schema (rows_of j)))
+    same
+    (leads_then g a b c (HasContents store_schema (rows_of i)) (HasContents store_schema (rows_of mid))
+    (HasContents store_schema (rows_of next)) inside (one i fits) (two mid (fits k edit within at)))

@@ -12,24 +12,29 @@ use Rattle.store.specs.Kept.{kept, Keeps, Stays}
 use Rattle.store.specs.View.{Tables, TablesIfOpen, Leaves}
 
 -- what is kept is an inventory
-pub inventory-kept : {S : Type 0} (g : Ghosts S) (at : Held S) (s : State) → Keeps g at s → HasCleanDisk (state g at) → IsInventory (kept s)
+pub inventory-kept : {S : Type 0} (g : Ghosts S) (at : Held S) (s : State) → Keeps g at s → HasCleanDisk (state g at)
+    → IsInventory (kept s)
 inventory-kept g at s keeps clean = (keeps.now clean).1.inventory
 
 module _ {S : Type 0} (g : Ghosts S) (old new : Held S) (s : State) (keeps : Keeps g old s) where
   -- what was loaded
-  pub keeps-loaded : (Tables g old (kept s) → Tables g new (kept s)) → ((c : Inventory) → Leaves g new c → Leaves g old c) → Keeps g new s
+  pub keeps-loaded : (Tables g old (kept s) → Tables g new (kept s))
+      → ((c : Inventory) → Leaves g new c → Leaves g old c) → Keeps g new s
   keeps-loaded same crash = record { now = same keeps.now; crash = λ c left. keeps.crash c (crash c left) }
 
   -- a load that failed
-  pub stays-loaded : (a : Act) → (Tables g old (kept s) → TablesIfOpen g new (kept s)) → ((c : Inventory) → Leaves g new c → Leaves g old c) → Stays g new s a
+  pub stays-loaded : (a : Act) → (Tables g old (kept s) → TablesIfOpen g new (kept s))
+      → ((c : Inventory) → Leaves g new c → Leaves g old c) → Stays g new s a
   stays-loaded a err crash = record { now = err keeps.now; crash = λ c left. inl (keeps.crash c (crash c left)) }
 
   -- a commit, after which the tables stand for t
-  pub keeps-committed : (t : State) → (Tables g old (kept s) → Tables g new (kept t)) → (Tables g old (kept s) → (c : Inventory) → Leaves g new c → kept t ≡ c) → Keeps g new t
+  pub keeps-committed : (t : State) → (Tables g old (kept s) → Tables g new (kept t))
+      → (Tables g old (kept s) → (c : Inventory) → Leaves g new c → kept t ≡ c) → Keeps g new t
   keeps-committed t ok durable = record { now = ok keeps.now; crash = λ c left. sym (durable keeps.now c left) }
 
   -- a commit that failed, of what the act leads to
-  pub stays-uncommitted : (t : State) (a : Act) (text : List ℕ) → Prints s a t text → (Tables g old (kept s) → TablesIfOpen g new (kept s))
+  pub stays-uncommitted : (t : State) (a : Act) (text : List ℕ) → Prints s a t text
+      → (Tables g old (kept s) → TablesIfOpen g new (kept s))
       → (Tables g old (kept s) → (c : Inventory) → Leaves g new c → Leaves g old c ⊎ (kept t ≡ c)) → Stays g new s a
   stays-uncommitted t a text prints err crash = record {
     now = err keeps.now;

@@ -12,19 +12,24 @@ use Rattle.store.specs.View.{Tables, Leaves}
 use Rattle.store.specs.Writes.{HasCommitted, IsOutcome}
 
 -- A crash of an open connection leaves what was last committed.
-pub leaves_committed : {S : Type 0} (g : Ghosts S) (at : Held S) → ((db : Trees) → IsTrue (state g at).is_open → (state g at).may_leave db → db ≡ (state g at).committed.trees)
-    → IsTrue (state g at).is_open → (i : Inventory) → StandsFor i (state g at).committed → (c : Inventory) → Leaves g at c → i ≡ c
+pub leaves_committed : {S : Type 0} (g : Ghosts S) (at : Held S)
+    → ((db : Trees) → IsTrue (state g at).is_open → (state g at).may_leave db → db ≡ (state g at).committed.trees)
+    → IsTrue (state g at).is_open → (i : Inventory) → StandsFor i (state g at).committed → (c : Inventory)
+    → Leaves g at c → i ≡ c
 leaves_committed g at settled is_open i stands c left =
     let db = left.1.0 in
     let e : db ≡ (state g at).committed.trees = settled db is_open left.1.1 in
-    left.1.2 (state g at).committed.schema i (subst (λ trees. StandsFor i (record { schema = (state g at).committed.schema; trees = trees })) (sym e) stands)
+    left.1.2 (state g at).committed.schema i (subst (λ trees.
+    StandsFor i (record { schema = (state g at).committed.schema; trees = trees })) (sym e) stands)
 
 -- At the exit of a commit a crash leaves what it left before, or the changed inventory.
-module _ {S : Type 0} (g : Ghosts S) (conn old new : Held S) (change : Change) (same : conn ≡ old) (survives : Survives (state g conn) (state g new) (IsOutcome g conn change)) where
+module _ {S : Type 0} (g : Ghosts S) (conn old new : Held S) (change : Change) (same : conn ≡ old)
+    (survives : Survives (state g conn) (state g new) (IsOutcome g conn change)) where
   from_old : Survives (state g old) (state g new) (IsOutcome g old change)
   from_old = subst (λ h. Survives (state g h) (state g new) (IsOutcome g h change)) same survives
 
-  pub leaves_either : (i j : Inventory) → Makes change i j → IsInventory j → Tables g old i → (c : Inventory) → Leaves g new c → Leaves g old c ⊎ (j ≡ c)
+  pub leaves_either : (i j : Inventory) → Makes change i j → IsInventory j → Tables g old i → (c : Inventory)
+      → Leaves g new c → Leaves g old c ⊎ (j ≡ c)
   leaves_either i j makes inventory tables c left =
       let db = left.1.0 in
       let clean : HasCleanDisk (state g old) = omega (arith, from_old.clean, left.0) in
@@ -35,7 +40,8 @@ module _ {S : Type 0} (g : Ghosts S) (conn old new : Held S) (change : Change) (
       ]
 
   -- and once it has returned, the changed inventory alone
-  pub leaves_changed : ((db : Trees) → IsTrue (state g new).is_open → (state g new).may_leave db → db ≡ (state g new).committed.trees) → (HasCleanDisk (state g new) → HasCommitted g conn change new)
+  pub leaves_changed : ((db : Trees) → IsTrue (state g new).is_open → (state g new).may_leave db
+      → db ≡ (state g new).committed.trees) → (HasCleanDisk (state g new) → HasCommitted g conn change new)
       → (i j : Inventory) → Makes change i j → IsInventory j → Tables g old i → (c : Inventory) → Leaves g new c → j ≡ c
   leaves_changed settled made i j makes inventory tables c left =
       let clean : HasCleanDisk (state g old) = omega (arith, from_old.clean, left.0) in

@@ -19,4 +19,5 @@ module _ {S : Type 0} (g : Ghosts S) (at : Held S) where
   -- An act was begun and had no effect, or a crash may leave its effect. A fault may have shut the connection.
   pub record Stays (s : State) (a : Act) : Type 0 where
     pub now : TablesIfOpen g at (kept s)
-    pub crash : (c : Inventory) → Leaves g at c → (c ≡ kept s) ⊎ ((m : State) × (text : List ℕ) × Prints s a m text × (c ≡ kept m))
+    pub crash : (c : Inventory) → Leaves g at c → (c ≡ kept s)
+        ⊎ ((m : State) × (text : List ℕ) × Prints s a m text × (c ≡ kept m))

@@ -37,7 +37,10 @@ HasEditedElements edits old new = new ≡ record old { elements = elements_after
 -- and so both
 abbrev pub HasEdited : ZoneDelta → Zone → Zone → Type 0
 HasEdited delta old new =
-    new ≡ record old { entries = entries_after old.entries delta.entries; elements = elements_after old.elements delta.elements }
+    new ≡ record old {
+      entries = entries_after old.entries delta.entries;
+      elements = elements_after old.elements delta.elements;
+    }
 
 module _ {S : Type 0} (g : Ghosts S) (old : Held S) (change : Change) where
   -- the rows of an inventory become those of the changed one
@@ -50,10 +53,12 @@ module _ {S : Type 0} (g : Ghosts S) (old : Held S) (change : Change) where
   pub record HasCommitted (new : Held S) : Type 0 where
     pub was_open : IsTrue (state g old).is_open
     pub is_open : IsTrue (state g new).is_open
-    pub stands : (i j : Inventory) → Makes change i j → IsInventory j → StandsFor i (state g old).committed → StandsFor j (state g new).committed
+    pub stands : (i j : Inventory) → Makes change i j → IsInventory j → StandsFor i (state g old).committed
+        → StandsFor j (state g new).committed
 
   -- trees that stand for the changed inventory
   abbrev pub IsOutcome : Trees → Type 0
   IsOutcome db =
       (schema : Schema)
-      × ((i j : Inventory) → Makes change i j → IsInventory j → IsTrue (state g old).is_open → StandsFor i (state g old).committed → StandsFor j (record { schema = schema; trees = db }))
+      × ((i j : Inventory) → Makes change i j → IsInventory j → IsTrue (state g old).is_open
+      → StandsFor i (state g old).committed → StandsFor j (record { schema = schema; trees = db }))

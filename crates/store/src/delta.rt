@@ -20,7 +20,8 @@ fn edit_entry<S: Alter>(
 ) -> Result<(), Error>
     ensures same_reference { tx.new.conn.ghost_name ≡ tx.old.conn.ghost_name }
     ensures inside { StaysInside S.Store tx.old.conn.now tx.new.conn.now }
-    ensures ok { OnOk result (ChangesZone S.Store tx.old.conn.now tx.new.conn.now zone (HasEditedEntries (edit.now ∷ []))) }
+    ensures ok { OnOk result (ChangesZone S.Store tx.old.conn.now tx.new.conn.now zone
+        (HasEditedEntries (edit.now ∷ []))) }
 {
     match edit {
         Edit::Put(entry) => put_entry(alloc, tx, zone, entry),
@@ -36,7 +37,8 @@ fn edit_element<S: Alter>(
 ) -> Result<(), Error>
     ensures same_reference { tx.new.conn.ghost_name ≡ tx.old.conn.ghost_name }
     ensures inside { StaysInside S.Store tx.old.conn.now tx.new.conn.now }
-    ensures ok { OnOk result (ChangesZone S.Store tx.old.conn.now tx.new.conn.now zone (HasEditedElements (edit.now ∷ []))) }
+    ensures ok { OnOk result (ChangesZone S.Store tx.old.conn.now tx.new.conn.now zone
+        (HasEditedElements (edit.now ∷ []))) }
 {
     match edit {
         Edit::Put(element) => put_element(alloc, tx, zone, element),

@@ -18,7 +18,8 @@ fn write_edit<S: Alter>(
 ) -> Result<(), Error>
     ensures same_reference { tx.new.conn.ghost_name ≡ tx.old.conn.ghost_name }
     ensures inside { StaysInside S.Store tx.old.conn.now tx.new.conn.now }
-    ensures ok { OnOk result (ChangesGlobal S.Store tx.old.conn.now tx.new.conn.now (λ g. Fits g edit.now) (λ g. after_edit g edit.now)) }
+    ensures ok { OnOk result (ChangesGlobal S.Store tx.old.conn.now tx.new.conn.now (λ g. Fits g edit.now)
+        (λ g. after_edit g edit.now)) }
 {
     match edit {
         GlobalEdit::PutHold(hold) => put_hold(tx, hold),
@@ -36,7 +37,8 @@ pub(crate) fn write_edits<S: Alter>(
 ) -> Result<(), Error>
     ensures same_reference { tx.new.conn.ghost_name ≡ tx.old.conn.ghost_name }
     ensures inside { StaysInside S.Store tx.old.conn.now tx.new.conn.now }
-    ensures ok { OnOk result (ChangesGlobal S.Store tx.old.conn.now tx.new.conn.now (EachFits edits.now) (after_edits edits.now)) }
+    ensures ok { OnOk result (ChangesGlobal S.Store tx.old.conn.now tx.new.conn.now (EachFits edits.now)
+        (after_edits edits.now)) }
 {
     for edit in edits {
         write_edit(alloc, tx, edit)?;

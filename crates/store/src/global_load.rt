@@ -26,8 +26,10 @@ struct Lists {
 }
 
 fn load_lists<S: Alter>(alloc: Heap, conn: &mut Connection<S>) -> Result<Lists, ReadError>
-    ensures found { HasCleanDisk (state S.Store conn.new) → (i : Inventory) → StandsFor i (state S.Store conn.old).now → IfOk result (λ lists. a_global lists.sysmods.items lists.holds.items ≡ i.global) }
-    ensures none { HasCleanDisk (state S.Store conn.new) → IsErrOf result ReadError.BadRow → (i : Inventory) → ¬ StandsFor i (state S.Store conn.old).now }
+    ensures found { HasCleanDisk (state S.Store conn.new) → (i : Inventory) → StandsFor i (state S.Store conn.old).now
+        → IfOk result (λ lists. a_global lists.sysmods.items lists.holds.items ≡ i.global) }
+    ensures none { HasCleanDisk (state S.Store conn.new) → IsErrOf result ReadError.BadRow → (i : Inventory)
+        → ¬ StandsFor i (state S.Store conn.old).now }
     ensures reads { OnlyReads S.Store (conn.old.schema ≡ store_schema) conn.old conn.new result }
 {
     let sysmods = load_sysmods(alloc, conn)?;
@@ -51,8 +53,10 @@ pub(crate) fn load_global<S: Alter>(
     alloc: Heap,
     conn: &mut Connection<S>,
 ) -> Result<Global, ReadError>
-    ensures found { HasCleanDisk (state S.Store conn.new) → (i : Inventory) → StandsFor i (state S.Store conn.old).now → IfOk result (λ global. global ≡ i.global) }
-    ensures none { HasCleanDisk (state S.Store conn.new) → IsErrOf result ReadError.BadRow → (i : Inventory) → ¬ StandsFor i (state S.Store conn.old).now }
+    ensures found { HasCleanDisk (state S.Store conn.new) → (i : Inventory) → StandsFor i (state S.Store conn.old).now
+        → IfOk result (λ global. global ≡ i.global) }
+    ensures none { HasCleanDisk (state S.Store conn.new) → IsErrOf result ReadError.BadRow → (i : Inventory)
+        → ¬ StandsFor i (state S.Store conn.old).now }
     ensures reads { OnlyReads S.Store (conn.old.schema ≡ store_schema) conn.old conn.new result }
 {
     let lists = load_lists(alloc, conn)?;

@@ -33,12 +33,15 @@ fn store_error(error: ReadError) -> StoreError
 impl<S: Alter> Store<S> {
     /// The global zone.
     pub fn load_global(&mut self) -> Result<Global, StoreError>
-        ensures found { HasCleanDisk (state S.Store self.new) → (i : Inventory) → Tables S.Store self.old i → IfOk result (λ global. global ≡ i.global) }
-        ensures none { HasCleanDisk (state S.Store self.new) → IsErrOf result StoreError.NoState → (i : Inventory) → ¬ Tables S.Store self.old i }
+        ensures found { HasCleanDisk (state S.Store self.new) → (i : Inventory) → Tables S.Store self.old i
+            → IfOk result (λ global. global ≡ i.global) }
+        ensures none { HasCleanDisk (state S.Store self.new) → IsErrOf result StoreError.NoState → (i : Inventory)
+            → ¬ Tables S.Store self.old i }
         ensures same { OnOk result ((i : Inventory) → Tables S.Store self.old i → Tables S.Store self.new i) }
         ensures err { OnErr result ((i : Inventory) → Tables S.Store self.old i → TablesIfOpen S.Store self.new i) }
         ensures which { IfErr result (λ e. e ≢ StoreError.OtherSchema) }
-        ensures crash { (i : Inventory) → Tables S.Store self.old i → (c : Inventory) → Leaves S.Store self.new c → Leaves S.Store self.old c }
+        ensures crash { (i : Inventory) → Tables S.Store self.old i → (c : Inventory) → Leaves S.Store self.new c
+            → Leaves S.Store self.old c }
         ensures clean { HasCleanDisk (state S.Store self.new) → HasCleanDisk (state S.Store self.old) }
     {
         // So what the connection shows is what it last committed.
@@ -51,12 +54,15 @@ impl<S: Alter> Store<S> {
 
     /// The zone of this name, if there is one.
     pub fn load_zone(&mut self, name: ZoneName) -> Result<Option<Zone>, StoreError>
-        ensures found { HasCleanDisk (state S.Store self.new) → (i : Inventory) → Tables S.Store self.old i → IfOk result (λ zone. zone ≡ zone_in i name) }
-        ensures none { HasCleanDisk (state S.Store self.new) → IsErrOf result StoreError.NoState → (i : Inventory) → ¬ Tables S.Store self.old i }
+        ensures found { HasCleanDisk (state S.Store self.new) → (i : Inventory) → Tables S.Store self.old i
+            → IfOk result (λ zone. zone ≡ zone_in i name) }
+        ensures none { HasCleanDisk (state S.Store self.new) → IsErrOf result StoreError.NoState → (i : Inventory)
+            → ¬ Tables S.Store self.old i }
         ensures same { OnOk result ((i : Inventory) → Tables S.Store self.old i → Tables S.Store self.new i) }
         ensures err { OnErr result ((i : Inventory) → Tables S.Store self.old i → TablesIfOpen S.Store self.new i) }
         ensures which { IfErr result (λ e. e ≢ StoreError.OtherSchema) }
-        ensures crash { (i : Inventory) → Tables S.Store self.old i → (c : Inventory) → Leaves S.Store self.new c → Leaves S.Store self.old c }
+        ensures crash { (i : Inventory) → Tables S.Store self.old i → (c : Inventory) → Leaves S.Store self.new c
+            → Leaves S.Store self.old c }
         ensures clean { HasCleanDisk (state S.Store self.new) → HasCleanDisk (state S.Store self.old) }
     {
         // So what the connection shows is what it last committed.
@@ -69,12 +75,15 @@ impl<S: Alter> Store<S> {
 
     /// All zones without their entries and elements, rising by name.
     pub fn zone_heads(&mut self) -> Result<Vec<ZoneHead>, StoreError>
-        ensures found { HasCleanDisk (state S.Store self.new) → (i : Inventory) → Tables S.Store self.old i → IfOk result (λ heads. heads.items ≡ map head_of i.zones) }
-        ensures none { HasCleanDisk (state S.Store self.new) → IsErrOf result StoreError.NoState → (i : Inventory) → ¬ Tables S.Store self.old i }
+        ensures found { HasCleanDisk (state S.Store self.new) → (i : Inventory) → Tables S.Store self.old i
+            → IfOk result (λ heads. heads.items ≡ map head_of i.zones) }
+        ensures none { HasCleanDisk (state S.Store self.new) → IsErrOf result StoreError.NoState → (i : Inventory)
+            → ¬ Tables S.Store self.old i }
         ensures same { OnOk result ((i : Inventory) → Tables S.Store self.old i → Tables S.Store self.new i) }
         ensures err { OnErr result ((i : Inventory) → Tables S.Store self.old i → TablesIfOpen S.Store self.new i) }
         ensures which { IfErr result (λ e. e ≢ StoreError.OtherSchema) }
-        ensures crash { (i : Inventory) → Tables S.Store self.old i → (c : Inventory) → Leaves S.Store self.new c → Leaves S.Store self.old c }
+        ensures crash { (i : Inventory) → Tables S.Store self.old i → (c : Inventory) → Leaves S.Store self.new c
+            → Leaves S.Store self.old c }
         ensures clean { HasCleanDisk (state S.Store self.new) → HasCleanDisk (state S.Store self.old) }
     {
         // So what the connection shows is what it last committed.
@@ -87,12 +96,15 @@ impl<S: Alter> Store<S> {
 
     /// The names of all zones, rising.
     pub fn zone_names(&mut self) -> Result<Vec<ZoneName>, StoreError>
-        ensures found { HasCleanDisk (state S.Store self.new) → (i : Inventory) → Tables S.Store self.old i → IfOk result (λ names. names.items ≡ map (λ z. z.name) i.zones) }
-        ensures none { HasCleanDisk (state S.Store self.new) → IsErrOf result StoreError.NoState → (i : Inventory) → ¬ Tables S.Store self.old i }
+        ensures found { HasCleanDisk (state S.Store self.new) → (i : Inventory) → Tables S.Store self.old i
+            → IfOk result (λ names. names.items ≡ map (λ z. z.name) i.zones) }
+        ensures none { HasCleanDisk (state S.Store self.new) → IsErrOf result StoreError.NoState → (i : Inventory)
+            → ¬ Tables S.Store self.old i }
         ensures same { OnOk result ((i : Inventory) → Tables S.Store self.old i → Tables S.Store self.new i) }
         ensures err { OnErr result ((i : Inventory) → Tables S.Store self.old i → TablesIfOpen S.Store self.new i) }
         ensures which { IfErr result (λ e. e ≢ StoreError.OtherSchema) }
-        ensures crash { (i : Inventory) → Tables S.Store self.old i → (c : Inventory) → Leaves S.Store self.new c → Leaves S.Store self.old c }
+        ensures crash { (i : Inventory) → Tables S.Store self.old i → (c : Inventory) → Leaves S.Store self.new c
+            → Leaves S.Store self.old c }
         ensures clean { HasCleanDisk (state S.Store self.new) → HasCleanDisk (state S.Store self.old) }
     {
         // So what the connection shows is what it last committed.

@@ -51,14 +51,22 @@ impl<S: Alter> Store<S> {
     ) -> Result<Store<S>, (Connection<S>, StoreError)>
         requires { conn.in_transaction ≡ false }
         ensures tables { IfOk result (λ store. (i : Inventory) → IsFound S.Store conn i → Tables S.Store store i) }
-        ensures leaves { IfOk result (λ store. (i : Inventory) → IsFound S.Store conn i → (c : Inventory) → Leaves S.Store store c → i ≡ c) }
-        ensures ours { IfOk result (λ store. HasCleanDisk (state S.Store store) → HasOwnTables (state S.Store store).now) }
-        ensures same { IfOk result (λ store. HasCleanDisk (state S.Store store) → ¬ IsBlank (state S.Store conn).now → IsUnchanged (state S.Store conn) (state S.Store store)) }
-        ensures crash { IfOk result (λ store. Survives (state S.Store conn) (state S.Store store) (IsMade S.Store conn IsBlank (StandsFor empty_inventory))) }
-        ensures other { IfErr result (λ e. HasCleanDisk (state S.Store e.0) → e.1 ≡ StoreError.OtherSchema → HasOtherNumber (state S.Store conn)) }
-        ensures none { IfErr result (λ e. HasCleanDisk (state S.Store e.0) → e.1 ≡ StoreError.NoState → HasNoState (state S.Store conn)) }
-        ensures unchanged { IfErr result (λ e. HasCleanDisk (state S.Store e.0) → IsTrue (state S.Store e.0).is_open → (state S.Store e.0).committed ≡ (state S.Store conn).committed) }
-        ensures crash_err { IfErr result (λ e. Survives (state S.Store conn) (state S.Store e.0) (IsMade S.Store conn IsBlank (StandsFor empty_inventory))) }
+        ensures leaves { IfOk result (λ store. (i : Inventory) → IsFound S.Store conn i → (c : Inventory)
+            → Leaves S.Store store c → i ≡ c) }
+        ensures ours { IfOk result (λ store. HasCleanDisk (state S.Store store)
+            → HasOwnTables (state S.Store store).now) }
+        ensures same { IfOk result (λ store. HasCleanDisk (state S.Store store) → ¬ IsBlank (state S.Store conn).now
+            → IsUnchanged (state S.Store conn) (state S.Store store)) }
+        ensures crash { IfOk result (λ store. Survives (state S.Store conn) (state S.Store store)
+            (IsMade S.Store conn IsBlank (StandsFor empty_inventory))) }
+        ensures other { IfErr result (λ e. HasCleanDisk (state S.Store e.0) → e.1 ≡ StoreError.OtherSchema
+            → HasOtherNumber (state S.Store conn)) }
+        ensures none { IfErr result (λ e. HasCleanDisk (state S.Store e.0) → e.1 ≡ StoreError.NoState
+            → HasNoState (state S.Store conn)) }
+        ensures unchanged { IfErr result (λ e. HasCleanDisk (state S.Store e.0) → IsTrue (state S.Store e.0).is_open
+            → (state S.Store e.0).committed ≡ (state S.Store conn).committed) }
+        ensures crash_err { IfErr result (λ e. Survives (state S.Store conn) (state S.Store e.0)
+            (IsMade S.Store conn IsBlank (StandsFor empty_inventory))) }
         ensures mode { IfErr result (λ e. e.0.in_transaction ≡ false) }
     {
         // So what the connection shows is what it last committed.
@@ -71,10 +79,13 @@ impl<S: Alter> Store<S> {
 
     /// Makes the change in one transaction. It writes the rows that change, and loads none.
     pub fn commit(&mut self, change: &Change) -> Result<(), StoreError>
-        ensures ok { OnOk result ((i j : Inventory) → Makes change.now i j → IsInventory j → Tables S.Store self.old i → Tables S.Store self.new j) }
-        ensures durable { OnOk result ((i j : Inventory) → Makes change.now i j → IsInventory j → Tables S.Store self.old i → (c : Inventory) → Leaves S.Store self.new c → j ≡ c) }
+        ensures ok { OnOk result ((i j : Inventory) → Makes change.now i j → IsInventory j → Tables S.Store self.old i
+            → Tables S.Store self.new j) }
+        ensures durable { OnOk result ((i j : Inventory) → Makes change.now i j → IsInventory j
+            → Tables S.Store self.old i → (c : Inventory) → Leaves S.Store self.new c → j ≡ c) }
         ensures err { OnErr result ((i : Inventory) → Tables S.Store self.old i → TablesIfOpen S.Store self.new i) }
-        ensures crash { (i j : Inventory) → Makes change.now i j → IsInventory j → Tables S.Store self.old i → (c : Inventory) → Leaves S.Store self.new c → Leaves S.Store self.old c ⊎ (j ≡ c) }
+        ensures crash { (i j : Inventory) → Makes change.now i j → IsInventory j → Tables S.Store self.old i
+            → (c : Inventory) → Leaves S.Store self.new c → Leaves S.Store self.old c ⊎ (j ≡ c) }
         ensures which { IfErr result (λ e. (e ≡ StoreError.Fault) ⊎ (e ≡ StoreError.Memory)) }
         ensures clean { HasCleanDisk (state S.Store self.new) → HasCleanDisk (state S.Store self.old) }
     {

@@ -37,8 +37,10 @@ pub(crate) fn commit_change<S: Alter>(
     change: &Change,
 ) -> Result<(), Error>
     requires { conn.old.in_transaction ≡ false }
-    ensures made { HasCleanDisk (state S.Store conn.new) → OnOk result (HasCommitted S.Store conn.old change.now conn.new) }
-    ensures kept { HasCleanDisk (state S.Store conn.new) → OnErr result (KeepsCommit (state S.Store conn.old) (state S.Store conn.new)) }
+    ensures made { HasCleanDisk (state S.Store conn.new) → OnOk result
+        (HasCommitted S.Store conn.old change.now conn.new) }
+    ensures kept { HasCleanDisk (state S.Store conn.new) → OnErr result
+        (KeepsCommit (state S.Store conn.old) (state S.Store conn.new)) }
     ensures crash { Survives (state S.Store conn.old) (state S.Store conn.new) (IsOutcome S.Store conn.old change.now) }
     ensures mode { conn.new.in_transaction ≡ false }
 {

@@ -1,5 +1,7 @@
 -- Texts and their parts between commas, and records and their bytes.
-use Rattle.std.proofs.Common.{get_or, map, take, IsTrue, append-nil, subst, subst₂, length-take, Bor, ◌≡◌, ◌≢◌, ◌==◌, ◌<◌, ◌*◌, ◌%◌, ℕ, List, [], ◌∷◌, ◌++◌, length, length-append, All, false, arith, refl, sym, ap, ◌∙◌}
+use Rattle.std.proofs.Common.{get_or, map, take, IsTrue, append-nil, subst, subst₂, length-take, Bor, ◌≡◌, ◌≢◌, ◌==◌}
+use Rattle.std.proofs.Common.{◌<◌, ◌*◌, ◌%◌, ℕ, List, [], ◌∷◌, ◌++◌, length, length-append, All, false, arith, refl}
+use Rattle.std.proofs.Common.{sym, ap, ◌∙◌}
 use Rattle.std.specs.List.{AllByRecursion, slice_split, join_with_byte, concat}
 use Rattle.std.proofs.lemmas.List.Splits.{slice_split_none, slice_split_at, join_with_byte-slice_split}
 use Rattle.std.proofs.lemmas.List.Elements.{All-from_recursion, recursion_from_All}
@@ -26,10 +28,12 @@ no_comma (b ∷ x) h = (grind (arith, h.0), no_comma x h.1)
 plain : (x : List ℕ) → AllByRecursion (λ b. b ≢ 44) x → All (λ b. (b == 44) ≡ false) x
 plain x h = All-from_recursion _ x (no_comma x h)
 
-split_joined : (x : List ℕ) (xs : List (List ℕ)) → AllByRecursion IsWord (x ∷ xs) → slice_split (λ c. c == 44) (join_with_byte 44 (x ∷ xs)) ≡ x ∷ xs
+split_joined : (x : List ℕ) (xs : List (List ℕ)) → AllByRecursion IsWord (x ∷ xs)
+    → slice_split (λ c. c == 44) (join_with_byte 44 (x ∷ xs)) ≡ x ∷ xs
 split_joined x [] h = slice_split_none (λ c. c == 44) x (plain x h.0.1)
 split_joined x (y ∷ xs) h =
-    slice_split_at (λ c. c == 44) x 44 (join_with_byte 44 (y ∷ xs)) (plain x h.0.1) refl ∙ ap (λ ys. x ∷ ys) (split_joined y xs h.1)
+    slice_split_at (λ c. c == 44) x 44 (join_with_byte 44 (y ∷ xs)) (plain x h.0.1) refl
+    ∙ ap (λ ys. x ∷ ys) (split_joined y xs h.1)
 
 pub parts_are : (text : List ℕ) → text ≢ [] → parts_of text ≡ slice_split (λ c. c == 44) text
 parts_are [] some = absurd (some refl)
@@ -52,13 +56,16 @@ module _ (form : Text → Type 0) where
   none_listed = record { each = λ k d within. absurd (omega arith); rising = λ i j d less within. absurd (omega arith) }
 
   -- one more that all others stand before
-  pub listed_more : (xs : List Text) (x : Text) → AreListed form xs → form x → All (λ y. IsTrue (is_before y x)) xs → AreListed form (xs ++ x ∷ [])
+  pub listed_more : (xs : List Text) (x : Text) → AreListed form xs → form x → All (λ y. IsTrue (is_before y x)) xs
+      → AreListed form (xs ++ x ∷ [])
   listed_more xs x h formed last = record {
     each = All-between form xs [] x (rw append-nil h.each) formed;
-    rising = AllPairs-between (λ y z. IsTrue (is_before y z)) xs [] x (rw append-nil h.rising) last (λ k d within. absurd (omega arith));
+    rising = AllPairs-between (λ y z. IsTrue (is_before y z)) xs [] x (rw append-nil h.rising) last
+        (λ k d within. absurd (omega arith));
   }
 
-  module _ (parts : List (Bor Text)) (i : ℕ) (d : Bor Text) (within : i < length parts) (h : AreListed form (map (λ part. part.now) parts)) where
+  module _ (parts : List (Bor Text)) (i : ℕ) (d : Bor Text) (within : i < length parts)
+      (h : AreListed form (map (λ part. part.now) parts)) where
     at : (e : Text) → get_or (map (λ part. part.now) parts) i e ≡ (get_or parts i d).now
     at e = get_or-map (λ (part : Bor Text). part.now) parts i d e within
 
@@ -68,25 +75,41 @@ module _ (form : Text → Type 0) where
 
     pub part_last : All (λ y. IsTrue (is_before y (get_or parts i d).now)) (map (λ part. part.now) (take i parts))
     part_last = λ k e below.
-        let less : k < i = let e = length-map (take i parts) (λ (part : Bor Text). part.now) in let m = length-take i parts in omega arith in
+        let less : k < i = let e = length-map (take i parts) (λ (part : Bor Text). part.now) in let m =
+        length-take i parts in omega arith in
         let front : get_or (map (λ part. part.now) (take i parts)) k e ≡ get_or (map (λ part. part.now) parts) k e =
-        ap (λ xs. get_or xs k e) (sym (take-map (λ (part : Bor Text). part.now) i parts)) ∙ get_or-take i (map (λ part. part.now) parts) k e less in
+        ap (λ xs. get_or xs k e) (sym (take-map (λ (part : Bor Text). part.now) i parts))
+        ∙ get_or-take i (map (λ part. part.now) parts) k e less in
         subst₂ (λ y z. IsTrue (is_before y z)) (sym front) (at e) (h.rising k i e less (rw length-map within))
 
-whole_of : (lines : List (List ℕ)) → AllByRecursion (λ line. length line ≡ 80) lines → length (concat lines) ≡ length lines * 80
+whole_of : (lines : List (List ℕ)) → AllByRecursion (λ line. length line ≡ 80) lines
+    → length (concat lines) ≡ length lines * 80
 whole_of [] h = refl
 whole_of (line ∷ lines) h = let rest = whole_of lines h.1 in omega (arith, length-append line (concat lines), h.0)
 
 -- no part of a record is left
 pub no_rest : (lines : List (List ℕ)) → AreRecords lines → length (concat lines) % 80 ≡ 0
-no_rest lines h = let whole = whole_of lines (recursion_from_All _ lines (λ k d within. (h k d within).0)) in omega (arith, whole)
+no_rest lines h = let whole = whole_of lines (recursion_from_All _ lines (λ k d within. (h k d within).0))
+    in omega (arith, whole)
 
-bytes_of : (lines : List (List ℕ)) → AllByRecursion (λ b. b < 256) (concat lines) → AllByRecursion (λ line. All (λ b. b < 256) line) lines
+bytes_of : (lines : List (List ℕ)) → AllByRecursion (λ b. b < 256) (concat lines)
+    → AllByRecursion (λ line. All (λ b. b < 256) line) lines
 bytes_of [] h = tt
-bytes_of (line ∷ lines) h = (All-from_recursion _ line (recursion-front (λ b. b < 256) line (concat lines) h), bytes_of lines (recursion-back (λ b. b < 256) line (concat lines) h))
+bytes_of (line ∷ lines) h = (
+  All-from_recursion _ line (recursion-front (λ b. b < 256) line (concat lines) h),
+  bytes_of lines (recursion-back (λ b. b < 256) line (concat lines) h),
+)
 
-pub are_records : (bytes : List ℕ) (lines : List (List ℕ)) → HasLines bytes lines → ((i : ℕ) → get_or bytes i 0 < 256) → (bytes ≡ concat lines) × AreRecords lines
+pub are_records : (bytes : List ℕ) (lines : List (List ℕ)) → HasLines bytes lines → ((i : ℕ) → get_or bytes i 0 < 256)
+    → (bytes ≡ concat lines) × AreRecords lines
 are_records bytes lines h small =
     let same : bytes ≡ concat lines = h.bytes_are ∙ flat_concat lines in
-    let each : All (λ b. b < 256) bytes = λ k d within. let b = small k in let s : get_or bytes k d ≡ get_or bytes k 0 = get_or_default bytes k d 0 within in omega arith in
-    (same, λ k d within. (h.each k d within, All-from_recursion _ lines (bytes_of lines (subst (AllByRecursion (λ b. b < 256)) same (recursion_from_All _ bytes each))) k d within))
+    let each : All (λ b. b < 256) bytes = λ k d within. let b = small k in let s : get_or bytes k d ≡ get_or bytes k 0 =
+    get_or_default bytes k d 0 within in omega arith in (
+      same,
+      λ k d within. (
+        h.each k d within,
+        All-from_recursion _ lines
+            (bytes_of lines (subst (AllByRecursion (λ b. b < 256)) same (recursion_from_All _ bytes each))) k d within,
+      ),
+    )

@@ -39,7 +39,8 @@ text_numbered Parm lines numbered h = absurd numbered
 text_numbered Proc lines numbered h = absurd numbered
 
 -- records with a fault are no text of a type whose texts are numbered
-pub no_text : (type : ElemType) (lines other : Lines) (fault : TextFault) → IsUpdated type → AreRecords lines → IsNumberedFault lines fault → IsTextOf type other → ¬ (records lines ≡ records other)
+pub no_text : (type : ElemType) (lines other : Lines) (fault : TextFault) → IsUpdated type → AreRecords lines
+    → IsNumberedFault lines fault → IsTextOf type other → ¬ (records lines ≡ records other)
 no_text type lines other fault numbered own at_fault text same =
     let is : lines ≡ other = text_same lines other own (are_records type other text) same in
     numbered-no_fault lines fault (subst IsNumbered (sym is) (text_numbered type other numbered text)) at_fault

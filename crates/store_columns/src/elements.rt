@@ -27,7 +27,8 @@ pub fn element_text_in(
     elem_type: ElemType,
 ) -> Result<Vec<Line>, ReadError>
     ensures some { IfOk result (λ text. (column row.now at ≡ records text.items) × IsTextOf elem_type text.items) }
-    ensures none { IsErrOf result ReadError.BadRow → (text : List (List ℕ)) → IsTextOf elem_type text → column row.now at ≢ records text }
+    ensures none { IsErrOf result ReadError.BadRow → (text : List (List ℕ)) → IsTextOf elem_type text
+        → column row.now at ≢ records text }
     ensures fault { IsErrOf result ReadError.Fault → ⊥ }
 {
     let lines = records_in(alloc, row, at)?;

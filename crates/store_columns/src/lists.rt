@@ -61,7 +61,8 @@ fn source_list(alloc: Global, parts: &[&[u8]]) -> Result<SourceList, ReadError>
 /// The ids of a list that rises.
 pub fn ids_in(alloc: Global, row: &Row, at: usize) -> Result<IdList, ReadError>
     ensures some { IfOk result (λ list. (column row.now at ≡ ids list) × AreListed IsId list) }
-    ensures none { IsErrOf result ReadError.BadRow → (list : List (List ℕ)) → AreListed IsId list → column row.now at ≢ ids list }
+    ensures none { IsErrOf result ReadError.BadRow → (list : List (List ℕ)) → AreListed IsId list
+        → column row.now at ≢ ids list }
     ensures fault { IsErrOf result ReadError.Fault → ⊥ }
 {
     let Some(text) = text(row, at) else {
@@ -74,7 +75,8 @@ pub fn ids_in(alloc: Global, row: &Row, at: usize) -> Result<IdList, ReadError>
 /// The sources of a list that rises.
 pub fn sources_in(alloc: Global, row: &Row, at: usize) -> Result<SourceList, ReadError>
     ensures some { IfOk result (λ list. (column row.now at ≡ ids list) × AreListed IsSource list) }
-    ensures none { IsErrOf result ReadError.BadRow → (list : List (List ℕ)) → AreListed IsSource list → column row.now at ≢ ids list }
+    ensures none { IsErrOf result ReadError.BadRow → (list : List (List ℕ)) → AreListed IsSource list
+        → column row.now at ≢ ids list }
     ensures fault { IsErrOf result ReadError.Fault → ⊥ }
 {
     let Some(text) = text(row, at) else {
@@ -87,7 +89,8 @@ pub fn sources_in(alloc: Global, row: &Row, at: usize) -> Result<SourceList, Rea
 /// The records that the bytes are, if they are no part of one.
 fn lines_in(alloc: Global, bytes: &[u8]) -> Result<Vec<Line>, ReadError>
     ensures some { IfOk result (λ lines. (bytes.now ≡ concat lines.items) × AreRecords lines.items) }
-    ensures none { IsErrOf result ReadError.BadRow → (lines : List (List ℕ)) → AreRecords lines → bytes.now ≢ concat lines }
+    ensures none { IsErrOf result ReadError.BadRow → (lines : List (List ℕ)) → AreRecords lines
+        → bytes.now ≢ concat lines }
     ensures fault { IsErrOf result ReadError.Fault → ⊥ }
 {
     if bytes.len() % RECORD != 0 {
@@ -99,7 +102,8 @@ fn lines_in(alloc: Global, bytes: &[u8]) -> Result<Vec<Line>, ReadError>
 /// The records of a text, one after the other in a blob.
 pub fn records_in(alloc: Global, row: &Row, at: usize) -> Result<Vec<Line>, ReadError>
     ensures some { IfOk result (λ lines. (column row.now at ≡ records lines.items) × AreRecords lines.items) }
-    ensures none { IsErrOf result ReadError.BadRow → (lines : List (List ℕ)) → AreRecords lines → column row.now at ≢ records lines }
+    ensures none { IsErrOf result ReadError.BadRow → (lines : List (List ℕ)) → AreRecords lines
+        → column row.now at ≢ records lines }
     ensures fault { IsErrOf result ReadError.Fault → ⊥ }
 {
     let Some(bytes) = blob(row, at) else {

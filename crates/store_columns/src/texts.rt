@@ -48,7 +48,8 @@ pub fn name_in(row: &Row, at: usize) -> Option<Name>
 /// The name of a library, or NULL.
 pub fn optional_name_in(row: &Row, at: usize) -> Option<Option<Name>>
     ensures some { IfSome result (λ name. (column row.now at ≡ or_null Text name) × IfSome name IsName) }
-    ensures none { IfNone result ((name : Option (List ℕ)) → IfSome name IsName → column row.now at ≢ or_null Text name) }
+    ensures none { IfNone result ((name : Option (List ℕ)) → IfSome name IsName
+        → column row.now at ≢ or_null Text name) }
 {
     match optional_text(row, at)? {
         Some(text) => Some(Some(Name::read(text)?)),
@@ -67,7 +68,8 @@ pub fn zone_name_in(row: &Row, at: usize) -> Option<ZoneName>
 /// The name of a zone, or NULL.
 pub fn optional_zone_name_in(row: &Row, at: usize) -> Option<Option<ZoneName>>
     ensures some { IfSome result (λ name. (column row.now at ≡ or_null Text name) × IfSome name IsZoneName) }
-    ensures none { IfNone result ((name : Option (List ℕ)) → IfSome name IsZoneName → column row.now at ≢ or_null Text name) }
+    ensures none { IfNone result ((name : Option (List ℕ)) → IfSome name IsZoneName
+        → column row.now at ≢ or_null Text name) }
 {
     match optional_text(row, at)? {
         Some(text) => Some(Some(ZoneName::read(text)?)),
@@ -78,7 +80,8 @@ pub fn optional_zone_name_in(row: &Row, at: usize) -> Option<Option<ZoneName>>
 /// The date of APPLY or ACCEPT.
 pub fn date_in(row: &Row, at: usize) -> Option<Option<YyDdd>>
     ensures some { IfSome result (λ date. (column row.now at ≡ or_null Text date) × IfSome date IsDottedDate) }
-    ensures none { IfNone result ((date : Option (List ℕ)) → IfSome date IsDottedDate → column row.now at ≢ or_null Text date) }
+    ensures none { IfNone result ((date : Option (List ℕ)) → IfSome date IsDottedDate
+        → column row.now at ≢ or_null Text date) }
 {
     match optional_text(row, at)? {
         Some(text) => Some(Some(YyDdd::read(text)?)),
@@ -89,7 +92,8 @@ pub fn date_in(row: &Row, at: usize) -> Option<Option<YyDdd>>
 /// The date of a hold, or NULL.
 pub fn hold_date_in(row: &Row, at: usize) -> Option<Option<HoldDate>>
     ensures some { IfSome result (λ date. (column row.now at ≡ or_null Text date) × IfSome date IsDate) }
-    ensures none { IfNone result ((date : Option (List ℕ)) → IfSome date IsDate → column row.now at ≢ or_null Text date) }
+    ensures none { IfNone result ((date : Option (List ℕ)) → IfSome date IsDate
+        → column row.now at ≢ or_null Text date) }
 {
     match optional_text(row, at)? {
         Some(text) => Some(Some(HoldDate::read(text)?)),
@@ -100,7 +104,8 @@ pub fn hold_date_in(row: &Row, at: usize) -> Option<Option<HoldDate>>
 /// The class of a hold, or NULL.
 pub fn class_in(row: &Row, at: usize) -> Option<Option<Class>>
     ensures some { IfSome result (λ class. (column row.now at ≡ or_null Text class) × IfSome class IsClass) }
-    ensures none { IfNone result ((class : Option (List ℕ)) → IfSome class IsClass → column row.now at ≢ or_null Text class) }
+    ensures none { IfNone result ((class : Option (List ℕ)) → IfSome class IsClass
+        → column row.now at ≢ or_null Text class) }
 {
     match optional_text(row, at)? {
         Some(text) => Some(Some(Class::read(text)?)),

@@ -19,6 +19,8 @@ pub holds_rows : (i : Inventory) → IsPermutation (map hold_row i.global.holds)
 holds_rows i = IsPermutation-refl _
 
 -- holds that have the inventory's rows, in any order, are its holds in some order
-pub same_holds : (i : Inventory) → IsInventory i → (holds : List Hold) → AllByRecursion HasHoldForms holds → IsPermutation (map hold_row holds) (rows_of i hold.tree) → IsPermutation holds i.global.holds
+pub same_holds : (i : Inventory) → IsInventory i → (holds : List Hold) → AllByRecursion HasHoldForms holds
+    → IsPermutation (map hold_row holds) (rows_of i hold.tree) → IsPermutation holds i.global.holds
 same_holds i h holds forms rows =
-    unmapped_permutation hold_row HasHoldForms (λ a b _ _ e. hold_is a b e) holds i.global.holds forms (holds_formed i h) rows
+    unmapped_permutation hold_row HasHoldForms (λ a b _ _ e. hold_is a b e) holds i.global.holds forms
+    (holds_formed i h) rows

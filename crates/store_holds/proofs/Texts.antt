@@ -12,18 +12,37 @@ insert_hold = codes "INSERT INTO hold (id, kind, reason, fmid, class, date, comm
 
 pub puts_hold : PutsIn store_schema 4 hold insert_hold
 unfolding understood everything
-puts_hold = record { there = record { found = refl; alone = refl }; command = refl; plain = (refl, refl); uncounted = refl; timeless = refl }
+puts_hold = record {
+  there = record { found = refl; alone = refl };
+  command = refl;
+  plain = (refl, refl);
+  uncounted = refl;
+  timeless = refl;
+}
 
 abbrev pub delete_hold : List ℕ
 delete_hold = codes "DELETE FROM hold WHERE id = ?1 AND kind = ?2 AND reason = ?3"
 
 pub takes_hold : TakesOut store_schema 4 hold 3 delete_hold
 unfolding understood everything same_name joined
-takes_hold = record { there = record { found = refl; alone = refl }; command = refl; plain = (refl, refl); narrow = omega arith; free = λ olds. refl }
+takes_hold = record {
+  there = record { found = refl; alone = refl };
+  command = refl;
+  plain = (refl, refl);
+  narrow = omega arith;
+  free = λ olds. refl;
+}
 
 abbrev pub select_holds : List ℕ
 select_holds = codes "SELECT id, kind, reason, fmid, class, date, comment, internal FROM hold"
 
 pub reads_holds : ReadsRows store_schema hold 0 select_holds
 unfolding understood everything
-reads_holds = record { names = _; order = _; command = refl; plain = (refl, refl); unlisted = refl; narrow = omega arith }
+reads_holds = record {
+  names = _;
+  order = _;
+  command = refl;
+  plain = (refl, refl);
+  unlisted = refl;
+  narrow = omega arith;
+}

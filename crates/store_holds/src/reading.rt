@@ -1,6 +1,7 @@
 //! All holds of the table.
 
-ghost use Rattle.std.specs.Prelude.{◌≡◌, ◌≢◌, ◌↔◌, ℕ, List, Option, map, option_map, IsTrue, IfOk, IfSome, IfNone, IsErrOf, IsPermutation};
+ghost use Rattle.std.specs.Prelude.{◌≡◌, ◌≢◌, ◌↔◌, ℕ, List, Option, map, option_map, IsTrue, IfOk, IfSome, IfNone};
+ghost use Rattle.std.specs.Prelude.{IsErrOf, IsPermutation};
 ghost use Rattle.std.specs.List.{AllByRecursion};
 ghost use Rattle.std.specs.String.{string_bytes};
 ghost use Rattle.sqlite.specs.declared.types.Value.TheVariants.{Text};
@@ -51,8 +52,10 @@ fn reason_in(row: &Row, at: usize, kind: HoldKind) -> Option<Reason>
 }
 
 fn comment_in(alloc: Global, row: &Row, at: usize) -> Result<Option<String>, ReadError>
-    ensures some { IfOk result (λ comment. (column row.now at ≡ or_null Text (option_map string_bytes comment)) × IfSome (option_map string_bytes comment) IsComment) }
-    ensures none { IsErrOf result ReadError.BadRow → (comment : Option (List ℕ)) → IfSome comment IsComment → column row.now at ≢ or_null Text comment }
+    ensures some { IfOk result (λ comment. (column row.now at ≡ or_null Text (option_map string_bytes comment))
+        × IfSome (option_map string_bytes comment) IsComment) }
+    ensures none { IsErrOf result ReadError.BadRow → (comment : Option (List ℕ)) → IfSome comment IsComment
+        → column row.now at ≢ or_null Text comment }
     ensures fault { IsErrOf result ReadError.Fault → ⊥ }
 {
     let bytes = match optional_text(row, at) {
@@ -84,7 +87,8 @@ impl FromRow for Holds {
 
     fn read(alloc: Global, row: &Row) -> Result<Hold, ReadError>
         ensures read { IfOk result (λ hold. (row.now ≡ hold_row hold) × HasHoldForms hold) }
-        ensures none { IsErrOf result ReadError.BadRow → (hold : terms.Hold) → HasHoldForms hold → row.now ≢ hold_row hold }
+        ensures none { IsErrOf result ReadError.BadRow → (hold : terms.Hold) → HasHoldForms hold
+            → row.now ≢ hold_row hold }
         ensures fault { IsErrOf result ReadError.Fault → ⊥ }
     {
         if row.column_count() != 8 {
@@ -128,7 +132,8 @@ impl FromRow for Holds {
 /// The holds by their keys.
 fn by_key(mut holds: Vec<Hold>) -> Vec<Hold>
     ensures same { IsPermutation holds.items result.items }
-    ensures only { (others : List terms.Hold) → IsPermutation holds.items others → Rises hold_cmp (λ h. h) others → result.items ≡ others }
+    ensures only { (others : List terms.Hold) → IsPermutation holds.items others → Rises hold_cmp (λ h. h) others
+        → result.items ≡ others }
 {
     holds.sort_unstable_by(|a, b| a.order(b));
     holds
@@ -136,13 +141,18 @@ fn by_key(mut holds: Vec<Hold>) -> Vec<Hold>
 
 /// All holds, by id, kind and reason.
 pub fn load_holds<S: Alter>(alloc: Global, conn: &mut Connection<S>) -> Result<Vec<Hold>, ReadError>
-    ensures found { HasCleanDisk (state S.Store conn.new) → (contents : Contents) → HasContents store_schema contents (state S.Store conn.old).now
+    ensures found { HasCleanDisk (state S.Store conn.new) → (contents : Contents)
+        → HasContents store_schema contents (state S.Store conn.old).now
         → IfOk result (λ holds. IsPermutation (map hold_row holds.items) (contents hold_table.tree)) }
-    ensures ordered { HasCleanDisk (state S.Store conn.new) → (i : Inventory) → StandsFor i (state S.Store conn.old).now → IfOk result (λ holds. holds.items ≡ i.global.holds) }
+    ensures ordered { HasCleanDisk (state S.Store conn.new) → (i : Inventory) → StandsFor i (state S.Store conn.old).now
+        → IfOk result (λ holds. holds.items ≡ i.global.holds) }
     ensures forms { IfOk result (λ holds. AllByRecursion HasHoldForms holds.items) }
-    ensures none { HasCleanDisk (state S.Store conn.new) → IsErrOf result ReadError.BadRow → (contents : Contents) → HasContents store_schema contents (state S.Store conn.old).now
-        → (holds : List terms.Hold) → AllByRecursion HasHoldForms holds → ¬ IsPermutation (map hold_row holds) (contents hold_table.tree) }
-    ensures no_state { HasCleanDisk (state S.Store conn.new) → IsErrOf result ReadError.BadRow → (i : Inventory) → ¬ StandsFor i (state S.Store conn.old).now }
+    ensures none { HasCleanDisk (state S.Store conn.new) → IsErrOf result ReadError.BadRow → (contents : Contents)
+        → HasContents store_schema contents (state S.Store conn.old).now
+        → (holds : List terms.Hold) → AllByRecursion HasHoldForms holds
+        → ¬ IsPermutation (map hold_row holds) (contents hold_table.tree) }
+    ensures no_state { HasCleanDisk (state S.Store conn.new) → IsErrOf result ReadError.BadRow → (i : Inventory)
+        → ¬ StandsFor i (state S.Store conn.old).now }
     ensures reads { OnlyReads S.Store (conn.old.schema ≡ store_schema) conn.old conn.new result }
 {
     let holds = load::<S, Holds>(

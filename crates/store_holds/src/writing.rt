@@ -64,7 +64,8 @@ pub fn remove_hold<S: Alter>(
 ) -> Result<(), Error>
     ensures same_reference { tx.new.conn.ghost_name ≡ tx.old.conn.ghost_name }
     ensures inside { StaysInside S.Store tx.old.conn.now tx.new.conn.now }
-    ensures ok { OnOk result (Turns S.Store tx.old.conn.now tx.new.conn.now (HasContents store_schema) (in_table hold_table (without (key_row id kind reason)))) }
+    ensures ok { OnOk result (Turns S.Store tx.old.conn.now tx.new.conn.now (HasContents store_schema)
+        (in_table hold_table (without (key_row id kind reason)))) }
 {
     let key = [
         ValueRef::Text(id.as_bytes()),
@@ -82,7 +83,8 @@ pub fn remove_hold<S: Alter>(
 pub fn put_hold<S: Alter>(tx: &mut Transaction<'_, S>, hold: &Hold) -> Result<(), Error>
     ensures same_reference { tx.new.conn.ghost_name ≡ tx.old.conn.ghost_name }
     ensures inside { StaysInside S.Store tx.old.conn.now tx.new.conn.now }
-    ensures ok { OnOk result (Turns S.Store tx.old.conn.now tx.new.conn.now (HasContents store_schema) (with_put hold_table (hold_key hold.now) (hold_row hold.now))) }
+    ensures ok { OnOk result (Turns S.Store tx.old.conn.now tx.new.conn.now (HasContents store_schema)
+        (with_put hold_table (hold_key hold.now) (hold_row hold.now))) }
 {
     let id = ValueRef::Text(hold.id.as_bytes());
     let kind = ValueRef::Text(hold_text(hold.kind));

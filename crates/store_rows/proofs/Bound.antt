@@ -10,13 +10,16 @@ use Rattle.store_rows.specs.Rows.{HasContents, in_table, with_put, with_row, wit
 use Rattle.store_rows.specs.Texts.{AreKept}
 
 module _ {S : Type 0} (g : Ghosts S) (old new : Held S) (schema : Schema) (table : Table) where
-  pub as_put : (key k row r : Row) → k ≡ key → r ≡ row → Turns g old new (HasContents schema) (with_put table k r) → Turns g old new (HasContents schema) (with_put table key row)
+  pub as_put : (key k row r : Row) → k ≡ key → r ≡ row → Turns g old new (HasContents schema) (with_put table k r)
+      → Turns g old new (HasContents schema) (with_put table key row)
   as_put key k row r e f h = subst₂ (λ a b. Turns g old new (HasContents schema) (with_put table a b)) e f h
 
-  pub as_removed : (key k : Row) → k ≡ key → Turns g old new (HasContents schema) (in_table table (without k)) → Turns g old new (HasContents schema) (in_table table (without key))
+  pub as_removed : (key k : Row) → k ≡ key → Turns g old new (HasContents schema) (in_table table (without k))
+      → Turns g old new (HasContents schema) (in_table table (without key))
   as_removed key k e h = subst (λ a. Turns g old new (HasContents schema) (in_table table (without a))) e h
 
-  pub as_inserted : (row r : Row) → r ≡ row → Turns g old new (HasContents schema) (in_table table (with_row r)) → Turns g old new (HasContents schema) (in_table table (with_row row))
+  pub as_inserted : (row r : Row) → r ≡ row → Turns g old new (HasContents schema) (in_table table (with_row r))
+      → Turns g old new (HasContents schema) (in_table table (with_row row))
   as_inserted row r e h = subst (λ a. Turns g old new (HasContents schema) (in_table table (with_row a))) e h
 
 pub kept_as : (table : Table) (row r : Row) → r ≡ row → AreKept table.columns row → AreKept table.columns r

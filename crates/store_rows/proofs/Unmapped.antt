@@ -12,9 +12,11 @@ map_swap : {X Y : Type 0} (f : X → Y) (xs : List X) (i j : ℕ) → map f (swa
 map_swap f [] i j = refl
 map_swap f (d ∷ xs) i j =
     map-set f (set (d ∷ xs) i (get_or (d ∷ xs) j d)) j (get_or (d ∷ xs) i d)
-    ∙ ap₂ (λ ys y. set ys j y) (map-set f (d ∷ xs) i (get_or (d ∷ xs) j d) ∙ ap (set (map f (d ∷ xs)) i) (sym (get_or-map f (d ∷ xs) j d))) (sym (get_or-map f (d ∷ xs) i d))
+    ∙ ap₂ (λ ys y. set ys j y) (map-set f (d ∷ xs) i (get_or (d ∷ xs) j d)
+    ∙ ap (set (map f (d ∷ xs)) i) (sym (get_or-map f (d ∷ xs) j d))) (sym (get_or-map f (d ∷ xs) i d))
 
-map_swaps : {X Y : Type 0} (f : X → Y) (xs : List X) (ps : List (ℕ × ℕ)) → map f (apply_swaps xs ps) ≡ apply_swaps (map f xs) ps
+map_swaps : {X Y : Type 0} (f : X → Y) (xs : List X) (ps : List (ℕ × ℕ))
+    → map f (apply_swaps xs ps) ≡ apply_swaps (map f xs) ps
 map_swaps f xs [] = refl
 map_swaps f xs (p ∷ ps) = map_swap f (apply_swaps xs ps) p.0 p.1 ∙ ap (λ l. swap l p.0 p.1) (map_swaps f xs ps)
 
@@ -29,10 +31,12 @@ module _ {X Y : Type 0} (f : X → Y) (P : X → Type 0) (exact : (a b : X) → 
       ap₂ ◌∷◌ (exact x y p.0 q.0 first) (same_items xs ys p.1 q.1 rest)
 
   -- where items with this form have rows of their own
-  pub unmapped_permutation : (xs ys : List X) → AllByRecursion P xs → AllByRecursion P ys → IsPermutation (map f xs) (map f ys) → IsPermutation xs ys
+  pub unmapped_permutation : (xs ys : List X) → AllByRecursion P xs → AllByRecursion P ys
+      → IsPermutation (map f xs) (map f ys) → IsPermutation xs ys
   unmapped_permutation xs ys p q h =
       let zs = apply_swaps xs h.moves in
       let below = subst (λ n. SwapsInRange n h.moves) (length-map xs f) h.below in
       let moved : IsPermutation xs zs = record { moves = h.moves; below = below; is = refl } in
-      let forms : AllByRecursion P zs = all_from P zs (λ z there. all_has P xs z p (has_permuted zs xs z (IsPermutation-sym xs zs moved) there)) in
+      let forms : AllByRecursion P zs = all_from P zs (λ z there.
+      all_has P xs z p (has_permuted zs xs z (IsPermutation-sym xs zs moved) there)) in
       record { moves = h.moves; below = below; is = same_items ys zs q forms (h.is ∙ sym (map_swaps f xs h.moves)) }

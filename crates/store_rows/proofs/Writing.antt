@@ -1,5 +1,6 @@
 -- What one statement makes of what the tables hold.
-use Rattle.std.proofs.Common.{◌≡◌, ℕ, zero, suc, ◌+◌, ◌/◌, ◌<◌, ◌≤◌, ◌==◌, length, drop, take, List, [], ◌∷◌, ◌++◌, map, filter, Bool, true, false, not, Ok, IsPermutation, arith, refl, sym, ap, ap₂, subst, ◌∙◌}
+use Rattle.std.proofs.Common.{◌≡◌, ℕ, zero, suc, ◌+◌, ◌/◌, ◌<◌, ◌≤◌, ◌==◌, length, drop, take, List, [], ◌∷◌, ◌++◌, map}
+use Rattle.std.proofs.Common.{filter, Bool, true, false, not, Ok, IsPermutation, arith, refl, sym, ap, ap₂, subst, ◌∙◌}
 use Rattle.std.specs.List.{AllByRecursion, range_with_len, list_all, flat_map, filter_map}
 use Rattle.std.proofs.lemmas.List.{take_all}
 use Rattle.std.proofs.lemmas.List.FromFn.{length-map-range_with_len}
@@ -16,7 +17,8 @@ use Rattle.sqlite.specs.Table.{Table}
 use Rattle.sqlite.specs.Term.{Term, lit, col, eval, eval_all, holds}
 use Rattle.sqlite_schema.specs.declared.schema.Column.{Column}
 use Rattle.sqlite_schema.specs.declared.schema.Keys.TheVariants.{Enforced}
-use Rattle.sqlite.specs.Edit.{edit_of, with_rowid, next_rowid, taken_by, are_fresh, have_rowids, put_all, edited, without_all}
+use Rattle.sqlite.specs.Edit.{edit_of, with_rowid, next_rowid, taken_by, are_fresh, have_rowids, put_all, edited}
+use Rattle.sqlite.specs.Edit.{without_all}
 use Rattle.sqlite.specs.Rowids.TheVariants.{Chosen, Given}
 use Rattle.sqlite.specs.Effect.{Database, value_rows}
 use Rattle.sqlite.specs.Listing.{understood}
@@ -31,13 +33,17 @@ use Rattle.sqlite_rules.proofs.ActionLemmas.{no_works}
 use Rattle.sqlite_rules.proofs.PlaceLemmas.{given}
 use Rattle.sqlite_rules.specs.Calls.{ids_of}
 use Rattle.sqlite_schema.specs.declared.program.Program.{Program}
-use Rattle.store_rows.specs.Rows.{shown, has_key, without, with_row, in_place, AreRows, Contents, HasContents, HaveNone, in_table}
-use Rattle.store_rows.specs.Texts.{key_tests, scan_by, IsTableOf, AreKept, PutsIn, PutsInPlace, TakesOut, TakesOutParent, IsCascade, works_of_update}
+use Rattle.store_rows.specs.Rows.{shown, has_key, without, with_row, in_place, AreRows, Contents, HasContents, HaveNone}
+use Rattle.store_rows.specs.Rows.{in_table}
+use Rattle.store_rows.specs.Texts.{key_tests, scan_by, IsTableOf, AreKept, PutsIn, PutsInPlace, TakesOut}
+use Rattle.store_rows.specs.Texts.{TakesOutParent, IsCascade, works_of_update}
 use Rattle.store_rows.proofs.RowLemmas.{filter_same, ids_shown}
 use Rattle.store_rows.proofs.Statements.{inserts, updates, deletes, puts_one, scans}
 use Rattle.store_rows.proofs.Parents.{step_then_idle, cascades_from, taken_meets, idle_cascade}
 use Rattle.std.proofs.lemmas.Bool.{and_parts, ne_eqb, not-true}
-use Rattle.std.proofs.lemmas.List.Sorted.{IsPermutation-refl, IsPermutation-sym, IsPermutation-trans, IsPermutation-cons, IsPermutation-map, IsPermutation-append_left, IsPermutation-middle}
+use Rattle.std.proofs.lemmas.List.Sorted.{IsPermutation-refl, IsPermutation-sym, IsPermutation-trans}
+use Rattle.std.proofs.lemmas.List.Sorted.{IsPermutation-cons, IsPermutation-map, IsPermutation-append_left}
+use Rattle.std.proofs.lemmas.List.Sorted.{IsPermutation-middle}
 use Rattle.lemmas.proofs.Booleans.{cond-same}
 use Rattle.store_rows.proofs.ContentsLemmas.{columns_from, meets_from, puts, takes, each_table, held_at}
 
@@ -60,124 +66,186 @@ kept_cast (c ∷ columns) [] h = absurd h
 kept_cast (c ∷ columns) (v ∷ row) h = ap₂ ◌∷◌ h.0 (kept_cast columns row h.1)
 
 -- what a row with a rowid shows
-pub shown_of : (table : Table) (id : Value) (row : Row) → length table.columns ≡ length row → shown table (id ∷ row) ≡ row
+pub shown_of : (table : Table) (id : Value) (row : Row) → length table.columns ≡ length row
+    → shown table (id ∷ row) ≡ row
 shown_of table id row e = columns_from (id ∷ row) 1 (length table.columns) (omega (arith, e))
 
 -- ---- INSERT
 
-one_row : (params : Row) (terms : List Term) → 0 < length terms → value_rows params (length terms) (length terms / length terms) terms ≡ eval_all terms (params ∷ []) ∷ []
+one_row : (params : Row) (terms : List Term) → 0 < length terms
+    → value_rows params (length terms) (length terms / length terms) terms ≡ eval_all terms (params ∷ []) ∷ []
 one_row params terms some = rw (div_self some, take_all (length terms) terms (omega arith)) refl
 
 length_terms : (n : ℕ) → length (lit Null ∷ map (col 0) (range_with_len 0 n)) ≡ n + 1
 length_terms n = omega (arith, length-map-range_with_len (col 0) 0 n)
 
-pub put_in : (schema : Schema) (at : ℕ) (table : Table) (sql : List ℕ) (row : Row) (old new : State) (count : ℕ) (contents : Contents) → PutsIn schema at table sql → AreKept table.columns row
-    → HasContents schema contents old.now → Executes sql row old new (Ok count) → HasContents schema (in_table table (with_row row) contents) new.now
+pub put_in : (schema : Schema) (at : ℕ) (table : Table) (sql : List ℕ) (row : Row) (old new : State) (count : ℕ)
+    (contents : Contents) → PutsIn schema at table sql → AreKept table.columns row
+    → HasContents schema contents old.now → Executes sql row old new (Ok count)
+    → HasContents schema (in_table table (with_row row) contents) new.now
 put_in schema at table sql row old new count contents text kept was h =
     let width = length table.columns in
     let terms = lit Null ∷ map (col 0) (range_with_len 0 width) in
-    let w = runs_as sql row old new schema was.schema_is (Insert at (Values terms (width + 1))) text.command text.plain count h in
-    let it = inserts old new schema was.schema_is at table text.there.found (statement_of sql (understood schema sql)) row count terms (width + 1) text.uncounted text.timeless w in
+    let w = runs_as sql row old new schema was.schema_is (Insert at (Values terms (width + 1))) text.command text.plain
+    count h in
+    let it = inserts old new schema was.schema_is at table text.there.found (statement_of sql (understood schema sql))
+    row count terms (width + 1) text.uncounted text.timeless w in
     let rows = old.now.trees table.tree in
     let new_row = Int (next_rowid rows) ∷ row in
     let long : length terms ≡ width + 1 = length_terms width in
     let source : it.0 ≡ (Null ∷ row) ∷ [] =
     it.1 ∙ ap (λ k. value_rows row k (length terms / k) terms) (sym long) ∙ one_row row terms (omega (arith, long))
-    ∙ ap (λ cells. (Null ∷ cells) ∷ []) (map-map (λ t. eval t (row ∷ [])) (col 0) (range_with_len 0 width) ∙ columns_from row 0 width (omega (arith, kept_length table.columns row kept))) in
+    ∙ ap (λ cells. (Null ∷ cells) ∷ []) (map-map (λ t. eval t (row ∷ [])) (col 0) (range_with_len 0 width)
+    ∙ columns_from row 0 width (omega (arith, kept_length table.columns row kept))) in
     let news : (edit_of old.now.trees table [] Chosen 0 it.0).news ≡ new_row ∷ [] =
-    ap (λ all. (edit_of old.now.trees table [] Chosen 0 all).news) source ∙ ap₂ (λ id cells. with_rowid Chosen rows (id ∷ cells) ∷ []) cast_null (kept_cast table.columns row kept) in
+    ap (λ all. (edit_of old.now.trees table [] Chosen 0 all).news) source
+    ∙ ap₂ (λ id cells. with_rowid Chosen rows (id ∷ cells) ∷ []) cast_null (kept_cast table.columns row kept) in
     let put = puts_one schema table old.now.trees new.now.trees it.0 new_row news it.3 in
     let holds_now = held_at schema at table contents old.now.trees text.there was.tables in
-    let done = subst (λ cells. AreRows table (cells ∷ contents table.tree) (put_row new_row rows)) (shown_of table (Int (next_rowid rows)) row (kept_length table.columns row kept)) (puts table _ _ new_row put.0 refl holds_now) in
-    record { schema_is = it.2; tables = each_table table (with_row row) contents old.now.trees new.now.trees (rw put.1 done) schema.tables text.there.alone was.tables put.2.tables }
+    let done = subst (λ cells. AreRows table (cells ∷ contents table.tree) (put_row new_row rows))
+    (shown_of table (Int (next_rowid rows)) row (kept_length table.columns row kept))
+    (puts table _ _ new_row put.0 refl holds_now) in
+    record {
+      schema_is = it.2;
+      tables = each_table table (with_row row) contents old.now.trees new.now.trees
+          (rw put.1 done) schema.tables text.there.alone was.tables put.2.tables;
+    }
 
 -- ---- DELETE
 
 -- the rows of a table that have a key, as the tests of a statement find them
-pub found_by_key : (table : Table) (width : ℕ) (params : Row) → width ≤ length params → width ≤ length table.columns → (rows : List Row)
-    → filter (λ r. list_all (holds (params ∷ r ∷ [])) (key_tests 0 width)) rows ≡ filter (λ r. has_key (take width params) (shown table r)) rows
-found_by_key table width params e le rows = filter_same _ _ rows (λ r h. meets_from params r 0 width (length table.columns) (omega (arith, e)) le)
+pub found_by_key : (table : Table) (width : ℕ) (params : Row) → width ≤ length params → width ≤ length table.columns
+    → (rows : List Row)
+    → filter (λ r. list_all (holds (params ∷ r ∷ [])) (key_tests 0 width)) rows ≡ filter
+    (λ r. has_key (take width params) (shown table r)) rows
+found_by_key table width params e le rows = filter_same _ _ rows
+    (λ r h. meets_from params r 0 width (length table.columns) (omega (arith, e)) le)
 
-pub take_out : (schema : Schema) (at : ℕ) (table : Table) (width : ℕ) (sql : List ℕ) (key : Row) (old new : State) (count : ℕ) (contents : Contents) → TakesOut schema at table width sql → width ≡ length key
-    → HasContents schema contents old.now → Executes sql key old new (Ok count) → HasContents schema (in_table table (without key) contents) new.now
+pub take_out : (schema : Schema) (at : ℕ) (table : Table) (width : ℕ) (sql : List ℕ) (key : Row) (old new : State)
+    (count : ℕ) (contents : Contents) → TakesOut schema at table width sql → width ≡ length key
+    → HasContents schema contents old.now → Executes sql key old new (Ok count)
+    → HasContents schema (in_table table (without key) contents) new.now
 take_out schema at table width sql key old new count contents text e was h =
     let q : Program = record { lets = []; body = scan_by table.tree (key_tests 0 width) (col 1 0 ∷ []) [] } in
     let w = runs_as sql key old new schema was.schema_is (Delete at q) text.command text.plain count h in
-    let it = deletes old new schema was.schema_is at table text.there.found (statement_of sql (understood schema sql)) key count q w in
+    let it = deletes old new schema was.schema_is at table text.there.found (statement_of sql (understood schema sql))
+    key count q w in
     let db = old.now.trees in
     let rows = db table.tree in
-    let done = one_step schema Enforced db new.now.trees (edit_of db table (ids_of it.0) Given 0 []) (text.free _) it.3 in
-    let found = ids_shown (λ r. rowid r ∷ []) (λ r. refl) _ it.0 (subst (λ l. IsPermutation (map (λ r. rowid r ∷ []) l) it.0) (found_by_key table width key (omega (arith, e)) text.narrow rows ∙ ap (λ k. filter (λ r. has_key k (shown table r)) rows) (take_all width key (omega (arith, e))))
+    let done = one_step schema Enforced db new.now.trees (edit_of db table (ids_of it.0) Given 0 []) (text.free _) it.3
+    in
+    let found = ids_shown (λ r. rowid r ∷ []) (λ r. refl) _ it.0
+    (subst (λ l. IsPermutation (map (λ r. rowid r ∷ []) l) it.0)
+    (found_by_key table width key (omega (arith, e)) text.narrow rows
+    ∙ ap (λ k. filter (λ r. has_key k (shown table r)) rows) (take_all width key (omega (arith, e))))
     (scans table.tree (key_tests 0 width) (col 1 0 ∷ []) [] db key it.0 it.1.answer)) in
-    let left = takes table (contents table.tree) rows (has_key key) (ids_of it.0) found (held_at schema at table contents db text.there was.tables) in
-    record { schema_is = it.2; tables = each_table table (without key) contents db new.now.trees (rw done.rows left) schema.tables text.there.alone was.tables done.tables }
+    let left = takes table (contents table.tree) rows (has_key key) (ids_of it.0) found
+    (held_at schema at table contents db text.there was.tables) in
+    record {
+      schema_is = it.2;
+      tables = each_table table (without key) contents db new.now.trees (rw done.rows left)
+          schema.tables text.there.alone was.tables done.tables;
+    }
 
 -- ---- DELETE of a parent
 
-take_out_row : (schema : Schema) (at : ℕ) (table : Table) (children : List Table) (sql : List ℕ) (k : Value) (old new : State) (count : ℕ) (contents : Contents) → TakesOutParent schema at table children sql
-    → HaveNone children (k ∷ []) contents → HasContents schema contents old.now → Executes sql (k ∷ []) old new (Ok count) → HasContents schema (in_table table (without (k ∷ [])) contents) new.now
+take_out_row : (schema : Schema) (at : ℕ) (table : Table) (children : List Table) (sql : List ℕ) (k : Value)
+    (old new : State) (count : ℕ) (contents : Contents) → TakesOutParent schema at table children sql
+    → HaveNone children (k ∷ []) contents → HasContents schema contents old.now
+    → Executes sql (k ∷ []) old new (Ok count) → HasContents schema (in_table table (without (k ∷ [])) contents)
+    new.now
 take_out_row schema at table children sql k old new count contents text none was h =
     let key = k ∷ [] in
     let q : Program = record { lets = []; body = scan_by table.tree (key_tests 0 1) (col 1 0 ∷ []) [] } in
     let w = runs_as sql key old new schema was.schema_is (Delete at q) text.command text.plain count h in
-    let it = deletes old new schema was.schema_is at table text.there.found (statement_of sql (understood schema sql)) key count q w in
+    let it = deletes old new schema was.schema_is at table text.there.found (statement_of sql (understood schema sql))
+    key count q w in
     let db = old.now.trees in
     let rows = db table.tree in
     let holds_now = held_at schema at table contents db text.there was.tables in
-    let found = ids_shown (λ r. rowid r ∷ []) (λ r. refl) _ it.0 (subst (λ l. IsPermutation (map (λ r. rowid r ∷ []) l) it.0) (found_by_key table 1 key (omega arith) text.narrow rows)
+    let found = ids_shown (λ r. rowid r ∷ []) (λ r. refl) _ it.0
+    (subst (λ l. IsPermutation (map (λ r. rowid r ∷ []) l) it.0)
+    (found_by_key table 1 key (omega arith) text.narrow rows)
     (scans table.tree (key_tests 0 1) (col 1 0 ∷ []) [] db key it.0 it.1.answer)) in
     let edit = edit_of db table (ids_of it.0) Given 0 [] in
     let done = step_then_idle schema Enforced db new.now.trees edit (λ mid applied work has.
-    idle_cascade schema table children k contents db mid (taken_by db edit) was.tables applied.tables text.children_there none text.narrow (taken_meets table _ rows (has_key key) (ids_of it.0) holds_now found) work
-    (cascades_from schema Enforced 0 table.tree (taken_by db edit) [] (IsCascade children (taken_by db edit)) (text.acts (taken_by db edit)) work has)) it.3 in
+    idle_cascade schema table children k contents db mid (taken_by db edit) was.tables applied.tables
+    text.children_there none text.narrow (taken_meets table _ rows (has_key key) (ids_of it.0) holds_now found) work
+    (cascades_from schema Enforced 0 table.tree (taken_by db edit) [] (IsCascade children (taken_by db edit))
+    (text.acts (taken_by db edit)) work has)) it.3 in
     let left = takes table (contents table.tree) rows (has_key key) (ids_of it.0) found holds_now in
-    record { schema_is = it.2; tables = each_table table (without key) contents db new.now.trees (rw done.rows left) schema.tables text.there.alone was.tables done.tables }
+    record {
+      schema_is = it.2;
+      tables = each_table table (without key) contents db new.now.trees (rw done.rows left)
+          schema.tables text.there.alone was.tables done.tables;
+    }
 
-pub take_out_parent : (schema : Schema) (at : ℕ) (table : Table) (children : List Table) (sql : List ℕ) (key : Row) (old new : State) (count : ℕ) (contents : Contents) → length key ≡ 1 → TakesOutParent schema at table children sql
-    → HaveNone children key contents → HasContents schema contents old.now → Executes sql key old new (Ok count) → HasContents schema (in_table table (without key) contents) new.now
+pub take_out_parent : (schema : Schema) (at : ℕ) (table : Table) (children : List Table) (sql : List ℕ) (key : Row)
+    (old new : State) (count : ℕ) (contents : Contents) → length key ≡ 1 → TakesOutParent schema at table children sql
+    → HaveNone children key contents → HasContents schema contents old.now → Executes sql key old new (Ok count)
+    → HasContents schema (in_table table (without key) contents) new.now
 take_out_parent schema at table children sql [] old new count contents one text none was h = absurd (omega arith)
-take_out_parent schema at table children sql (k ∷ []) old new count contents one text none was h = take_out_row schema at table children sql k old new count contents text none was h
-take_out_parent schema at table children sql (k ∷ l ∷ key) old new count contents one text none was h = absurd (omega arith)
+take_out_parent schema at table children sql (k ∷ []) old new count contents one text none was h =
+    take_out_row schema at table children sql k old new count contents text none was h
+take_out_parent schema at table children sql (k ∷ l ∷ key) old new count contents one text none was h =
+    absurd (omega arith)
 
 -- ---- UPDATE
 
-puts_all : (table : Table) (news held rows : List Row) → are_fresh rows news ≡ true → have_rowids news ≡ true → AreRows table held rows → AreRows table (map (shown table) news ++ held) (put_all rows news)
+puts_all : (table : Table) (news held rows : List Row) → are_fresh rows news ≡ true → have_rowids news ≡ true
+    → AreRows table held rows → AreRows table (map (shown table) news ++ held) (put_all rows news)
 puts_all table [] held rows fresh keyed h = h
 puts_all table (n ∷ news) held rows fresh keyed h =
     let free = and_parts _ _ fresh in
     let ids = and_parts _ _ keyed in
     let one = puts table held rows n (not-true _ free.0) ids.0 h in
     let all = puts_all table news (shown table n ∷ held) (put_row n rows) free.1 ids.1 one in
-    record { same = IsPermutation-trans _ _ _ (IsPermutation-sym _ _ (IsPermutation-middle (map (shown table) news) (shown table n) held)) all.same; numbered = all.numbered }
+    record {
+      same = IsPermutation-trans _ _ _ (IsPermutation-sym _ _
+          (IsPermutation-middle (map (shown table) news) (shown table n) held)) all.same;
+      numbered = all.numbered;
+    }
 
 -- the rows that have the key, each become this one, and the others
-in_place_parts : (key row : Row) (rows : List Row) → IsPermutation (in_place key row rows) (map (λ r. row) (filter (has_key key) rows) ++ without key rows)
+in_place_parts : (key row : Row) (rows : List Row) → IsPermutation (in_place key row rows)
+    (map (λ r. row) (filter (has_key key) rows) ++ without key rows)
 in_place_parts key row [] = IsPermutation-refl []
 in_place_parts key row (r ∷ rows) = go (has_key key r) refl (in_place_parts key row rows)
   where
-    go : (b : Bool) → has_key key r ≡ b → IsPermutation (in_place key row rows) (map (λ r. row) (filter (has_key key) rows) ++ without key rows)
-        → IsPermutation (in_place key row (r ∷ rows)) (map (λ r. row) (filter (has_key key) (r ∷ rows)) ++ without key (r ∷ rows))
+    go : (b : Bool) → has_key key r ≡ b → IsPermutation (in_place key row rows)
+        (map (λ r. row) (filter (has_key key) rows) ++ without key rows)
+        → IsPermutation (in_place key row (r ∷ rows)) (map (λ r. row) (filter (has_key key) (r ∷ rows))
+        ++ without key (r ∷ rows))
     go true e later = rw e (IsPermutation-cons row _ _ later)
     go false e later =
-        rw e (IsPermutation-trans _ _ _ (IsPermutation-cons r _ _ later) (IsPermutation-sym _ _ (IsPermutation-middle (map (λ r. row) (filter (has_key key) rows)) r (without key rows))))
+        rw e (IsPermutation-trans _ _ _ (IsPermutation-cons r _ _ later)
+        (IsPermutation-sym _ _ (IsPermutation-middle (map (λ r. row) (filter (has_key key) rows)) r
+        (without key rows))))
 
-updates_free : (schema : Schema) (tree : ℕ) (olds : List Row) (new : Row) (news : List Row) → works_of_update schema tree olds (new ∷ news) ≡ [] → works schema Enforced 0 tree olds (new ∷ news) ≡ []
+updates_free : (schema : Schema) (tree : ℕ) (olds : List Row) (new : Row) (news : List Row)
+    → works_of_update schema tree olds (new ∷ news) ≡ [] → works schema Enforced 0 tree olds (new ∷ news) ≡ []
 updates_free schema tree olds new news free =
     let some : (suc (length news) == 0) ≡ false = ne_eqb (suc (length news)) 0 (omega arith) in
-    subst (λ b. flat_map (λ child. filter_map (λ ref. work_by 0 tree (pairs olds (new ∷ news)) child ref (deed_for Enforced b ref) (parent_key schema.tables ref)) child.references) schema.tables ≡ []) (sym some) free
+    subst (λ b. flat_map (λ child. filter_map (λ ref. work_by 0 tree (pairs olds (new ∷ news)) child ref
+    (deed_for Enforced b ref) (parent_key schema.tables ref)) child.references) schema.tables ≡ []) (sym some) free
 
-free_of : (schema : Schema) (table : Table) (db : Trees) → ((olds news : List Row) → works_of_update schema table.tree olds news ≡ []) → (found : List Row)
-    → works schema Enforced 0 table.tree (taken_by db (edit_of db table (ids_of found) Given 1 found)) (edit_of db table (ids_of found) Given 1 found).news ≡ []
+free_of : (schema : Schema) (table : Table) (db : Trees) → ((olds news : List Row)
+    → works_of_update schema table.tree olds news ≡ []) → (found : List Row)
+    → works schema Enforced 0 table.tree (taken_by db (edit_of db table (ids_of found) Given 1 found))
+    (edit_of db table (ids_of found) Given 1 found).news ≡ []
 free_of schema table db free [] = no_works schema Enforced 0 table.tree []
 free_of schema table db free (x ∷ found) =
     let edit = edit_of db table (ids_of (x ∷ found)) Given 1 (x ∷ found) in
     let one = cast_row table (drop 1 x) in
     let more = map (λ s. cast_row table (drop 1 s)) found in
-    subst (λ news. works schema Enforced 0 table.tree (taken_by db edit) news ≡ []) (sym (given (without_all (db table.tree) (ids_of (x ∷ found))) (one ∷ more)))
+    subst (λ news. works schema Enforced 0 table.tree (taken_by db edit) news ≡ [])
+    (sym (given (without_all (db table.tree) (ids_of (x ∷ found))) (one ∷ more)))
     (updates_free schema table.tree (taken_by db edit) one more (free (taken_by db edit) (one ∷ more)))
 
-pub put_in_place : (schema : Schema) (at : ℕ) (table : Table) (width : ℕ) (sql : List ℕ) (row : Row) (old new : State) (count : ℕ) (contents : Contents) → PutsInPlace schema at table width sql → AreKept table.columns row
-    → HasContents schema contents old.now → Executes sql row old new (Ok count) → HasContents schema (in_table table (in_place (take width row) row) contents) new.now
+pub put_in_place : (schema : Schema) (at : ℕ) (table : Table) (width : ℕ) (sql : List ℕ) (row : Row) (old new : State)
+    (count : ℕ) (contents : Contents) → PutsInPlace schema at table width sql → AreKept table.columns row
+    → HasContents schema contents old.now → Executes sql row old new (Ok count)
+    → HasContents schema (in_table table (in_place (take width row) row) contents) new.now
 put_in_place schema at table width sql row old new count contents text kept was h =
     let key = take width row in
     let n = length table.columns in
@@ -185,32 +253,50 @@ put_in_place schema at table width sql row old new count contents text kept was 
     let project = col 1 0 ∷ col 1 0 ∷ map (col 0) (range_with_len 0 n) in
     let q : Program = record { lets = []; body = scan_by table.tree (key_tests 0 width) project [] } in
     let w = runs_as sql row old new schema was.schema_is (Update at q) text.command text.plain count h in
-    let it = updates old new schema was.schema_is at table text.there.found (statement_of sql (understood schema sql)) row count q w in
+    let it = updates old new schema was.schema_is at table text.there.found (statement_of sql (understood schema sql))
+    row count q w in
     let db = old.now.trees in
     let rows = db table.tree in
     let held = contents table.tree in
     let holds_now = held_at schema at table contents db text.there was.tables in
     let some = filter (λ r. has_key key (shown table r)) rows in
     let cells : (r : Row) → eval_all project (row ∷ r ∷ []) ≡ rowid r ∷ rowid r ∷ row = λ r.
-    ap (λ values. rowid r ∷ rowid r ∷ values) (map-map (λ t. eval t (row ∷ r ∷ [])) (col 0) (range_with_len 0 n) ∙ columns_from row 0 n (omega (arith, long))) in
+    ap (λ values. rowid r ∷ rowid r ∷ values) (map-map (λ t. eval t (row ∷ r ∷ [])) (col 0) (range_with_len 0 n)
+    ∙ columns_from row 0 n (omega (arith, long))) in
     let scan = scans table.tree (key_tests 0 width) project [] db row it.0 it.1.answer in
     let found : IsPermutation (map (λ r. rowid r ∷ rowid r ∷ row) some) it.0 =
-    subst (λ l. IsPermutation (map (λ r. rowid r ∷ rowid r ∷ row) l) it.0) (found_by_key table width row (omega (arith, long, text.narrow)) text.narrow rows)
-    (subst (λ l. IsPermutation l it.0) (λ i. map (λ r. cells r i) (filter (λ r. list_all (holds (row ∷ r ∷ [])) (key_tests 0 width)) rows)) scan) in
+    subst (λ l. IsPermutation (map (λ r. rowid r ∷ rowid r ∷ row) l) it.0)
+    (found_by_key table width row (omega (arith, long, text.narrow)) text.narrow rows)
+    (subst (λ l. IsPermutation l it.0) (λ i. map (λ r. cells r i)
+    (filter (λ r. list_all (holds (row ∷ r ∷ [])) (key_tests 0 width)) rows)) scan) in
     let ids = ids_shown (λ r. rowid r ∷ rowid r ∷ row) (λ r. refl) some it.0 found in
     let edit = edit_of db table (ids_of it.0) Given 1 it.0 in
     let done = one_step schema Enforced db new.now.trees edit (free_of schema table db text.free it.0) it.3 in
     let left = takes table held rows (has_key key) (ids_of it.0) ids holds_now in
-    let news : edit.news ≡ map (λ s. cast_row table (drop 1 s)) it.0 = given (without_all rows (ids_of it.0)) (map (λ s. cast_row table (drop 1 s)) it.0) in
-    let seen : (r : Row) → shown table (cast_row table (rowid r ∷ row)) ≡ row = λ r. ap (λ values. shown table (cast Integer (rowid r) ∷ values)) (kept_cast table.columns row kept) ∙ shown_of table _ row long in
+    let news : edit.news ≡ map (λ s. cast_row table (drop 1 s)) it.0 =
+    given (without_all rows (ids_of it.0)) (map (λ s. cast_row table (drop 1 s)) it.0) in
+    let seen : (r : Row) → shown table (cast_row table (rowid r ∷ row)) ≡ row =
+    λ r. ap (λ values. shown table (cast Integer (rowid r) ∷ values)) (kept_cast table.columns row kept)
+    ∙ shown_of table _ row long in
     let new_rows : IsPermutation (map (λ r. row) some) (map (shown table) edit.news) =
-    subst (IsPermutation (map (λ r. row) some)) (sym (ap (map (shown table)) news ∙ map-map (shown table) (λ s. cast_row table (drop 1 s)) it.0))
-    (subst (λ l. IsPermutation l (map (λ s. shown table (cast_row table (drop 1 s))) it.0)) (map-map (λ s. shown table (cast_row table (drop 1 s))) (λ r. rowid r ∷ rowid r ∷ row) some ∙ (λ i. map (λ r. seen r i) some))
+    subst (IsPermutation (map (λ r. row) some)) (sym (ap (map (shown table)) news
+    ∙ map-map (shown table) (λ s. cast_row table (drop 1 s)) it.0))
+    (subst (λ l. IsPermutation l (map (λ s. shown table (cast_row table (drop 1 s))) it.0))
+    (map-map (λ s. shown table (cast_row table (drop 1 s))) (λ r. rowid r ∷ rowid r ∷ row) some
+    ∙ (λ i. map (λ r. seen r i) some))
     (IsPermutation-map (λ s. shown table (cast_row table (drop 1 s))) _ _ found)) in
     let were : IsPermutation (map (λ r. row) (filter (has_key key) held)) (map (λ r. row) some) =
-    subst (IsPermutation (map (λ r. row) (filter (has_key key) held))) (ap (map (λ r. row)) (filter-map (has_key key) (shown table) rows) ∙ map-map (λ r. row) (shown table) some)
+    subst (IsPermutation (map (λ r. row) (filter (has_key key) held)))
+    (ap (map (λ r. row)) (filter-map (has_key key) (shown table) rows) ∙ map-map (λ r. row) (shown table) some)
     (IsPermutation-map (λ r. row) _ _ (IsPermutation-filter (has_key key) _ _ holds_now.same)) in
     let all = puts_all table edit.news (without key held) (without_all rows (ids_of it.0)) done.fresh done.keyed left in
-    let same = IsPermutation-trans _ _ _ (in_place_parts key row held) (IsPermutation-trans _ _ _ (IsPermutation-append_left (without key held) _ _ (IsPermutation-trans _ _ _ were new_rows)) all.same) in
-    let now : AreRows table (in_place key row held) (edited db edit) = record { same = same; numbered = all.numbered } in
-    record { schema_is = it.2; tables = each_table table (in_place key row) contents db new.now.trees (rw done.rows now) schema.tables text.there.alone was.tables done.tables }
+    let same = IsPermutation-trans _ _ _ (in_place_parts key row held)
+    (IsPermutation-trans _ _ _ (IsPermutation-append_left (without key held) _ _
+    (IsPermutation-trans _ _ _ were new_rows)) all.same) in
+    let now : AreRows table (in_place key row held) (edited db edit) = record { same = same; numbered = all.numbered }
+    in
+    record {
+      schema_is = it.2;
+      tables = each_table table (in_place key row) contents db new.now.trees (rw done.rows now)
+          schema.tables text.there.alone was.tables done.tables;
+    }

@@ -1,5 +1,6 @@
 -- What a statement's text means under a schema, where it writes the rows of one table or reads them.
-use Rattle.std.specs.Prelude.{◌≡◌, ◌≢◌, ◌≤◌, ◌+◌, ◌==◌, ◌||◌, ℕ, zero, suc, Bool, true, false, not, pos, negsuc, List, [], ◌∷◌, map, length, slice_get, Some, None, IfSome}
+use Rattle.std.specs.Prelude.{◌≡◌, ◌≢◌, ◌≤◌, ◌+◌, ◌==◌, ◌||◌, ℕ, zero, suc, Bool, true, false, not, pos, negsuc, List}
+use Rattle.std.specs.Prelude.{[], ◌∷◌, map, length, slice_get, Some, None, IfSome}
 use Rattle.std.specs.List.{AllByRecursion, list_all, flat_map, filter_map, range_with_len}
 use Rattle.sqlite.specs.declared.types.Value.TheVariants.{Null, Int}
 use Rattle.sqlite.specs.Order.{Row}
@@ -53,12 +54,14 @@ scan_by tree tests project order = record {
 -- the table is there, and its tree is no other table's
 pub record IsTableOf (schema : Schema) (at : ℕ) (table : Table) : Type 0 where
   pub found : slice_get schema.tables at ≡ Some table
-  pub alone : list_all (λ (t : Table). not (t.tree == table.tree) || (length t.columns == length table.columns)) schema.tables ≡ true
+  pub alone : list_all (λ (t : Table). not (t.tree == table.tree) || (length t.columns == length table.columns))
+      schema.tables ≡ true
 
 -- INSERT of one row, whose columns are the parameters
 pub record PutsIn (schema : Schema) (at : ℕ) (table : Table) (sql : List ℕ) : Type 0 where
   pub there : IsTableOf schema at table
-  pub command : command_of (understood schema sql) ≡ Insert at (Values (lit Null ∷ map (col 0) (range_with_len 0 (length table.columns))) (length table.columns + 1))
+  pub command : command_of (understood schema sql) ≡ Insert at
+      (Values (lit Null ∷ map (col 0) (range_with_len 0 (length table.columns))) (length table.columns + 1))
   pub plain : IsPlain (understood schema sql)
   pub uncounted : table.is_counted ≡ false
   pub timeless : table.stamps.terms ≡ []
@@ -66,7 +69,8 @@ pub record PutsIn (schema : Schema) (at : ℕ) (table : Table) (sql : List ℕ) 
 -- DELETE of the rows whose first columns are so many parameters, which sets off no action of a foreign key
 pub record TakesOut (schema : Schema) (at : ℕ) (table : Table) (width : ℕ) (sql : List ℕ) : Type 0 where
   pub there : IsTableOf schema at table
-  pub command : command_of (understood schema sql) ≡ Delete at (record { lets = []; body = scan_by table.tree (key_tests 0 width) (col 1 0 ∷ []) [] })
+  pub command : command_of (understood schema sql) ≡ Delete at
+      (record { lets = []; body = scan_by table.tree (key_tests 0 width) (col 1 0 ∷ []) [] })
   pub narrow : width ≤ length table.columns
   pub plain : IsPlain (understood schema sql)
   pub free : (olds : List Row) → works schema Enforced 0 table.tree olds [] ≡ []
@@ -74,13 +78,18 @@ pub record TakesOut (schema : Schema) (at : ℕ) (table : Table) (width : ℕ) (
 -- what an UPDATE of a table's rows sets off
 abbrev pub works_of_update : Schema → ℕ → List Row → List Row → List Work
 works_of_update schema tree olds news =
-    flat_map (λ child. filter_map (λ ref. work_by 0 tree (pairs olds news) child ref (deed_for Enforced false ref) (parent_key schema.tables ref)) child.references) schema.tables
+    flat_map (λ child. filter_map (λ ref. work_by 0 tree (pairs olds news) child ref (deed_for Enforced false ref)
+    (parent_key schema.tables ref)) child.references) schema.tables
 
 -- UPDATE of the rows whose first columns are so many parameters, where the parameters are the new row
 pub record PutsInPlace (schema : Schema) (at : ℕ) (table : Table) (width : ℕ) (sql : List ℕ) : Type 0 where
   pub there : IsTableOf schema at table
   pub command : command_of (understood schema sql)
-      ≡ Update at (record { lets = []; body = scan_by table.tree (key_tests 0 width) (col 1 0 ∷ col 1 0 ∷ map (col 0) (range_with_len 0 (length table.columns))) [] })
+      ≡ Update at (record {
+        lets = [];
+        body = scan_by table.tree (key_tests 0 width)
+            (col 1 0 ∷ col 1 0 ∷ map (col 0) (range_with_len 0 (length table.columns))) [];
+      })
   pub plain : IsPlain (understood schema sql)
   pub narrow : width ≤ length table.columns
   pub free : (olds news : List Row) → works_of_update schema table.tree olds news ≡ []
@@ -97,19 +106,28 @@ pub record IsCascade (children : List Table) (olds : List Row) (w : Work) : Type
 
 -- DELETE of the rows whose first column is the parameter, which sets off the deletion of rows of other tables that
 -- refer to it
-pub record TakesOutParent (schema : Schema) (at : ℕ) (table : Table) (children : List Table) (sql : List ℕ) : Type 0 where
+pub record TakesOutParent (schema : Schema) (at : ℕ) (table : Table) (children : List Table) (sql : List ℕ) :
+    Type 0 where
   pub there : IsTableOf schema at table
-  pub command : command_of (understood schema sql) ≡ Delete at (record { lets = []; body = scan_by table.tree (key_tests 0 1) (col 1 0 ∷ []) [] })
+  pub command : command_of (understood schema sql) ≡ Delete at
+      (record { lets = []; body = scan_by table.tree (key_tests 0 1) (col 1 0 ∷ []) [] })
   pub plain : IsPlain (understood schema sql)
   pub narrow : 1 ≤ length table.columns
-  pub children_there : AllByRecursion (λ t. Has schema.tables t × (t.tree ≢ table.tree) × (1 ≤ length t.columns)) children
-  pub acts : (olds : List Row) → AllByRecursion (λ child. AllByRecursion (λ ref. IfSome (work_for schema Enforced 0 table.tree olds [] child ref) (IsCascade children olds)) child.references) schema.tables
+  pub children_there : AllByRecursion (λ t. Has schema.tables t × (t.tree ≢ table.tree) × (1 ≤ length t.columns))
+      children
+  pub acts : (olds : List Row) → AllByRecursion (λ child. AllByRecursion
+      (λ ref. IfSome (work_for schema Enforced 0 table.tree olds [] child ref) (IsCascade children olds))
+      child.references) schema.tables
 
 -- SELECT of all columns of the rows whose first columns are so many parameters, in any order
 pub record ReadsRows (schema : Schema) (table : Table) (width : ℕ) (sql : List ℕ) : Type 0 where
   pub names : List (List ℕ)
   pub order : List (Term × Key)
-  pub command : command_of (understood schema sql) ≡ Select (record { lets = []; body = scan_by table.tree (key_tests 0 width) (map (col 1) (range_with_len 1 (length table.columns))) order }) names
+  pub command : command_of (understood schema sql) ≡ Select (record {
+    lets = [];
+    body = scan_by table.tree (key_tests 0 width) (map (col 1) (range_with_len 1 (length table.columns)))
+        order;
+  }) names
   pub plain : IsPlain (understood schema sql)
   pub unlisted : reads_listing schema sql ≡ false
   pub narrow : width ≤ length table.columns

@@ -36,8 +36,10 @@ pub trait FromRow {
 
 /// What the rows stand for, in their order.
 fn read_all<T: FromRow>(alloc: Global, rows: &[Row]) -> Result<Vec<T::Item>, ReadError>
-    ensures read { IfOk result (λ items. (rows.now ≡ map T.row_of items.items) × AllByRecursion T.has_form items.items) }
-    ensures none { IsErrOf result ReadError.BadRow → (items : List T.Item) → AllByRecursion T.has_form items → ¬ IsPermutation (map T.row_of items) rows.now }
+    ensures read { IfOk result (λ items. (rows.now ≡ map T.row_of items.items)
+        × AllByRecursion T.has_form items.items) }
+    ensures none { IsErrOf result ReadError.BadRow → (items : List T.Item) → AllByRecursion T.has_form items
+        → ¬ IsPermutation (map T.row_of items) rows.now }
 {
     let mut items = Vec::new(alloc);
     for row in rows {
@@ -56,11 +58,15 @@ pub fn load<S: Alter, T: FromRow>(
     sql: &str,
     key: &[ValueRef<'_>],
 ) -> Result<Vec<T::Item>, ReadError>
-    ensures found { HasCleanDisk (state S.Store conn.new) → IfOk result (λ items. (schema : Schema) (table : Table) → ReadsRows schema table (length key.now) sql.now → conn.old.schema ≡ schema
+    ensures found { HasCleanDisk (state S.Store conn.new) → IfOk result
+        (λ items. (schema : Schema) (table : Table) → ReadsRows schema table (length key.now) sql.now
+        → conn.old.schema ≡ schema
         → AreFound table (bound key.now) (map T.row_of items.items) ((state S.Store conn.old).now.trees table.tree)) }
     ensures forms { IfOk result (λ items. AllByRecursion T.has_form items.items) }
-    ensures none { HasCleanDisk (state S.Store conn.new) → IsErrOf result ReadError.BadRow → (schema : Schema) (table : Table) → ReadsRows schema table (length key.now) sql.now → conn.old.schema ≡ schema
-        → (items : List T.Item) → AllByRecursion T.has_form items → ¬ AreFound table (bound key.now) (map T.row_of items) ((state S.Store conn.old).now.trees table.tree) }
+    ensures none { HasCleanDisk (state S.Store conn.new) → IsErrOf result ReadError.BadRow
+        → (schema : Schema) (table : Table) → ReadsRows schema table (length key.now) sql.now → conn.old.schema ≡ schema
+        → (items : List T.Item) → AllByRecursion T.has_form items
+        → ¬ AreFound table (bound key.now) (map T.row_of items) ((state S.Store conn.old).now.trees table.tree) }
     ensures reads { OnlyReads S.Store (IsPlain (understood conn.old.schema sql.now)) conn.old conn.new result }
 {
     let rows = conn.query_all(sql, key)?;

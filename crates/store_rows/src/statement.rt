@@ -7,7 +7,8 @@ ghost use Rattle.sqlite.specs.Values.{bound};
 ghost use Rattle.sqlite.specs.Schema.{Schema};
 ghost use Rattle.sqlite.specs.Table.{Table};
 ghost use Rattle.store_rows.specs.Inside.{StaysInside, Turns};
-ghost use Rattle.store_rows.specs.Rows.{Contents, HasContents, HaveNone, in_table, with_row, with_put, in_place, without};
+ghost use Rattle.store_rows.specs.Rows.{Contents, HasContents, HaveNone, in_table, with_row, with_put, in_place};
+ghost use Rattle.store_rows.specs.Rows.{without};
 ghost use Rattle.store_rows.specs.Texts.{AreKept, PutsIn, PutsInPlace, TakesOut, TakesOutParent};
 
 use sqlite::{Alter, Error, Transaction};
@@ -21,8 +22,10 @@ pub fn insert<S: Alter>(
 ) -> Result<(), Error>
     ensures same_reference { tx.new.conn.ghost_name ≡ tx.old.conn.ghost_name }
     ensures inside { StaysInside S.Store tx.old.conn.now tx.new.conn.now }
-    ensures ok { OnOk result ((schema : Schema) (at : ℕ) (table : Table) → PutsIn schema at table sql.now → AreKept table.columns (bound row.now)
-        → Turns S.Store tx.old.conn.now tx.new.conn.now (HasContents schema) (in_table table (with_row (bound row.now)))) }
+    ensures ok { OnOk result ((schema : Schema) (at : ℕ) (table : Table) → PutsIn schema at table sql.now
+        → AreKept table.columns (bound row.now)
+        → Turns S.Store tx.old.conn.now tx.new.conn.now (HasContents schema)
+        (in_table table (with_row (bound row.now)))) }
 {
     tx.execute(sql, row)?;
     Ok(())
@@ -36,8 +39,10 @@ pub fn remove<S: Alter>(
 ) -> Result<(), Error>
     ensures same_reference { tx.new.conn.ghost_name ≡ tx.old.conn.ghost_name }
     ensures inside { StaysInside S.Store tx.old.conn.now tx.new.conn.now }
-    ensures ok { OnOk result ((schema : Schema) (at : ℕ) (table : Table) → TakesOut schema at table (length key.now) sql.now
-        → Turns S.Store tx.old.conn.now tx.new.conn.now (HasContents schema) (in_table table (without (bound key.now)))) }
+    ensures ok { OnOk result ((schema : Schema) (at : ℕ) (table : Table)
+        → TakesOut schema at table (length key.now) sql.now
+        → Turns S.Store tx.old.conn.now tx.new.conn.now (HasContents schema)
+        (in_table table (without (bound key.now)))) }
 {
     tx.execute(sql, key)?;
     Ok(())
@@ -54,8 +59,11 @@ pub fn put<S: Alter>(
 ) -> Result<(), Error>
     ensures same_reference { tx.new.conn.ghost_name ≡ tx.old.conn.ghost_name }
     ensures inside { StaysInside S.Store tx.old.conn.now tx.new.conn.now }
-    ensures ok { OnOk result ((schema : Schema) (at : ℕ) (table : Table) → TakesOut schema at table (length key.now) removes.now → PutsIn schema at table inserts.now → AreKept table.columns (bound row.now)
-        → Turns S.Store tx.old.conn.now tx.new.conn.now (HasContents schema) (with_put table (bound key.now) (bound row.now))) }
+    ensures ok { OnOk result ((schema : Schema) (at : ℕ) (table : Table)
+        → TakesOut schema at table (length key.now) removes.now → PutsIn schema at table inserts.now
+        → AreKept table.columns (bound row.now)
+        → Turns S.Store tx.old.conn.now tx.new.conn.now (HasContents schema)
+        (with_put table (bound key.now) (bound row.now))) }
 {
     remove(tx, removes, key)?;
     insert(tx, inserts, row)
@@ -71,8 +79,10 @@ pub fn replace<S: Alter>(
 ) -> Result<(), Error>
     ensures same_reference { tx.new.conn.ghost_name ≡ tx.old.conn.ghost_name }
     ensures inside { StaysInside S.Store tx.old.conn.now tx.new.conn.now }
-    ensures ok { OnOk result ((schema : Schema) (at : ℕ) (table : Table) (width : ℕ) → PutsInPlace schema at table width sql.now → AreKept table.columns (bound columns.now)
-        → Turns S.Store tx.old.conn.now tx.new.conn.now (HasContents schema) (in_table table (in_place (take width (bound columns.now)) (bound columns.now)))) }
+    ensures ok { OnOk result ((schema : Schema) (at : ℕ) (table : Table) (width : ℕ)
+        → PutsInPlace schema at table width sql.now → AreKept table.columns (bound columns.now)
+        → Turns S.Store tx.old.conn.now tx.new.conn.now (HasContents schema)
+        (in_table table (in_place (take width (bound columns.now)) (bound columns.now)))) }
 {
     tx.execute(sql, columns)?;
     Ok(())
@@ -87,9 +97,13 @@ pub fn remove_parent<S: Alter>(
 ) -> Result<(), Error>
     ensures same_reference { tx.new.conn.ghost_name ≡ tx.old.conn.ghost_name }
     ensures inside { StaysInside S.Store tx.old.conn.now tx.new.conn.now }
-    ensures ok { OnOk result ((schema : Schema) (at : ℕ) (table : Table) (children : List Table) → TakesOutParent schema at table children sql.now → length parent.now ≡ 1
-        → HasCleanDisk (state S.Store tx.new.conn.now) → (contents : Contents) → HaveNone children (bound parent.now) contents → HasContents schema contents (state S.Store tx.old.conn.now).now
-        → HasContents schema (in_table table (without (bound parent.now)) contents) (state S.Store tx.new.conn.now).now) }
+    ensures ok { OnOk result ((schema : Schema) (at : ℕ) (table : Table) (children : List Table)
+        → TakesOutParent schema at table children sql.now → length parent.now ≡ 1
+        → HasCleanDisk (state S.Store tx.new.conn.now) → (contents : Contents)
+        → HaveNone children (bound parent.now) contents → HasContents schema contents
+        (state S.Store tx.old.conn.now).now
+        → HasContents schema (in_table table (without (bound parent.now)) contents)
+        (state S.Store tx.new.conn.now).now) }
 {
     tx.execute(sql, parent)?;
     Ok(())

@@ -1,5 +1,6 @@
 -- What a text that makes a table makes of the tables before it.
-use Rattle.std.proofs.Common.{◌≡◌, ℕ, List, [], ◌∷◌, ◌++◌, false, None, Ok, Err, Result, OnOk, IfOk, sym, ap, subst, ◌∙◌}
+use Rattle.std.proofs.Common.{◌≡◌, ℕ, List, [], ◌∷◌, ◌++◌, false, None, Ok, Err, Result, OnOk, IfOk, sym, ap, subst}
+use Rattle.std.proofs.Common.{◌∙◌}
 use Rattle.std.specs.List.{AllByRecursion}
 use Rattle.sqlite.specs.Command.TheVariants.{CreateTable}
 use Rattle.sqlite.specs.Schema.{Schema}
@@ -23,11 +24,15 @@ use Rattle.store_schema.specs.Tables.{schema_of}
 use Rattle.store_schema.specs.Create.{IsBlank, HasTables}
 use Rattle.store_schema.specs.Known.{HasRun}
 
-creates_table : (old new : State) (schema : Schema) (text : List ℕ) (table : Table) (count : ℕ) → old.now.schema ≡ schema → command_of (understood schema text) ≡ CreateTable → IsPlain (understood schema text)
-    → statement_of text (understood schema text) ≡ text → table_defined_by text ≡ Ok table → lacks_sequence (created schema table) ≡ false → Executes text [] old new (Ok count)
-    → (new.now.schema ≡ created schema table) × (new.now.trees (next_tree schema) ≡ []) × KeepsRows schema.tables old.now.trees new.now.trees
+creates_table : (old new : State) (schema : Schema) (text : List ℕ) (table : Table) (count : ℕ)
+    → old.now.schema ≡ schema → command_of (understood schema text) ≡ CreateTable → IsPlain (understood schema text)
+    → statement_of text (understood schema text) ≡ text → table_defined_by text ≡ Ok table
+    → lacks_sequence (created schema table) ≡ false → Executes text [] old new (Ok count)
+    → (new.now.schema ≡ created schema table) × (new.now.trees (next_tree schema) ≡ [])
+    × KeepsRows schema.tables old.now.trees new.now.trees
 creates_table old new schema text table count has is plain whole defined counted h =
-    let w = subst (λ t. Writes old new None CreateTable t [] count) whole (runs_as text [] old new schema has CreateTable is plain count h) in
+    let w = subst (λ t. Writes old new None CreateTable t [] count) whole
+    (runs_as text [] old new schema has CreateTable is plain count h) in
     let all = went w.changed in
     let first = went all.1 in
     let made = subst (λ s. CreatesTable s text old.now.trees first.0.schema first.0.trees) has first.1 in
@@ -35,8 +40,13 @@ creates_table old new schema text table count has is plain whole defined counted
     let same : made.table ≡ table = cc in
     let after_it : first.0.schema ≡ created schema table = made.is ∙ ap (created schema) same in
     let plainly : lacks_sequence first.0.schema ≡ false = ap lacks_sequence after_it ∙ counted in
-    let now : new.now ≡ first.0 = ap (λ (p : Tally × Database). p.1) (same_value all.2) ∙ same_value (rw plainly at first.2) in
-    (ap (λ (d : Database). d.schema) now ∙ after_it, ap (λ (d : Database). d.trees (next_tree schema)) now ∙ made.empty, subst (λ (d : Database). KeepsRows schema.tables old.now.trees d.trees) (sym now) made.others)
+    let now : new.now ≡ first.0 = ap (λ (p : Tally × Database). p.1) (same_value all.2)
+    ∙ same_value (rw plainly at first.2) in (
+      ap (λ (d : Database). d.schema) now ∙ after_it,
+      ap (λ (d : Database). d.trees (next_tree schema)) now
+          ∙ made.empty,
+      subst (λ (d : Database). KeepsRows schema.tables old.now.trees d.trees) (sym now) made.others,
+    )
 
 -- over these tables, the text makes the next one
 pub record Makes (text : List ℕ) (made : List Table) (next : Table) : Type 0 where
@@ -48,13 +58,16 @@ pub record Makes (text : List ℕ) (made : List Table) (next : Table) : Type 0 w
   pub place : next_tree (schema_of made) ≡ next.tree
   pub uncounted : lacks_sequence (schema_of (made ++ next ∷ [])) ≡ false
 
-still_empty : (tables : List Table) (old new : Trees) → KeepsRows tables old new → AllByRecursion (λ t. old t.tree ≡ []) tables → AllByRecursion (λ t. new t.tree ≡ []) tables
+still_empty : (tables : List Table) (old new : Trees) → KeepsRows tables old new
+    → AllByRecursion (λ t. old t.tree ≡ []) tables → AllByRecursion (λ t. new t.tree ≡ []) tables
 still_empty [] old new kept was = tt
 still_empty (t ∷ ts) old new kept was = (kept.0 ∙ was.0, still_empty ts old new kept.1 was.1)
 
-makes_table : (text : List ℕ) (made : List Table) (next : Table) → Makes text made next → (old new : State) → HasTables made old.now → HasRun text old new → HasTables (made ++ next ∷ []) new.now
+makes_table : (text : List ℕ) (made : List Table) (next : Table) → Makes text made next → (old new : State)
+    → HasTables made old.now → HasRun text old new → HasTables (made ++ next ∷ []) new.now
 makes_table text made next m old new was ran =
-    let it = creates_table old new (schema_of made) text (record next { tree = 0 }) ran.0 was.schema m.is m.plain m.whole m.defines (ap lacks_sequence m.makes ∙ m.uncounted) ran.1 in
+    let it = creates_table old new (schema_of made) text (record next { tree = 0 }) ran.0 was.schema m.is m.plain
+    m.whole m.defines (ap lacks_sequence m.makes ∙ m.uncounted) ran.1 in
     let place : new.now.trees next.tree ≡ [] = subst (λ n. new.now.trees n ≡ []) m.place it.1 in
     record {
       schema = it.0 ∙ m.makes;
@@ -62,14 +75,20 @@ makes_table text made next m old new was ran =
     }
 
 -- a text that has run over these tables has made the next one
-pub leads_table : {S : Type 0} (g : Ghosts S) (old new : Held S) (text : List ℕ) (made : List Table) (next : Table) → Makes text made next
-    → (HasCleanDisk (state g new) → HasRun text (state g old) (state g new)) → Leads g old new (HasTables made) (HasTables (made ++ next ∷ []))
-leads_table g old new text made next m ran clean was = makes_table text made next m (state g old) (state g new) was (ran clean)
+pub leads_table : {S : Type 0} (g : Ghosts S) (old new : Held S) (text : List ℕ) (made : List Table) (next : Table)
+    → Makes text made next
+    → (HasCleanDisk (state g new) → HasRun text (state g old) (state g new))
+    → Leads g old new (HasTables made) (HasTables (made ++ next ∷ []))
+leads_table g old new text made next m ran clean was = makes_table text made next m (state g old) (state g new) was
+    (ran clean)
 
 -- the same behind what was made before
-pub leads_more : {S : Type 0} (g : Ghosts S) (a b c : Held S) (P : Database → Type 0) (text : List ℕ) (made : List Table) (next : Table) → Makes text made next → StaysInside g b c
-    → Leads g a b P (HasTables made) → (HasCleanDisk (state g c) → HasRun text (state g b) (state g c)) → Leads g a c P (HasTables (made ++ next ∷ []))
-leads_more g a b c P text made next m inside one ran = leads_then g a b c P (HasTables made) (HasTables (made ++ next ∷ [])) inside one (leads_table g b c text made next m ran)
+pub leads_more : {S : Type 0} (g : Ghosts S) (a b c : Held S) (P : Database → Type 0) (text : List ℕ)
+    (made : List Table) (next : Table) → Makes text made next → StaysInside g b c
+    → Leads g a b P (HasTables made) → (HasCleanDisk (state g c) → HasRun text (state g b) (state g c))
+    → Leads g a c P (HasTables (made ++ next ∷ []))
+leads_more g a b c P text made next m inside one ran = leads_then g a b c P (HasTables made)
+    (HasTables (made ++ next ∷ [])) inside one (leads_table g b c text made next m ran)
 
 pub no_table : (db : Database) → IsBlank db → HasTables [] db
 no_table db blank = record { schema = blank; empty = tt }

@@ -1,5 +1,6 @@
 -- The number of the schema: what writing it makes of the empty tables, and what reading it says.
-use Rattle.std.proofs.Common.{◌≡◌, ℕ, List, [], ◌∷◌, codes, pos, IsPermutation, IsTrue, ℤ, map, drop, arith, refl, sym, ap, subst, ◌∙◌}
+use Rattle.std.proofs.Common.{◌≡◌, ℕ, List, [], ◌∷◌, codes, pos, IsPermutation, IsTrue, ℤ, map, drop, arith, refl, sym}
+use Rattle.std.proofs.Common.{ap, subst, ◌∙◌}
 use Rattle.std.proofs.lemmas.List.Sorted.{IsPermutation-refl}
 use Rattle.lemmas.proofs.Booleans.{cond-same}
 use Rattle.sqlite.specs.declared.types.Value.TheVariants.{Null, Int, Text}
@@ -19,7 +20,8 @@ use Rattle.sqlite_tied.specs.Compute.{everything}
 use Rattle.terms.specs.Types.{Text as Bytes, Id}
 use Rattle.terms.specs.Over.{Leads}
 use Rattle.terms.specs.Global.{names_for}
-use Rattle.store_schema.specs.Tables.{meta, sysmod, ver, ifreq, hold, elem, zone, entry, zelem, all_tables, store_schema}
+use Rattle.store_schema.specs.Tables.{meta, sysmod, ver, ifreq, hold, elem, zone, entry, zelem, all_tables}
+use Rattle.store_schema.specs.Tables.{store_schema}
 use Rattle.store_schema.specs.Create.{HasTables}
 use Rattle.store_schema.specs.Inventory.{IsInventory, empty_inventory}
 use Rattle.store_schema.specs.Known.{HasRun}
@@ -57,13 +59,19 @@ unfolding unary
 cast_one = cond-same _ (Int (pos 1))
 
 one_numbered : (row : Row) → IsTrue (is_int (rowid row)) → AreNumbered (row ∷ [])
-one_numbered row keyed = record { sorted = row ∷ []; same = IsPermutation-refl (row ∷ []); rise = (tt, tt); keyed = (keyed, tt) }
+one_numbered row keyed = record {
+  sorted = row ∷ [];
+  same = IsPermutation-refl (row ∷ []);
+  rise = (tt, tt);
+  keyed = (keyed, tt);
+}
 
 no_rows : (table : Table) (rows : List Row) → rows ≡ [] → AreRows table [] rows
 no_rows table rows none = record { same = rw none (IsPermutation-refl []); numbered = rw none none_numbered }
 
 -- no SYSMOD names anything
-no_step : (srel : Bytes) (x : Id) (between : List Id) (z : Id) → ¬ Leads (names_for empty_inventory.global srel) x between z
+no_step : (srel : Bytes) (x : Id) (between : List Id) (z : Id)
+    → ¬ Leads (names_for empty_inventory.global srel) x between z
 no_step srel x [] z named = absurd (let k = named.1 in omega arith)
 no_step srel x (y ∷ ys) z named = absurd (let k = named.0.1 in omega arith)
 
@@ -88,17 +96,21 @@ empty_is_inventory = record {
 }
 
 -- meta has this row, and its rowid
-pub one_setting : (n id : ℤ) (rows : List Row) → map (whole (shown meta)) rows ≡ (Int id ∷ setting_row n) ∷ [] → AreRows meta (setting_row n ∷ []) rows
+pub one_setting : (n id : ℤ) (rows : List Row) → map (whole (shown meta)) rows ≡ (Int id ∷ setting_row n) ∷ []
+    → AreRows meta (setting_row n ∷ []) rows
 one_setting n id rows is = record {
-  same = subst (IsPermutation (setting_row n ∷ [])) (sym (sym (map-map (drop 1) (whole (shown meta)) rows) ∙ ap (map (drop 1)) is)) (IsPermutation-refl (setting_row n ∷ []));
+  same = subst (IsPermutation (setting_row n ∷ [])) (sym (sym (map-map (drop 1) (whole (shown meta)) rows)
+      ∙ ap (map (drop 1)) is)) (IsPermutation-refl (setting_row n ∷ []));
   numbered = rw is (one_numbered (Int id ∷ setting_row n) refl);
 }
 
-pub makes_number : (old new : State) → HasTables all_tables old.now → HasRun insert_meta old new → StandsFor empty_inventory new.now
+pub makes_number : (old new : State) → HasTables all_tables old.now → HasRun insert_meta old new
+    → StandsFor empty_inventory new.now
 makes_number old new was ran =
     let command = Insert 0 (Values meta_terms 3) in
     let w = runs_as insert_meta [] old new store_schema was.schema command insert_is insert_plain ran.0 ran.1 in
-    let it = inserts old new store_schema was.schema 0 meta refl (statement_of insert_meta (understood store_schema insert_meta)) [] ran.0 meta_terms 3 refl refl w in
+    let it = inserts old new store_schema was.schema 0 meta refl
+    (statement_of insert_meta (understood store_schema insert_meta)) [] ran.0 meta_terms 3 refl refl w in
     let row = Int (pos 1) ∷ number_row in
     let is : (edit_of old.now.trees meta [] Chosen 0 it.0).news ≡ row ∷ [] =
     ap (λ all. (edit_of old.now.trees meta [] Chosen 0 all).news) it.1 ∙ rw (was.empty.0, cast_null, cast_one) refl in

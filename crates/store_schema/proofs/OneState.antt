@@ -1,5 +1,6 @@
 -- The rows of a database stand for one inventory at most.
-use Rattle.std.proofs.Common.{◌≡◌, inl, inr, ℕ, List, [], map, IsTrue, AllPairs, false, true≢false, refl, arith, sym, ap, ap₂, subst, ◌∙◌}
+use Rattle.std.proofs.Common.{◌≡◌, inl, inr, ℕ, List, [], map, IsTrue, AllPairs, false, true≢false, refl, arith, sym}
+use Rattle.std.proofs.Common.{ap, ap₂, subst, ◌∙◌}
 use Rattle.std.specs.List.{flat_map, enumerate_from}
 use Rattle.std.proofs.lemmas.Bool.{or_cases, and_parts}
 use Rattle.std.proofs.lemmas.Slice.Eq.{bytes_eq-Decides}
@@ -15,7 +16,8 @@ use Rattle.store_rows.proofs.RowLemmas.{has_permuted, mapped, unmapped}
 use Rattle.terms.specs.declared.kinds.Kind.{Kind}
 use Rattle.terms.specs.declared.kinds.ElemType.{ElemType}
 use Rattle.terms.specs.declared.kinds.ElemType.TheVariants.{Mac, Src, Clist, Data, Exec, Parm, Proc}
-use Rattle.terms.specs.Types.{Text, Id, Lines, hold_number, type_number, IfReq, Ver, Hold, Action, Replaces, Updates, Change, Sysmod, Entry, Element, Zone, NamedZone}
+use Rattle.terms.specs.Types.{Text, Id, Lines, hold_number, type_number, IfReq, Ver, Hold, Action, Replaces, Updates}
+use Rattle.terms.specs.Types.{Change, Sysmod, Entry, Element, Zone, NamedZone}
 use Rattle.std.specs.declared.cmp.Ordering.{Ordering}
 use Rattle.std.specs.Ordering.{is_lt}
 use Rattle.std.specs.Cmp.{IsTotalOrder}
@@ -25,21 +27,27 @@ use Rattle.lemmas.proofs.Orderings.{Less-from_is_lt}
 use Rattle.terms.proofs.ElementOrder.{element_cmp_total}
 use Rattle.terms.proofs.GlobalKept.{hold_cmp_total}
 use Rattle.terms.specs.Forms.{IsId}
-use Rattle.store_schema.specs.Forms.{AreListed, AreRecords, IsTextOf, HasIfForms, HasVerForms, HasActionForms, HasChangeForms, is_change_before, HasSysmodForms, HasEntryForms, HasElementForms}
+use Rattle.store_schema.specs.Forms.{AreListed, AreRecords, IsTextOf, HasIfForms, HasVerForms, HasActionForms}
+use Rattle.store_schema.specs.Forms.{HasChangeForms, is_change_before, HasSysmodForms, HasEntryForms, HasElementForms}
 use Rattle.store_schema.specs.Inventory.{Inventory, IsInventory, IsZoneNamed}
-use Rattle.store_schema.specs.Rows.{sysmod_row, ver_row, vers_of, ifreq_row, ifreqs_of, hold_row, action_cells, elem_row, elems_of, zone_row, entry_row, entries_of, zelem_row, zelems_of, ids}
+use Rattle.store_schema.specs.Rows.{sysmod_row, ver_row, vers_of, ifreq_row, ifreqs_of, hold_row, action_cells}
+use Rattle.store_schema.specs.Rows.{elem_row, elems_of, zone_row, entry_row, entries_of, zelem_row, zelems_of, ids}
 use Rattle.store_schema.specs.Tables.{all_tables}
 use Rattle.store_schema.specs.Create.{IsBlank}
 use Rattle.store_schema.specs.Stands.{StandsFor, HasOneState}
-use Rattle.store_schema.proofs.Lists.{same_sorted, lower_once, one_place, has_all, ascending, ascending_by, flat_has, flat_had, IsLower, numbers_rise, values}
-use Rattle.store_schema.proofs.Spelled.{kind_same, hold_same, type_same, zone_same, or_null_same, flag_same, ids_are_words, sources_are_words, ids_same, text_same, before_once, not_before_same, pair_once}
+use Rattle.store_schema.proofs.Lists.{same_sorted, lower_once, one_place, has_all, ascending, ascending_by, flat_has}
+use Rattle.store_schema.proofs.Lists.{flat_had, IsLower, numbers_rise, values}
+use Rattle.store_schema.proofs.Spelled.{kind_same, hold_same, type_same, zone_same, or_null_same, flag_same}
+use Rattle.store_schema.proofs.Spelled.{ids_are_words, sources_are_words, ids_same, text_same, before_once}
+use Rattle.store_schema.proofs.Spelled.{not_before_same, pair_once}
 
 -- ---- what one row says
 
 pub same_ids : (a b : List Id) → AreListed IsId a → AreListed IsId b → ids a ≡ ids b → a ≡ b
 same_ids a b p q e = ids_same a b (ids_are_words a p) (ids_are_words b q) e
 
-pub if_same : (x y : Id) (a b : IfReq) → HasIfForms x a → HasIfForms y b → (n m : ℕ) (srel other : Text) → ifreq_row x srel (n, a) ≡ ifreq_row y other (m, b) → ◌≡◌ {A = ℕ × IfReq} (n, a) (m, b)
+pub if_same : (x y : Id) (a b : IfReq) → HasIfForms x a → HasIfForms y b → (n m : ℕ) (srel other : Text)
+    → ifreq_row x srel (n, a) ≡ ifreq_row y other (m, b) → ◌≡◌ {A = ℕ × IfReq} (n, a) (m, b)
 if_same x y a b p q n m srel other e =
     let req = same_ids a.req b.req p.req.listed q.req.listed cc in
     let function : a.function ≡ b.function = cc in
@@ -57,7 +65,8 @@ pub record HaveOneHead (a b : Ver) : Type 0 where
   pub npre : a.npre ≡ b.npre
   pub del : a.del ≡ b.del
 
-pub one_head : (j k : Kind) (x y : Id) (a b : Ver) → HasVerForms j x a → HasVerForms k y b → ver_row x a ≡ ver_row y b → HaveOneHead a b
+pub one_head : (j k : Kind) (x y : Id) (a b : Ver) → HasVerForms j x a → HasVerForms k y b → ver_row x a ≡ ver_row y b
+    → HaveOneHead a b
 one_head j k x y a b p q e = record {
   srel = cc;
   fmid = or_null_same a.fmid b.fmid cc;
@@ -107,7 +116,8 @@ are_records Exec text h = h
 are_records Parm text h = h
 are_records Proc text h = h
 
-action_same : (j k : Kind) (s t : ElemType) (n m : Text) (a b : Action) → HasActionForms j s n a → HasActionForms k t m b → action_cells a ≡ action_cells b → a ≡ b
+action_same : (j k : Kind) (s t : ElemType) (n m : Text) (a b : Action) → HasActionForms j s n a
+    → HasActionForms k t m b → action_cells a ≡ action_cells b → a ≡ b
 action_same j k s t n m (Replaces d l x) (Replaces f g y) p q e =
     let text : x ≡ y = text_same x y (are_records s x p.2) (are_records t y q.2) cc in
     let dist : d ≡ f = cc in
@@ -117,16 +127,19 @@ action_same j k s t n m (Replaces d l x) (Updates y) p q e = absurd cc
 action_same j k s t n m (Updates x) (Replaces f g y) p q e = absurd cc
 action_same j k s t n m (Updates x) (Updates y) p q e = ap Updates (text_same x y p.2 q.2 cc)
 
-pub change_is : (j k : Kind) (x y : Id) (a b : Change) → HasChangeForms j a → HasChangeForms k b → elem_row x a ≡ elem_row y b → a ≡ b
+pub change_is : (j k : Kind) (x y : Id) (a b : Change) → HasChangeForms j a → HasChangeForms k b
+    → elem_row x a ≡ elem_row y b → a ≡ b
 change_is j k x y a b p q e =
     let type : a.elem_type ≡ b.elem_type = type_same a.elem_type b.elem_type cc in
     let name : a.name ≡ b.name = cc in
-    let action : a.action ≡ b.action = action_same j k a.elem_type b.elem_type a.name b.name a.action b.action p.action q.action cc in
+    let action : a.action ≡ b.action = action_same j k a.elem_type b.elem_type a.name b.name a.action b.action p.action
+    q.action cc in
     ap (λ z. record a { elem_type = z }) type
     ∙ ap (λ z. record b { name = z; action = a.action }) name
     ∙ ap (λ z. record b { action = z }) action
 
-pub entry_is : (x y : Text) (a b : Entry) → AreListed IsId a.supby → AreListed IsId b.supby → AreListed IsId a.waived → AreListed IsId b.waived → entry_row x a ≡ entry_row y b → a ≡ b
+pub entry_is : (x y : Text) (a b : Entry) → AreListed IsId a.supby → AreListed IsId b.supby → AreListed IsId a.waived
+    → AreListed IsId b.waived → entry_row x a ≡ entry_row y b → a ≡ b
 entry_is x y a b sup_a sup_b waived_a waived_b e =
     let id : a.id ≡ b.id = cc in
     let applied : a.applied ≡ b.applied = or_null_same a.applied b.applied cc in
@@ -139,7 +152,8 @@ entry_is x y a b sup_a sup_b waived_a waived_b e =
     ∙ ap (λ z. record b { delby = z; waived = a.waived }) delby
     ∙ ap (λ z. record b { waived = z }) waived
 
-pub element_is : (x y : Text) (a b : Element) → HasElementForms a → HasElementForms b → zelem_row x a ≡ zelem_row y b → a ≡ b
+pub element_is : (x y : Text) (a b : Element) → HasElementForms a → HasElementForms b → zelem_row x a ≡ zelem_row y b
+    → a ≡ b
 element_is x y a b p q e =
     let type : a.elem_type ≡ b.elem_type = type_same a.elem_type b.elem_type cc in
     let name : a.name ≡ b.name = cc in
@@ -148,7 +162,8 @@ element_is x y a b p q e =
     let umids : a.umids ≡ b.umids = same_ids a.umids b.umids p.umids q.umids cc in
     let dist : a.distlib ≡ b.distlib = cc in
     let sys : a.syslib ≡ b.syslib = cc in
-    let text : a.text ≡ b.text = text_same a.text b.text (are_records a.elem_type a.text p.text) (are_records b.elem_type b.text q.text) cc in
+    let text : a.text ≡ b.text = text_same a.text b.text (are_records a.elem_type a.text p.text)
+    (are_records b.elem_type b.text q.text) cc in
     ap (λ z. record a { elem_type = z }) type
     ∙ ap (λ z. record a { elem_type = b.elem_type; name = z }) name
     ∙ ap (λ z. record a { elem_type = b.elem_type; name = b.name; fmid = z }) fmid
@@ -167,16 +182,21 @@ below_once : {X : Type 0} (key : X → Text) (a b : X) → IsBelow key a b → �
 below_once key a b = before_once (key a) (key b)
 
 -- of members that rise by a key, those with one key are one
-one_of_key : {X : Type 0} (key : X → Text) (xs : List X) (a b : X) → IsAscending (IsBelow key) xs → Has xs a → Has xs b → key a ≡ key b → a ≡ b
-one_of_key key xs a b rise h k e = one_place (IsBelow key) (below_once key) xs a b rise h k (not_before_same _ _ e) (not_before_same _ _ (sym e))
+one_of_key : {X : Type 0} (key : X → Text) (xs : List X) (a b : X) → IsAscending (IsBelow key) xs → Has xs a → Has xs b
+    → key a ≡ key b → a ≡ b
+one_of_key key xs a b rise h k e = one_place (IsBelow key) (below_once key) xs a b rise h k (not_before_same _ _ e)
+    (not_before_same _ _ (sym e))
 
-rise_by : {X : Type 0} (key : X → Text) (xs : List X) → AllPairs (λ a b. IsTrue (is_before a b)) (map key xs) → IsAscending (IsBelow key) xs
+rise_by : {X : Type 0} (key : X → Text) (xs : List X) → AllPairs (λ a b. IsTrue (is_before a b)) (map key xs)
+    → IsAscending (IsBelow key) xs
 rise_by key xs h = ascending_by key (λ a b. IsTrue (is_before a b)) xs (ascending _ _ h)
 
 change_once : (a b : Change) → IsTrue (is_change_before a b) → ¬ IsTrue (is_change_before b a)
-change_once a b = pair_once (type_number a.elem_type) (type_number b.elem_type) (is_before a.name b.name) (is_before b.name a.name) (before_once a.name b.name)
+change_once a b = pair_once (type_number a.elem_type) (type_number b.elem_type) (is_before a.name b.name)
+    (is_before b.name a.name) (before_once a.name b.name)
 
-element_once : (a b : Element) → IsTrue (is_lt (element_cmp (element_key a) (element_key b))) → ¬ IsTrue (is_lt (element_cmp (element_key b) (element_key a)))
+element_once : (a b : Element) → IsTrue (is_lt (element_cmp (element_key a) (element_key b)))
+    → ¬ IsTrue (is_lt (element_cmp (element_key b) (element_key a)))
 element_once a b = lower_once element_cmp_total (element_key a) (element_key b)
 
 hold_once : (a b : Hold) → IsTrue (is_lt (hold_cmp a b)) → ¬ IsTrue (is_lt (hold_cmp b a))
@@ -194,7 +214,8 @@ record IsWithin (i j : Inventory) : Type 0 where
   entries : (r : Row) → Has (flat_map entries_of i.zones) r → Has (flat_map entries_of j.zones) r
   zelems : (r : Row) → Has (flat_map zelems_of i.zones) r → Has (flat_map zelems_of j.zones) r
 
-both : (table : Table) (held kept rows : List Row) → AreRows table held rows → AreRows table kept rows → (r : Row) → Has held r → Has kept r
+both : (table : Table) (held kept rows : List Row) → AreRows table held rows → AreRows table kept rows → (r : Row)
+    → Has held r → Has kept r
 both table held kept rows p q r h = has_permuted _ _ r (IsPermutation-sym _ _ q.same) (has_permuted _ _ r p.same h)
 
 within : (i j : Inventory) (db : Database) → StandsFor i db → StandsFor j db → IsWithin i j
@@ -225,11 +246,13 @@ vers_rise : (s : Sysmod) → HasSysmodForms s → IsAscending (IsBelow (λ (v : 
 vers_rise s f = rise_by (λ (v : Ver). v.srel) s.vers f.srels
 
 -- of SYSMODs with one id in the two inventories, what the first has the second has
-module _ (i j : Inventory) (p : IsInventory i) (q : IsInventory j) (to : IsWithin i j) (s t : Sysmod) (hs : Has i.global.sysmods s) (ht : Has j.global.sysmods t) (same : s.id ≡ t.id) where
+module _ (i j : Inventory) (p : IsInventory i) (q : IsInventory j) (to : IsWithin i j) (s t : Sysmod)
+    (hs : Has i.global.sysmods s) (ht : Has j.global.sysmods t) (same : s.id ≡ t.id) where
   own : (u : Sysmod) → Has j.global.sysmods u → s.id ≡ u.id → u ≡ t
   own u hu e = one_of_key (λ (x : Sysmod). x.id) j.global.sysmods u t (sysmods_rise j q) hu ht (sym e ∙ same)
 
-  ver_found : (v w : Ver) (u : Sysmod) → Has s.vers v → Has j.global.sysmods u → Has u.vers w → ver_row s.id v ≡ ver_row u.id w → (x : Ver) × Has t.vers x × HaveOneHead v x
+  ver_found : (v w : Ver) (u : Sysmod) → Has s.vers v → Has j.global.sysmods u → Has u.vers w
+      → ver_row s.id v ≡ ver_row u.id w → (x : Ver) × Has t.vers x × HaveOneHead v x
   ver_found v w u hv hu hw e =
       let is : u ≡ t = own u hu cc in
       let a = has_all (HasVerForms s.kind s.id) s.vers v (forms i p s hs).vers hv in
@@ -238,31 +261,41 @@ module _ (i j : Inventory) (p : IsInventory i) (q : IsInventory j) (to : IsWithi
 
   ver_in : (v : Ver) → Has s.vers v → (w : Ver) × Has t.vers w × HaveOneHead v w
   ver_in v hv =
-      let found = flat_had vers_of j.global.sysmods _ (to.vers (ver_row s.id v) (flat_has vers_of i.global.sysmods s _ hs (mapped (ver_row s.id) s.vers v hv))) in
+      let found = flat_had vers_of j.global.sysmods _ (to.vers (ver_row s.id v)
+      (flat_has vers_of i.global.sysmods s _ hs (mapped (ver_row s.id) s.vers v hv))) in
       let it = unmapped (ver_row found.0.id) found.0.vers (ver_row s.id v) found.2 in
       ver_found v it.0 found.0 hv found.1 it.1 it.2
 
-  if_found : (v w x : Ver) (u : Sysmod) (f g : ℕ × IfReq) → Has s.vers v → Has t.vers w → v.srel ≡ w.srel → Has (enumerate_from 1 v.ifs) f
-      → Has j.global.sysmods u → Has u.vers x → Has (enumerate_from 1 x.ifs) g → ifreq_row s.id v.srel f ≡ ifreq_row u.id x.srel g → Has (enumerate_from 1 w.ifs) f
+  if_found : (v w x : Ver) (u : Sysmod) (f g : ℕ × IfReq) → Has s.vers v → Has t.vers w → v.srel ≡ w.srel
+      → Has (enumerate_from 1 v.ifs) f
+      → Has j.global.sysmods u → Has u.vers x → Has (enumerate_from 1 x.ifs) g
+      → ifreq_row s.id v.srel f ≡ ifreq_row u.id x.srel g → Has (enumerate_from 1 w.ifs) f
   if_found v w x u f g hv hw srel hf hu hx hg e =
       let is : u ≡ t = own u hu cc in
       let there : Has t.vers x = subst (λ (y : Sysmod). Has y.vers x) is hx in
       let one : x ≡ w = one_of_key (λ (y : Ver). y.srel) t.vers x w (vers_rise t (forms j q t ht)) there hw cc in
-      let a = has_all (HasIfForms s.id) v.ifs f.1 (has_all (HasVerForms s.kind s.id) s.vers v (forms i p s hs).vers hv).ifs (subst (λ l. Has l f.1) (values 1 v.ifs) (mapped (λ (y : ℕ × IfReq). y.1) _ f hf)) in
-      let b = has_all (HasIfForms u.id) x.ifs g.1 (has_all (HasVerForms u.kind u.id) u.vers x (forms j q u hu).vers hx).ifs (subst (λ l. Has l g.1) (values 1 x.ifs) (mapped (λ (y : ℕ × IfReq). y.1) _ g hg)) in
+      let a = has_all (HasIfForms s.id) v.ifs f.1 (has_all (HasVerForms s.kind s.id) s.vers v (forms i p s hs).vers
+      hv).ifs (subst (λ l. Has l f.1) (values 1 v.ifs) (mapped (λ (y : ℕ × IfReq). y.1) _ f hf)) in
+      let b = has_all (HasIfForms u.id) x.ifs g.1 (has_all (HasVerForms u.kind u.id) u.vers x (forms j q u hu).vers
+      hx).ifs (subst (λ l. Has l g.1) (values 1 x.ifs) (mapped (λ (y : ℕ × IfReq). y.1) _ g hg)) in
       let equal : f ≡ g = if_same s.id u.id f.1 g.1 a b f.0 g.0 v.srel x.srel e in
       subst (λ (y : Ver). Has (enumerate_from 1 y.ifs) f) one (subst (Has (enumerate_from 1 x.ifs)) (sym equal) hg)
 
-  if_in : (v w : Ver) → Has s.vers v → Has t.vers w → v.srel ≡ w.srel → (f : ℕ × IfReq) → Has (enumerate_from 1 v.ifs) f → Has (enumerate_from 1 w.ifs) f
+  if_in : (v w : Ver) → Has s.vers v → Has t.vers w → v.srel ≡ w.srel → (f : ℕ × IfReq) → Has (enumerate_from 1 v.ifs) f
+      → Has (enumerate_from 1 w.ifs) f
   if_in v w hv hw srel f hf =
       let row = ifreq_row s.id v.srel f in
-      let here = flat_has (λ (x : Ver). map (ifreq_row s.id x.srel) (enumerate_from 1 x.ifs)) s.vers v row hv (mapped (ifreq_row s.id v.srel) _ f hf) in
-      let found = flat_had ifreqs_of j.global.sysmods row (to.ifreqs row (flat_has ifreqs_of i.global.sysmods s row hs here)) in
-      let inner = flat_had (λ (x : Ver). map (ifreq_row found.0.id x.srel) (enumerate_from 1 x.ifs)) found.0.vers row found.2 in
+      let here = flat_has (λ (x : Ver). map (ifreq_row s.id x.srel) (enumerate_from 1 x.ifs)) s.vers v row hv
+      (mapped (ifreq_row s.id v.srel) _ f hf) in
+      let found = flat_had ifreqs_of j.global.sysmods row (to.ifreqs row
+      (flat_has ifreqs_of i.global.sysmods s row hs here)) in
+      let inner = flat_had (λ (x : Ver). map (ifreq_row found.0.id x.srel) (enumerate_from 1 x.ifs)) found.0.vers row
+      found.2 in
       let it = unmapped (ifreq_row found.0.id inner.0.srel) (enumerate_from 1 inner.0.ifs) row inner.2 in
       if_found v w inner.0 found.0 f it.0 hv hw srel hf found.1 inner.1 it.1 it.2
 
-  change_found : (c d : Change) (u : Sysmod) → Has s.changes c → Has j.global.sysmods u → Has u.changes d → elem_row s.id c ≡ elem_row u.id d → Has t.changes c
+  change_found : (c d : Change) (u : Sysmod) → Has s.changes c → Has j.global.sysmods u → Has u.changes d
+      → elem_row s.id c ≡ elem_row u.id d → Has t.changes c
   change_found c d u hc hu hd e =
       let is : u ≡ t = own u hu cc in
       let a = has_all (HasChangeForms s.kind) s.changes c (forms i p s hs).changes hc in
@@ -272,24 +305,28 @@ module _ (i j : Inventory) (p : IsInventory i) (q : IsInventory j) (to : IsWithi
 
   change_in : (c : Change) → Has s.changes c → Has t.changes c
   change_in c hc =
-      let found = flat_had elems_of j.global.sysmods _ (to.elems (elem_row s.id c) (flat_has elems_of i.global.sysmods s _ hs (mapped (elem_row s.id) s.changes c hc))) in
+      let found = flat_had elems_of j.global.sysmods _ (to.elems (elem_row s.id c)
+      (flat_has elems_of i.global.sysmods s _ hs (mapped (elem_row s.id) s.changes c hc))) in
       let it = unmapped (elem_row found.0.id) found.0.changes (elem_row s.id c) found.2 in
       change_found c it.0 found.0 hc found.1 it.1 it.2
 
 -- the same both ways
-module _ (i j : Inventory) (p : IsInventory i) (q : IsInventory j) (to : IsWithin i j) (from : IsWithin j i) (s t : Sysmod) (hs : Has i.global.sysmods s) (ht : Has j.global.sysmods t) (same : s.id ≡ t.id) where
+module _ (i j : Inventory) (p : IsInventory i) (q : IsInventory j) (to : IsWithin i j) (from : IsWithin j i)
+    (s t : Sysmod) (hs : Has i.global.sysmods s) (ht : Has j.global.sysmods t) (same : s.id ≡ t.id) where
   ver_kept : (v : Ver) → Has s.vers v → Has t.vers v
   ver_kept v hv =
       let it = ver_in i j p q to s t hs ht same v hv in
       let w = it.0 in
       let listed : enumerate_from 1 v.ifs ≡ enumerate_from 1 w.ifs =
       same_sorted IsLower (λ a b low high. absurd (omega arith)) _ _ (numbers_rise 1 v.ifs) (numbers_rise 1 w.ifs)
-      (if_in i j p q to s t hs ht same v w hv it.1 it.2.srel) (if_in j i q p from t s ht hs (sym same) w v it.1 hv (sym it.2.srel)) in
+      (if_in i j p q to s t hs ht same v w hv it.1 it.2.srel)
+      (if_in j i q p from t s ht hs (sym same) w v it.1 hv (sym it.2.srel)) in
       let ifs : v.ifs ≡ w.ifs = sym (values 1 v.ifs) ∙ ap (map (λ (f : ℕ × IfReq). f.1)) listed ∙ values 1 w.ifs in
       subst (Has t.vers) (sym (ver_is v w it.2 ifs)) it.1
 
   changes_same : s.changes ≡ t.changes
-  changes_same = same_sorted (λ a b. IsTrue (is_change_before a b)) change_once _ _ (ascending _ _ (forms i p s hs).elements) (ascending _ _ (forms j q t ht).elements)
+  changes_same = same_sorted (λ a b. IsTrue (is_change_before a b)) change_once _ _
+      (ascending _ _ (forms i p s hs).elements) (ascending _ _ (forms j q t ht).elements)
       (change_in i j p q to s t hs ht same) (change_in j i q p from t s ht hs (sym same))
 
 module _ (i j : Inventory) (p : IsInventory i) (q : IsInventory j) (to : IsWithin i j) (from : IsWithin j i) where
@@ -297,11 +334,14 @@ module _ (i j : Inventory) (p : IsInventory i) (q : IsInventory j) (to : IsWithi
   sysmod_found s t hs ht e =
       let id : s.id ≡ t.id = cc in
       let kind : s.kind ≡ t.kind = kind_same s.kind t.kind cc in
-      let sources : s.sources ≡ t.sources = ids_same s.sources t.sources (sources_are_words _ (forms i p s hs).sources) (sources_are_words _ (forms j q t ht).sources) cc in
-      let vers : s.vers ≡ t.vers = same_sorted (IsBelow (λ (v : Ver). v.srel)) (below_once (λ (v : Ver). v.srel)) _ _ (vers_rise s (forms i p s hs)) (vers_rise t (forms j q t ht))
+      let sources : s.sources ≡ t.sources = ids_same s.sources t.sources (sources_are_words _ (forms i p s hs).sources)
+      (sources_are_words _ (forms j q t ht).sources) cc in
+      let vers : s.vers ≡ t.vers = same_sorted (IsBelow (λ (v : Ver). v.srel)) (below_once (λ (v : Ver). v.srel)) _ _
+      (vers_rise s (forms i p s hs)) (vers_rise t (forms j q t ht))
       (ver_kept i j p q to from s t hs ht id) (ver_kept j i q p from to t s ht hs (sym id)) in
       let changes : s.changes ≡ t.changes = changes_same i j p q to from s t hs ht id in
-      let holds : s.holds ≡ t.holds = has_all (λ (x : Sysmod). x.holds ≡ []) i.global.sysmods s p.global.none_carried hs ∙ sym (has_all (λ (x : Sysmod). x.holds ≡ []) j.global.sysmods t q.global.none_carried ht) in
+      let holds : s.holds ≡ t.holds = has_all (λ (x : Sysmod). x.holds ≡ []) i.global.sysmods s p.global.none_carried hs
+      ∙ sym (has_all (λ (x : Sysmod). x.holds ≡ []) j.global.sysmods t q.global.none_carried ht) in
       ap (λ x. record s { id = x }) id
       ∙ ap (λ x. record s { id = t.id; kind = x }) kind
       ∙ ap (λ x. record s { id = t.id; kind = t.kind; sources = x }) sources
@@ -311,7 +351,8 @@ module _ (i j : Inventory) (p : IsInventory i) (q : IsInventory j) (to : IsWithi
 
   sysmod_kept : (s : Sysmod) → Has i.global.sysmods s → Has j.global.sysmods s
   sysmod_kept s hs =
-      let it = unmapped sysmod_row j.global.sysmods _ (to.sysmods (sysmod_row s) (mapped sysmod_row i.global.sysmods s hs)) in
+      let it = unmapped sysmod_row j.global.sysmods _ (to.sysmods (sysmod_row s)
+      (mapped sysmod_row i.global.sysmods s hs)) in
       subst (Has j.global.sysmods) (sym (sysmod_found s it.0 hs it.1 it.2)) it.1
 
   hold_kept : (h : Hold) → Has i.global.holds h → Has j.global.holds h
@@ -320,11 +361,13 @@ module _ (i j : Inventory) (p : IsInventory i) (q : IsInventory j) (to : IsWithi
       subst (Has j.global.holds) (sym (hold_is h it.0 it.2)) it.1
 
 -- of zones with one name in the two inventories, what the first has the second has
-module _ (i j : Inventory) (p : IsInventory i) (q : IsInventory j) (to : IsWithin i j) (y z : NamedZone) (hy : Has i.zones y) (hz : Has j.zones z) (same : y.name ≡ z.name) where
+module _ (i j : Inventory) (p : IsInventory i) (q : IsInventory j) (to : IsWithin i j) (y z : NamedZone)
+    (hy : Has i.zones y) (hz : Has j.zones z) (same : y.name ≡ z.name) where
   own_zone : (u : NamedZone) → Has j.zones u → y.name ≡ u.name → u ≡ z
   own_zone u hu e = one_of_key (λ (x : NamedZone). x.name) j.zones u z (zones_rise j q) hu hz (sym e ∙ same)
 
-  entry_found : (a b : Entry) (u : NamedZone) → Has y.zone.entries a → Has j.zones u → Has u.zone.entries b → entry_row y.name a ≡ entry_row u.name b → Has z.zone.entries a
+  entry_found : (a b : Entry) (u : NamedZone) → Has y.zone.entries a → Has j.zones u → Has u.zone.entries b
+      → entry_row y.name a ≡ entry_row u.name b → Has z.zone.entries a
   entry_found a b u ha hu hb e =
       let is : u ≡ z = own_zone u hu cc in
       let f = has_all HasEntryForms y.zone.entries a (has_all IsZoneNamed i.zones y p.zones hy).forms.entries ha in
@@ -334,11 +377,13 @@ module _ (i j : Inventory) (p : IsInventory i) (q : IsInventory j) (to : IsWithi
 
   entry_in : (a : Entry) → Has y.zone.entries a → Has z.zone.entries a
   entry_in a ha =
-      let found = flat_had entries_of j.zones _ (to.entries (entry_row y.name a) (flat_has entries_of i.zones y _ hy (mapped (entry_row y.name) y.zone.entries a ha))) in
+      let found = flat_had entries_of j.zones _ (to.entries (entry_row y.name a)
+      (flat_has entries_of i.zones y _ hy (mapped (entry_row y.name) y.zone.entries a ha))) in
       let it = unmapped (entry_row found.0.name) found.0.zone.entries (entry_row y.name a) found.2 in
       entry_found a it.0 found.0 ha found.1 it.1 it.2
 
-  element_found : (a b : Element) (u : NamedZone) → Has y.zone.elements a → Has j.zones u → Has u.zone.elements b → zelem_row y.name a ≡ zelem_row u.name b → Has z.zone.elements a
+  element_found : (a b : Element) (u : NamedZone) → Has y.zone.elements a → Has j.zones u → Has u.zone.elements b
+      → zelem_row y.name a ≡ zelem_row u.name b → Has z.zone.elements a
   element_found a b u ha hu hb e =
       let is : u ≡ z = own_zone u hu cc in
       let f = has_all HasElementForms y.zone.elements a (has_all IsZoneNamed i.zones y p.zones hy).forms.elements ha in
@@ -348,7 +393,8 @@ module _ (i j : Inventory) (p : IsInventory i) (q : IsInventory j) (to : IsWithi
 
   element_in : (a : Element) → Has y.zone.elements a → Has z.zone.elements a
   element_in a ha =
-      let found = flat_had zelems_of j.zones _ (to.zelems (zelem_row y.name a) (flat_has zelems_of i.zones y _ hy (mapped (zelem_row y.name) y.zone.elements a ha))) in
+      let found = flat_had zelems_of j.zones _ (to.zelems (zelem_row y.name a)
+      (flat_has zelems_of i.zones y _ hy (mapped (zelem_row y.name) y.zone.elements a ha))) in
       let it = unmapped (zelem_row found.0.name) found.0.zone.elements (zelem_row y.name a) found.2 in
       element_found a it.0 found.0 ha found.1 it.1 it.2
 
@@ -362,10 +408,12 @@ module _ (i j : Inventory) (p : IsInventory i) (q : IsInventory j) (to : IsWithi
       let srel : y.zone.srel ≡ z.zone.srel = cc in
       let related : y.zone.related ≡ z.zone.related = or_null_same y.zone.related z.zone.related cc in
       let entries : y.zone.entries ≡ z.zone.entries =
-      same_sorted (IsBelow (λ (x : Entry). x.id)) (below_once (λ (x : Entry). x.id)) _ _ (ascending _ _ a.zone.entries) (ascending _ _ b.zone.entries)
+      same_sorted (IsBelow (λ (x : Entry). x.id)) (below_once (λ (x : Entry). x.id)) _ _ (ascending _ _ a.zone.entries)
+      (ascending _ _ b.zone.entries)
       (entry_in i j p q to y z hy hz name) (entry_in j i q p from z y hz hy (sym name)) in
       let elements : y.zone.elements ≡ z.zone.elements =
-      same_sorted (λ x w. IsTrue (is_lt (element_cmp (element_key x) (element_key w)))) element_once _ _ (ascending _ _ a.zone.elements) (ascending _ _ b.zone.elements)
+      same_sorted (λ x w. IsTrue (is_lt (element_cmp (element_key x) (element_key w)))) element_once _ _
+      (ascending _ _ a.zone.elements) (ascending _ _ b.zone.elements)
       (element_in i j p q to y z hy hz name) (element_in j i q p from z y hz hy (sym name)) in
       let v = y.zone in
       let w = z.zone in
@@ -389,17 +437,21 @@ one_inventory db i j si sj =
     let to = within i j db si sj in
     let from = within j i db sj si in
     let sysmods : i.global.sysmods ≡ j.global.sysmods =
-    same_sorted (IsBelow (λ (s : Sysmod). s.id)) (below_once (λ (s : Sysmod). s.id)) _ _ (sysmods_rise i p) (sysmods_rise j q) (sysmod_kept i j p q to from) (sysmod_kept j i q p from to) in
+    same_sorted (IsBelow (λ (s : Sysmod). s.id)) (below_once (λ (s : Sysmod). s.id)) _ _ (sysmods_rise i p)
+    (sysmods_rise j q) (sysmod_kept i j p q to from) (sysmod_kept j i q p from to) in
     let holds : i.global.holds ≡ j.global.holds =
-    same_sorted (λ a b. IsTrue (is_lt (hold_cmp a b))) hold_once _ _ (ascending _ _ p.global.holds) (ascending _ _ q.global.holds) (hold_kept i j p q to from) (hold_kept j i q p from to) in
+    same_sorted (λ a b. IsTrue (is_lt (hold_cmp a b))) hold_once _ _ (ascending _ _ p.global.holds)
+    (ascending _ _ q.global.holds) (hold_kept i j p q to from) (hold_kept j i q p from to) in
     let zones : i.zones ≡ j.zones =
-    same_sorted (IsBelow (λ (z : NamedZone). z.name)) (below_once (λ (z : NamedZone). z.name)) _ _ (zones_rise i p) (zones_rise j q) (zone_kept i j p q to from) (zone_kept j i q p from to) in
+    same_sorted (IsBelow (λ (z : NamedZone). z.name)) (below_once (λ (z : NamedZone). z.name)) _ _ (zones_rise i p)
+    (zones_rise j q) (zone_kept i j p q to from) (zone_kept j i q p from to) in
     ap (λ x. record i { global = record { sysmods = x; holds = i.global.holds } }) sysmods
     ∙ ap (λ x. record i { global = record { sysmods = j.global.sysmods; holds = x } }) holds
     ∙ ap (λ x. record j { zones = x }) zones
 
 not_blank : (db : Database) (i : Inventory) → StandsFor i db → ¬ IsBlank db
-not_blank db i s blank = absurd (let none : [] ≡ all_tables = ap (λ (x : Schema). x.tables) (sym blank ∙ s.tables.schema_is) in cc)
+not_blank db i s blank = absurd (let none : [] ≡ all_tables =
+    ap (λ (x : Schema). x.tables) (sym blank ∙ s.tables.schema_is) in cc)
 
 pub one_state : HasOneState
 one_state db i j (inl p) (inl q) = p.1 ∙ sym q.1

@@ -1,5 +1,6 @@
 -- A text that is a SELECT commits nothing, whatever the schema is under which it runs.
-use Rattle.std.proofs.Common.{◌≡◌, inl, inr, ℕ, List, Bool, true, false, None, Ok, Err, Result, IsTrue, IfOk, IfErr, Vec, if◌then◌else◌, refl}
+use Rattle.std.proofs.Common.{◌≡◌, inl, inr, ℕ, List, Bool, true, false, None, Ok, Err, Result, IsTrue, IfOk, IfErr}
+use Rattle.std.proofs.Common.{Vec, if◌then◌else◌, refl}
 use Rattle.std.proofs.lemmas.Bool.{cases_Bool}
 use Rattle.std.specs.declared.alloc.Global.{Global}
 use Rattle.sqlite_ast.specs.declared.Statement.{Statement}
@@ -16,7 +17,8 @@ use Rattle.sqlite.specs.Order.{Row}
 use Rattle.sqlite.specs.Schema.{Schema}
 use Rattle.sqlite.specs.Tree.{Trees}
 use Rattle.sqlite.specs.Listing.{understood, listing_schema, if_select, is_select, reads_listing}
-use Rattle.sqlite.specs.State.{State, IsUnchanged, KeepsCommit, IsRolledBack, Survives, Shown, CommitsShowing, FailsToQuery, IsNotRun}
+use Rattle.sqlite.specs.State.{State, IsUnchanged, KeepsCommit, IsRolledBack, Survives, Shown, CommitsShowing}
+use Rattle.sqlite.specs.State.{FailsToQuery, IsNotRun}
 use Rattle.sqlite.proofs.StateLemmas.{survives_weaker}
 
 abbrev selects : Statement → Bool
@@ -28,17 +30,20 @@ abbrev pub reads_select : Checked Parsed → Bool
 reads_select (Ok p) = selects p.statement
 reads_select (Err e) = false
 
-returns_none : (schema : Schema) (base : ℕ) (statement : Statement) → selects statement ≡ true → returning schema base statement ≡ Ok None
+returns_none : (schema : Schema) (base : ℕ) (statement : Statement) → selects statement ≡ true
+    → returning schema base statement ≡ Ok None
 unfolding returning
 returns_none schema base (written.Select s) h = refl
 returns_none schema base _ h = absurd cc
 
 silent : (p : Parsed) (formats : List (List ℕ)) (r : Checked Command) (c : Compiled)
-    → and_then (and_then (and_then r (λ k. Ok (k, None))) (λ found. Ok (formats, found))) (λ plan. Ok (with_command p plan)) ≡ Ok c → c.returning ≡ None
+    → and_then (and_then (and_then r (λ k. Ok (k, None))) (λ found. Ok (formats, found)))
+    (λ plan. Ok (with_command p plan)) ≡ Ok c → c.returning ≡ None
 silent p formats (Ok k) c h = cc
 silent p formats (Err e) c h = absurd cc
 
-planned_silent : (schema : Schema) (p : Parsed) (c : Compiled) → selects p.statement ≡ true → and_then (planned schema p) (λ plan. Ok (with_command p plan)) ≡ Ok c → c.returning ≡ None
+planned_silent : (schema : Schema) (p : Parsed) (c : Compiled) → selects p.statement ≡ true
+    → and_then (planned schema p) (λ plan. Ok (with_command p plan)) ≡ Ok c → c.returning ≡ None
 unfolding planned meaning
 planned_silent schema p c h is =
     let formats = timed schema p.formats p.statement in
@@ -47,7 +52,8 @@ planned_silent schema p c h is =
 if_select_keeps : (r : Result Compiled CompileError) (c : Compiled) → if_select r ≡ Ok c → r ≡ Ok c
 if_select_keeps (Ok k) c h = go (is_select k.command) h
   where
-    go : (b : Bool) → ◌≡◌ {A = Result Compiled CompileError} (if b then Ok k else Err NoSuchTable) (Ok c) → ◌≡◌ {A = Result Compiled CompileError} (Ok k) (Ok c)
+    go : (b : Bool) → ◌≡◌ {A = Result Compiled CompileError} (if b then Ok k else Err NoSuchTable) (Ok c)
+        → ◌≡◌ {A = Result Compiled CompileError} (Ok k) (Ok c)
     go true e = e
     go false e = absurd cc
 if_select_keeps (Err e) c h = absurd cc
@@ -70,7 +76,8 @@ module _ (sql : List ℕ) (params : Row) (is_select_text : reads_select (first s
   unfolding compiled
   compiled_silent schema c is = go (first sql) is_select_text is
     where
-      go : (r : Checked Parsed) → reads_select r ≡ true → and_then r (λ p. and_then (planned schema p) (λ plan. Ok (with_command p plan))) ≡ Ok c → c.returning ≡ None
+      go : (r : Checked Parsed) → reads_select r ≡ true → and_then r
+          (λ p. and_then (planned schema p) (λ plan. Ok (with_command p plan))) ≡ Ok c → c.returning ≡ None
       go (Ok p) h e = planned_silent schema p c h e
       go (Err x) h e = absurd cc
 
@@ -110,7 +117,9 @@ module _ (sql : List ℕ) (params : Row) (is_select_text : reads_select (first s
       unchanged_keeps old new (rw none at h.2).3
 
   -- whatever `query_all` answers, the last commit stays
-  pub select_keeps : (r : Result (Vec Row Global) Error) (old new : State) → IfOk r (λ rows. Shown sql params old new rows.items) → IfErr r (FailsToQuery sql params old new) → KeepsCommit old new
+  pub select_keeps : (r : Result (Vec Row Global) Error) (old new : State)
+      → IfOk r (λ rows. Shown sql params old new rows.items) → IfErr r (FailsToQuery sql params old new)
+      → KeepsCommit old new
   select_keeps (Ok rows) old new shown failed = unchanged_keeps old new (select_unchanged old new rows.items shown)
   select_keeps (Err e) old new shown failed = failed_keeps old new e failed
 

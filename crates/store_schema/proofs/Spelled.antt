@@ -1,5 +1,7 @@
 -- What the cells of a row spell, each in one way.
-use Rattle.std.proofs.Common.{◌≡◌, ◌≢◌, inl, inr, ℕ, ◌≤◌, Bool, true, false, ◌&&◌, ◌||◌, ◌==◌, nat_lt, if◌then◌else◌, List, length, codes, Option, Some, None, IsTrue, Less, Equal, Greater, Ordering, arith, refl, sym, ap, subst, ◌∙◌}
+use Rattle.std.proofs.Common.{◌≡◌, ◌≢◌, inl, inr, ℕ, ◌≤◌, Bool, true, false, ◌&&◌, ◌||◌, ◌==◌, nat_lt, if◌then◌else◌}
+use Rattle.std.proofs.Common.{List, length, codes, Option, Some, None, IsTrue, Less, Equal, Greater, Ordering, arith}
+use Rattle.std.proofs.Common.{refl, sym, ap, subst, ◌∙◌}
 use Rattle.std.specs.List.{AllByRecursion, join_with_byte, concat}
 use Rattle.std.specs.Str.{bytes_eq}
 use Rattle.std.specs.Ordering.{is_lt, nat_cmp}
@@ -163,7 +165,8 @@ flag_same false true e = absurd cc
 word_of : (least most : ℕ) (t : Text) → 1 ≤ least → IsRun is_id_byte least most t → IsWord t
 word_of least most t some run = (
   λ none. absurd (omega (arith, ap length none)),
-  all_by (λ b. b ≢ 44) t (λ k d within comma. absurd (let test = run.2 k d within in let no : is_id_byte 44 ≡ true = rw comma at test in cc)),
+  all_by (λ b. b ≢ 44) t (λ k d within comma. absurd (let test = run.2 k d within in let no : is_id_byte 44 ≡ true =
+      rw comma at test in cc)),
 )
 
 pub ids_are_words : (xs : List Id) → AreListed IsId xs → AllByRecursion IsWord xs
@@ -176,7 +179,8 @@ pub ids_same : (xs ys : List Text) → AllByRecursion IsWord xs → AllByRecursi
 ids_same xs ys p q e = joined_same xs ys p q (cc)
 
 pub text_same : (xs ys : Lines) → AreRecords xs → AreRecords ys → records xs ≡ records ys → xs ≡ ys
-text_same xs ys p q e = records_same xs ys (all_by _ xs (λ k d within. (p k d within).0)) (all_by _ ys (λ k d within. (q k d within).0)) (cc)
+text_same xs ys p q e = records_same xs ys (all_by _ xs (λ k d within. (p k d within).0))
+    (all_by _ ys (λ k d within. (q k d within).0)) (cc)
 
 -- ---- orders
 
@@ -189,10 +193,12 @@ pub before_once : (x y : Text) → IsTrue (is_before x y) → ¬ IsTrue (is_befo
 before_once x y = less_once (slice_cmp nat_cmp x y) (slice_cmp nat_cmp y x) (nat_list_cmp_total.antisymm x y)
 
 pub not_before_same : (x y : Text) → x ≡ y → ¬ IsTrue (is_before x y)
-not_before_same x y e h = let twice : IsTrue (is_before x x) = subst (λ z. IsTrue (is_before x z)) (sym e) h in before_once x x twice twice
+not_before_same x y e h = let twice : IsTrue (is_before x x) = subst (λ z. IsTrue (is_before x z)) (sym e) h
+    in before_once x x twice twice
 
 -- a first part that is compared before a second
-pub pair_once : (m n : ℕ) (p q : Bool) → (IsTrue p → ¬ IsTrue q) → IsTrue (nat_lt m n || ((m == n) && p)) → ¬ IsTrue (nat_lt n m || ((n == m) && q))
+pub pair_once : (m n : ℕ) (p q : Bool) → (IsTrue p → ¬ IsTrue q) → IsTrue (nat_lt m n || ((m == n) && p))
+    → ¬ IsTrue (nat_lt n m || ((n == m) && q))
 pair_once m n p q once h k = elim (or_cases _ _ h) [
   | inl low ↦ elim (or_cases _ _ k) [
     | inl high ↦ absurd (omega (arith, ltb-true m n low, ltb-true n m high))

@@ -10,60 +10,132 @@ create_meta = codes "CREATE TABLE meta (k TEXT NOT NULL, v INTEGER NOT NULL, PRI
 
 pub makes_meta : Makes create_meta ([]) meta
 unfolding understood everything
-makes_meta = record { is = refl; plain = (refl, refl); whole = refl; defines = refl; makes = refl; place = refl; uncounted = refl }
+makes_meta = record {
+  is = refl;
+  plain = (refl, refl);
+  whole = refl;
+  defines = refl;
+  makes = refl;
+  place = refl;
+  uncounted = refl;
+}
 
 abbrev pub create_sysmod : List ℕ
 create_sysmod = codes "CREATE TABLE sysmod (id TEXT NOT NULL, kind TEXT NOT NULL, sources TEXT NOT NULL, PRIMARY KEY (id)) STRICT"
 
 pub makes_sysmod : Makes create_sysmod (meta ∷ []) sysmod
 unfolding understood everything
-makes_sysmod = record { is = refl; plain = (refl, refl); whole = refl; defines = refl; makes = refl; place = refl; uncounted = refl }
+makes_sysmod = record {
+  is = refl;
+  plain = (refl, refl);
+  whole = refl;
+  defines = refl;
+  makes = refl;
+  place = refl;
+  uncounted = refl;
+}
 
 abbrev pub create_ver : List ℕ
 create_ver = codes "CREATE TABLE ver (id TEXT NOT NULL, srel TEXT NOT NULL, fmid TEXT, pre TEXT NOT NULL, req TEXT NOT NULL, sup TEXT NOT NULL, npre TEXT NOT NULL, del TEXT NOT NULL, PRIMARY KEY (id, srel), FOREIGN KEY (id) REFERENCES sysmod (id) ON DELETE CASCADE) STRICT"
 
 pub makes_ver : Makes create_ver (meta ∷ sysmod ∷ []) ver
 unfolding understood everything
-makes_ver = record { is = refl; plain = (refl, refl); whole = refl; defines = refl; makes = refl; place = refl; uncounted = refl }
+makes_ver = record {
+  is = refl;
+  plain = (refl, refl);
+  whole = refl;
+  defines = refl;
+  makes = refl;
+  place = refl;
+  uncounted = refl;
+}
 
 abbrev pub create_ifreq : List ℕ
 create_ifreq = codes "CREATE TABLE ifreq (id TEXT NOT NULL, srel TEXT NOT NULL, n INTEGER NOT NULL, fmid TEXT NOT NULL, req TEXT NOT NULL, PRIMARY KEY (id, srel, n), FOREIGN KEY (id) REFERENCES sysmod (id) ON DELETE CASCADE) STRICT"
 
 pub makes_ifreq : Makes create_ifreq (meta ∷ sysmod ∷ ver ∷ []) ifreq
 unfolding understood everything
-makes_ifreq = record { is = refl; plain = (refl, refl); whole = refl; defines = refl; makes = refl; place = refl; uncounted = refl }
+makes_ifreq = record {
+  is = refl;
+  plain = (refl, refl);
+  whole = refl;
+  defines = refl;
+  makes = refl;
+  place = refl;
+  uncounted = refl;
+}
 
 abbrev pub create_hold : List ℕ
 create_hold = codes "CREATE TABLE hold (id TEXT NOT NULL, kind TEXT NOT NULL, reason TEXT NOT NULL, fmid TEXT NOT NULL, class TEXT, date TEXT, comment TEXT, internal INTEGER NOT NULL, PRIMARY KEY (id, kind, reason)) STRICT"
 
 pub makes_hold : Makes create_hold (meta ∷ sysmod ∷ ver ∷ ifreq ∷ []) hold
 unfolding understood everything
-makes_hold = record { is = refl; plain = (refl, refl); whole = refl; defines = refl; makes = refl; place = refl; uncounted = refl }
+makes_hold = record {
+  is = refl;
+  plain = (refl, refl);
+  whole = refl;
+  defines = refl;
+  makes = refl;
+  place = refl;
+  uncounted = refl;
+}
 
 abbrev pub create_elem : List ℕ
 create_elem = codes "CREATE TABLE elem (id TEXT NOT NULL, type TEXT NOT NULL, name TEXT NOT NULL, upd INTEGER NOT NULL, distlib TEXT, syslib TEXT, text BLOB NOT NULL, PRIMARY KEY (id, type, name), FOREIGN KEY (id) REFERENCES sysmod (id) ON DELETE CASCADE) STRICT"
 
 pub makes_elem : Makes create_elem (meta ∷ sysmod ∷ ver ∷ ifreq ∷ hold ∷ []) elem
 unfolding understood everything
-makes_elem = record { is = refl; plain = (refl, refl); whole = refl; defines = refl; makes = refl; place = refl; uncounted = refl }
+makes_elem = record {
+  is = refl;
+  plain = (refl, refl);
+  whole = refl;
+  defines = refl;
+  makes = refl;
+  place = refl;
+  uncounted = refl;
+}
 
 abbrev pub create_zone : List ℕ
 create_zone = codes "CREATE TABLE zone (name TEXT NOT NULL, kind TEXT NOT NULL, srel TEXT NOT NULL, related TEXT, PRIMARY KEY (name)) STRICT"
 
 pub makes_zone : Makes create_zone (meta ∷ sysmod ∷ ver ∷ ifreq ∷ hold ∷ elem ∷ []) zone
 unfolding understood everything
-makes_zone = record { is = refl; plain = (refl, refl); whole = refl; defines = refl; makes = refl; place = refl; uncounted = refl }
+makes_zone = record {
+  is = refl;
+  plain = (refl, refl);
+  whole = refl;
+  defines = refl;
+  makes = refl;
+  place = refl;
+  uncounted = refl;
+}
 
 abbrev pub create_entry : List ℕ
 create_entry = codes "CREATE TABLE entry (zone TEXT NOT NULL, id TEXT NOT NULL, date TEXT, supby TEXT NOT NULL, delby TEXT, waived TEXT NOT NULL, PRIMARY KEY (zone, id), FOREIGN KEY (zone) REFERENCES zone (name)) STRICT"
 
 pub makes_entry : Makes create_entry (meta ∷ sysmod ∷ ver ∷ ifreq ∷ hold ∷ elem ∷ zone ∷ []) entry
 unfolding understood everything
-makes_entry = record { is = refl; plain = (refl, refl); whole = refl; defines = refl; makes = refl; place = refl; uncounted = refl }
+makes_entry = record {
+  is = refl;
+  plain = (refl, refl);
+  whole = refl;
+  defines = refl;
+  makes = refl;
+  place = refl;
+  uncounted = refl;
+}
 
 abbrev pub create_zelem : List ℕ
 create_zelem = codes "CREATE TABLE zelem (zone TEXT NOT NULL, type TEXT NOT NULL, name TEXT NOT NULL, fmid TEXT NOT NULL, rmid TEXT NOT NULL, umid TEXT NOT NULL, distlib TEXT NOT NULL, syslib TEXT NOT NULL, text BLOB NOT NULL, PRIMARY KEY (zone, type, name), FOREIGN KEY (zone) REFERENCES zone (name)) STRICT"
 
 pub makes_zelem : Makes create_zelem (meta ∷ sysmod ∷ ver ∷ ifreq ∷ hold ∷ elem ∷ zone ∷ entry ∷ []) zelem
 unfolding understood everything
-makes_zelem = record { is = refl; plain = (refl, refl); whole = refl; defines = refl; makes = refl; place = refl; uncounted = refl }
+makes_zelem = record {
+  is = refl;
+  plain = (refl, refl);
+  whole = refl;
+  defines = refl;
+  makes = refl;
+  place = refl;
+  uncounted = refl;
+}

@@ -1,12 +1,15 @@
 -- The forms of what is kept: of a SYSMOD's fields as its statements have them, and of a zone's entries.
-use Rattle.std.specs.Prelude.{◌≡◌, ◌≢◌, ◌≤◌, ◌<◌, Bool, List, [], ◌∷◌, ◌++◌, length, map, reverse, All, AllPairs, Contains, IfSome, IsSome, IsTrue, ◌&&◌, ◌||◌, ◌==◌, nat_lt, nat_le}
+use Rattle.std.specs.Prelude.{◌≡◌, ◌≢◌, ◌≤◌, ◌<◌, Bool, List, [], ◌∷◌, ◌++◌, length, map, reverse, All, AllPairs}
+use Rattle.std.specs.Prelude.{Contains, IfSome, IsSome, IsTrue, ◌&&◌, ◌||◌, ◌==◌, nat_lt, nat_le}
 use Rattle.terms.specs.declared.kinds.Kind.{Kind}
 use Rattle.terms.specs.declared.kinds.Kind.TheVariants.{Function}
 use Rattle.terms.specs.declared.kinds.ElemType.{ElemType}
 use Rattle.terms.specs.declared.kinds.ElemType.TheVariants.{Mac, Src}
-use Rattle.terms.specs.Types.{Text, Id, Lines, type_number, Ver, IfReq, Hold, Action, Replaces, Updates, Change, Sysmod, Entry, Element, Zone}
+use Rattle.terms.specs.Types.{Text, Id, Lines, type_number, Ver, IfReq, Hold, Action, Replaces, Updates, Change, Sysmod}
+use Rattle.terms.specs.Types.{Entry, Element, Zone}
 use Rattle.terms.specs.Lookups.{is_before, IsRising}
-use Rattle.terms.specs.Forms.{IsRun, IsId, IsClass, IsReason, IsSource, IsSrel, IsName, IsDate, is_digit, IsDottedDate, BeginsDark}
+use Rattle.terms.specs.Forms.{IsRun, IsId, IsClass, IsReason, IsSource, IsSrel, IsName, IsDate, is_digit, IsDottedDate}
+use Rattle.terms.specs.Forms.{BeginsDark}
 use Rattle.terms.specs.Texts.{IsNumbered, IsUpdate}
 
 -- ids of this form, rising
@@ -60,7 +63,8 @@ pub record HasVerForms (kind : Kind) (x : Id) (v : Ver) : Type 0 where
 
 -- a replacement has a record at least; no function has an update
 abbrev pub HasActionForms : Kind → ElemType → Text → Action → Type 0
-HasActionForms kind type name (Replaces distlib syslib text) = IsName distlib × IsName syslib × IsTextOf type text × (text ≢ [])
+HasActionForms kind type name (Replaces distlib syslib text) = IsName distlib × IsName syslib × IsTextOf type text
+    × (text ≢ [])
 HasActionForms kind type name (Updates lines) =
     (kind ≢ Function) × IsUpdated type × AreRecords lines × IsUpdate name lines
 

@@ -5,7 +5,8 @@ use Rattle.sqlite.specs.declared.types.Value.{Value}
 use Rattle.sqlite.specs.declared.types.Value.TheVariants as value
 use Rattle.sqlite.specs.Values.{or_null}
 use Rattle.sqlite.specs.Order.{Row}
-use Rattle.terms.specs.Types.{Text, Id, Lines, IfReq, Ver, Hold, Action, Replaces, Updates, Change, Sysmod, Entry, Element, NamedZone}
+use Rattle.terms.specs.Types.{Text, Id, Lines, IfReq, Ver, Hold, Action, Replaces, Updates, Change, Sysmod, Entry}
+use Rattle.terms.specs.Types.{Element, NamedZone}
 use Rattle.terms.specs.Spelling.{kind_text, hold_text, type_text, zone_kind_text}
 
 -- a list of ids as a text: joined by commas, and the empty text where there is none
@@ -31,7 +32,8 @@ sysmod_row s = value.Text s.id ∷ value.Text (kind_text s.kind) ∷ ids s.sourc
 
 abbrev pub ver_row : Id → Ver → Row
 ver_row x v =
-    value.Text x ∷ value.Text v.srel ∷ or_null value.Text v.fmid ∷ ids v.pre ∷ ids v.req ∷ ids v.sup ∷ ids v.npre ∷ ids v.del ∷ []
+    value.Text x ∷ value.Text v.srel ∷ or_null value.Text v.fmid ∷ ids v.pre ∷ ids v.req ∷ ids v.sup ∷ ids v.npre ∷ ids
+    v.del ∷ []
 
 -- a ++IF and its number
 abbrev pub ifreq_row : Id → Text → ℕ × IfReq → Row
@@ -45,7 +47,8 @@ hold_row h =
 
 -- whether it is an update, its libraries and its text
 abbrev pub action_cells : Action → Row
-action_cells (Replaces distlib syslib text) = value.Int (pos 0) ∷ value.Text distlib ∷ value.Text syslib ∷ records text ∷ []
+action_cells (Replaces distlib syslib text) = value.Int (pos 0) ∷ value.Text distlib ∷ value.Text syslib ∷ records text
+    ∷ []
 action_cells (Updates lines) = value.Int (pos 1) ∷ value.Null ∷ value.Null ∷ records lines ∷ []
 
 abbrev pub elem_row : Id → Change → Row
@@ -53,11 +56,13 @@ elem_row x c = value.Text x ∷ value.Text (type_text c.elem_type) ∷ value.Tex
 
 abbrev pub zone_row : NamedZone → Row
 zone_row z =
-    value.Text z.name ∷ value.Text (zone_kind_text z.zone.kind) ∷ value.Text z.zone.srel ∷ or_null value.Text z.zone.related ∷ []
+    value.Text z.name ∷ value.Text (zone_kind_text z.zone.kind) ∷ value.Text z.zone.srel ∷ or_null value.Text
+    z.zone.related ∷ []
 
 abbrev pub entry_row : Text → Entry → Row
 entry_row zone e =
-    value.Text zone ∷ value.Text e.id ∷ or_null value.Text e.applied ∷ ids e.supby ∷ or_null value.Text e.delby ∷ ids e.waived ∷ []
+    value.Text zone ∷ value.Text e.id ∷ or_null value.Text e.applied ∷ ids e.supby ∷ or_null value.Text e.delby ∷ ids
+    e.waived ∷ []
 
 abbrev pub zelem_row : Text → Element → Row
 zelem_row zone e =

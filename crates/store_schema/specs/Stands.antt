@@ -8,7 +8,8 @@ use Rattle.store_rows.specs.Rows.{Contents, HasContents}
 use Rattle.store_schema.specs.Tables.{meta, sysmod, ver, ifreq, hold, elem, zone, entry, zelem, store_schema}
 use Rattle.store_schema.specs.Create.{IsBlank}
 use Rattle.store_schema.specs.Inventory.{Inventory, IsInventory, empty_inventory}
-use Rattle.store_schema.specs.Rows.{number_row, sysmod_row, vers_of, ifreqs_of, hold_row, elems_of, zone_row, entries_of, zelems_of}
+use Rattle.store_schema.specs.Rows.{number_row, sysmod_row, vers_of, ifreqs_of, hold_row, elems_of, zone_row}
+use Rattle.store_schema.specs.Rows.{entries_of, zelems_of}
 
 -- what each table holds: the schema's number, and the rows of the inventory
 abbrev pub tables_of : Inventory → List (Table × List Row)

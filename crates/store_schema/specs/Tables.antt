@@ -16,14 +16,35 @@ use Rattle.sqlite.specs.Kind.TheVariants.{Integer, Text, Blob}
 
 -- a column that is not null, or may be
 abbrev pub filled : List ℕ → Kind → Column
-filled name kind = record { name = name; kind = kind; is_strict = true; not_null = true; default = Null; collation = Binary }
+filled name kind = record {
+  name = name;
+  kind = kind;
+  is_strict = true;
+  not_null = true;
+  default = Null;
+  collation = Binary;
+}
 
 abbrev pub optional : List ℕ → Kind → Column
-optional name kind = record { name = name; kind = kind; is_strict = true; not_null = false; default = Null; collation = Binary }
+optional name kind = record {
+  name = name;
+  kind = kind;
+  is_strict = true;
+  not_null = false;
+  default = Null;
+  collation = Binary;
+}
 
 -- its first column refers to this key
 abbrev pub refers_to : List ℕ → List ℕ → Action → Reference
-refers_to parent key on_delete = record { columns = 1 ∷ []; parent = parent; parent_columns = key ∷ []; on_delete = on_delete; on_update = NoAction; is_deferred = false }
+refers_to parent key on_delete = record {
+  columns = 1 ∷ [];
+  parent = parent;
+  parent_columns = key ∷ [];
+  on_delete = on_delete;
+  on_update = NoAction;
+  is_deferred = false;
+}
 
 -- a STRICT table with a PRIMARY KEY over these places
 abbrev pub table_of : List ℕ → ℕ → List Column → List ℕ → List Reference → Table

@@ -1,13 +1,15 @@
 //! The tables that a database has already.
 
-ghost use Rattle.std.specs.Prelude.{◌≡◌, ◌↔◌, ℤ, false, [], codes, pos, IsTrue, OnOk, OnErr, IfOk, IfSome, IfNone, IsErrOf};
+ghost use Rattle.std.specs.Prelude.{◌≡◌, ◌↔◌, ℤ, false, [], codes, pos, IsTrue, OnOk, OnErr, IfOk, IfSome, IfNone};
+ghost use Rattle.std.specs.Prelude.{IsErrOf};
 ghost use Rattle.std.specs.List.{Any};
 ghost use Rattle.sqlite.specs.Held.{state};
 ghost use Rattle.sqlite.specs.State.{HasCleanDisk, IsUnchanged, KeepsCommit, Shown, Survives};
 ghost use Rattle.store_schema.specs.Create.{IsBlank};
 ghost use Rattle.store_schema.specs.Inventory.{Inventory, empty_inventory};
 ghost use Rattle.store_rows.specs.Inside.{IsMade, Holds};
-ghost use Rattle.store_schema.specs.Known.{select_meta, Gives, GivesOther, IsNumber, HasOtherNumber, HasNoState, HasOwnTables};
+ghost use Rattle.store_schema.specs.Known.{select_meta, Gives, GivesOther, IsNumber, HasOtherNumber, HasNoState};
+ghost use Rattle.store_schema.specs.Known.{HasOwnTables};
 ghost use Rattle.store_schema.specs.Stands.{StandsFor, IsStateOf};
 ghost use Rattle.store_schema.specs.Tables.{store_schema};
 
@@ -20,9 +22,12 @@ use std::alloc::Global;
 
 /// All rows of `meta`, whatever the other tables are.
 fn meta_rows<S: Alter>(conn: &mut Connection<S>) -> Result<Vec<Row>, Error>
-    ensures shown { HasCleanDisk (state S.Store conn.new) → IfOk result (λ rows. Shown select_meta [] (state S.Store conn.old) (state S.Store conn.new) rows.items) }
-    ensures same { HasCleanDisk (state S.Store conn.new) → OnOk result (IsUnchanged (state S.Store conn.old) (state S.Store conn.new)) }
-    ensures kept { HasCleanDisk (state S.Store conn.new) → KeepsCommit (state S.Store conn.old) (state S.Store conn.new) }
+    ensures shown { HasCleanDisk (state S.Store conn.new) → IfOk result
+        (λ rows. Shown select_meta [] (state S.Store conn.old) (state S.Store conn.new) rows.items) }
+    ensures same { HasCleanDisk (state S.Store conn.new) → OnOk result
+        (IsUnchanged (state S.Store conn.old) (state S.Store conn.new)) }
+    ensures kept { HasCleanDisk (state S.Store conn.new) → KeepsCommit (state S.Store conn.old)
+        (state S.Store conn.new) }
     ensures crash { Survives (state S.Store conn.old) (state S.Store conn.new) (λ _. ⊥) }
     ensures mode { conn.old.in_transaction ≡ false → conn.new.in_transaction ≡ false }
 {
@@ -104,10 +109,14 @@ fn judge(alloc: Global, schema: &Schema, rows: &[Row]) -> Result<(), StoreError>
 
 fn check<S: Alter>(alloc: Global, conn: &mut Connection<S>) -> Result<(), StoreError>
     ensures ours { HasCleanDisk (state S.Store conn.new) → OnOk result (HasOwnTables (state S.Store conn.old).now) }
-    ensures other { HasCleanDisk (state S.Store conn.new) → IsErrOf result StoreError.OtherSchema → HasOtherNumber (state S.Store conn.old) }
-    ensures none { HasCleanDisk (state S.Store conn.new) → IsErrOf result StoreError.NoState → ¬ IsBlank (state S.Store conn.old).now → HasNoState (state S.Store conn.old) }
-    ensures same { HasCleanDisk (state S.Store conn.new) → OnOk result (IsUnchanged (state S.Store conn.old) (state S.Store conn.new)) }
-    ensures kept { HasCleanDisk (state S.Store conn.new) → KeepsCommit (state S.Store conn.old) (state S.Store conn.new) }
+    ensures other { HasCleanDisk (state S.Store conn.new) → IsErrOf result StoreError.OtherSchema
+        → HasOtherNumber (state S.Store conn.old) }
+    ensures none { HasCleanDisk (state S.Store conn.new) → IsErrOf result StoreError.NoState
+        → ¬ IsBlank (state S.Store conn.old).now → HasNoState (state S.Store conn.old) }
+    ensures same { HasCleanDisk (state S.Store conn.new) → OnOk result
+        (IsUnchanged (state S.Store conn.old) (state S.Store conn.new)) }
+    ensures kept { HasCleanDisk (state S.Store conn.new) → KeepsCommit (state S.Store conn.old)
+        (state S.Store conn.new) }
     ensures crash { Survives (state S.Store conn.old) (state S.Store conn.new) (λ _. ⊥) }
     ensures mode { conn.old.in_transaction ≡ false → conn.new.in_transaction ≡ false }
 {
@@ -119,15 +128,22 @@ fn check<S: Alter>(alloc: Global, conn: &mut Connection<S>) -> Result<(), StoreE
 /// where they are the store's, and nothing where it fails.
 pub fn set_up<S: Alter>(alloc: Global, conn: &mut Connection<S>) -> Result<(), StoreError>
     requires { conn.old.in_transaction ≡ false }
-    ensures stands { HasCleanDisk (state S.Store conn.new) → OnOk result ((i : Inventory) → IsStateOf i (state S.Store conn.old).now → Holds StandsFor (state S.Store conn.new) i) }
+    ensures stands { HasCleanDisk (state S.Store conn.new) → OnOk result
+        ((i : Inventory) → IsStateOf i (state S.Store conn.old).now → Holds StandsFor (state S.Store conn.new) i) }
     ensures ours { HasCleanDisk (state S.Store conn.new) → OnOk result (HasOwnTables (state S.Store conn.new).now) }
-    ensures same { HasCleanDisk (state S.Store conn.new) → OnOk result (¬ IsBlank (state S.Store conn.old).now → IsUnchanged (state S.Store conn.old) (state S.Store conn.new)) }
-    ensures other { HasCleanDisk (state S.Store conn.new) → IsErrOf result StoreError.OtherSchema → HasOtherNumber (state S.Store conn.old) }
-    ensures none { HasCleanDisk (state S.Store conn.new) → IsErrOf result StoreError.NoState → HasNoState (state S.Store conn.old) }
-    ensures unchanged { HasCleanDisk (state S.Store conn.new) → IsTrue (state S.Store conn.new).is_open → OnErr result ((state S.Store conn.new).committed ≡ (state S.Store conn.old).committed) }
+    ensures same { HasCleanDisk (state S.Store conn.new) → OnOk result
+        (¬ IsBlank (state S.Store conn.old).now → IsUnchanged (state S.Store conn.old) (state S.Store conn.new)) }
+    ensures other { HasCleanDisk (state S.Store conn.new) → IsErrOf result StoreError.OtherSchema
+        → HasOtherNumber (state S.Store conn.old) }
+    ensures none { HasCleanDisk (state S.Store conn.new) → IsErrOf result StoreError.NoState
+        → HasNoState (state S.Store conn.old) }
+    ensures unchanged { HasCleanDisk (state S.Store conn.new) → IsTrue (state S.Store conn.new).is_open
+        → OnErr result ((state S.Store conn.new).committed ≡ (state S.Store conn.old).committed) }
     ensures is_open { HasCleanDisk (state S.Store conn.new) → OnOk result (IsTrue (state S.Store conn.new).is_open) }
-    ensures was_open { HasCleanDisk (state S.Store conn.new) → IsTrue (state S.Store conn.new).is_open → IsTrue (state S.Store conn.old).is_open }
-    ensures crash { Survives (state S.Store conn.old) (state S.Store conn.new) (IsMade S.Store conn.old IsBlank (StandsFor empty_inventory)) }
+    ensures was_open { HasCleanDisk (state S.Store conn.new) → IsTrue (state S.Store conn.new).is_open
+        → IsTrue (state S.Store conn.old).is_open }
+    ensures crash { Survives (state S.Store conn.old) (state S.Store conn.new)
+        (IsMade S.Store conn.old IsBlank (StandsFor empty_inventory)) }
     ensures mode { conn.new.in_transaction ≡ false }
 {
     // So what the connection shows is what it last committed.

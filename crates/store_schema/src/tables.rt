@@ -18,7 +18,8 @@ use std::alloc::Global;
 fn run<S: Alter>(tx: &mut Transaction<'_, S>, sql: &str) -> Result<(), Error>
     ensures same_reference { tx.new.conn.ghost_name ≡ tx.old.conn.ghost_name }
     ensures inside { StaysInside S.Store tx.old.conn.now tx.new.conn.now }
-    ensures ran { HasCleanDisk (state S.Store tx.new.conn.now) → OnOk result (HasRun sql.now (state S.Store tx.old.conn.now) (state S.Store tx.new.conn.now)) }
+    ensures ran { HasCleanDisk (state S.Store tx.new.conn.now)
+        → OnOk result (HasRun sql.now (state S.Store tx.old.conn.now) (state S.Store tx.new.conn.now)) }
 {
     tx.execute(sql, &[])?;
     Ok(())
@@ -28,7 +29,8 @@ fn run<S: Alter>(tx: &mut Transaction<'_, S>, sql: &str) -> Result<(), Error>
 fn make_global<S: Alter>(tx: &mut Transaction<'_, S>) -> Result<(), Error>
     ensures same_reference { tx.new.conn.ghost_name ≡ tx.old.conn.ghost_name }
     ensures inside { StaysInside S.Store tx.old.conn.now tx.new.conn.now }
-    ensures ok { OnOk result (Leads S.Store tx.old.conn.now tx.new.conn.now (HasTables (meta ∷ [])) (HasTables (meta ∷ global_tables))) }
+    ensures ok { OnOk result (Leads S.Store tx.old.conn.now tx.new.conn.now (HasTables (meta ∷ []))
+        (HasTables (meta ∷ global_tables))) }
 {
     run(
         tx,
@@ -56,7 +58,8 @@ fn make_global<S: Alter>(tx: &mut Transaction<'_, S>) -> Result<(), Error>
 fn make_zones<S: Alter>(tx: &mut Transaction<'_, S>) -> Result<(), Error>
     ensures same_reference { tx.new.conn.ghost_name ≡ tx.old.conn.ghost_name }
     ensures inside { StaysInside S.Store tx.old.conn.now tx.new.conn.now }
-    ensures ok { OnOk result (Leads S.Store tx.old.conn.now tx.new.conn.now (HasTables (meta ∷ global_tables)) (HasTables all_tables)) }
+    ensures ok { OnOk result (Leads S.Store tx.old.conn.now tx.new.conn.now (HasTables (meta ∷ global_tables))
+        (HasTables all_tables)) }
 {
     run(
         tx,
@@ -89,11 +92,16 @@ fn make_all<S: Alter>(tx: &mut Transaction<'_, S>) -> Result<(), Error>
 /// Makes the tables, and writes the number of their schema, in a database that has none.
 pub(crate) fn create<S: Alter>(conn: &mut Connection<S>) -> Result<(), Error>
     requires { conn.old.in_transaction ≡ false }
-    ensures made { HasCleanDisk (state S.Store conn.new) → OnOk result (IsBlank (state S.Store conn.old).now → StandsFor empty_inventory (state S.Store conn.new).now × Holds StandsFor (state S.Store conn.new) empty_inventory) }
-    ensures unchanged { HasCleanDisk (state S.Store conn.new) → IsTrue (state S.Store conn.new).is_open → OnErr result ((state S.Store conn.new).committed ≡ (state S.Store conn.old).committed) }
+    ensures made { HasCleanDisk (state S.Store conn.new) → OnOk result
+        (IsBlank (state S.Store conn.old).now → StandsFor empty_inventory (state S.Store conn.new).now
+        × Holds StandsFor (state S.Store conn.new) empty_inventory) }
+    ensures unchanged { HasCleanDisk (state S.Store conn.new) → IsTrue (state S.Store conn.new).is_open
+        → OnErr result ((state S.Store conn.new).committed ≡ (state S.Store conn.old).committed) }
     ensures is_open { HasCleanDisk (state S.Store conn.new) → OnOk result (IsTrue (state S.Store conn.new).is_open) }
-    ensures was_open { HasCleanDisk (state S.Store conn.new) → IsTrue (state S.Store conn.new).is_open → IsTrue (state S.Store conn.old).is_open }
-    ensures crash { Survives (state S.Store conn.old) (state S.Store conn.new) (IsMade S.Store conn.old IsBlank (StandsFor empty_inventory)) }
+    ensures was_open { HasCleanDisk (state S.Store conn.new) → IsTrue (state S.Store conn.new).is_open
+        → IsTrue (state S.Store conn.old).is_open }
+    ensures crash { Survives (state S.Store conn.old) (state S.Store conn.new)
+        (IsMade S.Store conn.old IsBlank (StandsFor empty_inventory)) }
     ensures mode { conn.new.in_transaction ≡ false }
 {
     let mut tx = conn.transaction();

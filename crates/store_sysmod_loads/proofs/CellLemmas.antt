@@ -1,5 +1,6 @@
 -- What columns say that depend on others.
-use Rattle.std.proofs.Common.{◌≡◌, ◌≢◌, ◌<◌, ℕ, List, [], ◌∷◌, length, Bool, true, false, Option, Some, None, IsTrue, arith, refl, sym, ap, subst, ◌∙◌}
+use Rattle.std.proofs.Common.{◌≡◌, ◌≢◌, ◌<◌, ℕ, List, [], ◌∷◌, length, Bool, true, false, Option, Some, None, IsTrue}
+use Rattle.std.proofs.Common.{arith, refl, sym, ap, subst, ◌∙◌}
 use Rattle.std.specs.Prelude.{IfSome}
 use Rattle.sqlite.specs.declared.types.Value.{Value}
 use Rattle.sqlite.specs.declared.types.Value.TheVariants as value
@@ -22,7 +23,8 @@ use Rattle.store_schema.proofs.Spelled.{text_same}
 use Rattle.terms.specs.Forms.{IsId}
 
 -- the SYSMOD's own id is not among others
-pub own_id : (x : Id) (xs ys : List Id) (v : Value) → v ≡ ids xs → AreListed IsId xs → is_in xs x ≡ true → AreOthers x ys → v ≡ ids ys → ⊥
+pub own_id : (x : Id) (xs ys : List Id) (v : Value) → v ≡ ids xs → AreListed IsId xs → is_in xs x ≡ true
+    → AreOthers x ys → v ≡ ids ys → ⊥
 own_id x xs ys v is listed there others same =
     let one : xs ≡ ys = same_ids xs ys listed others.listed (sym is ∙ same) in
     others.others (Contains-from_is_in ys x (ap (λ l. is_in l x) (sym one) ∙ there))
@@ -63,32 +65,48 @@ pub no_flag : (a b c d : Value) (action : Action) → ((f : Bool) → a ≢ flag
 no_flag a b c d (Replaces x y text) none e = none false (cc)
 no_flag a b c d (Updates text) none e = none true (cc)
 
-pub no_distlib : (a b c d : Value) (t : ElemType) (n : Text) (action : Action) → ((o : Option Text) → IfSome o IsName → b ≢ or_null value.Text o) → HasActionForms Ptf t n action → Cells a b c d ≢ action_cells action
+pub no_distlib : (a b c d : Value) (t : ElemType) (n : Text) (action : Action)
+    → ((o : Option Text) → IfSome o IsName → b ≢ or_null value.Text o) → HasActionForms Ptf t n action
+    → Cells a b c d ≢ action_cells action
 no_distlib a b c d t n (Replaces x y text) none h e = none (Some x) h.0 (cc)
 no_distlib a b c d t n (Updates text) none h e = none None tt (cc)
 
-pub no_syslib : (a b c d : Value) (t : ElemType) (n : Text) (action : Action) → ((o : Option Text) → IfSome o IsName → c ≢ or_null value.Text o) → HasActionForms Ptf t n action → Cells a b c d ≢ action_cells action
+pub no_syslib : (a b c d : Value) (t : ElemType) (n : Text) (action : Action)
+    → ((o : Option Text) → IfSome o IsName → c ≢ or_null value.Text o) → HasActionForms Ptf t n action
+    → Cells a b c d ≢ action_cells action
 no_syslib a b c d t n (Replaces x y text) none h e = none (Some y) h.1 (cc)
 no_syslib a b c d t n (Updates text) none h e = none None tt (cc)
 
 -- ---- whole rows
 
-pub whole_ver : (row : Row) (x srel : Text) (fmid : Option Text) (pre req sup npre del : List Text) → length row ≡ 8 → column row 0 ≡ value.Text x → column row 1 ≡ value.Text srel → column row 2 ≡ or_null value.Text fmid
-    → column row 3 ≡ ids pre → column row 4 ≡ ids req → column row 5 ≡ ids sup → column row 6 ≡ ids npre → column row 7 ≡ ids del
-    → row ≡ value.Text x ∷ value.Text srel ∷ or_null value.Text fmid ∷ ids pre ∷ ids req ∷ ids sup ∷ ids npre ∷ ids del ∷ []
+pub whole_ver : (row : Row) (x srel : Text) (fmid : Option Text) (pre req sup npre del : List Text) → length row ≡ 8
+    → column row 0 ≡ value.Text x → column row 1 ≡ value.Text srel → column row 2 ≡ or_null value.Text fmid
+    → column row 3 ≡ ids pre → column row 4 ≡ ids req → column row 5 ≡ ids sup → column row 6 ≡ ids npre
+    → column row 7 ≡ ids del
+    → row ≡ value.Text x ∷ value.Text srel ∷ or_null value.Text fmid ∷ ids pre ∷ ids req ∷ ids sup ∷ ids npre ∷ ids del
+    ∷ []
 whole_ver row x srel fmid pre req sup npre del len a b c d e f g h =
-    let all : row ≡ column row 0 ∷ column row 1 ∷ column row 2 ∷ column row 3 ∷ column row 4 ∷ column row 5 ∷ column row 6 ∷ column row 7 ∷ [] = sym (columns_from row 0 8 (sym len)) in
+    let all : row ≡ column row 0 ∷ column row 1 ∷ column row 2 ∷ column row 3 ∷ column row 4 ∷ column row 5 ∷ column row
+    6 ∷ column row 7 ∷ [] = sym (columns_from row 0 8 (sym len)) in
     cc
 
-pub whole_if : (row : Row) (x srel : Text) (n : ℕ) (function : Text) (req : List Text) → length row ≡ 5 → column row 0 ≡ value.Text x → column row 1 ≡ value.Text srel → column row 2 ≡ value.Int (Rattle.std.proofs.Common.pos n)
-    → column row 3 ≡ value.Text function → column row 4 ≡ ids req → row ≡ ifreq_row x srel (n, record { function = function; req = req })
+pub whole_if : (row : Row) (x srel : Text) (n : ℕ) (function : Text) (req : List Text) → length row ≡ 5
+    → column row 0 ≡ value.Text x → column row 1 ≡ value.Text srel
+    → column row 2 ≡ value.Int (Rattle.std.proofs.Common.pos n)
+    → column row 3 ≡ value.Text function → column row 4 ≡ ids req
+    → row ≡ ifreq_row x srel (n, record { function = function; req = req })
 whole_if row x srel n function req len a b c d e =
-    let all : row ≡ column row 0 ∷ column row 1 ∷ column row 2 ∷ column row 3 ∷ column row 4 ∷ [] = sym (columns_from row 0 5 (sym len)) in
+    let all : row ≡ column row 0 ∷ column row 1 ∷ column row 2 ∷ column row 3 ∷ column row 4 ∷ [] =
+    sym (columns_from row 0 5 (sym len)) in
     cc
 
-pub whole_elem : (row : Row) (x : Text) (t : ElemType) (name : Text) (action : Action) → length row ≡ 7 → column row 0 ≡ value.Text x → column row 1 ≡ value.Text (type_text t) → column row 2 ≡ value.Text name
-    → Cells (column row 3) (column row 4) (column row 5) (column row 6) ≡ action_cells action → row ≡ elem_row x (record { elem_type = t; name = name; action = action })
+pub whole_elem : (row : Row) (x : Text) (t : ElemType) (name : Text) (action : Action) → length row ≡ 7
+    → column row 0 ≡ value.Text x → column row 1 ≡ value.Text (type_text t) → column row 2 ≡ value.Text name
+    → Cells (column row 3) (column row 4) (column row 5) (column row 6) ≡ action_cells action
+    → row ≡ elem_row x (record { elem_type = t; name = name; action = action })
 whole_elem row x t name action len a b c d =
-    let all : row ≡ column row 0 ∷ column row 1 ∷ column row 2 ∷ Cells (column row 3) (column row 4) (column row 5) (column row 6) = sym (columns_from row 0 7 (sym len)) in
-    let first : column row 0 ∷ column row 1 ∷ column row 2 ∷ Cells (column row 3) (column row 4) (column row 5) (column row 6) ≡ value.Text x ∷ value.Text (type_text t) ∷ value.Text name ∷ action_cells action = cc in
+    let all : row ≡ column row 0 ∷ column row 1 ∷ column row 2 ∷ Cells (column row 3) (column row 4) (column row 5)
+    (column row 6) = sym (columns_from row 0 7 (sym len)) in
+    let first : column row 0 ∷ column row 1 ∷ column row 2 ∷ Cells (column row 3) (column row 4) (column row 5)
+    (column row 6) ≡ value.Text x ∷ value.Text (type_text t) ∷ value.Text name ∷ action_cells action = cc in
     all ∙ first

@@ -16,8 +16,11 @@ follows_then a b c p q = record {
   crash = crash_then store_schema a b c p.same p.crash q.crash;
 }
 
-pub clean_before : (b c : State) (P : Rattle.sqlite.specs.Tree.Trees → Type 0) → Survives b c P → HasCleanDisk c → HasCleanDisk b
+pub clean_before : (b c : State) (P : Rattle.sqlite.specs.Tree.Trees → Type 0) → Survives b c P → HasCleanDisk c
+    → HasCleanDisk b
 clean_before b c P later clean = omega (arith, later.clean, clean)
 
-pub still_holds : (a b : State) (contents : Contents) → Follows a b → HasCleanDisk b → HasContents store_schema contents a.now → HasContents store_schema contents b.now
-still_holds a b contents p clean was = subst (HasContents store_schema contents) (sym (p.same clean was.schema_is).0.now_is) was
+pub still_holds : (a b : State) (contents : Contents) → Follows a b → HasCleanDisk b
+    → HasContents store_schema contents a.now → HasContents store_schema contents b.now
+still_holds a b contents p clean was = subst (HasContents store_schema contents)
+    (sym (p.same clean was.schema_is).0.now_is) was

@@ -8,19 +8,23 @@ use Rattle.store_sysmod_loads.specs.declared.flat.HeadRow.{HeadRow}
 use Rattle.store_sysmod_loads.specs.declared.flat.VerRow.{VerRow}
 use Rattle.store_sysmod_loads.specs.declared.flat.IfRow.{IfRow}
 use Rattle.store_sysmod_loads.specs.declared.flat.ElemRow.{ElemRow}
-use Rattle.store_sysmod_loads.specs.Flat.{row_of_head, HasHeadForms, row_of_ver, HasVerRowForms, row_of_if, HasIfRowForms, row_of_elem, HasElemRowForms}
+use Rattle.store_sysmod_loads.specs.Flat.{row_of_head, HasHeadForms, row_of_ver, HasVerRowForms, row_of_if}
+use Rattle.store_sysmod_loads.specs.Flat.{HasIfRowForms, row_of_elem, HasElemRowForms}
 
 pub exact_head : (a b : HeadRow) → HasHeadForms a → HasHeadForms b → row_of_head a ≡ row_of_head b → a ≡ b
 exact_head a b p q e =
     let id : a.id ≡ b.id = cc in
     let kind : a.kind ≡ b.kind = kind_same a.kind b.kind cc in
-    let sources : a.sources ≡ b.sources = ids_same a.sources b.sources (sources_are_words a.sources p.1) (sources_are_words b.sources q.1) cc in
-    ap (λ x. record a { id = x }) id ∙ ap (λ x. record a { id = b.id; kind = x }) kind ∙ ap (λ x. record b { sources = x }) sources
+    let sources : a.sources ≡ b.sources = ids_same a.sources b.sources (sources_are_words a.sources p.1)
+    (sources_are_words b.sources q.1) cc in
+    ap (λ x. record a { id = x }) id ∙ ap (λ x. record a { id = b.id; kind = x }) kind
+    ∙ ap (λ x. record b { sources = x }) sources
 
 pub exact_ver : (a b : VerRow) → HasVerRowForms a → HasVerRowForms b → row_of_ver a ≡ row_of_ver b → a ≡ b
 exact_ver a b p q e =
     let id : a.id ≡ b.id = cc in
-    let ver : a.ver ≡ b.ver = ver_is a.ver b.ver (one_head Function Function a.id b.id a.ver b.ver p.1 q.1 e) (p.2 ∙ sym q.2) in
+    let ver : a.ver ≡ b.ver = ver_is a.ver b.ver (one_head Function Function a.id b.id a.ver b.ver p.1 q.1 e)
+    (p.2 ∙ sym q.2) in
     ap (λ x. record a { id = x }) id ∙ ap (λ x. record b { ver = x }) ver
 
 pub exact_if : (a b : IfRow) → HasIfRowForms a → HasIfRowForms b → row_of_if a ≡ row_of_if b → a ≡ b

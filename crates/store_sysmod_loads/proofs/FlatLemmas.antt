@@ -1,5 +1,6 @@
 -- The rows of SYSMODs, table by table: what is taken off the front of them, and that they rise.
-use Rattle.std.proofs.Common.{◌≡◌, ◌≢◌, ℕ, ◌+◌, List, [], ◌∷◌, ◌++◌, map, IsTrue, append_assoc, refl, sym, ap, ap₂, subst, ◌∙◌}
+use Rattle.std.proofs.Common.{◌≡◌, ◌≢◌, ℕ, ◌+◌, List, [], ◌∷◌, ◌++◌, map, IsTrue, append_assoc, refl, sym, ap, ap₂}
+use Rattle.std.proofs.Common.{subst, ◌∙◌}
 use Rattle.std.specs.List.{AllByRecursion, flat_map, enumerate_from}
 use Rattle.std.proofs.lemmas.List.{map-append}
 use Rattle.sqlite.specs.Tree.{IsAscending}
@@ -14,13 +15,15 @@ use Rattle.store_sysmod_loads.specs.declared.flat.VerRow.{VerRow}
 use Rattle.store_sysmod_loads.specs.declared.flat.IfRow.{IfRow}
 use Rattle.store_sysmod_loads.specs.declared.flat.ElemRow.{ElemRow}
 use Rattle.store_sysmod_loads.specs.Flat.{row_of_head, row_of_ver, row_of_if, row_of_elem}
-use Rattle.store_sysmod_loads.specs.Runs.{StandsApart, parent_of_ver, parent_of_if, parent_of_elem, if_rows, ver_rows, elem_rows, HasAllIfs}
+use Rattle.store_sysmod_loads.specs.Runs.{StandsApart, parent_of_ver, parent_of_if, parent_of_elem, if_rows, ver_rows}
+use Rattle.store_sysmod_loads.specs.Runs.{elem_rows, HasAllIfs}
 use Rattle.store_sysmod_loads.specs.Built.{IsBuilt, IsTaken, AreTaken}
 use Rattle.store_sysmod_loads.specs.Flats.{head_of, ifs_of, all_vers, all_ifs, all_elems}
 
 -- ---- rows of items
 
-map_flat : {A B C : Type 0} (g : B → C) (f : A → List B) (h : A → List C) → ((a : A) → map g (f a) ≡ h a) → (xs : List A) → map g (flat_map f xs) ≡ flat_map h xs
+map_flat : {A B C : Type 0} (g : B → C) (f : A → List B) (h : A → List C) → ((a : A) → map g (f a) ≡ h a)
+    → (xs : List A) → map g (flat_map f xs) ≡ flat_map h xs
 map_flat g f h same [] = refl
 map_flat g f h same (x ∷ xs) = map-append g (f x) (flat_map f xs) ∙ ap₂ ◌++◌ (same x) (map_flat g f h same xs)
 
@@ -28,38 +31,49 @@ pub rows_of_heads : (ss : List Sysmod) → map row_of_head (map head_of ss) ≡ 
 rows_of_heads [] = refl
 rows_of_heads (s ∷ ss) = ap (λ rows. sysmod_row s ∷ rows) (rows_of_heads ss)
 
-rows_of_ver_list : (x : Id) (vers : List Ver) → map row_of_ver (ver_rows x vers) ≡ map (Rattle.store_schema.specs.Rows.ver_row x) vers
+rows_of_ver_list : (x : Id) (vers : List Ver) → map row_of_ver (ver_rows x vers) ≡ map
+    (Rattle.store_schema.specs.Rows.ver_row x) vers
 rows_of_ver_list x [] = refl
 rows_of_ver_list x (v ∷ vers) = ap (λ rows. Rattle.store_schema.specs.Rows.ver_row x v ∷ rows) (rows_of_ver_list x vers)
 
 pub rows_of_vers : (ss : List Sysmod) → map row_of_ver (all_vers ss) ≡ flat_map vers_of ss
-rows_of_vers ss = map_flat row_of_ver (λ (s : Sysmod). ver_rows s.id s.vers) vers_of (λ s. rows_of_ver_list s.id s.vers) ss
+rows_of_vers ss = map_flat row_of_ver (λ (s : Sysmod). ver_rows s.id s.vers) vers_of (λ s. rows_of_ver_list s.id s.vers)
+    ss
 
-rows_of_if_list : (x : Id) (srel : Text) (n : ℕ) (ifs : List IfReq) → map row_of_if (if_rows x srel n ifs) ≡ map (ifreq_row x srel) (enumerate_from n ifs)
+rows_of_if_list : (x : Id) (srel : Text) (n : ℕ) (ifs : List IfReq)
+    → map row_of_if (if_rows x srel n ifs) ≡ map (ifreq_row x srel) (enumerate_from n ifs)
 rows_of_if_list x srel n [] = refl
 rows_of_if_list x srel n (i ∷ ifs) = ap (λ rows. ifreq_row x srel (n, i) ∷ rows) (rows_of_if_list x srel (n + 1) ifs)
 
 pub rows_of_ifs : (ss : List Sysmod) → map row_of_if (all_ifs ss) ≡ flat_map ifreqs_of ss
 rows_of_ifs ss =
     map_flat row_of_if (λ (s : Sysmod). ifs_of s.id s.vers) ifreqs_of
-    (λ s. map_flat row_of_if (λ (v : Ver). if_rows s.id v.srel 1 v.ifs) (λ (v : Ver). map (ifreq_row s.id v.srel) (enumerate_from 1 v.ifs)) (λ v. rows_of_if_list s.id v.srel 1 v.ifs) s.vers) ss
+    (λ s. map_flat row_of_if (λ (v : Ver). if_rows s.id v.srel 1 v.ifs)
+    (λ (v : Ver). map (ifreq_row s.id v.srel) (enumerate_from 1 v.ifs)) (λ v. rows_of_if_list s.id v.srel 1 v.ifs)
+    s.vers) ss
 
-rows_of_elem_list : (x : Id) (changes : List Change) → map row_of_elem (elem_rows x changes) ≡ map (Rattle.store_schema.specs.Rows.elem_row x) changes
+rows_of_elem_list : (x : Id) (changes : List Change) → map row_of_elem (elem_rows x changes) ≡ map
+    (Rattle.store_schema.specs.Rows.elem_row x) changes
 rows_of_elem_list x [] = refl
-rows_of_elem_list x (d ∷ changes) = ap (λ rows. Rattle.store_schema.specs.Rows.elem_row x d ∷ rows) (rows_of_elem_list x changes)
+rows_of_elem_list x (d ∷ changes) = ap (λ rows. Rattle.store_schema.specs.Rows.elem_row x d ∷ rows)
+    (rows_of_elem_list x changes)
 
 pub rows_of_elems : (ss : List Sysmod) → map row_of_elem (all_elems ss) ≡ flat_map elems_of ss
-rows_of_elems ss = map_flat row_of_elem (λ (s : Sysmod). elem_rows s.id s.changes) elems_of (λ s. rows_of_elem_list s.id s.changes) ss
+rows_of_elems ss = map_flat row_of_elem (λ (s : Sysmod). elem_rows s.id s.changes) elems_of
+    (λ s. rows_of_elem_list s.id s.changes) ss
 
 -- ---- what was taken is all
 
-all_ifs_flat : (x : Id) (rows : List IfRow) (vers : List Ver) (rest : List IfRow) → HasAllIfs x rows vers rest → rows ≡ ifs_of x vers ++ rest
+all_ifs_flat : (x : Id) (rows : List IfRow) (vers : List Ver) (rest : List IfRow) → HasAllIfs x rows vers rest
+    → rows ≡ ifs_of x vers ++ rest
 all_ifs_flat x rows [] rest h = h
 all_ifs_flat x rows (v ∷ vers) rest h =
-    h.1.0 ∙ ap (λ more. if_rows x v.srel 1 v.ifs ++ more) (all_ifs_flat x h.0 vers rest h.2) ∙ sym (append_assoc (if_rows x v.srel 1 v.ifs) (ifs_of x vers) rest)
+    h.1.0 ∙ ap (λ more. if_rows x v.srel 1 v.ifs ++ more) (all_ifs_flat x h.0 vers rest h.2)
+    ∙ sym (append_assoc (if_rows x v.srel 1 v.ifs) (ifs_of x vers) rest)
 
 -- what the rows are, if these are the SYSMODs
-pub record AreFlat (heads : List HeadRow) (ss : List Sysmod) (vers : List VerRow) (ifs : List IfRow) (elems : List ElemRow) : Type 0 where
+pub record AreFlat (heads : List HeadRow) (ss : List Sysmod) (vers : List VerRow) (ifs : List IfRow)
+    (elems : List ElemRow) : Type 0 where
   pub heads_are : heads ≡ map head_of ss
   pub vers_are : vers ≡ all_vers ss
   pub ifs_are : ifs ≡ all_ifs ss
@@ -67,8 +81,16 @@ pub record AreFlat (heads : List HeadRow) (ss : List Sysmod) (vers : List VerRow
   pub built : AllByRecursion IsBuilt ss
   pub none_carried : AllByRecursion (λ s. s.holds ≡ []) ss
 
-pub taken_flat : (heads : List HeadRow) (ss : List Sysmod) (vers : List VerRow) (ifs : List IfRow) (elems : List ElemRow) → AreTaken heads ss vers ifs elems → AreFlat heads ss vers ifs elems
-taken_flat [] [] vers ifs elems h = record { heads_are = refl; vers_are = h.0; ifs_are = h.1; elems_are = h.2; built = tt; none_carried = tt }
+pub taken_flat : (heads : List HeadRow) (ss : List Sysmod) (vers : List VerRow) (ifs : List IfRow)
+    (elems : List ElemRow) → AreTaken heads ss vers ifs elems → AreFlat heads ss vers ifs elems
+taken_flat [] [] vers ifs elems h = record {
+  heads_are = refl;
+  vers_are = h.0;
+  ifs_are = h.1;
+  elems_are = h.2;
+  built = tt;
+  none_carried = tt;
+}
 taken_flat [] (s ∷ ss) vers ifs elems h = absurd h
 taken_flat (x ∷ heads) [] vers ifs elems h = absurd h
 taken_flat (x ∷ heads) (s ∷ ss) vers ifs elems h =
@@ -79,19 +101,24 @@ taken_flat (x ∷ heads) (s ∷ ss) vers ifs elems h =
     record {
       heads_are = ap₂ ◌∷◌ (sym head) rest.heads_are;
       vers_are = t.vers_are.0 ∙ ap₂ (λ (y : Id) (more : List VerRow). ver_rows y s.vers ++ more) id rest.vers_are;
-      ifs_are = all_ifs_flat x.id ifs s.vers h.1 t.vers_are.2 ∙ ap₂ (λ (y : Id) (more : List IfRow). ifs_of y s.vers ++ more) id rest.ifs_are;
-      elems_are = t.elems_are.0 ∙ ap₂ (λ (y : Id) (more : List ElemRow). elem_rows y s.changes ++ more) id rest.elems_are;
+      ifs_are = all_ifs_flat x.id ifs s.vers h.1 t.vers_are.2
+          ∙ ap₂ (λ (y : Id) (more : List IfRow). ifs_of y s.vers ++ more) id rest.ifs_are;
+      elems_are = t.elems_are.0 ∙ ap₂ (λ (y : Id) (more : List ElemRow). elem_rows y s.changes ++ more) id
+          rest.elems_are;
       built = (t.built, rest.built);
       none_carried = (ap (λ (r : Sysmod). r.holds) t.same, rest.none_carried);
     }
 
 -- ---- all is taken
 
-pub recursion_flat : {A X : Type 0} (f : A → List X) (Q : A → Type 0) (P : X → Type 0) → ((a : A) → Q a → AllByRecursion P (f a)) → (xs : List A) → AllByRecursion Q xs → AllByRecursion P (flat_map f xs)
+pub recursion_flat : {A X : Type 0} (f : A → List X) (Q : A → Type 0) (P : X → Type 0)
+    → ((a : A) → Q a → AllByRecursion P (f a)) → (xs : List A) → AllByRecursion Q xs → AllByRecursion P (flat_map f xs)
 recursion_flat f Q P each [] h = tt
-recursion_flat f Q P each (x ∷ xs) h = recursion-append P (f x) (flat_map f xs) (each x h.0) (recursion_flat f Q P each xs h.1)
+recursion_flat f Q P each (x ∷ xs) h = recursion-append P (f x) (flat_map f xs) (each x h.0)
+    (recursion_flat f Q P each xs h.1)
 
-stands_apart : {X K : Type 0} (parent : X → K) (k : K) (xs : List X) → AllByRecursion (λ x. parent x ≢ k) xs → StandsApart parent k xs
+stands_apart : {X K : Type 0} (parent : X → K) (k : K) (xs : List X) → AllByRecursion (λ x. parent x ≢ k) xs
+    → StandsApart parent k xs
 stands_apart parent k [] h begins = begins
 stands_apart parent k (x ∷ xs) h begins = h.0 begins
 
@@ -99,7 +126,8 @@ pub ver_parents : (x : Id) (vers : List Ver) → AllByRecursion (λ r. parent_of
 ver_parents x [] = tt
 ver_parents x (v ∷ vers) = (refl, ver_parents x vers)
 
-pub if_parents : (x : Id) (srel : Text) (n : ℕ) (ifs : List IfReq) → AllByRecursion (λ r. parent_of_if r ≡ (x, srel)) (if_rows x srel n ifs)
+pub if_parents : (x : Id) (srel : Text) (n : ℕ) (ifs : List IfReq)
+    → AllByRecursion (λ r. parent_of_if r ≡ (x, srel)) (if_rows x srel n ifs)
 if_parents x srel n [] = tt
 if_parents x srel n (i ∷ ifs) = (refl, if_parents x srel (n + 1) ifs)
 
@@ -111,45 +139,68 @@ pub if_ids : (x : Id) (vers : List Ver) → AllByRecursion (λ (r : IfRow). r.id
 if_ids x [] = tt
 if_ids x (v ∷ vers) =
     recursion-append (λ (r : IfRow). r.id ≡ x) (if_rows x v.srel 1 v.ifs) (ifs_of x vers)
-    (recursion_weaker (λ r. parent_of_if r ≡ (x, v.srel)) (λ r. r.id ≡ x) (λ r e. ap (λ (k : Id × Text). k.0) e) _ (if_parents x v.srel 1 v.ifs)) (if_ids x vers)
+    (recursion_weaker (λ r. parent_of_if r ≡ (x, v.srel)) (λ r. r.id ≡ x) (λ r e. ap (λ (k : Id × Text). k.0) e) _
+    (if_parents x v.srel 1 v.ifs)) (if_ids x vers)
 
 other_by : (x y z : Id) → y ≡ z → z ≢ x → y ≢ x
 other_by x y z e other same = other (sym e ∙ same)
 
 -- the ++IFs of one release stand apart from those of others, and of other SYSMODs
-ifs_taken : (x : Id) (vers : List Ver) (rest : List IfRow) → IsAscending (λ (v w : Ver). w.srel ≢ v.srel) vers → AllByRecursion (λ (r : IfRow). r.id ≢ x) rest → HasAllIfs x (ifs_of x vers ++ rest) vers rest
+ifs_taken : (x : Id) (vers : List Ver) (rest : List IfRow) → IsAscending (λ (v w : Ver). w.srel ≢ v.srel) vers
+    → AllByRecursion (λ (r : IfRow). r.id ≢ x) rest → HasAllIfs x (ifs_of x vers ++ rest) vers rest
 ifs_taken x [] rest up others = refl
 ifs_taken x (v ∷ vers) rest up others =
-    let of_rest = recursion_weaker (λ (r : IfRow). r.id ≢ x) (λ r. parent_of_if r ≢ (x, v.srel)) (λ r other e. other (ap (λ (k : Id × Text). k.0) e)) rest others in
-    let of_vers = recursion_flat (λ (w : Ver). if_rows x w.srel 1 w.ifs) (λ (w : Ver). w.srel ≢ v.srel) (λ r. parent_of_if r ≢ (x, v.srel))
-    (λ w other. recursion_weaker (λ r. parent_of_if r ≡ (x, w.srel)) (λ r. parent_of_if r ≢ (x, v.srel)) (λ r e f. other (ap (λ (k : Id × Text). k.1) (sym e ∙ f))) _ (if_parents x w.srel 1 w.ifs)) vers up.0 in
-    let apart = stands_apart parent_of_if (x, v.srel) (ifs_of x vers ++ rest) (recursion-append _ (ifs_of x vers) rest of_vers of_rest) in
-    (ifs_of x vers ++ rest, (append_assoc (if_rows x v.srel 1 v.ifs) (ifs_of x vers) rest, apart), ifs_taken x vers rest up.1 others)
+    let of_rest = recursion_weaker (λ (r : IfRow). r.id ≢ x) (λ r. parent_of_if r ≢ (x, v.srel))
+    (λ r other e. other (ap (λ (k : Id × Text). k.0) e)) rest others in
+    let of_vers = recursion_flat (λ (w : Ver). if_rows x w.srel 1 w.ifs) (λ (w : Ver). w.srel ≢ v.srel)
+    (λ r. parent_of_if r ≢ (x, v.srel))
+    (λ w other. recursion_weaker (λ r. parent_of_if r ≡ (x, w.srel)) (λ r. parent_of_if r ≢ (x, v.srel))
+    (λ r e f. other (ap (λ (k : Id × Text). k.1) (sym e ∙ f))) _ (if_parents x w.srel 1 w.ifs)) vers up.0 in
+    let apart = stands_apart parent_of_if (x, v.srel) (ifs_of x vers ++ rest)
+    (recursion-append _ (ifs_of x vers) rest of_vers of_rest) in (
+      ifs_of x vers ++ rest,
+      (append_assoc (if_rows x v.srel 1 v.ifs) (ifs_of x vers) rest, apart),
+      ifs_taken x vers rest up.1 others,
+    )
 
-weaker_pairs : {X : Type 0} (R S : X → X → Type 0) → ((x y : X) → R x y → S x y) → (xs : List X) → IsAscending R xs → IsAscending S xs
+weaker_pairs : {X : Type 0} (R S : X → X → Type 0) → ((x y : X) → R x y → S x y) → (xs : List X) → IsAscending R xs
+    → IsAscending S xs
 weaker_pairs R S f [] h = tt
 weaker_pairs R S f (x ∷ xs) h = (recursion_weaker (R x) (S x) (f x) xs h.0, weaker_pairs R S f xs h.1)
 
 abbrev pub BelowId : Sysmod → Sysmod → Type 0
 BelowId s t = IsTrue (is_before s.id t.id)
 
-pub flat_taken : (ss : List Sysmod) → IsAscending BelowId ss → AllByRecursion IsBuilt ss → AllByRecursion (λ s. s.holds ≡ []) ss → AreTaken (map head_of ss) ss (all_vers ss) (all_ifs ss) (all_elems ss)
+pub flat_taken : (ss : List Sysmod) → IsAscending BelowId ss → AllByRecursion IsBuilt ss
+    → AllByRecursion (λ s. s.holds ≡ []) ss → AreTaken (map head_of ss) ss (all_vers ss) (all_ifs ss) (all_elems ss)
 flat_taken [] up built none = (refl, refl, refl)
 flat_taken (s ∷ ss) up built none =
-    let others : AllByRecursion (λ (t : Sysmod). t.id ≢ s.id) ss = recursion_weaker (BelowId s) (λ t. t.id ≢ s.id) (λ t low same. not_before_same s.id t.id (sym same) low) ss up.0 in
+    let others : AllByRecursion (λ (t : Sysmod). t.id ≢ s.id) ss =
+    recursion_weaker (BelowId s) (λ t. t.id ≢ s.id) (λ t low same. not_before_same s.id t.id (sym same) low) ss
+    up.0 in
     let of_vers = recursion_flat (λ (t : Sysmod). ver_rows t.id t.vers) (λ t. t.id ≢ s.id) (λ r. parent_of_ver r ≢ s.id)
-    (λ t other. recursion_weaker (λ r. parent_of_ver r ≡ t.id) (λ r. parent_of_ver r ≢ s.id) (λ r e. other_by s.id r.id t.id e other) _ (ver_parents t.id t.vers)) ss others in
+    (λ t other. recursion_weaker (λ r. parent_of_ver r ≡ t.id) (λ r. parent_of_ver r ≢ s.id)
+    (λ r e. other_by s.id r.id t.id e other) _ (ver_parents t.id t.vers)) ss others in
     let of_ifs = recursion_flat (λ (t : Sysmod). ifs_of t.id t.vers) (λ t. t.id ≢ s.id) (λ (r : IfRow). r.id ≢ s.id)
-    (λ t other. recursion_weaker (λ (r : IfRow). r.id ≡ t.id) (λ r. r.id ≢ s.id) (λ r e. other_by s.id r.id t.id e other) _ (if_ids t.id t.vers)) ss others in
-    let of_elems = recursion_flat (λ (t : Sysmod). elem_rows t.id t.changes) (λ t. t.id ≢ s.id) (λ r. parent_of_elem r ≢ s.id)
-    (λ t other. recursion_weaker (λ r. parent_of_elem r ≡ t.id) (λ r. parent_of_elem r ≢ s.id) (λ r e. other_by s.id r.id t.id e other) _ (elem_parents t.id t.changes)) ss others in
-    let releases = weaker_pairs (λ (v w : Ver). IsTrue (is_before v.srel w.srel)) (λ v w. w.srel ≢ v.srel) (λ v w low same. not_before_same v.srel w.srel (sym same) low) s.vers (ascending _ s.vers built.0.srels) in (
+    (λ t other. recursion_weaker (λ (r : IfRow). r.id ≡ t.id) (λ r. r.id ≢ s.id)
+    (λ r e. other_by s.id r.id t.id e other) _ (if_ids t.id t.vers)) ss others in
+    let of_elems = recursion_flat (λ (t : Sysmod). elem_rows t.id t.changes) (λ t. t.id ≢ s.id)
+    (λ r. parent_of_elem r ≢ s.id)
+    (λ t other. recursion_weaker (λ r. parent_of_elem r ≡ t.id) (λ r. parent_of_elem r ≢ s.id)
+    (λ r e. other_by s.id r.id t.id e other) _ (elem_parents t.id t.changes)) ss others in
+    let releases = weaker_pairs (λ (v w : Ver). IsTrue (is_before v.srel w.srel)) (λ v w. w.srel ≢ v.srel)
+    (λ v w low same. not_before_same v.srel w.srel (sym same) low) s.vers (ascending _ s.vers built.0.srels)
+    in (
       all_vers ss,
       all_ifs ss,
       all_elems ss,
       record {
         same = ap (λ x. record s { holds = x }) none.0;
-        vers_are = (refl, stands_apart parent_of_ver s.id (all_vers ss) of_vers, ifs_taken s.id s.vers (all_ifs ss) releases of_ifs);
+        vers_are = (
+          refl,
+          stands_apart parent_of_ver s.id (all_vers ss) of_vers,
+          ifs_taken s.id s.vers (all_ifs ss) releases of_ifs,
+        );
         elems_are = (refl, stands_apart parent_of_elem s.id (all_elems ss) of_elems);
         built = built.0;
       },
@@ -158,11 +209,16 @@ flat_taken (s ∷ ss) up built none =
 
 -- ---- one by one
 
-pub taken_step : (x : HeadRow) (new : List HeadRow) (ss : List Sysmod) (vers : List VerRow) (ifs : List IfRow) (elems : List ElemRow) → AreTaken (x ∷ new) ss vers ifs elems
-    → (s : Sysmod) × (left : List Sysmod) × (vers' : List VerRow) × (ifs' : List IfRow) × (elems' : List ElemRow) × (ss ≡ s ∷ left) × IsTaken x s vers ifs elems vers' ifs' elems' × AreTaken new left vers' ifs' elems'
+pub taken_step : (x : HeadRow) (new : List HeadRow) (ss : List Sysmod) (vers : List VerRow) (ifs : List IfRow)
+    (elems : List ElemRow) → AreTaken (x ∷ new) ss vers ifs elems
+    → (s : Sysmod) × (left : List Sysmod) × (vers' : List VerRow) × (ifs' : List IfRow) × (elems' : List ElemRow)
+    × (ss ≡ s ∷ left) × IsTaken x s vers ifs elems vers' ifs' elems' × AreTaken new left vers' ifs' elems'
 taken_step x new [] vers ifs elems h = absurd h
 taken_step x new (s ∷ left) vers ifs elems h = (s, left, h.0, h.1, h.2, refl, h.3, h.4)
 
-pub taken_as : (ss : List Sysmod) (heads h : List HeadRow) (vers v : List VerRow) (ifs i : List IfRow) (elems e : List ElemRow) → heads ≡ h → vers ≡ v → ifs ≡ i → elems ≡ e → AreTaken h ss v i e → AreTaken heads ss vers ifs elems
+pub taken_as : (ss : List Sysmod) (heads h : List HeadRow) (vers v : List VerRow) (ifs i : List IfRow)
+    (elems e : List ElemRow) → heads ≡ h → vers ≡ v → ifs ≡ i → elems ≡ e → AreTaken h ss v i e
+    → AreTaken heads ss vers ifs elems
 taken_as ss heads h vers v ifs i elems e p q r t taken =
-    subst (λ x. AreTaken x ss vers ifs elems) (sym p) (subst (λ x. AreTaken h ss x ifs elems) (sym q) (subst (λ x. AreTaken h ss v x elems) (sym r) (subst (λ x. AreTaken h ss v i x) (sym t) taken)))
+    subst (λ x. AreTaken x ss vers ifs elems) (sym p) (subst (λ x. AreTaken h ss x ifs elems) (sym q)
+    (subst (λ x. AreTaken h ss v x elems) (sym r) (subst (λ x. AreTaken h ss v i x) (sym t) taken)))

@@ -1,5 +1,6 @@
 -- The rows of SYSMODs rise by their keys, table by table.
-use Rattle.std.proofs.Common.{get_or, ◌≡◌, ◌<◌, ℕ, ◌+◌, List, [], ◌∷◌, ◌++◌, map, IsTrue, Less, Equal, Ordering, arith, refl, sym, ap, ap₂, subst, ◌∙◌}
+use Rattle.std.proofs.Common.{get_or, ◌≡◌, ◌<◌, ℕ, ◌+◌, List, [], ◌∷◌, ◌++◌, map, IsTrue, Less, Equal, Ordering, arith}
+use Rattle.std.proofs.Common.{refl, sym, ap, ap₂, subst, ◌∙◌}
 use Rattle.std.specs.Prelude.{AllPairs}
 use Rattle.std.specs.List.{AllByRecursion, flat_map}
 use Rattle.std.specs.Ordering.{is_lt, nat_cmp, ordering_then}
@@ -28,7 +29,8 @@ use Rattle.store_sysmod_loads.specs.Built.{IsBuilt}
 use Rattle.store_sysmod_loads.specs.Flats.{head_of, ifs_of, all_vers, all_ifs, all_elems, AreFormed}
 use Rattle.store_sysmod_loads.proofs.FlatLemmas.{recursion_flat, ver_parents, elem_parents, if_ids, BelowId}
 
-asc_append : {X : Type 0} (R : X → X → Type 0) (xs ys : List X) → IsAscending R xs → IsAscending R ys → AllByRecursion (λ x. AllByRecursion (R x) ys) xs → IsAscending R (xs ++ ys)
+asc_append : {X : Type 0} (R : X → X → Type 0) (xs ys : List X) → IsAscending R xs → IsAscending R ys
+    → AllByRecursion (λ x. AllByRecursion (R x) ys) xs → IsAscending R (xs ++ ys)
 asc_append R [] ys p q cross = q
 asc_append R (x ∷ xs) ys p q cross = (recursion-append (R x) xs ys p.0 cross.0, asc_append R xs ys p.1 q cross.1)
 
@@ -36,15 +38,18 @@ pub pairs_from : {X : Type 0} (R : X → X → Type 0) (xs : List X) → IsAscen
 pairs_from R [] h = λ i j d less within. absurd (omega (arith, within))
 pairs_from R (x ∷ xs) h = AllPairs-cons R x xs (All-from_recursion (R x) xs h.0) (pairs_from R xs h.1)
 
-asc_map : {X Y : Type 0} (g : X → Y) (R : Y → Y → Type 0) (xs : List X) → IsAscending (λ a b. R (g a) (g b)) xs → IsAscending R (map g xs)
+asc_map : {X Y : Type 0} (g : X → Y) (R : Y → Y → Type 0) (xs : List X) → IsAscending (λ a b. R (g a) (g b)) xs
+    → IsAscending R (map g xs)
 asc_map g R [] h = tt
 asc_map g R (x ∷ xs) h = (recursion-map g (R (g x)) xs h.0, asc_map g R xs h.1)
 
-both : {X : Type 0} (P Q S : X → Type 0) → ((x : X) → P x → Q x → S x) → (xs : List X) → AllByRecursion P xs → AllByRecursion Q xs → AllByRecursion S xs
+both : {X : Type 0} (P Q S : X → Type 0) → ((x : X) → P x → Q x → S x) → (xs : List X) → AllByRecursion P xs
+    → AllByRecursion Q xs → AllByRecursion S xs
 both P Q S f [] p q = tt
 both P Q S f (x ∷ xs) p q = (f x p.0 q.0, both P Q S f xs p.1 q.1)
 
-module _ {A B K : Type 0} (order : K → K → Ordering) (f : A → List B) (id_of : A → Text) (parent : B → Text) (sub : B → K) where
+module _ {A B K : Type 0} (order : K → K → Ordering) (f : A → List B) (id_of : A → Text) (parent : B → Text)
+    (sub : B → K) where
   -- by the parent, and then by what tells its rows apart
   abbrev pub Low : B → B → Type 0
   Low a b = IsTrue (is_lt (ordering_then (slice_cmp nat_cmp (parent a) (parent b)) (order (sub a) (sub b))))
@@ -54,24 +59,33 @@ module _ {A B K : Type 0} (order : K → K → Ordering) (f : A → List B) (id_
 
   low_same : (x : Text) (a b : B) → parent a ≡ x → parent b ≡ x → LowSub a b → Low a b
   low_same x a b p q h =
-      let tie : slice_cmp nat_cmp (parent a) (parent b) ≡ Equal = ap₂ (slice_cmp nat_cmp) p q ∙ tied_itself nat_list_cmp_total x in
+      let tie : slice_cmp nat_cmp (parent a) (parent b) ≡ Equal =
+      ap₂ (slice_cmp nat_cmp) p q ∙ tied_itself nat_list_cmp_total x in
       subst (λ o. IsTrue (is_lt (ordering_then o (order (sub a) (sub b))))) (sym tie) h
 
   low_other : (x y : Text) (a b : B) → parent a ≡ x → parent b ≡ y → IsTrue (is_before x y) → Low a b
   low_other x y a b p q h =
-      let less : slice_cmp nat_cmp (parent a) (parent b) ≡ Less = ap₂ (slice_cmp nat_cmp) p q ∙ Less-from_is_lt (slice_cmp nat_cmp x y) h in
+      let less : slice_cmp nat_cmp (parent a) (parent b) ≡ Less =
+      ap₂ (slice_cmp nat_cmp) p q ∙ Less-from_is_lt (slice_cmp nat_cmp x y) h in
       subst (λ o. IsTrue (is_lt (ordering_then o (order (sub a) (sub b))))) (sym less) refl
 
   of_one : (x : Text) (bs : List B) → AllByRecursion (λ b. parent b ≡ x) bs → IsAscending LowSub bs → IsAscending Low bs
   of_one x [] p h = tt
-  of_one x (b ∷ bs) p h = (both (λ c. parent c ≡ x) (LowSub b) (Low b) (λ c q low. low_same x b c p.0 q low) bs p.1 h.0, of_one x bs p.1 h.1)
+  of_one x (b ∷ bs) p h = (
+    both (λ c. parent c ≡ x) (LowSub b) (Low b) (λ c q low. low_same x b c p.0 q low) bs p.1 h.0,
+    of_one x bs p.1 h.1,
+  )
 
   -- parents that rise, and rows that rise in each
-  pub asc_flat : ((a : A) → AllByRecursion (λ b. parent b ≡ id_of a) (f a)) → (xs : List A) → IsAscending (λ s t. IsTrue (is_before (id_of s) (id_of t))) xs → AllByRecursion (λ a. IsAscending LowSub (f a)) xs → IsAscending Low (flat_map f xs)
+  pub asc_flat : ((a : A) → AllByRecursion (λ b. parent b ≡ id_of a) (f a)) → (xs : List A)
+      → IsAscending (λ s t. IsTrue (is_before (id_of s) (id_of t))) xs
+      → AllByRecursion (λ a. IsAscending LowSub (f a)) xs → IsAscending Low (flat_map f xs)
   asc_flat each [] up subs = tt
   asc_flat each (x ∷ xs) up subs =
       let behind : (b : B) → parent b ≡ id_of x → AllByRecursion (Low b) (flat_map f xs) = λ b p.
-      recursion_flat f (λ y. IsTrue (is_before (id_of x) (id_of y))) (Low b) (λ y low. recursion_weaker (λ c. parent c ≡ id_of y) (Low b) (λ c q. low_other (id_of x) (id_of y) b c p q low) (f y) (each y)) xs up.0 in
+      recursion_flat f (λ y. IsTrue (is_before (id_of x) (id_of y))) (Low b)
+      (λ y low. recursion_weaker (λ c. parent c ≡ id_of y) (Low b)
+      (λ c q. low_other (id_of x) (id_of y) b c p q low) (f y) (each y)) xs up.0 in
       asc_append Low (f x) (flat_map f xs) (of_one (id_of x) (f x) (each x) subs.0) (asc_flat each xs up.1 subs.1)
       (recursion_weaker (λ b. parent b ≡ id_of x) (λ b. AllByRecursion (Low b) (flat_map f xs)) behind (f x) (each x))
 
@@ -79,21 +93,26 @@ pub ids_up : (ss : List Sysmod) → AreFormed ss → IsAscending BelowId ss
 ids_up ss h = ascending BelowId ss h.ids
 
 pub heads_rise : (ss : List Sysmod) → AreFormed ss → Rises (slice_cmp nat_cmp) (λ (h : HeadRow). h.id) (map head_of ss)
-heads_rise ss h = pairs_from _ (map head_of ss) (asc_map head_of (λ (a b : HeadRow). IsTrue (is_before a.id b.id)) ss (ids_up ss h))
+heads_rise ss h = pairs_from _ (map head_of ss) (asc_map head_of (λ (a b : HeadRow). IsTrue (is_before a.id b.id)) ss
+    (ids_up ss h))
 
-pub ids_rise : (ss : List Sysmod) → Rises (slice_cmp nat_cmp) (λ (h : HeadRow). h.id) (map head_of ss) → Rises (slice_cmp nat_cmp) (λ (s : Sysmod). s.id) ss
-ids_rise ss h = pairs_from _ ss (Rattle.store_schema.proofs.Lists.ascending_by head_of (λ (a b : HeadRow). IsTrue (is_before a.id b.id)) ss (ascending _ (map head_of ss) h))
+pub ids_rise : (ss : List Sysmod) → Rises (slice_cmp nat_cmp) (λ (h : HeadRow). h.id) (map head_of ss)
+    → Rises (slice_cmp nat_cmp) (λ (s : Sysmod). s.id) ss
+ids_rise ss h = pairs_from _ ss (Rattle.store_schema.proofs.Lists.ascending_by head_of
+    (λ (a b : HeadRow). IsTrue (is_before a.id b.id)) ss (ascending _ (map head_of ss) h))
 
 abbrev pub ver_key_cmp : Id × Text → Id × Text → Ordering
 ver_key_cmp a b = ordering_then (slice_cmp nat_cmp a.0 b.0) (slice_cmp nat_cmp a.1 b.1)
 
-vers_up : (s : Sysmod) → IsBuilt s → IsAscending (λ (a b : VerRow). IsTrue (is_before a.ver.srel b.ver.srel)) (ver_rows s.id s.vers)
+vers_up : (s : Sysmod) → IsBuilt s → IsAscending (λ (a b : VerRow). IsTrue (is_before a.ver.srel b.ver.srel))
+    (ver_rows s.id s.vers)
 vers_up s h = asc_map _ (λ (a b : VerRow). IsTrue (is_before a.ver.srel b.ver.srel)) s.vers (ascending _ s.vers h.srels)
 
 pub vers_rise : (ss : List Sysmod) → AreFormed ss → Rises ver_key_cmp (λ (r : VerRow). (r.id, r.ver.srel)) (all_vers ss)
 vers_rise ss h =
     pairs_from _ (all_vers ss)
-    (asc_flat (slice_cmp nat_cmp) (λ (s : Sysmod). ver_rows s.id s.vers) (λ (s : Sysmod). s.id) (λ (r : VerRow). r.id) (λ (r : VerRow). r.ver.srel)
+    (asc_flat (slice_cmp nat_cmp) (λ (s : Sysmod). ver_rows s.id s.vers) (λ (s : Sysmod). s.id) (λ (r : VerRow). r.id)
+    (λ (r : VerRow). r.ver.srel)
     (λ s. ver_parents s.id s.vers) ss (ids_up ss h) (recursion_weaker IsBuilt _ vers_up ss h.built))
 
 abbrev pub if_sub_cmp : Text × ℕ → Text × ℕ → Ordering
@@ -102,31 +121,42 @@ if_sub_cmp a b = ordering_then (slice_cmp nat_cmp a.0 b.0) (nat_cmp a.1 b.1)
 abbrev pub if_key_cmp : Id × (Text × ℕ) → Id × (Text × ℕ) → Ordering
 if_key_cmp a b = ordering_then (slice_cmp nat_cmp a.0 b.0) (if_sub_cmp a.1 b.1)
 
-from_here : (x : Id) (srel : Text) (m n : ℕ) (ifs : List IfReq) → m < n → AllByRecursion (λ (b : IfRow). IsTrue (is_lt (nat_cmp m b.number))) (if_rows x srel n ifs)
+from_here : (x : Id) (srel : Text) (m n : ℕ) (ifs : List IfReq) → m < n
+    → AllByRecursion (λ (b : IfRow). IsTrue (is_lt (nat_cmp m b.number))) (if_rows x srel n ifs)
 from_here x srel m n [] low = tt
-from_here x srel m n (i ∷ ifs) low = (ap is_lt (sym (nat_cmp_is m n Less low)), from_here x srel m (n + 1) ifs (omega (arith, low)))
+from_here x srel m n (i ∷ ifs) low = (
+  ap is_lt (sym (nat_cmp_is m n Less low)),
+  from_here x srel m (n + 1) ifs (omega (arith, low)),
+)
 
-ifs_up : (x : Id) (srel : Text) (n : ℕ) (ifs : List IfReq) → IsAscending (λ (a b : IfRow). IsTrue (is_lt (nat_cmp a.number b.number))) (if_rows x srel n ifs)
+ifs_up : (x : Id) (srel : Text) (n : ℕ) (ifs : List IfReq) → IsAscending
+    (λ (a b : IfRow). IsTrue (is_lt (nat_cmp a.number b.number))) (if_rows x srel n ifs)
 ifs_up x srel n [] = tt
 ifs_up x srel n (i ∷ ifs) = (from_here x srel n (n + 1) ifs (omega arith), ifs_up x srel (n + 1) ifs)
 
-if_releases : (x : Id) (srel : Text) (n : ℕ) (ifs : List IfReq) → AllByRecursion (λ (r : IfRow). r.srel ≡ srel) (if_rows x srel n ifs)
+if_releases : (x : Id) (srel : Text) (n : ℕ) (ifs : List IfReq)
+    → AllByRecursion (λ (r : IfRow). r.srel ≡ srel) (if_rows x srel n ifs)
 if_releases x srel n [] = tt
 if_releases x srel n (i ∷ ifs) = (refl, if_releases x srel (n + 1) ifs)
 
-all_up : (x : Id) (vers : List Ver) → AllByRecursion (λ v. IsAscending (λ (a b : IfRow). IsTrue (is_lt (nat_cmp a.number b.number))) (if_rows x v.srel 1 v.ifs)) vers
+all_up : (x : Id) (vers : List Ver) → AllByRecursion (λ v. IsAscending
+    (λ (a b : IfRow). IsTrue (is_lt (nat_cmp a.number b.number))) (if_rows x v.srel 1 v.ifs)) vers
 all_up x [] = tt
 all_up x (v ∷ vers) = (ifs_up x v.srel 1 v.ifs, all_up x vers)
 
-sysmod_ifs_up : (s : Sysmod) → IsBuilt s → IsAscending (λ (a b : IfRow). IsTrue (is_lt (if_sub_cmp (a.srel, a.number) (b.srel, b.number)))) (ifs_of s.id s.vers)
+sysmod_ifs_up : (s : Sysmod) → IsBuilt s → IsAscending (λ (a b : IfRow).
+    IsTrue (is_lt (if_sub_cmp (a.srel, a.number) (b.srel, b.number)))) (ifs_of s.id s.vers)
 sysmod_ifs_up s h =
-    asc_flat nat_cmp (λ (v : Ver). if_rows s.id v.srel 1 v.ifs) (λ (v : Ver). v.srel) (λ (r : IfRow). r.srel) (λ (r : IfRow). r.number)
+    asc_flat nat_cmp (λ (v : Ver). if_rows s.id v.srel 1 v.ifs) (λ (v : Ver). v.srel) (λ (r : IfRow). r.srel)
+    (λ (r : IfRow). r.number)
     (λ v. if_releases s.id v.srel 1 v.ifs) s.vers (ascending _ s.vers h.srels) (all_up s.id s.vers)
 
-pub ifs_rise : (ss : List Sysmod) → AreFormed ss → Rises if_key_cmp (λ (r : IfRow). (r.id, (r.srel, r.number))) (all_ifs ss)
+pub ifs_rise : (ss : List Sysmod) → AreFormed ss → Rises if_key_cmp (λ (r : IfRow). (r.id, (r.srel, r.number)))
+    (all_ifs ss)
 ifs_rise ss h =
     pairs_from _ (all_ifs ss)
-    (asc_flat if_sub_cmp (λ (s : Sysmod). ifs_of s.id s.vers) (λ (s : Sysmod). s.id) (λ (r : IfRow). r.id) (λ (r : IfRow). (r.srel, r.number))
+    (asc_flat if_sub_cmp (λ (s : Sysmod). ifs_of s.id s.vers) (λ (s : Sysmod). s.id) (λ (r : IfRow). r.id)
+    (λ (r : IfRow). (r.srel, r.number))
     (λ s. if_ids s.id s.vers) ss (ids_up ss h) (recursion_weaker IsBuilt _ sysmod_ifs_up ss h.built))
 
 abbrev pub elem_sub_cmp : ElemType × Text → ElemType × Text → Ordering
@@ -135,13 +165,17 @@ elem_sub_cmp a b = ordering_then (nat_cmp (type_number a.0) (type_number b.0)) (
 abbrev pub elem_key_cmp : Id × (ElemType × Text) → Id × (ElemType × Text) → Ordering
 elem_key_cmp a b = ordering_then (slice_cmp nat_cmp a.0 b.0) (elem_sub_cmp a.1 b.1)
 
-elems_up : (s : Sysmod) → IsBuilt s → IsAscending (λ (a b : ElemRow). IsTrue (is_lt (elem_sub_cmp (a.change.elem_type, a.change.name) (b.change.elem_type, b.change.name)))) (elem_rows s.id s.changes)
+elems_up : (s : Sysmod) → IsBuilt s → IsAscending (λ (a b : ElemRow).
+    IsTrue (is_lt (elem_sub_cmp (a.change.elem_type, a.change.name) (b.change.elem_type, b.change.name))))
+    (elem_rows s.id s.changes)
 elems_up s h = asc_map _ _ s.changes (ascending _ s.changes h.changes)
 
-pub elems_rise : (ss : List Sysmod) → AreFormed ss → Rises elem_key_cmp (λ (r : ElemRow). (r.id, (r.change.elem_type, r.change.name))) (all_elems ss)
+pub elems_rise : (ss : List Sysmod) → AreFormed ss → Rises elem_key_cmp
+    (λ (r : ElemRow). (r.id, (r.change.elem_type, r.change.name))) (all_elems ss)
 elems_rise ss h =
     pairs_from _ (all_elems ss)
-    (asc_flat elem_sub_cmp (λ (s : Sysmod). elem_rows s.id s.changes) (λ (s : Sysmod). s.id) (λ (r : ElemRow). r.id) (λ (r : ElemRow). (r.change.elem_type, r.change.name))
+    (asc_flat elem_sub_cmp (λ (s : Sysmod). elem_rows s.id s.changes) (λ (s : Sysmod). s.id) (λ (r : ElemRow). r.id)
+    (λ (r : ElemRow). (r.change.elem_type, r.change.name))
     (λ s. elem_parents s.id s.changes) ss (ids_up ss h) (recursion_weaker IsBuilt _ elems_up ss h.built))
 
 -- ---- the derived order of types
@@ -149,7 +183,8 @@ elems_rise ss h =
 abbrev pub derived_key_cmp : ElemType × Text → ElemType × Text → Ordering
 derived_key_cmp a b = ordering_then (type_order.ghosts.cmp a.0 b.0) (slice_cmp nat_cmp a.1 b.1)
 
-pub changes_derived : (xs : List Change) → Rises change_cmp (λ c. c) xs → Rises derived_key_cmp (λ (c : Change). (c.elem_type, c.name)) xs
+pub changes_derived : (xs : List Change) → Rises change_cmp (λ c. c) xs
+    → Rises derived_key_cmp (λ (c : Change). (c.elem_type, c.name)) xs
 changes_derived xs h = λ i j d less within.
     let a = get_or xs i d in
     let b = get_or xs j d in
@@ -158,8 +193,11 @@ changes_derived xs h = λ i j d less within.
 abbrev pub derived_elem_cmp : Id × (ElemType × Text) → Id × (ElemType × Text) → Ordering
 derived_elem_cmp a b = ordering_then (slice_cmp nat_cmp a.0 b.0) (derived_key_cmp a.1 b.1)
 
-pub elems_derived : (xs : List ElemRow) → Rises elem_key_cmp (λ (r : ElemRow). (r.id, (r.change.elem_type, r.change.name))) xs → Rises derived_elem_cmp (λ (r : ElemRow). (r.id, (r.change.elem_type, r.change.name))) xs
+pub elems_derived : (xs : List ElemRow) → Rises elem_key_cmp
+    (λ (r : ElemRow). (r.id, (r.change.elem_type, r.change.name))) xs
+    → Rises derived_elem_cmp (λ (r : ElemRow). (r.id, (r.change.elem_type, r.change.name))) xs
 elems_derived xs h = λ i j d less within.
     let a = get_or xs i d in
     let b = get_or xs j d in
-    ap (λ o. is_lt (ordering_then (slice_cmp nat_cmp a.id b.id) o)) (cmp-keys (a.change.elem_type, a.change.name) (b.change.elem_type, b.change.name)) ∙ h i j d less within
+    ap (λ o. is_lt (ordering_then (slice_cmp nat_cmp a.id b.id) o))
+    (cmp-keys (a.change.elem_type, a.change.name) (b.change.elem_type, b.change.name)) ∙ h i j d less within

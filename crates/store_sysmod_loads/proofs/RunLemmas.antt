@@ -1,13 +1,16 @@
 -- Rows are taken off the front one by one.
-use Rattle.std.proofs.Common.{◌≡◌, ℕ, ◌+◌, List, [], ◌∷◌, ◌++◌, length, Option, Some, None, append_assoc, arith, refl, sym, ap, subst, ◌∙◌}
+use Rattle.std.proofs.Common.{◌≡◌, ℕ, ◌+◌, List, [], ◌∷◌, ◌++◌, length, Option, Some, None, append_assoc, arith, refl}
+use Rattle.std.proofs.Common.{sym, ap, subst, ◌∙◌}
 use Rattle.std.specs.Prelude.{IfSome, option_to_list}
 use Rattle.terms.specs.Types.{Text, Id, IfReq, Ver, Change}
 use Rattle.store_sysmod_loads.specs.declared.flat.VerRow.{VerRow}
 use Rattle.store_sysmod_loads.specs.declared.flat.IfRow.{IfRow}
 use Rattle.store_sysmod_loads.specs.declared.flat.ElemRow.{ElemRow}
-use Rattle.store_sysmod_loads.specs.Runs.{Begins, StandsApart, parent_of_ver, parent_of_if, parent_of_elem, if_rows, ver_rows, elem_rows, HasIfs, HasAllIfs, HasVers, HasChanges}
+use Rattle.store_sysmod_loads.specs.Runs.{Begins, StandsApart, parent_of_ver, parent_of_if, parent_of_elem, if_rows}
+use Rattle.store_sysmod_loads.specs.Runs.{ver_rows, elem_rows, HasIfs, HasAllIfs, HasVers, HasChanges}
 
-pub popped : {X K : Type 0} (parent : X → K) (k : K) (old new : List X) (r : Option X) → Begins parent k old → old ≡ option_to_list r ++ new → IfSome r (λ row. (old ≡ row ∷ new) × (parent row ≡ k))
+pub popped : {X K : Type 0} (parent : X → K) (k : K) (old new : List X) (r : Option X) → Begins parent k old
+    → old ≡ option_to_list r ++ new → IfSome r (λ row. (old ≡ row ∷ new) × (parent row ≡ k))
 popped parent k [] new r h e = absurd h
 popped parent k (x ∷ old) new None h e = tt
 popped parent k (x ∷ old) new (Some row) h e = let first : x ≡ row = cc in (e, ap parent (sym first) ∙ h)
@@ -17,17 +20,22 @@ popped parent k (x ∷ old) new (Some row) h e = let first : x ≡ row = cc in (
 abbrev pub if_row : Id → Text → ℕ → IfReq → IfRow
 if_row x srel n i = record { id = x; srel = srel; number = n; ifreq = i }
 
-if_rows_more : (x : Id) (srel : Text) (n m : ℕ) (ifs : List IfReq) (i : IfReq) → m ≡ n + length ifs → if_rows x srel n (ifs ++ i ∷ []) ≡ if_rows x srel n ifs ++ if_row x srel m i ∷ []
+if_rows_more : (x : Id) (srel : Text) (n m : ℕ) (ifs : List IfReq) (i : IfReq) → m ≡ n + length ifs
+    → if_rows x srel n (ifs ++ i ∷ []) ≡ if_rows x srel n ifs ++ if_row x srel m i ∷ []
 if_rows_more x srel n m [] i e = let same : n ≡ m = omega (arith, e) in ap (λ k. if_row x srel k i ∷ []) same
-if_rows_more x srel n m (j ∷ ifs) i e = ap (λ rows. if_row x srel n j ∷ rows) (if_rows_more x srel (n + 1) m ifs i (omega (arith, e)))
+if_rows_more x srel n m (j ∷ ifs) i e = ap (λ rows. if_row x srel n j ∷ rows)
+    (if_rows_more x srel (n + 1) m ifs i (omega (arith, e)))
 
-if_is : (row : IfRow) (x : Id) (srel : Text) (n : ℕ) → parent_of_if row ≡ (x, srel) → row.number ≡ n → row ≡ if_row x srel n row.ifreq
+if_is : (row : IfRow) (x : Id) (srel : Text) (n : ℕ) → parent_of_if row ≡ (x, srel) → row.number ≡ n
+    → row ≡ if_row x srel n row.ifreq
 if_is row x srel n key number =
     let id : row.id ≡ x = ap (λ (k : Id × Text). k.0) key in
     let release : row.srel ≡ srel = ap (λ (k : Id × Text). k.1) key in
-    ap (λ y. record row { id = y }) id ∙ ap (λ y. record row { id = x; srel = y }) release ∙ ap (λ y. record { id = x; srel = srel; number = y; ifreq = row.ifreq }) number
+    ap (λ y. record row { id = y }) id ∙ ap (λ y. record row { id = x; srel = y }) release
+    ∙ ap (λ y. record { id = x; srel = srel; number = y; ifreq = row.ifreq }) number
 
-pub ifs_told : (x : Id) (srel : Text) (old : List IfRow) (ifs : List IfReq) (row : IfRow) (rows new : List IfRow) → old ≡ if_rows x srel 1 ifs ++ rows → rows ≡ row ∷ new → parent_of_if row ≡ (x, srel) → row.number ≡ length ifs + 1
+pub ifs_told : (x : Id) (srel : Text) (old : List IfRow) (ifs : List IfReq) (row : IfRow) (rows new : List IfRow)
+    → old ≡ if_rows x srel 1 ifs ++ rows → rows ≡ row ∷ new → parent_of_if row ≡ (x, srel) → row.number ≡ length ifs + 1
     → old ≡ if_rows x srel 1 (ifs ++ row.ifreq ∷ []) ++ new
 ifs_told x srel old ifs row rows new told is key number =
     let one : row ≡ if_row x srel (length ifs + 1) row.ifreq = if_is row x srel (length ifs + 1) key number in
@@ -35,7 +43,8 @@ ifs_told x srel old ifs row rows new told is key number =
     ∙ sym (append_assoc (if_rows x srel 1 ifs) (if_row x srel (length ifs + 1) row.ifreq ∷ []) new)
     ∙ ap (λ r. r ++ new) (sym (if_rows_more x srel 1 (length ifs + 1) ifs row.ifreq (omega arith)))
 
-pub ifs_step : (x : Id) (srel : Text) (n : ℕ) (row : IfRow) (new : List IfRow) (more : List IfReq) (rest : List IfRow) → parent_of_if row ≡ (x, srel) → HasIfs x srel n (row ∷ new) more rest
+pub ifs_step : (x : Id) (srel : Text) (n : ℕ) (row : IfRow) (new : List IfRow) (more : List IfReq) (rest : List IfRow)
+    → parent_of_if row ≡ (x, srel) → HasIfs x srel n (row ∷ new) more rest
     → (left : List IfReq) × (more ≡ row.ifreq ∷ left) × (row.number ≡ n) × HasIfs x srel (n + 1) new left rest
 ifs_step x srel n row new [] rest key h = absurd (h.1 (subst (Begins parent_of_if (x, srel)) h.0 key))
 ifs_step x srel n row new (i ∷ more) rest key h =
@@ -44,59 +53,79 @@ ifs_step x srel n row new (i ∷ more) rest key h =
     let tail : new ≡ if_rows x srel (n + 1) more ++ rest = cc in
     (more, ap (λ r. r ∷ more) (sym (ap (λ (r : IfRow). r.ifreq) head)), ap (λ (r : IfRow). r.number) head, (tail, h.1))
 
-pub ifs_end : (x : Id) (srel : Text) (n : ℕ) (rows : List IfRow) (more : List IfReq) (rest : List IfRow) → StandsApart parent_of_if (x, srel) rows → HasIfs x srel n rows more rest → (more ≡ []) × (rest ≡ rows)
+pub ifs_end : (x : Id) (srel : Text) (n : ℕ) (rows : List IfRow) (more : List IfReq) (rest : List IfRow)
+    → StandsApart parent_of_if (x, srel) rows → HasIfs x srel n rows more rest → (more ≡ []) × (rest ≡ rows)
 ifs_end x srel n rows [] rest apart h = (refl, sym h.0)
 ifs_end x srel n rows (i ∷ more) rest apart h = absurd (apart (subst (Begins parent_of_if (x, srel)) (sym h.0) refl))
 
 -- ---- ++VERs
 
-ver_rows_more : (x : Id) (vers : List Ver) (v : Ver) → ver_rows x (vers ++ v ∷ []) ≡ ver_rows x vers ++ ver_rows x (v ∷ [])
+ver_rows_more : (x : Id) (vers : List Ver) (v : Ver) → ver_rows x (vers ++ v ∷ []) ≡ ver_rows x vers
+    ++ ver_rows x (v ∷ [])
 ver_rows_more x [] v = refl
 ver_rows_more x (w ∷ vers) v = ap (λ rows. ver_rows x (w ∷ []) ++ rows) (ver_rows_more x vers v)
 
-pub vers_told : (x : Id) (old : List VerRow) (vers : List Ver) (row : VerRow) (rows new : List VerRow) (ifs : List IfReq) → old ≡ ver_rows x vers ++ rows → rows ≡ row ∷ new → row.id ≡ x → row.ver.ifs ≡ []
+pub vers_told : (x : Id) (old : List VerRow) (vers : List Ver) (row : VerRow) (rows new : List VerRow)
+    (ifs : List IfReq) → old ≡ ver_rows x vers ++ rows → rows ≡ row ∷ new → row.id ≡ x → row.ver.ifs ≡ []
     → old ≡ ver_rows x (vers ++ record row.ver { ifs = ifs } ∷ []) ++ new
 vers_told x old vers row rows new ifs told is id bare =
     let v = row.ver in
-    let one : row ≡ record { id = x; ver = record v { ifs = [] } } = ap (λ y. record row { id = y }) id ∙ ap (λ y. record { id = x; ver = record v { ifs = y } }) bare in
+    let one : row ≡ record { id = x; ver = record v { ifs = [] } } =
+    ap (λ y. record row { id = y }) id ∙ ap (λ y. record { id = x; ver = record v { ifs = y } }) bare in
     told ∙ ap (λ r. ver_rows x vers ++ r) (is ∙ ap (λ r. r ∷ new) one)
     ∙ sym (append_assoc (ver_rows x vers) (ver_rows x (record v { ifs = ifs } ∷ [])) new)
     ∙ ap (λ r. r ++ new) (sym (ver_rows_more x vers (record v { ifs = ifs })))
 
-pub all_ifs_more : (x : Id) (old : List IfRow) (vers : List Ver) (v : Ver) (mid new : List IfRow) → HasAllIfs x old vers mid → HasIfs x v.srel 1 mid v.ifs new → HasAllIfs x old (vers ++ v ∷ []) new
-all_ifs_more x old [] v mid new told more = (new, subst (λ rows. HasIfs x v.srel 1 rows v.ifs new) (sym told) more, refl)
+pub all_ifs_more : (x : Id) (old : List IfRow) (vers : List Ver) (v : Ver) (mid new : List IfRow)
+    → HasAllIfs x old vers mid → HasIfs x v.srel 1 mid v.ifs new → HasAllIfs x old (vers ++ v ∷ []) new
+all_ifs_more x old [] v mid new told more = (
+  new,
+  subst (λ rows. HasIfs x v.srel 1 rows v.ifs new) (sym told) more,
+  refl,
+)
 all_ifs_more x old (w ∷ vers) v mid new told more = (told.0, told.1, all_ifs_more x told.0 vers v mid new told.2 more)
 
 -- what the first row of a ++VER says of those that are there
 abbrev pub StepsVer : Id → VerRow → List VerRow → List IfRow → List Ver → List VerRow → List IfRow → Type 0
 StepsVer x row new ifs vers rest more =
-    (found : List IfReq) × (mid : List IfRow) × (left : List Ver) × (vers ≡ record row.ver { ifs = found } ∷ left) × HasIfs x row.ver.srel 1 ifs found mid × HasVers x new mid left rest more
+    (found : List IfReq) × (mid : List IfRow) × (left : List Ver) × (vers ≡ record row.ver { ifs = found } ∷ left)
+    × HasIfs x row.ver.srel 1 ifs found mid × HasVers x new mid left rest more
 
-pub vers_step : (x : Id) (row : VerRow) (new : List VerRow) (ifs : List IfRow) (vers : List Ver) (rest : List VerRow) (more : List IfRow) → row.id ≡ x → HasVers x (row ∷ new) ifs vers rest more → StepsVer x row new ifs vers rest more
+pub vers_step : (x : Id) (row : VerRow) (new : List VerRow) (ifs : List IfRow) (vers : List Ver) (rest : List VerRow)
+    (more : List IfRow) → row.id ≡ x → HasVers x (row ∷ new) ifs vers rest more → StepsVer x row new ifs vers rest more
 vers_step x row new ifs [] rest more id h = absurd (h.1 (subst (Begins parent_of_ver x) h.0 id))
 vers_step x row new ifs (v ∷ vers) rest more id h =
     let e = h.0 in
     let head : row ≡ record { id = x; ver = record v { ifs = [] } } = cc in
     let tail : new ≡ ver_rows x vers ++ rest = cc in
-    subst (λ r. StepsVer x r new ifs (v ∷ vers) rest more) (sym head) (v.ifs, h.2.0, vers, refl, h.2.1, (tail, h.1, h.2.2))
+    subst (λ r. StepsVer x r new ifs (v ∷ vers) rest more) (sym head)
+    (v.ifs, h.2.0, vers, refl, h.2.1, (tail, h.1, h.2.2))
 
-pub vers_end : (x : Id) (rows : List VerRow) (ifs : List IfRow) (vers : List Ver) (rest : List VerRow) (more : List IfRow) → StandsApart parent_of_ver x rows → HasVers x rows ifs vers rest more → (vers ≡ []) × (rest ≡ rows) × (more ≡ ifs)
+pub vers_end : (x : Id) (rows : List VerRow) (ifs : List IfRow) (vers : List Ver) (rest : List VerRow)
+    (more : List IfRow) → StandsApart parent_of_ver x rows → HasVers x rows ifs vers rest more
+    → (vers ≡ []) × (rest ≡ rows) × (more ≡ ifs)
 vers_end x rows ifs [] rest more apart h = (refl, sym h.0, sym h.2)
 vers_end x rows ifs (v ∷ vers) rest more apart h = absurd (apart (subst (Begins parent_of_ver x) (sym h.0) refl))
 
 -- ---- element statements
 
-elem_rows_more : (x : Id) (changes : List Change) (d : Change) → elem_rows x (changes ++ d ∷ []) ≡ elem_rows x changes ++ elem_rows x (d ∷ [])
+elem_rows_more : (x : Id) (changes : List Change) (d : Change)
+    → elem_rows x (changes ++ d ∷ []) ≡ elem_rows x changes ++ elem_rows x (d ∷ [])
 elem_rows_more x [] d = refl
 elem_rows_more x (e ∷ changes) d = ap (λ rows. elem_rows x (e ∷ []) ++ rows) (elem_rows_more x changes d)
 
-pub changes_told : (x : Id) (old : List ElemRow) (changes : List Change) (row : ElemRow) (rows new : List ElemRow) → old ≡ elem_rows x changes ++ rows → rows ≡ row ∷ new → row.id ≡ x → old ≡ elem_rows x (changes ++ row.change ∷ []) ++ new
+pub changes_told : (x : Id) (old : List ElemRow) (changes : List Change) (row : ElemRow) (rows new : List ElemRow)
+    → old ≡ elem_rows x changes ++ rows → rows ≡ row ∷ new → row.id ≡ x
+    → old ≡ elem_rows x (changes ++ row.change ∷ []) ++ new
 changes_told x old changes row rows new told is id =
     let one : row ≡ record { id = x; change = row.change } = ap (λ y. record row { id = y }) id in
-    told ∙ ap (λ r. elem_rows x changes ++ r) (is ∙ ap (λ r. r ∷ new) one) ∙ sym (append_assoc (elem_rows x changes) (elem_rows x (row.change ∷ [])) new)
+    told ∙ ap (λ r. elem_rows x changes ++ r) (is ∙ ap (λ r. r ∷ new) one)
+    ∙ sym (append_assoc (elem_rows x changes) (elem_rows x (row.change ∷ [])) new)
     ∙ ap (λ r. r ++ new) (sym (elem_rows_more x changes row.change))
 
-pub changes_step : (x : Id) (row : ElemRow) (new : List ElemRow) (changes : List Change) (rest : List ElemRow) → row.id ≡ x → HasChanges x (row ∷ new) changes rest → (left : List Change) × (changes ≡ row.change ∷ left) × HasChanges x new left rest
+pub changes_step : (x : Id) (row : ElemRow) (new : List ElemRow) (changes : List Change) (rest : List ElemRow)
+    → row.id ≡ x → HasChanges x (row ∷ new) changes rest → (left : List Change) × (changes ≡ row.change ∷ left)
+    × HasChanges x new left rest
 changes_step x row new [] rest id h = absurd (h.1 (subst (Begins parent_of_elem x) h.0 id))
 changes_step x row new (d ∷ changes) rest id h =
     let e = h.0 in
@@ -104,10 +133,12 @@ changes_step x row new (d ∷ changes) rest id h =
     let tail : new ≡ elem_rows x changes ++ rest = cc in
     (changes, ap (λ r. r ∷ changes) (sym (ap (λ (r : ElemRow). r.change) head)), (tail, h.1))
 
-pub changes_end : (x : Id) (rows : List ElemRow) (changes : List Change) (rest : List ElemRow) → StandsApart parent_of_elem x rows → HasChanges x rows changes rest → (changes ≡ []) × (rest ≡ rows)
+pub changes_end : (x : Id) (rows : List ElemRow) (changes : List Change) (rest : List ElemRow)
+    → StandsApart parent_of_elem x rows → HasChanges x rows changes rest → (changes ≡ []) × (rest ≡ rows)
 changes_end x rows [] rest apart h = (refl, sym h.0)
 changes_end x rows (d ∷ changes) rest apart h = absurd (apart (subst (Begins parent_of_elem x) (sym h.0) refl))
 
 -- the next of those that are left
-pub next_left : {X : Type 0} (others done : List X) (x : X) (more left : List X) → others ≡ done ++ more → more ≡ x ∷ left → others ≡ (done ++ x ∷ []) ++ left
+pub next_left : {X : Type 0} (others done : List X) (x : X) (more left : List X) → others ≡ done ++ more
+    → more ≡ x ∷ left → others ≡ (done ++ x ∷ []) ++ left
 next_left others done x more left e f = e ∙ ap (λ xs. done ++ xs) f ∙ sym (append_assoc done (x ∷ []) left)

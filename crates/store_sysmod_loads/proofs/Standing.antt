@@ -34,25 +34,40 @@ of_any_kind kind x v h = record {
   suits = tt;
 }
 
-vers_formed : (kind : Kind) (x : Id) (vers : List Ver) → IsId x → AllByRecursion (HasVerForms kind x) vers → AllByRecursion HasVerRowForms (ver_rows x vers)
+vers_formed : (kind : Kind) (x : Id) (vers : List Ver) → IsId x → AllByRecursion (HasVerForms kind x) vers
+    → AllByRecursion HasVerRowForms (ver_rows x vers)
 vers_formed kind x [] id h = tt
 vers_formed kind x (v ∷ vers) id h = ((id, of_any_kind kind x v h.0, refl), vers_formed kind x vers id h.1)
 
-if_list_formed : (x : Id) (srel : Text) (n : ℕ) (ifs : List IfReq) → IsId x → IsSrel srel → AllByRecursion (HasIfForms x) ifs → AllByRecursion HasIfRowForms (if_rows x srel n ifs)
+if_list_formed : (x : Id) (srel : Text) (n : ℕ) (ifs : List IfReq) → IsId x → IsSrel srel
+    → AllByRecursion (HasIfForms x) ifs → AllByRecursion HasIfRowForms (if_rows x srel n ifs)
 if_list_formed x srel n [] id release h = tt
 if_list_formed x srel n (i ∷ ifs) id release h = ((id, release, h.0), if_list_formed x srel (n + 1) ifs id release h.1)
 
-ifs_formed : (kind : Kind) (x : Id) (vers : List Ver) → IsId x → AllByRecursion (HasVerForms kind x) vers → AllByRecursion HasIfRowForms (ifs_of x vers)
+ifs_formed : (kind : Kind) (x : Id) (vers : List Ver) → IsId x → AllByRecursion (HasVerForms kind x) vers
+    → AllByRecursion HasIfRowForms (ifs_of x vers)
 ifs_formed kind x vers id h =
-    recursion_flat (λ (v : Ver). if_rows x v.srel 1 v.ifs) (HasVerForms kind x) HasIfRowForms (λ v f. if_list_formed x v.srel 1 v.ifs id f.srel (recursion_from_All (HasIfForms x) v.ifs f.ifs)) vers h
+    recursion_flat (λ (v : Ver). if_rows x v.srel 1 v.ifs) (HasVerForms kind x) HasIfRowForms
+    (λ v f. if_list_formed x v.srel 1 v.ifs id f.srel (recursion_from_All (HasIfForms x) v.ifs f.ifs)) vers h
 
-action_of_any : (kind : Kind) (c : Change) (a : Action) → HasActionForms kind c.elem_type c.name a → HasActionForms Ptf c.elem_type c.name a
+action_of_any : (kind : Kind) (c : Change) (a : Action) → HasActionForms kind c.elem_type c.name a
+    → HasActionForms Ptf c.elem_type c.name a
 action_of_any kind c (Replaces d l text) h = h
 action_of_any kind c (Updates text) h = (λ e. absurd (cc), h.1, h.2, h.3)
 
-elems_formed : (kind : Kind) (x : Id) (changes : List Change) → IsId x → AllByRecursion (HasChangeForms kind) changes → AllByRecursion HasElemRowForms (elem_rows x changes)
+elems_formed : (kind : Kind) (x : Id) (changes : List Change) → IsId x → AllByRecursion (HasChangeForms kind) changes
+    → AllByRecursion HasElemRowForms (elem_rows x changes)
 elems_formed kind x [] id h = tt
-elems_formed kind x (c ∷ changes) id h = ((id, record { name = h.0.name; action = action_of_any kind c c.action h.0.action }), elems_formed kind x changes id h.1)
+elems_formed kind x (c ∷ changes) id h = (
+  (
+    id,
+    record {
+      name = h.0.name;
+      action = action_of_any kind c c.action h.0.action;
+    },
+  ),
+  elems_formed kind x changes id h.1,
+)
 
 may_do : (kind : Kind) (c : Change) (a : Action) → HasActionForms kind c.elem_type c.name a → MayDo kind a
 may_do Function c (Replaces d l text) h = tt
@@ -70,7 +85,8 @@ is_built s h k = record {
   changes = k.changes;
 }
 
-all_built : (ss : List Sysmod) → AllByRecursion HasSysmodForms ss → AllByRecursion IsSysmod ss → AllByRecursion IsBuilt ss
+all_built : (ss : List Sysmod) → AllByRecursion HasSysmodForms ss → AllByRecursion IsSysmod ss
+    → AllByRecursion IsBuilt ss
 all_built [] h k = tt
 all_built (s ∷ ss) h k = (is_built s h.0 k.0, all_built ss h.1 k.1)
 
@@ -80,13 +96,24 @@ inventory_formed i h =
     let forms = recursion_from_All HasSysmodForms ss h.sysmods in
     record {
       heads = heads_formed ss forms;
-      vers = recursion_flat (λ (s : Sysmod). ver_rows s.id s.vers) HasSysmodForms HasVerRowForms (λ s f. vers_formed s.kind s.id s.vers f.id (recursion_from_All (HasVerForms s.kind s.id) s.vers f.vers)) ss forms;
-      ifs = recursion_flat (λ (s : Sysmod). ifs_of s.id s.vers) HasSysmodForms HasIfRowForms (λ s f. ifs_formed s.kind s.id s.vers f.id (recursion_from_All (HasVerForms s.kind s.id) s.vers f.vers)) ss forms;
-      elems = recursion_flat (λ (s : Sysmod). elem_rows s.id s.changes) HasSysmodForms HasElemRowForms (λ s f. elems_formed s.kind s.id s.changes f.id (recursion_from_All (HasChangeForms s.kind) s.changes f.changes)) ss forms;
+      vers = recursion_flat (λ (s : Sysmod). ver_rows s.id s.vers) HasSysmodForms HasVerRowForms
+          (λ s f. vers_formed s.kind s.id s.vers f.id (recursion_from_All (HasVerForms s.kind s.id) s.vers f.vers)) ss
+          forms;
+      ifs = recursion_flat (λ (s : Sysmod). ifs_of s.id s.vers) HasSysmodForms HasIfRowForms
+          (λ s f. ifs_formed s.kind s.id s.vers f.id (recursion_from_All (HasVerForms s.kind s.id) s.vers f.vers)) ss
+          forms;
+      elems = recursion_flat (λ (s : Sysmod). elem_rows s.id s.changes) HasSysmodForms HasElemRowForms
+          (λ s f. elems_formed s.kind s.id s.changes f.id (recursion_from_All (HasChangeForms s.kind) s.changes
+          f.changes)) ss forms;
       built = all_built ss forms (recursion_from_All IsSysmod ss h.global.formed);
       ids = h.global.sysmods;
       none_carried = recursion_from_All (λ (s : Sysmod). s.holds ≡ []) ss h.global.none_carried;
     }
 
 pub inventory_rows : (i : Inventory) → AreRowsOf i.global.sysmods (rows_of i)
-inventory_rows i = record { heads = IsPermutation-refl _; vers = IsPermutation-refl _; ifs = IsPermutation-refl _; elems = IsPermutation-refl _ }
+inventory_rows i = record {
+  heads = IsPermutation-refl _;
+  vers = IsPermutation-refl _;
+  ifs = IsPermutation-refl _;
+  elems = IsPermutation-refl _;
+}

@@ -22,14 +22,28 @@ select_heads = codes "SELECT id, kind, sources FROM sysmod"
 
 pub reads_heads : ReadsRows store_schema sysmod 0 select_heads
 unfolding understood everything
-reads_heads = record { names = _; order = _; command = refl; plain = (refl, refl); unlisted = refl; narrow = omega arith }
+reads_heads = record {
+  names = _;
+  order = _;
+  command = refl;
+  plain = (refl, refl);
+  unlisted = refl;
+  narrow = omega arith;
+}
 
 abbrev pub select_vers : List ℕ
 select_vers = codes "SELECT id, srel, fmid, pre, req, sup, npre, del FROM ver"
 
 pub reads_vers : ReadsRows store_schema ver 0 select_vers
 unfolding understood everything
-reads_vers = record { names = _; order = _; command = refl; plain = (refl, refl); unlisted = refl; narrow = omega arith }
+reads_vers = record {
+  names = _;
+  order = _;
+  command = refl;
+  plain = (refl, refl);
+  unlisted = refl;
+  narrow = omega arith;
+}
 
 abbrev pub select_ifs : List ℕ
 select_ifs = codes "SELECT id, srel, n, fmid, req FROM ifreq"
@@ -43,4 +57,11 @@ select_elems = codes "SELECT id, type, name, upd, distlib, syslib, text FROM ele
 
 pub reads_elems : ReadsRows store_schema elem 0 select_elems
 unfolding understood everything
-reads_elems = record { names = _; order = _; command = refl; plain = (refl, refl); unlisted = refl; narrow = omega arith }
+reads_elems = record {
+  names = _;
+  order = _;
+  command = refl;
+  plain = (refl, refl);
+  unlisted = refl;
+  narrow = omega arith;
+}

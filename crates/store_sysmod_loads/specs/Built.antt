@@ -30,10 +30,18 @@ pub record IsBuilt (s : Sysmod) : Type 0 where
 
 -- the SYSMOD of these parts
 abbrev pub sysmod_from : HeadRow → List Ver → List Change → Sysmod
-sysmod_from h vers changes = record { id = h.id; kind = h.kind; sources = h.sources; vers = vers; changes = changes; holds = [] }
+sysmod_from h vers changes = record {
+  id = h.id;
+  kind = h.kind;
+  sources = h.sources;
+  vers = vers;
+  changes = changes;
+  holds = [];
+}
 
 -- the tables begin with the rows of the SYSMOD, and with another's then
-pub record IsTaken (h : HeadRow) (s : Sysmod) (vers : List VerRow) (ifs : List IfRow) (elems : List ElemRow) (vers' : List VerRow) (ifs' : List IfRow) (elems' : List ElemRow) : Type 0 where
+pub record IsTaken (h : HeadRow) (s : Sysmod) (vers : List VerRow) (ifs : List IfRow) (elems : List ElemRow)
+    (vers' : List VerRow) (ifs' : List IfRow) (elems' : List ElemRow) : Type 0 where
   pub same : s ≡ sysmod_from h s.vers s.changes
   pub vers_are : HasVers h.id vers ifs s.vers vers' ifs'
   pub elems_are : HasChanges h.id elems s.changes elems'
@@ -45,4 +53,5 @@ AreTaken [] [] vers ifs elems = (vers ≡ []) × (ifs ≡ []) × (elems ≡ [])
 AreTaken [] (s ∷ sysmods) vers ifs elems = ⊥
 AreTaken (h ∷ heads) [] vers ifs elems = ⊥
 AreTaken (h ∷ heads) (s ∷ sysmods) vers ifs elems =
-    (vers' : List VerRow) × (ifs' : List IfRow) × (elems' : List ElemRow) × IsTaken h s vers ifs elems vers' ifs' elems' × AreTaken heads sysmods vers' ifs' elems'
+    (vers' : List VerRow) × (ifs' : List IfRow) × (elems' : List ElemRow) × IsTaken h s vers ifs elems vers' ifs' elems'
+    × AreTaken heads sysmods vers' ifs' elems'

@@ -8,7 +8,8 @@ use Rattle.terms.specs.Rising.{Rises}
 use Rattle.store_rows.specs.Rows.{Contents}
 use Rattle.store_schema.specs.Tables.{sysmod, ver, ifreq, elem}
 use Rattle.store_sysmod_loads.specs.declared.rows_of.FlatRows.{FlatRows}
-use Rattle.store_sysmod_loads.specs.Flat.{row_of_head, row_of_ver, row_of_if, row_of_elem, HasHeadForms, HasVerRowForms, HasIfRowForms, HasElemRowForms}
+use Rattle.store_sysmod_loads.specs.Flat.{row_of_head, row_of_ver, row_of_if, row_of_elem, HasHeadForms, HasVerRowForms}
+use Rattle.store_sysmod_loads.specs.Flat.{HasIfRowForms, HasElemRowForms}
 use Rattle.store_sysmod_loads.specs.Built.{IsBuilt}
 use Rattle.store_sysmod_loads.specs.Flats.{head_of, all_vers, all_ifs, all_elems}
 

@@ -51,7 +51,8 @@ HasAllIfs x rows (v ∷ vers) rest = (more : List IfRow) × HasIfs x v.srel 1 ro
 
 -- both tables begin with the rows of these ++VERs
 abbrev pub HasVers : Id → List VerRow → List IfRow → List Ver → List VerRow → List IfRow → Type 0
-HasVers x rows ifs vers rest more = (rows ≡ ver_rows x vers ++ rest) × StandsApart parent_of_ver x rest × HasAllIfs x ifs vers more
+HasVers x rows ifs vers rest more = (rows ≡ ver_rows x vers ++ rest) × StandsApart parent_of_ver x rest
+    × HasAllIfs x ifs vers more
 
 -- the rows begin with those of these element statements
 abbrev pub HasChanges : Id → List ElemRow → List Change → List ElemRow → Type 0

@@ -96,10 +96,13 @@ fn take_sysmod(
 ) -> Result<Sysmod, ReadError>
     requires { AreBare vers.old.items }
     ensures bare { AreBare vers.new.items }
-    ensures taken { IfOk result (λ s. IsTaken head s vers.old.items ifs.old.items elems.old.items vers.new.items ifs.new.items elems.new.items) }
-    ensures only { IfOk result (λ s. (other : SysmodTerm) (vs : List VerLine) (is : List IfLine) (es : List ElemLine) → IsTaken head other vers.old.items ifs.old.items elems.old.items vs is es
+    ensures taken { IfOk result (λ s. IsTaken head s vers.old.items ifs.old.items elems.old.items vers.new.items
+        ifs.new.items elems.new.items) }
+    ensures only { IfOk result (λ s. (other : SysmodTerm) (vs : List VerLine) (is : List IfLine) (es : List ElemLine)
+        → IsTaken head other vers.old.items ifs.old.items elems.old.items vs is es
         → (other ≡ s) × (vs ≡ vers.new.items) × (is ≡ ifs.new.items) × (es ≡ elems.new.items)) }
-    ensures none { IsErrOf result ReadError.BadRow → (other : SysmodTerm) (vs : List VerLine) (is : List IfLine) (es : List ElemLine) → ¬ IsTaken head other vers.old.items ifs.old.items elems.old.items vs is es }
+    ensures none { IsErrOf result ReadError.BadRow → (other : SysmodTerm) (vs : List VerLine) (is : List IfLine)
+        (es : List ElemLine) → ¬ IsTaken head other vers.old.items ifs.old.items elems.old.items vs is es }
 {
     let found = take_vers(alloc, vers, ifs, head.id)?;
     let changes = take_changes(alloc, elems, head.id)?;
@@ -124,8 +127,10 @@ pub(crate) fn assemble(
 ) -> Result<Vec<Sysmod>, ReadError>
     requires { AreBare vers.items }
     ensures taken { IfOk result (λ ss. AreTaken heads.items ss.items vers.items ifs.items elems.items) }
-    ensures only { IfOk result (λ ss. (others : List SysmodTerm) → AreTaken heads.items others vers.items ifs.items elems.items → others ≡ ss.items) }
-    ensures none { IsErrOf result ReadError.BadRow → (others : List SysmodTerm) → ¬ AreTaken heads.items others vers.items ifs.items elems.items }
+    ensures only { IfOk result (λ ss. (others : List SysmodTerm)
+        → AreTaken heads.items others vers.items ifs.items elems.items → others ≡ ss.items) }
+    ensures none { IsErrOf result ReadError.BadRow → (others : List SysmodTerm)
+        → ¬ AreTaken heads.items others vers.items ifs.items elems.items }
 {
     let mut sysmods = Vec::new(alloc);
     while let Some(head) = next_of(&mut heads) {

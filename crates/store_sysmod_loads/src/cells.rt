@@ -27,7 +27,8 @@ use text80::{Line, TextError, Update};
 /// Ids, of which the SYSMOD's own is none.
 pub(crate) fn others_in(alloc: Global, row: &Row, at: usize, id: Id) -> Result<IdList, ReadError>
     ensures some { IfOk result (λ list. (column row.now at ≡ ids list) × AreOthers id list) }
-    ensures none { IsErrOf result ReadError.BadRow → (list : List (List ℕ)) → AreOthers id list → column row.now at ≢ ids list }
+    ensures none { IsErrOf result ReadError.BadRow → (list : List (List ℕ)) → AreOthers id list
+        → column row.now at ≢ ids list }
     ensures fault { IsErrOf result ReadError.Fault → ⊥ }
 {
     let list = ids_in(alloc, row, at)?;
@@ -39,8 +40,10 @@ pub(crate) fn others_in(alloc: Global, row: &Row, at: usize, id: Id) -> Result<I
 
 /// The id of another SYSMOD, if there is one.
 pub(crate) fn other_in(row: &Row, at: usize, id: Id) -> Option<Option<Id>>
-    ensures some { IfSome result (λ other. (column row.now at ≡ or_null Text other) × IfSome other (λ o. IsId o × (o ≢ id))) }
-    ensures none { IfNone result ((other : Option (List ℕ)) → IfSome other (λ o. IsId o × (o ≢ id)) → column row.now at ≢ or_null Text other) }
+    ensures some { IfSome result (λ other. (column row.now at ≡ or_null Text other)
+        × IfSome other (λ o. IsId o × (o ≢ id))) }
+    ensures none { IfNone result ((other : Option (List ℕ)) → IfSome other (λ o. IsId o × (o ≢ id))
+        → column row.now at ≢ or_null Text other) }
 {
     let other = optional_id_in(row, at)?;
     if other == Some(id) {
@@ -68,8 +71,10 @@ fn replacement_in(
     at: usize,
     elem_type: ElemType,
 ) -> Result<Vec<Line>, ReadError>
-    ensures some { IfOk result (λ text. (column row.now at ≡ records text.items) × IsTextOf elem_type text.items × (text.items ≢ [])) }
-    ensures none { IsErrOf result ReadError.BadRow → (text : List (List ℕ)) → IsTextOf elem_type text → text ≢ [] → column row.now at ≢ records text }
+    ensures some { IfOk result (λ text. (column row.now at ≡ records text.items) × IsTextOf elem_type text.items
+        × (text.items ≢ [])) }
+    ensures none { IsErrOf result ReadError.BadRow → (text : List (List ℕ)) → IsTextOf elem_type text → text ≢ []
+        → column row.now at ≢ records text }
     ensures fault { IsErrOf result ReadError.Fault → ⊥ }
 {
     let text = element_text_in(alloc, row, at, elem_type)?;
@@ -100,8 +105,10 @@ fn update_in(
     elem_type: ElemType,
     name: Name,
 ) -> Result<Vec<Line>, ReadError>
-    ensures some { IfOk result (λ text. (column row.now at ≡ records text.items) × IsUpdated elem_type × AreRecords text.items × IsUpdate name text.items) }
-    ensures none { IsErrOf result ReadError.BadRow → (text : List (List ℕ)) → IsUpdated elem_type → AreRecords text → IsUpdate name text → column row.now at ≢ records text }
+    ensures some { IfOk result (λ text. (column row.now at ≡ records text.items) × IsUpdated elem_type
+        × AreRecords text.items × IsUpdate name text.items) }
+    ensures none { IsErrOf result ReadError.BadRow → (text : List (List ℕ)) → IsUpdated elem_type → AreRecords text
+        → IsUpdate name text → column row.now at ≢ records text }
     ensures fault { IsErrOf result ReadError.Fault → ⊥ }
 {
     if !is_updated(elem_type) {
@@ -118,7 +125,8 @@ pub(crate) fn action_in(
     elem_type: ElemType,
     name: Name,
 ) -> Result<Action, ReadError>
-    ensures some { IfOk result (λ action. (column row.now 3 ∷ column row.now 4 ∷ column row.now 5 ∷ column row.now 6 ∷ [] ≡ action_cells (action_of action)) × HasActionForms Ptf elem_type name (action_of action)) }
+    ensures some { IfOk result (λ action. (column row.now 3 ∷ column row.now 4 ∷ column row.now 5 ∷ column row.now 6 ∷
+        [] ≡ action_cells (action_of action)) × HasActionForms Ptf elem_type name (action_of action)) }
     ensures none { IsErrOf result ReadError.BadRow → (action : ActionTerm) → HasActionForms Ptf elem_type name action
         → column row.now 3 ∷ column row.now 4 ∷ column row.now 5 ∷ column row.now 6 ∷ [] ≢ action_cells action }
     ensures fault { IsErrOf result ReadError.Fault → ⊥ }

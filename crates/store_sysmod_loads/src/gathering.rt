@@ -90,8 +90,10 @@ pub(crate) fn take_ifs(
     srel: Srel,
 ) -> Result<Vec<IfReq>, ReadError>
     ensures taken { IfOk result (λ ifs. HasIfs id srel 1 rows.old.items ifs.items rows.new.items) }
-    ensures only { IfOk result (λ ifs. (others : List terms.IfReq) (rest : List IfLine) → HasIfs id srel 1 rows.old.items others rest → (others ≡ ifs.items) × (rest ≡ rows.new.items)) }
-    ensures none { IsErrOf result ReadError.BadRow → (others : List terms.IfReq) (rest : List IfLine) → ¬ HasIfs id srel 1 rows.old.items others rest }
+    ensures only { IfOk result (λ ifs. (others : List terms.IfReq) (rest : List IfLine)
+        → HasIfs id srel 1 rows.old.items others rest → (others ≡ ifs.items) × (rest ≡ rows.new.items)) }
+    ensures none { IsErrOf result ReadError.BadRow → (others : List terms.IfReq) (rest : List IfLine)
+        → ¬ HasIfs id srel 1 rows.old.items others rest }
 {
     let mut ifs = Vec::new(alloc);
     while let Some(row) = pop_of(rows, (id, srel)) {
@@ -124,8 +126,10 @@ fn with_ifs(ver: Ver, ifs: Vec<IfReq>) -> Ver
 fn filled(alloc: Global, ifs: &mut VecDeque<IfRow>, id: Id, row: VerRow) -> Result<Ver, ReadError>
     ensures same { IfOk result (λ ver. ver ≡ record row.ver { ifs = ver.ifs }) }
     ensures taken { IfOk result (λ ver. HasIfs id row.ver.srel 1 ifs.old.items ver.ifs ifs.new.items) }
-    ensures only { IfOk result (λ ver. (others : List terms.IfReq) (rest : List IfLine) → HasIfs id row.ver.srel 1 ifs.old.items others rest → (others ≡ ver.ifs) × (rest ≡ ifs.new.items)) }
-    ensures none { IsErrOf result ReadError.BadRow → (others : List terms.IfReq) (rest : List IfLine) → ¬ HasIfs id row.ver.srel 1 ifs.old.items others rest }
+    ensures only { IfOk result (λ ver. (others : List terms.IfReq) (rest : List IfLine)
+        → HasIfs id row.ver.srel 1 ifs.old.items others rest → (others ≡ ver.ifs) × (rest ≡ ifs.new.items)) }
+    ensures none { IsErrOf result ReadError.BadRow → (others : List terms.IfReq) (rest : List IfLine)
+        → ¬ HasIfs id row.ver.srel 1 ifs.old.items others rest }
 {
     let srel = row.ver.key();
     let found = take_ifs(alloc, ifs, id, srel)?;
@@ -141,10 +145,13 @@ pub(crate) fn take_vers(
 ) -> Result<Vec<Ver>, ReadError>
     requires { AreBare rows.old.items }
     ensures bare { AreBare rows.new.items }
-    ensures taken { IfOk result (λ vers. HasVers id rows.old.items ifs.old.items vers.items rows.new.items ifs.new.items) }
-    ensures only { IfOk result (λ vers. (others : List terms.Ver) (rest : List VerLine) (more : List IfLine) → HasVers id rows.old.items ifs.old.items others rest more
+    ensures taken { IfOk result (λ vers. HasVers id rows.old.items ifs.old.items vers.items rows.new.items
+        ifs.new.items) }
+    ensures only { IfOk result (λ vers. (others : List terms.Ver) (rest : List VerLine) (more : List IfLine)
+        → HasVers id rows.old.items ifs.old.items others rest more
         → (others ≡ vers.items) × (rest ≡ rows.new.items) × (more ≡ ifs.new.items)) }
-    ensures none { IsErrOf result ReadError.BadRow → (others : List terms.Ver) (rest : List VerLine) (more : List IfLine) → ¬ HasVers id rows.old.items ifs.old.items others rest more }
+    ensures none { IsErrOf result ReadError.BadRow → (others : List terms.Ver) (rest : List VerLine)
+        (more : List IfLine) → ¬ HasVers id rows.old.items ifs.old.items others rest more }
 {
     let mut vers = Vec::new(alloc);
     while let Some(row) = pop_of(rows, id) {
@@ -163,7 +170,8 @@ pub(crate) fn take_changes(
     id: Id,
 ) -> Result<Vec<ElemChange>, AllocError>
     ensures taken { IfOk result (λ changes. HasChanges id rows.old.items changes.items rows.new.items) }
-    ensures only { IfOk result (λ changes. (others : List terms.Change) (rest : List ElemLine) → HasChanges id rows.old.items others rest → (others ≡ changes.items) × (rest ≡ rows.new.items)) }
+    ensures only { IfOk result (λ changes. (others : List terms.Change) (rest : List ElemLine)
+        → HasChanges id rows.old.items others rest → (others ≡ changes.items) × (rest ≡ rows.new.items)) }
 {
     let mut changes = Vec::new(alloc);
     while let Some(row) = pop_of(rows, id) {

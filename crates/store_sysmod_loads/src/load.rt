@@ -23,12 +23,17 @@ pub fn load_sysmods<S: Alter>(
     alloc: Global,
     conn: &mut Connection<S>,
 ) -> Result<Vec<Sysmod>, ReadError>
-    ensures found { HasCleanDisk (state S.Store conn.new) → (i : Inventory) → StandsFor i (state S.Store conn.old).now → IfOk result (λ sysmods. sysmods.items ≡ i.global.sysmods) }
-    ensures rows { HasCleanDisk (state S.Store conn.new) → (contents : Contents) → HasContents store_schema contents (state S.Store conn.old).now → IfOk result (λ sysmods. AreRowsOf sysmods.items contents) }
+    ensures found { HasCleanDisk (state S.Store conn.new) → (i : Inventory) → StandsFor i (state S.Store conn.old).now
+        → IfOk result (λ sysmods. sysmods.items ≡ i.global.sysmods) }
+    ensures rows { HasCleanDisk (state S.Store conn.new) → (contents : Contents)
+        → HasContents store_schema contents (state S.Store conn.old).now
+        → IfOk result (λ sysmods. AreRowsOf sysmods.items contents) }
     ensures forms { IfOk result (λ sysmods. AreFormed sysmods.items) }
-    ensures none { HasCleanDisk (state S.Store conn.new) → IsErrOf result ReadError.BadRow → (contents : Contents) → HasContents store_schema contents (state S.Store conn.old).now
+    ensures none { HasCleanDisk (state S.Store conn.new) → IsErrOf result ReadError.BadRow → (contents : Contents)
+        → HasContents store_schema contents (state S.Store conn.old).now
         → (sysmods : List SysmodTerm) → AreFormed sysmods → ¬ AreRowsOf sysmods contents }
-    ensures no_state { HasCleanDisk (state S.Store conn.new) → IsErrOf result ReadError.BadRow → (i : Inventory) → ¬ StandsFor i (state S.Store conn.old).now }
+    ensures no_state { HasCleanDisk (state S.Store conn.new) → IsErrOf result ReadError.BadRow → (i : Inventory)
+        → ¬ StandsFor i (state S.Store conn.old).now }
     ensures reads { OnlyReads S.Store (conn.old.schema ≡ store_schema) conn.old conn.new result }
 {
     let rows = load_rows(alloc, conn)?;

@@ -35,7 +35,8 @@ pub(crate) trait Listed: FromRow {
     fn query() -> &'static str
         ensures reads { ReadsRows store_schema table 0 result.now }
         ensures there { IsTableOf store_schema at table }
-        ensures exact { (a b : Self.Item) → Self.FromRow.has_form a → Self.FromRow.has_form b → Self.FromRow.row_of a ≡ Self.FromRow.row_of b → a ≡ b };
+        ensures exact { (a b : Self.Item) → Self.FromRow.has_form a → Self.FromRow.has_form b
+            → Self.FromRow.row_of a ≡ Self.FromRow.row_of b → a ≡ b };
 }
 
 /// The items by their keys.
@@ -52,13 +53,18 @@ pub(crate) fn load_sorted<S: Alter, T: Listed>(
     alloc: Global,
     conn: &mut Connection<S>,
 ) -> Result<Vec<T::Item>, ReadError>
-    ensures found { HasCleanDisk (state S.Store conn.new) → (contents : Contents) → HasContents store_schema contents (state S.Store conn.old).now
+    ensures found { HasCleanDisk (state S.Store conn.new) → (contents : Contents)
+        → HasContents store_schema contents (state S.Store conn.old).now
         → IfOk result (λ items. IsPermutation (map T.row_of items.items) (contents T.table.tree)) }
     ensures forms { IfOk result (λ items. AllByRecursion T.has_form items.items) }
-    ensures only { HasCleanDisk (state S.Store conn.new) → (contents : Contents) → HasContents store_schema contents (state S.Store conn.old).now
-        → IfOk result (λ items. (xs : List T.Item) → AllByRecursion T.has_form xs → Rises T.Key.cmp T.key_of xs → IsPermutation (map T.row_of xs) (contents T.table.tree) → items.items ≡ xs) }
-    ensures none { HasCleanDisk (state S.Store conn.new) → IsErrOf result ReadError.BadRow → (contents : Contents) → HasContents store_schema contents (state S.Store conn.old).now
-        → (xs : List T.Item) → AllByRecursion T.has_form xs → ¬ IsPermutation (map T.row_of xs) (contents T.table.tree) }
+    ensures only { HasCleanDisk (state S.Store conn.new) → (contents : Contents)
+        → HasContents store_schema contents (state S.Store conn.old).now
+        → IfOk result (λ items. (xs : List T.Item) → AllByRecursion T.has_form xs → Rises T.Key.cmp T.key_of xs
+        → IsPermutation (map T.row_of xs) (contents T.table.tree) → items.items ≡ xs) }
+    ensures none { HasCleanDisk (state S.Store conn.new) → IsErrOf result ReadError.BadRow → (contents : Contents)
+        → HasContents store_schema contents (state S.Store conn.old).now
+        → (xs : List T.Item) → AllByRecursion T.has_form xs → ¬ IsPermutation (map T.row_of xs)
+        (contents T.table.tree) }
     ensures reads { OnlyReads S.Store (conn.old.schema ≡ store_schema) conn.old conn.new result }
 {
     let items = load::<S, T>(alloc, conn, T::query(), &[])?;

@@ -28,7 +28,8 @@ impl FromRow for Heads {
 
     fn read(alloc: Global, row: &Row) -> Result<HeadRow, ReadError>
         ensures read { IfOk result (λ item. (row.now ≡ row_of_head item) × HasHeadForms item) }
-        ensures none { IsErrOf result ReadError.BadRow → (item : AHeadRow) → HasHeadForms item → row.now ≢ row_of_head item }
+        ensures none { IsErrOf result ReadError.BadRow → (item : AHeadRow) → HasHeadForms item
+            → row.now ≢ row_of_head item }
         ensures fault { IsErrOf result ReadError.Fault → ⊥ }
     {
         if row.column_count() != 3 {
@@ -59,7 +60,8 @@ impl FromRow for Vers {
 
     fn read(alloc: Global, row: &Row) -> Result<VerRow, ReadError>
         ensures read { IfOk result (λ item. (row.now ≡ row_of_ver item) × HasVerRowForms item) }
-        ensures none { IsErrOf result ReadError.BadRow → (item : AVerRow) → HasVerRowForms item → row.now ≢ row_of_ver item }
+        ensures none { IsErrOf result ReadError.BadRow → (item : AVerRow) → HasVerRowForms item
+            → row.now ≢ row_of_ver item }
         ensures fault { IsErrOf result ReadError.Fault → ⊥ }
     {
         if row.column_count() != 8 {
@@ -108,7 +110,8 @@ impl FromRow for Ifs {
 
     fn read(alloc: Global, row: &Row) -> Result<IfRow, ReadError>
         ensures read { IfOk result (λ item. (row.now ≡ row_of_if item) × HasIfRowForms item) }
-        ensures none { IsErrOf result ReadError.BadRow → (item : AIfRow) → HasIfRowForms item → row.now ≢ row_of_if item }
+        ensures none { IsErrOf result ReadError.BadRow → (item : AIfRow) → HasIfRowForms item
+            → row.now ≢ row_of_if item }
         ensures fault { IsErrOf result ReadError.Fault → ⊥ }
     {
         if row.column_count() != 5 {
@@ -154,7 +157,8 @@ impl FromRow for Elems {
 
     fn read(alloc: Global, row: &Row) -> Result<ElemRow, ReadError>
         ensures read { IfOk result (λ item. (row.now ≡ row_of_elem item) × HasElemRowForms item) }
-        ensures none { IsErrOf result ReadError.BadRow → (item : AElemRow) → HasElemRowForms item → row.now ≢ row_of_elem item }
+        ensures none { IsErrOf result ReadError.BadRow → (item : AElemRow) → HasElemRowForms item
+            → row.now ≢ row_of_elem item }
         ensures fault { IsErrOf result ReadError.Fault → ⊥ }
     {
         if row.column_count() != 7 {

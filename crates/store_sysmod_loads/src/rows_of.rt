@@ -35,11 +35,16 @@ pub(crate) fn load_rows<S: Alter>(
     alloc: Global,
     conn: &mut Connection<S>,
 ) -> Result<FlatRows, ReadError>
-    ensures found { HasCleanDisk (state S.Store conn.new) → (contents : Contents) → HasContents store_schema contents (state S.Store conn.old).now → IfOk result (λ rows. HoldRows rows contents) }
+    ensures found { HasCleanDisk (state S.Store conn.new) → (contents : Contents)
+        → HasContents store_schema contents (state S.Store conn.old).now
+        → IfOk result (λ rows. HoldRows rows contents) }
     ensures forms { IfOk result HaveForms }
-    ensures only { HasCleanDisk (state S.Store conn.new) → (contents : Contents) → HasContents store_schema contents (state S.Store conn.old).now
-        → IfOk result (λ rows. (sysmods : List SysmodTerm) → AreFormed sysmods → AreRowsOf sysmods contents → HasRows rows sysmods) }
-    ensures none { HasCleanDisk (state S.Store conn.new) → IsErrOf result ReadError.BadRow → (contents : Contents) → HasContents store_schema contents (state S.Store conn.old).now
+    ensures only { HasCleanDisk (state S.Store conn.new) → (contents : Contents)
+        → HasContents store_schema contents (state S.Store conn.old).now
+        → IfOk result (λ rows. (sysmods : List SysmodTerm) → AreFormed sysmods → AreRowsOf sysmods contents
+        → HasRows rows sysmods) }
+    ensures none { HasCleanDisk (state S.Store conn.new) → IsErrOf result ReadError.BadRow → (contents : Contents)
+        → HasContents store_schema contents (state S.Store conn.old).now
         → (sysmods : List SysmodTerm) → AreFormed sysmods → ¬ AreRowsOf sysmods contents }
     ensures reads { OnlyReads S.Store (conn.old.schema ≡ store_schema) conn.old conn.new result }
 {
@@ -59,8 +64,10 @@ pub(crate) fn load_rows<S: Alter>(
 pub(crate) fn gathered(alloc: Global, rows: FlatRows) -> Result<Vec<Sysmod>, ReadError>
     requires { AreBare rows.vers.items }
     ensures taken { IfOk result (λ sysmods. IsGathered rows sysmods.items) }
-    ensures only { IfOk result (λ sysmods. (others : List SysmodTerm) → AreFormed others → HasRows rows others → others ≡ sysmods.items) }
-    ensures none { IsErrOf result ReadError.BadRow → (others : List SysmodTerm) → AreFormed others → ¬ HasRows rows others }
+    ensures only { IfOk result (λ sysmods. (others : List SysmodTerm) → AreFormed others → HasRows rows others
+        → others ≡ sysmods.items) }
+    ensures none { IsErrOf result ReadError.BadRow → (others : List SysmodTerm) → AreFormed others
+        → ¬ HasRows rows others }
 {
     if !are_rising(rows.heads.as_slice()) {
         return Err(ReadError::BadRow);

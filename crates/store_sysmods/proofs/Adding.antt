@@ -1,5 +1,6 @@
 -- Rows that are added to one table, one after the other.
-use Rattle.std.proofs.Common.{◌≡◌, ℕ, ◌+◌, ◌<◌, ◌≤◌, ◌==◌, arith, append-nil, Bool, true, false, length, take, get_or, if◌then◌else◌, List, [], ◌∷◌, ◌++◌, map, IsPermutation, refl, sym, ap, subst, ◌∙◌}
+use Rattle.std.proofs.Common.{◌≡◌, ℕ, ◌+◌, ◌<◌, ◌≤◌, ◌==◌, arith, append-nil, Bool, true, false, length, take, get_or}
+use Rattle.std.proofs.Common.{if◌then◌else◌, List, [], ◌∷◌, ◌++◌, map, IsPermutation, refl, sym, ap, subst, ◌∙◌}
 use Rattle.std.specs.List.{AllByRecursion, flat_map, enumerate_from}
 use Rattle.std.proofs.lemmas.List.{append_assoc, take_more, take_all}
 use Rattle.std.proofs.lemmas.List.Sorted.{IsPermutation-refl, IsPermutation-append_left, IsPermutation-append_comm}
@@ -19,50 +20,68 @@ use Rattle.store_schema.specs.Tables.{store_schema}
 use Rattle.store_sysmods.specs.Sysmods.{with_rows, Adds}
 
 -- contents that hold the same rows, in another order, in each table
-all_tables : (tables : List Table) (c d : Contents) → ((t : ℕ) → IsPermutation (d t) (c t)) → AllByRecursion (λ (t : Table). IsPermutation (d t.tree) (c t.tree)) tables
+all_tables : (tables : List Table) (c d : Contents) → ((t : ℕ) → IsPermutation (d t) (c t))
+    → AllByRecursion (λ (t : Table). IsPermutation (d t.tree) (c t.tree)) tables
 all_tables [] c d same = tt
 all_tables (t ∷ tables) c d same = (same t.tree, all_tables tables c d same)
 
-pub reordered : (c d : Contents) (db : Database) → ((t : ℕ) → IsPermutation (d t) (c t)) → HasContents store_schema c db → HasContents store_schema d db
+pub reordered : (c d : Contents) (db : Database) → ((t : ℕ) → IsPermutation (d t) (c t)) → HasContents store_schema c db
+    → HasContents store_schema d db
 reordered c d db same = permuted store_schema c d db (all_tables store_schema.tables c d same)
 
 no_rows : (b : Bool) (rows : List Row) → (if b then [] ++ rows else rows) ≡ rows
 no_rows true rows = refl
 no_rows false rows = refl
 
-both : (b : Bool) (xs ys rows : List Row) → IsPermutation (if b then (xs ++ ys) ++ rows else rows) (if b then ys ++ (if b then xs ++ rows else rows) else (if b then xs ++ rows else rows))
-both true xs ys rows = subst (IsPermutation ((xs ++ ys) ++ rows)) (append_assoc ys xs rows) (IsPermutation-append_left rows (xs ++ ys) (ys ++ xs) (IsPermutation-append_comm xs ys))
+both : (b : Bool) (xs ys rows : List Row) → IsPermutation (if b then (xs ++ ys) ++ rows else rows)
+    (if b then ys ++ (if b then xs ++ rows else rows) else (if b then xs ++ rows else rows))
+both true xs ys rows = subst (IsPermutation ((xs ++ ys) ++ rows)) (append_assoc ys xs rows)
+    (IsPermutation-append_left rows (xs ++ ys) (ys ++ xs) (IsPermutation-append_comm xs ys))
 both false xs ys rows = IsPermutation-refl rows
 
 module _ {S : Type 0} (g : Ghosts S) (table : Table) where
   pub adds_none : (old : Held S) → Adds g old old table []
-  adds_none old clean c was = reordered c (in_table table (with_rows []) c) (state g old).now (λ t. subst (IsPermutation (in_table table (with_rows []) c t)) (no_rows (t == table.tree) (c t)) (IsPermutation-refl _)) was
+  adds_none old clean c was = reordered c (in_table table (with_rows []) c) (state g old).now
+      (λ t. subst (IsPermutation (in_table table (with_rows []) c t)) (no_rows (t == table.tree) (c t))
+      (IsPermutation-refl _)) was
 
-  pub adds_then : (a b c : Held S) (xs ys : List Row) → StaysInside g b c → Adds g a b table xs → Adds g b c table ys → Adds g a c table (xs ++ ys)
+  pub adds_then : (a b c : Held S) (xs ys : List Row) → StaysInside g b c → Adds g a b table xs → Adds g b c table ys
+      → Adds g a c table (xs ++ ys)
   adds_then a b c xs ys q one two clean held was =
-      reordered (in_table table (with_rows ys) (in_table table (with_rows xs) held)) (in_table table (with_rows (xs ++ ys)) held) (state g c).now (λ t. both (t == table.tree) xs ys (held t))
-      (turns_then g a b c (HasContents store_schema) (in_table table (with_rows xs)) (in_table table (with_rows ys)) q one two clean held was)
+      reordered (in_table table (with_rows ys) (in_table table (with_rows xs) held))
+      (in_table table (with_rows (xs ++ ys)) held) (state g c).now (λ t. both (t == table.tree) xs ys (held t))
+      (turns_then g a b c (HasContents store_schema) (in_table table (with_rows xs)) (in_table table (with_rows ys)) q
+      one two clean held was)
 
   pub adds_as : (a b : Held S) (xs ys : List Row) → xs ≡ ys → Adds g a b table xs → Adds g a b table ys
   adds_as a b xs ys e h = subst (Adds g a b table) e h
 
   -- the loop over items of which each has some rows
-  pub adds_more : {X : Type 0} (f : X → List Row) (items : List X) (i : ℕ) (item : X) (a b c : Held S) → i < length items → item ≡ get_or items i item → StaysInside g b c
-      → Adds g a b table (flat_map f (take i items)) → Adds g b c table (f item) → Adds g a c table (flat_map f (take (i + 1) items))
+  pub adds_more : {X : Type 0} (f : X → List Row) (items : List X) (i : ℕ) (item : X) (a b c : Held S)
+      → i < length items → item ≡ get_or items i item → StaysInside g b c
+      → Adds g a b table (flat_map f (take i items)) → Adds g b c table (f item)
+      → Adds g a c table (flat_map f (take (i + 1) items))
   adds_more f items i item a b c within is q one two =
-      adds_as a c _ _ (sym (more_rows f items i item within is)) (adds_then a b c (flat_map f (take i items)) (f item) q one two)
+      adds_as a c _ _ (sym (more_rows f items i item within is))
+      (adds_then a b c (flat_map f (take i items)) (f item) q one two)
     where
-      more_rows : {X : Type 0} (f : X → List Row) (items : List X) (i : ℕ) (item : X) → i < length items → item ≡ get_or items i item → flat_map f (take (i + 1) items) ≡ flat_map f (take i items) ++ f item
+      more_rows : {X : Type 0} (f : X → List Row) (items : List X) (i : ℕ) (item : X) → i < length items
+          → item ≡ get_or items i item → flat_map f (take (i + 1) items) ≡ flat_map f (take i items) ++ f item
       more_rows f items i item within is =
-          ap (flat_map f) (take_more items i item within ∙ ap (λ x. take i items ++ x ∷ []) (sym is)) ∙ flat_map-append f (take i items) (item ∷ [])
+          ap (flat_map f) (take_more items i item within ∙ ap (λ x. take i items ++ x ∷ []) (sym is))
+          ∙ flat_map-append f (take i items) (item ∷ [])
           ∙ ap (λ rows. flat_map f (take i items) ++ rows) (append-nil (f item))
 
 -- an item of an enumeration that counts from 1
-pub numbered_item : {X : Type 0} (xs : List X) (i : ℕ) (x : X) → i < length xs → x ≡ get_or xs i x → ◌≡◌ {A = ℕ × X} (i + 1, x) (get_or (enumerate_from 1 xs) i (i + 1, x))
+pub numbered_item : {X : Type 0} (xs : List X) (i : ℕ) (x : X) → i < length xs → x ≡ get_or xs i x
+    → ◌≡◌ {A = ℕ × X} (i + 1, x) (get_or (enumerate_from 1 xs) i (i + 1, x))
 numbered_item {X} xs i x within is =
     let number : 1 + i ≡ i + 1 = omega arith in
-    ap (λ (y : X). (i + 1, y)) is ∙ ap (λ (n : ℕ). (n, get_or xs i x)) (sym number) ∙ sym (get_or-enumerate_from 1 xs i (i + 1, x) within)
+    ap (λ (y : X). (i + 1, y)) is ∙ ap (λ (n : ℕ). (n, get_or xs i x)) (sym number)
+    ∙ sym (get_or-enumerate_from 1 xs i (i + 1, x) within)
 
 -- the loop over items that each have one row
-pub adds_items : {S X : Type 0} (g : Ghosts S) (table : Table) (f : X → Row) (items : List X) (i : ℕ) (a b : Held S) → length items ≤ i → Adds g a b table (flat_map (λ x. f x ∷ []) (take i items)) → Adds g a b table (map f items)
-adds_items g table f items i a b end h = adds_as g table a b _ _ (ap (flat_map (λ x. f x ∷ [])) (take_all i items (omega (arith, end))) ∙ flat_map_single f items) h
+pub adds_items : {S X : Type 0} (g : Ghosts S) (table : Table) (f : X → Row) (items : List X) (i : ℕ) (a b : Held S)
+    → length items ≤ i → Adds g a b table (flat_map (λ x. f x ∷ []) (take i items)) → Adds g a b table (map f items)
+adds_items g table f items i a b end h = adds_as g table a b _ _
+    (ap (flat_map (λ x. f x ∷ [])) (take_all i items (omega (arith, end))) ∙ flat_map_single f items) h

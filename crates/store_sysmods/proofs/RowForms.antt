@@ -26,39 +26,59 @@ kept_sysmod s = (refl, (refl, (refl, tt)))
 pub kept_elem : (id : Id) (c : Change) → AreKept elem.columns (elem_row id c)
 kept_elem id c = kept_action c.action
   where
-    kept_action : (a : Action) → AreKept elem.columns (value.Text id ∷ value.Text (type_text c.elem_type) ∷ value.Text c.name ∷ action_cells a)
-    kept_action (Replaces distlib syslib lines) = (refl, (refl, (refl, (kept_whole (pos 0), (refl, (refl, (refl, tt)))))))
+    kept_action : (a : Action) → AreKept elem.columns (value.Text id ∷ value.Text (type_text c.elem_type) ∷ value.Text
+        c.name ∷ action_cells a)
+    kept_action (Replaces distlib syslib lines) = (
+      refl,
+      (
+        refl,
+        (refl, (kept_whole (pos 0), (refl, (refl, (refl, tt))))),
+      ),
+    )
     kept_action (Updates lines) = (refl, (refl, (refl, (kept_whole (pos 1), (refl, (refl, (refl, tt)))))))
 
 -- the values that are bound for a ++VER are its row
-pub ver_bound : (id srel pre req sup npre del : Text) (fmid : ValueRef) (x : Id) (v : Ver) → id ≡ x → srel ≡ v.srel → owned fmid ≡ or_null value.Text v.fmid → pre ≡ join_with_byte 44 v.pre → req ≡ join_with_byte 44 v.req
+pub ver_bound : (id srel pre req sup npre del : Text) (fmid : ValueRef) (x : Id) (v : Ver) → id ≡ x → srel ≡ v.srel
+    → owned fmid ≡ or_null value.Text v.fmid → pre ≡ join_with_byte 44 v.pre → req ≡ join_with_byte 44 v.req
     → sup ≡ join_with_byte 44 v.sup → npre ≡ join_with_byte 44 v.npre → del ≡ join_with_byte 44 v.del
-    → value.Text id ∷ value.Text srel ∷ bound_value (owned fmid) ∷ value.Text pre ∷ value.Text req ∷ value.Text sup ∷ value.Text npre ∷ value.Text del ∷ [] ≡ ver_row x v
+    → value.Text id ∷ value.Text srel ∷ bound_value (owned fmid) ∷ value.Text pre ∷ value.Text req ∷ value.Text sup ∷
+    value.Text npre ∷ value.Text del ∷ [] ≡ ver_row x v
 ver_bound id srel pre req sup npre del fmid x v is_id is_srel is_fmid is_pre is_req is_sup is_npre is_del =
-    let function : bound_value (owned fmid) ≡ or_null value.Text v.fmid = ap bound_value is_fmid ∙ bound_optional v.fmid in
+    let function : bound_value (owned fmid) ≡ or_null value.Text v.fmid = ap bound_value is_fmid ∙ bound_optional v.fmid
+    in
     cc
 
 -- and so it is for a ++IF
-pub ifreq_bound : (id srel function req : Text) (number : ℤ) (n : ℕ) (x : Id) (other : Text) (i : IfReq) → id ≡ x → srel ≡ other → number ≡ pos n → function ≡ i.function → req ≡ join_with_byte 44 i.req
-    → value.Text id ∷ value.Text srel ∷ value.Int number ∷ value.Text function ∷ value.Text req ∷ [] ≡ ifreq_row x other (n, i)
+pub ifreq_bound : (id srel function req : Text) (number : ℤ) (n : ℕ) (x : Id) (other : Text) (i : IfReq) → id ≡ x
+    → srel ≡ other → number ≡ pos n → function ≡ i.function → req ≡ join_with_byte 44 i.req
+    → value.Text id ∷ value.Text srel ∷ value.Int number ∷ value.Text function ∷ value.Text req ∷ [] ≡ ifreq_row x other
+    (n, i)
 ifreq_bound id srel function req number n x other i is_id is_srel is_number is_function is_req = cc
 
 -- and for a SYSMOD
-pub sysmod_bound : (id kind sources : Text) (s : Sysmod) → id ≡ s.id → kind ≡ kind_text s.kind → sources ≡ join_with_byte 44 s.sources → value.Text id ∷ value.Text kind ∷ value.Text sources ∷ [] ≡ sysmod_row s
+pub sysmod_bound : (id kind sources : Text) (s : Sysmod) → id ≡ s.id → kind ≡ kind_text s.kind
+    → sources ≡ join_with_byte 44 s.sources → value.Text id ∷ value.Text kind ∷ value.Text sources ∷ [] ≡ sysmod_row s
 sysmod_bound id kind sources s is_id is_kind is_sources = cc
 
 -- what an element statement does, as its columns
-cells_are : (a : Action) → flag (is_update a) ∷ or_null value.Text (distlib_of a) ∷ or_null value.Text (syslib_of a) ∷ records (lines_of a) ∷ [] ≡ action_cells a
+cells_are : (a : Action) → flag (is_update a) ∷ or_null value.Text (distlib_of a) ∷ or_null value.Text (syslib_of a) ∷
+    records (lines_of a) ∷ [] ≡ action_cells a
 cells_are (Replaces distlib syslib lines) = refl
 cells_are (Updates lines) = refl
 
 -- and for an element statement
-pub elem_bound : (id type name text : Text) (update distlib syslib : ValueRef) (x : Id) (c : Change) → id ≡ x → type ≡ type_text c.elem_type → name ≡ c.name → owned update ≡ flag (is_update c.action) → owned distlib ≡ or_null value.Text (distlib_of c.action)
+pub elem_bound : (id type name text : Text) (update distlib syslib : ValueRef) (x : Id) (c : Change) → id ≡ x
+    → type ≡ type_text c.elem_type → name ≡ c.name → owned update ≡ flag (is_update c.action)
+    → owned distlib ≡ or_null value.Text (distlib_of c.action)
     → owned syslib ≡ or_null value.Text (syslib_of c.action) → text ≡ concat (lines_of c.action)
-    → value.Text id ∷ value.Text type ∷ value.Text name ∷ bound_value (owned update) ∷ bound_value (owned distlib) ∷ bound_value (owned syslib) ∷ value.Blob text ∷ [] ≡ elem_row x c
+    → value.Text id ∷ value.Text type ∷ value.Text name ∷ bound_value (owned update) ∷ bound_value (owned distlib) ∷
+    bound_value (owned syslib) ∷ value.Blob text ∷ [] ≡ elem_row x c
 elem_bound id type name text update distlib syslib x c is_id is_type is_name is_update is_distlib is_syslib is_text =
-    let first : bound_value (owned update) ≡ flag (Rattle.store_sysmods.specs.Actions.is_update c.action) = ap bound_value is_update in
-    let dist : bound_value (owned distlib) ≡ or_null value.Text (distlib_of c.action) = ap bound_value is_distlib ∙ bound_optional (distlib_of c.action) in
-    let sys : bound_value (owned syslib) ≡ or_null value.Text (syslib_of c.action) = ap bound_value is_syslib ∙ bound_optional (syslib_of c.action) in
+    let first : bound_value (owned update) ≡ flag (Rattle.store_sysmods.specs.Actions.is_update c.action) =
+    ap bound_value is_update in
+    let dist : bound_value (owned distlib) ≡ or_null value.Text (distlib_of c.action) =
+    ap bound_value is_distlib ∙ bound_optional (distlib_of c.action) in
+    let sys : bound_value (owned syslib) ≡ or_null value.Text (syslib_of c.action) =
+    ap bound_value is_syslib ∙ bound_optional (syslib_of c.action) in
     let cells = cells_are c.action in
     cc

@@ -27,7 +27,8 @@ Adds g old new table news = Turns g old new (HasContents store_schema) (in_table
 -- the four tables hold the rows of the SYSMOD too
 abbrev pub with_sysmod_rows : Sysmod → Contents → Contents
 with_sysmod_rows s contents =
-    in_table elem (with_rows (elems_of s)) (in_table ifreq (with_rows (ifreqs_of s)) (in_table ver (with_rows (vers_of s)) (in_table sysmod (with_row (sysmod_row s)) contents)))
+    in_table elem (with_rows (elems_of s)) (in_table ifreq (with_rows (ifreqs_of s))
+    (in_table ver (with_rows (vers_of s)) (in_table sysmod (with_row (sysmod_row s)) contents)))
 
 -- the first column of the SYSMOD's rows
 abbrev pub sysmod_key : Id → Row
@@ -37,22 +38,26 @@ sysmod_key id = value.Text id ∷ []
 abbrev pub without_sysmod_rows : Id → Contents → Contents
 without_sysmod_rows id contents =
     let key = sysmod_key id in
-    in_table sysmod (without key) (in_table elem (without key) (in_table ifreq (without key) (in_table ver (without key) contents)))
+    in_table sysmod (without key) (in_table elem (without key)
+    (in_table ifreq (without key) (in_table ver (without key) contents)))
 
 -- where the tables held an inventory's rows, and its global zone fits, they hold those of the inventory with the new
 -- one
 abbrev pub ChangesGlobal : {S : Type 0} → Ghosts S → Held S → Held S → (Global → Type 0) → (Global → Global) → Type 0
 ChangesGlobal g old new Fits make =
-    (i : Inventory) → Fits i.global → Leads g old new (HasContents store_schema (rows_of i)) (HasContents store_schema (rows_of (record i { global = make i.global })))
+    (i : Inventory) → Fits i.global → Leads g old new (HasContents store_schema (rows_of i))
+    (HasContents store_schema (rows_of (record i { global = make i.global })))
 
 -- The SYSMOD, which is not received, takes its place among the others. Its holds are not among those of the global zone
 -- yet.
 abbrev pub AddsSysmod : {S : Type 0} → Ghosts S → Held S → Held S → Sysmod → Type 0
-AddsSysmod g old new s = ChangesGlobal g old new (λ global. is_received global s.id ≡ false) (λ global. with_sysmod global s)
+AddsSysmod g old new s = ChangesGlobal g old new (λ global. is_received global s.id ≡ false)
+    (λ global. with_sysmod global s)
 
 -- The SYSMOD's sources take the place of those that it had.
 abbrev pub ReplacesSources : {S : Type 0} → Ghosts S → Held S → Held S → Sysmod → Type 0
-ReplacesSources g old new s = ChangesGlobal g old new (λ global. All (λ r. r.id ≡ s.id → r.kind ≡ s.kind) global.sysmods) (with_sources s.id s.sources)
+ReplacesSources g old new s = ChangesGlobal g old new (λ global.
+    All (λ r. r.id ≡ s.id → r.kind ≡ s.kind) global.sysmods) (with_sources s.id s.sources)
 
 -- The SYSMOD goes, and all holds stay.
 abbrev pub RemovesSysmod : {S : Type 0} → Ghosts S → Held S → Held S → Id → Type 0

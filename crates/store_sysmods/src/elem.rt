@@ -68,7 +68,8 @@ fn insert_row<'a, S: Alter>(
     requires { text.now ≡ concat (lines_in change.now.action) }
     ensures same_reference { tx.new.conn.ghost_name ≡ tx.old.conn.ghost_name }
     ensures inside { StaysInside S.Store tx.old.conn.now tx.new.conn.now }
-    ensures ok { OnOk result (Adds S.Store tx.old.conn.now tx.new.conn.now elem_table (elem_row id.now change.now ∷ [])) }
+    ensures ok { OnOk result (Adds S.Store tx.old.conn.now tx.new.conn.now elem_table
+        (elem_row id.now change.now ∷ [])) }
 {
     let id = ValueRef::Text(id.as_bytes());
     let elem_type = ValueRef::Text(type_text(change.elem_type));
@@ -92,7 +93,8 @@ fn insert_change<S: Alter>(
 ) -> Result<(), Error>
     ensures same_reference { tx.new.conn.ghost_name ≡ tx.old.conn.ghost_name }
     ensures inside { StaysInside S.Store tx.old.conn.now tx.new.conn.now }
-    ensures ok { OnOk result (Adds S.Store tx.old.conn.now tx.new.conn.now elem_table (elem_row id.now change.now ∷ [])) }
+    ensures ok { OnOk result (Adds S.Store tx.old.conn.now tx.new.conn.now elem_table
+        (elem_row id.now change.now ∷ [])) }
 {
     let text = bytes_of(alloc, lines_of(&change.action))?;
     insert_row(tx, id, change, text.as_slice())
@@ -107,7 +109,8 @@ pub(crate) fn insert_changes<S: Alter>(
 ) -> Result<(), Error>
     ensures same_reference { tx.new.conn.ghost_name ≡ tx.old.conn.ghost_name }
     ensures inside { StaysInside S.Store tx.old.conn.now tx.new.conn.now }
-    ensures ok { OnOk result (Adds S.Store tx.old.conn.now tx.new.conn.now elem_table (map (elem_row id.now) changes.now)) }
+    ensures ok { OnOk result (Adds S.Store tx.old.conn.now tx.new.conn.now elem_table
+        (map (elem_row id.now) changes.now)) }
 {
     for change in changes {
         insert_change(alloc, tx, id, change)?;

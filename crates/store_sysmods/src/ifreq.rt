@@ -28,7 +28,8 @@ fn insert_row<'a, S: Alter>(
     requires req { req.now ≡ join_with_byte 44 ifreq.now.req }
     ensures same_reference { tx.new.conn.ghost_name ≡ tx.old.conn.ghost_name }
     ensures inside { StaysInside S.Store tx.old.conn.now tx.new.conn.now }
-    ensures ok { OnOk result (Adds S.Store tx.old.conn.now tx.new.conn.now ifreq_table (ifreq_row id.now srel.now (number, ifreq.now) ∷ [])) }
+    ensures ok { OnOk result (Adds S.Store tx.old.conn.now tx.new.conn.now ifreq_table
+        (ifreq_row id.now srel.now (number, ifreq.now) ∷ [])) }
 {
     let id = ValueRef::Text(id.as_bytes());
     let srel = ValueRef::Text(srel.as_bytes());
@@ -53,7 +54,8 @@ fn insert_if<S: Alter>(
     requires { number < 2 ^ 63 }
     ensures same_reference { tx.new.conn.ghost_name ≡ tx.old.conn.ghost_name }
     ensures inside { StaysInside S.Store tx.old.conn.now tx.new.conn.now }
-    ensures ok { OnOk result (Adds S.Store tx.old.conn.now tx.new.conn.now ifreq_table (ifreq_row id.now srel.now (number, ifreq.now) ∷ [])) }
+    ensures ok { OnOk result (Adds S.Store tx.old.conn.now tx.new.conn.now ifreq_table
+        (ifreq_row id.now srel.now (number, ifreq.now) ∷ [])) }
 {
     let req = joined_ids(alloc, ifreq.req.as_slice())?;
     insert_row(tx, id, srel, number, ifreq, req.as_slice())
@@ -69,7 +71,8 @@ fn insert_ifs<S: Alter>(
 ) -> Result<(), Error>
     ensures same_reference { tx.new.conn.ghost_name ≡ tx.old.conn.ghost_name }
     ensures inside { StaysInside S.Store tx.old.conn.now tx.new.conn.now }
-    ensures ok { OnOk result (Adds S.Store tx.old.conn.now tx.new.conn.now ifreq_table (map (ifreq_row id.now srel.now) (enumerate_from 1 ifs.now))) }
+    ensures ok { OnOk result (Adds S.Store tx.old.conn.now tx.new.conn.now ifreq_table
+        (map (ifreq_row id.now srel.now) (enumerate_from 1 ifs.now))) }
 {
     for (index, ifreq) in ifs.iter().enumerate() {
         insert_if(alloc, tx, id, srel, index + 1, ifreq)?;
@@ -86,7 +89,8 @@ pub(crate) fn insert_all_ifs<S: Alter>(
 ) -> Result<(), Error>
     ensures same_reference { tx.new.conn.ghost_name ≡ tx.old.conn.ghost_name }
     ensures inside { StaysInside S.Store tx.old.conn.now tx.new.conn.now }
-    ensures ok { OnOk result (Adds S.Store tx.old.conn.now tx.new.conn.now ifreq_table (flat_map (λ v. map (ifreq_row id.now v.srel) (enumerate_from 1 v.ifs)) vers.now)) }
+    ensures ok { OnOk result (Adds S.Store tx.old.conn.now tx.new.conn.now ifreq_table
+        (flat_map (λ v. map (ifreq_row id.now v.srel) (enumerate_from 1 v.ifs)) vers.now)) }
 {
     for ver in vers {
         insert_ifs(alloc, tx, id, &ver.srel, ver.ifs.as_slice())?;

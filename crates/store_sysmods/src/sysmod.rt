@@ -6,7 +6,8 @@ ghost use Rattle.store_rows.specs.Inside.{StaysInside, Turns};
 ghost use Rattle.store_rows.specs.Rows.{HasContents, in_table, in_place};
 ghost use Rattle.store_schema.specs.Rows.{sysmod_row};
 ghost use Rattle.store_schema.specs.Tables.{sysmod as sysmod_table, store_schema};
-ghost use Rattle.store_sysmods.specs.Sysmods.{Adds, AddsSysmod, ReplacesSources, RemovesSysmod, sysmod_key, with_sysmod_rows, without_sysmod_rows};
+ghost use Rattle.store_sysmods.specs.Sysmods.{Adds, AddsSysmod, ReplacesSources, RemovesSysmod, sysmod_key};
+ghost use Rattle.store_sysmods.specs.Sysmods.{with_sysmod_rows, without_sysmod_rows};
 
 use crate::elem::insert_changes;
 use crate::ifreq::insert_all_ifs;
@@ -50,7 +51,8 @@ pub fn insert_sysmod<S: Alter>(
 ) -> Result<(), Error>
     ensures same_reference { tx.new.conn.ghost_name ≡ tx.old.conn.ghost_name }
     ensures inside { StaysInside S.Store tx.old.conn.now tx.new.conn.now }
-    ensures ok { OnOk result (Turns S.Store tx.old.conn.now tx.new.conn.now (HasContents store_schema) (with_sysmod_rows sysmod.now)) }
+    ensures ok { OnOk result (Turns S.Store tx.old.conn.now tx.new.conn.now (HasContents store_schema)
+        (with_sysmod_rows sysmod.now)) }
     ensures stands { OnOk result (AddsSysmod S.Store tx.old.conn.now tx.new.conn.now sysmod.now) }
 {
     let sources = joined_sources(alloc, sysmod.sources.as_slice())?;
@@ -69,7 +71,8 @@ fn replace_row<'a, S: Alter>(
     requires { sources.now ≡ join_with_byte 44 sysmod.now.sources }
     ensures same_reference { tx.new.conn.ghost_name ≡ tx.old.conn.ghost_name }
     ensures inside { StaysInside S.Store tx.old.conn.now tx.new.conn.now }
-    ensures ok { OnOk result (Turns S.Store tx.old.conn.now tx.new.conn.now (HasContents store_schema) (in_table sysmod_table (in_place (sysmod_key sysmod.now.id) (sysmod_row sysmod.now)))) }
+    ensures ok { OnOk result (Turns S.Store tx.old.conn.now tx.new.conn.now (HasContents store_schema)
+        (in_table sysmod_table (in_place (sysmod_key sysmod.now.id) (sysmod_row sysmod.now)))) }
 {
     let id = ValueRef::Text(sysmod.id.as_bytes());
     let kind = ValueRef::Text(kind_text(sysmod.kind));
@@ -89,7 +92,8 @@ pub fn replace_sources<S: Alter>(
 ) -> Result<(), Error>
     ensures same_reference { tx.new.conn.ghost_name ≡ tx.old.conn.ghost_name }
     ensures inside { StaysInside S.Store tx.old.conn.now tx.new.conn.now }
-    ensures ok { OnOk result (Turns S.Store tx.old.conn.now tx.new.conn.now (HasContents store_schema) (in_table sysmod_table (in_place (sysmod_key sysmod.now.id) (sysmod_row sysmod.now)))) }
+    ensures ok { OnOk result (Turns S.Store tx.old.conn.now tx.new.conn.now (HasContents store_schema)
+        (in_table sysmod_table (in_place (sysmod_key sysmod.now.id) (sysmod_row sysmod.now)))) }
     ensures stands { OnOk result (ReplacesSources S.Store tx.old.conn.now tx.new.conn.now sysmod.now) }
 {
     let sources = joined_sources(alloc, sysmod.sources.as_slice())?;
@@ -100,7 +104,8 @@ pub fn replace_sources<S: Alter>(
 pub fn remove_sysmod<S: Alter>(tx: &mut Transaction<'_, S>, id: Id) -> Result<(), Error>
     ensures same_reference { tx.new.conn.ghost_name ≡ tx.old.conn.ghost_name }
     ensures inside { StaysInside S.Store tx.old.conn.now tx.new.conn.now }
-    ensures ok { OnOk result (Turns S.Store tx.old.conn.now tx.new.conn.now (HasContents store_schema) (without_sysmod_rows id)) }
+    ensures ok { OnOk result (Turns S.Store tx.old.conn.now tx.new.conn.now (HasContents store_schema)
+        (without_sysmod_rows id)) }
     ensures stands { OnOk result (RemovesSysmod S.Store tx.old.conn.now tx.new.conn.now id) }
 {
     let key = [ValueRef::Text(id.as_bytes())];

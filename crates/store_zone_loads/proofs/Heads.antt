@@ -1,5 +1,6 @@
 -- The rows of zones as heads.
-use Rattle.std.proofs.Common.{◌≡◌, inl, inr, List, [], ◌∷◌, map, filter, Option, None, Some, IfSome, IsTrue, IsPermutation, arith, refl, sym, ap, subst, subst₂, ◌∙◌}
+use Rattle.std.proofs.Common.{◌≡◌, inl, inr, List, [], ◌∷◌, map, filter, Option, None, Some, IfSome, IsTrue}
+use Rattle.std.proofs.Common.{IsPermutation, arith, refl, sym, ap, subst, subst₂, ◌∙◌}
 use Rattle.std.specs.Prelude.{option_map}
 use Rattle.std.specs.Option.{option_map_or, option_to_list}
 use Rattle.std.specs.List.{AllByRecursion, flat_map}
@@ -47,7 +48,8 @@ head_exact a b e =
 -- heads whose rows are those of others
 pub heads_moved : (xs ys : List ZoneHead) → IsPermutation (map head_row xs) (map head_row ys) → IsPermutation xs ys
 heads_moved xs ys h =
-    let all : (zs : List ZoneHead) → AllByRecursion (λ z. Unit {0}) zs = λ zs. all_from (λ z. Unit {0}) zs (λ z there. tt) in
+    let all : (zs : List ZoneHead) → AllByRecursion (λ z. Unit {0}) zs =
+    λ zs. all_from (λ z. Unit {0}) zs (λ z there. tt) in
     unmapped_permutation head_row (λ z. Unit {0}) (λ a b p q e. head_exact a b e) xs ys (all xs) (all ys) h
 
 -- ---- one zone
@@ -72,26 +74,33 @@ by_zones : (zones : List NamedZone) → map zone_row zones ≡ flat_map (λ z. m
 by_zones [] = refl
 by_zones (z ∷ zones) = ap (λ rows. zone_row z ∷ rows) (by_zones zones)
 
-head_rows : (name : Text) (found : Option Zone) → map (row_in name) (option_map_or itself found []) ≡ map head_row (option_to_list (option_map (head_in name) found))
+head_rows : (name : Text) (found : Option Zone) → map (row_in name) (option_map_or itself found []) ≡ map head_row
+    (option_to_list (option_map (head_in name) found))
 head_rows name None = refl
 head_rows name (Some z) = refl
 
 -- the rows of a zone's name are its head's
 pub head_filtered : (i : Inventory) → IsInventory i → (name : Text)
-    → filter (has_key (name_key name)) (map zone_row i.zones) ≡ map head_row (option_to_list (option_map (head_in name) (zone_in i name)))
+    → filter (has_key (name_key name)) (map zone_row i.zones) ≡ map head_row
+    (option_to_list (option_map (head_in name) (zone_in i name)))
 head_filtered i h name =
     ap (filter (has_key (name_key name))) (by_zones i.zones)
-    ∙ of_zone row_in itself name (λ other x. first_cell name other []) i.zones (zones_rise i h) ∙ head_rows name (zone_in i name)
+    ∙ of_zone row_in itself name (λ other x. first_cell name other []) i.zones (zones_rise i h)
+    ∙ head_rows name (zone_in i name)
 
 pub one_head : (i : Inventory) → IsInventory i → (name : Text) (hs : List ZoneHead)
-    → IsPermutation (map head_row hs) (filter (has_key (name_key name)) (map zone_row i.zones)) → hs ≡ option_to_list (option_map (head_in name) (zone_in i name))
+    → IsPermutation (map head_row hs) (filter (has_key (name_key name)) (map zone_row i.zones))
+    → hs ≡ option_to_list (option_map (head_in name) (zone_in i name))
 one_head i h name hs same =
     at_most_one hs (option_map (head_in name) (zone_in i name))
-    (heads_moved hs (option_to_list (option_map (head_in name) (zone_in i name))) (subst (IsPermutation (map head_row hs)) (head_filtered i h name) same))
+    (heads_moved hs (option_to_list (option_map (head_in name) (zone_in i name)))
+    (subst (IsPermutation (map head_row hs)) (head_filtered i h name) same))
 
-related_name : (i : Inventory) → IsInventory i → (kind : ZoneKind) (srel : Text) (related : Option Text) → IsRelated i.zones kind srel related → IfSome related IsZoneName
+related_name : (i : Inventory) → IsInventory i → (kind : ZoneKind) (srel : Text) (related : Option Text)
+    → IsRelated i.zones kind srel related → IfSome related IsZoneName
 related_name i h Target srel None r = absurd r
-related_name i h Target srel (Some name) r = subst IsZoneName r.2 (has_all IsZoneNamed i.zones r.0 h.zones (has_contained i.zones r.0 r.1)).name
+related_name i h Target srel (Some name) r = subst IsZoneName r.2
+    (has_all IsZoneNamed i.zones r.0 h.zones (has_contained i.zones r.0 r.1)).name
 related_name i h Distribution srel related r = subst (λ o. IfSome o IsZoneName) (sym r) tt
 
 head_forms : (i : Inventory) → IsInventory i → (z : NamedZone) → Has i.zones z → HasHeadForms (head_of z)
@@ -106,27 +115,34 @@ head_forms i h z there =
       suits = named.zone.related;
     }
 
-pub one_head_forms : (i : Inventory) → IsInventory i → (name : Text) → AllByRecursion HasHeadForms (option_to_list (option_map (head_in name) (zone_in i name)))
+pub one_head_forms : (i : Inventory) → IsInventory i → (name : Text)
+    → AllByRecursion HasHeadForms (option_to_list (option_map (head_in name) (zone_in i name)))
 one_head_forms i h name = go (zone_in i name) (is_there i name)
   where
-    go : (found : Option Zone) → IfSome found (λ zone. Has i.zones (record { name = name; zone = zone })) → AllByRecursion HasHeadForms (option_to_list (option_map (head_in name) found))
+    go : (found : Option Zone) → IfSome found (λ zone. Has i.zones (record { name = name; zone = zone }))
+        → AllByRecursion HasHeadForms (option_to_list (option_map (head_in name) found))
     go None there = tt
     go (Some z) there = (head_forms i h (record { name = name; zone = z }) there, tt)
 
 -- ---- all zones
 
-pub all_heads : (i : Inventory) (hs : List ZoneHead) → IsPermutation (map head_row hs) (map zone_row i.zones) → IsPermutation hs (map head_of i.zones)
-all_heads i hs same = heads_moved hs (map head_of i.zones) (subst (IsPermutation (map head_row hs)) (sym (map-map head_row head_of i.zones)) same)
+pub all_heads : (i : Inventory) (hs : List ZoneHead) → IsPermutation (map head_row hs) (map zone_row i.zones)
+    → IsPermutation hs (map head_of i.zones)
+all_heads i hs same = heads_moved hs (map head_of i.zones) (subst (IsPermutation (map head_row hs))
+    (sym (map-map head_row head_of i.zones)) same)
 
 pub all_head_rows : (i : Inventory) → map head_row (map head_of i.zones) ≡ map zone_row i.zones
 all_head_rows i = map-map head_row head_of i.zones
 
 pub all_head_forms : (i : Inventory) → IsInventory i → AllByRecursion HasHeadForms (map head_of i.zones)
-all_head_forms i h = recursion-map head_of HasHeadForms i.zones (all_from (λ z. HasHeadForms (head_of z)) i.zones (head_forms i h))
+all_head_forms i h = recursion-map head_of HasHeadForms i.zones
+    (all_from (λ z. HasHeadForms (head_of z)) i.zones (head_forms i h))
 
-pub heads_rise : (i : Inventory) → IsInventory i → Rises (slice_cmp nat_cmp) (λ (a : ZoneHead). a.name) (map head_of i.zones)
+pub heads_rise : (i : Inventory) → IsInventory i → Rises (slice_cmp nat_cmp) (λ (a : ZoneHead). a.name)
+    (map head_of i.zones)
 heads_rise i h = λ k j d less within.
     let heads = map head_of i.zones in
     let name_of : ZoneHead → Text = λ a. a.name in
     let up : IsRising (map name_of heads) = subst IsRising (sym (map-map name_of head_of i.zones)) h.names in
-    subst₂ (λ a b. IsTrue (is_before a b)) (get_or-map name_of heads k d) (get_or-map name_of heads j d) (up k j (name_of d) less (omega (arith, within, length-map heads name_of)))
+    subst₂ (λ a b. IsTrue (is_before a b)) (get_or-map name_of heads k d) (get_or-map name_of heads j d)
+    (up k j (name_of d) less (omega (arith, within, length-map heads name_of)))

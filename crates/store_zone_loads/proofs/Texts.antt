@@ -19,25 +19,53 @@ select_head = codes "SELECT name, kind, srel, related FROM zone WHERE name = ?1"
 
 pub reads_head : ReadsRows store_schema zone 1 select_head
 unfolding understood everything
-reads_head = record { names = _; order = _; command = refl; plain = (refl, refl); unlisted = refl; narrow = omega arith }
+reads_head = record {
+  names = _;
+  order = _;
+  command = refl;
+  plain = (refl, refl);
+  unlisted = refl;
+  narrow = omega arith;
+}
 
 abbrev pub select_heads : List ℕ
 select_heads = codes "SELECT name, kind, srel, related FROM zone ORDER BY name"
 
 pub reads_heads : ReadsRows store_schema zone 0 select_heads
 unfolding understood everything
-reads_heads = record { names = _; order = _; command = refl; plain = (refl, refl); unlisted = refl; narrow = omega arith }
+reads_heads = record {
+  names = _;
+  order = _;
+  command = refl;
+  plain = (refl, refl);
+  unlisted = refl;
+  narrow = omega arith;
+}
 
 abbrev pub select_entries : List ℕ
 select_entries = codes "SELECT zone, id, date, supby, delby, waived FROM entry WHERE zone = ?1 ORDER BY id"
 
 pub reads_entries : ReadsRows store_schema entry 1 select_entries
 unfolding understood everything
-reads_entries = record { names = _; order = _; command = refl; plain = (refl, refl); unlisted = refl; narrow = omega arith }
+reads_entries = record {
+  names = _;
+  order = _;
+  command = refl;
+  plain = (refl, refl);
+  unlisted = refl;
+  narrow = omega arith;
+}
 
 abbrev pub select_elements : List ℕ
 select_elements = codes "SELECT zone, type, name, fmid, rmid, umid, distlib, syslib, text FROM zelem WHERE zone = ?1 ORDER BY type, name"
 
 pub reads_elements : ReadsRows store_schema zelem 1 select_elements
 unfolding understood everything
-reads_elements = record { names = _; order = _; command = refl; plain = (refl, refl); unlisted = refl; narrow = omega arith }
+reads_elements = record {
+  names = _;
+  order = _;
+  command = refl;
+  plain = (refl, refl);
+  unlisted = refl;
+  narrow = omega arith;
+}

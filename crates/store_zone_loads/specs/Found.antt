@@ -30,4 +30,5 @@ head_of z = head_in z.name z.zone
 -- related zone
 abbrev pub MayStand : ZoneKind → Option Text → List Entry → Type 0
 MayStand kind related entries =
-    All (λ e. IsTrue (is_held e)) entries × All (λ e. IsTrue (waives_applied e)) entries × (is_some related ≡ (zone_number kind == 0))
+    All (λ e. IsTrue (is_held e)) entries × All (λ e. IsTrue (waives_applied e)) entries
+    × (is_some related ≡ (zone_number kind == 0))

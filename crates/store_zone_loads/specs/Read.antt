@@ -13,7 +13,8 @@ use Rattle.store_zone_loads.specs.declared.entry.EntryRow.{EntryRow}
 use Rattle.store_zone_loads.specs.declared.element.ElementRow.{ElementRow}
 
 abbrev pub head_row : ZoneHead → Row
-head_row h = value.Text h.name ∷ value.Text (zone_kind_text h.kind) ∷ value.Text h.srel ∷ or_null value.Text h.related ∷ []
+head_row h = value.Text h.name ∷ value.Text (zone_kind_text h.kind) ∷ value.Text h.srel ∷ or_null value.Text h.related ∷
+    []
 
 -- A target zone alone names a related zone.
 pub record HasHeadForms (h : ZoneHead) : Type 0 where

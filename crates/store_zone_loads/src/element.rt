@@ -42,7 +42,8 @@ impl FromRow for Elements {
 
     fn read(alloc: Global, row: &Row) -> Result<ElementRow, ReadError>
         ensures read { IfOk result (λ item. (row.now ≡ row_of_element item) × HasElementRowForms item) }
-        ensures none { IsErrOf result ReadError.BadRow → (item : AnElementRow) → HasElementRowForms item → row.now ≢ row_of_element item }
+        ensures none { IsErrOf result ReadError.BadRow → (item : AnElementRow) → HasElementRowForms item
+            → row.now ≢ row_of_element item }
         ensures fault { IsErrOf result ReadError.Fault → ⊥ }
     {
         if row.column_count() != 9 {
@@ -93,8 +94,10 @@ fn element_rows<S: Alter>(
     conn: &mut Connection<S>,
     name: &ZoneName,
 ) -> Result<Vec<ElementRow>, ReadError>
-    ensures found { HasCleanDisk (state S.Store conn.new) → (i : Inventory) → StandsFor i (state S.Store conn.old).now → IfOk result (λ rows. IsPermutation (map (λ row. row.element) rows.items) (elements_in i name.now)) }
-    ensures none { HasCleanDisk (state S.Store conn.new) → IsErrOf result ReadError.BadRow → (i : Inventory) → ¬ StandsFor i (state S.Store conn.old).now }
+    ensures found { HasCleanDisk (state S.Store conn.new) → (i : Inventory) → StandsFor i (state S.Store conn.old).now
+        → IfOk result (λ rows. IsPermutation (map (λ row. row.element) rows.items) (elements_in i name.now)) }
+    ensures none { HasCleanDisk (state S.Store conn.new) → IsErrOf result ReadError.BadRow → (i : Inventory)
+        → ¬ StandsFor i (state S.Store conn.old).now }
     ensures reads { OnlyReads S.Store (conn.old.schema ≡ store_schema) conn.old conn.new result }
 {
     load::<S, Elements>(
@@ -119,7 +122,8 @@ fn without_zone(alloc: Global, rows: Vec<ElementRow>) -> Result<Vec<Element>, Al
 fn table_of(alloc: Global, rows: Vec<ElementRow>) -> Result<Table<Element>, ReadError>
     ensures same { IfOk result (λ table. IsPermutation (map (λ row. row.element) rows.items) table) }
     ensures rising { IfOk result (λ table. Rises element_cmp element_key table) }
-    ensures none { IsErrOf result ReadError.BadRow → (other : List ElementTerm) → IsPermutation (map (λ row. row.element) rows.items) other → ¬ Rises element_cmp element_key other }
+    ensures none { IsErrOf result ReadError.BadRow → (other : List ElementTerm)
+        → IsPermutation (map (λ row. row.element) rows.items) other → ¬ Rises element_cmp element_key other }
 {
     match Table::from_vec(without_zone(alloc, rows)?) {
         Some(table) => Ok(table),
@@ -133,8 +137,10 @@ pub(crate) fn load_elements<S: Alter>(
     conn: &mut Connection<S>,
     name: &ZoneName,
 ) -> Result<Table<Element>, ReadError>
-    ensures found { HasCleanDisk (state S.Store conn.new) → (i : Inventory) → StandsFor i (state S.Store conn.old).now → IfOk result (λ elements. elements ≡ elements_in i name.now) }
-    ensures none { HasCleanDisk (state S.Store conn.new) → IsErrOf result ReadError.BadRow → (i : Inventory) → ¬ StandsFor i (state S.Store conn.old).now }
+    ensures found { HasCleanDisk (state S.Store conn.new) → (i : Inventory) → StandsFor i (state S.Store conn.old).now
+        → IfOk result (λ elements. elements ≡ elements_in i name.now) }
+    ensures none { HasCleanDisk (state S.Store conn.new) → IsErrOf result ReadError.BadRow → (i : Inventory)
+        → ¬ StandsFor i (state S.Store conn.old).now }
     ensures reads { OnlyReads S.Store (conn.old.schema ≡ store_schema) conn.old conn.new result }
 {
     let rows = element_rows(alloc, conn, name)?;

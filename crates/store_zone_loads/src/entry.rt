@@ -43,7 +43,8 @@ impl FromRow for Entries {
 
     fn read(alloc: Global, row: &Row) -> Result<EntryRow, ReadError>
         ensures read { IfOk result (λ item. (row.now ≡ row_of_entry item) × HasEntryRowForms item) }
-        ensures none { IsErrOf result ReadError.BadRow → (item : AnEntryRow) → HasEntryRowForms item → row.now ≢ row_of_entry item }
+        ensures none { IsErrOf result ReadError.BadRow → (item : AnEntryRow) → HasEntryRowForms item
+            → row.now ≢ row_of_entry item }
         ensures fault { IsErrOf result ReadError.Fault → ⊥ }
     {
         if row.column_count() != 6 {
@@ -82,8 +83,10 @@ fn entry_rows<S: Alter>(
     conn: &mut Connection<S>,
     name: &ZoneName,
 ) -> Result<Vec<EntryRow>, ReadError>
-    ensures found { HasCleanDisk (state S.Store conn.new) → (i : Inventory) → StandsFor i (state S.Store conn.old).now → IfOk result (λ rows. IsPermutation (map (λ row. row.entry) rows.items) (entries_in i name.now)) }
-    ensures none { HasCleanDisk (state S.Store conn.new) → IsErrOf result ReadError.BadRow → (i : Inventory) → ¬ StandsFor i (state S.Store conn.old).now }
+    ensures found { HasCleanDisk (state S.Store conn.new) → (i : Inventory) → StandsFor i (state S.Store conn.old).now
+        → IfOk result (λ rows. IsPermutation (map (λ row. row.entry) rows.items) (entries_in i name.now)) }
+    ensures none { HasCleanDisk (state S.Store conn.new) → IsErrOf result ReadError.BadRow → (i : Inventory)
+        → ¬ StandsFor i (state S.Store conn.old).now }
     ensures reads { OnlyReads S.Store (conn.old.schema ≡ store_schema) conn.old conn.new result }
 {
     load::<S, Entries>(
@@ -108,7 +111,8 @@ fn without_zone(alloc: Global, rows: Vec<EntryRow>) -> Result<Vec<Entry>, AllocE
 fn table_of(alloc: Global, rows: Vec<EntryRow>) -> Result<Table<Entry>, ReadError>
     ensures same { IfOk result (λ table. IsPermutation (map (λ row. row.entry) rows.items) table) }
     ensures rising { IfOk result (λ table. Rises (slice_cmp nat_cmp) (λ e. e.id) table) }
-    ensures none { IsErrOf result ReadError.BadRow → (other : List EntryTerm) → IsPermutation (map (λ row. row.entry) rows.items) other → ¬ Rises (slice_cmp nat_cmp) (λ e. e.id) other }
+    ensures none { IsErrOf result ReadError.BadRow → (other : List EntryTerm)
+        → IsPermutation (map (λ row. row.entry) rows.items) other → ¬ Rises (slice_cmp nat_cmp) (λ e. e.id) other }
 {
     match Table::from_vec(without_zone(alloc, rows)?) {
         Some(table) => Ok(table),
@@ -122,8 +126,10 @@ pub(crate) fn load_entries<S: Alter>(
     conn: &mut Connection<S>,
     name: &ZoneName,
 ) -> Result<Table<Entry>, ReadError>
-    ensures found { HasCleanDisk (state S.Store conn.new) → (i : Inventory) → StandsFor i (state S.Store conn.old).now → IfOk result (λ entries. entries ≡ entries_in i name.now) }
-    ensures none { HasCleanDisk (state S.Store conn.new) → IsErrOf result ReadError.BadRow → (i : Inventory) → ¬ StandsFor i (state S.Store conn.old).now }
+    ensures found { HasCleanDisk (state S.Store conn.new) → (i : Inventory) → StandsFor i (state S.Store conn.old).now
+        → IfOk result (λ entries. entries ≡ entries_in i name.now) }
+    ensures none { HasCleanDisk (state S.Store conn.new) → IsErrOf result ReadError.BadRow → (i : Inventory)
+        → ¬ StandsFor i (state S.Store conn.old).now }
     ensures reads { OnlyReads S.Store (conn.old.schema ≡ store_schema) conn.old conn.new result }
 {
     let rows = entry_rows(alloc, conn, name)?;

@@ -74,7 +74,8 @@ impl FromRow for Heads {
 
     fn read(_alloc: Global, row: &Row) -> Result<ZoneHead, ReadError>
         ensures read { IfOk result (λ head. (row.now ≡ head_row head) × HasHeadForms head) }
-        ensures none { IsErrOf result ReadError.BadRow → (head : AZoneHead) → HasHeadForms head → row.now ≢ head_row head }
+        ensures none { IsErrOf result ReadError.BadRow → (head : AZoneHead) → HasHeadForms head
+            → row.now ≢ head_row head }
         ensures fault { IsErrOf result ReadError.Fault → ⊥ }
     {
         if row.column_count() != 4 {
@@ -113,8 +114,10 @@ fn head_rows<S: Alter>(
     conn: &mut Connection<S>,
     name: &ZoneName,
 ) -> Result<Vec<ZoneHead>, ReadError>
-    ensures found { HasCleanDisk (state S.Store conn.new) → (i : Inventory) → StandsFor i (state S.Store conn.old).now → IfOk result (λ heads. heads.items ≡ option_to_list (option_map (head_in name.now) (zone_in i name.now))) }
-    ensures none { HasCleanDisk (state S.Store conn.new) → IsErrOf result ReadError.BadRow → (i : Inventory) → ¬ StandsFor i (state S.Store conn.old).now }
+    ensures found { HasCleanDisk (state S.Store conn.new) → (i : Inventory) → StandsFor i (state S.Store conn.old).now
+        → IfOk result (λ heads. heads.items ≡ option_to_list (option_map (head_in name.now) (zone_in i name.now))) }
+    ensures none { HasCleanDisk (state S.Store conn.new) → IsErrOf result ReadError.BadRow → (i : Inventory)
+        → ¬ StandsFor i (state S.Store conn.old).now }
     ensures reads { OnlyReads S.Store (conn.old.schema ≡ store_schema) conn.old conn.new result }
 {
     load::<S, Heads>(
@@ -142,8 +145,10 @@ pub(crate) fn zone_head<S: Alter>(
     conn: &mut Connection<S>,
     name: &ZoneName,
 ) -> Result<Option<ZoneHead>, ReadError>
-    ensures found { HasCleanDisk (state S.Store conn.new) → (i : Inventory) → StandsFor i (state S.Store conn.old).now → IfOk result (λ head. head ≡ option_map (head_in name.now) (zone_in i name.now)) }
-    ensures none { HasCleanDisk (state S.Store conn.new) → IsErrOf result ReadError.BadRow → (i : Inventory) → ¬ StandsFor i (state S.Store conn.old).now }
+    ensures found { HasCleanDisk (state S.Store conn.new) → (i : Inventory) → StandsFor i (state S.Store conn.old).now
+        → IfOk result (λ head. head ≡ option_map (head_in name.now) (zone_in i name.now)) }
+    ensures none { HasCleanDisk (state S.Store conn.new) → IsErrOf result ReadError.BadRow → (i : Inventory)
+        → ¬ StandsFor i (state S.Store conn.old).now }
     ensures reads { OnlyReads S.Store (conn.old.schema ≡ store_schema) conn.old conn.new result }
 {
     let heads = head_rows(alloc, conn, name)?;
@@ -155,8 +160,10 @@ fn all_head_rows<S: Alter>(
     alloc: Global,
     conn: &mut Connection<S>,
 ) -> Result<Vec<ZoneHead>, ReadError>
-    ensures found { HasCleanDisk (state S.Store conn.new) → (i : Inventory) → StandsFor i (state S.Store conn.old).now → IfOk result (λ heads. IsPermutation heads.items (map head_of i.zones)) }
-    ensures none { HasCleanDisk (state S.Store conn.new) → IsErrOf result ReadError.BadRow → (i : Inventory) → ¬ StandsFor i (state S.Store conn.old).now }
+    ensures found { HasCleanDisk (state S.Store conn.new) → (i : Inventory) → StandsFor i (state S.Store conn.old).now
+        → IfOk result (λ heads. IsPermutation heads.items (map head_of i.zones)) }
+    ensures none { HasCleanDisk (state S.Store conn.new) → IsErrOf result ReadError.BadRow → (i : Inventory)
+        → ¬ StandsFor i (state S.Store conn.old).now }
     ensures reads { OnlyReads S.Store (conn.old.schema ≡ store_schema) conn.old conn.new result }
 {
     load::<S, Heads>(
@@ -171,7 +178,8 @@ fn all_head_rows<S: Alter>(
 fn by_name(heads: Vec<ZoneHead>) -> Result<Vec<ZoneHead>, ReadError>
     ensures same { IfOk result (λ sorted. IsPermutation heads.items sorted.items) }
     ensures rising { IfOk result (λ sorted. Rises (slice_cmp nat_cmp) (λ head. head.name) sorted.items) }
-    ensures none { IsErrOf result ReadError.BadRow → (other : List ZoneHead) → IsPermutation heads.items other → ¬ Rises (slice_cmp nat_cmp) (λ head. head.name) other }
+    ensures none { IsErrOf result ReadError.BadRow → (other : List ZoneHead) → IsPermutation heads.items other
+        → ¬ Rises (slice_cmp nat_cmp) (λ head. head.name) other }
 {
     match Table::from_vec(heads) {
         Some(heads) => Ok(heads.into_vec()),
@@ -185,9 +193,11 @@ pub fn zone_heads<S: Alter>(
     alloc: Global,
     conn: &mut Connection<S>,
 ) -> Result<Vec<ZoneHead>, ReadError>
-    ensures found { HasCleanDisk (state S.Store conn.new) → (i : Inventory) → StandsFor i (state S.Store conn.old).now → IfOk result (λ heads. heads.items ≡ map head_of i.zones) }
+    ensures found { HasCleanDisk (state S.Store conn.new) → (i : Inventory) → StandsFor i (state S.Store conn.old).now
+        → IfOk result (λ heads. heads.items ≡ map head_of i.zones) }
     ensures related { IfOk result (λ heads. AreRelated heads.items) }
-    ensures none { HasCleanDisk (state S.Store conn.new) → IsErrOf result ReadError.BadRow → (i : Inventory) → ¬ StandsFor i (state S.Store conn.old).now }
+    ensures none { HasCleanDisk (state S.Store conn.new) → IsErrOf result ReadError.BadRow → (i : Inventory)
+        → ¬ StandsFor i (state S.Store conn.old).now }
     ensures reads { OnlyReads S.Store (conn.old.schema ≡ store_schema) conn.old conn.new result }
 {
     let heads = all_head_rows(alloc, conn)?;
@@ -210,8 +220,10 @@ pub fn zone_names<S: Alter>(
     alloc: Global,
     conn: &mut Connection<S>,
 ) -> Result<Vec<ZoneName>, ReadError>
-    ensures found { HasCleanDisk (state S.Store conn.new) → (i : Inventory) → StandsFor i (state S.Store conn.old).now → IfOk result (λ names. names.items ≡ map (λ z. z.name) i.zones) }
-    ensures none { HasCleanDisk (state S.Store conn.new) → IsErrOf result ReadError.BadRow → (i : Inventory) → ¬ StandsFor i (state S.Store conn.old).now }
+    ensures found { HasCleanDisk (state S.Store conn.new) → (i : Inventory) → StandsFor i (state S.Store conn.old).now
+        → IfOk result (λ names. names.items ≡ map (λ z. z.name) i.zones) }
+    ensures none { HasCleanDisk (state S.Store conn.new) → IsErrOf result ReadError.BadRow → (i : Inventory)
+        → ¬ StandsFor i (state S.Store conn.old).now }
     ensures reads { OnlyReads S.Store (conn.old.schema ≡ store_schema) conn.old conn.new result }
 {
     let heads = zone_heads(alloc, conn)?;

@@ -36,8 +36,12 @@ fn load_rest<S: Alter>(
     conn: &mut Connection<S>,
     head: ZoneHead,
 ) -> Result<Zone, ReadError>
-    ensures found { HasCleanDisk (state S.Store conn.new) → (i : Inventory) → Some head ≡ option_map (head_in head.name) (zone_in i head.name) → StandsFor i (state S.Store conn.old).now → IfOk result (λ zone. Some zone ≡ zone_in i head.name) }
-    ensures none { HasCleanDisk (state S.Store conn.new) → IsErrOf result ReadError.BadRow → (i : Inventory) → Some head ≡ option_map (head_in head.name) (zone_in i head.name) → ¬ StandsFor i (state S.Store conn.old).now }
+    ensures found { HasCleanDisk (state S.Store conn.new) → (i : Inventory)
+        → Some head ≡ option_map (head_in head.name) (zone_in i head.name) → StandsFor i (state S.Store conn.old).now
+        → IfOk result (λ zone. Some zone ≡ zone_in i head.name) }
+    ensures none { HasCleanDisk (state S.Store conn.new) → IsErrOf result ReadError.BadRow → (i : Inventory)
+        → Some head ≡ option_map (head_in head.name) (zone_in i head.name)
+        → ¬ StandsFor i (state S.Store conn.old).now }
     ensures reads { OnlyReads S.Store (conn.old.schema ≡ store_schema) conn.old conn.new result }
 {
     let entries = load_entries(alloc, conn, &head.name)?;
@@ -51,8 +55,10 @@ pub fn load_zone<S: Alter>(
     conn: &mut Connection<S>,
     name: ZoneName,
 ) -> Result<Option<Zone>, ReadError>
-    ensures found { HasCleanDisk (state S.Store conn.new) → (i : Inventory) → StandsFor i (state S.Store conn.old).now → IfOk result (λ zone. zone ≡ zone_in i name) }
-    ensures none { HasCleanDisk (state S.Store conn.new) → IsErrOf result ReadError.BadRow → (i : Inventory) → ¬ StandsFor i (state S.Store conn.old).now }
+    ensures found { HasCleanDisk (state S.Store conn.new) → (i : Inventory) → StandsFor i (state S.Store conn.old).now
+        → IfOk result (λ zone. zone ≡ zone_in i name) }
+    ensures none { HasCleanDisk (state S.Store conn.new) → IsErrOf result ReadError.BadRow → (i : Inventory)
+        → ¬ StandsFor i (state S.Store conn.old).now }
     ensures reads { OnlyReads S.Store (conn.old.schema ≡ store_schema) conn.old conn.new result }
 {
     let Some(head) = zone_head(alloc, conn, &name)? else {

@@ -1,5 +1,6 @@
 -- What the tables hold when a zone's entries or elements change.
-use Rattle.std.proofs.Common.{◌≡◌, ◌≢◌, List, [], ◌∷◌, ◌++◌, map, filter, Bool, not, ◌&&◌, IsPermutation, refl, sym, ap, ap₂, subst, subst₂, ◌∙◌}
+use Rattle.std.proofs.Common.{◌≡◌, ◌≢◌, List, [], ◌∷◌, ◌++◌, map, filter, Bool, not, ◌&&◌, IsPermutation, refl, sym, ap}
+use Rattle.std.proofs.Common.{ap₂, subst, subst₂, ◌∙◌}
 use Rattle.std.specs.List.{AllByRecursion, flat_map}
 use Rattle.std.specs.Str.{bytes_eq}
 use Rattle.std.proofs.lemmas.List.{map-append}
@@ -23,59 +24,108 @@ use Rattle.store_schema.specs.Stands.{rows_of}
 use Rattle.store_schema.specs.Tables.{store_schema, entry, zelem, zone as zone_table}
 use Rattle.store_schema.proofs.Spelled.{types_alike}
 use Rattle.store_zones.specs.Keys.{entry_key, element_key}
-use Rattle.store_zones.specs.Zones.{IsZoneChange, entries_but, is_element, elements_but, HasPutEntry, HasRemovedEntry, HasPutElement, HasRemovedElement}
+use Rattle.store_zones.specs.Zones.{IsZoneChange, entries_but, is_element, elements_but, HasPutEntry, HasRemovedEntry}
+use Rattle.store_zones.specs.Zones.{HasPutElement, HasRemovedElement}
 
 -- ---- keys
 
-entry_meets : (other name : terms.Text) (id : terms.Id) (e : Entry) → has_key (entry_key name id) (entry_row other e) ≡ (bytes_eq other name && bytes_eq e.id id)
+entry_meets : (other name : terms.Text) (id : terms.Id) (e : Entry)
+    → has_key (entry_key name id) (entry_row other e) ≡ (bytes_eq other name && bytes_eq e.id id)
 entry_meets other name id e = ap₂ ◌&&◌ (equals other name) (and_true _ ∙ equals e.id id)
 
-element_meets : (other name : terms.Text) (type : ElemType) (x : terms.Text) (e : Element) → has_key (element_key name type x) (zelem_row other e) ≡ (bytes_eq other name && is_element type x e)
-element_meets other name type x e = ap₂ ◌&&◌ (equals other name) (ap₂ ◌&&◌ (equals (type_text e.elem_type) (type_text type) ∙ types_alike e.elem_type type) (and_true _ ∙ equals e.name x))
+element_meets : (other name : terms.Text) (type : ElemType) (x : terms.Text) (e : Element)
+    → has_key (element_key name type x) (zelem_row other e) ≡ (bytes_eq other name && is_element type x e)
+element_meets other name type x e = ap₂ ◌&&◌ (equals other name)
+    (ap₂ ◌&&◌ (equals (type_text e.elem_type) (type_text type) ∙ types_alike e.elem_type type)
+    (and_true _ ∙ equals e.name x))
 
 -- ---- rows of one zone
 
-module _ {X : Type 0} (row : terms.Text → X → Row) (name : terms.Text) (key : Row) (test : X → Bool) (meets : (other : terms.Text) (x : X) → has_key key (row other x) ≡ (bytes_eq other name && test x)) where
+module _ {X : Type 0} (row : terms.Text → X → Row) (name : terms.Text) (key : Row) (test : X → Bool)
+    (meets : (other : terms.Text) (x : X) → has_key key (row other x) ≡ (bytes_eq other name && test x)) where
   -- of the zone's own rows those go that pass the test
   own_left : (xs : List X) → without key (map (row name) xs) ≡ map (row name) (filter (λ x. not (test x)) xs)
   own_left xs =
       filter-map (λ r. not (has_key key r)) (row name) xs
-      ∙ ap (map (row name)) (filter_same _ _ xs (λ x h. ap not (meets name x ∙ ap (λ b. b && test x) (same_itself name))))
+      ∙ ap (map (row name)) (filter_same _ _ xs (λ x h. ap not
+      (meets name x ∙ ap (λ b. b && test x) (same_itself name))))
 
   -- and none of another zone's
-  others_left : (other : terms.Text) → other ≢ name → (xs : List X) → without key (map (row other) xs) ≡ map (row other) xs
+  others_left : (other : terms.Text) → other ≢ name → (xs : List X)
+      → without key (map (row other) xs) ≡ map (row other) xs
   others_left other apart xs =
       filter-map (λ r. not (has_key key r)) (row other) xs
-      ∙ ap (map (row other)) (filter_same _ _ xs (λ x h. ap not (meets other x ∙ ap (λ b. b && test x) (other_text other name apart))) ∙ filter_all xs)
+      ∙ ap (map (row other)) (filter_same _ _ xs (λ x h. ap not
+      (meets other x ∙ ap (λ b. b && test x) (other_text other name apart))) ∙ filter_all xs)
 
-  pub all_left : (items : Zone → List X) (zones : List NamedZone) → AllByRecursion (λ z. z.name ≢ name) zones → AllByRecursion (λ z. without key (map (row z.name) (items z.zone)) ≡ map (row z.name) (items z.zone)) zones
+  pub all_left : (items : Zone → List X) (zones : List NamedZone) → AllByRecursion (λ z. z.name ≢ name) zones
+      → AllByRecursion (λ z. without key (map (row z.name) (items z.zone)) ≡ map (row z.name) (items z.zone)) zones
   all_left items [] h = tt
   all_left items (z ∷ zones) h = (others_left z.name h.0 (items z.zone), all_left items zones h.1)
 
-  pub rows_changed : (items : Zone → List X) (before after : List NamedZone) (old new : Zone) (news : List X) → AllByRecursion (λ z. z.name ≢ name) (before ++ after)
+  pub rows_changed : (items : Zone → List X) (before after : List NamedZone) (old new : Zone) (news : List X)
+      → AllByRecursion (λ z. z.name ≢ name) (before ++ after)
       → IsPermutation (items new) (news ++ filter (λ x. not (test x)) (items old))
-      → IsPermutation (flat_map (λ z. map (row z.name) (items z.zone)) (before ++ record { name = name; zone = new } ∷ after))
-      (map (row name) news ++ without key (flat_map (λ z. map (row z.name) (items z.zone)) (before ++ record { name = name; zone = old } ∷ after)))
+      → IsPermutation (flat_map (λ z. map (row z.name) (items z.zone))
+      (before ++ record { name = name; zone = new } ∷ after))
+      (map (row name) news ++ without key (flat_map (λ z. map (row z.name) (items z.zone))
+      (before ++ record { name = name; zone = old } ∷ after)))
   rows_changed items before after old new news others same =
       let mapped = IsPermutation-map (row name) _ _ same in
-      let left : map (row name) (news ++ filter (λ x. not (test x)) (items old)) ≡ map (row name) news ++ without key (map (row name) (items old)) =
+      let left : map (row name) (news ++ filter (λ x. not (test x)) (items old)) ≡ map (row name) news
+      ++ without key (map (row name) (items old)) =
       map-append (row name) news _ ∙ ap (λ rs. map (row name) news ++ rs) (sym (own_left (items old))) in
-      changed (λ (z : NamedZone). map (row z.name) (items z.zone)) (λ r. not (has_key key r)) before (record { name = name; zone = old }) (record { name = name; zone = new }) after (map (row name) news)
+      changed (λ (z : NamedZone). map (row z.name) (items z.zone)) (λ r. not (has_key key r)) before
+      (record { name = name; zone = old }) (record { name = name; zone = new }) after (map (row name) news)
       (all_left items (before ++ after) others) (subst (IsPermutation (map (row name) (items new))) left mapped)
 
 -- ---- all tables
 
 -- two inventories whose rows are those of the first in all tables but entry or zelem
 module _ (i j : Inventory) (global : j.global ≡ i.global) (zones : map zone_row j.zones ≡ map zone_row i.zones) where
-  pub with_entries : (make : List Row → List Row) → flat_map zelems_of j.zones ≡ flat_map zelems_of i.zones → IsPermutation (flat_map entries_of j.zones) (make (flat_map entries_of i.zones))
-      → AllByRecursion (λ t. IsPermutation (rows_of j t.tree) (in_table entry make (rows_of i) t.tree)) store_schema.tables
+  pub with_entries : (make : List Row → List Row) → flat_map zelems_of j.zones ≡ flat_map zelems_of i.zones
+      → IsPermutation (flat_map entries_of j.zones) (make (flat_map entries_of i.zones))
+      → AllByRecursion (λ t. IsPermutation (rows_of j t.tree) (in_table entry make (rows_of i) t.tree))
+      store_schema.tables
   with_entries make elements entries =
-      rw (global, zones, elements) (IsPermutation-refl _, (IsPermutation-refl _, (IsPermutation-refl _, (IsPermutation-refl _, (IsPermutation-refl _, (IsPermutation-refl _, (IsPermutation-refl _, (entries, (IsPermutation-refl _, tt)))))))))
+      rw (global, zones, elements) (
+        IsPermutation-refl _,
+        (
+          IsPermutation-refl _,
+          (
+            IsPermutation-refl _,
+            (
+              IsPermutation-refl _,
+              (
+                IsPermutation-refl _,
+                (IsPermutation-refl _, (IsPermutation-refl _, (entries, (IsPermutation-refl _, tt)))),
+              ),
+            ),
+          ),
+        ),
+      )
 
-  pub with_elements : (make : List Row → List Row) → flat_map entries_of j.zones ≡ flat_map entries_of i.zones → IsPermutation (flat_map zelems_of j.zones) (make (flat_map zelems_of i.zones))
-      → AllByRecursion (λ t. IsPermutation (rows_of j t.tree) (in_table zelem make (rows_of i) t.tree)) store_schema.tables
+  pub with_elements : (make : List Row → List Row) → flat_map entries_of j.zones ≡ flat_map entries_of i.zones
+      → IsPermutation (flat_map zelems_of j.zones) (make (flat_map zelems_of i.zones))
+      → AllByRecursion (λ t. IsPermutation (rows_of j t.tree) (in_table zelem make (rows_of i) t.tree))
+      store_schema.tables
   with_elements make entries elements =
-      rw (global, zones, entries) (IsPermutation-refl _, (IsPermutation-refl _, (IsPermutation-refl _, (IsPermutation-refl _, (IsPermutation-refl _, (IsPermutation-refl _, (IsPermutation-refl _, (IsPermutation-refl _, (elements, tt)))))))))
+      rw (global, zones, entries) (
+        IsPermutation-refl _,
+        (
+          IsPermutation-refl _,
+          (
+            IsPermutation-refl _,
+            (
+              IsPermutation-refl _,
+              (
+                IsPermutation-refl _,
+                (IsPermutation-refl _, (IsPermutation-refl _, (IsPermutation-refl _, (elements, tt)))),
+              ),
+            ),
+          ),
+        ),
+      )
 
 -- ---- one zone becomes another
 
@@ -90,58 +140,78 @@ module _ (i j : Inventory) (name : terms.Text) (was is : Zone) (c : IsZoneChange
   globals = ap (λ (k : Inventory). k.global) c.is
 
   same_zones : zone_row new_zone ≡ zone_row old_zone → map zone_row j.zones ≡ map zone_row i.zones
-  same_zones e = ap (λ (k : Inventory). map zone_row k.zones) c.is ∙ map_same zone_row c.before new_zone old_zone c.after e ∙ ap (map zone_row) (sym c.was)
+  same_zones e = ap (λ (k : Inventory). map zone_row k.zones) c.is
+      ∙ map_same zone_row c.before new_zone old_zone c.after e ∙ ap (map zone_row) (sym c.was)
 
   same_in : (f : NamedZone → List Row) → f new_zone ≡ f old_zone → flat_map f j.zones ≡ flat_map f i.zones
-  same_in f e = ap (λ (k : Inventory). flat_map f k.zones) c.is ∙ flat_same f c.before new_zone old_zone c.after e ∙ ap (flat_map f) (sym c.was)
+  same_in f e = ap (λ (k : Inventory). flat_map f k.zones) c.is ∙ flat_same f c.before new_zone old_zone c.after e
+      ∙ ap (flat_map f) (sym c.was)
 
-  changed_in : (f : NamedZone → List Row) (make : List Row → List Row) → IsPermutation (flat_map f (c.before ++ new_zone ∷ c.after)) (make (flat_map f (c.before ++ old_zone ∷ c.after)))
+  changed_in : (f : NamedZone → List Row) (make : List Row → List Row)
+      → IsPermutation (flat_map f (c.before ++ new_zone ∷ c.after)) (make (flat_map f (c.before ++ old_zone ∷ c.after)))
       → IsPermutation (flat_map f j.zones) (make (flat_map f i.zones))
-  changed_in f make h = subst₂ IsPermutation (sym (ap (λ (k : Inventory). flat_map f k.zones) c.is)) (ap (λ zs. make (flat_map f zs)) (sym c.was)) h
+  changed_in f make h = subst₂ IsPermutation (sym (ap (λ (k : Inventory). flat_map f k.zones) c.is))
+      (ap (λ zs. make (flat_map f zs)) (sym c.was)) h
 
   by_entries : (make : List Row → List Row) → is ≡ record was { entries = is.entries }
-      → IsPermutation (flat_map entries_of (c.before ++ new_zone ∷ c.after)) (make (flat_map entries_of (c.before ++ old_zone ∷ c.after)))
-      → AllByRecursion (λ t. IsPermutation (rows_of j t.tree) (in_table entry make (rows_of i) t.tree)) store_schema.tables
+      → IsPermutation (flat_map entries_of (c.before ++ new_zone ∷ c.after))
+      (make (flat_map entries_of (c.before ++ old_zone ∷ c.after)))
+      → AllByRecursion (λ t. IsPermutation (rows_of j t.tree) (in_table entry make (rows_of i) t.tree))
+      store_schema.tables
   by_entries make rest h =
       with_entries i j globals (same_zones (ap (λ z. zone_row (record { name = name; zone = z })) rest)) make
       (same_in zelems_of (ap (λ z. zelems_of (record { name = name; zone = z })) rest)) (changed_in entries_of make h)
 
   by_elements : (make : List Row → List Row) → is ≡ record was { elements = is.elements }
-      → IsPermutation (flat_map zelems_of (c.before ++ new_zone ∷ c.after)) (make (flat_map zelems_of (c.before ++ old_zone ∷ c.after)))
-      → AllByRecursion (λ t. IsPermutation (rows_of j t.tree) (in_table zelem make (rows_of i) t.tree)) store_schema.tables
+      → IsPermutation (flat_map zelems_of (c.before ++ new_zone ∷ c.after))
+      (make (flat_map zelems_of (c.before ++ old_zone ∷ c.after)))
+      → AllByRecursion (λ t. IsPermutation (rows_of j t.tree) (in_table zelem make (rows_of i) t.tree))
+      store_schema.tables
   by_elements make rest h =
       with_elements i j globals (same_zones (ap (λ z. zone_row (record { name = name; zone = z })) rest)) make
       (same_in entries_of (ap (λ z. entries_of (record { name = name; zone = z })) rest)) (changed_in zelems_of make h)
 
-  pub entry_put : (e : Entry) (db : Database) → HasPutEntry e was is → HasContents store_schema (with_put entry (entry_key name e.id) (entry_row name e) (rows_of i)) db → HasContents store_schema (rows_of j) db
+  pub entry_put : (e : Entry) (db : Database) → HasPutEntry e was is
+      → HasContents store_schema (with_put entry (entry_key name e.id) (entry_row name e) (rows_of i)) db
+      → HasContents store_schema (rows_of j) db
   entry_put e db p =
       let key = entry_key name e.id in
       permuted store_schema (with_put entry key (entry_row name e) (rows_of i)) (rows_of j) db
       (by_entries (λ rows. with_row (entry_row name e) (without key rows)) p.rest
-      (rows_changed entry_row name key (λ x. bytes_eq x.id e.id) (λ other x. entry_meets other name e.id x) (λ z. z.entries) c.before c.after was is (e ∷ []) c.others p.entries))
+      (rows_changed entry_row name key (λ x. bytes_eq x.id e.id) (λ other x. entry_meets other name e.id x)
+      (λ z. z.entries) c.before c.after was is (e ∷ []) c.others p.entries))
 
-  pub entry_removed : (id : terms.Id) (db : Database) → HasRemovedEntry id was is → HasContents store_schema (in_table entry (without (entry_key name id)) (rows_of i)) db → HasContents store_schema (rows_of j) db
+  pub entry_removed : (id : terms.Id) (db : Database) → HasRemovedEntry id was is
+      → HasContents store_schema (in_table entry (without (entry_key name id)) (rows_of i)) db
+      → HasContents store_schema (rows_of j) db
   entry_removed id db p =
       let key = entry_key name id in
       permuted store_schema (in_table entry (without key) (rows_of i)) (rows_of j) db
       (by_entries (without key) p.rest
-      (rows_changed entry_row name key (λ x. bytes_eq x.id id) (λ other x. entry_meets other name id x) (λ z. z.entries) c.before c.after was is [] c.others p.entries))
+      (rows_changed entry_row name key (λ x. bytes_eq x.id id) (λ other x. entry_meets other name id x) (λ z. z.entries)
+      c.before c.after was is [] c.others p.entries))
 
-  pub element_put : (e : Element) (db : Database) → HasPutElement e was is → HasContents store_schema (with_put zelem (element_key name e.elem_type e.name) (zelem_row name e) (rows_of i)) db
+  pub element_put : (e : Element) (db : Database) → HasPutElement e was is
+      → HasContents store_schema (with_put zelem (element_key name e.elem_type e.name) (zelem_row name e) (rows_of i))
+      db
       → HasContents store_schema (rows_of j) db
   element_put e db p =
       let key = element_key name e.elem_type e.name in
       permuted store_schema (with_put zelem key (zelem_row name e) (rows_of i)) (rows_of j) db
       (by_elements (λ rows. with_row (zelem_row name e) (without key rows)) p.rest
-      (rows_changed zelem_row name key (is_element e.elem_type e.name) (λ other x. element_meets other name e.elem_type e.name x) (λ z. z.elements) c.before c.after was is (e ∷ []) c.others p.elements))
+      (rows_changed zelem_row name key (is_element e.elem_type e.name)
+      (λ other x. element_meets other name e.elem_type e.name x) (λ z. z.elements) c.before c.after was is (e ∷ [])
+      c.others p.elements))
 
-  pub element_removed : (type : ElemType) (x : terms.Text) (db : Database) → HasRemovedElement type x was is → HasContents store_schema (in_table zelem (without (element_key name type x)) (rows_of i)) db
+  pub element_removed : (type : ElemType) (x : terms.Text) (db : Database) → HasRemovedElement type x was is
+      → HasContents store_schema (in_table zelem (without (element_key name type x)) (rows_of i)) db
       → HasContents store_schema (rows_of j) db
   element_removed type x db p =
       let key = element_key name type x in
       permuted store_schema (in_table zelem (without key) (rows_of i)) (rows_of j) db
       (by_elements (without key) p.rest
-      (rows_changed zelem_row name key (is_element type x) (λ other y. element_meets other name type x y) (λ z. z.elements) c.before c.after was is [] c.others p.elements))
+      (rows_changed zelem_row name key (is_element type x) (λ other y. element_meets other name type x y)
+      (λ z. z.elements) c.before c.after was is [] c.others p.elements))
 
 -- ---- one more zone
 
@@ -149,15 +219,37 @@ module _ (global : terms.Global) (zone : NamedZone) where
   abbrev with_zones : List NamedZone → Inventory
   with_zones zones = record { global = global; zones = zones }
 
-  flat_none : (f : NamedZone → List Row) → f zone ≡ [] → (before after : List NamedZone) → flat_map f (before ++ zone ∷ after) ≡ flat_map f (before ++ after)
+  flat_none : (f : NamedZone → List Row) → f zone ≡ [] → (before after : List NamedZone)
+      → flat_map f (before ++ zone ∷ after) ≡ flat_map f (before ++ after)
   flat_none f e [] after = ap (λ rows. rows ++ flat_map f after) e
   flat_none f e (z ∷ before) after = ap (λ rows. f z ++ rows) (flat_none f e before after)
 
-  pub zone_added : (before after : List NamedZone) (db : Database) → entries_of zone ≡ [] → zelems_of zone ≡ [] → HasContents store_schema (in_table zone_table (with_row (zone_row zone)) (rows_of (with_zones (before ++ after)))) db
+  pub zone_added : (before after : List NamedZone) (db : Database) → entries_of zone ≡ [] → zelems_of zone ≡ []
+      → HasContents store_schema (in_table zone_table (with_row (zone_row zone))
+      (rows_of (with_zones (before ++ after)))) db
       → HasContents store_schema (rows_of (with_zones (before ++ zone ∷ after))) db
   zone_added before after db no_entries no_elements =
-      let zones : IsPermutation (map zone_row (before ++ zone ∷ after)) (zone_row zone ∷ map zone_row (before ++ after)) =
+      let zones : IsPermutation (map zone_row (before ++ zone ∷ after)) (zone_row zone ∷ map zone_row (before ++ after))
+      =
       IsPermutation-map zone_row _ _ (IsPermutation-middle before zone after) in
-      permuted store_schema (in_table zone_table (with_row (zone_row zone)) (rows_of (with_zones (before ++ after)))) (rows_of (with_zones (before ++ zone ∷ after))) db
-      (rw (flat_none entries_of no_entries before after, flat_none zelems_of no_elements before after)
-      (IsPermutation-refl _, (IsPermutation-refl _, (IsPermutation-refl _, (IsPermutation-refl _, (IsPermutation-refl _, (IsPermutation-refl _, (zones, (IsPermutation-refl _, (IsPermutation-refl _, tt))))))))))
+      permuted store_schema (in_table zone_table (with_row (zone_row zone)) (rows_of (with_zones (before ++ after))))
+      (rows_of (with_zones (before ++ zone ∷ after))) db
+      (rw (flat_none entries_of no_entries before after, flat_none zelems_of no_elements before after) (
+        IsPermutation-refl _,
+        (
+          IsPermutation-refl _,
+          (
+            IsPermutation-refl _,
+            (
+              IsPermutation-refl _,
+              (
+                IsPermutation-refl _,
+                (
+                  IsPermutation-refl _,
+                  (zones, (IsPermutation-refl _, (IsPermutation-refl _, tt))),
+                ),
+              ),
+            ),
+          ),
+        ),
+      ))

@@ -61,7 +61,11 @@ ChangesZone g old new name Changes =
 
 -- a zone with no entries
 abbrev pub empty_zone : Text → ZoneKind → Text → Option Text → NamedZone
-empty_zone name kind srel related = record { name = name; zone = record { kind = kind; srel = srel; related = related; entries = []; elements = [] } }
+empty_zone name kind srel related = record {
+  name = name;
+  zone =
+      record { kind = kind; srel = srel; related = related; entries = []; elements = [] };
+}
 
 -- where the tables held an inventory's rows, they hold those of the inventory that has one more zone, in any place
 abbrev pub AddsZone : {S : Type 0} → Ghosts S → Held S → Held S → NamedZone → Type 0

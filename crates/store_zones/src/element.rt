@@ -30,8 +30,10 @@ pub fn put_element<S: Alter>(
 ) -> Result<(), Error>
     ensures same_reference { tx.new.conn.ghost_name ≡ tx.old.conn.ghost_name }
     ensures inside { StaysInside S.Store tx.old.conn.now tx.new.conn.now }
-    ensures ok { OnOk result (Turns S.Store tx.old.conn.now tx.new.conn.now (HasContents store_schema) (with_put zelem (element_key zone element.now.elem_type element.now.name) (zelem_row zone element.now))) }
-    ensures stands { OnOk result (ChangesZone S.Store tx.old.conn.now tx.new.conn.now zone (HasPutElement element.now)) }
+    ensures ok { OnOk result (Turns S.Store tx.old.conn.now tx.new.conn.now (HasContents store_schema)
+        (with_put zelem (element_key zone element.now.elem_type element.now.name) (zelem_row zone element.now))) }
+    ensures stands { OnOk result (ChangesZone S.Store tx.old.conn.now tx.new.conn.now zone
+        (HasPutElement element.now)) }
 {
     let umids = joined_ids(alloc, element.umids.as_slice())?;
     let text = bytes_of(alloc, element.text.as_slice())?;
@@ -50,7 +52,9 @@ fn put_row<S: Alter>(
     requires text { HasLines text.now element.now.text }
     ensures same_reference { tx.new.conn.ghost_name ≡ tx.old.conn.ghost_name }
     ensures inside { StaysInside S.Store tx.old.conn.now tx.new.conn.now }
-    ensures ok { OnOk result (Turns S.Store tx.old.conn.now tx.new.conn.now (HasContents store_schema) (with_put zelem (element_key zone.now element.now.elem_type element.now.name) (zelem_row zone.now element.now))) }
+    ensures ok { OnOk result (Turns S.Store tx.old.conn.now tx.new.conn.now (HasContents store_schema)
+        (with_put zelem (element_key zone.now element.now.elem_type element.now.name)
+        (zelem_row zone.now element.now))) }
 {
     let zone = ValueRef::Text(zone.as_bytes());
     let elem_type = ValueRef::Text(type_text(element.elem_type));
@@ -81,8 +85,10 @@ pub fn remove_element<S: Alter>(
 ) -> Result<(), Error>
     ensures same_reference { tx.new.conn.ghost_name ≡ tx.old.conn.ghost_name }
     ensures inside { StaysInside S.Store tx.old.conn.now tx.new.conn.now }
-    ensures ok { OnOk result (Turns S.Store tx.old.conn.now tx.new.conn.now (HasContents store_schema) (in_table zelem (without (element_key zone elem_type name)))) }
-    ensures stands { OnOk result (ChangesZone S.Store tx.old.conn.now tx.new.conn.now zone (HasRemovedElement elem_type name)) }
+    ensures ok { OnOk result (Turns S.Store tx.old.conn.now tx.new.conn.now (HasContents store_schema)
+        (in_table zelem (without (element_key zone elem_type name)))) }
+    ensures stands { OnOk result (ChangesZone S.Store tx.old.conn.now tx.new.conn.now zone
+        (HasRemovedElement elem_type name)) }
 {
     let key = [
         ValueRef::Text(zone.as_bytes()),

@@ -27,7 +27,8 @@ pub fn put_entry<S: Alter>(
 ) -> Result<(), Error>
     ensures same_reference { tx.new.conn.ghost_name ≡ tx.old.conn.ghost_name }
     ensures inside { StaysInside S.Store tx.old.conn.now tx.new.conn.now }
-    ensures ok { OnOk result (Turns S.Store tx.old.conn.now tx.new.conn.now (HasContents store_schema) (with_put entry_table (entry_key zone entry.now.id) (entry_row zone entry.now))) }
+    ensures ok { OnOk result (Turns S.Store tx.old.conn.now tx.new.conn.now (HasContents store_schema)
+        (with_put entry_table (entry_key zone entry.now.id) (entry_row zone entry.now))) }
     ensures stands { OnOk result (ChangesZone S.Store tx.old.conn.now tx.new.conn.now zone (HasPutEntry entry.now)) }
 {
     let supby = joined_ids(alloc, entry.supby.as_slice())?;
@@ -47,7 +48,8 @@ fn put_row<S: Alter>(
     requires waived { waived.now ≡ join_with_byte 44 entry.now.waived }
     ensures same_reference { tx.new.conn.ghost_name ≡ tx.old.conn.ghost_name }
     ensures inside { StaysInside S.Store tx.old.conn.now tx.new.conn.now }
-    ensures ok { OnOk result (Turns S.Store tx.old.conn.now tx.new.conn.now (HasContents store_schema) (with_put entry_table (entry_key zone.now entry.now.id) (entry_row zone.now entry.now))) }
+    ensures ok { OnOk result (Turns S.Store tx.old.conn.now tx.new.conn.now (HasContents store_schema)
+        (with_put entry_table (entry_key zone.now entry.now.id) (entry_row zone.now entry.now))) }
 {
     let zone = ValueRef::Text(zone.as_bytes());
     let id = ValueRef::Text(entry.id.as_bytes());
@@ -72,7 +74,8 @@ pub fn remove_entry<S: Alter>(
 ) -> Result<(), Error>
     ensures same_reference { tx.new.conn.ghost_name ≡ tx.old.conn.ghost_name }
     ensures inside { StaysInside S.Store tx.old.conn.now tx.new.conn.now }
-    ensures ok { OnOk result (Turns S.Store tx.old.conn.now tx.new.conn.now (HasContents store_schema) (in_table entry_table (without (entry_key zone id)))) }
+    ensures ok { OnOk result (Turns S.Store tx.old.conn.now tx.new.conn.now (HasContents store_schema)
+        (in_table entry_table (without (entry_key zone id)))) }
     ensures stands { OnOk result (ChangesZone S.Store tx.old.conn.now tx.new.conn.now zone (HasRemovedEntry id)) }
 {
     let key = [

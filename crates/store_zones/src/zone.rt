@@ -25,8 +25,10 @@ pub fn insert_zone<S: Alter>(
 ) -> Result<(), Error>
     ensures same_reference { tx.new.conn.ghost_name ≡ tx.old.conn.ghost_name }
     ensures inside { StaysInside S.Store tx.old.conn.now tx.new.conn.now }
-    ensures ok { OnOk result (Turns S.Store tx.old.conn.now tx.new.conn.now (HasContents store_schema) (in_table zone_table (with_row (zone_row (empty_zone name kind srel related))))) }
-    ensures stands { OnOk result (AddsZone S.Store tx.old.conn.now tx.new.conn.now (empty_zone name kind srel related)) }
+    ensures ok { OnOk result (Turns S.Store tx.old.conn.now tx.new.conn.now (HasContents store_schema)
+        (in_table zone_table (with_row (zone_row (empty_zone name kind srel related))))) }
+    ensures stands { OnOk result (AddsZone S.Store tx.old.conn.now tx.new.conn.now
+        (empty_zone name kind srel related)) }
 {
     let related = name_value(&related);
     let row = [

@@ -1,5 +1,7 @@
 -- The front of a global zone's list of SYSMODs, and one more behind it.
-use Rattle.std.proofs.Common.{◌≡◌, ◌∙◌, Bool, true, false, not, ◌&&◌, ◌==◌, List, [], ◌∷◌, ◌++◌, fold, filter, get_or, refl, sym, ap, subst, Option, None, Some, is_some, IsTrue, All, Contains, true≢false, arith, append-nil, length-append}
+use Rattle.std.proofs.Common.{◌≡◌, ◌∙◌, Bool, true, false, not, ◌&&◌, ◌==◌, List, [], ◌∷◌, ◌++◌, fold, filter, get_or}
+use Rattle.std.proofs.Common.{refl, sym, ap, subst, Option, None, Some, is_some, IsTrue, All, Contains, true≢false}
+use Rattle.std.proofs.Common.{arith, append-nil, length-append}
 use Rattle.std.specs.Prelude.{AllPairs}
 use Rattle.std.specs.declared.cmp.Ordering.TheVariants.{Less}
 use Rattle.std.specs.Ordering.{is_lt, is_eq, nat_cmp}
@@ -16,7 +18,8 @@ use Rattle.lemmas.proofs.Each.{All-front}
 use Rattle.terms.specs.Types.{Text, Id, Hold, Sysmod, Global, a_global, kind_number}
 use Rattle.terms.specs.Rising.{Rises, Splits, with_item}
 use Rattle.terms.specs.Lookups.{is_function}
-use Rattle.terms.specs.Global.{named, names_for, HasLoop, is_service, fits_roles, RolesFit, hold_cmp, hold, IsSysmod, IsGlobal, HasFault, ReceiveFault, Rc1, Rc2, Rc3, Rc4, with_sysmod}
+use Rattle.terms.specs.Global.{named, names_for, HasLoop, is_service, fits_roles, RolesFit, hold_cmp, hold, IsSysmod}
+use Rattle.terms.specs.Global.{IsGlobal, HasFault, ReceiveFault, Rc1, Rc2, Rc3, Rc4, with_sysmod}
 use Rattle.terms.proofs.Leads.{reaches_more}
 use Rattle.terms.proofs.GlobalKept.{IsOwned}
 use Rattle.terms.proofs.GlobalRoles.{fits-fewer}
@@ -35,7 +38,8 @@ Rises-front : {X : Type 0} (R : X → X → Type 0) (xs ys : List X) → AllPair
 Rises-front R xs ys all = λ i j d less below.
     let first = get_or_append_left xs ys d i (omega (arith, less, below)) in
     let second = get_or_append_left xs ys d j below in
-    subst (λ a. R a (get_or xs j d)) first (subst (R (get_or (xs ++ ys) i d)) second (all i j d less (omega (arith, below, length-append xs ys))))
+    subst (λ a. R a (get_or xs j d)) first (subst (R (get_or (xs ++ ys) i d)) second
+    (all i j d less (omega (arith, below, length-append xs ys))))
 
 module _ (xs ys : List Sysmod) where
   abbrev Whole : Global
@@ -83,13 +87,19 @@ module _ (xs ys : List Sysmod) where
 
   -- A loop or a fault of roles in the front is one of the whole.
   pub loop-front : HasLoop Front → HasLoop Whole
-  loop-front (srel, x, loop) = (srel, x, reaches_more (names_for Front srel) (names_for Whole srel) (names-front srel) x x loop)
+  loop-front (srel, x, loop) = (
+    srel,
+    x,
+    reaches_more (names_for Front srel) (names_for Whole srel) (names-front srel) x
+        x loop,
+  )
 
   pub roles-front : RolesFit Whole → RolesFit Front
   roles-front fit =
       All-front Fits xs ys
       (All-weaker (λ s. All (λ v. IsTrue (fits_roles Whole v)) s.vers) Fits
-      (λ s all. All-weaker (λ v. IsTrue (fits_roles Whole v)) (λ v. IsTrue (fits_roles Front v)) (fits-fewer Whole Front function-front service-front) s.vers all) (xs ++ ys) fit)
+      (λ s all. All-weaker (λ v. IsTrue (fits_roles Whole v)) (λ v. IsTrue (fits_roles Front v))
+      (fits-fewer Whole Front function-front service-front) s.vers all) (xs ++ ys) fit)
     where
       Fits : Sysmod → Type 0
       Fits s = All (λ v. IsTrue (fits_roles Front v)) s.vers
@@ -119,10 +129,12 @@ module _ (xs : List Sysmod) (s : Sysmod) where
       ap (λ rs. found rs s.id) (sym (append-nil xs))
       ∙ find-over (λ r. bytes_eq r.id s.id) xs []
       (All-weaker (λ r. IsTrue (is_lt (slice_cmp nat_cmp r.id s.id))) (λ r. bytes_eq r.id s.id ≡ false)
-      (λ r less. sym (is_eq-slice_cmp r.id s.id) ∙ ap is_eq (Less-from_is_lt (slice_cmp nat_cmp r.id s.id) less)) xs low)
+      (λ r less. sym (is_eq-slice_cmp r.id s.id) ∙ ap is_eq (Less-from_is_lt (slice_cmp nat_cmp r.id s.id) less)) xs
+      low)
 
   -- it comes in at the end
-  pub item-last : AreBefore xs s.id → (r : Sysmod) → r.id ≡ s.id → with_item (slice_cmp nat_cmp) (λ r. r.id) xs r ≡ xs ++ r ∷ []
+  pub item-last : AreBefore xs s.id → (r : Sysmod) → r.id ≡ s.id
+      → with_item (slice_cmp nat_cmp) (λ r. r.id) xs r ≡ xs ++ r ∷ []
   item-last low r same =
       ap (λ rs. with_item (slice_cmp nat_cmp) (λ r. r.id) rs r) (sym (append-nil xs))
       ∙ with_item-new nat_list_cmp_total (λ (r : Sysmod). r.id) xs [] r splits
@@ -149,13 +161,16 @@ module _ (xs : List Sysmod) (s : Sysmod) where
     none-refused g Rc4 fault = omega (arith, fault, g.size, length-append xs (s ∷ []))
 
     -- Where it is not, it makes one.
-    pub global-last : IsGlobal (zone_of xs) → IsSysmod s → ((f : ReceiveFault) → ¬ HasFault (zone_of xs) s f) → IsGlobal (zone_of (xs ++ s ∷ []))
+    pub global-last : IsGlobal (zone_of xs) → IsSysmod s → ((f : ReceiveFault) → ¬ HasFault (zone_of xs) s f)
+        → IsGlobal (zone_of (xs ++ s ∷ []))
     global-last g formed no_fault =
-        subst IsGlobal (ap (fold hold (with_sysmod (zone_of xs) s)) none ∙ zone-last) (kept (zone_of xs) s g formed no_fault)
+        subst IsGlobal (ap (fold hold (with_sysmod (zone_of xs) s)) none ∙ zone-last)
+        (kept (zone_of xs) s g formed no_fault)
 
 -- Holds beside the SYSMODs of a global zone.
 module _ (xs : List Sysmod) (hs : List Hold) where
-  pub global-holds : IsGlobal (zone_of xs) → Rises hold_cmp (λ h. h) hs → All (IsOwned (zone_of xs)) hs → IsGlobal (a_global xs hs)
+  pub global-holds : IsGlobal (zone_of xs) → Rises hold_cmp (λ h. h) hs → All (IsOwned (zone_of xs)) hs
+      → IsGlobal (a_global xs hs)
   global-holds g rises owned = record {
     sysmods = g.sysmods;
     holds = rises;

@@ -1,12 +1,14 @@
 -- RECEIVE of one SYSMOD.
-use Rattle.std.proofs.Common.{◌≡◌, ◌<◌, ◌+◌, ◌^◌, Bool, true, false, [], List, length, refl, sym, ap, ap₂, ◌∙◌, Option, None, Some, is_some, inl, inr, true≢false, get_or}
+use Rattle.std.proofs.Common.{◌≡◌, ◌<◌, ◌+◌, ◌^◌, Bool, true, false, [], List, length, refl, sym, ap, ap₂, ◌∙◌, Option}
+use Rattle.std.proofs.Common.{None, Some, is_some, inl, inr, true≢false, get_or}
 use Rattle.std.proofs.lemmas.Bool.{cases_lt}
 use Rattle.std.specs.Ordering.{nat_cmp}
 use Rattle.std.specs.Cmp.Lexicographic.{slice_cmp}
 use Rattle.terms.specs.Types.{Hold, Sysmod, Global, a_global}
 use Rattle.terms.specs.Rising.{with_item}
 use Rattle.terms.specs.Lookups.{is_received}
-use Rattle.terms.specs.Global.{IsGlobal, IsSysmod, HasFault, RefusedBy, ReceiveFault, Rc1, Rc2, Rc3, Rc4, with_sysmod, received, fits_roles, RolesFit}
+use Rattle.terms.specs.Global.{IsGlobal, IsSysmod, HasFault, RefusedBy, ReceiveFault, Rc1, Rc2, Rc3, Rc4, with_sysmod}
+use Rattle.terms.specs.Global.{received, fits_roles, RolesFit}
 use Rattle.terms.proofs.GlobalKept.{received-kept}
 use Rattle.sysmods_holds.specs.Lists.{with_holds}
 use Rattle.sysmods_received.specs.declared.faults.ReceiveFault.{ReceiveFault as Code}
@@ -26,7 +28,8 @@ roles_stable g never i d below j e within = by (fits_roles g (get_or (get_or g.s
 
 module _ (xs : List Sysmod) (hs : List Hold) (s : Sysmod) where
   -- faults do not look at holds
-  pub no_fault : ((f : ReceiveFault) → ¬ HasFault (zone_of xs) s f) → (f : ReceiveFault) → ¬ HasFault (a_global xs hs) s f
+  pub no_fault : ((f : ReceiveFault) → ¬ HasFault (zone_of xs) s f) → (f : ReceiveFault)
+      → ¬ HasFault (a_global xs hs) s f
   no_fault none Rc1 = none Rc1
   no_fault none Rc2 = none Rc2
   no_fault none Rc3 = none Rc3
@@ -47,12 +50,15 @@ module _ (xs : List Sysmod) (hs : List Hold) (s : Sysmod) where
       by (Some r) e = absurd (none Rc1 (ap is_some e))
 
 -- the zone with it
-pub taken : (g : Global) (s : Sysmod) (xs : List Sysmod) (hs : List Hold) → xs ≡ with_item (slice_cmp nat_cmp) (λ r. r.id) g.sysmods (record s { holds = [] })
+pub taken : (g : Global) (s : Sysmod) (xs : List Sysmod) (hs : List Hold)
+    → xs ≡ with_item (slice_cmp nat_cmp) (λ r. r.id) g.sysmods (record s { holds = [] })
     → hs ≡ with_holds g.holds s.holds → a_global xs hs ≡ received g s
 taken g s xs hs xs_is hs_is = ap₂ a_global xs_is hs_is ∙ sym (folded s.holds (with_sysmod g s))
 
-pub kept : (g : Global) (s : Sysmod) → IsGlobal g → IsSysmod s → ((f : ReceiveFault) → ¬ HasFault g s f) → IsGlobal (received g s)
-kept g s k formed none = received-kept g s (new (is_received g s.id) refl) k formed (none Rc2) (roles_stable (with_sysmod g s) (none Rc3)) room
+pub kept : (g : Global) (s : Sysmod) → IsGlobal g → IsSysmod s → ((f : ReceiveFault) → ¬ HasFault g s f)
+    → IsGlobal (received g s)
+kept g s k formed none = received-kept g s (new (is_received g s.id) refl) k formed (none Rc2)
+    (roles_stable (with_sysmod g s) (none Rc3)) room
   where
     new : (b : Bool) → is_received g s.id ≡ b → is_received g s.id ≡ false
     new true e = absurd (none Rc1 e)

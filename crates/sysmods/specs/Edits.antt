@@ -7,7 +7,8 @@ use Rattle.terms.specs.Lookups.{is_received}
 use Rattle.terms.specs.Rising.{with_item}
 use Rattle.sysmods_records.specs.Edited.{with_sources, less_sysmod}
 use Rattle.sysmods.specs.declared.edit.GlobalEdit.{GlobalEdit}
-use Rattle.sysmods.specs.declared.edit.GlobalEdit.TheVariants.{PutHold, RemoveHold, InsertSysmod, ReplaceSources, RemoveSysmod}
+use Rattle.sysmods.specs.declared.edit.GlobalEdit.TheVariants.{PutHold, RemoveHold, InsertSysmod, ReplaceSources}
+use Rattle.sysmods.specs.declared.edit.GlobalEdit.TheVariants.{RemoveSysmod}
 
 -- the hold at its place, where it takes the place of the one of its key
 abbrev pub with_hold : Hold → Global → Global
@@ -37,4 +38,5 @@ after_edits edits g = fold after_edit g edits
 
 -- each edit fits what those before it make of the global zone
 abbrev pub EachFits : List GlobalEdit → Global → Type 0
-EachFits edits g = (k : ℕ) (edit : GlobalEdit) → k < length edits → edit ≡ get_or edits k edit → Fits (after_edits (take k edits) g) edit
+EachFits edits g = (k : ℕ) (edit : GlobalEdit) → k < length edits → edit ≡ get_or edits k edit
+    → Fits (after_edits (take k edits) g) edit

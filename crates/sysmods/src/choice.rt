@@ -1,5 +1,6 @@
 //! Which `++VER` of a SYSMOD counts.
-ghost use Rattle.std.specs.Prelude.{◌≡◌, ◌↔◌, ◌<◌, List, ℕ, length, position, Contains, IsTrue, IfOk, IfSome, find, option_copied};
+ghost use Rattle.std.specs.Prelude.{◌≡◌, ◌↔◌, ◌<◌, List, ℕ, length, position, Contains, IsTrue, IfOk, IfSome, find};
+ghost use Rattle.std.specs.Prelude.{option_copied};
 ghost use Rattle.std.specs.Str.{bytes_eq};
 ghost use Rattle.terms.specs.Choice.{fmid_of};
 ghost use Rattle.terms.specs.Lookups.{is_in, meets};

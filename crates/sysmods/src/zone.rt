@@ -1,10 +1,12 @@
 //! The received SYSMODs and the holds.
-ghost use Rattle.std.specs.Prelude.{◌≡◌, ◌↔◌, ◌<◌, ◌^◌, [], List, length, Ok, Err, IsTrue, IsOk, IfOk, IfErr, OnOk, OnErr, option_copied, if◌then◌else◌};
+ghost use Rattle.std.specs.Prelude.{◌≡◌, ◌↔◌, ◌<◌, ◌^◌, [], List, length, Ok, Err, IsTrue, IsOk, IfOk, IfErr, OnOk};
+ghost use Rattle.std.specs.Prelude.{OnErr, option_copied, if◌then◌else◌};
 ghost use Rattle.std.specs.Map.Iter.{ShowsInOrder, deref};
 ghost use Rattle.terms.specs.declared.kinds.HoldKind.TheVariants.{System};
 ghost use Rattle.terms.specs.Types.{Id as AnId};
 ghost use Rattle.terms.specs.Lookups.{sysmod_of, is_received, is_function, holds_of};
-ghost use Rattle.terms.specs.Global.{IsGlobal, hold_of, is_replacing, hold as with_hold, release as released, assign as assigned, without_sysmod};
+ghost use Rattle.terms.specs.Global.{IsGlobal, hold_of, is_replacing, hold as with_hold, release as released};
+ghost use Rattle.terms.specs.Global.{assign as assigned, without_sysmod};
 ghost use Rattle.terms.specs.Types.{a_global};
 ghost use Rattle.sysmods.specs.Faults.{IsReceived, a_release, release_fault};
 ghost use Rattle.sysmods.specs.Parts.{IsMadeOf};

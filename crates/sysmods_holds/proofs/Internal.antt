@@ -1,5 +1,6 @@
 -- Taking the internal holds on an id away, from key to key.
-use Rattle.std.proofs.Common.{◌≡◌, ◌∙◌, Bool, true, false, not, ◌&&◌, ◌⊎◌, inl, inr, [], ◌∷◌, ◌++◌, refl, sym, ap, subst, cond, Some, filter, true≢false}
+use Rattle.std.proofs.Common.{◌≡◌, ◌∙◌, Bool, true, false, not, ◌&&◌, ◌⊎◌, inl, inr, [], ◌∷◌, ◌++◌, refl, sym, ap}
+use Rattle.std.proofs.Common.{subst, cond, Some, filter, true≢false}
 use Rattle.std.specs.Prelude.{All}
 use Rattle.std.specs.declared.cmp.Ordering.{Ordering}
 use Rattle.std.specs.declared.cmp.Ordering.TheVariants.{Less, Equal, Greater}
@@ -58,7 +59,8 @@ none_behind : (x : Id) (h : Hold) → is_le (key_cmp (behind_kind x User) (key_o
 none_behind x h le = by (slice_cmp nat_cmp x h.id) h.kind refl le
   where
     by : (c : Ordering) (kind : HoldKind) → slice_cmp nat_cmp x h.id ≡ c
-        → is_le (ordering_then c (ordering_then (nat_cmp 2 (hold_number kind)) Greater)) ≡ true → bytes_eq h.id x ≡ false
+        → is_le (ordering_then c (ordering_then (nat_cmp 2 (hold_number kind)) Greater)) ≡ true
+        → bytes_eq h.id x ≡ false
     by Less kind e le = same_back h.id x ∙ other_from_less x h.id e
     by Equal Error e le = absurd (true≢false (sym le))
     by Equal System e le = absurd (true≢false (sym le))
@@ -66,7 +68,8 @@ none_behind x h le = by (slice_cmp nat_cmp x h.id) h.kind refl le
     by Greater kind e le = absurd (true≢false (sym le))
 
 -- what goes on from a key is of its id
-on_parts : (i : Ordering) (a b : Ordering) → (is_le (ordering_then i a) && not (is_le (ordering_then i b))) ≡ true → is_eq i ≡ true
+on_parts : (i : Ordering) (a b : Ordering) → (is_le (ordering_then i a) && not (is_le (ordering_then i b))) ≡ true
+    → is_eq i ≡ true
 on_parts Less a b e = absurd (true≢false (sym e))
 on_parts Equal a b e = refl
 on_parts Greater a b e = absurd (true≢false (sym e))
@@ -99,7 +102,8 @@ le_not : (a b : HoldKey) → key_cmp b a ≡ Less → not (is_le (key_cmp a b)) 
 le_not a b less = ap (λ c. not (is_le c)) (key_cmp_total.antisymm a b ∙ ap ordering_reverse less)
 
 -- what all that pass a test have
-pub all_passing : (test : HoldKey → Bool) (P : HoldKey × Hold → Type 0) (es : Entries) → AllByRecursion P (filter (λ e. test e.0) es) → AllByRecursion (λ e. test e.0 ≡ true → P e) es
+pub all_passing : (test : HoldKey → Bool) (P : HoldKey × Hold → Type 0) (es : Entries)
+    → AllByRecursion P (filter (λ e. test e.0) es) → AllByRecursion (λ e. test e.0 ≡ true → P e) es
 all_passing test P [] all = tt
 all_passing test P (e ∷ es) all = by (all_passing test P es) (test e.0) refl
   where
@@ -108,16 +112,19 @@ all_passing test P (e ∷ es) all = by (all_passing test P es) (test e.0) refl
     by again true here = let all = rw here at all in (λ passes. all.0, again all.1)
     by again false other = let all = rw other at all in (λ passes. absurd (true≢false (sym passes ∙ other)), again all)
 
-all_left : (P : HoldKey × Hold → Type 0) (test : HoldKey → Bool) (es : Entries) → AllByRecursion P es → AllByRecursion P (remove_entry test es)
+all_left : (P : HoldKey × Hold → Type 0) (test : HoldKey → Bool) (es : Entries) → AllByRecursion P es
+    → AllByRecursion P (remove_entry test es)
 all_left P test [] all = tt
 all_left P test (e ∷ es) all = by (all_left P test es all.1) (test e.0) refl
   where
-    by : AllByRecursion P (remove_entry test es) → (b : Bool) → test e.0 ≡ b → AllByRecursion P (remove_entry test (e ∷ es))
+    by : AllByRecursion P (remove_entry test es) → (b : Bool) → test e.0 ≡ b
+        → AllByRecursion P (remove_entry test (e ∷ es))
     by again true here = rw here all.1
     by again false other = rw other (all.0, again)
 
 -- facts of a key and of its hold together
-both : (P : HoldKey × Hold → Type 0) (Q : HoldKey × Hold → Type 0) (S : HoldKey × Hold → Type 0) → ((e : HoldKey × Hold) → P e → Q e → S e)
+both : (P : HoldKey × Hold → Type 0) (Q : HoldKey × Hold → Type 0) (S : HoldKey × Hold → Type 0)
+    → ((e : HoldKey × Hold) → P e → Q e → S e)
     → (es : Entries) → AllByRecursion P es → AllByRecursion Q es → AllByRecursion S es
 both P Q S join [] p q = tt
 both P Q S join (e ∷ es) p q = (join e p.0 q.0, both P Q S join es p.1 q.1)
@@ -132,18 +139,23 @@ abbrev Sorted : Entries → Type 0
 Sorted gs = IsStrictlySortedBy key_cmp (keys_of gs)
 
 -- an entry where the search stops: what stands before it in the list has been seen
-between : (k : HoldKey) (h : Hold) (front back es : Entries) (test : HoldKey → Bool) → filter (λ e. test e.0) es ≡ front ++ (k, h) ∷ back → External front
-    → IsStrictlySortedBy key_cmp (keys_of es) → AllByRecursion (λ e. test e.0 ≡ true → key_cmp e.0 k ≡ Less → e.1.internal ≡ false) es
+between : (k : HoldKey) (h : Hold) (front back es : Entries) (test : HoldKey → Bool)
+    → filter (λ e. test e.0) es ≡ front ++ (k, h) ∷ back → External front
+    → IsStrictlySortedBy key_cmp (keys_of es) → AllByRecursion
+    (λ e. test e.0 ≡ true → key_cmp e.0 k ≡ Less → e.1.internal ≡ false) es
 unfolding IsStrictlySortedBy
 between k h front back es test is seen sorted =
     all_passing test (λ e. key_cmp e.0 k ≡ Less → e.1.internal ≡ false) es
-    (subst (AllByRecursion (λ e. key_cmp e.0 k ≡ Less → e.1.internal ≡ false)) (sym is) (by front seen (subst (λ gs. Sorted gs) is (kept test es sorted))))
+    (subst (AllByRecursion (λ e. key_cmp e.0 k ≡ Less → e.1.internal ≡ false)) (sym is)
+    (by front seen (subst (λ gs. Sorted gs) is (kept test es sorted))))
   where
-    above : (a : HoldKey) (gs : Entries) (test : HoldKey → Bool) → AllByRecursion (λ q. key_cmp a q ≡ Less) (keys_of gs) → AllByRecursion (λ q. key_cmp a q ≡ Less) (keys_of (filter (λ e. test e.0) gs))
+    above : (a : HoldKey) (gs : Entries) (test : HoldKey → Bool) → AllByRecursion (λ q. key_cmp a q ≡ Less) (keys_of gs)
+        → AllByRecursion (λ q. key_cmp a q ≡ Less) (keys_of (filter (λ e. test e.0) gs))
     above a [] test all = tt
     above a (g ∷ gs) test all = pick (above a gs test all.1) (test g.0) refl
       where
-        pick : AllByRecursion (λ q. key_cmp a q ≡ Less) (keys_of (filter (λ e. test e.0) gs)) → (b : Bool) → test g.0 ≡ b
+        pick : AllByRecursion (λ q. key_cmp a q ≡ Less) (keys_of (filter (λ e. test e.0) gs)) → (b : Bool)
+            → test g.0 ≡ b
             → AllByRecursion (λ q. key_cmp a q ≡ Less) (keys_of (filter (λ e. test e.0) (g ∷ gs)))
         pick again true here = rw here (all.0, again)
         pick again false other = rw other again
@@ -156,35 +168,54 @@ between k h front back es test is seen sorted =
         pick again true here = rw here (above g.0 gs test sorted.0, again)
         pick again false other = rw other again
 
-    behind : (gs : Entries) → AllByRecursion (λ q. key_cmp k q ≡ Less) (keys_of gs) → AllByRecursion (λ e. key_cmp e.0 k ≡ Less → e.1.internal ≡ false) gs
+    behind : (gs : Entries) → AllByRecursion (λ q. key_cmp k q ≡ Less) (keys_of gs)
+        → AllByRecursion (λ e. key_cmp e.0 k ≡ Less → e.1.internal ≡ false) gs
     behind [] all = tt
-    behind (g ∷ gs) all = (λ less. let turned : key_cmp g.0 k ≡ Greater = key_cmp_total.antisymm g.0 k ∙ ap ordering_reverse all.0 in cc, behind gs all.1)
+    behind (g ∷ gs) all = (
+      λ less. let turned : key_cmp g.0 k ≡ Greater =
+          key_cmp_total.antisymm g.0 k ∙ ap ordering_reverse all.0 in cc,
+      behind gs all.1,
+    )
 
-    by : (front : Entries) → External front → Sorted (front ++ (k, h) ∷ back) → AllByRecursion (λ e. key_cmp e.0 k ≡ Less → e.1.internal ≡ false) (front ++ (k, h) ∷ back)
-    by [] seen sorted = (λ less. let tie : key_cmp k k ≡ Equal = tied_itself key_cmp_total k in cc, behind back (sorted_head key_cmp k (keys_of back) sorted))
-    by (e ∷ front) seen sorted = (λ less. seen.0, by front seen.1 (sorted_tail key_cmp e.0 (keys_of (front ++ (k, h) ∷ back)) sorted))
+    by : (front : Entries) → External front → Sorted (front ++ (k, h) ∷ back)
+        → AllByRecursion (λ e. key_cmp e.0 k ≡ Less → e.1.internal ≡ false) (front ++ (k, h) ∷ back)
+    by [] seen sorted = (
+      λ less. let tie : key_cmp k k ≡ Equal = tied_itself key_cmp_total k
+          in cc,
+      behind back (sorted_head key_cmp k (keys_of back) sorted),
+    )
+    by (e ∷ front) seen sorted = (
+      λ less. seen.0,
+      by front seen.1
+          (sorted_tail key_cmp e.0 (keys_of (front ++ (k, h) ∷ back)) sorted),
+    )
 
 passing : (test : HoldKey → Bool) (es : Entries) → AllByRecursion (λ e. test e.0 ≡ true) (filter (λ e. test e.0) es)
 passing test [] = tt
 passing test (e ∷ es) = by (passing test es) (test e.0) refl
   where
-    by : AllByRecursion (λ e. test e.0 ≡ true) (filter (λ e. test e.0) es) → (b : Bool) → test e.0 ≡ b → AllByRecursion (λ e. test e.0 ≡ true) (filter (λ e. test e.0) (e ∷ es))
+    by : AllByRecursion (λ e. test e.0 ≡ true) (filter (λ e. test e.0) es) → (b : Bool) → test e.0 ≡ b
+        → AllByRecursion (λ e. test e.0 ≡ true) (filter (λ e. test e.0) (e ∷ es))
     by again true here = rw here (here, again)
     by again false other = rw other again
 
-in_middle : (P : HoldKey × Hold → Type 0) (front back : Entries) (e : HoldKey × Hold) → AllByRecursion P (front ++ e ∷ back) → P e
+in_middle : (P : HoldKey × Hold → Type 0) (front back : Entries) (e : HoldKey × Hold)
+    → AllByRecursion P (front ++ e ∷ back) → P e
 in_middle P [] back e all = all.0
 in_middle P (f ∷ front) back e all = in_middle P front back e all.1
 
-pub at_middle : (P : HoldKey × Hold → Type 0) (front back : Entries) (e : HoldKey × Hold) → All P (front ++ e ∷ back) → P e
+pub at_middle : (P : HoldKey × Hold → Type 0) (front back : Entries) (e : HoldKey × Hold) → All P (front ++ e ∷ back)
+    → P e
 at_middle P [] back e all = All-head P e back all
 at_middle P (f ∷ front) back e all = at_middle P front back e (All-tail P f (front ++ e ∷ back) all)
 
 -- where the search stops at an internal hold
-pub first_at : (es : Entries) → IsByKey es → (from k : HoldKey) (h : Hold) (front back : Entries) → filter (λ e. goes_on from e.0) es ≡ front ++ (k, h) ∷ back → External front
+pub first_at : (es : Entries) → IsByKey es → (from k : HoldKey) (h : Hold) (front back : Entries)
+    → filter (λ e. goes_on from e.0) es ≡ front ++ (k, h) ∷ back → External front
     → lookup (is_at (key_cmp k)) es ≡ Some h → h.internal ≡ true → IsFirstInternal es from k
 first_at es m from k h front back is seen stands internal = record {
-  on = in_middle (λ e. goes_on from e.0 ≡ true) front back (k, h) (subst (AllByRecursion (λ e. goes_on from e.0 ≡ true)) is (passing (goes_on from) es));
+  on = in_middle (λ e. goes_on from e.0 ≡ true) front back (k, h)
+      (subst (AllByRecursion (λ e. goes_on from e.0 ≡ true)) is (passing (goes_on from) es));
   hold = h;
   stands = stands;
   internal = internal;
@@ -192,7 +223,8 @@ first_at es m from k h front back is seen stands internal = record {
 }
 
 -- where it finds none
-pub none_at : (es : Entries) (from : HoldKey) (front : Entries) → filter (λ e. goes_on from e.0) es ≡ front ++ [] → External front
+pub none_at : (es : Entries) (from : HoldKey) (front : Entries) → filter (λ e. goes_on from e.0) es ≡ front ++ []
+    → External front
     → AllByRecursion (λ e. goes_on from e.0 ≡ true → e.1.internal ≡ false) es
 none_at es from front is seen =
     all_passing (goes_on from) (λ e. e.1.internal ≡ false) es (subst External (sym (is ∙ append-nil front)) seen)
@@ -206,7 +238,8 @@ DoneBelow x k es = AllByRecursion (λ e. key_cmp e.0 k ≡ Less → stays x e.1 
 pub done_first : (x : Id) (es : Entries) → IsByKey es → DoneBelow x (before_kind x Error) es
 done_first x es m =
     recursion_weaker (λ e. key_of e.1 ≡ e.0) (λ e. key_cmp e.0 (before_kind x Error) ≡ Less → stays x e.1 ≡ true)
-    (λ e same less. stays_other x e.1 (none_before x e.1 (ap (λ k. key_cmp k (before_kind x Error)) same ∙ less))) es m.known
+    (λ e same less. stays_other x e.1 (none_before x e.1 (ap (λ k. key_cmp k (before_kind x Error)) same ∙ less))) es
+    m.known
 
 -- an entry goes whose hold does not stay
 dropped : (x : Id) (k : HoldKey) (h : Hold) (es : Entries) → lookup (is_at (key_cmp k)) es ≡ Some h → stays x h ≡ false
@@ -214,8 +247,10 @@ dropped : (x : Id) (k : HoldKey) (h : Hold) (es : Entries) → lookup (is_at (ke
 dropped x k h [] some goes = refl
 dropped x k h (e ∷ es) some goes = by (dropped x k h es) (is_at (key_cmp k) e.0) refl
   where
-    by : (lookup (is_at (key_cmp k)) es ≡ Some h → stays x h ≡ false → filter (stays x) (values_of (remove_entry (is_at (key_cmp k)) es)) ≡ filter (stays x) (values_of es))
-        → (b : Bool) → is_at (key_cmp k) e.0 ≡ b → filter (stays x) (values_of (remove_entry (is_at (key_cmp k)) (e ∷ es))) ≡ filter (stays x) (values_of (e ∷ es))
+    by : (lookup (is_at (key_cmp k)) es ≡ Some h → stays x h ≡ false
+        → filter (stays x) (values_of (remove_entry (is_at (key_cmp k)) es)) ≡ filter (stays x) (values_of es))
+        → (b : Bool) → is_at (key_cmp k) e.0 ≡ b → filter (stays x)
+        (values_of (remove_entry (is_at (key_cmp k)) (e ∷ es))) ≡ filter (stays x) (values_of (e ∷ es))
     by again true here =
         let found = rw here at some in
         let same : e.1 ≡ h = cc in
@@ -223,7 +258,8 @@ dropped x k h (e ∷ es) some goes = by (dropped x k h es) (is_at (key_cmp k) e.
         rw (here, gone) refl
     by again false other =
         let found = rw other at some in
-        rw other (ap (cond (stays x e.1) (e.1 ∷ filter (stays x) (values_of (remove_entry (is_at (key_cmp k)) es)))) (again found goes)
+        rw other (ap (cond (stays x e.1) (e.1 ∷ filter (stays x) (values_of (remove_entry (is_at (key_cmp k)) es))))
+        (again found goes)
         ∙ ap (λ ys. cond (stays x e.1) (e.1 ∷ ys) (filter (stays x) (values_of es))) (again found goes))
 
 -- what is known of an entry when the search finds no more
@@ -231,38 +267,54 @@ abbrev Rest : HoldKey → HoldKey × Hold → Type 0
 Rest from e = (key_of e.1 ≡ e.0) × (goes_on from e.0 ≡ true → e.1.internal ≡ false)
 
 module _ (x : Id) (from : HoldKey) (of : from.id ≡ x) (es : Entries) (m : IsByKey es) (done : DoneBelow x from es) where
-  pub dropped_next : (k : HoldKey) → IsFirstInternal es from k → filter (stays x) (values_of (remove_entry (is_at (key_cmp k)) es)) ≡ filter (stays x) (values_of es)
+  pub dropped_next : (k : HoldKey) → IsFirstInternal es from k
+      → filter (stays x) (values_of (remove_entry (is_at (key_cmp k)) es)) ≡ filter (stays x) (values_of es)
   dropped_next k first =
-      let id : first.hold.id ≡ x = ap (λ q. q.id) (found_key es m.known k first.hold first.stands) ∙ sym (same_id from k first.on) ∙ of in
-      let goes : stays x first.hold ≡ false = ap (λ b. not (b && bytes_eq first.hold.id x)) first.internal ∙ ap (λ y. not (bytes_eq y x)) id ∙ ap not (same_itself x) in
+      let id : first.hold.id ≡ x = ap (λ q. q.id) (found_key es m.known k first.hold first.stands)
+      ∙ sym (same_id from k first.on) ∙ of in
+      let goes : stays x first.hold ≡ false = ap (λ b. not (b && bytes_eq first.hold.id x)) first.internal
+      ∙ ap (λ y. not (bytes_eq y x)) id ∙ ap not (same_itself x) in
       dropped x k first.hold es first.stands goes
 
   pub done_next : (k : HoldKey) → IsFirstInternal es from k → DoneBelow x k (remove_entry (is_at (key_cmp k)) es)
   done_next k first =
       all_left (λ e. key_cmp e.0 k ≡ Less → stays x e.1 ≡ true) (is_at (key_cmp k)) es
-      (both (λ e. key_cmp e.0 from ≡ Less → stays x e.1 ≡ true) (λ e. goes_on from e.0 ≡ true → key_cmp e.0 k ≡ Less → e.1.internal ≡ false) (λ e. key_cmp e.0 k ≡ Less → stays x e.1 ≡ true)
+      (both (λ e. key_cmp e.0 from ≡ Less → stays x e.1 ≡ true)
+      (λ e. goes_on from e.0 ≡ true → key_cmp e.0 k ≡ Less → e.1.internal ≡ false)
+      (λ e. key_cmp e.0 k ≡ Less → stays x e.1 ≡ true)
       step es done first.between)
     where
       end : key_cmp k (behind_kind from.id User) ≡ Less
-      end = not_le (behind_kind from.id User) k (and_parts (is_le (key_cmp from k)) (not (is_le (key_cmp (behind_kind from.id User) k))) first.on).1
+      end = not_le (behind_kind from.id User) k (and_parts (is_le (key_cmp from k))
+          (not (is_le (key_cmp (behind_kind from.id User) k))) first.on).1
 
-      step : (e : HoldKey × Hold) → (key_cmp e.0 from ≡ Less → stays x e.1 ≡ true) → (goes_on from e.0 ≡ true → key_cmp e.0 k ≡ Less → e.1.internal ≡ false) → key_cmp e.0 k ≡ Less → stays x e.1 ≡ true
+      step : (e : HoldKey × Hold) → (key_cmp e.0 from ≡ Less → stays x e.1 ≡ true)
+          → (goes_on from e.0 ≡ true → key_cmp e.0 k ≡ Less → e.1.internal ≡ false) → key_cmp e.0 k ≡ Less
+          → stays x e.1 ≡ true
       step e below on less =
           elim (less_or_not e.0 from) [
             | inl before ↦ below before
             | inr le ↦
-                let short : not (is_le (key_cmp (behind_kind from.id User) e.0)) ≡ true = le_not (behind_kind from.id User) e.0 (key_cmp_total.trans e.0 k (behind_kind from.id User) less end) in
-                stays_external x e.1 (on (ap (λ b. b && not (is_le (key_cmp (behind_kind from.id User) e.0))) le ∙ short) less)
+                let short : not (is_le (key_cmp (behind_kind from.id User) e.0)) ≡ true =
+                le_not (behind_kind from.id User) e.0
+                (key_cmp_total.trans e.0 k (behind_kind from.id User) less end) in
+                stays_external x e.1 (on (ap (λ b. b && not (is_le (key_cmp (behind_kind from.id User) e.0))) le
+                ∙ short) less)
           ]
 
   -- where there is none more, all is done
-  pub done_all : AllByRecursion (λ e. goes_on from e.0 ≡ true → e.1.internal ≡ false) es → values_of es ≡ filter (stays x) (values_of es)
-  done_all none = sym (filter-all_recursion (stays x) (values_of es) (values es (both (λ e. key_cmp e.0 from ≡ Less → stays x e.1 ≡ true) (Rest from) (λ e. stays x e.1 ≡ true) step es done rest)))
+  pub done_all : AllByRecursion (λ e. goes_on from e.0 ≡ true → e.1.internal ≡ false) es
+      → values_of es ≡ filter (stays x) (values_of es)
+  done_all none = sym (filter-all_recursion (stays x) (values_of es)
+      (values es (both (λ e. key_cmp e.0 from ≡ Less → stays x e.1 ≡ true) (Rest from) (λ e. stays x e.1 ≡ true) step es
+      done rest)))
     where
       rest : AllByRecursion (Rest from) es
-      rest = both (λ e. key_of e.1 ≡ e.0) (λ e. goes_on from e.0 ≡ true → e.1.internal ≡ false) (Rest from) (λ e a b. (a, b)) es m.known none
+      rest = both (λ e. key_of e.1 ≡ e.0) (λ e. goes_on from e.0 ≡ true → e.1.internal ≡ false) (Rest from)
+          (λ e a b. (a, b)) es m.known none
 
-      values : (gs : Entries) → AllByRecursion (λ e. stays x e.1 ≡ true) gs → AllByRecursion (λ h. stays x h ≡ true) (values_of gs)
+      values : (gs : Entries) → AllByRecursion (λ e. stays x e.1 ≡ true) gs
+          → AllByRecursion (λ h. stays x h ≡ true) (values_of gs)
       values [] all = tt
       values (g ∷ gs) all = (all.0, values gs all.1)
 
@@ -273,6 +325,10 @@ module _ (x : Id) (from : HoldKey) (of : from.id ≡ x) (es : Entries) (m : IsBy
             | inr le ↦ past (is_le (key_cmp (behind_kind from.id User) e.0)) refl le
           ]
         where
-          past : (b : Bool) → is_le (key_cmp (behind_kind from.id User) e.0) ≡ b → is_le (key_cmp from e.0) ≡ true → stays x e.1 ≡ true
-          past true end le = stays_other x e.1 (none_behind x e.1 (ap (λ y. is_le (key_cmp (behind_kind y User) (key_of e.1))) (sym of) ∙ ap (λ q. is_le (key_cmp (behind_kind from.id User) q)) rest.0 ∙ end))
-          past false end le = stays_external x e.1 (rest.1 (ap (λ b. b && not (is_le (key_cmp (behind_kind from.id User) e.0))) le ∙ ap not end))
+          past : (b : Bool) → is_le (key_cmp (behind_kind from.id User) e.0) ≡ b → is_le (key_cmp from e.0) ≡ true
+              → stays x e.1 ≡ true
+          past true end le = stays_other x e.1 (none_behind x e.1
+              (ap (λ y. is_le (key_cmp (behind_kind y User) (key_of e.1))) (sym of)
+              ∙ ap (λ q. is_le (key_cmp (behind_kind from.id User) q)) rest.0 ∙ end))
+          past false end le = stays_external x e.1 (rest.1 (ap
+              (λ b. b && not (is_le (key_cmp (behind_kind from.id User) e.0))) le ∙ ap not end))

@@ -1,5 +1,6 @@
 -- Holds that rise, put one after another, are their list.
-use Rattle.std.proofs.Common.{◌≡◌, ◌∙◌, false, List, [], ◌∷◌, ◌++◌, sym, ap, subst, None, find, append_assoc, append-nil, arith}
+use Rattle.std.proofs.Common.{◌≡◌, ◌∙◌, false, List, [], ◌∷◌, ◌++◌, sym, ap, subst, None, find, append_assoc}
+use Rattle.std.proofs.Common.{append-nil, arith}
 use Rattle.std.specs.Prelude.{All, IsTrue}
 use Rattle.std.specs.declared.cmp.Ordering.TheVariants.{Less}
 use Rattle.std.specs.Ordering.{is_lt, is_eq, ordering_reverse}
@@ -20,15 +21,19 @@ unmarked : (h : Hold) → marked None h ≡ h
 unmarked h = ap (λ b. record h { internal = b }) (or_false h.internal)
 
 -- one that stands behind all others comes in at the end
-with_hold-last : (front : List Hold) (h : Hold) → All (λ y. IsTrue (is_lt (hold_cmp y h))) front → with_hold front h ≡ front ++ h ∷ []
+with_hold-last : (front : List Hold) (h : Hold) → All (λ y. IsTrue (is_lt (hold_cmp y h))) front
+    → with_hold front h ≡ front ++ h ∷ []
 with_hold-last front h low =
     let apart : All (λ y. has_key h.id h.kind h.reason y ≡ false) front =
     All-weaker (λ y. IsTrue (is_lt (hold_cmp y h))) (λ y. has_key h.id h.kind h.reason y ≡ false)
-    (λ y less. sym (has_key-ties h.id h.kind h.reason y) ∙ ap is_eq (hold_cmp_total.antisymm h y ∙ ap ordering_reverse (Less-from_is_lt (hold_cmp y h) less))) front low in
+    (λ y less. sym (has_key-ties h.id h.kind h.reason y) ∙ ap is_eq
+    (hold_cmp_total.antisymm h y ∙ ap ordering_reverse (Less-from_is_lt (hold_cmp y h) less))) front low in
     let none : held front h.id h.kind h.reason ≡ None =
-    ap (find (has_key h.id h.kind h.reason)) (sym (append-nil front)) ∙ find-over (has_key h.id h.kind h.reason) front [] apart in
+    ap (find (has_key h.id h.kind h.reason)) (sym (append-nil front))
+    ∙ find-over (has_key h.id h.kind h.reason) front [] apart in
     let splits : Splits hold_cmp (λ (o : Hold). o) h front [] = record {
-      low = All-weaker (λ y. IsTrue (is_lt (hold_cmp y h))) (λ y. hold_cmp y h ≡ Less) (λ y less. Less-from_is_lt (hold_cmp y h) less) front low;
+      low = All-weaker (λ y. IsTrue (is_lt (hold_cmp y h))) (λ y. hold_cmp y h ≡ Less)
+          (λ y less. Less-from_is_lt (hold_cmp y h) less) front low;
       high = λ i d below. absurd (omega arith);
     } in
     ap (λ was. with_item hold_cmp (λ o. o) front (marked was h)) none
@@ -36,7 +41,8 @@ with_hold-last front h low =
     ∙ ap (λ xs. with_item hold_cmp (λ o. o) xs h) (sym (append-nil front))
     ∙ with_item-new hold_cmp_total (λ (o : Hold). o) front [] h splits
 
-pub with_holds-rising : (front hs : List Hold) → Rises hold_cmp (λ h. h) (front ++ hs) → with_holds front hs ≡ front ++ hs
+pub with_holds-rising : (front hs : List Hold) → Rises hold_cmp (λ h. h) (front ++ hs)
+    → with_holds front hs ≡ front ++ hs
 with_holds-rising front [] rises = sym (append-nil front)
 with_holds-rising front (h ∷ hs) rises =
     let low = (AllPairs-parts (λ a b. IsTrue (is_lt (hold_cmp a b))) front hs h rises).0 in

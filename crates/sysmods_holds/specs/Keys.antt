@@ -29,7 +29,8 @@ place_text (At reason) = reason
 place_text Last = []
 
 abbrev pub place_cmp : Place → Place → Ordering
-place_cmp a b = ordering_then (nat_cmp (place_number a) (place_number b)) (slice_cmp nat_cmp (place_text a) (place_text b))
+place_cmp a b = ordering_then (nat_cmp (place_number a) (place_number b))
+    (slice_cmp nat_cmp (place_text a) (place_text b))
 
 -- by id, then kind, then place
 abbrev pub key_cmp : HoldKey → HoldKey → Ordering
@@ -41,7 +42,8 @@ pub key_cmp_total : IsTotalOrder key_cmp
 key_cmp_total =
     then_total (on_total (λ (k : HoldKey). k.id) nat_list_cmp_total)
     (then_total (on_total (λ (k : HoldKey). terms.hold_number k.kind) nat_cmp_total)
-    (then_total (on_total (λ (k : HoldKey). place_number k.place) nat_cmp_total) (on_total (λ (k : HoldKey). place_text k.place) nat_list_cmp_total)))
+    (then_total (on_total (λ (k : HoldKey). place_number k.place) nat_cmp_total)
+    (on_total (λ (k : HoldKey). place_text k.place) nat_list_cmp_total)))
 
 -- before all holds of the id and kind, and behind them
 abbrev pub before_kind : terms.Id → HoldKind → HoldKey

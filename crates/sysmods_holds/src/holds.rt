@@ -1,5 +1,6 @@
 //! The map of holds.
-ghost use Rattle.std.specs.Prelude.{◌≡◌, ◌↔◌, ◌<◌, ◌^◌, [], List, length, filter, find, not, is_some, Some, None, Err, IsTrue, IsSome, IsSomeAnd, IfOk, IfSome, OnOk, OnErr, option_copied, if◌then◌else◌};
+ghost use Rattle.std.specs.Prelude.{◌≡◌, ◌↔◌, ◌<◌, ◌^◌, [], List, length, filter, find, not, is_some, Some, None, Err};
+ghost use Rattle.std.specs.Prelude.{IsTrue, IsSome, IsSomeAnd, IfOk, IfSome, OnOk, OnErr, option_copied, if◌then◌else◌};
 ghost use Rattle.std.specs.Result.{IsErrOf};
 ghost use Rattle.terms.specs.Global.{has_key, hold_cmp, marked};
 ghost use Rattle.terms.specs.Rising.{Rises};
@@ -137,7 +138,8 @@ impl Holds {
     /// Puts a hold in place of the one of its key, whose mark as internal stays.
     pub fn put(&mut self, hold: Hold) -> Result<Placed, AllocError>
         ensures placed { IfOk result
-            (λ placed. placed ≡ (if is_some (held self.old hold.id hold.kind hold.reason) then Placed.Replaced else Placed.New)) }
+            (λ placed. placed ≡ (if is_some (held self.old hold.id hold.kind hold.reason) then Placed.Replaced else
+            Placed.New)) }
         ensures ok { OnOk result (self.new ≡ with_hold self.old hold) }
         ensures err { OnErr result (self.new ≡ self.old) }
     {

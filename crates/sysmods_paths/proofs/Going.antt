@@ -1,5 +1,6 @@
 -- A search: all that is seen is reached, and what the first ones name is seen.
-use Rattle.std.proofs.Common.{◌≡◌, ℕ, ◌<◌, ◌≤◌, ◌+◌, ◌⊎◌, inl, inr, ◌↔◌, ◌||◌, Bool, true, false, IsTrue, refl, List, [], length, take, get_or, Contains, sym, subst, ap, ◌∙◌, length-append, arith}
+use Rattle.std.proofs.Common.{◌≡◌, ℕ, ◌<◌, ◌≤◌, ◌+◌, ◌⊎◌, inl, inr, ◌↔◌, ◌||◌, Bool, true, false, IsTrue, refl, List}
+use Rattle.std.proofs.Common.{[], length, take, get_or, Contains, sym, subst, ap, ◌∙◌, length-append, arith}
 use Rattle.std.proofs.lemmas.List.{take_more, take_all}
 use Rattle.std.proofs.lemmas.List.Elements.{Contains-push_cases, Contains-get_or}
 use Rattle.terms.specs.Types.{Id}
@@ -12,18 +13,25 @@ use Rattle.sysmods_paths.proofs.Growth.{adds-keeps, adds-cases, take-adds}
 
 -- A search that begins with some ids and goes on to what each one names.
 module _ (next : Id → List Id) (Begins Belongs : Id → Type 0) where
-  pub going-start : (named seen : List Id) → ((z : Id) → Contains named z → Belongs z) → ((z : Id) → Begins z → Contains named z)
+  pub going-start : (named seen : List Id) → ((z : Id) → Contains named z → Belongs z)
+      → ((z : Id) → Begins z → Contains named z)
       → AddsAll [] named seen → IsGoing next Begins Belongs seen 0
   going-start named seen belongs begins adds = record {
     within = omega arith;
-    sound = λ z h. elim (adds-cases [] named seen adds z h) [ inl none ↦ absurd (omega (arith, none.1)) | inr there ↦ belongs z there ];
+    sound = λ z h. elim (adds-cases [] named seen adds z h) [
+      | inl none ↦ absurd (omega (arith, none.1))
+      | inr there ↦
+          belongs z there
+    ];
     first = λ z first. adds.has z (begins z first);
     closed = λ y z none named. absurd (omega (arith, none.1));
   }
 
   -- it goes through one more
-  going-more : ((y z : Id) → Belongs y → Contains (next y) z → Belongs z) → (old new : List Id) (n : ℕ) (d : Id) → n < length old
-      → AddsAll old (next (get_or old n d)) new → IsGoing next Begins Belongs old n → IsGoing next Begins Belongs new (n + 1)
+  going-more : ((y z : Id) → Belongs y → Contains (next y) z → Belongs z) → (old new : List Id) (n : ℕ) (d : Id)
+      → n < length old
+      → AddsAll old (next (get_or old n d)) new → IsGoing next Begins Belongs old n
+      → IsGoing next Begins Belongs new (n + 1)
   going-more step old new n d below adds s = record {
     within = omega (arith, ap length adds.kept ∙ length-append old adds.added);
     sound = λ z h. elim (adds-cases old _ new adds z h) [
@@ -32,22 +40,28 @@ module _ (next : Id → List Id) (Begins Belongs : Id → Type 0) where
     ];
     first = λ z first. adds-keeps old _ new adds z (s.first z first);
     closed = λ y z gone named.
-        let gone_old : Contains (take (n + 1) old) y = subst (λ ks. Contains ks y) (take-adds old _ new (n + 1) adds (omega arith)) gone in
-        elim (Contains-push_cases (take n old) (get_or old n d) y (subst (λ ks. Contains ks y) (take_more old n d below) gone_old)) [
+        let gone_old : Contains (take (n + 1) old) y = subst (λ ks. Contains ks y)
+        (take-adds old _ new (n + 1) adds (omega arith)) gone in
+        elim (Contains-push_cases (take n old) (get_or old n d) y
+        (subst (λ ks. Contains ks y) (take_more old n d below) gone_old)) [
           | inl before ↦ adds-keeps old _ new adds z (s.closed y z before named)
           | inr this ↦ adds.has z (subst (λ w. Contains (next w) z) (sym this) named)
         ];
   }
 
   -- the same, of the one that stands next
-  pub going-next : ((y z : Id) → Belongs y → Contains (next y) z → Belongs z) → (old new : List Id) (n : ℕ) (y : Id) → n < length old
-      → y ≡ get_or old n y → AddsAll old (next y) new → IsGoing next Begins Belongs old n → IsGoing next Begins Belongs new (n + 1)
-  going-next step old new n y below at adds s = going-more step old new n y below (subst (λ w. AddsAll old (next w) new) at adds) s
+  pub going-next : ((y z : Id) → Belongs y → Contains (next y) z → Belongs z) → (old new : List Id) (n : ℕ) (y : Id)
+      → n < length old
+      → y ≡ get_or old n y → AddsAll old (next y) new → IsGoing next Begins Belongs old n
+      → IsGoing next Begins Belongs new (n + 1)
+  going-next step old new n y below at adds s = going-more step old new n y below
+      (subst (λ w. AddsAll old (next w) new) at adds) s
 
   -- having gone through all, it has seen what they name
   pub going-end : (seen : List Id) (n : ℕ) → length seen ≤ n → IsGoing next Begins Belongs seen n
       → (y z : Id) → Contains seen y → Contains (next y) z → Contains seen z
-  going-end seen n all s y z there named = s.closed y z (subst (λ ks. Contains ks y) (sym (take_all n seen all)) there) named
+  going-end seen n all s y z there named = s.closed y z (subst (λ ks. Contains ks y) (sym (take_all n seen all)) there)
+      named
 
 module _ (next : Id → List Id) (x : Id) where
   -- it begins with what x names
@@ -60,8 +74,10 @@ module _ (next : Id → List Id) (x : Id) where
   search-next old new n y below at adds s = going-next next _ _ (reaches_last next x) old new n y below at adds s
 
   -- having gone through all, it has seen all that x reaches
-  pub search-end : (seen : List Id) (n : ℕ) → length seen ≤ n → IsSearch next x seen n → (z : Id) → Reaches next x z → Contains seen z
-  search-end seen n all s z reached = all_reached next (Contains seen) x s.first (going-end next _ _ seen n all s) z reached
+  pub search-end : (seen : List Id) (n : ℕ) → length seen ≤ n → IsSearch next x seen n → (z : Id) → Reaches next x z
+      → Contains seen z
+  search-end seen n all s z reached = all_reached next (Contains seen) x s.first (going-end next _ _ seen n all s) z
+      reached
 
 -- Two searches, one from x and one from z against the direction: one that has gone through all tells whether x leads to z.
 module _ (next back : Id → List Id) (turned : IsTurned next back) (x z : Id) (ahead behind : List Id) (n m : ℕ)
@@ -88,4 +104,5 @@ module _ (next back : Id → List Id) (turned : IsTurned next back) (x z : Id) (
           ap (λ b. b || is_in behind x) (is_in-from_Contains ahead z (search-end next x ahead n all from_x z reached))
       told reached (inr all) =
           either (is_in ahead z) (is_in behind x)
-          (is_in-from_Contains behind x (search-end back z behind m all from_z x (reaches_back next back (λ y w. (turned y w).0) x z reached)))
+          (is_in-from_Contains behind x (search-end back z behind m all from_z x
+          (reaches_back next back (λ y w. (turned y w).0) x z reached)))

@@ -1,9 +1,12 @@
 -- How the ids that are seen grow, one insertion after the other.
-use Rattle.std.proofs.Common.{◌≡◌, ℕ, ◌+◌, ◌<◌, ◌≤◌, ◌⊎◌, inl, inr, Bool, true, false, List, [], ◌∷◌, ◌++◌, length, take, get_or, Contains, if◌then◌else◌, refl, sym, subst, ap, ◌∙◌, true≢false, append_assoc}
+use Rattle.std.proofs.Common.{◌≡◌, ℕ, ◌+◌, ◌<◌, ◌≤◌, ◌⊎◌, inl, inr, Bool, true, false, List, [], ◌∷◌, ◌++◌, length}
+use Rattle.std.proofs.Common.{take, get_or, Contains, if◌then◌else◌, refl, sym, subst, ap, ◌∙◌, true≢false}
+use Rattle.std.proofs.Common.{append_assoc}
 use Rattle.std.specs.List.{list_any}
 use Rattle.std.specs.Str.{bytes_eq}
 use Rattle.std.proofs.lemmas.List.{append-nil, take-append-le, take_more}
-use Rattle.std.proofs.lemmas.List.Elements.{Contains-append_left, Contains-append_cases, Contains-push, Contains-push_cases}
+use Rattle.std.proofs.lemmas.List.Elements.{Contains-append_left, Contains-append_cases, Contains-push}
+use Rattle.std.proofs.lemmas.List.Elements.{Contains-push_cases}
 use Rattle.lemmas.proofs.Members.{none_in}
 use Rattle.indexmap.specs.IndexSet.{insert_key}
 use Rattle.terms.specs.Types.{Id}
@@ -30,7 +33,8 @@ adds-none old = record {
 }
 
 -- one more id is named and inserted
-pub adds-insert : (old named seen : List Id) (x : Id) → AddsAll old named seen → AddsAll old (named ++ x ∷ []) (insert_key bytes_eq seen x)
+pub adds-insert : (old named seen : List Id) (x : Id) → AddsAll old named seen
+    → AddsAll old (named ++ x ∷ []) (insert_key bytes_eq seen x)
 adds-insert old named seen x adds = by (insert_key-cases seen x)
   where
     by : (Contains seen x × (insert_key bytes_eq seen x ≡ seen)) ⊎ (insert_key bytes_eq seen x ≡ seen ++ x ∷ [])
@@ -40,16 +44,26 @@ adds-insert old named seen x adds = by (insert_key-cases seen x)
       kept = same ∙ adds.kept;
       were_named = λ z h. Contains-append_left named (x ∷ []) z (adds.were_named z h);
       has = λ z h. subst (λ ks. Contains ks z) (sym same)
-          (elim (Contains-push_cases named x z h) [ inl in_named ↦ adds.has z in_named | inr is_x ↦ subst (Contains seen) is_x there ]);
+          (elim (Contains-push_cases named x z h) [
+            | inl in_named ↦ adds.has z in_named
+            | inr is_x ↦ subst
+                (Contains seen) is_x there
+          ]);
     }
     by (inr more) = record {
       added = adds.added ++ x ∷ [];
       kept = more ∙ ap (λ ks. ks ++ x ∷ []) adds.kept ∙ append_assoc old adds.added (x ∷ []);
-      were_named = λ z h. elim (Contains-push_cases adds.added x z h)
-          [ inl was ↦ Contains-append_left named (x ∷ []) z (adds.were_named z was) | inr is_x ↦ subst (Contains (named ++ x ∷ [])) is_x (Contains-push named x) ];
+      were_named = λ z h. elim (Contains-push_cases adds.added x z h) [
+        | inl was ↦ Contains-append_left named (x ∷ []) z (adds.were_named z was)
+        | inr is_x ↦ subst
+            (Contains (named ++ x ∷ [])) is_x (Contains-push named x)
+      ];
       has = λ z h. subst (λ ks. Contains ks z) (sym more)
-          (elim (Contains-push_cases named x z h)
-          [ inl in_named ↦ Contains-append_left seen (x ∷ []) z (adds.has z in_named) | inr is_x ↦ subst (Contains (seen ++ x ∷ [])) is_x (Contains-push seen x) ]);
+          (elim (Contains-push_cases named x z h) [
+            | inl in_named ↦ Contains-append_left seen (x ∷ []) z (adds.has z in_named)
+            | inr is_x ↦ subst
+                (Contains (seen ++ x ∷ [])) is_x (Contains-push seen x)
+          ]);
     }
 
 -- the next of those named is inserted
@@ -57,7 +71,8 @@ pub adds-next : (old named seen new : List Id) (i : ℕ) (x : Id) → i < length
     → new ≡ insert_key bytes_eq seen x → AddsAll old (take i named) seen → AddsAll old (take (i + 1) named) new
 adds-next old named seen new i x below at inserted adds =
     subst (λ now. AddsAll old (take (i + 1) named) now) (sym inserted)
-    (subst (λ gone. AddsAll old gone (insert_key bytes_eq seen x)) (sym (take_more named i x below ∙ ap (λ y. take i named ++ y ∷ []) (sym at)))
+    (subst (λ gone. AddsAll old gone (insert_key bytes_eq seen x))
+    (sym (take_more named i x below ∙ ap (λ y. take i named ++ y ∷ []) (sym at)))
     (adds-insert old (take i named) seen x adds))
 
 -- the test, where what is not there is there
@@ -70,10 +85,12 @@ is_in-from_either keys x either = by (is_in keys x) refl
 
 -- an id that was there is there still
 pub adds-keeps : (old named new : List Id) → AddsAll old named new → (z : Id) → Contains old z → Contains new z
-adds-keeps old named new adds z h = subst (λ ks. Contains ks z) (sym adds.kept) (Contains-append_left old adds.added z h)
+adds-keeps old named new adds z h = subst (λ ks. Contains ks z) (sym adds.kept)
+    (Contains-append_left old adds.added z h)
 
 -- an id that is there was there or is one of those named
-pub adds-cases : (old named new : List Id) → AddsAll old named new → (z : Id) → Contains new z → Contains old z ⊎ Contains named z
+pub adds-cases : (old named new : List Id) → AddsAll old named new → (z : Id) → Contains new z
+    → Contains old z ⊎ Contains named z
 adds-cases old named new adds z h =
     elim (Contains-append_cases old adds.added z (subst (λ ks. Contains ks z) adds.kept h))
     [ inl was ↦ inl was | inr is_new ↦ inr (adds.were_named z is_new) ]

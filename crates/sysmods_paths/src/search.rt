@@ -1,4 +1,5 @@
-ghost use Rattle.std.specs.Prelude.{◌≡◌, ◌++◌, ◌↔◌, ◌<◌, ◌||◌, length, List, ℕ, OnOk, IfOk, IsSomeAnd, Contains, IsTrue};
+ghost use Rattle.std.specs.Prelude.{◌≡◌, ◌++◌, ◌↔◌, ◌<◌, ◌||◌, length, List, ℕ, OnOk, IfOk, IsSomeAnd, Contains};
+ghost use Rattle.std.specs.Prelude.{IsTrue};
 ghost use Rattle.terms.specs.Lookups.{is_in};
 ghost use Rattle.terms.specs.Over.{Reaches};
 ghost use Rattle.sysmods_paths.specs.Seen.{AddsAll, GoesOn, IsTurned};

@@ -1,5 +1,6 @@
 -- The map of SYSMODs, as the list of its values.
-use Rattle.std.proofs.Common.{◌≡◌, Bool, true, false, not, List, [], ◌∷◌, map, filter, cond, refl, sym, ap, ◌∙◌, None, Some, if◌then◌else◌}
+use Rattle.std.proofs.Common.{◌≡◌, Bool, true, false, not, List, [], ◌∷◌, map, filter, cond, refl, sym, ap, ◌∙◌, None}
+use Rattle.std.proofs.Common.{Some, if◌then◌else◌}
 use Rattle.std.specs.declared.cmp.Ordering.{Ordering}
 use Rattle.std.specs.Ordering.{is_eq, nat_cmp}
 use Rattle.std.specs.Cmp.Lexicographic.{slice_cmp}
@@ -49,31 +50,38 @@ flat-values es = flat_map_single (λ (e : Id × Sysmod). e.1) es
 pub find-lookup : (es : Entries) (x : Id) → IsKeyed es → found (values_of es) x ≡ lookup (is_at (C x)) es
 find-lookup [] x k = refl
 find-lookup (e ∷ es) x k =
-    let same : bytes_eq e.1.id x ≡ is_eq (C x e.0) = ap (λ y. bytes_eq y x) k.0 ∙ same_back e.0 x ∙ sym (is_eq-slice_cmp x e.0) in
-    ap (λ b. cond b (Some e.1) (found (values_of es) x)) same ∙ ap (cond (is_eq (C x e.0)) (Some e.1)) (find-lookup es x k.1)
+    let same : bytes_eq e.1.id x ≡ is_eq (C x e.0) = ap (λ y. bytes_eq y x) k.0 ∙ same_back e.0 x
+    ∙ sym (is_eq-slice_cmp x e.0) in
+    ap (λ b. cond b (Some e.1) (found (values_of es) x)) same
+    ∙ ap (cond (is_eq (C x e.0)) (Some e.1)) (find-lookup es x k.1)
 
 -- a new SYSMOD takes its place
-pub values-insert : (es : Entries) (s : Sysmod) → IsKeyed es → IsStrictlySortedBy C (keys_of es) → lookup (is_at (C s.id)) es ≡ None
+pub values-insert : (es : Entries) (s : Sysmod) → IsKeyed es → IsStrictlySortedBy C (keys_of es)
+    → lookup (is_at (C s.id)) es ≡ None
     → values_of (insert_entry C es s.id s) ≡ with_item C (λ r. r.id) (values_of es) s
 values-insert es s k sorted none =
     sym (flat-values (insert_entry C es s.id s))
-    ∙ groups.flat-insert_entry nat_list_cmp_total (λ r. r.id) one (λ a b. C a.id b.id) (λ a b h. h) (λ a b h. h) es s s (keyed-groups es k) sorted
+    ∙ groups.flat-insert_entry nat_list_cmp_total (λ r. r.id) one (λ a b. C a.id b.id) (λ a b h. h) (λ a b h. h) es s s
+    (keyed-groups es k) sorted
     (rw none refl)
     ∙ ap (λ xs. with_item C (λ r. r.id) xs s) (flat-values es)
 
 pub keyed-insert : (es : Entries) (s : Sysmod) → IsKeyed es → IsKeyed (insert_entry C es s.id s)
 keyed-insert es s k =
     groups-keyed (insert_entry C es s.id s)
-    (groups.HasKeys-insert_entry nat_list_cmp_total (λ r. r.id) one exact_bytes es s.id s (keyed-groups es k) (refl, tt))
+    (groups.HasKeys-insert_entry nat_list_cmp_total (λ r. r.id) one exact_bytes es s.id s (keyed-groups es k)
+    (refl, tt))
 
 -- the SYSMODs of other ids
 abbrev pub others : Id → List Sysmod → List Sysmod
 others x xs = filter (λ s. not (bytes_eq s.id x)) xs
 
-pub values-remove : (es : Entries) (x : Id) → IsKeyed es → IsStrictlySortedBy C (keys_of es) → values_of (remove_entry (is_at (C x)) es) ≡ others x (values_of es)
+pub values-remove : (es : Entries) (x : Id) → IsKeyed es → IsStrictlySortedBy C (keys_of es)
+    → values_of (remove_entry (is_at (C x)) es) ≡ others x (values_of es)
 values-remove es x k sorted =
     sym (flat-values (remove_entry (is_at (C x)) es))
-    ∙ groups.flat-remove_entry nat_list_cmp_total (λ r. r.id) one (others x) x refl (filter-append p) rest es (keyed-groups es k) sorted
+    ∙ groups.flat-remove_entry nat_list_cmp_total (λ r. r.id) one (others x) x refl (filter-append p) rest es
+    (keyed-groups es k) sorted
     (filter-none_recursion p (groups.items_at nat_list_cmp_total (λ r. r.id) one es x)
     (recursion_weaker (λ s. s.id ≡ x) (λ s. p s ≡ false) gone (groups.items_at nat_list_cmp_total (λ r. r.id) one es x)
     (groups.items_at-keys nat_list_cmp_total (λ r. r.id) one exact_bytes es x (keyed-groups es k))))
@@ -89,7 +97,8 @@ values-remove es x k sorted =
     stays s other = ap not (same_back s.id x ∙ sym (is_eq-slice_cmp x s.id) ∙ other)
 
     rest : (xs : List Sysmod) → AllByRecursion (λ s. is_eq (C x s.id) ≡ false) xs → others x xs ≡ xs
-    rest xs all = filter-all_recursion p xs (recursion_weaker (λ s. is_eq (C x s.id) ≡ false) (λ s. p s ≡ true) stays xs all)
+    rest xs all = filter-all_recursion p xs (recursion_weaker (λ s. is_eq (C x s.id) ≡ false) (λ s. p s ≡ true) stays xs
+        all)
 
 pub keyed-remove : (es : Entries) (x : Id) → IsKeyed es → IsKeyed (remove_entry (is_at (C x)) es)
 keyed-remove es x k =
@@ -104,15 +113,18 @@ unnamed-same : (source : Text) (x : Id) (s : Sysmod) → is_eq (C x s.id) ≡ fa
 unnamed-same source x s other =
     ap (λ b. if b then with_source source s else s) (same_back s.id x ∙ sym (is_eq-slice_cmp x s.id) ∙ other)
 
-all_unnamed : (source : Text) (x : Id) (xs : List Sysmod) → AllByRecursion (λ s. is_eq (C x s.id) ≡ false) xs → all_assigned source x xs ≡ xs
+all_unnamed : (source : Text) (x : Id) (xs : List Sysmod) → AllByRecursion (λ s. is_eq (C x s.id) ≡ false) xs
+    → all_assigned source x xs ≡ xs
 all_unnamed source x [] all = refl
 all_unnamed source x (s ∷ xs) all = rw (unnamed-same source x s all.0, all_unnamed source x xs all.1) refl
 
-pub values-assign : (es : Entries) (source : Text) (x : Id) (s : Sysmod) → IsKeyed es → IsStrictlySortedBy C (keys_of es) → lookup (is_at (C x)) es ≡ Some s
+pub values-assign : (es : Entries) (source : Text) (x : Id) (s : Sysmod) → IsKeyed es
+    → IsStrictlySortedBy C (keys_of es) → lookup (is_at (C x)) es ≡ Some s
     → values_of (set_value (is_at (C x)) es (with_source source s)) ≡ all_assigned source x (values_of es)
 values-assign es source x s k sorted there =
     sym (flat-values (set_value (is_at (C x)) es (with_source source s)))
-    ∙ groups.flat-set_value nat_list_cmp_total (λ r. r.id) one (all_assigned source x) x refl (map-append (assigned source x)) (all_unnamed source x) es (with_source source s) (keyed-groups es k) sorted
+    ∙ groups.flat-set_value nat_list_cmp_total (λ r. r.id) one (all_assigned source x) x refl
+    (map-append (assigned source x)) (all_unnamed source x) es (with_source source s) (keyed-groups es k) sorted
     (rw there (ap one (sym (ap (λ b. if b then with_source source s else s) here))))
     ∙ ap (all_assigned source x) (flat-values es)
   where
@@ -123,11 +135,13 @@ pub keyed-assign : (es : Entries) (source : Text) (x : Id) (s : Sysmod) → IsKe
     → IsKeyed (set_value (is_at (C x)) es (with_source source s))
 keyed-assign es source x s k there =
     groups-keyed (set_value (is_at (C x)) es (with_source source s))
-    (groups.HasKeys-set_value nat_list_cmp_total (λ r. r.id) one exact_bytes es x (with_source source s) (keyed-groups es k)
+    (groups.HasKeys-set_value nat_list_cmp_total (λ r. r.id) one exact_bytes es x (with_source source s)
+    (keyed-groups es k)
     (same_from s.id x (find-passes (λ r. bytes_eq r.id x) (values_of es) s (find-lookup es x k ∙ there)), tt))
 
 -- where there is none of the id, nothing changes
-pub values-none : (es : Entries) (source : Text) (x : Id) → IsKeyed es → lookup (is_at (C x)) es ≡ None → all_assigned source x (values_of es) ≡ values_of es
+pub values-none : (es : Entries) (source : Text) (x : Id) → IsKeyed es → lookup (is_at (C x)) es ≡ None
+    → all_assigned source x (values_of es) ≡ values_of es
 values-none [] source x k none = refl
 values-none (e ∷ es) source x k none = by (values-none es source x k.1) (is_eq (C x e.0)) refl
   where

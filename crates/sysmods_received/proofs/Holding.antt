@@ -1,5 +1,6 @@
 -- What stays true of the map and its index as they change.
-use Rattle.std.proofs.Common.{◌≡◌, Bool, true, not, List, [], ◌∷◌, get_or, sym, ap, ◌∙◌, subst, Some, All, IsTrue, arith}
+use Rattle.std.proofs.Common.{◌≡◌, Bool, true, not, List, [], ◌∷◌, get_or, sym, ap, ◌∙◌, subst, Some, All, IsTrue}
+use Rattle.std.proofs.Common.{arith}
 use Rattle.std.specs.declared.cmp.Ordering.{Ordering}
 use Rattle.std.specs.declared.cmp.Ordering.TheVariants.{Less}
 use Rattle.std.specs.Ordering.{is_lt, nat_cmp}
@@ -22,7 +23,8 @@ use Rattle.lemmas.proofs.Texts.{same_from, same_back}
 use Rattle.lemmas.proofs.Searches.{find-passes, All-find}
 use Rattle.sysmods_received.specs.Index.{Sets, IsIndexed, Grows, KeepsOthers}
 use Rattle.sysmods_received.specs.Held.{IsHeld, IsKeyed, found}
-use Rattle.sysmods_received.proofs.Entries.{find-lookup, keyed-insert, keyed-remove, keyed-assign, values-remove, others}
+use Rattle.sysmods_received.proofs.Entries.{find-lookup, keyed-insert, keyed-remove, keyed-assign, values-remove}
+use Rattle.sysmods_received.proofs.Entries.{others}
 
 abbrev C : Id → Id → Ordering
 C = slice_cmp nat_cmp
@@ -31,16 +33,19 @@ abbrev Entries : Type 0
 Entries = List (Id × Sysmod)
 
 -- the SYSMODs rise by id
-above : (x : Id) (es : Entries) → IsKeyed es → AllByRecursion (λ q. C x q ≡ Less) (keys_of es) → All (λ s. IsTrue (is_lt (C x s.id))) (values_of es)
+above : (x : Id) (es : Entries) → IsKeyed es → AllByRecursion (λ q. C x q ≡ Less) (keys_of es)
+    → All (λ s. IsTrue (is_lt (C x s.id))) (values_of es)
 above x [] k all = All-nil (λ s. IsTrue (is_lt (C x s.id)))
 above x (e ∷ es) k all =
-    All-cons (λ s. IsTrue (is_lt (C x s.id))) e.1 (values_of es) (ap (λ y. is_lt (C x y)) k.0 ∙ ap is_lt all.0) (above x es k.1 all.1)
+    All-cons (λ s. IsTrue (is_lt (C x s.id))) e.1 (values_of es) (ap (λ y. is_lt (C x y)) k.0 ∙ ap is_lt all.0)
+    (above x es k.1 all.1)
 
 pub rises-values : (es : Entries) → IsKeyed es → IsStrictlySortedBy C (keys_of es) → Rises C (λ s. s.id) (values_of es)
 rises-values [] k sorted = λ i j d before below. absurd (omega (arith, below))
 rises-values (e ∷ es) k sorted =
     AllPairs-cons (λ a b. IsTrue (is_lt (C a.id b.id))) e.1 (values_of es)
-    (subst (λ y. All (λ s. IsTrue (is_lt (C y s.id))) (values_of es)) (sym k.0) (above e.0 es k.1 (sorted_head C e.0 (keys_of es) sorted)))
+    (subst (λ y. All (λ s. IsTrue (is_lt (C y s.id))) (values_of es)) (sym k.0)
+    (above e.0 es k.1 (sorted_head C e.0 (keys_of es) sorted)))
     (rises-values es k.1 (sorted_tail C e.0 (keys_of es) sorted))
 
 -- each SYSMOD is found by its id
@@ -48,7 +53,8 @@ all-keyed : (es : Entries) → IsKeyed es → All (λ e. e.1.id ≡ e.0) es
 all-keyed [] k = All-nil (λ (e : Id × Sysmod). e.1.id ≡ e.0)
 all-keyed (e ∷ es) k = All-cons (λ (e : Id × Sysmod). e.1.id ≡ e.0) e es k.0 (all-keyed es k.1)
 
-pub found-itself : (m : BTreeMap Id Sysmod) → IsKeyed m.entries → IsOrdered C m → All (λ s. found (values_of m.entries) s.id ≡ Some s) (values_of m.entries)
+pub found-itself : (m : BTreeMap Id Sysmod) → IsKeyed m.entries → IsOrdered C m
+    → All (λ s. found (values_of m.entries) s.id ≡ Some s) (values_of m.entries)
 found-itself m k sorted =
     All-map (λ s. found (values_of m.entries) s.id ≡ Some s) (λ (e : Id × Sysmod). e.1) m.entries
     (λ i d below.
@@ -61,10 +67,12 @@ held-grows es old new h grows = record {
   sorted = h.sorted;
   keyed = h.keyed;
   formed = h.formed;
-  indexed = All-weaker (IsIndexed old) (IsIndexed new) (λ s has z named. grows z s.id (has z named)) (values_of es) h.indexed;
+  indexed = All-weaker (IsIndexed old) (IsIndexed new) (λ s has z named. grows z s.id (has z named)) (values_of es)
+      h.indexed;
 }
 
-pub held-insert : (es : Entries) (old new : Sets) (s : Sysmod) → IsHeld es old → Grows old new → IsStrictlySortedBy C (keys_of (insert_entry C es s.id s))
+pub held-insert : (es : Entries) (old new : Sets) (s : Sysmod) → IsHeld es old → Grows old new
+    → IsStrictlySortedBy C (keys_of (insert_entry C es s.id s))
     → IsIndexed new s → IsSysmod s → IsHeld (insert_entry C es s.id s) new
 held-insert es old new s h grows sorted has formed = record {
   sorted = sorted;
@@ -73,14 +81,16 @@ held-insert es old new s h grows sorted has formed = record {
   indexed = All-values-insert_entry C s.id s (IsIndexed new) es (held-grows es old new h grows).indexed has;
 }
 
-pub held-remove : (es : Entries) (old new : Sets) (x : Id) (s : Sysmod) → lookup (is_at (C x)) es ≡ Some s → IsHeld es old → KeepsOthers s.id old new
+pub held-remove : (es : Entries) (old new : Sets) (x : Id) (s : Sysmod) → lookup (is_at (C x)) es ≡ Some s
+    → IsHeld es old → KeepsOthers s.id old new
     → IsStrictlySortedBy C (keys_of (remove_entry (is_at (C x)) es)) → IsHeld (remove_entry (is_at (C x)) es) new
 held-remove es old new x s there h keeps sorted = record {
   sorted = sorted;
   keyed = keyed-remove es x h.keyed;
   formed = subst (All IsSysmod) (sym values) (All-filter other IsSysmod (values_of es) h.formed);
   indexed = subst (All (IsIndexed new)) (sym values)
-      (λ i d below. stays (get_or (others x (values_of es)) i d) (filter_passes other (values_of es) i d below) (All-filter other (IsIndexed old) (values_of es) h.indexed i d below));
+      (λ i d below. stays (get_or (others x (values_of es)) i d) (filter_passes other (values_of es) i d below)
+      (All-filter other (IsIndexed old) (values_of es) h.indexed i d below));
 }
   where
     other : Sysmod → Bool
@@ -93,10 +103,13 @@ held-remove es old new x s there h keeps sorted = record {
     same = same_from s.id x (find-passes (λ r. bytes_eq r.id x) (values_of es) s (find-lookup es x h.keyed ∙ there))
 
     stays : (r : Sysmod) → not (bytes_eq r.id x) ≡ true → IsIndexed old r → IsIndexed new r
-    stays r passes has z named = keeps z r.id (ap (λ y. bytes_eq y r.id) same ∙ same_back x r.id ∙ not-true (bytes_eq r.id x) passes) (has z named)
+    stays r passes has z named = keeps z r.id (ap (λ y. bytes_eq y r.id) same ∙ same_back x r.id
+        ∙ not-true (bytes_eq r.id x) passes) (has z named)
 
-pub held-assign : (es : Entries) (sets : Sets) (source : Text) (x : Id) (s : Sysmod) → lookup (is_at (C x)) es ≡ Some s → IsHeld es sets → IsSysmod (with_source source s)
-    → IsStrictlySortedBy C (keys_of (set_value (is_at (C x)) es (with_source source s))) → IsHeld (set_value (is_at (C x)) es (with_source source s)) sets
+pub held-assign : (es : Entries) (sets : Sets) (source : Text) (x : Id) (s : Sysmod) → lookup (is_at (C x)) es ≡ Some s
+    → IsHeld es sets → IsSysmod (with_source source s)
+    → IsStrictlySortedBy C (keys_of (set_value (is_at (C x)) es (with_source source s)))
+    → IsHeld (set_value (is_at (C x)) es (with_source source s)) sets
 held-assign es sets source x s there h formed sorted = record {
   sorted = sorted;
   keyed = keyed-assign es source x s h.keyed there;

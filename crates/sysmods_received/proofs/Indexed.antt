@@ -1,5 +1,6 @@
 -- What the index has as it grows.
-use Rattle.std.proofs.Common.{◌≡◌, ◌<◌, ◌+◌, ℕ, Bool, true, false, ◌||◌, List, [], ◌∷◌, ◌++◌, map, take, length, get_or, refl, sym, ap, ◌∙◌, subst, IsTrue, None, Some, cond, ◌≤◌}
+use Rattle.std.proofs.Common.{◌≡◌, ◌<◌, ◌+◌, ℕ, Bool, true, false, ◌||◌, List, [], ◌∷◌, ◌++◌, map, take, length, get_or}
+use Rattle.std.proofs.Common.{refl, sym, ap, ◌∙◌, subst, IsTrue, None, Some, cond, ◌≤◌}
 use Rattle.std.specs.List.{list_any}
 use Rattle.std.specs.Str.{bytes_eq}
 use Rattle.std.specs.Option.{option_map_or}
@@ -33,7 +34,8 @@ pub has_all-grows : (old new : Sets) (y : Id) (test : Id → Bool) → Grows old
 has_all-grows old new y test grows all z h = grows z y (all z h)
 
 -- a loop's step: under the ids that the first ones name, and under those that the next names
-pub has_all-more : {X : Type 0} (old new : Sets) (y : Id) (p : Id → X → Bool) (xs : List X) (i : ℕ) (d : X) → i < length xs
+pub has_all-more : {X : Type 0} (old new : Sets) (y : Id) (p : Id → X → Bool) (xs : List X) (i : ℕ) (d : X)
+    → i < length xs
     → Grows old new → HasAll old y (λ z. list_any (p z) (take i xs)) → HasAll new y (λ z. p z (get_or xs i d))
     → HasAll new y (λ z. list_any (p z) (take (i + 1) xs))
 has_all-more old new y p xs i d below grows first next z h =
@@ -45,15 +47,21 @@ pub has_all-one : (sets : Sets) (y x : Id) → IsTrue (has sets x y) → HasAll 
 has_all-one sets y x h z same = subst (λ w. IsTrue (has sets w y)) (sym (same_from z x same)) h
 
 -- the parts of a ++VER
-pub has_all-ver : (sets : Sets) (y : Id) (v : Ver) → HasAll sets y (is_in v.pre) → HasAll sets y (is_in v.sup) → HasAll sets y (is_in v.del)
-    → HasAll sets y (is_in (map (λ i. i.function) v.ifs)) → HasAll sets y (is_in (at_most_one v.fmid)) → HasAll sets y (mentions v)
+pub has_all-ver : (sets : Sets) (y : Id) (v : Ver) → HasAll sets y (is_in v.pre) → HasAll sets y (is_in v.sup)
+    → HasAll sets y (is_in v.del)
+    → HasAll sets y (is_in (map (λ i. i.function) v.ifs)) → HasAll sets y (is_in (at_most_one v.fmid))
+    → HasAll sets y (mentions v)
 has_all-ver sets y v pre sup del ifs fmid z h =
     either (is_in (named v) z) (is_in (named_functions v) z) h
-    (λ one. either (is_in (v.pre ++ v.sup) z) (is_in (at_most_one v.fmid) z) (sym (list_any-append (bytes_eq z) (v.pre ++ v.sup) (at_most_one v.fmid)) ∙ one)
-    (λ listed. either (is_in v.pre z) (is_in v.sup z) (sym (list_any-append (bytes_eq z) v.pre v.sup) ∙ listed) (pre z) (sup z))
+    (λ one. either (is_in (v.pre ++ v.sup) z) (is_in (at_most_one v.fmid) z)
+    (sym (list_any-append (bytes_eq z) (v.pre ++ v.sup) (at_most_one v.fmid)) ∙ one)
+    (λ listed. either (is_in v.pre z) (is_in v.sup z) (sym (list_any-append (bytes_eq z) v.pre v.sup) ∙ listed) (pre z)
+    (sup z))
     (fmid z))
-    (λ one. either (is_in (v.del ++ at_most_one v.fmid) z) (is_in (map (λ i. i.function) v.ifs) z) (sym (list_any-append (bytes_eq z) (v.del ++ at_most_one v.fmid) (map (λ i. i.function) v.ifs)) ∙ one)
-    (λ listed. either (is_in v.del z) (is_in (at_most_one v.fmid) z) (sym (list_any-append (bytes_eq z) v.del (at_most_one v.fmid)) ∙ listed) (del z) (fmid z))
+    (λ one. either (is_in (v.del ++ at_most_one v.fmid) z) (is_in (map (λ i. i.function) v.ifs) z)
+    (sym (list_any-append (bytes_eq z) (v.del ++ at_most_one v.fmid) (map (λ i. i.function) v.ifs)) ∙ one)
+    (λ listed. either (is_in v.del z) (is_in (at_most_one v.fmid) z)
+    (sym (list_any-append (bytes_eq z) v.del (at_most_one v.fmid)) ∙ listed) (del z) (fmid z))
     (ifs z))
 
 abbrev C : Id → Id → Ordering
@@ -64,11 +72,14 @@ pub grows-update : (old new : Sets) (k : Id) (w : BTreeSet Id) → UpdatesBy C (
     → ((y : Id) → IsTrue (has old k y) → IsTrue (contains C w y)) → Grows old new
 grows-update old new k w updates within z y h = by (is_eq (C k z)) refl
   where
-    now : (b : Bool) → is_eq (C k z) ≡ b → has new z y ≡ option_map_or (λ s. contains C s y) (cond b (Some w) (get C old z)) false
-    now b e = ap (λ o. option_map_or (λ s. contains C s y) o false) (updates.0 z ∙ ap (λ a. cond a (Some w) (get C old z)) e)
+    now : (b : Bool) → is_eq (C k z) ≡ b → has new z y ≡ option_map_or (λ s. contains C s y)
+        (cond b (Some w) (get C old z)) false
+    now b e = ap (λ o. option_map_or (λ s. contains C s y) o false)
+        (updates.0 z ∙ ap (λ a. cond a (Some w) (get C old z)) e)
 
     by : (b : Bool) → is_eq (C k z) ≡ b → IsTrue (has new z y)
-    by true e = now true e ∙ within y (subst (λ x. IsTrue (has old x y)) (sym (same_from k z (sym (is_eq-slice_cmp k z) ∙ e))) h)
+    by true e = now true e ∙ within y (subst (λ x. IsTrue (has old x y))
+        (sym (same_from k z (sym (is_eq-slice_cmp k z) ∙ e))) h)
     by false e = now false e ∙ h
 
 -- what the set of an id is
@@ -79,7 +90,8 @@ pub has-none : (sets : Sets) (k : Id) → get C sets k ≡ None → (y : Id) →
 has-none sets k there y = ap (λ o. option_map_or (λ t. contains C t y) o false) there
 
 -- a set with one more
-pub contains-more : (old new : BTreeSet Id) (k : Id) → Updates C old new k true → (y : Id) → IsTrue (contains C old y) → IsTrue (contains C new y)
+pub contains-more : (old new : BTreeSet Id) (k : Id) → Updates C old new k true → (y : Id) → IsTrue (contains C old y)
+    → IsTrue (contains C new y)
 contains-more old new k updates y h = updates.0 y ∙ by (is_eq (C k y))
   where
     by : (b : Bool) → cond b true (contains C old y) ≡ true
@@ -87,7 +99,8 @@ contains-more old new k updates y h = updates.0 y ∙ by (is_eq (C k y))
     by false = h
 
 -- the same ids in another list that is no other
-pub carried : (a b : Sets) (y : Id) (xs ys : List Id) → Grows a b → xs ≡ ys → HasAll a y (is_in xs) → HasAll b y (is_in ys)
+pub carried : (a b : Sets) (y : Id) (xs ys : List Id) → Grows a b → xs ≡ ys → HasAll a y (is_in xs)
+    → HasAll b y (is_in ys)
 carried a b y xs ys grows same all = subst (λ zs. HasAll b y (is_in zs)) same (has_all-grows a b y (is_in xs) grows all)
 
 -- the functions of ++IFs
@@ -97,20 +110,26 @@ any-map f z (x ∷ xs) = ap (λ b. bytes_eq z (f x) || b) (any-map f z xs)
 
 pub has_all-map : {X : Type 0} (sets : Sets) (y : Id) (f : X → Id) (xs : List X) (i : ℕ) → length xs ≤ i
     → HasAll sets y (λ z. list_any (λ x. bytes_eq z (f x)) (take i xs)) → HasAll sets y (is_in (map f xs))
-has_all-map sets y f xs i all has z h = has z (ap (list_any (λ x. bytes_eq z (f x))) (take_all i xs all) ∙ sym (any-map f z xs) ∙ h)
+has_all-map sets y f xs i all has z h = has z (ap (list_any (λ x. bytes_eq z (f x))) (take_all i xs all)
+    ∙ sym (any-map f z xs) ∙ h)
 
 -- a set is put in place of another that it keeps all but x of
 pub keeps-update : (old new : Sets) (k : Id) (w : BTreeSet Id) (x : Id) → UpdatesBy C (C k) old new (Some w)
     → ((y : Id) → bytes_eq x y ≡ false → IsTrue (has old k y) → IsTrue (contains C w y)) → KeepsOthers x old new
 keeps-update old new k w x updates within z y other h = by (is_eq (C k z)) refl
   where
-    now : (b : Bool) → is_eq (C k z) ≡ b → has new z y ≡ option_map_or (λ s. contains C s y) (cond b (Some w) (get C old z)) false
-    now b e = ap (λ o. option_map_or (λ s. contains C s y) o false) (updates.0 z ∙ ap (λ a. cond a (Some w) (get C old z)) e)
+    now : (b : Bool) → is_eq (C k z) ≡ b → has new z y ≡ option_map_or (λ s. contains C s y)
+        (cond b (Some w) (get C old z)) false
+    now b e = ap (λ o. option_map_or (λ s. contains C s y) o false)
+        (updates.0 z ∙ ap (λ a. cond a (Some w) (get C old z)) e)
 
     by : (b : Bool) → is_eq (C k z) ≡ b → IsTrue (has new z y)
-    by true e = now true e ∙ within y other (subst (λ q. IsTrue (has old q y)) (sym (same_from k z (sym (is_eq-slice_cmp k z) ∙ e))) h)
+    by true e = now true e ∙ within y other (subst (λ q. IsTrue (has old q y))
+        (sym (same_from k z (sym (is_eq-slice_cmp k z) ∙ e))) h)
     by false e = now false e ∙ h
 
 -- a set with one less
-pub contains-less : (old new : BTreeSet Id) (x : Id) → Updates C old new x false → (y : Id) → bytes_eq x y ≡ false → IsTrue (contains C old y) → IsTrue (contains C new y)
-contains-less old new x updates y other h = updates.0 y ∙ ap (λ b. cond b false (contains C old y)) (is_eq-slice_cmp x y ∙ other) ∙ h
+pub contains-less : (old new : BTreeSet Id) (x : Id) → Updates C old new x false → (y : Id) → bytes_eq x y ≡ false
+    → IsTrue (contains C old y) → IsTrue (contains C new y)
+contains-less old new x updates y other h = updates.0 y ∙ ap (λ b. cond b false (contains C old y))
+    (is_eq-slice_cmp x y ∙ other) ∙ h

@@ -1,5 +1,7 @@
 -- Roles among the received SYSMODs with one more.
-use Rattle.std.proofs.Common.{◌≡◌, ◌||◌, ◌&&◌, ◌==◌, ◌⊎◌, inl, inr, Bool, true, false, not, List, [], ◌∷◌, ◌++◌, map, filter, cond, refl, sym, ap, ◌∙◌, Option, None, Some, is_some, All, IsTrue, true≢false, if◌then◌else◌, get_or}
+use Rattle.std.proofs.Common.{◌≡◌, ◌||◌, ◌&&◌, ◌==◌, ◌⊎◌, inl, inr, Bool, true, false, not, List, [], ◌∷◌, ◌++◌, map}
+use Rattle.std.proofs.Common.{filter, cond, refl, sym, ap, ◌∙◌, Option, None, Some, is_some, All, IsTrue, true≢false}
+use Rattle.std.proofs.Common.{if◌then◌else◌, get_or}
 use Rattle.std.specs.List.{list_any}
 use Rattle.std.specs.declared.cmp.Ordering.{Ordering}
 use Rattle.std.specs.declared.cmp.Ordering.TheVariants.{Less, Equal, Greater}
@@ -25,10 +27,12 @@ use Rattle.terms.proofs.Edits.{All-with_item}
 use Rattle.sysmods_received.specs.Held.{found, zone_of}
 
 pub services_in_parts : (g : Global) (v : Ver)
-    → list_any (is_service g) (named_functions v) ≡ ((list_any (is_service g) v.del || list_any (is_service g) (at_most_one v.fmid)) || list_any (is_service g) (map (λ i. i.function) v.ifs))
+    → list_any (is_service g) (named_functions v) ≡ ((list_any (is_service g) v.del || list_any (is_service g)
+    (at_most_one v.fmid)) || list_any (is_service g) (map (λ i. i.function) v.ifs))
 services_in_parts g v =
     list_any-append (is_service g) (v.del ++ at_most_one v.fmid) (map (λ i. i.function) v.ifs)
-    ∙ ap (λ b. b || list_any (is_service g) (map (λ i. i.function) v.ifs)) (list_any-append (is_service g) v.del (at_most_one v.fmid))
+    ∙ ap (λ b. b || list_any (is_service g) (map (λ i. i.function) v.ifs))
+    (list_any-append (is_service g) v.del (at_most_one v.fmid))
 
 -- a test that changes at one id
 module _ (p q : Id → Bool) (x : Id) (b : Bool) (changed : (y : Id) → q y ≡ cond (bytes_eq x y) b (p y)) where
@@ -51,37 +55,45 @@ module _ (p q : Id → Bool) (x : Id) (b : Bool) (changed : (y : Id) → q y ≡
   not_named [] is none = refl
   not_named (y ∷ ys) is none = by (not_named ys is) (bytes_eq x y) refl (q y) refl
     where
-      by : (list_any q ys ≡ false → is_in ys x ≡ false) → (a : Bool) → bytes_eq x y ≡ a → (d : Bool) → q y ≡ d → is_in (y ∷ ys) x ≡ false
+      by : (list_any q ys ≡ false → is_in ys x ≡ false) → (a : Bool) → bytes_eq x y ≡ a → (d : Bool) → q y ≡ d
+          → is_in (y ∷ ys) x ≡ false
       by again a e true h = let now = rw h at none in absurd (true≢false now)
       by again true e false h = absurd (true≢false (sym is ∙ sym (ap (λ k. cond k b (p y)) e) ∙ sym (changed y) ∙ h))
       by again false e false h = let rest = rw h at none in rw e (again rest)
 
 -- ids that are not the same are ordered
-ordered : (x y : Id) → bytes_eq y x ≡ false → (is_lt (slice_cmp nat_cmp y x) ≡ true) ⊎ (is_lt (slice_cmp nat_cmp x y) ≡ true)
+ordered : (x y : Id) → bytes_eq y x ≡ false → (is_lt (slice_cmp nat_cmp y x) ≡ true)
+    ⊎ (is_lt (slice_cmp nat_cmp x y) ≡ true)
 ordered x y other = by (slice_cmp nat_cmp y x) refl
   where
-    by : (c : Ordering) → slice_cmp nat_cmp y x ≡ c → (is_lt (slice_cmp nat_cmp y x) ≡ true) ⊎ (is_lt (slice_cmp nat_cmp x y) ≡ true)
+    by : (c : Ordering) → slice_cmp nat_cmp y x ≡ c → (is_lt (slice_cmp nat_cmp y x) ≡ true)
+        ⊎ (is_lt (slice_cmp nat_cmp x y) ≡ true)
     by Less e = inl (ap is_lt e)
     by Equal e = absurd (true≢false (sym (ap is_eq e) ∙ is_eq-slice_cmp y x ∙ other))
     by Greater e = inr (ap is_lt (nat_list_cmp_total.antisymm x y ∙ ap ordering_reverse e))
 
 -- a list that none of its ids was in, by its parts
 all_from_parts : (P : Sysmod → Type 0) (x : Id) (xs : List Sysmod) → found xs x ≡ None
-    → All P (filter (λ s. is_lt (slice_cmp nat_cmp s.id x)) xs) → All P (filter (λ s. is_lt (slice_cmp nat_cmp x s.id)) xs) → All P xs
+    → All P (filter (λ s. is_lt (slice_cmp nat_cmp s.id x)) xs)
+    → All P (filter (λ s. is_lt (slice_cmp nat_cmp x s.id)) xs) → All P xs
 all_from_parts P x [] none low high = All-nil P
 all_from_parts P x (s ∷ xs) none low high =
-    by (all_from_parts P x xs) (bytes_eq s.id x) refl (is_lt (slice_cmp nat_cmp s.id x)) refl (is_lt (slice_cmp nat_cmp x s.id)) refl
+    by (all_from_parts P x xs) (bytes_eq s.id x) refl (is_lt (slice_cmp nat_cmp s.id x)) refl
+    (is_lt (slice_cmp nat_cmp x s.id)) refl
   where
     some_none : Some s ≡ None → ⊥
     some_none e = cc
 
-    by : (found xs x ≡ None → All P (filter (λ s. is_lt (slice_cmp nat_cmp s.id x)) xs) → All P (filter (λ s. is_lt (slice_cmp nat_cmp x s.id)) xs) → All P xs)
-        → (a : Bool) → bytes_eq s.id x ≡ a → (b : Bool) → is_lt (slice_cmp nat_cmp s.id x) ≡ b → (c : Bool) → is_lt (slice_cmp nat_cmp x s.id) ≡ c → All P (s ∷ xs)
+    by : (found xs x ≡ None → All P (filter (λ s. is_lt (slice_cmp nat_cmp s.id x)) xs)
+        → All P (filter (λ s. is_lt (slice_cmp nat_cmp x s.id)) xs) → All P xs)
+        → (a : Bool) → bytes_eq s.id x ≡ a → (b : Bool) → is_lt (slice_cmp nat_cmp s.id x) ≡ b → (c : Bool)
+        → is_lt (slice_cmp nat_cmp x s.id) ≡ c → All P (s ∷ xs)
     by again true e b f c h = let now = rw e at none in absurd (some_none now)
     by again false e true f true h =
         let rest = rw e at none in let lower = rw f at low in let higher = rw h at high in
         All-cons P s xs (All-head P s (filter (λ s. is_lt (slice_cmp nat_cmp s.id x)) xs) lower)
-        (again rest (All-tail P s (filter (λ s. is_lt (slice_cmp nat_cmp s.id x)) xs) lower) (All-tail P s (filter (λ s. is_lt (slice_cmp nat_cmp x s.id)) xs) higher))
+        (again rest (All-tail P s (filter (λ s. is_lt (slice_cmp nat_cmp s.id x)) xs) lower)
+        (All-tail P s (filter (λ s. is_lt (slice_cmp nat_cmp x s.id)) xs) higher))
     by again false e true f false h =
         let rest = rw e at none in let lower = rw f at low in let higher = rw h at high in
         All-cons P s xs (All-head P s (filter (λ s. is_lt (slice_cmp nat_cmp s.id x)) xs) lower)
@@ -91,7 +103,11 @@ all_from_parts P x (s ∷ xs) none low high =
         All-cons P s xs (All-head P s (filter (λ s. is_lt (slice_cmp nat_cmp x s.id)) xs) higher)
         (again rest lower (All-tail P s (filter (λ s. is_lt (slice_cmp nat_cmp x s.id)) xs) higher))
     by again false e false f false h =
-        elim (ordered x s.id e) [ inl is ↦ absurd (true≢false (sym is ∙ f)) | inr is ↦ absurd (true≢false (sym is ∙ h)) ]
+        elim (ordered x s.id e) [
+          | inl is ↦ absurd (true≢false (sym is ∙ f))
+          | inr is ↦ absurd
+              (true≢false (sym is ∙ h))
+        ]
 
 module _ (xs : List Sysmod) (s : Sysmod) where
   abbrev G : Global
@@ -103,36 +119,48 @@ module _ (xs : List Sysmod) (s : Sysmod) where
   abbrev is_fn : Sysmod → Bool
   is_fn r = kind_number r.kind == 0
 
-  changed-sysmod : (y : Id) (b : Bool) → bytes_eq s.id y ≡ b → sysmod_of W y ≡ cond b (Some (record s { holds = [] })) (found xs y)
-  changed-sysmod y b e = sysmod_of-with_sysmod G s y ∙ ap (λ a. cond a (Some (record s { holds = [] })) (sysmod_of G y)) e
+  changed-sysmod : (y : Id) (b : Bool) → bytes_eq s.id y ≡ b
+      → sysmod_of W y ≡ cond b (Some (record s { holds = [] })) (found xs y)
+  changed-sysmod y b e = sysmod_of-with_sysmod G s y ∙ ap (λ a. cond a (Some (record s { holds = [] })) (sysmod_of G y))
+      e
 
   changed-function : (y : Id) → is_function W y ≡ cond (bytes_eq s.id y) (is_fn s) (is_function G y)
   changed-function y = by (bytes_eq s.id y) refl
     where
       by : (b : Bool) → bytes_eq s.id y ≡ b → is_function W y ≡ cond (bytes_eq s.id y) (is_fn s) (is_function G y)
-      by true e = ap (λ o. option_map_or is_fn o false) (changed-sysmod y true e) ∙ sym (ap (λ b. cond b (is_fn s) (is_function G y)) e)
-      by false e = ap (λ o. option_map_or is_fn o false) (changed-sysmod y false e) ∙ sym (ap (λ b. cond b (is_fn s) (is_function G y)) e)
+      by true e = ap (λ o. option_map_or is_fn o false) (changed-sysmod y true e)
+          ∙ sym (ap (λ b. cond b (is_fn s) (is_function G y)) e)
+      by false e = ap (λ o. option_map_or is_fn o false) (changed-sysmod y false e)
+          ∙ sym (ap (λ b. cond b (is_fn s) (is_function G y)) e)
 
   changed-service : (y : Id) → is_service W y ≡ cond (bytes_eq s.id y) (not (is_fn s)) (is_service G y)
   changed-service y = by (bytes_eq s.id y) refl
     where
       by : (b : Bool) → bytes_eq s.id y ≡ b → is_service W y ≡ cond (bytes_eq s.id y) (not (is_fn s)) (is_service G y)
-      by true e = ap (λ o. is_some o && not (option_map_or is_fn o false)) (changed-sysmod y true e) ∙ sym (ap (λ b. cond b (not (is_fn s)) (is_service G y)) e)
-      by false e = ap (λ o. is_some o && not (option_map_or is_fn o false)) (changed-sysmod y false e) ∙ sym (ap (λ b. cond b (not (is_fn s)) (is_service G y)) e)
+      by true e = ap (λ o. is_some o && not (option_map_or is_fn o false)) (changed-sysmod y true e)
+          ∙ sym (ap (λ b. cond b (not (is_fn s)) (is_service G y)) e)
+      by false e = ap (λ o. is_some o && not (option_map_or is_fn o false)) (changed-sysmod y false e)
+          ∙ sym (ap (λ b. cond b (not (is_fn s)) (is_service G y)) e)
 
   -- whether an id is a function, or is none, as the code tests it
   pub function-own : (x : Id) → bytes_eq x s.id ≡ true → is_fn s ≡ is_function W x
   function-own x e = sym (ap (λ o. option_map_or is_fn o false) (changed-sysmod x true (same_back s.id x ∙ e)))
 
-  pub function-other : (x : Id) → bytes_eq x s.id ≡ false → (o : Option Sysmod) → o ≡ found xs x → option_map_or is_fn o false ≡ is_function W x
-  function-other x e o there = ap (λ o. option_map_or is_fn o false) there ∙ sym (ap (λ o. option_map_or is_fn o false) (changed-sysmod x false (same_back s.id x ∙ e)))
+  pub function-other : (x : Id) → bytes_eq x s.id ≡ false → (o : Option Sysmod) → o ≡ found xs x
+      → option_map_or is_fn o false ≡ is_function W x
+  function-other x e o there = ap (λ o. option_map_or is_fn o false) there
+      ∙ sym (ap (λ o. option_map_or is_fn o false) (changed-sysmod x false (same_back s.id x ∙ e)))
 
   pub service-own : (x : Id) → bytes_eq x s.id ≡ true → not (is_fn s) ≡ is_service W x
-  service-own x e = sym (ap (λ o. is_some o && not (option_map_or is_fn o false)) (changed-sysmod x true (same_back s.id x ∙ e)))
+  service-own x e = sym (ap (λ o. is_some o && not (option_map_or is_fn o false))
+      (changed-sysmod x true (same_back s.id x ∙ e)))
 
-  pub service-other : (x : Id) → bytes_eq x s.id ≡ false → (o : Option Sysmod) → o ≡ found xs x → (is_some o && not (option_map_or is_fn o false)) ≡ is_service W x
+  pub service-other : (x : Id) → bytes_eq x s.id ≡ false → (o : Option Sysmod) → o ≡ found xs x
+      → (is_some o && not (option_map_or is_fn o false)) ≡ is_service W x
   service-other x e o there =
-      ap (λ o. is_some o && not (option_map_or is_fn o false)) there ∙ sym (ap (λ o. is_some o && not (option_map_or is_fn o false)) (changed-sysmod x false (same_back s.id x ∙ e)))
+      ap (λ o. is_some o && not (option_map_or is_fn o false)) there
+      ∙ sym (ap (λ o. is_some o && not (option_map_or is_fn o false))
+      (changed-sysmod x false (same_back s.id x ∙ e)))
 
   -- whether a received SYSMOD names it in another role
   abbrev Sup : Bool
@@ -148,15 +176,18 @@ module _ (xs : List Sysmod) (s : Sysmod) where
   own-fit all =
       All-head Fits (record s { holds = [] }) []
       (All-back Fits (before (slice_cmp nat_cmp) (λ r. r.id) s.id xs) (record s { holds = [] } ∷ [])
-      (All-front Fits (before (slice_cmp nat_cmp) (λ r. r.id) s.id xs ++ record s { holds = [] } ∷ []) (behind (slice_cmp nat_cmp) (λ r. r.id) s.id xs) all))
+      (All-front Fits (before (slice_cmp nat_cmp) (λ r. r.id) s.id xs ++ record s { holds = [] } ∷ [])
+      (behind (slice_cmp nat_cmp) (λ r. r.id) s.id xs) all))
 
   module _ (new : found xs s.id ≡ None) where
     others-each : RolesFit W → All Fits xs
     others-each all =
         all_from_parts Fits s.id xs new
         (All-front Fits (before (slice_cmp nat_cmp) (λ r. r.id) s.id xs) (record s { holds = [] } ∷ [])
-        (All-front Fits (before (slice_cmp nat_cmp) (λ r. r.id) s.id xs ++ record s { holds = [] } ∷ []) (behind (slice_cmp nat_cmp) (λ r. r.id) s.id xs) all))
-        (All-back Fits (before (slice_cmp nat_cmp) (λ r. r.id) s.id xs ++ record s { holds = [] } ∷ []) (behind (slice_cmp nat_cmp) (λ r. r.id) s.id xs) all)
+        (All-front Fits (before (slice_cmp nat_cmp) (λ r. r.id) s.id xs ++ record s { holds = [] } ∷ [])
+        (behind (slice_cmp nat_cmp) (λ r. r.id) s.id xs) all))
+        (All-back Fits (before (slice_cmp nat_cmp) (λ r. r.id) s.id xs ++ record s { holds = [] } ∷ [])
+        (behind (slice_cmp nat_cmp) (λ r. r.id) s.id xs) all)
 
     sup-none : is_fn s ≡ true → RolesFit W → Sup ≡ false
     sup-none is all =
@@ -164,7 +195,9 @@ module _ (xs : List Sysmod) (s : Sysmod) where
         (All-weaker Fits (λ r. list_any (λ v. is_in v.sup s.id) r.vers ≡ false)
         (λ r fits. list_any_none (λ v. is_in v.sup s.id) r.vers
         (All-weaker (λ v. IsTrue (fits_roles W v)) (λ v. is_in v.sup s.id ≡ false)
-        (λ v fit. not_named (is_function G) (is_function W) s.id (is_fn s) changed-function v.sup is (neither (list_any (is_function W) v.sup) (list_any (is_service W) (named_functions v)) fit).0) r.vers fits))
+        (λ v fit. not_named (is_function G) (is_function W) s.id (is_fn s) changed-function v.sup is
+        (neither (list_any (is_function W) v.sup) (list_any (is_service W) (named_functions v)) fit).0) r.vers
+        fits))
         xs (others-each all))
 
     fun-none : not (is_fn s) ≡ true → RolesFit W → Fun ≡ false
@@ -173,7 +206,9 @@ module _ (xs : List Sysmod) (s : Sysmod) where
         (All-weaker Fits (λ r. list_any (λ v. is_in (named_functions v) s.id) r.vers ≡ false)
         (λ r fits. list_any_none (λ v. is_in (named_functions v) s.id) r.vers
         (All-weaker (λ v. IsTrue (fits_roles W v)) (λ v. is_in (named_functions v) s.id ≡ false)
-        (λ v fit. not_named (is_service G) (is_service W) s.id (not (is_fn s)) changed-service (named_functions v) is (neither (list_any (is_function W) v.sup) (list_any (is_service W) (named_functions v)) fit).1) r.vers fits))
+        (λ v fit. not_named (is_service G) (is_service W) s.id (not (is_fn s)) changed-service (named_functions v) is
+        (neither (list_any (is_function W) v.sup) (list_any (is_service W) (named_functions v)) fit).1) r.vers
+        fits))
         xs (others-each all))
 
     pub others-fit : RolesFit W → (if is_fn s then not Sup else not Fun) ≡ true
@@ -190,26 +225,33 @@ module _ (xs : List Sysmod) (s : Sysmod) where
   fun-out : (if is_fn s then not Sup else not Fun) ≡ true → not (is_fn s) ≡ true → Fun ≡ false
   fun-out test is = not-true Fun (sym (ap (λ b. if b then not Sup else not Fun) (not-true (is_fn s) is)) ∙ test)
 
-  each-out : (p : Ver → Bool) (b : Bool) → (b ≡ true → list_any (λ r. list_any p r.vers) xs ≡ false) → All (λ r. b ≡ true → All (λ v. p v ≡ false) r.vers) xs
-  each-out p true out = All-weaker (λ r. list_any p r.vers ≡ false) (λ r. true ≡ true → All (λ v. p v ≡ false) r.vers) (λ r none is. All-from_no_list_any p r.vers none) xs (All-from_no_list_any (λ r. list_any p r.vers) xs (out refl))
+  each-out : (p : Ver → Bool) (b : Bool) → (b ≡ true → list_any (λ r. list_any p r.vers) xs ≡ false)
+      → All (λ r. b ≡ true → All (λ v. p v ≡ false) r.vers) xs
+  each-out p true out = All-weaker (λ r. list_any p r.vers ≡ false) (λ r. true ≡ true → All (λ v. p v ≡ false) r.vers)
+      (λ r none is. All-from_no_list_any p r.vers none) xs (All-from_no_list_any (λ r. list_any p r.vers) xs (out refl))
   each-out p false out = trivial xs
     where
       trivial : (ys : List Sysmod) → All (λ r. false ≡ true → All (λ v. p v ≡ false) r.vers) ys
       trivial [] = All-nil (λ r. false ≡ true → All (λ v. p v ≡ false) r.vers)
-      trivial (y ∷ ys) = All-cons (λ r. false ≡ true → All (λ v. p v ≡ false) r.vers) y ys (λ is. absurd (true≢false (sym is))) (trivial ys)
+      trivial (y ∷ ys) = All-cons (λ r. false ≡ true → All (λ v. p v ≡ false) r.vers) y ys
+          (λ is. absurd (true≢false (sym is))) (trivial ys)
 
-  keeps-fit : (v : Ver) → IsTrue (fits_roles G v) → (is_fn s ≡ true → is_in v.sup s.id ≡ false) → (not (is_fn s) ≡ true → is_in (named_functions v) s.id ≡ false) → IsTrue (fits_roles W v)
+  keeps-fit : (v : Ver) → IsTrue (fits_roles G v) → (is_fn s ≡ true → is_in v.sup s.id ≡ false)
+      → (not (is_fn s) ≡ true → is_in (named_functions v) s.id ≡ false) → IsTrue (fits_roles W v)
   keeps-fit v fit sup fun =
       let parts = neither (list_any (is_function G) v.sup) (list_any (is_service G) (named_functions v)) fit in
       both_none (list_any (is_function W) v.sup) (list_any (is_service W) (named_functions v))
       (any-joined (is_function G) (is_function W) s.id (is_fn s) changed-function v.sup parts.0 sup)
       (any-joined (is_service G) (is_service W) s.id (not (is_fn s)) changed-service (named_functions v) parts.1 fun)
 
-  sysmod-fits : (r : Sysmod) → All (λ v. IsTrue (fits_roles G v)) r.vers → (is_fn s ≡ true → All (λ v. is_in v.sup s.id ≡ false) r.vers)
+  sysmod-fits : (r : Sysmod) → All (λ v. IsTrue (fits_roles G v)) r.vers
+      → (is_fn s ≡ true → All (λ v. is_in v.sup s.id ≡ false) r.vers)
       → (not (is_fn s) ≡ true → All (λ v. is_in (named_functions v) s.id ≡ false) r.vers) → Fits r
-  sysmod-fits r fits sup fun = λ i d below. keeps-fit (get_or r.vers i d) (fits i d below) (λ is. sup is i d below) (λ is. fun is i d below)
+  sysmod-fits r fits sup fun = λ i d below. keeps-fit (get_or r.vers i d) (fits i d below) (λ is. sup is i d below)
+      (λ is. fun is i d below)
 
-  pub all-fit : RolesFit G → All (λ v. IsTrue (fits_roles W v)) s.vers → (if is_fn s then not Sup else not Fun) ≡ true → RolesFit W
+  pub all-fit : RolesFit G → All (λ v. IsTrue (fits_roles W v)) s.vers → (if is_fn s then not Sup else not Fun) ≡ true
+      → RolesFit W
   all-fit was own test =
       All-with_item (slice_cmp nat_cmp) (λ r. r.id) Fits xs (record s { holds = [] })
       (λ i d below. sysmod-fits (get_or xs i d) (was i d below)

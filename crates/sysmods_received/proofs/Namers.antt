@@ -1,5 +1,6 @@
 -- Those that name an id are found among those that the index has for it.
-use Rattle.std.proofs.Common.{◌≡◌, ◌||◌, Bool, true, false, List, [], ◌∷◌, ◌++◌, find, refl, sym, ap, ◌∙◌, Option, None, Some, All, IsTrue, true≢false}
+use Rattle.std.proofs.Common.{◌≡◌, ◌||◌, Bool, true, false, List, [], ◌∷◌, ◌++◌, find, refl, sym, ap, ◌∙◌, Option, None}
+use Rattle.std.proofs.Common.{Some, All, IsTrue, true≢false}
 use Rattle.std.specs.List.{list_any}
 use Rattle.std.specs.Option.{option_map_or}
 use Rattle.std.specs.Ordering.{nat_cmp}
@@ -33,16 +34,21 @@ right_none false b e = e
 -- what a ++VER does not mention it names in no way
 sup_none : (v : Ver) (z : Id) → is_in (named v) z ≡ false → is_in v.sup z ≡ false
 sup_none v z none =
-    let listed = left_none (is_in (v.pre ++ v.sup) z) (is_in (at_most_one v.fmid) z) (sym (list_any-append (bytes_eq z) (v.pre ++ v.sup) (at_most_one v.fmid)) ∙ none) in
+    let listed = left_none (is_in (v.pre ++ v.sup) z) (is_in (at_most_one v.fmid) z)
+    (sym (list_any-append (bytes_eq z) (v.pre ++ v.sup) (at_most_one v.fmid)) ∙ none) in
     right_none (is_in v.pre z) (is_in v.sup z) (sym (list_any-append (bytes_eq z) v.pre v.sup) ∙ listed)
 
 unmentioned : (way : Way) (z : Id) (s : Sysmod) → list_any (λ v. mentions v z) s.vers ≡ false → names_so way z s ≡ false
-unmentioned Named z s none = list_any-fewer (λ v. mentions v z) (λ v. is_in (named v) z) s.vers (λ v. left_none (is_in (named v) z) (is_in (named_functions v) z)) none
+unmentioned Named z s none = list_any-fewer (λ v. mentions v z) (λ v. is_in (named v) z) s.vers
+    (λ v. left_none (is_in (named v) z) (is_in (named_functions v) z)) none
 unmentioned Superseded z s none =
-    list_any-fewer (λ v. mentions v z) (λ v. is_in v.sup z) s.vers (λ v e. sup_none v z (left_none (is_in (named v) z) (is_in (named_functions v) z) e)) none
-unmentioned AsFunction z s none = list_any-fewer (λ v. mentions v z) (λ v. is_in (named_functions v) z) s.vers (λ v. right_none (is_in (named v) z) (is_in (named_functions v) z)) none
+    list_any-fewer (λ v. mentions v z) (λ v. is_in v.sup z) s.vers
+    (λ v e. sup_none v z (left_none (is_in (named v) z) (is_in (named_functions v) z) e)) none
+unmentioned AsFunction z s none = list_any-fewer (λ v. mentions v z) (λ v. is_in (named_functions v) z) s.vers
+    (λ v. right_none (is_in (named v) z) (is_in (named_functions v) z)) none
 
-pub mentioned : (way : Way) (z : Id) (s : Sysmod) → names_so way z s ≡ true → IsTrue (list_any (λ v. mentions v z) s.vers)
+pub mentioned : (way : Way) (z : Id) (s : Sysmod) → names_so way z s ≡ true
+    → IsTrue (list_any (λ v. mentions v z) s.vers)
 mentioned way z s names = by (list_any (λ v. mentions v z) s.vers) refl
   where
     by : (b : Bool) → list_any (λ v. mentions v z) s.vers ≡ b → list_any (λ v. mentions v z) s.vers ≡ true
@@ -54,21 +60,25 @@ any_at : (p : Id → Bool) (y : Id) (ks : List Id) → is_in ks y ≡ true → p
 any_at p y [] here passes = absurd (true≢false (sym here))
 any_at p y (k ∷ ks) here passes = by (any_at p y ks) (bytes_eq y k) refl (p k) refl
   where
-    by : (is_in ks y ≡ true → p y ≡ true → list_any p ks ≡ true) → (b : Bool) → bytes_eq y k ≡ b → (d : Bool) → p k ≡ d → list_any p (k ∷ ks) ≡ true
+    by : (is_in ks y ≡ true → p y ≡ true → list_any p ks ≡ true) → (b : Bool) → bytes_eq y k ≡ b → (d : Bool) → p k ≡ d
+        → list_any p (k ∷ ks) ≡ true
     by again b e true f = rw f refl
     by again true e false f = absurd (true≢false (sym passes ∙ ap p (same_from y k e) ∙ f))
     by again false e false f = let rest = rw e at here in rw f (again rest passes)
 
-pub any_found : (p q : Sysmod → Bool) (xs : List Sysmod) (s : Sysmod) → find q xs ≡ Some s → p s ≡ true → list_any p xs ≡ true
+pub any_found : (p q : Sysmod → Bool) (xs : List Sysmod) (s : Sysmod) → find q xs ≡ Some s → p s ≡ true
+    → list_any p xs ≡ true
 any_found p q [] s e passes = absurd (none_some e)
   where
     none_some : None ≡ Some s → ⊥
     none_some e = cc
 any_found p q (x ∷ xs) s e passes = by (any_found p q xs s) (q x) refl (p x) refl
   where
-    by : (find q xs ≡ Some s → p s ≡ true → list_any p xs ≡ true) → (b : Bool) → q x ≡ b → (d : Bool) → p x ≡ d → list_any p (x ∷ xs) ≡ true
+    by : (find q xs ≡ Some s → p s ≡ true → list_any p xs ≡ true) → (b : Bool) → q x ≡ b → (d : Bool) → p x ≡ d
+        → list_any p (x ∷ xs) ≡ true
     by again b f true g = rw g refl
-    by again true f false g = let now = rw f at e in let same : x ≡ s = cc in absurd (true≢false (sym passes ∙ ap p (sym same) ∙ g))
+    by again true f false g = let now = rw f at e in let same : x ≡ s = cc
+        in absurd (true≢false (sym passes ∙ ap p (sym same) ∙ g))
     by again false f false g = let now = rw f at e in rw g (again now passes)
 
 module _ (xs : List Sysmod) (sets : Sets) (way : Way) (z : Id) (ks : List Id) where
@@ -79,7 +89,8 @@ module _ (xs : List Sysmod) (sets : Sets) (way : Way) (z : Id) (ks : List Id) wh
   to_some [] h = absurd (true≢false (sym h))
   to_some (y ∷ ys) h = by (to_some ys) (found xs y) refl
     where
-      by : (list_any Test ys ≡ true → list_any (names_so way z) xs ≡ true) → (o : Option Sysmod) → found xs y ≡ o → list_any (names_so way z) xs ≡ true
+      by : (list_any Test ys ≡ true → list_any (names_so way z) xs ≡ true) → (o : Option Sysmod) → found xs y ≡ o
+          → list_any (names_so way z) xs ≡ true
       by again None e = let rest = rw e at h in again rest
       by again (Some s) e = at (names_so way z s) refl
         where
@@ -88,12 +99,15 @@ module _ (xs : List Sysmod) (sets : Sets) (way : Way) (z : Id) (ks : List Id) wh
           at false f = let rest = rw (e, f) at h in again rest
 
   module _ (complete : (y : Id) → IsTrue (has sets z y) → is_in ks y ≡ true) where
-    from_some : (ys : List Sysmod) → All (IsIndexed sets) ys → All (λ s. found xs s.id ≡ Some s) ys → list_any (names_so way z) ys ≡ true → list_any Test ks ≡ true
+    from_some : (ys : List Sysmod) → All (IsIndexed sets) ys → All (λ s. found xs s.id ≡ Some s) ys
+        → list_any (names_so way z) ys ≡ true → list_any Test ks ≡ true
     from_some [] indexed itself h = absurd (true≢false (sym h))
     from_some (s ∷ ys) indexed itself h =
-        by (from_some ys (All-tail (IsIndexed sets) s ys indexed) (All-tail (λ s. found xs s.id ≡ Some s) s ys itself)) (names_so way z s) refl
+        by (from_some ys (All-tail (IsIndexed sets) s ys indexed) (All-tail (λ s. found xs s.id ≡ Some s) s ys itself))
+        (names_so way z s) refl
       where
-        by : (list_any (names_so way z) ys ≡ true → list_any Test ks ≡ true) → (b : Bool) → names_so way z s ≡ b → list_any Test ks ≡ true
+        by : (list_any (names_so way z) ys ≡ true → list_any Test ks ≡ true) → (b : Bool) → names_so way z s ≡ b
+            → list_any Test ks ≡ true
         by again true e =
             any_at Test s.id ks (complete s.id (All-head (IsIndexed sets) s ys indexed z (mentioned way z s e)))
             (ap (λ o. option_map_or (names_so way z) o false) (All-head (λ s. found xs s.id ≡ Some s) s ys itself) ∙ e)
@@ -114,9 +128,12 @@ any-same : (p q : Id → Bool) (ks : List Id) → ((k : Id) → p k ≡ q k) →
 any-same p q [] same = refl
 any-same p q (k ∷ ks) same = rw (same k, any-same p q ks same) refl
 
-pub complete-at : (sets : Sets) (z : Id) (s : BTreeSet Id) → get (slice_cmp nat_cmp) sets z ≡ Some s → (y : Id) → IsTrue (has sets z y) → is_in s.keys y ≡ true
+pub complete-at : (sets : Sets) (z : Id) (s : BTreeSet Id) → get (slice_cmp nat_cmp) sets z ≡ Some s → (y : Id)
+    → IsTrue (has sets z y) → is_in s.keys y ≡ true
 complete-at sets z s there y h =
-    any-same (bytes_eq y) (is_at (slice_cmp nat_cmp y)) s.keys (λ k. sym (is_eq-slice_cmp y k)) ∙ sym (has-at sets z s there y) ∙ h
+    any-same (bytes_eq y) (is_at (slice_cmp nat_cmp y)) s.keys (λ k. sym (is_eq-slice_cmp y k))
+    ∙ sym (has-at sets z s there y) ∙ h
 
-pub complete-none : (sets : Sets) (z : Id) → get (slice_cmp nat_cmp) sets z ≡ None → (y : Id) → IsTrue (has sets z y) → is_in [] y ≡ true
+pub complete-none : (sets : Sets) (z : Id) → get (slice_cmp nat_cmp) sets z ≡ None → (y : Id) → IsTrue (has sets z y)
+    → is_in [] y ≡ true
 complete-none sets z there y h = absurd (true≢false (sym h ∙ has-none sets z there y))

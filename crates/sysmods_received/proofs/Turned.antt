@@ -1,5 +1,6 @@
 -- What the received SYSMODs name with one more among them, and who names it, are one relation.
-use Rattle.std.proofs.Common.{◌≡◌, ◌≢◌, ◌&&◌, ◌⊎◌, inl, inr, Bool, true, false, List, [], ◌∷◌, map, filter, refl, sym, ap, ◌∙◌, subst, None, Some, Contains, true≢false, if◌then◌else◌}
+use Rattle.std.proofs.Common.{◌≡◌, ◌≢◌, ◌&&◌, ◌⊎◌, inl, inr, Bool, true, false, List, [], ◌∷◌, map, filter, refl, sym}
+use Rattle.std.proofs.Common.{ap, ◌∙◌, subst, None, Some, Contains, true≢false, if◌then◌else◌}
 use Rattle.std.specs.List.{flat_map, list_any}
 use Rattle.std.specs.Str.{bytes_eq}
 use Rattle.std.proofs.lemmas.Map.Views.{any-filter_same}
@@ -37,37 +38,48 @@ module _ (xs : List Sysmod) (s : Sysmod) (srel : Text) (new : found xs s.id ≡ 
   none_some : {r : Sysmod} → None ≡ Some r → ⊥
   none_some e = cc
 
-  to-namers : (y z : Id) → Contains (names_for (with_sysmod (zone_of xs) s) srel y) z → Contains (namers_with xs s srel z) y
+  to-namers : (y z : Id) → Contains (names_for (with_sysmod (zone_of xs) s) srel y) z
+      → Contains (namers_with xs s srel z) y
   to-namers y z names = by (same_or_not y s.id)
     where
       by : (y ≡ s.id) ⊎ (y ≢ s.id) → Contains (namers_with xs s srel z) y
       by (inl same) =
-          let own : Contains Own z = subst (λ ids. Contains ids z) (ap (names_for (with_sysmod (zone_of xs) s) srel) same ∙ names-own (zone_of xs) s srel) names in
+          let own : Contains Own z = subst (λ ids. Contains ids z)
+          (ap (names_for (with_sysmod (zone_of xs) s) srel) same ∙ names-own (zone_of xs) s srel) names in
           let is : Some_own z ≡ true = sym (own-is z) ∙ is_in-from_Contains Own z own in
           Contains-append_right (namers_for xs srel z) (if Some_own z then s.id ∷ [] else []) y
-          (subst (λ b. Contains (if b then s.id ∷ [] else []) y) (sym is) (subst (Contains (s.id ∷ [])) (sym same) (here s.id [])))
+          (subst (λ b. Contains (if b then s.id ∷ [] else []) y) (sym is)
+          (subst (Contains (s.id ∷ [])) (sym same) (here s.id [])))
       by (inr other) =
-          let is = is_in-from_Contains (names_for (zone_of xs) srel y) z (subst (λ ids. Contains ids z) (names-others (zone_of xs) s srel y other) names) in
+          let is = is_in-from_Contains (names_for (zone_of xs) srel y) z
+          (subst (λ ids. Contains ids z) (names-others (zone_of xs) s srel y other) names) in
           Contains-append_left (namers_for xs srel z) (if Some_own z then s.id ∷ [] else []) y
           (Contains-from_is_in (namers_for xs srel z) y
           (passing (λ k. is_in (names_for (zone_of xs) srel k) z) (map (λ r. r.id) xs) y
-          ∙ and_from (is_in (names_for (zone_of xs) srel y) z) (is_in (map (λ r. r.id) xs) y) is (named-by_received xs srel z y is)))
+          ∙ and_from (is_in (names_for (zone_of xs) srel y) z) (is_in (map (λ r. r.id) xs) y) is
+          (named-by_received xs srel z y is)))
 
-  from-namers : (y z : Id) → Contains (namers_with xs s srel z) y → Contains (names_for (with_sysmod (zone_of xs) s) srel y) z
-  from-namers y z there = by (Contains-append_cases (namers_for xs srel z) (if Some_own z then s.id ∷ [] else []) y there)
+  from-namers : (y z : Id) → Contains (namers_with xs s srel z) y
+      → Contains (names_for (with_sysmod (zone_of xs) s) srel y) z
+  from-namers y z there = by (Contains-append_cases (namers_for xs srel z) (if Some_own z then s.id ∷ [] else []) y
+      there)
     where
-      own : (b : Bool) → Some_own z ≡ b → Contains (if b then s.id ∷ [] else []) y → Contains (names_for (with_sysmod (zone_of xs) s) srel y) z
+      own : (b : Bool) → Some_own z ≡ b → Contains (if b then s.id ∷ [] else []) y
+          → Contains (names_for (with_sysmod (zone_of xs) s) srel y) z
       own true is at =
           let same : s.id ≡ y = elim (here_or s.id [] y at) [ inl e ↦ e | inr none ↦ absurd (none_in y none) ] in
-          subst (λ ids. Contains ids z) (sym (names-own (zone_of xs) s srel) ∙ ap (names_for (with_sysmod (zone_of xs) s) srel) same)
+          subst (λ ids. Contains ids z) (sym (names-own (zone_of xs) s srel)
+          ∙ ap (names_for (with_sysmod (zone_of xs) s) srel) same)
           (Contains-from_is_in Own z (own-is z ∙ is))
       own false is at = absurd (none_in y at)
 
-      by : Contains (namers_for xs srel z) y ⊎ Contains (if Some_own z then s.id ∷ [] else []) y → Contains (names_for (with_sysmod (zone_of xs) s) srel y) z
+      by : Contains (namers_for xs srel z) y ⊎ Contains (if Some_own z then s.id ∷ [] else []) y
+          → Contains (names_for (with_sysmod (zone_of xs) s) srel y) z
       by (inl among) =
           let names : is_in (names_for (zone_of xs) srel y) z ≡ true =
           first (is_in (names_for (zone_of xs) srel y) z) (is_in (map (λ r. r.id) xs) y)
-          (sym (passing (λ k. is_in (names_for (zone_of xs) srel k) z) (map (λ r. r.id) xs) y) ∙ is_in-from_Contains (namers_for xs srel z) y among) in
+          (sym (passing (λ k. is_in (names_for (zone_of xs) srel k) z) (map (λ r. r.id) xs) y)
+          ∙ is_in-from_Contains (namers_for xs srel z) y among) in
           let r = named-by xs srel z y names in
           subst (λ ids. Contains ids z)
           (sym (names-others (zone_of xs) s srel y (λ same. none_some (sym new ∙ ap (found xs) (sym same) ∙ r.1))))

@@ -17,7 +17,8 @@ fn leads_back(
     srel: Srel,
 ) -> Result<bool, AllocError>
     requires { found received.now sysmod.now.id ≡ None }
-    ensures { IfOk result (λ found. IsTrue found ↔ Reaches (names_for (with_sysmod (zone_of received.now) sysmod.now) srel) sysmod.now.id sysmod.now.id) }
+    ensures { IfOk result (λ found. IsTrue found ↔ Reaches (names_for (with_sysmod (zone_of received.now) sysmod.now)
+        srel) sysmod.now.id sysmod.now.id) }
 {
     let naming = Naming {
         received,

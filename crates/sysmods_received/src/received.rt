@@ -1,5 +1,6 @@
 //! The received SYSMODs.
-ghost use Rattle.std.specs.Prelude.{◌≡◌, ◌++◌, false, [], length, All, None, Some, not, map, filter, is_some, option_copied, IfOk, OnOk, OnErr, if◌then◌else◌};
+ghost use Rattle.std.specs.Prelude.{◌≡◌, ◌++◌, false, [], length, All, None, Some, not, map, filter, is_some};
+ghost use Rattle.std.specs.Prelude.{option_copied, IfOk, OnOk, OnErr, if◌then◌else◌};
 ghost use Rattle.std.specs.List.{list_any};
 ghost use Rattle.std.specs.Option.{option_map_or};
 ghost use Rattle.std.specs.Ordering.{nat_cmp};
@@ -93,7 +94,8 @@ impl Received {
     /// Takes a SYSMOD in. Where one of its id is there already, it comes back.
     pub fn insert(&mut self, sysmod: Sysmod) -> Result<Option<Sysmod>, AllocError>
         ensures back { IfOk result (λ back. back ≡ (if is_some (found self.old sysmod.id) then Some sysmod else None)) }
-        ensures ok { OnOk result (self.new ≡ (if is_some (found self.old sysmod.id) then self.old else with_item (slice_cmp nat_cmp) (λ s. s.id) self.old sysmod)) }
+        ensures ok { OnOk result (self.new ≡ (if is_some (found self.old sysmod.id) then self.old else with_item
+            (slice_cmp nat_cmp) (λ s. s.id) self.old sysmod)) }
         ensures err { OnErr result (self.new ≡ self.old) }
     {
         let id = sysmod.id;
@@ -181,7 +183,8 @@ impl Received {
         id: Id,
         found: &mut Vec<Id>,
     ) -> Result<(), AllocError>
-        ensures ok { OnOk result (found.new.items ≡ found.old.items ++ filter (λ y. is_in (names_for (zone_of self.now) srel y) id) namers.now.keys) }
+        ensures ok { OnOk result (found.new.items ≡ found.old.items
+            ++ filter (λ y. is_in (names_for (zone_of self.now) srel y) id) namers.now.keys) }
         ensures ordered { IsOrdered (slice_cmp nat_cmp) namers.now }
     {
         for namer in namers.iter() {

@@ -61,7 +61,8 @@ fn fmid_is_service(received: &Received, sysmod: &Sysmod, fmid: Option<Id>) -> bo
 }
 
 fn condition_is_service(received: &Received, sysmod: &Sysmod, conditions: &[IfReq]) -> bool
-    ensures { result ≡ list_any (is_service (with_sysmod (zone_of received.now) sysmod.now)) (map (λ i. i.function) conditions.now) }
+    ensures { result ≡ list_any (is_service (with_sysmod (zone_of received.now) sysmod.now))
+        (map (λ i. i.function) conditions.now) }
 {
     conditions
         .iter()
@@ -85,7 +86,8 @@ fn ver_fits(received: &Received, sysmod: &Sysmod, ver: &Ver) -> bool
 }
 
 fn own_fit(received: &Received, sysmod: &Sysmod) -> bool
-    ensures { IsTrue result ↔ All (λ v. IsTrue (fits_roles (with_sysmod (zone_of received.now) sysmod.now) v)) sysmod.now.vers }
+    ensures { IsTrue result ↔ All (λ v. IsTrue (fits_roles (with_sysmod (zone_of received.now) sysmod.now) v))
+        sysmod.now.vers }
 {
     sysmod
         .vers

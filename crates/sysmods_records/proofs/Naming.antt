@@ -9,7 +9,8 @@ use Rattle.terms.specs.Global.{named, named_functions}
 pub named_parts : (v : Ver) (x : Id) → is_in (named v) x ≡ (is_in (v.pre ++ v.sup) x || is_in (at_most_one v.fmid) x)
 named_parts v x = list_any-append (bytes_eq x) (v.pre ++ v.sup) (at_most_one v.fmid)
 
-pub function_parts : (v : Ver) (x : Id) → is_in (named_functions v) x ≡ ((is_in v.del x || is_in (at_most_one v.fmid) x) || is_in (map (λ i. i.function) v.ifs) x)
+pub function_parts : (v : Ver) (x : Id) → is_in (named_functions v) x
+    ≡ ((is_in v.del x || is_in (at_most_one v.fmid) x) || is_in (map (λ i. i.function) v.ifs) x)
 function_parts v x =
     list_any-append (bytes_eq x) (v.del ++ at_most_one v.fmid) (map (λ i. i.function) v.ifs)
     ∙ ap (λ b. b || is_in (map (λ i. i.function) v.ifs) x) (list_any-append (bytes_eq x) v.del (at_most_one v.fmid))

@@ -5,7 +5,10 @@ use Rattle.terms.specs.Types.{Text, Id, Sysmod, Global}
 
 -- the SYSMOD of the id has these sources
 abbrev pub with_sources : Id → List Text → Global → Global
-with_sources id sources global = record global { sysmods = map (λ (s : Sysmod). if bytes_eq s.id id then record s { sources = sources } else s) global.sysmods }
+with_sources id sources global = record global {
+  sysmods = map
+      (λ (s : Sysmod). if bytes_eq s.id id then record s { sources = sources } else s) global.sysmods;
+}
 
 -- the global zone less the SYSMOD, with all holds
 abbrev pub less_sysmod : Id → Global → Global

@@ -1,5 +1,6 @@
 //! A SYSMOD grows by the statements behind its header.
-ghost use Rattle.std.specs.Prelude.{◌≡◌, ◌≤◌, ◌<◌, ◌↔◌, ◌&&◌, ◌==◌, ◌++◌, [], ◌∷◌, length, map, take, drop, if◌then◌else◌, IsTrue, IfOk, IfErr, OnOk, OnErr};
+ghost use Rattle.std.specs.Prelude.{◌≡◌, ◌≤◌, ◌<◌, ◌↔◌, ◌&&◌, ◌==◌, ◌++◌, [], ◌∷◌, length, map, take, drop};
+ghost use Rattle.std.specs.Prelude.{if◌then◌else◌, IsTrue, IfOk, IfErr, OnOk, OnErr};
 ghost use Rattle.std.specs.List.{list_any};
 ghost use Rattle.std.specs.Str.{bytes_eq};
 ghost use Rattle.std.specs.Ordering.{nat_cmp};
@@ -39,7 +40,8 @@ impl Sysmod {
 
     /// Whether it changes the element.
     pub fn has_change(&self, elem_type: ElemType, name: Name) -> bool
-        ensures { result ≡ list_any (λ c. (type_number c.elem_type == type_number elem_type) && bytes_eq c.name name) self.now.changes }
+        ensures { result ≡ list_any (λ c. (type_number c.elem_type == type_number elem_type) && bytes_eq c.name name)
+            self.now.changes }
     {
         self.changes.iter().any(|change| change.elem_type == elem_type && change.name == name)
     }

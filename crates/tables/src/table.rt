@@ -1,5 +1,7 @@
 //! Items in the order of their keys, no key twice.
-ghost use Rattle.std.specs.Prelude.{◌≡◌, ◌<◌, ◌≤◌, ◌↔◌, ◌++◌, [], ◌∷◌, length, take, drop, IsTrue, All, IfOk, IfErr, IfSome, IfNone, OnOk, OnErr, List, IsPermutation, find, option_copied, if◌then◌else◌};
+ghost use Rattle.std.specs.Prelude.{◌≡◌, ◌<◌, ◌≤◌, ◌↔◌, ◌++◌, [], ◌∷◌, length, take, drop, IsTrue, All, IfOk, IfErr};
+ghost use Rattle.std.specs.Prelude.{IfSome, IfNone, OnOk, OnErr, List, IsPermutation, find, option_copied};
+ghost use Rattle.std.specs.Prelude.{if◌then◌else◌};
 ghost use Rattle.std.specs.Ordering.{is_lt};
 ghost use Rattle.terms.specs.Rising.{Rises, with_item, Splits, Stands};
 ghost use Rattle.terms.specs.Delta.{edited};

@@ -45,18 +45,32 @@ same_text s t ps qs e = cc (e)
 same_rest : (s t : Text) (ps qs : List Piece) → TheWord s ∷ ps ≡ TheWord t ∷ qs → ps ≡ qs
 same_rest s t ps qs e = cc (e)
 
-pub begins-only : (pieces : List Piece) (v w : CommandWord) (rest rest' : List Piece) → BeginsWith pieces v rest → BeginsWith pieces w rest' → (v ≡ w) × (rest ≡ rest')
+pub begins-only : (pieces : List Piece) (v w : CommandWord) (rest rest' : List Piece) → BeginsWith pieces v rest
+    → BeginsWith pieces w rest' → (v ≡ w) × (rest ≡ rest')
 begins-only pieces v w rest rest' b c =
-    let e : TheWord (word_text v) ∷ rest ≡ TheWord (word_text w) ∷ rest' = sym b.0 ∙ c.0 in
-    (word-only v w (same_text (word_text v) (word_text w) rest rest' e), same_rest (word_text v) (word_text w) rest rest' e)
+    let e : TheWord (word_text v) ∷ rest ≡ TheWord (word_text w) ∷ rest' = sym b.0 ∙ c.0 in (
+      word-only v w (same_text (word_text v) (word_text w) rest rest' e),
+      same_rest (word_text v) (word_text w) rest rest' e,
+    )
 
 -- A command that begins with a word has its operands in what follows.
-pub of_command : (pieces : List Piece) (w : CommandWord) (rest : List Piece) (c : Command) → BeginsWith pieces w rest → IsCommand pieces c → (command_word c ≡ w) × ((ws : List Word) × HasWords rest ws × AreKnown w ws × HasOperands ws c)
+pub of_command : (pieces : List Piece) (w : CommandWord) (rest : List Piece) (c : Command) → BeginsWith pieces w rest
+    → IsCommand pieces c → (command_word c ≡ w) × ((ws : List Word) × HasWords rest ws × AreKnown w ws
+    × HasOperands ws c)
 of_command pieces w rest c b k =
-    let s = begins-only pieces (command_word c) w k.rest rest (k.begins, k.known) b in
-    (s.0, (k.words, subst (λ r. HasWords r k.words) s.1 k.has_words, subst (λ v. AreKnown v k.words) s.0 k.are_operands.known, k.has_operands))
+    let s = begins-only pieces (command_word c) w k.rest rest (k.begins, k.known) b in (
+      s.0,
+      (
+        k.words,
+        subst (λ r. HasWords r k.words) s.1 k.has_words,
+        subst (λ v. AreKnown v k.words) s.0 k.are_operands.known,
+        k.has_operands,
+      ),
+    )
 
-pub is_command : (pieces : List Piece) (w : CommandWord) (rest : List Piece) (ws : List Word) (c : Command) → BeginsWith pieces w rest → HasWords rest ws → AreKnown w ws → has_double w rest ≡ false → command_word c ≡ w → HasOperands ws c → IsCommand pieces c
+pub is_command : (pieces : List Piece) (w : CommandWord) (rest : List Piece) (ws : List Word) (c : Command)
+    → BeginsWith pieces w rest → HasWords rest ws → AreKnown w ws → has_double w rest ≡ false → command_word c ≡ w
+    → HasOperands ws c → IsCommand pieces c
 is_command pieces w rest ws c b has known single e values = record {
   rest = rest;
   words = ws;
@@ -68,10 +82,13 @@ is_command pieces w rest ws c b has known single e values = record {
 }
 
 -- one command more
-pub begins_more : (n : ℕ) (records : List (List ℕ)) (cs : List Command) (m m' number : ℕ) (rest rest' : List (List ℕ)) (pieces : List Piece) (c : Command) → BeginsWithCommands n records cs m rest → TakesCommand m rest pieces number m' rest' → IsCommand pieces c
+pub begins_more : (n : ℕ) (records : List (List ℕ)) (cs : List Command) (m m' number : ℕ) (rest rest' : List (List ℕ))
+    (pieces : List Piece) (c : Command) → BeginsWithCommands n records cs m rest
+    → TakesCommand m rest pieces number m' rest' → IsCommand pieces c
     → BeginsWithCommands n records (cs ++ c ∷ []) m' rest'
 begins_more n records [] m m' number rest rest' pieces c b t is =
-    let t' : TakesCommand n rest pieces number m' rest' = subst (λ k. TakesCommand k rest pieces number m' rest') (sym b.0) t in
+    let t' : TakesCommand n rest pieces number m' rest' = subst (λ k. TakesCommand k rest pieces number m' rest')
+    (sym b.0) t in
     (pieces, number, m', rest', subst (λ r. TakesCommand n r pieces number m' rest') (sym b.1) t', is, (refl, refl))
 begins_more n records (d ∷ cs) m m' number rest rest' pieces c b t is =
     (b.0, b.1, b.2, b.3, b.4, b.5, begins_more b.2 b.3 cs m m' number rest rest' pieces c b.6 t is)

@@ -1,5 +1,6 @@
 -- Control records of updates: their word and operand are determined, and so are the numbers of a DELETE record.
-use Rattle.std.proofs.Common.{◌≡◌, ◌≢◌, ℕ, Bool, true, false, not, [], ◌∷◌, ◌++◌, take, drop, codes, refl, sym, ◌∙◌, ap, subst, append_assoc, slice_get, IfSome}
+use Rattle.std.proofs.Common.{◌≡◌, ◌≢◌, ℕ, Bool, true, false, not, [], ◌∷◌, ◌++◌, take, drop, codes, refl, sym, ◌∙◌, ap}
+use Rattle.std.proofs.Common.{subst, append_assoc, slice_get, IfSome}
 use Rattle.std.specs.List.{All, AllByRecursion}
 use Rattle.std.specs.Prelude.{IsTrue, ◌==◌}
 use Rattle.std.specs.Str.Parse.{digits_value}
@@ -22,7 +23,9 @@ is_solid b = not (b == 32)
 abbrev pub StartsOutside : (ℕ → Bool) → Text → Type 0
 StartsOutside test text = IfSome (slice_get text 0) (λ b. test b ≡ false)
 
-same_cut : (test : ℕ → Bool) (a b x y : Text) → AllByRecursion (λ c. test c ≡ true) a → AllByRecursion (λ c. test c ≡ true) b → StartsOutside test x → StartsOutside test y → a ++ x ≡ b ++ y → (a ≡ b) × (x ≡ y)
+same_cut : (test : ℕ → Bool) (a b x y : Text) → AllByRecursion (λ c. test c ≡ true) a
+    → AllByRecursion (λ c. test c ≡ true) b → StartsOutside test x → StartsOutside test y → a ++ x ≡ b ++ y
+    → (a ≡ b) × (x ≡ y)
 same_cut test [] [] x y h k f g e = (refl, e)
 same_cut test [] (c ∷ b) [] y h k f g e = absurd (cc e)
 same_cut test [] (c ∷ b) (d ∷ x) y h k f g e = let same : d ≡ c = cc e in absurd (cc (ap test same, f, k.0))
@@ -55,28 +58,36 @@ pub record SameParts (g w h o t g' w' h' o' t' : Text) : Type 0 where
   pub operand : o ≡ o'
   pub end : t ≡ t'
 
-pub same_cuts : (text g w h o r t g' w' h' o' r' t' : Text) → IsCuts text g w h o r t → IsCuts text g' w' h' o' r' t' → SameParts g w h o t g' w' h' o' t'
+pub same_cuts : (text g w h o r t g' w' h' o' r' t' : Text) → IsCuts text g w h o r t → IsCuts text g' w' h' o' r' t'
+    → SameParts g w h o t g' w' h' o' t'
 same_cuts text g w h o r t g' w' h' o' r' t' c d =
     let Blank : ℕ → Type 0 = λ b. is_blank b ≡ true in
     let Solid : ℕ → Type 0 = λ b. is_solid b ≡ true in
-    let one = same_cut is_blank g g' _ _ (recursion_from_All Blank g c.gap_blank) (recursion_from_All Blank g' d.gap_blank) c.gap_ends d.gap_ends (sym c.text_is ∙ d.text_is) in
-    let two = same_cut is_solid w w' _ _ (recursion_from_All Solid w c.word_solid) (recursion_from_All Solid w' d.word_solid) c.word_ends d.word_ends one.1 in
-    let three = same_cut is_blank h h' _ _ (recursion_from_All Blank h c.gap2_blank) (recursion_from_All Blank h' d.gap2_blank) c.gap2_ends d.gap2_ends two.1 in
-    let four = same_cut is_solid o o' _ _ (recursion_from_All Solid o c.operand_solid) (recursion_from_All Solid o' d.operand_solid) c.operand_ends d.operand_ends three.1 in
-    let five = same_cut is_blank r r' _ _ (recursion_from_All Blank r c.rest_blank) (recursion_from_All Blank r' d.rest_blank) c.rest_ends d.rest_ends four.1 in
+    let one = same_cut is_blank g g' _ _ (recursion_from_All Blank g c.gap_blank)
+    (recursion_from_All Blank g' d.gap_blank) c.gap_ends d.gap_ends (sym c.text_is ∙ d.text_is) in
+    let two = same_cut is_solid w w' _ _ (recursion_from_All Solid w c.word_solid)
+    (recursion_from_All Solid w' d.word_solid) c.word_ends d.word_ends one.1 in
+    let three = same_cut is_blank h h' _ _ (recursion_from_All Blank h c.gap2_blank)
+    (recursion_from_All Blank h' d.gap2_blank) c.gap2_ends d.gap2_ends two.1 in
+    let four = same_cut is_solid o o' _ _ (recursion_from_All Solid o c.operand_solid)
+    (recursion_from_All Solid o' d.operand_solid) c.operand_ends d.operand_ends three.1 in
+    let five = same_cut is_blank r r' _ _ (recursion_from_All Blank r c.rest_blank)
+    (recursion_from_All Blank r' d.rest_blank) c.rest_ends d.rest_ends four.1 in
     record { gap = one.0; word = two.0; gap2 = three.0; operand = four.0; end = five.1 }
 
 blanks_from : (text : Text) → AreBlanks text → All (λ b. is_blank b ≡ true) text
 blanks_from text h = All-weaker (λ b. b ≡ 32) (λ b. is_blank b ≡ true) (λ b e. eq-eqb b 32 e) text h
 
 solid_from : (text : Text) → All (λ b. b ≢ 32) text → All (λ b. is_solid b ≡ true) text
-solid_from text h = All-weaker (λ b. b ≢ 32) (λ b. is_solid b ≡ true) (λ b e. not_from_false (b == 32) (ne_eqb b 32 e)) text h
+solid_from text h = All-weaker (λ b. b ≢ 32) (λ b. is_solid b ≡ true) (λ b e. not_from_false (b == 32) (ne_eqb b 32 e))
+    text h
 
 pub blanks_to : (text : Text) → All (λ b. is_blank b ≡ true) text → AreBlanks text
 blanks_to text h = All-weaker (λ b. is_blank b ≡ true) (λ b. b ≡ 32) (λ b e. eqb-true b 32 e) text h
 
 pub solid_to : (text : Text) → All (λ b. is_solid b ≡ true) text → All (λ b. b ≢ 32) text
-solid_to text h = All-weaker (λ b. is_solid b ≡ true) (λ b. b ≢ 32) (λ b e. eqb-false b 32 (not-true (b == 32) e)) text h
+solid_to text h = All-weaker (λ b. is_solid b ≡ true) (λ b. b ≢ 32) (λ b e. eqb-false b 32 (not-true (b == 32) e)) text
+    h
 
 starts_solid : (text more : Text) → IsSolid text → StartsOutside is_blank (text ++ more)
 starts_solid [] more h = absurd (h.0 refl)
@@ -149,17 +160,20 @@ change-no_delete name line low high c d =
     other_words (same_control _ _ _ _ line c d.1).0
 
 -- The operand determines its numbers.
-pub same_range : (operand : Text) (low high low' high' : ℕ) → IsRange operand low high → IsRange operand low' high' → (low ≡ low') × (high ≡ high')
+pub same_range : (operand : Text) (low high low' high' : ℕ) → IsRange operand low high → IsRange operand low' high'
+    → (low ≡ low') × (high ≡ high')
 same_range operand low high low' high' r s =
     let e = sym r.operand_is ∙ s.operand_is in
     let f : codes "SEQ1=" ++ (r.from ++ (codes ",SEQ2=" ++ r.to)) ≡ codes "SEQ1=" ++ (s.from ++ (codes ",SEQ2=" ++ s.to)) = simp append_assoc at e in
     let tails = append_cancel_left (codes "SEQ1=") _ _ f in
-    let from : r.from ≡ s.from = sym (take_at r.from _ 8 r.numbers.0.0) ∙ ap (take 8) tails ∙ take_at s.from _ 8 s.numbers.0.0 in
+    let from : r.from ≡ s.from = sym (take_at r.from _ 8 r.numbers.0.0) ∙ ap (take 8) tails
+    ∙ take_at s.from _ 8 s.numbers.0.0 in
     let rest = sym (drop_at r.from _ 8 r.numbers.0.0) ∙ ap (drop 8) tails ∙ drop_at s.from _ 8 s.numbers.0.0 in
     let to : r.to ≡ s.to = append_cancel_left (codes ",SEQ2=") _ _ rest in
     (r.low_is ∙ ap (digits_value 10) from ∙ sym s.low_is, r.high_is ∙ ap (digits_value 10) to ∙ sym s.high_is)
 
-pub same_delete : (line : Text) (low high low' high' : ℕ) → IsDelete low high line → IsDelete low' high' line → (low ≡ low') × (high ≡ high')
+pub same_delete : (line : Text) (low high low' high' : ℕ) → IsDelete low high line → IsDelete low' high' line
+    → (low ≡ low') × (high ≡ high')
 same_delete line low high low' high' c d =
     let same = (same_control _ _ _ _ line c.1 d.1).1 in
     same_range d.0 low high low' high' (subst (λ o. IsRange o low high) same c.2) d.2

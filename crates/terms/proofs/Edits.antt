@@ -1,5 +1,6 @@
 -- Edits of a list that rises by a key: what is found afterwards, and what stays true of the items.
-use Rattle.std.proofs.Common.{◌≡◌, ◌<◌, ℕ, Bool, true, false, List, [], ◌∷◌, ◌++◌, length, get_or, take, drop, refl, sym, ap, ◌∙◌, cond, arith, append_assoc, ◌+◌, ◌≤◌, add-one, length-drop}
+use Rattle.std.proofs.Common.{◌≡◌, ◌<◌, ℕ, Bool, true, false, List, [], ◌∷◌, ◌++◌, length, get_or, take, drop, refl}
+use Rattle.std.proofs.Common.{sym, ap, ◌∙◌, cond, arith, append_assoc, ◌+◌, ◌≤◌, add-one, length-drop}
 use Rattle.std.specs.Prelude.{All, filter, find, Some, None, IfSome}
 use Rattle.std.specs.Option.{option_map_or, option_to_list}
 use Rattle.std.specs.declared.cmp.Ordering.{Ordering}
@@ -8,13 +9,15 @@ use Rattle.std.specs.Ordering.{is_lt, is_eq, ordering_reverse}
 use Rattle.std.specs.Cmp.{IsTotalOrder}
 use Rattle.std.proofs.lemmas.Cmp.{alike_right}
 use Rattle.std.proofs.lemmas.Bool.{false≢true}
-use Rattle.std.proofs.lemmas.List.Elements.{All-head, All-tail, All-cons, All-append, All-filter, filter_passes, filter-append, filter_agree}
+use Rattle.std.proofs.lemmas.List.Elements.{All-head, All-tail, All-cons, All-append, All-filter, filter_passes}
+use Rattle.std.proofs.lemmas.List.Elements.{filter-append, filter_agree}
 use Rattle.std.proofs.lemmas.List.Kept.{AllPairs-filter, AllPairs-cons}
 use Rattle.std.proofs.lemmas.List.{append-nil, take_all, get_or-drop, get_or_default}
 use Rattle.std.proofs.lemmas.List.Sums.{fold_more}
 use Rattle.std.proofs.Math.Seq.{drop-cons}
 use Rattle.lemmas.proofs.Orderings.{Equal-from_is_eq, Less-from_is_lt}
-use Rattle.lemmas.proofs.Searches.{find-filter_all, find-filter_none, find-second, find-first, filter-all, filter-none, find-over}
+use Rattle.lemmas.proofs.Searches.{find-filter_all, find-filter_none, find-second, find-first, filter-all, filter-none}
+use Rattle.lemmas.proofs.Searches.{find-over}
 use Rattle.terms.specs.declared.kinds.Edit.{Edit}
 use Rattle.terms.specs.declared.kinds.Edit.TheVariants.{Put, Remove}
 use Rattle.terms.specs.Rising.{Rises, before, behind, with_item, without_key, Splits}
@@ -23,7 +26,8 @@ use Rattle.terms.proofs.RisingLists.{find-there, find-apart}
 use Rattle.lemmas.proofs.Pairs.{AllPairs-first, AllPairs-rest, AllPairs-between}
 
 -- Some edits are done: `new` has the items that no later edit is about, and `rest` those that one may be about.
-pub record IsEditing {X K : Type 0} (R : K → K → Ordering) (key : X → K) (items : List X) (edits : List (Edit X K)) (done : ℕ) (new rest : List X) : Type 0 where
+pub record IsEditing {X K : Type 0} (R : K → K → Ordering) (key : X → K) (items : List X) (edits : List (Edit X K))
+    (done : ℕ) (new rest : List X) : Type 0 where
   pub kept : edited R key items (take done edits) ≡ new ++ rest
   pub rises : Rises R key rest
   pub low : All (λ x. All (λ e. R (key x) (edit_key key e) ≡ Less) (drop done edits)) new
@@ -32,8 +36,10 @@ module _ {X K : Type 0} {R : K → K → Ordering} (o : IsTotalOrder R) (key : X
   -- what stands before a key and behind it, cut by the key
   pub Splits-cut : (k : K) (xs : List X) → Splits R key k (before R key k xs) (behind R key k xs)
   Splits-cut k xs = record {
-    low = λ i d h. Less-from_is_lt (R (key (get_or (before R key k xs) i d)) k) (filter_passes (λ x. is_lt (R (key x) k)) xs i d h);
-    high = λ i d h. Less-from_is_lt (R k (key (get_or (behind R key k xs) i d))) (filter_passes (λ x. is_lt (R k (key x))) xs i d h);
+    low = λ i d h. Less-from_is_lt (R (key (get_or (before R key k xs) i d)) k)
+        (filter_passes (λ x. is_lt (R (key x) k)) xs i d h);
+    high = λ i d h. Less-from_is_lt (R k (key (get_or (behind R key k xs) i d)))
+        (filter_passes (λ x. is_lt (R k (key x))) xs i d h);
   }
 
   -- and by a key that ties with it
@@ -44,24 +50,30 @@ module _ {X K : Type 0} {R : K → K → Ordering} (o : IsTotalOrder R) (key : X
   }
 
   -- two lists in order around a key
-  AllPairs-joined : (k : K) (front back : List X) → Rises R key front → Rises R key back → Splits R key k front back → Rises R key (front ++ back)
+  AllPairs-joined : (k : K) (front back : List X) → Rises R key front → Rises R key back → Splits R key k front back
+      → Rises R key (front ++ back)
   AllPairs-joined k [] back low high s = high
   AllPairs-joined k (x ∷ front) back low high s =
       let T : X → X → Type 0 = λ a b. is_lt (R (key a) (key b)) ≡ true in
       let first = All-head (λ y. R (key y) k ≡ Less) x front s.low in
-      let rest = AllPairs-joined k front back (AllPairs-rest T x front low) high record { low = All-tail (λ y. R (key y) k ≡ Less) x front s.low; high = s.high } in
-      AllPairs-cons T x (front ++ back) (All-append (T x) front back (AllPairs-first T x front low) (λ i d h. ap is_lt (o.trans (key x) k (key (get_or back i d)) first (s.high i d h)))) rest
+      let rest = AllPairs-joined k front back (AllPairs-rest T x front low) high
+      record { low = All-tail (λ y. R (key y) k ≡ Less) x front s.low; high = s.high } in
+      AllPairs-cons T x (front ++ back) (All-append (T x) front back (AllPairs-first T x front low)
+      (λ i d h. ap is_lt (o.trans (key x) k (key (get_or back i d)) first (s.high i d h)))) rest
 
   pub Rises-without_key : (xs : List X) (k : K) → Rises R key xs → Rises R key (without_key R key xs k)
   Rises-without_key xs k rises =
       let T : X → X → Type 0 = λ a b. is_lt (R (key a) (key b)) ≡ true in
-      AllPairs-joined k (before R key k xs) (behind R key k xs) (AllPairs-filter T (λ x. is_lt (R (key x) k)) xs rises) (AllPairs-filter T (λ x. is_lt (R k (key x))) xs rises) (Splits-cut k xs)
+      AllPairs-joined k (before R key k xs) (behind R key k xs) (AllPairs-filter T (λ x. is_lt (R (key x) k)) xs rises)
+      (AllPairs-filter T (λ x. is_lt (R k (key x))) xs rises) (Splits-cut k xs)
 
   pub Rises-with_item : (xs : List X) (x : X) → Rises R key xs → Rises R key (with_item R key xs x)
   Rises-with_item xs x rises =
       let s = Splits-cut (key x) xs in
       let T : X → X → Type 0 = λ a b. is_lt (R (key a) (key b)) ≡ true in
-      rw (append_assoc (before R key (key x) xs) (x ∷ []) (behind R key (key x) xs)) (AllPairs-between T (before R key (key x) xs) (behind R key (key x) xs) x (Rises-without_key xs (key x) rises) (λ i d h. ap is_lt (s.low i d h)) (λ i d h. ap is_lt (s.high i d h)))
+      rw (append_assoc (before R key (key x) xs) (x ∷ []) (behind R key (key x) xs))
+      (AllPairs-between T (before R key (key x) xs) (behind R key (key x) xs) x (Rises-without_key xs (key x) rises)
+      (λ i d h. ap is_lt (s.low i d h)) (λ i d h. ap is_lt (s.high i d h)))
 
   -- an edit keeps the order
   pub Rises-after_edit : (xs : List X) (e : Edit X K) → Rises R key xs → Rises R key (after_edit R key xs e)
@@ -73,30 +85,40 @@ module _ {X K : Type 0} {R : K → K → Ordering} (o : IsTotalOrder R) (key : X
   Rises-edited (e ∷ edits) xs rises = Rises-edited edits (after_edit R key xs e) (Rises-after_edit xs e rises)
 
   -- a fact of all items and of all that are put holds afterwards
-  pub All-edited : (P : X → Type 0) (edits : List (Edit X K)) (xs : List X) → All P xs → All (λ e. IfSome (edit_put e) P) edits → All P (edited R key xs edits)
+  pub All-edited : (P : X → Type 0) (edits : List (Edit X K)) (xs : List X) → All P xs
+      → All (λ e. IfSome (edit_put e) P) edits → All P (edited R key xs edits)
   All-edited P [] xs all put = all
   All-edited P (Put x ∷ edits) xs all put =
       let front = All-filter (λ y. is_lt (R (key y) (key x))) P xs all in
       let back = All-filter (λ y. is_lt (R (key x) (key y))) P xs all in
-      let one = All-cons P x [] (All-head (λ e. IfSome (edit_put e) P) (Put x) edits put) (λ i d h. absurd (omega arith)) in
-      All-edited P edits (with_item R key xs x) (All-append P (before R key (key x) xs ++ x ∷ []) (behind R key (key x) xs) (All-append P (before R key (key x) xs) (x ∷ []) front one) back) (All-tail (λ e. IfSome (edit_put e) P) (Put x) edits put)
+      let one = All-cons P x [] (All-head (λ e. IfSome (edit_put e) P) (Put x) edits put)
+      (λ i d h. absurd (omega arith)) in
+      All-edited P edits (with_item R key xs x) (All-append P (before R key (key x) xs ++ x ∷ [])
+      (behind R key (key x) xs) (All-append P (before R key (key x) xs) (x ∷ []) front one) back)
+      (All-tail (λ e. IfSome (edit_put e) P) (Put x) edits put)
   All-edited P (Remove k ∷ edits) xs all put =
       let front = All-filter (λ y. is_lt (R (key y) k)) P xs all in
       let back = All-filter (λ y. is_lt (R k (key y))) P xs all in
-      All-edited P edits (without_key R key xs k) (All-append P (before R key k xs) (behind R key k xs) front back) (All-tail (λ e. IfSome (edit_put e) P) (Remove k) edits put)
+      All-edited P edits (without_key R key xs k) (All-append P (before R key k xs) (behind R key k xs) front back)
+      (All-tail (λ e. IfSome (edit_put e) P) (Remove k) edits put)
 
   -- Items below the key stay in front, and of the others those go over that stand behind it.
-  pub before-below : (k : K) (front rest : List X) → All (λ x. R (key x) k ≡ Less) front → before R key k (front ++ rest) ≡ front ++ before R key k rest
+  pub before-below : (k : K) (front rest : List X) → All (λ x. R (key x) k ≡ Less) front
+      → before R key k (front ++ rest) ≡ front ++ before R key k rest
   before-below k front rest low =
       let p : X → Bool = λ x. is_lt (R (key x) k) in
       filter-append p front rest ∙ ap (λ ys. ys ++ filter p rest) (filter-all p front (λ i d h. ap is_lt (low i d h)))
 
-  pub behind-below : (k : K) (front rest : List X) → All (λ x. R (key x) k ≡ Less) front → behind R key k (front ++ rest) ≡ behind R key k rest
+  pub behind-below : (k : K) (front rest : List X) → All (λ x. R (key x) k ≡ Less) front
+      → behind R key k (front ++ rest) ≡ behind R key k rest
   behind-below k front rest low =
       let p : X → Bool = λ x. is_lt (R k (key x)) in
-      filter-append p front rest ∙ ap (λ ys. ys ++ filter p rest) (filter-none p front (λ i d h. rw (o.antisymm k (key (get_or front i d)), low i d h) refl))
+      filter-append p front rest ∙ ap (λ ys. ys ++ filter p rest)
+      (filter-none p front (λ i d h. rw (o.antisymm k (key (get_or front i d)), low i d h) refl))
 
-  pub after_edit-below : (front rest : List X) (e : Edit X K) → All (λ x. R (key x) (edit_key key e) ≡ Less) front → after_edit R key (front ++ rest) e ≡ (front ++ before R key (edit_key key e) rest) ++ option_to_list (edit_put e) ++ behind R key (edit_key key e) rest
+  pub after_edit-below : (front rest : List X) (e : Edit X K) → All (λ x. R (key x) (edit_key key e) ≡ Less) front
+      → after_edit R key (front ++ rest) e ≡ (front ++ before R key (edit_key key e) rest)
+      ++ option_to_list (edit_put e) ++ behind R key (edit_key key e) rest
   after_edit-below front rest (Put x) low =
       ap (λ ys. (ys ++ x ∷ []) ++ behind R key (key x) (front ++ rest)) (before-below (key x) front rest low)
       ∙ ap (λ ys. ((front ++ before R key (key x) rest) ++ x ∷ []) ++ ys) (behind-below (key x) front rest low)
@@ -106,34 +128,47 @@ module _ {X K : Type 0} {R : K → K → Ordering} (o : IsTotalOrder R) (key : X
       ∙ ap (λ ys. ys ++ behind R key k rest) (sym (append-nil (front ++ before R key k rest)))
 
   -- what an edit puts stands before the keys that its own stands before
-  put-low : (e : Edit X K) (fs : List (Edit X K)) → All (λ f. R (edit_key key e) (edit_key key f) ≡ Less) fs → All (λ x. All (λ f. R (key x) (edit_key key f) ≡ Less) fs) (option_to_list (edit_put e))
-  put-low (Put x) fs up = All-cons (λ x. All (λ f. R (key x) (edit_key key f) ≡ Less) fs) x [] up (λ i d h. absurd (omega arith))
+  put-low : (e : Edit X K) (fs : List (Edit X K)) → All (λ f. R (edit_key key e) (edit_key key f) ≡ Less) fs
+      → All (λ x. All (λ f. R (key x) (edit_key key f) ≡ Less) fs) (option_to_list (edit_put e))
+  put-low (Put x) fs up = All-cons (λ x. All (λ f. R (key x) (edit_key key f) ≡ Less) fs) x [] up
+      (λ i d h. absurd (omega arith))
   put-low (Remove k) fs up = λ i d h. absurd (omega arith)
 
-  pub editing-starts : (items : List X) (edits : List (Edit X K)) → Rises R key items → IsEditing R key items edits 0 [] items
+  pub editing-starts : (items : List X) (edits : List (Edit X K)) → Rises R key items
+      → IsEditing R key items edits 0 [] items
   editing-starts items edits rises = record { kept = refl; rises = rises; low = λ i d h. absurd (omega arith) }
 
-  pub editing-ends : (items : List X) (edits : List (Edit X K)) (done : ℕ) (new rest : List X) → length edits ≤ done → IsEditing R key items edits done new rest → new ++ rest ≡ edited R key items edits
+  pub editing-ends : (items : List X) (edits : List (Edit X K)) (done : ℕ) (new rest : List X) → length edits ≤ done
+      → IsEditing R key items edits done new rest → new ++ rest ≡ edited R key items edits
   editing-ends items edits done new rest all s = sym s.kept ∙ ap (edited R key items) (take_all done edits all)
 
-  pub editing-goes_on : (items : List X) (edits : List (Edit X K)) (done : ℕ) (new rest : List X) (e : Edit X K) → Rises R (edit_key key) edits → done < length edits → e ≡ get_or edits done e → IsEditing R key items edits done new rest → IsEditing R key items edits (done + 1) ((new ++ before R key (edit_key key e) rest) ++ option_to_list (edit_put e)) (behind R key (edit_key key e) rest)
+  pub editing-goes_on : (items : List X) (edits : List (Edit X K)) (done : ℕ) (new rest : List X) (e : Edit X K)
+      → Rises R (edit_key key) edits → done < length edits → e ≡ get_or edits done e
+      → IsEditing R key items edits done new rest → IsEditing R key items edits (done + 1)
+      ((new ++ before R key (edit_key key e) rest) ++ option_to_list (edit_put e)) (behind R key (edit_key key e) rest)
   editing-goes_on items edits done new rest e rises below is s =
-      let parts : drop done edits ≡ e ∷ drop (done + 1) edits = rw add-one (rw (← is) at (drop-cons edits done e below)) in
+      let parts : drop done edits ≡ e ∷ drop (done + 1) edits = rw add-one (rw (← is) at (drop-cons edits done e below))
+      in
       let now : All (λ x. R (key x) (edit_key key e) ≡ Less) new =
-      λ i d h. All-head (λ f. R (key (get_or new i d)) (edit_key key f) ≡ Less) e (drop (done + 1) edits) (rw parts at (s.low i d h)) in
+      λ i d h. All-head (λ f. R (key (get_or new i d)) (edit_key key f) ≡ Less) e (drop (done + 1) edits)
+      (rw parts at (s.low i d h)) in
       let later : All (λ x. All (λ f. R (key x) (edit_key key f) ≡ Less) (drop (done + 1) edits)) new =
-      λ i d h. All-tail (λ f. R (key (get_or new i d)) (edit_key key f) ≡ Less) e (drop (done + 1) edits) (rw parts at (s.low i d h)) in
+      λ i d h. All-tail (λ f. R (key (get_or new i d)) (edit_key key f) ≡ Less) e (drop (done + 1) edits)
+      (rw parts at (s.low i d h)) in
       let up : All (λ f. R (edit_key key e) (edit_key key f) ≡ Less) (drop (done + 1) edits) =
       λ i d h.
       let here : get_or edits done d ≡ e = get_or_default edits done d e below ∙ sym is in
       let there = get_or-drop (done + 1) edits i d in
-      let step = Less-from_is_lt (R (edit_key key (get_or edits done d)) (edit_key key (get_or edits (done + 1 + i) d))) (rises done (done + 1 + i) d (omega arith) (omega (arith, length-drop (done + 1) edits))) in
+      let step = Less-from_is_lt (R (edit_key key (get_or edits done d)) (edit_key key (get_or edits (done + 1 + i) d)))
+      (rises done (done + 1 + i) d (omega arith) (omega (arith, length-drop (done + 1) edits))) in
       ap (λ f. R (edit_key key f) (edit_key key (get_or (drop (done + 1) edits) i d))) (sym here)
       ∙ ap (λ f. R (edit_key key (get_or edits done d)) (edit_key key f)) there ∙ step in
       let k = edit_key key e in
       let cut = Splits-cut k rest in
-      let between : All (λ x. All (λ f. R (key x) (edit_key key f) ≡ Less) (drop (done + 1) edits)) (before R key k rest) =
-      λ i d h. λ j f below. o.trans (key (get_or (before R key k rest) i d)) k (edit_key key (get_or (drop (done + 1) edits) j f)) (cut.low i d h) (up j f below) in
+      let between : All (λ x. All (λ f. R (key x) (edit_key key f) ≡ Less) (drop (done + 1) edits))
+      (before R key k rest) =
+      λ i d h. λ j f below. o.trans (key (get_or (before R key k rest) i d)) k
+      (edit_key key (get_or (drop (done + 1) edits) j f)) (cut.low i d h) (up j f below) in
       let P : X → Type 0 = λ x. All (λ f. R (key x) (edit_key key f) ≡ Less) (drop (done + 1) edits) in
       record {
         kept =
@@ -142,7 +177,8 @@ module _ {X K : Type 0} {R : K → K → Ordering} (o : IsTotalOrder R) (key : X
             ∙ ap (λ f. after_edit R key (new ++ rest) f) (sym is)
             ∙ after_edit-below new rest e now;
         rises = AllPairs-filter (λ a b. is_lt (R (key a) (key b)) ≡ true) (λ x. is_lt (R k (key x))) rest s.rises;
-        low = All-append P (new ++ before R key k rest) (option_to_list (edit_put e)) (All-append P new (before R key k rest) later between) (put-low e (drop (done + 1) edits) up);
+        low = All-append P (new ++ before R key k rest) (option_to_list (edit_put e))
+            (All-append P new (before R key k rest) later between) (put-low e (drop (done + 1) edits) up);
       }
 
   -- At an edit's key stands afterwards what it puts there, and at other keys what stood there.
@@ -150,87 +186,130 @@ module _ {X K : Type 0} {R : K → K → Ordering} (o : IsTotalOrder R) (key : X
     tied : (a b : K) → E a b ≡ true → R a b ≡ Equal
     tied a b e = Equal-from_is_eq (R a b) (sym (ties a b) ∙ e)
 
-    find-put : (xs : List X) (x : X) (k : K) → E (key x) k ≡ true → find (λ y. E (key y) k) (with_item R key xs x) ≡ Some x
+    find-put : (xs : List X) (x : X) (k : K) → E (key x) k ≡ true
+        → find (λ y. E (key y) k) (with_item R key xs x) ≡ Some x
     find-put xs x k e =
-        let s = Splits-tied (key x) k (before R key (key x) xs) (behind R key (key x) xs) (tied (key x) k e) (Splits-cut (key x) xs) in
-        rw (append_assoc (before R key (key x) xs) (x ∷ []) (behind R key (key x) xs)) (find-there o key E ties k (before R key (key x) xs) (behind R key (key x) xs) x s (tied (key x) k e))
+        let s = Splits-tied (key x) k (before R key (key x) xs) (behind R key (key x) xs) (tied (key x) k e)
+        (Splits-cut (key x) xs) in
+        rw (append_assoc (before R key (key x) xs) (x ∷ []) (behind R key (key x) xs))
+        (find-there o key E ties k (before R key (key x) xs) (behind R key (key x) xs) x s (tied (key x) k e))
 
     find-removed : (xs : List X) (l k : K) → E l k ≡ true → find (λ y. E (key y) k) (without_key R key xs l) ≡ None
     find-removed xs l k e =
-        find-apart o key E ties k (before R key l xs) (behind R key l xs) (Splits-tied l k (before R key l xs) (behind R key l xs) (tied l k e) (Splits-cut l xs))
+        find-apart o key E ties k (before R key l xs) (behind R key l xs)
+        (Splits-tied l k (before R key l xs) (behind R key l xs) (tied l k e) (Splits-cut l xs))
 
     -- the other keys are all before an edit's key or all behind it
-    find-around : (mid : List X) (xs : List X) (l k : K) → find (λ y. E (key y) k) mid ≡ None → E l k ≡ false → find (λ y. E (key y) k) (before R key l xs ++ mid ++ behind R key l xs) ≡ find (λ y. E (key y) k) xs
+    find-around : (mid : List X) (xs : List X) (l k : K) → find (λ y. E (key y) k) mid ≡ None → E l k ≡ false
+        → find (λ y. E (key y) k) (before R key l xs ++ mid ++ behind R key l xs) ≡ find (λ y. E (key y) k) xs
     find-around mid xs l k none e = by_order (R l k) refl
       where
-        by_order : (r : Ordering) → R l k ≡ r → find (λ y. E (key y) k) (before R key l xs ++ mid ++ behind R key l xs) ≡ find (λ y. E (key y) k) xs
+        by_order : (r : Ordering) → R l k ≡ r → find (λ y. E (key y) k) (before R key l xs ++ mid ++ behind R key l xs)
+            ≡ find (λ y. E (key y) k) xs
         by_order Less f =
-            let up : find (λ y. E (key y) k) (behind R key l xs) ≡ find (λ y. E (key y) k) xs = find-filter_all (λ y. E (key y) k) (λ x. is_lt (R l (key x))) (λ x t. ap is_lt (alike_right o (key x) k l (tied (key x) k t) ∙ f)) xs in
-            let down : find (λ y. E (key y) k) (before R key l xs) ≡ None = find-filter_none (λ y. E (key y) k) (λ x. is_lt (R (key x) l)) (λ x t. ap is_lt (o.congr (key x) k l (tied (key x) k t) ∙ o.antisymm k l ∙ ap ordering_reverse f)) xs in
-            let front : find (λ y. E (key y) k) (before R key l xs ++ mid) ≡ None = find-second (λ y. E (key y) k) (before R key l xs) mid down ∙ none in
+            let up : find (λ y. E (key y) k) (behind R key l xs) ≡ find (λ y. E (key y) k) xs =
+            find-filter_all (λ y. E (key y) k) (λ x. is_lt (R l (key x)))
+            (λ x t. ap is_lt (alike_right o (key x) k l (tied (key x) k t) ∙ f)) xs in
+            let down : find (λ y. E (key y) k) (before R key l xs) ≡ None =
+            find-filter_none (λ y. E (key y) k) (λ x. is_lt (R (key x) l))
+            (λ x t. ap is_lt (o.congr (key x) k l (tied (key x) k t) ∙ o.antisymm k l ∙ ap ordering_reverse f))
+            xs in
+            let front : find (λ y. E (key y) k) (before R key l xs ++ mid) ≡ None =
+            find-second (λ y. E (key y) k) (before R key l xs) mid down ∙ none in
             find-second (λ y. E (key y) k) (before R key l xs ++ mid) (behind R key l xs) front ∙ up
         by_order Equal f = absurd (false≢true (sym e ∙ ties l k ∙ ap is_eq f))
         by_order Greater f =
-            let up : find (λ y. E (key y) k) (behind R key l xs) ≡ None = find-filter_none (λ y. E (key y) k) (λ x. is_lt (R l (key x))) (λ x t. ap is_lt (alike_right o (key x) k l (tied (key x) k t) ∙ f)) xs in
-            let down : find (λ y. E (key y) k) (before R key l xs) ≡ find (λ y. E (key y) k) xs = find-filter_all (λ y. E (key y) k) (λ x. is_lt (R (key x) l)) (λ x t. ap is_lt (o.congr (key x) k l (tied (key x) k t) ∙ o.antisymm k l ∙ ap ordering_reverse f)) xs in
-            find-first (λ y. E (key y) k) (before R key l xs ++ mid) (behind R key l xs) up ∙ find-first (λ y. E (key y) k) (before R key l xs) mid none ∙ down
+            let up : find (λ y. E (key y) k) (behind R key l xs) ≡ None =
+            find-filter_none (λ y. E (key y) k) (λ x. is_lt (R l (key x)))
+            (λ x t. ap is_lt (alike_right o (key x) k l (tied (key x) k t) ∙ f)) xs in
+            let down : find (λ y. E (key y) k) (before R key l xs) ≡ find (λ y. E (key y) k) xs =
+            find-filter_all (λ y. E (key y) k) (λ x. is_lt (R (key x) l))
+            (λ x t. ap is_lt (o.congr (key x) k l (tied (key x) k t) ∙ o.antisymm k l ∙ ap ordering_reverse f))
+            xs in
+            find-first (λ y. E (key y) k) (before R key l xs ++ mid) (behind R key l xs) up
+            ∙ find-first (λ y. E (key y) k) (before R key l xs) mid none ∙ down
 
-    pub find-after_edit : (xs : List X) (e : Edit X K) (k : K) → find (λ y. E (key y) k) (after_edit R key xs e) ≡ cond (E (edit_key key e) k) (edit_put e) (find (λ y. E (key y) k) xs)
+    pub find-after_edit : (xs : List X) (e : Edit X K) (k : K)
+        → find (λ y. E (key y) k) (after_edit R key xs e) ≡ cond (E (edit_key key e) k) (edit_put e)
+        (find (λ y. E (key y) k) xs)
     find-after_edit xs (Put x) k = by_test (E (key x) k) refl
       where
-        by_test : (t : Bool) → E (key x) k ≡ t → find (λ y. E (key y) k) (with_item R key xs x) ≡ cond (E (key x) k) (Some x) (find (λ y. E (key y) k) xs)
+        by_test : (t : Bool) → E (key x) k ≡ t → find (λ y. E (key y) k) (with_item R key xs x) ≡ cond (E (key x) k)
+            (Some x) (find (λ y. E (key y) k) xs)
         by_test true t = find-put xs x k t ∙ ap (λ b. cond b (Some x) (find (λ y. E (key y) k) xs)) (sym t)
         by_test false t =
-            find-around (x ∷ []) xs (key x) k (ap (λ b. cond b (Some x) None) t) t ∙ ap (λ b. cond b (Some x) (find (λ y. E (key y) k) xs)) (sym t)
+            find-around (x ∷ []) xs (key x) k (ap (λ b. cond b (Some x) None) t) t
+            ∙ ap (λ b. cond b (Some x) (find (λ y. E (key y) k) xs)) (sym t)
     find-after_edit xs (Remove l) k = by_test (E l k) refl
       where
-        by_test : (t : Bool) → E l k ≡ t → find (λ y. E (key y) k) (without_key R key xs l) ≡ cond (E l k) None (find (λ y. E (key y) k) xs)
+        by_test : (t : Bool) → E l k ≡ t → find (λ y. E (key y) k) (without_key R key xs l) ≡ cond (E l k) None
+            (find (λ y. E (key y) k) xs)
         by_test true t = find-removed xs l k t ∙ ap (λ b. cond b None (find (λ y. E (key y) k) xs)) (sym t)
         by_test false t =
             ap (λ ys. find (λ y. E (key y) k) (ys ++ behind R key l xs)) (sym (append-nil (before R key l xs)))
             ∙ find-around [] xs l k refl t ∙ ap (λ b. cond b None (find (λ y. E (key y) k) xs)) (sym t)
 
     -- what stands at a key after edits that rise
-    pub find-edited : (edits : List (Edit X K)) → Rises R (edit_key key) edits → (xs : List X) (k : K) → find (λ y. E (key y) k) (edited R key xs edits) ≡ after_edits E key edits xs k
+    pub find-edited : (edits : List (Edit X K)) → Rises R (edit_key key) edits → (xs : List X) (k : K)
+        → find (λ y. E (key y) k) (edited R key xs edits) ≡ after_edits E key edits xs k
     find-edited [] rises xs k = refl
     find-edited (e ∷ edits) rises xs k =
-        by_test (find-edited edits (AllPairs-rest (λ a b. is_lt (R (edit_key key a) (edit_key key b)) ≡ true) e edits rises) (after_edit R key xs e) k) (E (edit_key key e) k) refl
+        by_test (find-edited edits (AllPairs-rest (λ a b. is_lt (R (edit_key key a) (edit_key key b)) ≡ true) e edits
+        rises) (after_edit R key xs e) k) (E (edit_key key e) k) refl
       where
-        by_test : find (λ y. E (key y) k) (edited R key (after_edit R key xs e) edits) ≡ after_edits E key edits (after_edit R key xs e) k → (t : Bool) → E (edit_key key e) k ≡ t → find (λ y. E (key y) k) (edited R key (after_edit R key xs e) edits) ≡ after_edits E key (e ∷ edits) xs k
+        by_test : find (λ y. E (key y) k) (edited R key (after_edit R key xs e) edits) ≡ after_edits E key edits
+            (after_edit R key xs e) k → (t : Bool) → E (edit_key key e) k ≡ t
+            → find (λ y. E (key y) k) (edited R key (after_edit R key xs e) edits) ≡ after_edits E key (e ∷ edits) xs k
         by_test rest true t =
             let later = AllPairs-first (λ a b. is_lt (R (edit_key key a) (edit_key key b)) ≡ true) e edits rises in
             let none : find (λ d. E (edit_key key d) k) edits ≡ None =
             ap (find (λ d. E (edit_key key d) k)) (sym (append-nil edits))
             ∙ find-over (λ d. E (edit_key key d) k) edits [] (λ i d h.
             let l = edit_key key (get_or edits i d) in
-            let above : R k l ≡ Less = sym (o.congr (edit_key key e) k l (tied (edit_key key e) k t)) ∙ Less-from_is_lt (R (edit_key key e) l) (later i d h) in
+            let above : R k l ≡ Less = sym (o.congr (edit_key key e) k l (tied (edit_key key e) k t))
+            ∙ Less-from_is_lt (R (edit_key key e) l) (later i d h) in
             ties l k ∙ ap is_eq (o.antisymm l k ∙ ap ordering_reverse above)) in
             rest ∙ ap (λ found. option_map_or edit_put found (find (λ y. E (key y) k) (after_edit R key xs e))) none
             ∙ find-after_edit xs e k ∙ ap (λ b. cond b (edit_put e) (find (λ y. E (key y) k) xs)) t
-            ∙ ap (λ b. option_map_or edit_put (cond b (Some e) (find (λ d. E (edit_key key d) k) edits)) (find (λ y. E (key y) k) xs)) (sym t)
+            ∙ ap (λ b. option_map_or edit_put (cond b (Some e) (find (λ d. E (edit_key key d) k) edits))
+            (find (λ y. E (key y) k) xs)) (sym t)
         by_test rest false t =
-            rest ∙ ap (λ found. option_map_or edit_put (find (λ d. E (edit_key key d) k) edits) found) (find-after_edit xs e k ∙ ap (λ b. cond b (edit_put e) (find (λ y. E (key y) k) xs)) t)
-            ∙ ap (λ b. option_map_or edit_put (cond b (Some e) (find (λ d. E (edit_key key d) k) edits)) (find (λ y. E (key y) k) xs)) (sym t)
+            rest ∙ ap (λ found. option_map_or edit_put (find (λ d. E (edit_key key d) k) edits) found)
+            (find-after_edit xs e k ∙ ap (λ b. cond b (edit_put e) (find (λ y. E (key y) k) xs)) t)
+            ∙ ap (λ b. option_map_or edit_put (cond b (Some e) (find (λ d. E (edit_key key d) k) edits))
+            (find (λ y. E (key y) k) xs)) (sym t)
 
 -- a fact of all items and of one more
-pub All-with_item : {X K : Type 0} (R : K → K → Ordering) (key : X → K) (P : X → Type 0) (xs : List X) (x : X) → All P xs → P x → All P (with_item R key xs x)
+pub All-with_item : {X K : Type 0} (R : K → K → Ordering) (key : X → K) (P : X → Type 0) (xs : List X) (x : X)
+    → All P xs → P x → All P (with_item R key xs x)
 All-with_item R key P xs x all one =
-    All-append P (before R key (key x) xs ++ x ∷ []) (behind R key (key x) xs) (All-append P (before R key (key x) xs) (x ∷ []) (All-filter (λ y. is_lt (R (key y) (key x))) P xs all) (All-cons P x [] one (λ i d h. absurd (omega arith)))) (All-filter (λ y. is_lt (R (key x) (key y))) P xs all)
+    All-append P (before R key (key x) xs ++ x ∷ []) (behind R key (key x) xs)
+    (All-append P (before R key (key x) xs) (x ∷ []) (All-filter (λ y. is_lt (R (key y) (key x))) P xs all)
+    (All-cons P x [] one (λ i d h. absurd (omega arith)))) (All-filter (λ y. is_lt (R (key x) (key y))) P xs all)
 
 -- orders and tests that answer alike
-pub with_item-agree : {X K : Type 0} (R S : K → K → Ordering) → ((a b : K) → R a b ≡ S a b) → (key : X → K) (xs : List X) (x : X) → with_item R key xs x ≡ with_item S key xs x
+pub with_item-agree : {X K : Type 0} (R S : K → K → Ordering) → ((a b : K) → R a b ≡ S a b)
+    → (key : X → K) (xs : List X) (x : X) → with_item R key xs x ≡ with_item S key xs x
 with_item-agree R S same key xs x =
-    ap (λ ys. (ys ++ x ∷ []) ++ behind R key (key x) xs) (filter_agree (λ y. is_lt (R (key y) (key x))) (λ y. is_lt (S (key y) (key x))) (λ y. ap is_lt (same (key y) (key x))) xs)
-    ∙ ap (λ ys. (before S key (key x) xs ++ x ∷ []) ++ ys) (filter_agree (λ y. is_lt (R (key x) (key y))) (λ y. is_lt (S (key x) (key y))) (λ y. ap is_lt (same (key x) (key y))) xs)
+    ap (λ ys. (ys ++ x ∷ []) ++ behind R key (key x) xs) (filter_agree (λ y. is_lt (R (key y) (key x)))
+    (λ y. is_lt (S (key y) (key x))) (λ y. ap is_lt (same (key y) (key x))) xs)
+    ∙ ap (λ ys. (before S key (key x) xs ++ x ∷ []) ++ ys) (filter_agree (λ y. is_lt (R (key x) (key y)))
+    (λ y. is_lt (S (key x) (key y))) (λ y. ap is_lt (same (key x) (key y))) xs)
 
-pub without_key-agree : {X K : Type 0} (R S : K → K → Ordering) → ((a b : K) → R a b ≡ S a b) → (key : X → K) (xs : List X) (k : K) → without_key R key xs k ≡ without_key S key xs k
+pub without_key-agree : {X K : Type 0} (R S : K → K → Ordering) → ((a b : K) → R a b ≡ S a b)
+    → (key : X → K) (xs : List X) (k : K) → without_key R key xs k ≡ without_key S key xs k
 without_key-agree R S same key xs k =
-    ap (λ ys. ys ++ behind R key k xs) (filter_agree (λ y. is_lt (R (key y) k)) (λ y. is_lt (S (key y) k)) (λ y. ap is_lt (same (key y) k)) xs)
-    ∙ ap (λ ys. before S key k xs ++ ys) (filter_agree (λ y. is_lt (R k (key y))) (λ y. is_lt (S k (key y))) (λ y. ap is_lt (same k (key y))) xs)
+    ap (λ ys. ys ++ behind R key k xs) (filter_agree (λ y. is_lt (R (key y) k)) (λ y. is_lt (S (key y) k))
+    (λ y. ap is_lt (same (key y) k)) xs)
+    ∙ ap (λ ys. before S key k xs ++ ys) (filter_agree (λ y. is_lt (R k (key y))) (λ y. is_lt (S k (key y)))
+    (λ y. ap is_lt (same k (key y))) xs)
 
-pub edited-agree : {X K : Type 0} (R S : K → K → Ordering) → ((a b : K) → R a b ≡ S a b) → (key : X → K) (edits : List (Edit X K)) (xs : List X) → edited R key xs edits ≡ edited S key xs edits
+pub edited-agree : {X K : Type 0} (R S : K → K → Ordering) → ((a b : K) → R a b ≡ S a b)
+    → (key : X → K) (edits : List (Edit X K)) (xs : List X) → edited R key xs edits ≡ edited S key xs edits
 edited-agree R S same key [] xs = refl
 edited-agree R S same key (Put x ∷ edits) xs =
-    edited-agree R S same key edits (with_item R key xs x) ∙ ap (λ ys. edited S key ys edits) (with_item-agree R S same key xs x)
+    edited-agree R S same key edits (with_item R key xs x) ∙ ap (λ ys. edited S key ys edits)
+    (with_item-agree R S same key xs x)
 edited-agree R S same key (Remove k ∷ edits) xs =
-    edited-agree R S same key edits (without_key R key xs k) ∙ ap (λ ys. edited S key ys edits) (without_key-agree R S same key xs k)
+    edited-agree R S same key edits (without_key R key xs k)
+    ∙ ap (λ ys. edited S key ys edits) (without_key-agree R S same key xs k)

@@ -39,11 +39,13 @@ eq-types Proc Mac = refl
 eq-types a b = refl
 
 -- the derived order of types and names
-pub cmp-keys : (a b : ElemType × Text) → ordering_then (type_order.ghosts.cmp a.0 b.0) (slice_cmp nat_cmp a.1 b.1) ≡ element_cmp a b
+pub cmp-keys : (a b : ElemType × Text) → ordering_then (type_order.ghosts.cmp a.0 b.0) (slice_cmp nat_cmp a.1 b.1)
+    ≡ element_cmp a b
 cmp-keys a b = ap (λ r. ordering_then r (slice_cmp nat_cmp a.1 b.1)) (cmp-types a.0 b.0)
 
 pub element_cmp_total : IsTotalOrder element_cmp
-element_cmp_total = then_total (on_total (λ (k : ElemType × Text). type_number k.0) nat_cmp_total) (on_total (λ (k : ElemType × Text). k.1) nat_list_cmp_total)
+element_cmp_total = then_total (on_total (λ (k : ElemType × Text). type_number k.0) nat_cmp_total)
+    (on_total (λ (k : ElemType × Text). k.1) nat_list_cmp_total)
 
 pub element_ties : (a b : ElemType × Text) → element_eq a b ≡ is_eq (element_cmp a b)
 element_ties a b =
@@ -53,7 +55,8 @@ element_ties a b =
 
 -- the same of element statements
 pub change_cmp_total : IsTotalOrder change_cmp
-change_cmp_total = then_total (on_total (λ (c : Change). type_number c.elem_type) nat_cmp_total) (on_total (λ (c : Change). c.name) nat_list_cmp_total)
+change_cmp_total = then_total (on_total (λ (c : Change). type_number c.elem_type) nat_cmp_total)
+    (on_total (λ (c : Change). c.name) nat_list_cmp_total)
 
 -- the type of a number
 type_at : ℕ → Option ElemType

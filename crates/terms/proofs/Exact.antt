@@ -1,48 +1,79 @@
 -- A statement and its fault are determined, and no records have both.
 use Rattle.std.specs.Prelude.{if◌then◌else◌, ◌==◌}
-use Rattle.std.proofs.Common.{◌≡◌, ◌<◌, ℕ, List, [], ◌∷◌, ◌++◌, length, refl, sym, ◌∙◌, ap, subst, arith, length-append, inl, inr}
+use Rattle.std.proofs.Common.{◌≡◌, ◌<◌, ℕ, List, [], ◌∷◌, ◌++◌, length, refl, sym, ◌∙◌, ap, subst, arith, length-append}
+use Rattle.std.proofs.Common.{inl, inr}
 use Rattle.std.proofs.lemmas.List.{append_cancel_right}
 use Rattle.std.proofs.lemmas.List.Concat.{flat_map-append}
 use Rattle.terms.specs.Types.{Text}
 use Rattle.terms.specs.Records.{front}
-use Rattle.terms.specs.Statement.{Piece, HasPieces, solid, joined, followed, Ends, IsIdle, IsStatement, StFault, St1, St2, St3, St4, BreaksOff, IsStFault, OpensComment, BreaksPairs}
+use Rattle.terms.specs.Statement.{Piece, HasPieces, solid, joined, followed, Ends, IsIdle, IsStatement, StFault, St1}
+use Rattle.terms.specs.Statement.{St2, St3, St4, BreaksOff, IsStFault, OpensComment, BreaksPairs}
 use Rattle.terms.proofs.Pieces.{IsStop, stop_nil, stop_period, stop_comment, stop_pairs, pieces-only}
 
 abbrev rest_text : Text → List (List ℕ) → Text
 rest_text line later = line ++ followed later
 
 -- A place in a later record has less text behind it.
-longer : (at : List ℕ) (head line : Text) (before later : List (List ℕ)) → front at ≡ head ++ line → length (rest_text line later) < length (followed (before ++ at ∷ later))
+longer : (at : List ℕ) (head line : Text) (before later : List (List ℕ)) → front at ≡ head ++ line
+    → length (rest_text line later) < length (followed (before ++ at ∷ later))
 longer at head line before later is =
     let whole = flat_map-append (λ r. 32 ∷ front r) before (at ∷ later) in
-    omega (arith, ap length whole, length-append (followed before) (followed (at ∷ later)), length-append (32 ∷ front at) (followed later), ap length is, length-append head line, length-append line (followed later))
+    omega (
+      arith,
+      ap length whole,
+      length-append (followed before) (followed (at ∷ later)),
+      length-append (32 ∷ front at) (followed later),
+      ap length is,
+      length-append head line,
+      length-append line (followed later),
+    )
 
 -- A place is determined by what follows it.
-pub place_only : (before before' : List (List ℕ)) (at at' : List ℕ) (head head' line line' : Text) (later later' : List (List ℕ)) → before ++ at ∷ later ≡ before' ++ at' ∷ later' → front at ≡ head ++ line → front at' ≡ head' ++ line'
+pub place_only : (before before' : List (List ℕ)) (at at' : List ℕ) (head head' line line' : Text)
+    (later later' : List (List ℕ)) → before ++ at ∷ later ≡ before' ++ at' ∷ later' → front at ≡ head ++ line
+    → front at' ≡ head' ++ line'
     → rest_text line later ≡ rest_text line' later' → (before ≡ before') × (line ≡ line') × (later ≡ later')
 place_only [] [] at at' head head' line line' later later' records_are is is' same =
     let laters : later ≡ later' = cc (records_are) in
-    let lines : line ≡ line' = append_cancel_right line line' (followed later') (ap (λ l. line ++ followed l) (sym laters) ∙ same) in
+    let lines : line ≡ line' = append_cancel_right line line' (followed later')
+    (ap (λ l. line ++ followed l) (sym laters) ∙ same) in
     (refl, lines, laters)
 place_only [] (b ∷ before') at at' head head' line line' later later' records_are is is' same =
     let laters : later ≡ before' ++ at' ∷ later' = cc (records_are) in
-    absurd (omega (arith, longer at' head' line' before' later' is', ap length same, ap (λ l. length (followed l)) laters, length-append line (followed later)))
+    absurd (omega (
+      arith,
+      longer at' head' line' before' later' is',
+      ap length same,
+      ap (λ l. length (followed l)) laters,
+      length-append line (followed later),
+    ))
 place_only (b ∷ before) [] at at' head head' line line' later later' records_are is is' same =
     let laters : before ++ at ∷ later ≡ later' = cc (records_are) in
-    absurd (omega (arith, longer at head line before later is, ap length same, ap (λ l. length (followed l)) laters, length-append line' (followed later')))
+    absurd (omega (
+      arith,
+      longer at head line before later is,
+      ap length same,
+      ap (λ l. length (followed l)) laters,
+      length-append line' (followed later'),
+    ))
 place_only (b ∷ before) (b' ∷ before') at at' head head' line line' later later' records_are is is' same =
     let more = place_only before before' at at' head head' line line' later later' (cc (records_are)) is is' same in
     let first : b ≡ b' = cc (records_are) in
     (cc (first, more.0), more.1, more.2)
 
 -- Where a statement ends is determined.
-pub ends-only : (records : List (List ℕ)) (ps qs : List Piece) (tail tail' : Text) (inline inline' : List (List ℕ)) → Ends records ps tail inline → Ends records qs tail' inline' → (ps ≡ qs) × (tail ≡ tail') × (inline ≡ inline')
+pub ends-only : (records : List (List ℕ)) (ps qs : List Piece) (tail tail' : Text) (inline inline' : List (List ℕ))
+    → Ends records ps tail inline → Ends records qs tail' inline' → (ps ≡ qs) × (tail ≡ tail') × (inline ≡ inline')
 ends-only records ps qs tail tail' inline inline' e f =
-    let pieces = pieces-only (joined records) ps qs (46 ∷ tail ++ followed inline) (46 ∷ tail' ++ followed inline') e.has_pieces (stop_period (tail ++ followed inline)) f.has_pieces (stop_period (tail' ++ followed inline')) in
-    let place = place_only e.before f.before e.place.at f.place.at e.place.head f.place.head (46 ∷ tail) (46 ∷ tail') inline inline' (sym e.place.records_are ∙ f.place.records_are) e.place.line_is f.place.line_is pieces.1 in
+    let pieces = pieces-only (joined records) ps qs (46 ∷ tail ++ followed inline) (46 ∷ tail' ++ followed inline')
+    e.has_pieces (stop_period (tail ++ followed inline)) f.has_pieces (stop_period (tail' ++ followed inline'))
+    in
+    let place = place_only e.before f.before e.place.at f.place.at e.place.head f.place.head (46 ∷ tail) (46 ∷ tail')
+    inline inline' (sym e.place.records_are ∙ f.place.records_are) e.place.line_is f.place.line_is pieces.1 in
     (pieces.0, cc (place.1), place.2)
 
-pub statement-only : (records : List (List ℕ)) (pieces others : List Piece) (inline inline' : List (List ℕ)) → IsStatement records pieces inline → IsStatement records others inline' → (pieces ≡ others) × (inline ≡ inline')
+pub statement-only : (records : List (List ℕ)) (pieces others : List Piece) (inline inline' : List (List ℕ))
+    → IsStatement records pieces inline → IsStatement records others inline' → (pieces ≡ others) × (inline ≡ inline')
 statement-only records pieces others inline inline' s t =
     let same = ends-only records s.0 t.0 s.1 t.1 inline inline' s.2 t.2 in
     (s.4 ∙ ap solid same.0 ∙ sym t.4, same.2)
@@ -63,22 +94,27 @@ pairs_no_period rest after o e =
     ]
 
 -- What breaks off does not end well.
-pub breaks-not_ends : (records : List (List ℕ)) (qs ps : List Piece) (why : StFault) (tail : Text) (inline : List (List ℕ)) → BreaksOff records qs why → Ends records ps tail inline → IsIdle tail → ⊥
+pub breaks-not_ends : (records : List (List ℕ)) (qs ps : List Piece) (why : StFault) (tail : Text)
+    (inline : List (List ℕ)) → BreaksOff records qs why → Ends records ps tail inline → IsIdle tail → ⊥
 breaks-not_ends records qs ps St1 tail inline b e idle =
-    let same = pieces-only (joined records) qs ps [] (46 ∷ tail ++ followed inline) b stop_nil e.has_pieces (stop_period (tail ++ followed inline)) in
+    let same = pieces-only (joined records) qs ps [] (46 ∷ tail ++ followed inline) b stop_nil e.has_pieces
+    (stop_period (tail ++ followed inline)) in
     cc (same.1)
 breaks-not_ends records qs ps St2 tail inline b e idle =
-    let same = pieces-only (joined records) qs ps b.0 (46 ∷ tail ++ followed inline) b.1 (stop_comment b.0 b.2) e.has_pieces (stop_period (tail ++ followed inline)) in
+    let same = pieces-only (joined records) qs ps b.0 (46 ∷ tail ++ followed inline) b.1 (stop_comment b.0 b.2)
+    e.has_pieces (stop_period (tail ++ followed inline)) in
     no_period b.0 (tail ++ followed inline) b.2 same.1
 breaks-not_ends records qs ps St3 tail inline b e idle =
-    let same = pieces-only (joined records) qs ps b.0 (46 ∷ tail ++ followed inline) b.1 (stop_pairs b.0 b.2) e.has_pieces (stop_period (tail ++ followed inline)) in
+    let same = pieces-only (joined records) qs ps b.0 (46 ∷ tail ++ followed inline) b.1 (stop_pairs b.0 b.2)
+    e.has_pieces (stop_period (tail ++ followed inline)) in
     pairs_no_period b.0 (tail ++ followed inline) b.2 same.1
 breaks-not_ends records qs ps St4 tail inline b e idle =
     let same = ends-only records qs ps b.0 tail b.1 inline b.2 e in
     b.3 (subst IsIdle (sym same.1) idle)
 
 -- No records are both a statement and at fault.
-pub fault-no_statement : (records : List (List ℕ)) (why : StFault) (pieces : List Piece) (inline : List (List ℕ)) → IsStFault records why → IsStatement records pieces inline → ⊥
+pub fault-no_statement : (records : List (List ℕ)) (why : StFault) (pieces : List Piece) (inline : List (List ℕ))
+    → IsStFault records why → IsStatement records pieces inline → ⊥
 fault-no_statement records why pieces inline f s = breaks-not_ends records f.0 s.0 why s.1 inline f.1 s.2 s.3
 
 -- the fault that shows where pieces stop
@@ -98,12 +134,28 @@ pairs_fault rest o = elim o.1 [ inl is ↦ ap fault_at is | inr is ↦ ap fault_
 
 stops : (records : List (List ℕ)) (ps : List Piece) (why : StFault) → BreaksOff records ps why → Stops records ps why
 stops records ps St1 b = record { rest = []; has_pieces = b; stop = stop_nil; why_is = refl }
-stops records ps St2 b = record { rest = b.0; has_pieces = b.1; stop = stop_comment b.0 b.2; why_is = ap fault_at b.2.1 }
-stops records ps St3 b = record { rest = b.0; has_pieces = b.1; stop = stop_pairs b.0 b.2; why_is = pairs_fault b.0 b.2 }
-stops records ps St4 b = record { rest = 46 ∷ b.0 ++ followed b.1; has_pieces = b.2.has_pieces; stop = stop_period (b.0 ++ followed b.1); why_is = refl }
+stops records ps St2 b = record {
+  rest = b.0;
+  has_pieces = b.1;
+  stop = stop_comment b.0 b.2;
+  why_is = ap fault_at b.2.1;
+}
+stops records ps St3 b = record {
+  rest = b.0;
+  has_pieces = b.1;
+  stop = stop_pairs b.0 b.2;
+  why_is = pairs_fault b.0 b.2;
+}
+stops records ps St4 b = record {
+  rest = 46 ∷ b.0 ++ followed b.1;
+  has_pieces = b.2.has_pieces;
+  stop = stop_period (b.0 ++ followed b.1);
+  why_is = refl;
+}
 
 -- Where a statement breaks off, and why, is determined.
-pub breaks-only : (records : List (List ℕ)) (ps qs : List Piece) (why other : StFault) → BreaksOff records ps why → BreaksOff records qs other → (ps ≡ qs) × (why ≡ other)
+pub breaks-only : (records : List (List ℕ)) (ps qs : List Piece) (why other : StFault) → BreaksOff records ps why
+    → BreaksOff records qs other → (ps ≡ qs) × (why ≡ other)
 breaks-only records ps qs why other b c =
     let s = stops records ps why b in
     let t = stops records qs other c in
@@ -111,5 +163,6 @@ breaks-only records ps qs why other b c =
     (same.0, sym s.why_is ∙ ap fault_at same.1 ∙ t.why_is)
 
 -- The fault of a statement is determined.
-pub st_fault-only : (records : List (List ℕ)) (why other : StFault) → IsStFault records why → IsStFault records other → why ≡ other
+pub st_fault-only : (records : List (List ℕ)) (why other : StFault) → IsStFault records why → IsStFault records other
+    → why ≡ other
 st_fault-only records why other f g = (breaks-only records f.0 g.0 why other f.1 g.1).1

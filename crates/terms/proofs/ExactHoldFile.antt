@@ -11,7 +11,8 @@ use Rattle.terms.specs.Words.{TakesWord}
 use Rattle.terms.specs.Statements.{statement_text}
 use Rattle.terms.specs.HoldStatements.{IsHoldOf, IsReleaseOf}
 use Rattle.terms.specs.Ptfin.{McsFault}
-use Rattle.terms.specs.HoldFile.{MayStand, HasItem, IsWithin, IsGoodItem, IsItemFault, BeginsWithItems, IsHoldFile, IsNextItemFault, IsHoldFileFault}
+use Rattle.terms.specs.HoldFile.{MayStand, HasItem, IsWithin, IsGoodItem, IsItemFault, BeginsWithItems, IsHoldFile}
+use Rattle.terms.specs.HoldFile.{IsNextItemFault, IsHoldFileFault}
 use Rattle.terms.proofs.Exact.{statement-only, fault-no_statement}
 use Rattle.terms.proofs.ExactFiles.{records-only, rec_fault-no_records, group-only, no_group, begins_inside}
 use Rattle.terms.proofs.ExactHolds.{hold-only, release-only}
@@ -19,7 +20,8 @@ use Rattle.terms.proofs.ExactPtfin.{SameParts, known-only}
 use Rattle.terms.proofs.ExactWords.{words-only}
 
 -- A statement says one item at most.
-pub item-only : (w : StatementWord) (own : Option Text) (rest : List Piece) (a b : HoldItem) → HasItem w own rest a → HasItem w own rest b → a ≡ b
+pub item-only : (w : StatementWord) (own : Option Text) (rest : List Piece) (a b : HoldItem) → HasItem w own rest a
+    → HasItem w own rest b → a ≡ b
 item-only w own rest (AHold a) (AHold b) h k =
     let words = words-only rest h.0 k.0 h.1 k.1 in
     ap (λ x. AHold x) (hold-only own k.0 a b (subst (λ l. IsHoldOf own l a) words h.2.1) k.2.1 (h.2.2 ∙ sym k.2.2))
@@ -29,12 +31,17 @@ item-only w own rest (ARelease a) (ARelease b) h k =
     let words = words-only rest h.0 k.0 h.1 k.1 in
     ap (λ x. ARelease x) (release-only own k.0 a b (subst (λ l. IsReleaseOf own l a) words h.2.1) k.2.1)
 
-same_item : (w v : StatementWord) (own other : Option Text) (rest more : List Piece) (inline text : Lines) (item : HoldItem) → SameParts w v own other rest more inline text → HasItem w own rest item → HasItem v other more item
+same_item : (w v : StatementWord) (own other : Option Text) (rest more : List Piece) (inline text : Lines)
+    (item : HoldItem) → SameParts w v own other rest more inline text → HasItem w own rest item
+    → HasItem v other more item
 same_item w v own other rest more inline text item p h =
-    subst (λ r. HasItem v other r item) p.rests (subst (λ o. HasItem v o rest item) p.owns (subst (λ x. HasItem x own rest item) p.words h))
+    subst (λ r. HasItem v other r item) p.rests (subst (λ o. HasItem v o rest item) p.owns
+    (subst (λ x. HasItem x own rest item) p.words h))
 
-same_place : (w v : StatementWord) (own other : Option Text) (rest more : List Piece) (inline text : Lines) → SameParts w v own other rest more inline text → MayStand w inline → MayStand v text
-same_place w v own other rest more inline text p h = subst (λ i. MayStand v i) p.inlines (subst (λ x. MayStand x inline) p.words h)
+same_place : (w v : StatementWord) (own other : Option Text) (rest more : List Piece) (inline text : Lines)
+    → SameParts w v own other rest more inline text → MayStand w inline → MayStand v text
+same_place w v own other rest more inline text p h = subst (λ i. MayStand v i) p.inlines
+    (subst (λ x. MayStand x inline) p.words h)
 
 good_item-only : (records : Lines) (a b : HoldItem) → IsGoodItem records a → IsGoodItem records b → a ≡ b
 good_item-only records a b h k =
@@ -42,11 +49,13 @@ good_item-only records a b h k =
     item-only k.0 k.1 k.2 a b (same_item h.0 k.0 h.1 k.1 h.2 k.2 h.3 k.3 a parts h.6) k.6
 
 -- No statement is both good and at fault.
-pub item_fault-no_good : (records : Lines) (code : McCode) (item : HoldItem) → IsItemFault records code → IsGoodItem records item → ⊥
+pub item_fault-no_good : (records : Lines) (code : McCode) (item : HoldItem) → IsItemFault records code
+    → IsGoodItem records item → ⊥
 item_fault-no_good records Mc1 item f g = fault-no_statement records f.0 g.4.pieces g.3 f.1 g.4.statement
 item_fault-no_good records Mc2 item f g =
     let same = statement-only records g.4.pieces f.pieces g.3 f.inline g.4.statement f.statement in
-    f.unknown g.0 g.1 g.2 (subst (λ p. TakesWord p (record { word = statement_text g.0; list = g.1 }) g.2) same.0 g.4.begins)
+    f.unknown g.0 g.1 g.2 (subst (λ p. TakesWord p (record { word = statement_text g.0; list = g.1 }) g.2) same.0
+    g.4.begins)
 item_fault-no_good records Mc3 item f g =
     let parts = known-only records g.0 f.0 g.1 f.1 g.2 f.2 g.3 f.3 g.4 f.4 in
     f.6 item (same_item g.0 f.0 g.1 f.1 g.2 f.2 g.3 f.3 item parts g.6)
@@ -63,24 +72,31 @@ no_next : (n : ℕ) (records : Lines) (fault : McsFault) → records ≡ [] → 
 no_next n records fault none f = no_group n f.1 f.2 f.0 (subst (λ r. TakesGroup n r f.0 f.1 f.2) none f.3)
 
 -- Items up to the end of the file leave no place for a fault.
-fault_behind : (n : ℕ) (records : Lines) (items : List HoldItem) (m : ℕ) (items' : List HoldItem) (m' : ℕ) (rest : Lines) (fault : McsFault) → BeginsWithItems n records items m [] → BeginsWithItems n records items' m' rest → IsNextItemFault m' rest fault → ⊥
+fault_behind : (n : ℕ) (records : Lines) (items : List HoldItem) (m : ℕ) (items' : List HoldItem) (m' : ℕ)
+    (rest : Lines) (fault : McsFault) → BeginsWithItems n records items m [] → BeginsWithItems n records items' m' rest
+    → IsNextItemFault m' rest fault → ⊥
 fault_behind n records [] m [] m' rest fault b b' f = no_next m' rest fault (sym b'.1 ∙ b.1) f
 fault_behind n records (i ∷ items) m [] m' rest fault b b' f =
-    let takes = subst (λ k. TakesGroup k records f.0 f.1 f.2) (sym b'.0) (subst (λ r. TakesGroup m' r f.0 f.1 f.2) (sym b'.1) f.3) in
+    let takes = subst (λ k. TakesGroup k records f.0 f.1 f.2) (sym b'.0)
+    (subst (λ r. TakesGroup m' r f.0 f.1 f.2) (sym b'.1) f.3) in
     let same = group-only n b.1 f.1 records b.2 f.2 b.0 f.0 b.3 takes in
     item_fault-no_good f.0.records fault.code i f.5 (subst (λ x. IsGoodItem x.records i) same.0 b.4)
-fault_behind n records [] m (i' ∷ items') m' rest fault b b' f = no_group n b'.1 b'.2 b'.0 (subst (λ r. TakesGroup n r b'.0 b'.1 b'.2) b.1 b'.3)
+fault_behind n records [] m (i' ∷ items') m' rest fault b b' f =
+    no_group n b'.1 b'.2 b'.0 (subst (λ r. TakesGroup n r b'.0 b'.1 b'.2) b.1 b'.3)
 fault_behind n records (i ∷ items) m (i' ∷ items') m' rest fault b b' f =
     let same = group-only n b.1 b'.1 records b.2 b'.2 b.0 b'.0 b.3 b'.3 in
-    let more = subst (λ k. BeginsWithItems k b'.2 items m []) same.1 (subst (λ r. BeginsWithItems b.1 r items m []) same.2 b.5) in
+    let more = subst (λ k. BeginsWithItems k b'.2 items m []) same.1
+    (subst (λ r. BeginsWithItems b.1 r items m []) same.2 b.5) in
     fault_behind b'.1 b'.2 items m items' m' rest fault more b'.5 f
 
-first_inside : (n : ℕ) (records : Lines) (items : List HoldItem) (m : ℕ) → BeginsWithItems n records items m [] → starts_outside records ≡ false
+first_inside : (n : ℕ) (records : Lines) (items : List HoldItem) (m : ℕ) → BeginsWithItems n records items m []
+    → starts_outside records ≡ false
 first_inside n records [] m b = ap starts_outside b.1
 first_inside n records (i ∷ items) m b = begins_inside n b.1 records b.2 b.0 b.3
 
 -- No file is both a hold file and at fault.
-pub hold_file_fault-no_items : (bytes : List ℕ) (fault : McsFault) (items : List HoldItem) → IsHoldFileFault bytes fault → IsHoldFile bytes items → ⊥
+pub hold_file_fault-no_items : (bytes : List ℕ) (fault : McsFault) (items : List HoldItem) → IsHoldFileFault bytes fault
+    → IsHoldFile bytes items → ⊥
 hold_file_fault-no_items bytes fault items (inl (inl f)) p = rec_fault-no_records bytes f.1 p.0 f.2 p.2
 hold_file_fault-no_items bytes fault items (inl (inr f)) p =
     let same = records-only bytes p.0 f.2 p.2 f.3 in
@@ -89,13 +105,17 @@ hold_file_fault-no_items bytes fault items (inr f) p =
     let same = records-only bytes f.0 p.0 f.4 p.2 in
     fault_behind 1 p.0 items p.1 f.1 f.2 f.3 fault p.3 (subst (λ r. BeginsWithItems 1 r f.1 f.2 f.3) same f.5) f.6
 
-items-only : (n : ℕ) (records : Lines) (items : List HoldItem) (m : ℕ) (items' : List HoldItem) (m' : ℕ) → BeginsWithItems n records items m [] → BeginsWithItems n records items' m' [] → items ≡ items'
+items-only : (n : ℕ) (records : Lines) (items : List HoldItem) (m : ℕ) (items' : List HoldItem) (m' : ℕ)
+    → BeginsWithItems n records items m [] → BeginsWithItems n records items' m' [] → items ≡ items'
 items-only n records [] m [] m' b b' = refl
-items-only n records (i ∷ items) m [] m' b b' = absurd (no_group n b.1 b.2 b.0 (subst (λ r. TakesGroup n r b.0 b.1 b.2) b'.1 b.3))
-items-only n records [] m (i' ∷ items') m' b b' = absurd (no_group n b'.1 b'.2 b'.0 (subst (λ r. TakesGroup n r b'.0 b'.1 b'.2) b.1 b'.3))
+items-only n records (i ∷ items) m [] m' b b' = absurd (no_group n b.1 b.2 b.0
+    (subst (λ r. TakesGroup n r b.0 b.1 b.2) b'.1 b.3))
+items-only n records [] m (i' ∷ items') m' b b' = absurd (no_group n b'.1 b'.2 b'.0
+    (subst (λ r. TakesGroup n r b'.0 b'.1 b'.2) b.1 b'.3))
 items-only n records (i ∷ items) m (i' ∷ items') m' b b' =
     let same = group-only n b.1 b'.1 records b.2 b'.2 b.0 b'.0 b.3 b'.3 in
-    let more = subst (λ k. BeginsWithItems k b'.2 items m []) same.1 (subst (λ r. BeginsWithItems b.1 r items m []) same.2 b.5) in
+    let more = subst (λ k. BeginsWithItems k b'.2 items m []) same.1
+    (subst (λ r. BeginsWithItems b.1 r items m []) same.2 b.5) in
     let first = good_item-only b'.0.records i i' (subst (λ x. IsGoodItem x.records i) same.0 b.4) b'.4 in
     let others = items-only b'.1 b'.2 items m items' m' more b'.5 in
     cc (first, others)

@@ -39,12 +39,18 @@ blanks-reverse text h = All-permutation (λ b. b ≡ 32) text (reverse text) (Is
 -- A text has one cut at most.
 pub trimmed-only : (text a b : Text) → IsTrimmed text a → IsTrimmed text b → a ≡ b
 trimmed-only text a b h k =
-    let front = longest-only (λ c. c ≡ 32) h.0 (a ++ h.1) k.0 (b ++ k.1) (sym (append_assoc h.0 a h.1) ∙ sym h.2 ∙ k.2 ∙ append_assoc k.0 b k.1) h.3 (dark_starts a h.1 h.5) k.3 (dark_starts b k.1 k.5) in
-    let turned : reverse h.1 ++ reverse a ≡ reverse k.1 ++ reverse b = sym (reverse-append a h.1) ∙ ap reverse front.1 ∙ reverse-append b k.1 in
-    let back = longest-only (λ c. c ≡ 32) (reverse h.1) (reverse a) (reverse k.1) (reverse b) turned (blanks-reverse h.1 h.4) (dark_whole (reverse a) h.6) (blanks-reverse k.1 k.4) (dark_whole (reverse b) k.6) in
+    let front = longest-only (λ c. c ≡ 32) h.0 (a ++ h.1) k.0 (b ++ k.1)
+    (sym (append_assoc h.0 a h.1) ∙ sym h.2 ∙ k.2 ∙ append_assoc k.0 b k.1) h.3 (dark_starts a h.1 h.5) k.3
+    (dark_starts b k.1 k.5) in
+    let turned : reverse h.1 ++ reverse a ≡ reverse k.1 ++ reverse b =
+    sym (reverse-append a h.1) ∙ ap reverse front.1 ∙ reverse-append b k.1 in
+    let back = longest-only (λ c. c ≡ 32) (reverse h.1) (reverse a) (reverse k.1) (reverse b) turned
+    (blanks-reverse h.1 h.4) (dark_whole (reverse a) h.6) (blanks-reverse k.1 k.4) (dark_whole (reverse b) k.6)
+    in
     sym (reverse-reverse a) ∙ ap reverse back.1 ∙ reverse-reverse b
 
-cut-only : (list a b : Option Text) → IsSomeAnd list (λ text. IsSomeAnd a (λ cut. IsTrimmed text cut)) → IsSomeAnd list (λ text. IsSomeAnd b (λ cut. IsTrimmed text cut)) → a ≡ b
+cut-only : (list a b : Option Text) → IsSomeAnd list (λ text. IsSomeAnd a (λ cut. IsTrimmed text cut))
+    → IsSomeAnd list (λ text. IsSomeAnd b (λ cut. IsTrimmed text cut)) → a ≡ b
 cut-only None a b h k = absurd h
 cut-only (Some text) None b h k = absurd h
 cut-only (Some text) (Some a) None h k = absurd k
@@ -54,27 +60,36 @@ pub comment-only : (found : Option Word) (a b : Option Text) → HasComment foun
 comment-only None a b h k = h ∙ sym k
 comment-only (Some w) a b h k = cut-only w.list a b h k
 
-reason-only : (found : Option Word) (a b : HoldKind) (r s : Text) → a ≡ b → HasRequired (IsReason a) found r → HasRequired (IsReason b) found s → r ≡ s
-reason-only found a b r s e h k = required-only (IsReason b) found r s (subst (λ kind. HasRequired (IsReason kind) found r) e h) k
+reason-only : (found : Option Word) (a b : HoldKind) (r s : Text) → a ≡ b → HasRequired (IsReason a) found r
+    → HasRequired (IsReason b) found s → r ≡ s
+reason-only found a b r s e h k = required-only (IsReason b) found r s
+    (subst (λ kind. HasRequired (IsReason kind) found r) e h) k
 
 -- A hold is determined but for whether it is internal.
-pub hold-only : (own : Option Text) (ws : List Word) (a b : Hold) → IsHoldOf own ws a → IsHoldOf own ws b → a.internal ≡ b.internal → a ≡ b
+pub hold-only : (own : Option Text) (ws : List Word) (a b : Hold) → IsHoldOf own ws a → IsHoldOf own ws b
+    → a.internal ≡ b.internal → a ≡ b
 hold-only own ws a b h k internal =
     let kinds = kind-only ws a.kind b.kind h.kind k.kind in
     ap (λ x. record a { id = x }) (own-only IsId IsId own a.id b.id h.id k.id)
     ∙ ap (λ x. record a { id = b.id; kind = x }) kinds
-    ∙ ap (λ x. record a { id = b.id; kind = b.kind; reason = x }) (reason-only _ a.kind b.kind a.reason b.reason kinds h.reason k.reason)
-    ∙ ap (λ x. record a { id = b.id; kind = b.kind; reason = b.reason; fmid = x }) (required-only IsId _ a.fmid b.fmid h.fmid k.fmid)
-    ∙ ap (λ x. record b { class = x; date = a.date; comment = a.comment; internal = a.internal }) (optional-only IsClass _ a.class b.class h.class k.class)
-    ∙ ap (λ x. record b { date = x; comment = a.comment; internal = a.internal }) (optional-only IsDate _ a.date b.date h.date k.date)
+    ∙ ap (λ x. record a { id = b.id; kind = b.kind; reason = x })
+    (reason-only _ a.kind b.kind a.reason b.reason kinds h.reason k.reason)
+    ∙ ap (λ x. record a { id = b.id; kind = b.kind; reason = b.reason; fmid = x })
+    (required-only IsId _ a.fmid b.fmid h.fmid k.fmid)
+    ∙ ap (λ x. record b { class = x; date = a.date; comment = a.comment; internal = a.internal })
+    (optional-only IsClass _ a.class b.class h.class k.class)
+    ∙ ap (λ x. record b { date = x; comment = a.comment; internal = a.internal })
+    (optional-only IsDate _ a.date b.date h.date k.date)
     ∙ ap (λ x. record b { comment = x; internal = a.internal }) (comment-only _ a.comment b.comment h.comment k.comment)
     ∙ ap (λ x. record b { internal = x }) internal
 
 -- A release is determined.
-pub release-only : (own : Option Text) (ws : List Word) (a b : Release) → IsReleaseOf own ws a → IsReleaseOf own ws b → a ≡ b
+pub release-only : (own : Option Text) (ws : List Word) (a b : Release) → IsReleaseOf own ws a → IsReleaseOf own ws b
+    → a ≡ b
 release-only own ws a b h k =
     let kinds = kind-only ws a.kind b.kind h.kind k.kind in
     ap (λ x. record a { id = x }) (own-only IsId IsId own a.id b.id h.id k.id)
     ∙ ap (λ x. record a { id = b.id; kind = x }) kinds
-    ∙ ap (λ x. record b { reason = x; fmid = a.fmid }) (reason-only _ a.kind b.kind a.reason b.reason kinds h.reason k.reason)
+    ∙ ap (λ x. record b { reason = x; fmid = a.fmid }) (reason-only _ a.kind b.kind a.reason b.reason kinds h.reason
+    k.reason)
     ∙ ap (λ x. record b { fmid = x }) (required-only IsId _ a.fmid b.fmid h.fmid k.fmid)

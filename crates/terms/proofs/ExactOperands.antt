@@ -1,5 +1,6 @@
 -- The values of operands are determined.
-use Rattle.std.proofs.Common.{◌≡◌, Bool, true, IsTrue, List, [], ◌∷◌, Option, Some, None, refl, sym, ◌∙◌, ap, subst, inl, inr}
+use Rattle.std.proofs.Common.{◌≡◌, Bool, true, IsTrue, List, [], ◌∷◌, Option, Some, None, refl, sym, ◌∙◌, ap, subst}
+use Rattle.std.proofs.Common.{inl, inr}
 use Rattle.std.specs.Prelude.{Contains, IsSomeAnd}
 use Rattle.std.specs.Ordering.{nat_cmp}
 use Rattle.std.specs.declared.cmp.Ordering.TheVariants.{Less, Greater}
@@ -24,10 +25,12 @@ not_both a b low high =
 
 -- what comes behind the first
 behind_first : (a : Text) (as' : List Text) (z : Text) → IsRising (a ∷ as') → Contains as' z → is_before a z ≡ true
-behind_first a as' z rises h = subst (λ t. is_before a t ≡ true) h.2 (AllPairs-first (λ x y. IsTrue (is_before x y)) a as' rises h.0 z h.1)
+behind_first a as' z rises h = subst (λ t. is_before a t ≡ true) h.2
+    (AllPairs-first (λ x y. IsTrue (is_before x y)) a as' rises h.0 z h.1)
 
 -- Lists that rise and have the same texts are one.
-pub rising-only : (as' bs : List Text) → IsRising as' → IsRising bs → ((x : Text) → Contains as' x → Contains bs x) → ((x : Text) → Contains bs x → Contains as' x) → as' ≡ bs
+pub rising-only : (as' bs : List Text) → IsRising as' → IsRising bs → ((x : Text) → Contains as' x → Contains bs x)
+    → ((x : Text) → Contains bs x → Contains as' x) → as' ≡ bs
 rising-only [] [] rises rises' up down = refl
 rising-only [] (b ∷ bs) rises rises' up down = absurd (none_in b (down b (here b bs)))
 rising-only (a ∷ as') [] rises rises' up down = absurd (none_in a (up a (here a as')))
@@ -39,70 +42,87 @@ rising-only (a ∷ as') (b ∷ bs) rises rises' up down =
         | inr later' ↦ absurd (not_both b a (behind_first b bs a rises' later) (behind_first a as' b rises later'))
       ]
     ] in
-    let more = rising-only as' bs (AllPairs-rest (λ x y. IsTrue (is_before x y)) a as' rises) (AllPairs-rest (λ x y. IsTrue (is_before x y)) b bs rises')
-    (λ z h. rest a b as' bs z same rises (up z (there a as' z h)) h) (λ z h. rest b a bs as' z (sym same) rises' (down z (there b bs z h)) h) in
+    let more = rising-only as' bs (AllPairs-rest (λ x y. IsTrue (is_before x y)) a as' rises)
+    (AllPairs-rest (λ x y. IsTrue (is_before x y)) b bs rises')
+    (λ z h. rest a b as' bs z same rises (up z (there a as' z h)) h)
+    (λ z h. rest b a bs as' z (sym same) rises' (down z (there b bs z h)) h) in
     cc (same, more)
   where
-    rest : (a b : Text) (as' bs : List Text) (z : Text) → a ≡ b → IsRising (a ∷ as') → Contains (b ∷ bs) z → Contains as' z → Contains bs z
+    rest : (a b : Text) (as' bs : List Text) (z : Text) → a ≡ b → IsRising (a ∷ as') → Contains (b ∷ bs) z
+        → Contains as' z → Contains bs z
     rest a b as' bs z same rises h later =
         elim (here_or b bs z h) [
-          | inl is ↦ let low : is_before a a ≡ true = subst (λ t. is_before a t ≡ true) (sym (same ∙ is)) (behind_first a as' z rises later) in absurd (not_both a a low low)
+          | inl is ↦ let low : is_before a a ≡ true = subst (λ t. is_before a t ≡ true) (sym (same ∙ is))
+              (behind_first a as' z rises later) in absurd (not_both a a low low)
           | inr more ↦ more
         ]
 
 pub sorted-only : (texts a b : List Text) → AreSorted texts a → AreSorted texts b → a ≡ b
-sorted-only texts a b s t = rising-only a b s.rising t.rising (λ x h. (t.same x).1 ((s.same x).0 h)) (λ x h. (s.same x).1 ((t.same x).0 h))
+sorted-only texts a b s t = rising-only a b s.rising t.rising (λ x h. (t.same x).1 ((s.same x).0 h))
+    (λ x h. (s.same x).1 ((t.same x).0 h))
 
-listed-only : (form : Text → Type 0) (list : Option Text) (a b : List Text) → IsSomeAnd list (λ text. IsListOf form text a) → IsSomeAnd list (λ text. IsListOf form text b) → a ≡ b
+listed-only : (form : Text → Type 0) (list : Option Text) (a b : List Text)
+    → IsSomeAnd list (λ text. IsListOf form text a) → IsSomeAnd list (λ text. IsListOf form text b) → a ≡ b
 listed-only form None a b h k = absurd h
 listed-only form (Some text) a b h k = list-only form form text a b h k
 
 -- A word's list has one list of values in rising order.
-pub has_sorted-only : (form : Text → Type 0) (w : Word) (a b : List Text) → HasSorted form w a → HasSorted form w b → a ≡ b
-has_sorted-only form w a b h k = sorted-only h.0 a b h.2 (subst (λ l. AreSorted l b) (listed-only form w.list k.0 h.0 k.1 h.1) k.2)
+pub has_sorted-only : (form : Text → Type 0) (w : Word) (a b : List Text) → HasSorted form w a → HasSorted form w b
+    → a ≡ b
+has_sorted-only form w a b h k = sorted-only h.0 a b h.2 (subst (λ l. AreSorted l b)
+    (listed-only form w.list k.0 h.0 k.1 h.1) k.2)
 
 -- and one value, where it has one
-pub members_one : (list : Option Text) (m n : Text) → IsSomeAnd list (λ text. HasMembers text (plain m ∷ [])) → IsSomeAnd list (λ text. HasMembers text (plain n ∷ [])) → m ≡ n
+pub members_one : (list : Option Text) (m n : Text) → IsSomeAnd list (λ text. HasMembers text (plain m ∷ []))
+    → IsSomeAnd list (λ text. HasMembers text (plain n ∷ [])) → m ≡ n
 members_one None m n h k = absurd h
 members_one (Some text) m n h k =
     let same = members-only text (plain m ∷ []) (plain n ∷ []) h k in
     let words : plain m ≡ plain n = cc (same) in
     ap (λ (w : Word). w.word) words
 
-pub has_member : (form : Text → Type 0) (list : Option Text) (m : Text) → IsSomeAnd list (λ text. IsOneOf form text m) → IsSomeAnd list (λ text. HasMembers text (plain m ∷ [])) × form m
+pub has_member : (form : Text → Type 0) (list : Option Text) (m : Text) → IsSomeAnd list (λ text. IsOneOf form text m)
+    → IsSomeAnd list (λ text. HasMembers text (plain m ∷ [])) × form m
 has_member form None m h = absurd h
 has_member form (Some text) m h = (h.has_member, h.form_is)
 
-pub one_of : (form : Text → Type 0) (list : Option Text) (m : Text) → IsSomeAnd list (λ text. HasMembers text (plain m ∷ [])) → form m → IsSomeAnd list (λ text. IsOneOf form text m)
+pub one_of : (form : Text → Type 0) (list : Option Text) (m : Text)
+    → IsSomeAnd list (λ text. HasMembers text (plain m ∷ [])) → form m → IsSomeAnd list (λ text. IsOneOf form text m)
 one_of form None m h f = absurd h
 one_of form (Some text) m h f = record { has_member = h; form_is = f }
 
 -- Two forms take one and the same member.
-pub own-only : (form other : Text → Type 0) (own : Option Text) (m n : Text) → IsSomeAnd own (λ text. IsOneOf form text m) → IsSomeAnd own (λ text. IsOneOf other text n) → m ≡ n
+pub own-only : (form other : Text → Type 0) (own : Option Text) (m n : Text)
+    → IsSomeAnd own (λ text. IsOneOf form text m) → IsSomeAnd own (λ text. IsOneOf other text n) → m ≡ n
 own-only form other own m n h k = members_one own m n (has_member form own m h).0 (has_member other own n k).0
 
 pub one_value : (form : Text → Type 0) (w : Word) (m n : Text) → HasOne form w m → HasOne form w n → m ≡ n
 one_value form w m n h k = own-only form form w.list m n h k
 
-pub required-only : (form : Text → Type 0) (found : Option Word) (m n : Text) → HasRequired form found m → HasRequired form found n → m ≡ n
+pub required-only : (form : Text → Type 0) (found : Option Word) (m n : Text) → HasRequired form found m
+    → HasRequired form found n → m ≡ n
 required-only form None m n h k = absurd h
 required-only form (Some w) m n h k = one_value form w m n h k
 
-pub optional-only : (form : Text → Type 0) (found : Option Word) (m n : Option Text) → HasOptional form found m → HasOptional form found n → m ≡ n
+pub optional-only : (form : Text → Type 0) (found : Option Word) (m n : Option Text) → HasOptional form found m
+    → HasOptional form found n → m ≡ n
 optional-only form None m n h k = h ∙ sym k
 optional-only form (Some w) None n h k = absurd h
 optional-only form (Some w) (Some m) None h k = absurd k
 optional-only form (Some w) (Some m) (Some n) h k = ap (λ t. Some t) (one_value form w m n h k)
 
-pub texts-only : (form : Text → Type 0) (found : Option Word) (a b : List Text) → HasTexts form found a → HasTexts form found b → a ≡ b
+pub texts-only : (form : Text → Type 0) (found : Option Word) (a b : List Text) → HasTexts form found a
+    → HasTexts form found b → a ≡ b
 texts-only form None a b h k = h ∙ sym k
 texts-only form (Some w) a b h k = has_sorted-only form w a b h k
 
-pub some-only : (form : Text → Type 0) (found : Option Word) (a b : List Text) → IsSomeAnd found (λ w. HasSorted form w a) → IsSomeAnd found (λ w. HasSorted form w b) → a ≡ b
+pub some-only : (form : Text → Type 0) (found : Option Word) (a b : List Text)
+    → IsSomeAnd found (λ w. HasSorted form w a) → IsSomeAnd found (λ w. HasSorted form w b) → a ≡ b
 some-only form None a b h k = absurd h
 some-only form (Some w) a b h k = has_sorted-only form w a b h k
 
-pub listed_some-only : (form : Text → Type 0) (found : Option Word) (a b : List Text) → IsSomeAnd found (λ w. HasListed form w a) → IsSomeAnd found (λ w. HasListed form w b) → a ≡ b
+pub listed_some-only : (form : Text → Type 0) (found : Option Word) (a b : List Text)
+    → IsSomeAnd found (λ w. HasListed form w a) → IsSomeAnd found (λ w. HasListed form w b) → a ≡ b
 listed_some-only form None a b h k = absurd h
 listed_some-only form (Some w) a b h k = listed-only form w.list a b h k
 

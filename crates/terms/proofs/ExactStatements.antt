@@ -13,10 +13,13 @@ use Rattle.terms.specs.Forms.{IsId, IsSource, IsSrel, IsName}
 use Rattle.terms.specs.Statement.{Piece, TheWord, TheList}
 use Rattle.terms.specs.Operands.{HasOne, HasSorted}
 use Rattle.terms.specs.Words.{Word, list_pieces, TakesWord, BeginsNoList}
-use Rattle.terms.specs.Statements.{statement_text, changed_type, Statement, SaysHeader, SaysVer, SaysIf, SaysHold, SaysAssign, SaysChange, IsVerOf, IsIfOf, IsOwnHoldOf, IsAssignOf, HasAction, IsChangeOf, Says}
+use Rattle.terms.specs.Statements.{statement_text, changed_type, Statement, SaysHeader, SaysVer, SaysIf, SaysHold}
+use Rattle.terms.specs.Statements.{SaysAssign, SaysChange, IsVerOf, IsIfOf, IsOwnHoldOf, IsAssignOf, HasAction}
+use Rattle.terms.specs.Statements.{IsChangeOf, Says}
 use Rattle.terms.specs.Ptfin.{HasValue}
 use Rattle.terms.proofs.ExactWords.{words-only}
-use Rattle.terms.proofs.ExactOperands.{own-only, one_value, has_sorted-only, listed_some-only, required-only, optional-only, texts-only}
+use Rattle.terms.proofs.ExactOperands.{own-only, one_value, has_sorted-only, listed_some-only, required-only}
+use Rattle.terms.proofs.ExactOperands.{optional-only, texts-only}
 use Rattle.terms.proofs.ExactHolds.{hold-only}
 
 -- the words, as a reader knows them
@@ -24,7 +27,8 @@ read_word : Text → Option StatementWord
 read_word text =
     find (λ w. bytes_eq (statement_text w) text)
     (word.Header Function ∷ word.Header Ptf ∷ word.Header Apar ∷ word.Header Usermod ∷ word.Ver ∷ word.If ∷ word.Hold
-    ∷ word.Release ∷ word.Assign ∷ word.Replace Mac ∷ word.Replace Src ∷ word.Replace Clist ∷ word.Replace Data ∷ word.Replace Exec
+    ∷ word.Release ∷ word.Assign ∷ word.Replace Mac ∷ word.Replace Src ∷ word.Replace Clist ∷ word.Replace Data ∷
+    word.Replace Exec
     ∷ word.Replace Parm ∷ word.Replace Proc ∷ word.UpdateMac ∷ word.UpdateSrc ∷ [])
 
 reads : (w : StatementWord) → read_word (statement_text w) ≡ Some w
@@ -55,7 +59,9 @@ some_same a b e = cc (e)
 pub spelled-only : (w v : StatementWord) → statement_text w ≡ statement_text v → w ≡ v
 spelled-only w v e = some_same w v (sym (reads w) ∙ ap read_word e ∙ reads v)
 
-takes_same : (a b : Text) (k l : Option Text) (rest more : List Piece) → TheWord a ∷ (list_pieces k ++ rest) ≡ TheWord b ∷ (list_pieces l ++ more) → (k ≡ None → BeginsNoList rest) → (l ≡ None → BeginsNoList more) → (a ≡ b) × (k ≡ l) × (rest ≡ more)
+takes_same : (a b : Text) (k l : Option Text) (rest more : List Piece)
+    → TheWord a ∷ (list_pieces k ++ rest) ≡ TheWord b ∷ (list_pieces l ++ more) → (k ≡ None → BeginsNoList rest)
+    → (l ≡ None → BeginsNoList more) → (a ≡ b) × (k ≡ l) × (rest ≡ more)
 takes_same a b None None rest more e f g = (cc (e), refl, cc (e))
 takes_same a b None (Some l) rest more e f g =
     let rest_is : rest ≡ TheList l ∷ more = cc (e) in
@@ -66,40 +72,51 @@ takes_same a b (Some k) None rest more e f g =
 takes_same a b (Some k) (Some l) rest more e f g = (cc (e), cc (e), cc (e))
 
 -- The word that pieces begin with, its list and what follows are determined.
-pub takes-only : (pieces : List Piece) (a b : Text) (k l : Option Text) (rest more : List Piece) → TakesWord pieces (record { word = a; list = k }) rest → TakesWord pieces (record { word = b; list = l }) more → (a ≡ b) × (k ≡ l) × (rest ≡ more)
+pub takes-only : (pieces : List Piece) (a b : Text) (k l : Option Text) (rest more : List Piece)
+    → TakesWord pieces (record { word = a; list = k }) rest → TakesWord pieces (record { word = b; list = l }) more
+    → (a ≡ b) × (k ≡ l) × (rest ≡ more)
 takes-only pieces a b k l rest more t u = takes_same a b k l rest more (sym t.pieces_are ∙ u.pieces_are) t.ends u.ends
 
 -- A ++VER is determined.
-pub ver-only : (s : Sysmod) (own : Option Text) (ws : List Word) (a b : Ver) → IsVerOf s own ws a → IsVerOf s own ws b → a ≡ b
+pub ver-only : (s : Sysmod) (own : Option Text) (ws : List Word) (a b : Ver) → IsVerOf s own ws a → IsVerOf s own ws b
+    → a ≡ b
 ver-only s own ws a b h k =
     ap (λ x. record a { srel = x }) (own-only IsSrel IsSrel own a.srel b.srel h.srel k.srel)
     ∙ ap (λ x. record a { srel = b.srel; fmid = x }) (optional-only IsId _ a.fmid b.fmid h.fmid k.fmid)
     ∙ ap (λ x. record a { srel = b.srel; fmid = b.fmid; pre = x }) (texts-only IsId _ a.pre b.pre h.pre k.pre)
-    ∙ ap (λ x. record a { srel = b.srel; fmid = b.fmid; pre = b.pre; req = x }) (texts-only IsId _ a.req b.req h.req k.req)
-    ∙ ap (λ x. record b { sup = x; npre = a.npre; del = a.del; ifs = a.ifs }) (texts-only IsId _ a.sup b.sup h.sup k.sup)
+    ∙ ap (λ x. record a { srel = b.srel; fmid = b.fmid; pre = b.pre; req = x })
+    (texts-only IsId _ a.req b.req h.req k.req)
+    ∙ ap (λ x. record b { sup = x; npre = a.npre; del = a.del; ifs = a.ifs })
+    (texts-only IsId _ a.sup b.sup h.sup k.sup)
     ∙ ap (λ x. record b { npre = x; del = a.del; ifs = a.ifs }) (texts-only IsId _ a.npre b.npre h.npre k.npre)
     ∙ ap (λ x. record b { del = x; ifs = a.ifs }) (texts-only IsId _ a.del b.del h.del k.del)
     ∙ ap (λ x. record b { ifs = x }) (h.no_ifs ∙ sym k.no_ifs)
 
 -- An ++IF is determined.
-pub if-only : (s : Sysmod) (own : Option Text) (ws : List Word) (a b : IfReq) → IsIfOf s own ws a → IsIfOf s own ws b → a ≡ b
+pub if-only : (s : Sysmod) (own : Option Text) (ws : List Word) (a b : IfReq) → IsIfOf s own ws a → IsIfOf s own ws b
+    → a ≡ b
 if-only s own ws a b h k =
     let fmid : h.fmid ≡ k.fmid = cc (h.are_operands, k.are_operands) in
     let req : h.req ≡ k.req = cc (h.are_operands, k.are_operands) in
-    ap (λ x. record a { function = x }) (one_value IsId k.fmid a.function b.function (subst (λ w. HasOne IsId w a.function) fmid h.function) k.function)
-    ∙ ap (λ x. record b { req = x }) (has_sorted-only IsId k.req a.req b.req (subst (λ w. HasSorted IsId w a.req) req h.ids) k.ids)
+    ap (λ x. record a { function = x }) (one_value IsId k.fmid a.function b.function
+    (subst (λ w. HasOne IsId w a.function) fmid h.function) k.function)
+    ∙ ap (λ x. record b { req = x }) (has_sorted-only IsId k.req a.req b.req
+    (subst (λ w. HasSorted IsId w a.req) req h.ids) k.ids)
 
 -- A hold inside a SYSMOD is determined.
-pub own_hold-only : (s : Sysmod) (own : Option Text) (ws : List Word) (a b : Hold) → IsOwnHoldOf s own ws a → IsOwnHoldOf s own ws b → a ≡ b
+pub own_hold-only : (s : Sysmod) (own : Option Text) (ws : List Word) (a b : Hold) → IsOwnHoldOf s own ws a
+    → IsOwnHoldOf s own ws b → a ≡ b
 own_hold-only s own ws a b h k = hold-only own ws a b h.hold k.hold (h.internal ∙ sym k.internal)
 
 -- An ++ASSIGN is determined.
-pub assign-only : (own : Option Text) (ws : List Word) (a b : Assign) → IsAssignOf own ws a → IsAssignOf own ws b → a ≡ b
+pub assign-only : (own : Option Text) (ws : List Word) (a b : Assign) → IsAssignOf own ws a → IsAssignOf own ws b
+    → a ≡ b
 assign-only own ws a b h k =
     ap (λ x. record a { source = x }) (required-only IsSource _ a.source b.source h.source k.source)
     ∙ ap (λ x. record b { to = x }) (listed_some-only IsId _ a.to b.to h.to k.to)
 
-action-only : (w : StatementWord) (ws : List Word) (inline : Lines) (a b : Action) → HasAction w ws inline a → HasAction w ws inline b → a ≡ b
+action-only : (w : StatementWord) (ws : List Word) (inline : Lines) (a b : Action) → HasAction w ws inline a
+    → HasAction w ws inline b → a ≡ b
 action-only (word.Replace type) ws inline (Replaces d l text) (Replaces d' l' text') h k =
     ap (λ x. Replaces x l text) (required-only IsName _ d d' h.1 k.1)
     ∙ ap (λ x. Replaces d' x text) (required-only IsName _ l l' h.2 k.2)
@@ -115,7 +132,8 @@ action-only word.UpdateSrc ws inline a (Replaces d l text) h k = absurd k
 action-only w ws inline a b h k = absurd h
 
 -- A replacement or an update is determined.
-pub change-only : (w : StatementWord) (own : Option Text) (ws : List Word) (inline : Lines) (a b : Change) → IsChangeOf w own ws inline a → IsChangeOf w own ws inline b → a ≡ b
+pub change-only : (w : StatementWord) (own : Option Text) (ws : List Word) (inline : Lines) (a b : Change)
+    → IsChangeOf w own ws inline a → IsChangeOf w own ws inline b → a ≡ b
 change-only w own ws inline a b h k =
     let types : a.elem_type ≡ b.elem_type = cc (h.type_is, k.type_is) in
     ap (λ x. record a { elem_type = x }) types
@@ -123,7 +141,9 @@ change-only w own ws inline a b h k =
     ∙ ap (λ x. record b { action = x }) (action-only w ws inline a.action b.action h.action k.action)
 
 -- what is said of a SYSMOD, where there is one
-current-only : {A : Type 0} (current : Option Sysmod) (Is : Sysmod → A → Type 0) → ((s : Sysmod) (a b : A) → Is s a → Is s b → a ≡ b) → (a b : A) → IsSomeAnd current (λ s. Is s a) → IsSomeAnd current (λ s. Is s b) → a ≡ b
+current-only : {A : Type 0} (current : Option Sysmod) (Is : Sysmod → A → Type 0)
+    → ((s : Sysmod) (a b : A) → Is s a → Is s b → a ≡ b) → (a b : A) → IsSomeAnd current (λ s. Is s a)
+    → IsSomeAnd current (λ s. Is s b) → a ≡ b
 current-only None Is only a b h k = absurd h
 current-only (Some s) Is only a b h k = only s a b h k
 
@@ -154,7 +174,8 @@ changes_spoken word.UpdateMac t e = refl
 changes_spoken word.UpdateSrc t e = refl
 changes_spoken w t e = absurd (cc (e))
 
-says_spoken : (current : Option Sysmod) (w : StatementWord) (own : Option Text) (ws : List Word) (inline : Lines) (s : Statement) → Says current w own ws inline s → said s ≡ spoken w
+says_spoken : (current : Option Sysmod) (w : StatementWord) (own : Option Text) (ws : List Word) (inline : Lines)
+    (s : Statement) → Says current w own ws inline s → said s ≡ spoken w
 unfolding said spoken
 says_spoken current w own ws inline (SaysHeader j x) h = ap spoken (sym h.0)
 says_spoken current w own ws inline (SaysVer v) h = ap spoken (sym h.0)
@@ -166,25 +187,34 @@ says_spoken current w own ws inline (SaysChange c) h = sym (changes_spoken w c.e
 header_kind : (w : StatementWord) (j k : Kind) → w ≡ word.Header j → w ≡ word.Header k → j ≡ k
 header_kind w j k e f = cc (e, f)
 
-says_same : (current : Option Sysmod) (w : StatementWord) (own : Option Text) (ws : List Word) (inline : Lines) (s t : Statement) → said s ≡ said t → Says current w own ws inline s → Says current w own ws inline t → s ≡ t
+says_same : (current : Option Sysmod) (w : StatementWord) (own : Option Text) (ws : List Word) (inline : Lines)
+    (s t : Statement) → said s ≡ said t → Says current w own ws inline s → Says current w own ws inline t → s ≡ t
 unfolding said
 says_same current w own ws inline (SaysHeader j x) (SaysHeader k y) e h g =
     let kinds = header_kind w j k h.0 g.0 in
     let ids = own-only IsId IsId own x y h.1.0 g.1.0 in
     cc (kinds, ids)
-says_same current w own ws inline (SaysVer v) (SaysVer u) e h g = ap (λ x. SaysVer x) (current-only current (λ s. IsVerOf s own ws) (λ s. ver-only s own ws) v u h.1 g.1)
-says_same current w own ws inline (SaysIf i) (SaysIf j) e h g = ap (λ x. SaysIf x) (current-only current (λ s. IsIfOf s own ws) (λ s. if-only s own ws) i j h.1 g.1)
-says_same current w own ws inline (SaysHold x) (SaysHold y) e h g = ap (λ x. SaysHold x) (current-only current (λ s. IsOwnHoldOf s own ws) (λ s. own_hold-only s own ws) x y h.1 g.1)
-says_same current w own ws inline (SaysAssign a) (SaysAssign b) e h g = ap (λ x. SaysAssign x) (assign-only own ws a b h.1 g.1)
-says_same current w own ws inline (SaysChange c) (SaysChange d) e h g = ap (λ x. SaysChange x) (change-only w own ws inline c d h g)
+says_same current w own ws inline (SaysVer v) (SaysVer u) e h g =
+    ap (λ x. SaysVer x) (current-only current (λ s. IsVerOf s own ws) (λ s. ver-only s own ws) v u h.1 g.1)
+says_same current w own ws inline (SaysIf i) (SaysIf j) e h g =
+    ap (λ x. SaysIf x) (current-only current (λ s. IsIfOf s own ws) (λ s. if-only s own ws) i j h.1 g.1)
+says_same current w own ws inline (SaysHold x) (SaysHold y) e h g =
+    ap (λ x. SaysHold x) (current-only current (λ s. IsOwnHoldOf s own ws) (λ s. own_hold-only s own ws) x y h.1 g.1)
+says_same current w own ws inline (SaysAssign a) (SaysAssign b) e h g =
+    ap (λ x. SaysAssign x) (assign-only own ws a b h.1 g.1)
+says_same current w own ws inline (SaysChange c) (SaysChange d) e h g =
+    ap (λ x. SaysChange x) (change-only w own ws inline c d h g)
 says_same current w own ws inline s t e h g = absurd (omega (arith, e))
 
-says-only : (current : Option Sysmod) (w : StatementWord) (own : Option Text) (ws : List Word) (inline : Lines) (s t : Statement) → Says current w own ws inline s → Says current w own ws inline t → s ≡ t
+says-only : (current : Option Sysmod) (w : StatementWord) (own : Option Text) (ws : List Word) (inline : Lines)
+    (s t : Statement) → Says current w own ws inline s → Says current w own ws inline t → s ≡ t
 says-only current w own ws inline s t h g =
-    says_same current w own ws inline s t (says_spoken current w own ws inline s h ∙ sym (says_spoken current w own ws inline t g)) h g
+    says_same current w own ws inline s t (says_spoken current w own ws inline s h
+    ∙ sym (says_spoken current w own ws inline t g)) h g
 
 -- What a statement says is determined.
-pub value-only : (current : Option Sysmod) (w : StatementWord) (own : Option Text) (rest : List Piece) (inline : Lines) (s t : Statement) → HasValue current w own rest inline s → HasValue current w own rest inline t → s ≡ t
+pub value-only : (current : Option Sysmod) (w : StatementWord) (own : Option Text) (rest : List Piece) (inline : Lines)
+    (s t : Statement) → HasValue current w own rest inline s → HasValue current w own rest inline t → s ≡ t
 value-only current w own rest inline s t h k =
     let words = words-only rest h.0 k.0 h.1 k.1 in
     says-only current w own k.0 inline s t (subst (λ l. Says current w own l inline s) words h.2) k.2

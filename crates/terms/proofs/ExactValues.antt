@@ -1,5 +1,6 @@
 -- A command is determined by its pieces, and no pieces are both a command and at fault.
-use Rattle.std.proofs.Common.{◌≡◌, ◌≢◌, ◌≤◌, Bool, true, false, List, [], ◌∷◌, map, get_or, Option, Some, None, refl, sym, ◌∙◌, ap, ap₂, subst, arith, cond}
+use Rattle.std.proofs.Common.{◌≡◌, ◌≢◌, ◌≤◌, Bool, true, false, List, [], ◌∷◌, map, get_or, Option, Some, None, refl}
+use Rattle.std.proofs.Common.{sym, ◌∙◌, ap, ap₂, subst, arith, cond}
 use Rattle.std.specs.Prelude.{◌||◌, All, AllPairs, IsSomeAnd, codes, not, if◌then◌else◌}
 use Rattle.std.specs.Str.{bytes_eq}
 use Rattle.std.proofs.lemmas.Bool.{true≢false, false_from_ne_true}
@@ -11,12 +12,14 @@ use Rattle.terms.specs.declared.codes.CommandWord.{CommandWord}
 use Rattle.terms.specs.declared.codes.CommandWord.TheVariants as word
 use Rattle.terms.specs.declared.codes.CnCode.{CnCode}
 use Rattle.terms.specs.declared.codes.CnCode.TheVariants.{Cn1, Cn2, Cn3, Cn4, Cn5}
-use Rattle.terms.specs.Types.{Text, Selection, Install, RestoreList, RestoreSelect, RestoreGroup, ReceiveWhat, Command, Set, Receive, Reject, Apply, Accept, Restore, ListZone, Report}
+use Rattle.terms.specs.Types.{Text, Selection, Install, RestoreList, RestoreSelect, RestoreGroup, ReceiveWhat, Command}
+use Rattle.terms.specs.Types.{Set, Receive, Reject, Apply, Accept, Restore, ListZone, Report}
 use Rattle.terms.specs.Forms.{IsId, IsSource, IsZoneName}
 use Rattle.terms.specs.Statement.{Piece}
 use Rattle.terms.specs.Words.{Word, HasWords}
 use Rattle.terms.specs.Operands.{operand, HasSorted}
-use Rattle.terms.specs.CommandForms.{operands_of, command_word, HasSome, HasReceive, HasSelection, HasInstall, HasRestoreList, HasOperands, IsCommand}
+use Rattle.terms.specs.CommandForms.{operands_of, command_word, HasSome, HasReceive, HasSelection, HasInstall}
+use Rattle.terms.specs.CommandForms.{HasRestoreList, HasOperands, IsCommand}
 use Rattle.terms.specs.Commands.{words_in, is_often, has_double, is_unchosen, BeginsWith, IsCommandFault}
 use Rattle.lemmas.proofs.Pairs.{pairs_map, AllPairs-first, AllPairs-rest}
 use Rattle.terms.proofs.ExactWords.{words-only}
@@ -32,12 +35,24 @@ receive-only ws a b h k =
     let sysmods = flag-only (operand (codes "SYSMODS") ws) h.sysmods k.sysmods h.has_sysmods k.has_sysmods in
     let holddata = flag-only (operand (codes "HOLDDATA") ws) h.holddata k.holddata h.has_holddata k.has_holddata in
     let source = optional-only IsSource (operand (codes "SOURCEID") ws) a.source b.source h.source k.source in
-    ap (λ x. what x a.holddata a.source) (h.reads_sysmods ∙ ap₂ (λ s d. s || not d) sysmods holddata ∙ sym k.reads_sysmods)
+    ap (λ x. what x a.holddata a.source) (h.reads_sysmods ∙ ap₂ (λ s d. s || not d) sysmods holddata
+    ∙ sym k.reads_sysmods)
     ∙ ap (λ x. what b.sysmods x a.source) (h.reads_holds ∙ ap₂ (λ s d. d || not s) sysmods holddata ∙ sym k.reads_holds)
     ∙ ap (λ x. what b.sysmods b.holddata x) source
 
 abbrev make : Bool → Bool → Bool → Bool → List Text → List Text → List Text → List Text → List Text → Bool → Selection
-make x0 x1 x2 x3 x4 x5 x6 x7 x8 x9 = record { functions = x0; ptfs = x1; apars = x2; usermods = x3; select = x4; exclude = x5; sourceid = x6; forfmid = x7; group = x8; groupextend = x9 }
+make x0 x1 x2 x3 x4 x5 x6 x7 x8 x9 = record {
+  functions = x0;
+  ptfs = x1;
+  apars = x2;
+  usermods = x3;
+  select = x4;
+  exclude = x5;
+  sourceid = x6;
+  forfmid = x7;
+  group = x8;
+  groupextend = x9;
+}
 
 selection-only : (ws : List Word) (s t : Selection) → HasSelection ws s → HasSelection ws t → s ≡ t
 selection-only ws s t h k =
@@ -78,7 +93,8 @@ list-only ws (RestoreSelect x) (RestoreGroup y) h k = absurd (none_some (operand
 list-only ws (RestoreGroup x) (RestoreSelect y) h k = absurd (none_some (operand (codes "GROUP") ws) x k.0 h.1)
 list-only ws (RestoreGroup x) (RestoreGroup y) h k = ap (λ l. RestoreGroup l) (some-only IsId (operand (codes "GROUP") ws) x y h.1.0 k.1.0)
 
-values-only : (ws : List Word) (c d : Command) → command_word c ≡ command_word d → HasOperands ws c → HasOperands ws d → c ≡ d
+values-only : (ws : List Word) (c d : Command) → command_word c ≡ command_word d → HasOperands ws c → HasOperands ws d
+    → c ≡ d
 values-only ws (Set x) (Set y) e h k = ap (λ v. Set v) (required-only IsZoneName (operand (codes "BDY") ws) x y h k)
 values-only ws (Receive x) (Receive y) e h k = ap (λ v. Receive v) (receive-only ws x y h k)
 values-only ws (Reject x) (Reject y) e h k = ap (λ v. Reject v) (some-only IsId (operand (codes "SELECT") ws) x y h.0 k.0)
@@ -100,17 +116,20 @@ value-only pieces c d k l =
 count_none : (t : Text) (texts : List Text) → All (λ s. t ≢ s) texts → count t texts ≡ 0
 count_none t [] apart = refl
 count_none t (s ∷ texts) apart =
-    let other : bytes_eq t s ≡ false = false_from_ne_true (bytes_eq t s) (λ same. All-head (λ s. t ≢ s) s texts apart ((bytes_eq-Decides t s).0 same)) in
+    let other : bytes_eq t s ≡ false = false_from_ne_true (bytes_eq t s)
+    (λ same. All-head (λ s. t ≢ s) s texts apart ((bytes_eq-Decides t s).0 same)) in
     count_other t s texts other ∙ count_none t texts (All-tail (λ s. t ≢ s) s texts apart)
 
 count_once : (t : Text) (texts : List Text) → AllPairs (λ a b. a ≢ b) texts → count t texts ≤ 1
 count_once t [] apart = omega arith
-count_once t (s ∷ texts) apart = at (count_once t texts (AllPairs-rest (λ a b. a ≢ b) s texts apart)) (bytes_eq t s) refl
+count_once t (s ∷ texts) apart = at (count_once t texts (AllPairs-rest (λ a b. a ≢ b) s texts apart)) (bytes_eq t s)
+    refl
   where
     at : count t texts ≤ 1 → (b : Bool) → bytes_eq t s ≡ b → count t (s ∷ texts) ≤ 1
     at more true same =
         let is : t ≡ s = (bytes_eq-Decides t s).0 same in
-        let none = count_none t texts (subst (λ u. All (λ v. u ≢ v) texts) (sym is) (AllPairs-first (λ a b. a ≢ b) s texts apart)) in
+        let none = count_none t texts (subst (λ u. All (λ v. u ≢ v) texts) (sym is)
+        (AllPairs-first (λ a b. a ≢ b) s texts apart)) in
         omega (arith, count_same t s texts same, none)
     at more false other = omega (arith, count_other t s texts other, more)
 
@@ -122,7 +141,8 @@ absent : (name : Text) (ws : List Word) → operand name ws ≡ None → count n
 absent name [] none = refl
 absent name (w ∷ ws) none = at (absent name ws) (bytes_eq w.word name) refl
   where
-    at : (operand name ws ≡ None → count name (texts_of ws) ≡ 0) → (b : Bool) → bytes_eq w.word name ≡ b → count name (texts_of (w ∷ ws)) ≡ 0
+    at : (operand name ws ≡ None → count name (texts_of ws) ≡ 0) → (b : Bool) → bytes_eq w.word name ≡ b
+        → count name (texts_of (w ∷ ws)) ≡ 0
     at more true same =
         let there' : operand name (w ∷ ws) ≡ Some w = ap (λ b. cond b (Some w) (operand name ws)) same in
         let no' : Some w ≡ None = sym there' ∙ none in
@@ -131,26 +151,35 @@ absent name (w ∷ ws) none = at (absent name ws) (bytes_eq w.word name) refl
         let later : operand name (w ∷ ws) ≡ operand name ws = ap (λ b. cond b (Some w) (operand name ws)) other in
         count_other name w.word (texts_of ws) (nat_list_eq_equiv.symm name w.word ∙ other) ∙ more (sym later ∙ none)
 
-present : (name : Text) (ws : List Word) (P : Word → Type 0) → IsSomeAnd (operand name ws) P → 1 ≤ count name (texts_of ws)
+present : (name : Text) (ws : List Word) (P : Word → Type 0) → IsSomeAnd (operand name ws) P
+    → 1 ≤ count name (texts_of ws)
 present name [] P some = absurd some
 present name (w ∷ ws) P some = at (present name ws P) (bytes_eq w.word name) refl
   where
-    at : (IsSomeAnd (operand name ws) P → 1 ≤ count name (texts_of ws)) → (b : Bool) → bytes_eq w.word name ≡ b → 1 ≤ count name (texts_of (w ∷ ws))
+    at : (IsSomeAnd (operand name ws) P → 1 ≤ count name (texts_of ws)) → (b : Bool) → bytes_eq w.word name ≡ b
+        → 1 ≤ count name (texts_of (w ∷ ws))
     at more true same = omega (arith, count_same name w.word (texts_of ws) (nat_list_eq_equiv.symm name w.word ∙ same))
     at more false other =
         let later : operand name (w ∷ ws) ≡ operand name ws = ap (λ b. cond b (Some w) (operand name ws)) other in
-        omega (arith, count_other name w.word (texts_of ws) (nat_list_eq_equiv.symm name w.word ∙ other), more (subst (λ o. IsSomeAnd o P) later some))
+        omega (
+          arith,
+          count_other name w.word (texts_of ws) (nat_list_eq_equiv.symm name w.word ∙ other),
+          more (subst (λ o. IsSomeAnd o P) later some),
+        )
 
 -- A command has no operand twice, and RESTORE has one of SELECT and GROUP.
 single : (pieces : List Piece) (c : Command) (k : IsCommand pieces c) → has_double (command_word c) k.rest ≡ false
 single pieces c k =
     let is : words_in k.rest ≡ texts_of k.words = ap words_in k.has_words ∙ words_of k.words in
-    let apart : AllPairs (λ a b. a ≢ b) (texts_of k.words) = pairs_map (λ a b. a.word ≢ b.word) (λ s t. s ≢ t) (λ (w : Word). w.word) (λ a b n. n) k.words k.are_operands.once in
+    let apart : AllPairs (λ a b. a ≢ b) (texts_of k.words) =
+    pairs_map (λ a b. a.word ≢ b.word) (λ s t. s ≢ t) (λ (w : Word). w.word) (λ a b n. n) k.words
+    k.are_operands.once in
     list_any_none (is_often 2 k.rest) (operands_of (command_word c)) (λ i d below.
     let name = get_or (operands_of (command_word c)) i d in
     seldom 2 k.rest name (omega (arith, count_once name (texts_of k.words) apart, ap (count name) is)))
 
-chosen_list : (rest : List Piece) (ws : List Word) (list : RestoreList) → HasWords rest ws → HasRestoreList ws list → is_unchosen word.Restore rest ≡ false
+chosen_list : (rest : List Piece) (ws : List Word) (list : RestoreList) → HasWords rest ws → HasRestoreList ws list
+    → is_unchosen word.Restore rest ≡ false
 chosen_list rest ws (RestoreSelect ids) h r =
     let is : words_in rest ≡ texts_of ws = ap words_in h ∙ words_of ws in
     let there' : is_often 1 rest (codes "SELECT") ≡ true = often 1 rest (codes "SELECT") (omega (arith, present (codes "SELECT") ws (λ w. HasSorted IsId w ids) r.1.0, ap (count (codes "SELECT")) is)) in
@@ -162,7 +191,8 @@ chosen_list rest ws (RestoreGroup ids) h r =
     let none : is_often 1 rest (codes "SELECT") ≡ false = seldom 1 rest (codes "SELECT") (omega (arith, absent (codes "SELECT") ws r.0, ap (count (codes "SELECT")) is)) in
     ap (λ b. if b then is_often 1 rest (codes "GROUP") else not (is_often 1 rest (codes "GROUP"))) none ∙ ap not there'
 
-chosen : (rest : List Piece) (ws : List Word) (c : Command) → HasWords rest ws → HasOperands ws c → is_unchosen (command_word c) rest ≡ false
+chosen : (rest : List Piece) (ws : List Word) (c : Command) → HasWords rest ws → HasOperands ws c
+    → is_unchosen (command_word c) rest ≡ false
 chosen rest ws (Set x) h v = refl
 chosen rest ws (Receive x) h v = refl
 chosen rest ws (Reject x) h v = refl
@@ -173,7 +203,8 @@ chosen rest ws (ListZone x) h v = refl
 chosen rest ws Report h v = refl
 
 -- No pieces are both a command and at fault.
-pub fault-no_value : (pieces : List Piece) (c : Command) (code : CnCode) → IsCommand pieces c → IsCommandFault pieces code → ⊥
+pub fault-no_value : (pieces : List Piece) (c : Command) (code : CnCode) → IsCommand pieces c
+    → IsCommandFault pieces code → ⊥
 fault-no_value pieces c Cn1 k f = f (command_word c) k.rest (k.begins, k.known)
 fault-no_value pieces c Cn2 k f = f.5 c k
 fault-no_value pieces c Cn3 k f =
@@ -181,15 +212,18 @@ fault-no_value pieces c Cn3 k f =
     true≢false (sym f.3 ∙ ap (λ w. has_double w f.1) s.0 ∙ ap (has_double (command_word c)) s.1 ∙ single pieces c k)
 fault-no_value pieces c Cn4 k f =
     let s = begins-only pieces f.0 (command_word c) f.1 k.rest f.2 (k.begins, k.known) in
-    true≢false (sym f.4 ∙ ap (λ w. is_unchosen w f.1) s.0 ∙ ap (is_unchosen (command_word c)) s.1 ∙ chosen k.rest k.words c k.has_words k.has_operands)
+    true≢false (sym f.4 ∙ ap (λ w. is_unchosen w f.1) s.0 ∙ ap (is_unchosen (command_word c)) s.1
+    ∙ chosen k.rest k.words c k.has_words k.has_operands)
 fault-no_value pieces c Cn5 k f = f
 
-double_same : (pieces : List Piece) (v w : CommandWord) (rest rest' : List Piece) → BeginsWith pieces v rest → BeginsWith pieces w rest' → has_double v rest ≡ true → has_double w rest' ≡ false → ⊥
+double_same : (pieces : List Piece) (v w : CommandWord) (rest rest' : List Piece) → BeginsWith pieces v rest
+    → BeginsWith pieces w rest' → has_double v rest ≡ true → has_double w rest' ≡ false → ⊥
 double_same pieces v w rest rest' b b' yes' no' =
     let s = begins-only pieces v w rest rest' b b' in
     true≢false (sym yes' ∙ ap (λ w. has_double w rest) s.0 ∙ ap (has_double w) s.1 ∙ no')
 
-unchosen_same : (pieces : List Piece) (v w : CommandWord) (rest rest' : List Piece) → BeginsWith pieces v rest → BeginsWith pieces w rest' → is_unchosen v rest ≡ true → is_unchosen w rest' ≡ false → ⊥
+unchosen_same : (pieces : List Piece) (v w : CommandWord) (rest rest' : List Piece) → BeginsWith pieces v rest
+    → BeginsWith pieces w rest' → is_unchosen v rest ≡ true → is_unchosen w rest' ≡ false → ⊥
 unchosen_same pieces v w rest rest' b b' yes' no' =
     let s = begins-only pieces v w rest rest' b b' in
     true≢false (sym yes' ∙ ap (λ w. is_unchosen w rest) s.0 ∙ ap (is_unchosen w) s.1 ∙ no')

@@ -3,7 +3,8 @@ use Rattle.std.proofs.Common.{◌≡◌, true, false, List, [], ◌∷◌, map, 
 use Rattle.std.specs.List.{flat_map}
 use Rattle.terms.specs.Types.{Text}
 use Rattle.terms.specs.Statement.{Piece}
-use Rattle.terms.specs.Words.{Word, word_pieces, HasWords, TakesWord, BeginsNoList, HasMore, HasMembers, plain, IsListOf, IsOneOf}
+use Rattle.terms.specs.Words.{Word, word_pieces, HasWords, TakesWord, BeginsNoList, HasMore, HasMembers, plain}
+use Rattle.terms.specs.Words.{IsListOf, IsOneOf}
 use Rattle.terms.proofs.Solids.{words_first}
 use Rattle.terms.proofs.Members.{next-only, blanks_none}
 
@@ -12,7 +13,8 @@ words_begin [] = tt
 words_begin (w ∷ ws) = tt
 
 -- The first word of words.
-pub takes_first : (pieces : List Piece) (w : Word) (ws : List Word) → HasWords pieces (w ∷ ws) → TakesWord pieces w (flat_map word_pieces ws)
+pub takes_first : (pieces : List Piece) (w : Word) (ws : List Word) → HasWords pieces (w ∷ ws)
+    → TakesWord pieces w (flat_map word_pieces ws)
 takes_first pieces w ws h = record { pieces_are = h; ends = λ none. words_begin ws }
 
 -- Pieces are one list of words at most.
@@ -52,10 +54,13 @@ plain-only (a ∷ as') (b ∷ bs) e =
     let more = plain-only as' bs (cc (e)) in
     cc (first, more)
 
-pub list-only : (form other : Text → Type 0) (text : Text) (ms ns : List Text) → IsListOf form text ms → IsListOf other text ns → ms ≡ ns
-list-only form other text ms ns h k = plain-only ms ns (members-only text (map plain ms) (map plain ns) h.has_members k.has_members)
+pub list-only : (form other : Text → Type 0) (text : Text) (ms ns : List Text) → IsListOf form text ms
+    → IsListOf other text ns → ms ≡ ns
+list-only form other text ms ns h k = plain-only ms ns (members-only text (map plain ms) (map plain ns) h.has_members
+    k.has_members)
 
 pub one-only : (form other : Text → Type 0) (text m n : Text) → IsOneOf form text m → IsOneOf other text n → m ≡ n
 one-only form other text m n h k =
-    let same : m ∷ [] ≡ n ∷ [] = plain-only (m ∷ []) (n ∷ []) (members-only text (plain m ∷ []) (plain n ∷ []) h.has_member k.has_member) in
+    let same : m ∷ [] ≡ n ∷ [] = plain-only (m ∷ []) (n ∷ [])
+    (members-only text (plain m ∷ []) (plain n ∷ []) h.has_member k.has_member) in
     cc (same)

@@ -8,7 +8,8 @@ use Rattle.terms.specs.declared.kinds.ElemType.TheVariants.{Mac}
 use Rattle.terms.specs.declared.kinds.ZoneKind.TheVariants.{Target}
 use Rattle.terms.specs.declared.codes.NeedKind.TheVariants.{Fmid, Pre, Req, Ifreq, HoldError, Orphan}
 use Rattle.terms.specs.declared.not_chosen.NotChosen.TheVariants.{Already, Deleted, Missing, NoVer}
-use Rattle.terms.specs.Types.{Text, Id, Ver, Change, Replaces, Sysmod, Global, Entry, Zone, NoReason, AnyReason, Bypass, Selection}
+use Rattle.terms.specs.Types.{Text, Id, Ver, Change, Replaces, Sysmod, Global, Entry, Zone, NoReason, AnyReason, Bypass}
+use Rattle.terms.specs.Types.{Selection}
 use Rattle.terms.specs.Lookups.{is_applied}
 use Rattle.terms.specs.Choice.{by_srel}
 use Rattle.terms.specs.Over.{Supersedes, chain}
@@ -69,7 +70,16 @@ full = record {
   srel = srel;
   related = None;
   entries = applied haa ∷ applied hdd ∷ applied ua21 ∷ applied ua23 ∷ [];
-  elements = record { elem_type = Mac; name = macro; fmid = haa; rmid = haa; umids = []; distlib = []; syslib = []; text = [] } ∷ [];
+  elements = record {
+    elem_type = Mac;
+    name = macro;
+    fmid = haa;
+    rmid = haa;
+    umids = [];
+    distlib = [];
+    syslib = [];
+    text = [];
+  } ∷ [];
 }
 
 abbrev no_bypass : Bypass
@@ -125,7 +135,8 @@ installing = record {
 }
 
 -- HAA1100 gets DELBY HCC1200, and service that goes with it gets none
-delby_after-deletion : map (delby_after installing) (haa ∷ hcc ∷ hdd ∷ ua21 ∷ ua23 ∷ []) ≡ Some hcc ∷ None ∷ None ∷ None ∷ None ∷ []
+delby_after-deletion : map (delby_after installing) (haa ∷ hcc ∷ hdd ∷ ua21 ∷ ua23 ∷ []) ≡ Some hcc ∷ None ∷ None ∷ None
+    ∷ None ∷ []
 unfolding delby_after
 delby_after-deletion = refl
 
@@ -134,24 +145,30 @@ abbrev base : Zone
 base = record full { entries = applied haa ∷ []; elements = [] }
 
 -- what is applied is not open, nor what has DELETE
-is_start-select : map (is_start deleting base (select (hcc ∷ haa ∷ hdd ∷ []))) (haa ∷ hcc ∷ hdd ∷ []) ≡ false ∷ false ∷ true ∷ []
+is_start-select : map (is_start deleting base (select (hcc ∷ haa ∷ hdd ∷ []))) (haa ∷ hcc ∷ hdd ∷ []) ≡ false ∷ false ∷
+    true ∷ []
 is_start-select = refl
 
 -- without operands PTFs alone are taken, and not one that has REQ
-is_start-mass : map (is_start deleting base (select [])) (haa ∷ hdd ∷ ua21 ∷ ua23 ∷ []) ≡ false ∷ false ∷ true ∷ false ∷ []
+is_start-mass : map (is_start deleting base (select [])) (haa ∷ hdd ∷ ua21 ∷ ua23 ∷ []) ≡ false ∷ false ∷ true ∷ false ∷
+    []
 is_start-mass = refl
 
 -- where something is applied that has REQ, nothing is open
 is_start-unserved : is_start deleting full (select (hdd ∷ [])) hdd ≡ false
 is_start-unserved = refl
 
-not_chosen-select : map (not_chosen deleting full (select (hcc ∷ haa ∷ (99 ∷ []) ∷ []))) (haa ∷ hcc ∷ hdd ∷ (99 ∷ []) ∷ [])
+not_chosen-select : map (not_chosen deleting full (select (hcc ∷ haa ∷ (99 ∷ []) ∷ [])))
+    (haa ∷ hcc ∷ hdd ∷ (99 ∷ []) ∷ [])
     ≡ Some Already ∷ Some NoVer ∷ None ∷ Some Missing ∷ []
 unfolding not_chosen
 not_chosen-select = refl
 
 -- an id that was deleted is DELETED, and not MISSING or NOVER
-not_chosen-deleted : not_chosen deleting (record full { entries = record { id = haa; applied = None; supby = []; delby = Some hcc; waived = [] } ∷ [] }) (select (haa ∷ [])) haa
+not_chosen-deleted : not_chosen deleting (record full {
+  entries =
+      record { id = haa; applied = None; supby = []; delby = Some hcc; waived = [] } ∷ [];
+}) (select (haa ∷ [])) haa
     ≡ Some Deleted
 unfolding not_chosen
 not_chosen-deleted = refl
@@ -160,7 +177,8 @@ not_chosen-deleted = refl
 binding_ids-service : binding_ids (by_srel deleting srel) full (is_applied full) ua23 ≡ ua21 ∷ []
 binding_ids-service = refl
 
-asked-service : map (asked (setting deleting full None (ua23 ∷ []) no_bypass) [] ua23) (Fmid ∷ Pre ∷ Req ∷ Ifreq ∷ HoldError ∷ Orphan ∷ [])
+asked-service : map (asked (setting deleting full None (ua23 ∷ []) no_bypass) [] ua23)
+    (Fmid ∷ Pre ∷ Req ∷ Ifreq ∷ HoldError ∷ Orphan ∷ [])
     ≡ (hdd ∷ []) ∷ [] ∷ (ua21 ∷ []) ∷ [] ∷ [] ∷ [] ∷ []
 asked-service = refl
 
@@ -177,8 +195,26 @@ ua10 = 110 ∷ []
 abbrev extending : Global
 extending = record {
   holds =
-      record { id = ua7; kind = Error; reason = ua8; fmid = haa; class = None; date = None; comment = None; internal = false }
-      ∷ record { id = ua7; kind = User; reason = 5 ∷ []; fmid = haa; class = Some (6 ∷ []); date = None; comment = None; internal = false }
+      record {
+        id = ua7;
+        kind = Error;
+        reason = ua8;
+        fmid = haa;
+        class = None;
+        date = None;
+        comment = None;
+        internal = false;
+      }
+      ∷ record {
+        id = ua7;
+        kind = User;
+        reason = 5 ∷ [];
+        fmid = haa;
+        class = Some (6 ∷ []);
+        date = None;
+        comment = None;
+        internal = false;
+      }
       ∷ [];
   sysmods =
       sysmod ua7 Ptf (record plain { fmid = Some haa; pre = ua8 ∷ [] }) []
@@ -217,8 +253,10 @@ needs_missing = record {
 held : FailsJ2 (setting extending base None (ua7 ∷ []) no_bypass) ua7
 held = λ e. absurd (cc e)
 
-standing_holds-bypassed : standing_holds (setting extending base None (ua7 ∷ []) (record no_bypass { holduser = AnyReason })) User ua7 ≡ []
+standing_holds-bypassed : standing_holds (setting extending base None (ua7 ∷ [])
+    (record no_bypass { holduser = AnyReason })) User ua7 ≡ []
 standing_holds-bypassed = refl
 
-standing_holds-class : standing_holds (setting extending base None (ua7 ∷ []) (record no_bypass { holdclass = (6 ∷ []) ∷ [] })) User ua7 ≡ []
+standing_holds-class : standing_holds (setting extending base None (ua7 ∷ [])
+    (record no_bypass { holdclass = (6 ∷ []) ∷ [] })) User ua7 ≡ []
 standing_holds-class = refl

@@ -1,5 +1,7 @@
 -- Each change of the global zone leaves one that keeps its rules.
-use Rattle.std.proofs.Common.{◌≡◌, ◌<◌, ◌≤◌, ◌+◌, ◌^◌, Bool, true, false, not, ◌||◌, ◌&&◌, ◌==◌, List, [], ◌∷◌, ◌++◌, length, map, filter, fold, cond, refl, sym, ap, ◌∙◌, subst, Option, None, Some, is_some, IsTrue, All, Contains, true≢false, arith, length-append, get_or}
+use Rattle.std.proofs.Common.{◌≡◌, ◌<◌, ◌≤◌, ◌+◌, ◌^◌, Bool, true, false, not, ◌||◌, ◌&&◌, ◌==◌, List, [], ◌∷◌, ◌++◌}
+use Rattle.std.proofs.Common.{length, map, filter, fold, cond, refl, sym, ap, ◌∙◌, subst, Option, None, Some, is_some}
+use Rattle.std.proofs.Common.{IsTrue, All, Contains, true≢false, arith, length-append, get_or}
 use Rattle.std.proofs.lemmas.List.{length-map}
 use Rattle.std.specs.declared.cmp.Ordering.{Ordering}
 use Rattle.std.specs.Ordering.{is_lt, nat_cmp, ordering_reverse}
@@ -22,10 +24,13 @@ use Rattle.terms.specs.Types.{Text, Id, Ver, Hold, Sysmod, Global, Release, hold
 use Rattle.terms.specs.Rising.{Rises, with_item, before, behind}
 use Rattle.terms.specs.Lookups.{sysmod_of, is_received, is_function}
 use Rattle.terms.specs.Choice.{vers_of}
-use Rattle.terms.specs.Global.{named, names_for, HasLoop, is_service, fits_roles, RolesFit, has_key, hold_cmp, IsSysmod, IsGlobal, hold_of, marked, hold, without_hold, assign, with_sysmod, without_sysmod, received}
+use Rattle.terms.specs.Global.{named, names_for, HasLoop, is_service, fits_roles, RolesFit, has_key, hold_cmp, IsSysmod}
+use Rattle.terms.specs.Global.{IsGlobal, hold_of, marked, hold, without_hold, assign, with_sysmod, without_sysmod}
+use Rattle.terms.specs.Global.{received}
 use Rattle.terms.proofs.Leads.{reaches_more}
 use Rattle.lemmas.proofs.Orderings.{Less-from_is_lt}
-use Rattle.terms.proofs.GlobalLookups.{sysmod_of-with_sysmod, sysmod_of-without_sysmod, sysmod_of-assign, assigned, assigned-same}
+use Rattle.terms.proofs.GlobalLookups.{sysmod_of-with_sysmod, sysmod_of-without_sysmod, sysmod_of-assign, assigned}
+use Rattle.terms.proofs.GlobalLookups.{assigned-same}
 use Rattle.lemmas.proofs.Texts.{same_from, same_itself, same_back}
 use Rattle.lemmas.proofs.Searches.{find-passes, All-find}
 use Rattle.terms.proofs.GlobalRoles.{fits-fewer}
@@ -37,22 +42,26 @@ module _ {X K : Type 0} {R : K → K → Ordering} (o : IsTotalOrder R) (key : X
   Rises-map f same (x ∷ xs) rises =
       AllPairs-cons (λ a b. IsTrue (is_lt (R (key a) (key b)))) (f x) (map f xs)
       (All-map (λ y. IsTrue (is_lt (R (key (f x)) (key y)))) f xs
-      (All-weaker (λ y. IsTrue (is_lt (R (key x) (key y)))) (λ y. IsTrue (is_lt (R (key (f x)) (key (f y))))) (λ y h. rw (same x, same y) h) xs
+      (All-weaker (λ y. IsTrue (is_lt (R (key x) (key y)))) (λ y. IsTrue (is_lt (R (key (f x)) (key (f y)))))
+      (λ y h. rw (same x, same y) h) xs
       (AllPairs-first (λ a b. IsTrue (is_lt (R (key a) (key b)))) x xs rises)))
       (Rises-map f same xs (AllPairs-rest (λ a b. IsTrue (is_lt (R (key a) (key b)))) x xs rises))
 
 -- of two filters that no element passes both
-length-parts : {X : Type 0} (a b : X → Bool) → ((x : X) → a x ≡ true → b x ≡ false) → (xs : List X) → length (filter a xs) + length (filter b xs) ≤ length xs
+length-parts : {X : Type 0} (a b : X → Bool) → ((x : X) → a x ≡ true → b x ≡ false) → (xs : List X)
+    → length (filter a xs) + length (filter b xs) ≤ length xs
 length-parts a b apart [] = omega arith
 length-parts a b apart (x ∷ xs) = by (length-parts a b apart xs) (a x) (b x) refl refl
   where
-    by : length (filter a xs) + length (filter b xs) ≤ length xs → (p q : Bool) → a x ≡ p → b x ≡ q → length (filter a (x ∷ xs)) + length (filter b (x ∷ xs)) ≤ length (x ∷ xs)
+    by : length (filter a xs) + length (filter b xs) ≤ length xs → (p q : Bool) → a x ≡ p → b x ≡ q
+        → length (filter a (x ∷ xs)) + length (filter b (x ∷ xs)) ≤ length (x ∷ xs)
     by again true true e f = absurd (true≢false (sym f ∙ apart x e))
     by again true false e f = rw (e, f) (omega (arith, again))
     by again false true e f = rw (e, f) (omega (arith, again))
     by again false false e f = rw (e, f) (omega (arith, again))
 
-pub length-with_item : {X K : Type 0} {R : K → K → Ordering} → IsTotalOrder R → (key : X → K) (xs : List X) (x : X) → length (with_item R key xs x) ≤ length xs + 1
+pub length-with_item : {X K : Type 0} {R : K → K → Ordering} → IsTotalOrder R → (key : X → K) (xs : List X) (x : X)
+    → length (with_item R key xs x) ≤ length xs + 1
 length-with_item {R} o key xs x =
     let front = before R key (key x) xs in
     let back = behind R key (key x) xs in
@@ -91,22 +100,30 @@ pub record HasKey (x : Id) (kind : HoldKind) (reason : Text) (h : Hold) : Type 0
   pub kind_is : h.kind ≡ kind
   pub reason_is : h.reason ≡ reason
 
-pub key_from : (x : Id) (kind : HoldKind) (reason : Text) (h : Hold) → has_key x kind reason h ≡ true → HasKey x kind reason h
+pub key_from : (x : Id) (kind : HoldKind) (reason : Text) (h : Hold) → has_key x kind reason h ≡ true
+    → HasKey x kind reason h
 key_from x kind reason h e =
     let two = and_parts (bytes_eq h.id x && (hold_number h.kind == hold_number kind)) (bytes_eq h.reason reason) e in
     let first = and_parts (bytes_eq h.id x) (hold_number h.kind == hold_number kind) two.0 in
-    record { id = same_from h.id x first.0; kind_is = kind_from h.kind kind first.1; reason_is = same_from h.reason reason two.1 }
+    record {
+      id = same_from h.id x first.0;
+      kind_is = kind_from h.kind kind first.1;
+      reason_is = same_from h.reason reason two.1;
+    }
 
-pub marked-owned : (g : Global) (h : Hold) → All (IsOwned g) g.holds → IsOwned g h → IsOwned g (marked (hold_of g h.id h.kind h.reason) h)
+pub marked-owned : (g : Global) (h : Hold) → All (IsOwned g) g.holds → IsOwned g h
+    → IsOwned g (marked (hold_of g h.id h.kind h.reason) h)
 marked-owned g h all own = by (hold_of g h.id h.kind h.reason) refl
   where
-    inherited : (old : Hold) → hold_of g h.id h.kind h.reason ≡ Some old → IsTrue old.internal → (h.kind ≡ System) × IsTrue (is_received g h.id)
+    inherited : (old : Hold) → hold_of g h.id h.kind h.reason ≡ Some old → IsTrue old.internal
+        → (h.kind ≡ System) × IsTrue (is_received g h.id)
     inherited old found internal =
         let key = key_from h.id h.kind h.reason old (find-passes (has_key h.id h.kind h.reason) g.holds old found) in
         let was = All-find (IsOwned g) (has_key h.id h.kind h.reason) g.holds old all found internal in
         (sym key.kind_is ∙ was.0, subst (λ x. IsTrue (is_received g x)) key.id was.1)
 
-    mark : (old : Hold) → hold_of g h.id h.kind h.reason ≡ Some old → (b : Bool) → h.internal ≡ b → IsTrue (b || old.internal) → (h.kind ≡ System) × IsTrue (is_received g h.id)
+    mark : (old : Hold) → hold_of g h.id h.kind h.reason ≡ Some old → (b : Bool) → h.internal ≡ b
+        → IsTrue (b || old.internal) → (h.kind ≡ System) × IsTrue (is_received g h.id)
     mark old found true e internal = own e
     mark old found false e internal = inherited old found internal
 
@@ -121,7 +138,8 @@ hold-kept g h k own = record {
   formed = k.formed;
   no_loop = k.no_loop;
   roles = k.roles;
-  internal = All-with_item hold_cmp (λ o. o) (IsOwned g) g.holds (marked (hold_of g h.id h.kind h.reason) h) k.internal (marked-owned g h k.internal own);
+  internal = All-with_item hold_cmp (λ o. o) (IsOwned g) g.holds (marked (hold_of g h.id h.kind h.reason) h) k.internal
+      (marked-owned g h k.internal own);
   none_carried = k.none_carried;
   size = k.size;
 }
@@ -129,7 +147,8 @@ hold-kept g h k own = record {
 pub without_hold-kept : (g : Global) (r : Release) → IsGlobal g → IsGlobal (without_hold g r)
 without_hold-kept g r k = record {
   sysmods = k.sysmods;
-  holds = AllPairs-filter (λ a b. IsTrue (is_lt (hold_cmp a b))) (λ h. not (has_key r.id r.kind r.reason h)) g.holds k.holds;
+  holds = AllPairs-filter (λ a b. IsTrue (is_lt (hold_cmp a b))) (λ h. not (has_key r.id r.kind r.reason h)) g.holds
+      k.holds;
   formed = k.formed;
   no_loop = k.no_loop;
   roles = k.roles;
@@ -147,18 +166,21 @@ module _ (g : Global) (source : Text) (x : Id) where
   function-assign : (y : Id) → is_function (assign g source x) y ≡ is_function g y
   function-assign y =
       ap (λ o. option_map_or (λ s. kind_number s.kind == 0) o false) (sysmod_of-assign g source x y)
-      ∙ map_or-map (λ s. kind_number s.kind == 0) (assigned source x) false (assigned-same (λ s. kind_number s.kind == 0) source x (λ s. refl)) (sysmod_of g y)
+      ∙ map_or-map (λ s. kind_number s.kind == 0) (assigned source x) false
+      (assigned-same (λ s. kind_number s.kind == 0) source x (λ s. refl)) (sysmod_of g y)
 
   vers-assign : (srel : Text) (y : Id) → vers_of (assign g source x) srel y ≡ vers_of g srel y
   vers-assign srel y =
       ap (λ o. option_map_or (λ s. filter (λ v. bytes_eq v.srel srel) s.vers) o []) (sysmod_of-assign g source x y)
-      ∙ map_or-map (λ s. filter (λ v. bytes_eq v.srel srel) s.vers) (assigned source x) [] (assigned-same (λ s. filter (λ v. bytes_eq v.srel srel) s.vers) source x (λ s. refl)) (sysmod_of g y)
+      ∙ map_or-map (λ s. filter (λ v. bytes_eq v.srel srel) s.vers) (assigned source x) []
+      (assigned-same (λ s. filter (λ v. bytes_eq v.srel srel) s.vers) source x (λ s. refl)) (sysmod_of g y)
 
   fits-assign : (v : Ver) → IsTrue (fits_roles g v) → IsTrue (fits_roles (assign g source x) v)
   fits-assign v fits =
       fits-fewer g (assign g source x)
       (λ y none. function-assign y ∙ none)
-      (λ y none. ap (λ b. b && not (is_function (assign g source x) y)) (received-assign y) ∙ ap (λ b. is_received g y && not b) (function-assign y) ∙ none)
+      (λ y none. ap (λ b. b && not (is_function (assign g source x) y)) (received-assign y)
+      ∙ ap (λ b. is_received g y && not b) (function-assign y) ∙ none)
       v fits
 
   formed-assign : (s : Sysmod) → IsSysmod s → IsSysmod (assigned source x s)
@@ -175,9 +197,11 @@ module _ (g : Global) (source : Text) (x : Id) where
 
   pub assign-kept : IsGlobal g → IsGlobal (assign g source x)
   assign-kept k = record {
-    sysmods = Rises-map nat_list_cmp_total (λ s. s.id) (assigned source x) (assigned-same (λ s. s.id) source x (λ s. refl)) g.sysmods k.sysmods;
+    sysmods = Rises-map nat_list_cmp_total (λ s. s.id) (assigned source x)
+        (assigned-same (λ s. s.id) source x (λ s. refl)) g.sysmods k.sysmods;
     holds = k.holds;
-    formed = All-map IsSysmod (assigned source x) g.sysmods (All-weaker IsSysmod (λ s. IsSysmod (assigned source x s)) formed-assign g.sysmods k.formed);
+    formed = All-map IsSysmod (assigned source x) g.sysmods (All-weaker IsSysmod (λ s. IsSysmod (assigned source x s))
+        formed-assign g.sysmods k.formed);
     no_loop = λ loop. k.no_loop (
       loop.0,
       loop.1,
@@ -185,12 +209,18 @@ module _ (g : Global) (source : Text) (x : Id) where
           (λ y z here. subst (λ vs. Contains (flat_map named vs) z) (vers-assign loop.0 y) here) loop.1 loop.1 loop.2,
     );
     roles = All-map (λ s. All (λ v. IsTrue (fits_roles (assign g source x) v)) s.vers) (assigned source x) g.sysmods
-        (All-weaker (λ s. All (λ v. IsTrue (fits_roles g v)) s.vers) (λ s. All (λ v. IsTrue (fits_roles (assign g source x) v)) (assigned source x s).vers)
-        (λ s fit. subst (λ vs. All (λ v. IsTrue (fits_roles (assign g source x) v)) vs) (sym (assigned-same (λ s. s.vers) source x (λ s. refl) s))
-        (All-weaker (λ v. IsTrue (fits_roles g v)) (λ v. IsTrue (fits_roles (assign g source x) v)) fits-assign s.vers fit)) g.sysmods k.roles);
-    internal = All-weaker (IsOwned g) (IsOwned (assign g source x)) (λ h own internal. ((own internal).0, subst IsTrue (sym (received-assign h.id)) (own internal).1)) g.holds k.internal;
+        (All-weaker (λ s. All (λ v. IsTrue (fits_roles g v)) s.vers)
+        (λ s. All (λ v. IsTrue (fits_roles (assign g source x) v)) (assigned source x s).vers)
+        (λ s fit. subst (λ vs. All (λ v. IsTrue (fits_roles (assign g source x) v)) vs)
+        (sym (assigned-same (λ s. s.vers) source x (λ s. refl) s))
+        (All-weaker (λ v. IsTrue (fits_roles g v)) (λ v. IsTrue (fits_roles (assign g source x) v)) fits-assign s.vers
+        fit)) g.sysmods k.roles);
+    internal = All-weaker (IsOwned g) (IsOwned (assign g source x))
+        (λ h own internal. ((own internal).0, subst IsTrue (sym (received-assign h.id)) (own internal).1)) g.holds
+        k.internal;
     none_carried = All-map (λ s. s.holds ≡ []) (assigned source x) g.sysmods
-        (All-weaker (λ s. s.holds ≡ []) (λ s. (assigned source x s).holds ≡ []) (λ s none. assigned-same (λ s. s.holds) source x (λ s. refl) s ∙ none) g.sysmods k.none_carried);
+        (All-weaker (λ s. s.holds ≡ []) (λ s. (assigned source x s).holds ≡ [])
+        (λ s none. assigned-same (λ s. s.holds) source x (λ s. refl) s ∙ none) g.sysmods k.none_carried);
     size = rw length-map k.size;
   }
 
@@ -198,10 +228,12 @@ module _ (g : Global) (source : Text) (x : Id) where
 
 module _ (g : Global) (x : Id) where
   received-without : (y : Id) → bytes_eq x y ≡ false → is_received (without_sysmod g x) y ≡ is_received g y
-  received-without y other = ap is_some (sysmod_of-without_sysmod g x y) ∙ ap (λ b. is_some (cond b None (sysmod_of g y))) other
+  received-without y other = ap is_some (sysmod_of-without_sysmod g x y)
+      ∙ ap (λ b. is_some (cond b None (sysmod_of g y))) other
 
   function-without : (y : Id) → is_function g y ≡ false → is_function (without_sysmod g x) y ≡ false
-  function-without y none = ap (λ o. option_map_or (λ s. kind_number s.kind == 0) o false) (sysmod_of-without_sysmod g x y) ∙ by (bytes_eq x y)
+  function-without y none = ap (λ o. option_map_or (λ s. kind_number s.kind == 0) o false)
+      (sysmod_of-without_sysmod g x y) ∙ by (bytes_eq x y)
     where
       by : (b : Bool) → option_map_or (λ s. kind_number s.kind == 0) (cond b None (sysmod_of g y)) false ≡ false
       by true = refl
@@ -209,13 +241,16 @@ module _ (g : Global) (x : Id) where
 
   service-without : (y : Id) → is_service g y ≡ false → is_service (without_sysmod g x) y ≡ false
   service-without y none =
-      ap (λ o. is_some o && not (option_map_or (λ s. kind_number s.kind == 0) o false)) (sysmod_of-without_sysmod g x y) ∙ by (bytes_eq x y)
+      ap (λ o. is_some o && not (option_map_or (λ s. kind_number s.kind == 0) o false)) (sysmod_of-without_sysmod g x y)
+      ∙ by (bytes_eq x y)
     where
-      by : (b : Bool) → (is_some (cond b None (sysmod_of g y)) && not (option_map_or (λ s. kind_number s.kind == 0) (cond b None (sysmod_of g y)) false)) ≡ false
+      by : (b : Bool) → (is_some (cond b None (sysmod_of g y)) && not
+          (option_map_or (λ s. kind_number s.kind == 0) (cond b None (sysmod_of g y)) false)) ≡ false
       by true = refl
       by false = none
 
-  names-without : (srel : Text) (y z : Id) → Contains (names_for (without_sysmod g x) srel y) z → Contains (names_for g srel y) z
+  names-without : (srel : Text) (y z : Id) → Contains (names_for (without_sysmod g x) srel y) z
+      → Contains (names_for g srel y) z
   names-without srel y z here = by (bytes_eq x y) refl
     where
       vers : Option Sysmod → List Ver
@@ -223,13 +258,20 @@ module _ (g : Global) (x : Id) where
 
       by : (b : Bool) → bytes_eq x y ≡ b → Contains (names_for g srel y) z
       by true e =
-          let none : Contains [] z = subst (λ o. Contains (flat_map named (vers o)) z) (sysmod_of-without_sysmod g x y ∙ ap (λ b. cond b None (sysmod_of g y)) e) here in
+          let none : Contains [] z = subst (λ o. Contains (flat_map named (vers o)) z)
+          (sysmod_of-without_sysmod g x y ∙ ap (λ b. cond b None (sysmod_of g y)) e) here in
           absurd (omega (arith, none.1))
-      by false e = subst (λ o. Contains (flat_map named (vers o)) z) (sysmod_of-without_sysmod g x y ∙ ap (λ b. cond b None (sysmod_of g y)) e) here
+      by false e = subst (λ o. Contains (flat_map named (vers o)) z)
+          (sysmod_of-without_sysmod g x y ∙ ap (λ b. cond b None (sysmod_of g y)) e) here
 
   -- what stays of the holds is not internal, or on another id
   owned-without : (h : Hold) → IsOwned g h → not (h.internal && bytes_eq h.id x) ≡ true → IsOwned (without_sysmod g x) h
-  owned-without h own stays internal = ((own internal).0, subst IsTrue (sym (received-without h.id (same_back x h.id ∙ other h.internal internal (bytes_eq h.id x) stays))) (own internal).1)
+  owned-without h own stays internal = (
+    (own internal).0,
+    subst IsTrue
+        (sym (received-without h.id (same_back x h.id ∙ other h.internal internal (bytes_eq h.id x) stays)))
+        (own internal).1,
+  )
     where
       other : (b : Bool) → b ≡ true → (c : Bool) → not (b && c) ≡ true → c ≡ false
       other true e true stays = absurd (true≢false (sym stays))
@@ -238,14 +280,25 @@ module _ (g : Global) (x : Id) where
 
   pub without_sysmod-kept : IsGlobal g → IsGlobal (without_sysmod g x)
   without_sysmod-kept k = record {
-    sysmods = AllPairs-filter (λ a b. IsTrue (is_lt (slice_cmp nat_cmp a.id b.id))) (λ s. not (bytes_eq s.id x)) g.sysmods k.sysmods;
-    holds = AllPairs-filter (λ a b. IsTrue (is_lt (hold_cmp a b))) (λ h. not (h.internal && bytes_eq h.id x)) g.holds k.holds;
+    sysmods = AllPairs-filter (λ a b. IsTrue (is_lt (slice_cmp nat_cmp a.id b.id))) (λ s. not (bytes_eq s.id x))
+        g.sysmods k.sysmods;
+    holds = AllPairs-filter (λ a b. IsTrue (is_lt (hold_cmp a b))) (λ h. not (h.internal && bytes_eq h.id x)) g.holds
+        k.holds;
     formed = All-filter (λ s. not (bytes_eq s.id x)) IsSysmod g.sysmods k.formed;
-    no_loop = λ loop. k.no_loop (loop.0, loop.1, reaches_more (names_for (without_sysmod g x) loop.0) (names_for g loop.0) (names-without loop.0) loop.1 loop.1 loop.2);
-    roles = All-filter (λ s. not (bytes_eq s.id x)) (λ s. All (λ v. IsTrue (fits_roles (without_sysmod g x) v)) s.vers) g.sysmods
-        (All-weaker (λ s. All (λ v. IsTrue (fits_roles g v)) s.vers) (λ s. All (λ v. IsTrue (fits_roles (without_sysmod g x) v)) s.vers)
-        (λ s fit. All-weaker (λ v. IsTrue (fits_roles g v)) (λ v. IsTrue (fits_roles (without_sysmod g x) v)) (fits-fewer g (without_sysmod g x) function-without service-without) s.vers fit) g.sysmods k.roles);
-    internal = λ i d below. owned-without (get_or (filter p g.holds) i d) (All-filter p (IsOwned g) g.holds k.internal i d below) (filter_passes p g.holds i d below);
+    no_loop = λ loop. k.no_loop (
+      loop.0,
+      loop.1,
+      reaches_more (names_for (without_sysmod g x) loop.0)
+          (names_for g loop.0) (names-without loop.0) loop.1 loop.1 loop.2,
+    );
+    roles = All-filter (λ s. not (bytes_eq s.id x)) (λ s. All (λ v. IsTrue (fits_roles (without_sysmod g x) v)) s.vers)
+        g.sysmods
+        (All-weaker (λ s. All (λ v. IsTrue (fits_roles g v)) s.vers)
+        (λ s. All (λ v. IsTrue (fits_roles (without_sysmod g x) v)) s.vers)
+        (λ s fit. All-weaker (λ v. IsTrue (fits_roles g v)) (λ v. IsTrue (fits_roles (without_sysmod g x) v))
+        (fits-fewer g (without_sysmod g x) function-without service-without) s.vers fit) g.sysmods k.roles);
+    internal = λ i d below. owned-without (get_or (filter p g.holds) i d)
+        (All-filter p (IsOwned g) g.holds k.internal i d below) (filter_passes p g.holds i d below);
     none_carried = All-filter (λ s. not (bytes_eq s.id x)) (λ s. s.holds ≡ []) g.sysmods k.none_carried;
     size = omega (arith, k.size, length-parts (λ s. not (bytes_eq s.id x)) (λ s. false) (λ s e. refl) g.sysmods);
   }
@@ -264,24 +317,34 @@ module _ (g : Global) (s : Sysmod) (new : is_received g s.id ≡ false) where
       by false = was
 
   pub received-itself : IsTrue (is_received (with_sysmod g s) s.id)
-  received-itself = ap is_some (sysmod_of-with_sysmod g s s.id) ∙ ap (λ b. is_some (cond b (Some (record s { holds = [] })) (sysmod_of g s.id))) (same_itself s.id)
+  received-itself = ap is_some (sysmod_of-with_sysmod g s s.id)
+      ∙ ap (λ b. is_some (cond b (Some (record s { holds = [] })) (sysmod_of g s.id))) (same_itself s.id)
 
   -- where no fault applies
-  pub with_sysmod-kept : IsGlobal g → IsSysmod s → ¬ HasLoop (with_sysmod g s) → RolesFit (with_sysmod g s) → length g.sysmods + 1 < 2 ^ 16 → IsGlobal (with_sysmod g s)
+  pub with_sysmod-kept : IsGlobal g → IsSysmod s → ¬ HasLoop (with_sysmod g s) → RolesFit (with_sysmod g s)
+      → length g.sysmods + 1 < 2 ^ 16 → IsGlobal (with_sysmod g s)
   with_sysmod-kept k formed no_loop roles room = record {
     sysmods = Rises-with_item nat_list_cmp_total (λ r. r.id) g.sysmods (record s { holds = [] }) k.sysmods;
     holds = k.holds;
-    formed = All-with_item (slice_cmp nat_cmp) (λ r. r.id) IsSysmod g.sysmods (record s { holds = [] }) k.formed (record {
-      sources = formed.sources;
-      vers = formed.vers;
-      changes = formed.changes;
-      holds = All-nil (λ h. IsTrue h.internal × (h.kind ≡ System) × (h.id ≡ s.id));
-    });
+    formed = All-with_item (slice_cmp nat_cmp) (λ r. r.id) IsSysmod g.sysmods (record s { holds = [] }) k.formed
+        (record {
+          sources = formed.sources;
+          vers = formed.vers;
+          changes = formed.changes;
+          holds = All-nil (λ h. IsTrue h.internal × (h.kind ≡ System) × (h.id ≡ s.id));
+        });
     no_loop = no_loop;
     roles = roles;
-    internal = All-weaker (IsOwned g) (IsOwned (with_sysmod g s)) (λ h own internal. ((own internal).0, received-with h.id (own internal).1)) g.holds k.internal;
-    none_carried = All-with_item (slice_cmp nat_cmp) (λ r. r.id) (λ r. r.holds ≡ []) g.sysmods (record s { holds = [] }) k.none_carried refl;
-    size = omega (arith, room, length-with_item nat_list_cmp_total (λ (r : Sysmod). r.id) g.sysmods (record s { holds = [] }));
+    internal = All-weaker (IsOwned g) (IsOwned (with_sysmod g s))
+        (λ h own internal. ((own internal).0, received-with h.id (own internal).1)) g.holds k.internal;
+    none_carried = All-with_item (slice_cmp nat_cmp) (λ r. r.id) (λ r. r.holds ≡ []) g.sysmods (record s { holds = [] })
+        k.none_carried refl;
+    size = omega (
+      arith,
+      room,
+      length-with_item nat_list_cmp_total (λ (r : Sysmod). r.id) g.sysmods
+          (record s { holds = [] }),
+    );
   }
 
 -- one hold after another
@@ -290,8 +353,13 @@ holds-kept [] g k own = k
 holds-kept (h ∷ hs) g k own =
     holds-kept hs (hold g h) (hold-kept g h k (All-head (IsOwned g) h hs own)) (All-tail (IsOwned g) h hs own)
 
-pub received-kept : (g : Global) (s : Sysmod) → is_received g s.id ≡ false → IsGlobal g → IsSysmod s → ¬ HasLoop (with_sysmod g s) → RolesFit (with_sysmod g s) → length g.sysmods + 1 < 2 ^ 16 → IsGlobal (received g s)
+pub received-kept : (g : Global) (s : Sysmod) → is_received g s.id ≡ false → IsGlobal g → IsSysmod s
+    → ¬ HasLoop (with_sysmod g s) → RolesFit (with_sysmod g s) → length g.sysmods + 1 < 2 ^ 16 → IsGlobal (received g s)
 received-kept g s new k formed no_loop roles room =
     holds-kept s.holds (with_sysmod g s) (with_sysmod-kept g s new k formed no_loop roles room)
     (All-weaker (λ h. IsTrue h.internal × (h.kind ≡ System) × (h.id ≡ s.id)) (IsOwned (with_sysmod g s))
-    (λ h own internal. (own.1, subst (λ x. IsTrue (is_received (with_sysmod g s) x)) (sym own.2) (received-itself g s new))) s.holds formed.holds)
+    (λ h own internal. (
+      own.1,
+      subst (λ x. IsTrue (is_received (with_sysmod g s) x)) (sym own.2)
+          (received-itself g s new),
+    )) s.holds formed.holds)

@@ -1,5 +1,6 @@
 -- What is found in the global zone after a change of it.
-use Rattle.std.proofs.Common.{◌≡◌, Bool, true, false, not, [], ◌∷◌, ◌++◌, filter, find, cond, refl, sym, ap, ◌∙◌, None, Some, true≢false, if◌then◌else◌}
+use Rattle.std.proofs.Common.{◌≡◌, Bool, true, false, not, [], ◌∷◌, ◌++◌, filter, find, cond, refl, sym, ap, ◌∙◌, None}
+use Rattle.std.proofs.Common.{Some, true≢false, if◌then◌else◌}
 use Rattle.std.specs.declared.cmp.Ordering.{Ordering}
 use Rattle.std.specs.declared.cmp.Ordering.TheVariants.{Less, Equal, Greater}
 use Rattle.std.specs.Ordering.{is_lt, is_eq, nat_cmp, ordering_reverse}
@@ -23,7 +24,8 @@ apart : (x y : Id) → bytes_eq x y ≡ false → slice_cmp nat_cmp x y ≡ Equa
 apart x y other e = true≢false (sym (ap is_eq e) ∙ is_eq-slice_cmp x y ∙ other)
 
 -- among the SYSMODs with one more
-pub sysmod_of-with_sysmod : (g : Global) (s : Sysmod) (y : Id) → sysmod_of (with_sysmod g s) y ≡ cond (bytes_eq s.id y) (Some (record s { holds = [] })) (sysmod_of g y)
+pub sysmod_of-with_sysmod : (g : Global) (s : Sysmod) (y : Id)
+    → sysmod_of (with_sysmod g s) y ≡ cond (bytes_eq s.id y) (Some (record s { holds = [] })) (sysmod_of g y)
 sysmod_of-with_sysmod g s y = parts ∙ by (bytes_eq s.id y) (slice_cmp nat_cmp y s.id) refl refl
   where
     p : Sysmod → Bool
@@ -38,7 +40,8 @@ sysmod_of-with_sysmod g s y = parts ∙ by (bytes_eq s.id y) (slice_cmp nat_cmp 
     behind : Sysmod → Bool
     behind r = is_lt (slice_cmp nat_cmp s.id r.id)
 
-    parts : sysmod_of (with_sysmod g s) y ≡ option_or (option_or (find p (filter ahead g.sysmods)) (cond (bytes_eq s.id y) (Some now) None)) (find p (filter behind g.sysmods))
+    parts : sysmod_of (with_sysmod g s) y ≡ option_or (option_or (find p (filter ahead g.sysmods))
+        (cond (bytes_eq s.id y) (Some now) None)) (find p (filter behind g.sysmods))
     parts =
         find-append p (filter ahead g.sysmods ++ now ∷ []) (filter behind g.sysmods)
         ∙ ap (λ o. option_or o (find p (filter behind g.sysmods))) (find-append p (filter ahead g.sysmods) (now ∷ []))
@@ -47,26 +50,38 @@ sysmod_of-with_sysmod g s y = parts ∙ by (bytes_eq s.id y) (slice_cmp nat_cmp 
     ahead_is : (c : Ordering) → slice_cmp nat_cmp y s.id ≡ c → (r : Sysmod) → p r ≡ true → ahead r ≡ is_lt c
     ahead_is c f r here = ap (λ x. is_lt (slice_cmp nat_cmp x s.id)) (same_from r.id y here) ∙ ap is_lt f
 
-    behind_is : (c : Ordering) → slice_cmp nat_cmp y s.id ≡ c → (r : Sysmod) → p r ≡ true → behind r ≡ is_lt (ordering_reverse c)
+    behind_is : (c : Ordering) → slice_cmp nat_cmp y s.id ≡ c → (r : Sysmod) → p r ≡ true
+        → behind r ≡ is_lt (ordering_reverse c)
     behind_is c f r here =
         ap (λ x. is_lt (slice_cmp nat_cmp s.id x)) (same_from r.id y here)
         ∙ ap is_lt (nat_list_cmp_total.antisymm s.id y ∙ ap ordering_reverse f)
 
     by : (b : Bool) (c : Ordering) → bytes_eq s.id y ≡ b → slice_cmp nat_cmp y s.id ≡ c
-        → option_or (option_or (find p (filter ahead g.sysmods)) (cond (bytes_eq s.id y) (Some now) None)) (find p (filter behind g.sysmods))
+        → option_or (option_or (find p (filter ahead g.sysmods)) (cond (bytes_eq s.id y) (Some now) None))
+        (find p (filter behind g.sysmods))
         ≡ cond (bytes_eq s.id y) (Some now) (sysmod_of g y)
     by true c e f =
-        let same : slice_cmp nat_cmp y s.id ≡ Equal = ap (λ x. slice_cmp nat_cmp y x) (same_from s.id y e) ∙ cmp_itself y in
+        let same : slice_cmp nat_cmp y s.id ≡ Equal = ap (λ x. slice_cmp nat_cmp y x) (same_from s.id y e)
+        ∙ cmp_itself y in
         rw (find-filter_none p ahead (ahead_is Equal same) g.sysmods, e) refl
     by false Less e f =
-        rw (find-filter_all p ahead (ahead_is Less f) g.sysmods, find-filter_none p behind (behind_is Less f) g.sysmods, e)
+        rw (
+          find-filter_all p ahead (ahead_is Less f) g.sysmods,
+          find-filter_none p behind (behind_is Less f) g.sysmods,
+          e,
+        )
         (option_or-none (option_or (sysmod_of g y) None) ∙ option_or-none (sysmod_of g y))
     by false Equal e f = absurd (apart s.id y e (nat_list_cmp_total.antisymm s.id y ∙ ap ordering_reverse f))
     by false Greater e f =
-        rw (find-filter_none p ahead (ahead_is Greater f) g.sysmods, find-filter_all p behind (behind_is Greater f) g.sysmods, e) refl
+        rw (
+          find-filter_none p ahead (ahead_is Greater f) g.sysmods,
+          find-filter_all p behind (behind_is Greater f) g.sysmods,
+          e,
+        ) refl
 
 -- among the SYSMODs without one
-pub sysmod_of-without_sysmod : (g : Global) (x y : Id) → sysmod_of (without_sysmod g x) y ≡ cond (bytes_eq x y) None (sysmod_of g y)
+pub sysmod_of-without_sysmod : (g : Global) (x y : Id) → sysmod_of (without_sysmod g x) y ≡ cond (bytes_eq x y) None
+    (sysmod_of g y)
 sysmod_of-without_sysmod g x y = by (bytes_eq x y) refl
   where
     p : Sysmod → Bool
@@ -87,13 +102,16 @@ abbrev pub assigned : Text → Id → Sysmod → Sysmod
 assigned source x s = if bytes_eq s.id x then with_source source s else s
 
 -- a source is seen nowhere else
-pub assigned-same : {Y : Type 0} (f : Sysmod → Y) (source : Text) (x : Id) → ((s : Sysmod) → f (with_source source s) ≡ f s) → (s : Sysmod) → f (assigned source x s) ≡ f s
+pub assigned-same : {Y : Type 0} (f : Sysmod → Y) (source : Text) (x : Id)
+    → ((s : Sysmod) → f (with_source source s) ≡ f s) → (s : Sysmod) → f (assigned source x s) ≡ f s
 assigned-same f source x same s = by (bytes_eq s.id x) refl
   where
     by : (b : Bool) → bytes_eq s.id x ≡ b → f (assigned source x s) ≡ f s
     by true e = rw e (same s)
     by false e = rw e refl
 
-pub sysmod_of-assign : (g : Global) (source : Text) (x y : Id) → sysmod_of (assign g source x) y ≡ option_map (assigned source x) (sysmod_of g y)
+pub sysmod_of-assign : (g : Global) (source : Text) (x y : Id)
+    → sysmod_of (assign g source x) y ≡ option_map (assigned source x) (sysmod_of g y)
 sysmod_of-assign g source x y =
-    find-map (λ s. bytes_eq s.id y) (assigned source x) (assigned-same (λ s. bytes_eq s.id y) source x (λ s. refl)) g.sysmods
+    find-map (λ s. bytes_eq s.id y) (assigned source x) (assigned-same (λ s. bytes_eq s.id y) source x (λ s. refl))
+    g.sysmods

@@ -8,7 +8,8 @@ use Rattle.terms.specs.Lookups.{is_function}
 use Rattle.terms.specs.Global.{is_service, fits_roles, named_functions}
 
 -- Where fewer functions and fewer others are received, roles that fitted fit.
-pub fits-fewer : (g new : Global) → ((x : Id) → is_function g x ≡ false → is_function new x ≡ false) → ((x : Id) → is_service g x ≡ false → is_service new x ≡ false)
+pub fits-fewer : (g new : Global) → ((x : Id) → is_function g x ≡ false → is_function new x ≡ false)
+    → ((x : Id) → is_service g x ≡ false → is_service new x ≡ false)
     → (v : Ver) → IsTrue (fits_roles g v) → IsTrue (fits_roles new v)
 fits-fewer g new functions services v fits =
     let parts = neither (list_any (is_function g) v.sup) (list_any (is_service g) (named_functions v)) fits in

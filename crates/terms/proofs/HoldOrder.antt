@@ -20,12 +20,17 @@ number_back a b = by (hold_number a) (hold_number b)
     by m n = sym (unsigned_ties m n) ∙ nat_eq_equiv.symm m n
 
 pub has_key-ties : (x : Id) (kind : HoldKind) (reason : Text) (h : Hold)
-    → is_eq (ordering_then (slice_cmp nat_cmp x h.id) (ordering_then (nat_cmp (hold_number kind) (hold_number h.kind)) (slice_cmp nat_cmp reason h.reason)))
+    → is_eq (ordering_then (slice_cmp nat_cmp x h.id) (ordering_then (nat_cmp (hold_number kind) (hold_number h.kind))
+    (slice_cmp nat_cmp reason h.reason)))
     ≡ has_key x kind reason h
 has_key-ties x kind reason h =
-    is_eq-then (slice_cmp nat_cmp x h.id) (ordering_then (nat_cmp (hold_number kind) (hold_number h.kind)) (slice_cmp nat_cmp reason h.reason))
-    ∙ ap (λ b. is_eq (slice_cmp nat_cmp x h.id) && b) (is_eq-then (nat_cmp (hold_number kind) (hold_number h.kind)) (slice_cmp nat_cmp reason h.reason))
-    ∙ ap (λ b. b && (is_eq (nat_cmp (hold_number kind) (hold_number h.kind)) && is_eq (slice_cmp nat_cmp reason h.reason))) (is_eq-slice_cmp x h.id ∙ same_back x h.id)
+    is_eq-then (slice_cmp nat_cmp x h.id) (ordering_then (nat_cmp (hold_number kind) (hold_number h.kind))
+    (slice_cmp nat_cmp reason h.reason))
+    ∙ ap (λ b. is_eq (slice_cmp nat_cmp x h.id) && b) (is_eq-then (nat_cmp (hold_number kind) (hold_number h.kind))
+    (slice_cmp nat_cmp reason h.reason))
+    ∙ ap (λ b. b && (is_eq (nat_cmp (hold_number kind) (hold_number h.kind)) && is_eq
+    (slice_cmp nat_cmp reason h.reason))) (is_eq-slice_cmp x h.id ∙ same_back x h.id)
     ∙ ap (λ b. bytes_eq h.id x && (b && is_eq (slice_cmp nat_cmp reason h.reason))) (number_back kind h.kind)
-    ∙ ap (λ b. bytes_eq h.id x && ((hold_number h.kind == hold_number kind) && b)) (is_eq-slice_cmp reason h.reason ∙ same_back reason h.reason)
+    ∙ ap (λ b. bytes_eq h.id x && ((hold_number h.kind == hold_number kind) && b))
+    (is_eq-slice_cmp reason h.reason ∙ same_back reason h.reason)
     ∙ and_assoc (bytes_eq h.id x) (hold_number h.kind == hold_number kind) (bytes_eq h.reason reason)

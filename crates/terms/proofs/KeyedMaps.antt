@@ -1,5 +1,6 @@
 -- Maps whose values know their keys: what the list of the values is after a change of the map.
-use Rattle.std.proofs.Common.{◌≡◌, Bool, true, false, not, List, [], ◌∷◌, ◌++◌, filter, find, cond, refl, sym, ap, ◌∙◌, subst, None, Some, IsTrue, All, arith}
+use Rattle.std.proofs.Common.{◌≡◌, Bool, true, false, not, List, [], ◌∷◌, ◌++◌, filter, find, cond, refl, sym, ap, ◌∙◌}
+use Rattle.std.proofs.Common.{subst, None, Some, IsTrue, All, arith}
 use Rattle.std.specs.declared.cmp.Ordering.{Ordering}
 use Rattle.std.specs.declared.cmp.Ordering.TheVariants.{Less, Equal, Greater}
 use Rattle.std.specs.Ordering.{is_lt, is_eq}
@@ -25,7 +26,8 @@ Ties {X} test key p = (x : X) → test (key x) ≡ p x
 
 module _ {X K : Type 0} {C : K → K → Ordering} (o : IsTotalOrder C) (key : X → K) where
   -- what is known of the keys is known of the values
-  pub values_have : (P : K → Type 0) (es : List (K × X)) → KnowKeys key es → AllByRecursion P (keys_of es) → AllByRecursion (λ x. P (key x)) (values_of es)
+  pub values_have : (P : K → Type 0) (es : List (K × X)) → KnowKeys key es → AllByRecursion P (keys_of es)
+      → AllByRecursion (λ x. P (key x)) (values_of es)
   values_have P [] known all = tt
   values_have P (e ∷ es) known all = (subst P (sym known.0) all.0, values_have P es known.1 all.1)
 
@@ -38,15 +40,18 @@ module _ {X K : Type 0} {C : K → K → Ordering} (o : IsTotalOrder C) (key : X
   all_behind y es known above xs =
       let behind = values_have (λ q. C (key y) q ≡ Less) es known above in
       put-behind R xs (values_of es) y
-      (recursion_weaker (λ x. C (key y) (key x) ≡ Less) (λ x. is_lt (R x y) ≡ false) (λ x h. ap is_lt (Greater-turned o (key y) (key x) h)) (values_of es) behind)
-      (recursion_weaker (λ x. C (key y) (key x) ≡ Less) (λ x. is_lt (R y x) ≡ true) (λ x h. ap is_lt h) (values_of es) behind)
+      (recursion_weaker (λ x. C (key y) (key x) ≡ Less) (λ x. is_lt (R x y) ≡ false)
+      (λ x h. ap is_lt (Greater-turned o (key y) (key x) h)) (values_of es) behind)
+      (recursion_weaker (λ x. C (key y) (key x) ≡ Less) (λ x. is_lt (R y x) ≡ true) (λ x h. ap is_lt h) (values_of es)
+      behind)
 
   -- a value takes its place by its key
   pub values-insert_entry : (es : List (K × X)) (y : X) → KnowKeys key es → IsStrictlySortedBy C (keys_of es)
       → values_of (insert_entry C es (key y) y) ≡ with_item C key (values_of es) y
   unfolding R
   values-insert_entry [] y known sorted = refl
-  values-insert_entry (e ∷ es) y known sorted = by (values-insert_entry es y known.1 (sorted_tail C e.0 (keys_of es) sorted)) (C (key y) e.0) refl
+  values-insert_entry (e ∷ es) y known sorted = by (values-insert_entry es y known.1
+      (sorted_tail C e.0 (keys_of es) sorted)) (C (key y) e.0) refl
     where
       higher : AllByRecursion (λ q. C e.0 q ≡ Less) (keys_of es)
       higher = sorted_head C e.0 (keys_of es) sorted
@@ -55,26 +60,32 @@ module _ {X K : Type 0} {C : K → K → Ordering} (o : IsTotalOrder C) (key : X
       at c is = ap (C (key y)) known.0 ∙ is
 
       by : values_of (insert_entry C es (key y) y) ≡ with_item C key (values_of es) y
-          → (c : Ordering) → C (key y) e.0 ≡ c → values_of (insert_entry C (e ∷ es) (key y) y) ≡ with_item C key (values_of (e ∷ es)) y
+          → (c : Ordering) → C (key y) e.0 ≡ c → values_of (insert_entry C (e ∷ es) (key y) y) ≡ with_item C key
+          (values_of (e ∷ es)) y
       by again Less c = rw c (sym (all_behind y (e ∷ es) known (c, above_lower o (key y) e.0 (keys_of es) c higher) []))
       by again Equal c =
-          let alone : with_item C key (e.1 ∷ []) y ≡ y ∷ [] = rw (at Equal c, tied_back o (key y) (key e.1) (at Equal c)) refl in
-          rw c (ap (λ xs. xs ++ values_of es) (sym alone) ∙ sym (all_behind y es known.1 (above_same o (key y) e.0 (keys_of es) c higher) (e.1 ∷ [])))
+          let alone : with_item C key (e.1 ∷ []) y ≡ y ∷ [] =
+          rw (at Equal c, tied_back o (key y) (key e.1) (at Equal c)) refl in
+          rw c (ap (λ xs. xs ++ values_of es) (sym alone) ∙ sym
+          (all_behind y es known.1 (above_same o (key y) e.0 (keys_of es) c higher) (e.1 ∷ [])))
       by again Greater c =
           let first : is_lt (R e.1 y) ≡ true = ap is_lt (Less-turned o (key y) (key e.1) (at Greater c)) in
           let second : is_lt (R y e.1) ≡ false = ap is_lt (at Greater c) in
           rw c (ap (λ xs. e.1 ∷ xs) again ∙ sym (put-ahead R (e.1 ∷ []) (values_of es) y (first, tt) (second, tt)))
 
-  pub KnowKeys-insert_entry : (es : List (K × X)) (y : X) → ((k : K) → C (key y) k ≡ Equal → key y ≡ k) → KnowKeys key es → KnowKeys key (insert_entry C es (key y) y)
+  pub KnowKeys-insert_entry : (es : List (K × X)) (y : X) → ((k : K) → C (key y) k ≡ Equal → key y ≡ k)
+      → KnowKeys key es → KnowKeys key (insert_entry C es (key y) y)
   KnowKeys-insert_entry [] y exact known = (refl, tt)
   KnowKeys-insert_entry (e ∷ es) y exact known = by (KnowKeys-insert_entry es y exact known.1) (C (key y) e.0) refl
     where
-      by : KnowKeys key (insert_entry C es (key y) y) → (c : Ordering) → C (key y) e.0 ≡ c → KnowKeys key (insert_entry C (e ∷ es) (key y) y)
+      by : KnowKeys key (insert_entry C es (key y) y) → (c : Ordering) → C (key y) e.0 ≡ c
+          → KnowKeys key (insert_entry C (e ∷ es) (key y) y)
       by again Less c = rw c (refl, known)
       by again Equal c = rw c (exact e.0 c, known.1)
       by again Greater c = rw c (known.0, again)
 
-  pub KnowKeys-remove_entry : (test : K → Bool) (es : List (K × X)) → KnowKeys key es → KnowKeys key (remove_entry test es)
+  pub KnowKeys-remove_entry : (test : K → Bool) (es : List (K × X)) → KnowKeys key es
+      → KnowKeys key (remove_entry test es)
   KnowKeys-remove_entry test [] known = tt
   KnowKeys-remove_entry test (e ∷ es) known = by (KnowKeys-remove_entry test es known.1) (test e.0) refl
     where
@@ -83,7 +94,8 @@ module _ {X K : Type 0} {C : K → K → Ordering} (o : IsTotalOrder C) (key : X
       by again false other = rw other (known.0, again)
 
   -- the value of a key goes
-  pub values-remove_entry : (k : K) (p : X → Bool) → Ties (is_at (C k)) key p → (es : List (K × X)) → KnowKeys key es → IsStrictlySortedBy C (keys_of es)
+  pub values-remove_entry : (k : K) (p : X → Bool) → Ties (is_at (C k)) key p → (es : List (K × X)) → KnowKeys key es
+      → IsStrictlySortedBy C (keys_of es)
       → values_of (remove_entry (is_at (C k)) es) ≡ filter (λ x. not (p x)) (values_of es)
   values-remove_entry k p ties [] known sorted = refl
   values-remove_entry k p ties (e ∷ es) known sorted =
@@ -95,51 +107,63 @@ module _ {X K : Type 0} {C : K → K → Ordering} (o : IsTotalOrder C) (key : X
       others_stay : is_at (C k) e.0 ≡ true → filter (λ x. not (p x)) (values_of es) ≡ values_of es
       others_stay here =
           filter-all_recursion (λ x. not (p x)) (values_of es)
-          (recursion_weaker (λ x. C k (key x) ≡ Less) (λ x. not (p x) ≡ true) (λ x less. ap not (sym (ties x) ∙ ap is_eq less)) (values_of es)
+          (recursion_weaker (λ x. C k (key x) ≡ Less) (λ x. not (p x) ≡ true)
+          (λ x less. ap not (sym (ties x) ∙ ap is_eq less)) (values_of es)
           (values_have (λ q. C k q ≡ Less) es known.1
           (above_same o k e.0 (keys_of es) (Equal-from_is_eq (C k e.0) here) (sorted_head C e.0 (keys_of es) sorted))))
 
       by : values_of (remove_entry (is_at (C k)) es) ≡ filter (λ x. not (p x)) (values_of es)
-          → (b : Bool) → is_at (C k) e.0 ≡ b → values_of (remove_entry (is_at (C k)) (e ∷ es)) ≡ filter (λ x. not (p x)) (values_of (e ∷ es))
+          → (b : Bool) → is_at (C k) e.0 ≡ b → values_of (remove_entry (is_at (C k)) (e ∷ es)) ≡ filter (λ x. not (p x))
+          (values_of (e ∷ es))
       by again true here = rw (here, at true here) (sym (others_stay here))
       by again false other = rw (other, at false other) (ap (λ xs. e.1 ∷ xs) again)
 
   -- what a look-up finds
-  pub lookup-values : (test : K → Bool) (p : X → Bool) → Ties test key p → (es : List (K × X)) → KnowKeys key es → lookup test es ≡ find p (values_of es)
+  pub lookup-values : (test : K → Bool) (p : X → Bool) → Ties test key p → (es : List (K × X)) → KnowKeys key es
+      → lookup test es ≡ find p (values_of es)
   lookup-values test p ties [] known = refl
   lookup-values test p ties (e ∷ es) known =
       let here : test e.0 ≡ p e.1 = ap test (sym known.0) ∙ ties e.1 in
       rw here (ap (cond (p e.1) (Some e.1)) (lookup-values test p ties es known.1))
 
   -- what lies in a range of keys
-  pub values-filter : (test : K → Bool) (p : X → Bool) → Ties test key p → (es : List (K × X)) → KnowKeys key es → values_of (filter (λ e. test e.0) es) ≡ filter p (values_of es)
+  pub values-filter : (test : K → Bool) (p : X → Bool) → Ties test key p → (es : List (K × X)) → KnowKeys key es
+      → values_of (filter (λ e. test e.0) es) ≡ filter p (values_of es)
   values-filter test p ties [] known = refl
   values-filter test p ties (e ∷ es) known = by (values-filter test p ties es known.1) (test e.0) refl
     where
-      by : values_of (filter (λ e. test e.0) es) ≡ filter p (values_of es) → (b : Bool) → test e.0 ≡ b → values_of (filter (λ e. test e.0) (e ∷ es)) ≡ filter p (values_of (e ∷ es))
-      by again true here = let there : p e.1 ≡ true = sym (ties e.1) ∙ ap test known.0 ∙ here in rw (here, there) (ap (λ xs. e.1 ∷ xs) again)
-      by again false other = let there : p e.1 ≡ false = sym (ties e.1) ∙ ap test known.0 ∙ other in rw (other, there) again
+      by : values_of (filter (λ e. test e.0) es) ≡ filter p (values_of es) → (b : Bool) → test e.0 ≡ b
+          → values_of (filter (λ e. test e.0) (e ∷ es)) ≡ filter p (values_of (e ∷ es))
+      by again true here = let there : p e.1 ≡ true = sym (ties e.1) ∙ ap test known.0 ∙ here
+          in rw (here, there) (ap (λ xs. e.1 ∷ xs) again)
+      by again false other = let there : p e.1 ≡ false = sym (ties e.1) ∙ ap test known.0 ∙ other
+          in rw (other, there) again
 
   -- the values rise
-  pub Rises-values : (es : List (K × X)) → KnowKeys key es → IsStrictlySortedBy C (keys_of es) → Rises C key (values_of es)
+  pub Rises-values : (es : List (K × X)) → KnowKeys key es → IsStrictlySortedBy C (keys_of es)
+      → Rises C key (values_of es)
   Rises-values [] known sorted = λ i j d less below. absurd (omega arith)
   Rises-values (e ∷ es) known sorted =
       AllPairs-cons (λ x y. IsTrue (is_lt (C (key x) (key y)))) e.1 (values_of es)
       (all_from (values_of es) (values_have (λ q. C e.0 q ≡ Less) es known.1 (sorted_head C e.0 (keys_of es) sorted)))
       (Rises-values es known.1 (sorted_tail C e.0 (keys_of es) sorted))
     where
-      all_from : (xs : List X) → AllByRecursion (λ x. C e.0 (key x) ≡ Less) xs → All (λ x. IsTrue (is_lt (C (key e.1) (key x)))) xs
+      all_from : (xs : List X) → AllByRecursion (λ x. C e.0 (key x) ≡ Less) xs
+          → All (λ x. IsTrue (is_lt (C (key e.1) (key x)))) xs
       all_from [] all = All-nil (λ x. IsTrue (is_lt (C (key e.1) (key x))))
-      all_from (x ∷ xs) all = All-cons (λ x. IsTrue (is_lt (C (key e.1) (key x)))) x xs (rw known.0 (ap is_lt all.0)) (all_from xs all.1)
+      all_from (x ∷ xs) all = All-cons (λ x. IsTrue (is_lt (C (key e.1) (key x)))) x xs (rw known.0 (ap is_lt all.0))
+          (all_from xs all.1)
 
   -- ---- undoing an insertion
 
-  none_above : (k : K) (es : List (K × X)) → AllByRecursion (λ q. C k q ≡ Less) (keys_of es) → lookup (is_at (C k)) es ≡ None
+  none_above : (k : K) (es : List (K × X)) → AllByRecursion (λ q. C k q ≡ Less) (keys_of es)
+      → lookup (is_at (C k)) es ≡ None
   none_above k [] all = refl
   none_above k (e ∷ es) all = rw all.0 (none_above k es all.1)
 
   -- a new entry goes again
-  pub remove-insert : (es : List (K × X)) (k : K) (v : X) → lookup (is_at (C k)) es ≡ None → remove_entry (is_at (C k)) (insert_entry C es k v) ≡ es
+  pub remove-insert : (es : List (K × X)) (k : K) (v : X) → lookup (is_at (C k)) es ≡ None
+      → remove_entry (is_at (C k)) (insert_entry C es k v) ≡ es
   remove-insert [] k v none = rw (tied_itself o k) refl
   remove-insert (e ∷ es) k v none = by (remove-insert es k v) (C k e.0) refl
     where
@@ -153,15 +177,21 @@ module _ {X K : Type 0} {C : K → K → Ordering} (o : IsTotalOrder C) (key : X
       by again Greater c = let rest = rw c at none in rw (c, c) (ap (λ fs. e ∷ fs) (again rest))
 
   -- an old value comes again
-  pub insert-insert : (es : List (K × X)) (k : K) (v old : X) → IsStrictlySortedBy C (keys_of es) → lookup (is_at (C k)) es ≡ Some old
+  pub insert-insert : (es : List (K × X)) (k : K) (v old : X) → IsStrictlySortedBy C (keys_of es)
+      → lookup (is_at (C k)) es ≡ Some old
       → insert_entry C (insert_entry C es k v) k old ≡ es
   insert-insert [] k v old sorted some = cc
-  insert-insert (e ∷ es) k v old sorted some = by (insert-insert es k v old (sorted_tail C e.0 (keys_of es) sorted)) (C k e.0) refl
+  insert-insert (e ∷ es) k v old sorted some = by (insert-insert es k v old (sorted_tail C e.0 (keys_of es) sorted))
+      (C k e.0) refl
     where
       by : (lookup (is_at (C k)) es ≡ Some old → insert_entry C (insert_entry C es k v) k old ≡ es)
           → (c : Ordering) → C k e.0 ≡ c → insert_entry C (insert_entry C (e ∷ es) k v) k old ≡ e ∷ es
       by again Less c =
-          let none = none_above k (e ∷ es) (c, above_lower o k e.0 (keys_of es) c (sorted_head C e.0 (keys_of es) sorted)) in
+          let none = none_above k (e ∷ es) (
+            c,
+            above_lower o k e.0 (keys_of es) c
+                (sorted_head C e.0 (keys_of es) sorted),
+          ) in
           absurd (none_some (sym none ∙ some))
         where
           none_some : None ≡ Some old → ⊥
@@ -177,7 +207,8 @@ module _ {X K : Type 0} {C : K → K → Ordering} (o : IsTotalOrder C) (key : X
   lookup-inserted [] k v = rw (tied_itself o k) refl
   lookup-inserted (e ∷ es) k v = by (lookup-inserted es k v) (C k e.0) refl
     where
-      by : lookup (is_at (C k)) (insert_entry C es k v) ≡ Some v → (c : Ordering) → C k e.0 ≡ c → lookup (is_at (C k)) (insert_entry C (e ∷ es) k v) ≡ Some v
+      by : lookup (is_at (C k)) (insert_entry C es k v) ≡ Some v → (c : Ordering) → C k e.0 ≡ c
+          → lookup (is_at (C k)) (insert_entry C (e ∷ es) k v) ≡ Some v
       by again Less c = rw (c, tied_itself o k) refl
       by again Equal c = rw (c, c) refl
       by again Greater c = rw (c, c) again

@@ -26,7 +26,8 @@ module _ (next : Id → List Id) where
   reaches_last x y z to named = reaches_through x y z to (reaches_named y z named)
 
   -- What x reaches is named by x or by something that x reaches.
-  pub last_step : (x z : Id) → Reaches next x z → Contains (next x) z ⊎ ((y : Id) × Reaches next x y × Contains (next y) z)
+  pub last_step : (x z : Id) → Reaches next x z → Contains (next x) z
+      ⊎ ((y : Id) × Reaches next x y × Contains (next y) z)
   last_step x z (between, leads) = by x between leads
     where
       after : (x w z : Id) → Contains (next x) w
@@ -66,7 +67,10 @@ module _ (next more : Id → List Id) (x : Id) (others : (y : Id) → y ≢ x �
 
   passes_first : (y w z : Id) → Contains (more y) w → Passes w z → Passes y z
   unfolding Passes
-  passes_first y w z named (inl same, from) = (inr (reaches_named more y x (subst (Contains (more y)) same named)), from)
+  passes_first y w z named (inl same, from) = (
+    inr (reaches_named more y x (subst (Contains (more y)) same named)),
+    from,
+  )
   passes_first y w z named (inr to, from) = (inr (reaches_first more y w x named to), from)
 
   passes_here : (y z : Id) → y ≡ x → Reaches more y z → Passes y z
@@ -85,7 +89,8 @@ module _ (next more : Id → List Id) (x : Id) (others : (y : Id) → y ≢ x �
       on y w ws other named (inl leads) = inl (old y w other named, leads)
       on y w ws other named (inr passes) = inr (passes_first y w z named passes)
 
-      by : (y : Id) (between : List Id) → (y ≡ x) ⊎ (y ≢ x) → Leads more y between z → Leads next y between z ⊎ Passes y z
+      by : (y : Id) (between : List Id) → (y ≡ x) ⊎ (y ≢ x) → Leads more y between z
+          → Leads next y between z ⊎ Passes y z
       by y between (inl same) leads = inr (passes_here y z same (between, leads))
       by y [] (inr other) named = inl (old y z other named)
       by y (w ∷ ws) (inr other) leads = on y w ws other leads.0 (by w ws (same_or_not w x) leads.1)

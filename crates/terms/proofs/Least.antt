@@ -1,5 +1,6 @@
 -- The least closed set is what the greatest self-supporting set leaves out.
-use Rattle.std.proofs.Common.{◌≡◌, ◌<◌, ℕ, suc, Bool, false, List, [], ◌∷◌, length, map, get_or, refl, sym, ◌∙◌, ap, arith, inl, inr}
+use Rattle.std.proofs.Common.{◌≡◌, ◌<◌, ℕ, suc, Bool, false, List, [], ◌∷◌, length, map, get_or, refl, sym, ◌∙◌, ap}
+use Rattle.std.proofs.Common.{arith, inl, inr}
 use Rattle.std.specs.Prelude.{IsTrue, ◌&&◌, not, nat_lt}
 use Rattle.std.specs.List.{All, Any, Contains, list_all}
 use Rattle.std.proofs.lemmas.List.{get_or-map, get_or_past, length-map}
@@ -23,7 +24,8 @@ pub holds-not : (flags : List Bool) (x : ℕ) → x < length flags → holds (ma
 holds-not flags x below = get_or-map not flags x false false below
 
 -- a member of the flags turned round is below their number, and no member of the flags
-pub member-not : (flags : List Bool) (x : ℕ) → IsTrue (holds (map not flags) x) → (x < length flags) × (holds flags x ≡ false)
+pub member-not : (flags : List Bool) (x : ℕ) → IsTrue (holds (map not flags) x)
+    → (x < length flags) × (holds flags x ≡ false)
 member-not flags x member = elim (cases_lt x (length flags)) [
   | inl below ↦ (below, not-true (holds flags x) (sym (holds-not flags x below) ∙ member))
   | inr past ↦ absurd (
@@ -32,7 +34,8 @@ member-not flags x member = elim (cases_lt x (length flags)) [
       cc)
 ]
 
-pub not-member : (flags : List Bool) (x : ℕ) → x < length flags → holds flags x ≡ false → IsTrue (holds (map not flags) x)
+pub not-member : (flags : List Bool) (x : ℕ) → x < length flags → holds flags x ≡ false
+    → IsTrue (holds (map not flags) x)
 not-member flags x below out = holds-not flags x below ∙ ap not out
 
 -- the numbers that are candidates and outside of a set
@@ -43,7 +46,8 @@ outside_from : (p : Problem) (set : ℕ → Bool) (x : ℕ) → x < p.size → s
 outside_from p set x below out = and_from (nat_lt x p.size) (not (set x)) (lt-ltb x p.size below) (ap not out)
 
 outside_parts : (p : Problem) (set : ℕ → Bool) (x : ℕ) → IsTrue (outside p set x) → (x < p.size) × (set x ≡ false)
-outside_parts p set x member = let both = and_parts (nat_lt x p.size) (not (set x)) member in (ltb-true x p.size both.0, not-true (set x) both.1)
+outside_parts p set x member = let both = and_parts (nat_lt x p.size) (not (set x)) member
+    in (ltb-true x p.size both.0, not-true (set x) both.1)
 
 -- a number of the list that fails, where not all of them pass
 some_fails : (set : ℕ → Bool) (xs : List ℕ) → list_all set xs ≡ false → Any (λ y. set y ≡ false) xs
@@ -56,13 +60,18 @@ some_fails set (x ∷ xs) fails = elim (cases_Bool (set x)) [
 ]
 
 -- what a closed set leaves out supports itself
-outside_supported : (p : Problem) (set : ℕ → Bool) → IsProblem p → IsClosed (growth_of p) set → IsSelfSupporting p (outside p set)
+outside_supported : (p : Problem) (set : ℕ → Bool) → IsProblem p → IsClosed (growth_of p) set
+    → IsSelfSupporting p (outside p set)
 outside_supported p set valid closed = record {
   eligible = λ x member.
       let parts = outside_parts p set x member in
       elim (cases_Bool (holds p.eligible x)) [
         | inl good ↦ good
-        | inr bad ↦ absurd (cc (parts.1, closed.start x (not-member p.eligible x (omega (arith, valid.flags, parts.0)) bad)))
+        | inr bad ↦ absurd (cc (
+          parts.1,
+          closed.start x (not-member p.eligible x (omega (arith, valid.flags, parts.0))
+              bad),
+        ))
       ];
   served = λ k e below member.
       let d = get_or p.demands k e in
@@ -73,17 +82,25 @@ outside_supported p set valid closed = record {
         | inl all ↦ absurd (cc (parts.1, rule (AllPass-from_list_all set d.any all)))
         | inr fails ↦
             let some = some_fails set d.any fails in
-            let low : some.1 < p.size = All-contains (λ y. y < p.size) d.any some.1 (All-contains (IsDemand p.size) p.demands d valid.demands among).any (some.0, some.2, some.3) in
+            let low : some.1 < p.size = All-contains (λ y. y < p.size) d.any some.1
+            (All-contains (IsDemand p.size) p.demands d valid.demands among).any (some.0, some.2, some.3) in
             (some.0, some.1, some.2, some.3, outside_from p set some.1 low some.4)
       ];
 }
   where
-    rule_at : (p : Problem) (set : ℕ → Bool) → IsClosed (growth_of p) set → (d : Demand) → Contains p.demands d → All (λ y. IsTrue (set y)) d.any → IsTrue (set d.of)
-    rule_at p set closed d among = All-contains (λ r. All (λ y. IsTrue (set y)) r.these → IsTrue (set r.that)) (map rule_of p.demands) (rule_of d) closed.rules
-        (among.0, rw length-map among.1, get_or-map rule_of p.demands among.0 d (rule_of d) among.1 ∙ ap rule_of among.2)
+    rule_at : (p : Problem) (set : ℕ → Bool) → IsClosed (growth_of p) set → (d : Demand) → Contains p.demands d
+        → All (λ y. IsTrue (set y)) d.any → IsTrue (set d.of)
+    rule_at p set closed d among = All-contains (λ r. All (λ y. IsTrue (set y)) r.these → IsTrue (set r.that))
+        (map rule_of p.demands) (rule_of d) closed.rules (
+          among.0,
+          rw length-map among.1,
+          get_or-map rule_of p.demands among.0 d (rule_of d) among.1
+              ∙ ap rule_of among.2,
+        )
 
 -- What the greatest self-supporting set leaves out is the least closed set.
-pub least_from_kept : (p : Problem) (kept : List Bool) → IsProblem p → AreKept p kept → IsLeast (growth_of p) (map not kept)
+pub least_from_kept : (p : Problem) (kept : List Bool) → IsProblem p → AreKept p kept
+    → IsLeast (growth_of p) (map not kept)
 least_from_kept p kept valid are_kept =
     let greatest = greatest_from_kept p kept are_kept in
     least_from_closed (growth_of p) (map not kept)
@@ -95,14 +112,16 @@ least_from_kept p kept valid are_kept =
             | inl inside ↦ absurd (cc (out.1, greatest.self_supporting.eligible x inside))
             | inr missing ↦ not-member kept x (omega (arith, are_kept.size, valid.flags, out.0)) missing
           ];
-      rules = All-map (λ r. All (λ y. IsTrue (holds (map not kept) y)) r.these → IsTrue (holds (map not kept) r.that)) rule_of p.demands
+      rules = All-map (λ r. All (λ y. IsTrue (holds (map not kept) y)) r.these → IsTrue (holds (map not kept) r.that))
+          rule_of p.demands
           (λ k e below all.
           let d = get_or p.demands k e in
           let low : d.of < p.size = (valid.demands k e below).of in
           elim (cases_Bool (holds kept d.of)) [
             | inl inside ↦ absurd (
                 let some = greatest.self_supporting.served k e below inside in
-                let out = member-not kept some.1 (All-contains (λ y. IsTrue (holds (map not kept) y)) d.any some.1 all (some.0, some.2, some.3)) in
+                let out = member-not kept some.1 (All-contains (λ y. IsTrue (holds (map not kept) y)) d.any some.1 all
+                (some.0, some.2, some.3)) in
                 cc (out.1, some.4))
             | inr missing ↦ not-member kept d.of (omega (arith, are_kept.size, low)) missing
           ]);
@@ -112,5 +131,9 @@ least_from_kept p kept valid are_kept =
     elim (cases_Bool (set x)) [
       | inl inside ↦ inside
       | inr missing ↦ absurd (
-          cc (out.1, greatest.greatest (outside p set) (outside_supported p set valid closed) x (outside_from p set x (omega (arith, are_kept.size, out.0)) missing)))
+          cc (
+            out.1,
+            greatest.greatest (outside p set) (outside_supported p set valid closed) x
+                (outside_from p set x (omega (arith, are_kept.size, out.0)) missing),
+          ))
     ])

@@ -8,7 +8,8 @@ abbrev pub StartsWithout : {X : Type 0} → (X → Type 0) → List X → Type 0
 StartsWithout P [] = Unit {0}
 StartsWithout P (x ∷ xs) = P x → ⊥
 
-pub longest-only : {X : Type 0} (P : X → Type 0) (front back front' back' : List X) → front ++ back ≡ front' ++ back' → All P front → StartsWithout P back → All P front' → StartsWithout P back' → (front ≡ front') × (back ≡ back')
+pub longest-only : {X : Type 0} (P : X → Type 0) (front back front' back' : List X) → front ++ back ≡ front' ++ back'
+    → All P front → StartsWithout P back → All P front' → StartsWithout P back' → (front ≡ front') × (back ≡ back')
 longest-only P [] back [] back' e each stops each' stops' = (refl, e)
 longest-only P [] [] (y ∷ front') back' e each stops each' stops' = absurd (cc (e))
 longest-only P [] (x ∷ back) (y ∷ front') back' e each stops each' stops' =
@@ -19,6 +20,7 @@ longest-only P (x ∷ front) back [] (y ∷ back') e each stops each' stops' =
     let same : x ≡ y = cc (e) in
     absurd (stops' (subst P same (All-head P x front each)))
 longest-only P (x ∷ front) back (y ∷ front') back' e each stops each' stops' =
-    let more = longest-only P front back front' back' (cc (e)) (All-tail P x front each) stops (All-tail P y front' each') stops' in
+    let more = longest-only P front back front' back' (cc (e)) (All-tail P x front each) stops
+    (All-tail P y front' each') stops' in
     let same : x ≡ y = cc (e) in
     (cc (same, more.0), more.1)

@@ -1,5 +1,6 @@
 -- Lists without items, by the test of it.
-use Rattle.std.proofs.Common.{◌≡◌, Bool, true, false, not, List, [], ◌∷◌, filter, find, cond, Some, is_some, refl, sym, true≢false}
+use Rattle.std.proofs.Common.{◌≡◌, Bool, true, false, not, List, [], ◌∷◌, filter, find, cond, Some, is_some, refl, sym}
+use Rattle.std.proofs.Common.{true≢false}
 use Rattle.terms.specs.Lookups.{is_nil}
 
 pub nil_from : {X : Type 0} (xs : List X) → is_nil xs ≡ true → xs ≡ []

@@ -1,5 +1,6 @@
 -- Where nothing is deleted, a zone stays as it is, and so does each view of it.
-use Rattle.std.proofs.Common.{◌≡◌, Bool, true, false, not, List, [], ◌∷◌, ◌++◌, refl, ap, ◌∙◌, IsTrue, All, filter, map, Contains}
+use Rattle.std.proofs.Common.{◌≡◌, Bool, true, false, not, List, [], ◌∷◌, ◌++◌, refl, ap, ◌∙◌, IsTrue, All, filter, map}
+use Rattle.std.proofs.Common.{Contains}
 use Rattle.std.specs.Prelude.{◌&&◌}
 use Rattle.std.proofs.lemmas.List.Elements.{All-head, All-tail, filter_passes}
 use Rattle.terms.specs.Types.{Id, Global, Entry, Element, Zone}
@@ -28,26 +29,31 @@ is_taken_out-none g c zone x = by (is_applied zone x)
 -- an entry where no SYSMOD is gone
 pub entry_less-none : (is_gone : Id → Bool) → ((x : Id) → is_gone x ≡ false) → (e : Entry) → entry_less is_gone e ≡ e
 entry_less-none is_gone none e =
-    let supby : filter (λ y. not (is_gone y)) e.supby ≡ e.supby = filter-all (λ y. not (is_gone y)) e.supby (λ i d h. ap not (none _)) in
+    let supby : filter (λ y. not (is_gone y)) e.supby ≡ e.supby =
+    filter-all (λ y. not (is_gone y)) e.supby (λ i d h. ap not (none _)) in
     rw (none e.id, supby) refl
 
 -- entries where no SYSMOD is gone
-pub entries_less-none : (is_gone : Id → Bool) → ((x : Id) → is_gone x ≡ false) → (es : List Entry) → All (λ e. IsTrue (is_held e)) es → entries_less is_gone es ≡ es
+pub entries_less-none : (is_gone : Id → Bool) → ((x : Id) → is_gone x ≡ false) → (es : List Entry)
+    → All (λ e. IsTrue (is_held e)) es → entries_less is_gone es ≡ es
 entries_less-none is_gone none es held = ap (filter is_held) (same es) ∙ filter-all is_held es held
   where
     same : (fs : List Entry) → map (entry_less is_gone) fs ≡ fs
     same [] = refl
-    same (f ∷ fs) = ap (λ e. e ∷ map (entry_less is_gone) fs) (entry_less-none is_gone none f) ∙ ap (λ es. f ∷ es) (same fs)
+    same (f ∷ fs) = ap (λ e. e ∷ map (entry_less is_gone) fs) (entry_less-none is_gone none f)
+        ∙ ap (λ es. f ∷ es) (same fs)
 
 with_lists : Zone → List Entry → List Element → Zone
 with_lists zone entries elements = record zone { entries = entries; elements = elements }
 
 -- a zone less no deletions
-pub zone_less-none : (g : Global) (c : Choice) (zone : Zone) → All (λ e. IsTrue (is_held e)) zone.entries → zone_less g c [] zone ≡ zone
+pub zone_less-none : (g : Global) (c : Choice) (zone : Zone) → All (λ e. IsTrue (is_held e)) zone.entries
+    → zone_less g c [] zone ≡ zone
 unfolding with_lists zone_less
 zone_less-none g c zone held =
     let entries = entries_less-none (is_taken_out g c [] zone) (is_taken_out-none g c zone) zone.entries held in
-    let elements = filter-all (λ e. not (is_deleted g c [] e.fmid)) zone.elements (λ i d h. ap not (is_deleted-none g c _)) in
+    let elements = filter-all (λ e. not (is_deleted g c [] e.fmid)) zone.elements
+    (λ i d h. ap not (is_deleted-none g c _)) in
     ap (λ es. with_lists zone es (filter (λ e. not (is_deleted g c [] e.fmid)) zone.elements)) entries
     ∙ ap (with_lists zone zone.entries) elements
 
@@ -59,9 +65,11 @@ deletions-none c (x ∷ xs) all =
     ∙ deletions-none c xs (All-tail (λ x. del_of c x ≡ []) x xs all)
 
 -- a view where no candidate has DELETE
-pub view-none : (g : Global) (c : Choice) (cands : List Id) (zone : Zone) (x : Id) → All (λ e. IsTrue (is_held e)) zone.entries
+pub view-none : (g : Global) (c : Choice) (cands : List Id) (zone : Zone) (x : Id)
+    → All (λ e. IsTrue (is_held e)) zone.entries
     → ((y : Id) → Contains cands y → del_of c y ≡ []) → view g c cands zone x ≡ zone
 view-none g c cands zone x held plain =
     ap (λ dels. zone_less g c dels zone)
-    (deletions-none c (filter (is_in cands) (chain g c x)) (λ i d h. plain _ (Contains-from_is_in cands _ (filter_passes (is_in cands) (chain g c x) i d h))))
+    (deletions-none c (filter (is_in cands) (chain g c x)) (λ i d h.
+    plain _ (Contains-from_is_in cands _ (filter_passes (is_in cands) (chain g c x) i d h))))
     ∙ zone_less-none g c zone held

@@ -1,5 +1,6 @@
 -- The numbered problem keeps a number exactly if its id stays kept.
-use Rattle.std.specs.Prelude.{◌≡◌, ◌&&◌, ◌||◌, ◌<◌, ℕ, zero, suc, Bool, false, List, [], ◌∷◌, Option, None, Some, Any, Contains, IsTrue, slice_get, slice_index_or, refl}
+use Rattle.std.specs.Prelude.{◌≡◌, ◌&&◌, ◌||◌, ◌<◌, ℕ, zero, suc, Bool, false, List, [], ◌∷◌, Option, None, Some, Any}
+use Rattle.std.specs.Prelude.{Contains, IsTrue, slice_get, slice_index_or, refl}
 use Rattle.std.specs.Option.{option_map_or}
 use Rattle.std.specs.Str.{bytes_eq}
 use Rattle.std.proofs.Common.{sym, ◌∙◌, ap, subst, inl, inr}
@@ -19,23 +20,31 @@ abbrev pub ids_in : List Id → (ℕ → Bool) → Id → Bool
 ids_in [] set x = false
 ids_in (y ∷ ys) set x = (bytes_eq x y && set zero) || ids_in ys (λ n. set (suc n)) x
 
-pub ids_in-from : (ids : List Id) (set : ℕ → Bool) (n : ℕ) (x : Id) → slice_get ids n ≡ Some x → IsTrue (set n) → IsTrue (ids_in ids set x)
+pub ids_in-from : (ids : List Id) (set : ℕ → Bool) (n : ℕ) (x : Id) → slice_get ids n ≡ Some x → IsTrue (set n)
+    → IsTrue (ids_in ids set x)
 ids_in-from [] set n x e m = absurd (cc e)
 ids_in-from (y ∷ ys) set zero x e m =
     ap (λ v. v || ids_in ys (λ n. set (suc n)) x)
     (ap (λ v. v && set zero) ((bytes_eq-Decides x y).1 (sym (same_Some y x e))) ∙ m)
 ids_in-from (y ∷ ys) set (suc n) x e m =
-    ap (λ v. (bytes_eq x y && set zero) || v) (ids_in-from ys (λ k. set (suc k)) n x e m) ∙ or-true (bytes_eq x y && set zero)
+    ap (λ v. (bytes_eq x y && set zero) || v) (ids_in-from ys (λ k. set (suc k)) n x e m)
+    ∙ or-true (bytes_eq x y && set zero)
 
-pub ids_in-gives : (ids : List Id) (set : ℕ → Bool) (x : Id) → IsTrue (ids_in ids set x) → (n : ℕ) × (slice_get ids n ≡ Some x) × IsTrue (set n)
+pub ids_in-gives : (ids : List Id) (set : ℕ → Bool) (x : Id) → IsTrue (ids_in ids set x)
+    → (n : ℕ) × (slice_get ids n ≡ Some x) × IsTrue (set n)
 ids_in-gives [] set x m = absurd (cc m)
 ids_in-gives (y ∷ ys) set x m = elim (or_cases (bytes_eq x y && set zero) (ids_in ys (λ n. set (suc n)) x) m) [
-  | inl a ↦ let p = and_parts (bytes_eq x y) (set zero) a in (zero, ap (λ v. Some v) (sym ((bytes_eq-Decides x y).0 p.0)), p.1)
+  | inl a ↦ let p = and_parts (bytes_eq x y) (set zero) a in (
+    zero,
+    ap (λ v. Some v) (sym ((bytes_eq-Decides x y).0 p.0)),
+    p.1,
+  )
   | inr b ↦ let r = ids_in-gives ys (λ n. set (suc n)) x b in (suc r.0, r.1, r.2)
 ]
 
 -- a kept number's id stays kept
-pub stays_from_kept : (ids : List Id) (E : Id → Type 0) (N : Id → NeedKind → Id → Type 0) (S : NeedKind → Id → Id → Type 0)
+pub stays_from_kept : (ids : List Id) (E : Id → Type 0) (N : Id → NeedKind → Id → Type 0)
+    (S : NeedKind → Id → Id → Type 0)
     (p : Problem) (needed : List (NeedKind × Id)) → IsProblemOf E N S ids p needed →
     (n : ℕ) (x : Id) → slice_get ids n ≡ Some x → IsKept p n → StaysKept E N S x
 stays_from_kept ids E N S p needed h n x is u = (
@@ -61,15 +70,18 @@ stays_from_kept ids E N S p needed h n x is u = (
 abbrev pub numbers_in : List Id → (Id → Bool) → ℕ → Bool
 numbers_in ids set n = option_map_or set (slice_get ids n) false
 
-pub numbers_in-from : (ids : List Id) (set : Id → Bool) (n : ℕ) (x : Id) → slice_get ids n ≡ Some x → IsTrue (set x) → IsTrue (numbers_in ids set n)
+pub numbers_in-from : (ids : List Id) (set : Id → Bool) (n : ℕ) (x : Id) → slice_get ids n ≡ Some x → IsTrue (set x)
+    → IsTrue (numbers_in ids set n)
 numbers_in-from ids set n x e m = ap (λ o. option_map_or set o false) e ∙ m
 
-option_gives : (set : Id → Bool) (o : Option Id) → IsTrue (option_map_or set o false) → (x : Id) × (o ≡ Some x) × IsTrue (set x)
+option_gives : (set : Id → Bool) (o : Option Id) → IsTrue (option_map_or set o false)
+    → (x : Id) × (o ≡ Some x) × IsTrue (set x)
 option_gives set None m = absurd (cc m)
 option_gives set (Some x) m = (x, refl, m)
 
 -- an id that stays kept has a kept number
-pub kept_from_stays : (ids : List Id) (E : Id → Type 0) (N : Id → NeedKind → Id → Type 0) (S : NeedKind → Id → Id → Type 0)
+pub kept_from_stays : (ids : List Id) (E : Id → Type 0) (N : Id → NeedKind → Id → Type 0)
+    (S : NeedKind → Id → Id → Type 0)
     (p : Problem) (needed : List (NeedKind × Id)) → IsProblemOf E N S ids p needed → ((x : Id) → E x → Contains ids x) →
     (n : ℕ) (x : Id) → slice_get ids n ≡ Some x → StaysKept E N S x → IsKept p n
 kept_from_stays ids E N S p needed h within n x is u = (

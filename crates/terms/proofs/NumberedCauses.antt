@@ -1,5 +1,6 @@
 -- The numbered problem has the causers of the ids.
-use Rattle.std.specs.Prelude.{◌≡◌, ◌↔◌, ◌<◌, ℕ, Bool, false, List, [], ◌∷◌, Some, All, Contains, IsTrue, slice_get, slice_index_or, length, refl}
+use Rattle.std.specs.Prelude.{◌≡◌, ◌↔◌, ◌<◌, ℕ, Bool, false, List, [], ◌∷◌, Some, All, Contains, IsTrue, slice_get}
+use Rattle.std.specs.Prelude.{slice_index_or, length, refl}
 use Rattle.std.proofs.Common.{arith, sym, ◌∙◌, ap, subst, inl, inr, true≢false}
 use Rattle.std.proofs.lemmas.Option.{slice_get_within, slice_get-get_or, same_Some}
 use Rattle.std.proofs.lemmas.Bool.{false_from_ne_true}
@@ -22,9 +23,12 @@ not_both b t f = absurd (true≢false (sym t ∙ f))
 module _ (ids kept : List Id) (E : Id → Type 0) (N : Id → NeedKind → Id → Type 0) (S : NeedKind → Id → Id → Type 0)
     (p : Problem) (needed : List (NeedKind × Id)) (h : IsProblemOf E N S ids p needed) (flags : List Bool)
     (same : (n : ℕ) (x : Id) → slice_get ids n ≡ Some x → Contains kept x ↔ IsTrue (holds flags n)) where
-  failed_number : (n : ℕ) (x : Id) → slice_get ids n ≡ Some x → HasFailed ids kept E N S x → numbered.HasFailed p flags n
-  failed_number n x at failed =
-      (subst (λ k. n < k) (sym h.size) (slice_get_within ids n x at), false_from_ne_true (holds flags n) (λ t. failed.not_kept ((same n x at).1 t)))
+  failed_number : (n : ℕ) (x : Id) → slice_get ids n ≡ Some x → HasFailed ids kept E N S x
+      → numbered.HasFailed p flags n
+  failed_number n x at failed = (
+    subst (λ k. n < k) (sym h.size) (slice_get_within ids n x at),
+    false_from_ne_true (holds flags n) (λ t. failed.not_kept ((same n x at).1 t)),
+  )
 
   failed_id : (n : ℕ) (x : Id) → slice_get ids n ≡ Some x → numbered.HasFailed p flags n → HasFailed ids kept E N S x
   failed_id n x at failed = record {
@@ -33,54 +37,71 @@ module _ (ids kept : List Id) (E : Id → Type 0) (N : Id → NeedKind → Id �
   }
 
   -- the id of each number in a list that serves
-  id_of : (d : Demand) (i : ℕ) → slice_get p.demands i ≡ Some d → (m : ℕ) → Contains d.any m → (y : Id) × (slice_get ids m ≡ Some y)
+  id_of : (d : Demand) (i : ℕ) → slice_get p.demands i ≡ Some d → (m : ℕ) → Contains d.any m
+      → (y : Id) × (slice_get ids m ≡ Some y)
   id_of d i at m there =
       let found = found_at d.any m there in
-      let below = All-found (λ k. k < p.size) d.any found.0 m (All-found (IsDemand p.size) p.demands i d h.numbers.demands at).any found.1 in
+      let below = All-found (λ k. k < p.size) d.any found.0 m
+      (All-found (IsDemand p.size) p.demands i d h.numbers.demands at).any found.1 in
       let within = subst (λ k. m < k) h.size below in
       (slice_index_or ids m [], slice_get-get_or ids m [] within)
 
   -- a demand's list has no kept number exactly if nothing kept serves its need
-  unserved_numbers : (d : Demand) (i : ℕ) (kind : NeedKind) (z : Id) → slice_get p.demands i ≡ Some d → slice_get needed i ≡ Some (kind, z)
+  unserved_numbers : (d : Demand) (i : ℕ) (kind : NeedKind) (z : Id) → slice_get p.demands i ≡ Some d
+      → slice_get needed i ≡ Some (kind, z)
       → ((y : Id) → Contains kept y → ¬ S kind y z) → All (λ k. holds flags k ≡ false) d.any
   unserved_numbers d i kind z at need unserved k m below =
-      let there : Contains d.any (slice_index_or d.any k m) = contains_at d.any k (slice_index_or d.any k m) (slice_get-get_or d.any k m below) in
+      let there : Contains d.any (slice_index_or d.any k m) =
+      contains_at d.any k (slice_index_or d.any k m) (slice_get-get_or d.any k m below) in
       let y = id_of d i at (slice_index_or d.any k m) there in
       false_from_ne_true (holds flags (slice_index_or d.any k m)) (λ t.
-      unserved y.0 ((same (slice_index_or d.any k m) y.0 y.1).1 t) (((h.demands i d (kind, z) at need).any (slice_index_or d.any k m) y.0 y.1).0 there))
+      unserved y.0 ((same (slice_index_or d.any k m) y.0 y.1).1 t)
+      (((h.demands i d (kind, z) at need).any (slice_index_or d.any k m) y.0 y.1).0 there))
 
-  unserved_ids : (d : Demand) (i : ℕ) (kind : NeedKind) (z : Id) → slice_get p.demands i ≡ Some d → slice_get needed i ≡ Some (kind, z)
-      → ((y : Id) → Contains kept y → Contains ids y) → All (λ k. holds flags k ≡ false) d.any → (y : Id) → Contains kept y → ¬ S kind y z
+  unserved_ids : (d : Demand) (i : ℕ) (kind : NeedKind) (z : Id) → slice_get p.demands i ≡ Some d
+      → slice_get needed i ≡ Some (kind, z)
+      → ((y : Id) → Contains kept y → Contains ids y) → All (λ k. holds flags k ≡ false) d.any → (y : Id)
+      → Contains kept y → ¬ S kind y z
   unserved_ids d i kind z at need within none y k serves =
       let place = found_at ids y (within y k) in
       let there = ((h.demands i d (kind, z) at need).any place.0 y place.1).1 serves in
       let spot = found_at d.any place.0 there in
-      not_both (holds flags place.0) ((same place.0 y place.1).0 k) (All-found (λ j. holds flags j ≡ false) d.any spot.0 place.0 none spot.1)
+      not_both (holds flags place.0) ((same place.0 y place.1).0 k)
+      (All-found (λ j. holds flags j ≡ false) d.any spot.0 place.0 none spot.1)
 
   -- the need of a demand
-  need_of : (d : Demand) (i : ℕ) → slice_get p.demands i ≡ Some d → (kind : NeedKind) × (z : Id) × (slice_get needed i ≡ Some (kind, z))
+  need_of : (d : Demand) (i : ℕ) → slice_get p.demands i ≡ Some d
+      → (kind : NeedKind) × (z : Id) × (slice_get needed i ≡ Some (kind, z))
   need_of d i at =
-      let need = slice_index_or needed i (Fmid, []) in
-      (need.0, need.1, slice_get-get_or needed i (Fmid, []) (subst (λ k. i < k) (sym h.lengths) (slice_get_within p.demands i d at)))
+      let need = slice_index_or needed i (Fmid, []) in (
+        need.0,
+        need.1,
+        slice_get-get_or needed i (Fmid, []) (subst (λ k. i < k) (sym h.lengths)
+            (slice_get_within p.demands i d at)),
+      )
 
   -- whose need it is
-  need_is : (d : Demand) (i n : ℕ) (x z : Id) (kind : NeedKind) → slice_get p.demands i ≡ Some d → slice_get needed i ≡ Some (kind, z)
+  need_is : (d : Demand) (i n : ℕ) (x z : Id) (kind : NeedKind) → slice_get p.demands i ≡ Some d
+      → slice_get needed i ≡ Some (kind, z)
       → d.of ≡ n → slice_get ids n ≡ Some x → N x kind z
   need_is d i n x z kind at need of at_x =
       let meant = (h.demands i d (kind, z) at need).of in
       subst (λ v. N v kind z) (same_Some meant.0 x (sym meant.1 ∙ ap (slice_get ids) of ∙ at_x)) meant.2
 
-  pub leads_number : (n m : ℕ) (x y : Id) → slice_get ids n ≡ Some x → slice_get ids m ≡ Some y → LeadsTo ids kept E N S x y → numbered.LeadsTo p flags n m
+  pub leads_number : (n m : ℕ) (x y : Id) → slice_get ids n ≡ Some x → slice_get ids m ≡ Some y
+      → LeadsTo ids kept E N S x y → numbered.LeadsTo p flags n m
   leads_number n m x y at_x at_y leads =
       let s = leads.serves in
       let a = h.all n x s.1 s.0 at_x s.2.needs in
       let listed = ((h.demands a.0 a.1 (s.0, s.1) a.2 a.3).any m y at_y).1 s.3 in (
         failed_number n x at_x leads.failed,
-        any_at (numbered.LeadsBy flags n m) p.demands a.0 a.1 a.2 (a.4, unserved_numbers a.1 a.0 s.0 s.1 a.2 a.3 s.2.unserved, listed),
+        any_at (numbered.LeadsBy flags n m) p.demands a.0 a.1 a.2
+            (a.4, unserved_numbers a.1 a.0 s.0 s.1 a.2 a.3 s.2.unserved, listed),
       )
 
   module _ (within : (y : Id) → Contains kept y → Contains ids y) where
-    pub leads_id : (n m : ℕ) (x y : Id) → slice_get ids n ≡ Some x → slice_get ids m ≡ Some y → numbered.LeadsTo p flags n m → LeadsTo ids kept E N S x y
+    pub leads_id : (n m : ℕ) (x y : Id) → slice_get ids n ≡ Some x → slice_get ids m ≡ Some y
+        → numbered.LeadsTo p flags n m → LeadsTo ids kept E N S x y
     leads_id n m x y at_x at_y leads =
         let a = any_found (numbered.LeadsBy flags n m) p.demands leads.1 in
         let need = need_of a.1 a.0 a.2 in
@@ -102,7 +123,8 @@ module _ (ids kept : List Id) (E : Id → Type 0) (N : Id → NeedKind → Id �
     led_id : (n m : ℕ) → numbered.LeadsTo p flags n m → (y : Id) × (slice_get ids m ≡ Some y)
     led_id n m leads = let a = any_found (numbered.LeadsBy flags n m) p.demands leads.1 in id_of a.1 a.0 a.2 m a.3.2
 
-    steps_id : (n m : ℕ) (steps : List ℕ) (x y : Id) → slice_get ids n ≡ Some x → slice_get ids m ≡ Some y → numbered.Steps p flags n steps m
+    steps_id : (n m : ℕ) (steps : List ℕ) (x y : Id) → slice_get ids n ≡ Some x → slice_get ids m ≡ Some y
+        → numbered.Steps p flags n steps m
         → (ws : List Id) × Steps ids kept E N S x ws y
     steps_id n m [] x y at_x at_y e = ([], same_Some x y (sym at_x ∙ ap (slice_get ids) e ∙ at_y))
     steps_id n m (k ∷ ks) x y at_x at_y r =
@@ -130,7 +152,8 @@ module _ (ids kept : List Id) (E : Id → Type 0) (N : Id → NeedKind → Id �
           a.4,
           none_within a.1.any (λ m there.
               let y = id_of a.1 a.0 a.2 m there in
-              bare.3 y.0 (contains_at ids m y.0 y.1) (((h.demands a.0 a.1 (bare.0, bare.1) a.2 a.3).any m y.0 y.1).0 there)),
+              bare.3 y.0 (contains_at ids m y.0 y.1) (((h.demands a.0 a.1 (bare.0, bare.1) a.2 a.3).any m y.0 y.1).0
+              there)),
         )
 
     root_id : (n : ℕ) (x : Id) → slice_get ids n ≡ Some x → numbered.IsRoot p flags n → IsRoot ids kept E N S x
@@ -152,13 +175,15 @@ module _ (ids kept : List Id) (E : Id → Type 0) (N : Id → NeedKind → Id �
     )
 
     -- the causers of an id from those of its number
-    pub causer_id : (n m : ℕ) (x y : Id) → slice_get ids n ≡ Some x → slice_get ids m ≡ Some y → numbered.IsCauser p flags n m → IsCauser ids kept E N S x y
+    pub causer_id : (n m : ℕ) (x y : Id) → slice_get ids n ≡ Some x → slice_get ids m ≡ Some y
+        → numbered.IsCauser p flags n m → IsCauser ids kept E N S x y
     causer_id n m x y at_x at_y causer =
         let ws = steps_id n m causer.1.0 x y at_x at_y causer.1.1 in
         record { root = root_id m y at_y causer.0; steps = ws.0; reaches = ws.1 }
 
     module _ (once : (n m : ℕ) (x : Id) → slice_get ids n ≡ Some x → slice_get ids m ≡ Some x → n ≡ m) where
-      steps_number : (n m : ℕ) (x y : Id) (ws : List Id) → slice_get ids n ≡ Some x → slice_get ids m ≡ Some y → Steps ids kept E N S x ws y
+      steps_number : (n m : ℕ) (x y : Id) (ws : List Id) → slice_get ids n ≡ Some x → slice_get ids m ≡ Some y
+          → Steps ids kept E N S x ws y
           → numbered.Reaches p flags n m
       steps_number n m x y [] at_x at_y e = ([], once n m x at_x (at_y ∙ ap (λ v. Some v) (sym e)))
       steps_number n m x y (w ∷ ws) at_x at_y r =
@@ -167,6 +192,7 @@ module _ (ids kept : List Id) (E : Id → Type 0) (N : Id → NeedKind → Id �
           (k.0 ∷ more.0, (leads_number n k.0 x w at_x k.1 r.0, more.1))
 
       -- and those of its number from those of the id
-      pub causer_number : (n m : ℕ) (x y : Id) → slice_get ids n ≡ Some x → slice_get ids m ≡ Some y → IsCauser ids kept E N S x y → numbered.IsCauser p flags n m
+      pub causer_number : (n m : ℕ) (x y : Id) → slice_get ids n ≡ Some x → slice_get ids m ≡ Some y
+          → IsCauser ids kept E N S x y → numbered.IsCauser p flags n m
       causer_number n m x y at_x at_y causer =
           (root_number m y at_y causer.root, steps_number n m x y causer.steps at_x at_y causer.reaches)

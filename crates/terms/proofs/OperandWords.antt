@@ -1,5 +1,6 @@
 -- How often words stand among pieces, and words that are known operands, each at most once.
-use Rattle.std.proofs.Common.{◌≡◌, ◌≢◌, ◌≤◌, ◌<◌, ◌+◌, ℕ, Bool, true, false, IsTrue, List, [], ◌∷◌, ◌++◌, map, Option, Some, None, refl, sym, ◌∙◌, ap, subst, arith, cond, append_assoc, inl, inr}
+use Rattle.std.proofs.Common.{◌≡◌, ◌≢◌, ◌≤◌, ◌<◌, ◌+◌, ℕ, Bool, true, false, IsTrue, List, [], ◌∷◌, ◌++◌, map, Option}
+use Rattle.std.proofs.Common.{Some, None, refl, sym, ◌∙◌, ap, subst, arith, cond, append_assoc, inl, inr}
 use Rattle.std.specs.Prelude.{All, AllPairs, Contains, count_by}
 use Rattle.std.specs.List.{list_any, flat_map}
 use Rattle.std.specs.Str.{bytes_eq}
@@ -33,12 +34,15 @@ one_if name t = cond (bytes_eq name t) 1 0
 pub count_cons : (name t : Text) (texts : List Text) → count name (t ∷ texts) ≡ one_if name t + count name texts
 count_cons name t texts = sum_by-cons (one_if name) t texts
 
-pub count_same : (name t : Text) (texts : List Text) → bytes_eq name t ≡ true → count name (t ∷ texts) ≡ 1 + count name texts
+pub count_same : (name t : Text) (texts : List Text) → bytes_eq name t ≡ true
+    → count name (t ∷ texts) ≡ 1 + count name texts
 count_same name t texts same = count_cons name t texts ∙ ap (λ b. cond b 1 0 + count name texts) same
 
-pub count_other : (name t : Text) (texts : List Text) → bytes_eq name t ≡ false → count name (t ∷ texts) ≡ count name texts
+pub count_other : (name t : Text) (texts : List Text) → bytes_eq name t ≡ false
+    → count name (t ∷ texts) ≡ count name texts
 count_other name t texts other =
-    let e : count name (t ∷ texts) ≡ 0 + count name texts = count_cons name t texts ∙ ap (λ b. cond b 1 0 + count name texts) other in
+    let e : count name (t ∷ texts) ≡ 0 + count name texts = count_cons name t texts
+    ∙ ap (λ b. cond b 1 0 + count name texts) other in
     omega (arith, e)
 
 pub count_up : (name t : Text) (texts : List Text) → count name texts ≤ count name (t ∷ texts)
@@ -54,7 +58,8 @@ count_there t (s ∷ texts) h =
     ]
 
 -- Where each counts once at most, no two are the same.
-pub apart_once : (texts : List Text) → ((t : Text) → Contains texts t → count t texts ≤ 1) → AllPairs (λ a b. a ≢ b) texts
+pub apart_once : (texts : List Text) → ((t : Text) → Contains texts t → count t texts ≤ 1)
+    → AllPairs (λ a b. a ≢ b) texts
 apart_once [] once = λ i j d before below. absurd (omega (arith, below))
 apart_once (t ∷ texts) once =
     AllPairs-cons (λ a b. a ≢ b) t texts
@@ -80,16 +85,19 @@ none_of : (p : Text → Bool) (xs : List Text) (x : Text) → list_any p xs ≡ 
 none_of p xs x none h =
     false_from_ne_true (p x) (λ yes'. true≢false (sym (list_any_at p xs h.0 x h.1 (ap p h.2 ∙ yes')) ∙ none))
 
-known_text : (word : CommandWord) (ws : List Word) (t : Text) → AreKnown word ws → Contains (map (λ w. w.word) ws) t → Contains (operands_of word) t
+known_text : (word : CommandWord) (ws : List Word) (t : Text) → AreKnown word ws → Contains (map (λ w. w.word) ws) t
+    → Contains (operands_of word) t
 known_text word [] t known h = absurd (omega (arith, h.1))
 known_text word (w ∷ ws) t known h =
     elim (here_or w.word (map (λ w. w.word) ws) t h) [
-      | inl same ↦ Contains-from_is_in (operands_of word) t (subst (λ t. IsTrue (is_in (operands_of word) t)) same (All-head (λ w. IsTrue (is_in (operands_of word) w.word)) w ws known))
+      | inl same ↦ Contains-from_is_in (operands_of word) t (subst (λ t. IsTrue (is_in (operands_of word) t)) same
+          (All-head (λ w. IsTrue (is_in (operands_of word) w.word)) w ws known))
       | inr later ↦ known_text word ws t (All-tail (λ w. IsTrue (is_in (operands_of word) w.word)) w ws known) later
     ]
 
 -- Words that are known and of which none is there twice are operands.
-pub are_operands : (word : CommandWord) (pieces : List Piece) (ws : List Word) → HasWords pieces ws → AreKnown word ws → has_double word pieces ≡ false → AreOperands (operands_of word) ws
+pub are_operands : (word : CommandWord) (pieces : List Piece) (ws : List Word) → HasWords pieces ws → AreKnown word ws
+    → has_double word pieces ≡ false → AreOperands (operands_of word) ws
 are_operands word pieces ws h known single =
     let texts = map (λ (w : Word). w.word) ws in
     let is : words_in pieces ≡ texts = ap words_in h ∙ words_of ws in
@@ -97,30 +105,37 @@ are_operands word pieces ws h known single =
       known = known;
       once = pairs_unmap (λ a b. a.word ≢ b.word) (λ s t. s ≢ t) (λ (w : Word). w.word) (λ a b n. n) ws
           (apart_once texts (λ t there'.
-          let few = leb-false 2 (count t (words_in pieces)) (none_of (is_often 2 pieces) (operands_of word) t single (known_text word ws t known there')) in
+          let few = leb-false 2 (count t (words_in pieces)) (none_of (is_often 2 pieces) (operands_of word) t single
+          (known_text word ws t known there')) in
           omega (arith, few, ap (count t) is)));
     }
 
 -- whether a word is there, by how often it is
-pub often : (n : ℕ) (pieces : List Piece) (name : Text) → n ≤ count name (words_in pieces) → is_often n pieces name ≡ true
-often n pieces name h = true_from_ne_false (is_often n pieces name) (λ no'. omega (arith, leb-false n (count name (words_in pieces)) no', h))
+pub often : (n : ℕ) (pieces : List Piece) (name : Text) → n ≤ count name (words_in pieces)
+    → is_often n pieces name ≡ true
+often n pieces name h = true_from_ne_false (is_often n pieces name)
+    (λ no'. omega (arith, leb-false n (count name (words_in pieces)) no', h))
 
-pub seldom : (n : ℕ) (pieces : List Piece) (name : Text) → count name (words_in pieces) < n → is_often n pieces name ≡ false
-seldom n pieces name h = false_from_ne_true (is_often n pieces name) (λ yes'. omega (arith, leb-true n (count name (words_in pieces)) yes', h))
+pub seldom : (n : ℕ) (pieces : List Piece) (name : Text) → count name (words_in pieces) < n
+    → is_often n pieces name ≡ false
+seldom n pieces name h = false_from_ne_true (is_often n pieces name)
+    (λ yes'. omega (arith, leb-true n (count name (words_in pieces)) yes', h))
 
 -- the piece is that word
 abbrev pub is_named : Text → Piece → Bool
 is_named name (TheWord t) = bytes_eq name t
 is_named name _ = false
 
-pub named : (name : Text) (p : Piece) (rest : List Piece) → is_named name p ≡ true → count name (words_in (p ∷ rest)) ≡ 1 + count name (words_in rest)
+pub named : (name : Text) (p : Piece) (rest : List Piece) → is_named name p ≡ true
+    → count name (words_in (p ∷ rest)) ≡ 1 + count name (words_in rest)
 named name (TheWord t) rest is = count_same name t (words_in rest) is
 named name (TheList list) rest is = absurd (cc (is))
 named name Blank rest is = absurd (cc (is))
 named name Comment rest is = absurd (cc (is))
 named name (Stray b) rest is = absurd (cc (is))
 
-pub not_named : (name : Text) (p : Piece) (rest : List Piece) → is_named name p ≡ false → count name (words_in (p ∷ rest)) ≡ count name (words_in rest)
+pub not_named : (name : Text) (p : Piece) (rest : List Piece) → is_named name p ≡ false
+    → count name (words_in (p ∷ rest)) ≡ count name (words_in rest)
 not_named name (TheWord t) rest is = count_other name t (words_in rest) is
 not_named name (TheList list) rest is = refl
 not_named name Blank rest is = refl
@@ -128,14 +143,18 @@ not_named name Comment rest is = refl
 not_named name (Stray b) rest is = refl
 
 -- Words are taken one by one from the front.
-pub taken_more : (pieces : List Piece) (before : List Word) (rest after : List Piece) (w : Word) → pieces ≡ flat_map word_pieces before ++ rest → TakesWord rest w after → pieces ≡ flat_map word_pieces (before ++ w ∷ []) ++ after
+pub taken_more : (pieces : List Piece) (before : List Word) (rest after : List Piece) (w : Word)
+    → pieces ≡ flat_map word_pieces before ++ rest → TakesWord rest w after
+    → pieces ≡ flat_map word_pieces (before ++ w ∷ []) ++ after
 taken_more pieces before rest after w is t =
-    is ∙ ap (λ r. flat_map word_pieces before ++ r) (t.pieces_are ∙ ap (λ f. f ++ after) (sym (append-nil (word_pieces w))))
+    is ∙ ap (λ r. flat_map word_pieces before ++ r) (t.pieces_are
+    ∙ ap (λ f. f ++ after) (sym (append-nil (word_pieces w))))
     ∙ sym (append_assoc (flat_map word_pieces before) (flat_map word_pieces (w ∷ [])) after)
     ∙ ap (λ f. f ++ after) (sym (flat_map-append word_pieces before (w ∷ [])))
 
 -- Behind one of a name the next makes it twice.
-pub again : (pieces rest : List Piece) (name : Text) → count name (words_in pieces) ≡ 1 + count name (words_in rest) → is_often 1 rest name ≡ is_often 2 pieces name
+pub again : (pieces rest : List Piece) (name : Text) → count name (words_in pieces) ≡ 1 + count name (words_in rest)
+    → is_often 1 rest name ≡ is_often 2 pieces name
 again pieces rest name one = at (is_often 1 rest name) refl
   where
     at : (b : Bool) → is_often 1 rest name ≡ b → is_often 1 rest name ≡ is_often 2 pieces name

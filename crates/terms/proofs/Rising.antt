@@ -1,5 +1,6 @@
 -- Lists of numbers that rise strictly.
-use Rattle.std.proofs.Common.{◌≡◌, ◌<◌, ◌≤◌, ◌+◌, ◌-◌, ℕ, zero, suc, List, [], ◌∷◌, length, take, get_or, sym, subst, arith, inl, inr}
+use Rattle.std.proofs.Common.{◌≡◌, ◌<◌, ◌≤◌, ◌+◌, ◌-◌, ℕ, zero, suc, List, [], ◌∷◌, length, take, get_or, sym, subst}
+use Rattle.std.proofs.Common.{arith, inl, inr}
 use Rattle.std.specs.List.{All, AllPairs}
 use Rattle.std.proofs.lemmas.List.{get_or-take, take_more, length-take-le, get_or_default}
 use Rattle.std.proofs.lemmas.List.Quantifiers.{all_pairs_push}
@@ -14,7 +15,8 @@ rises-one [] i j d before below = absurd (omega (arith, below))
 rises-one (x ∷ xs) i j d before below = absurd (omega (arith, before, below))
 
 -- one more number, above the one before it
-pub rises-more : (xs : List ℕ) (i : ℕ) → 0 < i → i < length xs → get_or xs (i - 1) 0 < get_or xs i 0 → Rises (take i xs) → Rises (take (i + 1) xs)
+pub rises-more : (xs : List ℕ) (i : ℕ) → 0 < i → i < length xs → get_or xs (i - 1) 0 < get_or xs i 0 → Rises (take i xs)
+    → Rises (take (i + 1) xs)
 rises-more xs i some below higher rises =
     subst Rises (sym (take_more xs i 0 below))
     (all_pairs_push (λ a b. a < b) (take i xs) (get_or xs i 0) rises (λ k d in_front.
@@ -29,7 +31,11 @@ rises-more xs i some below higher rises =
 -- a number is no less than how many stand before it
 place-le : (xs : List ℕ) → Rises xs → (k : ℕ) → k < length xs → k ≤ get_or xs k 0
 place-le xs rises zero below = omega arith
-place-le xs rises (suc k) below = omega (arith, place-le xs rises k (omega (arith, below)), rises k (suc k) 0 (omega arith) below)
+place-le xs rises (suc k) below = omega (
+  arith,
+  place-le xs rises k (omega (arith, below)),
+  rises k (suc k) 0 (omega arith) below,
+)
 
 -- numbers below n that rise are at most n
 pub rising-length : (xs : List ℕ) (n : ℕ) → Rises xs → All (λ y. y < n) xs → length xs ≤ n

@@ -1,5 +1,6 @@
 -- Lists that rise by a key and have the same at each key are one, and so are zones.
-use Rattle.std.proofs.Common.{◌≡◌, Bool, true, false, IsTrue, List, [], ◌∷◌, refl, sym, ap, ◌∙◌, cond, true≢false, subst}
+use Rattle.std.proofs.Common.{◌≡◌, Bool, true, false, IsTrue, List, [], ◌∷◌, refl, sym, ap, ◌∙◌, cond, true≢false}
+use Rattle.std.proofs.Common.{subst}
 use Rattle.std.specs.Prelude.{Contains, find, Option, Some, None}
 use Rattle.std.specs.declared.cmp.Ordering.{Ordering}
 use Rattle.std.specs.declared.cmp.Ordering.TheVariants.{Equal}
@@ -11,7 +12,8 @@ use Rattle.lemmas.proofs.Searches.{find-gives}
 use Rattle.terms.specs.Rising.{Rises}
 use Rattle.lemmas.proofs.Pairs.{AllPairs-first, AllPairs-rest}
 
-module _ {X K : Type 0} {R : K → K → Ordering} (o : IsTotalOrder R) (key : X → K) (E : K → K → Bool) (ties : (a b : K) → E a b ≡ is_eq (R a b)) where
+module _ {X K : Type 0} {R : K → K → Ordering} (o : IsTotalOrder R) (key : X → K) (E : K → K → Bool)
+    (ties : (a b : K) → E a b ≡ is_eq (R a b)) where
   itself : (k : K) → E k k ≡ true
   itself k = ties k k ∙ ap is_eq (tied_itself o k)
 
@@ -25,7 +27,8 @@ module _ {X K : Type 0} {R : K → K → Ordering} (o : IsTotalOrder R) (key : X
       (AllPairs-first (λ a b. IsTrue (is_lt (R (key a) (key b)))) x xs rises there.0 y there.1)
 
   -- so behind the first one nothing has its key
-  none_behind : (x : X) (xs : List X) (k : K) → Rises R key (x ∷ xs) → E (key x) k ≡ true → find (λ y. E (key y) k) xs ≡ None
+  none_behind : (x : X) (xs : List X) (k : K) → Rises R key (x ∷ xs) → E (key x) k ≡ true
+      → find (λ y. E (key y) k) xs ≡ None
   none_behind x xs k rises tie = by_found (find (λ y. E (key y) k) xs) refl
     where
       by_found : (found : Option X) → find (λ y. E (key y) k) xs ≡ found → find (λ y. E (key y) k) xs ≡ None
@@ -42,7 +45,8 @@ module _ {X K : Type 0} {R : K → K → Ordering} (o : IsTotalOrder R) (key : X
   first : (x : X) (xs : List X) → find (λ y. E (key y) (key x)) (x ∷ xs) ≡ Some x
   first x xs = ap (λ b. cond b (Some x) (find (λ y. E (key y) (key x)) xs)) (itself (key x))
 
-  past : (x : X) (xs : List X) (k : K) → E (key x) k ≡ false → find (λ y. E (key y) k) (x ∷ xs) ≡ find (λ y. E (key y) k) xs
+  past : (x : X) (xs : List X) (k : K) → E (key x) k ≡ false
+      → find (λ y. E (key y) k) (x ∷ xs) ≡ find (λ y. E (key y) k) xs
   past x xs k e = ap (λ b. cond b (Some x) (find (λ y. E (key y) k) xs)) e
 
   -- the first ones are the same
@@ -56,14 +60,17 @@ module _ {X K : Type 0} {R : K → K → Ordering} (o : IsTotalOrder R) (key : X
       at_y = same (key y) ∙ first y ys
 
       by_tie : (b : Bool) → E (key y) (key x) ≡ b → (c : Bool) → E (key x) (key y) ≡ c → x ≡ y
-      by_tie true e c f = let is : Some y ≡ Some x = sym (ap (λ b. cond b (Some y) (find (λ v. E (key v) (key x)) ys)) e) ∙ at_x in cc is
-      by_tie false e true f = let is : Some x ≡ Some y = sym (ap (λ b. cond b (Some x) (find (λ v. E (key v) (key y)) xs)) f) ∙ at_y in cc is
+      by_tie true e c f = let is : Some y ≡ Some x = sym (ap (λ b. cond b (Some y) (find (λ v. E (key v) (key x)) ys))
+          e) ∙ at_x in cc is
+      by_tie false e true f = let is : Some x ≡ Some y = sym
+          (ap (λ b. cond b (Some x) (find (λ v. E (key v) (key y)) xs)) f) ∙ at_y in cc is
       by_tie false e false f =
           let g = find-gives (λ v. E (key v) (key x)) ys x (sym (past y ys (key x) e) ∙ at_x) in
           let h = find-gives (λ v. E (key v) (key y)) xs y (sym (past x xs (key y) f) ∙ at_y) in
           let less = Less-from_is_lt (R (key x) (key y)) (above x xs y rx h.1) in
           let more = above y ys x ry g.1 in
-          absurd (true≢false (sym more ∙ ap is_lt (o.antisymm (key y) (key x)) ∙ ap (λ r. is_lt (ordering_reverse r)) less))
+          absurd (true≢false (sym more ∙ ap is_lt (o.antisymm (key y) (key x))
+          ∙ ap (λ r. is_lt (ordering_reverse r)) less))
 
   -- two lists that rise and in which each key finds the same are one
   pub rising_same : (xs ys : List X) → Rises R key xs → Rises R key ys → Same xs ys → xs ≡ ys
@@ -73,7 +80,8 @@ module _ {X K : Type 0} {R : K → K → Ordering} (o : IsTotalOrder R) (key : X
   rising_same (x ∷ xs) (y ∷ ys) rx ry same =
       let is = heads x y xs ys rx ry same in
       let Below : X → X → Type 0 = λ a b. IsTrue (is_lt (R (key a) (key b))) in
-      ap (λ v. v ∷ xs) is ∙ ap (λ vs. y ∷ vs) (rising_same xs ys (AllPairs-rest Below x xs rx) (AllPairs-rest Below y ys ry) (rest is))
+      ap (λ v. v ∷ xs) is ∙ ap (λ vs. y ∷ vs) (rising_same xs ys (AllPairs-rest Below x xs rx)
+      (AllPairs-rest Below y ys ry) (rest is))
     where
       rest : x ≡ y → Same xs ys
       rest is k = by_tie (E (key x) k) refl

@@ -1,5 +1,6 @@
 -- Texts of elements: records of bytes, equal texts, what an update touches, and that no good text has a fault.
-use Rattle.std.proofs.Common.{◌≡◌, ◌<◌, ◌≤◌, ◌+◌, ℕ, suc, List, [], ◌∷◌, ◌++◌, length, take, drop, map, refl, sym, ◌∙◌, ap, cond, arith, inl, inr, zero, None, Some}
+use Rattle.std.proofs.Common.{◌≡◌, ◌<◌, ◌≤◌, ◌+◌, ℕ, suc, List, [], ◌∷◌, ◌++◌, length, take, drop, map, refl, sym, ◌∙◌}
+use Rattle.std.proofs.Common.{ap, cond, arith, inl, inr, zero, None, Some}
 use Rattle.std.specs.List.{All, flat_map}
 use Rattle.std.specs.List.Sorted.{IsStrictlyIncreasing}
 use Rattle.std.proofs.lemmas.List.{append-nil, length-append, take_at, drop_at}
@@ -14,13 +15,16 @@ use Rattle.terms.specs.Texts.{HasLines, number_of, IsNumbered, line_at}
 pub lines_none : HasLines [] []
 lines_none = record { bytes_are = refl; each = All-nil _ }
 
-pub lines_more : (bytes : List ℕ) (lines : Lines) (line : List ℕ) → HasLines bytes lines → length line ≡ 80 → HasLines (bytes ++ line) (lines ++ line ∷ [])
+pub lines_more : (bytes : List ℕ) (lines : Lines) (line : List ℕ) → HasLines bytes lines → length line ≡ 80
+    → HasLines (bytes ++ line) (lines ++ line ∷ [])
 lines_more bytes lines line h len = record {
-  bytes_are = ap (λ b. b ++ line) h.bytes_are ∙ sym (flat_map-append (λ (l : List ℕ). l) lines (line ∷ []) ∙ ap (λ l. flat_map (λ (k : List ℕ). k) lines ++ l) (append-nil line));
+  bytes_are = ap (λ b. b ++ line) h.bytes_are ∙ sym (flat_map-append (λ (l : List ℕ). l) lines (line ∷ [])
+      ∙ ap (λ l. flat_map (λ (k : List ℕ). k) lines ++ l) (append-nil line));
   each = All-push (λ l. length l ≡ 80) lines line h.each len;
 }
 
-same_joined : (a b : Lines) → All (λ line. length line ≡ 80) a → All (λ line. length line ≡ 80) b → flat_map (λ line. line) a ≡ flat_map (λ line. line) b → a ≡ b
+same_joined : (a b : Lines) → All (λ line. length line ≡ 80) a → All (λ line. length line ≡ 80) b
+    → flat_map (λ line. line) a ≡ flat_map (λ line. line) b → a ≡ b
 same_joined [] [] h k e = refl
 same_joined [] (y ∷ ys) h k e =
     let len : length y ≡ 80 = All-head (λ line. length line ≡ 80) y ys k in
@@ -33,9 +37,12 @@ same_joined (x ∷ xs) [] h k e =
 same_joined (x ∷ xs) (y ∷ ys) h k e =
     let len_x : length x ≡ 80 = All-head (λ line. length line ≡ 80) x xs h in
     let len_y : length y ≡ 80 = All-head (λ line. length line ≡ 80) y ys k in
-    let heads : x ≡ y = sym (take_at x (flat_map (λ line. line) xs) 80 len_x) ∙ ap (take 80) e ∙ take_at y (flat_map (λ line. line) ys) 80 len_y in
-    let tails = sym (drop_at x (flat_map (λ line. line) xs) 80 len_x) ∙ ap (drop 80) e ∙ drop_at y (flat_map (λ line. line) ys) 80 len_y in
-    let rest = same_joined xs ys (All-tail (λ line. length line ≡ 80) x xs h) (All-tail (λ line. length line ≡ 80) y ys k) tails in
+    let heads : x ≡ y = sym (take_at x (flat_map (λ line. line) xs) 80 len_x) ∙ ap (take 80) e
+    ∙ take_at y (flat_map (λ line. line) ys) 80 len_y in
+    let tails = sym (drop_at x (flat_map (λ line. line) xs) 80 len_x) ∙ ap (drop 80) e
+    ∙ drop_at y (flat_map (λ line. line) ys) 80 len_y in
+    let rest = same_joined xs ys (All-tail (λ line. length line ≡ 80) x xs h)
+    (All-tail (λ line. length line ≡ 80) y ys k) tails in
     cc
 
 -- The bytes determine their records.
@@ -53,10 +60,14 @@ increasing_rest n ns h k below =
     let e : suc k + 1 ≡ suc (k + 1) = omega arith in
     (rw e at (h (suc k))) (omega (arith, below))
 
-rises_from : (least : ℕ) (x : List ℕ) (xs : Lines) → IsStrictlyIncreasing (map number_of (x ∷ xs)) → least ≤ number_of x → Rises least (x ∷ xs)
+rises_from : (least : ℕ) (x : List ℕ) (xs : Lines) → IsStrictlyIncreasing (map number_of (x ∷ xs)) → least ≤ number_of x
+    → Rises least (x ∷ xs)
 rises_from least x [] h from = (from, tt)
-rises_from least x (y ∷ ys) h from =
-    (from, rises_from (number_of x + 1) y ys (increasing_rest (number_of x) (map number_of (y ∷ ys)) h) (omega (arith, h 0 (omega arith))))
+rises_from least x (y ∷ ys) h from = (
+  from,
+  rises_from (number_of x + 1) y ys (increasing_rest (number_of x) (map number_of (y ∷ ys)) h)
+      (omega (arith, h 0 (omega arith))),
+)
 
 -- Numbers that rise do so from any number that is not above the first.
 pub Rises-from_increasing : (text : Lines) → IsStrictlyIncreasing (map number_of text) → Rises 0 text
@@ -105,13 +116,16 @@ same_rising j k (x ∷ xs) (y ∷ ys) h i same =
           let heads : x ≡ y = cc at_x in
           let tails = same_rising (number_of x + 1) (number_of y + 1) xs ys h.1 i.1 (λ n.
           elim (cases_eq (number_of x) n) [
-            | inl here ↦ line_at-below (number_of x + 1) xs n h.1 (omega (arith, here)) ∙ sym (line_at-below (number_of y + 1) ys n i.1 (omega (arith, here, e)))
+            | inl here ↦ line_at-below (number_of x + 1) xs n h.1 (omega (arith, here))
+                ∙ sym (line_at-below (number_of y + 1) ys n i.1 (omega (arith, here, e)))
             | inr other ↦ sym (line_at-tail x xs n other) ∙ same n ∙ line_at-tail y ys n (λ there. other (e ∙ there))
           ]) in
           cc (heads, tails)
       | inr apart ↦ elim apart [
-        | inl less ↦ absurd (let none = line_at-below (number_of y) (y ∷ ys) (number_of x) (omega arith, i.1) less in cc (none, same (number_of x), line_at-head x xs))
-        | inr more ↦ absurd (let none = line_at-below (number_of x) (x ∷ xs) (number_of y) (omega arith, h.1) more in cc (none, same (number_of y), line_at-head y ys))
+        | inl less ↦ absurd (let none = line_at-below (number_of y) (y ∷ ys) (number_of x) (omega arith, i.1) less
+            in cc (none, same (number_of x), line_at-head x xs))
+        | inr more ↦ absurd (let none = line_at-below (number_of x) (x ∷ xs) (number_of y) (omega arith, h.1) more
+            in cc (none, same (number_of y), line_at-head y ys))
       ]
     ]
 

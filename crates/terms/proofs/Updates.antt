@@ -1,8 +1,10 @@
 -- Updates: what they touch, that a merge is determined, and that what is good has no fault.
-use Rattle.std.proofs.Common.{◌≡◌, ◌<◌, ◌≤◌, ◌+◌, ◌⊎◌, ℕ, false, not, List, [], ◌∷◌, ◌++◌, codes, refl, sym, ◌∙◌, ap, subst, arith, inl, inr, Option, None, Some, get_or}
+use Rattle.std.proofs.Common.{◌≡◌, ◌<◌, ◌≤◌, ◌+◌, ◌⊎◌, ℕ, false, not, List, [], ◌∷◌, ◌++◌, codes, refl, sym, ◌∙◌, ap}
+use Rattle.std.proofs.Common.{subst, arith, inl, inr, Option, None, Some, get_or}
 use Rattle.std.specs.List.{All}
 use Rattle.std.specs.Prelude.{IsTrue, IsSome}
-use Rattle.std.proofs.lemmas.Bool.{true≢false, both_ways, cases_Bool, cases_lt, cond-true, cond-false, not_from_true, not_from_false, false_from_ne_true}
+use Rattle.std.proofs.lemmas.Bool.{true≢false, both_ways, cases_Bool, cases_lt, cond-true, cond-false, not_from_true}
+use Rattle.std.proofs.lemmas.Bool.{not_from_false, false_from_ne_true}
 use Rattle.std.proofs.lemmas.List.{append_cancel_left}
 use Rattle.std.proofs.lemmas.List.Elements.{All-nil, All-cons, All-head, All-tail, filter-append}
 use Rattle.lemmas.proofs.Each.{any_here, any_later, any_cases, any_none, All-middle}
@@ -10,7 +12,9 @@ use Rattle.terms.specs.declared.text_faults.TextCode.{TextCode}
 use Rattle.terms.specs.declared.text_faults.TextCode.TheVariants.{Tx1, Tx2, Tx3, Tx4, Tx5, Tx6}
 use Rattle.terms.specs.declared.text_faults.TextFault.{TextFault}
 use Rattle.terms.specs.Types.{Text, Lines}
-use Rattle.terms.specs.Texts.{IsNumberedLine, number_of, IsNumbered, line_at, IsChange, IsDelete, IsSomeDelete, is_control, given, Deletes, Touches, IsMerge, FollowChange, IsUpdate, BreaksOrder, HasNumberedFault, HasChangeFault, HasRestFault, IsNumberedFault, IsUpdateFault}
+use Rattle.terms.specs.Texts.{IsNumberedLine, number_of, IsNumbered, line_at, IsChange, IsDelete, IsSomeDelete}
+use Rattle.terms.specs.Texts.{is_control, given, Deletes, Touches, IsMerge, FollowChange, IsUpdate, BreaksOrder}
+use Rattle.terms.specs.Texts.{HasNumberedFault, HasChangeFault, HasRestFault, IsNumberedFault, IsUpdateFault}
 use Rattle.terms.proofs.Texts.{Rises, Rises-numbered, same_text}
 use Rattle.terms.proofs.Controls.{begins_control, change-no_delete, same_delete, same_control}
 
@@ -25,16 +29,19 @@ hits_cases n line h =
       | inl yes' ↦
           let d = h yes' in
           elim (cases_lt n d.0) [
-            | inl less ↦ inr (λ hit. let same = same_delete line d.0 d.1 hit.0 hit.1 d.2 hit.2 in let from = hit.3 in absurd (omega (arith, less, same.0, from)))
+            | inl less ↦ inr (λ hit. let same = same_delete line d.0 d.1 hit.0 hit.1 d.2 hit.2 in let from = hit.3
+                in absurd (omega (arith, less, same.0, from)))
             | inr low ↦ elim (cases_lt d.1 n) [
-              | inl more ↦ inr (λ hit. let same = same_delete line d.0 d.1 hit.0 hit.1 d.2 hit.2 in let to = hit.4 in absurd (omega (arith, more, same.1, to)))
+              | inl more ↦ inr (λ hit. let same = same_delete line d.0 d.1 hit.0 hit.1 d.2 hit.2 in let to = hit.4
+                  in absurd (omega (arith, more, same.1, to)))
               | inr high ↦ inl (d.0, d.1, d.2, low, high)
             ]
           ]
       | inr no' ↦ inr (λ hit. both_ways (is_control line) no' (begins_control _ _ line hit.2.1))
     ]
 
-deletes_cases : (n : ℕ) (lines : Lines) → All (λ line. IsTrue (is_control line) → IsSomeDelete line) lines → Deletes lines n ⊎ (Deletes lines n → ⊥)
+deletes_cases : (n : ℕ) (lines : Lines) → All (λ line. IsTrue (is_control line) → IsSomeDelete line) lines
+    → Deletes lines n ⊎ (Deletes lines n → ⊥)
 deletes_cases n [] h = inr (any_none (Hits n))
 deletes_cases n (line ∷ lines) h =
     elim (hits_cases n line (All-head (λ l. IsTrue (is_control l) → IsSomeDelete l) line lines h)) [
@@ -50,31 +57,44 @@ some_cases None = inr (λ h. true≢false (sym h))
 some_cases (Some x) = inl refl
 
 -- the CHANGE record deletes nothing
-pub deletes-change : (name : Text) (n : ℕ) (line : List ℕ) (lines : Lines) → IsChange name line → Deletes (line ∷ lines) n → Deletes lines n
+pub deletes-change : (name : Text) (n : ℕ) (line : List ℕ) (lines : Lines) → IsChange name line
+    → Deletes (line ∷ lines) n → Deletes lines n
 deletes-change name n line lines c a =
-    elim (any_cases (Hits n) line lines a) [ inl hit ↦ absurd (change-no_delete name line hit.0 hit.1 c hit.2) | inr later ↦ later ]
+    elim (any_cases (Hits n) line lines a) [
+      | inl hit ↦ absurd (change-no_delete name line hit.0 hit.1 c hit.2)
+      | inr
+          later ↦ later
+    ]
 
 -- and gives no record
 pub given-control : (line : List ℕ) (lines : Lines) → IsTrue (is_control line) → given (line ∷ lines) ≡ given lines
-given-control line lines h = cond-false (not (is_control line)) (line ∷ given lines) (given lines) (not_from_true (is_control line) h)
+given-control line lines h = cond-false (not (is_control line)) (line ∷ given lines) (given lines)
+    (not_from_true (is_control line) h)
 
 pub given-other : (line : List ℕ) (lines : Lines) → is_control line ≡ false → given (line ∷ lines) ≡ line ∷ given lines
-given-other line lines h = cond-true (not (is_control line)) (line ∷ given lines) (given lines) (not_from_false (is_control line) h)
+given-other line lines h = cond-true (not (is_control line)) (line ∷ given lines) (given lines)
+    (not_from_false (is_control line) h)
 
 -- An update touches a number or does not.
-pub touches_cases : (name : Text) (update : Lines) (n : ℕ) → IsUpdate name update → Touches update n ⊎ (Touches update n → ⊥)
+pub touches_cases : (name : Text) (update : Lines) (n : ℕ) → IsUpdate name update
+    → Touches update n ⊎ (Touches update n → ⊥)
 touches_cases name [] n h = absurd h
 touches_cases name (line ∷ lines) n h =
     elim (some_cases (line_at (given (line ∷ lines)) n)) [
       | inl gives ↦ inl (inl gives)
       | inr none ↦ elim (deletes_cases n lines h.1.controls) [
         | inl deletes ↦ inl (inr (any_later (Hits n) line lines deletes))
-        | inr keeps ↦ inr (λ t. elim t [ inl gives ↦ none gives | inr deletes ↦ keeps (deletes-change name n line lines h.0 deletes) ])
+        | inr keeps ↦ inr (λ t. elim t [
+          | inl gives ↦ none gives
+          | inr deletes ↦ keeps
+              (deletes-change name n line lines h.0 deletes)
+        ])
       ]
     ]
 
 -- There is one merge of a text and an update.
-pub same_merge : (name : Text) (old update a b : Lines) → IsUpdate name update → IsMerge old update a → IsMerge old update b → a ≡ b
+pub same_merge : (name : Text) (old update a b : Lines) → IsUpdate name update → IsMerge old update a
+    → IsMerge old update b → a ≡ b
 same_merge name old update a b h m k =
     same_text a b m.numbered k.numbered (λ n.
     elim (touches_cases name update n h) [
@@ -84,20 +104,24 @@ same_merge name old update a b h m k =
 
 -- what is good has no fault
 
-least_below : (least : ℕ) (before : Lines) (line : List ℕ) (after : Lines) → Rises least (before ++ line ∷ after) → least ≤ number_of line
+least_below : (least : ℕ) (before : Lines) (line : List ℕ) (after : Lines) → Rises least (before ++ line ∷ after)
+    → least ≤ number_of line
 least_below least [] line after h = h.0
 least_below least (x ∷ xs) line after h =
     let rest = least_below (number_of x + 1) xs line after h.1 in
     let first = h.0 in
     omega (arith, rest, first)
 
-all_below : (least : ℕ) (before : Lines) (line : List ℕ) (after : Lines) → Rises least (before ++ line ∷ after) → All (λ b. number_of b < number_of line) before
+all_below : (least : ℕ) (before : Lines) (line : List ℕ) (after : Lines) → Rises least (before ++ line ∷ after)
+    → All (λ b. number_of b < number_of line) before
 all_below least [] line after h = All-nil _
 all_below least (x ∷ xs) line after h =
     let first = least_below (number_of x + 1) xs line after h.1 in
-    All-cons (λ b. number_of b < number_of line) x xs (omega (arith, first)) (all_below (number_of x + 1) xs line after h.1)
+    All-cons (λ b. number_of b < number_of line) x xs (omega (arith, first))
+    (all_below (number_of x + 1) xs line after h.1)
 
-in_order : (before : Lines) (line : List ℕ) (after : Lines) → IsNumbered (before ++ line ∷ after) → BreaksOrder before line → ⊥
+in_order : (before : Lines) (line : List ℕ) (after : Lines) → IsNumbered (before ++ line ∷ after)
+    → BreaksOrder before line → ⊥
 in_order before line after h b =
     let below = all_below 0 before line after (Rises-numbered (before ++ line ∷ after) h) in
     let one : number_of (get_or before b.1.0 b.1.1) < number_of line = below b.1.0 b.1.1 b.1.2 in
@@ -105,7 +129,8 @@ in_order before line after h b =
     let not_above = b.1.4 in
     omega (arith, one, same, not_above)
 
-numbered_code : (code : TextCode) (before : Lines) (line : List ℕ) (after : Lines) → IsNumbered (before ++ line ∷ after) → HasNumberedFault before line code → ⊥
+numbered_code : (code : TextCode) (before : Lines) (line : List ℕ) (after : Lines) → IsNumbered (before ++ line ∷ after)
+    → HasNumberedFault before line code → ⊥
 numbered_code Tx1 before line after h f = f (All-middle IsNumberedLine before line after h.numbers)
 numbered_code Tx2 before line after h f = in_order before line after h f
 numbered_code Tx3 before line after h f = f
@@ -115,7 +140,8 @@ numbered_code Tx6 before line after h f = f
 
 -- A numbered text has no fault.
 pub numbered-no_fault : (text : Lines) (fault : TextFault) → IsNumbered text → IsNumberedFault text fault → ⊥
-numbered-no_fault text fault h f = numbered_code fault.code f.before f.line f.after (subst IsNumbered f.lines_are h) f.code_is
+numbered-no_fault text fault h f = numbered_code fault.code f.before f.line f.after (subst IsNumbered f.lines_are h)
+    f.code_is
 
 change_code : (name : Text) (line : List ℕ) (code : TextCode) → IsChange name line → HasChangeFault name line code → ⊥
 change_code name line Tx1 c f = f
@@ -125,24 +151,31 @@ change_code name line Tx4 c f = f.1 (append_cancel_left (codes "NAME=") _ _ (sam
 change_code name line Tx5 c f = f
 change_code name line Tx6 c f = f
 
-given_middle : (before : Lines) (line : List ℕ) (after : Lines) → (IsTrue (is_control line) → ⊥) → given (before ++ line ∷ after) ≡ given before ++ line ∷ given after
+given_middle : (before : Lines) (line : List ℕ) (after : Lines) → (IsTrue (is_control line) → ⊥)
+    → given (before ++ line ∷ after) ≡ given before ++ line ∷ given after
 given_middle before line after other =
     filter-append (λ l. not (is_control l)) before (line ∷ after)
     ∙ ap (λ l. given before ++ l) (given-other line after (false_from_ne_true (is_control line) other))
 
-rest_code : (before : Lines) (line : List ℕ) (after : Lines) (code : TextCode) → FollowChange (before ++ line ∷ after) → HasRestFault before line code → ⊥
-rest_code before line after Tx1 h f = f.1 (All-middle IsNumberedLine (given before) line (given after) (subst IsNumbered (given_middle before line after f.0) h.numbered).numbers)
+rest_code : (before : Lines) (line : List ℕ) (after : Lines) (code : TextCode) → FollowChange (before ++ line ∷ after)
+    → HasRestFault before line code → ⊥
+rest_code before line after Tx1 h f = f.1 (All-middle IsNumberedLine (given before) line (given after)
+    (subst IsNumbered (given_middle before line after f.0) h.numbered).numbers)
 rest_code before line after Tx2 h f = f
 rest_code before line after Tx3 h f = f
 rest_code before line after Tx4 h f = f
-rest_code before line after Tx5 h f = f.1 (All-middle (λ l. IsTrue (is_control l) → IsSomeDelete l) before line after h.controls f.0)
-rest_code before line after Tx6 h f = in_order (given before) line (given after) (subst IsNumbered (given_middle before line after f.0) h.numbered) f.1
+rest_code before line after Tx5 h f = f.1 (All-middle (λ l. IsTrue (is_control l) → IsSomeDelete l) before line after
+    h.controls f.0)
+rest_code before line after Tx6 h f = in_order (given before) line (given after)
+    (subst IsNumbered (given_middle before line after f.0) h.numbered) f.1
 
 -- An update has no fault.
-pub update-no_fault : (name : Text) (update : Lines) (fault : TextFault) → IsUpdate name update → IsUpdateFault name update fault → ⊥
+pub update-no_fault : (name : Text) (update : Lines) (fault : TextFault) → IsUpdate name update
+    → IsUpdateFault name update fault → ⊥
 update-no_fault name [] fault h f = h
 update-no_fault name (line ∷ lines) fault h f =
     elim f [
       | inl first ↦ change_code name line fault.code h.0 first.1
-      | inr later ↦ rest_code later.1.before later.1.line later.1.after fault.code (subst FollowChange later.1.lines_are h.1) later.1.code_is
+      | inr later ↦ rest_code later.1.before later.1.line later.1.after fault.code
+          (subst FollowChange later.1.lines_are h.1) later.1.code_is
     ]

@@ -1,7 +1,8 @@
 -- Which SYSMODs an APPLY or ACCEPT takes up.
 -- (IBM z/OS SMP/E Commands, the APPLY command and the ACCEPT command: FUNCTIONS, PTFS, APARS, USERMODS, SELECT,
 -- EXCLUDE, SOURCEID, FORFMID, GROUP and GROUPEXTEND. How these combine is this project's profile.)
-use Rattle.std.specs.Prelude.{◌≡◌, ◌⊎◌, ◌↔◌, ◌&&◌, ◌||◌, Bool, false, not, List, [], ◌∷◌, ◌++◌, Option, None, Some, filter, map, is_some, IsTrue, Contains, if◌then◌else◌}
+use Rattle.std.specs.Prelude.{◌≡◌, ◌⊎◌, ◌↔◌, ◌&&◌, ◌||◌, Bool, false, not, List, [], ◌∷◌, ◌++◌, Option, None, Some}
+use Rattle.std.specs.Prelude.{filter, map, is_some, IsTrue, Contains, if◌then◌else◌}
 use Rattle.std.specs.List.{flat_map}
 use Rattle.std.specs.Option.{option_map_or}
 use Rattle.std.specs.Str.{bytes_eq}
@@ -11,7 +12,8 @@ use Rattle.terms.specs.declared.kinds.HoldKind.TheVariants.{Error}
 use Rattle.terms.specs.declared.not_chosen.NotChosen.{NotChosen}
 use Rattle.terms.specs.declared.not_chosen.NotChosen.TheVariants.{Already, Deleted, Missing, NoVer}
 use Rattle.terms.specs.Types.{Id, Sysmod, Global, Zone, Selection}
-use Rattle.terms.specs.Lookups.{IsRising, is_nil, at_most_one, is_in, meets, sysmod_of, is_received, is_function, holds_of, applied_ids, is_applied, is_supplied, delby_of}
+use Rattle.terms.specs.Lookups.{IsRising, is_nil, at_most_one, is_in, meets, sysmod_of, is_received, is_function}
+use Rattle.terms.specs.Lookups.{holds_of, applied_ids, is_applied, is_supplied, delby_of}
 use Rattle.terms.specs.Choice.{Choice, vers_of, fmid_of, pre_of, req_of, ifs_of}
 use Rattle.terms.specs.Over.{Supersedes}
 use Rattle.terms.specs.Served.{is_served}
@@ -19,7 +21,8 @@ use Rattle.terms.specs.Served.{is_served}
 -- It may be installed: it has a ++VER for the zone's SREL, is served, and is neither supplied nor deleted.
 abbrev pub is_installable : Global → Zone → Id → Bool
 is_installable g zone x =
-    not (is_nil (vers_of g zone.srel x)) && is_served g zone x && not (is_supplied zone x) && not (is_some (delby_of zone x))
+    not (is_nil (vers_of g zone.srel x)) && is_served g zone x && not (is_supplied zone x) && not
+    (is_some (delby_of zone x))
 
 -- It may be, and stands not in EXCLUDE.
 abbrev pub is_open : Global → Zone → Selection → Id → Bool
@@ -102,7 +105,8 @@ BringsIn g c zone sel cands x y =
     × (Contains (needed_ids g c zone cands x) y ⊎ (IsTrue sel.groupextend × Extends g c zone cands x y))
 
 -- The candidates hold the start, and the growing ones among them have what each of them brings in.
-pub record IsClosedPair (g : Global) (c : Choice) (zone : Zone) (sel : Selection) (cands growing : Id → Bool) : Type 0 where
+pub record IsClosedPair (g : Global) (c : Choice) (zone : Zone) (sel : Selection) (cands growing : Id → Bool) :
+    Type 0 where
   pub start : (x : Id) → IsTrue (is_start g zone sel x) → IsTrue (cands x)
   pub growing_start : (x : Id) → IsTrue (is_growing_start g zone sel x) → IsTrue (growing x)
   pub part : (x : Id) → IsTrue (growing x) → IsTrue (cands x)

@@ -1,7 +1,8 @@
 -- The records of a command file, cut where commands end.
 use Rattle.std.specs.Prelude.{◌≡◌, ◌+◌, ◌<◌, ℕ, true, List, [], ◌++◌, length}
 use Rattle.terms.specs.Types.{Text}
-use Rattle.terms.specs.Statement.{Piece, TakesPiece, HasPieces, is_solid, solid, joined, followed, IsPlace, Ends, IsIdle, StFault, BreaksOff}
+use Rattle.terms.specs.Statement.{Piece, TakesPiece, HasPieces, is_solid, solid, joined, followed, IsPlace, Ends}
+use Rattle.terms.specs.Statement.{IsIdle, StFault, BreaksOff}
 
 -- no blank, comma or whole comment comes first
 abbrev pub BeginsNoGap : Text → Type 0
@@ -21,7 +22,8 @@ pub record BeginsBehind (n : ℕ) (records : List (List ℕ)) (gap : List Piece)
 
 -- The records, which count from n, begin with a command of these pieces, which begins in the record of that number.
 -- It ends with its period, and only gaps stand behind that in its record. The rest counts from m.
-pub record TakesCommand (n : ℕ) (records : List (List ℕ)) (pieces : List Piece) (number : ℕ) (m : ℕ) (rest : List (List ℕ)) : Type 0 where
+pub record TakesCommand (n : ℕ) (records : List (List ℕ)) (pieces : List Piece) (number : ℕ) (m : ℕ)
+    (rest : List (List ℕ)) : Type 0 where
   pub gap : List Piece
   pub own : List Piece
   pub tail : Text

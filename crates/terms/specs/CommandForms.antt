@@ -3,7 +3,8 @@
 use Rattle.std.specs.Prelude.{◌≡◌, ◌||◌, Bool, true, false, not, List, [], ◌∷◌, Option, None, IsSomeAnd, IsTrue, codes}
 use Rattle.terms.specs.declared.codes.CommandWord.{CommandWord}
 use Rattle.terms.specs.declared.codes.CommandWord.TheVariants as word
-use Rattle.terms.specs.Types.{Text, NoReason, Bypass, Selection, Install, RestoreList, RestoreSelect, RestoreGroup, ReceiveWhat, Command, Set, Receive, Reject, Apply, Accept, Restore, ListZone, Report}
+use Rattle.terms.specs.Types.{Text, NoReason, Bypass, Selection, Install, RestoreList, RestoreSelect, RestoreGroup}
+use Rattle.terms.specs.Types.{ReceiveWhat, Command, Set, Receive, Reject, Apply, Accept, Restore, ListZone, Report}
 use Rattle.terms.specs.Statement.{Piece, TheWord}
 use Rattle.terms.specs.Spelling.{word_text}
 use Rattle.terms.specs.Forms.{IsId, IsSource, IsZoneName}

@@ -1,5 +1,6 @@
 -- The commands of a command file, and its first fault.
-use Rattle.std.specs.Prelude.{◌≡◌, ℕ, Bool, true, false, List, [], ◌∷◌, not, if◌then◌else◌, count_by, nat_le, codes, IsTrue, ◌⊎◌}
+use Rattle.std.specs.Prelude.{◌≡◌, ℕ, Bool, true, false, List, [], ◌∷◌, not, if◌then◌else◌, count_by, nat_le, codes}
+use Rattle.std.specs.Prelude.{IsTrue, ◌⊎◌}
 use Rattle.std.specs.List.{list_any}
 use Rattle.std.specs.Str.{bytes_eq}
 use Rattle.terms.specs.declared.codes.CommandWord.{CommandWord}
@@ -57,10 +58,13 @@ BeginsWith pieces w rest = (pieces ≡ TheWord (word_text w) ∷ rest) × IsTrue
 -- What is wrong with a command that ends well. The first that applies of Cn1, Cn3, Cn4 and Cn2 is answered.
 abbrev pub IsCommandFault : List Piece → CnCode → Type 0
 IsCommandFault pieces Cn1 = (w : CommandWord) (rest : List Piece) → BeginsWith pieces w rest → ⊥
-IsCommandFault pieces Cn3 = (w : CommandWord) × (rest : List Piece) × BeginsWith pieces w rest × (has_double w rest ≡ true)
-IsCommandFault pieces Cn4 = (w : CommandWord) × (rest : List Piece) × BeginsWith pieces w rest × (has_double w rest ≡ false)
+IsCommandFault pieces Cn3 = (w : CommandWord) × (rest : List Piece) × BeginsWith pieces w rest
+    × (has_double w rest ≡ true)
+IsCommandFault pieces Cn4 = (w : CommandWord) × (rest : List Piece) × BeginsWith pieces w rest
+    × (has_double w rest ≡ false)
     × (is_unchosen w rest ≡ true)
-IsCommandFault pieces Cn2 = (w : CommandWord) × (rest : List Piece) × BeginsWith pieces w rest × (has_double w rest ≡ false)
+IsCommandFault pieces Cn2 = (w : CommandWord) × (rest : List Piece) × BeginsWith pieces w rest
+    × (has_double w rest ≡ false)
     × (is_unchosen w rest ≡ false) × ((c : Command) → IsCommand pieces c → ⊥)
 IsCommandFault pieces Cn5 = ⊥
 

@@ -5,7 +5,8 @@ use Rattle.std.specs.Prelude.{◌≡◌, ◌⊎◌, List, [], ◌∷◌, Contain
 use Rattle.terms.specs.declared.codes.NeedKind.{NeedKind}
 use Rattle.terms.specs.Types.{Id}
 
-module _ (cands kept : List Id) (Eligible : Id → Type 0) (Needs : Id → NeedKind → Id → Type 0) (Serves : NeedKind → Id → Id → Type 0) where
+module _ (cands kept : List Id) (Eligible : Id → Type 0) (Needs : Id → NeedKind → Id → Type 0)
+    (Serves : NeedKind → Id → Id → Type 0) where
   -- x is a candidate and not kept
   pub record HasFailed (x : Id) : Type 0 where
     pub cand : Contains cands x

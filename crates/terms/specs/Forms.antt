@@ -1,5 +1,6 @@
 -- The forms of ids, names and other values.
-use Rattle.std.specs.Prelude.{◌≡◌, ◌≢◌, ◌≤◌, ◌+◌, ◌/◌, ◌%◌, ℕ, Bool, false, [], ◌∷◌, ◌++◌, length, take, drop, reverse, All, slice_index, IsTrue, nat_le, ◌&&◌, ◌||◌, ◌==◌}
+use Rattle.std.specs.Prelude.{◌≡◌, ◌≢◌, ◌≤◌, ◌+◌, ◌/◌, ◌%◌, ℕ, Bool, false, [], ◌∷◌, ◌++◌, length, take, drop, reverse}
+use Rattle.std.specs.Prelude.{All, slice_index, IsTrue, nat_le, ◌&&◌, ◌||◌, ◌==◌}
 use Rattle.std.specs.Str.Parse.{digits_value}
 use Rattle.terms.specs.declared.kinds.HoldKind.{HoldKind}
 use Rattle.terms.specs.declared.kinds.HoldKind.TheVariants.{Error, System, User}

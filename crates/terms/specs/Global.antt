@@ -1,5 +1,7 @@
 -- What RECEIVE, its holds, releases and assignments, and REJECT do to the global zone.
-use Rattle.std.specs.Prelude.{◌≡◌, ◌≤◌, ◌<◌, ◌+◌, ◌^◌, ◌&&◌, ◌||◌, ◌==◌, Bool, false, not, List, [], ◌++◌, length, map, fold, filter, find, All, Option, None, Some, is_some, Result, Ok, Err, IsTrue, if◌then◌else◌}
+use Rattle.std.specs.Prelude.{◌≡◌, ◌≤◌, ◌<◌, ◌+◌, ◌^◌, ◌&&◌, ◌||◌, ◌==◌, Bool, false, not, List, [], ◌++◌, length, map}
+use Rattle.std.specs.Prelude.{fold, filter, find, All, Option, None, Some, is_some, Result, Ok, Err, IsTrue}
+use Rattle.std.specs.Prelude.{if◌then◌else◌}
 use Rattle.std.specs.List.{list_any, flat_map}
 use Rattle.std.specs.Option.{option_map_or}
 use Rattle.std.specs.declared.cmp.Ordering.{Ordering}
@@ -54,7 +56,8 @@ hold_cmp a b =
 
 -- Element statements are ordered by type and name.
 abbrev pub change_cmp : Change → Change → Ordering
-change_cmp a b = ordering_then (nat_cmp (type_number a.elem_type) (type_number b.elem_type)) (slice_cmp nat_cmp a.name b.name)
+change_cmp a b = ordering_then (nat_cmp (type_number a.elem_type) (type_number b.elem_type))
+    (slice_cmp nat_cmp a.name b.name)
 
 -- Sources rise, ++VERs rise by SREL, and element statements by type and name, none twice.
 -- The holds that it carries are internal ones of its own.

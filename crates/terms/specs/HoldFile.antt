@@ -45,7 +45,8 @@ IsItemFault records Mc4 = (w : StatementWord) × (own : Option Text) × (rest : 
     × IsKnown records w own rest inline × (¬ MayStand w inline)
 IsItemFault records Mc3 = (w : StatementWord) × (own : Option Text) × (rest : List Piece) × (inline : Lines)
     × IsKnown records w own rest inline × MayStand w inline × ((item : HoldItem) → ¬ HasItem w own rest item)
-IsItemFault records Mc6 = (w : StatementWord) × (own : Option Text) × (rest : List Piece) × (inline : Lines) × (item : HoldItem)
+IsItemFault records Mc6 = (w : StatementWord) × (own : Option Text) × (rest : List Piece) × (inline : Lines)
+    × (item : HoldItem)
     × IsKnown records w own rest inline × MayStand w inline × HasItem w own rest item × (¬ IsWithin item)
 IsItemFault records _ = ⊥
 

@@ -1,10 +1,12 @@
 -- What APPLY and ACCEPT make of the zone, given the kept set.
 -- (IBM z/OS SMP/E Commands, APPLY and ACCEPT processing; Reference, SYSMOD entry and element entry of target and
 -- distribution zones. What DELETE takes out is this project's profile.)
-use Rattle.std.specs.Prelude.{◌≡◌, ◌≢◌, ◌⊎◌, ◌↔◌, ◌&&◌, ℕ, List, [], Option, None, Some, filter, is_some, IsTrue, IsFalse, IfSome, Contains, slice_get, if◌then◌else◌}
+use Rattle.std.specs.Prelude.{◌≡◌, ◌≢◌, ◌⊎◌, ◌↔◌, ◌&&◌, ℕ, List, [], Option, None, Some, filter, is_some, IsTrue}
+use Rattle.std.specs.Prelude.{IsFalse, IfSome, Contains, slice_get, if◌then◌else◌}
 use Rattle.terms.specs.declared.kinds.ElemType.{ElemType}
 use Rattle.terms.specs.Types.{Text, Id, Lines, Change, Replaces, Updates, Global, Element, Zone}
-use Rattle.terms.specs.Lookups.{IsRising, IsZone, is_in, change_of, has_change, element_of, applied_of, supby_of, delby_of, waived_of, is_supplied, is_function}
+use Rattle.terms.specs.Lookups.{IsRising, IsZone, is_in, change_of, has_change, element_of, applied_of, supby_of}
+use Rattle.terms.specs.Lookups.{delby_of, waived_of, is_supplied, is_function}
 use Rattle.terms.specs.Choice.{Choice, del_of}
 use Rattle.terms.specs.Over.{IsOver, Supersedes, owner}
 use Rattle.terms.specs.Changes.{has_replacement}
@@ -88,8 +90,10 @@ module _ (i : Installing) (type : ElemType) (name : Text) where
   pub record IsUpdated (replacer : Option Id) (base e : Element) : Type 0 where
     pub rest : e ≡ record base { umids = e.umids; text = e.text }
     pub rising : IsRising e.umids
-    pub umids : (y : Id) → Contains e.umids y ↔ (Contains base.umids y ⊎ ((update : Lines) × IsUpdater replacer y update))
-    pub decided : (n : ℕ) (y : Id) (update : Lines) → Decides replacer n y update → line_at e.text n ≡ line_at (given update) n
+    pub umids : (y : Id) → Contains e.umids y ↔ (Contains base.umids y
+        ⊎ ((update : Lines) × IsUpdater replacer y update))
+    pub decided : (n : ℕ) (y : Id) (update : Lines) → Decides replacer n y update
+        → line_at e.text n ≡ line_at (given update) n
     pub others : (n : ℕ) → ((y : Id) (update : Lines) → IsUpdater replacer y update → ¬ Touches update n) →
         line_at e.text n ≡ line_at base.text n
     pub numbered : (y : Id) (update : Lines) → IsUpdater replacer y update → IsNumbered e.text
@@ -110,9 +114,11 @@ pub record Installs (i : Installing) (new : Zone) : Type 0 where
       ↔ (Contains (supby_of (cleared i) x) y ⊎ (IsInstalled i y × Supersedes i.choice y x))
   pub delby : (x : Id) → delby_of new x ≡ delby_after i x
   pub waived_rising : (x : Id) → IsRising (waived_of new x)
-  pub waived : (x z : Id) → IsInstalled i x → Contains (waived_of new x) z ↔ (Contains i.bypassed (x, z) × IsFalse (is_supplied new z))
+  pub waived : (x z : Id) → IsInstalled i x → Contains (waived_of new x) z ↔
+      (Contains i.bypassed (x, z) × IsFalse (is_supplied new z))
   pub not_waived : (x : Id) → (¬ IsInstalled i x) → waived_of new x ≡ waived_of (cleared i) x
   pub changed : (type : ElemType) (name : Text) (x : Id) → IsInstalled i x → IsTrue (has_change i.global x type name) →
       (e : Element) × (element_of new type name ≡ Some e) × HasElementAfter i type name e
-  pub unchanged : (type : ElemType) (name : Text) → ((x : Id) → IsInstalled i x → IsFalse (has_change i.global x type name)) →
+  pub unchanged : (type : ElemType) (name : Text) → ((x : Id) → IsInstalled i x
+      → IsFalse (has_change i.global x type name)) →
       element_of new type name ≡ element_of (cleared i) type name

@@ -9,7 +9,8 @@ module _ (Eligible : Id → Type 0) (Needs : Id → NeedKind → Id → Type 0) 
   -- The set has eligible ids alone, and each need of each member is served by a member.
   pub record SupportsItself (set : Id → Bool) : Type 0 where
     pub eligible : (x : Id) → IsTrue (set x) → Eligible x
-    pub served : (x z : Id) (kind : NeedKind) → IsTrue (set x) → Needs x kind z → (y : Id) × IsTrue (set y) × Serves kind y z
+    pub served : (x z : Id) (kind : NeedKind) → IsTrue (set x) → Needs x kind z
+        → (y : Id) × IsTrue (set y) × Serves kind y z
 
   -- x is kept: some set that supports itself has it
   abbrev pub StaysKept : Id → Type 0
@@ -28,9 +29,11 @@ module _ (Eligible : Id → Type 0) (Needs : Id → NeedKind → Id → Type 0) 
     pub size : p.size ≡ length ids
     pub eligible : (n : ℕ) (x : Id) → slice_get ids n ≡ Some x → IsTrue (holds p.eligible n) ↔ Eligible x
     pub lengths : length needed ≡ length p.demands
-    pub demands : (i : ℕ) (d : Demand) (need : NeedKind × Id) → slice_get p.demands i ≡ Some d → slice_get needed i ≡ Some need →
+    pub demands : (i : ℕ) (d : Demand) (need : NeedKind × Id) → slice_get p.demands i ≡ Some d
+        → slice_get needed i ≡ Some need →
         DemandsFor ids d need.0 need.1
     pub all : (n : ℕ) (x z : Id) (kind : NeedKind) → slice_get ids n ≡ Some x → Needs x kind z →
         (i : ℕ) × (d : Demand) × (slice_get p.demands i ≡ Some d) × (slice_get needed i ≡ Some (kind, z)) × (d.of ≡ n)
-    pub once : (i j : ℕ) (d e : Demand) (need : NeedKind × Id) → slice_get p.demands i ≡ Some d → slice_get p.demands j ≡ Some e →
+    pub once : (i j : ℕ) (d e : Demand) (need : NeedKind × Id) → slice_get p.demands i ≡ Some d
+        → slice_get p.demands j ≡ Some e →
         slice_get needed i ≡ Some need → slice_get needed j ≡ Some need → d.of ≡ e.of → i ≡ j

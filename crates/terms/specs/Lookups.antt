@@ -1,5 +1,6 @@
 -- Finding things in the global zone and in a zone, and what is supplied in a zone.
-use Rattle.std.specs.Prelude.{◌≡◌, ◌&&◌, ◌||◌, ◌==◌, IsTrue, All, AllPairs, ℕ, Bool, true, false, not, List, [], ◌∷◌, Option, None, Some, find, filter, map, is_some}
+use Rattle.std.specs.Prelude.{◌≡◌, ◌&&◌, ◌||◌, ◌==◌, IsTrue, All, AllPairs, ℕ, Bool, true, false, not, List, [], ◌∷◌}
+use Rattle.std.specs.Prelude.{Option, None, Some, find, filter, map, is_some}
 use Rattle.std.specs.List.{list_any}
 use Rattle.std.specs.Option.{option_map_or, option_and_then}
 use Rattle.std.specs.declared.cmp.Ordering.{Ordering}
@@ -9,7 +10,8 @@ use Rattle.std.specs.Str.{bytes_eq}
 use Rattle.terms.specs.declared.kinds.ElemType.{ElemType}
 use Rattle.terms.specs.declared.kinds.HoldKind.{HoldKind}
 use Rattle.terms.specs.Rising.{Rises}
-use Rattle.terms.specs.Types.{Text, Id, type_number, kind_number, hold_number, zone_number, Hold, Change, Sysmod, Global, Entry, Element, Zone}
+use Rattle.terms.specs.Types.{Text, Id, type_number, kind_number, hold_number, zone_number, Hold, Change, Sysmod}
+use Rattle.terms.specs.Types.{Global, Entry, Element, Zone}
 
 abbrev pub is_nil : {X : Type 0} → List X → Bool
 is_nil [] = true
@@ -53,7 +55,8 @@ changes_of g x = option_map_or (λ s. s.changes) (sysmod_of g x) []
 
 -- what it does to the element of this type and name
 abbrev pub change_of : Global → Id → ElemType → Text → Option Change
-change_of g x type name = find (λ h. (type_number h.elem_type == type_number type) && bytes_eq h.name name) (changes_of g x)
+change_of g x type name = find (λ h. (type_number h.elem_type == type_number type) && bytes_eq h.name name)
+    (changes_of g x)
 
 -- whether it replaces or updates the element
 abbrev pub has_change : Global → Id → ElemType → Text → Bool
@@ -93,7 +96,8 @@ entry_of zone x = find (λ e. bytes_eq e.id x) zone.entries
 
 -- the element entry of this type and name
 abbrev pub element_of : Zone → ElemType → Text → Option Element
-element_of zone type name = find (λ e. (type_number e.elem_type == type_number type) && bytes_eq e.name name) zone.elements
+element_of zone type name = find (λ e. (type_number e.elem_type == type_number type) && bytes_eq e.name name)
+    zone.elements
 
 -- whether it is applied, in a distribution zone accepted. Nothing else supplies an FMID.
 abbrev pub is_applied : Zone → Id → Bool

@@ -1,6 +1,7 @@
 -- What a candidate of APPLY or ACCEPT needs, and who serves it.
 -- (IBM z/OS SMP/E Reference, FMID, PRE and REQ of ++VER, ++IF, ++HOLD; Commands, BYPASS. ORPHAN is this project's.)
-use Rattle.std.specs.Prelude.{◌≡◌, ◌⊎◌, ◌&&◌, Bool, true, false, not, List, [], ◌++◌, filter, map, IsTrue, IsFalse, Contains, if◌then◌else◌}
+use Rattle.std.specs.Prelude.{◌≡◌, ◌⊎◌, ◌&&◌, Bool, true, false, not, List, [], ◌++◌, filter, map, IsTrue, IsFalse}
+use Rattle.std.specs.Prelude.{Contains, if◌then◌else◌}
 use Rattle.std.specs.List.{list_any, flat_map}
 use Rattle.terms.specs.declared.kinds.HoldKind.TheVariants.{Error}
 use Rattle.terms.specs.declared.codes.NeedKind.{NeedKind}

@@ -1,6 +1,7 @@
 -- Operands of statements and commands: each a word, most with a list (SMP/E Reference and Commands: syntax of MCS and
 -- commands).
-use Rattle.std.specs.Prelude.{◌≡◌, ◌≢◌, ◌↔◌, Bool, true, false, List, [], All, AllPairs, Contains, Option, Some, None, IsSomeAnd, IsTrue, find}
+use Rattle.std.specs.Prelude.{◌≡◌, ◌≢◌, ◌↔◌, Bool, true, false, List, [], All, AllPairs, Contains, Option, Some, None}
+use Rattle.std.specs.Prelude.{IsSomeAnd, IsTrue, find}
 use Rattle.std.specs.Str.{bytes_eq}
 use Rattle.terms.specs.Types.{Text}
 use Rattle.terms.specs.Lookups.{is_in, IsRising}

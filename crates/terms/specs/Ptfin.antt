@@ -1,7 +1,8 @@
 -- PTFIN: the order of its statements, the SYSMODs and assignments that they make, and its first fault. (IBM z/OS SMP/E
 -- Reference, MCS: a SYSMOD is a header, then ++VERs with their ++IFs, then holds, then elements; ++ASSIGN stands
 -- between SYSMODs.)
-use Rattle.std.specs.Prelude.{◌≡◌, ◌≢◌, ◌≤◌, ◌<◌, ℕ, Bool, false, List, [], ◌∷◌, ◌++◌, length, map, All, Any, Option, Some, None, IsSomeAnd, IfSome, option_map, ◌⊎◌, IsTrue, if◌then◌else◌}
+use Rattle.std.specs.Prelude.{◌≡◌, ◌≢◌, ◌≤◌, ◌<◌, ℕ, Bool, false, List, [], ◌∷◌, ◌++◌, length, map, All, Any, Option}
+use Rattle.std.specs.Prelude.{Some, None, IsSomeAnd, IfSome, option_map, ◌⊎◌, IsTrue, if◌then◌else◌}
 use Rattle.std.specs.Option.{option_map_or}
 use Rattle.std.specs.Ordering.{nat_cmp}
 use Rattle.std.specs.Str.{bytes_eq}
@@ -24,7 +25,8 @@ use Rattle.terms.specs.Words.{Word, HasWords, TakesWord, IsShort}
 use Rattle.terms.specs.Operands.{HasOwn}
 use Rattle.terms.specs.Texts.{IsActionOf}
 use Rattle.terms.specs.HoldStatements.{HasShortComment}
-use Rattle.terms.specs.Statements.{statement_text, changed_type, Statement, SaysHeader, SaysVer, SaysIf, SaysHold, SaysAssign, SaysChange, lists_of, Says}
+use Rattle.terms.specs.Statements.{statement_text, changed_type, Statement, SaysHeader, SaysVer, SaysIf, SaysHold}
+use Rattle.terms.specs.Statements.{SaysAssign, SaysChange, lists_of, Says}
 
 -- A SYSMOD to which the next statement may belong, and the SREL of its last ++VER, to which an ++IF belongs.
 pub record Begun : Type 0 where
@@ -43,7 +45,10 @@ abbrev pub items_of : SoFar → List Item
 items_of c = c.whole ++ at_most_one (option_map (λ b. ASysmod b.sysmod) c.current)
 
 abbrev pub begun : Kind → Id → Begun
-begun kind id = record { sysmod = record { id = id; kind = kind; sources = []; vers = []; changes = []; holds = [] }; srel = None }
+begun kind id = record {
+  sysmod = record { id = id; kind = kind; sources = []; vers = []; changes = []; holds = [] };
+  srel = None;
+}
 
 -- ++VERs are kept by SREL, and element statements by type and name.
 abbrev pub with_ver : Ver → Begun → Begun
@@ -62,7 +67,10 @@ is_last b v = option_map_or (bytes_eq v.srel) b.srel false
 -- An ++IF stands behind those of the last ++VER, and a hold behind those that the SYSMOD has.
 abbrev pub with_if : IfReq → Begun → Begun
 with_if i b = record b {
-  sysmod = record b.sysmod { vers = map (λ v. if is_last b v then record v { ifs = v.ifs ++ i ∷ [] } else v) b.sysmod.vers };
+  sysmod = record b.sysmod {
+    vers = map (λ v. if is_last b v then record v { ifs = v.ifs ++ i ∷ [] } else v)
+        b.sysmod.vers;
+  };
 }
 
 abbrev pub with_hold : Hold → Begun → Begun
@@ -100,7 +108,8 @@ MayStand (Some s) word.UpdateSrc = s.vers ≢ []
 -- list says so, whatever follows.
 abbrev pub IsSecond : Sysmod → StatementWord → Option Text → Type 0
 IsSecond s word.Ver own = (srel : Text) × HasOwn IsSrel own srel × Any (λ v. v.srel ≡ srel) s.vers
-IsSecond s w own = (name : Text) × HasOwn IsName own name × Any (λ c. (changed_type w ≡ Some c.elem_type) × (c.name ≡ name)) s.changes
+IsSecond s w own = (name : Text) × HasOwn IsName own name × Any
+    (λ c. (changed_type w ≡ Some c.elem_type) × (c.name ≡ name)) s.changes
 
 abbrev pub IsHeader : StatementWord → Type 0
 IsHeader (word.Header kind) = Unit {0}
@@ -132,7 +141,8 @@ IsPlaced current later w own inline = (why : Disorder) → ¬ IsMisplaced curren
 
 -- the statement's words, and what they say
 abbrev pub HasValue : Option Sysmod → StatementWord → Option Text → List Piece → Lines → Statement → Type 0
-HasValue current w own rest inline s = (operands : List Word) × HasWords rest operands × Says current w own operands inline s
+HasValue current w own rest inline s = (operands : List Word) × HasWords rest operands
+    × Says current w own operands inline s
 
 -- the limits of a statement behind those before it
 abbrev pub IsWithin : Option Begun → Statement → Lines → Type 0
@@ -149,7 +159,8 @@ HasGoodText (SaysChange c) = IsActionOf c.elem_type c.name c.action
 HasGoodText _ = Unit {0}
 
 -- The statement of this word, its own list and its rest says so, and nothing is at fault.
-pub record IsGood (current : Option Begun) (later : Lines) (w : StatementWord) (own : Option Text) (rest : List Piece) (inline : Lines) (s : Statement) : Type 0 where
+pub record IsGood (current : Option Begun) (later : Lines) (w : StatementWord) (own : Option Text) (rest : List Piece)
+    (inline : Lines) (s : Statement) : Type 0 where
   pub placed : IsPlaced (sysmod_in current) later w own inline
   pub value : HasValue (sysmod_in current) w own rest inline s
   pub within : IsWithin current s inline
@@ -159,15 +170,19 @@ pub record IsGood (current : Option Begun) (later : Lines) (w : StatementWord) (
 abbrev pub IsFault : Option Begun → Lines → StatementWord → Option Text → List Piece → Lines → McCode → Type 0
 IsFault current later w own rest inline Mc4 = (why : Disorder) × IsMisplaced (sysmod_in current) later w own inline why
 IsFault current later w own rest inline Mc3 =
-    IsPlaced (sysmod_in current) later w own inline × ((s : Statement) → ¬ HasValue (sysmod_in current) w own rest inline s)
+    IsPlaced (sysmod_in current) later w own inline × ((s : Statement)
+    → ¬ HasValue (sysmod_in current) w own rest inline s)
 IsFault current later w own rest inline Mc6 = (s : Statement)
-    × IsPlaced (sysmod_in current) later w own inline × HasValue (sysmod_in current) w own rest inline s × (¬ IsWithin current s inline)
+    × IsPlaced (sysmod_in current) later w own inline × HasValue (sysmod_in current) w own rest inline s
+    × (¬ IsWithin current s inline)
 IsFault current later w own rest inline Mc5 = (s : Statement)
-    × IsPlaced (sysmod_in current) later w own inline × HasValue (sysmod_in current) w own rest inline s × IsWithin current s inline × (¬ HasGoodText s)
+    × IsPlaced (sysmod_in current) later w own inline × HasValue (sysmod_in current) w own rest inline s
+    × IsWithin current s inline × (¬ HasGoodText s)
 IsFault current later w own rest inline _ = ⊥
 
 -- the records are a statement that begins with this word and its own list
-pub record IsKnown (records : Lines) (w : StatementWord) (own : Option Text) (rest : List Piece) (inline : Lines) : Type 0 where
+pub record IsKnown (records : Lines) (w : StatementWord) (own : Option Text) (rest : List Piece) (inline : Lines) :
+    Type 0 where
   pub pieces : List Piece
   pub statement : IsStatement records pieces inline
   pub begins : TakesWord pieces (record { word = statement_text w; list = own }) rest
@@ -177,18 +192,21 @@ pub record IsUnknown (records : Lines) : Type 0 where
   pub pieces : List Piece
   pub inline : Lines
   pub statement : IsStatement records pieces inline
-  pub unknown : (w : StatementWord) (own : Option Text) (rest : List Piece) → ¬ TakesWord pieces (record { word = statement_text w; list = own }) rest
+  pub unknown : (w : StatementWord) (own : Option Text) (rest : List Piece)
+      → ¬ TakesWord pieces (record { word = statement_text w; list = own }) rest
 
 -- The records are this statement, and nothing is at fault.
 abbrev pub IsGoodStatement : Option Begun → Lines → Lines → Statement → Type 0
-IsGoodStatement current later records s = (w : StatementWord) × (own : Option Text) × (rest : List Piece) × (inline : Lines)
+IsGoodStatement current later records s = (w : StatementWord) × (own : Option Text) × (rest : List Piece)
+    × (inline : Lines)
     × IsKnown records w own rest inline × IsGood current later w own rest inline s
 
 -- What is at fault with a statement. Its form (Mc1) and its word (Mc2) come first.
 abbrev pub IsStatementFault : Option Begun → Lines → Lines → McCode → Type 0
 IsStatementFault current later records Mc1 = (why : StFault) × IsStFault records why
 IsStatementFault current later records Mc2 = IsUnknown records
-IsStatementFault current later records code = (w : StatementWord) × (own : Option Text) × (rest : List Piece) × (inline : Lines)
+IsStatementFault current later records code = (w : StatementWord) × (own : Option Text) × (rest : List Piece)
+    × (inline : Lines)
     × IsKnown records w own rest inline × IsFault current later w own rest inline code
 
 -- Behind c, the records that count from n begin with these statements. They make d, and the rest follows, which counts
@@ -213,7 +231,8 @@ pub record McsFault : Type 0 where
 abbrev pub IsFileFault : List ℕ → McsFault → Type 0
 IsFileFault bytes fault =
     ((fault.code ≡ Mc1) × (r : RecFault) × IsRecFault bytes r × (fault.number ≡ rec_fault_record r))
-    ⊎ ((fault.code ≡ Mc4) × (fault.number ≡ 1) × (records : Lines) × HasRecords bytes records × IsTrue (starts_outside records))
+    ⊎ ((fault.code ≡ Mc4) × (fault.number ≡ 1) × (records : Lines) × HasRecords bytes records
+    × IsTrue (starts_outside records))
 
 -- The next statement, behind those that make c, is at fault.
 abbrev pub IsNextFault : SoFar → ℕ → Lines → McsFault → Type 0

@@ -1,6 +1,7 @@
 -- RESTORE: its list, its tests, its needs, and the target zone afterwards.
 -- (IBM z/OS SMP/E Commands, the RESTORE command. Its candidates, tests, needs and effect are this project's profile.)
-use Rattle.std.specs.Prelude.{◌≡◌, ◌≢◌, ◌⊎◌, ◌↔◌, ◌&&◌, Bool, true, not, List, [], ◌∷◌, Some, filter, IsTrue, IsFalse, Contains, Any, All}
+use Rattle.std.specs.Prelude.{◌≡◌, ◌≢◌, ◌⊎◌, ◌↔◌, ◌&&◌, Bool, true, not, List, [], ◌∷◌, Some, filter, IsTrue, IsFalse}
+use Rattle.std.specs.Prelude.{Contains, Any, All}
 use Rattle.std.specs.List.{list_any}
 use Rattle.std.specs.Option.{option_map_or}
 use Rattle.terms.specs.declared.kinds.ElemType.{ElemType}
@@ -9,7 +10,8 @@ use Rattle.terms.specs.declared.codes.Test.TheVariants.{J10, J11, J12}
 use Rattle.terms.specs.declared.codes.NeedKind.{NeedKind}
 use Rattle.terms.specs.declared.codes.NeedKind.TheVariants.{Elem, Dep}
 use Rattle.terms.specs.Types.{Text, Id, Global, Element, Zone, RestoreList, RestoreSelect, RestoreGroup}
-use Rattle.terms.specs.Lookups.{IsRising, IsZone, is_in, changes_of, has_change, element_of, is_applied, is_supplied, supplies, applied_ids}
+use Rattle.terms.specs.Lookups.{IsRising, IsZone, is_in, changes_of, has_change, element_of, is_applied, is_supplied}
+use Rattle.terms.specs.Lookups.{supplies, applied_ids}
 use Rattle.terms.specs.Choice.{Choice, fmid_of, del_of}
 use Rattle.terms.specs.Deleted.{entries_less}
 use Rattle.terms.specs.Needs.{Serves, binding_ids}
@@ -81,7 +83,8 @@ are_applied zone e = not (list_any (λ y. not (is_applied zone y)) (e.fmid ∷ e
 -- J12: the distribution zone has an element of it under an FMID, an RMID or a UMID that the target zone has not applied
 abbrev pub FailsJ12 : Restoring → Id → Type 0
 FailsJ12 r x =
-    Any (λ h. IsFalse (option_map_or (are_applied r.zone) (element_of r.accepted h.elem_type h.name) true)) (changes_of r.global x)
+    Any (λ h. IsFalse (option_map_or (are_applied r.zone) (element_of r.accepted h.elem_type h.name) true))
+    (changes_of r.global x)
 
 -- a candidate of RESTORE fails the test
 abbrev pub FailsRestore : Restoring → Id → Test → Type 0

@@ -1,5 +1,6 @@
 -- Lists that rise by a key, no key twice: lists of ids, the entries of a zone, and the like.
-use Rattle.std.specs.Prelude.{◌≡◌, ℕ, suc, List, [], ◌∷◌, ◌++◌, take, drop, All, AllPairs, filter, IsTrue, slice_index_or}
+use Rattle.std.specs.Prelude.{◌≡◌, ℕ, suc, List, [], ◌∷◌, ◌++◌, take, drop, All, AllPairs, filter, IsTrue}
+use Rattle.std.specs.Prelude.{slice_index_or}
 use Rattle.std.specs.declared.cmp.Ordering.{Ordering}
 use Rattle.std.specs.declared.cmp.Ordering.TheVariants.{Less, Equal}
 use Rattle.std.specs.Ordering.{is_lt}
@@ -30,7 +31,8 @@ pub record Splits {X K : Type 0} (cmp : K → K → Ordering) (key : X → K) (k
   pub high : All (λ x. cmp k (key x) ≡ Less) back
 
 -- x stands at the place and has the key
-pub record Stands {X K : Type 0} (cmp : K → K → Ordering) (key : X → K) (k : K) (xs : List X) (i : ℕ) (x : X) : Type 0 where
+pub record Stands {X K : Type 0} (cmp : K → K → Ordering) (key : X → K) (k : K) (xs : List X) (i : ℕ) (x : X) :
+    Type 0 where
   pub tie : cmp (key x) k ≡ Equal
   pub parts : xs ≡ take i xs ++ x ∷ drop (suc i) xs
   pub at : (d : X) → slice_index_or xs i d ≡ x

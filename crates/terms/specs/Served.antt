@@ -20,7 +20,8 @@ has_plain_ver g zone x = option_map_or is_plain (by_srel g zone.srel x) true
 
 -- whether it has no element statements, or is a function and only replaces
 abbrev pub has_plain_changes : Sysmod → Bool
-has_plain_changes s = is_nil s.changes || ((kind_number s.kind == 0) && list_all (λ h. is_replacement h.action) s.changes)
+has_plain_changes s = is_nil s.changes || ((kind_number s.kind == 0) && list_all (λ h. is_replacement h.action)
+    s.changes)
 
 -- whether no hold stands on it
 abbrev pub is_unheld : Global → Id → Bool
@@ -33,4 +34,5 @@ is_served_zone g zone = list_all (has_plain_ver g zone) (applied_ids zone)
 -- whether the SYSMOD is served in the zone
 abbrev pub is_served : Global → Zone → Id → Bool
 is_served g zone x =
-    has_plain_ver g zone x && option_map_or has_plain_changes (sysmod_of g x) true && is_unheld g x && is_served_zone g zone
+    has_plain_ver g zone x && option_map_or has_plain_changes (sysmod_of g x) true && is_unheld g x && is_served_zone g
+    zone

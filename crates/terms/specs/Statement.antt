@@ -1,5 +1,6 @@
 -- A statement in its records: the pieces of its text, the period that ends it, and its faults.
-use Rattle.std.specs.Prelude.{◌≡◌, ◌≢◌, ℕ, Bool, true, false, List, [], ◌∷◌, ◌++◌, length, drop, Option, Some, None, All, filter, not, ◌⊎◌, slice_index, if◌then◌else◌, IsTrue, ◌&&◌, ◌||◌, ◌==◌, ◌<◌}
+use Rattle.std.specs.Prelude.{◌≡◌, ◌≢◌, ℕ, Bool, true, false, List, [], ◌∷◌, ◌++◌, length, drop, Option, Some, None}
+use Rattle.std.specs.Prelude.{All, filter, not, ◌⊎◌, slice_index, if◌then◌else◌, IsTrue, ◌&&◌, ◌||◌, ◌==◌, ◌<◌}
 use Rattle.std.specs.List.{flat_map}
 use Rattle.terms.specs.Types.{Text}
 use Rattle.terms.specs.Records.{front}
@@ -57,7 +58,8 @@ behind_list inner (b ∷ bs) =
 -- The text begins with the piece, which goes as far as it can. Inside parentheses `/*` is plain text.
 abbrev pub TakesPiece : Text → Piece → Text → Type 0
 TakesPiece text (TheWord word) after = (text ≡ word ++ after) × IsWord word × BeginsNoWord after
-TakesPiece text (TheList list) after = (text ≡ 40 ∷ list ++ 41 ∷ after) × (behind_list false (list ++ 41 ∷ after) ≡ Some after)
+TakesPiece text (TheList list) after = (text ≡ 40 ∷ list ++ 41 ∷ after)
+    × (behind_list false (list ++ 41 ∷ after) ≡ Some after)
 TakesPiece text Blank after = (b : ℕ) × (text ≡ b ∷ after) × IsTrue (is_blank b)
 TakesPiece text Comment after = (inside : Text) × (text ≡ 47 ∷ 42 ∷ inside) × (behind_close inside ≡ Some after)
 TakesPiece text (Stray b) after = (text ≡ b ∷ after) × IsTrue (is_stray b) × (b ≡ 47 → slice_index after 0 ≢ 42)

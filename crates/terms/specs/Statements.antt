@@ -1,7 +1,8 @@
 -- The form of each statement of PTFIN: its word, its operands, its text and what it says. (IBM z/OS SMP/E Reference,
 -- MCS: ++FUNCTION, ++PTF, ++APAR, ++USERMOD, ++VER, ++IF, ++HOLD, ++ASSIGN, ++MAC, ++SRC, the data elements, ++MACUPD
 -- and ++SRCUPD.)
-use Rattle.std.specs.Prelude.{◌≡◌, ◌≢◌, List, [], ◌∷◌, ◌++◌, All, Contains, Option, Some, None, IsSome, IsSomeAnd, IsTrue, codes}
+use Rattle.std.specs.Prelude.{◌≡◌, ◌≢◌, List, [], ◌∷◌, ◌++◌, All, Contains, Option, Some, None, IsSome, IsSomeAnd}
+use Rattle.std.specs.Prelude.{IsTrue, codes}
 use Rattle.terms.specs.declared.kinds.Kind.{Kind}
 use Rattle.terms.specs.declared.kinds.Kind.TheVariants.{Function}
 use Rattle.terms.specs.declared.kinds.ElemType.{ElemType}
@@ -13,7 +14,8 @@ use Rattle.terms.specs.Types.{Text, Id, Lines, IfReq, Ver, Hold, Action, Replace
 use Rattle.terms.specs.Spelling.{kind_text, type_text}
 use Rattle.terms.specs.Forms.{IsId, IsSource, IsSrel, IsName}
 use Rattle.terms.specs.Words.{Word, plain}
-use Rattle.terms.specs.Operands.{operand, AreOperands, HasOwn, HasOne, HasListed, HasSorted, HasRequired, HasOptional, HasTexts}
+use Rattle.terms.specs.Operands.{operand, AreOperands, HasOwn, HasOne, HasListed, HasSorted, HasRequired, HasOptional}
+use Rattle.terms.specs.Operands.{HasTexts}
 use Rattle.terms.specs.HoldStatements.{IsHoldOf}
 
 -- how the word is spelled
@@ -114,7 +116,8 @@ HasAction word.UpdateSrc operands inline (Updates text) = (operands ≡ []) × (
 HasAction _ operands inline action = ⊥
 
 -- ++MAC(name) DISTLIB(name) SYSLIB(name), or so with another type's word; ++MACUPD(name) and ++SRCUPD(name)
-pub record IsChangeOf (w : StatementWord) (own : Option Text) (operands : List Word) (inline : Lines) (c : Change) : Type 0 where
+pub record IsChangeOf (w : StatementWord) (own : Option Text) (operands : List Word) (inline : Lines) (c : Change) :
+    Type 0 where
   pub type_is : changed_type w ≡ Some c.elem_type
   pub name : HasOwn IsName own c.name
   pub action : HasAction w operands inline c.action
@@ -124,6 +127,7 @@ abbrev pub Says : Option Sysmod → StatementWord → Option Text → List Word 
 Says current w own operands inline (SaysHeader kind id) = (w ≡ word.Header kind) × IsHeaderOf own operands id
 Says current w own operands inline (SaysVer v) = (w ≡ word.Ver) × IsSomeAnd current (λ s. IsVerOf s own operands v)
 Says current w own operands inline (SaysIf i) = (w ≡ word.If) × IsSomeAnd current (λ s. IsIfOf s own operands i)
-Says current w own operands inline (SaysHold h) = (w ≡ word.Hold) × IsSomeAnd current (λ s. IsOwnHoldOf s own operands h)
+Says current w own operands inline (SaysHold h) = (w ≡ word.Hold)
+    × IsSomeAnd current (λ s. IsOwnHoldOf s own operands h)
 Says current w own operands inline (SaysAssign a) = (w ≡ word.Assign) × IsAssignOf own operands a
 Says current w own operands inline (SaysChange c) = IsChangeOf w own operands inline c

@@ -1,7 +1,8 @@
 -- The tests that a candidate of APPLY or ACCEPT passes or fails before any need of it is looked at.
 -- (IBM z/OS SMP/E Commands, APPLY and ACCEPT processing, and BYPASS; Reference, ++HOLD, NPRE and DELETE of ++VER.
 -- Their order and numbers are this project's profile.)
-use Rattle.std.specs.Prelude.{◌≡◌, ◌≢◌, ◌⊎◌, ◌↔◌, ◌&&◌, ◌||◌, Bool, true, false, not, List, [], ◌∷◌, Option, None, Some, filter, IsTrue, IsFalse, Contains}
+use Rattle.std.specs.Prelude.{◌≡◌, ◌≢◌, ◌⊎◌, ◌↔◌, ◌&&◌, ◌||◌, Bool, true, false, not, List, [], ◌∷◌, Option, None, Some}
+use Rattle.std.specs.Prelude.{filter, IsTrue, IsFalse, Contains}
 use Rattle.std.specs.Option.{option_map_or}
 use Rattle.terms.specs.declared.kinds.HoldKind.{HoldKind}
 use Rattle.terms.specs.declared.kinds.HoldKind.TheVariants.{Error, System, User}
@@ -126,7 +127,8 @@ pub record AreSurvivors (s : Setting) (ids : List Id) : Type 0 where
 
 -- both change one element
 abbrev pub ShareElement : Global → Id → Id → Type 0
-ShareElement g x y = (type : ElemType) × (name : Text) × IsTrue (has_change g x type name) × IsTrue (has_change g y type name)
+ShareElement g x y = (type : ElemType) × (name : Text) × IsTrue (has_change g x type name)
+    × IsTrue (has_change g y type name)
 
 -- they have two owners, or over does not order them
 abbrev pub AreApart : Setting → Id → Id → Type 0

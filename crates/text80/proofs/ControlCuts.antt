@@ -1,21 +1,29 @@
 -- Control records, cut into their parts.
-use Rattle.std.proofs.Common.{◌≡◌, ◌≢◌, ◌<◌, ◌≤◌, ◌==◌, ℕ, Bool, true, false, not, List, [], ◌∷◌, ◌++◌, length, take, drop, codes, refl, sym, ◌∙◌, ap, subst, arith, append_assoc, Option, None, Some, MatchOption, IfSome, IfNone, Bor}
+use Rattle.std.proofs.Common.{◌≡◌, ◌≢◌, ◌<◌, ◌≤◌, ◌==◌, ℕ, Bool, true, false, not, List, [], ◌∷◌, ◌++◌, length, take}
+use Rattle.std.proofs.Common.{drop, codes, refl, sym, ◌∙◌, ap, subst, arith, append_assoc, Option, None, Some}
+use Rattle.std.proofs.Common.{MatchOption, IfSome, IfNone, Bor}
 use Rattle.std.specs.Str.{bytes_eq}
 use Rattle.std.proofs.lemmas.Slice.Eq.{bytes_eq-Decides}
 use Rattle.std.specs.Str.Parse.{digits_value}
 use Rattle.std.proofs.lemmas.Bool.{eqb-true}
-use Rattle.std.proofs.lemmas.List.{append_cancel_left, take_at, drop_at, take-append-drop, length-append, nil_from_length}
+use Rattle.std.proofs.lemmas.List.{append_cancel_left, take_at, drop_at, take-append-drop, length-append}
+use Rattle.std.proofs.lemmas.List.{nil_from_length}
 use Rattle.terms.specs.Records.{front}
 use Rattle.terms.specs.Texts.{IsControl, IsNumber, IsRange}
-use Rattle.terms.proofs.Controls.{is_blank, is_solid, StartsOutside, IsCuts, SameParts, same_cuts, cuts_from, control_from}
+use Rattle.terms.proofs.Controls.{is_blank, is_solid, StartsOutside, IsCuts, SameParts, same_cuts, cuts_from}
+use Rattle.terms.proofs.Controls.{control_from}
 use Rattle.text80.specs.Cuts.{IsCut}
 
 -- what `strip_prefix` says, for each variant
-pub some_behind : (text prefix : List ℕ) (r : Option (Bor (List ℕ))) → MatchOption r ((rest : List ℕ) → text ≢ prefix ++ rest) (λ x. text ≡ prefix ++ x.now) → IfSome r (λ x. text ≡ prefix ++ x.now)
+pub some_behind : (text prefix : List ℕ) (r : Option (Bor (List ℕ)))
+    → MatchOption r ((rest : List ℕ) → text ≢ prefix ++ rest) (λ x. text ≡ prefix ++ x.now)
+    → IfSome r (λ x. text ≡ prefix ++ x.now)
 some_behind text prefix None h = tt
 some_behind text prefix (Some x) h = h
 
-pub none_behind : (text prefix : List ℕ) (r : Option (Bor (List ℕ))) → MatchOption r ((rest : List ℕ) → text ≢ prefix ++ rest) (λ x. text ≡ prefix ++ x.now) → IfNone r ((rest : List ℕ) → text ≢ prefix ++ rest)
+pub none_behind : (text prefix : List ℕ) (r : Option (Bor (List ℕ)))
+    → MatchOption r ((rest : List ℕ) → text ≢ prefix ++ rest) (λ x. text ≡ prefix ++ x.now)
+    → IfNone r ((rest : List ℕ) → text ≢ prefix ++ rest)
 none_behind text prefix None h = h
 none_behind text prefix (Some x) h = tt
 
@@ -29,7 +37,8 @@ pub differ : (x y : List ℕ) (b : Bool) → b ≡ not (bytes_eq x y) → b ≡ 
 differ x y b is yes' same = let e = (bytes_eq-Decides x y).1 same in absurd (cc (ap not e))
 
 -- five cuts, one behind the other
-pub joined : (t g t1 w t2 h t3 o t4 r t5 : List ℕ) → IsCut is_blank t g t1 → IsCut is_solid t1 w t2 → IsCut is_blank t2 h t3 → IsCut is_solid t3 o t4 → IsCut is_blank t4 r t5 → IsCuts t g w h o r t5
+pub joined : (t g t1 w t2 h t3 o t4 r t5 : List ℕ) → IsCut is_blank t g t1 → IsCut is_solid t1 w t2
+    → IsCut is_blank t2 h t3 → IsCut is_solid t3 o t4 → IsCut is_blank t4 r t5 → IsCuts t g w h o r t5
 joined t g t1 w t2 h t3 o t4 r t5 c1 c2 c3 c4 c5 =
     let e4 : t3 ≡ o ++ (r ++ t5) = c4.text_is ∙ ap (λ x. o ++ x) c5.text_is in
     let e3 : t2 ≡ h ++ (o ++ (r ++ t5)) = c3.text_is ∙ ap (λ x. h ++ x) e4 in

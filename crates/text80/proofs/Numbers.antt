@@ -10,7 +10,8 @@ use Rattle.std.specs.Str.Parse.{digits_value}
 digit_is : (d : ℕ) → 48 ≤ d → d ≤ 57 → digit_value d ≡ d - 48
 digit_is d low high = grind (arith, nat_tests)
 
-pub digits_more : (text : List ℕ) (i n : ℕ) → i < length text → IsAsciiDigit (get_or text i 0) → n ≡ digits_value 10 (take i text) → n * 10 + (get_or text i 0 - 48) ≡ digits_value 10 (take (i + 1) text)
+pub digits_more : (text : List ℕ) (i n : ℕ) → i < length text → IsAsciiDigit (get_or text i 0)
+    → n ≡ digits_value 10 (take i text) → n * 10 + (get_or text i 0 - 48) ≡ digits_value 10 (take (i + 1) text)
 digits_more text i n below digit value =
     ap (λ m. m * 10 + (get_or text i 0 - 48)) value
     ∙ ap (λ d. digits_value 10 (take i text) * 10 + d) (sym (digit_is (get_or text i 0) digit.0 digit.1))

@@ -1,9 +1,11 @@
 -- Splitting the records behind a CHANGE record into what they give and what they delete.
-use Rattle.std.proofs.Common.{◌≡◌, ◌<◌, ◌≤◌, ◌+◌, ℕ, Bool, true, false, not, List, [], ◌∷◌, ◌++◌, length, take, drop, get_or, sym, ◌∙◌, ap, subst, arith, inl, inr}
+use Rattle.std.proofs.Common.{◌≡◌, ◌<◌, ◌≤◌, ◌+◌, ℕ, Bool, true, false, not, List, [], ◌∷◌, ◌++◌, length, take, drop}
+use Rattle.std.proofs.Common.{get_or, sym, ◌∙◌, ap, subst, arith, inl, inr}
 use Rattle.std.specs.Prelude.{IsTrue, nat_le, ◌&&◌, ◌||◌}
 use Rattle.std.specs.List.{All, list_any}
 use Rattle.std.specs.List.Sorted.{IsPermutation, IsNonDecreasingBy}
-use Rattle.std.proofs.lemmas.Bool.{cases_Bool, both_ways, and_parts, and_from, or_cases, or_left, or_right, leb-true, le-leb}
+use Rattle.std.proofs.lemmas.Bool.{cases_Bool, both_ways, and_parts, and_from, or_cases, or_left, or_right, leb-true}
+use Rattle.std.proofs.lemmas.Bool.{le-leb}
 use Rattle.std.proofs.lemmas.List.{append-nil, take_more, length-take-le, take_all}
 use Rattle.std.proofs.lemmas.List.Elements.{All-push, filter-append}
 use Rattle.std.proofs.lemmas.List.Folds.{list_any-append}
@@ -13,7 +15,8 @@ use Rattle.terms.specs.declared.text_faults.TextCode.{TextCode}
 use Rattle.terms.specs.declared.text_faults.TextCode.TheVariants.{Tx1, Tx5, Tx6}
 use Rattle.terms.specs.declared.text_faults.TextFault.{TextFault}
 use Rattle.terms.specs.Types.{Text, Lines}
-use Rattle.terms.specs.Texts.{IsNumbered, IsNumberedLine, number_of, is_control, IsDelete, IsSomeDelete, given, Deletes, FollowChange, IsChange, IsUpdate, BreaksOrder, HasRestFault, IsFirstFault}
+use Rattle.terms.specs.Texts.{IsNumbered, IsNumberedLine, number_of, is_control, IsDelete, IsSomeDelete, given, Deletes}
+use Rattle.terms.specs.Texts.{FollowChange, IsChange, IsUpdate, BreaksOrder, HasRestFault, IsFirstFault}
 use Rattle.terms.proofs.Controls.{begins_control, same_delete}
 use Rattle.terms.proofs.Updates.{given-control, given-other, deletes-change}
 use Rattle.lemmas.proofs.Each.{any_later, Any-append_left, Any-push_cases}
@@ -36,7 +39,8 @@ pub record IsSplit (seen givens : Lines) (ranges : List Range) (least : ℕ) : T
   pub read : IsRead givens least
   pub ranges_are : AreRangesOf seen ranges
 
-ranges_push : (seen : Lines) (line : List ℕ) (ranges : List Range) (r : Range) → IsDelete r.low r.high line → AreRangesOf seen ranges → AreRangesOf (seen ++ line ∷ []) (ranges ++ r ∷ [])
+ranges_push : (seen : Lines) (line : List ℕ) (ranges : List Range) (r : Range) → IsDelete r.low r.high line
+    → AreRangesOf seen ranges → AreRangesOf (seen ++ line ∷ []) (ranges ++ r ∷ [])
 ranges_push seen line ranges r d h n =
     let parts = list_any-append (holds_number n) ranges (r ∷ []) in (
       λ e. elim (or_cases (covers ranges n) (list_any (holds_number n) (r ∷ [])) (sym parts ∙ e)) [
@@ -56,19 +60,24 @@ ranges_push seen line ranges r d h n =
             let to = hit.4 in
             or_right (covers ranges n) (list_any (holds_number n) (r ∷ []))
             (or_left (holds_number n r) false
-            (and_from (nat_le r.low n) (nat_le n r.high) (le-leb r.low n (omega (arith, same.0, from))) (le-leb n r.high (omega (arith, same.1, to)))))
+            (and_from (nat_le r.low n) (nat_le n r.high) (le-leb r.low n (omega (arith, same.0, from)))
+            (le-leb n r.high (omega (arith, same.1, to)))))
       ],
     )
 
-pub split_control : (seen givens : Lines) (ranges : List Range) (least : ℕ) (line : List ℕ) (r : Range) → IsSplit seen givens ranges least → is_control line ≡ true → IsDelete r.low r.high line → IsSplit (seen ++ line ∷ []) givens (ranges ++ r ∷ []) least
+pub split_control : (seen givens : Lines) (ranges : List Range) (least : ℕ) (line : List ℕ) (r : Range)
+    → IsSplit seen givens ranges least → is_control line ≡ true → IsDelete r.low r.high line
+    → IsSplit (seen ++ line ∷ []) givens (ranges ++ r ∷ []) least
 split_control seen givens ranges least line r h yes' d = record {
   controls = All-push (λ l. IsTrue (is_control l) → IsSomeDelete l) seen line h.controls (λ _. (r.low, r.high, d));
-  given_is = h.given_is ∙ sym (filter-append (λ l. not (is_control l)) seen (line ∷ []) ∙ ap (λ l. given seen ++ l) (given-control line [] yes') ∙ append-nil (given seen));
+  given_is = h.given_is ∙ sym (filter-append (λ l. not (is_control l)) seen (line ∷ [])
+      ∙ ap (λ l. given seen ++ l) (given-control line [] yes') ∙ append-nil (given seen));
   read = h.read;
   ranges_are = ranges_push seen line ranges r d h.ranges_are;
 }
 
-ranges_other : (seen : Lines) (line : List ℕ) (ranges : List Range) → is_control line ≡ false → AreRangesOf seen ranges → AreRangesOf (seen ++ line ∷ []) ranges
+ranges_other : (seen : Lines) (line : List ℕ) (ranges : List Range) → is_control line ≡ false → AreRangesOf seen ranges
+    → AreRangesOf (seen ++ line ∷ []) ranges
 ranges_other seen line ranges no' h n = (
   λ e. Any-append_left (Hits n) seen (line ∷ []) ((h n).0 e),
   λ a. elim (Any-push_cases (Hits n) seen line a) [
@@ -77,29 +86,47 @@ ranges_other seen line ranges no' h n = (
   ],
 )
 
-pub split_given : (seen givens : Lines) (ranges : List Range) (least n : ℕ) (line : List ℕ) → IsSplit seen givens ranges least → is_control line ≡ false → IsNumberedLine line → n ≡ number_of line → least ≤ n → IsSplit (seen ++ line ∷ []) (givens ++ line ∷ []) ranges (n + 1)
+pub split_given : (seen givens : Lines) (ranges : List Range) (least n : ℕ) (line : List ℕ)
+    → IsSplit seen givens ranges least → is_control line ≡ false → IsNumberedLine line → n ≡ number_of line → least ≤ n
+    → IsSplit (seen ++ line ∷ []) (givens ++ line ∷ []) ranges (n + 1)
 split_given seen givens ranges least n line h no' numbered is from = record {
-  controls = All-push (λ l. IsTrue (is_control l) → IsSomeDelete l) seen line h.controls (λ e. absurd (both_ways (is_control line) no' e));
-  given_is = ap (λ l. l ++ line ∷ []) h.given_is ∙ sym (filter-append (λ l. not (is_control l)) seen (line ∷ []) ∙ ap (λ l. given seen ++ l) (given-other line [] no'));
-  read = subst (λ m. IsRead (givens ++ line ∷ []) (m + 1)) (sym is) (read_more givens least line h.read numbered (subst (λ m. least ≤ m) is from));
+  controls = All-push (λ l. IsTrue (is_control l) → IsSomeDelete l) seen line h.controls
+      (λ e. absurd (both_ways (is_control line) no' e));
+  given_is = ap (λ l. l ++ line ∷ []) h.given_is ∙ sym (filter-append (λ l. not (is_control l)) seen (line ∷ [])
+      ∙ ap (λ l. given seen ++ l) (given-other line [] no'));
+  read = subst (λ m. IsRead (givens ++ line ∷ []) (m + 1)) (sym is)
+      (read_more givens least line h.read numbered (subst (λ m. least ≤ m) is from));
   ranges_are = ranges_other seen line ranges no' h.ranges_are;
 }
 
 -- one more record of a list, at its place
 
-pub split_control_at : (lines givens : Lines) (ranges new : List Range) (least i : ℕ) (line : List ℕ) (r : Range) → i < length lines → line ≡ get_or lines i line → IsSplit (take i lines) givens ranges least → is_control line ≡ true → IsDelete r.low r.high line → new ≡ ranges ++ r ∷ [] → IsSplit (take (i + 1) lines) givens new least
+pub split_control_at : (lines givens : Lines) (ranges new : List Range) (least i : ℕ) (line : List ℕ) (r : Range)
+    → i < length lines → line ≡ get_or lines i line → IsSplit (take i lines) givens ranges least
+    → is_control line ≡ true → IsDelete r.low r.high line → new ≡ ranges ++ r ∷ []
+    → IsSplit (take (i + 1) lines) givens new least
 split_control_at lines givens ranges new least i line r below at h yes' d e =
     rw (take_more lines i line below, ← at, e) (split_control (take i lines) givens ranges least line r h yes' d)
 
-pub split_given_at : (lines givens new : Lines) (ranges : List Range) (least i n : ℕ) (line : List ℕ) → i < length lines → line ≡ get_or lines i line → IsSplit (take i lines) givens ranges least → is_control line ≡ false → IsNumberedLine line → n ≡ number_of line → least ≤ n → new ≡ givens ++ line ∷ [] → IsSplit (take (i + 1) lines) new ranges (n + 1)
+pub split_given_at : (lines givens new : Lines) (ranges : List Range) (least i n : ℕ) (line : List ℕ) → i < length lines
+    → line ≡ get_or lines i line → IsSplit (take i lines) givens ranges least → is_control line ≡ false
+    → IsNumberedLine line → n ≡ number_of line → least ≤ n → new ≡ givens ++ line ∷ []
+    → IsSplit (take (i + 1) lines) new ranges (n + 1)
 split_given_at lines givens new ranges least i n line below at h no' numbered is from e =
-    rw (take_more lines i line below, ← at, e) (split_given (take i lines) givens ranges least n line h no' numbered is from)
+    rw (take_more lines i line below, ← at, e) (split_given (take i lines) givens ranges least n line h no' numbered is
+    from)
 
-pub follow : (lines givens : Lines) (ranges : List Range) (least : ℕ) → IsSplit lines givens ranges least → FollowChange lines
-follow lines givens ranges least h = record { controls = h.controls; numbered = subst IsNumbered h.given_is h.read.numbered }
+pub follow : (lines givens : Lines) (ranges : List Range) (least : ℕ) → IsSplit lines givens ranges least
+    → FollowChange lines
+follow lines givens ranges least h = record {
+  controls = h.controls;
+  numbered = subst IsNumbered h.given_is h.read.numbered;
+}
 
 -- all records are split, and the ranges sorted
-pub parts_from : (lines givens : Lines) (ranges sorted : List Range) (least i : ℕ) → IsSplit (take i lines) givens ranges least → length lines ≤ i → IsPermutation ranges sorted → IsNonDecreasingBy (λ r. r.low) sorted → AreParts lines givens sorted
+pub parts_from : (lines givens : Lines) (ranges sorted : List Range) (least i : ℕ)
+    → IsSplit (take i lines) givens ranges least → length lines ≤ i → IsPermutation ranges sorted
+    → IsNonDecreasingBy (λ r. r.low) sorted → AreParts lines givens sorted
 parts_from lines givens ranges sorted least i h all moved rising =
     let whole = subst (λ l. IsSplit l givens ranges least) (take_all i lines all) h in
     record {
@@ -111,15 +138,20 @@ parts_from lines givens ranges sorted least i h all moved rising =
           (λ e. (whole.ranges_are n).0 (same ∙ e), λ a. sym same ∙ (whole.ranges_are n).1 a);
     }
 
-rest_code : (seen givens : Lines) (ranges : List Range) (least : ℕ) (line : List ℕ) (code : TextCode) → IsSplit seen givens ranges least → is_control line ≡ false → IsNumberFault line least Tx6 code → HasRestFault seen line code
+rest_code : (seen givens : Lines) (ranges : List Range) (least : ℕ) (line : List ℕ) (code : TextCode)
+    → IsSplit seen givens ranges least → is_control line ≡ false → IsNumberFault line least Tx6 code
+    → HasRestFault seen line code
 rest_code seen givens ranges least line code h no' f =
     let other : IsTrue (is_control line) → ⊥ = λ e. both_ways (is_control line) no' e in
     elim f [
       | inl none ↦ subst (HasRestFault seen line) (sym none.0) (other, none.1)
-      | inr low ↦ subst (HasRestFault seen line) (sym low.0) (other, subst (λ g. BreaksOrder g line) h.given_is (breaks givens least line h.read low.1 low.2))
+      | inr low ↦ subst (HasRestFault seen line) (sym low.0)
+          (other, subst (λ g. BreaksOrder g line) h.given_is (breaks givens least line h.read low.1 low.2))
     ]
 
-first_fault : (lines givens : Lines) (ranges : List Range) (least i : ℕ) (line : List ℕ) (fault : TextFault) → i < length lines → line ≡ get_or lines i line → IsSplit (take i lines) givens ranges least → fault.number ≡ i + 2 → HasRestFault (take i lines) line fault.code → IsFirstFault FollowChange HasRestFault 1 lines fault
+first_fault : (lines givens : Lines) (ranges : List Range) (least i : ℕ) (line : List ℕ) (fault : TextFault)
+    → i < length lines → line ≡ get_or lines i line → IsSplit (take i lines) givens ranges least → fault.number ≡ i + 2
+    → HasRestFault (take i lines) line fault.code → IsFirstFault FollowChange HasRestFault 1 lines fault
 first_fault lines givens ranges least i line fault below at h number code = record {
   before = take i lines;
   line = line;
@@ -131,25 +163,36 @@ first_fault lines givens ranges least i line fault below at h number code = reco
 }
 
 -- a `./` record that is no DELETE record
-pub control_fault : (lines givens : Lines) (ranges : List Range) (least i : ℕ) (line : List ℕ) (fault : TextFault) → i < length lines → line ≡ get_or lines i line → IsSplit (take i lines) givens ranges least → fault.number ≡ i + 2 → fault.code ≡ Tx5 → is_control line ≡ true → (IsSomeDelete line → ⊥) → IsFirstFault FollowChange HasRestFault 1 lines fault
+pub control_fault : (lines givens : Lines) (ranges : List Range) (least i : ℕ) (line : List ℕ) (fault : TextFault)
+    → i < length lines → line ≡ get_or lines i line → IsSplit (take i lines) givens ranges least → fault.number ≡ i + 2
+    → fault.code ≡ Tx5 → is_control line ≡ true → (IsSomeDelete line → ⊥)
+    → IsFirstFault FollowChange HasRestFault 1 lines fault
 control_fault lines givens ranges least i line fault below at h number code yes' none =
-    first_fault lines givens ranges least i line fault below at h number (subst (HasRestFault (take i lines) line) (sym code) (yes', none))
+    first_fault lines givens ranges least i line fault below at h number
+    (subst (HasRestFault (take i lines) line) (sym code) (yes', none))
 
 -- a record without a number that rises
-pub number_fault : (lines givens : Lines) (ranges : List Range) (least i : ℕ) (line : List ℕ) (fault : TextFault) → i < length lines → line ≡ get_or lines i line → IsSplit (take i lines) givens ranges least → fault.number ≡ i + 2 → is_control line ≡ false → IsNumberFault line least Tx6 fault.code → IsFirstFault FollowChange HasRestFault 1 lines fault
+pub number_fault : (lines givens : Lines) (ranges : List Range) (least i : ℕ) (line : List ℕ) (fault : TextFault)
+    → i < length lines → line ≡ get_or lines i line → IsSplit (take i lines) givens ranges least → fault.number ≡ i + 2
+    → is_control line ≡ false → IsNumberFault line least Tx6 fault.code
+    → IsFirstFault FollowChange HasRestFault 1 lines fault
 number_fault lines givens ranges least i line fault below at h number no' f =
-    first_fault lines givens ranges least i line fault below at h number (rest_code (take i lines) givens ranges least line fault.code h no' f)
+    first_fault lines givens ranges least i line fault below at h number
+    (rest_code (take i lines) givens ranges least line fault.code h no' f)
 
 -- a CHANGE record before good records
 
-pub update_from : (name : Text) (records rest givens : Lines) (ranges : List Range) → StandsBefore name records rest → AreParts rest givens ranges → IsUpdate name records
+pub update_from : (name : Text) (records rest givens : Lines) (ranges : List Range) → StandsBefore name records rest
+    → AreParts rest givens ranges → IsUpdate name records
 update_from name records rest givens ranges s p = subst (IsUpdate name) (sym s.records_are) (s.change, p.follow)
 
-pub sound_from : (name : Text) (records rest givens : Lines) (ranges : List Range) → StandsBefore name records rest → AreParts rest givens ranges → IsSound records givens ranges
+pub sound_from : (name : Text) (records rest givens : Lines) (ranges : List Range) → StandsBefore name records rest
+    → AreParts rest givens ranges → IsSound records givens ranges
 sound_from name records rest givens ranges s p = record {
   name = name;
   update = update_from name records rest givens ranges s p;
-  given_is = p.given_is ∙ sym (given-control s.first rest (begins_control _ _ s.first s.change)) ∙ ap given (sym s.records_are);
+  given_is = p.given_is ∙ sym (given-control s.first rest (begins_control _ _ s.first s.change))
+      ∙ ap given (sym s.records_are);
   rising = p.rising;
   ranges_are = λ n. (
     λ e. subst (λ r. Deletes r n) (sym s.records_are) (any_later (Hits n) s.first rest ((p.ranges_are n).0 e)),

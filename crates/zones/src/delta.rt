@@ -31,7 +31,8 @@ impl Model for ZoneDelta {
 
     ghost view = { λ d. record { entries = d.entries; elements = d.elements } };
 
-    ghost invariant = { λ d. All (λ e. IfSome (edit_put e) (λ x. IsTrue (is_held x))) d.entries × All (λ e. IfSome (edit_put e) (λ x. IsTrue (waives_applied x))) d.entries };
+    ghost invariant = { λ d. All (λ e. IfSome (edit_put e) (λ x. IsTrue (is_held x))) d.entries
+        × All (λ e. IfSome (edit_put e) (λ x. IsTrue (waives_applied x))) d.entries };
 }
 
 impl ZoneDelta {

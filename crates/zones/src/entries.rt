@@ -93,7 +93,16 @@ impl Model for Element {
 
     ghost Value = { ElementEntry };
 
-    ghost view = { λ e. record { elem_type = e.elem_type; name = e.name; fmid = e.fmid; rmid = e.rmid; umids = e.umids; distlib = e.distlib; syslib = e.syslib; text = e.text.items } };
+    ghost view = { λ e. record {
+      elem_type = e.elem_type;
+      name = e.name;
+      fmid = e.fmid;
+      rmid = e.rmid;
+      umids = e.umids;
+      distlib = e.distlib;
+      syslib = e.syslib;
+      text = e.text.items;
+    } };
 }
 
 impl Keyed for Element {

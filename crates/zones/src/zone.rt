@@ -2,7 +2,8 @@
 ghost use Rattle.std.specs.Prelude.{◌≡◌, ◌==◌, ◌↔◌, [], All, IsTrue, IsSome, IfSome, IfOk, is_some, option_copied};
 ghost use Rattle.terms.specs.Delta.{IsChanged};
 ghost use Rattle.terms.specs.Types.{zone_number, a_zone};
-ghost use Rattle.terms.specs.Lookups.{IsRising, IsZone, entry_of, element_of, is_applied, is_supplied, is_held, waives_applied};
+ghost use Rattle.terms.specs.Lookups.{IsRising, IsZone, entry_of, element_of, is_applied, is_supplied, is_held};
+ghost use Rattle.terms.specs.Lookups.{waives_applied};
 
 use crate::delta::ZoneDelta;
 use crate::entries::{Element, Entry};
@@ -29,9 +30,16 @@ impl Model for Zone {
 
     ghost Value = { AZone };
 
-    ghost view = { λ z. record { kind = z.kind; srel = z.srel; related = z.related; entries = z.entries; elements = z.elements } };
+    ghost view = { λ z. record {
+      kind = z.kind;
+      srel = z.srel;
+      related = z.related;
+      entries = z.entries;
+      elements = z.elements;
+    } };
 
-    ghost invariant = { λ z. All (λ e. IsTrue (is_held e)) z.entries × All (λ e. IsTrue (waives_applied e)) z.entries × (is_some z.related ≡ (zone_number z.kind == 0)) };
+    ghost invariant = { λ z. All (λ e. IsTrue (is_held e)) z.entries × All (λ e. IsTrue (waives_applied e)) z.entries
+        × (is_some z.related ≡ (zone_number z.kind == 0)) };
 }
 
 impl Zone {

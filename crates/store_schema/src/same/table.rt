@@ -38,7 +38,8 @@ fn same_rules(a: &Table, b: &Table) -> bool
 }
 
 fn same_heading(a: &Table, b: &Table) -> bool
-    ensures same { IsTrue result → (a.now.name ≡ b.now.name) × (a.now.tree ≡ b.now.tree) × (a.now.columns ≡ b.now.columns) × (a.now.is_counted ≡ b.now.is_counted) }
+    ensures same { IsTrue result → (a.now.name ≡ b.now.name) × (a.now.tree ≡ b.now.tree)
+        × (a.now.columns ≡ b.now.columns) × (a.now.is_counted ≡ b.now.is_counted) }
     ensures found { AllByRecursion HasNoDefault a.now.columns → a.now ≡ b.now → IsTrue result }
 {
     same_name(&a.name, &b.name)
@@ -48,7 +49,8 @@ fn same_heading(a: &Table, b: &Table) -> bool
 }
 
 fn same_uniques(a: &Table, b: &Table) -> bool
-    ensures { IsTrue result ↔ (a.now.key ≡ b.now.key) × (a.now.primary ≡ b.now.primary) × (a.now.uniques ≡ b.now.uniques) × (a.now.orders ≡ b.now.orders) }
+    ensures { IsTrue result ↔ (a.now.key ≡ b.now.key) × (a.now.primary ≡ b.now.primary)
+        × (a.now.uniques ≡ b.now.uniques) × (a.now.orders ≡ b.now.orders) }
 {
     same_rowid(&a.key, &b.key)
         && same_places(&a.primary, &b.primary)

@@ -10,4 +10,5 @@ loop-id-preserved c =
     c.in_ok-put_sysmod.ensures
     ∙ ap (λ d. after_sysmod g date d c.id-item.result) c.loop-id.invariant
     ∙ ap (after_sysmod g date _) c.id-item.is
-    ∙ sym (fold_more (after_sysmod g date) no_edits c.args.ids.now c.loop-id.id-index c.id-item.result c.loop-id-test.true)
+    ∙ sym (fold_more (after_sysmod g date) no_edits c.args.ids.now c.loop-id.id-index c.id-item.result
+    c.loop-id-test.true)

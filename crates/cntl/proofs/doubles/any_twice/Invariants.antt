@@ -6,4 +6,5 @@ use Rattle.operands.specs.Left.{LeavesPieces}
 use Rattle.cntl.proofs.doubles.any_twice.Given as goal
 
 abbrev pub invariant-loop-name : goal.invariant-loop-name
-invariant-loop-name l = (pieces : List Piece) → LeavesPieces l.words pieces → All (λ name. is_often 2 pieces name.now ≡ false) (take l.name-index l.names)
+invariant-loop-name l = (pieces : List Piece) → LeavesPieces l.words pieces
+    → All (λ name. is_often 2 pieces name.now ≡ false) (take l.name-index l.names)

@@ -7,7 +7,8 @@ use Rattle.operands.specs.Left.{LeavesPieces}
 use Rattle.cntl.proofs.doubles.behind_word.Given as goal
 
 abbrev pub invariant-loop-piece : goal.invariant-loop-piece
-invariant-loop-piece l = (pieces : List Piece) → LeavesPieces l.words pieces → (rest : List Piece) × LeavesPieces l.left rest × (count l.name (words_in pieces) ≡ count l.name (words_in rest))
+invariant-loop-piece l = (pieces : List Piece) → LeavesPieces l.words pieces
+    → (rest : List Piece) × LeavesPieces l.left rest × (count l.name (words_in pieces) ≡ count l.name (words_in rest))
 
 abbrev pub decreases-loop-piece : goal.decreases-loop-piece
 decreases-loop-piece l = length (left_of l.left)

@@ -7,5 +7,6 @@ use Rattle.cntl.proofs.doubles.is_twice.Goals as goal
 pub returns : goal.returns
 returns c = λ pieces h.
     let t = c.in-Some.ensures.found pieces h in
-    c.is_some.ensures ∙ there_is c.behind_word-2.result (left_of c.in-Some.after) c.args.name.now c.behind_word-2.ensures.found c.behind_word-2.ensures.none t.0 t.1
+    c.is_some.ensures ∙ there_is c.behind_word-2.result (left_of c.in-Some.after) c.args.name.now
+    c.behind_word-2.ensures.found c.behind_word-2.ensures.none t.0 t.1
     ∙ again pieces t.0 c.args.name.now t.2

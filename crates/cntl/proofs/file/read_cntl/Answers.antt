@@ -7,4 +7,5 @@ pub returns-clause-good : goal.returns-clause-good
 returns-clause-good c = good_file c.args.bytes.now c.read_all.result c.read_all.ensures.fault
 
 pub returns-clause-faulty : goal.returns-clause-faulty
-returns-clause-faulty c = faulty_file c.args.bytes.now c.read_all.result (λ read. map command_of read.items) c.read_all.ensures.commands
+returns-clause-faulty c = faulty_file c.args.bytes.now c.read_all.result (λ read. map command_of read.items)
+    c.read_all.ensures.commands

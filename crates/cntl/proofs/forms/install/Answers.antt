@@ -6,7 +6,12 @@ use Rattle.cntl.proofs.forms.install.Goals as goal
 pub returns-in_err-selection-clause-bad : goal.returns-in_err-selection-clause-bad
 returns-in_err-selection-clause-bad c = λ ws l.
     let p = err_from_is_err_and c.from_residual-in_err-selection.result c.from_residual-in_err-selection.ensures.1 in
-    rw (p.1, p.2) (excludes_more c.in_err-selection.field-0.0 _ _ (λ i. (i.0.selection, i.1.selection)) (c.in_err-selection.ensures.bad ws l))
+    rw (p.1, p.2) (excludes_more c.in_err-selection.field-0.0 _ _ (λ i. (i.0.selection, i.1.selection))
+    (c.in_err-selection.ensures.bad ws l))
 
 pub returns-clause-ok : goal.returns-clause-ok
-returns-clause-ok c = λ ws l. record { selection = c.in_ok-selection.ensures.ok ws l; bypass = refl; check = c.in_ok-check.ensures.ok ws l }
+returns-clause-ok c = λ ws l. record {
+  selection = c.in_ok-selection.ensures.ok ws l;
+  bypass = refl;
+  check = c.in_ok-check.ensures.ok ws l;
+}

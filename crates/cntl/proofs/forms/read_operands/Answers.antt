@@ -7,10 +7,16 @@ use Rattle.cntl.proofs.forms.read_operands.Goals as goal
 
 pub returns-in_err-some_ids-in-Reject-clause-bad : goal.returns-in_err-some_ids-in-Reject-clause-bad
 returns-in_err-some_ids-in-Reject-clause-bad c = λ ws l.
-    let p = err_from_is_err_and c.from_residual-in_err-some_ids-in-Reject.result c.from_residual-in_err-some_ids-in-Reject.ensures.1 in
-    rw (p.1, p.2) (excludes_more c.in_err-some_ids-in-Reject.field-0.0 _ _ (λ x. of_reject ws x.0 (x.1.0 ∙ ap command_word_of c.in-Reject.is) x.1.1) (c.in_err-some_ids-in-Reject.ensures.bad ws l))
+    let p = err_from_is_err_and c.from_residual-in_err-some_ids-in-Reject.result
+    c.from_residual-in_err-some_ids-in-Reject.ensures.1 in
+    rw (p.1, p.2) (excludes_more c.in_err-some_ids-in-Reject.field-0.0 _ _
+    (λ x. of_reject ws x.0 (x.1.0 ∙ ap command_word_of c.in-Reject.is) x.1.1)
+    (c.in_err-some_ids-in-Reject.ensures.bad ws l))
 
 pub returns-in_err-install-in-Apply-clause-bad : goal.returns-in_err-install-in-Apply-clause-bad
 returns-in_err-install-in-Apply-clause-bad c = λ ws l.
-    let p = err_from_is_err_and c.from_residual-in_err-install-in-Apply.result c.from_residual-in_err-install-in-Apply.ensures.1 in
-    rw (p.1, p.2) (excludes_more c.in_err-install-in-Apply.field-0.0 _ _ (λ x. of_apply ws x.0 (x.1.0 ∙ ap command_word_of c.in-Apply.is) x.1.1) (c.in_err-install-in-Apply.ensures.bad ws l))
+    let p = err_from_is_err_and c.from_residual-in_err-install-in-Apply.result
+    c.from_residual-in_err-install-in-Apply.ensures.1 in
+    rw (p.1, p.2) (excludes_more c.in_err-install-in-Apply.field-0.0 _ _
+    (λ x. of_apply ws x.0 (x.1.0 ∙ ap command_word_of c.in-Apply.is) x.1.1)
+    (c.in_err-install-in-Apply.ensures.bad ws l))

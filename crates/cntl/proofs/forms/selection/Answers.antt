@@ -9,33 +9,39 @@ returns-in_err-functions-clause-bad c = λ ws l.
 
 pub returns-in_err-groupextend-clause-bad : goal.returns-in_err-groupextend-clause-bad
 returns-in_err-groupextend-clause-bad c = λ ws l.
-    let p = err_from_is_err_and c.from_residual-in_err-groupextend.result c.from_residual-in_err-groupextend.ensures.1 in
+    let p = err_from_is_err_and c.from_residual-in_err-groupextend.result c.from_residual-in_err-groupextend.ensures.1
+    in
     rw (p.1, p.2) (λ s. c.in_err-groupextend.ensures.bad ws l s.0.groupextend s.1.groupextend)
 
 pub returns-in_err-select-clause-bad : goal.returns-in_err-select-clause-bad
 returns-in_err-select-clause-bad c = λ ws l.
     let p = err_from_is_err_and c.from_residual-in_err-select.result c.from_residual-in_err-select.ensures.1 in
-    rw (p.1, p.2) (excludes_more c.in_err-select.field-0.0 _ _ (λ s. (s.0.select, s.1.select)) (c.in_err-select.ensures.bad ws l))
+    rw (p.1, p.2) (excludes_more c.in_err-select.field-0.0 _ _ (λ s. (s.0.select, s.1.select))
+    (c.in_err-select.ensures.bad ws l))
 
 pub returns-in_err-exclude-clause-bad : goal.returns-in_err-exclude-clause-bad
 returns-in_err-exclude-clause-bad c = λ ws l.
     let p = err_from_is_err_and c.from_residual-in_err-exclude.result c.from_residual-in_err-exclude.ensures.1 in
-    rw (p.1, p.2) (excludes_more c.in_err-exclude.field-0.0 _ _ (λ s. (s.0.exclude, s.1.exclude)) (c.in_err-exclude.ensures.bad ws l))
+    rw (p.1, p.2) (excludes_more c.in_err-exclude.field-0.0 _ _ (λ s. (s.0.exclude, s.1.exclude))
+    (c.in_err-exclude.ensures.bad ws l))
 
 pub returns-in_err-sourceid-clause-bad : goal.returns-in_err-sourceid-clause-bad
 returns-in_err-sourceid-clause-bad c = λ ws l.
     let p = err_from_is_err_and c.from_residual-in_err-sourceid.result c.from_residual-in_err-sourceid.ensures.1 in
-    rw (p.1, p.2) (excludes_more c.in_err-sourceid.field-0.0 _ _ (λ s. (s.0.sourceid, s.1.sourceid)) (c.in_err-sourceid.ensures.bad ws l))
+    rw (p.1, p.2) (excludes_more c.in_err-sourceid.field-0.0 _ _ (λ s. (s.0.sourceid, s.1.sourceid))
+    (c.in_err-sourceid.ensures.bad ws l))
 
 pub returns-in_err-forfmid-clause-bad : goal.returns-in_err-forfmid-clause-bad
 returns-in_err-forfmid-clause-bad c = λ ws l.
     let p = err_from_is_err_and c.from_residual-in_err-forfmid.result c.from_residual-in_err-forfmid.ensures.1 in
-    rw (p.1, p.2) (excludes_more c.in_err-forfmid.field-0.0 _ _ (λ s. (s.0.forfmid, s.1.forfmid)) (c.in_err-forfmid.ensures.bad ws l))
+    rw (p.1, p.2) (excludes_more c.in_err-forfmid.field-0.0 _ _ (λ s. (s.0.forfmid, s.1.forfmid))
+    (c.in_err-forfmid.ensures.bad ws l))
 
 pub returns-in_err-group-clause-bad : goal.returns-in_err-group-clause-bad
 returns-in_err-group-clause-bad c = λ ws l.
     let p = err_from_is_err_and c.from_residual-in_err-group.result c.from_residual-in_err-group.ensures.1 in
-    rw (p.1, p.2) (excludes_more c.in_err-group.field-0.0 _ _ (λ s. (s.0.group, s.1.group)) (c.in_err-group.ensures.bad ws l))
+    rw (p.1, p.2) (excludes_more c.in_err-group.field-0.0 _ _ (λ s. (s.0.group, s.1.group))
+    (c.in_err-group.ensures.bad ws l))
 
 pub returns-clause-ok : goal.returns-clause-ok
 returns-clause-ok c = λ ws l. record {

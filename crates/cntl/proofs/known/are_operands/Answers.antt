@@ -24,7 +24,10 @@ returns-then-not-is_operand-clause-unknown c = λ _ ws l k.
     let word = rw c.in-Some.is at c.in-Ok.ensures.word in
     let t = word i.1.0 i.1.1 in
     let f = words_first i.1.0 (word_of c.in-Some.next) t.0 i.0 t.1 i.1.2 in
-    let first = All-head (λ w. IsTrue (is_in (operands_of (command_word_of c.args.word)) w.word)) (word_of c.in-Some.next) f.0 (All-same (λ w. IsTrue (is_in (operands_of (command_word_of c.args.word)) w.word)) (word_of c.in-Some.next ∷ f.0) i.0 (sym f.1) i.2) in
+    let first = All-head (λ w. IsTrue (is_in (operands_of (command_word_of c.args.word)) w.word))
+    (word_of c.in-Some.next) f.0 (All-same (λ w. IsTrue
+    (is_in (operands_of (command_word_of c.args.word)) w.word)) (word_of c.in-Some.next ∷ f.0) i.0 (sym f.1)
+    i.2) in
     true≢false (sym first ∙ sym c.is_operand.ensures ∙ c.if-not-is_operand.true)
 
 pub loop-found-preserved : goal.loop-found-preserved
@@ -35,8 +38,13 @@ loop-found-preserved c =
     record {
       known = λ pieces h.
           let i = c.loop-found.invariant.known pieces h in
-          let t = word i.1 i.2 in
-          (i.0 ++ w ∷ [], t.0, t.2, taken_more pieces i.0 i.1 t.0 w i.3 t.1, All-push K i.0 w i.4 (sym c.is_operand.ensures ∙ c.if-not-is_operand.false));
+          let t = word i.1 i.2 in (
+            i.0 ++ w ∷ [],
+            t.0,
+            t.2,
+            taken_more pieces i.0 i.1 t.0 w i.3 t.1,
+            All-push K i.0 w i.4 (sym c.is_operand.ensures ∙ c.if-not-is_operand.false),
+          );
       only = λ ws l k.
           let i = c.loop-found.invariant.only ws l k in
           let t = word i.1.0 i.1.1 in

@@ -10,8 +10,11 @@ use Rattle.cntl.proofs.known.are_operands.Given as goal
 
 abbrev pub invariant-loop-found : goal.invariant-loop-found
 invariant-loop-found l = record {
-  known : (pieces : List Piece) → LeavesPieces l.words pieces → (before : List Word) × (rest : List Piece) × LeavesPieces l.left rest × (pieces ≡ flat_map word_pieces before ++ rest) × AreKnown (command_word_of l.word) before;
-  only : (ws : List Word) → LeavesWords l.words ws → AreKnown (command_word_of l.word) ws → (more : List Word) × LeavesWords l.left more × AreKnown (command_word_of l.word) more;
+  known : (pieces : List Piece) → LeavesPieces l.words pieces
+      → (before : List Word) × (rest : List Piece) × LeavesPieces l.left rest
+      × (pieces ≡ flat_map word_pieces before ++ rest) × AreKnown (command_word_of l.word) before;
+  only : (ws : List Word) → LeavesWords l.words ws → AreKnown (command_word_of l.word) ws
+      → (more : List Word) × LeavesWords l.left more × AreKnown (command_word_of l.word) more;
 }
 
 abbrev pub decreases-loop-found : goal.decreases-loop-found

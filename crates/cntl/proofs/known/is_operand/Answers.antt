@@ -6,4 +6,5 @@ use Rattle.cntl.proofs.known.is_operand.Goals as goal
 
 pub returns : goal.returns
 returns c =
-    c.is_among.ensures ∙ sym (list_any-map (bytes_eq c.args.text.now) (λ name. name.now) c.operands_of.result.now) ∙ ap (list_any (bytes_eq c.args.text.now)) c.operands_of.ensures
+    c.is_among.ensures ∙ sym (list_any-map (bytes_eq c.args.text.now) (λ name. name.now) c.operands_of.result.now)
+    ∙ ap (list_any (bytes_eq c.args.text.now)) c.operands_of.ensures

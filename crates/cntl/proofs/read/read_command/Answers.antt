@@ -40,4 +40,6 @@ pub returns-in-Ok-clause-command : goal.returns-in-Ok-clause-command
 returns-in-Ok-clause-command c = λ pieces h.
     let t = c.in-Some.ensures.word pieces h in
     let k = c.are_operands.ensures.known c.if-not-are_operands.false t.0 t.2 in
-    is_command pieces (command_word_of c.in-Some.word) t.0 k.0 (command_of c.in-Ok.command) t.1 k.1 k.2 (sym (c.has_double.ensures t.0 t.2) ∙ c.if-has_double.false) c.in-Ok.ensures.word (c.in-Ok.ensures.ok k.0 (t.0, t.2, k.1))
+    is_command pieces (command_word_of c.in-Some.word) t.0 k.0 (command_of c.in-Ok.command) t.1 k.1 k.2
+    (sym (c.has_double.ensures t.0 t.2) ∙ c.if-has_double.false) c.in-Ok.ensures.word
+    (c.in-Ok.ensures.ok k.0 (t.0, t.2, k.1))

@@ -6,4 +6,10 @@ use Rattle.cntl.proofs.values.short_list.Goals as goal
 
 pub returns-then-len-gt-MOST-clause-bad : goal.returns-then-len-gt-MOST-clause-bad
 returns-then-len-gt-MOST-clause-bad g c =
-    too_long g.T.Member.form (word_of c.args.word.now) (map g.T.Member.text c.in_ok-list.list) c.in_ok-list.ensures.sorted (omega (arith, length-map c.in_ok-list.list g.T.Member.text, c.len.ensures, c.if-len-gt-MOST.true))
+    too_long g.T.Member.form (word_of c.args.word.now) (map g.T.Member.text c.in_ok-list.list)
+    c.in_ok-list.ensures.sorted (omega (
+      arith,
+      length-map c.in_ok-list.list g.T.Member.text,
+      c.len.ensures,
+      c.if-len-gt-MOST.true,
+    ))

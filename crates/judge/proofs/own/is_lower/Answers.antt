@@ -16,6 +16,8 @@ pub returns : goal.returns
 returns c =
     rw (← c.element.view_is)
     (IfOk-weaker c.is_not_over_one.result _
-    (λ lower. IsTrue lower ↔ Any (λ z. ¬ IsOver (choice c.args.vers.now) c.args.id z) (c.element.inside.rmid ∷ c.element.inside.umids))
-    (λ lower h. lower-rest (choice c.args.vers.now) c.args.id c.element.inside.rmid c.element.inside.umids lower (c.in_ok-over.ensures.0 search) h)
+    (λ lower. IsTrue lower ↔ Any (λ z. ¬ IsOver (choice c.args.vers.now) c.args.id z)
+    (c.element.inside.rmid ∷ c.element.inside.umids))
+    (λ lower h. lower-rest (choice c.args.vers.now) c.args.id c.element.inside.rmid c.element.inside.umids lower
+    (c.in_ok-over.ensures.0 search) h)
     (rw c.as_slice.ensures.items at c.is_not_over_one.ensures))

@@ -6,11 +6,16 @@ use Rattle.judge.proofs.own.is_not_over_one.Goals as goal
 
 pub loop-other-preserved : goal.loop-other-preserved
 loop-other-preserved c =
-    all-next (λ z. IsOver (choice c.args.vers.now) c.args.id z) c.args.others.now c.loop-other.other-index c.other-item.result
+    all-next (λ z. IsOver (choice c.args.vers.now) c.args.id z) c.args.others.now c.loop-other.other-index
+    c.other-item.result
     (omega arith) c.other-item.is (c.in_ok-over.ensures.0 search) c.loop-other.invariant
 
 pub returns : goal.returns
 returns c =
     let whole : length c.args.others.now ≤ c.loop-other.other-index = omega arith in
-    let all = all-through (λ z. IsOver (choice c.args.vers.now) c.args.id z) c.args.others.now c.loop-other.other-index whole c.loop-other.invariant in
-    (λ no. absurd (true≢false (sym no)), λ any. absurd (any.4 (subst (IsOver (choice c.args.vers.now) c.args.id) any.3 (all any.0 any.1 any.2))))
+    let all = all-through (λ z. IsOver (choice c.args.vers.now) c.args.id z) c.args.others.now c.loop-other.other-index
+    whole c.loop-other.invariant in (
+      λ no. absurd (true≢false (sym no)),
+      λ any. absurd (any.4
+          (subst (IsOver (choice c.args.vers.now) c.args.id) any.3 (all any.0 any.1 any.2))),
+    )

@@ -7,13 +7,17 @@ use Rattle.judge.proofs.sharing.claims_of.Goals as goal
 
 pub loop-i-preserved : goal.loop-i-preserved
 loop-i-preserved c =
-    claims-next c.args.global.now c.args.ids.now c.args.faults.now c.loop-i.i c.index-ids-i.result c.own_at-own.result c.loop-i.claims.items _
-    (slice_get_read c.args.ids.now (length c.args.ids.now) c.loop-i.i c.index-ids-i.result refl (omega arith) c.index-ids-i.is)
+    claims-next c.args.global.now c.args.ids.now c.args.faults.now c.loop-i.i c.index-ids-i.result c.own_at-own.result
+    c.loop-i.claims.items _
+    (slice_get_read c.args.ids.now (length c.args.ids.now) c.loop-i.i c.index-ids-i.result refl (omega arith)
+    c.index-ids-i.is)
     c.own_at-own.ensures
-    (c.in_ok-add_if_passing.ensures ∙ ap (λ l. c.loop-i.claims.items ++ cond (passes c.own_at-own.result) (map (λ h. a_claim (change_key h) c.loop-i.i) l) []) c.changes_of.ensures)
+    (c.in_ok-add_if_passing.ensures ∙ ap (λ l. c.loop-i.claims.items
+    ++ cond (passes c.own_at-own.result) (map (λ h. a_claim (change_key h) c.loop-i.i) l) []) c.changes_of.ensures)
     c.loop-i.invariant
 
 pub returns : goal.returns
 returns c =
     let done : c.loop-i.i ≡ length c.args.ids.now = omega arith in
-    subst (λ n. AreClaims c.args.global.now c.args.ids.now c.args.faults.now n c.loop-i.claims.items) done c.loop-i.invariant
+    subst (λ n. AreClaims c.args.global.now c.args.ids.now c.args.faults.now n c.loop-i.claims.items) done
+    c.loop-i.invariant

@@ -10,7 +10,8 @@ returns c =
     let g = c.args.global.now in
     let ids = c.args.ids.now in
     let faults = c.args.faults.now in
-    IfOk-weaker c.shared_among.result _ (λ shared. (n : ℕ) → Contains shared.keys n ↔ IsSharedAt g ids faults (length ids) n)
+    IfOk-weaker c.shared_among.result _ (λ shared. (n : ℕ) → Contains shared.keys n ↔ IsSharedAt g ids faults
+    (length ids) n)
     (λ shared h n.
     let both = shared-at g ids faults c.in_ok-claims.claims.items (length ids) c.in_ok-claims.ensures n in
     (λ there. both.0 ((h n).0 there), λ s. (h n).1 (both.1 s)))

@@ -12,7 +12,8 @@ returns-in_default-clause-places c =
     let rising = rw c.as_slice.ensures.items at c.as_slice.ensures.rising in
     let within = rw c.as_slice.ensures.items at c.binary_search.ensures.bound in
     let position = rw c.as_slice.ensures.items at c.binary_search.ensures.position in
-    let told = is_ok-search nat_list_cmp_total (λ x. x) bytes_eq texts_ties c.args.fmid c.args.ids.now rising c.binary_search.result within position in
+    let told = is_ok-search nat_list_cmp_total (λ x. x) bytes_eq texts_ties c.args.fmid c.args.ids.now rising
+    c.binary_search.result within position in
     rw c.new.ensures.items (no-place c.args.ids.now c.args.fmid (sym told ∙ ap is_ok c.in_default.is))
 
 pub returns-clause-places : goal.returns-clause-places
@@ -20,6 +21,8 @@ returns-clause-places c =
     let rising = rw c.as_slice.ensures.items at c.as_slice.ensures.rising in
     let within = rw c.as_slice.ensures.items at c.binary_search.ensures.bound in
     let position = rw c.as_slice.ensures.items at c.binary_search.ensures.position in
-    let found = rw c.in-Ok.is at (found-search nat_list_cmp_total (λ x. x) c.args.fmid c.args.ids.now rising c.binary_search.result within position) in
+    let found = rw c.in-Ok.is at (found-search nat_list_cmp_total (λ x. x) c.args.fmid c.args.ids.now rising
+    c.binary_search.result within position) in
     let at = stands-at c.args.ids.now c.args.fmid c.in-Ok.place found.0 found.1.0 found.1.1 in
-    rw (c.in_ok-push.ensures.items, c.new-places.ensures.items) (one-place c.args.ids.now rising c.args.fmid found.1.0 c.in-Ok.place at.0 at.1)
+    rw (c.in_ok-push.ensures.items, c.new-places.ensures.items)
+    (one-place c.args.ids.now rising c.args.fmid found.1.0 c.in-Ok.place at.0 at.1)

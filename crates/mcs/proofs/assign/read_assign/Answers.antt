@@ -17,7 +17,8 @@ returns-then-is_some-clause-bad c = λ rest h x.
     map-not_none c.args.known.now.first.list text_of (sym c.is_some.ensures ∙ c.if-is_some.true) x.1.2.no_list
 
 pub returns-then-not-are_operands-clause-bad : goal.returns-then-not-are_operands-clause-bad
-returns-then-not-are_operands-clause-bad c = λ rest h x. c.if-not-are_operands.ensures.no rest h refl x.1.0 x.1.1 x.1.2.are_operands
+returns-then-not-are_operands-clause-bad c = λ rest h x. c.if-not-are_operands.ensures.no rest h refl x.1.0 x.1.1
+    x.1.2.are_operands
 
 pub returns-in_default-clause-bad : goal.returns-in_default-clause-bad
 returns-in_default-clause-bad c = λ rest h x. c.in_default.ensures.none x.1.0 (rest, h, x.1.1) x.0.source x.1.2.source

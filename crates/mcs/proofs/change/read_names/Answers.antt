@@ -2,7 +2,8 @@ use Rattle.std.proofs.Common.{refl}
 use Rattle.mcs.proofs.change.read_names.Goals as goal
 
 pub returns-then-not-are_operands-clause-none : goal.returns-then-not-are_operands-clause-none
-returns-then-not-are_operands-clause-none c = λ rest h ws n d s hw hn. c.if-not-are_operands.ensures.no rest h refl ws hw hn.are_operands
+returns-then-not-are_operands-clause-none c = λ rest h ws n d s hw hn.
+    c.if-not-are_operands.ensures.no rest h refl ws hw hn.are_operands
 
 pub returns-clause-some : goal.returns-clause-some
 returns-clause-some c = λ rest h.

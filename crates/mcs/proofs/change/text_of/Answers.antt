@@ -3,5 +3,8 @@ use Rattle.mcs.proofs.Changing.{not_numbered}
 use Rattle.mcs.proofs.change.text_of.Goals as goal
 
 pub returns-in-Err-clause-bad : goal.returns-in-Err-clause-bad
-returns-in-Err-clause-bad c =
-    (refl, λ r. not_numbered c.args.elem_type c.args.inline.now c.in_ok-lines.lines.items c.in-Err.field-0 c.in-Mac.is c.in_ok-lines.ensures c.in-Err.ensures.fault r)
+returns-in-Err-clause-bad c = (
+  refl,
+  λ r. not_numbered c.args.elem_type c.args.inline.now c.in_ok-lines.lines.items c.in-Err.field-0 c.in-Mac.is
+      c.in_ok-lines.ensures c.in-Err.ensures.fault r,
+)

@@ -10,14 +10,18 @@ use Rattle.mcs.proofs.change.update_statement.Goals as goal
 
 pub returns-then-not-is_ended-clause-fault : goal.returns-then-not-is_ended-clause-fault
 returns-then-not-is_ended-clause-fault c = λ rest h.
-    change_excludes (sysmod_in (begun_in c.args.current.now)) c.args.known.now.word (own_list c.args.known.now) rest c.args.known.now.rest.inline.now c.args.elem_type c.requires.0
-    (λ ws ch hw r. update_excluded c.args.known.now.word (own_list c.args.known.now) rest ws c.args.known.now.rest.inline.now ch c.requires.1
+    change_excludes (sysmod_in (begun_in c.args.current.now)) c.args.known.now.word (own_list c.args.known.now) rest
+    c.args.known.now.rest.inline.now c.args.elem_type c.requires.0
+    (λ ws ch hw r. update_excluded c.args.known.now.word (own_list c.args.known.now) rest ws
+    c.args.known.now.rest.inline.now ch c.requires.1
     (λ name own none. true≢false (sym ((c.is_ended.ensures rest h).1 none) ∙ c.if-not-is_ended.true)) hw r)
 
 pub returns-in_default-clause-fault : goal.returns-in_default-clause-fault
 returns-in_default-clause-fault c = λ rest h.
-    change_excludes (sysmod_in (begun_in c.args.current.now)) c.args.known.now.word (own_list c.args.known.now) rest c.args.known.now.rest.inline.now c.args.elem_type c.requires.0
-    (λ ws ch hw r. update_excluded c.args.known.now.word (own_list c.args.known.now) rest ws c.args.known.now.rest.inline.now ch c.requires.1
+    change_excludes (sysmod_in (begun_in c.args.current.now)) c.args.known.now.word (own_list c.args.known.now) rest
+    c.args.known.now.rest.inline.now c.args.elem_type c.requires.0
+    (λ ws ch hw r. update_excluded c.args.known.now.word (own_list c.args.known.now) rest ws
+    c.args.known.now.rest.inline.now ch c.requires.1
     (λ name own none. c.in_default.ensures.none name own) hw r)
 
 pub returns-then-not-is_within-clause-fault : goal.returns-then-not-is_within-clause-fault
@@ -25,7 +29,8 @@ returns-then-not-is_within-clause-fault c = λ rest h.
     let inline = c.args.known.now.rest.inline.now in
     let end = (c.is_ended.ensures rest h).0 c.if-not-is_ended.false in (
       SaysChange (an_update c.args.elem_type c.in-Some.name inline),
-      update_value (sysmod_in (begun_in c.args.current.now)) c.args.known.now.word (own_list c.args.known.now) rest inline inline c.args.elem_type c.in-Some.name c.requires end c.in-Some.ensures.one refl,
+      update_value (sysmod_in (begun_in c.args.current.now)) c.args.known.now.word (own_list c.args.known.now) rest
+          inline inline c.args.elem_type c.in-Some.name c.requires end c.in-Some.ensures.one refl,
       λ within. true≢false (sym (c.is_within.ensures.1 within) ∙ c.if-not-is_within.true),
     )
 
@@ -33,14 +38,20 @@ pub returns-in-Err-clause-fault : goal.returns-in-Err-clause-fault
 returns-in-Err-clause-fault c = λ rest h.
     let inline = c.args.known.now.rest.inline.now in
     let end = (c.is_ended.ensures rest h).0 c.if-not-is_ended.false in
-    let value = update_value (sysmod_in (begun_in c.args.current.now)) c.args.known.now.word (own_list c.args.known.now) rest inline inline c.args.elem_type c.in-Some.name c.requires end c.in-Some.ensures.one refl in
-    update_fault (begun_in c.args.current.now) c.args.known.now.word (own_list c.args.known.now) rest inline c.args.elem_type c.in-Some.name c.in-Err.error c.requires c.in-Err.ensures.bad value (c.is_within.ensures.0 c.if-not-is_within.false)
+    let value = update_value (sysmod_in (begun_in c.args.current.now)) c.args.known.now.word (own_list c.args.known.now)
+    rest inline inline c.args.elem_type c.in-Some.name c.requires end c.in-Some.ensures.one refl in
+    update_fault (begun_in c.args.current.now) c.args.known.now.word (own_list c.args.known.now) rest inline
+    c.args.elem_type c.in-Some.name c.in-Err.error c.requires c.in-Err.ensures.bad value
+    (c.is_within.ensures.0 c.if-not-is_within.false)
 
 pub returns-clause-said : goal.returns-clause-said
 returns-clause-said c = λ rest h.
     let inline = c.args.known.now.rest.inline.now in
     let end = (c.is_ended.ensures rest h).0 c.if-not-is_ended.false in record {
-      value = update_value (sysmod_in (begun_in c.args.current.now)) c.args.known.now.word (own_list c.args.known.now) rest inline c.in-Ok.lines.items c.args.elem_type c.in-Some.name c.requires end c.in-Some.ensures.one c.in-Ok.ensures.text;
+      value = update_value (sysmod_in (begun_in c.args.current.now)) c.args.known.now.word (own_list c.args.known.now)
+          rest inline c.in-Ok.lines.items c.args.elem_type c.in-Some.name c.requires end c.in-Some.ensures.one
+          c.in-Ok.ensures.text;
       within = c.is_within.ensures.0 c.if-not-is_within.false;
-      text = rw c.in-Ok.ensures.text (update_from c.args.known.now.word c.args.elem_type c.in-Some.name inline c.requires c.in-Ok.ensures.good);
+      text = rw c.in-Ok.ensures.text (update_from c.args.known.now.word c.args.elem_type c.in-Some.name inline
+          c.requires c.in-Ok.ensures.good);
     }

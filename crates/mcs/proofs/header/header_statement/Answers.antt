@@ -8,13 +8,17 @@ use Rattle.mcs.proofs.header.header_statement.Goals as goal
 
 pub returns-then-not-is_ended-clause-fault : goal.returns-then-not-is_ended-clause-fault
 returns-then-not-is_ended-clause-fault c = λ rest h.
-    header_excludes (sysmod_in (begun_in c.args.current.now)) c.args.known.now.word (own_list c.args.known.now) rest c.args.known.now.rest.inline.now c.args.kind c.requires
+    header_excludes (sysmod_in (begun_in c.args.current.now)) c.args.known.now.word (own_list c.args.known.now) rest
+    c.args.known.now.rest.inline.now c.args.kind c.requires
     (λ id own none. true≢false (sym ((c.is_ended.ensures rest h).1 none) ∙ c.if-not-is_ended.true))
 
 pub returns-in-Some-clause-said : goal.returns-in-Some-clause-said
 returns-in-Some-clause-said c = λ rest h.
-    header_said (begun_in c.args.current.now) c.args.known.now.word (own_list c.args.known.now) rest c.args.known.now.rest.inline.now c.args.kind c.in-Some.id c.requires c.in-Some.ensures.one ((c.is_ended.ensures rest h).0 c.if-not-is_ended.false)
+    header_said (begun_in c.args.current.now) c.args.known.now.word (own_list c.args.known.now) rest
+    c.args.known.now.rest.inline.now c.args.kind c.in-Some.id c.requires c.in-Some.ensures.one
+    ((c.is_ended.ensures rest h).0 c.if-not-is_ended.false)
 
 pub returns-in-None-clause-fault : goal.returns-in-None-clause-fault
 returns-in-None-clause-fault c = λ rest h.
-    header_excludes (sysmod_in (begun_in c.args.current.now)) c.args.known.now.word (own_list c.args.known.now) rest c.args.known.now.rest.inline.now c.args.kind c.requires (λ id own none. c.in-None.ensures.none id own)
+    header_excludes (sysmod_in (begun_in c.args.current.now)) c.args.known.now.word (own_list c.args.known.now) rest
+    c.args.known.now.rest.inline.now c.args.kind c.requires (λ id own none. c.in-None.ensures.none id own)

@@ -19,9 +19,11 @@ returns-in-Err-clause-bad c = λ rest h printable.
 pub returns-then-not-is_own-clause-bad : goal.returns-then-not-is_own-clause-bad
 returns-then-not-is_own-clause-bad c = λ rest h printable x.
     let r = c.in-Ok.ensures.ok rest h in
-    not_own c.args.sysmod.now (own_list c.args.known.now) rest r.0 c.in-Ok.hold r.1 r.2 (λ at. true≢false (sym (c.is_own.ensures.1 at) ∙ c.if-not-is_own.true)) x.0 x.1
+    not_own c.args.sysmod.now (own_list c.args.known.now) rest r.0 c.in-Ok.hold r.1 r.2
+    (λ at. true≢false (sym (c.is_own.ensures.1 at) ∙ c.if-not-is_own.true)) x.0 x.1
 
 pub returns-clause-ok : goal.returns-clause-ok
 returns-clause-ok c = λ rest h.
     let r = c.in-Ok.ensures.ok rest h in
-    own_hold c.args.sysmod.now (own_list c.args.known.now) rest r.0 c.in-Ok.hold r.1 r.2 (c.is_own.ensures.0 c.if-not-is_own.false) c.in-Ok.ensures.internal
+    own_hold c.args.sysmod.now (own_list c.args.known.now) rest r.0 c.in-Ok.hold r.1 r.2
+    (c.is_own.ensures.0 c.if-not-is_own.false) c.in-Ok.ensures.internal

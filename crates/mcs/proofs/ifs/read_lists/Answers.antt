@@ -33,7 +33,8 @@ returns-then-is_some-clause-none c = λ pieces h fmid req f r words.
     let first = first_is pieces (word_of c.in-Some.fmid) t.0 fmid (plain (codes "THEN") ∷ req ∷ []) t.1 words in
     let u = (c.in-Some-take_named.ensures.some t.0 t.2).1 in
     let second = first_is t.0 (word_of c.in-Some-take_named.then) u.0 (plain (codes "THEN")) (req ∷ []) u.1 first.1 in
-    map-not_none c.in-Some-take_named.then.list text_of (sym c.is_some.ensures ∙ c.if-is_some.true) (ap (λ (w : Word). w.list) (sym second.0))
+    map-not_none c.in-Some-take_named.then.list text_of (sym c.is_some.ensures ∙ c.if-is_some.true)
+    (ap (λ (w : Word). w.list) (sym second.0))
 
 pub returns-then-not-is_ended-clause-none : goal.returns-then-not-is_ended-clause-none
 returns-then-not-is_ended-clause-none c = λ pieces h fmid req f r words.
@@ -55,5 +56,10 @@ returns-clause-some c = λ pieces h.
     let v = o.1 in
     let end = (c.is_ended.ensures v.0 v.2).0 c.if-not-is_ended.false in
     let then : word_of c.in-Some-take_named.then ≡ plain (codes "THEN") = plain_is (codes "THEN") (word_of c.in-Some-take_named.then) q.0 (no_list c.in-Some-take_named.then.list text_of (sym c.is_some.ensures ∙ c.if-is_some.false)) in
-    let all = three pieces t.0 u.0 v.0 (word_of c.in-Some.fmid) (word_of c.in-Some-take_named.then) (word_of c.in-Some-take_named-2.req) t.1 u.1 v.1 end in
-    (subst (λ (x : Word). HasWords pieces (word_of c.in-Some.fmid ∷ x ∷ word_of c.in-Some-take_named-2.req ∷ [])) then all, p.0, o.0)
+    let all = three pieces t.0 u.0 v.0 (word_of c.in-Some.fmid) (word_of c.in-Some-take_named.then)
+    (word_of c.in-Some-take_named-2.req) t.1 u.1 v.1 end in (
+      subst (λ (x : Word). HasWords pieces (word_of c.in-Some.fmid ∷ x ∷ word_of c.in-Some-take_named-2.req ∷ [])) then
+          all,
+      p.0,
+      o.0,
+    )

@@ -7,7 +7,8 @@ use Rattle.mcs.proofs.Ending.{first_is, no_first}
 use Rattle.mcs.proofs.ifs.take_named.Goals as goal
 
 pub returns-in_default-clause-none : goal.returns-in_default-clause-none
-returns-in_default-clause-none c = λ pieces h w ws is words. no_words pieces (w ∷ ws) (c.in_default.ensures.bad pieces h) words
+returns-in_default-clause-none c = λ pieces h w ws is words.
+    no_words pieces (w ∷ ws) (c.in_default.ensures.bad pieces h) words
 
 pub returns-in_default-found-clause-none : goal.returns-in_default-found-clause-none
 returns-in_default-found-clause-none c = λ pieces h w ws is words.

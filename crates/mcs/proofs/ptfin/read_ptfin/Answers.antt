@@ -6,7 +6,8 @@ use Rattle.mcs.proofs.ptfin.read_ptfin.Goals as goal
 
 pub returns-in-Err-clause-good : goal.returns-in-Err-clause-good
 returns-in-Err-clause-good c = λ found p.
-    error_is c.args.bytes.now c.in-Err.error found (first_error c.args.bytes.now c.in-Err.error c.in-Err.ensures.fault) p
+    error_is c.args.bytes.now c.in-Err.error found (first_error c.args.bytes.now c.in-Err.error c.in-Err.ensures.fault)
+    p
 
 pub returns-in-Err-clause-fault : goal.returns-in-Err-clause-fault
 returns-in-Err-clause-fault c = first_error c.args.bytes.now c.in-Err.error c.in-Err.ensures.fault

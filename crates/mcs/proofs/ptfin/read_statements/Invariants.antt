@@ -7,7 +7,8 @@ use Rattle.mcs.specs.Files.{so_far}
 use Rattle.mcs.proofs.ptfin.read_statements.Given as goal
 
 abbrev pub invariant-loop-group : goal.invariant-loop-group
-invariant-loop-group l = (ss : List Statement) × BeginsWithStatements nothing l.groups.number l.groups.rest.now ss (so_far l.made) l.left.number l.left.rest.now
+invariant-loop-group l = (ss : List Statement) × BeginsWithStatements nothing l.groups.number l.groups.rest.now ss
+    (so_far l.made) l.left.number l.left.rest.now
     × (All IsRecord l.groups.rest.now → All IsRecord l.left.rest.now)
 
 abbrev pub decreases-loop-group : goal.decreases-loop-group

@@ -18,7 +18,8 @@ use Rattle.mcs.proofs.Versions.{HasVer, ver_is, lists_in, fmid_is, lists_are}
 use Rattle.mcs.proofs.ver.read_ver.Goals as goal
 use Rattle.mcs.proofs.ver.read_ver.Goals.{After-made_of-ver}
 
-made : (c : After-made_of-ver) (ws : List Word) → LeavesWords c.args.known.now.rest ws → HasVer (own_list c.args.known.now) ws c.made_of-ver.result
+made : (c : After-made_of-ver) (ws : List Word) → LeavesWords c.args.known.now.rest ws
+    → HasVer (own_list c.args.known.now) ws c.made_of-ver.result
 made c ws h = rw c.made_of-ver.ensures record {
   has_srel = c.in-Some.ensures.one;
   has_fmid = optional_text IsId (operand (codes "FMID") ws) c.in-Ok.fmid (c.in-Ok.ensures.ok ws h);
@@ -30,7 +31,14 @@ pub returns-in-Err-read_lists-clause-bad : goal.returns-in-Err-read_lists-clause
 returns-in-Err-read_lists-clause-bad c = λ ws h.
     let All : Type 0 = (pre req sup npre del : List Id) × HasLists ws pre req sup npre del in
     let One : Type 0 = (v : Ver) × IsVerOf c.args.sysmod.now (own_list c.args.known.now) ws v in
-    let pick : One → All = λ x. (x.0.pre, x.0.req, x.0.sup, x.0.npre, x.0.del, lists_in c.args.sysmod.now (own_list c.args.known.now) ws x.0 x.1) in
+    let pick : One → All = λ x. (
+      x.0.pre,
+      x.0.req,
+      x.0.sup,
+      x.0.npre,
+      x.0.del,
+      lists_in c.args.sysmod.now (own_list c.args.known.now) ws x.0 x.1,
+    ) in
     excludes_more c.in-Err-read_lists.error All One pick (c.in-Err-read_lists.ensures.bad ws h)
 
 same_id : (c : After-made_of-ver) → c.sysmod.inside.id ≡ c.args.sysmod.now.id
@@ -47,15 +55,19 @@ returns-then-not-names_others-clause-bad c = λ ws h x.
     let c' = (goal.at.returns-then-not-names_others-clause-bad c).After-made_of-ver in
     let are = lists_are c.args.sysmod.now (own_list c.args.known.now) ws x.0 c.made_of-ver.result x.1 (made c' ws h) in
     let free = all_free c.args.sysmod.now.id (lists_of x.0) x.1.others in
-    let same : list_all (λ ids. not (is_in ids c.args.sysmod.now.id)) (lists_of c.made_of-ver.result) ≡ true = ap (λ l. list_all (λ ids. not (is_in ids c.args.sysmod.now.id)) l) are ∙ free in
-    true≢false (sym same ∙ subst (λ i. list_all (λ ids. not (is_in ids i)) (lists_of c.made_of-ver.result) ≡ false) (same_id c') (sym c.names_others.ensures ∙ c.if-not-names_others.true))
+    let same : list_all (λ ids. not (is_in ids c.args.sysmod.now.id)) (lists_of c.made_of-ver.result) ≡ true =
+    ap (λ l. list_all (λ ids. not (is_in ids c.args.sysmod.now.id)) l) are ∙ free in
+    true≢false (sym same ∙ subst (λ i. list_all (λ ids. not (is_in ids i)) (lists_of c.made_of-ver.result) ≡ false)
+    (same_id c') (sym c.names_others.ensures ∙ c.if-not-names_others.true))
 
 pub returns-clause-ok : goal.returns-clause-ok
 returns-clause-ok c = λ ws h are.
     let c' = (goal.at.returns-clause-ok c).After-made_of-ver in
     let same_kind : c.sysmod.inside.kind ≡ c.args.sysmod.now.kind = ap (λ (s : Sysmod). s.kind) c.sysmod.view_is in
     let suits = subst (λ k. SuitsKind k ws) same_kind ((c.suits_kind.ensures ws h).0 c.if-not-suits_kind.false) in
-    let free = subst (λ i. list_all (λ ids. not (is_in ids i)) (lists_of c.made_of-ver.result) ≡ true) (same_id c') (sym c.names_others.ensures ∙ c.if-not-names_others.false) in
+    let free = subst (λ i. list_all (λ ids. not (is_in ids i)) (lists_of c.made_of-ver.result) ≡ true) (same_id c')
+    (sym c.names_others.ensures ∙ c.if-not-names_others.false) in
     ver_is c.args.sysmod.now (own_list c.args.known.now) ws c.made_of-ver.result (made c' ws h) are suits
-    (λ e. true≢false (sym (c.has_fmid.ensures.1 (e ∙ ap (λ (i : Id). Some i) (sym (same_id c')))) ∙ c.if-has_fmid.false))
+    (λ e. true≢false (sym (c.has_fmid.ensures.1 (e ∙ ap (λ (i : Id). Some i) (sym (same_id c'))))
+    ∙ c.if-has_fmid.false))
     (free_all c.args.sysmod.now.id (lists_of c.made_of-ver.result) free)

@@ -4,7 +4,8 @@ use Rattle.mcs_hold.proofs.file.read_hold.Goals as goal
 
 pub returns-in-Err-clause-good : goal.returns-in-Err-clause-good
 returns-in-Err-clause-good c = λ found p.
-    error_is c.args.bytes.now c.in-Err.error found (first_error c.args.bytes.now c.in-Err.error c.in-Err.ensures.fault) p
+    error_is c.args.bytes.now c.in-Err.error found (first_error c.args.bytes.now c.in-Err.error c.in-Err.ensures.fault)
+    p
 
 pub returns-in-Err-clause-fault : goal.returns-in-Err-clause-fault
 returns-in-Err-clause-fault c = first_error c.args.bytes.now c.in-Err.error c.in-Err.ensures.fault

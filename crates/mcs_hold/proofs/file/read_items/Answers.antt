@@ -7,8 +7,12 @@ use Rattle.mcs_hold.proofs.file.read_items.Goals as goal
 
 pub loop-group-preserved : goal.loop-group-preserved
 loop-group-preserved c =
-    let more = items_more c.args.groups.number c.args.groups.rest.now c.loop-group.found.items c.loop-group.left.number c.loop-group.left.rest.now (group_of c.in-Some.group) c.next_group.new.self.number c.next_group.new.self.rest.now c.in-Ok.item c.loop-group.invariant c.in-Some.ensures.group c.in-Ok.ensures.good in
-    subst (λ l. BeginsWithItems c.args.groups.number c.args.groups.rest.now (items l) c.next_group.new.self.number c.next_group.new.self.rest.now) (sym c.in_ok-push-in-Ok.ensures.items) more
+    let more = items_more c.args.groups.number c.args.groups.rest.now c.loop-group.found.items c.loop-group.left.number
+    c.loop-group.left.rest.now (group_of c.in-Some.group) c.next_group.new.self.number
+    c.next_group.new.self.rest.now c.in-Ok.item c.loop-group.invariant c.in-Some.ensures.group
+    c.in-Ok.ensures.good in
+    subst (λ l. BeginsWithItems c.args.groups.number c.args.groups.rest.now (items l) c.next_group.new.self.number
+    c.next_group.new.self.rest.now) (sym c.in_ok-push-in-Ok.ensures.items) more
 
 pub returns-in-Err-clause-fault : goal.returns-in-Err-clause-fault
 returns-in-Err-clause-fault c = λ each.

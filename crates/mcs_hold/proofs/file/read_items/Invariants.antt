@@ -4,7 +4,8 @@ use Rattle.mcs_hold.specs.Items.{items}
 use Rattle.mcs_hold.proofs.file.read_items.Given as goal
 
 abbrev pub invariant-loop-group : goal.invariant-loop-group
-invariant-loop-group l = BeginsWithItems l.groups.number l.groups.rest.now (items l.found.items) l.left.number l.left.rest.now
+invariant-loop-group l = BeginsWithItems l.groups.number l.groups.rest.now (items l.found.items) l.left.number
+    l.left.rest.now
 
 abbrev pub decreases-loop-group : goal.decreases-loop-group
 decreases-loop-group l = length l.left.rest.now

@@ -4,7 +4,8 @@ use Rattle.mcs_hold.proofs.item.release_item.Goals as goal
 
 pub returns-in-Ok-clause-said : goal.returns-in-Ok-clause-said
 returns-in-Ok-clause-said c = λ rest h. record {
-  value = release_value c.args.known.now.word (own_list c.args.known.now) rest c.in-Ok.release c.requires (c.in-Ok.ensures.ok rest h);
+  value = release_value c.args.known.now.word (own_list c.args.known.now) rest c.in-Ok.release c.requires
+      (c.in-Ok.ensures.ok rest h);
   within = tt;
 }
 

@@ -16,22 +16,27 @@ use Rattle.mcs_statements.proofs.Printables.{operand_printable}
 use Rattle.mcs_statements.proofs.hold.read_hold.Goals as goal
 
 pub returns-then-not-are_operands-clause-bad : goal.returns-then-not-are_operands-clause-bad
-returns-then-not-are_operands-clause-bad c = λ rest h printable x. c.if-not-are_operands.ensures.no rest h refl x.0 x.2 x.3.are_operands
+returns-then-not-are_operands-clause-bad c = λ rest h printable x.
+    c.if-not-are_operands.ensures.no rest h refl x.0 x.2 x.3.are_operands
 
 pub returns-in_default-clause-bad : goal.returns-in_default-clause-bad
-returns-in_default-clause-bad c = λ rest h printable x. c.in_default.ensures.none x.0 (rest, h, x.2) (key_of x.1) (hold_key (own_list c.args.known.now) x.0 x.1 x.3)
+returns-in_default-clause-bad c = λ rest h printable x. c.in_default.ensures.none x.0 (rest, h, x.2) (key_of x.1)
+    (hold_key (own_list c.args.known.now) x.0 x.1 x.3)
 
 pub returns-in_default-optional-clause-bad : goal.returns-in_default-optional-clause-bad
-returns-in_default-optional-clause-bad c = λ rest h printable x. c.in_default-optional.ensures.bad x.0 (rest, h, x.2) x.1.class x.3.class
+returns-in_default-optional-clause-bad c = λ rest h printable x.
+    c.in_default-optional.ensures.bad x.0 (rest, h, x.2) x.1.class x.3.class
 
 pub returns-in_default-optional-2-clause-bad : goal.returns-in_default-optional-2-clause-bad
-returns-in_default-optional-2-clause-bad c = λ rest h printable x. c.in_default-optional-2.ensures.bad x.0 (rest, h, x.2) x.1.date x.3.date
+returns-in_default-optional-2-clause-bad c = λ rest h printable x.
+    c.in_default-optional-2.ensures.bad x.0 (rest, h, x.2) x.1.date x.3.date
 
 pub returns-in-Err-clause-bad : goal.returns-in-Err-clause-bad
 returns-in-Err-clause-bad c = λ rest h printable.
     let y = c.if-not-are_operands.ensures.yes rest h refl in
     let One : Type 0 = (comment : Option Text) × HasComment (operand (codes "COMMENT") y.0) comment in
-    let All : Type 0 = (ws : List Word) × (hold : Hold) × HasWords rest ws × IsHoldOf (own_list c.args.known.now) ws hold in
+    let All : Type 0 = (ws : List Word) × (hold : Hold) × HasWords rest ws
+    × IsHoldOf (own_list c.args.known.now) ws hold in
     let pick : All → One = λ x. (x.1.comment, subst (λ l. HasComment (operand (codes "COMMENT") l) x.1.comment) (words-only rest x.0 y.0 x.2 y.1) x.3.comment) in
     excludes_more c.in-Err.error One All pick (c.in-Err.ensures.bad y.0 (rest, h, y.1) (operand_printable rest y.0 (codes "COMMENT") printable y.1))
 

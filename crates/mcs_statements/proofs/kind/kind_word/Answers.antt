@@ -6,15 +6,18 @@ use Rattle.mcs_statements.proofs.kind.kind_word.Goals as goal
 
 pub returns-in_default-clause-none : goal.returns-in_default-clause-none
 returns-in_default-clause-none c = λ ws h kind k.
-    c.in_default.ensures.bad (is_kind kind Error) (subst (λ o. HasFlag o (is_kind kind Error)) (sym (c.operand.ensures ws h)) (kind_flag ws kind Error k))
+    c.in_default.ensures.bad (is_kind kind Error) (subst (λ o. HasFlag o (is_kind kind Error))
+    (sym (c.operand.ensures ws h)) (kind_flag ws kind Error k))
 
 pub returns-in_default-flag-clause-none : goal.returns-in_default-flag-clause-none
 returns-in_default-flag-clause-none c = λ ws h kind k.
-    c.in_default-flag.ensures.bad (is_kind kind System) (subst (λ o. HasFlag o (is_kind kind System)) (sym (c.operand-2.ensures ws h)) (kind_flag ws kind System k))
+    c.in_default-flag.ensures.bad (is_kind kind System) (subst (λ o. HasFlag o (is_kind kind System))
+    (sym (c.operand-2.ensures ws h)) (kind_flag ws kind System k))
 
 pub returns-in_default-flag-2-clause-none : goal.returns-in_default-flag-2-clause-none
 returns-in_default-flag-2-clause-none c = λ ws h kind k.
-    c.in_default-flag-2.ensures.bad (is_kind kind User) (subst (λ o. HasFlag o (is_kind kind User)) (sym (c.operand-3.ensures ws h)) (kind_flag ws kind User k))
+    c.in_default-flag-2.ensures.bad (is_kind kind User) (subst (λ o. HasFlag o (is_kind kind User))
+    (sym (c.operand-3.ensures ws h)) (kind_flag ws kind User k))
 
 pub returns-clause-some : goal.returns-clause-some
 returns-clause-some c = λ ws h.

@@ -13,8 +13,12 @@ returns-then-eq c = λ ws l.
 pub loop-word-preserved : goal.loop-word-preserved
 loop-word-preserved c = λ ws l.
     let i = c.loop-word.invariant ws l in
-    let t = c.in-Some.ensures.word i.0 i.1 in
-    (t.0, t.2, i.2 ∙ operand_there c.args.name.now (word_of c.in-Some.word) i.0 t.0 t.1 (sym c.eq.ensures ∙ c.if-eq.false))
+    let t = c.in-Some.ensures.word i.0 i.1 in (
+      t.0,
+      t.2,
+      i.2 ∙ operand_there c.args.name.now (word_of c.in-Some.word) i.0 t.0 t.1
+          (sym c.eq.ensures ∙ c.if-eq.false),
+    )
 
 pub returns : goal.returns
 returns c = λ ws l.

@@ -7,8 +7,10 @@ use Rattle.operands.proofs.members.read_members.Given as goal
 
 abbrev pub invariant-loop-read : goal.invariant-loop-read
 invariant-loop-read g l = record {
-  before : (ms : List Word) → LeavesMembers l.members ms → HasMembers (text_of l.list) (map plain (map g.T.Member.text l.read.items) ++ ms);
-  only : (ms : List Word) → HasMembers (text_of l.list) ms → (rest : List Word) × (ms ≡ map plain (map g.T.Member.text l.read.items) ++ rest) × LeavesMembers l.members rest;
+  before : (ms : List Word) → LeavesMembers l.members ms → HasMembers (text_of l.list)
+      (map plain (map g.T.Member.text l.read.items) ++ ms);
+  only : (ms : List Word) → HasMembers (text_of l.list) ms → (rest : List Word)
+      × (ms ≡ map plain (map g.T.Member.text l.read.items) ++ rest) × LeavesMembers l.members rest;
   forms : All g.T.Member.form (map g.T.Member.text l.read.items);
 }
 

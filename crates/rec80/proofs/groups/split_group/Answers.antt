@@ -9,13 +9,25 @@ later : (c : goal.After-later_len) → c.later_len.result ≡ prefix_len is_late
 later c = c.later_len.ensures ∙ ap (prefix_len is_later) (take_rest c.args.records.now 1)
 
 pub overflow_add-later_len : goal.overflow_add-later_len
-overflow_add-later_len c = omega (arith, later c, prefix_within is_later (drop 1 c.args.records.now), length-drop 1 c.args.records.now)
+overflow_add-later_len c = omega (
+  arith,
+  later c,
+  prefix_within is_later (drop 1 c.args.records.now),
+  length-drop 1 c.args.records.now,
+)
 
 pub split_at-requires : goal.split_at-requires
-split_at-requires c = omega (arith, later c, prefix_within is_later (drop 1 c.args.records.now), length-drop 1 c.args.records.now)
+split_at-requires c = omega (
+  arith,
+  later c,
+  prefix_within is_later (drop 1 c.args.records.now),
+  length-drop 1 c.args.records.now,
+)
 
 cut : (c : goal.After-split_at) → IsFirstGroup c.args.records.now c.split_at.result.0.now c.split_at.result.1.now
-cut c = first_group c.args.records.now _ _ c.later_len.result c.requires.starts c.requires.some (c.later_len.ensures ∙ ap (prefix_len is_later) (take_rest c.args.records.now 1)) c.split_at.ensures.front c.split_at.ensures.back
+cut c = first_group c.args.records.now _ _ c.later_len.result c.requires.starts c.requires.some
+    (c.later_len.ensures ∙ ap (prefix_len is_later) (take_rest c.args.records.now 1)) c.split_at.ensures.front
+    c.split_at.ensures.back
 
 pub returns-clause-group : goal.returns-clause-group
 returns-clause-group c = (cut c).group

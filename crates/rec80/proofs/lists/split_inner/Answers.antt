@@ -19,4 +19,5 @@ overflow_add-len c =
     omega arith
 
 pub loop-byte-preserved : goal.loop-byte-preserved
-loop-byte-preserved c = over_more _ (text_of c.loop-byte.at) (text_of c.in-Some.next) c.loop-byte.len c.in-Some.byte c.loop-byte.invariant c.in-Some.ensures c.if-byte-eq40.false c.if-byte-eq41.false
+loop-byte-preserved c = over_more _ (text_of c.loop-byte.at) (text_of c.in-Some.next) c.loop-byte.len c.in-Some.byte
+    c.loop-byte.invariant c.in-Some.ensures c.if-byte-eq40.false c.if-byte-eq41.false

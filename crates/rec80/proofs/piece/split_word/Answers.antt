@@ -6,7 +6,8 @@ pub split_at-requires : goal.split_at-requires
 split_at-requires c = word_within c.args.at.now.line.now c.word_len.result c.word_len.ensures
 
 pub returns-clause-word : goal.returns-clause-word
-returns-clause-word c = takes_word_piece c.args.at.now.line.now _ _ c.args.at.now.later.now c.word_len.result c.word_len.ensures c.split_at.ensures.front c.split_at.ensures.back c.requires
+returns-clause-word c = takes_word_piece c.args.at.now.line.now _ _ c.args.at.now.later.now c.word_len.result
+    c.word_len.ensures c.split_at.ensures.front c.split_at.ensures.back c.requires
 
 pub returns-clause-ahead : goal.returns-clause-ahead
 returns-clause-ahead c = ahead_cut _ _ c.word_len.result _ c.split_at.ensures.front c.split_at.ensures.back refl

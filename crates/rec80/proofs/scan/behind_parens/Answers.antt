@@ -15,4 +15,7 @@ overflow_add-len c =
 
 pub returns-then-not-inner-clause-text : goal.returns-then-not-inner-clause-text
 returns-then-not-inner-clause-text c =
-    list_text (rest_of c.args.inside.now) (rest_of c.loop-byte.at) (rest_of c.in-Some.next) c.loop-byte.inner c.in-Some.byte c.loop-byte.len c.loop-byte.invariant.same c.if-not-inner.true c.in-Some.ensures.text c.if-byte-eq41.true c.loop-byte.invariant.count ∙ ap (λ l. l ++ 41 ∷ rest_of c.in-Some.next) (sym c.text.ensures)
+    list_text (rest_of c.args.inside.now) (rest_of c.loop-byte.at) (rest_of c.in-Some.next) c.loop-byte.inner
+    c.in-Some.byte c.loop-byte.len c.loop-byte.invariant.same c.if-not-inner.true c.in-Some.ensures.text
+    c.if-byte-eq41.true c.loop-byte.invariant.count ∙ ap (λ l. l ++ 41 ∷ rest_of c.in-Some.next)
+    (sym c.text.ensures)

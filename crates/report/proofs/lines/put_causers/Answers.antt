@@ -11,4 +11,5 @@ loop-causer-preserved g c =
     sends-as _ _ _ _ _ _
     (ap (λ t. flat_map (λ id. detail_line (codes "CAUSER" ∷ id ∷ [])) (take c.loop-causer.causer-index c.args.causers.now) ++ detail_line (codes "CAUSER" ∷ t ∷ [])) (c.as_bytes.ensures.same ∙ c.causer-item.is)
     ∙ flat_map-more (λ id. detail_line (codes "CAUSER" ∷ id ∷ [])) c.args.causers.now c.loop-causer.causer-index c.causer-item.result c.loop-causer-test.true)
-    (sends-then _ _ _ _ _ _ _ _ c.loop-causer.invariant (sends-then _ _ _ _ _ _ _ _ c.put.ensures (sends-then _ _ _ _ _ _ _ _ c.put-in-loop-causer.ensures c.put-in-loop-causer-2.ensures)))
+    (sends-then _ _ _ _ _ _ _ _ c.loop-causer.invariant (sends-then _ _ _ _ _ _ _ _ c.put.ensures
+    (sends-then _ _ _ _ _ _ _ _ c.put-in-loop-causer.ensures c.put-in-loop-causer-2.ensures)))

@@ -7,4 +7,5 @@ pub returns : goal.returns
 returns g c =
     sends-as _ _ _ _ _ _
     (rw (c.deref.ensures.value, c.deref-2.ensures.value, c.deref-3.ensures.value, flat_map-map) refl)
-    (sends-then _ _ _ _ _ _ _ _ (sends-then _ _ _ _ _ _ _ _ c.put_tests.ensures c.put_needs.ensures) c.put_causers.ensures)
+    (sends-then _ _ _ _ _ _ _ _ (sends-then _ _ _ _ _ _ _ _ c.put_tests.ensures c.put_needs.ensures)
+    c.put_causers.ensures)

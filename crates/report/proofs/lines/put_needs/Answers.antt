@@ -15,5 +15,7 @@ loop-need-preserved g c =
     (ap (λ t. flat_map (λ n. detail_line (codes "NEED" ∷ need_text n.kind ∷ n.id ∷ [])) (take c.loop-need.need-index c.args.needs.now) ++ t) line
     ∙ ap (λ n. flat_map (λ n. detail_line (codes "NEED" ∷ need_text n.kind ∷ n.id ∷ [])) (take c.loop-need.need-index c.args.needs.now) ++ detail_line (codes "NEED" ∷ need_text n.kind ∷ n.id ∷ [])) c.need-item.is
     ∙ flat_map-more (λ n. detail_line (codes "NEED" ∷ need_text n.kind ∷ n.id ∷ [])) c.args.needs.now c.loop-need.need-index c.need-item.result c.loop-need-test.true))
-    (sends-then _ _ _ _ _ _ _ _ c.loop-need.invariant (sends-then _ _ _ _ _ _ _ _ c.put.ensures (sends-then _ _ _ _ _ _ _ _ c.put-in-loop-need.ensures
-    (sends-then _ _ _ _ _ _ _ _ c.put-in-loop-need-2.ensures (sends-then _ _ _ _ _ _ _ _ c.put-in-loop-need-3.ensures c.put-in-loop-need-4.ensures)))))
+    (sends-then _ _ _ _ _ _ _ _ c.loop-need.invariant (sends-then _ _ _ _ _ _ _ _ c.put.ensures
+    (sends-then _ _ _ _ _ _ _ _ c.put-in-loop-need.ensures
+    (sends-then _ _ _ _ _ _ _ _ c.put-in-loop-need-2.ensures
+    (sends-then _ _ _ _ _ _ _ _ c.put-in-loop-need-3.ensures c.put-in-loop-need-4.ensures)))))

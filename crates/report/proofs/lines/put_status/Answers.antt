@@ -10,7 +10,10 @@ returns g c =
     sends-then _ _ _ _ _ _ _ _
     (sends-as _ _ _ _ _ _
     (rw (c.as_bytes.ensures.same, c.place_text.ensures, c.status_word.ensures, c.status_detail.ensures)
-    (status_parts c.args.id (left_in 8 (place_text (place_view c.args.place.now))) (status_word status) (status_detail status)))
-    (sends-then _ _ _ _ _ _ _ _ c.put.ensures (sends-then _ _ _ _ _ _ _ _ c.put-2.ensures (sends-then _ _ _ _ _ _ _ _ c.put_left.ensures
-    (sends-then _ _ _ _ _ _ _ _ c.put-3.ensures (sends-then _ _ _ _ _ _ _ _ c.put-4.ensures (sends-then _ _ _ _ _ _ _ _ c.put_detail.ensures c.put-5.ensures)))))))
+    (status_parts c.args.id (left_in 8 (place_text (place_view c.args.place.now))) (status_word status)
+    (status_detail status)))
+    (sends-then _ _ _ _ _ _ _ _ c.put.ensures (sends-then _ _ _ _ _ _ _ _ c.put-2.ensures
+    (sends-then _ _ _ _ _ _ _ _ c.put_left.ensures
+    (sends-then _ _ _ _ _ _ _ _ c.put-3.ensures (sends-then _ _ _ _ _ _ _ _ c.put-4.ensures
+    (sends-then _ _ _ _ _ _ _ _ c.put_detail.ensures c.put-5.ensures)))))))
     c.put_details.ensures

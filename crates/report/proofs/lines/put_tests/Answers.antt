@@ -13,4 +13,5 @@ loop-test-preserved g c =
     sends-as _ _ _ _ _ _
     (ap (λ t. flat_map (λ t. detail_line (codes "TEST" ∷ test_text t ∷ [])) (take c.loop-test.test-index c.args.tests.now) ++ detail_line (codes "TEST" ∷ t ∷ [])) c.test_text.ensures
     ∙ flat_map-more (λ t. detail_line (codes "TEST" ∷ test_text t ∷ [])) c.args.tests.now c.loop-test.test-index J1 c.loop-test-test.true)
-    (sends-then _ _ _ _ _ _ _ _ c.loop-test.invariant (sends-then _ _ _ _ _ _ _ _ c.put.ensures (sends-then _ _ _ _ _ _ _ _ c.put-in-loop-test.ensures c.put-in-loop-test-2.ensures)))
+    (sends-then _ _ _ _ _ _ _ _ c.loop-test.invariant (sends-then _ _ _ _ _ _ _ _ c.put.ensures
+    (sends-then _ _ _ _ _ _ _ _ c.put-in-loop-test.ensures c.put-in-loop-test-2.ensures)))

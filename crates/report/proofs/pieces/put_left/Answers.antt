@@ -7,5 +7,6 @@ pub returns : goal.returns
 returns g c =
     let within : c.args.places - length c.args.text.now ≤ 8 = omega (arith, c.requires) in
     sends-as _ _ _ _ _ _
-    (ap (λ t. c.args.text.now ++ t) (rw c.saturating_sub.ensures (take-replicate (c.args.places - length c.args.text.now) 8 32 within)))
+    (ap (λ t. c.args.text.now ++ t) (rw c.saturating_sub.ensures
+    (take-replicate (c.args.places - length c.args.text.now) 8 32 within)))
     (sends-then _ _ _ _ _ _ _ _ c.put.ensures c.put-2.ensures)

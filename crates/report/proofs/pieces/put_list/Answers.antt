@@ -8,8 +8,10 @@ use Rattle.report.proofs.pieces.put_list.Goals as goal
 pub returns : goal.returns
 returns g c =
     let some : 0 < length c.args.ids.now = search rules in
-    let rest : take (length c.args.ids.now - 1) (drop 1 c.args.ids.now) ≡ drop 1 c.args.ids.now = grind (arith, common_steps) in
+    let rest : take (length c.args.ids.now - 1) (drop 1 c.args.ids.now) ≡ drop 1 c.args.ids.now =
+    grind (arith, common_steps) in
     sends-as _ _ _ _ _ _
     (ap (λ t. c.as_bytes.result.now ++ flat_map (λ id. 44 ∷ id) t) rest
-    ∙ ap (λ t. t ++ flat_map (λ id. 44 ∷ id) (drop 1 c.args.ids.now)) (c.as_bytes.ensures.same ∙ c.index-ids-0.is) ∙ list_text-parts c.args.ids.now c.index-ids-0.result some)
+    ∙ ap (λ t. t ++ flat_map (λ id. 44 ∷ id) (drop 1 c.args.ids.now)) (c.as_bytes.ensures.same ∙ c.index-ids-0.is)
+    ∙ list_text-parts c.args.ids.now c.index-ids-0.result some)
     (sends-then _ _ _ _ _ _ _ _ c.put-2.ensures c.put_rest.ensures)

@@ -14,12 +14,15 @@ pub loop-line-preserved : goal.loop-line-preserved
 loop-line-preserved g c = record {
   sends =
       sends-as _ _ _ _ _ _
-      (ap (λ x. flat_map (λ x. line_text (line_view x)) (take c.loop-line.line-index c.args.lines.now) ++ line_text (line_view x)) c.line-item.is
-      ∙ flat_map-more (λ x. line_text (line_view x)) c.args.lines.now c.loop-line.line-index c.line-item.result c.loop-line-test.true)
+      (ap (λ x. flat_map (λ x. line_text (line_view x)) (take c.loop-line.line-index c.args.lines.now)
+      ++ line_text (line_view x)) c.line-item.is
+      ∙ flat_map-more (λ x. line_text (line_view x)) c.args.lines.now c.loop-line.line-index c.line-item.result
+      c.loop-line-test.true)
       (sends-then _ _ _ _ _ _ _ _ c.loop-line.invariant.sends c.put_line.ensures);
   code =
       ap (λ k. max k (lines_code (map line_view (drop (c.loop-line.line-index + 1) c.args.lines.now))))
-      (c.max-code.ensures ∙ ap (λ k. max c.loop-line.code k) (c.line_code.ensures.code ∙ ap (λ x. line_code (line_view x)) c.line-item.is))
+      (c.max-code.ensures ∙ ap (λ k. max c.loop-line.code k)
+      (c.line_code.ensures.code ∙ ap (λ x. line_code (line_view x)) c.line-item.is))
       ∙ codes-more c.args.lines.now c.loop-line.line-index c.line-item.result c.loop-line.code c.loop-line-test.true
       ∙ c.loop-line.invariant.code;
   most = omega (arith, c.max-code.ensures, c.line_code.ensures.most, c.loop-line.invariant.most);
@@ -28,5 +31,6 @@ loop-line-preserved g c = record {
 pub returns-clause-sends : goal.returns-clause-sends
 returns-clause-sends g c =
     sends-as _ _ _ _ _ _
-    (ap (flat_map (λ x. line_text (line_view x))) (take_all _ c.args.lines.now c.loop-line-test.false) ∙ sym (flat_map-map line_text line_view c.args.lines.now))
+    (ap (flat_map (λ x. line_text (line_view x))) (take_all _ c.args.lines.now c.loop-line-test.false)
+    ∙ sym (flat_map-map line_text line_view c.args.lines.now))
     c.loop-line.invariant.sends

@@ -7,7 +7,8 @@ loop-i-init c = growth-start _ _ _ c.args.start.now _ c.requires c.in_ok-seen.en
 
 pub loop-i-preserved : goal.loop-i-preserved
 loop-i-preserved c =
-    growth-next _ _ _ _ _ _ _ (omega arith) (rw c.as_slice.ensures.keys at c.index-as_slice-i.is) c.in_ok-see_brought_in.ensures c.loop-i.invariant
+    growth-next _ _ _ _ _ _ _ (omega arith) (rw c.as_slice.ensures.keys at c.index-as_slice-i.is)
+    c.in_ok-see_brought_in.ensures c.loop-i.invariant
 
 pub returns : goal.returns
 returns c = growth-end _ _ _ _ c.loop-i.i (omega arith) c.loop-i.invariant

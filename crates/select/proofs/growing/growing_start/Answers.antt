@@ -10,5 +10,6 @@ loop-id-init c = subst (AddsAll [] []) (sym c.new-seen.ensures.empty) (adds-none
 
 pub loop-id-preserved : goal.loop-id-preserved
 loop-id-preserved c =
-    adds-if (λ x. c.args.selection.now.groupextend || is_in c.args.selection.now.group x) _ _ _ _ _ _ (omega arith) c.id-item.is
+    adds-if (λ x. c.args.selection.now.groupextend || is_in c.args.selection.now.group x) _ _ _ _ _ _ (omega arith)
+    c.id-item.is
     c.in_ok-see_growing.ensures c.loop-id.invariant

@@ -11,7 +11,8 @@ pub returns-clause-rising : goal.returns-clause-rising
 returns-clause-rising c =
     IfOk-weaker c.with_reasons.result _ _
     (λ found same. subst (λ ps. IsRising (map (λ p. p.0) ps)) (sym same)
-    (found_rising c.new.result.global.now c.new.result.zone.now c.new.result.selection.now c.as_slice.result.now c.as_slice.ensures.rising))
+    (found_rising c.new.result.global.now c.new.result.zone.now c.new.result.selection.now c.as_slice.result.now
+    c.as_slice.ensures.rising))
     c.with_reasons.ensures
 
 pub returns-clause-members : goal.returns-clause-members
@@ -22,8 +23,10 @@ returns-clause-members c =
     let ids = c.as_slice.result.now in
     let named : (x : Id) → Contains ids x ↔ Contains (sel.select ++ sel.group) x = λ x.
     subst (λ xs. Contains xs x ↔ Contains (sel.select ++ sel.group) x) (sym c.as_slice.ensures.items)
-    (subst (λ ys. Contains c.from_vec-named.result x ↔ Contains ys x) c.in_ok-named_ids.ensures (c.from_vec-named.ensures x)) in
+    (subst (λ ys. Contains c.from_vec-named.result x ↔ Contains ys x) c.in_ok-named_ids.ensures
+    (c.from_vec-named.ensures x)) in
     IfOk-weaker c.with_reasons.result _ _
-    (λ found same x why. subst (λ ps. Contains {X = Id × NotChosen} ps (x, why) ↔ (not_chosen g zone sel x ≡ Some why)) (sym same)
+    (λ found same x why. subst (λ ps. Contains {X = Id × NotChosen} ps (x, why) ↔ (not_chosen g zone sel x ≡ Some why))
+    (sym same)
     (found_members g zone sel ids named x why))
     (rw (c.new.ensures.global, c.new.ensures.zone, c.new.ensures.selection) at c.with_reasons.ensures)

@@ -11,7 +11,9 @@ use Rattle.smpe.proofs.job.run_commands.Given as goal
 abbrev pub invariant-loop-command : goal.invariant-loop-command
 invariant-loop-command g l = record {
   clean : HasCleanDisk (state g.S.Store l.store) → HasCleanDisk (state g.S.Store l.fn.store);
-  ran : HasCleanDisk (state g.S.Store l.store) → (s : State) → IsSessionOf s l.fn.session → Keeps g.S.Store l.fn.store s →
-      EndsCommands g.S.Store l.store s l.session l.fn.date l.fn.files (map command_of (take l.command-index l.commands)) (g.W.Sink.taken l.fn.w) (g.W.Sink.taken l.w) (Ok l.code);
+  ran : HasCleanDisk (state g.S.Store l.store) → (s : State) → IsSessionOf s l.fn.session → Keeps g.S.Store l.fn.store s
+      →
+      EndsCommands g.S.Store l.store s l.session l.fn.date l.fn.files (map command_of (take l.command-index l.commands))
+      (g.W.Sink.taken l.fn.w) (g.W.Sink.taken l.w) (Ok l.code);
   sound : g.W.Sink.has_failed l.fn.w ≡ false → g.W.Sink.has_failed l.w ≡ false;
 }

@@ -10,7 +10,8 @@ use Rattle.smpe.proofs.jobs.run_jobs.Goals as goal
 pub returns-in_err-answers-clause-ended : goal.returns-in_err-answers-clause-ended
 returns-in_err-answers-clause-ended g c clean s keeps =
     let taken = g.W.Sink.taken c.args.w.now in
-    jobs-err g.S.Store s c.args.store.now (map job_of c.args.jobs.now) taken taken (λ v. map answer_of v.items) c.from_residual.result Memory c.from_residual.ensures.1
+    jobs-err g.S.Store s c.args.store.now (map job_of c.args.jobs.now) taken taken (λ v. map answer_of v.items)
+    c.from_residual.result Memory c.from_residual.ensures.1
     (ends-unbegun g.S.Store c.args.store.now s (map job_of c.args.jobs.now) taken keeps)
 
 pub returns-in_err-answer-clause-ended : goal.returns-in_err-answer-clause-ended
@@ -21,10 +22,12 @@ returns-in_err-answer-clause-ended g c clean s keeps =
     let old = g.W.Sink.taken c.args.w.now in
     let new = g.W.Sink.taken c.run_one.new.w in
     let error = c.in_err-answer.field-0.0 in
-    jobs-err g.S.Store s at (map job_of c.args.jobs.now) old new (λ v. map answer_of v.items) c.from_residual-in_err-answer.result error c.from_residual-in_err-answer.ensures.1
+    jobs-err g.S.Store s at (map job_of c.args.jobs.now) old new (λ v. map answer_of v.items)
+    c.from_residual-in_err-answer.result error c.from_residual-in_err-answer.ensures.1
     (subst (λ jobs. EndsAmong g.S.Store at s jobs old new error)
     (sym (taken-split job_of c.args.jobs.now c.loop-job.job-index c.job-item.result c.loop-job-test.true c.job-item.is))
-    (jobs-stop g.S.Store s c.loop-job.store at done (job_of c.job-item.result) old (g.W.Sink.taken c.loop-job.w) new (map answer_of c.loop-job.answers.items) rest error
+    (jobs-stop g.S.Store s c.loop-job.store at done (job_of c.job-item.result) old (g.W.Sink.taken c.loop-job.w) new
+    (map answer_of c.loop-job.answers.items) rest error
     (c.loop-job.invariant.ran (c.run_one.ensures.clean clean) s keeps)
     (λ t stands. c.in_err-answer.ensures.ended clean t stands)))
 
@@ -41,11 +44,14 @@ loop-job-preserved g c =
           let new = g.W.Sink.taken c.run_one.new.w in
           let answers = map answer_of c.loop-job.answers.items in
           let answer = answer_of c.in_ok-answer.answer in
-          subst (λ told. EndsJobs g.S.Store at s (map job_of (take (c.loop-job.job-index + 1) c.args.jobs.now)) old new (λ all. all) (Ok told))
+          subst (λ told. EndsJobs g.S.Store at s (map job_of (take (c.loop-job.job-index + 1) c.args.jobs.now)) old new
+          (λ all. all) (Ok told))
           (sym (ap (map answer_of) pushed ∙ map-append answer_of c.loop-job.answers.items (c.in_ok-answer.answer ∷ [])))
           (subst (λ jobs. EndsJobs g.S.Store at s jobs old new (λ all. all) (Ok (answers ++ answer ∷ [])))
-          (sym (taken-more job_of c.args.jobs.now c.loop-job.job-index c.job-item.result c.loop-job-test.true c.job-item.is))
-          (jobs-more g.S.Store s c.loop-job.store at done (job_of c.job-item.result) old (g.W.Sink.taken c.loop-job.w) new answers answer
+          (sym (taken-more job_of c.args.jobs.now c.loop-job.job-index c.job-item.result c.loop-job-test.true
+          c.job-item.is))
+          (jobs-more g.S.Store s c.loop-job.store at done (job_of c.job-item.result) old (g.W.Sink.taken c.loop-job.w)
+          new answers answer
           (c.loop-job.invariant.ran (c.run_one.ensures.clean clean) s keeps)
           (λ t stands. c.in_ok-answer.ensures.ended clean t stands)));
       count = search rules;

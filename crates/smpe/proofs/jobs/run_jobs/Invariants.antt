@@ -11,7 +11,8 @@ abbrev pub invariant-loop-job : goal.invariant-loop-job
 invariant-loop-job g l = record {
   clean : HasCleanDisk (state g.S.Store l.store) → HasCleanDisk (state g.S.Store l.fn.store);
   ran : HasCleanDisk (state g.S.Store l.store) → (s : State) → Keeps g.S.Store l.fn.store s →
-      EndsJobs g.S.Store l.store s (map job_of (take l.job-index l.jobs)) (g.W.Sink.taken l.fn.w) (g.W.Sink.taken l.w) (λ told. told) (Ok (map answer_of l.answers.items));
+      EndsJobs g.S.Store l.store s (map job_of (take l.job-index l.jobs)) (g.W.Sink.taken l.fn.w) (g.W.Sink.taken l.w)
+      (λ told. told) (Ok (map answer_of l.answers.items));
   count : length l.answers.items ≡ l.job-index;
   room : length l.jobs ≤ vec_capacity l.answers;
   sound : g.W.Sink.has_failed l.fn.w ≡ false → g.W.Sink.has_failed l.w ≡ false;

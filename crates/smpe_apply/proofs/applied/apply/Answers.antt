@@ -7,12 +7,14 @@ use Rattle.smpe_apply.proofs.applied.apply.Goals as goal
 
 pub install-requires-clause-installable : goal.install-requires-clause-installable
 install-requires-clause-installable c =
-    kept_installable c.args.global.now c.args.zone.now c.args.selection.now c.args.date c.in_ok-ids.ids c.in_ok-kept.field-0.kept (map why_failed c.in_ok-kept.field-0.failed.items)
+    kept_installable c.args.global.now c.args.zone.now c.args.selection.now c.args.date c.in_ok-ids.ids
+    c.in_ok-kept.field-0.kept (map why_failed c.in_ok-kept.field-0.failed.items)
     c.in_ok-ids.ensures.members c.in_ok-ids.ensures.installable c.in_ok-kept.ensures
 
 pub install-requires-clause-apart : goal.install-requires-clause-apart
 install-requires-clause-apart c =
-    kept_apart c.args.global.now c.args.zone.now c.args.selection.now c.args.date c.in_ok-ids.ids c.in_ok-kept.field-0.kept (map why_failed c.in_ok-kept.field-0.failed.items)
+    kept_apart c.args.global.now c.args.zone.now c.args.selection.now c.args.date c.in_ok-ids.ids
+    c.in_ok-kept.field-0.kept (map why_failed c.in_ok-kept.field-0.failed.items)
     c.in_ok-ids.ensures.members c.in_ok-ids.ensures.installable c.in_ok-kept.ensures
 
 pub returns-clause-installs : goal.returns-clause-installs
@@ -30,10 +32,14 @@ returns-clause-installs c new changed =
     let lines : AreById g (all_statuses zone.kind kept failed left_out) (map line_view c.in_ok-lines.field-0.items) =
     subst (λ ps. AreById g ps (map line_view c.in_ok-lines.field-0.items)) all c.in_ok-lines.ensures in
     record {
-      decision = decision g zone c.args.selection.now c.args.date c.in_ok-ids.ids kept failed c.in_ok-ids.ensures.members c.in_ok-ids.ensures.installable c.in_ok-kept.ensures;
-      decides = decides g zone c.args.selection.now c.args.date c.in_ok-ids.ids kept failed c.in_ok-ids.ensures.members c.in_ok-ids.ensures.installable c.in_ok-kept.ensures;
-      lines_are = install_lines g zone c.args.selection.now c.args.date c.in_ok-ids.ids kept failed c.in_ok-ids.ensures.members c.in_ok-ids.ensures.installable c.in_ok-kept.ensures
-          left_out c.in_ok-left_out.ensures.rising c.in_ok-left_out.ensures.members (map line_view c.in_ok-lines.field-0.items) lines;
+      decision = decision g zone c.args.selection.now c.args.date c.in_ok-ids.ids kept failed
+          c.in_ok-ids.ensures.members c.in_ok-ids.ensures.installable c.in_ok-kept.ensures;
+      decides = decides g zone c.args.selection.now c.args.date c.in_ok-ids.ids kept failed c.in_ok-ids.ensures.members
+          c.in_ok-ids.ensures.installable c.in_ok-kept.ensures;
+      lines_are = install_lines g zone c.args.selection.now c.args.date c.in_ok-ids.ids kept failed
+          c.in_ok-ids.ensures.members c.in_ok-ids.ensures.installable c.in_ok-kept.ensures
+          left_out c.in_ok-left_out.ensures.rising c.in_ok-left_out.ensures.members
+          (map line_view c.in_ok-lines.field-0.items) lines;
       installs = c.in_ok-delta.ensures.installs new (subst (λ delta. IsChanged delta zone new) c.delta.view_is changed);
     }
 
@@ -41,7 +47,8 @@ pub returns-clause-puts : goal.returns-clause-puts
 returns-clause-puts c =
     let kept = c.in_ok-kept.field-0.kept in (
       kept,
-      kept_installable c.args.global.now c.args.zone.now c.args.selection.now c.args.date c.in_ok-ids.ids kept (map why_failed c.in_ok-kept.field-0.failed.items)
+      kept_installable c.args.global.now c.args.zone.now c.args.selection.now c.args.date c.in_ok-ids.ids kept
+          (map why_failed c.in_ok-kept.field-0.failed.items)
           c.in_ok-ids.ensures.members c.in_ok-ids.ensures.installable c.in_ok-kept.ensures,
       c.delta.view_is ∙ c.in_ok-delta.ensures.puts,
     )

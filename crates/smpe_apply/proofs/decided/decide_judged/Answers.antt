@@ -18,7 +18,8 @@ failures-requires c =
       tests = c.requires.tests ∙ size;
       unserved = c.in_ok-unserved.ensures.size ∙ whole;
       causers = c.in_ok-causers.ensures.size ∙ whole;
-      within = λ n. subst (λ size. All (λ m. m < size) (row_at rows n)) whole (causers-within system c.in_ok-set.set rows c.in_ok-causers.ensures.exact n);
+      within = λ n. subst (λ size. All (λ m. m < size) (row_at rows n)) whole
+          (causers-within system c.in_ok-set.set rows c.in_ok-causers.ensures.exact n);
     }
 
 pub returns : goal.returns
@@ -35,7 +36,8 @@ returns c g zone judged tests =
     let exact = c.in_ok-causers.ensures.exact in
     let rows = c.in_ok-causers.causers.items in
     let within : (n : ℕ) → All (λ m. m < length ids) (row_at rows n) =
-    λ n. subst (λ size. All (λ m. m < size) (row_at rows n)) c.requires.size (causers-within system c.in_ok-set.set rows exact n) in
+    λ n. subst (λ size. All (λ m. m < size) (row_at rows n)) c.requires.size
+    (causers-within system c.in_ok-set.set rows exact n) in
     let failed = rw c.as_slice-2.ensures.items at c.in_ok-failed.ensures in
     decided s rising system needed problem c.in_ok-set.set c.in_ok-set.ensures c.in_ok-kept.kept kept_rising members _
     tests opened exact c.in_ok-causers.ensures.rising within _ c.in_ok-failed.failed.items refl failed

@@ -6,7 +6,8 @@ use Rattle.smpe_apply.proofs.failures.add_failure.Goals as goal
 pub returns-in_ok-push : goal.returns-in_ok-push
 returns-in_ok-push c =
     let ids = c.args.ids.now in
-    adds-one ids c.args.kept.now c.args.found.now c.args.place c.index-ids-place.result c.in_ok-failure.failure c.args.failed.now.items c.push.new.self.items
+    adds-one ids c.args.kept.now c.args.found.now c.args.place c.index-ids-place.result c.in_ok-failure.failure
+    c.args.failed.now.items c.push.new.self.items
     (slice_get_read ids (length ids) c.args.place c.index-ids-place.result refl c.requires.within c.index-ids-place.is)
     (sym c.contains.ensures ∙ c.if-not-contains.true) c.in_ok-push.ensures.items c.in_ok-failure.ensures
 

@@ -5,5 +5,6 @@ use Rattle.smpe_apply.proofs.failures.failures.Goals as goal
 
 pub loop-i-preserved : goal.loop-i-preserved
 loop-i-preserved c =
-    failures-next c.args.ids.now c.args.kept.now c.args.found.now c.loop-i.i (get_or c.args.ids.now c.loop-i.i []) c.loop-i.failed.items c.add_failure.new.failed.items
+    failures-next c.args.ids.now c.args.kept.now c.args.found.now c.loop-i.i (get_or c.args.ids.now c.loop-i.i [])
+    c.loop-i.failed.items c.add_failure.new.failed.items
     (slice_get-get_or c.args.ids.now c.loop-i.i [] (omega arith)) c.in_ok-add_failure.ensures c.loop-i.invariant

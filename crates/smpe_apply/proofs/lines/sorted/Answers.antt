@@ -10,5 +10,6 @@ returns c =
     let new = c.sort_unstable_by_key.new.self.items in
     record {
       same = IsPermutation-map said old new c.sort_unstable_by_key.ensures.permutation;
-      sorted = sorted_map new (c.sort_unstable_by_key.ensures.sorted (λ p. p.0) (answers_always _ _ _ (λ f a r h q. search rules)));
+      sorted = sorted_map new (c.sort_unstable_by_key.ensures.sorted (λ p. p.0)
+          (answers_always _ _ _ (λ f a r h q. search rules)));
     }

@@ -6,4 +6,5 @@ use Rattle.smpe_apply.proofs.needs.add_of.Goals as goal
 
 pub returns-in_ok-push : goal.returns-in_ok-push
 returns-in_ok-push c =
-    push-of c.args.ids.now.items c.push.new.self.items c.args.kind c.args.need (same_true the_type (search rules) _ _ (sym c.if-eq.ensures)) c.in_ok-push.ensures.items
+    push-of c.args.ids.now.items c.push.new.self.items c.args.kind c.args.need
+    (same_true the_type (search rules) _ _ (sym c.if-eq.ensures)) c.in_ok-push.ensures.items

@@ -11,8 +11,11 @@ use Rattle.smpe_invocation.proofs.command.run_command.Goals as goal
 
 four : (c : After-arg-5) → HasOptions c.in_ok-arg-4.field-0 (codes "run") (needed (codes "db") ∷ needed (codes "date") ∷ needed (codes "cntl") ∷ option (codes "ptfin") ∷ [])
 four c =
-    let none : HasOptions c.about.result (codes "run") [] =
-    (ap app_of_fields c.about.ensures ∙ c.new.ensures.app, ap (λ (f : Command-F Command). f.has_globals) c.about.ensures ∙ c.new.ensures.local) in
+    let none : HasOptions c.about.result (codes "run") [] = (
+      ap app_of_fields c.about.ensures ∙ c.new.ensures.app,
+      ap (λ (f : Command-F Command). f.has_globals) c.about.ensures
+          ∙ c.new.ensures.local,
+    ) in
     let one = one_more _ _ _ _ _ _ none c.in_ok-arg.ensures c.required.ensures.rule c.required.ensures.global in
     let two = one_more _ _ _ _ _ _ one c.in_ok-arg-2.ensures c.required-2.ensures.rule c.required-2.ensures.global in
     let three = one_more _ _ _ _ _ _ two c.in_ok-arg-3.ensures c.required-3.ensures.rule c.required-3.ensures.global in
@@ -20,8 +23,10 @@ four c =
 
 pub returns-clause-shape : goal.returns-clause-shape
 returns-clause-shape c = IfOk-weaker c.arg-5.result _ _
-    (λ new added. ap (λ (a : App). a.top) (one_more _ _ _ _ _ _ (four c) added c.optional-2.ensures.rule c.optional-2.ensures.global).0) c.arg-5.ensures
+    (λ new added. ap (λ (a : App). a.top) (one_more _ _ _ _ _ _ (four c) added c.optional-2.ensures.rule
+    c.optional-2.ensures.global).0) c.arg-5.ensures
 
 pub returns-clause-globals : goal.returns-clause-globals
 returns-clause-globals c = IfOk-weaker c.arg-5.result _ _
-    (λ new added. (one_more _ _ _ _ _ _ (four c) added c.optional-2.ensures.rule c.optional-2.ensures.global).1) c.arg-5.ensures
+    (λ new added. (one_more _ _ _ _ _ _ (four c) added c.optional-2.ensures.rule c.optional-2.ensures.global).1)
+    c.arg-5.ensures

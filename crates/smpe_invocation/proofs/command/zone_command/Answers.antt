@@ -11,8 +11,11 @@ use Rattle.smpe_invocation.proofs.command.zone_command.Goals as goal
 
 four : (c : After-arg-5) → HasOptions c.in_ok-arg-4.field-0 (codes "zone") (needed (codes "db") ∷ needed (codes "name") ∷ kind_option c.kind.ensures.rule.0 ∷ needed (codes "srel") ∷ [])
 four c =
-    let none : HasOptions c.about.result (codes "zone") [] =
-    (ap app_of_fields c.about.ensures ∙ c.new.ensures.app, ap (λ (f : Command-F Command). f.has_globals) c.about.ensures ∙ c.new.ensures.local) in
+    let none : HasOptions c.about.result (codes "zone") [] = (
+      ap app_of_fields c.about.ensures ∙ c.new.ensures.app,
+      ap (λ (f : Command-F Command). f.has_globals) c.about.ensures
+          ∙ c.new.ensures.local,
+    ) in
     let one = one_more _ _ _ _ _ _ none c.in_ok-arg.ensures c.required.ensures.rule c.required.ensures.global in
     let two = one_more _ _ _ _ _ _ one c.in_ok-arg-2.ensures c.required-2.ensures.rule c.required-2.ensures.global in
     let three = one_more _ _ _ _ _ _ two c.in_ok-arg-3.ensures c.kind.ensures.rule.2 c.kind.ensures.global in
@@ -28,4 +31,5 @@ returns-clause-shape c = IfOk-weaker c.arg-5.result _ _
 
 pub returns-clause-globals : goal.returns-clause-globals
 returns-clause-globals c = IfOk-weaker c.arg-5.result _ _
-    (λ new added. (one_more _ _ _ _ _ _ (four c) added c.optional.ensures.rule c.optional.ensures.global).1) c.arg-5.ensures
+    (λ new added. (one_more _ _ _ _ _ _ (four c) added c.optional.ensures.rule c.optional.ensures.global).1)
+    c.arg-5.ensures

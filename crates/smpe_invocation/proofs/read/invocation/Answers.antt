@@ -18,7 +18,8 @@ free c line = ap is_simple_and_free line.2 ∙ smpe_is_simple_and_free line.0
 simple : (c : Command) → IsCommandLine (app_of c) → is_simple (app_of c) ≡ true
 simple c line = ap is_simple line.2 ∙ smpe_is_simple line.0
 
-met_is : (c : Joined-matches) → option_map {U = Text × List Row} (λ p. (p.0.now, rows_of (found_of p.1.now))) c.subcommand.result
+met_is : (c : Joined-matches) → option_map {U = Text × List Row} (λ p. (p.0.now, rows_of (found_of p.1.now)))
+    c.subcommand.result
     ≡ subcommand_of (app_of c.in_ok-command_line.field-0) (map (λ word. word.now) c.args.words.now)
 met_is c = met_pairs c.in_ok-matches.matches c.subcommand.result c.subcommand.ensures.name c.subcommand.ensures.rows
     ∙ (c.in_ok-matches.ensures.matches (simple _ c.in_ok-command_line.ensures)).1
@@ -33,10 +34,16 @@ pub returns-clause-ok : goal.returns-clause-ok
 returns-clause-ok c =
     let line = c.in_ok-command_line.ensures in
     IfOk-weaker c.met.result _ _
-    (λ i h. (_, line, c.in_ok-matches.ensures.kinds (free _ line), subst (λ (o : Option (Text × List Row)). IsMet o i) (met_is c) h)) c.met.ensures.ok
+    (λ i h. (
+      _,
+      line,
+      c.in_ok-matches.ensures.kinds (free _ line),
+      subst (λ (o : Option (Text × List Row)). IsMet o i) (met_is c) h,
+    )) c.met.ensures.ok
 
 pub returns-clause-err : goal.returns-clause-err
 returns-clause-err c =
     let line = c.in_ok-command_line.ensures in
     IfErr-weaker c.met.result _ _
-    (λ e h. refused_by_value _ _ line (c.in_ok-matches.ensures.kinds (free _ line)) e (rw (met_is c) at h)) c.met.ensures.err
+    (λ e h. refused_by_value _ _ line (c.in_ok-matches.ensures.kinds (free _ line)) e (rw (met_is c) at h))
+    c.met.ensures.err

@@ -6,8 +6,10 @@ use Rattle.smpe_invocation.proofs.read.met.Goals as goal
 
 pub returns-then-eq-clause-err : goal.returns-then-eq-clause-err
 returns-then-eq-clause-err c = rw c.in-Some.is (IfErr-weaker c.zone.result _ _
-    (λ e h. excludes_more e _ _ (zone_of (rows_of (found_of c.in-Some.found.now)) c.in-Some.name.now (search rules)) h) c.zone.ensures.err)
+    (λ e h. excludes_more e _ _ (zone_of (rows_of (found_of c.in-Some.found.now)) c.in-Some.name.now (search rules)) h)
+    c.zone.ensures.err)
 
 pub returns-then-eq-2-clause-err : goal.returns-then-eq-2-clause-err
 returns-then-eq-2-clause-err c = rw c.in-Some.is (IfErr-weaker c.run.result _ _
-    (λ e h. excludes_more e _ _ (run_of (rows_of (found_of c.in-Some.found.now)) c.in-Some.name.now (search rules)) h) c.run.ensures.err)
+    (λ e h. excludes_more e _ _ (run_of (rows_of (found_of c.in-Some.found.now)) c.in-Some.name.now (search rules)) h)
+    c.run.ensures.err)

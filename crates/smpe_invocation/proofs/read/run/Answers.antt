@@ -6,14 +6,17 @@ use Rattle.smpe_invocation.proofs.read.run.Goals as goal
 pub returns-in_err-date-clause-err : goal.returns-in_err-date-clause-err
 returns-in_err-date-clause-err c =
     let p = err_from_is_err_and c.from_residual.result c.from_residual.ensures.1 in
-    rw (p.1, p.2) (excludes_more c.in_err-date.field-0.0 _ _ (date_in (rows_of (found_of c.args.found.now))) c.in_err-date.ensures.err)
+    rw (p.1, p.2) (excludes_more c.in_err-date.field-0.0 _ _ (date_in (rows_of (found_of c.args.found.now)))
+    c.in_err-date.ensures.err)
 
 pub returns-in_err-db-clause-err : goal.returns-in_err-db-clause-err
 returns-in_err-db-clause-err c =
     let p = err_from_is_err_and c.from_residual-in_err-db.result c.from_residual-in_err-db.ensures.1 in
-    rw (p.1, p.2) (excludes_more c.in_err-db.field-0.0 _ _ (run_db_in (rows_of (found_of c.args.found.now))) c.in_err-db.ensures.err)
+    rw (p.1, p.2) (excludes_more c.in_err-db.field-0.0 _ _ (run_db_in (rows_of (found_of c.args.found.now)))
+    c.in_err-db.ensures.err)
 
 pub returns-in_err-cntl-clause-err : goal.returns-in_err-cntl-clause-err
 returns-in_err-cntl-clause-err c =
     let p = err_from_is_err_and c.from_residual-in_err-cntl.result c.from_residual-in_err-cntl.ensures.1 in
-    rw (p.1, p.2) (excludes_more c.in_err-cntl.field-0.0 _ _ (cntl_in (rows_of (found_of c.args.found.now))) c.in_err-cntl.ensures.err)
+    rw (p.1, p.2) (excludes_more c.in_err-cntl.field-0.0 _ _ (cntl_in (rows_of (found_of c.args.found.now)))
+    c.in_err-cntl.ensures.err)

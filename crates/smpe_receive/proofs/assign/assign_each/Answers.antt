@@ -19,6 +19,8 @@ loop-id-preserved c =
     let takes = AssignsId c.args.source in
     let old = c.args.global.now in
     let below : i < length ids = omega arith in
-    let longer : take (i + 1) ids ≡ take i ids ++ x ∷ [] = take_more ids i x below ∙ ap (λ y. take i ids ++ y ∷ []) (sym c.id-item.is) in
+    let longer : take (i + 1) ids ≡ take i ids ++ x ∷ [] = take_more ids i x below
+    ∙ ap (λ y. take i ids ++ y ∷ []) (sym c.id-item.is) in
     subst (λ xs. IsTaken (Runs takes old xs) old now.global c.args.taken.now now.taken) (sym longer)
-    (more_taken takes old at.global now.global (take i ids) x c.args.taken.now at.taken now.taken at.invariant c.in_ok-assign_id.ensures)
+    (more_taken takes old at.global now.global (take i ids) x c.args.taken.now at.taken now.taken at.invariant
+    c.in_ok-assign_id.ensures)

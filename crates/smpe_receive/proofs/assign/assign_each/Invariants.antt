@@ -6,4 +6,5 @@ use Rattle.smpe_receive.proofs.assign.assign_each.Given as goal
 
 -- the ids so far
 abbrev pub invariant-loop-id : goal.invariant-loop-id
-invariant-loop-id l = IsTaken (Runs (AssignsId l.source) l.initial.global (take l.id-index l.ids)) l.initial.global l.global l.initial.taken l.taken
+invariant-loop-id l = IsTaken (Runs (AssignsId l.source) l.initial.global (take l.id-index l.ids)) l.initial.global
+    l.global l.initial.taken l.taken

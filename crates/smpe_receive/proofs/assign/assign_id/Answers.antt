@@ -28,7 +28,8 @@ returns c =
         is,
         ap (λ l. l ∷ [])
             (ap (λ p. StatusLine x p (status_view status)) c.place_of-place.ensures
-            ∙ ap (StatusLine x (place_of g x)) (c.status_of.ensures ∙ ap (λ b. if b then Assigned source else Unknown) c.in_ok-received.ensures.received)),
+            ∙ ap (StatusLine x (place_of g x)) (c.status_of.ensures
+            ∙ ap (λ b. if b then Assigned source else Unknown) c.in_ok-received.ensures.received)),
       );
       fits = written.0;
       after = written.1 ∙ sym is;

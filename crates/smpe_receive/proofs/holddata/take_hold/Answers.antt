@@ -28,7 +28,8 @@ returns c =
         c.in_ok-placed.ensures.ok,
         ap (λ l. l ∷ [])
             (ap (StatusLine read.id (OfHold read.kind)) (c.hold_status.ensures replaces c.in_ok-placed.ensures.placed)
-            ∙ ap (λ (r : Hold). StatusLine r.id (OfHold r.kind) (if replaces then Replaced r.reason else Held r.reason)) c.hold.view_is),
+            ∙ ap (λ (r : Hold). StatusLine r.id (OfHold r.kind) (if replaces then Replaced r.reason else Held r.reason))
+            c.hold.view_is),
       );
       fits = fits-one g (PutHold copy) tt;
       after = marked-written g h copy c.in_ok-copy.ensures ∙ sym c.in_ok-placed.ensures.ok;

@@ -20,7 +20,8 @@ take_hold_item-requires c =
     let rest = into_iter_items c.next.new.self in
     let steps : into_iter_items at.item-iterator ≡ x ∷ rest = c.in-Some.ensures.steps.0 in
     let all : into_iter_items c.into_iter-item-iterator.result ≡ c.args.found.items = search rules in
-    let whole : at.yielded ++ x ∷ rest ≡ c.args.found.items = ap (λ xs. at.yielded ++ xs) (sym steps) ∙ at.invariant.0 ∙ all in
+    let whole : at.yielded ++ x ∷ rest ≡ c.args.found.items =
+    ap (λ xs. at.yielded ++ xs) (sym steps) ∙ at.invariant.0 ∙ all in
     next-external at.yielded rest x (subst (λ xs. All IsExternal (items xs)) (sym whole) c.requires)
 
 pub loop-item-preserved : goal.loop-item-preserved
@@ -32,8 +33,10 @@ loop-item-preserved c =
     let now = c.take_hold_item.new in
     let steps : into_iter_items at.item-iterator ≡ x ∷ into_iter_items c.next.new.self = c.in-Some.ensures.steps.0 in (
       append_assoc at.yielded (x ∷ []) _ ∙ rw (← steps) at.invariant.0,
-      subst (λ its. IsTaken (Runs takes old its) old now.global c.args.taken.now now.taken) (sym (map-append item_of at.yielded (x ∷ [])))
-          (more_taken takes old at.global now.global (items at.yielded) (item_of x) c.args.taken.now at.taken now.taken at.invariant.1 c.in_ok-take_hold_item.ensures),
+      subst (λ its. IsTaken (Runs takes old its) old now.global c.args.taken.now now.taken)
+          (sym (map-append item_of at.yielded (x ∷ [])))
+          (more_taken takes old at.global now.global (items at.yielded) (item_of x) c.args.taken.now at.taken now.taken
+          at.invariant.1 c.in_ok-take_hold_item.ensures),
       let was = at.invariant.2 in
           let gone = c.in-Some.ensures.steps.1 in
           let short = ap length steps in

@@ -20,7 +20,8 @@ returns c =
     let new = c.release-answer.new.self in
     let was = c.args.taken.now in
     let is : Taken = record { edits = c.write_release.new.edits; lines = c.push.new.self } in
-    let done = release_taken g new r answer c.release-answer.ensures.ok c.release-answer.ensures.refused c.release-answer.ensures.err in
+    let done = release_taken g new r answer c.release-answer.ensures.ok c.release-answer.ensures.refused
+    c.release-answer.ensures.err in
     subst (λ r. IsTaken (TakesHoldItem g (ARelease r)) g new was is) c.release.view_is
     (record {
       own = release_edits r.id r.kind r.reason answer;
@@ -29,7 +30,8 @@ returns c =
       lines_are = c.in_ok-push.ensures.items;
       prints = (
         done.leads,
-        ap (λ l. l ∷ []) (ap (StatusLine r.id (OfHold r.kind)) (c.release_status.ensures new r refl ∙ ap (release_status r) (sym done.answers))),
+        ap (λ l. l ∷ []) (ap (StatusLine r.id (OfHold r.kind))
+            (c.release_status.ensures new r refl ∙ ap (release_status r) (sym done.answers))),
       );
       fits = done.fits;
       after = done.after;

@@ -7,14 +7,17 @@ use Rattle.smpe_receive.proofs.ptfin.receive.Goals as goal
 pub returns-clause-runs : goal.returns-clause-runs
 returns-clause-runs c =
     let now = c.take_items.new in
-    all-printed (Runs (TakesItem c.args.source) c.args.global.now (items c.args.found.items)) c.args.global.now now.global c.new-taken.result now.taken c.in_ok-take_items.ensures c.new-taken.ensures.lines
+    all-printed (Runs (TakesItem c.args.source) c.args.global.now (items c.args.found.items)) c.args.global.now
+    now.global c.new-taken.result now.taken c.in_ok-take_items.ensures c.new-taken.ensures.lines
 
 pub returns-clause-fits : goal.returns-clause-fits
 returns-clause-fits c =
     let now = c.take_items.new in
-    all-fit (Runs (TakesItem c.args.source) c.args.global.now (items c.args.found.items)) c.args.global.now now.global c.new-taken.result now.taken c.in_ok-take_items.ensures c.new-taken.ensures.edits
+    all-fit (Runs (TakesItem c.args.source) c.args.global.now (items c.args.found.items)) c.args.global.now now.global
+    c.new-taken.result now.taken c.in_ok-take_items.ensures c.new-taken.ensures.edits
 
 pub returns-clause-edits : goal.returns-clause-edits
 returns-clause-edits c =
     let now = c.take_items.new in
-    all-after (Runs (TakesItem c.args.source) c.args.global.now (items c.args.found.items)) c.args.global.now now.global c.new-taken.result now.taken c.in_ok-take_items.ensures c.new-taken.ensures.edits
+    all-after (Runs (TakesItem c.args.source) c.args.global.now (items c.args.found.items)) c.args.global.now now.global
+    c.new-taken.result now.taken c.in_ok-take_items.ensures c.new-taken.ensures.edits

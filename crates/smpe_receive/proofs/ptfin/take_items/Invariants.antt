@@ -10,5 +10,6 @@ use Rattle.smpe_receive.proofs.ptfin.take_items.Given as goal
 abbrev pub invariant-loop-item : goal.invariant-loop-item
 invariant-loop-item l =
     (l.yielded ++ into_iter_items l.item-iterator ≡ into_iter_items l.initial.item-iterator)
-    × IsTaken (Runs (TakesItem l.source) l.initial.global (items l.yielded)) l.initial.global l.global l.initial.taken l.taken
+    × IsTaken (Runs (TakesItem l.source) l.initial.global (items l.yielded)) l.initial.global l.global l.initial.taken
+    l.taken
     × (into_iter_len l.item-iterator ≡ length (into_iter_items l.item-iterator))

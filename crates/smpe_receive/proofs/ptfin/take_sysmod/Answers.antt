@@ -17,6 +17,9 @@ returns c =
     let line : Line = Status read.id (Kind read.kind) c.status_of.result in
     let status = receive_status (answer_of c.receive.new.self refused) in
     let now : Taken = record { edits = c.write_received.new.edits; lines = c.push.new.self } in
-    copy_taken c.args.source.now c.args.global.now c.receive.new.self c.args.sysmod line c.args.taken.now now c.in_ok-push.ensures.items
-    c.in_ok-sysmod.sysmod c.in_ok-copy.copy refused c.in_ok-sysmod.ensures c.in_ok-copy.ensures c.in_ok-write_received.ensures c.known.ensures c.in_ok-refused.ensures.answer
-    (ap (StatusLine read.id (OfKind read.kind)) (c.status_of.ensures c.receive.new.self) ∙ ap (λ (r : Sysmod). StatusLine r.id (OfKind r.kind) status) c.sysmod.view_is)
+    copy_taken c.args.source.now c.args.global.now c.receive.new.self c.args.sysmod line c.args.taken.now now
+    c.in_ok-push.ensures.items
+    c.in_ok-sysmod.sysmod c.in_ok-copy.copy refused c.in_ok-sysmod.ensures c.in_ok-copy.ensures
+    c.in_ok-write_received.ensures c.known.ensures c.in_ok-refused.ensures.answer
+    (ap (StatusLine read.id (OfKind read.kind)) (c.status_of.ensures c.receive.new.self)
+    ∙ ap (λ (r : Sysmod). StatusLine r.id (OfKind r.kind) status) c.sysmod.view_is)

@@ -6,4 +6,5 @@ use Rattle.smpe_reject.proofs.rejected.is_applied.Goals as goal
 
 pub returns : goal.returns
 returns c =
-    any_from_yields_List (λ zone. is_applied zone c.args.id) _ _ _ c.any.ensures.ran (YieldsList-from_rest _ c.values.ensures.rest) (λ x b q k. search (rules, tests))
+    any_from_yields_List (λ zone. is_applied zone c.args.id) _ _ _ c.any.ensures.ran
+    (YieldsList-from_rest _ c.values.ensures.rest) (λ x b q k. search (rules, tests))

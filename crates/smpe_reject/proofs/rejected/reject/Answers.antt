@@ -14,7 +14,9 @@ loop-id-preserved c =
     let new = c.reject_one.new in
     subst (λ ids. AreRejected zones g ids new.global new.rejected.edits.items new.rejected.lines.items)
     (ap (λ y. take at.id-index all ++ y ∷ []) c.id-item.is ∙ sym (take_more all at.id-index x c.loop-id-test.true))
-    (more_rejected zones g at.global new.global (take at.id-index all) x at.rejected.edits.items new.rejected.edits.items at.rejected.lines.items new.rejected.lines.items at.invariant c.in_ok-reject_one.ensures)
+    (more_rejected zones g at.global new.global (take at.id-index all) x at.rejected.edits.items
+    new.rejected.edits.items at.rejected.lines.items new.rejected.lines.items at.invariant
+    c.in_ok-reject_one.ensures)
 
 pub returns-clause-fits : goal.returns-clause-fits
 returns-clause-fits c = each-fits c.loop-id.rejected.edits.items c.args.global.now c.loop-id.invariant.fits

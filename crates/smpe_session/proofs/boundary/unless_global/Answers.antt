@@ -6,7 +6,9 @@ pub returns-in_default : goal.returns-in_default
 returns-in_default c = λ s at. at-nowhere s (at ∙ c.in_default.is)
 
 pub returns-then-is_global : goal.returns-then-is_global
-returns-then-is_global c = λ s at. at-global s c.in-Some.name (at ∙ c.in-Some.is) (c.is_global.ensures.0 c.if-is_global.true)
+returns-then-is_global c = λ s at. at-global s c.in-Some.name (at ∙ c.in-Some.is)
+    (c.is_global.ensures.0 c.if-is_global.true)
 
 pub returns : goal.returns
-returns c = λ s at. at-elsewhere s c.in-Some.name (at ∙ c.in-Some.is) (λ is. true≢false (sym (c.is_global.ensures.1 is) ∙ c.if-is_global.false))
+returns c = λ s at. at-elsewhere s c.in-Some.name (at ∙ c.in-Some.is)
+    (λ is. true≢false (sym (c.is_global.ensures.1 is) ∙ c.if-is_global.false))

@@ -5,4 +5,5 @@ use Rattle.smpe_session.proofs.load.load_global.Goals as goal
 pub returns-clause-ended : goal.returns-clause-ended
 returns-clause-ended g c = λ clean s keeps.
     let e = c.load_global.ensures in
-    loaded g.S.Store c.args.store.now c.load_global.new.self s (λ i global. global ≡ i.global) c.load_global.result clean e.found e.none e.same e.err e.which e.crash keeps
+    loaded g.S.Store c.args.store.now c.load_global.new.self s (λ i global. global ≡ i.global) c.load_global.result
+    clean e.found e.none e.same e.err e.which e.crash keeps

@@ -6,4 +6,5 @@ use Rattle.smpe_session.proofs.load.load_zone.Goals as goal
 pub returns-clause-ended : goal.returns-clause-ended
 returns-clause-ended g c = λ clean s keeps.
     let e = c.load_zone.ensures in
-    loaded g.S.Store c.args.store.now c.load_zone.new.self s (λ i zone. zone ≡ zone_in i c.args.name) c.load_zone.result clean e.found e.none e.same e.err e.which e.crash keeps
+    loaded g.S.Store c.args.store.now c.load_zone.new.self s (λ i zone. zone ≡ zone_in i c.args.name) c.load_zone.result
+    clean e.found e.none e.same e.err e.which e.crash keeps

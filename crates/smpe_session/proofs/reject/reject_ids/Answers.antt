@@ -10,24 +10,33 @@ use Rattle.smpe_session.proofs.reject.reject_ids.Goals as goal
 
 pub returns-in_err-edits-clause-ended : goal.returns-in_err-edits-clause-ended
 returns-in_err-edits-clause-ended g c = λ clean s global alike keeps date files at.
-    run-short g.S.Store c.args.store.now s (Perform date files (Reject c.args.ids.now)) (LeadsTo date files (Reject c.args.ids.now) s c.reject.new.global) (λ v. map line_view v.items) c.from_residual.result c.from_residual.ensures.1 keeps
+    run-short g.S.Store c.args.store.now s (Perform date files (Reject c.args.ids.now))
+    (LeadsTo date files (Reject c.args.ids.now) s c.reject.new.global) (λ v. map line_view v.items)
+    c.from_residual.result c.from_residual.ensures.1 keeps
 
 pub returns-in_err-commit_change-clause-ended : goal.returns-in_err-commit_change-clause-ended
 returns-in_err-commit_change-clause-ended g c = λ clean s global alike keeps date files at.
     let ids = c.args.ids.now in
     let is = kept-inventory g.S.Store c.args.store.now s (c.commit_change.ensures.clean clean) keeps in
-    let taken = rejected date files ids s c.args.global.now c.reject.new.global c.in_ok-edits.field-0.edits.items (map line_view c.in_ok-edits.field-0.lines.items)
+    let taken = rejected date files ids s c.args.global.now c.reject.new.global c.in_ok-edits.field-0.edits.items
+    (map line_view c.in_ok-edits.field-0.lines.items)
     global is at (c.in_ok-edits.ensures.runs s.zones alike) c.in_ok-edits.ensures.fits c.in_ok-edits.ensures.edits in
     let t = record s { global = c.reject.new.global } in
-    run-staying g.S.Store c.commit_change.new.store s (Perform date files (Reject ids)) (LeadsTo date files (Reject ids) s c.reject.new.global) (λ v. map line_view v.items) c.from_residual-in_err-commit_change.result c.in_err-commit_change.field-0.0 c.from_residual-in_err-commit_change.ensures.1
-    (staying-unsettled g.S.Store c.commit_change.new.store s date files (Reject ids) t (Ran (header_of (Reject ids) s.boundary) (map line_view c.in_ok-edits.field-0.lines.items)) taken.leads.performs c.in_err-commit_change.field-0.0
+    run-staying g.S.Store c.commit_change.new.store s (Perform date files (Reject ids))
+    (LeadsTo date files (Reject ids) s c.reject.new.global) (λ v. map line_view v.items)
+    c.from_residual-in_err-commit_change.result c.in_err-commit_change.field-0.0
+    c.from_residual-in_err-commit_change.ensures.1
+    (staying-unsettled g.S.Store c.commit_change.new.store s date files (Reject ids) t
+    (Ran (header_of (Reject ids) s.boundary) (map line_view c.in_ok-edits.field-0.lines.items)) taken.leads.performs
+    c.in_err-commit_change.field-0.0
     (c.in_err-commit_change.ensures.ended s t keeps (taken.fits, taken.makes) taken.inventory))
 
 pub returns-clause-ended : goal.returns-clause-ended
 returns-clause-ended g c = λ clean s global alike keeps date files at.
     let ids = c.args.ids.now in
     let is = kept-inventory g.S.Store c.args.store.now s (c.commit_change.ensures.clean clean) keeps in
-    let taken = rejected date files ids s c.args.global.now c.reject.new.global c.in_ok-edits.field-0.edits.items (map line_view c.in_ok-edits.field-0.lines.items)
+    let taken = rejected date files ids s c.args.global.now c.reject.new.global c.in_ok-edits.field-0.edits.items
+    (map line_view c.in_ok-edits.field-0.lines.items)
     global is at (c.in_ok-edits.ensures.runs s.zones alike) c.in_ok-edits.ensures.fits c.in_ok-edits.ensures.edits in
     let t = record s { global = c.reject.new.global } in
     (t, taken.leads, c.in_ok-commit_change.ensures.ended s t keeps (taken.fits, taken.makes) taken.inventory)

@@ -4,7 +4,8 @@ use Rattle.terms.specs.Types.{a_zone}
 use Rattle.machine.specs.State.{with_zone}
 use Rattle.machine.specs.Machine.{Define}
 use Rattle.store.specs.Kept.{kept}
-use Rattle.store.proofs.Keeping.{keeps-loaded, stays-loaded, keeps-committed, stays-uncommitted, load-errors, inventory-kept}
+use Rattle.store.proofs.Keeping.{keeps-loaded, stays-loaded, keeps-committed, stays-uncommitted, load-errors}
+use Rattle.store.proofs.Keeping.{inventory-kept}
 use Rattle.smpe_zones.specs.Definitions.{definition}
 use Rattle.smpe_zones.specs.Heads.{first_fault}
 use Rattle.smpe_zones.proofs.Adding.{makes, leads, prints-none}
@@ -18,9 +19,11 @@ returns-in_err-heads-clause-ended g c = λ clean s keeps.
     let d = definition c.args.name c.args.kind c.args.srel c.args.related in
     let p = err_from_is_err_and c.from_residual.result c.from_residual.ensures.1 in
     let at = c.in_err-heads.ensures in
-    ends-early g.S.Store c.zone_heads.new.self s d c.in_err-heads.field-0.0 c.from_residual.result (p.1 ∙ ap (λ e. Err e) p.2)
+    ends-early g.S.Store c.zone_heads.new.self s d c.in_err-heads.field-0.0 c.from_residual.result
+    (p.1 ∙ ap (λ e. Err e) p.2)
     (load-errors c.in_err-heads.field-0.0 at.which (λ e. at.none clean (ap (λ x. Err x) e) (kept s) keeps.now))
-    (stays-loaded g.S.Store c.args.store.now c.zone_heads.new.self s keeps (Define d) (at.err (kept s)) (at.crash (kept s) keeps.now))
+    (stays-loaded g.S.Store c.args.store.now c.zone_heads.new.self s keeps (Define d) (at.err (kept s))
+    (at.crash (kept s) keeps.now))
 
 -- the definition is refused
 pub returns-in-Some-clause-ended : goal.returns-in-Some-clause-ended
@@ -28,8 +31,10 @@ returns-in-Some-clause-ended g c = λ clean s keeps.
     let d = definition c.args.name c.args.kind c.args.srel c.args.related in
     let at = c.in_ok-heads.ensures in
     let found = c.as_slice.ensures.value ∙ at.found clean (kept s) keeps.now in (
-      refuses s d c.in-Some.fault (sym (c.first_fault.ensures ∙ ap (λ heads. first_fault heads d) found) ∙ c.in-Some.is),
-      keeps-loaded g.S.Store c.args.store.now c.zone_heads.new.self s keeps (at.same (kept s)) (at.crash (kept s) keeps.now),
+      refuses s d c.in-Some.fault (sym (c.first_fault.ensures ∙ ap (λ heads. first_fault heads d) found)
+          ∙ c.in-Some.is),
+      keeps-loaded g.S.Store c.args.store.now c.zone_heads.new.self s keeps (at.same (kept s))
+          (at.crash (kept s) keeps.now),
     )
 
 -- the zone could not be added
@@ -41,12 +46,14 @@ returns-in_err-commit-clause-ended g c = λ clean s keeps.
     let before = c.zone_heads.new.self in
     let was = keeps-loaded g.S.Store c.args.store.now before s keeps (at.same (kept s)) (at.crash (kept s) keeps.now) in
     let found = c.as_slice.ensures.value ∙ at.found (c.commit.ensures.clean clean) (kept s) keeps.now in
-    let answers = accepts s d (sym (c.first_fault.ensures ∙ ap (λ heads. first_fault heads d) found) ∙ c.in_default.is) in
+    let answers = accepts s d (sym (c.first_fault.ensures ∙ ap (λ heads. first_fault heads d) found) ∙ c.in_default.is)
+    in
     let t = with_zone s d.name (a_zone d.kind d.srel d.related [] []) in
     let inventory = inventory-kept g.S.Store before s was (c.commit.ensures.clean clean) in
     let is_made = makes s t d answers inventory in
     let is_led = leads s t d answers inventory c.known.ensures.name c.known.ensures.srel in
-    ends-early g.S.Store c.commit.new.self s d c.in_err-commit.field-0.0 c.from_residual-in_err-commit.result (p.1 ∙ ap (λ e. Err e) p.2)
+    ends-early g.S.Store c.commit.new.self s d c.in_err-commit.field-0.0 c.from_residual-in_err-commit.result
+    (p.1 ∙ ap (λ e. Err e) p.2)
     c.in_err-commit.ensures.which
     (stays-uncommitted g.S.Store before c.commit.new.self s was t (Define d) [] (prints-none s t d answers)
     (c.in_err-commit.ensures.err (kept s)) (c.commit.ensures.crash (kept s) (kept t) is_made is_led))
@@ -59,7 +66,8 @@ returns-clause-ended g c = λ clean s keeps.
     let before = c.zone_heads.new.self in
     let was = keeps-loaded g.S.Store c.args.store.now before s keeps (at.same (kept s)) (at.crash (kept s) keeps.now) in
     let found = c.as_slice.ensures.value ∙ at.found (c.commit.ensures.clean clean) (kept s) keeps.now in
-    let answers = accepts s d (sym (c.first_fault.ensures ∙ ap (λ heads. first_fault heads d) found) ∙ c.in_default.is) in
+    let answers = accepts s d (sym (c.first_fault.ensures ∙ ap (λ heads. first_fault heads d) found) ∙ c.in_default.is)
+    in
     let t = with_zone s d.name (a_zone d.kind d.srel d.related [] []) in
     let inventory = inventory-kept g.S.Store before s was (c.commit.ensures.clean clean) in
     let is_made = makes s t d answers inventory in
@@ -67,5 +75,6 @@ returns-clause-ended g c = λ clean s keeps.
       t,
       answers,
       keeps-committed g.S.Store before c.commit.new.self s was t
-          (c.in_ok-commit.ensures.ok (kept s) (kept t) is_made is_led) (c.in_ok-commit.ensures.durable (kept s) (kept t) is_made is_led),
+          (c.in_ok-commit.ensures.ok (kept s) (kept t) is_made is_led)
+          (c.in_ok-commit.ensures.durable (kept s) (kept t) is_made is_led),
     )

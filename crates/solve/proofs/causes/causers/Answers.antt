@@ -9,7 +9,8 @@ use Rattle.solve.proofs.causes.causers.Goals.{then-is_root+in_ok-list+in_ok-add_
 
 pub reaching-requires-clause-rows : goal.reaching-requires-clause-rows
 reaching-requires-clause-rows c =
-    rw (c.deref-then-is_root.ensures.value) (leads-small c.args.s.now c.args.kept.now c.in_ok-leads.leads.items (rw c.flags-flags.ensures at c.in_ok-leads.ensures))
+    rw (c.deref-then-is_root.ensures.value) (leads-small c.args.s.now c.args.kept.now c.in_ok-leads.leads.items
+    (rw c.flags-flags.ensures at c.in_ok-leads.ensures))
 
 pub loop-y-preserved : goal.loop-y-preserved
 loop-y-preserved c =
@@ -25,8 +26,10 @@ loop-y-preserved c =
           let new = w.add_under.new.rows in
           let cleared = w.reaching.new.marks in
           let whole_rows : take c.loop-y.rows.len (new ++ drop (length new) rows) ≡ new = grind (arith, common_steps) in
-          let whole_marks : take c.loop-y.marks.len (cleared ++ drop (length cleared) marks) ≡ cleared = grind (arith, common_steps) in
-          let added = rw (w.deref_mut-then-is_root.ensures.value, w.deref-then-is_root-2.ensures.value) at w.in_ok-add_under.ensures in
+          let whole_marks : take c.loop-y.marks.len (cleared ++ drop (length cleared) marks) ≡ cleared =
+          grind (arith, common_steps) in
+          let added = rw (w.deref_mut-then-is_root.ensures.value, w.deref-then-is_root-2.ensures.value) at
+          w.in_ok-add_under.ensures in
           let reached = rw w.deref-then-is_root.ensures.value at w.in_ok-list.ensures.exact in
           rw (w.rows-is, w.marks-is, whole_rows, whole_marks) (record {
             rows = causers-add p kept rows new list c.loop-y.y (root_iff.0 w.if-is_root.true)
@@ -36,7 +39,8 @@ loop-y-preserved c =
             clear = w.in_ok-list.ensures.clear;
           })
       | else-is_root w ↦ rw (w.rows-is, w.marks-is) (record {
-        rows = causers-skip p kept rows c.loop-y.y (λ root. cc (root_iff.1 root, w.if-is_root.false)) c.loop-y.invariant.rows;
+        rows = causers-skip p kept rows c.loop-y.y (λ root. cc (root_iff.1 root, w.if-is_root.false))
+            c.loop-y.invariant.rows;
         size = c.loop-y.invariant.size;
         clear = c.loop-y.invariant.clear;
       })
@@ -49,4 +53,5 @@ returns-clause-exact c =
 
 pub returns-clause-some : goal.returns-clause-some
 returns-clause-some c kept =
-    has_causer c.args.s.now c.args.kept.now c.loop-y.rows.items c.size.ensures.valid (returns-clause-exact c) (greatest_from_kept c.args.s.now c.args.kept.now kept)
+    has_causer c.args.s.now c.args.kept.now c.loop-y.rows.items c.size.ensures.valid (returns-clause-exact c)
+    (greatest_from_kept c.args.s.now c.args.kept.now kept)

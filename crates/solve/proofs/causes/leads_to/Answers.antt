@@ -1,4 +1,5 @@
-use Rattle.std.proofs.Common.{◌≡◌, ◌≤◌, ◌<◌, ◌+◌, ◌++◌, ◌∷◌, [], List, ◌∙◌, sym, ap, subst, take, drop, length, map, take_all, arith}
+use Rattle.std.proofs.Common.{◌≡◌, ◌≤◌, ◌<◌, ◌+◌, ◌++◌, ◌∷◌, [], List, ◌∙◌, sym, ap, subst, take, drop, length, map}
+use Rattle.std.proofs.Common.{take_all, arith}
 use Rattle.std.specs.Prelude.{Vec}
 use Rattle.std.specs.declared.alloc.Global.{Global}
 use Rattle.std.proofs.Common.{ℕ}
@@ -9,7 +10,9 @@ use Rattle.solve.specs.Need.{demand}
 use Rattle.solve.proofs.Passing.{clash}
 use Rattle.solve.proofs.Leads.{AreLeadsBy, leads-none, leads-skip, leads-add}
 use Rattle.solve.proofs.causes.leads_to.Goals as goal
-use Rattle.solve.proofs.causes.leads_to.Goals.{then-not-kept-need+then-not-serves+in_ok-add_under, else-not-kept-need, else-not-kept-need-via-then-not-kept-need+else-not-serves, else-not-kept-need-via-else-not-kept-need}
+use Rattle.solve.proofs.causes.leads_to.Goals.{then-not-kept-need+then-not-serves+in_ok-add_under, else-not-kept-need}
+use Rattle.solve.proofs.causes.leads_to.Goals.{else-not-kept-need-via-then-not-kept-need+else-not-serves}
+use Rattle.solve.proofs.causes.leads_to.Goals.{else-not-kept-need-via-else-not-kept-need}
 
 pub loop-need-preserved : goal.loop-need-preserved
 loop-need-preserved c =
@@ -22,7 +25,8 @@ loop-need-preserved c =
     let seen : List Demand = map demand (take i needs) in
     let valid = c.needs-need-items.ensures.valid i n c.loop-need-test.true in
     let in_size : n.of < p.size = rw (← c.need-item.is) at valid.of in
-    let more : map demand (take (i + 1) needs) ≡ seen ++ demand n ∷ [] = map_more demand needs i n c.loop-need-test.true ∙ ap (λ m. seen ++ demand m ∷ []) (sym c.need-item.is) in
+    let more : map demand (take (i + 1) needs) ≡ seen ++ demand n ∷ [] =
+    map_more demand needs i n c.loop-need-test.true ∙ ap (λ m. seen ++ demand m ∷ []) (sym c.need-item.is) in
     elim c.if-not-kept-need.branch [
       | then-not-kept-need+then-not-serves+in_ok-add_under w ↦
           let new = w.add_under.new.rows in
@@ -39,7 +43,9 @@ loop-need-preserved c =
         size = c.loop-need.invariant.size;
         exact = subst (λ ds. AreLeadsBy p kept ds rows) (sym more) (leads-skip p kept seen (demand n) rows
             (elim w.else-not-kept-need.branch [
-              | else-not-kept-need-via-then-not-kept-need+else-not-serves v ↦ λ _ unmet. clash (holds kept) n.any.items (rw v.deref.ensures.value at (v.serves.ensures.some v.if-not-serves.false)) unmet
+              | else-not-kept-need-via-then-not-kept-need+else-not-serves v ↦ λ _ unmet.
+                  clash (holds kept) n.any.items (rw v.deref.ensures.value at
+                  (v.serves.ensures.some v.if-not-serves.false)) unmet
               | else-not-kept-need-via-else-not-kept-need v ↦ λ failed _. cc (failed.1, v.if-not-kept-need.false)
             ])
             c.loop-need.invariant.exact);
@@ -50,8 +56,10 @@ pub returns : goal.returns
 returns c =
     let needs = c.needs-need-items.result.now in
     let end : length needs ≤ c.loop-need.need-index = omega arith in
-    let all : map demand (take c.loop-need.need-index needs) ≡ c.args.s.now.demands = ap (map demand) (take_all c.loop-need.need-index needs end) ∙ c.needs-need-items.ensures.needs in
+    let all : map demand (take c.loop-need.need-index needs) ≡ c.args.s.now.demands =
+    ap (map demand) (take_all c.loop-need.need-index needs end) ∙ c.needs-need-items.ensures.needs in
     record {
       size = c.loop-need.invariant.size;
-      exact = subst (λ ds. AreLeadsBy c.args.s.now c.args.kept.now ds c.loop-need.leads.items) all c.loop-need.invariant.exact;
+      exact = subst (λ ds. AreLeadsBy c.args.s.now c.args.kept.now ds c.loop-need.leads.items) all
+          c.loop-need.invariant.exact;
     }

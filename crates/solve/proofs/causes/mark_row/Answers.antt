@@ -10,7 +10,9 @@ loop-x-preserved c =
     let small : get_or row i 0 < length c.loop-x.marks = omega (arith, c.requires i 0 c.loop-x-test.true) in
     elim c.if-not-marks-x.branch [
       | then-not-marks-x+in_ok-push w ↦ rw (w.marks-is, w.list-is, w.in_ok-push.ensures.items)
-          (marked-add row c.args.marks.now c.loop-x.marks c.args.list.now.items c.loop-x.list.items i c.loop-x-test.true small w.if-not-marks-x.true c.loop-x.invariant)
+          (marked-add row c.args.marks.now c.loop-x.marks c.args.list.now.items c.loop-x.list.items i c.loop-x-test.true
+          small w.if-not-marks-x.true c.loop-x.invariant)
       | else-not-marks-x w ↦ rw (w.marks-is, w.list-is)
-          (marked-stay row c.args.marks.now c.loop-x.marks c.args.list.now.items c.loop-x.list.items i c.loop-x-test.true w.if-not-marks-x.false c.loop-x.invariant)
+          (marked-stay row c.args.marks.now c.loop-x.marks c.args.list.now.items c.loop-x.list.items i
+          c.loop-x-test.true w.if-not-marks-x.false c.loop-x.invariant)
     ]

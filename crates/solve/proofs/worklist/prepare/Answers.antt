@@ -1,4 +1,5 @@
-use Rattle.std.proofs.Common.{◌≡◌, ◌<◌, ◌≤◌, ◌+◌, ◌*◌, ◌^◌, ◌++◌, ◌∷◌, [], List, ℕ, length, map, take, drop, get_or, take_all, sym, subst, ◌∙◌, ap, arith, rules}
+use Rattle.std.proofs.Common.{◌≡◌, ◌<◌, ◌≤◌, ◌+◌, ◌*◌, ◌^◌, ◌++◌, ◌∷◌, [], List, ℕ, length, map, take, drop, get_or}
+use Rattle.std.proofs.Common.{take_all, sym, subst, ◌∙◌, ap, arith, rules}
 use Rattle.std.proofs.lemmas.List.{length-map}
 use Rattle.std.proofs.lemmas.Grind.{common_steps}
 use Rattle.terms.specs.Problem.{Demand, pairs_of}
@@ -13,7 +14,12 @@ overflow_add-turns-in-loop-k c =
     let needs = c.needs-needs.result.now in
     let small : p.size < 2 ^ 32 = omega arith in
     let short : length needs < 2 ^ 64 = omega arith in
-    omega (arith, start-room p needs c.loop-k.k c.index-needs-k.result c.needs-needs.ensures.needs c.size.ensures.valid small short c.loop-k-test.true c.index-needs-k.is, c.loop-k.invariant.turns)
+    omega (
+      arith,
+      start-room p needs c.loop-k.k c.index-needs-k.result c.needs-needs.ensures.needs c.size.ensures.valid
+          small short c.loop-k-test.true c.index-needs-k.is,
+      c.loop-k.invariant.turns,
+    )
 
 pub loop-k-preserved : goal.loop-k-preserved
 loop-k-preserved c =
@@ -25,10 +31,13 @@ loop-k-preserved c =
     let new = c.add_under.new.rows in
     let whole : take c.loop-k.served.len (new ++ drop (length new) old) ≡ new = grind (arith, common_steps) in
     record {
-      living = c.in_ok-push.ensures.items ∙ living-more p needs k n c.loop-k.living.items c.count_living.result c.loop-k-test.true c.index-needs-k.is
-          (rw (c.eligible-in-loop-k.ensures.flags, c.deref.ensures.value) at c.count_living.ensures) c.loop-k.invariant.living;
+      living = c.in_ok-push.ensures.items ∙ living-more p needs k n c.loop-k.living.items c.count_living.result
+          c.loop-k-test.true c.index-needs-k.is
+          (rw (c.eligible-in-loop-k.ensures.flags, c.deref.ensures.value) at c.count_living.ensures)
+          c.loop-k.invariant.living;
       served = rw whole (served-next needs k n old new c.loop-k-test.true c.index-needs-k.is
-          (rw (c.deref_mut.ensures.value, c.deref-in-loop-k.ensures.value) at c.in_ok-add_under.ensures) c.loop-k.invariant.served);
+          (rw (c.deref_mut.ensures.value, c.deref-in-loop-k.ensures.value) at c.in_ok-add_under.ensures)
+          c.loop-k.invariant.served);
       size = ap length whole ∙ (omega (arith, c.add_under.auto.rows, c.deref_mut.ensures.len, c.loop-k.invariant.size));
       turns = omega (arith, c.loop-k.invariant.turns, pairs-more needs k n c.loop-k-test.true c.index-needs-k.is);
     }
@@ -38,16 +47,21 @@ returns-clause-board c =
     let p = c.args.s.now in
     let needs = c.needs-needs.result.now in
     let end : length needs ≤ c.loop-k.k = omega arith in
-    let all : c.loop-k.living.items ≡ map (eligible_in p) p.demands = c.loop-k.invariant.living ∙ ap (λ ns. map (eligible_in p) (map demand ns)) (take_all c.loop-k.k needs end) ∙ ap (map (eligible_in p)) c.needs-needs.ensures.needs in
+    let all : c.loop-k.living.items ≡ map (eligible_in p) p.demands =
+    c.loop-k.invariant.living ∙ ap (λ ns. map (eligible_in p) (map demand ns)) (take_all c.loop-k.k needs end)
+    ∙ ap (map (eligible_in p)) c.needs-needs.ensures.needs in
     let copied : c.in_ok-standing.standing.items ≡ c.eligible.result.now = search rules in
     let stands : c.in_ok-standing.standing.items ≡ p.eligible = copied ∙ c.eligible.ensures.flags in
-    rw (stands, c.in_ok-with_capacity.ensures.items) (search-start p c.loop-k.living.items c.in_ok-with_capacity.field-0.cap c.size.ensures.valid (omega (arith, c.in_ok-with_capacity.ensures.capacity, c.size-3.ensures.size)) all)
+    rw (stands, c.in_ok-with_capacity.ensures.items) (search-start p c.loop-k.living.items
+    c.in_ok-with_capacity.field-0.cap c.size.ensures.valid
+    (omega (arith, c.in_ok-with_capacity.ensures.capacity, c.size-3.ensures.size)) all)
 
 pub returns-clause-few : goal.returns-clause-few
 returns-clause-few c =
     let p = c.args.s.now in
     let needs = c.needs-needs.result.now in
     let small : p.size < 2 ^ 32 = omega arith in
-    let same : length p.demands ≡ length needs = ap length (sym c.needs-needs.ensures.needs) ∙ length-map needs demand in
+    let same : length p.demands ≡ length needs = ap length (sym c.needs-needs.ensures.needs) ∙ length-map needs demand
+    in
     let short : length p.demands < 2 ^ 64 = omega (arith, same) in
     pairs-few p c.size.ensures.valid small short

@@ -12,7 +12,8 @@ loop-edit-preserved g c =
     record {
       same_reference = c.edit_element.ensures.same_reference ∙ c.loop-edit.invariant.same_reference;
       inside = stays_then g.S.Store old mid new c.loop-edit.invariant.inside c.edit_element.ensures.inside;
-      changes = elements_go_on g.S.Store c.args.zone old mid new c.args.edits.now c.loop-edit.edit-index _ (omega arith) c.edit-item.is c.edit_element.ensures.inside c.loop-edit.invariant.changes c.in_ok-edit_element.ensures.ok;
+      changes = elements_go_on g.S.Store c.args.zone old mid new c.args.edits.now c.loop-edit.edit-index _ (omega arith)
+          c.edit-item.is c.edit_element.ensures.inside c.loop-edit.invariant.changes c.in_ok-edit_element.ensures.ok;
     }
 
 pub returns-clause-ok : goal.returns-clause-ok

@@ -13,6 +13,7 @@ returns-clause-ok g c =
     let new = c.edit_elements.new.tx.conn.now in
     on_ok c.edit_elements.result _ _
     (λ later. both s c.args.zone old mid new c.args.delta.now c.edit_elements.ensures.inside
-    (subst (λ edits. ChangesZone s old mid c.args.zone (HasEditedEntries edits)) c.entries.ensures c.in_ok-edit_entries.ensures.ok)
+    (subst (λ edits. ChangesZone s old mid c.args.zone (HasEditedEntries edits)) c.entries.ensures
+    c.in_ok-edit_entries.ensures.ok)
     (subst (λ edits. ChangesZone s mid new c.args.zone (HasEditedElements edits)) c.elements.ensures later))
     c.edit_elements.ensures.ok

@@ -4,12 +4,14 @@ use Rattle.store.proofs.edits.write_edit.Goals as goal
 
 pub returns-in-PutHold-clause-ok : goal.returns-in-PutHold-clause-ok
 returns-in-PutHold-clause-ok g c =
-    rw c.in-PutHold.is (on_ok c.put_hold.result _ _ (hold_put g.S.Store c.args.tx.now.conn.now c.put_hold.new.tx.conn.now c.in-PutHold.hold) c.put_hold.ensures.ok)
+    rw c.in-PutHold.is (on_ok c.put_hold.result _ _ (hold_put g.S.Store c.args.tx.now.conn.now
+    c.put_hold.new.tx.conn.now c.in-PutHold.hold) c.put_hold.ensures.ok)
 
 pub returns-in-RemoveHold-clause-ok : goal.returns-in-RemoveHold-clause-ok
 returns-in-RemoveHold-clause-ok g c =
     let k = c.in-RemoveHold in
-    rw k.is (on_ok c.remove_hold.result _ _ (hold_removed g.S.Store c.args.tx.now.conn.now c.remove_hold.new.tx.conn.now k.id k.kind k.reason) c.remove_hold.ensures.ok)
+    rw k.is (on_ok c.remove_hold.result _ _ (hold_removed g.S.Store c.args.tx.now.conn.now c.remove_hold.new.tx.conn.now
+    k.id k.kind k.reason) c.remove_hold.ensures.ok)
 
 pub returns-in-InsertSysmod-clause-ok : goal.returns-in-InsertSysmod-clause-ok
 returns-in-InsertSysmod-clause-ok g c = rw c.in-InsertSysmod.is c.insert_sysmod.ensures.stands

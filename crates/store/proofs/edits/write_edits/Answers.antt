@@ -12,7 +12,8 @@ loop-edit-preserved g c =
     record {
       same_reference = c.write_edit.ensures.same_reference ∙ c.loop-edit.invariant.same_reference;
       inside = stays_then g.S.Store old mid new c.loop-edit.invariant.inside c.write_edit.ensures.inside;
-      changes = edits_go_on g.S.Store old mid new c.args.edits.now c.loop-edit.edit-index _ (omega arith) c.edit-item.is c.write_edit.ensures.inside c.loop-edit.invariant.changes c.in_ok-write_edit.ensures.ok;
+      changes = edits_go_on g.S.Store old mid new c.args.edits.now c.loop-edit.edit-index _ (omega arith) c.edit-item.is
+          c.write_edit.ensures.inside c.loop-edit.invariant.changes c.in_ok-write_edit.ensures.ok;
     }
 
 pub returns-clause-ok : goal.returns-clause-ok

@@ -8,5 +8,6 @@ abbrev pub invariant-loop-edit : goal.invariant-loop-edit
 invariant-loop-edit g l = record {
   same_reference : l.tx.conn.ghost_name ≡ l.fn.tx.conn.ghost_name;
   inside : StaysInside g.S.Store l.fn.tx.conn.now l.tx.conn.now;
-  changes : ChangesGlobal g.S.Store l.fn.tx.conn.now l.tx.conn.now (EachFits l.edits) (after_edits (take l.edit-index l.edits));
+  changes : ChangesGlobal g.S.Store l.fn.tx.conn.now l.tx.conn.now (EachFits l.edits)
+      (after_edits (take l.edit-index l.edits));
 }

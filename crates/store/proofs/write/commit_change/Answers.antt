@@ -19,7 +19,8 @@ returns-clause-made g c clean =
     let same : last_now ≡ c.conn-2-1.given.0 = search rules in
     subst (λ h. HasCleanDisk (state s h) → OnOk c.commit.result (HasCommitted s old change h)) same
     (λ late. on_ok c.commit.result _ _
-    (λ it. committed s old last last_now change (c.if-prove.ensures.settled refl) inside written c.commit.ensures.survives.clean late it.1)
+    (λ it. committed s old last last_now change (c.if-prove.ensures.settled refl) inside written
+    c.commit.ensures.survives.clean late it.1)
     (c.commit.ensures.ok late)) clean
 
 pub returns-clause-crash : goal.returns-clause-crash

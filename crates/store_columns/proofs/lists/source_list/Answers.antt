@@ -7,7 +7,8 @@ use Rattle.store_columns.proofs.lists.source_list.Goals as goal
 
 pub returns-in_default-clause-none : goal.returns-in_default-clause-none
 returns-in_default-clause-none c bad listed =
-    let wrong = c.in_default.ensures.form.1 (part_formed IsSource c.args.parts.now c.loop-part.part-index _ c.loop-part-test.true listed) in cc
+    let wrong = c.in_default.ensures.form.1 (part_formed IsSource c.args.parts.now c.loop-part.part-index _
+    c.loop-part-test.true listed) in cc
 
 pub returns-then-not-branch-clause-none : goal.returns-then-not-branch-clause-none
 returns-then-not-branch-clause-none c bad listed =
@@ -20,9 +21,13 @@ loop-part-init c = record { same = c.new-list.ensures; listed = rw c.new-list.en
 
 pub loop-part-preserved : goal.loop-part-preserved
 loop-part-preserved c =
-    let new : c.push_last.new.self ≡ c.loop-part.list ++ c.in-Some.source ∷ [] = rw c.if-not-branch.false at c.in_ok-push_last.ensures.ok in
+    let new : c.push_last.new.self ≡ c.loop-part.list ++ c.in-Some.source ∷ [] =
+    rw c.if-not-branch.false at c.in_ok-push_last.ensures.ok in
     let fits = c.in_ok-push_last.ensures.fits.0 c.if-not-branch.false in
     record {
-      same = new ∙ sym (map_more (λ part. part.now) c.args.parts.now c.loop-part.part-index _ c.loop-part-test.true ∙ ap₂ (λ (xs : List Text) (x : Text). xs ++ x ∷ []) (sym c.loop-part.invariant.same) (sym c.in-Some.ensures.same));
-      listed = rw new (listed_more IsSource c.loop-part.list c.in-Some.source c.loop-part.invariant.listed (rw c.in-Some.ensures.same (c.in-Some.ensures.form.0 refl)) fits);
+      same = new ∙ sym (map_more (λ part. part.now) c.args.parts.now c.loop-part.part-index _ c.loop-part-test.true
+          ∙ ap₂ (λ (xs : List Text) (x : Text). xs ++ x ∷ []) (sym c.loop-part.invariant.same)
+          (sym c.in-Some.ensures.same));
+      listed = rw new (listed_more IsSource c.loop-part.list c.in-Some.source c.loop-part.invariant.listed
+          (rw c.in-Some.ensures.same (c.in-Some.ensures.form.0 refl)) fits);
     }

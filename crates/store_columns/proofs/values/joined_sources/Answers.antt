@@ -9,6 +9,8 @@ returns c =
     let first = c.in-Some.first.now in
     let rest = c.in-Some.rest.now in
     let front : c.extend_from_slice.new.self.items ≡ first = search rules in
-    let all : take c.loop-source.source-index rest ≡ rest = take_all c.loop-source.source-index rest (omega (arith, c.loop-source-test.false)) in
+    let all : take c.loop-source.source-index rest ≡ rest = take_all c.loop-source.source-index rest
+    (omega (arith, c.loop-source-test.false)) in
     let sources : c.args.sources.now ≡ first ∷ rest = search rules in
-    c.loop-source.invariant ∙ ap₂ (λ a b. a ++ flat_map (λ id. 44 ∷ id) b) front all ∙ joined 44 first rest ∙ ap (join_with_byte 44) (sym sources)
+    c.loop-source.invariant ∙ ap₂ (λ a b. a ++ flat_map (λ id. 44 ∷ id) b) front all ∙ joined 44 first rest
+    ∙ ap (join_with_byte 44) (sym sources)

@@ -29,5 +29,6 @@ returns-clause-ok g c =
       bound_optional (option_map string_bytes fields.comment),
       c.flag_value-internal.ensures,
     ) at c.put.ensures.ok in
-    subst (λ h. OnOk c.put.result (Turns g.S.Store c.args.tx.now.conn.now c.put.new.tx.conn.now (HasContents store_schema) (with_put hold (hold_key h) (hold_row h)))) c.hold.view_is
+    subst (λ h. OnOk c.put.result (Turns g.S.Store c.args.tx.now.conn.now c.put.new.tx.conn.now
+    (HasContents store_schema) (with_put hold (hold_key h) (hold_row h)))) c.hold.view_is
     (on_ok c.put.result _ _ (λ ran. ran store_schema 4 hold takes_hold puts_hold (kept_hold (the_view fields))) put)

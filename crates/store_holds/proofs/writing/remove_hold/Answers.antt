@@ -5,4 +5,5 @@ use Rattle.store_holds.proofs.writing.remove_hold.Goals as goal
 
 pub returns-clause-ok : goal.returns-clause-ok
 returns-clause-ok g c =
-    on_ok c.remove.result _ _ (λ removed. rw (c.as_bytes.ensures.same, c.hold_text.ensures, c.as_bytes-2.ensures.same) at (removed store_schema 4 hold takes_hold)) c.remove.ensures.ok
+    on_ok c.remove.result _ _ (λ removed. rw (c.as_bytes.ensures.same, c.hold_text.ensures, c.as_bytes-2.ensures.same)
+    at (removed store_schema 4 hold takes_hold)) c.remove.ensures.ok

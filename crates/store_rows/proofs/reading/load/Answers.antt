@@ -14,7 +14,8 @@ returns-in_err-rows-clause-reads g c =
     let new = state g.S.Store c.query_all.new.self in
     record {
       same = λ clean plain. search rules;
-      kept = λ clean plain. failed_keeps c.args.sql.now (bound c.args.key.now) old new _ plain (c.in_err-rows.ensures.err clean);
+      kept = λ clean plain. failed_keeps c.args.sql.now (bound c.args.key.now) old new _ plain
+          (c.in_err-rows.ensures.err clean);
       crash = commits_nothing c.args.sql.now (bound c.args.key.now) old new c.query_all.ensures.survives;
       mode = search rules;
     }
@@ -26,7 +27,8 @@ returns-clause-found g c clean =
     let key = bound c.args.key.now in
     if_ok c.read_all.result _ _ (λ items read schema table text has.
     subst (λ found. AreFound table key found (old.now.trees table.tree)) read.0
-    (found_in schema table _ c.args.sql.now key old new c.in_ok-rows.rows.items text (sym (length-map c.args.key.now _)) has (c.in_ok-rows.ensures.ok clean))) (rw c.as_slice.ensures.value at c.read_all.ensures.read)
+    (found_in schema table _ c.args.sql.now key old new c.in_ok-rows.rows.items text (sym (length-map c.args.key.now _))
+    has (c.in_ok-rows.ensures.ok clean))) (rw c.as_slice.ensures.value at c.read_all.ensures.read)
 
 pub returns-clause-none : goal.returns-clause-none
 returns-clause-none g c clean bad schema table text has items forms found =
@@ -34,8 +36,10 @@ returns-clause-none g c clean bad schema table text has items forms found =
     let new = state g.S.Store c.query_all.new.self in
     let key = bound c.args.key.now in
     let rows = c.in_ok-rows.rows.items in
-    let all = found_in schema table _ c.args.sql.now key old new rows text (sym (length-map c.args.key.now _)) has (c.in_ok-rows.ensures.ok clean) in
-    let same : IsPermutation (map g.T.FromRow.row_of items) rows = IsPermutation-trans _ _ _ found (IsPermutation-sym _ _ all) in
+    let all = found_in schema table _ c.args.sql.now key old new rows text (sym (length-map c.args.key.now _)) has
+    (c.in_ok-rows.ensures.ok clean) in
+    let same : IsPermutation (map g.T.FromRow.row_of items) rows =
+    IsPermutation-trans _ _ _ found (IsPermutation-sym _ _ all) in
     c.read_all.ensures.none bad items forms (rw c.as_slice.ensures.value same)
 
 pub returns-clause-reads : goal.returns-clause-reads
@@ -45,7 +49,8 @@ returns-clause-reads g c =
     let new = state g.S.Store c.query_all.new.self in
     let rows = c.in_ok-rows.rows.items in
     record {
-      same = λ clean plain. on_ok_of c.read_all.result (shown_unchanged c.args.sql.now key old new rows plain (c.in_ok-rows.ensures.ok clean));
+      same = λ clean plain. on_ok_of c.read_all.result (shown_unchanged c.args.sql.now key old new rows plain
+          (c.in_ok-rows.ensures.ok clean));
       kept = λ clean plain. shown_keeps c.args.sql.now key old new rows plain (c.in_ok-rows.ensures.ok clean);
       crash = commits_nothing c.args.sql.now key old new c.query_all.ensures.survives;
       mode = search rules;

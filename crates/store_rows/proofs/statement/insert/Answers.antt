@@ -9,5 +9,7 @@ returns-clause-ok g c schema at table text kept clean contents was =
     let old = c.args.tx.now.conn.now in
     let new = c.execute.new.self.conn.now in
     let count = c.in_ok-execute.field-0 in
-    let ran = ran_inside g.S.Store old new c.args.sql.now (bound c.args.row.now) c.execute.result c.execute.ensures.ended c.execute.ensures.runs clean count c.in_ok-execute.was in
-    put_in schema at table c.args.sql.now (bound c.args.row.now) (state g.S.Store old) (state g.S.Store new) count contents text kept was ran
+    let ran = ran_inside g.S.Store old new c.args.sql.now (bound c.args.row.now) c.execute.result
+    c.execute.ensures.ended c.execute.ensures.runs clean count c.in_ok-execute.was in
+    put_in schema at table c.args.sql.now (bound c.args.row.now) (state g.S.Store old) (state g.S.Store new) count
+    contents text kept was ran

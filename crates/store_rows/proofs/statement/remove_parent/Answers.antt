@@ -12,5 +12,7 @@ returns-clause-ok g c schema at table children text one clean contents none was 
     let new = c.execute.new.self.conn.now in
     let count = c.in_ok-execute.field-0 in
     let key = bound c.args.parent.now in
-    let ran = ran_inside g.S.Store old new c.args.sql.now key c.execute.result c.execute.ensures.ended c.execute.ensures.runs clean count c.in_ok-execute.was in
-    take_out_parent schema at table children c.args.sql.now key (state g.S.Store old) (state g.S.Store new) count contents (length-map c.args.parent.now _ ∙ one) text none was ran
+    let ran = ran_inside g.S.Store old new c.args.sql.now key c.execute.result c.execute.ensures.ended
+    c.execute.ensures.runs clean count c.in_ok-execute.was in
+    take_out_parent schema at table children c.args.sql.now key (state g.S.Store old) (state g.S.Store new) count
+    contents (length-map c.args.parent.now _ ∙ one) text none was ran

@@ -10,7 +10,13 @@ loop-row-preserved c =
     let rows = c.args.rows.now in
     let i = c.loop-row.row-index in
     below_more (λ (k : ℕ). (d : Row) → ¬ GivesOther (slice_index_or rows k d)) i c.loop-row.invariant
-    (λ d other. absurd (let is : IsTrue c.gives_other_number.result = c.gives_other_number.ensures.1 (subst GivesOther (sym (get_or_read rows i c.row-item.result (omega arith) c.row-item.is d)) other) in cc))
+    (λ d other. absurd (let is : IsTrue c.gives_other_number.result =
+    c.gives_other_number.ensures.1 (subst GivesOther (sym
+    (get_or_read rows i c.row-item.result (omega arith) c.row-item.is d)) other) in cc))
 
 pub returns : goal.returns
-returns c = (λ no. absurd cc, λ some. absurd (c.loop-row.invariant some.0 (omega (arith, some.2)) some.1 (subst GivesOther (sym some.3) some.4)))
+returns c = (
+  λ no. absurd cc,
+  λ some. absurd (c.loop-row.invariant some.0 (omega (arith, some.2)) some.1
+      (subst GivesOther (sym some.3) some.4)),
+)

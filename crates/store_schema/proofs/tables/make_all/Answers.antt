@@ -20,8 +20,10 @@ returns-clause-ok g c =
     let t4 = c.run-2.new.tx.conn.now in
     let empty = StandsFor empty_inventory in
     let first = leads_table s t0 t1 create_meta [] meta makes_meta c.in_ok-run.ensures.ran in
-    let second = leads_then s t0 t1 t2 (HasTables []) (HasTables (meta ∷ [])) (HasTables (meta ∷ global_tables)) c.make_global.ensures.inside first c.in_ok-make_global.ensures.ok in
-    let third = leads_then s t0 t2 t3 (HasTables []) (HasTables (meta ∷ global_tables)) (HasTables all_tables) c.make_zones.ensures.inside second c.in_ok-make_zones.ensures.ok in
+    let second = leads_then s t0 t1 t2 (HasTables []) (HasTables (meta ∷ [])) (HasTables (meta ∷ global_tables))
+    c.make_global.ensures.inside first c.in_ok-make_global.ensures.ok in
+    let third = leads_then s t0 t2 t3 (HasTables []) (HasTables (meta ∷ global_tables)) (HasTables all_tables)
+    c.make_zones.ensures.inside second c.in_ok-make_zones.ensures.ok in
     on_ok_under c.run-2.result _ _ _
     (λ ran clean blank.
     leads_then s t0 t3 t4 (HasTables []) (HasTables all_tables) empty c.run-2.ensures.inside third

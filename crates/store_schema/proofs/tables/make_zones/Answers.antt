@@ -13,6 +13,10 @@ returns-clause-ok g c =
     let t1 = c.run.new.tx.conn.now in
     let t2 = c.run-2.new.tx.conn.now in
     let t3 = c.run-3.new.tx.conn.now in
-    let made1 = leads_table s t0 t1 create_zone (meta ∷ sysmod ∷ ver ∷ ifreq ∷ hold ∷ elem ∷ []) zone makes_zone c.in_ok-run.ensures.ran in
-    let made2 = leads_more s t0 t1 t2 was create_entry (meta ∷ sysmod ∷ ver ∷ ifreq ∷ hold ∷ elem ∷ zone ∷ []) entry makes_entry c.run-2.ensures.inside made1 c.in_ok-run-2.ensures.ran in
-    on_ok_under c.run-3.result _ _ _ (λ ran. leads_more s t0 t2 t3 was create_zelem (meta ∷ sysmod ∷ ver ∷ ifreq ∷ hold ∷ elem ∷ zone ∷ entry ∷ []) zelem makes_zelem c.run-3.ensures.inside made2 ran) c.run-3.ensures.ran
+    let made1 = leads_table s t0 t1 create_zone (meta ∷ sysmod ∷ ver ∷ ifreq ∷ hold ∷ elem ∷ []) zone makes_zone
+    c.in_ok-run.ensures.ran in
+    let made2 = leads_more s t0 t1 t2 was create_entry (meta ∷ sysmod ∷ ver ∷ ifreq ∷ hold ∷ elem ∷ zone ∷ []) entry
+    makes_entry c.run-2.ensures.inside made1 c.in_ok-run-2.ensures.ran in
+    on_ok_under c.run-3.result _ _ _ (λ ran. leads_more s t0 t2 t3 was create_zelem
+    (meta ∷ sysmod ∷ ver ∷ ifreq ∷ hold ∷ elem ∷ zone ∷ entry ∷ []) zelem makes_zelem c.run-3.ensures.inside made2
+    ran) c.run-3.ensures.ran

@@ -1,4 +1,5 @@
-use Rattle.std.proofs.Common.{◌≡◌, ◌++◌, ◌∷◌, [], List, IsErrOf, append-nil, append_assoc, arith, rules, sym, ap, subst, ◌∙◌}
+use Rattle.std.proofs.Common.{◌≡◌, ◌++◌, ◌∷◌, [], List, IsErrOf, append-nil, append_assoc, arith, rules, sym, ap, subst}
+use Rattle.std.proofs.Common.{◌∙◌}
 use Rattle.std.proofs.lemmas.Grind.{common_steps}
 use Rattle.store_rows.specs.declared.error.ReadError.TheVariants.{BadRow}
 use Rattle.terms.specs.Types.{Sysmod}
@@ -34,22 +35,30 @@ loop-head-preserved c =
     let next_vers = c.take_sysmod.new.vers.items in
     let next_ifs = c.take_sysmod.new.ifs.items in
     let next_elems = c.take_sysmod.new.elems.items in
-    let pushed : c.push.new.self.items ≡ c.loop-head.sysmods.items ++ c.in_ok-sysmod.sysmod ∷ [] = grind (arith, common_steps) in
+    let pushed : c.push.new.self.items ≡ c.loop-head.sysmods.items ++ c.in_ok-sysmod.sysmod ∷ [] =
+    grind (arith, common_steps) in
     record {
       bare = c.in_ok-sysmod.ensures.bare;
       told = λ more h.
-          subst (λ (ss : List Sysmod). AreTaken c.args.heads.items ss c.args.vers.items c.args.ifs.items c.args.elems.items) (sym (ap (λ (ss : List Sysmod). ss ++ more) pushed ∙ append_assoc sysmods (s ∷ []) more))
-          (c.loop-head.invariant.told (s ∷ more) (subst (λ (heads : List HeadRow). AreTaken heads (s ∷ more) vers ifs elems) (sym c.in-Some.ensures.some) (next_vers, next_ifs, next_elems, c.in_ok-sysmod.ensures.taken, h)));
+          subst (λ (ss : List Sysmod). AreTaken c.args.heads.items ss c.args.vers.items c.args.ifs.items
+          c.args.elems.items) (sym (ap (λ (ss : List Sysmod). ss ++ more) pushed
+          ∙ append_assoc sysmods (s ∷ []) more))
+          (c.loop-head.invariant.told (s ∷ more) (subst (λ (heads : List HeadRow).
+          AreTaken heads (s ∷ more) vers ifs elems) (sym c.in-Some.ensures.some)
+          (next_vers, next_ifs, next_elems, c.in_ok-sysmod.ensures.taken, h)));
       only = λ others h.
           let it = c.loop-head.invariant.only others h in
-          let there = subst (λ (heads : List HeadRow). AreTaken heads it.0 vers ifs elems) c.in-Some.ensures.some it.2 in
+          let there = subst (λ (heads : List HeadRow). AreTaken heads it.0 vers ifs elems) c.in-Some.ensures.some it.2
+          in
           let step = taken_step c.in-Some.head new it.0 vers ifs elems there in
           let left = step.1 in
           let one = c.in_ok-sysmod.ensures.only step.0 step.2 step.3 step.4 step.6 in (
             left,
-            next_left others sysmods s it.0 left it.1 (step.5 ∙ ap (λ (t : Sysmod). t ∷ left) one.0) ∙ ap (λ (ss : List Sysmod). ss ++ left) (sym pushed),
+            next_left others sysmods s it.0 left it.1 (step.5 ∙ ap (λ (t : Sysmod). t ∷ left) one.0)
+                ∙ ap (λ (ss : List Sysmod). ss ++ left) (sym pushed),
             subst (λ (v : List VerRow). AreTaken new left v next_ifs next_elems) one.1
-                (subst (λ (i : List IfRow). AreTaken new left step.2 i next_elems) one.2 (subst (λ (e : List ElemRow). AreTaken new left step.2 step.3 e) one.3 step.7)),
+                (subst (λ (i : List IfRow). AreTaken new left step.2 i next_elems) one.2
+                (subst (λ (e : List ElemRow). AreTaken new left step.2 step.3 e) one.3 step.7)),
           );
     }
 
@@ -58,5 +67,7 @@ returns-clause-taken c =
     let vers : c.loop-head.vers.items ≡ [] = nil_from_length c.loop-head.vers.items (grind (arith, common_steps)) in
     let ifs : c.loop-head.ifs.items ≡ [] = nil_from_length c.loop-head.ifs.items (grind (arith, common_steps)) in
     let elems : c.loop-head.elems.items ≡ [] = nil_from_length c.loop-head.elems.items (grind (arith, common_steps)) in
-    let there = subst (λ (heads : List HeadRow). AreTaken heads [] c.loop-head.vers.items c.loop-head.ifs.items c.loop-head.elems.items) (sym c.in_default.ensures.none) (vers, ifs, elems) in
-    subst (λ (ss : List Sysmod). AreTaken c.args.heads.items ss c.args.vers.items c.args.ifs.items c.args.elems.items) (append-nil c.loop-head.sysmods.items) (c.loop-head.invariant.told [] there)
+    let there = subst (λ (heads : List HeadRow). AreTaken heads [] c.loop-head.vers.items c.loop-head.ifs.items
+    c.loop-head.elems.items) (sym c.in_default.ensures.none) (vers, ifs, elems) in
+    subst (λ (ss : List Sysmod). AreTaken c.args.heads.items ss c.args.vers.items c.args.ifs.items c.args.elems.items)
+    (append-nil c.loop-head.sysmods.items) (c.loop-head.invariant.told [] there)

@@ -6,5 +6,6 @@ pub returns-clause-none : goal.returns-clause-none
 returns-clause-none c bad other vs is es h =
     let vers = c.in_ok-found.ensures.only other.vers vs is h.vers_are in
     let changes = c.in_ok-changes.ensures.only other.changes es h.elems_are in
-    let same : other ≡ sysmod_from c.args.head c.in_ok-found.found.items c.in_ok-changes.changes.items = h.same ∙ ap₂ (sysmod_from c.args.head) vers.0 changes.0 in
+    let same : other ≡ sysmod_from c.args.head c.in_ok-found.found.items c.in_ok-changes.changes.items =
+    h.same ∙ ap₂ (sysmod_from c.args.head) vers.0 changes.0 in
     c.built.ensures.none bad (subst IsBuilt same h.built)

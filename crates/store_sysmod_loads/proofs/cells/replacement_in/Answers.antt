@@ -8,6 +8,7 @@ use Rattle.store_sysmod_loads.proofs.cells.replacement_in.Goals as goal
 pub returns-then-is_empty-clause-none : goal.returns-then-is_empty-clause-none
 returns-then-is_empty-clause-none c bad text forms some same =
     let one : c.in_ok-text.text.items ≡ text =
-    one_text _ text _ c.in_ok-text.ensures.some.0 (are_records c.args.elem_type c.in_ok-text.text.items c.in_ok-text.ensures.some.1) same (are_records c.args.elem_type text forms) in
+    one_text _ text _ c.in_ok-text.ensures.some.0 (are_records c.args.elem_type c.in_ok-text.text.items
+    c.in_ok-text.ensures.some.1) same (are_records c.args.elem_type text forms) in
     let none : c.in_ok-text.text.items ≡ [] = nil_from_length c.in_ok-text.text.items (grind (arith, common_steps)) in
     some (sym one ∙ none)

@@ -5,5 +5,6 @@ use Rattle.store_sysmod_loads.proofs.cells.update_in.Goals as goal
 
 pub returns-clause-none : goal.returns-clause-none
 returns-clause-none c bad text updated are update same =
-    let one : text ≡ c.in_ok-lines.lines.items = one_text text _ _ same are c.in_ok-lines.ensures.some.0 c.in_ok-lines.ensures.some.1 in
+    let one : text ≡ c.in_ok-lines.lines.items = one_text text _ _ same are c.in_ok-lines.ensures.some.0
+    c.in_ok-lines.ensures.some.1 in
     c.checked_update.ensures.none bad (subst₂ IsUpdate (sym c.as_bytes.ensures.same) one update)

@@ -12,8 +12,10 @@ pub returns-in_err-ver-clause-none : goal.returns-in_err-ver-clause-none
 returns-in_err-ver-clause-none c bad others rest more h =
     let failed : IsErrOf c.filled.result BadRow = search rules in
     let it = c.loop-row.invariant.only others rest more h in
-    let there = subst (λ (rows : List VerRow). HasVers c.args.id rows c.loop-row.ifs.items it.0 rest more) c.in-Some.ensures.some.0 it.2 in
-    let step = vers_step c.args.id c.in-Some.row c.pop_of.new.rows.items c.loop-row.ifs.items it.0 rest more c.in-Some.ensures.some.1 there in
+    let there = subst (λ (rows : List VerRow). HasVers c.args.id rows c.loop-row.ifs.items it.0 rest more)
+    c.in-Some.ensures.some.0 it.2 in
+    let step = vers_step c.args.id c.in-Some.row c.pop_of.new.rows.items c.loop-row.ifs.items it.0 rest more
+    c.in-Some.ensures.some.1 there in
     c.filled.ensures.none failed step.0 step.1 step.4
 
 pub loop-row-preserved : goal.loop-row-preserved
@@ -30,17 +32,22 @@ loop-row-preserved c =
     record {
       bare = bare.1;
       told = subst (λ vs. c.args.rows.now.items ≡ Rattle.store_sysmod_loads.specs.Runs.ver_rows x vs ++ new) (sym grown)
-          (vers_told x c.args.rows.now.items vers row c.loop-row.rows.items new found c.loop-row.invariant.told c.in-Some.ensures.some.0 c.in-Some.ensures.some.1 bare.0);
+          (vers_told x c.args.rows.now.items vers row c.loop-row.rows.items new found c.loop-row.invariant.told
+          c.in-Some.ensures.some.0 c.in-Some.ensures.some.1 bare.0);
       told_ifs = subst (λ vs. HasAllIfs x c.args.ifs.now.items vs c.filled.new.ifs.items) (sym grown)
-          (all_ifs_more x c.args.ifs.now.items vers ver c.loop-row.ifs.items c.filled.new.ifs.items c.loop-row.invariant.told_ifs c.in_ok-ver.ensures.taken);
+          (all_ifs_more x c.args.ifs.now.items vers ver c.loop-row.ifs.items c.filled.new.ifs.items
+          c.loop-row.invariant.told_ifs c.in_ok-ver.ensures.taken);
       only = λ others rest more h.
           let it = c.loop-row.invariant.only others rest more h in
-          let there = subst (λ (rows : List VerRow). HasVers x rows c.loop-row.ifs.items it.0 rest more) c.in-Some.ensures.some.0 it.2 in
+          let there = subst (λ (rows : List VerRow). HasVers x rows c.loop-row.ifs.items it.0 rest more)
+          c.in-Some.ensures.some.0 it.2 in
           let step = vers_step x row new c.loop-row.ifs.items it.0 rest more c.in-Some.ensures.some.1 there in
           let one = c.in_ok-ver.ensures.only step.0 step.1 step.4 in
           let left = step.2 in (
             left,
-            next_left others vers ver it.0 left it.1 (step.3 ∙ ap (λ (i : List IfReq). record row.ver { ifs = i } ∷ left) one.0) ∙ ap (λ (xs : List Ver). xs ++ left) (sym grown),
+            next_left others vers ver it.0 left it.1 (step.3
+                ∙ ap (λ (i : List IfReq). record row.ver { ifs = i } ∷ left) one.0)
+                ∙ ap (λ (xs : List Ver). xs ++ left) (sym grown),
             subst (λ (i : List IfRow). HasVers x new i left rest more) one.1 step.5,
           );
     }
@@ -48,5 +55,10 @@ loop-row-preserved c =
 pub returns-clause-only : goal.returns-clause-only
 returns-clause-only c others rest more h =
     let it = c.loop-row.invariant.only others rest more h in
-    let last = vers_end c.args.id c.loop-row.rows.items c.loop-row.ifs.items it.0 rest more c.in_default.ensures.none.1 it.2 in
-    (it.1 ∙ ap (λ (xs : List Ver). c.loop-row.vers.items ++ xs) last.0 ∙ append-nil c.loop-row.vers.items, last.1 ∙ sym c.in_default.ensures.none.0, last.2)
+    let last = vers_end c.args.id c.loop-row.rows.items c.loop-row.ifs.items it.0 rest more c.in_default.ensures.none.1
+    it.2 in (
+      it.1 ∙ ap (λ (xs : List Ver). c.loop-row.vers.items ++ xs) last.0 ∙ append-nil c.loop-row.vers.items,
+      last.1
+          ∙ sym c.in_default.ensures.none.0,
+      last.2,
+    )

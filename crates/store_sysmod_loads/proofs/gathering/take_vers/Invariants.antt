@@ -10,7 +10,8 @@ invariant-loop-row l = record {
   bare : AreBare l.rows.items;
   told : l.fn.rows.items ≡ ver_rows l.id l.vers.items ++ l.rows.items;
   told_ifs : HasAllIfs l.id l.fn.ifs.items l.vers.items l.ifs.items;
-  only : (others : List Ver) (rest : List VerRow) (more : List IfRow) → HasVers l.id l.fn.rows.items l.fn.ifs.items others rest more
+  only : (others : List Ver) (rest : List VerRow) (more : List IfRow)
+      → HasVers l.id l.fn.rows.items l.fn.ifs.items others rest more
       → (left : List Ver) × (others ≡ l.vers.items ++ left) × HasVers l.id l.rows.items l.ifs.items left rest more;
 }
 

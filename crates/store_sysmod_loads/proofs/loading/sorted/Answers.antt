@@ -9,6 +9,9 @@ pub returns-clause-only : goal.returns-clause-only
 returns-clause-only g c xs same rises =
     let key = g.T.Listed.key_of in
     let items = c.sort_unstable_by_key.new.self.items in
-    let up : IsSortedByKey key g.T.Key.Ord.cmp items = c.sort_unstable_by_key.ensures.sorted key (answers_always _ _ _ (λ f a r h q. search rules)) in
-    let moved : IsPermutation items xs = IsPermutation-trans items c.args.items.items xs (IsPermutation-sym _ _ c.sort_unstable_by_key.ensures.permutation) same in
-    rising_same g.met.T.Key.Ord.total key items xs moved (rises_sorted g.met.T.Key.Ord.total key items xs moved up rises) rises
+    let up : IsSortedByKey key g.T.Key.Ord.cmp items = c.sort_unstable_by_key.ensures.sorted key
+    (answers_always _ _ _ (λ f a r h q. search rules)) in
+    let moved : IsPermutation items xs = IsPermutation-trans items c.args.items.items xs
+    (IsPermutation-sym _ _ c.sort_unstable_by_key.ensures.permutation) same in
+    rising_same g.met.T.Key.Ord.total key items xs moved (rises_sorted g.met.T.Key.Ord.total key items xs moved up
+    rises) rises

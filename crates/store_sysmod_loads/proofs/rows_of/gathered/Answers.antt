@@ -10,16 +10,19 @@ use Rattle.store_sysmod_loads.proofs.rows_of.gathered.Goals as goal
 
 pub returns-then-not-are_rising-clause-none : goal.returns-then-not-are_rising-clause-none
 returns-then-not-are_rising-clause-none c bad others formed has =
-    let up = subst (λ (hs : List HeadRow). Rises (slice_cmp nat_cmp) (λ h. h.id) hs) (sym has.heads) (heads_rise others formed) in
+    let up = subst (λ (hs : List HeadRow). Rises (slice_cmp nat_cmp) (λ h. h.id) hs) (sym has.heads)
+    (heads_rise others formed) in
     let rising : c.are_rising.result ≡ true = c.are_rising.ensures.1 (rw c.as_slice.ensures.value up) in
     let not_rising : c.are_rising.result ≡ false = c.if-not-are_rising.true in
     absurd cc
 
 pub returns-clause-taken : goal.returns-clause-taken
 returns-clause-taken c =
-    let up : Rises (slice_cmp nat_cmp) (λ (h : HeadRow). h.id) c.args.rows.heads.items = rw c.as_slice.ensures.value at (c.are_rising.ensures.0 c.if-not-are_rising.false) in
+    let up : Rises (slice_cmp nat_cmp) (λ (h : HeadRow). h.id) c.args.rows.heads.items =
+    rw c.as_slice.ensures.value at (c.are_rising.ensures.0 c.if-not-are_rising.false) in
     if_ok c.assemble.result _ _ (λ sysmods told.
-    let flat = taken_flat c.from.result.items sysmods.items c.from-2.result.items c.from-3.result.items c.from-4.result.items told in
+    let flat = taken_flat c.from.result.items sysmods.items c.from-2.result.items c.from-3.result.items
+    c.from-4.result.items told in
     let heads = sym c.from.ensures.0 ∙ flat.heads_are in
     record {
       rows_are = record {
@@ -36,10 +39,12 @@ returns-clause-taken c =
 pub returns-clause-only : goal.returns-clause-only
 returns-clause-only c =
     if_ok c.assemble.result _ _ (λ sysmods only others formed has.
-    only others (taken_as others _ _ _ _ _ _ _ _ (c.from.ensures.0 ∙ has.heads) (c.from-2.ensures.0 ∙ has.vers) (c.from-3.ensures.0 ∙ has.ifs) (c.from-4.ensures.0 ∙ has.elems)
+    only others (taken_as others _ _ _ _ _ _ _ _ (c.from.ensures.0 ∙ has.heads) (c.from-2.ensures.0 ∙ has.vers)
+    (c.from-3.ensures.0 ∙ has.ifs) (c.from-4.ensures.0 ∙ has.elems)
     (flat_taken others (ids_up others formed) formed.built formed.none_carried))) c.assemble.ensures.only
 
 pub returns-clause-none : goal.returns-clause-none
 returns-clause-none c bad others formed has =
-    c.assemble.ensures.none bad others (taken_as others _ _ _ _ _ _ _ _ (c.from.ensures.0 ∙ has.heads) (c.from-2.ensures.0 ∙ has.vers) (c.from-3.ensures.0 ∙ has.ifs) (c.from-4.ensures.0 ∙ has.elems)
+    c.assemble.ensures.none bad others (taken_as others _ _ _ _ _ _ _ _ (c.from.ensures.0 ∙ has.heads)
+    (c.from-2.ensures.0 ∙ has.vers) (c.from-3.ensures.0 ∙ has.ifs) (c.from-4.ensures.0 ∙ has.elems)
     (flat_taken others (ids_up others formed) formed.built formed.none_carried))

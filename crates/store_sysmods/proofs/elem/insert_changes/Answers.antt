@@ -13,8 +13,12 @@ loop-change-preserved g c =
     record {
       same_reference = c.insert_change.ensures.same_reference ∙ c.loop-change.invariant.same_reference;
       inside = stays_then g.S.Store old mid new c.loop-change.invariant.inside c.insert_change.ensures.inside;
-      adds = adds_more g.S.Store elem (λ x. elem_row c.args.id.now x ∷ []) c.args.changes.now c.loop-change.change-index c.change-item.result old mid new (omega arith) c.change-item.is c.insert_change.ensures.inside c.loop-change.invariant.adds c.in_ok-insert_change.ensures.ok;
+      adds = adds_more g.S.Store elem (λ x. elem_row c.args.id.now x ∷ []) c.args.changes.now c.loop-change.change-index
+          c.change-item.result old mid new (omega arith) c.change-item.is c.insert_change.ensures.inside
+          c.loop-change.invariant.adds c.in_ok-insert_change.ensures.ok;
     }
 
 pub returns-clause-ok : goal.returns-clause-ok
-returns-clause-ok g c = adds_items g.S.Store elem (elem_row c.args.id.now) c.args.changes.now c.loop-change.change-index c.args.tx.now.conn.now c.loop-change.tx.conn.now (omega (arith, c.loop-change-test.false)) c.loop-change.invariant.adds
+returns-clause-ok g c = adds_items g.S.Store elem (elem_row c.args.id.now) c.args.changes.now c.loop-change.change-index
+    c.args.tx.now.conn.now c.loop-change.tx.conn.now (omega (arith, c.loop-change-test.false))
+    c.loop-change.invariant.adds

@@ -10,5 +10,6 @@ abbrev pub invariant-loop-change : goal.invariant-loop-change
 invariant-loop-change g l = record {
   same_reference : l.tx.conn.ghost_name ≡ l.fn.tx.conn.ghost_name;
   inside : StaysInside g.S.Store l.fn.tx.conn.now l.tx.conn.now;
-  adds : Adds g.S.Store l.fn.tx.conn.now l.tx.conn.now elem_table (flat_map (λ c. elem_row l.id c ∷ []) (take l.change-index l.changes));
+  adds : Adds g.S.Store l.fn.tx.conn.now l.tx.conn.now elem_table
+      (flat_map (λ c. elem_row l.id c ∷ []) (take l.change-index l.changes));
 }

@@ -17,10 +17,14 @@ returns-clause-ok g c =
     let x = c.args.id.now in
     let change = c.args.change.now in
     let view = c.change.view_is in
-    let row = elem_bound c.as_bytes.result.now c.type_text.result.now c.as_bytes-2.result.now c.args.text.now c.update_value-update.result c.distlib_value-distlib.result c.syslib_value-syslib.result x change
-    c.as_bytes.ensures.same (c.type_text.ensures ∙ ap (λ (a : Change). type_text a.elem_type) view) (c.as_bytes-2.ensures.same ∙ ap (λ (a : Change). a.name) view)
-    (c.update_value-update.ensures ∙ ap (λ (a : Change). flag (is_update a.action)) view) (c.distlib_value-distlib.ensures ∙ ap (λ (a : Change). or_null Text (distlib_of a.action)) view)
+    let row = elem_bound c.as_bytes.result.now c.type_text.result.now c.as_bytes-2.result.now c.args.text.now
+    c.update_value-update.result c.distlib_value-distlib.result c.syslib_value-syslib.result x change
+    c.as_bytes.ensures.same (c.type_text.ensures ∙ ap (λ (a : Change). type_text a.elem_type) view)
+    (c.as_bytes-2.ensures.same ∙ ap (λ (a : Change). a.name) view)
+    (c.update_value-update.ensures ∙ ap (λ (a : Change). flag (is_update a.action)) view)
+    (c.distlib_value-distlib.ensures ∙ ap (λ (a : Change). or_null Text (distlib_of a.action)) view)
     (c.syslib_value-syslib.ensures ∙ ap (λ (a : Change). or_null Text (syslib_of a.action)) view) c.requires in
     on_ok c.insert.result _ _ (λ ran.
     as_inserted g.S.Store c.args.tx.now.conn.now c.insert.new.tx.conn.now store_schema elem (elem_row x change) _ row
-    (ran store_schema 5 elem puts_elem (kept_as elem (elem_row x change) _ row (kept_elem x change)))) c.insert.ensures.ok
+    (ran store_schema 5 elem puts_elem (kept_as elem (elem_row x change) _ row (kept_elem x change))))
+    c.insert.ensures.ok

@@ -13,16 +13,22 @@ loop-ver-preserved g c =
     let old = c.args.tx.now.conn.now in
     let mid = c.loop-ver.tx.conn.now in
     let new = c.insert_ifs.new.tx.conn.now in
-    let rows = ap₂ (λ srel ifs. map (ifreq_row c.args.id.now srel) (enumerate_from 1 ifs)) (ap (λ (v : Ver). v.srel) c.ver.view_is) (c.as_slice.ensures.value ∙ ap (λ (v : Ver). v.ifs) c.ver.view_is) in
+    let rows = ap₂ (λ srel ifs. map (ifreq_row c.args.id.now srel) (enumerate_from 1 ifs))
+    (ap (λ (v : Ver). v.srel) c.ver.view_is) (c.as_slice.ensures.value ∙ ap (λ (v : Ver). v.ifs) c.ver.view_is)
+    in
     let added = adds_as g.S.Store ifreq mid new _ _ rows c.in_ok-insert_ifs.ensures.ok in
     record {
       same_reference = c.insert_ifs.ensures.same_reference ∙ c.loop-ver.invariant.same_reference;
       inside = stays_then g.S.Store old mid new c.loop-ver.invariant.inside c.insert_ifs.ensures.inside;
-      adds = adds_more g.S.Store ifreq (λ (v : Ver). map (ifreq_row c.args.id.now v.srel) (enumerate_from 1 v.ifs)) c.args.vers.now c.loop-ver.ver-index c.ver-item.result old mid new (omega arith) c.ver-item.is c.insert_ifs.ensures.inside
+      adds = adds_more g.S.Store ifreq (λ (v : Ver). map (ifreq_row c.args.id.now v.srel) (enumerate_from 1 v.ifs))
+          c.args.vers.now c.loop-ver.ver-index c.ver-item.result old mid new (omega arith) c.ver-item.is
+          c.insert_ifs.ensures.inside
           c.loop-ver.invariant.adds added;
     }
 
 pub returns-clause-ok : goal.returns-clause-ok
 returns-clause-ok g c =
     adds_as g.S.Store ifreq c.args.tx.now.conn.now c.loop-ver.tx.conn.now _ _
-    (ap (flat_map (λ (v : Ver). map (ifreq_row c.args.id.now v.srel) (enumerate_from 1 v.ifs))) (take_all c.loop-ver.ver-index c.args.vers.now (omega (arith, c.loop-ver-test.false)))) c.loop-ver.invariant.adds
+    (ap (flat_map (λ (v : Ver). map (ifreq_row c.args.id.now v.srel) (enumerate_from 1 v.ifs)))
+    (take_all c.loop-ver.ver-index c.args.vers.now (omega (arith, c.loop-ver-test.false))))
+    c.loop-ver.invariant.adds

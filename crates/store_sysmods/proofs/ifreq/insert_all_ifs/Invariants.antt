@@ -10,5 +10,6 @@ abbrev pub invariant-loop-ver : goal.invariant-loop-ver
 invariant-loop-ver g l = record {
   same_reference : l.tx.conn.ghost_name ≡ l.fn.tx.conn.ghost_name;
   inside : StaysInside g.S.Store l.fn.tx.conn.now l.tx.conn.now;
-  adds : Adds g.S.Store l.fn.tx.conn.now l.tx.conn.now ifreq_table (flat_map (λ v. map (ifreq_row l.id v.srel) (enumerate_from 1 v.ifs)) (take l.ver-index l.vers));
+  adds : Adds g.S.Store l.fn.tx.conn.now l.tx.conn.now ifreq_table
+      (flat_map (λ v. map (ifreq_row l.id v.srel) (enumerate_from 1 v.ifs)) (take l.ver-index l.vers));
 }

@@ -16,15 +16,20 @@ loop-index-preserved g c =
     let index = c.loop-index.index in
     let item = c.index-ifs-index.result in
     let ifs = c.args.ifs.now in
-    let within : index < length (enumerate_from 1 ifs) = omega (arith, c.loop-index-test.true, length-enumerate_from 1 ifs) in
+    let within : index < length (enumerate_from 1 ifs) = omega
+    (arith, c.loop-index-test.true, length-enumerate_from 1 ifs) in
     record {
       same_reference = c.insert_if.ensures.same_reference ∙ c.loop-index.invariant.same_reference;
       inside = stays_then g.S.Store old mid new c.loop-index.invariant.inside c.insert_if.ensures.inside;
-      adds = adds_more g.S.Store ifreq (λ (i : ℕ × IfReq). ifreq_row c.args.id.now c.args.srel.now i ∷ []) (enumerate_from 1 ifs) index (index + 1, item) old mid new within
-          (numbered_item ifs index item c.loop-index-test.true c.index-ifs-index.is) c.insert_if.ensures.inside c.loop-index.invariant.adds c.in_ok-insert_if.ensures.ok;
+      adds = adds_more g.S.Store ifreq (λ (i : ℕ × IfReq). ifreq_row c.args.id.now c.args.srel.now i ∷ [])
+          (enumerate_from 1 ifs) index (index + 1, item) old mid new within
+          (numbered_item ifs index item c.loop-index-test.true c.index-ifs-index.is) c.insert_if.ensures.inside
+          c.loop-index.invariant.adds c.in_ok-insert_if.ensures.ok;
     }
 
 pub returns-clause-ok : goal.returns-clause-ok
 returns-clause-ok g c =
     let ifs = c.args.ifs.now in
-    adds_items g.S.Store ifreq (ifreq_row c.args.id.now c.args.srel.now) (enumerate_from 1 ifs) c.loop-index.index c.args.tx.now.conn.now c.loop-index.tx.conn.now (omega (arith, c.loop-index-test.false, length-enumerate_from 1 ifs)) c.loop-index.invariant.adds
+    adds_items g.S.Store ifreq (ifreq_row c.args.id.now c.args.srel.now) (enumerate_from 1 ifs) c.loop-index.index
+    c.args.tx.now.conn.now c.loop-index.tx.conn.now (omega
+    (arith, c.loop-index-test.false, length-enumerate_from 1 ifs)) c.loop-index.invariant.adds

@@ -10,5 +10,6 @@ abbrev pub invariant-loop-index : goal.invariant-loop-index
 invariant-loop-index g l = record {
   same_reference : l.tx.conn.ghost_name ≡ l.fn.tx.conn.ghost_name;
   inside : StaysInside g.S.Store l.fn.tx.conn.now l.tx.conn.now;
-  adds : Adds g.S.Store l.fn.tx.conn.now l.tx.conn.now ifreq_table (flat_map (λ i. ifreq_row l.id l.srel i ∷ []) (take l.index (enumerate_from 1 l.ifs)));
+  adds : Adds g.S.Store l.fn.tx.conn.now l.tx.conn.now ifreq_table
+      (flat_map (λ i. ifreq_row l.id l.srel i ∷ []) (take l.index (enumerate_from 1 l.ifs)));
 }

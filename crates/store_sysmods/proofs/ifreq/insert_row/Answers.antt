@@ -15,7 +15,8 @@ returns-clause-ok g c =
     let srel = c.args.srel.now in
     let n = c.args.number in
     let is = ifreq_row x srel (n, i) in
-    let row = ifreq_bound c.as_bytes.result.now c.as_bytes-2.result.now c.as_bytes-3.result.now c.args.req.now _ n x srel i c.as_bytes.ensures.same c.as_bytes-2.ensures.same (search rules)
+    let row = ifreq_bound c.as_bytes.result.now c.as_bytes-2.result.now c.as_bytes-3.result.now c.args.req.now _ n x
+    srel i c.as_bytes.ensures.same c.as_bytes-2.ensures.same (search rules)
     (c.as_bytes-3.ensures.same ∙ ap (λ (j : IfReq). j.function) c.ifreq.view_is) c.requires.req in
     on_ok c.insert.result _ _ (λ ran.
     as_inserted g.S.Store c.args.tx.now.conn.now c.insert.new.tx.conn.now store_schema ifreq is _ row

@@ -21,12 +21,17 @@ returns-clause-ok g c =
     let elems = c.remove-3.new.tx.conn.now in
     let last = c.remove_parent.new.tx.conn.now in
     on_ok c.remove_parent.result _ _ (λ removed.
-    all_removed g.S.Store old vers ifs elems last id c.remove-2.ensures.inside c.remove-3.ensures.inside c.remove_parent.ensures.inside
+    all_removed g.S.Store old vers ifs elems last id c.remove-2.ensures.inside c.remove-3.ensures.inside
+    c.remove_parent.ensures.inside
     (as_removed g.S.Store old vers store_schema ver key _ is (c.in_ok-remove.ensures.ok store_schema 2 ver takes_vers))
-    (as_removed g.S.Store vers ifs store_schema ifreq key _ is (c.in_ok-remove-2.ensures.ok store_schema 3 ifreq takes_ifreqs))
-    (as_removed g.S.Store ifs elems store_schema elem key _ is (c.in_ok-remove-3.ensures.ok store_schema 5 elem takes_elems))
-    (as_parent g.S.Store old vers ifs elems last id _ is (removed store_schema 1 sysmod sysmod_children takes_sysmod refl))) c.remove_parent.ensures.ok
+    (as_removed g.S.Store vers ifs store_schema ifreq key _ is
+    (c.in_ok-remove-2.ensures.ok store_schema 3 ifreq takes_ifreqs))
+    (as_removed g.S.Store ifs elems store_schema elem key _ is
+    (c.in_ok-remove-3.ensures.ok store_schema 5 elem takes_elems))
+    (as_parent g.S.Store old vers ifs elems last id _ is (removed store_schema 1 sysmod sysmod_children takes_sysmod
+    refl))) c.remove_parent.ensures.ok
 
 pub returns-clause-stands : goal.returns-clause-stands
 returns-clause-stands g c =
-    on_ok c.remove_parent.result _ _ (λ turned i fits clean held. sysmod_removed c.args.id i _ (turned clean (rows_of i) held)) (returns-clause-ok g c)
+    on_ok c.remove_parent.result _ _ (λ turned i fits clean held.
+    sysmod_removed c.args.id i _ (turned clean (rows_of i) held)) (returns-clause-ok g c)

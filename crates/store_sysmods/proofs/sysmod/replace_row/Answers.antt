@@ -15,7 +15,11 @@ pub returns-clause-ok : goal.returns-clause-ok
 returns-clause-ok g c =
     let s = c.args.sysmod.now in
     let view = c.sysmod.view_is in
-    let row = sysmod_bound c.as_bytes.result.now c.kind_text.result.now c.args.sources.now s (c.as_bytes.ensures.same ∙ ap (λ (t : Sysmod). t.id) view) (c.kind_text.ensures ∙ ap (λ (t : Sysmod). kind_text t.kind) view) c.requires in
+    let row = sysmod_bound c.as_bytes.result.now c.kind_text.result.now c.args.sources.now s
+    (c.as_bytes.ensures.same ∙ ap (λ (t : Sysmod). t.id) view)
+    (c.kind_text.ensures ∙ ap (λ (t : Sysmod). kind_text t.kind) view) c.requires in
     on_ok c.replace.result _ _ (λ ran.
-    subst (λ r. Turns g.S.Store c.args.tx.now.conn.now c.replace.new.tx.conn.now (HasContents store_schema) (in_table sysmod (in_place (take 1 r) r))) row
-    (ran store_schema 1 sysmod 1 replaces_sysmod (kept_as sysmod (sysmod_row s) _ row (kept_sysmod s)))) c.replace.ensures.ok
+    subst (λ r. Turns g.S.Store c.args.tx.now.conn.now c.replace.new.tx.conn.now (HasContents store_schema)
+    (in_table sysmod (in_place (take 1 r) r))) row
+    (ran store_schema 1 sysmod 1 replaces_sysmod (kept_as sysmod (sysmod_row s) _ row (kept_sysmod s))))
+    c.replace.ensures.ok

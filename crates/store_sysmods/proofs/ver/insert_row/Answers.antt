@@ -13,9 +13,14 @@ returns-clause-ok g c =
     let v = c.args.ver.now in
     let x = c.args.id.now in
     let view = c.ver.view_is in
-    let row = ver_bound c.as_bytes.result.now c.as_bytes-2.result.now c.as_slice.result.now c.as_slice-2.result.now c.as_slice-3.result.now c.as_slice-4.result.now c.as_slice-5.result.now c.id_value-fmid.result x v
-    c.as_bytes.ensures.same (c.as_bytes-2.ensures.same ∙ ap (λ (u : Ver). u.srel) view) (c.id_value-fmid.ensures ∙ ap (λ (u : Ver). Rattle.sqlite.specs.Values.or_null Rattle.sqlite.specs.declared.types.Value.TheVariants.Text u.fmid) view)
-    (c.as_slice.ensures.value ∙ c.requires.pre) (c.as_slice-2.ensures.value ∙ c.requires.req) (c.as_slice-3.ensures.value ∙ c.requires.sup) (c.as_slice-4.ensures.value ∙ c.requires.npre) (c.as_slice-5.ensures.value ∙ c.requires.del) in
+    let row = ver_bound c.as_bytes.result.now c.as_bytes-2.result.now c.as_slice.result.now c.as_slice-2.result.now
+    c.as_slice-3.result.now c.as_slice-4.result.now c.as_slice-5.result.now c.id_value-fmid.result x v
+    c.as_bytes.ensures.same (c.as_bytes-2.ensures.same ∙ ap (λ (u : Ver). u.srel) view)
+    (c.id_value-fmid.ensures ∙ ap (λ (u : Ver). Rattle.sqlite.specs.Values.or_null
+    Rattle.sqlite.specs.declared.types.Value.TheVariants.Text u.fmid) view)
+    (c.as_slice.ensures.value ∙ c.requires.pre) (c.as_slice-2.ensures.value ∙ c.requires.req)
+    (c.as_slice-3.ensures.value ∙ c.requires.sup) (c.as_slice-4.ensures.value ∙ c.requires.npre)
+    (c.as_slice-5.ensures.value ∙ c.requires.del) in
     on_ok c.insert.result _ _ (λ ran.
     as_inserted g.S.Store c.args.tx.now.conn.now c.insert.new.tx.conn.now store_schema ver (ver_row x v) _ row
     (ran store_schema 2 ver puts_ver (kept_as ver (ver_row x v) _ row (kept_ver x v)))) c.insert.ensures.ok

@@ -10,5 +10,6 @@ abbrev pub invariant-loop-ver : goal.invariant-loop-ver
 invariant-loop-ver g l = record {
   same_reference : l.tx.conn.ghost_name ≡ l.fn.tx.conn.ghost_name;
   inside : StaysInside g.S.Store l.fn.tx.conn.now l.tx.conn.now;
-  adds : Adds g.S.Store l.fn.tx.conn.now l.tx.conn.now ver_table (flat_map (λ v. ver_row l.id v ∷ []) (take l.ver-index l.vers));
+  adds : Adds g.S.Store l.fn.tx.conn.now l.tx.conn.now ver_table
+      (flat_map (λ v. ver_row l.id v ∷ []) (take l.ver-index l.vers));
 }

@@ -22,8 +22,10 @@ returns-clause-found g c clean i stands =
     let are = held_at store_schema 7 entry (rows_of i) trees has_entry stands.tables.tables in
     let key : name_key c.as_bytes.result.now ≡ name_key name = ap name_key c.as_bytes.ensures.same in
     if_ok_both c.load.result _ _ _ (λ rows found forms.
-    let there = subst (λ (k : Row). AreFound entry k (map row_of_entry rows.items) (trees entry.tree)) key (found store_schema entry reads_entries stands.tables.schema_is) in
-    entries_moved i stands.inventory name rows.items forms (found_are entry (name_key name) (rows_of i entry.tree) (map row_of_entry rows.items) (trees entry.tree) are there)) (c.load.ensures.found clean) c.load.ensures.forms
+    let there = subst (λ (k : Row). AreFound entry k (map row_of_entry rows.items) (trees entry.tree)) key
+    (found store_schema entry reads_entries stands.tables.schema_is) in
+    entries_moved i stands.inventory name rows.items forms (found_are entry (name_key name) (rows_of i entry.tree)
+    (map row_of_entry rows.items) (trees entry.tree) are there)) (c.load.ensures.found clean) c.load.ensures.forms
 
 pub returns-clause-none : goal.returns-clause-none
 returns-clause-none g c clean bad i stands =
@@ -32,10 +34,13 @@ returns-clause-none g c clean bad i stands =
     let own = map (with_zone name) (entries_in i name) in
     let are = held_at store_schema 7 entry (rows_of i) trees has_entry stands.tables.tables in
     let key : name_key name ≡ name_key c.as_bytes.result.now = ap name_key (sym c.as_bytes.ensures.same) in
-    let there = found_with entry (name_key name) (rows_of i entry.tree) (map row_of_entry own) (trees entry.tree) are (same_rows (sym (entries_filtered i stands.inventory name))) in
-    c.load.ensures.none clean bad store_schema entry reads_entries stands.tables.schema_is own (entry_forms i stands.inventory name)
+    let there = found_with entry (name_key name) (rows_of i entry.tree) (map row_of_entry own) (trees entry.tree) are
+    (same_rows (sym (entries_filtered i stands.inventory name))) in
+    c.load.ensures.none clean bad store_schema entry reads_entries stands.tables.schema_is own
+    (entry_forms i stands.inventory name)
     (subst (λ (k : Row). AreFound entry k (map row_of_entry own) (trees entry.tree)) key there)
 
 pub returns-clause-reads : goal.returns-clause-reads
 returns-clause-reads g c =
-    reads_text g.S.Store store_schema select_entries c.args.conn.now c.load.new.conn c.load.result reads_entries.plain c.load.ensures.reads
+    reads_text g.S.Store store_schema select_entries c.args.conn.now c.load.new.conn c.load.result reads_entries.plain
+    c.load.ensures.reads

@@ -15,7 +15,8 @@ loop-row-preserved c =
     let x = c.in-Some.row in
     let steps : into_iter_items at.row-iterator ≡ x ∷ into_iter_items c.next.new.self = c.in-Some.ensures.steps.0 in (
       append_assoc at.yielded (x ∷ []) _ ∙ rw (← steps) at.invariant.0,
-      c.in_ok-push.ensures.items ∙ ap (λ es. es ++ x.entry ∷ []) at.invariant.1 ∙ sym (map-append entry_of at.yielded (x ∷ [])),
+      c.in_ok-push.ensures.items ∙ ap (λ es. es ++ x.entry ∷ []) at.invariant.1
+          ∙ sym (map-append entry_of at.yielded (x ∷ [])),
       let was = at.invariant.2 in
           let gone = c.in-Some.ensures.steps.1 in
           let short = ap length steps in
@@ -26,6 +27,8 @@ pub returns : goal.returns
 unfolding entry_of
 returns c =
     let at = c.loop-row in
-    let empty : into_iter_items at.row-iterator ≡ [] = nil_from_length _ (sym at.invariant.2 ∙ c.in-None.ensures.steps.0) in
-    let all = sym (append-nil at.yielded) ∙ rw empty at at.invariant.0 ∙ c.into_iter-row-iterator.ensures.into_iter_gives.0 in
+    let empty : into_iter_items at.row-iterator ≡ [] = nil_from_length _
+    (sym at.invariant.2 ∙ c.in-None.ensures.steps.0) in
+    let all = sym (append-nil at.yielded) ∙ rw empty at at.invariant.0
+    ∙ c.into_iter-row-iterator.ensures.into_iter_gives.0 in
     at.invariant.1 ∙ ap (map entry_of) all

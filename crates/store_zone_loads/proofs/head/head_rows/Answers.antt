@@ -24,8 +24,10 @@ returns-clause-found g c clean i stands =
     let are = held_at store_schema 6 zone (rows_of i) trees has_zone stands.tables.tables in
     let key : name_key c.as_bytes.result.now ≡ name_key name = ap name_key c.as_bytes.ensures.same in
     if_ok c.load.result _ _ (λ heads found.
-    let there = subst (λ (k : Row). AreFound zone k (map head_row heads.items) (trees zone.tree)) key (found store_schema zone reads_head stands.tables.schema_is) in
-    one_head i stands.inventory name heads.items (found_are zone (name_key name) (rows_of i zone.tree) (map head_row heads.items) (trees zone.tree) are there)) (c.load.ensures.found clean)
+    let there = subst (λ (k : Row). AreFound zone k (map head_row heads.items) (trees zone.tree)) key
+    (found store_schema zone reads_head stands.tables.schema_is) in
+    one_head i stands.inventory name heads.items (found_are zone (name_key name) (rows_of i zone.tree)
+    (map head_row heads.items) (trees zone.tree) are there)) (c.load.ensures.found clean)
 
 pub returns-clause-none : goal.returns-clause-none
 returns-clause-none g c clean bad i stands =
@@ -34,10 +36,13 @@ returns-clause-none g c clean bad i stands =
     let own = option_to_list (option_map (head_in name) (zone_in i name)) in
     let are = held_at store_schema 6 zone (rows_of i) trees has_zone stands.tables.tables in
     let key : name_key name ≡ name_key c.as_bytes.result.now = ap name_key (sym c.as_bytes.ensures.same) in
-    let there = found_with zone (name_key name) (rows_of i zone.tree) (map head_row own) (trees zone.tree) are (same_rows (sym (head_filtered i stands.inventory name))) in
-    c.load.ensures.none clean bad store_schema zone reads_head stands.tables.schema_is own (one_head_forms i stands.inventory name)
+    let there = found_with zone (name_key name) (rows_of i zone.tree) (map head_row own) (trees zone.tree) are
+    (same_rows (sym (head_filtered i stands.inventory name))) in
+    c.load.ensures.none clean bad store_schema zone reads_head stands.tables.schema_is own
+    (one_head_forms i stands.inventory name)
     (subst (λ (k : Row). AreFound zone k (map head_row own) (trees zone.tree)) key there)
 
 pub returns-clause-reads : goal.returns-clause-reads
 returns-clause-reads g c =
-    reads_text g.S.Store store_schema select_head c.args.conn.now c.load.new.conn c.load.result reads_head.plain c.load.ensures.reads
+    reads_text g.S.Store store_schema select_head c.args.conn.now c.load.new.conn c.load.result reads_head.plain
+    c.load.ensures.reads

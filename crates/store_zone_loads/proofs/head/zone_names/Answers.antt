@@ -7,16 +7,21 @@ use Rattle.store_zone_loads.proofs.head.zone_names.Goals as goal
 
 pub returns-clause-found : goal.returns-clause-found
 returns-clause-found g c clean i stands =
-    c.in_ok-names_of.ensures ∙ ap (map (λ (h : ZoneHead). h.name)) (c.as_slice.ensures.value ∙ c.in_ok-heads.ensures.found clean i stands) ∙ map-map (λ (h : ZoneHead). h.name) head_of i.zones
+    c.in_ok-names_of.ensures ∙ ap (map (λ (h : ZoneHead). h.name))
+    (c.as_slice.ensures.value ∙ c.in_ok-heads.ensures.found clean i stands)
+    ∙ map-map (λ (h : ZoneHead). h.name) head_of i.zones
 
 pub returns-in_err-heads-clause-reads : goal.returns-in_err-heads-clause-reads
 returns-in_err-heads-clause-reads g c =
-    reads_err g.S.Store _ c.args.conn.now c.zone_heads.new.conn c.zone_heads.result _ (search rules) c.zone_heads.ensures.reads
+    reads_err g.S.Store _ c.args.conn.now c.zone_heads.new.conn c.zone_heads.result _ (search rules)
+    c.zone_heads.ensures.reads
 
 pub returns-in_err-names_of-clause-reads : goal.returns-in_err-names_of-clause-reads
 returns-in_err-names_of-clause-reads g c =
-    reads_more g.S.Store _ c.args.conn.now c.zone_heads.new.conn c.zone_heads.result c.in_ok-heads.heads _ c.in_ok-heads.was c.zone_heads.ensures.reads
+    reads_more g.S.Store _ c.args.conn.now c.zone_heads.new.conn c.zone_heads.result c.in_ok-heads.heads _
+    c.in_ok-heads.was c.zone_heads.ensures.reads
 
 pub returns-clause-reads : goal.returns-clause-reads
 returns-clause-reads g c =
-    reads_more g.S.Store _ c.args.conn.now c.zone_heads.new.conn c.zone_heads.result c.in_ok-heads.heads _ c.in_ok-heads.was c.zone_heads.ensures.reads
+    reads_more g.S.Store _ c.args.conn.now c.zone_heads.new.conn c.zone_heads.result c.in_ok-heads.heads _
+    c.in_ok-heads.was c.zone_heads.ensures.reads

@@ -1,4 +1,5 @@
-use Rattle.std.proofs.Common.{◌≡◌, ◌<◌, ◌+◌, ◌∷◌, [], ◌++◌, ◌∙◌, length, take, get_or, true, false, sym, ap, subst, arith, rules}
+use Rattle.std.proofs.Common.{◌≡◌, ◌<◌, ◌+◌, ◌∷◌, [], ◌++◌, ◌∙◌, length, take, get_or, true, false, sym, ap, subst}
+use Rattle.std.proofs.Common.{arith, rules}
 use Rattle.std.specs.Prelude.{All, AllPairs}
 use Rattle.std.proofs.lemmas.List.{append-nil, take_more, take_all, get_or-take, get_or_default, length-take-le}
 use Rattle.std.proofs.lemmas.List.Elements.{All-nil}
@@ -19,7 +20,8 @@ returns-then-not-is_apart_from c =
           let short : length (take i xs) ≡ i = length-take-le i xs (omega (arith, here)) in
           let at : get_or (take i xs) k d ≡ get_or xs k d = get_or-take i xs k d (omega (arith, within, short)) in
           let last : get_or xs i d ≡ x = get_or_default xs i d x here ∙ sym c.index-heads-i.is in
-          subst (λ a. HeadsAreApart a x) (sym at) (subst (HeadsAreApart (get_or xs k d)) last (pairs k i d (omega (arith, within, short)) here)) in
+          subst (λ a. HeadsAreApart a x) (sym at) (subst (HeadsAreApart (get_or xs k d)) last
+          (pairs k i d (omega (arith, within, short)) here)) in
           let yes : c.is_apart_from.result ≡ true = c.is_apart_from.ensures.1 low in
           absurd cc,
     )
@@ -30,8 +32,10 @@ loop-i-preserved c =
     let i = c.loop-i.i in
     let x = c.index-heads-i.result in
     let low : All (λ a. HeadsAreApart a x) (take i xs) = c.is_apart_from.ensures.0 c.if-not-is_apart_from.false in
-    let more : take (i + 1) xs ≡ take i xs ++ x ∷ [] = take_more xs i x (omega (arith, c.loop-i-test.true)) ∙ ap (λ y. take i xs ++ y ∷ []) (sym c.index-heads-i.is) in
-    rw more (AllPairs-between HeadsAreApart (take i xs) [] x (rw (append-nil (take i xs)) c.loop-i.invariant) low (All-nil (HeadsAreApart x)))
+    let more : take (i + 1) xs ≡ take i xs ++ x ∷ [] = take_more xs i x (omega (arith, c.loop-i-test.true))
+    ∙ ap (λ y. take i xs ++ y ∷ []) (sym c.index-heads-i.is) in
+    rw more (AllPairs-between HeadsAreApart (take i xs) [] x (rw (append-nil (take i xs)) c.loop-i.invariant) low
+    (All-nil (HeadsAreApart x)))
 
 pub returns : goal.returns
 returns c =

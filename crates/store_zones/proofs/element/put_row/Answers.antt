@@ -19,12 +19,21 @@ returns-clause-ok g c =
     let e = the_view c.element.inside in
     let view : e ≡ c.args.element.now = c.element.view_is in
     let zone = c.args.zone.now in
-    let umids : c.args.umids.now ≡ join_with_byte 44 e.umids = c.requires.umids ∙ sym (ap (λ (x : Element). join_with_byte 44 x.umids) view) in
-    let text : c.args.text.now ≡ concat e.text = c.requires.text.bytes_are ∙ flat_concat c.args.element.now.text ∙ sym (ap (λ (x : Element). concat x.text) view) in
-    let key = element_key_bound c.as_bytes.result.now c.type_text.result.now c.as_bytes-2.result.now zone e.name e.elem_type c.as_bytes.ensures.same c.type_text.ensures c.as_bytes-2.ensures.same in
-    let row = element_bound c.as_bytes.result.now c.type_text.result.now c.as_bytes-2.result.now c.as_bytes-3.result.now c.as_bytes-4.result.now c.args.umids.now c.as_bytes-5.result.now c.as_bytes-6.result.now c.args.text.now zone e
-    c.as_bytes.ensures.same c.type_text.ensures c.as_bytes-2.ensures.same c.as_bytes-3.ensures.same c.as_bytes-4.ensures.same umids c.as_bytes-5.ensures.same c.as_bytes-6.ensures.same text in
-    subst (λ (x : Element). OnOk c.put.result (Turns g.S.Store c.args.tx.now.conn.now c.put.new.tx.conn.now (HasContents store_schema) (with_put zelem (element_key zone x.elem_type x.name) (zelem_row zone x)))) view
+    let umids : c.args.umids.now ≡ join_with_byte 44 e.umids =
+    c.requires.umids ∙ sym (ap (λ (x : Element). join_with_byte 44 x.umids) view) in
+    let text : c.args.text.now ≡ concat e.text = c.requires.text.bytes_are ∙ flat_concat c.args.element.now.text
+    ∙ sym (ap (λ (x : Element). concat x.text) view) in
+    let key = element_key_bound c.as_bytes.result.now c.type_text.result.now c.as_bytes-2.result.now zone e.name
+    e.elem_type c.as_bytes.ensures.same c.type_text.ensures c.as_bytes-2.ensures.same in
+    let row = element_bound c.as_bytes.result.now c.type_text.result.now c.as_bytes-2.result.now c.as_bytes-3.result.now
+    c.as_bytes-4.result.now c.args.umids.now c.as_bytes-5.result.now c.as_bytes-6.result.now c.args.text.now
+    zone e
+    c.as_bytes.ensures.same c.type_text.ensures c.as_bytes-2.ensures.same c.as_bytes-3.ensures.same
+    c.as_bytes-4.ensures.same umids c.as_bytes-5.ensures.same c.as_bytes-6.ensures.same text in
+    subst (λ (x : Element). OnOk c.put.result (Turns g.S.Store c.args.tx.now.conn.now c.put.new.tx.conn.now
+    (HasContents store_schema) (with_put zelem (element_key zone x.elem_type x.name) (zelem_row zone x)))) view
     (on_ok c.put.result _ _ (λ ran.
-    as_put g.S.Store c.args.tx.now.conn.now c.put.new.tx.conn.now store_schema zelem (element_key zone e.elem_type e.name) _ (zelem_row zone e) _ key row
-    (ran store_schema 8 zelem takes_element puts_element (kept_as zelem (zelem_row zone e) _ row (kept_element zone e)))) c.put.ensures.ok)
+    as_put g.S.Store c.args.tx.now.conn.now c.put.new.tx.conn.now store_schema zelem
+    (element_key zone e.elem_type e.name) _ (zelem_row zone e) _ key row
+    (ran store_schema 8 zelem takes_element puts_element (kept_as zelem (zelem_row zone e) _ row
+    (kept_element zone e)))) c.put.ensures.ok)

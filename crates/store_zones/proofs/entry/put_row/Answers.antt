@@ -20,9 +20,14 @@ returns-clause-ok g c =
     let view : e ≡ c.args.entry.now = c.entry.view_is in
     let zone = c.args.zone.now in
     let key = ap₂ (λ z i. Text z ∷ Text i ∷ []) c.as_bytes.ensures.same c.as_bytes-2.ensures.same in
-    let row = entry_bound c.as_bytes.result.now c.as_bytes-2.result.now c.args.supby.now c.args.waived.now c.date_value-date.result c.id_value-delby.result zone e c.as_bytes.ensures.same c.as_bytes-2.ensures.same
-    c.date_value-date.ensures (c.requires.supby ∙ sym (ap (λ (x : Entry). join_with_byte 44 x.supby) view)) c.id_value-delby.ensures (c.requires.waived ∙ sym (ap (λ (x : Entry). join_with_byte 44 x.waived) view)) in
-    subst (λ (x : Entry). OnOk c.put.result (Turns g.S.Store c.args.tx.now.conn.now c.put.new.tx.conn.now (HasContents store_schema) (with_put entry (entry_key zone x.id) (entry_row zone x)))) view
+    let row = entry_bound c.as_bytes.result.now c.as_bytes-2.result.now c.args.supby.now c.args.waived.now
+    c.date_value-date.result c.id_value-delby.result zone e c.as_bytes.ensures.same c.as_bytes-2.ensures.same
+    c.date_value-date.ensures (c.requires.supby ∙ sym (ap (λ (x : Entry). join_with_byte 44 x.supby) view))
+    c.id_value-delby.ensures (c.requires.waived ∙ sym (ap (λ (x : Entry). join_with_byte 44 x.waived) view)) in
+    subst (λ (x : Entry). OnOk c.put.result (Turns g.S.Store c.args.tx.now.conn.now c.put.new.tx.conn.now
+    (HasContents store_schema) (with_put entry (entry_key zone x.id) (entry_row zone x)))) view
     (on_ok c.put.result _ _ (λ ran.
-    as_put g.S.Store c.args.tx.now.conn.now c.put.new.tx.conn.now store_schema entry (entry_key zone e.id) _ (entry_row zone e) _ key row
-    (ran store_schema 7 entry takes_entry puts_entry (kept_as entry (entry_row zone e) _ row (kept_entry zone e)))) c.put.ensures.ok)
+    as_put g.S.Store c.args.tx.now.conn.now c.put.new.tx.conn.now store_schema entry (entry_key zone e.id) _
+    (entry_row zone e) _ key row
+    (ran store_schema 7 entry takes_entry puts_entry (kept_as entry (entry_row zone e) _ row (kept_entry zone e))))
+    c.put.ensures.ok)

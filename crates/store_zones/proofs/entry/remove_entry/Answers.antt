@@ -12,9 +12,13 @@ use Rattle.store_zones.proofs.entry.remove_entry.Goals as goal
 pub returns-clause-ok : goal.returns-clause-ok
 returns-clause-ok g c =
     on_ok c.remove.result _ _ (λ removed.
-    as_removed g.S.Store c.args.tx.now.conn.now c.remove.new.tx.conn.now store_schema entry (entry_key c.args.zone c.args.id) _
-    (ap₂ (λ zone id. Text zone ∷ Text id ∷ []) c.as_bytes.ensures.same c.as_bytes-2.ensures.same) (removed store_schema 7 entry takes_entry)) c.remove.ensures.ok
+    as_removed g.S.Store c.args.tx.now.conn.now c.remove.new.tx.conn.now store_schema entry
+    (entry_key c.args.zone c.args.id) _
+    (ap₂ (λ zone id. Text zone ∷ Text id ∷ []) c.as_bytes.ensures.same c.as_bytes-2.ensures.same)
+    (removed store_schema 7 entry takes_entry)) c.remove.ensures.ok
 
 pub returns-clause-stands : goal.returns-clause-stands
 returns-clause-stands g c =
-    on_ok c.remove.result _ _ (λ turned i j was is change removed clean held. entry_removed i j c.args.zone was is change c.args.id _ removed (turned clean (rows_of i) held)) (returns-clause-ok g c)
+    on_ok c.remove.result _ _ (λ turned i j was is change removed clean held.
+    entry_removed i j c.args.zone was is change c.args.id _ removed (turned clean (rows_of i) held))
+    (returns-clause-ok g c)

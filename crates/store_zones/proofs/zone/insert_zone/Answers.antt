@@ -13,11 +13,17 @@ use Rattle.store_zones.proofs.zone.insert_zone.Goals as goal
 pub returns-clause-ok : goal.returns-clause-ok
 returns-clause-ok g c =
     let made = empty_zone c.args.name c.args.kind c.args.srel c.args.related in
-    let is = zone_bound c.as_bytes.result.now c.zone_kind_text.result.now c.as_bytes-2.result.now c.name_value-related.result made c.as_bytes.ensures.same c.zone_kind_text.ensures c.as_bytes-2.ensures.same c.name_value-related.ensures in
+    let is = zone_bound c.as_bytes.result.now c.zone_kind_text.result.now c.as_bytes-2.result.now
+    c.name_value-related.result made c.as_bytes.ensures.same c.zone_kind_text.ensures c.as_bytes-2.ensures.same
+    c.name_value-related.ensures in
     on_ok c.insert.result _ _ (λ inserted.
-    as_inserted g.S.Store c.args.tx.now.conn.now c.insert.new.tx.conn.now store_schema zone (zone_row made) _ is (inserted store_schema 6 zone puts_zone (kept_as zone (zone_row made) _ is (kept_zone made)))) c.insert.ensures.ok
+    as_inserted g.S.Store c.args.tx.now.conn.now c.insert.new.tx.conn.now store_schema zone (zone_row made) _ is
+    (inserted store_schema 6 zone puts_zone (kept_as zone (zone_row made) _ is (kept_zone made))))
+    c.insert.ensures.ok
 
 pub returns-clause-stands : goal.returns-clause-stands
 returns-clause-stands g c =
     let made = empty_zone c.args.name c.args.kind c.args.srel c.args.related in
-    on_ok c.insert.result _ _ (λ turned global before after clean held. zone_added global made before after _ refl refl (turned clean (rows_of (record { global = global; zones = before ++ after })) held)) (returns-clause-ok g c)
+    on_ok c.insert.result _ _ (λ turned global before after clean held.
+    zone_added global made before after _ refl refl (turned clean
+    (rows_of (record { global = global; zones = before ++ after })) held)) (returns-clause-ok g c)

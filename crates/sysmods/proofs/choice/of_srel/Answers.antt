@@ -5,7 +5,9 @@ use Rattle.sysmods.proofs.choice.of_srel.Goals as goal
 
 pub returns-in-Some : goal.returns-in-Some
 returns-in-Some c =
-    ap (λ v. Some v) c.index-vers-place.is ∙ sym (find-position (λ v. bytes_eq v.srel c.args.srel) c.args.vers.now c.in-Some.place c.index-vers-place.result (sym c.in-Some.ensures.place))
+    ap (λ v. Some v) c.index-vers-place.is ∙ sym (find-position (λ v. bytes_eq v.srel c.args.srel) c.args.vers.now
+    c.in-Some.place c.index-vers-place.result (sym c.in-Some.ensures.place))
 
 pub returns-in-None : goal.returns-in-None
-returns-in-None c = sym (find-no_position (λ v. bytes_eq v.srel c.args.srel) c.args.vers.now (sym c.in-None.ensures.place))
+returns-in-None c = sym (find-no_position (λ v. bytes_eq v.srel c.args.srel) c.args.vers.now
+    (sym c.in-None.ensures.place))

@@ -11,7 +11,8 @@ returns-then-is_some-clause-fits c =
     let xs = c.args.received.now in
     let s = c.args.sysmod in
     let none : s.holds ≡ [] = c.carries_none.ensures.0 c.if-not-carries_none.false in
-    let fault = some-fault (zone_of xs) s c.in_ok-refusal.field-0 c.in_ok-refusal.ensures (sym c.is_some.ensures ∙ c.if-is_some.true) in
+    let fault = some-fault (zone_of xs) s c.in_ok-refusal.field-0 c.in_ok-refusal.ensures
+    (sym c.is_some.ensures ∙ c.if-is_some.true) in
     (λ e. absurd (true≢false (sym e)), λ g. absurd (none-refused xs s c.requires.last none g fault.0 fault.1))
 
 pub returns-clause-fits : goal.returns-clause-fits
@@ -20,7 +21,8 @@ returns-clause-fits c =
     let s = c.args.sysmod in
     let none : s.holds ≡ [] = c.carries_none.ensures.0 c.if-not-carries_none.false in (
       λ e. global-last xs s c.requires.last none c.requires.global c.known.ensures
-          (no-fault (zone_of xs) s c.in_ok-refusal.field-0 c.in_ok-refusal.ensures (sym c.is_some.ensures ∙ c.if-is_some.false)),
+          (no-fault (zone_of xs) s c.in_ok-refusal.field-0 c.in_ok-refusal.ensures
+          (sym c.is_some.ensures ∙ c.if-is_some.false)),
       λ g. refl,
     )
 

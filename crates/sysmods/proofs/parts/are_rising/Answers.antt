@@ -10,13 +10,17 @@ use Rattle.sysmods.proofs.parts.are_rising.Goals as goal
 pub returns-then-not-is_before : goal.returns-then-not-is_before
 returns-then-not-is_before c = (
   λ yes. absurd (true≢false (sym yes)),
-  λ rises. absurd (true≢false (sym (rises_next (slice_cmp nat_cmp) (λ s. s.id) c.args.sysmods.now c.loop-i.i c.index-sysmods-i.result c.index-sysmods-i-in-loop-i.result (omega arith) (omega (arith, c.loop-i-test.true)) c.index-sysmods-i.is c.index-sysmods-i-in-loop-i.is rises)
+  λ rises. absurd (true≢false (sym (rises_next (slice_cmp nat_cmp) (λ s. s.id) c.args.sysmods.now c.loop-i.i
+      c.index-sysmods-i.result c.index-sysmods-i-in-loop-i.result (omega arith) (omega (arith, c.loop-i-test.true))
+      c.index-sysmods-i.is c.index-sysmods-i-in-loop-i.is rises)
       ∙ sym c.is_before.ensures ∙ c.if-not-is_before.true)),
 )
 
 pub loop-i-preserved : goal.loop-i-preserved
 loop-i-preserved c =
-    rises_more nat_list_cmp_total (λ s. s.id) c.args.sysmods.now c.loop-i.i c.index-sysmods-i.result c.index-sysmods-i-in-loop-i.result (omega arith) (omega (arith, c.loop-i-test.true)) c.index-sysmods-i.is c.index-sysmods-i-in-loop-i.is
+    rises_more nat_list_cmp_total (λ s. s.id) c.args.sysmods.now c.loop-i.i c.index-sysmods-i.result
+    c.index-sysmods-i-in-loop-i.result (omega arith) (omega (arith, c.loop-i-test.true)) c.index-sysmods-i.is
+    c.index-sysmods-i-in-loop-i.is
     (sym c.is_before.ensures ∙ c.if-not-is_before.false) c.loop-i.invariant
 
 pub returns : goal.returns

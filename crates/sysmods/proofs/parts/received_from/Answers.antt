@@ -23,9 +23,11 @@ add_last-requires-clause-last c =
     let s = c.in-Some.sysmod in
     let rest = into_iter_items c.next.new.self in
     let all : at.yielded ++ s ∷ rest ≡ c.args.sysmods.items =
-    ap (λ r. at.yielded ++ r) (sym c.in-Some.ensures.steps.0) ∙ at.invariant.parts ∙ c.into_iter-sysmod-iterator.ensures.into_iter_gives.0 in
+    ap (λ r. at.yielded ++ r) (sym c.in-Some.ensures.steps.0) ∙ at.invariant.parts
+    ∙ c.into_iter-sysmod-iterator.ensures.into_iter_gives.0 in
     let rises : Rises (slice_cmp nat_cmp) (λ r. r.id) (at.yielded ++ s ∷ rest) =
-    subst (Rises (slice_cmp nat_cmp) (λ r. r.id)) (c.as_slice.ensures.value ∙ sym all) (c.are_rising.ensures.0 c.if-not-are_rising.false) in
+    subst (Rises (slice_cmp nat_cmp) (λ r. r.id)) (c.as_slice.ensures.value ∙ sym all)
+    (c.are_rising.ensures.0 c.if-not-are_rising.false) in
     subst (λ xs. AreBefore xs s.id) (sym at.invariant.taken) (before-last at.yielded s rest rises)
 
 pub returns-then-not-branch-clause-none : goal.returns-then-not-branch-clause-none
@@ -35,10 +37,12 @@ returns-then-not-branch-clause-none c =
     let rest = into_iter_items c.next.new.self in
     let all : (at.yielded ++ s ∷ []) ++ rest ≡ c.args.sysmods.items =
     append_assoc at.yielded (s ∷ []) rest
-    ∙ ap (λ r. at.yielded ++ r) (sym c.in-Some.ensures.steps.0) ∙ at.invariant.parts ∙ c.into_iter-sysmod-iterator.ensures.into_iter_gives.0 in (
+    ∙ ap (λ r. at.yielded ++ r) (sym c.in-Some.ensures.steps.0) ∙ at.invariant.parts
+    ∙ c.into_iter-sysmod-iterator.ensures.into_iter_gives.0 in (
       λ e. absurd (true≢false (sym e)),
       λ g.
           let front = global-front (at.yielded ++ s ∷ []) rest (subst (λ xs. IsGlobal (zone_of xs)) (sym all) g) in
-          let fits = c.in_ok-add_last.ensures.fits.1 (subst (λ xs. IsGlobal (zone_of (xs ++ s ∷ []))) (sym at.invariant.taken) front) in
+          let fits = c.in_ok-add_last.ensures.fits.1 (subst (λ xs. IsGlobal (zone_of (xs ++ s ∷ [])))
+          (sym at.invariant.taken) front) in
           absurd (true≢false (sym fits ∙ c.if-not-branch.true)),
     )

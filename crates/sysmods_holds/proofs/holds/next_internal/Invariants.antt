@@ -5,4 +5,5 @@ use Rattle.sysmods_holds.proofs.Internal.{External}
 use Rattle.sysmods_holds.proofs.holds.next_internal.Given as goal
 
 abbrev pub invariant-loop-key : goal.invariant-loop-key
-invariant-loop-key l = (front : Entries) × (filter (λ e. goes_on l.fn.from e.0) l.map.entries ≡ front ++ l.key-iterator) × External front
+invariant-loop-key l = (front : Entries) × (filter (λ e. goes_on l.fn.from e.0) l.map.entries ≡ front ++ l.key-iterator)
+    × External front

@@ -9,13 +9,17 @@ use Rattle.sysmods_holds.proofs.rising.are_rising.Goals as goal
 pub returns-then-not-is_before : goal.returns-then-not-is_before
 returns-then-not-is_before c = (
   λ yes. absurd (true≢false (sym yes)),
-  λ rises. absurd (true≢false (sym (rises_next hold_cmp (λ h. h) c.args.holds.now c.loop-i.i c.index-holds-i.result c.index-holds-i-in-loop-i.result (omega arith) (omega (arith, c.loop-i-test.true)) c.index-holds-i.is c.index-holds-i-in-loop-i.is rises)
+  λ rises. absurd (true≢false (sym (rises_next hold_cmp (λ h. h) c.args.holds.now c.loop-i.i c.index-holds-i.result
+      c.index-holds-i-in-loop-i.result (omega arith) (omega (arith, c.loop-i-test.true)) c.index-holds-i.is
+      c.index-holds-i-in-loop-i.is rises)
       ∙ sym c.is_before.ensures ∙ c.if-not-is_before.true)),
 )
 
 pub loop-i-preserved : goal.loop-i-preserved
 loop-i-preserved c =
-    rises_more hold_cmp_total (λ h. h) c.args.holds.now c.loop-i.i c.index-holds-i.result c.index-holds-i-in-loop-i.result (omega arith) (omega (arith, c.loop-i-test.true)) c.index-holds-i.is c.index-holds-i-in-loop-i.is
+    rises_more hold_cmp_total (λ h. h) c.args.holds.now c.loop-i.i c.index-holds-i.result
+    c.index-holds-i-in-loop-i.result (omega arith) (omega (arith, c.loop-i-test.true)) c.index-holds-i.is
+    c.index-holds-i-in-loop-i.is
     (sym c.is_before.ensures ∙ c.if-not-is_before.false) c.loop-i.invariant
 
 pub loop-i-init : goal.loop-i-init

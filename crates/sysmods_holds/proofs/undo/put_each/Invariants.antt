@@ -4,4 +4,7 @@ use Rattle.sysmods_holds.specs.Undone.{UndoesAll}
 use Rattle.sysmods_holds.proofs.undo.put_each.Given as goal
 
 abbrev pub invariant-loop-hold : goal.invariant-loop-hold
-invariant-loop-hold l = record { so_far : l.to ≡ with_holds l.initial.to l.yielded; undo : UndoesAll l.initial.to l.to l.log.items }
+invariant-loop-hold l = record {
+  so_far : l.to ≡ with_holds l.initial.to l.yielded;
+  undo : UndoesAll l.initial.to l.to l.log.items;
+}

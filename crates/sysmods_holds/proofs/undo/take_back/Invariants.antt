@@ -4,7 +4,8 @@ use Rattle.sysmods_holds.specs.Undone.{UndoesAll}
 use Rattle.sysmods_holds.proofs.undo.take_back.Given as goal
 
 abbrev pub invariant-loop-undo : goal.invariant-loop-undo
-invariant-loop-undo l = (old : List terms.Hold) → UndoesAll old l.initial.from l.initial.log.items → UndoesAll old l.from l.log.items
+invariant-loop-undo l = (old : List terms.Hold) → UndoesAll old l.initial.from l.initial.log.items
+    → UndoesAll old l.from l.log.items
 
 abbrev pub decreases-loop-undo : goal.decreases-loop-undo
 decreases-loop-undo l = vec_len l.log

@@ -5,4 +5,8 @@ pub returns : goal.returns
 returns g c =
     let same = c.in_ok-ends.ensures.items ∙ c.as_slice.ensures.keys in
     let of_seen = rw same at c.from_vec.ensures in
-    λ z. (λ in_ends. c.in_ok-seen.ensures.sound z ((of_seen z).0 in_ends), λ reached. (of_seen z).1 (c.in_ok-seen.ensures.all (λ none. none) z reached))
+    λ z. (
+      λ in_ends. c.in_ok-seen.ensures.sound z ((of_seen z).0 in_ends),
+      λ reached.
+          (of_seen z).1 (c.in_ok-seen.ensures.all (λ none. none) z reached),
+    )

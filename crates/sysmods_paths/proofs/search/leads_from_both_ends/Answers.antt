@@ -14,11 +14,16 @@ loop-i-init g c =
 
 pub returns-then-have_met : goal.returns-then-have_met
 returns-then-have_met g c = (
-  λ met. both-met _ _ c.requires _ _ _ _ _ _ c.loop-i.invariant.ahead c.loop-i.invariant.behind (sym c.have_met.ensures ∙ c.if-have_met.true),
+  λ met. both-met _ _ c.requires _ _ _ _ _ _ c.loop-i.invariant.ahead c.loop-i.invariant.behind
+      (sym c.have_met.ensures ∙ c.if-have_met.true),
   λ reached. refl,
 )
 
 pub returns : goal.returns
 returns g c =
     rw c.have_met-2.ensures (both-tell _ _ c.requires _ _ _ _ _ _ c.loop-i.invariant.ahead c.loop-i.invariant.behind
-    (elim c.loop-i-test.branch [ then-loop-i-test+else-j-len w ↦ inr (omega arith) | else-loop-i-test w ↦ inl (omega arith) ]))
+    (elim c.loop-i-test.branch [
+      | then-loop-i-test+else-j-len w ↦ inr (omega arith)
+      | else-loop-i-test w ↦ inl
+          (omega arith)
+    ]))

@@ -10,5 +10,7 @@ leads_from_both_ends-requires c = turned c.args.received.now c.args.sysmod.now c
 
 pub returns : goal.returns
 returns c =
-    subst (λ x. IfOk c.leads_from_both_ends.result (λ found. IsTrue found ↔ Reaches (names_for (with_sysmod (zone_of c.args.received.now) c.args.sysmod.now) c.args.srel) x x))
+    subst (λ x. IfOk c.leads_from_both_ends.result (λ found.
+    IsTrue found ↔ Reaches (names_for (with_sysmod (zone_of c.args.received.now) c.args.sysmod.now) c.args.srel) x
+    x))
     (ap (λ s. s.id) c.sysmod.view_is) c.leads_from_both_ends.ensures

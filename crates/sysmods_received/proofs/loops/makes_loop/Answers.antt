@@ -19,22 +19,30 @@ returns-then-not-names c =
     let own : c.names.result ≡ false = search rules in (
       λ e. absurd (true≢false (sym e)),
       λ loop. absurd (no_loop-unnamed (zone_of xs) s c.requires.no_loop
-          (others-unnamed xs s.id (subst (λ z. list_any (λ r. list_any (λ v. is_in (named v) z) r.vers) xs ≡ false) id (sym c.is_named.ensures ∙ unnamed)))
-          (own-unnamed s.vers s.id (subst (λ z. list_any (λ v. is_in (named v) z) s.vers ≡ false) id (sym c.names.ensures ∙ own)))
+          (others-unnamed xs s.id (subst (λ z. list_any (λ r. list_any (λ v. is_in (named v) z) r.vers) xs ≡ false) id
+          (sym c.is_named.ensures ∙ unnamed)))
+          (own-unnamed s.vers s.id (subst (λ z. list_any (λ v. is_in (named v) z) s.vers ≡ false) id
+          (sym c.names.ensures ∙ own)))
           loop),
     )
 
 pub returns-then-branch : goal.returns-then-branch
-returns-then-branch c = (λ t. (c.ver.inside.srel, c.args.sysmod.now.id, c.in_ok-leads_back.ensures.0 c.if-branch.true), λ loop. refl)
+returns-then-branch c = (
+  λ t. (c.ver.inside.srel, c.args.sysmod.now.id, c.in_ok-leads_back.ensures.0 c.if-branch.true),
+  λ loop. refl,
+)
 
 pub loop-ver-preserved : goal.loop-ver-preserved
 loop-ver-preserved c = λ k d below reached.
     let items = c.deref-ver-items.result.now in
     let i = c.loop-ver.ver-index in
-    let same : (get_or items i d).srel ≡ c.ver.inside.srel = ap (λ v. v.srel) (get_or_default items i d c.ver-item.result (omega arith) ∙ sym c.ver-item.is ∙ sym c.ver.view_is) in
+    let same : (get_or items i d).srel ≡ c.ver.inside.srel =
+    ap (λ v. v.srel) (get_or_default items i d c.ver-item.result (omega arith) ∙ sym c.ver-item.is
+    ∙ sym c.ver.view_is) in
     elim (cases_eq k i) [
       | inl here ↦ true≢false (sym (c.in_ok-leads_back.ensures.1
-          (subst (λ srel. Reaches (names_for (with_sysmod (zone_of c.args.received.now) c.args.sysmod.now) srel) c.args.sysmod.now.id c.args.sysmod.now.id)
+          (subst (λ srel. Reaches (names_for (with_sysmod (zone_of c.args.received.now) c.args.sysmod.now) srel)
+          c.args.sysmod.now.id c.args.sysmod.now.id)
           (ap (λ n. (get_or items n d).srel) here ∙ same) reached)) ∙ c.if-branch.false)
       | inr other ↦ c.loop-ver.invariant k d (omega arith) reached
     ]
@@ -43,6 +51,8 @@ pub returns : goal.returns
 returns c = (
   λ e. absurd (true≢false (sym e)),
   λ loop. absurd (no_loop-from_search (zone_of c.args.received.now) c.args.sysmod.now c.requires.no_loop
-      (subst (λ vs. All (λ v. ¬ Reaches (names_for (with_sysmod (zone_of c.args.received.now) c.args.sysmod.now) v.srel) c.args.sysmod.now.id c.args.sysmod.now.id) vs)
-      (c.deref-ver-items.ensures.value ∙ ap (λ r. r.vers) c.sysmod.view_is) (λ i d below. c.loop-ver.invariant i d (omega arith))) loop),
+      (subst (λ vs. All (λ v. ¬ Reaches (names_for (with_sysmod (zone_of c.args.received.now) c.args.sysmod.now) v.srel)
+      c.args.sysmod.now.id c.args.sysmod.now.id) vs)
+      (c.deref-ver-items.ensures.value ∙ ap (λ r. r.vers) c.sysmod.view_is)
+      (λ i d below. c.loop-ver.invariant i d (omega arith))) loop),
 )

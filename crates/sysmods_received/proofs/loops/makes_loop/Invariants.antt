@@ -7,4 +7,5 @@ use Rattle.sysmods_received.proofs.loops.makes_loop.Given as goal
 
 abbrev pub invariant-loop-ver : goal.invariant-loop-ver
 invariant-loop-ver l =
-    (k : ℕ) (d : Ver) → k < l.ver-index → ¬ Reaches (names_for (with_sysmod (zone_of l.fn.received) l.fn.sysmod) (get_or l.ver-items k d).srel) l.fn.sysmod.id l.fn.sysmod.id
+    (k : ℕ) (d : Ver) → k < l.ver-index → ¬ Reaches (names_for (with_sysmod (zone_of l.fn.received) l.fn.sysmod)
+    (get_or l.ver-items k d).srel) l.fn.sysmod.id l.fn.sysmod.id

@@ -5,12 +5,17 @@ use Rattle.sysmods_received.proofs.roles.is_service.Goals as goal
 
 pub returns-then-eq : goal.returns-then-eq
 returns-then-eq c =
-    ap not c.has_function_kind.ensures ∙ service-own c.args.received.now c.args.sysmod.now c.args.id (ap (λ s. bytes_eq c.args.id s.id) (sym c.sysmod.view_is) ∙ sym c.eq.ensures ∙ c.if-eq.true)
+    ap not c.has_function_kind.ensures ∙ service-own c.args.received.now c.args.sysmod.now c.args.id
+    (ap (λ s. bytes_eq c.args.id s.id) (sym c.sysmod.view_is) ∙ sym c.eq.ensures ∙ c.if-eq.true)
 
 pub returns-in-Some : goal.returns-in-Some
 returns-in-Some c =
-    ap not c.has_function_kind-in-Some.ensures ∙ service-other c.args.received.now c.args.sysmod.now c.args.id (ap (λ s. bytes_eq c.args.id s.id) (sym c.sysmod.view_is) ∙ sym c.eq.ensures ∙ c.if-eq.false) _ c.in-Some.ensures
+    ap not c.has_function_kind-in-Some.ensures ∙ service-other c.args.received.now c.args.sysmod.now c.args.id
+    (ap (λ s. bytes_eq c.args.id s.id) (sym c.sysmod.view_is) ∙ sym c.eq.ensures ∙ c.if-eq.false) _
+    c.in-Some.ensures
 
 pub returns-in-None : goal.returns-in-None
 returns-in-None c =
-    service-other c.args.received.now c.args.sysmod.now c.args.id (ap (λ s. bytes_eq c.args.id s.id) (sym c.sysmod.view_is) ∙ sym c.eq.ensures ∙ c.if-eq.false) None c.in-None.ensures
+    service-other c.args.received.now c.args.sysmod.now c.args.id
+    (ap (λ s. bytes_eq c.args.id s.id) (sym c.sysmod.view_is) ∙ sym c.eq.ensures ∙ c.if-eq.false) None
+    c.in-None.ensures

@@ -4,7 +4,8 @@ use Rattle.sysmods_received.proofs.roles.roles_fit.Goals as goal
 
 pub returns-then-own_fit : goal.returns-then-own_fit
 returns-then-own_fit c = (
-  λ test. all-fit c.args.received.now c.args.sysmod.now c.requires.fit (c.own_fit.ensures.0 c.if-own_fit.true) (sym c.others_fit.ensures ∙ test),
+  λ test. all-fit c.args.received.now c.args.sysmod.now c.requires.fit (c.own_fit.ensures.0 c.if-own_fit.true)
+      (sym c.others_fit.ensures ∙ test),
   λ all. c.others_fit.ensures ∙ others-fit c.args.received.now c.args.sysmod.now c.requires.new all,
 )
 

@@ -7,10 +7,14 @@ use Rattle.sysmods_records.proofs.adding.ver_place.Goals as goal
 
 pub returns-clause-found : goal.returns-clause-found
 returns-clause-found c =
-    let position = c.binary_search_by_key.ensures.position (λ (v : Ver). v.srel) (answers_always _ _ _ (λ f a r h q. search rules)) in
-    found-search nat_list_cmp_total (λ (v : Ver). v.srel) c.args.srel c.args.vers.now c.requires c.binary_search_by_key.result c.binary_search_by_key.ensures.bound position
+    let position = c.binary_search_by_key.ensures.position (λ (v : Ver). v.srel)
+    (answers_always _ _ _ (λ f a r h q. search rules)) in
+    found-search nat_list_cmp_total (λ (v : Ver). v.srel) c.args.srel c.args.vers.now c.requires
+    c.binary_search_by_key.result c.binary_search_by_key.ensures.bound position
 
 pub returns-clause-missing : goal.returns-clause-missing
 returns-clause-missing c =
-    let position = c.binary_search_by_key.ensures.position (λ (v : Ver). v.srel) (answers_always _ _ _ (λ f a r h q. search rules)) in
-    missing-search nat_list_cmp_total (λ (v : Ver). v.srel) c.args.srel c.args.vers.now c.requires c.binary_search_by_key.result c.binary_search_by_key.ensures.bound position
+    let position = c.binary_search_by_key.ensures.position (λ (v : Ver). v.srel)
+    (answers_always _ _ _ (λ f a r h q. search rules)) in
+    missing-search nat_list_cmp_total (λ (v : Ver). v.srel) c.args.srel c.args.vers.now c.requires
+    c.binary_search_by_key.result c.binary_search_by_key.ensures.bound position

@@ -10,9 +10,11 @@ returns-in_err-word-clause-none c = rw c.from_residual.ensures (λ name h. c.in_
 pub returns-then-ne-clause-none : goal.returns-then-ne-clause-none
 returns-then-ne-clause-none c name h =
     let same = same_control _ _ _ _ c.args.line.now c.in_ok-word.ensures.some h in
-    differ c.in_ok-word.word.now c.as_slice.result.now c.ne.result c.ne.ensures c.if-ne.true (same.0 ∙ sym c.as_slice.ensures)
+    differ c.in_ok-word.word.now c.as_slice.result.now c.ne.result c.ne.ensures c.if-ne.true
+    (same.0 ∙ sym c.as_slice.ensures)
 
 pub returns-clause-none : goal.returns-clause-none
 returns-clause-none c =
     none_then c.behind.result ((rest : List ℕ) → c.in_ok-word.operand.now ≢ codes "NAME=" ++ rest) ((name : List ℕ) → ¬ IsChange name c.args.line.now)
-    c.behind.ensures.none (λ none name h. none name (same_control _ _ _ _ c.args.line.now c.in_ok-word.ensures.some h).1)
+    c.behind.ensures.none (λ none name h. none name (same_control _ _ _ _ c.args.line.now c.in_ok-word.ensures.some
+    h).1)

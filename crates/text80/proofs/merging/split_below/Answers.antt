@@ -9,8 +9,10 @@ pub loop-i-preserved : goal.loop-i-preserved
 loop-i-preserved c =
     let Below : List ℕ → Type 0 = λ line. number_of line < c.args.number in
     let item = c.index-lines-i.result in
-    let here : number_of item < c.args.number = subst (λ n. n < c.args.number) c.known_number.ensures c.if-known_number-number.false in
-    All-more Below c.args.lines.now c.loop-i.i item c.loop-i-test.true c.loop-i.invariant (subst Below c.index-lines-i.is here)
+    let here : number_of item < c.args.number = subst (λ n. n < c.args.number) c.known_number.ensures
+    c.if-known_number-number.false in
+    All-more Below c.args.lines.now c.loop-i.i item c.loop-i-test.true c.loop-i.invariant
+    (subst Below c.index-lines-i.is here)
 
 pub returns : goal.returns
 returns c =

@@ -6,4 +6,5 @@ use Rattle.text80.proofs.merging.split_number.Goals as goal
 
 pub known_number-requires : goal.known_number-requires
 known_number-requires c =
-    All-head IsNumberedLine c.in-Some.first.now c.in-Some.more.now (subst (All IsNumberedLine) c.in-Some.ensures.cases.0 c.requires)
+    All-head IsNumberedLine c.in-Some.first.now c.in-Some.more.now
+    (subst (All IsNumberedLine) c.in-Some.ensures.cases.0 c.requires)

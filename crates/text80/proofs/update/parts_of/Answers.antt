@@ -4,31 +4,42 @@ use Rattle.std.proofs.lemmas.List.Sorted.{IsNonDecreasingBy-from_sort, answers_a
 use Rattle.text80.specs.declared.control.Range.{Range}
 use Rattle.text80.proofs.Splitting.{split_control_at, split_given_at, parts_from, control_fault, number_fault}
 use Rattle.text80.proofs.update.parts_of.Goals as goal
-use Rattle.text80.proofs.update.parts_of.Goals.{then-is_control+in-Some+in_ok-push-in-Some, else-is_control+in-Ok+in_ok-push-in-Ok}
+use Rattle.text80.proofs.update.parts_of.Goals.{then-is_control+in-Some+in_ok-push-in-Some}
+use Rattle.text80.proofs.update.parts_of.Goals.{else-is_control+in-Ok+in_ok-push-in-Ok}
 
 pub returns-in-None-clause-fault : goal.returns-in-None-clause-fault
 returns-in-None-clause-fault c =
-    control_fault c.args.lines.now c.loop-i.given.items c.loop-i.ranges.items c.loop-i.least c.loop-i.i c.index-lines-i.result _ c.loop-i-test.true c.index-lines-i.is c.loop-i.invariant refl refl
+    control_fault c.args.lines.now c.loop-i.given.items c.loop-i.ranges.items c.loop-i.least c.loop-i.i
+    c.index-lines-i.result _ c.loop-i-test.true c.index-lines-i.is c.loop-i.invariant refl refl
     (sym c.is_control.ensures ∙ c.if-is_control.true) c.in-None.ensures.none
 
 pub returns-in-Err-clause-fault : goal.returns-in-Err-clause-fault
 returns-in-Err-clause-fault c =
-    number_fault c.args.lines.now c.loop-i.given.items c.loop-i.ranges.items c.loop-i.least c.loop-i.i c.index-lines-i.result _ c.loop-i-test.true c.index-lines-i.is c.loop-i.invariant refl
+    number_fault c.args.lines.now c.loop-i.given.items c.loop-i.ranges.items c.loop-i.least c.loop-i.i
+    c.index-lines-i.result _ c.loop-i-test.true c.index-lines-i.is c.loop-i.invariant refl
     (sym c.is_control.ensures ∙ c.if-is_control.false) c.in-Err.ensures.fault
 
 pub loop-i-preserved : goal.loop-i-preserved
 loop-i-preserved c =
     elim c.if-is_control.branch [
       | then-is_control+in-Some+in_ok-push-in-Some w ↦
-          rw (w.given-is, w.ranges-is, w.least-is) (split_control_at c.args.lines.now c.loop-i.given.items c.loop-i.ranges.items _ c.loop-i.least c.loop-i.i c.index-lines-i.result _ c.loop-i-test.true c.index-lines-i.is c.loop-i.invariant
+          rw (w.given-is, w.ranges-is, w.least-is) (split_control_at c.args.lines.now c.loop-i.given.items
+          c.loop-i.ranges.items _ c.loop-i.least c.loop-i.i c.index-lines-i.result _ c.loop-i-test.true
+          c.index-lines-i.is c.loop-i.invariant
           (sym c.is_control.ensures ∙ w.if-is_control.true) w.in-Some.ensures.some w.in_ok-push-in-Some.ensures.items)
       | else-is_control+in-Ok+in_ok-push-in-Ok w ↦
-          rw (w.given-is, w.ranges-is, w.least-is) (split_given_at c.args.lines.now c.loop-i.given.items _ c.loop-i.ranges.items c.loop-i.least c.loop-i.i _ c.index-lines-i.result c.loop-i-test.true c.index-lines-i.is c.loop-i.invariant
-          (sym c.is_control.ensures ∙ w.if-is_control.false) w.in-Ok.ensures.numbered.0 w.in-Ok.ensures.numbered.1 w.in-Ok.ensures.from w.in_ok-push-in-Ok.ensures.items)
+          rw (w.given-is, w.ranges-is, w.least-is) (split_given_at c.args.lines.now c.loop-i.given.items _
+          c.loop-i.ranges.items c.loop-i.least c.loop-i.i _ c.index-lines-i.result c.loop-i-test.true
+          c.index-lines-i.is c.loop-i.invariant
+          (sym c.is_control.ensures ∙ w.if-is_control.false) w.in-Ok.ensures.numbered.0 w.in-Ok.ensures.numbered.1
+          w.in-Ok.ensures.from w.in_ok-push-in-Ok.ensures.items)
     ]
 
 pub returns-clause-parts : goal.returns-clause-parts
 returns-clause-parts c =
-    let sorted = IsNonDecreasingBy-from_sort (λ (r : Range). r.low) _ (c.sort_unstable_by_key.ensures.sorted (λ (r : Range). r.low) (answers_always _ _ _ (λ f a r g h. search rules))) in
-    parts_from c.args.lines.now c.loop-i.given.items c.loop-i.ranges.items c.sort_unstable_by_key.new.self.items c.loop-i.least c.loop-i.i c.loop-i.invariant c.loop-i-test.false
+    let sorted = IsNonDecreasingBy-from_sort (λ (r : Range). r.low) _
+    (c.sort_unstable_by_key.ensures.sorted (λ (r : Range). r.low)
+    (answers_always _ _ _ (λ f a r g h. search rules))) in
+    parts_from c.args.lines.now c.loop-i.given.items c.loop-i.ranges.items c.sort_unstable_by_key.new.self.items
+    c.loop-i.least c.loop-i.i c.loop-i.invariant c.loop-i-test.false
     c.sort_unstable_by_key.ensures.permutation sorted

@@ -9,7 +9,9 @@ use Rattle.fields.proofs.lists.Rising.from_vec.Goals as goal
 pub invariant_of-result : goal.invariant_of-result
 invariant_of-result g c =
     let sorted = c.sort_unstable.new.self.items in
-    rw (dedup_is g.T.PartialEq.eq sorted c.dedup.new.self.items c.dedup.ensures.filtered) (Rises-from_sorted g.T.Ord.cmp _ (IsStrictlySortedBy-dedup g.met.T.Ord.total g.met.T.Ord.matches_eq sorted c.sort_unstable.ensures.sorted))
+    rw (dedup_is g.T.PartialEq.eq sorted c.dedup.new.self.items c.dedup.ensures.filtered)
+    (Rises-from_sorted g.T.Ord.cmp _ (IsStrictlySortedBy-dedup g.met.T.Ord.total g.met.T.Ord.matches_eq sorted
+    c.sort_unstable.ensures.sorted))
 
 pub returns : goal.returns
 returns g c =
@@ -19,6 +21,9 @@ returns g c =
     let is = dedup_is eq sorted c.dedup.new.self.items c.dedup.ensures.filtered in
     let moved = c.sort_unstable.ensures.permutation in
     λ x. (
-      λ h. Contains-permutation sorted items x (IsPermutation-sym items sorted moved) (Contains-from_dedup eq sorted x (rw is at h)),
-      λ h. rw is (Contains-dedup g.met.T.Eq.laws (λ a b e. g.met.T.Field.exact a b (Equal-from_is_eq (g.T.Ord.cmp a b) (sym (g.met.T.Ord.matches_eq a b) ∙ e))) sorted x (Contains-permutation items sorted x moved h)),
+      λ h. Contains-permutation sorted items x (IsPermutation-sym items sorted moved)
+          (Contains-from_dedup eq sorted x (rw is at h)),
+      λ h. rw is (Contains-dedup g.met.T.Eq.laws (λ a b e. g.met.T.Field.exact a b
+          (Equal-from_is_eq (g.T.Ord.cmp a b) (sym (g.met.T.Ord.matches_eq a b) ∙ e))) sorted x
+          (Contains-permutation items sorted x moved h)),
     )

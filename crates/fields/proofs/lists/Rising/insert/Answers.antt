@@ -6,7 +6,8 @@ pub returns-in-Ok-clause-added : goal.returns-in-Ok-clause-added
 returns-in-Ok-clause-added g c =
     let within = rw c.deref.ensures.value at c.binary_search.ensures.bound in
     let position = rw c.deref.ensures.value at c.binary_search.ensures.position in
-    let found = is_ok-search g.met.T.Ord.total (λ x. x) g.T.PartialEq.eq g.met.T.Ord.matches_eq c.args.item c.self.inside.items.items c.self.invariant c.binary_search.result within position in
+    let found = is_ok-search g.met.T.Ord.total (λ x. x) g.T.PartialEq.eq g.met.T.Ord.matches_eq c.args.item
+    c.self.inside.items.items c.self.invariant c.binary_search.result within position in
     rw (← c.self.view_is, ← found, c.in-Ok.is) refl
 
 pub returns-in-Ok-clause-ok : goal.returns-in-Ok-clause-ok
@@ -16,7 +17,8 @@ returns-in-Ok-clause-ok g c =
     let xs = c.self.inside.items.items in
     let there = Stands-at g.met.T.Ord.total (λ x. x) c.args.item xs c.in-Ok.field-0 within equal in
     let here = rw (g.met.T.Field.exact there.0 c.args.item there.1.tie) at there.1 in
-    rw (← c.self.view_is) (sym (with_item-same g.met.T.Ord.total (λ x. x) xs c.in-Ok.field-0 c.args.item c.self.invariant here))
+    rw (← c.self.view_is) (sym (with_item-same g.met.T.Ord.total (λ x. x) xs c.in-Ok.field-0 c.args.item
+    c.self.invariant here))
 
 pub invariant_of-self-in-Err : goal.invariant_of-self-in-Err
 invariant_of-self-in-Err g c =
@@ -24,13 +26,15 @@ invariant_of-self-in-Err g c =
     let position = rw c.deref.ensures.value at c.in-Err.ensures.position in
     let xs = c.self.inside.items.items in
     let point = position (searchable g.met.T.Ord.total (λ x. x) c.args.item xs c.self.invariant) in
-    rw c.in_ok-insert-in-Err.ensures.items (Rises-at g.met.T.Ord.total (λ x. x) xs c.in-Err.place c.args.item c.self.invariant within point)
+    rw c.in_ok-insert-in-Err.ensures.items (Rises-at g.met.T.Ord.total (λ x. x) xs c.in-Err.place c.args.item
+    c.self.invariant within point)
 
 pub returns-in_ok-insert-in-Err-clause-added : goal.returns-in_ok-insert-in-Err-clause-added
 returns-in_ok-insert-in-Err-clause-added g c =
     let within = rw c.deref.ensures.value at c.binary_search.ensures.bound in
     let position = rw c.deref.ensures.value at c.binary_search.ensures.position in
-    let found = is_ok-search g.met.T.Ord.total (λ x. x) g.T.PartialEq.eq g.met.T.Ord.matches_eq c.args.item c.self.inside.items.items c.self.invariant c.binary_search.result within position in
+    let found = is_ok-search g.met.T.Ord.total (λ x. x) g.T.PartialEq.eq g.met.T.Ord.matches_eq c.args.item
+    c.self.inside.items.items c.self.invariant c.binary_search.result within position in
     rw (← c.self.view_is, ← found, c.in-Err.is) refl
 
 pub returns-in_ok-insert-in-Err-clause-ok : goal.returns-in_ok-insert-in-Err-clause-ok
@@ -39,4 +43,5 @@ returns-in_ok-insert-in-Err-clause-ok g c =
     let position = rw c.deref.ensures.value at c.in-Err.ensures.position in
     let xs = c.self.inside.items.items in
     let point = position (searchable g.met.T.Ord.total (λ x. x) c.args.item xs c.self.invariant) in
-    rw (← c.self.view_is) (c.in_ok-insert-in-Err.ensures.items ∙ sym (with_item-at g.met.T.Ord.total (λ x. x) xs c.in-Err.place c.args.item c.self.invariant within point))
+    rw (← c.self.view_is) (c.in_ok-insert-in-Err.ensures.items
+    ∙ sym (with_item-at g.met.T.Ord.total (λ x. x) xs c.in-Err.place c.args.item c.self.invariant within point))

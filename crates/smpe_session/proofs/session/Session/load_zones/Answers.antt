@@ -6,18 +6,22 @@ use Rattle.smpe_session.proofs.session.Session.load_zones.Goals as goal
 
 pub returns-in_err-names-clause-ended : goal.returns-in_err-names-clause-ended
 returns-in_err-names-clause-ended g c = λ clean s is keeps.
-    loaded-err g.S.Store c.load_names.new.store s (λ _. HasAllZones s c.args.self.now) c.from_residual.result c.in_err-names.field-0.0 c.from_residual.ensures.1
+    loaded-err g.S.Store c.load_names.new.store s (λ _. HasAllZones s c.args.self.now) c.from_residual.result
+    c.in_err-names.field-0.0 c.from_residual.ensures.1
     (c.in_err-names.ensures.ended clean s keeps)
 
 pub returns-in_err-seek_each-clause-ended : goal.returns-in_err-seek_each-clause-ended
 returns-in_err-seek_each-clause-ended g c = λ clean s is keeps.
     let named = c.in_ok-names.ensures.ended (c.seek_each.ensures.clean clean) s keeps in
-    loaded-err g.S.Store c.seek_each.new.store s (λ _. HasAllZones s c.seek_each.new.self) c.from_residual-in_err-seek_each.result c.in_err-seek_each.field-0.0 c.from_residual-in_err-seek_each.ensures.1
+    loaded-err g.S.Store c.seek_each.new.store s (λ _. HasAllZones s c.seek_each.new.self)
+    c.from_residual-in_err-seek_each.result c.in_err-seek_each.field-0.0 c.from_residual-in_err-seek_each.ensures.1
     (c.in_err-seek_each.ensures.ended clean s is named.1)
 
 pub returns-clause-ended : goal.returns-clause-ended
 returns-clause-ended g c = λ clean s is keeps.
     let named = c.in_ok-names.ensures.ended (c.seek_each.ensures.clean clean) s keeps in
     let inventory = kept-inventory g.S.Store c.load_names.new.store s (c.seek_each.ensures.clean clean) named.1 in
-    let sought = c.in_ok-seek_each.ensures.ended clean s is named.1 in
-    (all-zones s c.seek_each.new.self c.as_slice.result.now inventory (c.as_slice.ensures.value ∙ named.0) sought.0, sought.1)
+    let sought = c.in_ok-seek_each.ensures.ended clean s is named.1 in (
+      all-zones s c.seek_each.new.self c.as_slice.result.now inventory (c.as_slice.ensures.value ∙ named.0) sought.0,
+      sought.1,
+    )

@@ -7,27 +7,39 @@ use Rattle.smpe_session.proofs.Stepping.{kept-inventory, performs-unmoved, perfo
 use Rattle.smpe_session.proofs.session.Session.reject.Goals as goal
 
 pub returns-in-Some-clause-ended : goal.returns-in-Some-clause-ended
-returns-in-Some-clause-ended g c = λ clean s is keeps date files.
-    (s, refused date files (Reject c.args.ids.now) s c.args.self.now.boundary _ is.boundary (sym (c.in-Some.ensures s (sym is.boundary) ∙ reject-at s c.args.ids.now)), is, keeps)
+returns-in-Some-clause-ended g c = λ clean s is keeps date files. (
+  s,
+  refused date files (Reject c.args.ids.now) s c.args.self.now.boundary _ is.boundary
+      (sym (c.in-Some.ensures s (sym is.boundary) ∙ reject-at s c.args.ids.now)),
+  is,
+  keeps,
+)
 
 pub returns-in_err-load_zones-clause-ended : goal.returns-in_err-load_zones-clause-ended
 returns-in_err-load_zones-clause-ended g c = λ clean s is keeps date files.
-    performs-unmoved g.S.Store c.load_zones.new.store s _ date files (Reject c.args.ids.now) c.from_residual.result c.in_err-load_zones.field-0.0 c.from_residual.ensures.1 (c.in_err-load_zones.ensures.ended clean s is keeps)
+    performs-unmoved g.S.Store c.load_zones.new.store s _ date files (Reject c.args.ids.now) c.from_residual.result
+    c.in_err-load_zones.field-0.0 c.from_residual.ensures.1 (c.in_err-load_zones.ensures.ended clean s is keeps)
 
 pub returns-in_err-lines-clause-ended : goal.returns-in_err-lines-clause-ended
 returns-in_err-lines-clause-ended g c = λ clean s is keeps date files.
     let had = c.in_ok-load_zones.ensures.ended (c.reject_ids.ensures.clean clean) s is keeps in
     let inventory = kept-inventory g.S.Store c.load_zones.new.store s (c.reject_ids.ensures.clean clean) had.1 in
-    performs-staying g.S.Store c.reject_ids.new.store s _ date files (Reject c.args.ids.now) c.from_residual-in_err-lines.result c.in_err-lines.field-0.0 c.from_residual-in_err-lines.ensures.1
-    (c.in_err-lines.ensures.ended clean s (sym had.0.session.global) (alike s c.load_zones.new.self inventory c.known_names.ensures had.0) had.1 date files (sym (c.in_default.ensures s (sym is.boundary) ∙ reject-at s c.args.ids.now)))
+    performs-staying g.S.Store c.reject_ids.new.store s _ date files (Reject c.args.ids.now)
+    c.from_residual-in_err-lines.result c.in_err-lines.field-0.0 c.from_residual-in_err-lines.ensures.1
+    (c.in_err-lines.ensures.ended clean s (sym had.0.session.global)
+    (alike s c.load_zones.new.self inventory c.known_names.ensures had.0) had.1 date files
+    (sym (c.in_default.ensures s (sym is.boundary) ∙ reject-at s c.args.ids.now)))
 
 pub returns-clause-ended : goal.returns-clause-ended
 returns-clause-ended g c = λ clean s is keeps date files.
     let had = c.in_ok-load_zones.ensures.ended (c.reject_ids.ensures.clean clean) s is keeps in
     let inventory = kept-inventory g.S.Store c.load_zones.new.store s (c.reject_ids.ensures.clean clean) had.1 in
-    let ran = c.in_ok-lines.ensures.ended clean s (sym had.0.session.global) (alike s c.load_zones.new.self inventory c.known_names.ensures had.0) had.1 date files (sym (c.in_default.ensures s (sym is.boundary) ∙ reject-at s c.args.ids.now)) in (
+    let ran = c.in_ok-lines.ensures.ended clean s (sym had.0.session.global)
+    (alike s c.load_zones.new.self inventory c.known_names.ensures had.0) had.1 date files
+    (sym (c.in_default.ensures s (sym is.boundary) ∙ reject-at s c.args.ids.now)) in (
       ran.0,
-      led date files (Reject c.args.ids.now) s ran.0 c.reject_ids.new.global c.args.self.now.boundary _ is.boundary ran.1,
+      led date files (Reject c.args.ids.now) s ran.0 c.reject_ids.new.global c.args.self.now.boundary _ is.boundary
+          ran.1,
       led-session s ran.0 c.load_zones.new.self _ had.0.session ran.1.state refl refl,
       ran.2,
     )

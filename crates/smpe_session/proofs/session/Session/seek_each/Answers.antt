@@ -9,7 +9,8 @@ loop-name-preserved g c = record {
   sought = λ clean s is keeps.
       let before = c.loop-name.invariant.sought (c.seek.ensures.clean clean) s is keeps in
       let found = c.in_ok-seek.ensures.ended clean s before.0.session before.1 in (
-        sought-more s c.loop-name.self c.seek.new.self c.args.names.now c.loop-name.name-index c.name-item.result c.in_ok-seek.field-0 c.loop-name-test.true c.name-item.is
+        sought-more s c.loop-name.self c.seek.new.self c.args.names.now c.loop-name.name-index c.name-item.result
+            c.in_ok-seek.field-0 c.loop-name-test.true c.name-item.is
             c.in_ok-seek.ensures.stay before.0 found.0,
         found.1,
       );
@@ -18,5 +19,6 @@ loop-name-preserved g c = record {
 pub returns-in_err-seek-clause-ended : goal.returns-in_err-seek-clause-ended
 returns-in_err-seek-clause-ended g c = λ clean s is keeps.
     let before = c.loop-name.invariant.sought (c.seek.ensures.clean clean) s is keeps in
-    loaded-err g.S.Store c.seek.new.store s (λ _. AreSought s c.seek.new.self c.args.names.now) c.from_residual.result c.in_err-seek.field-0.0 c.from_residual.ensures.1
+    loaded-err g.S.Store c.seek.new.store s (λ _. AreSought s c.seek.new.self c.args.names.now) c.from_residual.result
+    c.in_err-seek.field-0.0 c.from_residual.ensures.1
     (c.in_err-seek.ensures.ended clean s before.0.session before.1)

@@ -10,6 +10,7 @@ use Rattle.smpe_session.proofs.session.Session.seek_each.Given as goal
 abbrev pub invariant-loop-name : goal.invariant-loop-name
 invariant-loop-name g l = record {
   clean : HasCleanDisk (state g.S.Store l.store) → HasCleanDisk (state g.S.Store l.fn.store);
-  sought : HasCleanDisk (state g.S.Store l.store) → (s : State) → IsSessionOf s l.fn.self → Keeps g.S.Store l.fn.store s →
+  sought : HasCleanDisk (state g.S.Store l.store) → (s : State) → IsSessionOf s l.fn.self → Keeps g.S.Store l.fn.store s
+      →
       AreSought s l.self (take l.name-index l.names) × Keeps g.S.Store l.store s;
 }

@@ -6,18 +6,24 @@ use Rattle.smpe_session.proofs.session.Session.set.Goals as goal
 
 pub returns-in_err-seek-clause-ended : goal.returns-in_err-seek-clause-ended
 returns-in_err-seek-clause-ended g c = λ clean s is keeps date files.
-    performs-unmoved g.S.Store c.seek.new.store s c.seek.new.self date files (Set c.args.name) c.from_residual.result c.in_err-seek.field-0.0 c.from_residual.ensures.1 (c.in_err-seek.ensures.ended clean s is keeps)
+    performs-unmoved g.S.Store c.seek.new.store s c.seek.new.self date files (Set c.args.name) c.from_residual.result
+    c.in_err-seek.field-0.0 c.from_residual.ensures.1 (c.in_err-seek.ensures.ended clean s is keeps)
 
 pub returns-then-not-branch-clause-ended : goal.returns-then-not-branch-clause-ended
 returns-then-not-branch-clause-ended g c = λ clean s is keeps date files.
-    let sought = c.in_ok-seek.ensures.ended clean s is keeps in
-    (s, set-refused s c.seek.new.self c.args.name date files c.in_ok-seek.field-0 sought.0 c.if-not-branch.true, sought.0.session, sought.1)
+    let sought = c.in_ok-seek.ensures.ended clean s is keeps in (
+      s,
+      set-refused s c.seek.new.self c.args.name date files c.in_ok-seek.field-0 sought.0 c.if-not-branch.true,
+      sought.0.session,
+      sought.1,
+    )
 
 pub returns-clause-ended : goal.returns-clause-ended
 returns-clause-ended g c = λ clean s is keeps date files.
     let sought = c.in_ok-seek.ensures.ended clean s is keeps in (
       record s { boundary = Some c.args.name },
-      set-ran s c.seek.new.self c.args.name date files _ c.in_ok-seek.field-0 sought.0 c.if-not-branch.false (rw c.new.ensures.items refl),
+      set-ran s c.seek.new.self c.args.name date files _ c.in_ok-seek.field-0 sought.0 c.if-not-branch.false
+          (rw c.new.ensures.items refl),
       set-session s c.seek.new.self _ c.args.name c.in_ok-seek.field-0 sought.0 c.if-not-branch.false refl refl refl,
       sought.1,
     )

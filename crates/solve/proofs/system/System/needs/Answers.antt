@@ -6,4 +6,5 @@ use Rattle.solve.proofs.system.System.needs.Goals as goal
 
 pub returns-clause-valid : goal.returns-clause-valid
 returns-clause-valid c =
-    rw (c.deref.ensures.value, ← c.self.view_is) (All-unmap (IsDemand c.self.inside.size) demand c.self.inside.needs.items c.self.invariant.demands)
+    rw (c.deref.ensures.value, ← c.self.view_is) (All-unmap (IsDemand c.self.inside.size) demand
+    c.self.inside.needs.items c.self.invariant.demands)

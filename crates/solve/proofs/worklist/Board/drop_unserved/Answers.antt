@@ -14,24 +14,36 @@ loop-k-preserved c =
     let before = c.loop-k.invariant.board in
     let needs = c.needs-need-items.result.now in
     let n = c.need-item.result in
-    let below : k < length p.demands = omega (arith, c.loop-k-test.true, ap length c.needs-need-items.ensures.needs, length-map needs demand) in
+    let below : k < length p.demands = omega (
+      arith,
+      c.loop-k-test.true,
+      ap length c.needs-need-items.ensures.needs,
+      length-map needs demand,
+    ) in
     let at = demand_at-read needs p.demands k n c.needs-need-items.ensures.needs c.loop-k-test.true c.need-item.is in
-    let of_is : (get_or needs k n).of ≡ (demand_at p.demands k).of = ap (λ m. m.of) (sym c.need-item.is) ∙ ap (λ d. d.of) (sym at) in
-    let small : (demand_at p.demands k).of < p.size = subst (λ x. x < p.size) of_is (c.needs-need-items.ensures.valid k n c.loop-k-test.true).of in
-    let read : c.index.result.now ≡ get_or b.living.items k 0 = c.index.ensures ∙ get_or_default b.living.items k c.index.result.now 0 (omega (arith, before.needs, below)) in
+    let of_is : (get_or needs k n).of ≡ (demand_at p.demands k).of =
+    ap (λ m. m.of) (sym c.need-item.is) ∙ ap (λ d. d.of) (sym at) in
+    let small : (demand_at p.demands k).of < p.size = subst (λ x. x < p.size) of_is
+    (c.needs-need-items.ensures.valid k n c.loop-k-test.true).of in
+    let read : c.index.result.now ≡ get_or b.living.items k 0 =
+    c.index.ensures ∙ get_or_default b.living.items k c.index.result.now 0 (omega (arith, before.needs, below))
+    in
     elim c.if-index-eq0.branch [
       | then-index-eq0 w ↦
           let new = w.drop_candidate.new.self in
-          let drop = subst (λ x. IsDrop x b.standing.items b.dropped.items new.standing.items new.dropped.items) (ap (λ d. d.of) (sym at)) w.drop_candidate.ensures.drop in
+          let drop = subst (λ x. IsDrop x b.standing.items b.dropped.items new.standing.items new.dropped.items)
+          (ap (λ d. d.of) (sym at)) w.drop_candidate.ensures.drop in
           rw (w.self-is) (record {
             board = rw (w.drop_candidate.ensures.living, w.drop_candidate.ensures.count, w.drop_candidate.ensures.room)
-                (settle-drop p b.standing.items new.standing.items b.living.items b.dropped.items new.dropped.items b.count.strikes b.dropped.cap k below small (sym read ∙ w.if-index-eq0.true) drop before);
+                (settle-drop p b.standing.items new.standing.items b.living.items b.dropped.items new.dropped.items
+                b.count.strikes b.dropped.cap k below small (sym read ∙ w.if-index-eq0.true) drop before);
             total = drop.total ∙ c.loop-k.invariant.total;
             strikes = ap (λ count. count.strikes) w.drop_candidate.ensures.count ∙ c.loop-k.invariant.strikes;
             turns = omega (arith, ap (λ count. count.turns) w.drop_candidate.ensures.count, c.loop-k.invariant.turns);
           })
       | else-index-eq0 w ↦ rw (w.self-is) (record {
-        board = settle-pass p b.standing.items b.living.items b.dropped.items b.count.strikes b.dropped.cap k (λ none. w.if-index-eq0.false (read ∙ none)) before;
+        board = settle-pass p b.standing.items b.living.items b.dropped.items b.count.strikes b.dropped.cap k
+            (λ none. w.if-index-eq0.false (read ∙ none)) before;
         total = c.loop-k.invariant.total;
         strikes = c.loop-k.invariant.strikes;
         turns = omega (arith, c.loop-k.invariant.turns);

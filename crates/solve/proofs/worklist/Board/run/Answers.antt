@@ -8,7 +8,15 @@ use Rattle.solve.proofs.worklist.Board.run.Goals as goal
 
 pub overflow_add-self : goal.overflow_add-self
 overflow_add-self c =
-    omega (arith, c.loop-x.invariant.turns, c.loop-x.invariant.board.struck, eligible-le-pairs c.args.s.now, c.requires.few, c.requires.turns, c.requires.board.total)
+    omega (
+      arith,
+      c.loop-x.invariant.turns,
+      c.loop-x.invariant.board.struck,
+      eligible-le-pairs c.args.s.now,
+      c.requires.few,
+      c.requires.turns,
+      c.requires.board.total,
+    )
 
 pub strike_row-requires-clause-row : goal.strike_row-requires-clause-row
 strike_row-requires-clause-row c =
@@ -17,7 +25,8 @@ strike_row-requires-clause-row c =
     let x = c.in-Some.x in
     let members = subst (All (λ y. y < p.size)) c.in-Some.ensures.items c.loop-x.invariant.board.members in
     let small = last-small p c.pop.new.self.items x members in
-    let row = row_at-read served x c.index-served-x.result c.deref.result.now (omega (arith, c.requires.size, small)) c.index-served-x.is c.deref.ensures.value in
+    let row = row_at-read served x c.index-served-x.result c.deref.result.now (omega (arith, c.requires.size, small))
+    c.index-served-x.is c.deref.ensures.value in
     subst (All (λ k. k < length p.demands)) row (served-small p served c.requires.served x)
 
 pub strike_row-requires-clause-board : goal.strike_row-requires-clause-board
@@ -29,11 +38,24 @@ strike_row-requires-clause-board c =
     let left = c.pop.new.self.items in
     let members = subst (All (λ y. y < p.size)) c.in-Some.ensures.items c.loop-x.invariant.board.members in
     let small = last-small p left x members in
-    let row = row_at-read served x c.index-served-x.result c.deref.result.now (omega (arith, c.requires.size, small)) c.index-served-x.is c.deref.ensures.value in
-    let at : List ℕ → Type 0 = λ dropped. IsSearch p [] (λ k. Unit {0}) b.standing.items b.living.items dropped b.count.strikes b.dropped.cap in
-    let taken = search-take p served x (λ k. Unit {0}) b.standing.items b.living.items left b.count.strikes b.dropped.cap c.requires.served (subst at c.in-Some.ensures.items c.loop-x.invariant.board) in
-    rw (c.in-Some.ensures.capacity) (subst (λ due. IsSearch p due (λ k. Unit {0}) b.standing.items b.living.items left b.count.strikes b.dropped.cap) row taken)
+    let row = row_at-read served x c.index-served-x.result c.deref.result.now (omega (arith, c.requires.size, small))
+    c.index-served-x.is c.deref.ensures.value in
+    let at : List ℕ → Type 0 = λ dropped. IsSearch p [] (λ k. Unit {0}) b.standing.items b.living.items dropped
+    b.count.strikes b.dropped.cap in
+    let taken = search-take p served x (λ k. Unit {0}) b.standing.items b.living.items left b.count.strikes
+    b.dropped.cap c.requires.served (subst at c.in-Some.ensures.items c.loop-x.invariant.board) in
+    rw (c.in-Some.ensures.capacity) (subst (λ due. IsSearch p due (λ k. Unit {0}) b.standing.items b.living.items left
+    b.count.strikes b.dropped.cap) row taken)
 
 pub strike_row-requires-clause-turns : goal.strike_row-requires-clause-turns
 strike_row-requires-clause-turns c =
-    omega (arith, c.loop-x.invariant.turns, c.loop-x.invariant.board.struck, eligible-le-pairs c.args.s.now, c.requires.few, c.requires.turns, c.requires.board.total, c.deref.type_inv)
+    omega (
+      arith,
+      c.loop-x.invariant.turns,
+      c.loop-x.invariant.board.struck,
+      eligible-le-pairs c.args.s.now,
+      c.requires.few,
+      c.requires.turns,
+      c.requires.board.total,
+      c.deref.type_inv,
+    )

@@ -5,7 +5,8 @@ use Rattle.solve.proofs.worklist.Board.run.Given as goal
 abbrev pub invariant-loop-x : goal.invariant-loop-x
 invariant-loop-x l = record {
   board : AtRest l.s [] l.self;
-  turns : l.self.count.turns + open_in l.self + l.initial.self.count.strikes ≡ l.initial.self.count.turns + open_in l.initial.self + l.self.count.strikes;
+  turns : l.self.count.turns + open_in l.self + l.initial.self.count.strikes ≡ l.initial.self.count.turns + open_in
+      l.initial.self + l.self.count.strikes;
 }
 
 abbrev pub decreases-loop-x : goal.decreases-loop-x

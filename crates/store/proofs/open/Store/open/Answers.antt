@@ -20,7 +20,8 @@ returns-in-Ok-clause-leaves g c i found k left =
     let settled = c.if-prove.ensures.settled refl was_open in
     let was = found (omega (arith, c.in-Ok.ensures.crash.clean)) was_open in
     let holds = c.in-Ok.ensures.stands clean i (subst (λ (db : Database). IsStateOf i db) (sym settled) was) in
-    leaves_committed g.S.Store c.set_up.new.conn (g.met.S.Store.settled c.set_up.new.conn.store) is_open i holds.stands k left
+    leaves_committed g.S.Store c.set_up.new.conn (g.met.S.Store.settled c.set_up.new.conn.store) is_open i holds.stands
+    k left
 
 pub returns-in-Err-clause-none : goal.returns-in-Err-clause-none
 returns-in-Err-clause-none g c clean is = c.in-Err.ensures.none clean (ap (λ e. Err e) is)

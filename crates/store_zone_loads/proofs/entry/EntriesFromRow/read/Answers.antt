@@ -7,7 +7,8 @@ pub returns-clause-read : goal.returns-clause-read
 returns-clause-read c =
     let row = c.args.row.now in
     let long : length row ≡ 6 = search rules in
-    let cells : row ≡ column row 0 ∷ column row 1 ∷ column row 2 ∷ column row 3 ∷ column row 4 ∷ column row 5 ∷ [] = sym (columns_from row 0 6 (sym long)) in
+    let cells : row ≡ column row 0 ∷ column row 1 ∷ column row 2 ∷ column row 3 ∷ column row 4 ∷ column row 5 ∷ [] =
+    sym (columns_from row 0 6 (sym long)) in
     let zone = c.in-Some.ensures.some.0 in
     let id = c.in-Some-id_in.ensures.some.0 in
     let applied = c.in-Some-date_in.ensures.some.0 in

@@ -6,17 +6,32 @@ use Rattle.sysmods.proofs.Chains.{chain_first}
 use Rattle.sysmods.proofs.chain.ChainIterator.next.Goals as goal
 use Rattle.sysmods.proofs.chain.ChainIterator.next.Goals.{After-fmid-self-inside}
 
-steps : (c : After-fmid-self-inside) → c.args.self.now ≡ c.in_ok-id.id ∷ chain_from (c.self.inside.most - 1) (by_srel c.self.inside.global.now c.self.inside.srel) c.fmid-self-inside.result
+steps : (c : After-fmid-self-inside) → c.args.self.now ≡ c.in_ok-id.id ∷ chain_from (c.self.inside.most - 1)
+    (by_srel c.self.inside.global.now c.self.inside.srel) c.fmid-self-inside.result
 steps c =
     let at = c.self.inside in
     let by = by_srel at.global.now at.srel in
-    sym c.self.view_is ∙ chain_first at.most by at.next c.in_ok-id.id (omega (arith, c.if-self-eq0.false)) c.in_ok-id.was
+    sym c.self.view_is ∙ chain_first at.most by at.next c.in_ok-id.id (omega (arith, c.if-self-eq0.false))
+    c.in_ok-id.was
     ∙ ap (λ o. c.in_ok-id.id ∷ chain_from (at.most - 1) by o)
-    (ap₂ (λ g s. fmid_of (by_srel g s) c.in_ok-id.id) (sym c.new.ensures.global) (sym c.new.ensures.srel) ∙ sym c.fmid-self-inside.ensures)
+    (ap₂ (λ g s. fmid_of (by_srel g s) c.in_ok-id.id) (sym c.new.ensures.global) (sym c.new.ensures.srel)
+    ∙ sym c.fmid-self-inside.ensures)
 
 pub returns-clause-steps : goal.returns-clause-steps
 returns-clause-steps c = steps (goal.at.returns-clause-steps c).After-fmid-self-inside
 
 pub returns-clause-goes : goal.returns-clause-goes
 returns-clause-goes c =
-    record { on = λ finite. (tt, tt, omega (arith, ap length (steps (goal.at.returns-clause-goes c).After-fmid-self-inside))); keeps = tt; rests = λ finite. tt }
+    record {
+      on = λ finite. (
+        tt,
+        tt,
+        omega (
+          arith,
+          ap length
+              (steps (goal.at.returns-clause-goes c).After-fmid-self-inside),
+        ),
+      );
+      keeps = tt;
+      rests = λ finite. tt;
+    }

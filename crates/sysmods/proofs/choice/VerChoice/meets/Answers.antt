@@ -6,4 +6,5 @@ use Rattle.sysmods.proofs.choice.VerChoice.meets.Goals as goal
 
 pub returns : goal.returns
 returns c =
-    any_from_yields_List (λ x. is_in c.args.ids.now x) _ _ _ c.any.ensures.ran (YieldsList-from_first (λ x. x) (λ s. s) _ c.chain.ensures) (λ x b q k. search (rules, tests))
+    any_from_yields_List (λ x. is_in c.args.ids.now x) _ _ _ c.any.ensures.ran
+    (YieldsList-from_first (λ x. x) (λ s. s) _ c.chain.ensures) (λ x b q k. search (rules, tests))

@@ -19,12 +19,18 @@ good c =
     global-holds c.args.sysmods.items c.args.holds.items (c.in_ok-sysmods.ensures.none.0 (ap is_some c.in-Some.is))
     (c.in_ok-holds.ensures.none.0 (ap is_some c.in-Some-2.is))
     (subst (λ xs. All (IsOwned (zone_of xs)) c.args.holds.items) (sysmods_are c)
-    (subst (All (IsOwned (zone_of c.in-Some.sysmods))) c.as_slice.ensures.value (c.are_owned.ensures.0 c.if-not-are_owned.false)))
+    (subst (All (IsOwned (zone_of c.in-Some.sysmods))) c.as_slice.ensures.value
+    (c.are_owned.ensures.0 c.if-not-are_owned.false)))
 
 pub invariant_of-result : goal.invariant_of-result
 invariant_of-result c =
-    subst IsGlobal (sym (ap₂ a_global (sysmods_are (goal.at.invariant_of-result c).In-Some-2) (holds_are (goal.at.invariant_of-result c).In-Some-2)))
+    subst IsGlobal (sym (ap₂ a_global (sysmods_are (goal.at.invariant_of-result c).In-Some-2)
+    (holds_are (goal.at.invariant_of-result c).In-Some-2)))
     (good (goal.at.invariant_of-result c).In-Some-2)
 
 pub returns : goal.returns
-returns c = (good (goal.at.returns c).In-Some-2, ap₂ a_global (sysmods_are (goal.at.returns c).In-Some-2) (holds_are (goal.at.returns c).In-Some-2))
+returns c = (
+  good (goal.at.returns c).In-Some-2,
+  ap₂ a_global (sysmods_are (goal.at.returns c).In-Some-2)
+      (holds_are (goal.at.returns c).In-Some-2),
+)

@@ -4,4 +4,5 @@ use Rattle.sysmods.proofs.zone.Global.reject.Goals as goal
 
 pub invariant_of-self : goal.invariant_of-self
 invariant_of-self c =
-    rw (c.remove.ensures.after, c.drop_internal.ensures) (without_sysmod-kept (a_global c.self.inside.sysmods c.self.inside.holds) c.args.id c.self.invariant)
+    rw (c.remove.ensures.after, c.drop_internal.ensures) (without_sysmod-kept
+    (a_global c.self.inside.sysmods c.self.inside.holds) c.args.id c.self.invariant)

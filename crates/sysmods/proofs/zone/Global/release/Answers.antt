@@ -10,5 +10,7 @@ pub invariant_of-self : goal.invariant_of-self
 invariant_of-self c =
     let xs = c.self.inside.sysmods in
     let hs = c.self.inside.holds in
-    kept_either (λ new. IsGlobal (a_global xs new)) c.release.result hs (filter (λ h. not (has_key c.args.id c.args.kind c.args.reason h)) hs) c.release.new.self c.release.ensures.ok c.release.ensures.err c.self.invariant
+    kept_either (λ new. IsGlobal (a_global xs new)) c.release.result hs
+    (filter (λ h. not (has_key c.args.id c.args.kind c.args.reason h)) hs) c.release.new.self c.release.ensures.ok
+    c.release.ensures.err c.self.invariant
     (without_hold-kept (a_global xs hs) (a_release c.args.id c.args.kind c.args.reason c.args.id) c.self.invariant)

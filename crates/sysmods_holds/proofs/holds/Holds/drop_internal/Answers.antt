@@ -17,11 +17,13 @@ loop-key-preserved c =
     let k = c.loop-key.invariant in
     let es = c.loop-key.self-inside.map.entries in
     record {
-      kept = removed es k.kept c.in-Some.key c.remove.new.self.entries c.remove.ensures.entries c.remove.ensures.ordered;
+      kept = removed es k.kept c.in-Some.key c.remove.new.self.entries c.remove.ensures.entries
+          c.remove.ensures.ordered;
       same = ap (λ fs. filter (stays c.args.id) (values_of fs)) c.remove.ensures.entries
           ∙ dropped_next c.args.id c.loop-key.from k.of es k.kept k.done c.in-Some.key c.in-Some.ensures ∙ k.same;
       of = sym (same_id c.loop-key.from c.in-Some.key c.in-Some.ensures.on) ∙ k.of;
-      done = rw c.remove.ensures.entries (done_next c.args.id c.loop-key.from k.of es k.kept k.done c.in-Some.key c.in-Some.ensures);
+      done = rw c.remove.ensures.entries (done_next c.args.id c.loop-key.from k.of es k.kept k.done c.in-Some.key
+          c.in-Some.ensures);
     }
 
 pub invariant_of-self : goal.invariant_of-self
@@ -30,4 +32,5 @@ invariant_of-self c = c.loop-key.invariant.kept
 pub returns : goal.returns
 returns c =
     let k = c.loop-key.invariant in
-    done_all c.args.id c.loop-key.from k.of c.loop-key.self-inside.map.entries k.kept k.done c.in_default.ensures ∙ k.same
+    done_all c.args.id c.loop-key.from k.of c.loop-key.self-inside.map.entries k.kept k.done c.in_default.ensures
+    ∙ k.same

@@ -5,7 +5,8 @@ use Rattle.sysmods_holds.proofs.Keyed.{listed_all}
 use Rattle.sysmods_holds.proofs.holds.Holds.iter.Goals as goal
 
 pub returns-clause-rest : goal.returns-clause-rest
-returns-clause-rest c = c.new.ensures ∙ ap values_of (c.range.ensures.between tt ∙ listed_all c.self.inside.map.entries) ∙ c.self.view_is
+returns-clause-rest c = c.new.ensures ∙ ap values_of (c.range.ensures.between tt ∙ listed_all c.self.inside.map.entries)
+    ∙ c.self.view_is
 
 pub returns-clause-fits : goal.returns-clause-fits
 returns-clause-fits c = omega (arith, c.range.ensures.fits, ap length c.new.ensures, length-values_of c.range.result)

@@ -7,7 +7,8 @@ use Rattle.sysmods_holds.proofs.holds.Holds.of.Goals as goal
 
 pub returns-clause-rest : goal.returns-clause-rest
 returns-clause-rest c =
-    c.new.ensures ∙ ap values_of (c.range.ensures.between tt) ∙ listed_kind c.self.inside.map.entries c.self.invariant c.args.id c.args.kind
+    c.new.ensures ∙ ap values_of (c.range.ensures.between tt)
+    ∙ listed_kind c.self.inside.map.entries c.self.invariant c.args.id c.args.kind
     ∙ ap (filter (is_on c.args.id c.args.kind)) c.self.view_is
 
 pub returns-clause-fits : goal.returns-clause-fits

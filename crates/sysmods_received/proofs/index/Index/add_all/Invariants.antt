@@ -4,4 +4,7 @@ use Rattle.sysmods_received.specs.Index.{HasAll, Grows}
 use Rattle.sysmods_received.proofs.index.Index.add_all.Given as goal
 
 abbrev pub invariant-loop-id : goal.invariant-loop-id
-invariant-loop-id l = record { has : HasAll l.self.sets l.fn.namer (is_in (take l.id-index l.named)); grows : Grows l.fn.self.sets l.self.sets }
+invariant-loop-id l = record {
+  has : HasAll l.self.sets l.fn.namer (is_in (take l.id-index l.named));
+  grows : Grows l.fn.self.sets l.self.sets;
+}

@@ -5,4 +5,8 @@ use Rattle.sysmods_received.specs.Index.{HasAll, Grows}
 use Rattle.sysmods_received.proofs.index.Index.add_functions.Given as goal
 
 abbrev pub invariant-loop-condition : goal.invariant-loop-condition
-invariant-loop-condition l = record { has : HasAll l.self.sets l.fn.namer (λ z. list_any (λ i. bytes_eq z i.function) (take l.condition-index l.conditions)); grows : Grows l.fn.self.sets l.self.sets }
+invariant-loop-condition l = record {
+  has : HasAll l.self.sets l.fn.namer
+      (λ z. list_any (λ i. bytes_eq z i.function) (take l.condition-index l.conditions));
+  grows : Grows l.fn.self.sets l.self.sets;
+}

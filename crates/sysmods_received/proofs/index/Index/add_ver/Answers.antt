@@ -8,12 +8,21 @@ pub returns-clause-has : goal.returns-clause-has
 returns-clause-has c =
     let end = c.add_fmid.new.self.sets in
     let g : Grows c.add_functions.new.self.sets end = c.in_ok-add_fmid.ensures.grows in
-    let h : Grows c.add_all-3.new.self.sets end = grows-then c.add_all-3.new.self.sets c.add_functions.new.self.sets end c.in_ok-add_functions.ensures.grows g in
-    let i : Grows c.add_all-2.new.self.sets end = grows-then c.add_all-2.new.self.sets c.add_all-3.new.self.sets end c.in_ok-add_all-3.ensures.grows h in
-    let j : Grows c.add_all.new.self.sets end = grows-then c.add_all.new.self.sets c.add_all-2.new.self.sets end c.in_ok-add_all-2.ensures.grows i in
+    let h : Grows c.add_all-3.new.self.sets end = grows-then c.add_all-3.new.self.sets c.add_functions.new.self.sets end
+    c.in_ok-add_functions.ensures.grows g in
+    let i : Grows c.add_all-2.new.self.sets end = grows-then c.add_all-2.new.self.sets c.add_all-3.new.self.sets end
+    c.in_ok-add_all-3.ensures.grows h in
+    let j : Grows c.add_all.new.self.sets end = grows-then c.add_all.new.self.sets c.add_all-2.new.self.sets end
+    c.in_ok-add_all-2.ensures.grows i in
     has_all-ver end c.args.namer c.args.ver.now
-    (carried c.add_all.new.self.sets end c.args.namer c.as_slice.result.now c.args.ver.now.pre j (c.as_slice.ensures.items ∙ ap (λ v. v.pre) c.ver.view_is) c.in_ok-add_all.ensures.has)
-    (carried c.add_all-2.new.self.sets end c.args.namer c.as_slice-2.result.now c.args.ver.now.sup i (c.as_slice-2.ensures.items ∙ ap (λ v. v.sup) c.ver.view_is) c.in_ok-add_all-2.ensures.has)
-    (carried c.add_all-3.new.self.sets end c.args.namer c.as_slice-3.result.now c.args.ver.now.del h (c.as_slice-3.ensures.items ∙ ap (λ v. v.del) c.ver.view_is) c.in_ok-add_all-3.ensures.has)
-    (carried c.add_functions.new.self.sets end c.args.namer (map (λ i. i.function) c.as_slice-4.result.now) (map (λ i. i.function) c.args.ver.now.ifs) g (ap (map (λ i. i.function)) (c.as_slice-4.ensures.value ∙ ap (λ v. v.ifs) c.ver.view_is)) c.in_ok-add_functions.ensures.has)
-    (carried end end c.args.namer (at_most_one c.ver.inside.fmid) (at_most_one c.args.ver.now.fmid) (grows-same end) (ap (λ v. at_most_one v.fmid) c.ver.view_is) c.in_ok-add_fmid.ensures.has)
+    (carried c.add_all.new.self.sets end c.args.namer c.as_slice.result.now c.args.ver.now.pre j
+    (c.as_slice.ensures.items ∙ ap (λ v. v.pre) c.ver.view_is) c.in_ok-add_all.ensures.has)
+    (carried c.add_all-2.new.self.sets end c.args.namer c.as_slice-2.result.now c.args.ver.now.sup i
+    (c.as_slice-2.ensures.items ∙ ap (λ v. v.sup) c.ver.view_is) c.in_ok-add_all-2.ensures.has)
+    (carried c.add_all-3.new.self.sets end c.args.namer c.as_slice-3.result.now c.args.ver.now.del h
+    (c.as_slice-3.ensures.items ∙ ap (λ v. v.del) c.ver.view_is) c.in_ok-add_all-3.ensures.has)
+    (carried c.add_functions.new.self.sets end c.args.namer (map (λ i. i.function) c.as_slice-4.result.now)
+    (map (λ i. i.function) c.args.ver.now.ifs) g (ap (map (λ i. i.function))
+    (c.as_slice-4.ensures.value ∙ ap (λ v. v.ifs) c.ver.view_is)) c.in_ok-add_functions.ensures.has)
+    (carried end end c.args.namer (at_most_one c.ver.inside.fmid) (at_most_one c.args.ver.now.fmid) (grows-same end)
+    (ap (λ v. at_most_one v.fmid) c.ver.view_is) c.in_ok-add_fmid.ensures.has)

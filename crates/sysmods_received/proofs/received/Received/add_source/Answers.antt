@@ -27,7 +27,8 @@ invariant_of-self-in_err-add_source c =
     let new = c.add_source.new.self in
     let there : lookup (is_at (C c.args.id)) es ≡ Some s = sym c.in-Some.ensures.value in
     let entries : (c.get_mut.follows.lender new).entries ≡ es =
-    (c.get_mut.follows.holds new).0 ∙ ap (set_value (is_at (C c.args.id)) es) c.in_err-add_source.ensures.err ∙ set_value_same (is_at (C c.args.id)) es s there in
+    (c.get_mut.follows.holds new).0 ∙ ap (set_value (is_at (C c.args.id)) es) c.in_err-add_source.ensures.err
+    ∙ set_value_same (is_at (C c.args.id)) es s there in
     subst (λ now. IsHeld now c.self.inside.index.sets) (sym entries) c.self.invariant
 
 pub returns-in_err-add_source-clause-err : goal.returns-in_err-add_source-clause-err
@@ -37,7 +38,8 @@ returns-in_err-add_source-clause-err c =
     let new = c.add_source.new.self in
     let there : lookup (is_at (C c.args.id)) es ≡ Some s = sym c.in-Some.ensures.value in
     let entries : (c.get_mut.follows.lender new).entries ≡ es =
-    (c.get_mut.follows.holds new).0 ∙ ap (set_value (is_at (C c.args.id)) es) c.in_err-add_source.ensures.err ∙ set_value_same (is_at (C c.args.id)) es s there in
+    (c.get_mut.follows.holds new).0 ∙ ap (set_value (is_at (C c.args.id)) es) c.in_err-add_source.ensures.err
+    ∙ set_value_same (is_at (C c.args.id)) es s there in
     on-err c.from_residual.result (ap values_of entries ∙ c.self.view_is)
 
 pub returns-in_default-clause-ok : goal.returns-in_default-clause-ok
@@ -45,7 +47,8 @@ returns-in_default-clause-ok c =
     let es = c.self.inside.by_id.entries in
     let same : c.get_mut.follows.lender-at-none ≡ c.self.inside.by_id = search rules in
     let none : lookup (is_at (C c.args.id)) es ≡ None = search rules in
-    ap (λ m. values_of m.entries) same ∙ sym (values-none es c.args.source c.args.id c.self.invariant.keyed none) ∙ ap (all_assigned c.args.source c.args.id) c.self.view_is
+    ap (λ m. values_of m.entries) same ∙ sym (values-none es c.args.source c.args.id c.self.invariant.keyed none)
+    ∙ ap (all_assigned c.args.source c.args.id) c.self.view_is
 
 pub invariant_of-self-2 : goal.invariant_of-self-2
 invariant_of-self-2 c =
@@ -54,10 +57,12 @@ invariant_of-self-2 c =
     let new = c.add_source.new.self in
     let there : lookup (is_at (C c.args.id)) es ≡ Some s = sym c.in-Some.ensures.value in
     let source : new ≡ with_source c.args.source s = c.in_ok-add_source.ensures.ok in
-    let entries : (c.get_mut.follows.lender new).entries ≡ set_value (is_at (C c.args.id)) es (with_source c.args.source s) =
+    let entries : (c.get_mut.follows.lender new).entries ≡ set_value (is_at (C c.args.id)) es
+    (with_source c.args.source s) =
     (c.get_mut.follows.holds new).0 ∙ ap (set_value (is_at (C c.args.id)) es) source in
     subst (λ now. IsHeld now c.self.inside.index.sets) (sym entries)
-    (held-assign es c.self.inside.index.sets c.args.source c.args.id s there c.self.invariant (subst IsSysmod source c.known.ensures)
+    (held-assign es c.self.inside.index.sets c.args.source c.args.id s there c.self.invariant
+    (subst IsSysmod source c.known.ensures)
     (subst (λ now. IsStrictlySortedBy C (keys_of now)) entries (c.get_mut.follows.holds new).4))
 
 pub returns-clause-ok : goal.returns-clause-ok
@@ -66,6 +71,8 @@ returns-clause-ok c =
     let s = c.in-Some.sysmod.now in
     let new = c.add_source.new.self in
     let there : lookup (is_at (C c.args.id)) es ≡ Some s = sym c.in-Some.ensures.value in
-    let entries : (c.get_mut.follows.lender new).entries ≡ set_value (is_at (C c.args.id)) es (with_source c.args.source s) =
+    let entries : (c.get_mut.follows.lender new).entries ≡ set_value (is_at (C c.args.id)) es
+    (with_source c.args.source s) =
     (c.get_mut.follows.holds new).0 ∙ ap (set_value (is_at (C c.args.id)) es) c.in_ok-add_source.ensures.ok in
-    ap values_of entries ∙ values-assign es c.args.source c.args.id s c.self.invariant.keyed c.self.invariant.sorted there ∙ ap (all_assigned c.args.source c.args.id) c.self.view_is
+    ap values_of entries ∙ values-assign es c.args.source c.args.id s c.self.invariant.keyed c.self.invariant.sorted
+    there ∙ ap (all_assigned c.args.source c.args.id) c.self.view_is

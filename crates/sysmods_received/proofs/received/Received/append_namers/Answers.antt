@@ -17,7 +17,8 @@ returns-in-Some c =
     subst (λ (ids : List Id). OnOk c.append_some.result (c.append_some.new.found.items ≡ c.args.found.now.items ++ ids))
     (namers-among c.args.self.now c.args.srel c.args.id sets keys
     (subst (All (IsIndexed sets)) c.self.view_is c.self.invariant.indexed)
-    (subst (Rises (slice_cmp nat_cmp) (λ s. s.id)) c.self.view_is (rises-values c.self.inside.by_id.entries c.self.invariant.keyed c.self.invariant.sorted))
+    (subst (Rises (slice_cmp nat_cmp) (λ s. s.id)) c.self.view_is
+    (rises-values c.self.inside.by_id.entries c.self.invariant.keyed c.self.invariant.sorted))
     (Rises-from_sorted (slice_cmp nat_cmp) keys c.append_some.ensures.ordered)
     (complete-at sets c.args.id c.in-Some.namers.now (sym c.in-Some.ensures.value)))
     c.append_some.ensures.ok
@@ -29,6 +30,7 @@ returns-in-None c =
     ∙ ap (λ (ids : List Id). c.args.found.now.items ++ ids)
     (namers-among c.args.self.now c.args.srel c.args.id sets []
     (subst (All (IsIndexed sets)) c.self.view_is c.self.invariant.indexed)
-    (subst (Rises (slice_cmp nat_cmp) (λ s. s.id)) c.self.view_is (rises-values c.self.inside.by_id.entries c.self.invariant.keyed c.self.invariant.sorted))
+    (subst (Rises (slice_cmp nat_cmp) (λ s. s.id)) c.self.view_is
+    (rises-values c.self.inside.by_id.entries c.self.invariant.keyed c.self.invariant.sorted))
     (λ i j d before below. absurd (omega (arith, below)))
     (complete-none sets c.args.id (search rules)))

@@ -7,7 +7,8 @@ use Rattle.sysmods_received.proofs.Holding.{rises-values}
 use Rattle.sysmods_received.proofs.received.Received.known.Goals as goal
 
 pub returns-clause-rising : goal.returns-clause-rising
-returns-clause-rising c = subst (Rises (slice_cmp nat_cmp) (λ s. s.id)) c.self.view_is (rises-values c.self.inside.by_id.entries c.self.invariant.keyed c.self.invariant.sorted)
+returns-clause-rising c = subst (Rises (slice_cmp nat_cmp) (λ s. s.id)) c.self.view_is
+    (rises-values c.self.inside.by_id.entries c.self.invariant.keyed c.self.invariant.sorted)
 
 pub returns-clause-formed : goal.returns-clause-formed
 returns-clause-formed c = subst (All IsSysmod) c.self.view_is c.self.invariant.formed

@@ -11,11 +11,13 @@ returns-in-Some c =
     ∙ some-names c.args.self.now c.self.inside.index.sets c.args.way c.args.id c.in-Some.namers.now.keys
     (complete-at c.self.inside.index.sets c.args.id c.in-Some.namers.now (sym c.in-Some.ensures.value))
     (subst (All (IsIndexed c.self.inside.index.sets)) c.self.view_is c.self.invariant.indexed)
-    (subst (λ xs. All (λ s. found xs s.id ≡ Some s) xs) c.self.view_is (found-itself c.self.inside.by_id c.self.invariant.keyed c.self.invariant.sorted))
+    (subst (λ xs. All (λ s. found xs s.id ≡ Some s) xs) c.self.view_is
+    (found-itself c.self.inside.by_id c.self.invariant.keyed c.self.invariant.sorted))
 
 pub returns-in-None : goal.returns-in-None
 returns-in-None c =
     some-names c.args.self.now c.self.inside.index.sets c.args.way c.args.id []
     (complete-none c.self.inside.index.sets c.args.id (search rules))
     (subst (All (IsIndexed c.self.inside.index.sets)) c.self.view_is c.self.invariant.indexed)
-    (subst (λ xs. All (λ s. found xs s.id ≡ Some s) xs) c.self.view_is (found-itself c.self.inside.by_id c.self.invariant.keyed c.self.invariant.sorted))
+    (subst (λ xs. All (λ s. found xs s.id ≡ Some s) xs) c.self.view_is
+    (found-itself c.self.inside.by_id c.self.invariant.keyed c.self.invariant.sorted))

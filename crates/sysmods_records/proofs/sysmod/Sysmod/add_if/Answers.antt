@@ -11,8 +11,11 @@ returns-in_ok-add_if-clause-ok c =
     let vs = c.self.inside.vers.items in
     let old : c.index_mut.result.now ≡ found.1.0 = c.index_mut.ensures.value ∙ found.1.1.at c.index_mut.result.now in
     let new : c.add_if.new.self ≡ with_if i found.1.0 = c.in_ok-add_if.ensures.ok ∙ ap (λ (v : Ver). with_if i v) old in
-    let at : map (at_srel c.args.srel i) vs ≡ set vs c.in-Ok.place c.add_if.new.self = comes c.args.srel i vs c.in-Ok.place found.1.0 c.self.invariant.vers found.0 found.1.1 ∙ ap (λ v. set vs c.in-Ok.place v) (sym new) in
-    ap (λ ws. record (sysmod_of c.self.inside) { vers = ws }) (sym at) ∙ ap (λ (s : Sysmod). record s { vers = map (at_srel c.args.srel i) s.vers }) c.self.view_is
+    let at : map (at_srel c.args.srel i) vs ≡ set vs c.in-Ok.place c.add_if.new.self =
+    comes c.args.srel i vs c.in-Ok.place found.1.0 c.self.invariant.vers found.0 found.1.1
+    ∙ ap (λ v. set vs c.in-Ok.place v) (sym new) in
+    ap (λ ws. record (sysmod_of c.self.inside) { vers = ws }) (sym at)
+    ∙ ap (λ (s : Sysmod). record s { vers = map (at_srel c.args.srel i) s.vers }) c.self.view_is
 
 pub returns-in_default-clause-ok : goal.returns-in_default-clause-ok
 returns-in_default-clause-ok c =
@@ -20,4 +23,5 @@ returns-in_default-clause-ok c =
     let i = c.args.condition in
     let vs = c.self.inside.vers.items in
     let kept = stays c.args.srel i vs c.in_default.field-0 missing.1 in
-    sym c.self.view_is ∙ ap (λ ws. record (sysmod_of c.self.inside) { vers = ws }) (sym kept) ∙ ap (λ (s : Sysmod). record s { vers = map (at_srel c.args.srel i) s.vers }) c.self.view_is
+    sym c.self.view_is ∙ ap (λ ws. record (sysmod_of c.self.inside) { vers = ws }) (sym kept)
+    ∙ ap (λ (s : Sysmod). record s { vers = map (at_srel c.args.srel i) s.vers }) c.self.view_is

@@ -7,7 +7,8 @@ pub invariant_of-self-2 : goal.invariant_of-self-2
 invariant_of-self-2 c =
     let k = c.self.invariant in
     record {
-      sources = rw c.in_ok-insert.ensures.ok (Rises-with_item nat_list_cmp_total (λ t. t) c.self.inside.sources c.args.source k.sources);
+      sources = rw c.in_ok-insert.ensures.ok (Rises-with_item nat_list_cmp_total (λ t. t) c.self.inside.sources
+          c.args.source k.sources);
       vers = k.vers;
       changes = k.changes;
       holds = k.holds;

@@ -11,7 +11,8 @@ invariant_of-self c =
     let k = c.self.invariant in
     record {
       sources = k.sources;
-      vers = Rises-set nat_list_cmp_total (λ (v : Ver). v.srel) c.self.inside.vers.items c.in-Ok.place found.1.0 c.args.ver k.vers found.0 found.1.1;
+      vers = Rises-set nat_list_cmp_total (λ (v : Ver). v.srel) c.self.inside.vers.items c.in-Ok.place found.1.0
+          c.args.ver k.vers found.0 found.1.1;
       changes = k.changes;
       holds = k.holds;
     }
@@ -23,7 +24,8 @@ invariant_of-self-in-Continue-1 c =
     let k = c.self.invariant in
     record {
       sources = k.sources;
-      vers = rw c.in_ok-insert-in-Err.ensures.items (Rises-parted nat_list_cmp_total (λ (v : Ver). v.srel) c.self.inside.vers.items c.in-Err.place c.args.ver k.vers missing.1);
+      vers = rw c.in_ok-insert-in-Err.ensures.items (Rises-parted nat_list_cmp_total (λ (v : Ver). v.srel)
+          c.self.inside.vers.items c.in-Err.place c.args.ver k.vers missing.1);
       changes = k.changes;
       holds = k.holds;
     }
@@ -32,12 +34,14 @@ pub returns-in-Ok-clause-ok : goal.returns-in-Ok-clause-ok
 returns-in-Ok-clause-ok c =
     let same : c.ver.inside.srel ≡ c.args.ver.srel = ap (λ (v : Ver). v.srel) c.ver.view_is in
     let found = rw (c.deref.ensures.value, same) at c.in-Ok.ensures.found in
-    let at = with_item-set nat_list_cmp_total (λ (v : Ver). v.srel) c.self.inside.vers.items c.in-Ok.place found.1.0 c.args.ver c.self.invariant.vers found.0 found.1.1 in
+    let at = with_item-set nat_list_cmp_total (λ (v : Ver). v.srel) c.self.inside.vers.items c.in-Ok.place found.1.0
+    c.args.ver c.self.invariant.vers found.0 found.1.1 in
     rw (← c.self.view_is, at) refl
 
 pub returns-in_ok-insert-in-Err-clause-ok : goal.returns-in_ok-insert-in-Err-clause-ok
 returns-in_ok-insert-in-Err-clause-ok c =
     let same : c.ver.inside.srel ≡ c.args.ver.srel = ap (λ (v : Ver). v.srel) c.ver.view_is in
     let missing = rw (c.deref.ensures.value, same) at c.in-Err.ensures.missing in
-    let at = with_item-parted nat_list_cmp_total (λ (v : Ver). v.srel) c.self.inside.vers.items c.in-Err.place c.args.ver missing.1 in
+    let at = with_item-parted nat_list_cmp_total (λ (v : Ver). v.srel) c.self.inside.vers.items c.in-Err.place
+    c.args.ver missing.1 in
     rw (← c.self.view_is, at, c.in_ok-insert-in-Err.ensures.items) refl

@@ -5,4 +5,5 @@ use Rattle.terms.specs.Global.{named}
 use Rattle.sysmods_records.proofs.sysmod.Sysmod.append_named.Given as goal
 
 abbrev pub invariant-loop-ver : goal.invariant-loop-ver
-invariant-loop-ver l = l.found.items ≡ l.fn.found.items ++ flat_map named (filter (λ v. bytes_eq v.srel l.srel) (take l.ver-index l.ver-items))
+invariant-loop-ver l = l.found.items ≡ l.fn.found.items ++ flat_map named
+    (filter (λ v. bytes_eq v.srel l.srel) (take l.ver-index l.ver-items))

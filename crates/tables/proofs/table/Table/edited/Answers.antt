@@ -3,4 +3,5 @@ use Rattle.tables.proofs.table.Table.edited.Goals as goal
 
 pub invariant_of-result : goal.invariant_of-result
 invariant_of-result g c =
-    rw c.in_ok-edited.ensures (Rises-edited g.met.T.Key.Ord.total g.T.Keyed.key_of c.as_slice-2.result.now c.as_slice.result.now (rw c.as_slice.ensures.value c.self.invariant))
+    rw c.in_ok-edited.ensures (Rises-edited g.met.T.Key.Ord.total g.T.Keyed.key_of c.as_slice-2.result.now
+    c.as_slice.result.now (rw c.as_slice.ensures.value c.self.invariant))

@@ -6,10 +6,13 @@ pub returns-in-Ok : goal.returns-in-Ok
 returns-in-Ok g c =
     let found = rw c.as_slice.ensures.value at c.in-Ok.ensures.found in
     let xs = c.self.inside.items.items in
-    rw (← c.self.view_is) (ap Some (c.index.ensures ∙ found.1.1.at c.index.result.now) ∙ sym (find-stands g.met.T.Key.Ord.total g.T.Keyed.key_of g.T.Key.PartialEq.eq g.met.T.Key.Ord.matches_eq c.args.key xs c.in-Ok.place found.1.0 c.self.invariant found.1.1))
+    rw (← c.self.view_is) (ap Some (c.index.ensures ∙ found.1.1.at c.index.result.now)
+    ∙ sym (find-stands g.met.T.Key.Ord.total g.T.Keyed.key_of g.T.Key.PartialEq.eq g.met.T.Key.Ord.matches_eq
+    c.args.key xs c.in-Ok.place found.1.0 c.self.invariant found.1.1))
 
 pub returns-in-Err : goal.returns-in-Err
 returns-in-Err g c =
     let missing = rw c.as_slice.ensures.value at c.in-Err.ensures.missing in
     let xs = c.self.inside.items.items in
-    rw (← c.self.view_is) (sym (find-parted g.met.T.Key.Ord.total g.T.Keyed.key_of g.T.Key.PartialEq.eq g.met.T.Key.Ord.matches_eq c.args.key xs c.in-Err.field-0 missing.1))
+    rw (← c.self.view_is) (sym (find-parted g.met.T.Key.Ord.total g.T.Keyed.key_of g.T.Key.PartialEq.eq
+    g.met.T.Key.Ord.matches_eq c.args.key xs c.in-Err.field-0 missing.1))

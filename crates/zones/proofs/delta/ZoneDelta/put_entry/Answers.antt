@@ -14,6 +14,8 @@ invariant_of-self-2 c =
     let held : Edit Entry Id → Type 0 = λ d. IfSome (edit_put d) (λ e. IsTrue (is_held e)) in
     let waived : Edit Entry Id → Type 0 = λ d. IfSome (edit_put d) (λ e. IsTrue (waives_applied e)) in
     rw c.in_ok-put.ensures.ok (
-      All-with_item (slice_cmp nat_cmp) (edit_key (λ e. e.id)) held c.self.inside.entries (Put c.args.entry) c.self.invariant.0 c.requires.held,
-      All-with_item (slice_cmp nat_cmp) (edit_key (λ e. e.id)) waived c.self.inside.entries (Put c.args.entry) c.self.invariant.1 c.requires.waived,
+      All-with_item (slice_cmp nat_cmp) (edit_key (λ e. e.id)) held c.self.inside.entries (Put c.args.entry)
+          c.self.invariant.0 c.requires.held,
+      All-with_item (slice_cmp nat_cmp) (edit_key (λ e. e.id)) waived c.self.inside.entries (Put c.args.entry)
+          c.self.invariant.1 c.requires.waived,
     )

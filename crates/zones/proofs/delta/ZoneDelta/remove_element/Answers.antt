@@ -11,5 +11,8 @@ use Rattle.zones.proofs.delta.ZoneDelta.remove_element.Goals as goal
 
 pub returns-clause-ok : goal.returns-clause-ok
 returns-clause-ok c =
-    let with_elements : List (Edit Element (ElemType × Text)) → ZoneDelta = λ es. record { entries = c.self.inside.entries; elements = es } in
-    rw (← c.self.view_is) (ap with_elements (c.in_ok-put.ensures.ok ∙ with_item-agree _ element_cmp cmp-keys (edit_key element_key) c.self.inside.elements (Remove (c.args.elem_type, c.args.name))))
+    let with_elements : List (Edit Element (ElemType × Text))
+    → ZoneDelta = λ es. record { entries = c.self.inside.entries; elements = es } in
+    rw (← c.self.view_is) (ap with_elements (c.in_ok-put.ensures.ok
+    ∙ with_item-agree _ element_cmp cmp-keys (edit_key element_key) c.self.inside.elements
+    (Remove (c.args.elem_type, c.args.name))))

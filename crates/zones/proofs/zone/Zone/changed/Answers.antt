@@ -11,8 +11,10 @@ use Rattle.zones.proofs.zone.Zone.changed.Goals as goal
 pub invariant_of-zone : goal.invariant_of-zone
 invariant_of-zone c =
     let edits = c.args.delta.now.entries in (
-      rw (c.in_ok-edited.ensures, c.entry_edits.ensures) (All-edited nat_list_cmp_total (λ e. e.id) (λ e. IsTrue (is_held e)) edits c.self.inside.entries c.self.invariant.0 c.known.ensures.held),
-      rw (c.in_ok-edited.ensures, c.entry_edits.ensures) (All-edited nat_list_cmp_total (λ e. e.id) (λ e. IsTrue (waives_applied e)) edits c.self.inside.entries c.self.invariant.1 c.known.ensures.waived),
+      rw (c.in_ok-edited.ensures, c.entry_edits.ensures) (All-edited nat_list_cmp_total (λ e. e.id)
+          (λ e. IsTrue (is_held e)) edits c.self.inside.entries c.self.invariant.0 c.known.ensures.held),
+      rw (c.in_ok-edited.ensures, c.entry_edits.ensures) (All-edited nat_list_cmp_total (λ e. e.id)
+          (λ e. IsTrue (waives_applied e)) edits c.self.inside.entries c.self.invariant.1 c.known.ensures.waived),
       c.self.invariant.2,
     )
 
@@ -22,7 +24,15 @@ returns c =
       rest = refl;
       is_zone = c.known-2.ensures;
       entries = λ x.
-          rw (c.in_ok-edited.ensures, c.entry_edits.ensures) (find-edited nat_list_cmp_total (λ e. e.id) bytes_eq texts_ties c.args.delta.now.entries c.known.ensures.entries c.self.inside.entries x);
+          rw (c.in_ok-edited.ensures, c.entry_edits.ensures)
+          (find-edited nat_list_cmp_total (λ e. e.id) bytes_eq texts_ties c.args.delta.now.entries
+          c.known.ensures.entries c.self.inside.entries x);
       elements = λ type name.
-          rw (c.in_ok-edited-2.ensures, c.element_edits.ensures, edited-agree _ element_cmp cmp-keys element_key c.args.delta.now.elements c.self.inside.elements) (find-edited element_cmp_total element_key element_eq element_ties c.args.delta.now.elements c.known.ensures.elements c.self.inside.elements (type, name));
+          rw (
+            c.in_ok-edited-2.ensures,
+            c.element_edits.ensures,
+            edited-agree _ element_cmp cmp-keys element_key c.args.delta.now.elements c.self.inside.elements,
+          )
+          (find-edited element_cmp_total element_key element_eq element_ties c.args.delta.now.elements
+          c.known.ensures.elements c.self.inside.elements (type, name));
     }

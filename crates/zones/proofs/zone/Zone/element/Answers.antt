@@ -6,4 +6,5 @@ use Rattle.zones.proofs.zone.Zone.element.Goals as goal
 
 pub returns : goal.returns
 returns c =
-    rw (← c.self.view_is) (c.get.ensures ∙ find-agree _ _ (λ x. ap (λ b. b && bytes_eq x.name c.args.name) (eq-types x.elem_type c.args.elem_type)) c.self.inside.elements)
+    rw (← c.self.view_is) (c.get.ensures ∙ find-agree _ _ (λ x.
+    ap (λ b. b && bytes_eq x.name c.args.name) (eq-types x.elem_type c.args.elem_type)) c.self.inside.elements)

@@ -8,10 +8,13 @@ use Rattle.zones.proofs.zone.Zone.known_lists.Goals as goal
 
 pub loop-entry-preserved : goal.loop-entry-preserved
 loop-entry-preserved c =
-    All-more (λ e. IsRising e.supby × IsRising e.waived) c.entries-entry-items.result.now c.loop-entry.entry-index c.entry-item.result c.loop-entry-test.true c.loop-entry.invariant
+    All-more (λ e. IsRising e.supby × IsRising e.waived) c.entries-entry-items.result.now c.loop-entry.entry-index
+    c.entry-item.result c.loop-entry-test.true c.loop-entry.invariant
     (subst (λ (e : Entry). IsRising e.supby × IsRising e.waived) c.entry-item.is c.known.ensures)
 
 pub returns : goal.returns
 returns c =
-    let all : take c.loop-entry.entry-index c.entries-entry-items.result.now ≡ c.entries-entry-items.result.now = take_all c.loop-entry.entry-index c.entries-entry-items.result.now (omega arith) in
-    subst (λ (es : List Entry). All (λ e. IsRising e.supby × IsRising e.waived) es) (all ∙ c.entries-entry-items.ensures) c.loop-entry.invariant
+    let all : take c.loop-entry.entry-index c.entries-entry-items.result.now ≡ c.entries-entry-items.result.now =
+    take_all c.loop-entry.entry-index c.entries-entry-items.result.now (omega arith) in
+    subst (λ (es : List Entry). All (λ e. IsRising e.supby × IsRising e.waived) es)
+    (all ∙ c.entries-entry-items.ensures) c.loop-entry.invariant
