@@ -1,4 +1,7 @@
 //! PTFIN and hold files: their items, or their first fault.
+//! `read_ptfin` answers the SYSMODs and assignments that the grammar relates the file to, or its first fault with
+//! record and code; `read_hold` does the same for hold files. No file has both. When `Memory`
+//! comes is not said.
 #![tactic(auto)]
 
 mod assign;
