@@ -1,4 +1,4 @@
-//! Whole jobs, from the bytes in to the bytes out, in memory and on disks in memory, and the program's words and lines.
+//! Whole jobs in memory and on disks in memory, file by file and line by line, and the program's words and lines.
 //! There is no code here but tests.
 #![tactic(auto)]
 
