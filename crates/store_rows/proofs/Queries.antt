@@ -5,9 +5,9 @@ use Rattle.sqlite.specs.Schema.{Schema}
 use Rattle.sqlite.specs.Given.{IsPlain}
 use Rattle.sqlite.specs.Listing.{understood}
 use Rattle.sqlite.specs.Effect.{Database}
-use Rattle.sqlite.specs.State.{State, HasCleanDisk, IsUnchanged, Survives, KeepsCommit}
-use Rattle.sqlite.proofs.StateLemmas.{survives_then, survives_weaker}
 use Rattle.sqlite.specs.Held.{Held, state}
+use Rattle.sqlite.specs.State.{State, HasCleanDisk, IsUnchanged, KeepsCommit, Survives}
+use Rattle.sqlite.proofs.StateLemmas.{survives_then, survives_weaker}
 use Rattle.store_rows.specs.Reads.{OnlyReads}
 use Rattle.store_rows.proofs.InsideLemmas.{on_ok, on_ok_of}
 
@@ -24,6 +24,15 @@ unchanged_then a b c p q = (
   q.2 ∙ p.2,
 )
 
+pub keeps_then : (a b c : State) → KeepsCommit a b → KeepsCommit b c → KeepsCommit a c
+keeps_then a b c p q = record {
+  was_open = λ is_open. p.was_open (q.was_open is_open);
+  committed = λ is_open. q.committed is_open ∙ p.committed (q.was_open is_open);
+}
+
+pub unchanged_keeps_commit : (a b : State) → IsUnchanged a b → KeepsCommit a b
+unchanged_keeps_commit a b p = record { was_open = λ _. p.0.was_open; committed = λ _. p.0.committed_is }
+
 -- what a query that ran, and then one more, leave; the clauses hold under the schema alone
 module _ (schema : Schema) (a b c : State) (first : HasCleanDisk b → a.now.schema ≡ schema → IsUnchanged a b) where
   pub same_schema_then : IsUnchanged a b → a.now.schema ≡ schema → b.now.schema ≡ schema
@@ -35,6 +44,13 @@ module _ (schema : Schema) (a b c : State) (first : HasCleanDisk b → a.now.sch
   same_then later next clean has =
       let same = first (omega (arith, later.clean)) has in
       unchanged_then a b c same (next clean (same_schema_then same has))
+
+  pub kept_then : Survives b c (λ _. ¬ (b.now.schema ≡ schema))
+      → (HasCleanDisk c → b.now.schema ≡ schema → KeepsCommit b c) → HasCleanDisk c → a.now.schema ≡ schema
+      → KeepsCommit a c
+  kept_then later next clean has =
+      let same = first (omega (arith, later.clean)) has in
+      keeps_then a b c (unchanged_keeps_commit a b same) (next clean (same_schema_then same has))
 
   pub crash_then : Survives a b (λ _. ¬ (a.now.schema ≡ schema)) → Survives b c (λ _. ¬ (b.now.schema ≡ schema))
       → Survives a c (λ _. ¬ (a.now.schema ≡ schema))
