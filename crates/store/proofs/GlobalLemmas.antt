@@ -1,5 +1,6 @@
 -- The edits of the global zone, one after the other, and what they make of the inventory.
-use Rattle.std.proofs.Common.{◌≡◌, ℕ, ◌+◌, ◌<◌, ◌==◌, take, length, get_or, Bool, not, List, ◌∷◌, map, IsPermutation}
+use Rattle.std.proofs.Common.{◌&&◌, ◌≡◌, ℕ, ◌+◌, ◌<◌, ◌==◌, take, length, get_or, Bool, not, List, ◌∷◌, map}
+use Rattle.std.proofs.Common.{IsPermutation}
 use Rattle.std.proofs.Common.{refl, sym, ap, ap₂, subst, ◌∙◌}
 use Rattle.std.specs.Prelude.{filter}
 use Rattle.std.specs.declared.cmp.Ordering.{Ordering}
