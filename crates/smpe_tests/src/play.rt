@@ -56,51 +56,47 @@ fn ptfin_of(alloc: Global, step: &Step) -> Result<Vec<u8>, Fail> {
     Ok(bytes)
 }
 
-/// Runs a job, appends what it prints, and hands out what it answers.
+/// Runs the jobs, appends what they print, and hands out what they answer.
 fn run<S: Alter>(
     alloc: Global,
     store: &mut Store<S>,
-    job: Job<'_>,
+    jobs: &[Job<'_>],
     report: &mut Vec<u8>,
-) -> Result<Answer, Fail> {
-    let answers = run_jobs(alloc, store, &[job], &mut Out::new(report))?;
-    match answers.as_slice() {
-        [answer] => Ok(*answer),
-        _ => Err(Fail::from("answers")),
-    }
+) -> Result<Vec<Answer>, Fail> {
+    let mut out = Out::new(report);
+    Ok(run_jobs(alloc, store, jobs, &mut out)?)
 }
 
-/// Defines a zone, and tells whether its name was free.
-fn define<S: Alter>(
-    alloc: Global,
-    store: &mut Store<S>,
-    name: &[u8],
-    kind: ZoneKind,
-    related: Option<ZoneName>,
-) -> Result<bool, Fail> {
-    let job = Job::Zone {
-        name: ZoneName::read(name).ok_or("no name of a zone")?,
-        kind,
-        srel: Srel::read(b"Z038").ok_or("no SREL")?,
-        related,
-    };
-    match run(alloc, store, job, &mut Vec::new(alloc))? {
-        Answer::Defined => Ok(true),
-        Answer::Refused(ZoneFault::NameTaken) => Ok(false),
-        _ => Err(Fail::from("another answer")),
-    }
+fn zone_name(name: &[u8]) -> Result<ZoneName, Fail> {
+    Ok(ZoneName::read(name).ok_or("no name of a zone")?)
 }
 
 /// Defines the two zones of all jobs, and the second one again.
 fn define_both<S: Alter>(alloc: Global, store: &mut Store<S>) -> Result<(), Fail> {
-    let permanent = ZoneName::read(b"DLB1");
-    let first = define(alloc, store, b"DLB1", ZoneKind::Distribution, None)?;
-    let second = define(alloc, store, b"TGT1", ZoneKind::Target, permanent)?;
-    let again = define(alloc, store, b"TGT1", ZoneKind::Target, permanent)?;
-    if first && second && !again {
-        return Ok(());
+    let permanent = zone_name(b"DLB1")?;
+    let running = zone_name(b"TGT1")?;
+    let srel = Srel::read(b"Z038").ok_or("no SREL")?;
+    let distribution = Job::Zone {
+        name: permanent,
+        kind: ZoneKind::Distribution,
+        srel,
+        related: None,
+    };
+    let target = Job::Zone {
+        name: running,
+        kind: ZoneKind::Target,
+        srel,
+        related: Some(permanent),
+    };
+    let both = [distribution, target];
+    let jobs = both.as_slice();
+    let mut report = Vec::new(alloc);
+    let answers = run(alloc, store, jobs, &mut report)?;
+    let again = run(alloc, store, &jobs[1..], &mut report)?;
+    match (answers.as_slice(), again.as_slice()) {
+        ([Answer::Defined, Answer::Defined], [Answer::Refused(ZoneFault::NameTaken)]) => Ok(()),
+        _ => Err(Fail::from("two zones, of which the second is refused when it comes again")),
     }
-    Err(Fail::new(format_args!("zones are defined: {first}, {second}, {again}")))
 }
 
 /// Plays a step, and compares what it prints and answers.
@@ -108,19 +104,22 @@ fn play<S: Alter>(alloc: Global, store: &mut Store<S>, step: &Step) -> Result<()
     let cntl = records(alloc, step.cntl)?;
     let ptfin = ptfin_of(alloc, step)?;
     let hold = records(alloc, step.hold)?;
-    let job = Job::Run {
+    let job = [Job::Run {
         date: YyDdd::new(2024, 138),
         cntl: cntl.as_slice(),
         ptfin: ptfin.as_slice(),
         hold: hold.as_slice(),
-    };
+    }];
     let mut report = Vec::new(alloc);
-    let answer = run(alloc, store, job, &mut report)?;
+    let answers = run(alloc, store, &job, &mut report)?;
     compare(report.as_slice(), step.report)?;
-    match answer {
-        Answer::Code(code) if code == step.code => Ok(()),
-        _ => Err(Fail::new(format_args!("got {answer:?}, wanted {}", step.code))),
+    let [Answer::Code(code)] = answers.as_slice() else {
+        return Err(Fail::from("no return code"));
+    };
+    if *code == step.code {
+        return Ok(());
     }
+    Err(Fail::new(format_args!("got {code}, wanted {}", step.code)))
 }
 
 /// A store over the connection.
