@@ -26,8 +26,8 @@ use Rattle.terms.specs.Global.{IsGlobal, IsSysmod}
 use Rattle.terms.specs.Candidates.{is_installable}
 use Rattle.terms.specs.Tests.{ShareElement}
 use Rattle.terms.specs.Delta.{IsChanged, edit_key, edit_put, element_eq}
-use Rattle.terms.specs.Install.{Installing, IsInstalled, cleared, deleters, delby_after, replaced, IsReplacer}
-use Rattle.terms.specs.Install.{IsUpdater, HasElementAfter, IsUpdated, Installs}
+use Rattle.terms.specs.Install.{Installation, TakesEffect, cleared, deleters, delby_after, replaced, IsReplacer}
+use Rattle.terms.specs.Install.{IsUpdater, HasElementAfter, IsUpdated, HasInstalled}
 use Rattle.lemmas.proofs.Members.{here, here_or, none_in, in_map, map_in}
 use Rattle.terms.proofs.Ids.{in_or_not}
 use Rattle.terms.proofs.ElementOrder.{element_cmp_total, element_ties, type_from_number}
@@ -80,7 +80,7 @@ module _ (g : Global) (zone : Zone) (kept : List Id) (date : Text) (is_global : 
   abbrev choice : Choice
   choice = by_srel g zone.srel
 
-  abbrev i : Installing
+  abbrev i : Installation
   i = record { global = g; choice = by_srel g zone.srel; zone = zone; kept = kept; bypassed = []; date = date }
 
   ok : (x : Id) → Contains kept x → IsTrue (is_installable g zone x)
@@ -88,7 +88,7 @@ module _ (g : Global) (zone : Zone) (kept : List Id) (date : Text) (is_global : 
 
   -- ---- which are installed, and what is deleted
 
-  installed : (x : Id) → Contains kept x → IsInstalled i x
+  installed : (x : Id) → Contains kept x → TakesEffect i x
   installed x h = record { kept = h; first = λ y there other. supersedes_none g zone y (ok y there) x }
 
   same_zone : cleared i ≡ zone
@@ -311,7 +311,7 @@ module _ (g : Global) (zone : Zone) (kept : List Id) (date : Text) (is_global : 
           | inr out ↦ ap field (entry_other x out)
         ]
 
-    field_other : {X : Type 0} (field : Option Entry → X) (x : Id) → (¬ IsInstalled i x)
+    field_other : {X : Type 0} (field : Option Entry → X) (x : Id) → (¬ TakesEffect i x)
         → field (entry_of new x) ≡ field (entry_of (cleared i) x)
     field_other field x out = ap field (entry_other x (λ h. out (installed x h)))
         ∙ ap (λ z. field (entry_of z x)) (sym same_zone)
@@ -320,7 +320,7 @@ module _ (g : Global) (zone : Zone) (kept : List Id) (date : Text) (is_global : 
     supby_same x = field_same (λ o. option_map_or (λ e. e.supby) o []) x refl ∙ ap (λ z. supby_of z x) (sym same_zone)
 
     supby_is : (x y : Id) → Contains (supby_of new x) y ↔ (Contains (supby_of (cleared i) x) y
-        ⊎ (IsInstalled i y × Supersedes choice y x))
+        ⊎ (TakesEffect i y × Supersedes choice y x))
     supby_is x y = (
       λ h. inl (subst (λ ys. Contains ys y) (supby_same x) h),
       λ h. elim h [
@@ -329,7 +329,7 @@ module _ (g : Global) (zone : Zone) (kept : List Id) (date : Text) (is_global : 
       ],
     )
 
-    waived_is : (x z : Id) → IsInstalled i x → Contains (waived_of new x) z ↔
+    waived_is : (x z : Id) → TakesEffect i x → Contains (waived_of new x) z ↔
         (Contains i.bypassed (x, z) × IsFalse (is_supplied new z))
     waived_is x z ins = (
       λ h. absurd (none_in z (subst (λ zs. Contains zs z) (ap (λ o. option_map_or (λ e. e.waived) o [])
@@ -337,7 +337,7 @@ module _ (g : Global) (zone : Zone) (kept : List Id) (date : Text) (is_global : 
       λ h. absurd (none_in (x, z) h.0),
     )
 
-    element_changed : (type : ElemType) (name : Text) (x : Id) → IsInstalled i x → IsTrue (has_change g x type name)
+    element_changed : (type : ElemType) (name : Text) (x : Id) → TakesEffect i x → IsTrue (has_change g x type name)
         → (e : Element) × (element_of new type name ≡ Some e) × HasElementAfter i type name e
     element_changed type name x ins has = by (change_of g x type name) refl
       where
@@ -358,7 +358,7 @@ module _ (g : Global) (zone : Zone) (kept : List Id) (date : Text) (is_global : 
                 let found = find-gives (λ c. element_eq (change_key c) (type, name)) (changes_of g x) h at in
                 absurd (true≢false (sym (replaces g zone x (ok x ins.kept) h found.1).0 ∙ ap is_replacement action))
 
-    element_unchanged : (type : ElemType) (name : Text) → ((x : Id) → IsInstalled i x
+    element_unchanged : (type : ElemType) (name : Text) → ((x : Id) → TakesEffect i x
         → IsFalse (has_change g x type name)) → element_of new type name ≡ element_of (cleared i) type name
     element_unchanged type name none =
         changed.elements type name
@@ -366,7 +366,7 @@ module _ (g : Global) (zone : Zone) (kept : List Id) (date : Text) (is_global : 
         (element_not_put type name (λ x h. none x (installed x h)))
         ∙ ap (λ z. element_of z type name) (sym same_zone)
 
-    pub installs : Installs i new
+    pub installs : HasInstalled i new
     installs = record {
       rest = changed.rest;
       is_zone = changed.is_zone;

@@ -5,7 +5,7 @@ ghost use Rattle.terms.specs.Choice.{by_srel};
 ghost use Rattle.terms.specs.Candidates.{is_installable};
 ghost use Rattle.terms.specs.Tests.{ShareElement};
 ghost use Rattle.terms.specs.Delta.{IsChanged};
-ghost use Rattle.terms.specs.Install.{Installs};
+ghost use Rattle.terms.specs.Install.{HasInstalled};
 ghost use Rattle.change.specs.Puts.{applied_entry, with_entry, after_change, after_sysmod, puts};
 
 use fields::{Id, IdList, YyDdd};
@@ -26,7 +26,7 @@ pub fn install(
     requires apart { (x y : AnId) → Contains kept.now x → Contains kept.now y → ShareElement global.now x y → x ≡ y }
     ensures puts { IfOk result (λ delta. delta ≡ puts global.now date kept.now) }
     ensures installs { IfOk result (λ delta. (new : AZone) → IsChanged delta zone.now new →
-        Installs (record {
+        HasInstalled (record {
           global = global.now;
           choice = by_srel global.now zone.now.srel;
           zone = zone.now;

@@ -65,8 +65,8 @@ fn put_items(spelled: &mut Spelled, items: &[HoldItem]) {
 pub(crate) fn put_error(spelled: &mut Spelled, error: McsError) {
     match error {
         McsError::Memory => spelled.put(b"memory"),
-        McsError::Fault { record, code } => {
-            spelled.put_digit(record);
+        McsError::Fault { number, code } => {
+            spelled.put_digit(number);
             spelled.put(b" ");
             spelled.put(mc_text(code));
         }

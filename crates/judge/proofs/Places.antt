@@ -9,7 +9,7 @@ use Rattle.std.proofs.lemmas.Bool.{and_parts, eqb-true, cases_order, cases_eq, n
 use Rattle.std.specs.Ordering.{is_lt, nat_cmp}
 use Rattle.std.specs.Cmp.Lexicographic.{slice_cmp}
 use Rattle.std.proofs.lemmas.Map.Lookups.{exact_bytes}
-use Rattle.terms.specs.Rising.{Stands}
+use Rattle.terms.specs.Rising.{StandsAt}
 use Rattle.std.proofs.lemmas.Cmp.{nat_list_cmp_total, nat_eq_equiv, tied_itself}
 use Rattle.std.proofs.lemmas.List.{length-map}
 use Rattle.terms.specs.Needs.{Needs, Serves}
@@ -434,7 +434,7 @@ module _ (g : Global) (zone : Zone) (ids : List Id) (held : All (λ e. IsTrue (i
 
 -- what a search finds
 pub stands-at : (ids : List Id) (f : Id) (i : ℕ) → i < length ids → (x : Id)
-    → Stands (slice_cmp nat_cmp) (λ y. y) f ids i x
+    → StandsAt (slice_cmp nat_cmp) (λ y. y) f ids i x
     → (slice_get ids i ≡ Some x) × (x ≡ f)
 stands-at ids f i below x s = (
   slice_get-get_or ids i x below ∙ ap (λ v. Some v) (s.at x),

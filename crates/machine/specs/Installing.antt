@@ -18,7 +18,7 @@ use Rattle.terms.specs.Needs.{Needs, Serves, bypassed_ids}
 use Rattle.terms.specs.Candidates.{AreCandidates, not_chosen}
 use Rattle.terms.specs.Judged.{setting, Stays, IsKeptSet}
 use Rattle.terms.specs.Failures.{IsOpenNeed, IsCauser}
-use Rattle.terms.specs.Install.{Installing, IsInstalled, Installs}
+use Rattle.terms.specs.Install.{Installation, TakesEffect, HasInstalled}
 use Rattle.machine.specs.Outcome.{Status, Already, Applied, Accepted, Superseded, Failed, Failure, Deleted, Missing}
 use Rattle.machine.specs.Outcome.{NoVer, NotApplied, Line, StatusLine}
 use Rattle.machine.specs.Receiving.{place_of}
@@ -53,7 +53,7 @@ pub record Decision : Type 0 where
   pub setting : Setting
   pub survivors : List Id
   pub kept : List Id
-  pub installing : Installing
+  pub installing : Installation
 
 -- They are those of the selection and BYPASS in this zone, with the related target zone of ACCEPT.
 pub record IsDecision (g : Global) (zone : Zone) (related : Option Zone) (sel : Selection) (bypass : Bypass)
@@ -98,8 +98,8 @@ not_chosen_status out.NotApplied = NotApplied
 
 -- The status of an id: installed, kept and superseded, failed, or named by the command and no candidate.
 pub data HasStatus (d : Decision) (sel : Selection) (x : Id) : Status → Type 0 where
-  IsIn : IsInstalled d.installing x → HasStatus d sel x (installed_status d.setting.zone.kind)
-  IsUnder : Contains d.kept x → (¬ IsInstalled d.installing x) → HasStatus d sel x Superseded
+  IsIn : TakesEffect d.installing x → HasStatus d sel x (installed_status d.setting.zone.kind)
+  IsUnder : Contains d.kept x → (¬ TakesEffect d.installing x) → HasStatus d sel x Superseded
   IsOff : (f : Failure) → Contains d.setting.cands x → (¬ Contains d.kept x)
       → IsFailure d.setting.cands d.kept (Fails d.setting) (IsEligible d.setting) (Needs d.setting d.survivors)
       (Serves d.setting.choice) x f
@@ -122,4 +122,4 @@ pub record InstallsSelected (g : Global) (zone : Zone) (related : Option Zone) (
   pub decision : Decision
   pub decides : IsDecision g zone related sel bypass date decision
   pub lines_are : AreInstallLines decision sel lines
-  pub installs : Installs decision.installing new
+  pub installs : HasInstalled decision.installing new

@@ -85,16 +85,16 @@ pub data Act : Type 0 where
   Define : ZoneDefinition → Act
 
 -- the state that is answered, or else the one that was there
-abbrev pub or_same : State → Result State ZoneFault → State
-or_same s (Ok new) = new
-or_same s (Err why) = s
+abbrev pub state_after : State → Result State ZoneFault → State
+state_after s (Ok new) = new
+state_after s (Err why) = s
 
 abbrev pub Steps : State → Act → State → List Outcome → Type 0
 Steps s Begin t outcomes = (t ≡ record s { boundary = None }) × (outcomes ≡ [])
 Steps s (Perform date files c) t outcomes = (outcome : Outcome) × Performs date files s c t outcome
     × (outcomes ≡ outcome ∷ [])
 Steps s (Faulty fault) t outcomes = (t ≡ s) × (outcomes ≡ Control fault ∷ [])
-Steps s (Define d) t outcomes = (t ≡ or_same s (define_zone s d)) × (outcomes ≡ [])
+Steps s (Define d) t outcomes = (t ≡ state_after s (define_zone s d)) × (outcomes ≡ [])
 
 -- an act with the text that it prints
 abbrev pub Prints : State → Act → State → List ℕ → Type 0

@@ -13,9 +13,9 @@ use Rattle.machine.specs.Outcome.{Unknown, Held, Replaced, Released, Line, Statu
 use Rattle.machine.specs.Runs.{Runs}
 
 -- the zone that is answered, or else the one that was there
-abbrev pub or_same : {E : Type 0} → Global → Result Global E → Global
-or_same g (Ok new) = new
-or_same g (Err why) = g
+abbrev pub global_after : {E : Type 0} → Global → Result Global E → Global
+global_after g (Ok new) = new
+global_after g (Err why) = g
 
 -- the type of a received SYSMOD
 abbrev pub place_of : Global → Id → Place
@@ -43,7 +43,7 @@ AssignsId source g x new lines =
 abbrev pub TakesItem : Option Text → Global → Item → Global → List Line → Type 0
 TakesItem source g (ASysmod s) new lines =
     (answer : Result Global ReceiveFault) × Receives g (sourced source s) answer
-    × (new ≡ or_same g answer) × (lines ≡ StatusLine s.id (OfKind s.kind) (receive_status answer) ∷ [])
+    × (new ≡ global_after g answer) × (lines ≡ StatusLine s.id (OfKind s.kind) (receive_status answer) ∷ [])
 TakesItem source g (AnAssign a) new lines = Runs (AssignsId a.source) g a.to new lines
 
 abbrev pub hold_status : Global → Hold → Status
@@ -59,4 +59,5 @@ abbrev pub TakesHoldItem : Global → HoldItem → Global → List Line → Type
 TakesHoldItem g (AHold h) new lines =
     (new ≡ hold g h) × (lines ≡ StatusLine h.id (OfHold h.kind) (hold_status g h) ∷ [])
 TakesHoldItem g (ARelease r) new lines =
-    (new ≡ or_same g (release g r)) × (lines ≡ StatusLine r.id (OfHold r.kind) (release_status r (release g r)) ∷ [])
+    (new ≡ global_after g (release g r))
+    × (lines ≡ StatusLine r.id (OfHold r.kind) (release_status r (release g r)) ∷ [])

@@ -5,7 +5,7 @@ use Rattle.terms.specs.declared.codes.IdRefusal.TheVariants as refusal
 use Rattle.terms.specs.Types.{Id, Global, NamedZone}
 use Rattle.terms.specs.Global.{RejectFault, Rj1, Rj2, reject}
 use Rattle.machine.specs.Outcome.{Status, Rejected, RefusedId, Line, StatusLine}
-use Rattle.machine.specs.Receiving.{or_same, place_of}
+use Rattle.machine.specs.Receiving.{global_after, place_of}
 
 abbrev pub reject_status : Result Global RejectFault → Status
 reject_status (Ok new) = Rejected
@@ -15,4 +15,5 @@ reject_status (Err Rj2) = RefusedId refusal.Rj2
 -- One id, in whose line stands the type that the SYSMOD had.
 abbrev pub RejectsId : List NamedZone → Global → Id → Global → List Line → Type 0
 RejectsId zones g x new lines =
-    (new ≡ or_same g (reject g zones x)) × (lines ≡ StatusLine x (place_of g x) (reject_status (reject g zones x)) ∷ [])
+    (new ≡ global_after g (reject g zones x))
+    × (lines ≡ StatusLine x (place_of g x) (reject_status (reject g zones x)) ∷ [])

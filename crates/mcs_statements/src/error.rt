@@ -8,8 +8,8 @@ use thiserror::Error;
 pub enum McsError {
     #[error("out of memory")]
     Memory,
-    #[error("record {record} is at fault")]
-    Fault { record: usize, code: McCode },
+    #[error("record {number} is at fault")]
+    Fault { number: usize, code: McCode },
 }
 
 impl From<AllocError> for McsError {

@@ -14,7 +14,7 @@ pub fn error_at(number: usize, error: StatementError) -> McsError
     match error {
         StatementError::Memory => McsError::Memory,
         StatementError::Fault(code) => McsError::Fault {
-            record: number,
+            number,
             code,
         },
     }
@@ -29,14 +29,14 @@ pub fn statements(bytes: &[u8]) -> Result<Groups<'_>, McsError>
         Ok(file) => file,
         Err(error) => {
             return Err(McsError::Fault {
-                record: error.record(),
+                number: error.record(),
                 code: McCode::Mc1,
             });
         }
     };
     let Ok(groups) = file.groups() else {
         return Err(McsError::Fault {
-            record: 1,
+            number: 1,
             code: McCode::Mc4,
         });
     };

@@ -10,7 +10,7 @@ use Rattle.machine.specs.Runs.{Runs, Ran, Stopped, BrokeOff}
 use Rattle.machine.proofs.Joined.{stopped-after, stopped-more, broke-after, broke-more}
 use Rattle.store_schema.specs.declared.error.StoreError.TheVariants as store
 use Rattle.report.specs.Sent.{WrotePart}
-use Rattle.store.specs.Kept.{kept, Keeps, Stays}
+use Rattle.store.specs.Kept.{kept, Keeps, IsStopped}
 use Rattle.store.specs.View.{Tables, TablesIfOpen, Leaves}
 use Rattle.smpe.specs.declared.error.JobError.{JobError}
 use Rattle.smpe.specs.declared.error.JobError.TheVariants.{Memory, Store, Write}
@@ -18,7 +18,7 @@ use Rattle.smpe.specs.Ending.{EndsEarly, EndsAmong}
 
 module _ {S : Type 0} (g : Ghosts S) (at : Held S) (s : State) where
   -- the first of these acts had no effect
-  pub stopped-first : (a : Act) (more : List Act) (taken : Option (List ℕ)) → Stays g at s a
+  pub stopped-first : (a : Act) (more : List Act) (taken : Option (List ℕ)) → IsStopped g at s a
       → Stopped Prints kept s (a ∷ more) (TablesIfOpen g at) (Leaves g at) taken taken
   stopped-first a more taken stays = record {
     done = [];

@@ -16,12 +16,12 @@ use Rattle.machine.specs.Outcome.{ControlFault, Control}
 use Rattle.machine.specs.Report.{text}
 use Rattle.machine.specs.Machine as machine
 use Rattle.machine.specs.Machine.{Files, Act, Begin, Perform, Faulty, Define, Prints, Job, RunFiles, NewZone, HasActs}
-use Rattle.machine.specs.Machine.{AreFirstActs, RunsJob, Code, or_same, defined}
+use Rattle.machine.specs.Machine.{AreFirstActs, RunsJob, Code, state_after, defined}
 use Rattle.machine.specs.Runs.{Stopped}
 use Rattle.store_schema.specs.declared.error.StoreError.{StoreError}
 use Rattle.store_schema.specs.declared.error.StoreError.TheVariants as store
 use Rattle.report.specs.Sent.{WrotePart}
-use Rattle.store.specs.Kept.{kept, Keeps, Stays}
+use Rattle.store.specs.Kept.{kept, Keeps, IsStopped}
 use Rattle.store.specs.View.{TablesIfOpen, Leaves}
 use Rattle.smpe_session.specs.declared.session.Session.{Session}
 use Rattle.smpe_session.specs.Sessions.{HasBegun}
@@ -156,7 +156,7 @@ module _ {S : Type 0} (g : Ghosts S) (at : Held S) (s : State) where
     )
 
   module _ (d : ZoneDefinition) (taken : Option (List ℕ)) where
-    runs-define : (t : State) (answer : machine.Answer) → t ≡ or_same s (define_zone s d)
+    runs-define : (t : State) (answer : machine.Answer) → t ≡ state_after s (define_zone s d)
         → answer ≡ defined (define_zone s d) → RunsJob s (NewZone d) t [] answer
     runs-define t answer leads told = record {
       acts = Define d ∷ [];
@@ -172,7 +172,7 @@ module _ {S : Type 0} (g : Ghosts S) (at : Held S) (s : State) where
     define-done t is keeps = (
       t,
       [],
-      runs-define t machine.Defined (sym (ap (or_same s) is)) (sym (ap defined is)),
+      runs-define t machine.Defined (sym (ap (state_after s) is)) (sym (ap defined is)),
       keeps,
       Appends-nil taken,
     )
@@ -190,13 +190,13 @@ module _ {S : Type 0} (g : Ghosts S) (at : Held S) (s : State) where
         by_fault (is, keeps) = (
           s,
           [],
-          runs-define s (machine.NotDefined (fault_of why)) (sym (ap (or_same s) is))
+          runs-define s (machine.NotDefined (fault_of why)) (sym (ap (state_after s) is))
               (sym (ap defined is)),
           keeps,
           Appends-nil taken,
         )
 
-    unbegun-definition : Stays g at s (Define d) → (acts : List Act) × AreFirstActs (NewZone d ∷ []) acts
+    unbegun-definition : IsStopped g at s (Define d) → (acts : List Act) × AreFirstActs (NewZone d ∷ []) acts
         × Stopped Prints kept s acts (TablesIfOpen g at) (Leaves g at) taken taken
     unbegun-definition stays = (
       Define d ∷ [],

@@ -28,7 +28,7 @@ use Rattle.lemmas.proofs.Searches.{find-gives}
 use Rattle.machine.specs.Outcome.{Status, Failure, Failed, Line}
 use Rattle.machine.specs.Installing.{Decision, IsDecision, IsDecided, IsFailure, HasStatus, IsIn, IsUnder, IsOff, IsOut}
 use Rattle.machine.specs.Installing.{AreInstallLines, installed_status, not_chosen_status}
-use Rattle.terms.specs.Install.{IsInstalled}
+use Rattle.terms.specs.Install.{TakesEffect}
 use Rattle.change.proofs.Installable.{replaces, supersedes_none}
 use Rattle.smpe_apply.specs.Statuses.{kept_statuses, failed_statuses, left_out_statuses, all_statuses, AreById}
 use Rattle.smpe_apply.proofs.ById.{rises_by_id}
@@ -134,7 +134,7 @@ module _ (g : Global) (zone : Zone) (sel : Selection) (date : Text) (cands kept 
   }
 
   -- nothing kept is superseded
-  installed : (x : Id) → Contains kept x → IsInstalled decision.installing x
+  installed : (x : Id) → Contains kept x → TakesEffect decision.installing x
   installed x h = record {
     kept = h;
     first = λ y there other.

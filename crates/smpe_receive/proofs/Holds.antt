@@ -4,7 +4,7 @@ use Rattle.std.proofs.Common.{Result, Ok, Err, OnOk, OnErr, IfErr, if◌then◌e
 use Rattle.std.proofs.lemmas.List.Elements.{All-head, All-tail}
 use Rattle.terms.specs.Types.{Id, Hold, Release, Global}
 use Rattle.terms.specs.Global.{Rl2, hold_of, marked, hold, without_hold, release_found, release}
-use Rattle.machine.specs.Receiving.{or_same}
+use Rattle.machine.specs.Receiving.{global_after}
 use Rattle.sysmods_holds.specs.declared.holds.ReleaseError.{ReleaseError}
 use Rattle.sysmods.specs.Faults.{a_release, release_fault}
 use Rattle.sysmods.specs.declared.edit.GlobalEdit.TheVariants.{PutHold, RemoveHold}
@@ -21,18 +21,20 @@ pub marked-written : (g : Global) (h copy : Hold) → copy ≡ marked (hold_of g
 marked-written g h copy is = ap (λ c. with_hold c g) is
 
 -- what is left where a hold is released
-released : (g new : Global) (r : Release) (o : Option Hold) → release_found g r o ≡ Ok new → new ≡ without_hold g r
+released : (g new : Global) (r : Release) (o : Option Hold) → release_found g r o ≡ Ok new
+    → new ≡ without_hold r.id r.kind r.reason g
 released g new r None e = cc
 released g new r (Some h) e = by h.internal e
   where
-    by : (b : Bool) → (if b then Err Rl2 else Ok (without_hold g r)) ≡ Ok new → new ≡ without_hold g r
+    by : (b : Bool) → (if b then Err Rl2 else Ok (without_hold r.id r.kind r.reason g)) ≡ Ok new
+      → new ≡ without_hold r.id r.kind r.reason g
     by true e = cc
     by false e = cc
 
 -- what a release is told by, and written by
 pub record IsReleased (g new : Global) (r : Release) (answer : Result (Unit {0}) ReleaseError) : Type 0 where
   pub answers : release g r ≡ release_answer new answer
-  pub leads : new ≡ or_same g (release g r)
+  pub leads : new ≡ global_after g (release g r)
   pub fits : EachFits (release_edits r.id r.kind r.reason answer) g
   pub after : after_edits (release_edits r.id r.kind r.reason answer) g ≡ new
 
@@ -44,7 +46,7 @@ release_taken g new r (Ok done) ok refused err =
     let is : release g r ≡ Ok new = ok r.fmid in
     record {
       answers = is;
-      leads = sym (ap (or_same g) is);
+      leads = sym (ap (global_after g) is);
       fits = fits-one g (RemoveHold r.id r.kind r.reason) tt;
       after = sym (released g new r (hold_of g r.id r.kind r.reason) is);
     }
@@ -52,7 +54,7 @@ release_taken g new r (Err why) ok refused err =
     let is : release g r ≡ Err (release_fault why) = refused r.fmid in
     record {
       answers = is;
-      leads = err ∙ sym (ap (or_same g) is);
+      leads = err ∙ sym (ap (global_after g) is);
       fits = fits-none g;
       after = sym err;
     }

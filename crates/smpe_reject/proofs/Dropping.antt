@@ -13,13 +13,13 @@ use Rattle.terms.specs.declared.kinds.HoldKind.TheVariants.{System}
 use Rattle.terms.specs.Types.{Id, Hold, Global, hold_number}
 use Rattle.terms.specs.Rising.{Rises}
 use Rattle.terms.specs.Lookups.{is_received, holds_of}
-use Rattle.terms.specs.Global.{IsGlobal, has_key, hold_cmp, without_sysmod}
+use Rattle.terms.specs.Global.{IsGlobal, has_key, hold_cmp, without_hold, without_sysmod}
 use Rattle.lemmas.proofs.Searches.{filter-all}
 use Rattle.lemmas.proofs.Texts.{same_itself}
 use Rattle.terms.proofs.GlobalKept.{hold_cmp_total}
 use Rattle.terms.proofs.HoldOrder.{has_key-ties}
 use Rattle.sysmods.specs.declared.edit.GlobalEdit.TheVariants.{RemoveSysmod}
-use Rattle.sysmods.specs.Edits.{less_hold, after_edit, after_edits}
+use Rattle.sysmods.specs.Edits.{after_edit, after_edits}
 use Rattle.smpe_reject.specs.Rejections.{removal, edits_of, FitsAlways}
 
 module _ {X : Type 0} where
@@ -73,7 +73,7 @@ removals-make : (g : Global) (hs : List Hold) → after_edits (map removal hs) g
 removals-make g [] = ap (λ os. record g { holds = os }) (sym
     (filter-all (λ (o : Hold). true) g.holds (λ i d below. refl)))
 removals-make g (h ∷ hs) =
-    removals-make (less_hold h.id h.kind h.reason g) hs
+    removals-make (without_hold h.id h.kind h.reason g) hs
     ∙ ap (λ os. record g { holds = os }) (filter-twice (λ o. has_key_of o h) (λ o. list_any (has_key_of o) hs) g.holds)
 
 -- holds of one key in a list that rises are one

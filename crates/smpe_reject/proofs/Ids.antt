@@ -11,7 +11,7 @@ use Rattle.terms.specs.Types.{Text, Id, Global, Zone, NamedZone}
 use Rattle.terms.specs.Lookups.{is_received, is_applied}
 use Rattle.terms.specs.Global.{IsGlobal, RejectFault, Rj1, Rj2, reject, without_sysmod}
 use Rattle.machine.specs.Runs.{Runs}
-use Rattle.machine.specs.Receiving.{or_same}
+use Rattle.machine.specs.Receiving.{global_after}
 use Rattle.machine.proofs.Joined.{runs-append}
 use Rattle.machine.specs.Rejecting.{reject_status, RejectsId}
 use Rattle.report.specs.declared.outcome.Status.TheVariants.{Rejected}
@@ -47,7 +47,7 @@ module _ {S : Type 0} (zones : IndexMap Text Zone S) (g : Global) (x : Id) where
     edits_are = written;
     fits = edits-fit g x;
     after = edits-make g x known ∙ sym out;
-    leads = λ named alike. out ∙ sym (ap (or_same g) (answered named alike true false there free));
+    leads = λ named alike. out ∙ sym (ap (global_after g) (answered named alike true false there free));
     told = λ named alike. sym (ap reject_status (answered named alike true false there free));
   }
 

@@ -7,7 +7,7 @@ use Rattle.terms.specs.Types.{Text, Id, Hold, Global, Zone, NamedZone}
 use Rattle.terms.specs.Lookups.{holds_of, is_applied}
 use Rattle.terms.specs.Global.{reject}
 use Rattle.machine.specs.Runs.{Runs}
-use Rattle.machine.specs.Receiving.{or_same}
+use Rattle.machine.specs.Receiving.{global_after}
 use Rattle.machine.specs.Rejecting.{reject_status, RejectsId}
 use Rattle.report.specs.declared.outcome.Status.{Status}
 use Rattle.report.specs.declared.outcome.Line.{Line}
@@ -39,7 +39,7 @@ pub record IsAnswered {S : Type 0} (zones : IndexMap Text Zone S) (g : Global) (
   pub edits_are : later ≡ edits ++ own
   pub fits : All FitsAlways own
   pub after : after_edits own g ≡ new
-  pub leads : (named : List NamedZone) → AppliesAlike zones named → new ≡ or_same g (reject g named x)
+  pub leads : (named : List NamedZone) → AppliesAlike zones named → new ≡ global_after g (reject g named x)
   pub told : (named : List NamedZone) → AppliesAlike zones named → status_view status ≡ reject_status (reject g named x)
 
 -- The ids lead from g to new, and print these lines. The edits lead there too.

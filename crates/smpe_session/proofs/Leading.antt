@@ -13,7 +13,7 @@ use Rattle.sysmods.specs.Edits.{EachFits, after_edits}
 use Rattle.store.specs.Kept.{kept}
 use Rattle.smpe_session.specs.declared.session.Session.{Session}
 use Rattle.smpe_session.specs.Sessions.{IsSessionOf}
-use Rattle.smpe_session.specs.Steps.{LeadsTo}
+use Rattle.smpe_session.specs.Steps.{LeadsToGlobal}
 
 -- the change that is committed, and where it leads
 pub record LeadsBy (date : Text) (files : Files) (c : Command) (s : State) (new : Global) (edits : List GlobalEdit)
@@ -21,12 +21,12 @@ pub record LeadsBy (date : Text) (files : Files) (c : Command) (s : State) (new 
   pub fits : EachFits edits s.global
   pub makes : kept (record s { global = new }) ≡ record (kept s) { global = after_edits edits s.global }
   pub inventory : IsInventory (kept (record s { global = new }))
-  pub leads : LeadsTo date files c s new (record s { global = new }) lines
+  pub leads : LeadsToGlobal date files c s new (record s { global = new }) lines
 
 pub leads-by : (date : Text) (files : Files) (c : Command) (s : State) (old new : Global) (edits : List GlobalEdit)
     (lines : List Line) → s.global ≡ old
     → EachFits edits old → after_edits edits old ≡ new → IsInventory (kept (record s { global = new }))
-    → LeadsTo date files c s new (record s { global = new }) lines
+    → LeadsToGlobal date files c s new (record s { global = new }) lines
     → LeadsBy date files c s new edits lines
 leads-by date files c s old new edits lines global fits after inventory leads = record {
   fits = subst (EachFits edits) (sym global) fits;
@@ -44,7 +44,7 @@ headed date files c s t boundary outcome same performs = subst
     (λ b. Performs date files s c t (outcome (header_of c b))) (sym same) performs
 
 pub led : (date : Text) (files : Files) (c : Command) (s t : State) (new : Global) (boundary : Option Text)
-    (lines : List Line) → boundary ≡ s.boundary → LeadsTo date files c s new t lines
+    (lines : List Line) → boundary ≡ s.boundary → LeadsToGlobal date files c s new t lines
     → Performs date files s c t (Ran (header_of c boundary) lines)
 led date files c s t new boundary lines same leads = headed date files c s t boundary (λ h. Ran h lines) same
     leads.performs

@@ -17,15 +17,15 @@ use Rattle.report.specs.declared.outcome.Outcome.{Outcome}
 use Rattle.terms.specs.Types.{Text, Command}
 use Rattle.store.specs.declared.change.Change.{Change}
 use Rattle.store.specs.Changes.{Makes}
-use Rattle.store.specs.Kept.{kept, Keeps, Stays}
+use Rattle.store.specs.Kept.{kept, Keeps, IsStopped}
 use Rattle.store.specs.View.{Tables, TablesIfOpen, Leaves}
 use Rattle.smpe_session.specs.declared.session.Session.{Session}
 use Rattle.smpe_session.specs.Sessions.{HasBegun, HasPerformed}
 use Rattle.smpe_session.specs.Steps.{Unmoved, Unsettled, EndsUnmoved, EndsUnsettled, EndsStaying, HasLoaded}
-use Rattle.smpe_session.specs.Steps.{HasCommitted, HasRun}
+use Rattle.smpe_session.specs.Steps.{EndsCommitted, HasRun}
 
 module _ {S : Type 0} (g : Ghosts S) (at : Held S) (s : State) where
-  pub stays-unmoved : (a : Act) → Unmoved g at s → Stays g at s a
+  pub stays-unmoved : (a : Act) → Unmoved g at s → IsStopped g at s a
   stays-unmoved a un = record { now = un.now; crash = λ c left. inl (un.crash c left) }
 
   pub unmoved-kept : Keeps g at s → Unmoved g at s
@@ -76,7 +76,7 @@ module _ {S : Type 0} (g : Ghosts S) (at : Held S) (s : State) where
   -- where the commit of what a command leads to failed
   module _ (date : Text) (files : Files) (c : Command) (t : State) (outcome : machine.Outcome)
       (performs : Performs date files s c t outcome) where
-    stays-unsettled : Unsettled g at s t → Stays g at s (Perform date files c)
+    stays-unsettled : Unsettled g at s t → IsStopped g at s (Perform date files c)
     stays-unsettled un = record {
       now = un.now;
       crash = λ d left. elim (un.crash d left) [
@@ -108,9 +108,9 @@ module _ {S : Type 0} (g : Ghosts S) (at : Held S) (s : State) where
       in subst (λ q. HasLoaded g at s Found q) (sym (p.1 ∙ ap Err p.2)) un
 
   pub committed-err : (t : State) (r : Result Unit StoreError) (e : StoreError) → IsErrAnd r (λ y. y ≡ e)
-      → EndsUnsettled g at s t e → HasCommitted g at s t r
+      → EndsUnsettled g at s t e → EndsCommitted g at s t r
   committed-err t r e is un = let p = err_from_is_err_and r is
-      in subst (λ q. HasCommitted g at s t q) (sym (p.1 ∙ ap Err p.2)) un
+      in subst (λ q. EndsCommitted g at s t q) (sym (p.1 ∙ ap Err p.2)) un
 
   -- what the store keeps is an inventory
   pub kept-inventory : HasCleanDisk (state g at) → Keeps g at s → IsInventory (kept s)
@@ -165,7 +165,7 @@ module _ {S : Type 0} (g : Ghosts S) (old new : Held S) (s : State) where
         → ((i j : Inventory) → Makes change i j → IsInventory j → Tables g old i → (c : Inventory) → Leaves g new c
         → Leaves g old c ⊎ (j ≡ c))
         → IfErr result (λ e. (e ≡ Fault) ⊎ (e ≡ Memory))
-        → HasCommitted g new s t result
+        → EndsCommitted g new s t result
     committed (Ok x) ok durable err lost which = record {
       now = ok (kept s) (kept t) makes is keeps.now;
       crash = λ c left. sym (durable (kept s) (kept t) makes is keeps.now c left);

@@ -11,7 +11,7 @@ use Rattle.report.specs.declared.outcome.Outcome.{Outcome}
 use Rattle.report.specs.Views.{outcome_view}
 use Rattle.store_schema.specs.declared.error.StoreError.{StoreError}
 use Rattle.store_schema.specs.declared.error.StoreError.TheVariants.{Fault, Memory}
-use Rattle.store.specs.Kept.{Keeps, Stays}
+use Rattle.store.specs.Kept.{Keeps, IsStopped}
 use Rattle.smpe_session.specs.declared.session.Session.{Session}
 
 -- The session has the state's global zone and boundary, and zones of the state, among them the one that the boundary
@@ -26,14 +26,14 @@ module _ {S : Type 0} (g : Ghosts S) (at : Held S) (s : State) where
   -- The job has begun. No other error comes than want of memory and a fault of the store.
   abbrev pub HasBegun : Result Session StoreError → Type 0
   HasBegun (Ok session) = IsSessionOf (record s { boundary = None }) session × Keeps g at s
-  HasBegun (Err Fault) = Stays g at s Begin
-  HasBegun (Err Memory) = Stays g at s Begin
+  HasBegun (Err Fault) = IsStopped g at s Begin
+  HasBegun (Err Memory) = IsStopped g at s Begin
   HasBegun (Err _) = ⊥
 
   -- The command is performed, the tables stand for what it led to, and so does the session.
   abbrev pub HasPerformed : Session → Text → Files → Command → Result Outcome StoreError → Type 0
   HasPerformed session date files c (Ok outcome) =
       (t : State) × Performs date files s c t (outcome_view outcome) × IsSessionOf t session × Keeps g at t
-  HasPerformed session date files c (Err Fault) = Stays g at s (Perform date files c)
-  HasPerformed session date files c (Err Memory) = Stays g at s (Perform date files c)
+  HasPerformed session date files c (Err Fault) = IsStopped g at s (Perform date files c)
+  HasPerformed session date files c (Err Memory) = IsStopped g at s (Perform date files c)
   HasPerformed session date files c (Err _) = ⊥

@@ -11,7 +11,7 @@ use Rattle.machine.specs.State.{State, global_name, zone_named}
 use Rattle.store_schema.specs.Inventory.{Inventory}
 use Rattle.store_schema.specs.declared.error.StoreError.{StoreError}
 use Rattle.store_schema.specs.declared.error.StoreError.TheVariants.{Fault, Memory}
-use Rattle.store.specs.Kept.{kept, Keeps, Stays}
+use Rattle.store.specs.Kept.{kept, Keeps, IsStopped}
 use Rattle.store.specs.View.{TablesIfOpen, Leaves}
 use Rattle.smpe_session.specs.declared.session.Session.{Session}
 use Rattle.smpe_session.specs.Sessions.{IsSessionOf}
@@ -44,9 +44,9 @@ module _ {S : Type 0} (g : Ghosts S) (at : Held S) (s : State) where
   HasLoaded Found (Err error) = EndsUnmoved error
 
   -- The tables stand for t.
-  abbrev pub HasCommitted : State → Result Unit StoreError → Type 0
-  HasCommitted t (Ok x) = Keeps g at t
-  HasCommitted t (Err error) = EndsUnsettled t error
+  abbrev pub EndsCommitted : State → Result Unit StoreError → Type 0
+  EndsCommitted t (Ok x) = Keeps g at t
+  EndsCommitted t (Err error) = EndsUnsettled t error
 
 -- whether SET may name it
 abbrev pub is_known : List NamedZone → Text → Bool
@@ -72,8 +72,8 @@ pub record HasAllZones (s : State) (at : Session) : Type 0 where
 -- How a command ends that runs where it may, before its outcome is made of its lines.
 module _ {S : Type 0} (g : Ghosts S) (at : Held S) (s : State) (a : Act) where
   abbrev pub EndsStaying : StoreError → Type 0
-  EndsStaying Fault = Stays g at s a
-  EndsStaying Memory = Stays g at s a
+  EndsStaying Fault = IsStopped g at s a
+  EndsStaying Memory = IsStopped g at s a
   EndsStaying _ = ⊥
 
   -- The command leads to a state with these lines, and the tables stand for it.
@@ -82,7 +82,7 @@ module _ {S : Type 0} (g : Ghosts S) (at : Held S) (s : State) (a : Act) where
   HasRun LeadsTo lines (Err error) = EndsStaying error
 
 -- The command leads so to a state that has this global zone.
-pub record LeadsTo (date : Text) (files : Files) (c : Command) (s : State) (new : Global) (t : State)
+pub record LeadsToGlobal (date : Text) (files : Files) (c : Command) (s : State) (new : Global) (t : State)
     (lines : List Line) : Type 0 where
   pub state : t ≡ record s { global = new }
   pub performs : Performs date files s c t (Ran (header_of c s.boundary) lines)

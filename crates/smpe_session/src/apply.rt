@@ -14,7 +14,7 @@ ghost use Rattle.machine.specs.Machine.{Files};
 ghost use Rattle.report.specs.Views.{line_view};
 ghost use Rattle.store.specs.Kept.{kept, Keeps};
 ghost use Rattle.smpe_session.specs.Sessions.{IsSessionOf, HasPerformed};
-ghost use Rattle.smpe_session.specs.Steps.{HasCommitted};
+ghost use Rattle.smpe_session.specs.Steps.{EndsCommitted};
 ghost use Rattle.smpe_session.specs.Targets.{HasTarget, IsPlan};
 
 use crate::lines::or_nothing;
@@ -84,7 +84,7 @@ fn replace_zone<S: Alter>(
     ensures clean { HasCleanDisk (state S.Store store.new) → HasCleanDisk (state S.Store store.old) }
     ensures ended { (s t : State) (was : AZone) → Keeps S.Store store.old s
         → IsZoneChange name was zone (kept s) (kept t) → IsChanged delta was zone
-        → IsInventory (kept t) → IsSome (get bytes_eq zones.old name) → HasCommitted S.Store store.new s t result }
+        → IsInventory (kept t) → IsSome (get bytes_eq zones.old name) → EndsCommitted S.Store store.new s t result }
     ensures updates { OnOk result (Updates bytes_eq zones.old zones.new name (Some zone)) }
 {
     commit_change(store, &Change::Zone(name, delta))?;

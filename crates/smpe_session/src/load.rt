@@ -6,7 +6,7 @@ ghost use Rattle.machine.specs.State.{State, zone_named};
 ghost use Rattle.store_schema.specs.Inventory.{IsInventory};
 ghost use Rattle.store.specs.Changes.{Makes};
 ghost use Rattle.store.specs.Kept.{kept, Keeps};
-ghost use Rattle.smpe_session.specs.Steps.{HasLoaded, HasCommitted};
+ghost use Rattle.smpe_session.specs.Steps.{HasLoaded, EndsCommitted};
 
 use fields::ZoneName;
 use sqlite::Alter;
@@ -50,7 +50,7 @@ pub(crate) fn commit_change<S: Alter>(
     ensures clean { HasCleanDisk (state S.Store store.new) → HasCleanDisk (state S.Store store.old) }
     ensures ended { (s t : State) → Keeps S.Store store.old s → Makes change.now (kept s) (kept t)
         → IsInventory (kept t)
-        → HasCommitted S.Store store.new s t result }
+        → EndsCommitted S.Store store.new s t result }
 {
     store.commit(change)
 }

@@ -33,10 +33,7 @@ fn read_items(
     }
     match read_ptfin(alloc, ptfin) {
         Ok(found) => Ok(Ok(found)),
-        Err(McsError::Fault { record, code }) => Ok(Err(Refusal::Ptfin {
-            number: record,
-            code,
-        })),
+        Err(McsError::Fault { number, code }) => Ok(Err(Refusal::Ptfin { number, code })),
         Err(McsError::Memory) => Err(AllocError),
     }
 }
@@ -54,12 +51,7 @@ fn read_holds(
     }
     match read_hold(alloc, holds) {
         Ok(found) => Ok(Ok(found)),
-        Err(
-            McsError::Fault {
-                record: number,
-                code,
-            },
-        ) => Ok(Err(Refusal::HoldFile { number, code })),
+        Err(McsError::Fault { number, code }) => Ok(Err(Refusal::HoldFile { number, code })),
         Err(McsError::Memory) => Err(AllocError),
     }
 }

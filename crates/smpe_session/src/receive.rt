@@ -14,7 +14,7 @@ ghost use Rattle.smpe_receive.specs.External.{IsExternal};
 ghost use Rattle.report.specs.Views.{line_view};
 ghost use Rattle.store.specs.Kept.{Keeps};
 ghost use Rattle.smpe_session.specs.Sessions.{IsSessionOf, HasPerformed};
-ghost use Rattle.smpe_session.specs.Steps.{HasRun, LeadsTo};
+ghost use Rattle.smpe_session.specs.Steps.{HasRun, LeadsToGlobal};
 ghost use Rattle.smpe_session.specs.Received.{AreTaken};
 
 use crate::boundary::unless_global;
@@ -91,7 +91,7 @@ fn take_items<S: Alter>(
         → HasItems IsPtfin what.sysmods files.ptfin (items found.items.items)
         → HasItems IsHoldFile what.holddata files.holds (hold_items found.holds.items)
         → HasRun S.Store store.new s (Perform date files (Receive what))
-        (LeadsTo date files (Receive what) s global.new) (λ v. map line_view v.items) result }
+        (LeadsToGlobal date files (Receive what) s global.new) (λ v. map line_view v.items) result }
 {
     let Taken { edits, lines } = take_found(alloc, global, found, source)?;
     let lines = or_nothing(lines)?;

@@ -11,7 +11,7 @@ ghost use Rattle.smpe_reject.specs.Rejections.{AppliesAlike};
 ghost use Rattle.report.specs.Views.{line_view};
 ghost use Rattle.store.specs.Kept.{Keeps};
 ghost use Rattle.smpe_session.specs.Sessions.{IsSessionOf, HasPerformed};
-ghost use Rattle.smpe_session.specs.Steps.{AreSought, HasAllZones, HasLoaded, HasRun, LeadsTo};
+ghost use Rattle.smpe_session.specs.Steps.{AreSought, HasAllZones, HasLoaded, HasRun, LeadsToGlobal};
 
 use crate::boundary::unless_global;
 use crate::load::{commit_change, load_names};
@@ -48,7 +48,7 @@ fn reject_ids<S: Alter>(
         → AppliesAlike zones.now s.zones → Keeps S.Store store.old s
         → (date : Text) (files : Files) → misplaced s (Reject ids.now) ≡ None
         → HasRun S.Store store.new s (Perform date files (Reject ids.now))
-        (LeadsTo date files (Reject ids.now) s global.new) (λ v. map line_view v.items) result }
+        (LeadsToGlobal date files (Reject ids.now) s global.new) (λ v. map line_view v.items) result }
 {
     let Rejected { edits, lines } = reject(alloc, global, zones, ids)?;
     commit_change(store, &Change::Global(edits))?;

@@ -21,7 +21,7 @@ use Rattle.sysmods.proofs.Receiving.{kept}
 use Rattle.store_schema.specs.Forms.{HasSysmodForms, HasHoldForms}
 use Rattle.store_schema.specs.Inventory.{Inventory, IsInventory}
 use Rattle.machine.specs.Outcome.{Line}
-use Rattle.machine.specs.Receiving.{or_same}
+use Rattle.machine.specs.Receiving.{global_after}
 use Rattle.machine.specs.Runs.{Runs}
 
 -- what stands in a global zone has its forms
@@ -85,21 +85,22 @@ hold_forms g h forms own has = record {
 pub external_owned : (g : Global) (h : Hold) → h.internal ≡ false → IsOwned g h
 external_owned g h external = λ internal. absurd (true≢false (sym internal ∙ external))
 
-pub release_forms : (g : Global) (r : Release) → HasGlobalForms g → HasGlobalForms (or_same g (release g r))
+pub release_forms : (g : Global) (r : Release) → HasGlobalForms g → HasGlobalForms (global_after g (release g r))
 release_forms g r has = found (hold_of g r.id r.kind r.reason)
   where
-    without : HasGlobalForms (without_hold g r)
+    without : HasGlobalForms (without_hold r.id r.kind r.reason g)
     without = record {
-      is_global = without_hold-kept g r has.is_global;
+      is_global = without_hold-kept g r.id r.kind r.reason has.is_global;
       sysmods = has.sysmods;
       holds = All-filter (λ h. not (has_key r.id r.kind r.reason h)) HasHoldForms g.holds has.holds;
     }
 
-    released : (internal : Bool) → HasGlobalForms (or_same g (if internal then Err Rl2 else Ok (without_hold g r)))
+    released : (internal : Bool)
+      → HasGlobalForms (global_after g (if internal then Err Rl2 else Ok (without_hold r.id r.kind r.reason g)))
     released true = has
     released false = without
 
-    found : (o : Option Hold) → HasGlobalForms (or_same g (release_found g r o))
+    found : (o : Option Hold) → HasGlobalForms (global_after g (release_found g r o))
     found None = has
     found (Some h) = released h.internal
 
@@ -172,7 +173,7 @@ received_forms g s forms is held good has = record {
 
 -- A SYSMOD that is rejected goes with its internal holds.
 pub rejected_forms : (g : Global) (zones : List NamedZone) (x : Id) → HasGlobalForms g
-    → HasGlobalForms (or_same g (reject g zones x))
+    → HasGlobalForms (global_after g (reject g zones x))
 rejected_forms g zones x has = by (is_received g x) (list_any (λ (z : NamedZone). is_applied z.zone x) zones)
   where
     without : HasGlobalForms (without_sysmod g x)
@@ -182,7 +183,8 @@ rejected_forms g zones x has = by (is_received g x) (list_any (λ (z : NamedZone
       holds = All-filter (λ h. not (h.internal && bytes_eq h.id x)) HasHoldForms g.holds has.holds;
     }
 
-    by : (there applied : Bool) → HasGlobalForms (or_same g (if not there then Err Rj2 else if applied then Err Rj1 else
+    by : (there applied : Bool)
+      → HasGlobalForms (global_after g (if not there then Err Rj2 else if applied then Err Rj1 else
         Ok (without_sysmod g x)))
     by false applied = has
     by true true = has

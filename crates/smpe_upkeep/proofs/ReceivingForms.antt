@@ -24,7 +24,7 @@ use Rattle.terms.proofs.Edits.{All-with_item, Rises-with_item}
 use Rattle.store_schema.specs.Forms.{AreListed, is_change_before, HasSysmodForms, HasHoldForms}
 use Rattle.store_schema.specs.Inventory.{Inventory, IsInventory}
 use Rattle.machine.specs.Outcome.{Line}
-use Rattle.machine.specs.Receiving.{sourced, or_same, AssignsId, TakesItem, TakesHoldItem}
+use Rattle.machine.specs.Receiving.{sourced, global_after, AssignsId, TakesItem, TakesHoldItem}
 use Rattle.machine.specs.Machine.{Files, HasItems}
 use Rattle.machine.specs.Runs.{Runs}
 use Rattle.smpe_upkeep.proofs.Lists.{each_alike}
@@ -95,7 +95,7 @@ is_sysmod s sources whole listed = record {
 
 taken_forms : (g : Global) (s : Sysmod) (answer : Result Global ReceiveFault) → HasSysmodForms s → IsSysmod s
     → AllByRecursion HasHoldForms s.holds
-    → HasGlobalForms g → Receives g s answer → HasGlobalForms (or_same g answer)
+    → HasGlobalForms g → Receives g s answer → HasGlobalForms (global_after g answer)
 taken_forms g s (Ok new) forms is held has (good, new_is) = subst HasGlobalForms (sym new_is)
     (received_forms g s forms is held good has)
 taken_forms g s (Err why) forms is held has refused = has

@@ -2,7 +2,7 @@
 use Rattle.std.proofs.Common.{◌≡◌, [], Ok, refl, sym, ap}
 use Rattle.terms.specs.Forms.{IsZoneName, IsSrel}
 use Rattle.machine.specs.State.{State, ZoneDefinition, define_zone}
-use Rattle.machine.specs.Machine.{Define, or_same, Prints}
+use Rattle.machine.specs.Machine.{Define, state_after, Prints}
 use Rattle.store_schema.specs.Inventory.{IsInventory}
 use Rattle.store.specs.declared.change.Change.TheVariants.{NewZone}
 use Rattle.store.specs.Changes.{Makes}
@@ -19,4 +19,4 @@ module _ (s t : State) (d : ZoneDefinition) (is : define_zone s d ≡ Ok t) (inv
   leads name srel = definition_kept s t d name srel is inventory
 
 pub prints-none : (s t : State) (d : ZoneDefinition) → define_zone s d ≡ Ok t → Prints s (Define d) t []
-prints-none s t d is = ([], (sym (ap (or_same s) is), refl), refl)
+prints-none s t d is = ([], (sym (ap (state_after s) is), refl), refl)

@@ -6,16 +6,16 @@ use Rattle.machine.specs.State.{State, ZoneDefinition}
 use Rattle.machine.specs.Machine.{Define}
 use Rattle.store_schema.specs.declared.error.StoreError.{StoreError}
 use Rattle.store_schema.specs.declared.error.StoreError.TheVariants.{Fault, Memory}
-use Rattle.store.specs.Kept.{Stays}
+use Rattle.store.specs.Kept.{IsStopped}
 use Rattle.smpe_zones.specs.declared.error.ZoneError.{ZoneError}
-use Rattle.smpe_zones.specs.Definitions.{HasDefined, told}
+use Rattle.smpe_zones.specs.Definitions.{HasDefined, zone_error}
 
 -- a fault of the store, or want of memory
 pub ends-early : {S U : Type 0} (g : Ghosts S) (at : Held S) (s : State) (d : ZoneDefinition) (e : StoreError)
-    (r : Result U ZoneError) → r ≡ Err (told e)
-    → (e ≡ Fault) ⊎ (e ≡ Memory) → Stays g at s (Define d) → HasDefined g at s d r
+    (r : Result U ZoneError) → r ≡ Err (zone_error e)
+    → (e ≡ Fault) ⊎ (e ≡ Memory) → IsStopped g at s (Define d) → HasDefined g at s d r
 ends-early {S = S} {U = U} g at s d e r is which stays = subst (HasDefined g at s d) (sym is) (by which)
   where
-    by : (e ≡ Fault) ⊎ (e ≡ Memory) → HasDefined {S = S} g at s d {U = U} (Err (told e))
-    by (inl fault) = subst (λ x. HasDefined {S = S} g at s d {U = U} (Err (told x))) (sym fault) stays
-    by (inr memory) = subst (λ x. HasDefined {S = S} g at s d {U = U} (Err (told x))) (sym memory) stays
+    by : (e ≡ Fault) ⊎ (e ≡ Memory) → HasDefined {S = S} g at s d {U = U} (Err (zone_error e))
+    by (inl fault) = subst (λ x. HasDefined {S = S} g at s d {U = U} (Err (zone_error x))) (sym fault) stays
+    by (inr memory) = subst (λ x. HasDefined {S = S} g at s d {U = U} (Err (zone_error x))) (sym memory) stays

@@ -9,7 +9,7 @@ use Rattle.machine.specs.State.{State, ZoneDefinition, define_zone}
 use Rattle.machine.specs.Machine.{Define}
 use Rattle.store_schema.specs.declared.error.StoreError.{StoreError}
 use Rattle.store_schema.specs.declared.error.StoreError.TheVariants as store
-use Rattle.store.specs.Kept.{Keeps, Stays}
+use Rattle.store.specs.Kept.{Keeps, IsStopped}
 use Rattle.smpe_zones.specs.declared.error.ZoneFault.{ZoneFault}
 use Rattle.smpe_zones.specs.declared.error.ZoneFault.TheVariants.{NameTaken, WrongRelated, OtherSrel, TooMany}
 use Rattle.smpe_zones.specs.declared.error.ZoneError.{ZoneError}
@@ -30,11 +30,11 @@ module _ {S : Type 0} (g : Ghosts S) (at : Held S) (s : State) (d : ZoneDefiniti
   abbrev pub HasDefined : {U : Type 0} → Result U ZoneError → Type 0
   HasDefined (Ok done) = (t : State) × (define_zone s d ≡ Ok t) × Keeps g at t
   HasDefined (Err (Refused why)) = (define_zone s d ≡ Err (fault_of why)) × Keeps g at s
-  HasDefined (Err (Store store.Fault)) = Stays g at s (Define d)
+  HasDefined (Err (Store store.Fault)) = IsStopped g at s (Define d)
   HasDefined (Err (Store _)) = ⊥
-  HasDefined (Err Memory) = Stays g at s (Define d)
+  HasDefined (Err Memory) = IsStopped g at s (Define d)
 
 -- how an error of the store is told
-abbrev pub told : StoreError → ZoneError
-told store.Memory = Memory
-told error = Store error
+abbrev pub zone_error : StoreError → ZoneError
+zone_error store.Memory = Memory
+zone_error error = Store error

@@ -33,9 +33,9 @@ pub enum ZoneError {
 
 impl From<StoreError> for ZoneError {
     ghost use Rattle.std.specs.Prelude.{◌≡◌};
-    ghost use Rattle.smpe_zones.specs.Definitions.{told};
+    ghost use Rattle.smpe_zones.specs.Definitions.{zone_error};
 
-    ghost from_gives = { λ error e. e ≡ told error };
+    ghost from_gives = { λ error e. e ≡ zone_error error };
 
     fn from(error: StoreError) -> ZoneError {
         match error {

@@ -14,7 +14,7 @@ use Rattle.solve.proofs.Passing.{clash}
 use Rattle.lemmas.proofs.Searches.{All-from_no_list_any}
 use Rattle.solve.proofs.Times.{times-from_Contains, Contains-from_times, Contains-from_is_in, is_in-from_Contains}
 use Rattle.terms.specs.Problem.{Problem, Demand, IsDemand, IsProblem, holds, IsSelfSupporting, IsGreatest}
-use Rattle.terms.specs.Causes.{HasFailed, LeadsTo, Steps, Reaches, IsRoot, IsCauser}
+use Rattle.terms.specs.Causes.{HasFailed, LeadsTo, LeadsThrough, LeadsOn, IsRoot, IsCauser}
 use Rattle.solve.specs.Rows.{row_at, times}
 use Rattle.solve.specs.Marks.{is_in}
 
@@ -61,7 +61,7 @@ appended old new list y once added x false away =
 pub causers-add : (p : Problem) (kept : List Bool) (old new : List (Vec ℕ Global)) (list : List ℕ) (y : ℕ)
     → IsRoot p kept y → length new ≡ length old
     → ((x : ℕ) → times x list ≤ 1)
-    → ((x : ℕ) → Contains list x ↔ Reaches p kept x y)
+    → ((x : ℕ) → Contains list x ↔ LeadsOn p kept x y)
     → ((x : ℕ) → row_at new x ≡ row_at old x ++ replicate (times x list) y)
     → AreCausersBelow p kept old y → AreCausersBelow p kept new (y + 1)
 causers-add p kept old new list y root size once reached added so_far =
@@ -90,7 +90,7 @@ causers-add p kept old new list y root size once reached added so_far =
             | inl same ↦ absurd (cc (
               away,
               is_in-from_Contains list x
-                  ((reached x).1 (subst (Reaches p kept x) same c.1.1)),
+                  ((reached x).1 (subst (LeadsOn p kept x) same c.1.1)),
             ))
             | inr other ↦ (so_far.exact x z).1 (omega arith, c.1)
           ]),

@@ -8,7 +8,7 @@ use Rattle.std.proofs.lemmas.List.{take-take, take_all, get_or-take, length-take
 use Rattle.std.proofs.lemmas.List.Elements.{All-nil, All-more, All-contains, All-weaker, Contains-get_or}
 use Rattle.std.proofs.lemmas.Bool.{cases_eq, or_right, or_cases}
 use Rattle.terms.specs.Problem.{Problem, holds}
-use Rattle.terms.specs.Causes.{LeadsTo, Steps, Reaches}
+use Rattle.terms.specs.Causes.{LeadsTo, LeadsThrough, LeadsOn}
 use Rattle.solve.specs.Parts.{count_of}
 use Rattle.solve.specs.Rows.{row_at, times, one_if}
 use Rattle.solve.specs.Marks.{AreLeads, AreClear, IsListOf, IsMarked, is_in}
@@ -28,7 +28,7 @@ pub record IsSpread (leads : List (Vec ℕ Global)) (y : ℕ) (marks : List Bool
   pub place : next ≤ length list
   pub start : IsTrue (holds marks y)
   pub reach : (p : Problem) (kept : List Bool) → AreLeads p kept leads → (x : ℕ) → IsTrue (holds marks x)
-      → Reaches p kept x y
+      → LeadsOn p kept x y
   pub done : All (λ z. AllMarked marks (row_at leads z)) (take next list)
 
 pub spread-start : (leads : List (Vec ℕ Global)) (y : ℕ) (old : List Bool) → length old ≡ length leads
@@ -119,7 +119,7 @@ spread-within leads y marks list next spread k d below =
 marked-steps : (p : Problem) (kept : List Bool) (leads : List (Vec ℕ Global)) (marks : List Bool)
     → AreLeads p kept leads
     → ((z : ℕ) → IsTrue (holds marks z) → AllMarked marks (row_at leads z))
-    → (x : ℕ) (steps : List ℕ) (y : ℕ) → Steps p kept x steps y → IsTrue (holds marks y) → IsTrue (holds marks x)
+    → (x : ℕ) (steps : List ℕ) (y : ℕ) → LeadsThrough p kept x steps y → IsTrue (holds marks y) → IsTrue (holds marks x)
 marked-steps p kept leads marks is closed x [] y same marked = subst (λ n. IsTrue (holds marks n)) (sym same) marked
 marked-steps p kept leads marks is closed x (z ∷ zs) y steps marked =
     let next = marked-steps p kept leads marks is closed z zs y steps.1 marked in
@@ -127,7 +127,7 @@ marked-steps p kept leads marks is closed x (z ∷ zs) y steps marked =
 
 pub spread_exact : (leads : List (Vec ℕ Global)) (y : ℕ) (marks : List Bool) (list : List ℕ) (next : ℕ)
     → length list ≤ next → IsSpread leads y marks list next
-    → (p : Problem) (kept : List Bool) → AreLeads p kept leads → (x : ℕ) → Contains list x ↔ Reaches p kept x y
+    → (p : Problem) (kept : List Bool) → AreLeads p kept leads → (x : ℕ) → Contains list x ↔ LeadsOn p kept x y
 spread_exact leads y marks list next end spread p kept is x =
     let closed : (z : ℕ) → IsTrue (holds marks z) → AllMarked marks (row_at leads z) = λ z marked.
     All-contains (λ w. AllMarked marks (row_at leads w)) list z

@@ -1,7 +1,7 @@
 ghost use Rattle.std.specs.Prelude.{◌≡◌, ◌<◌, ◌↔◌, ◌≤◌, ◌&&◌, ℕ, List, Bool, false, not, IfOk, OnOk, IsTrue, length};
 ghost use Rattle.std.specs.Prelude.{All, AllPairs, Contains};
 ghost use Rattle.terms.specs.Problem.{Problem, AreKept, holds};
-ghost use Rattle.terms.specs.Causes.{HasFailed, HasBareNeed, IsRoot, IsCauser, Reaches};
+ghost use Rattle.terms.specs.Causes.{HasFailed, HasBareNeed, IsRoot, IsCauser, LeadsOn};
 ghost use Rattle.solve.specs.Rows.{row_at, times};
 ghost use Rattle.solve.specs.Marks.{AreLeads, AreClear, IsListOf, IsMarked, is_in};
 
@@ -87,7 +87,7 @@ fn reaching(
     requires rows { (z : ℕ) → All (λ x. x < length leads.now) (row_at leads.now z) }
     ensures once { IfOk result (λ list. (x : ℕ) → times x list.items ≤ 1) }
     ensures exact { IfOk result (λ list. (p : Problem) (kept : List Bool) → AreLeads p kept leads.now →
-        (x : ℕ) → Contains list.items x ↔ Reaches p kept x y) }
+        (x : ℕ) → Contains list.items x ↔ LeadsOn p kept x y) }
     ensures within { IfOk result (λ list. All (λ x. x < length leads.now) list.items) }
     ensures clear { OnOk result (AreClear marks.new) }
 {

@@ -24,7 +24,7 @@ use Rattle.store.specs.declared.change.Change.TheVariants.{NewZone, Zone, Global
 use Rattle.sysmods.specs.declared.edit.GlobalEdit.{GlobalEdit}
 use Rattle.sysmods.specs.Edits.{EachFits, after_edits}
 use Rattle.store.specs.Changes.{Makes}
-use Rattle.store.specs.Writes.{HasEdited, Writes, HasCommitted, IsOutcome}
+use Rattle.store.specs.Writes.{HasEdited, Writes, CommitsChange, IsChangeOutcome}
 use Rattle.store.proofs.DeltaLemmas.{is_edited, zone_was}
 
 module _ {S : Type 0} (g : Ghosts S) (old new : Held S) where
@@ -62,9 +62,9 @@ module _ {S : Type 0} (g : Ghosts S) (old last done : Held S) (change : Change)
       record { tables = written i j makes was.inventory clean was.tables; inventory = inventory }
 
   pub crashed : Survives (state g last) (state g done) (λ db. db ≡ (state g last).now.trees)
-      → Survives (state g old) (state g done) (IsOutcome g old change)
+      → Survives (state g old) (state g done) (IsChangeOutcome g old change)
   crashed commit =
-      survives_then (state g old) (state g last) (state g done) (λ _. ⊥) _ (IsOutcome g old change)
+      survives_then (state g old) (state g last) (state g done) (λ _. ⊥) _ (IsChangeOutcome g old change)
       (λ _ db none. absurd none)
       (λ clean db is. (
         last.schema,
@@ -75,7 +75,8 @@ module _ {S : Type 0} (g : Ghosts S) (old last done : Held S) (change : Change)
       (survives_begin g old (state g last) (λ _. ⊥) inside.survives) commit
 
   pub committed : doubt (state g last).is_clean ≤ doubt (state g done).is_clean → HasCleanDisk (state g done)
-      → Shows (state g last) (state g done) (state g last).now (state g last).now false → HasCommitted g old change done
+      → Shows (state g last) (state g done) (state g last).now (state g last).now false
+      → CommitsChange g old change done
   committed falls late shows =
       let clean : HasCleanDisk (state g last) = omega (arith, falls, late) in
       let was_open = (inside.kept clean).was_open shows.was_open in

@@ -19,7 +19,7 @@ use Rattle.terms.specs.Types.{Text, Id, Hold, hold_number}
 use Rattle.terms.specs.Rising.{with_item}
 use Rattle.terms.specs.Spelling.{hold_text}
 use Rattle.terms.specs.Global as rule
-use Rattle.terms.specs.Global.{hold_cmp}
+use Rattle.terms.specs.Global.{hold_cmp, without_hold}
 use Rattle.terms.proofs.GlobalKept.{hold_cmp_total}
 use Rattle.terms.proofs.HoldOrder.{has_key-ties}
 use Rattle.store_rows.specs.Inside.{StaysInside, Leads, Turns}
@@ -36,7 +36,7 @@ use Rattle.store_holds.specs.Keys.{hold_key, key_row}
 use Rattle.store_sysmods.specs.Sysmods.{ChangesGlobal}
 use Rattle.sysmods.specs.declared.edit.GlobalEdit.{GlobalEdit}
 use Rattle.sysmods.specs.declared.edit.GlobalEdit.TheVariants.{PutHold, RemoveHold}
-use Rattle.sysmods.specs.Edits.{with_hold, less_hold, Fits, after_edit, EachFits, after_edits}
+use Rattle.sysmods.specs.Edits.{with_hold, Fits, after_edit, EachFits, after_edits}
 use Rattle.store.proofs.Parts.{put_parts}
 
 -- ---- the keys of holds
@@ -126,7 +126,7 @@ module _ {S : Type 0} (g : Ghosts S) (old new : Held S) where
       (λ global. after_edit global (RemoveHold x kind reason))
   hold_removed x kind reason turns i fits clean was =
       permuted store_schema (in_table hold_table (without (key_row x kind reason)) (rows_of i))
-      (rows_of (record i { global = less_hold x kind reason i.global })) (state g new).now (
+      (rows_of (record i { global = without_hold x kind reason i.global })) (state g new).now (
         IsPermutation-refl _,
         (
           IsPermutation-refl _,

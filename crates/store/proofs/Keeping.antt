@@ -8,7 +8,7 @@ use Rattle.machine.specs.Machine.{Act, Prints}
 use Rattle.store_schema.specs.Inventory.{Inventory, IsInventory}
 use Rattle.store_schema.specs.declared.error.StoreError.{StoreError}
 use Rattle.store_schema.specs.declared.error.StoreError.TheVariants.{Fault, OtherSchema, NoState, Memory}
-use Rattle.store.specs.Kept.{kept, Keeps, Stays}
+use Rattle.store.specs.Kept.{kept, Keeps, IsStopped}
 use Rattle.store.specs.View.{Tables, TablesIfOpen, Leaves}
 
 -- what is kept is an inventory
@@ -24,7 +24,7 @@ module _ {S : Type 0} (g : Ghosts S) (old new : Held S) (s : State) (keeps : Kee
 
   -- a load that failed
   pub stays-loaded : (a : Act) → (Tables g old (kept s) → TablesIfOpen g new (kept s))
-      → ((c : Inventory) → Leaves g new c → Leaves g old c) → Stays g new s a
+      → ((c : Inventory) → Leaves g new c → Leaves g old c) → IsStopped g new s a
   stays-loaded a err crash = record { now = err keeps.now; crash = λ c left. inl (keeps.crash c (crash c left)) }
 
   -- a commit, after which the tables stand for t
@@ -35,7 +35,7 @@ module _ {S : Type 0} (g : Ghosts S) (old new : Held S) (s : State) (keeps : Kee
   -- a commit that failed, of what the act leads to
   pub stays-uncommitted : (t : State) (a : Act) (text : List ℕ) → Prints s a t text
       → (Tables g old (kept s) → TablesIfOpen g new (kept s))
-      → (Tables g old (kept s) → (c : Inventory) → Leaves g new c → Leaves g old c ⊎ (kept t ≡ c)) → Stays g new s a
+      → (Tables g old (kept s) → (c : Inventory) → Leaves g new c → Leaves g old c ⊎ (kept t ≡ c)) → IsStopped g new s a
   stays-uncommitted t a text prints err crash = record {
     now = err keeps.now;
     crash = λ c left. elim (crash keeps.now c left) [

@@ -9,7 +9,7 @@ use Rattle.store_schema.specs.Stands.{StandsFor}
 use Rattle.store.specs.declared.change.Change.{Change}
 use Rattle.store.specs.Changes.{Makes}
 use Rattle.store.specs.View.{Tables, Leaves}
-use Rattle.store.specs.Writes.{HasCommitted, IsOutcome}
+use Rattle.store.specs.Writes.{CommitsChange, IsChangeOutcome}
 
 -- A crash of an open connection leaves what was last committed.
 pub leaves_committed : {S : Type 0} (g : Ghosts S) (at : Held S)
@@ -24,9 +24,9 @@ leaves_committed g at settled is_open i stands c left =
 
 -- At the exit of a commit a crash leaves what it left before, or the changed inventory.
 module _ {S : Type 0} (g : Ghosts S) (conn old new : Held S) (change : Change) (same : conn ≡ old)
-    (survives : Survives (state g conn) (state g new) (IsOutcome g conn change)) where
-  from_old : Survives (state g old) (state g new) (IsOutcome g old change)
-  from_old = subst (λ h. Survives (state g h) (state g new) (IsOutcome g h change)) same survives
+    (survives : Survives (state g conn) (state g new) (IsChangeOutcome g conn change)) where
+  from_old : Survives (state g old) (state g new) (IsChangeOutcome g old change)
+  from_old = subst (λ h. Survives (state g h) (state g new) (IsChangeOutcome g h change)) same survives
 
   pub leaves_either : (i j : Inventory) → Makes change i j → IsInventory j → Tables g old i → (c : Inventory)
       → Leaves g new c → Leaves g old c ⊎ (j ≡ c)
@@ -41,9 +41,9 @@ module _ {S : Type 0} (g : Ghosts S) (conn old new : Held S) (change : Change) (
 
   -- and once it has returned, the changed inventory alone
   pub leaves_changed : ((db : Trees) → IsTrue (state g new).is_open → (state g new).may_leave db
-      → db ≡ (state g new).committed.trees) → (HasCleanDisk (state g new) → HasCommitted g conn change new)
+      → db ≡ (state g new).committed.trees) → (HasCleanDisk (state g new) → CommitsChange g conn change new)
       → (i j : Inventory) → Makes change i j → IsInventory j → Tables g old i → (c : Inventory) → Leaves g new c → j ≡ c
   leaves_changed settled made i j makes inventory tables c left =
       let clean : HasCleanDisk (state g old) = omega (arith, from_old.clean, left.0) in
-      let done = subst (λ h. HasCommitted g h change new) same (made left.0) in
+      let done = subst (λ h. CommitsChange g h change new) same (made left.0) in
       leaves_committed g new settled done.is_open j (done.stands i j makes inventory (tables clean).1) c left

@@ -17,7 +17,7 @@ module _ {S : Type 0} (g : Ghosts S) (at : Held S) where
   Keeps s = Stands (Tables g at) (Leaves g at) (kept s)
 
   -- An act was begun and had no effect, or a crash may leave its effect. A fault may have shut the connection.
-  pub record Stays (s : State) (a : Act) : Type 0 where
+  pub record IsStopped (s : State) (a : Act) : Type 0 where
     pub now : TablesIfOpen g at (kept s)
     pub crash : (c : Inventory) → Leaves g at c → (c ≡ kept s)
         ⊎ ((m : State) × (text : List ℕ) × Prints s a m text × (c ≡ kept m))

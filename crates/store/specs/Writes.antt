@@ -50,15 +50,15 @@ module _ {S : Type 0} (g : Ghosts S) (old : Held S) (change : Change) where
       → Leads g old new (HasContents store_schema (rows_of i)) (HasContents store_schema (rows_of j))
 
   -- The last commit stands for the changed inventory.
-  pub record HasCommitted (new : Held S) : Type 0 where
+  pub record CommitsChange (new : Held S) : Type 0 where
     pub was_open : IsTrue (state g old).is_open
     pub is_open : IsTrue (state g new).is_open
     pub stands : (i j : Inventory) → Makes change i j → IsInventory j → StandsFor i (state g old).committed
         → StandsFor j (state g new).committed
 
   -- trees that stand for the changed inventory
-  abbrev pub IsOutcome : Trees → Type 0
-  IsOutcome db =
+  abbrev pub IsChangeOutcome : Trees → Type 0
+  IsChangeOutcome db =
       (schema : Schema)
       × ((i j : Inventory) → Makes change i j → IsInventory j → IsTrue (state g old).is_open
       → StandsFor i (state g old).committed → StandsFor j (record { schema = schema; trees = db }))

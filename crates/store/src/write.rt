@@ -4,7 +4,7 @@ ghost use Rattle.std.specs.Prelude.{◌≡◌, false, OnOk, OnErr};
 ghost use Rattle.sqlite.specs.Held.{state};
 ghost use Rattle.sqlite.specs.State.{HasCleanDisk, KeepsCommit, Survives};
 ghost use Rattle.store_rows.specs.Inside.{StaysInside};
-ghost use Rattle.store.specs.Writes.{Writes, HasCommitted, IsOutcome};
+ghost use Rattle.store.specs.Writes.{Writes, CommitsChange, IsChangeOutcome};
 
 use crate::change::Change;
 use crate::delta::write_delta;
@@ -38,10 +38,11 @@ pub(crate) fn commit_change<S: Alter>(
 ) -> Result<(), Error>
     requires { conn.old.in_transaction ≡ false }
     ensures made { HasCleanDisk (state S.Store conn.new) → OnOk result
-        (HasCommitted S.Store conn.old change.now conn.new) }
+        (CommitsChange S.Store conn.old change.now conn.new) }
     ensures kept { HasCleanDisk (state S.Store conn.new) → OnErr result
         (KeepsCommit (state S.Store conn.old) (state S.Store conn.new)) }
-    ensures crash { Survives (state S.Store conn.old) (state S.Store conn.new) (IsOutcome S.Store conn.old change.now) }
+    ensures crash { Survives (state S.Store conn.old) (state S.Store conn.new)
+        (IsChangeOutcome S.Store conn.old change.now) }
     ensures mode { conn.new.in_transaction ≡ false }
 {
     // So what the connection shows is what it last committed.

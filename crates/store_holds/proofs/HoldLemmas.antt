@@ -2,14 +2,14 @@
 use Rattle.std.proofs.Common.{◌≡◌, [], ◌∷◌, length, refl, sym}
 use Rattle.sqlite.specs.Order.{Row, column}
 use Rattle.terms.specs.Types.{Hold}
-use Rattle.store_rows.specs.Texts.{AreKept}
+use Rattle.store_rows.specs.Texts.{SuitColumns}
 use Rattle.store_rows.proofs.Values.{kept_optional, kept_whole}
 use Rattle.store_rows.proofs.ContentsLemmas.{columns_from}
 use Rattle.store_schema.specs.Rows.{hold_row}
 use Rattle.store_schema.specs.Tables.{hold}
 
 -- its columns keep it
-pub kept_hold : (h : Hold) → AreKept hold.columns (hold_row h)
+pub kept_hold : (h : Hold) → SuitColumns hold.columns (hold_row h)
 kept_hold h = (
   refl,
   (

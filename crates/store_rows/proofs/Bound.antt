@@ -7,7 +7,7 @@ use Rattle.sqlite.specs.Schema.{Schema}
 use Rattle.sqlite.specs.Table.{Table}
 use Rattle.store_rows.specs.Inside.{Turns}
 use Rattle.store_rows.specs.Rows.{HasContents, in_table, with_put, with_row, without}
-use Rattle.store_rows.specs.Texts.{AreKept}
+use Rattle.store_rows.specs.Texts.{SuitColumns}
 
 module _ {S : Type 0} (g : Ghosts S) (old new : Held S) (schema : Schema) (table : Table) where
   pub as_put : (key k row r : Row) → k ≡ key → r ≡ row → Turns g old new (HasContents schema) (with_put table k r)
@@ -22,5 +22,5 @@ module _ {S : Type 0} (g : Ghosts S) (old new : Held S) (schema : Schema) (table
       → Turns g old new (HasContents schema) (in_table table (with_row row))
   as_inserted row r e h = subst (λ a. Turns g old new (HasContents schema) (in_table table (with_row a))) e h
 
-pub kept_as : (table : Table) (row r : Row) → r ≡ row → AreKept table.columns row → AreKept table.columns r
-kept_as table row r e h = subst (AreKept table.columns) (sym e) h
+pub kept_as : (table : Table) (row r : Row) → r ≡ row → SuitColumns table.columns row → SuitColumns table.columns r
+kept_as table row r e h = subst (SuitColumns table.columns) (sym e) h

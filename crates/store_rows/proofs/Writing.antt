@@ -35,7 +35,7 @@ use Rattle.sqlite_rules.specs.Calls.{ids_of}
 use Rattle.sqlite_schema.specs.declared.program.Program.{Program}
 use Rattle.store_rows.specs.Rows.{shown, has_key, without, with_row, in_place, AreRows, Contents, HasContents, HaveNone}
 use Rattle.store_rows.specs.Rows.{in_table}
-use Rattle.store_rows.specs.Texts.{key_tests, scan_by, IsTableOf, AreKept, PutsIn, PutsInPlace, TakesOut}
+use Rattle.store_rows.specs.Texts.{key_tests, scan_by, IsTableOf, SuitColumns, PutsIn, PutsInPlace, TakesOut}
 use Rattle.store_rows.specs.Texts.{TakesOutParent, IsCascade, works_of_update}
 use Rattle.store_rows.proofs.RowLemmas.{filter_same, ids_shown}
 use Rattle.store_rows.proofs.Statements.{inserts, updates, deletes, puts_one, scans}
@@ -53,13 +53,13 @@ cast_null : cast Integer Null ≡ Null
 unfolding unary
 cast_null = cond-same _ Null
 
-pub kept_length : (columns : List Column) (row : Row) → AreKept columns row → length columns ≡ length row
+pub kept_length : (columns : List Column) (row : Row) → SuitColumns columns row → length columns ≡ length row
 kept_length [] [] h = refl
 kept_length [] (v ∷ row) h = absurd h
 kept_length (c ∷ columns) [] h = absurd h
 kept_length (c ∷ columns) (v ∷ row) h = ap suc (kept_length columns row h.1)
 
-pub kept_cast : (columns : List Column) (row : Row) → AreKept columns row → cast_all columns row ≡ row
+pub kept_cast : (columns : List Column) (row : Row) → SuitColumns columns row → cast_all columns row ≡ row
 kept_cast [] [] h = refl
 kept_cast [] (v ∷ row) h = absurd h
 kept_cast (c ∷ columns) [] h = absurd h
@@ -80,7 +80,7 @@ length_terms : (n : ℕ) → length (lit Null ∷ map (col 0) (range_with_len 0 
 length_terms n = omega (arith, length-map-range_with_len (col 0) 0 n)
 
 pub put_in : (schema : Schema) (at : ℕ) (table : Table) (sql : List ℕ) (row : Row) (old new : State) (count : ℕ)
-    (contents : Contents) → PutsIn schema at table sql → AreKept table.columns row
+    (contents : Contents) → PutsIn schema at table sql → SuitColumns table.columns row
     → HasContents schema contents old.now → Executes sql row old new (Ok count)
     → HasContents schema (in_table table (with_row row) contents) new.now
 put_in schema at table sql row old new count contents text kept was h =
@@ -243,7 +243,7 @@ free_of schema table db free (x ∷ found) =
     (updates_free schema table.tree (taken_by db edit) one more (free (taken_by db edit) (one ∷ more)))
 
 pub put_in_place : (schema : Schema) (at : ℕ) (table : Table) (width : ℕ) (sql : List ℕ) (row : Row) (old new : State)
-    (count : ℕ) (contents : Contents) → PutsInPlace schema at table width sql → AreKept table.columns row
+    (count : ℕ) (contents : Contents) → PutsInPlace schema at table width sql → SuitColumns table.columns row
     → HasContents schema contents old.now → Executes sql row old new (Ok count)
     → HasContents schema (in_table table (in_place (take width row) row) contents) new.now
 put_in_place schema at table width sql row old new count contents text kept was h =

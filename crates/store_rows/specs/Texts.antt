@@ -26,11 +26,11 @@ use Rattle.sqlite_rules.specs.Lists.{Has}
 use Rattle.sqlite_value.specs.Keys.{first_key}
 
 -- each value is one that its column keeps as it is
-abbrev pub AreKept : List Column → Row → Type 0
-AreKept [] [] = Unit {0}
-AreKept [] (v ∷ values) = ⊥
-AreKept (c ∷ columns) [] = ⊥
-AreKept (c ∷ columns) (v ∷ values) = (cast c.kind v ≡ v) × AreKept columns values
+abbrev pub SuitColumns : List Column → Row → Type 0
+SuitColumns [] [] = Unit {0}
+SuitColumns [] (v ∷ values) = ⊥
+SuitColumns (c ∷ columns) [] = ⊥
+SuitColumns (c ∷ columns) (v ∷ values) = (cast c.kind v ≡ v) × SuitColumns columns values
 
 -- the first columns are the parameters
 abbrev pub key_tests : ℕ → ℕ → List Term

@@ -9,7 +9,7 @@ ghost use Rattle.sqlite.specs.Table.{Table};
 ghost use Rattle.store_rows.specs.Inside.{StaysInside, Turns};
 ghost use Rattle.store_rows.specs.Rows.{Contents, HasContents, HaveNone, in_table, with_row, with_put, in_place};
 ghost use Rattle.store_rows.specs.Rows.{without};
-ghost use Rattle.store_rows.specs.Texts.{AreKept, PutsIn, PutsInPlace, TakesOut, TakesOutParent};
+ghost use Rattle.store_rows.specs.Texts.{SuitColumns, PutsIn, PutsInPlace, TakesOut, TakesOutParent};
 
 use sqlite::{Alter, Error, Transaction};
 use sqlite_value::value::ValueRef;
@@ -23,7 +23,7 @@ pub fn insert<S: Alter>(
     ensures same_reference { tx.new.conn.ghost_name ≡ tx.old.conn.ghost_name }
     ensures inside { StaysInside S.Store tx.old.conn.now tx.new.conn.now }
     ensures ok { OnOk result ((schema : Schema) (at : ℕ) (table : Table) → PutsIn schema at table sql.now
-        → AreKept table.columns (bound row.now)
+        → SuitColumns table.columns (bound row.now)
         → Turns S.Store tx.old.conn.now tx.new.conn.now (HasContents schema)
         (in_table table (with_row (bound row.now)))) }
 {
@@ -61,7 +61,7 @@ pub fn put<S: Alter>(
     ensures inside { StaysInside S.Store tx.old.conn.now tx.new.conn.now }
     ensures ok { OnOk result ((schema : Schema) (at : ℕ) (table : Table)
         → TakesOut schema at table (length key.now) removes.now → PutsIn schema at table inserts.now
-        → AreKept table.columns (bound row.now)
+        → SuitColumns table.columns (bound row.now)
         → Turns S.Store tx.old.conn.now tx.new.conn.now (HasContents schema)
         (with_put table (bound key.now) (bound row.now))) }
 {
@@ -80,7 +80,7 @@ pub fn replace<S: Alter>(
     ensures same_reference { tx.new.conn.ghost_name ≡ tx.old.conn.ghost_name }
     ensures inside { StaysInside S.Store tx.old.conn.now tx.new.conn.now }
     ensures ok { OnOk result ((schema : Schema) (at : ℕ) (table : Table) (width : ℕ)
-        → PutsInPlace schema at table width sql.now → AreKept table.columns (bound columns.now)
+        → PutsInPlace schema at table width sql.now → SuitColumns table.columns (bound columns.now)
         → Turns S.Store tx.old.conn.now tx.new.conn.now (HasContents schema)
         (in_table table (in_place (take width (bound columns.now)) (bound columns.now)))) }
 {

@@ -7,26 +7,27 @@ use Rattle.sqlite_value.specs.Value.{owned}
 use Rattle.sqlite.specs.Values.{or_null, bound_value}
 use Rattle.terms.specs.Types.{Text, Id, Action, Replaces, Updates, Ver, IfReq, Change, Sysmod}
 use Rattle.terms.specs.Spelling.{kind_text, type_text}
-use Rattle.store_rows.specs.Texts.{AreKept}
+use Rattle.store_rows.specs.Texts.{SuitColumns}
 use Rattle.store_rows.proofs.Values.{kept_optional, kept_whole, bound_optional}
 use Rattle.store_schema.specs.Rows.{flag, records, action_cells, sysmod_row, ver_row, ifreq_row, elem_row}
 use Rattle.store_schema.specs.Tables.{sysmod, ver, ifreq, elem}
 use Rattle.store_sysmods.specs.Actions.{is_update, distlib_of, syslib_of, lines_of}
 
 -- their columns keep them
-pub kept_ver : (id : Id) (v : Ver) → AreKept ver.columns (ver_row id v)
+pub kept_ver : (id : Id) (v : Ver) → SuitColumns ver.columns (ver_row id v)
 kept_ver id v = (refl, (refl, (kept_optional v.fmid, (refl, (refl, (refl, (refl, (refl, tt))))))))
 
-pub kept_ifreq : (id : Id) (srel : Text) (i : ℕ × IfReq) → AreKept ifreq.columns (ifreq_row id srel i)
+pub kept_ifreq : (id : Id) (srel : Text) (i : ℕ × IfReq) → SuitColumns ifreq.columns (ifreq_row id srel i)
 kept_ifreq id srel i = (refl, (refl, (kept_whole (pos i.0), (refl, (refl, tt)))))
 
-pub kept_sysmod : (s : Sysmod) → AreKept sysmod.columns (sysmod_row s)
+pub kept_sysmod : (s : Sysmod) → SuitColumns sysmod.columns (sysmod_row s)
 kept_sysmod s = (refl, (refl, (refl, tt)))
 
-pub kept_elem : (id : Id) (c : Change) → AreKept elem.columns (elem_row id c)
+pub kept_elem : (id : Id) (c : Change) → SuitColumns elem.columns (elem_row id c)
 kept_elem id c = kept_action c.action
   where
-    kept_action : (a : Action) → AreKept elem.columns (value.Text id ∷ value.Text (type_text c.elem_type) ∷ value.Text
+    kept_action : (a : Action)
+      → SuitColumns elem.columns (value.Text id ∷ value.Text (type_text c.elem_type) ∷ value.Text
         c.name ∷ action_cells a)
     kept_action (Replaces distlib syslib lines) = (
       refl,

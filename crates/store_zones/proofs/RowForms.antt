@@ -8,20 +8,20 @@ use Rattle.sqlite.specs.Values.{or_null, bound_value}
 use Rattle.terms.specs.declared.kinds.ElemType.{ElemType}
 use Rattle.terms.specs.Types.{Text, Entry, Element, NamedZone}
 use Rattle.terms.specs.Spelling.{type_text, zone_kind_text}
-use Rattle.store_rows.specs.Texts.{AreKept}
+use Rattle.store_rows.specs.Texts.{SuitColumns}
 use Rattle.store_rows.proofs.Values.{kept_optional, bound_optional}
 use Rattle.store_schema.specs.Rows.{entry_row, zelem_row, zone_row}
 use Rattle.store_schema.specs.Tables.{entry, zelem, zone}
 use Rattle.store_zones.specs.Keys.{element_key}
 
 -- their columns keep them
-pub kept_entry : (name : Text) (e : Entry) → AreKept entry.columns (entry_row name e)
+pub kept_entry : (name : Text) (e : Entry) → SuitColumns entry.columns (entry_row name e)
 kept_entry name e = (refl, (refl, (kept_optional e.applied, (refl, (kept_optional e.delby, (refl, tt))))))
 
-pub kept_element : (name : Text) (e : Element) → AreKept zelem.columns (zelem_row name e)
+pub kept_element : (name : Text) (e : Element) → SuitColumns zelem.columns (zelem_row name e)
 kept_element name e = (refl, (refl, (refl, (refl, (refl, (refl, (refl, (refl, (refl, tt)))))))))
 
-pub kept_zone : (z : NamedZone) → AreKept zone.columns (zone_row z)
+pub kept_zone : (z : NamedZone) → SuitColumns zone.columns (zone_row z)
 kept_zone z = (refl, (refl, (refl, (kept_optional z.zone.related, tt))))
 
 -- the values that are bound for an entry are its row

@@ -1,8 +1,7 @@
 -- What edits make of the global zone.
-use Rattle.std.specs.Prelude.{◌≡◌, ◌<◌, ℕ, false, not, List, All, filter, fold, length, get_or, take}
-use Rattle.terms.specs.declared.kinds.HoldKind.{HoldKind}
-use Rattle.terms.specs.Types.{Text, Id, Hold, Global}
-use Rattle.terms.specs.Global.{has_key, hold_cmp, with_sysmod}
+use Rattle.std.specs.Prelude.{◌≡◌, ◌<◌, ℕ, false, List, All, fold, length, get_or, take}
+use Rattle.terms.specs.Types.{Id, Hold, Global}
+use Rattle.terms.specs.Global.{hold_cmp, with_sysmod, without_hold}
 use Rattle.terms.specs.Lookups.{is_received}
 use Rattle.terms.specs.Rising.{with_item}
 use Rattle.sysmods_records.specs.Edited.{with_sources, less_sysmod}
@@ -14,14 +13,10 @@ use Rattle.sysmods.specs.declared.edit.GlobalEdit.TheVariants.{RemoveSysmod}
 abbrev pub with_hold : Hold → Global → Global
 with_hold h g = record g { holds = with_item hold_cmp (λ (o : Hold). o) g.holds h }
 
--- the global zone less the hold of this key
-abbrev pub less_hold : Id → HoldKind → Text → Global → Global
-less_hold x kind reason g = record g { holds = filter (λ h. not (has_key x kind reason h)) g.holds }
-
 -- what an edit makes of the global zone
 abbrev pub after_edit : Global → GlobalEdit → Global
 after_edit g (PutHold h) = with_hold h g
-after_edit g (RemoveHold x kind reason) = less_hold x kind reason g
+after_edit g (RemoveHold x kind reason) = without_hold x kind reason g
 after_edit g (InsertSysmod s) = with_sysmod g s
 after_edit g (ReplaceSources s) = with_sources s.id s.sources g
 after_edit g (RemoveSysmod x) = less_sysmod x g

@@ -94,14 +94,14 @@ fn is_in(ids: &[Id], id: Id) -> bool
 fn of_srel<'a>(vers: &'a [Ver], srel: Srel) -> Option<&'a Ver>
     ensures { option_copied result ≡ find (λ v. bytes_eq v.srel srel) vers.now }
 {
-    match place_of(vers, srel) {
+    match find_srel(vers, srel) {
         Some(place) => Some(&vers[place]),
         None => None,
     }
 }
 
-// Where it stands.
-fn place_of(vers: &[Ver], srel: Srel) -> Option<usize>
+// Where the first of them stands.
+fn find_srel(vers: &[Ver], srel: Srel) -> Option<usize>
     ensures place { result ≡ position (λ v. bytes_eq v.srel srel) vers.now }
     ensures within { IfSome result (λ i. i < length vers.now) }
 {

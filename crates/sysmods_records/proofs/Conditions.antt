@@ -10,7 +10,7 @@ use Rattle.std.proofs.lemmas.Cmp.{nat_list_cmp_total, tied_itself}
 use Rattle.std.proofs.lemmas.List.{map-append, take-append-drop, set_split}
 use Rattle.std.proofs.lemmas.List.Elements.{All-head, All-tail, All-append, All-weaker}
 use Rattle.terms.specs.Types.{Text, IfReq, Ver}
-use Rattle.terms.specs.Rising.{Rises, Splits, Stands}
+use Rattle.terms.specs.Rising.{Rises, Splits, StandsAt}
 use Rattle.lemmas.proofs.Texts.{same_back}
 use Rattle.terms.proofs.RisingLists.{Splits-around, Rises-set}
 
@@ -52,7 +52,7 @@ stays srel i vs n s =
 
 -- where it stands
 pub comes : (srel : Text) (i : IfReq) (vs : List Ver) (n : ℕ) (x : Ver) → Rises (slice_cmp nat_cmp) (λ v. v.srel) vs
-    → n < length vs → Stands (slice_cmp nat_cmp) (λ v. v.srel) srel vs n x
+    → n < length vs → StandsAt (slice_cmp nat_cmp) (λ v. v.srel) srel vs n x
     → map (at_srel srel i) vs ≡ set vs n (with_if i x)
 comes srel i vs n x rises below s =
     let front = take n vs in

@@ -7,7 +7,7 @@ ghost use Rattle.std.specs.Ordering.{nat_cmp};
 ghost use Rattle.std.specs.Cmp.Lexicographic.{slice_cmp};
 ghost use Rattle.terms.specs.Types.{Ver as AnyVer, Change as AnyChange, type_number};
 ghost use Rattle.terms.specs.declared.kinds.HoldKind.TheVariants.{System};
-ghost use Rattle.terms.specs.Rising.{Rises, Splits, Stands, with_item};
+ghost use Rattle.terms.specs.Rising.{Rises, Splits, StandsAt, with_item};
 ghost use Rattle.terms.specs.Global.{change_cmp};
 ghost use Rattle.terms.specs.Ptfin.{begun};
 
@@ -107,7 +107,7 @@ impl Sysmod {
 fn ver_place(vers: &[Ver], srel: Srel) -> Result<usize, usize>
     requires { Rises (slice_cmp nat_cmp) (λ v. v.srel) vers.now }
     ensures found { IfOk result
-        (λ i. (i < length vers.now) × ((x : AnyVer) × Stands (slice_cmp nat_cmp) (λ v. v.srel) srel vers.now i x)) }
+        (λ i. (i < length vers.now) × ((x : AnyVer) × StandsAt (slice_cmp nat_cmp) (λ v. v.srel) srel vers.now i x)) }
     ensures missing { IfErr result
         (λ i. (i ≤ length vers.now) × Splits (slice_cmp nat_cmp)
         (λ v. v.srel) srel (take i vers.now) (drop i vers.now)) }
@@ -119,7 +119,7 @@ fn ver_place(vers: &[Ver], srel: Srel) -> Result<usize, usize>
 fn change_place(changes: &[ElemChange], change: &ElemChange) -> Result<usize, usize>
     requires { Rises change_cmp (λ c. c) changes.now }
     ensures found { IfOk result
-        (λ i. (i < length changes.now) × ((x : AnyChange) × Stands change_cmp (λ c. c) change.now changes.now i x)) }
+        (λ i. (i < length changes.now) × ((x : AnyChange) × StandsAt change_cmp (λ c. c) change.now changes.now i x)) }
     ensures missing { IfErr result
         (λ i. (i ≤ length changes.now) × Splits change_cmp (λ c. c) change.now (take i changes.now)
         (drop i changes.now)) }

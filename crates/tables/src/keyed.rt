@@ -1,7 +1,7 @@
 //! What stands under a key, and lists that rise by their keys.
 ghost use Rattle.std.specs.Prelude.{◌≡◌, ◌<◌, ◌≤◌, ◌↔◌, length, take, drop, IsTrue, All, IfOk, IfErr};
 ghost use Rattle.std.specs.Ordering.{is_lt};
-ghost use Rattle.terms.specs.Rising.{Rises, Splits, Stands};
+ghost use Rattle.terms.specs.Rising.{Rises, Splits, StandsAt};
 
 use std::alloc::{AllocError, Global};
 
@@ -25,7 +25,7 @@ pub trait TryClone: Drop {
 pub(crate) fn place<T: Keyed>(items: &[T], key: T::Key) -> Result<usize, usize>
     requires { Rises T.Key.cmp T.key_of items.now }
     ensures found { IfOk result
-        (λ i. (i < length items.now) × ((x : T) × Stands T.Key.cmp T.key_of key items.now i x)) }
+        (λ i. (i < length items.now) × ((x : T) × StandsAt T.Key.cmp T.key_of key items.now i x)) }
     ensures missing { IfErr result
         (λ i. (i ≤ length items.now)
         × Splits T.Key.cmp T.key_of key (take i items.now) (drop i items.now)) }

@@ -3,7 +3,7 @@ ghost use Rattle.std.specs.Prelude.{◌≡◌, ◌<◌, ◌≤◌, ◌↔◌, �
 ghost use Rattle.std.specs.Prelude.{IfSome, IfNone, OnOk, OnErr, List, IsPermutation, find, option_copied};
 ghost use Rattle.std.specs.Prelude.{if◌then◌else◌};
 ghost use Rattle.std.specs.Ordering.{is_lt};
-ghost use Rattle.terms.specs.Rising.{Rises, with_item, Splits, Stands};
+ghost use Rattle.terms.specs.Rising.{Rises, with_item, Splits, StandsAt};
 ghost use Rattle.terms.specs.Delta.{edited};
 
 use crate::edits::{copy_all, edited};

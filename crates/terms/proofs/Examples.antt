@@ -18,7 +18,7 @@ use Rattle.terms.specs.Candidates.{IsCandidate, is_start, needed_ids, not_chosen
 use Rattle.terms.specs.Tests.{FailsJ2, standing_holds}
 use Rattle.terms.specs.Needs.{asked, orphans, binding_ids, Needs}
 use Rattle.terms.specs.Judged.{setting}
-use Rattle.terms.specs.Install.{Installing, delby_after}
+use Rattle.terms.specs.Install.{Installation, delby_after}
 
 abbrev srel : Text
 srel = 9 ∷ []
@@ -124,7 +124,7 @@ zone_less-deletion : zone_less deleting (by_srel deleting srel) (haa ∷ []) ful
 unfolding zone_less
 zone_less-deletion = refl
 
-abbrev installing : Installing
+abbrev installing : Installation
 installing = record {
   global = deleting;
   choice = by_srel deleting srel;

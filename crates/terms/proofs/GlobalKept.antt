@@ -20,7 +20,7 @@ use Rattle.lemmas.proofs.Booleans.{or_false}
 use Rattle.lemmas.proofs.Pairs.{AllPairs-first, AllPairs-rest}
 use Rattle.terms.specs.declared.kinds.HoldKind.{HoldKind}
 use Rattle.terms.specs.declared.kinds.HoldKind.TheVariants.{Error, System, User}
-use Rattle.terms.specs.Types.{Text, Id, Ver, Hold, Sysmod, Global, Release, hold_number, kind_number}
+use Rattle.terms.specs.Types.{Text, Id, Ver, Hold, Sysmod, Global, hold_number, kind_number}
 use Rattle.terms.specs.Rising.{Rises, with_item, before, behind}
 use Rattle.terms.specs.Lookups.{sysmod_of, is_received, is_function}
 use Rattle.terms.specs.Choice.{vers_of}
@@ -144,15 +144,15 @@ hold-kept g h k own = record {
   size = k.size;
 }
 
-pub without_hold-kept : (g : Global) (r : Release) → IsGlobal g → IsGlobal (without_hold g r)
-without_hold-kept g r k = record {
+pub without_hold-kept : (g : Global) (x : Id) (kind : HoldKind) (reason : Text) → IsGlobal g
+    → IsGlobal (without_hold x kind reason g)
+without_hold-kept g x kind reason k = record {
   sysmods = k.sysmods;
-  holds = AllPairs-filter (λ a b. IsTrue (is_lt (hold_cmp a b))) (λ h. not (has_key r.id r.kind r.reason h)) g.holds
-      k.holds;
+  holds = AllPairs-filter (λ a b. IsTrue (is_lt (hold_cmp a b))) (λ h. not (has_key x kind reason h)) g.holds k.holds;
   formed = k.formed;
   no_loop = k.no_loop;
   roles = k.roles;
-  internal = All-filter (λ h. not (has_key r.id r.kind r.reason h)) (IsOwned g) g.holds k.internal;
+  internal = All-filter (λ h. not (has_key x kind reason h)) (IsOwned g) g.holds k.internal;
   none_carried = k.none_carried;
   size = k.size;
 }

@@ -11,7 +11,7 @@ use Rattle.terms.specs.declared.codes.NeedKind.TheVariants.{Fmid}
 use Rattle.terms.specs.Problem.{Demand, IsDemand, Problem, holds}
 use Rattle.terms.specs.Kept.{IsProblemOf}
 use Rattle.terms.specs.Causes as numbered
-use Rattle.terms.specs.Failures.{HasFailed, LeadsTo, Steps, HasBareNeed, IsRoot, IsCauser}
+use Rattle.terms.specs.Failures.{HasFailed, LeadsTo, LeadsThrough, HasBareNeed, IsRoot, IsCauser}
 
 none_within : {X : Type 0} (xs : List X) → ((x : X) → ¬ Contains xs x) → xs ≡ []
 none_within [] none = refl
@@ -124,8 +124,8 @@ module _ (ids kept : List Id) (E : Id → Type 0) (N : Id → NeedKind → Id �
     led_id n m leads = let a = any_found (numbered.LeadsBy flags n m) p.demands leads.1 in id_of a.1 a.0 a.2 m a.3.2
 
     steps_id : (n m : ℕ) (steps : List ℕ) (x y : Id) → slice_get ids n ≡ Some x → slice_get ids m ≡ Some y
-        → numbered.Steps p flags n steps m
-        → (ws : List Id) × Steps ids kept E N S x ws y
+        → numbered.LeadsThrough p flags n steps m
+        → (ws : List Id) × LeadsThrough ids kept E N S x ws y
     steps_id n m [] x y at_x at_y e = ([], same_Some x y (sym at_x ∙ ap (slice_get ids) e ∙ at_y))
     steps_id n m (k ∷ ks) x y at_x at_y r =
         let w = led_id n k r.0 in
@@ -183,7 +183,7 @@ module _ (ids kept : List Id) (E : Id → Type 0) (N : Id → NeedKind → Id �
 
     module _ (once : (n m : ℕ) (x : Id) → slice_get ids n ≡ Some x → slice_get ids m ≡ Some x → n ≡ m) where
       steps_number : (n m : ℕ) (x y : Id) (ws : List Id) → slice_get ids n ≡ Some x → slice_get ids m ≡ Some y
-          → Steps ids kept E N S x ws y
+          → LeadsThrough ids kept E N S x ws y
           → numbered.Reaches p flags n m
       steps_number n m x y [] at_x at_y e = ([], once n m x at_x (at_y ∙ ap (λ v. Some v) (sym e)))
       steps_number n m x y (w ∷ ws) at_x at_y r =

@@ -23,7 +23,7 @@ use Rattle.lemmas.proofs.Pairs.{AllPairs-between, AllPairs-without, AllPairs-par
 use Rattle.lemmas.proofs.Searches.{filter-all, filter-none, find-over}
 use Rattle.lemmas.proofs.Orderings.{Less-from_is_lt}
 use Rattle.terms.specs.Rising.{Rises, before, behind, with_item, without_key}
-pub use Rattle.terms.specs.Rising.{Splits, Stands}
+pub use Rattle.terms.specs.Rising.{Splits, StandsAt}
 
 -- keys that are strictly sorted rise
 pub Rises-from_sorted : {K : Type 0} (R : K → K → Ordering) (ks : List K) → IsStrictlySortedBy R ks
@@ -129,7 +129,7 @@ module _ {X K : Type 0} {R : K → K → Ordering} (o : IsTotalOrder R) (key : X
 
   -- where a binary search finds the key
   pub Stands-at : (k : K) (xs : List X) (i : ℕ) → i < length xs → HoldsAt (λ y. R (key y) k ≡ Equal) xs i
-      → (x : X) × Stands R key k xs i x
+      → (x : X) × StandsAt R key k xs i x
   Stands-at k [] i below h = absurd (omega arith)
   Stands-at k (x ∷ xs) i below h = (
     get_or (x ∷ xs) i x,
@@ -142,7 +142,7 @@ module _ {X K : Type 0} {R : K → K → Ordering} (o : IsTotalOrder R) (key : X
 
   -- whether some item has the key, by a test that ties with the order
   pub list_any-there : (E : K → K → Bool) → ((a b : K) → E a b ≡ is_eq (R a b)) → (k : K) (xs : List X) (i : ℕ) (x : X)
-      → i < length xs → Stands R key k xs i x → list_any (λ y. E k (key y)) xs ≡ true
+      → i < length xs → StandsAt R key k xs i x → list_any (λ y. E k (key y)) xs ≡ true
   list_any-there E ties k xs i x below s =
       list_any_at (λ y. E k (key y)) xs i x below (ap (λ y. E k (key y)) (s.at x) ∙ ties k (key x)
       ∙ ap is_eq (tied_back o (key x) k s.tie))
@@ -182,7 +182,7 @@ module _ {X K : Type 0} {R : K → K → Ordering} (o : IsTotalOrder R) (key : X
       Rises-between (take i xs) (drop i xs) x whole (Splits-at (key x) xs i within p)
 
   -- an item that is there already changes nothing
-  pub with_item-same : (xs : List X) (i : ℕ) (x : X) → Rises R key xs → Stands R key (key x) xs i x
+  pub with_item-same : (xs : List X) (i : ℕ) (x : X) → Rises R key xs → StandsAt R key (key x) xs i x
       → with_item R key xs x ≡ xs
   with_item-same xs i x rises s =
       let whole : Rises R key (take i xs ++ x ∷ drop (suc i) xs) = rw (← s.parts) rises in
@@ -190,7 +190,7 @@ module _ {X K : Type 0} {R : K → K → Ordering} (o : IsTotalOrder R) (key : X
       ∙ sym s.parts
 
   -- what goes when a key goes
-  pub without_key-there : (k : K) (xs : List X) (i : ℕ) (x : X) → Rises R key xs → Stands R key k xs i x
+  pub without_key-there : (k : K) (xs : List X) (i : ℕ) (x : X) → Rises R key xs → StandsAt R key k xs i x
       → without_key R key xs k ≡ take i xs ++ drop (suc i) xs
   without_key-there k xs i x rises s =
       let whole : Rises R key (take i xs ++ x ∷ drop (suc i) xs) = rw (← s.parts) rises in
@@ -248,7 +248,7 @@ module _ {X K : Type 0} {R : K → K → Ordering} (o : IsTotalOrder R) (key : X
       ∙ unequal k (key (get_or back i d)) (s.high i d h))
 
   pub find-stands : (E : K → K → Bool) → ((a b : K) → E a b ≡ is_eq (R a b)) → (k : K) (xs : List X) (i : ℕ) (x : X)
-      → Rises R key xs → Stands R key k xs i x → find (λ y. E (key y) k) xs ≡ Some x
+      → Rises R key xs → StandsAt R key k xs i x → find (λ y. E (key y) k) xs ≡ Some x
   find-stands E ties k xs i x rises s =
       let whole : Rises R key (take i xs ++ x ∷ drop (suc i) xs) = rw (← s.parts) rises in
       ap (find (λ y. E (key y) k)) s.parts ∙ find-there E ties k (take i xs) (drop (suc i) xs) x
@@ -261,14 +261,14 @@ module _ {X K : Type 0} {R : K → K → Ordering} (o : IsTotalOrder R) (key : X
       Rises-between front back y (AllPairs-without (λ a b. is_lt (R (key a) (key b)) ≡ true) front back x rises)
       (Splits-around (key y) front back x rises e)
 
-  pub with_item-set : (xs : List X) (i : ℕ) (x y : X) → Rises R key xs → i < length xs → Stands R key (key y) xs i x
+  pub with_item-set : (xs : List X) (i : ℕ) (x y : X) → Rises R key xs → i < length xs → StandsAt R key (key y) xs i x
       → with_item R key xs y ≡ set xs i y
   with_item-set xs i x y rises below s =
       let whole : Rises R key (take i xs ++ x ∷ drop (suc i) xs) = rw (← s.parts) rises in
       ap (λ ys. with_item R key ys y) s.parts ∙ with_item-there (take i xs) (drop (suc i) xs) y x whole s.tie
       ∙ sym (set_split xs i y below)
 
-  pub Rises-set : (xs : List X) (i : ℕ) (x y : X) → Rises R key xs → i < length xs → Stands R key (key y) xs i x
+  pub Rises-set : (xs : List X) (i : ℕ) (x y : X) → Rises R key xs → i < length xs → StandsAt R key (key y) xs i x
       → Rises R key (set xs i y)
   Rises-set xs i x y rises below s =
       let whole : Rises R key (take i xs ++ x ∷ drop (suc i) xs) = rw (← s.parts) rises in
@@ -276,7 +276,8 @@ module _ {X K : Type 0} {R : K → K → Ordering} (o : IsTotalOrder R) (key : X
 
   -- what a binary search answers
   pub found-search : (k : K) (xs : List X) → Rises R key xs → (r : Result ℕ ℕ) → IsSearchInRange r (length xs)
-      → IsBinarySearchResult (λ y. R (key y) k) xs r → IfOk r (λ i. (i < length xs) × ((x : X) × Stands R key k xs i x))
+      → IsBinarySearchResult (λ y. R (key y) k) xs r
+      → IfOk r (λ i. (i < length xs) × ((x : X) × StandsAt R key k xs i x))
   found-search k xs rises (Ok i) within p = (within, Stands-at k xs i within p)
   found-search k xs rises (Err i) within p = tt
 

@@ -24,9 +24,9 @@ module _ (cands kept : List Id) (Eligible : Id → Type 0) (Needs : Id → NeedK
     pub serves : (kind : NeedKind) × (z : Id) × IsOpenNeed x kind z × Serves kind y z
 
   -- the steps lead from x to y
-  abbrev pub Steps : Id → List Id → Id → Type 0
-  Steps x [] y = x ≡ y
-  Steps x (w ∷ ws) y = LeadsTo x w × Steps w ws y
+  abbrev pub LeadsThrough : Id → List Id → Id → Type 0
+  LeadsThrough x [] y = x ≡ y
+  LeadsThrough x (w ∷ ws) y = LeadsTo x w × LeadsThrough w ws y
 
   -- x has a need that no candidate serves
   abbrev pub HasBareNeed : Id → Type 0
@@ -41,4 +41,4 @@ module _ (cands kept : List Id) (Eligible : Id → Type 0) (Needs : Id → NeedK
   pub record IsCauser (x y : Id) : Type 0 where
     pub root : IsRoot y
     pub steps : List Id
-    pub reaches : Steps x steps y
+    pub reaches : LeadsThrough x steps y

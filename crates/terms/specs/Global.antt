@@ -100,12 +100,12 @@ pub data ReleaseFault : Type 0 where
   Rl2 : ReleaseFault
 
 -- the global zone less the hold of this key
-abbrev pub without_hold : Global → Release → Global
-without_hold g r = record g { holds = filter (λ h. not (has_key r.id r.kind r.reason h)) g.holds }
+abbrev pub without_hold : Id → HoldKind → Text → Global → Global
+without_hold x kind reason g = record g { holds = filter (λ h. not (has_key x kind reason h)) g.holds }
 
 abbrev pub release_found : Global → Release → Option Hold → Result Global ReleaseFault
 release_found g r None = Err Rl1
-release_found g r (Some h) = if h.internal then Err Rl2 else Ok (without_hold g r)
+release_found g r (Some h) = if h.internal then Err Rl2 else Ok (without_hold r.id r.kind r.reason g)
 
 -- ++RELEASE takes a hold away that is not internal.
 abbrev pub release : Global → Release → Result Global ReleaseFault

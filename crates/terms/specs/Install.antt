@@ -14,7 +14,7 @@ use Rattle.terms.specs.Deleted.{deletions, is_deleted, is_taken_out, zone_less}
 use Rattle.terms.specs.Texts.{IsNumbered, line_at, given, Touches}
 
 -- what an APPLY or ACCEPT installs: the kept ids, rising, pairs of an id and a bypassed requisite of it, and the date
-pub record Installing : Type 0 where
+pub record Installation : Type 0 where
   pub global : Global
   pub choice : Choice
   pub zone : Zone
@@ -23,28 +23,28 @@ pub record Installing : Type 0 where
   pub date : Text
 
 -- x is kept, and no other kept SYSMOD supersedes it: it becomes APPLIED or ACCEPTED. The others kept are SUPERSEDED.
-pub record IsInstalled (i : Installing) (x : Id) : Type 0 where
+pub record TakesEffect (i : Installation) (x : Id) : Type 0 where
   pub kept : Contains i.kept x
   pub first : (y : Id) → Contains i.kept y → y ≢ x → ¬ Supersedes i.choice y x
 
 -- the zone less all deletions of the kept set
-abbrev pub cleared : Installing → Zone
+abbrev pub cleared : Installation → Zone
 cleared i = zone_less i.global i.choice (deletions i.choice i.kept) i.zone
 
 -- The kept SYSMODs that delete x. A function that is taken out is deleted by what meets its chain, any other id by what
 -- names it.
-abbrev pub deleters : Installing → Id → List Id
+abbrev pub deleters : Installation → Id → List Id
 deleters i x =
     if is_function i.global x && is_taken_out i.global i.choice (deletions i.choice i.kept) i.zone x
     then filter (λ k. is_deleted i.global i.choice (del_of i.choice k) x) i.kept
     else filter (λ k. is_in (del_of i.choice k) x) i.kept
 
 -- DELBY: what is there stays, else the least that deletes it
-unfoldable pub delby_after : Installing → Id → Option Id
+unfoldable pub delby_after : Installation → Id → Option Id
 delby_after i x = if is_some (delby_of i.zone x) then delby_of i.zone x else slice_get (deleters i x) 0
 
 -- what a replacement makes of the element
-abbrev pub replaced : Installing → Id → ElemType → Text → Text → Text → Lines → Element
+abbrev pub replaced : Installation → Id → ElemType → Text → Text → Text → Lines → Element
 replaced i r type name distlib syslib lines = record {
   elem_type = type;
   name = name;
@@ -57,12 +57,12 @@ replaced i r type name distlib syslib lines = record {
 }
 
 -- One element, by type and name.
-module _ (i : Installing) (type : ElemType) (name : Text) where
+module _ (i : Installation) (type : ElemType) (name : Text) where
   -- r is installed, replaces the element, and is over all other installed ones that replace it
   pub record IsReplacer (r : Id) : Type 0 where
-    pub installed : IsInstalled i r
+    pub installed : TakesEffect i r
     pub replaces : IsTrue (has_replacement i.global r type name)
-    pub over : (y : Id) → IsInstalled i y → IsTrue (has_replacement i.global y type name) → y ≢ r → IsOver i.choice r y
+    pub over : (y : Id) → TakesEffect i y → IsTrue (has_replacement i.global y type name) → y ≢ r → IsOver i.choice r y
 
   -- what the updates build on: what the replacer makes of the element, else the element that the zone has
   abbrev pub HasBase : Option Id → Element → Type 0
@@ -71,12 +71,12 @@ module _ (i : Installing) (type : ElemType) (name : Text) where
       × ((h : Change) × (distlib syslib : Text) × (lines : Lines) × (change_of i.global r type name ≡ Some h)
       × (h.action ≡ Replaces distlib syslib lines) × (base ≡ replaced i r type name distlib syslib lines))
   HasBase None base =
-      ((y : Id) → IsInstalled i y → IsFalse (has_replacement i.global y type name))
+      ((y : Id) → TakesEffect i y → IsFalse (has_replacement i.global y type name))
       × (element_of (cleared i) type name ≡ Some base)
 
   -- y is installed, updates the element by these records, and is over its replacer if there is one
   pub record IsUpdater (replacer : Option Id) (y : Id) (update : Lines) : Type 0 where
-    pub installed : IsInstalled i y
+    pub installed : TakesEffect i y
     pub updates : (h : Change) × (change_of i.global y type name ≡ Some h) × (h.action ≡ Updates update)
     pub over : IfSome replacer (λ r. IsOver i.choice y r)
 
@@ -104,21 +104,21 @@ module _ (i : Installing) (type : ElemType) (name : Text) where
   HasElementAfter e = (replacer : Option Id) × (base : Element) × HasBase replacer base × IsUpdated replacer base e
 
 -- The new zone: the zone less the deletions, with the installed SYSMODs and what they change.
-pub record Installs (i : Installing) (new : Zone) : Type 0 where
+pub record HasInstalled (i : Installation) (new : Zone) : Type 0 where
   pub rest : new ≡ record i.zone { entries = new.entries; elements = new.elements }
   pub is_zone : IsZone new
-  pub applied : (x : Id) → IsInstalled i x → applied_of new x ≡ Some i.date
-  pub not_applied : (x : Id) → (¬ IsInstalled i x) → applied_of new x ≡ applied_of (cleared i) x
+  pub applied : (x : Id) → TakesEffect i x → applied_of new x ≡ Some i.date
+  pub not_applied : (x : Id) → (¬ TakesEffect i x) → applied_of new x ≡ applied_of (cleared i) x
   pub supby_rising : (x : Id) → IsRising (supby_of new x)
   pub supby : (x y : Id) → Contains (supby_of new x) y
-      ↔ (Contains (supby_of (cleared i) x) y ⊎ (IsInstalled i y × Supersedes i.choice y x))
+      ↔ (Contains (supby_of (cleared i) x) y ⊎ (TakesEffect i y × Supersedes i.choice y x))
   pub delby : (x : Id) → delby_of new x ≡ delby_after i x
   pub waived_rising : (x : Id) → IsRising (waived_of new x)
-  pub waived : (x z : Id) → IsInstalled i x → Contains (waived_of new x) z ↔
+  pub waived : (x z : Id) → TakesEffect i x → Contains (waived_of new x) z ↔
       (Contains i.bypassed (x, z) × IsFalse (is_supplied new z))
-  pub not_waived : (x : Id) → (¬ IsInstalled i x) → waived_of new x ≡ waived_of (cleared i) x
-  pub changed : (type : ElemType) (name : Text) (x : Id) → IsInstalled i x → IsTrue (has_change i.global x type name) →
+  pub not_waived : (x : Id) → (¬ TakesEffect i x) → waived_of new x ≡ waived_of (cleared i) x
+  pub changed : (type : ElemType) (name : Text) (x : Id) → TakesEffect i x → IsTrue (has_change i.global x type name) →
       (e : Element) × (element_of new type name ≡ Some e) × HasElementAfter i type name e
-  pub unchanged : (type : ElemType) (name : Text) → ((x : Id) → IsInstalled i x
+  pub unchanged : (type : ElemType) (name : Text) → ((x : Id) → TakesEffect i x
       → IsFalse (has_change i.global x type name)) →
       element_of new type name ≡ element_of (cleared i) type name

@@ -31,7 +31,7 @@ pub record Splits {X K : Type 0} (cmp : K → K → Ordering) (key : X → K) (k
   pub high : All (λ x. cmp k (key x) ≡ Less) back
 
 -- x stands at the place and has the key
-pub record Stands {X K : Type 0} (cmp : K → K → Ordering) (key : X → K) (k : K) (xs : List X) (i : ℕ) (x : X) :
+pub record StandsAt {X K : Type 0} (cmp : K → K → Ordering) (key : X → K) (k : K) (xs : List X) (i : ℕ) (x : X) :
     Type 0 where
   pub tie : cmp (key x) k ≡ Equal
   pub parts : xs ≡ take i xs ++ x ∷ drop (suc i) xs

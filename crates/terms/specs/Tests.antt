@@ -131,13 +131,13 @@ ShareElement g x y = (type : ElemType) × (name : Text) × IsTrue (has_change g 
     × IsTrue (has_change g y type name)
 
 -- they have two owners, or over does not order them
-abbrev pub AreApart : Setting → Id → Id → Type 0
-AreApart s x y = (owner_of s x ≢ owner_of s y) ⊎ ((¬ IsOver s.choice x y) × (¬ IsOver s.choice y x))
+abbrev pub MayNotShare : Setting → Id → Id → Type 0
+MayNotShare s x y = (owner_of s x ≢ owner_of s y) ⊎ ((¬ IsOver s.choice x y) × (¬ IsOver s.choice y x))
 
 -- one names the other in NPRE, or they stand apart and share an element
 abbrev pub Clash : Setting → Id → Id → Type 0
 Clash s x y =
-    Contains (npre_of s.choice x) y ⊎ Contains (npre_of s.choice y) x ⊎ (ShareElement s.global x y × AreApart s x y)
+    Contains (npre_of s.choice x) y ⊎ Contains (npre_of s.choice y) x ⊎ (ShareElement s.global x y × MayNotShare s x y)
 
 -- J9: it is a survivor and clashes with another one
 abbrev pub FailsJ9 : Setting → Id → Type 0

@@ -5,7 +5,7 @@ use Rattle.machine.specs.Machine.{Perform}
 use Rattle.mcs.specs.Files.{items}
 use Rattle.mcs_hold.specs.Items.{items as hold_items}
 use Rattle.report.specs.Views.{line_view}
-use Rattle.smpe_session.specs.Steps.{LeadsTo}
+use Rattle.smpe_session.specs.Steps.{LeadsToGlobal}
 use Rattle.smpe_session.proofs.Received.{received}
 use Rattle.smpe_session.proofs.Stepping.{kept-inventory, run-short, run-staying, staying-unsettled}
 use Rattle.smpe_session.proofs.receive.take_items.Goals as goal
@@ -13,13 +13,13 @@ use Rattle.smpe_session.proofs.receive.take_items.Goals as goal
 pub returns-in_err-edits-clause-ended : goal.returns-in_err-edits-clause-ended
 returns-in_err-edits-clause-ended g c = λ clean s global keeps date files what at sources form reads reads_holds.
     run-short g.S.Store c.args.store.now s (Perform date files (Receive what))
-    (LeadsTo date files (Receive what) s c.take_found.new.global) (λ v. map line_view v.items)
+    (LeadsToGlobal date files (Receive what) s c.take_found.new.global) (λ v. map line_view v.items)
     c.from_residual.result c.from_residual.ensures.1 keeps
 
 pub returns-in_err-lines-clause-ended : goal.returns-in_err-lines-clause-ended
 returns-in_err-lines-clause-ended g c = λ clean s global keeps date files what at sources form reads reads_holds.
     run-short g.S.Store c.args.store.now s (Perform date files (Receive what))
-    (LeadsTo date files (Receive what) s c.take_found.new.global) (λ v. map line_view v.items)
+    (LeadsToGlobal date files (Receive what) s c.take_found.new.global) (λ v. map line_view v.items)
     c.from_residual-in_err-lines.result c.from_residual-in_err-lines.ensures.1 keeps
 
 pub returns-in_err-commit_change-clause-ended : goal.returns-in_err-commit_change-clause-ended
@@ -33,7 +33,7 @@ returns-in_err-commit_change-clause-ended g c = λ clean s global keeps date fil
     global is at sources form reads reads_holds c.in_ok-edits.ensures c.in_ok-lines.ensures in
     let t = record s { global = c.take_found.new.global } in
     run-staying g.S.Store c.commit_change.new.store s (Perform date files (Receive what))
-    (LeadsTo date files (Receive what) s c.take_found.new.global) (λ v. map line_view v.items)
+    (LeadsToGlobal date files (Receive what) s c.take_found.new.global) (λ v. map line_view v.items)
     c.from_residual-in_err-commit_change.result c.in_err-commit_change.field-0.0
     c.from_residual-in_err-commit_change.ensures.1
     (staying-unsettled g.S.Store c.commit_change.new.store s date files (Receive what) t

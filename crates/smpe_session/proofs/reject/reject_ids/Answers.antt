@@ -3,7 +3,7 @@ use Rattle.terms.specs.Types.{Reject}
 use Rattle.machine.specs.Outcome.{Ran, header_of}
 use Rattle.machine.specs.Machine.{Perform}
 use Rattle.report.specs.Views.{line_view}
-use Rattle.smpe_session.specs.Steps.{LeadsTo}
+use Rattle.smpe_session.specs.Steps.{LeadsToGlobal}
 use Rattle.smpe_session.proofs.Rejected.{rejected}
 use Rattle.smpe_session.proofs.Stepping.{kept-inventory, run-short, run-staying, staying-unsettled}
 use Rattle.smpe_session.proofs.reject.reject_ids.Goals as goal
@@ -11,7 +11,7 @@ use Rattle.smpe_session.proofs.reject.reject_ids.Goals as goal
 pub returns-in_err-edits-clause-ended : goal.returns-in_err-edits-clause-ended
 returns-in_err-edits-clause-ended g c = λ clean s global alike keeps date files at.
     run-short g.S.Store c.args.store.now s (Perform date files (Reject c.args.ids.now))
-    (LeadsTo date files (Reject c.args.ids.now) s c.reject.new.global) (λ v. map line_view v.items)
+    (LeadsToGlobal date files (Reject c.args.ids.now) s c.reject.new.global) (λ v. map line_view v.items)
     c.from_residual.result c.from_residual.ensures.1 keeps
 
 pub returns-in_err-commit_change-clause-ended : goal.returns-in_err-commit_change-clause-ended
@@ -23,7 +23,7 @@ returns-in_err-commit_change-clause-ended g c = λ clean s global alike keeps da
     global is at (c.in_ok-edits.ensures.runs s.zones alike) c.in_ok-edits.ensures.fits c.in_ok-edits.ensures.edits in
     let t = record s { global = c.reject.new.global } in
     run-staying g.S.Store c.commit_change.new.store s (Perform date files (Reject ids))
-    (LeadsTo date files (Reject ids) s c.reject.new.global) (λ v. map line_view v.items)
+    (LeadsToGlobal date files (Reject ids) s c.reject.new.global) (λ v. map line_view v.items)
     c.from_residual-in_err-commit_change.result c.in_err-commit_change.field-0.0
     c.from_residual-in_err-commit_change.ensures.1
     (staying-unsettled g.S.Store c.commit_change.new.store s date files (Reject ids) t

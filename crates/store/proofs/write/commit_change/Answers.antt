@@ -2,7 +2,7 @@ use Rattle.std.proofs.Common.{◌≡◌, OnOk, rules, refl, subst}
 use Rattle.sqlite.specs.Held.{state}
 use Rattle.sqlite.specs.State.{HasCleanDisk, Survives}
 use Rattle.store_rows.proofs.InsideLemmas.{on_ok}
-use Rattle.store.specs.Writes.{HasCommitted, IsOutcome}
+use Rattle.store.specs.Writes.{CommitsChange, IsChangeOutcome}
 use Rattle.store.proofs.Committing.{crashed, committed}
 use Rattle.store.proofs.write.commit_change.Goals as goal
 
@@ -17,7 +17,7 @@ returns-clause-made g c clean =
     let inside = rw begun at c.write.ensures.inside in
     let written = rw begun at c.in_ok-write.ensures.ok in
     let same : last_now ≡ c.conn-2-1.given.0 = search rules in
-    subst (λ h. HasCleanDisk (state s h) → OnOk c.commit.result (HasCommitted s old change h)) same
+    subst (λ h. HasCleanDisk (state s h) → OnOk c.commit.result (CommitsChange s old change h)) same
     (λ late. on_ok c.commit.result _ _
     (λ it. committed s old last last_now change (c.if-prove.ensures.settled refl) inside written
     c.commit.ensures.survives.clean late it.1)
@@ -34,5 +34,5 @@ returns-clause-crash g c =
     let inside = rw begun at c.write.ensures.inside in
     let written = rw begun at c.in_ok-write.ensures.ok in
     let same : last_now ≡ c.conn-2-1.given.0 = search rules in
-    subst (λ h. Survives (state s old) (state s h) (IsOutcome s old change)) same
+    subst (λ h. Survives (state s old) (state s h) (IsChangeOutcome s old change)) same
     (crashed s old last last_now change (c.if-prove.ensures.settled refl) inside written c.commit.ensures.survives)

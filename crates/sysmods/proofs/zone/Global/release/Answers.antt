@@ -2,7 +2,6 @@ use Rattle.std.proofs.Common.{filter, not}
 use Rattle.terms.specs.Types.{a_global}
 use Rattle.terms.specs.Global.{IsGlobal, has_key}
 use Rattle.terms.proofs.GlobalKept.{without_hold-kept}
-use Rattle.sysmods.specs.Faults.{a_release}
 use Rattle.sysmods.proofs.Kept.{kept_either}
 use Rattle.sysmods.proofs.zone.Global.release.Goals as goal
 
@@ -13,4 +12,4 @@ invariant_of-self c =
     kept_either (λ new. IsGlobal (a_global xs new)) c.release.result hs
     (filter (λ h. not (has_key c.args.id c.args.kind c.args.reason h)) hs) c.release.new.self c.release.ensures.ok
     c.release.ensures.err c.self.invariant
-    (without_hold-kept (a_global xs hs) (a_release c.args.id c.args.kind c.args.reason c.args.id) c.self.invariant)
+    (without_hold-kept (a_global xs hs) c.args.id c.args.kind c.args.reason c.self.invariant)
