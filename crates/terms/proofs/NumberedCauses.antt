@@ -184,7 +184,7 @@ module _ (ids kept : List Id) (E : Id → Type 0) (N : Id → NeedKind → Id �
     module _ (once : (n m : ℕ) (x : Id) → slice_get ids n ≡ Some x → slice_get ids m ≡ Some x → n ≡ m) where
       steps_number : (n m : ℕ) (x y : Id) (ws : List Id) → slice_get ids n ≡ Some x → slice_get ids m ≡ Some y
           → LeadsThrough ids kept E N S x ws y
-          → numbered.Reaches p flags n m
+          → numbered.LeadsOn p flags n m
       steps_number n m x y [] at_x at_y e = ([], once n m x at_x (at_y ∙ ap (λ v. Some v) (sym e)))
       steps_number n m x y (w ∷ ws) at_x at_y r =
           let k = found_at ids w r.0.cand in
