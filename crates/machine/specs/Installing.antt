@@ -20,7 +20,7 @@ use Rattle.terms.specs.Judged.{setting, Stays, IsKeptSet}
 use Rattle.terms.specs.Failures.{IsOpenNeed, IsCauser}
 use Rattle.terms.specs.Install.{Installation, TakesEffect, HasInstalled}
 use Rattle.machine.specs.Outcome.{Status, Already, Applied, Accepted, Superseded, Failed, Failure, Deleted, Missing}
-use Rattle.machine.specs.Outcome.{NoVer, NotApplied, Line, StatusLine}
+use Rattle.machine.specs.Outcome.{NoVer, Line, StatusLine}
 use Rattle.machine.specs.Receiving.{place_of}
 
 -- the tests by their numbers, and the kinds of needs, in the order of reports
@@ -94,7 +94,6 @@ not_chosen_status out.Already = Already
 not_chosen_status out.Deleted = Deleted
 not_chosen_status out.Missing = Missing
 not_chosen_status out.NoVer = NoVer
-not_chosen_status out.NotApplied = NotApplied
 
 -- The status of an id: installed, kept and superseded, failed, or named by the command and no candidate.
 pub data HasStatus (d : Decision) (sel : Selection) (x : Id) : Status → Type 0 where

@@ -27,7 +27,6 @@ fn left_out_status(why: NotChosen) -> Status
         NotChosen::Deleted => Status::Deleted,
         NotChosen::Missing => Status::Missing,
         NotChosen::NoVer => Status::NoVer,
-        NotChosen::NotApplied => Status::NotApplied,
     }
 }
 
