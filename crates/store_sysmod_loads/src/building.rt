@@ -12,11 +12,11 @@ ghost use Rattle.store_sysmod_loads.specs.Built.{MayDo, IsBuilt, sysmod_from, Is
 
 use crate::flat::{ElemRow, HeadRow, IfRow, VerRow};
 use crate::gathering::{take_changes, take_vers};
-use crate::keys::are_rising;
 use std::alloc::Global;
 use std::collections::VecDeque;
 use store_rows::ReadError;
 use sysmods_records::{Action, ElemChange, Sysmod, Ver};
+use tables::are_rising;
 use terms::Kind;
 
 /// Whether the operands of the `++VER` are those of a SYSMOD of this kind.

@@ -2,6 +2,7 @@
 
 use fields::{Id, SourceList, Srel};
 use sysmods_records::{ElemChange, IfReq, Ver};
+use tables::Keyed;
 use terms::Kind;
 
 /// A SYSMOD without its statements.
@@ -10,6 +11,16 @@ pub(crate) struct HeadRow {
     pub id: Id,
     pub kind: Kind,
     pub sources: SourceList,
+}
+
+impl Keyed for HeadRow {
+    type Key = Id;
+
+    ghost key_of = { λ head. head.id };
+
+    fn key(&self) -> Id {
+        self.id
+    }
 }
 
 /// A `++VER` of the SYSMOD without its `++IF`s.

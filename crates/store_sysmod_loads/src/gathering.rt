@@ -8,12 +8,12 @@ ghost use Rattle.store_sysmod_loads.specs.declared.flat.ElemRow.{ElemRow as Elem
 ghost use Rattle.store_sysmod_loads.specs.Runs.{AreBare, Begins, StandsApart, HasIfs, HasVers, HasChanges};
 
 use crate::flat::{ElemRow, IfRow, VerRow};
-use crate::keys::Keyed;
 use fields::{Id, Srel};
 use std::alloc::{AllocError, Global};
 use std::collections::VecDeque;
 use store_rows::ReadError;
 use sysmods_records::{ElemChange, IfReq, Ver};
+use tables::Keyed;
 
 /// A row that belongs to another.
 pub(crate) trait Child: Drop {

@@ -7,11 +7,10 @@ mod building;
 mod cells;
 mod flat;
 mod gathering;
-mod keys;
+mod listed;
 mod load;
 mod loading;
 mod reading;
 mod rows_of;
-mod tables;
 
 pub use load::load_sysmods;

@@ -13,7 +13,6 @@ ghost use Rattle.store_sysmod_loads.specs.Gathered.{HaveForms, HoldRows, HasRows
 
 use crate::building::assemble;
 use crate::flat::{ElemRow, HeadRow, IfRow, VerRow};
-use crate::keys::are_rising;
 use crate::loading::load_sorted;
 use crate::reading::{Elems, Heads, Ifs, Vers};
 use sqlite::{Alter, Connection};
@@ -21,6 +20,7 @@ use std::alloc::Global;
 use std::collections::VecDeque;
 use store_rows::ReadError;
 use sysmods_records::Sysmod;
+use tables::are_rising;
 
 /// The rows of the four tables, each by their keys.
 #[derive(Drop)]

@@ -2,7 +2,6 @@
 ghost use Rattle.std.specs.Prelude.{◌≡◌, ◌↔◌, ◌++◌, [], ◌∷◌, All, IsTrue, IsSome, IfOk, IfSome};
 ghost use Rattle.std.specs.Ordering.{is_lt, nat_cmp};
 ghost use Rattle.std.specs.Cmp.Lexicographic.{slice_cmp};
-ghost use Rattle.terms.specs.Rising.{Rises};
 ghost use Rattle.terms.specs.Global.{IsGlobal};
 ghost use Rattle.sysmods_received.specs.Held.{zone_of};
 ghost use Rattle.terms.specs.declared.kinds.HoldKind.TheVariants.{System};
@@ -12,6 +11,7 @@ ghost use Rattle.terms.proofs.GlobalKept.{IsOwned};
 use std::alloc::{AllocError, Global as Heap};
 use sysmods_received::{Received, refusal};
 use sysmods_records::{Hold, Sysmod};
+use tables::are_rising;
 use terms::HoldKind;
 
 /// These SYSMODs, if they are those of a global zone: they rise by id and carry no holds, there is no
@@ -33,24 +33,6 @@ pub(crate) fn received_from(
         }
     }
     Ok(Some(received))
-}
-
-/// Whether the ids rise, none twice.
-fn are_rising(sysmods: &[Sysmod]) -> bool
-    ensures { IsTrue result ↔ Rises (slice_cmp nat_cmp) (λ s. s.id) sysmods.now }
-{
-    for i in 1..sysmods.len() {
-        if !is_before(&sysmods[i - 1], &sysmods[i]) {
-            return false;
-        }
-    }
-    true
-}
-
-fn is_before(first: &Sysmod, second: &Sysmod) -> bool
-    ensures { result ≡ is_lt (slice_cmp nat_cmp first.now.id second.now.id) }
-{
-    first.id < second.id
 }
 
 /// Takes in a SYSMOD that stands behind all others, if they are those of a global zone with it.

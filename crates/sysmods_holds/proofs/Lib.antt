@@ -1,5 +1,4 @@
 pub mod Internal
 pub mod Keyed
 pub mod Listed
-pub mod Neighbours
 pub mod Undoing

@@ -12,13 +12,13 @@ ghost use Rattle.sysmods_holds.specs.Undone.{Undoes, is_restoring};
 
 use crate::iter::Iter;
 use crate::key::{HoldKey, Place, key_of};
-use crate::rising::are_rising;
 use crate::undo::{Undo, put_each, take_back};
 use fields::{Id, Reason};
 use std::alloc::{AllocError, Global};
 use std::collections::BTreeMap;
 use std::marker::Model;
 use sysmods_records::Hold;
+use tables::are_rising;
 use terms::HoldKind;
 use thiserror::Error;
 

@@ -7,7 +7,6 @@
 mod holds;
 mod iter;
 mod key;
-mod rising;
 mod undo;
 
 pub use holds::{Holds, Placed, ReleaseError};

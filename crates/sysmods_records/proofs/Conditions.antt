@@ -1,18 +1,18 @@
 -- An ++IF comes to the ++VER of its SREL, and to no other.
-use Rattle.std.proofs.Common.{◌≡◌, ◌<◌, ◌∙◌, ℕ, suc, Bool, true, false, List, [], ◌∷◌, ◌++◌, length, map, take, drop}
+use Rattle.std.proofs.Common.{◌≡◌, ◌<◌, ◌∙◌, ℕ, suc, true, false, List, [], ◌∷◌, ◌++◌, length, map, take, drop}
 use Rattle.std.proofs.Common.{set, refl, sym, ap}
 use Rattle.std.specs.Prelude.{All, if◌then◌else◌}
 use Rattle.std.specs.Str.{bytes_eq}
 use Rattle.std.specs.declared.cmp.Ordering.TheVariants.{Less}
 use Rattle.std.specs.Ordering.{nat_cmp, is_eq}
 use Rattle.std.specs.Cmp.Lexicographic.{slice_cmp, texts_ties}
-use Rattle.std.proofs.lemmas.Cmp.{nat_list_cmp_total, tied_itself}
+use Rattle.std.proofs.lemmas.Cmp.{nat_list_cmp_total}
 use Rattle.std.proofs.lemmas.List.{map-append, take-append-drop, set_split}
 use Rattle.std.proofs.lemmas.List.Elements.{All-head, All-tail, All-append, All-weaker}
 use Rattle.terms.specs.Types.{Text, IfReq, Ver}
 use Rattle.terms.specs.Rising.{Rises, Splits, StandsAt}
 use Rattle.lemmas.proofs.Texts.{same_back}
-use Rattle.terms.proofs.RisingLists.{Splits-around, Rises-set}
+use Rattle.terms.proofs.RisingLists.{Splits-around}
 
 abbrev pub with_if : IfReq → Ver → Ver
 with_if i v = record v { ifs = v.ifs ++ i ∷ [] }

@@ -14,6 +14,7 @@ ghost use Rattle.terms.specs.Ptfin.{begun};
 use crate::{ElemChange, Hold, IfReq, Sysmod, Ver};
 use fields::{Id, Name, SourceList, Srel};
 use std::alloc::{AllocError, Global};
+use tables::place;
 use terms::{ElemType, Kind};
 
 impl Sysmod {
@@ -54,7 +55,7 @@ impl Sysmod {
         }) }
         ensures err { OnErr result (self.new ≡ self.old) }
     {
-        match ver_place(&self.vers, ver.srel) {
+        match place(&self.vers, ver.srel) {
             Ok(place) => self.vers[place] = ver,
             Err(place) => self.vers.insert(place, ver)?,
         }
@@ -71,7 +72,7 @@ impl Sysmod {
         }) }
         ensures err { OnErr result (self.new ≡ self.old) }
     {
-        if let Ok(place) = ver_place(&self.vers, srel) {
+        if let Ok(place) = place(&self.vers, srel) {
             self.vers[place].add_if(condition)?;
         }
         Ok(())
@@ -101,18 +102,6 @@ impl Sysmod {
         }
         Ok(())
     }
-}
-
-/// Where the `++VER` of the SREL stands, or would come in.
-fn ver_place(vers: &[Ver], srel: Srel) -> Result<usize, usize>
-    requires { Rises (slice_cmp nat_cmp) (λ v. v.srel) vers.now }
-    ensures found { IfOk result
-        (λ i. (i < length vers.now) × ((x : AnyVer) × StandsAt (slice_cmp nat_cmp) (λ v. v.srel) srel vers.now i x)) }
-    ensures missing { IfErr result
-        (λ i. (i ≤ length vers.now) × Splits (slice_cmp nat_cmp)
-        (λ v. v.srel) srel (take i vers.now) (drop i vers.now)) }
-{
-    vers.binary_search_by_key(&srel, |ver| ver.srel)
 }
 
 /// Where a statement for the element of this one stands, or would come in.

@@ -4,22 +4,7 @@ ghost use Rattle.sysmods_records.specs.Views.{action_of};
 
 use crate::{Action, ElemChange, Hold, IfReq, Sysmod, Ver};
 use std::alloc::{AllocError, Global};
-
-/// What is copied into memory of its own.
-pub(crate) trait TryClone: Drop {
-    fn try_clone(&self, alloc: Global) -> Result<Self, AllocError>
-        ensures { IfOk result (λ copy. copy ≡ self.now) };
-}
-
-fn copy_all<T: TryClone>(alloc: Global, items: &[T]) -> Result<Vec<T>, AllocError>
-    ensures { IfOk result (λ copies. copies.items ≡ items.now) }
-{
-    let mut copies = Vec::new(alloc);
-    for item in items {
-        copies.push(item.try_clone(alloc)?)?;
-    }
-    Ok(copies)
-}
+use tables::{TryClone, copied};
 
 impl TryClone for IfReq {
     fn try_clone(&self, alloc: Global) -> Result<Self, AllocError> {
@@ -40,7 +25,7 @@ impl TryClone for Ver {
             sup: self.sup.try_clone(alloc)?,
             npre: self.npre.try_clone(alloc)?,
             del: self.del.try_clone(alloc)?,
-            ifs: copy_all(alloc, self.ifs.as_slice())?,
+            ifs: copied(alloc, self.ifs.as_slice())?,
         })
     }
 }
@@ -98,9 +83,9 @@ impl Sysmod {
             id: self.id,
             kind: self.kind,
             sources: self.sources.try_clone(alloc)?,
-            vers: copy_all(alloc, self.vers.as_slice())?,
-            changes: copy_all(alloc, self.changes.as_slice())?,
-            holds: copy_all(alloc, self.holds.as_slice())?,
+            vers: copied(alloc, self.vers.as_slice())?,
+            changes: copied(alloc, self.changes.as_slice())?,
+            holds: copied(alloc, self.holds.as_slice())?,
         })
     }
 }

@@ -7,6 +7,7 @@ mod adding;
 mod change;
 mod cloning;
 mod hold;
+mod keyed;
 mod sysmod;
 mod ver;
 

@@ -4,7 +4,8 @@ ghost use Rattle.std.specs.Option.{option_to_list};
 ghost use Rattle.terms.specs.Rising.{Rises, before, behind};
 ghost use Rattle.terms.specs.Delta.{edit_key, edit_put, edited};
 
-use crate::keyed::{Keyed, TryClone, place};
+use crate::copies::{TryClone, copy_all};
+use crate::keyed::{Keyed, place};
 use std::alloc::{AllocError, Global};
 use terms::Edit;
 
@@ -81,17 +82,4 @@ fn put<T: Keyed + TryClone>(
         }
         Edit::Remove(_) => Ok(()),
     }
-}
-
-pub(crate) fn copy_all<T: TryClone>(
-    alloc: Global,
-    new: &mut Vec<T>,
-    items: &[T],
-) -> Result<(), AllocError>
-    ensures { OnOk result (new.new.items ≡ new.old.items ++ items.now) }
-{
-    for item in items {
-        new.push(item.try_clone(alloc)?)?;
-    }
-    Ok(())
 }

@@ -3,8 +3,6 @@ ghost use Rattle.std.specs.Prelude.{◌≡◌, ◌<◌, ◌≤◌, ◌↔◌, le
 ghost use Rattle.std.specs.Ordering.{is_lt};
 ghost use Rattle.terms.specs.Rising.{Rises, Splits, StandsAt};
 
-use std::alloc::{AllocError, Global};
-
 /// What stands under a key.
 pub trait Keyed {
     type Key: Ord + Copy;
@@ -15,14 +13,8 @@ pub trait Keyed {
         ensures { result ≡ key_of self.now };
 }
 
-/// What can be copied where memory lasts.
-pub trait TryClone: Drop {
-    fn try_clone(&self, alloc: Global) -> Result<Self, AllocError>
-        ensures { IfOk result (λ copy. copy ≡ self.now) };
-}
-
 /// Where the key is, or where it would come in.
-pub(crate) fn place<T: Keyed>(items: &[T], key: T::Key) -> Result<usize, usize>
+pub fn place<T: Keyed>(items: &[T], key: T::Key) -> Result<usize, usize>
     requires { Rises T.Key.cmp T.key_of items.now }
     ensures found { IfOk result
         (λ i. (i < length items.now) × ((x : T) × StandsAt T.Key.cmp T.key_of key items.now i x)) }

@@ -1,9 +1,11 @@
 //! Tables: items in the order of their keys, no key twice.
 #![tactic(auto)]
 
+mod copies;
 mod edits;
 mod keyed;
 mod table;
 
-pub use keyed::{Keyed, TryClone, are_rising};
+pub use copies::{TryClone, copied};
+pub use keyed::{Keyed, are_rising, place};
 pub use table::Table;

@@ -6,8 +6,9 @@ ghost use Rattle.std.specs.Ordering.{is_lt};
 ghost use Rattle.terms.specs.Rising.{Rises, with_item, Splits, StandsAt};
 ghost use Rattle.terms.specs.Delta.{edited};
 
-use crate::edits::{copy_all, edited};
-use crate::keyed::{Keyed, TryClone, are_rising, place, stands_last};
+use crate::copies::{TryClone, copied};
+use crate::edits::edited;
+use crate::keyed::{Keyed, are_rising, place, stands_last};
 use std::alloc::{AllocError, Global};
 use std::marker::Model;
 use terms::Edit;
@@ -113,9 +114,9 @@ impl<T: Keyed + TryClone> Table<T> {
     pub fn try_clone(&self, alloc: Global) -> Result<Self, AllocError>
         ensures { IfOk result (λ copy. copy ≡ self.now) }
     {
-        let mut items = Vec::new(alloc);
-        copy_all(alloc, &mut items, self.items.as_slice())?;
-        Ok(Table { items })
+        Ok(Table {
+            items: copied(alloc, self.items.as_slice())?,
+        })
     }
 
     /// The table after these edits. It goes over the items once.

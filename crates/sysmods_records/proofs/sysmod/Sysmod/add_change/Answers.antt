@@ -1,5 +1,5 @@
-use Rattle.std.proofs.Common.{◌∙◌, sym, ap, refl}
-use Rattle.terms.specs.Types.{Change, Sysmod}
+use Rattle.std.proofs.Common.{refl}
+use Rattle.terms.specs.Types.{Change}
 use Rattle.terms.proofs.ElementOrder.{change_cmp_total}
 use Rattle.terms.proofs.RisingLists.{with_item-set, Rises-set, with_item-parted, Rises-parted}
 use Rattle.sysmods_records.proofs.sysmod.Sysmod.add_change.Goals as goal

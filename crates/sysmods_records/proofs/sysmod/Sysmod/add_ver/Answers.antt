@@ -1,6 +1,6 @@
-use Rattle.std.proofs.Common.{◌≡◌, ◌∙◌, sym, ap, refl}
+use Rattle.std.proofs.Common.{◌≡◌, ap, refl}
 use Rattle.std.proofs.lemmas.Cmp.{nat_list_cmp_total}
-use Rattle.terms.specs.Types.{Ver, Sysmod}
+use Rattle.terms.specs.Types.{Ver}
 use Rattle.terms.proofs.RisingLists.{with_item-set, Rises-set, with_item-parted, Rises-parted}
 use Rattle.sysmods_records.proofs.sysmod.Sysmod.add_ver.Goals as goal
 
