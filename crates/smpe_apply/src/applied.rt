@@ -3,6 +3,7 @@ ghost use Rattle.std.specs.Prelude.{◌≡◌, None, All, IsTrue, List, IfOk, ma
 ghost use Rattle.terms.specs.Types.{Id as AnId, Zone as AZone};
 ghost use Rattle.terms.specs.Candidates.{is_installable};
 ghost use Rattle.terms.specs.CommandForms.{no_bypass};
+ghost use Rattle.terms.specs.Forms.{IsDottedDate};
 ghost use Rattle.terms.specs.Delta.{IsChanged};
 ghost use Rattle.machine.specs.Installing.{InstallsSelected};
 ghost use Rattle.report.specs.Views.{line_view};
@@ -39,7 +40,9 @@ pub fn apply(
         InstallsSelected global.now zone.now None selection.now no_bypass date new (map line_view a.lines.items)) }
     ensures puts { IfOk result (λ a. (kept : List AnId) × All (λ x. IsTrue (is_installable global.now zone.now x)) kept
         × (a.delta ≡ puts global.now date kept)) }
+    ensures dated { IsDottedDate date }
 {
+    prove!(date.as_bytes().len() == 6);
     let ids = candidates(alloc, global, zone, selection)?;
     let Decided { kept, failed } = decide(alloc, global, zone, &ids)?;
     let delta = install(alloc, global, zone, &kept, date)?;

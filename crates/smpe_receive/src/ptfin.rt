@@ -1,6 +1,7 @@
 //! The items of a PTFIN.
-ghost use Rattle.std.specs.Prelude.{◌≡◌, IfOk, OnOk, map};
+ghost use Rattle.std.specs.Prelude.{◌≡◌, IfOk, IfSome, OnOk, map};
 ghost use Rattle.terms.specs.Types.{Global as AGlobal, ASysmod};
+ghost use Rattle.terms.specs.Forms.{IsSource};
 ghost use Rattle.machine.specs.Runs.{Runs};
 ghost use Rattle.machine.specs.Receiving.{TakesItem, sourced, receive_status};
 ghost use Rattle.mcs.specs.Files.{item_of, items};
@@ -112,7 +113,12 @@ pub fn receive(
         (map line_view t.lines.items)) }
     ensures fits { IfOk result (λ t. EachFits t.edits.items global.old) }
     ensures edits { IfOk result (λ t. after_edits t.edits.items global.old ≡ global.new) }
+    ensures form { IfSome source IsSource }
 {
+    prove!(match &source {
+        Some(source) => !source.as_bytes().is_empty(),
+        None => true,
+    });
     let mut taken = Taken::new(alloc);
     take_items(alloc, global, found, &source, &mut taken)?;
     Ok(taken)

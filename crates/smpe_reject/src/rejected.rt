@@ -1,6 +1,7 @@
 ghost use Rattle.std.specs.Prelude.{◌≡◌, List, IfOk, OnOk, map};
 ghost use Rattle.std.specs.List.{list_any};
-ghost use Rattle.indexmap.specs.IndexMap.{values};
+ghost use Rattle.std.specs.Str.{bytes_eq};
+ghost use Rattle.indexmap.specs.IndexMap.{values, IsUnique};
 ghost use Rattle.terms.specs.Types.{NamedZone};
 ghost use Rattle.terms.specs.Lookups.{is_applied};
 ghost use Rattle.machine.specs.Runs.{Runs};
@@ -91,7 +92,9 @@ pub fn reject(
         → Runs (RejectsId named) global.old ids.now global.new (map line_view r.lines.items)) }
     ensures fits { IfOk result (λ r. EachFits r.edits.items global.old) }
     ensures edits { IfOk result (λ r. after_edits r.edits.items global.old ≡ global.new) }
+    ensures names { IsUnique bytes_eq zones.now }
 {
+    prove!(zones.len() < usize::MAX);
     let mut rejected = Rejected {
         edits: Vec::new(alloc),
         lines: Vec::new(alloc),

@@ -6,7 +6,6 @@ ghost use Rattle.sqlite.specs.Held.{state};
 ghost use Rattle.sqlite.specs.State.{HasCleanDisk};
 ghost use Rattle.terms.specs.Types.{Text, Install as AnInstall, Apply, Zone as AZone};
 ghost use Rattle.terms.specs.Delta.{IsChanged};
-ghost use Rattle.terms.specs.Forms.{IsDottedDate};
 ghost use Rattle.store_zones.specs.Zones.{IsZoneChange};
 ghost use Rattle.store_schema.specs.Inventory.{IsInventory};
 ghost use Rattle.machine.specs.State.{State};
@@ -49,13 +48,6 @@ pub(crate) struct Planned {
     lines: Vec<Line>,
 }
 
-/// That a date has its form. The call does nothing.
-fn known_date(date: YyDdd)
-    ensures { IsDottedDate date }
-{
-    let _ = date.as_bytes();
-}
-
 fn plan(
     alloc: Heap,
     global: &Global,
@@ -66,7 +58,6 @@ fn plan(
     ensures { IfOk result (λ p. IsPlan global.now zone.now selection.now date p.delta p.zone
         (map line_view p.lines.items)) }
 {
-    known_date(date);
     let Applied { delta, lines } = apply(alloc, global, zone, selection, date)?;
     let lines = or_nothing(lines)?;
     let zone = delta.apply(alloc, zone)?;

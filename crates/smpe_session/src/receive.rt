@@ -34,15 +34,6 @@ use store_schema::StoreError;
 use sysmods::Global;
 use terms::CommandWord;
 
-/// That a source has its form. The call does nothing.
-fn known_source(source: Option<Source>)
-    ensures { IfSome source IsSource }
-{
-    if let Some(source) = source {
-        let _ = source.as_bytes();
-    }
-}
-
 /// The second list behind the first.
 fn append<T: Drop>(front: &mut Vec<T>, back: Vec<T>) -> Result<(), AllocError>
     ensures { OnOk result (front.new.items ≡ front.old.items ++ back.items) }
@@ -61,7 +52,8 @@ fn take_found(
     source: Option<Source>,
 ) -> Result<Taken, AllocError>
     requires { All IsExternal (hold_items found.holds.items) }
-    ensures { IfOk result (λ t. AreTaken source (items found.items.items) (hold_items found.holds.items) global.old
+    ensures form { IfSome source IsSource }
+    ensures taken { IfOk result (λ t. AreTaken source (items found.items.items) (hold_items found.holds.items) global.old
         global.new t.edits.items (map line_view t.lines.items)) }
 {
     let Taken {
@@ -87,7 +79,6 @@ fn take_items<S: Alter>(
     ensures ended { HasCleanDisk (state S.Store store.new) → (s : State) → s.global ≡ global.old
         → Keeps S.Store store.old s
         → (date : Text) (files : AllFiles) (what : AWhat) → misplaced s (Receive what) ≡ None → what.source ≡ source
-        → IfSome source IsSource
         → HasItems IsPtfin what.sysmods files.ptfin (items found.items.items)
         → HasItems IsHoldFile what.holddata files.holds (hold_items found.holds.items)
         → HasRun S.Store store.new s (Perform date files (Receive what))
@@ -120,7 +111,6 @@ impl Session {
         if let Some(refusal) = unless_global(self.boundary) {
             return Ok(Outcome::Refused { header, refusal });
         }
-        known_source(what.source);
         match read_files(alloc, files, what)? {
             Ok(found) => {
                 let lines = take_items(alloc, store, &mut self.global, found, what.source)?;

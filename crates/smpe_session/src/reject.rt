@@ -28,13 +28,6 @@ use sysmods::Global;
 use terms::CommandWord;
 use zones::Zone;
 
-/// That no name stands twice. The call does nothing.
-fn known_names(zones: &IndexMap<ZoneName, Zone>)
-    ensures { IsUnique bytes_eq zones.now }
-{
-    let _ = zones.len();
-}
-
 /// Rejects the ids, and commits what they change.
 fn reject_ids<S: Alter>(
     alloc: Heap,
@@ -49,6 +42,7 @@ fn reject_ids<S: Alter>(
         → (date : Text) (files : Files) → misplaced s (Reject ids.now) ≡ None
         → HasRun S.Store store.new s (Perform date files (Reject ids.now))
         (LeadsToGlobal date files (Reject ids.now) s global.new) (λ v. map line_view v.items) result }
+    ensures names { IsUnique bytes_eq zones.now }
 {
     let Rejected { edits, lines } = reject(alloc, global, zones, ids)?;
     commit_change(store, &Change::Global(edits))?;
@@ -106,7 +100,6 @@ impl Session {
             return Ok(Outcome::Refused { header, refusal });
         }
         self.load_zones(store)?;
-        known_names(&self.zones);
         let lines = reject_ids(alloc, store, &mut self.global, &self.zones, ids)?;
         Ok(Outcome::Ran { header, lines })
     }

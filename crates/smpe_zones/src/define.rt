@@ -1,7 +1,6 @@
 //! A zone is defined in the store.
 ghost use Rattle.sqlite.specs.Held.{state};
 ghost use Rattle.sqlite.specs.State.{HasCleanDisk};
-ghost use Rattle.terms.specs.Forms.{IsZoneName, IsSrel};
 ghost use Rattle.machine.specs.State.{State};
 ghost use Rattle.store.specs.Kept.{Keeps};
 ghost use Rattle.smpe_zones.specs.Definitions.{HasDefined, definition};
@@ -13,15 +12,6 @@ use sqlite::Alter;
 use std::alloc::Global as Heap;
 use store::{Change, Store};
 use terms::ZoneKind;
-
-// The forms of the two. The call does nothing.
-fn known(name: ZoneName, srel: Srel)
-    ensures name { IsZoneName name }
-    ensures srel { IsSrel srel }
-{
-    let _ = name.as_bytes();
-    let _ = srel.as_bytes();
-}
 
 /// Adds a zone without entries, or tells the first fault that applies.
 pub fn define_zone<S: Alter>(
@@ -39,7 +29,6 @@ pub fn define_zone<S: Alter>(
     if let Some(fault) = first_fault(heads.as_slice(), name, kind, srel, &related) {
         return Err(ZoneError::Refused(fault));
     }
-    known(name, srel);
     store.commit(&Change::NewZone(name, kind, srel, related))?;
     Ok(())
 }

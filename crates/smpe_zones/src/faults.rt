@@ -1,6 +1,7 @@
 //! The first fault of a definition.
 ghost use Rattle.std.specs.Prelude.{◌≡◌, ◌==◌, option_copied, is_some};
 ghost use Rattle.std.specs.List.{list_any};
+ghost use Rattle.terms.specs.Forms.{IsSrel, IsZoneName};
 ghost use Rattle.terms.specs.Types.{zone_number};
 ghost use Rattle.smpe_zones.specs.Definitions.{definition};
 ghost use Rattle.smpe_zones.specs.Heads.{named, names_it, is_distribution, is_free, has_right_related, has_srel};
@@ -80,12 +81,13 @@ fn has_same_srel(heads: &[ZoneHead], srel: Srel, related: &Option<ZoneName>) -> 
 }
 
 fn is_taken(heads: &[ZoneHead], name: ZoneName) -> bool
-    ensures { result ≡ is_taken heads.now name }
+    ensures taken { result ≡ is_taken heads.now name }
+    ensures form { IsZoneName name }
 {
     name.as_bytes() == b"GLOBAL".as_slice() || named(heads, name).is_some()
 }
 
-/// Why a zone can't be defined among the zones of these heads, if it can't.
+/// Why a zone can't be defined among the zones of these heads, if it can't. Its name and its SREL have their forms.
 pub(crate) fn first_fault(
     heads: &[ZoneHead],
     name: ZoneName,
@@ -93,8 +95,11 @@ pub(crate) fn first_fault(
     srel: Srel,
     related: &Option<ZoneName>,
 ) -> Option<ZoneFault>
-    ensures { result ≡ first_fault heads.now (definition name kind srel related.now) }
+    ensures fault { result ≡ first_fault heads.now (definition name kind srel related.now) }
+    ensures name { IsZoneName name }
+    ensures srel { IsSrel srel }
 {
+    prove!(srel.as_bytes().len() == 4);
     if is_taken(heads, name) {
         return Some(ZoneFault::NameTaken);
     }

@@ -6,8 +6,8 @@ use Rattle.report.specs.Views.{line_view}
 use Rattle.smpe_session.proofs.Received.{both-taken}
 use Rattle.smpe_session.proofs.receive.take_found.Goals as goal
 
-pub returns : goal.returns
-returns c =
+pub returns-clause-taken : goal.returns-clause-taken
+returns-clause-taken c =
     let first = c.in_ok-edits.field-0 in
     let more = c.in_ok-more.more in
     both-taken c.args.source (items c.args.found.items.items) (hold_items c.args.found.holds.items) c.args.global.now _

@@ -11,26 +11,27 @@ use Rattle.smpe_session.proofs.Stepping.{kept-inventory, run-short, run-staying,
 use Rattle.smpe_session.proofs.receive.take_items.Goals as goal
 
 pub returns-in_err-edits-clause-ended : goal.returns-in_err-edits-clause-ended
-returns-in_err-edits-clause-ended g c = λ clean s global keeps date files what at sources form reads reads_holds.
+returns-in_err-edits-clause-ended g c = λ clean s global keeps date files what at sources reads reads_holds.
     run-short g.S.Store c.args.store.now s (Perform date files (Receive what))
     (LeadsToGlobal date files (Receive what) s c.take_found.new.global) (λ v. map line_view v.items)
     c.from_residual.result c.from_residual.ensures.1 keeps
 
 pub returns-in_err-lines-clause-ended : goal.returns-in_err-lines-clause-ended
-returns-in_err-lines-clause-ended g c = λ clean s global keeps date files what at sources form reads reads_holds.
+returns-in_err-lines-clause-ended g c = λ clean s global keeps date files what at sources reads reads_holds.
     run-short g.S.Store c.args.store.now s (Perform date files (Receive what))
     (LeadsToGlobal date files (Receive what) s c.take_found.new.global) (λ v. map line_view v.items)
     c.from_residual-in_err-lines.result c.from_residual-in_err-lines.ensures.1 keeps
 
 pub returns-in_err-commit_change-clause-ended : goal.returns-in_err-commit_change-clause-ended
-returns-in_err-commit_change-clause-ended g c = λ clean s global keeps date files what at sources form reads
+returns-in_err-commit_change-clause-ended g c = λ clean s global keeps date files what at sources reads
     reads_holds.
     let is = kept-inventory g.S.Store c.args.store.now s (c.commit_change.ensures.clean clean) keeps in
     let taken = received date files what s c.args.global.now c.take_found.new.global c.args.source
     (items c.args.found.items.items) (hold_items c.args.found.holds.items)
     c.in_ok-edits.field-0.edits.items (map line_view c.in_ok-edits.field-0.lines.items)
     (map line_view c.in_ok-lines.lines.items)
-    global is at sources form reads reads_holds c.in_ok-edits.ensures c.in_ok-lines.ensures in
+    global is at sources c.take_found.ensures.form reads reads_holds c.in_ok-edits.ensures.taken
+    c.in_ok-lines.ensures in
     let t = record s { global = c.take_found.new.global } in
     run-staying g.S.Store c.commit_change.new.store s (Perform date files (Receive what))
     (LeadsToGlobal date files (Receive what) s c.take_found.new.global) (λ v. map line_view v.items)
@@ -42,12 +43,13 @@ returns-in_err-commit_change-clause-ended g c = λ clean s global keeps date fil
     (c.in_err-commit_change.ensures.ended s t keeps (taken.fits, taken.makes) taken.inventory))
 
 pub returns-clause-ended : goal.returns-clause-ended
-returns-clause-ended g c = λ clean s global keeps date files what at sources form reads reads_holds.
+returns-clause-ended g c = λ clean s global keeps date files what at sources reads reads_holds.
     let is = kept-inventory g.S.Store c.args.store.now s (c.commit_change.ensures.clean clean) keeps in
     let taken = received date files what s c.args.global.now c.take_found.new.global c.args.source
     (items c.args.found.items.items) (hold_items c.args.found.holds.items)
     c.in_ok-edits.field-0.edits.items (map line_view c.in_ok-edits.field-0.lines.items)
     (map line_view c.in_ok-lines.lines.items)
-    global is at sources form reads reads_holds c.in_ok-edits.ensures c.in_ok-lines.ensures in
+    global is at sources c.take_found.ensures.form reads reads_holds c.in_ok-edits.ensures.taken
+    c.in_ok-lines.ensures in
     let t = record s { global = c.take_found.new.global } in
     (t, taken.leads, c.in_ok-commit_change.ensures.ended s t keeps (taken.fits, taken.makes) taken.inventory)

@@ -31,7 +31,7 @@ returns-in-Some-clause-ended g c = λ clean s keeps.
     let d = definition c.args.name c.args.kind c.args.srel c.args.related in
     let at = c.in_ok-heads.ensures in
     let found = c.as_slice.ensures.value ∙ at.found clean (kept s) keeps.now in (
-      refuses s d c.in-Some.fault (sym (c.first_fault.ensures ∙ ap (λ heads. first_fault heads d) found)
+      refuses s d c.in-Some.fault (sym (c.first_fault.ensures.fault ∙ ap (λ heads. first_fault heads d) found)
           ∙ c.in-Some.is),
       keeps-loaded g.S.Store c.args.store.now c.zone_heads.new.self s keeps (at.same (kept s))
           (at.crash (kept s) keeps.now),
@@ -46,12 +46,12 @@ returns-in_err-commit-clause-ended g c = λ clean s keeps.
     let before = c.zone_heads.new.self in
     let was = keeps-loaded g.S.Store c.args.store.now before s keeps (at.same (kept s)) (at.crash (kept s) keeps.now) in
     let found = c.as_slice.ensures.value ∙ at.found (c.commit.ensures.clean clean) (kept s) keeps.now in
-    let answers = accepts s d (sym (c.first_fault.ensures ∙ ap (λ heads. first_fault heads d) found) ∙ c.in_default.is)
+    let answers = accepts s d (sym (c.first_fault.ensures.fault ∙ ap (λ heads. first_fault heads d) found) ∙ c.in_default.is)
     in
     let t = with_zone s d.name (a_zone d.kind d.srel d.related [] []) in
     let inventory = inventory-kept g.S.Store before s was (c.commit.ensures.clean clean) in
     let is_made = makes s t d answers inventory in
-    let is_led = leads s t d answers inventory c.known.ensures.name c.known.ensures.srel in
+    let is_led = leads s t d answers inventory c.first_fault.ensures.name c.first_fault.ensures.srel in
     ends-early g.S.Store c.commit.new.self s d c.in_err-commit.field-0.0 c.from_residual-in_err-commit.result
     (p.1 ∙ ap (λ e. Err e) p.2)
     c.in_err-commit.ensures.which
@@ -66,12 +66,12 @@ returns-clause-ended g c = λ clean s keeps.
     let before = c.zone_heads.new.self in
     let was = keeps-loaded g.S.Store c.args.store.now before s keeps (at.same (kept s)) (at.crash (kept s) keeps.now) in
     let found = c.as_slice.ensures.value ∙ at.found (c.commit.ensures.clean clean) (kept s) keeps.now in
-    let answers = accepts s d (sym (c.first_fault.ensures ∙ ap (λ heads. first_fault heads d) found) ∙ c.in_default.is)
+    let answers = accepts s d (sym (c.first_fault.ensures.fault ∙ ap (λ heads. first_fault heads d) found) ∙ c.in_default.is)
     in
     let t = with_zone s d.name (a_zone d.kind d.srel d.related [] []) in
     let inventory = inventory-kept g.S.Store before s was (c.commit.ensures.clean clean) in
     let is_made = makes s t d answers inventory in
-    let is_led = leads s t d answers inventory c.known.ensures.name c.known.ensures.srel in (
+    let is_led = leads s t d answers inventory c.first_fault.ensures.name c.first_fault.ensures.srel in (
       t,
       answers,
       keeps-committed g.S.Store before c.commit.new.self s was t

@@ -33,14 +33,14 @@ returns-in_err-lines-in-Ok-clause-ended g c = λ clean s is keeps date.
     c.from_residual-in_err-lines-in-Ok.ensures.1
     (c.in_err-lines-in-Ok.ensures.ended clean s (sym is.global) keeps date c.args.files.now c.args.what.now
     (sym (c.in_default.ensures s (sym is.boundary) ∙ receive-at s c.args.what.now))
-    (sym (ap (λ w. w.source) c.what.view_is)) c.known_source.ensures found.0 found.1)
+    (sym (ap (λ w. w.source) c.what.view_is)) found.0 found.1)
 
 pub returns-in_ok-lines-in-Ok-clause-ended : goal.returns-in_ok-lines-in-Ok-clause-ended
 returns-in_ok-lines-in-Ok-clause-ended g c = λ clean s is keeps date.
     let found = rw c.in-Ok.is at c.in_ok-found.ensures in
     let ran = c.in_ok-lines-in-Ok.ensures.ended clean s (sym is.global) keeps date c.args.files.now c.args.what.now
     (sym (c.in_default.ensures s (sym is.boundary) ∙ receive-at s c.args.what.now))
-    (sym (ap (λ w. w.source) c.what.view_is)) c.known_source.ensures found.0 found.1 in (
+    (sym (ap (λ w. w.source) c.what.view_is)) found.0 found.1 in (
       ran.0,
       led date c.args.files.now (Receive c.args.what.now) s ran.0 c.take_items.new.global c.args.self.now.boundary _
           is.boundary ran.1,

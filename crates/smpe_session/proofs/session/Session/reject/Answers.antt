@@ -27,7 +27,7 @@ returns-in_err-lines-clause-ended g c = λ clean s is keeps date files.
     performs-staying g.S.Store c.reject_ids.new.store s _ date files (Reject c.args.ids.now)
     c.from_residual-in_err-lines.result c.in_err-lines.field-0.0 c.from_residual-in_err-lines.ensures.1
     (c.in_err-lines.ensures.ended clean s (sym had.0.session.global)
-    (alike s c.load_zones.new.self inventory c.known_names.ensures had.0) had.1 date files
+    (alike s c.load_zones.new.self inventory c.reject_ids.ensures.names had.0) had.1 date files
     (sym (c.in_default.ensures s (sym is.boundary) ∙ reject-at s c.args.ids.now)))
 
 pub returns-clause-ended : goal.returns-clause-ended
@@ -35,7 +35,7 @@ returns-clause-ended g c = λ clean s is keeps date files.
     let had = c.in_ok-load_zones.ensures.ended (c.reject_ids.ensures.clean clean) s is keeps in
     let inventory = kept-inventory g.S.Store c.load_zones.new.store s (c.reject_ids.ensures.clean clean) had.1 in
     let ran = c.in_ok-lines.ensures.ended clean s (sym had.0.session.global)
-    (alike s c.load_zones.new.self inventory c.known_names.ensures had.0) had.1 date files
+    (alike s c.load_zones.new.self inventory c.reject_ids.ensures.names had.0) had.1 date files
     (sym (c.in_default.ensures s (sym is.boundary) ∙ reject-at s c.args.ids.now)) in (
       ran.0,
       led date files (Reject c.args.ids.now) s ran.0 c.reject_ids.new.global c.args.self.now.boundary _ is.boundary
