@@ -35,7 +35,7 @@ pub fn install(
           date = date;
         }) new) }
 {
-    global.known();
+    prove!(global.len() < 65_536);
     zone.known();
     zone.known_lists();
     put_sysmods(alloc, global, kept.as_slice(), date)

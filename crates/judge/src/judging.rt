@@ -1,4 +1,4 @@
-ghost use Rattle.std.specs.Prelude.{◌≡◌, ◌<◌, ◌^◌, None, All, Some, IsTrue, IfOk, length, map};
+ghost use Rattle.std.specs.Prelude.{◌≡◌, None, All, IsTrue, IfOk, map};
 ghost use Rattle.terms.specs.Lookups.{IsRising};
 ghost use Rattle.terms.specs.CommandForms.{no_bypass};
 ghost use Rattle.terms.specs.Candidates.{is_installable};
@@ -25,16 +25,6 @@ pub struct Judged {
     pub tests: Vec<Vec<Test>>,
 }
 
-// They are no more than the received SYSMODs. The call does nothing.
-fn known_few(global: &Global, zone: &Zone, ids: &IdList)
-    requires { All (λ x. IsTrue (is_installable global.now zone.now x)) ids.now }
-    ensures { length ids.now < 2 ^ 32 }
-{
-    global.known();
-    zone.known();
-    let _ = ids.as_slice();
-}
-
 /// Judges the candidates of an APPLY in this zone.
 pub fn judge(alloc: Heap, global: &Global, zone: &Zone, ids: &IdList) -> Result<Judged, AllocError>
     requires { All (λ x. IsTrue (is_installable global.now zone.now x)) ids.now }
@@ -43,10 +33,13 @@ pub fn judge(alloc: Heap, global: &Global, zone: &Zone, ids: &IdList) -> Result<
     ensures tests { IfOk result (λ j. AreFailedTests (setting global.now zone.now None ids.now no_bypass)
         (map (λ row. row.items) j.tests.items)) }
 {
-    known_few(global, zone, ids);
     zone.known();
-    let faults = all_faults(alloc, global, zone, ids.as_slice())?;
-    let shared = shared_places(alloc, global, ids.as_slice(), faults.as_slice())?;
+    let list = ids.as_slice();
+    // They are no more than the received SYSMODs.
+    prove!(global.len() < 65_536);
+    prove!(list.len() < 4_294_967_296);
+    let faults = all_faults(alloc, global, zone, list)?;
+    let shared = shared_places(alloc, global, list, faults.as_slice())?;
     let tests = all_rows(alloc, faults.as_slice(), &shared)?;
     let eligible = all_eligible(alloc, faults.as_slice(), &shared)?;
     let (system, needed) = wants_of(alloc, global, zone, ids, eligible)?;

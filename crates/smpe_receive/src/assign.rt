@@ -73,7 +73,6 @@ fn assign_id(
 ) -> Result<(), AllocError>
     ensures { OnOk result (IsTaken (AssignsId source global.old id) global.old global.new taken.old taken.new) }
 {
-    global.known();
     let place = place_of(global, id);
     let received = global.assign(source, id)?;
     write_sources(alloc, &mut taken.edits, global, id)?;

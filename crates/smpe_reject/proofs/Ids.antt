@@ -1,6 +1,6 @@
 -- Ids that are rejected, one after another.
 use Rattle.std.proofs.Common.{◌≡◌, ◌∙◌, Bool, true, false, not, List, [], ◌∷◌, ◌++◌, map, take, All, sym, ap, subst, Ok}
-use Rattle.std.proofs.Common.{Err, true≢false, if◌then◌else◌}
+use Rattle.std.proofs.Common.{Err, true≢false, if◌then◌else◌, refl, append-nil, arith}
 use Rattle.std.specs.Prelude.{Result, IsOk, OnOk}
 use Rattle.std.specs.List.{list_any}
 use Rattle.std.proofs.lemmas.List.{map-append}
@@ -14,9 +14,10 @@ use Rattle.machine.specs.Runs.{Runs}
 use Rattle.machine.specs.Receiving.{global_after}
 use Rattle.machine.proofs.Joined.{runs-append}
 use Rattle.machine.specs.Rejecting.{reject_status, RejectsId}
+use Rattle.report.specs.declared.outcome.Status.{Status}
 use Rattle.report.specs.declared.outcome.Status.TheVariants.{Rejected}
 use Rattle.report.specs.declared.outcome.Line.{Line}
-use Rattle.report.specs.Views.{line_view}
+use Rattle.report.specs.Views.{line_view, status_view}
 use Rattle.sysmods.specs.declared.edit.GlobalEdit.{GlobalEdit}
 use Rattle.sysmods.specs.Edits.{after_edit, after_edits, EachFits}
 use Rattle.smpe_reject.specs.Rejections.{AppliesAlike, edits_of, FitsAlways, IsAnswered, AreRejected, IsRejected}
@@ -38,6 +39,18 @@ module _ {S : Type 0} (zones : IndexMap Text Zone S) (g : Global) (x : Id) where
       → reject g named x ≡ answer g x r a
   answered named alike r a received is = ap (λ b. answer g x b (list_any (λ z. is_applied z.zone x) named)) received
       ∙ ap (answer g x r) (alike x ∙ is)
+
+  pub left-in : (edits : List GlobalEdit) (r a : Bool) (why : RejectFault) (status : Status) → is_received g x ≡ r
+      → applied ≡ a → answer g x r a ≡ Err why → status_view status ≡ reject_status (Err why)
+      → IsAnswered zones g x g edits edits status
+  left-in edits r a why status received is answers printed = record {
+    own = [];
+    edits_are = sym (append-nil edits);
+    fits = λ k d below. absurd (omega (arith, below));
+    after = refl;
+    leads = λ named alike. sym (ap (or_same g) (answered named alike r a received is ∙ answers));
+    told = λ named alike. printed ∙ sym (ap reject_status (answered named alike r a received is ∙ answers));
+  }
 
   pub taken-out : (new : Global) (edits later : List GlobalEdit) → IsGlobal g → is_received g x ≡ true → applied ≡ false
       → later ≡ edits ++ edits_of g x → new ≡ without_sysmod g x

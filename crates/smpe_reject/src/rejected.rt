@@ -53,7 +53,6 @@ fn take_out(
 ) -> Result<Status, AllocError>
     ensures { IfOk result (IsAnswered zones.now global.old id global.new edits.old.items edits.new.items) }
 {
-    global.known();
     if !global.is_received(id) {
         return Ok(Status::Refused(IdRefusal::Rj2));
     }

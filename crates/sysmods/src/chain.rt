@@ -35,7 +35,6 @@ impl<'a> Chain<'a> {
     pub(crate) fn new(global: &'a Global, srel: Srel, id: Id) -> Chain<'a>
         ensures { result ≡ chain global.now (by_srel global.now srel) id }
     {
-        global.known();
         Chain {
             global,
             srel,

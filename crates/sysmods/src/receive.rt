@@ -25,7 +25,6 @@ pub(crate) fn take_in(
     ensures holds { OnOk result (holds.new ≡ with_holds holds.old sysmod.holds) }
     ensures err { OnErr result ((sysmods.new ≡ sysmods.old) × (holds.new ≡ holds.old)) }
 {
-    sysmods.known();
     let id = sysmod.id;
     let inside = sysmod.take_holds(alloc);
     drop(sysmods.insert(sysmod)?);

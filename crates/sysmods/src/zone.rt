@@ -82,16 +82,10 @@ impl Global {
         Ok(Some(Global { sysmods, holds }))
     }
 
-    /// What holds of each global zone. The call does nothing.
-    pub fn known(&self)
-        ensures { IsGlobal self.now }
-    {
-        let _ = &self.holds;
-    }
-
     /// How many SYSMODs are received.
     pub fn len(&self) -> usize
-        ensures { result ≡ length self.now.sysmods }
+        ensures len { result ≡ length self.now.sysmods }
+        ensures form { IsGlobal self.now }
     {
         self.sysmods.len()
     }
@@ -128,9 +122,10 @@ impl Global {
 
     /// Whether a SYSMOD of this id is received.
     pub fn is_received(&self, id: Id) -> bool
-        ensures { result ≡ is_received self.now id }
+        ensures received { result ≡ is_received self.now id }
+        ensures form { IsGlobal self.now }
     {
-        self.get(id).is_some()
+        self.sysmods.get(id).is_some()
     }
 
     /// Whether a function of this id is received.
@@ -207,6 +202,7 @@ impl Global {
         ensures received { IfOk result (λ there. there ≡ is_received self.old id) }
         ensures ok { OnOk result (self.new ≡ assigned self.old source id) }
         ensures err { OnErr result (self.new ≡ self.old) }
+        ensures form { IsGlobal self.old }
     {
         let there = self.is_received(id);
         self.sysmods.add_source(id, source)?;

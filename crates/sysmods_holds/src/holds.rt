@@ -95,13 +95,6 @@ impl Holds {
         self.map.is_empty()
     }
 
-    /// What holds of each list. The call does nothing.
-    pub fn known(&self)
-        ensures { Rises hold_cmp (λ h. h) self.now }
-    {
-        let _ = self.map.len();
-    }
-
     /// The hold of this key.
     pub fn get(&self, id: Id, kind: HoldKind, reason: Reason) -> Option<&Hold>
         ensures { option_copied result ≡ held self.now id kind reason }

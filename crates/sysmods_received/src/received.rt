@@ -1,5 +1,5 @@
 //! The received SYSMODs.
-ghost use Rattle.std.specs.Prelude.{◌≡◌, ◌++◌, false, [], length, All, None, Some, not, map, filter, is_some};
+ghost use Rattle.std.specs.Prelude.{◌≡◌, ◌++◌, false, [], length, None, Some, not, map, filter, is_some};
 ghost use Rattle.std.specs.Prelude.{option_copied, IfOk, OnOk, OnErr, if◌then◌else◌};
 ghost use Rattle.std.specs.List.{list_any};
 ghost use Rattle.std.specs.Option.{option_map_or};
@@ -10,7 +10,7 @@ ghost use Rattle.std.specs.BTreeSet.{IsOrdered};
 ghost use Rattle.std.specs.Map.Iter.{ShowsInOrder, deref};
 ghost use Rattle.terms.specs.Lookups.{is_in};
 ghost use Rattle.terms.specs.Rising.{Rises, with_item};
-ghost use Rattle.terms.specs.Global.{IsSysmod, named, named_functions, names_for, with_source};
+ghost use Rattle.terms.specs.Global.{named, named_functions, names_for, with_source};
 ghost use Rattle.sysmods_received.specs.Held.{found, zone_of};
 ghost use Rattle.sysmods_received.specs.Namers.{namers_for};
 ghost use Rattle.sysmods_received.specs.Ways.{names_so};
@@ -61,14 +61,6 @@ impl Received {
         self.by_id.len()
     }
 
-    /// What holds of all received SYSMODs. The call does nothing.
-    pub fn known(&self)
-        ensures rising { Rises (slice_cmp nat_cmp) (λ s. s.id) self.now }
-        ensures formed { All IsSysmod self.now }
-    {
-        let _ = self.by_id.len();
-    }
-
     /// The SYSMOD of this id.
     pub fn get(&self, id: Id) -> Option<&Sysmod>
         ensures { option_copied result ≡ found self.now id }
@@ -97,6 +89,7 @@ impl Received {
         ensures ok { OnOk result (self.new ≡ (if is_some (found self.old sysmod.id) then self.old else with_item
             (slice_cmp nat_cmp) (λ s. s.id) self.old sysmod)) }
         ensures err { OnErr result (self.new ≡ self.old) }
+        ensures rising { Rises (slice_cmp nat_cmp) (λ s. s.id) self.old }
     {
         let id = sysmod.id;
         if self.by_id.contains_key(&id) {

@@ -13,7 +13,7 @@ returns-clause-installs c =
     let date = c.args.date in
     IfOk-weaker c.put_sysmods.result _ _
     (λ (delta : ZoneDelta) is. λ new changed.
-    installs g zone kept date c.known.ensures c.known-2.ensures c.known_lists.ensures c.requires.installable
+    installs g zone kept date c.len.ensures.form c.known.ensures c.known_lists.ensures c.requires.installable
     c.requires.apart new
     (subst (λ d. IsChanged d zone new) (is ∙ ap (puts g date) c.as_slice.ensures.items) changed))
     c.put_sysmods.ensures

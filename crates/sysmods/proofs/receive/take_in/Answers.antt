@@ -6,7 +6,7 @@ pub returns-in-Err-clause-err : goal.returns-in-Err-clause-err
 returns-in-Err-clause-err c = (
   put_back c.args.sysmods.now c.insert.new.self c.remove.new.self c.args.sysmod c.take_holds-inside.new.self
       c.sysmod.inside.id
-      c.known.ensures.rising c.requires c.take_holds-inside.ensures.rest (ap (λ s. s.id) c.sysmod.view_is)
+      c.insert.ensures.rising c.requires c.take_holds-inside.ensures.rest (ap (λ s. s.id) c.sysmod.view_is)
       c.in_ok-insert.ensures.ok c.remove.ensures.after,
   c.in-Err.ensures.err,
 )

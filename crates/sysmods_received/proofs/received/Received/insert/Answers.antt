@@ -7,10 +7,10 @@ use Rattle.std.specs.Map.{lookup, keys_of, values_of}
 use Rattle.std.specs.BTreeMap.{is_at, insert_entry}
 use Rattle.lemmas.proofs.Options.{None-from_is_some}
 use Rattle.terms.specs.Types.{Id, Sysmod}
-use Rattle.terms.specs.Rising.{with_item}
+use Rattle.terms.specs.Rising.{Rises, with_item}
 use Rattle.sysmods_received.specs.Held.{found, IsHeld, IsKeyed}
 use Rattle.sysmods_received.proofs.Entries.{find-lookup, values-insert}
-use Rattle.sysmods_received.proofs.Holding.{held-grows, held-insert}
+use Rattle.sysmods_received.proofs.Holding.{held-grows, held-insert, rises-values}
 use Rattle.sysmods_received.proofs.received.Received.insert.Goals as goal
 
 abbrev C : Id → Id → Ordering
@@ -75,3 +75,19 @@ returns-clause-ok c =
     c.self.invariant.keyed c.self.view_is c.contains_key.ensures ∙ c.if-contains_key.false)
     (ap values_of entries ∙ values-insert es s c.self.invariant.keyed c.self.invariant.sorted none
     ∙ ap (λ xs. with_item C (λ r. r.id) xs s) c.self.view_is)
+
+pub returns-then-contains_key-clause-rising : goal.returns-then-contains_key-clause-rising
+returns-then-contains_key-clause-rising c = subst (Rises C (λ s. s.id)) c.self.view_is
+    (rises-values c.self.inside.by_id.entries c.self.invariant.keyed c.self.invariant.sorted)
+
+pub returns-in_err-add_sysmod-clause-rising : goal.returns-in_err-add_sysmod-clause-rising
+returns-in_err-add_sysmod-clause-rising c = subst (Rises C (λ s. s.id)) c.self.view_is
+    (rises-values c.self.inside.by_id.entries c.self.invariant.keyed c.self.invariant.sorted)
+
+pub returns-in_err-insert-clause-rising : goal.returns-in_err-insert-clause-rising
+returns-in_err-insert-clause-rising c = subst (Rises C (λ s. s.id)) c.self.view_is
+    (rises-values c.self.inside.by_id.entries c.self.invariant.keyed c.self.invariant.sorted)
+
+pub returns-clause-rising : goal.returns-clause-rising
+returns-clause-rising c = subst (Rises C (λ s. s.id)) c.self.view_is
+    (rises-values c.self.inside.by_id.entries c.self.invariant.keyed c.self.invariant.sorted)
