@@ -1,5 +1,4 @@
-use Rattle.std.proofs.Common.{◌≡◌, ◌-◌, ◌∙◌, ◌∷◌, length, refl, sym, ap, ap₂, arith}
-use Rattle.terms.specs.Types.{Id}
+use Rattle.std.proofs.Common.{◌≡◌, ◌-◌, ◌∙◌, ◌∷◌, length, sym, ap, ap₂, arith}
 use Rattle.terms.specs.Choice.{by_srel, fmid_of}
 use Rattle.terms.specs.Over.{chain_from}
 use Rattle.sysmods.proofs.Chains.{chain_first}
