@@ -25,8 +25,8 @@ use crate::comment::is_comment;
 use fields::Reason;
 use sqlite::{Alter, Connection, Row};
 use std::alloc::Global;
-use store_columns::{class_in, flag_in, hold_date_in, hold_kind_in, id_in};
-use store_rows::{FromRow, ReadError, load, optional_text, text};
+use store_columns::{Query, class_in, flag_in, hold_date_in, hold_kind_in, id_in, load_listed};
+use store_rows::{FromRow, ReadError, optional_text, text};
 use sysmods_records::Hold;
 use terms::HoldKind;
 
@@ -129,6 +129,22 @@ impl FromRow for Holds {
     }
 }
 
+impl Query for Holds {
+    ghost use Rattle.store_schema.specs.Tables.{hold};
+
+    type Rows = Holds;
+
+    ghost table = { hold };
+
+    ghost at = { 4 };
+
+    ghost width = { 0 };
+
+    fn text() -> &'static str {
+        "SELECT id, kind, reason, fmid, class, date, comment, internal FROM hold"
+    }
+}
+
 /// The holds by their keys.
 fn by_key(mut holds: Vec<Hold>) -> Vec<Hold>
     ensures same { IsPermutation holds.items result.items }
@@ -155,11 +171,6 @@ pub fn load_holds<S: Alter>(alloc: Global, conn: &mut Connection<S>) -> Result<V
         → ¬ StandsFor i (state S.Store conn.old).now }
     ensures reads { OnlyReads S.Store (conn.old.schema ≡ store_schema) conn.old conn.new result }
 {
-    let holds = load::<S, Holds>(
-        alloc,
-        conn,
-        "SELECT id, kind, reason, fmid, class, date, comment, internal FROM hold",
-        &[],
-    )?;
+    let holds = load_listed::<S, Holds>(alloc, conn, &[])?;
     Ok(by_key(holds))
 }

@@ -4,16 +4,29 @@ use crate::flat::{ElemRow, HeadRow, IfRow, VerRow};
 use crate::loading::Listed;
 use crate::reading::{Elems, Heads, Ifs, Vers};
 use fields::{Id, Name, Srel};
+use store_columns::Query;
 use terms::ElemType;
 
-impl Listed for Heads {
+impl Query for Heads {
     ghost use Rattle.store_schema.specs.Tables.{sysmod};
 
-    type Key = Id;
+    type Rows = Heads;
 
     ghost table = { sysmod };
 
     ghost at = { 1 };
+
+    ghost width = { 0 };
+
+    fn text() -> &'static str {
+        "SELECT id, kind, sources FROM sysmod"
+    }
+}
+
+impl Listed for Heads {
+    ghost use Rattle.std.specs.Prelude.{refl};
+
+    type Key = Id;
 
     ghost key_of = { λ row. row.id };
 
@@ -21,19 +34,29 @@ impl Listed for Heads {
         item.id
     }
 
-    fn query() -> &'static str {
-        "SELECT id, kind, sources FROM sysmod"
-    }
+    ghost whole = { refl };
 }
 
-impl Listed for Vers {
+impl Query for Vers {
     ghost use Rattle.store_schema.specs.Tables.{ver};
 
-    type Key = (Id, Srel);
+    type Rows = Vers;
 
     ghost table = { ver };
 
     ghost at = { 2 };
+
+    ghost width = { 0 };
+
+    fn text() -> &'static str {
+        "SELECT id, srel, fmid, pre, req, sup, npre, del FROM ver"
+    }
+}
+
+impl Listed for Vers {
+    ghost use Rattle.std.specs.Prelude.{refl};
+
+    type Key = (Id, Srel);
 
     ghost key_of = { λ row. (row.id, row.ver.srel) };
 
@@ -41,19 +64,29 @@ impl Listed for Vers {
         (item.id, item.ver.srel)
     }
 
-    fn query() -> &'static str {
-        "SELECT id, srel, fmid, pre, req, sup, npre, del FROM ver"
-    }
+    ghost whole = { refl };
 }
 
-impl Listed for Ifs {
+impl Query for Ifs {
     ghost use Rattle.store_schema.specs.Tables.{ifreq};
 
-    type Key = (Id, (Srel, u64));
+    type Rows = Ifs;
 
     ghost table = { ifreq };
 
     ghost at = { 3 };
+
+    ghost width = { 0 };
+
+    fn text() -> &'static str {
+        "SELECT id, srel, n, fmid, req FROM ifreq"
+    }
+}
+
+impl Listed for Ifs {
+    ghost use Rattle.std.specs.Prelude.{refl};
+
+    type Key = (Id, (Srel, u64));
 
     ghost key_of = { λ row. (row.id, (row.srel, row.number)) };
 
@@ -61,19 +94,29 @@ impl Listed for Ifs {
         (item.id, (item.srel, item.number))
     }
 
-    fn query() -> &'static str {
-        "SELECT id, srel, n, fmid, req FROM ifreq"
-    }
+    ghost whole = { refl };
 }
 
-impl Listed for Elems {
+impl Query for Elems {
     ghost use Rattle.store_schema.specs.Tables.{elem};
 
-    type Key = (Id, (ElemType, Name));
+    type Rows = Elems;
 
     ghost table = { elem };
 
     ghost at = { 5 };
+
+    ghost width = { 0 };
+
+    fn text() -> &'static str {
+        "SELECT id, type, name, upd, distlib, syslib, text FROM elem"
+    }
+}
+
+impl Listed for Elems {
+    ghost use Rattle.std.specs.Prelude.{refl};
+
+    type Key = (Id, (ElemType, Name));
 
     ghost key_of = { λ row. (row.id, (row.change.elem_type, row.change.name)) };
 
@@ -81,7 +124,5 @@ impl Listed for Elems {
         (item.id, (item.change.elem_type, item.change.name))
     }
 
-    fn query() -> &'static str {
-        "SELECT id, type, name, upd, distlib, syslib, text FROM elem"
-    }
+    ghost whole = { refl };
 }

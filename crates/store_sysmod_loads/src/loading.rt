@@ -11,38 +11,28 @@ ghost use Rattle.terms.specs.Rising.{Rises};
 
 use sqlite::{Alter, Connection};
 use std::alloc::Global;
-use store_rows::{FromRow, ReadError, load};
+use store_columns::{Query, load_listed};
+use store_rows::{FromRow, ReadError};
 
-/// A table whose rows are read, by keys that tell them apart.
-pub(crate) trait Listed: FromRow {
-    ghost use Rattle.std.specs.Prelude.{◌≡◌, ℕ};
-    ghost use Rattle.sqlite.specs.Table.{Table};
-    ghost use Rattle.store_rows.specs.Texts.{IsTableOf, ReadsRows};
-    ghost use Rattle.store_schema.specs.Tables.{store_schema};
+/// A query of a whole table, whose rows keys tell apart.
+pub(crate) trait Listed: Query {
+    ghost use Rattle.std.specs.Prelude.{◌≡◌};
 
     type Key: Ord + Copy;
 
-    ghost table: { Table };
+    ghost key_of: { Self.Rows.Item → Self.Key };
 
-    ghost at: { ℕ };
-
-    ghost key_of: { Self.Item → Self.Key };
-
-    fn key(item: &Self::Item) -> Self::Key
+    fn key(item: &<Self::Rows as FromRow>::Item) -> Self::Key
         ensures { result ≡ key_of item.now };
 
-    /// The text that finds them. A row says all of its item.
-    fn query() -> &'static str
-        ensures reads { ReadsRows store_schema table 0 result.now }
-        ensures there { IsTableOf store_schema at table }
-        ensures exact { (a b : Self.Item) → Self.FromRow.has_form a → Self.FromRow.has_form b
-            → Self.FromRow.row_of a ≡ Self.FromRow.row_of b → a ≡ b };
+    ghost whole: { Self.width ≡ 0 };
 }
 
 /// The items by their keys.
-fn sorted<T: Listed>(mut items: Vec<T::Item>) -> Vec<T::Item>
+fn sorted<T: Listed>(mut items: Vec<<T::Rows as FromRow>::Item>) -> Vec<<T::Rows as FromRow>::Item>
     ensures same { IsPermutation items.items result.items }
-    ensures only { (xs : List T.Item) → IsPermutation items.items xs → Rises T.Key.cmp T.key_of xs → result.items ≡ xs }
+    ensures only { (xs : List T.Rows.Item) → IsPermutation items.items xs → Rises T.Key.cmp T.key_of xs
+        → result.items ≡ xs }
 {
     items.sort_unstable_by_key(|item| T::key(item));
     items
@@ -52,21 +42,22 @@ fn sorted<T: Listed>(mut items: Vec<T::Item>) -> Vec<T::Item>
 pub(crate) fn load_sorted<S: Alter, T: Listed>(
     alloc: Global,
     conn: &mut Connection<S>,
-) -> Result<Vec<T::Item>, ReadError>
+) -> Result<Vec<<T::Rows as FromRow>::Item>, ReadError>
     ensures found { HasCleanDisk (state S.Store conn.new) → (contents : Contents)
         → HasContents store_schema contents (state S.Store conn.old).now
-        → IfOk result (λ items. IsPermutation (map T.row_of items.items) (contents T.table.tree)) }
-    ensures forms { IfOk result (λ items. AllByRecursion T.has_form items.items) }
+        → IfOk result (λ items. IsPermutation (map T.Rows.row_of items.items) (contents T.table.tree)) }
+    ensures forms { IfOk result (λ items. AllByRecursion T.Rows.has_form items.items) }
     ensures only { HasCleanDisk (state S.Store conn.new) → (contents : Contents)
         → HasContents store_schema contents (state S.Store conn.old).now
-        → IfOk result (λ items. (xs : List T.Item) → AllByRecursion T.has_form xs → Rises T.Key.cmp T.key_of xs
-        → IsPermutation (map T.row_of xs) (contents T.table.tree) → items.items ≡ xs) }
+        → IfOk result (λ items. (xs : List T.Rows.Item) → AllByRecursion T.Rows.has_form xs
+        → Rises T.Key.cmp T.key_of xs → IsPermutation (map T.Rows.row_of xs) (contents T.table.tree)
+        → items.items ≡ xs) }
     ensures none { HasCleanDisk (state S.Store conn.new) → IsErrOf result ReadError.BadRow → (contents : Contents)
         → HasContents store_schema contents (state S.Store conn.old).now
-        → (xs : List T.Item) → AllByRecursion T.has_form xs → ¬ IsPermutation (map T.row_of xs)
+        → (xs : List T.Rows.Item) → AllByRecursion T.Rows.has_form xs → ¬ IsPermutation (map T.Rows.row_of xs)
         (contents T.table.tree) }
     ensures reads { OnlyReads S.Store (conn.old.schema ≡ store_schema) conn.old conn.new result }
 {
-    let items = load::<S, T>(alloc, conn, T::query(), &[])?;
+    let items = load_listed::<S, T>(alloc, conn, &[])?;
     Ok(sorted::<T>(items))
 }

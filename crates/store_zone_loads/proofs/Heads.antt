@@ -14,8 +14,7 @@ use Rattle.sqlite_rules.specs.Lists.{Has}
 use Rattle.sqlite_rules.proofs.ListLemmas.{all_from, has_contained}
 use Rattle.sqlite_trees.proofs.ListLemmas.{map-map}
 use Rattle.store_rows.specs.Rows.{has_key}
-use Rattle.store_rows.proofs.RowLemmas.{has_permuted}
-use Rattle.store_rows.proofs.Unmapped.{unmapped_permutation}
+use Rattle.store_rows.proofs.RowLemmas.{has_permuted, same_rows}
 use Rattle.terms.specs.declared.kinds.ZoneKind.{ZoneKind}
 use Rattle.terms.specs.declared.kinds.ZoneKind.TheVariants.{Target, Distribution}
 use Rattle.terms.specs.Types.{Text, Zone, NamedZone}
@@ -34,8 +33,8 @@ use Rattle.store_zone_loads.proofs.ZoneRows.{name_key, first_cell, of_zone}
 use Rattle.store_zone_loads.proofs.Zones.{is_there}
 use Rattle.lemmas.proofs.Each.{recursion-map}
 
-head_exact : (a b : ZoneHead) → head_row a ≡ head_row b → a ≡ b
-head_exact a b e =
+pub exact_head : (a b : ZoneHead) → HasHeadForms a → HasHeadForms b → head_row a ≡ head_row b → a ≡ b
+exact_head a b p q e =
     let name : a.name ≡ b.name = cc in
     let kind : a.kind ≡ b.kind = zone_same a.kind b.kind cc in
     let srel : a.srel ≡ b.srel = cc in
@@ -45,16 +44,10 @@ head_exact a b e =
     ∙ ap (λ x. record b { srel = x; related = a.related }) srel
     ∙ ap (λ x. record b { related = x }) related
 
--- heads whose rows are those of others
-pub heads_moved : (xs ys : List ZoneHead) → IsPermutation (map head_row xs) (map head_row ys) → IsPermutation xs ys
-heads_moved xs ys h =
-    let all : (zs : List ZoneHead) → AllByRecursion (λ z. Unit {0}) zs =
-    λ zs. all_from (λ z. Unit {0}) zs (λ z there. tt) in
-    unmapped_permutation head_row (λ z. Unit {0}) (λ a b p q e. head_exact a b e) xs ys (all xs) (all ys) h
-
 -- ---- one zone
 
-at_most_one : {X : Type 0} (xs : List X) (o : Option X) → IsPermutation xs (option_to_list o) → xs ≡ option_to_list o
+pub at_most_one : {X : Type 0} (xs : List X) (o : Option X) → IsPermutation xs (option_to_list o)
+    → xs ≡ option_to_list o
 at_most_one [] None h = refl
 at_most_one [] (Some y) h = absurd (omega (arith, length_permutation [] (y ∷ []) h))
 at_most_one (x ∷ xs) None h = absurd (omega (arith, length_permutation (x ∷ xs) [] h))
@@ -63,6 +56,12 @@ at_most_one (x ∷ []) (Some y) h = elim (has_permuted (x ∷ []) (y ∷ []) x h
   | inr none ↦ absurd none
 ]
 at_most_one (x ∷ w ∷ xs) (Some y) h = absurd (omega (arith, length_permutation (x ∷ w ∷ xs) (y ∷ []) h))
+
+pub same_option : {X : Type 0} (a b : Option X) → option_to_list a ≡ option_to_list b → a ≡ b
+same_option None None e = refl
+same_option None (Some y) e = absurd cc
+same_option (Some x) None e = absurd cc
+same_option (Some x) (Some y) e = cc
 
 abbrev row_in : Text → Zone → Row
 row_in name zone = zone_row (record { name = name; zone = zone })
@@ -74,27 +73,22 @@ by_zones : (zones : List NamedZone) → map zone_row zones ≡ flat_map (λ z. m
 by_zones [] = refl
 by_zones (z ∷ zones) = ap (λ rows. zone_row z ∷ rows) (by_zones zones)
 
-head_rows : (name : Text) (found : Option Zone) → map (row_in name) (option_map_or itself found []) ≡ map head_row
+head_rows_of : (name : Text) (found : Option Zone) → map (row_in name) (option_map_or itself found []) ≡ map head_row
     (option_to_list (option_map (head_in name) found))
-head_rows name None = refl
-head_rows name (Some z) = refl
+head_rows_of name None = refl
+head_rows_of name (Some z) = refl
 
 -- the rows of a zone's name are its head's
-pub head_filtered : (i : Inventory) → IsInventory i → (name : Text)
-    → filter (has_key (name_key name)) (map zone_row i.zones) ≡ map head_row
-    (option_to_list (option_map (head_in name) (zone_in i name)))
-head_filtered i h name =
-    ap (filter (has_key (name_key name))) (by_zones i.zones)
+pub head_rows : (i : Inventory) → IsInventory i → (name bytes : Text) → bytes ≡ name
+    → IsPermutation (map head_row (option_to_list (option_map (head_in name) (zone_in i name))))
+    (filter (has_key (name_key bytes)) (map zone_row i.zones))
+head_rows i h name bytes same =
+    let own : filter (has_key (name_key name)) (map zone_row i.zones) ≡ map head_row
+    (option_to_list (option_map (head_in name) (zone_in i name))) = ap (filter (has_key (name_key name)))
+    (by_zones i.zones)
     ∙ of_zone row_in itself name (λ other x. first_cell name other []) i.zones (zones_rise i h)
-    ∙ head_rows name (zone_in i name)
-
-pub one_head : (i : Inventory) → IsInventory i → (name : Text) (hs : List ZoneHead)
-    → IsPermutation (map head_row hs) (filter (has_key (name_key name)) (map zone_row i.zones))
-    → hs ≡ option_to_list (option_map (head_in name) (zone_in i name))
-one_head i h name hs same =
-    at_most_one hs (option_map (head_in name) (zone_in i name))
-    (heads_moved hs (option_to_list (option_map (head_in name) (zone_in i name)))
-    (subst (IsPermutation (map head_row hs)) (head_filtered i h name) same))
+    ∙ head_rows_of name (zone_in i name) in
+    same_rows (sym own ∙ ap (λ b. filter (has_key (name_key b)) (map zone_row i.zones)) (sym same))
 
 related_name : (i : Inventory) → IsInventory i → (kind : ZoneKind) (srel : Text) (related : Option Text)
     → IsRelated i.zones kind srel related → IfSome related IsZoneName
@@ -126,13 +120,8 @@ one_head_forms i h name = go (zone_in i name) (is_there i name)
 
 -- ---- all zones
 
-pub all_heads : (i : Inventory) (hs : List ZoneHead) → IsPermutation (map head_row hs) (map zone_row i.zones)
-    → IsPermutation hs (map head_of i.zones)
-all_heads i hs same = heads_moved hs (map head_of i.zones) (subst (IsPermutation (map head_row hs))
-    (sym (map-map head_row head_of i.zones)) same)
-
-pub all_head_rows : (i : Inventory) → map head_row (map head_of i.zones) ≡ map zone_row i.zones
-all_head_rows i = map-map head_row head_of i.zones
+pub all_head_rows : (i : Inventory) → IsPermutation (map head_row (map head_of i.zones)) (map zone_row i.zones)
+all_head_rows i = same_rows (map-map head_row head_of i.zones)
 
 pub all_head_forms : (i : Inventory) → IsInventory i → AllByRecursion HasHeadForms (map head_of i.zones)
 all_head_forms i h = recursion-map head_of HasHeadForms i.zones

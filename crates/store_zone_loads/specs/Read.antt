@@ -5,12 +5,11 @@ use Rattle.sqlite.specs.Values.{or_null}
 use Rattle.sqlite.specs.Order.{Row}
 use Rattle.terms.specs.Forms.{IsId, IsDottedDate, IsSrel, IsZoneName}
 use Rattle.terms.specs.Spelling.{zone_kind_text}
-use Rattle.terms.specs.Types.{zone_number}
+use Rattle.terms.specs.Types.{zone_number, Entry, Element}
 use Rattle.store_schema.specs.Forms.{AreListed, HasElementForms}
 use Rattle.store_schema.specs.Rows.{entry_row, zelem_row}
 use Rattle.store_zone_loads.specs.declared.head.ZoneHead.{ZoneHead}
-use Rattle.store_zone_loads.specs.declared.entry.EntryRow.{EntryRow}
-use Rattle.store_zone_loads.specs.declared.element.ElementRow.{ElementRow}
+use Rattle.store_zone_loads.specs.declared.rows.ZoneRow.{ZoneRow}
 
 abbrev pub head_row : ZoneHead → Row
 head_row h = value.Text h.name ∷ value.Text (zone_kind_text h.kind) ∷ value.Text h.srel ∷ or_null value.Text h.related ∷
@@ -24,21 +23,21 @@ pub record HasHeadForms (h : ZoneHead) : Type 0 where
   pub not_global : h.name ≢ codes "GLOBAL"
   pub suits : is_some h.related ≡ (zone_number h.kind == 0)
 
-abbrev pub row_of_entry : EntryRow → Row
-row_of_entry r = entry_row r.zone r.entry
+abbrev pub row_of_entry : ZoneRow Entry → Row
+row_of_entry r = entry_row r.zone r.item
 
 -- what an entry is there for is looked for in the whole zone
-pub record HasEntryRowForms (r : EntryRow) : Type 0 where
+pub record HasEntryRowForms (r : ZoneRow Entry) : Type 0 where
   pub zone : IsZoneName r.zone
-  pub id : IsId r.entry.id
-  pub applied : IfSome r.entry.applied IsDottedDate
-  pub supby : AreListed IsId r.entry.supby
-  pub delby : IfSome r.entry.delby IsId
-  pub waived : AreListed IsId r.entry.waived
+  pub id : IsId r.item.id
+  pub applied : IfSome r.item.applied IsDottedDate
+  pub supby : AreListed IsId r.item.supby
+  pub delby : IfSome r.item.delby IsId
+  pub waived : AreListed IsId r.item.waived
 
-abbrev pub row_of_element : ElementRow → Row
-row_of_element r = zelem_row r.zone r.element
+abbrev pub row_of_element : ZoneRow Element → Row
+row_of_element r = zelem_row r.zone r.item
 
-pub record HasElementRowForms (r : ElementRow) : Type 0 where
+pub record HasElementRowForms (r : ZoneRow Element) : Type 0 where
   pub zone : IsZoneName r.zone
-  pub element : HasElementForms r.element
+  pub element : HasElementForms r.item

@@ -1,33 +1,24 @@
 //! The table of SYSMOD entries.
 
-ghost use Rattle.std.specs.Prelude.{◌≡◌, ◌≢◌, List, map, IfOk, IsErrOf, IsPermutation};
-ghost use Rattle.std.specs.Ordering.{nat_cmp};
-ghost use Rattle.std.specs.Cmp.Lexicographic.{slice_cmp};
+ghost use Rattle.std.specs.Prelude.{◌≡◌, ◌≢◌, IfOk, IsErrOf};
 ghost use Rattle.sqlite.specs.Held.{state};
 ghost use Rattle.sqlite.specs.State.{HasCleanDisk};
 ghost use Rattle.store_rows.specs.Reads.{OnlyReads};
-ghost use Rattle.terms.specs.Rising.{Rises};
 ghost use Rattle.terms.specs.Types.{Entry as EntryTerm};
 ghost use Rattle.store_schema.specs.Inventory.{Inventory};
 ghost use Rattle.store_schema.specs.Stands.{StandsFor};
 ghost use Rattle.store_schema.specs.Tables.{store_schema};
-ghost use Rattle.store_zone_loads.specs.declared.entry.EntryRow.{EntryRow as AnEntryRow};
+ghost use Rattle.store_zone_loads.specs.declared.rows.ZoneRow.{ZoneRow as AZoneRow};
 ghost use Rattle.store_zone_loads.specs.Found.{entries_in};
 
+use crate::rows::{ZoneRow, zone_table};
 use fields::ZoneName;
 use sqlite::{Alter, Connection, Row};
 use sqlite_value::value::ValueRef;
-use std::alloc::{AllocError, Global};
-use store_columns::{date_in, id_in, ids_in, optional_id_in, zone_name_in};
-use store_rows::{FromRow, ReadError, load};
+use std::alloc::Global;
+use store_columns::{Query, date_in, id_in, ids_in, load_listed, optional_id_in, zone_name_in};
+use store_rows::{FromRow, ReadError};
 use zones::{Entry, Table};
-
-/// An entry and the name of its zone.
-#[derive(Drop)]
-pub(crate) struct EntryRow {
-    zone: ZoneName,
-    entry: Entry,
-}
 
 /// Reads the rows of entries.
 struct Entries;
@@ -35,15 +26,15 @@ struct Entries;
 impl FromRow for Entries {
     ghost use Rattle.store_zone_loads.specs.Read.{row_of_entry, HasEntryRowForms};
 
-    type Item = EntryRow;
+    type Item = ZoneRow<Entry>;
 
     ghost row_of = { row_of_entry };
 
     ghost has_form = { HasEntryRowForms };
 
-    fn read(alloc: Global, row: &Row) -> Result<EntryRow, ReadError>
+    fn read(alloc: Global, row: &Row) -> Result<ZoneRow<Entry>, ReadError>
         ensures read { IfOk result (λ item. (row.now ≡ row_of_entry item) × HasEntryRowForms item) }
-        ensures none { IsErrOf result ReadError.BadRow → (item : AnEntryRow) → HasEntryRowForms item
+        ensures none { IsErrOf result ReadError.BadRow → (item : AZoneRow EntryTerm) → HasEntryRowForms item
             → row.now ≢ row_of_entry item }
         ensures fault { IsErrOf result ReadError.Fault → ⊥ }
     {
@@ -64,9 +55,9 @@ impl FromRow for Entries {
             return Err(ReadError::BadRow);
         };
         let waived = ids_in(alloc, row, 5)?;
-        Ok(EntryRow {
+        Ok(ZoneRow {
             zone,
-            entry: Entry {
+            item: Entry {
                 id,
                 applied,
                 supby,
@@ -77,46 +68,19 @@ impl FromRow for Entries {
     }
 }
 
-/// The rows of the zone of this name.
-fn entry_rows<S: Alter>(
-    alloc: Global,
-    conn: &mut Connection<S>,
-    name: &ZoneName,
-) -> Result<Vec<EntryRow>, ReadError>
-    ensures found { HasCleanDisk (state S.Store conn.new) → (i : Inventory) → StandsFor i (state S.Store conn.old).now
-        → IfOk result (λ rows. IsPermutation (map (λ row. row.entry) rows.items) (entries_in i name.now)) }
-    ensures none { HasCleanDisk (state S.Store conn.new) → IsErrOf result ReadError.BadRow → (i : Inventory)
-        → ¬ StandsFor i (state S.Store conn.old).now }
-    ensures reads { OnlyReads S.Store (conn.old.schema ≡ store_schema) conn.old conn.new result }
-{
-    load::<S, Entries>(
-        alloc,
-        conn,
-        "SELECT zone, id, date, supby, delby, waived FROM entry WHERE zone = ?1 ORDER BY id",
-        &[ValueRef::Text(name.as_bytes())],
-    )
-}
+impl Query for Entries {
+    ghost use Rattle.store_schema.specs.Tables.{entry};
 
-fn without_zone(alloc: Global, rows: Vec<EntryRow>) -> Result<Vec<Entry>, AllocError>
-    ensures { IfOk result (λ entries. entries.items ≡ map (λ row. row.entry) rows.items) }
-{
-    let mut entries = Vec::with_capacity(alloc, rows.len())?;
-    for row in rows {
-        entries.push(row.entry)?;
-    }
-    Ok(entries)
-}
+    type Rows = Entries;
 
-/// The entries by their ids, if no two have one.
-fn table_of(alloc: Global, rows: Vec<EntryRow>) -> Result<Table<Entry>, ReadError>
-    ensures same { IfOk result (λ table. IsPermutation (map (λ row. row.entry) rows.items) table) }
-    ensures rising { IfOk result (λ table. Rises (slice_cmp nat_cmp) (λ e. e.id) table) }
-    ensures none { IsErrOf result ReadError.BadRow → (other : List EntryTerm)
-        → IsPermutation (map (λ row. row.entry) rows.items) other → ¬ Rises (slice_cmp nat_cmp) (λ e. e.id) other }
-{
-    match Table::from_vec(without_zone(alloc, rows)?) {
-        Some(table) => Ok(table),
-        None => Err(ReadError::BadRow),
+    ghost table = { entry };
+
+    ghost at = { 7 };
+
+    ghost width = { 1 };
+
+    fn text() -> &'static str {
+        "SELECT zone, id, date, supby, delby, waived FROM entry WHERE zone = ?1 ORDER BY id"
     }
 }
 
@@ -132,6 +96,6 @@ pub(crate) fn load_entries<S: Alter>(
         → ¬ StandsFor i (state S.Store conn.old).now }
     ensures reads { OnlyReads S.Store (conn.old.schema ≡ store_schema) conn.old conn.new result }
 {
-    let rows = entry_rows(alloc, conn, name)?;
-    table_of(alloc, rows)
+    let rows = load_listed::<S, Entries>(alloc, conn, &[ValueRef::Text(name.as_bytes())])?;
+    zone_table(alloc, rows)
 }

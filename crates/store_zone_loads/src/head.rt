@@ -1,13 +1,10 @@
 //! The table of zones.
 
-ghost use Rattle.std.specs.Prelude.{◌≡◌, ◌≢◌, ◌==◌, List, Option, map, option_map, IfOk, OnErr, IsErrOf, IsPermutation};
+ghost use Rattle.std.specs.Prelude.{◌≡◌, ◌≢◌, ◌==◌, Option, map, option_map, IfOk, OnErr, IsErrOf};
 ghost use Rattle.std.specs.Option.{option_to_list};
-ghost use Rattle.std.specs.Ordering.{nat_cmp};
-ghost use Rattle.std.specs.Cmp.Lexicographic.{slice_cmp};
 ghost use Rattle.sqlite.specs.Held.{state};
 ghost use Rattle.sqlite.specs.State.{HasCleanDisk};
 ghost use Rattle.store_rows.specs.Reads.{OnlyReads};
-ghost use Rattle.terms.specs.Rising.{Rises};
 ghost use Rattle.store_schema.specs.Inventory.{Inventory};
 ghost use Rattle.store_schema.specs.Stands.{StandsFor};
 ghost use Rattle.store_schema.specs.Tables.{store_schema};
@@ -17,14 +14,17 @@ ghost use Rattle.store_zone_loads.specs.Found.{head_of, head_in, zone_in};
 ghost use Rattle.store_zone_loads.specs.Related.{AreRelated};
 
 use crate::related::only_related;
+use crate::rows::table_of;
 use fields::{Srel, ZoneName};
 use sqlite::{Alter, Connection, Row};
 use sqlite_value::value::ValueRef;
 use std::alloc::{AllocError, Global};
-use store_columns::{optional_zone_name_in, srel_in, zone_kind_in, zone_name_in};
-use store_rows::{FromRow, ReadError, load};
+use store_columns::{
+    Query, load_listed, optional_zone_name_in, srel_in, zone_kind_in, zone_name_in,
+};
+use store_rows::{FromRow, ReadError};
 use terms::ZoneKind;
-use zones::{Keyed, Table, TryClone};
+use zones::{Keyed, TryClone};
 
 /// A zone without its entries and elements.
 #[derive(Clone, Copy, Debug, PartialEq, Eq)]
@@ -108,24 +108,42 @@ impl FromRow for Heads {
     }
 }
 
-/// The rows of this name.
-fn head_rows<S: Alter>(
-    alloc: Global,
-    conn: &mut Connection<S>,
-    name: &ZoneName,
-) -> Result<Vec<ZoneHead>, ReadError>
-    ensures found { HasCleanDisk (state S.Store conn.new) → (i : Inventory) → StandsFor i (state S.Store conn.old).now
-        → IfOk result (λ heads. heads.items ≡ option_to_list (option_map (head_in name.now) (zone_in i name.now))) }
-    ensures none { HasCleanDisk (state S.Store conn.new) → IsErrOf result ReadError.BadRow → (i : Inventory)
-        → ¬ StandsFor i (state S.Store conn.old).now }
-    ensures reads { OnlyReads S.Store (conn.old.schema ≡ store_schema) conn.old conn.new result }
-{
-    load::<S, Heads>(
-        alloc,
-        conn,
-        "SELECT name, kind, srel, related FROM zone WHERE name = ?1",
-        &[ValueRef::Text(name.as_bytes())],
-    )
+/// All rows of zones.
+struct AllHeads;
+
+impl Query for AllHeads {
+    ghost use Rattle.store_schema.specs.Tables.{zone};
+
+    type Rows = Heads;
+
+    ghost table = { zone };
+
+    ghost at = { 6 };
+
+    ghost width = { 0 };
+
+    fn text() -> &'static str {
+        "SELECT name, kind, srel, related FROM zone ORDER BY name"
+    }
+}
+
+/// The rows of one name.
+struct NamedHeads;
+
+impl Query for NamedHeads {
+    ghost use Rattle.store_schema.specs.Tables.{zone};
+
+    type Rows = Heads;
+
+    ghost table = { zone };
+
+    ghost at = { 6 };
+
+    ghost width = { 1 };
+
+    fn text() -> &'static str {
+        "SELECT name, kind, srel, related FROM zone WHERE name = ?1"
+    }
 }
 
 fn at_most_one(heads: &[ZoneHead]) -> Result<Option<ZoneHead>, ReadError>
@@ -151,40 +169,8 @@ pub(crate) fn zone_head<S: Alter>(
         → ¬ StandsFor i (state S.Store conn.old).now }
     ensures reads { OnlyReads S.Store (conn.old.schema ≡ store_schema) conn.old conn.new result }
 {
-    let heads = head_rows(alloc, conn, name)?;
+    let heads = load_listed::<S, NamedHeads>(alloc, conn, &[ValueRef::Text(name.as_bytes())])?;
     at_most_one(heads.as_slice())
-}
-
-/// All rows of zones.
-fn all_head_rows<S: Alter>(
-    alloc: Global,
-    conn: &mut Connection<S>,
-) -> Result<Vec<ZoneHead>, ReadError>
-    ensures found { HasCleanDisk (state S.Store conn.new) → (i : Inventory) → StandsFor i (state S.Store conn.old).now
-        → IfOk result (λ heads. IsPermutation heads.items (map head_of i.zones)) }
-    ensures none { HasCleanDisk (state S.Store conn.new) → IsErrOf result ReadError.BadRow → (i : Inventory)
-        → ¬ StandsFor i (state S.Store conn.old).now }
-    ensures reads { OnlyReads S.Store (conn.old.schema ≡ store_schema) conn.old conn.new result }
-{
-    load::<S, Heads>(
-        alloc,
-        conn,
-        "SELECT name, kind, srel, related FROM zone ORDER BY name",
-        &[],
-    )
-}
-
-/// The heads by their names, if no two have one.
-fn by_name(heads: Vec<ZoneHead>) -> Result<Vec<ZoneHead>, ReadError>
-    ensures same { IfOk result (λ sorted. IsPermutation heads.items sorted.items) }
-    ensures rising { IfOk result (λ sorted. Rises (slice_cmp nat_cmp) (λ head. head.name) sorted.items) }
-    ensures none { IsErrOf result ReadError.BadRow → (other : List ZoneHead) → IsPermutation heads.items other
-        → ¬ Rises (slice_cmp nat_cmp) (λ head. head.name) other }
-{
-    match Table::from_vec(heads) {
-        Some(heads) => Ok(heads.into_vec()),
-        None => Err(ReadError::BadRow),
-    }
 }
 
 /// The heads of all zones, by name. A target zone names a distribution zone of its SREL, which no
@@ -200,9 +186,9 @@ pub fn zone_heads<S: Alter>(
         → ¬ StandsFor i (state S.Store conn.old).now }
     ensures reads { OnlyReads S.Store (conn.old.schema ≡ store_schema) conn.old conn.new result }
 {
-    let heads = all_head_rows(alloc, conn)?;
-    let sorted = by_name(heads)?;
-    only_related(sorted)
+    let heads = load_listed::<S, AllHeads>(alloc, conn, &[])?;
+    let sorted = table_of(heads)?;
+    only_related(sorted.into_vec())
 }
 
 fn names_of(alloc: Global, heads: &[ZoneHead]) -> Result<Vec<ZoneName>, AllocError>

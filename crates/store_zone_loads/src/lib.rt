@@ -7,6 +7,7 @@ mod element;
 mod entry;
 mod head;
 mod related;
+mod rows;
 mod zone;
 
 pub use head::{ZoneHead, zone_heads, zone_names};

@@ -1,0 +1,17 @@
+-- What a query found is what it asks for.
+use Rattle.std.proofs.Common.{List, [], ◌∷◌, IsPermutation}
+use Rattle.sqlite.specs.Order.{Row}
+use Rattle.sqlite.specs.Table.{Table}
+use Rattle.store_rows.specs.Rows.{AreRows, AreFound}
+use Rattle.store_rows.proofs.ContentsLemmas.{found_are, found_with, all_found, found_all}
+use Rattle.store_columns.specs.Asked.{asked}
+
+pub found_asked : (table : Table) (key : Row) (held found rows : List Row) → AreRows table held rows
+    → AreFound table key found rows → IsPermutation found (asked key held)
+found_asked table [] held found rows are h = all_found table held found rows are h
+found_asked table (k ∷ key) held found rows are h = found_are table (k ∷ key) held found rows are h
+
+pub asked_found : (table : Table) (key : Row) (held found rows : List Row) → AreRows table held rows
+    → IsPermutation found (asked key held) → AreFound table key found rows
+asked_found table [] held found rows are h = found_all table held found rows are h
+asked_found table (k ∷ key) held found rows are h = found_with table (k ∷ key) held found rows are h

@@ -1,0 +1,65 @@
+//! The rows of a table of the store that a query asks for.
+
+ghost use Rattle.std.specs.Prelude.{◌≡◌, List, map, length, IfOk, IsErrOf, IsPermutation};
+ghost use Rattle.std.specs.List.{AllByRecursion};
+ghost use Rattle.sqlite.specs.Held.{state};
+ghost use Rattle.sqlite.specs.State.{HasCleanDisk};
+ghost use Rattle.sqlite.specs.Values.{bound};
+ghost use Rattle.store_rows.specs.Reads.{OnlyReads};
+ghost use Rattle.store_rows.specs.Rows.{Contents, HasContents};
+ghost use Rattle.store_schema.specs.Tables.{store_schema};
+ghost use Rattle.store_columns.specs.Asked.{asked};
+
+use sqlite::{Alter, Connection};
+use sqlite_value::value::ValueRef;
+use std::alloc::Global;
+use store_rows::{FromRow, ReadError, load};
+
+/// A query of the rows of one table, by so many of their first columns.
+pub trait Query {
+    ghost use Rattle.std.specs.Prelude.{◌≡◌, ℕ};
+    ghost use Rattle.sqlite.specs.Table.{Table};
+    ghost use Rattle.store_rows.specs.Texts.{IsTableOf, ReadsRows};
+    ghost use Rattle.store_schema.specs.Tables.{store_schema};
+
+    type Rows: FromRow;
+
+    ghost table: { Table };
+
+    ghost at: { ℕ };
+
+    ghost width: { ℕ };
+
+    /// Its text. A row says all of its item.
+    fn text() -> &'static str
+        ensures reads { ReadsRows store_schema table width result.now }
+        ensures there { IsTableOf store_schema at table }
+        ensures exact { (a b : Self.Rows.Item) → Self.Rows.has_form a → Self.Rows.has_form b
+            → Self.Rows.row_of a ≡ Self.Rows.row_of b → a ≡ b };
+}
+
+/// What the rows that the query asks for stand for, whose first columns are the key.
+pub fn load_listed<S: Alter, Q: Query>(
+    alloc: Global,
+    conn: &mut Connection<S>,
+    key: &[ValueRef<'_>],
+) -> Result<Vec<<Q::Rows as FromRow>::Item>, ReadError>
+    ensures found { HasCleanDisk (state S.Store conn.new) → length key.now ≡ Q.width → (contents : Contents)
+        → HasContents store_schema contents (state S.Store conn.old).now
+        → IfOk result (λ items. IsPermutation (map Q.Rows.row_of items.items)
+        (asked (bound key.now) (contents Q.table.tree))) }
+    ensures forms { IfOk result (λ items. AllByRecursion Q.Rows.has_form items.items) }
+    ensures only { HasCleanDisk (state S.Store conn.new) → length key.now ≡ Q.width → (contents : Contents)
+        → HasContents store_schema contents (state S.Store conn.old).now
+        → IfOk result (λ items. (xs : List Q.Rows.Item) → AllByRecursion Q.Rows.has_form xs
+        → IsPermutation (map Q.Rows.row_of xs) (asked (bound key.now) (contents Q.table.tree))
+        → IsPermutation items.items xs) }
+    ensures none { HasCleanDisk (state S.Store conn.new) → IsErrOf result ReadError.BadRow
+        → length key.now ≡ Q.width → (contents : Contents)
+        → HasContents store_schema contents (state S.Store conn.old).now
+        → (xs : List Q.Rows.Item) → AllByRecursion Q.Rows.has_form xs
+        → ¬ IsPermutation (map Q.Rows.row_of xs) (asked (bound key.now) (contents Q.table.tree)) }
+    ensures reads { OnlyReads S.Store (conn.old.schema ≡ store_schema) conn.old conn.new result }
+{
+    load::<S, Q::Rows>(alloc, conn, Q::text(), key)
+}

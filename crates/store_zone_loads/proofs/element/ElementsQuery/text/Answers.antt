@@ -1,0 +1,6 @@
+use Rattle.store_zone_loads.proofs.Texts.{has_zelem, reads_elements}
+use Rattle.store_zone_loads.proofs.Elements.{exact_element}
+use Rattle.store_zone_loads.proofs.element.ElementsQuery.text.Goals as goal
+
+pub returns : goal.returns
+returns c = record { reads = reads_elements; there = has_zelem; exact = exact_element }

@@ -1,0 +1,52 @@
+//! Rows that name their zone, and what stands in it by its keys.
+
+ghost use Rattle.std.specs.Prelude.{◌≡◌, List, map, IfOk, IsErrOf, IsPermutation};
+ghost use Rattle.terms.specs.Rising.{Rises};
+
+use fields::ZoneName;
+use std::alloc::{AllocError, Global};
+use store_rows::ReadError;
+use zones::{Keyed, Table};
+
+/// What stands in a zone, and the name of the zone.
+#[derive(Drop)]
+pub(crate) struct ZoneRow<T> {
+    pub zone: ZoneName,
+    pub item: T,
+}
+
+fn without_zone<T: Drop>(alloc: Global, rows: Vec<ZoneRow<T>>) -> Result<Vec<T>, AllocError>
+    ensures { IfOk result (λ items. items.items ≡ map (λ row. row.item) rows.items) }
+{
+    let mut items = Vec::with_capacity(alloc, rows.len())?;
+    for row in rows {
+        items.push(row.item)?;
+    }
+    Ok(items)
+}
+
+/// The items by their keys, if no two have one.
+pub(crate) fn table_of<T: Keyed + Drop>(items: Vec<T>) -> Result<Table<T>, ReadError>
+    ensures only { IfOk result (λ table. (xs : List T) → IsPermutation items.items xs → Rises T.Key.cmp T.key_of xs
+        → table ≡ xs) }
+    ensures none { IsErrOf result ReadError.BadRow → (xs : List T) → IsPermutation items.items xs
+        → ¬ Rises T.Key.cmp T.key_of xs }
+{
+    match Table::from_vec(items) {
+        Some(table) => Ok(table),
+        None => Err(ReadError::BadRow),
+    }
+}
+
+/// What the rows name as one zone's, by its keys.
+pub(crate) fn zone_table<T: Keyed + Drop>(
+    alloc: Global,
+    rows: Vec<ZoneRow<T>>,
+) -> Result<Table<T>, ReadError>
+    ensures only { IfOk result (λ table. (xs : List T) → IsPermutation (map (λ row. row.item) rows.items) xs
+        → Rises T.Key.cmp T.key_of xs → table ≡ xs) }
+    ensures none { IsErrOf result ReadError.BadRow → (xs : List T)
+        → IsPermutation (map (λ row. row.item) rows.items) xs → ¬ Rises T.Key.cmp T.key_of xs }
+{
+    table_of(without_zone(alloc, rows)?)
+}
