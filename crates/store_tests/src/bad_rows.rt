@@ -1,5 +1,5 @@
 //! Rows edited by hand that stand for no state.
-use crate::known::{filled, joined, opened, zone_name};
+use crate::known::{doubled, filled, joined, opened, zone_name};
 use sqlite::{Alter, Connection};
 use sqlite_value::value::ValueRef;
 use std::alloc::Global;
@@ -535,9 +535,7 @@ const THEIR_VERS: &str =
 /// 65,536 SYSMODs more.
 fn add_many<S: Alter>(conn: &mut Connection<S>) -> Result<(), Fail> {
     conn.execute(FIRST, &[])?;
-    for power in 0..16_u32 {
-        conn.execute(AGAIN, &[ValueRef::Int(1 << power)])?;
-    }
+    doubled(conn, AGAIN, 16)?;
     conn.execute(THEIR_VERS, &[])?;
     Ok(())
 }

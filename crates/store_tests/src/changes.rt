@@ -1,9 +1,8 @@
 //! Removals, sources in place of others, and what a commit leaves alone.
-use crate::known::{committed, filled, lines, opened, zone_name};
+use crate::known::{committed, doubled, filled, lines, opened, zone_name};
 use crate::round_trip::delta_to;
 use fields::{Id, IdList, Name, Reason, Source, YyDdd};
 use sqlite::{Alter, Connection};
-use sqlite_value::value::ValueRef;
 use std::alloc::Global;
 use std::test::Fail;
 use store::{Change, GlobalEdit, Store};
@@ -90,7 +89,7 @@ const FIRST: &str =
     "INSERT INTO entry (zone, id, date, supby, delby, waived) VALUES ('DLB1', 'U100000', '24.138', '', NULL, ''); INSERT INTO zelem (zone, type, name, fmid, rmid, umid, distlib, syslib, text) VALUES ('DLB1', 'MAC', 'M100000', 'HAA1100', 'HAA1100', '', 'AMACLIB', 'MACLIB', x'')";
 
 /// As many again, by numbers that are greater by this one.
-const AGAIN: [&str; 2] = [
+const AGAIN: &[&str] = &[
     "INSERT INTO entry (zone, id, date, supby, delby, waived) SELECT zone, 'U' || (CAST(substr(id, 2) AS INTEGER) + ?1), date, supby, delby, waived FROM entry WHERE id >= 'U1' AND id < 'U2'",
     "INSERT INTO zelem (zone, type, name, fmid, rmid, umid, distlib, syslib, text) SELECT zone, type, 'M' || (CAST(substr(name, 2) AS INTEGER) + ?1), fmid, rmid, umid, distlib, syslib, text FROM zelem WHERE name >= 'M1' AND name < 'M2'",
 ];
@@ -98,10 +97,8 @@ const AGAIN: [&str; 2] = [
 /// 1,024 entries and as many elements.
 fn add_many<S: Alter>(conn: &mut Connection<S>) -> Result<(), Fail> {
     conn.execute_batch(FIRST)?;
-    for power in 0..10_u32 {
-        for sql in AGAIN {
-            conn.execute(sql, &[ValueRef::Int(1 << power)])?;
-        }
+    for sql in AGAIN {
+        doubled(conn, sql, 10)?;
     }
     Ok(())
 }
@@ -128,19 +125,16 @@ const OTHERS: &str =
 
 const CHANGED: &str = "SELECT zone || ' ' || id || ' ' || date FROM entry WHERE id = 'U100500'";
 
-/// The row that is changed, if all others are as they were.
-fn only_changed<S: Alter + Drop>(
-    alloc: Global,
-    mut conn: Connection<S>,
-) -> Result<Option<String>, Fail> {
-    let before = lines(alloc, &mut conn, OTHERS)?;
+fn commit_entry<S: Alter>(alloc: Global, store: &mut Store<S>) -> Result<(), Fail> {
+    let change = one_entry(alloc)?;
+    committed(store.commit(&change))
+}
+
+/// The database once that entry has another date.
+fn with_entry<S: Alter + Drop>(alloc: Global, conn: Connection<S>) -> Result<Connection<S>, Fail> {
     let mut store = opened(alloc, conn)?;
-    committed(store.commit(&one_entry(alloc)?))?;
-    let mut conn = store.close();
-    if lines(alloc, &mut conn, OTHERS)?.as_str() != before.as_str() {
-        return Ok(None);
-    }
-    Ok(Some(lines(alloc, &mut conn, CHANGED)?))
+    commit_entry(alloc, &mut store)?;
+    Ok(store.close())
 }
 
 #[test]
@@ -148,7 +142,12 @@ fn other_rows_stay(rt: HostRuntime) -> Result<(), Fail> {
     let alloc = rt.alloc();
     let mut conn = filled(alloc, Connection::open_in_memory(alloc)?)?;
     add_many(&mut conn)?;
-    let changed = only_changed(alloc, conn)?;
-    assert_eq!(rt; changed.as_deref(), Some("DLB1 U100500 24.139\n"));
+    let before = lines(alloc, &mut conn, OTHERS)?;
+    let mut conn = with_entry(alloc, conn)?;
+    assert_eq!(rt; lines(alloc, &mut conn, OTHERS)?.as_str(), before.as_str());
+    assert_eq!(rt;
+        lines(alloc, &mut conn, CHANGED)?.as_str(),
+        "DLB1 U100500 24.139\n"
+    );
     Ok(())
 }

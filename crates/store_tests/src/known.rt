@@ -77,20 +77,19 @@ const TEXTS: &[(&str, &[(&str, &str)])] = &[
     ),
 ];
 
-/// The text stands in the record from the place on.
-fn put_text(record: &mut [u8; RECORD], place: usize, text: &[u8]) {
-    for i in place..RECORD {
-        if i - place < text.len() {
-            record[i] = text[i - place];
-        }
+/// Puts the text at the begin of the part.
+fn put_text(part: &mut [u8], text: &[u8]) {
+    for (place, byte) in part.iter_mut().zip(text) {
+        *place = *byte;
     }
 }
 
 /// A record of this text and, in columns 73 to 80, this number.
 fn record(text: &str, number: &str) -> [u8; RECORD] {
     let mut record = [b' '; RECORD];
-    put_text(&mut record, 0, text.as_bytes());
-    put_text(&mut record, 72, number.as_bytes());
+    let (words, columns) = record.split_at_mut(72);
+    put_text(words, text.as_bytes());
+    put_text(columns, number.as_bytes());
     record
 }
 
@@ -106,6 +105,20 @@ pub(crate) fn joined(alloc: Global, records: &[(&str, &str)]) -> Result<Vec<u8>,
 fn run<S: Alter>(conn: &mut Connection<S>, sql: &str, values: &[ValueRef<'_>]) -> Result<(), Fail> {
     if conn.execute(sql, values)? == 0 {
         return Err(Fail::from(sql));
+    }
+    Ok(())
+}
+
+/// Runs the statement so many times: with 1, and each time with twice the number.
+pub(crate) fn doubled<S: Alter>(
+    conn: &mut Connection<S>,
+    sql: &str,
+    times: u32,
+) -> Result<(), Fail> {
+    let mut number = 1_i64;
+    for _ in 0..times {
+        run(conn, sql, &[ValueRef::Int(number)])?;
+        number = number.saturating_mul(2);
     }
     Ok(())
 }
