@@ -48,7 +48,7 @@ module _ {S : Type 0} (zones : IndexMap Text Zone S) (g : Global) (x : Id) where
     edits_are = sym (append-nil edits);
     fits = λ k d below. absurd (omega (arith, below));
     after = refl;
-    leads = λ named alike. sym (ap (or_same g) (answered named alike r a received is ∙ answers));
+    leads = λ named alike. sym (ap (global_after g) (answered named alike r a received is ∙ answers));
     told = λ named alike. printed ∙ sym (ap reject_status (answered named alike r a received is ∙ answers));
   }
 
