@@ -1,4 +1,6 @@
 pub mod Kept
+pub mod Flat
+pub mod Adds
 pub mod Opened
 pub mod Needs
 pub mod Fmids

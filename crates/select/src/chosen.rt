@@ -1,16 +1,26 @@
 //! The candidates.
-ghost use Rattle.std.specs.Prelude.{All, IsTrue, IfOk};
+ghost use Rattle.std.specs.Prelude.{◌≡◌, filter, All, IsTrue, IfOk};
 ghost use Rattle.terms.specs.Choice.{by_srel};
-ghost use Rattle.terms.specs.Candidates.{AreCandidates, is_installable};
+ghost use Rattle.terms.specs.Candidates.{AreCandidates, is_installable, is_open};
 
-use crate::growing::growing;
+use crate::growing::asked;
 use crate::scope::Scope;
 use crate::start::start;
 use cntl::Selection;
-use fields::IdList;
+use fields::{Id, IdList};
 use std::alloc::{AllocError, Global as Heap};
 use sysmods::Global;
 use zones::Zone;
+
+fn open_among(alloc: Heap, scope: &Scope, ids: &[Id]) -> Result<Vec<Id>, AllocError>
+    ensures { IfOk result (λ found. found.items
+        ≡ filter (is_open scope.now.global.now scope.now.zone.now scope.now.selection.now) ids.now) }
+{
+    ids.iter()
+        .filter(|id| scope.is_open(**id))
+        .copied()
+        .collect(alloc)
+}
 
 // The start and what it brings in.
 fn start_and_growing(alloc: Heap, scope: &Scope) -> Result<IdList, AllocError>
@@ -20,8 +30,9 @@ fn start_and_growing(alloc: Heap, scope: &Scope) -> Result<IdList, AllocError>
         All (λ x. IsTrue (is_installable scope.now.global.now scope.now.zone.now x)) ids) }
 {
     let mut ids = start(alloc, scope)?;
-    let growing = growing(alloc, scope, ids.as_slice())?;
-    ids.extend_from_slice(growing.as_slice())?;
+    let asked = asked(alloc, scope, ids.as_slice())?;
+    let brought_in = open_among(alloc, scope, asked.as_slice())?;
+    ids.extend_from_slice(brought_in.as_slice())?;
     let candidates = IdList::from_vec(ids);
     let _ = candidates.as_slice();
     Ok(candidates)

@@ -1,7 +1,7 @@
 //! What is open to an APPLY.
-ghost use Rattle.std.specs.Prelude.{◌≡◌, not, is_some};
-ghost use Rattle.terms.specs.Lookups.{is_nil, delby_of};
-ghost use Rattle.terms.specs.Choice.{vers_of};
+ghost use Rattle.std.specs.Prelude.{◌≡◌, not, is_some, option_copied};
+ghost use Rattle.terms.specs.Lookups.{is_in, is_nil, delby_of};
+ghost use Rattle.terms.specs.Choice.{by_srel, sup_of, vers_of};
 ghost use Rattle.terms.specs.Served.{is_served, is_served_zone};
 ghost use Rattle.terms.specs.Candidates.{is_installable, is_open};
 
@@ -9,6 +9,7 @@ use crate::served::{changes_plainly, has_plain_ver, is_served_zone, is_unheld};
 use cntl::Selection;
 use fields::Id;
 use sysmods::{Global, VerChoice};
+use sysmods_records::Ver;
 use zones::Zone;
 
 /// What an APPLY chooses from and by, and whether the zone is served.
@@ -35,18 +36,28 @@ impl<'a> Scope<'a> {
         }
     }
 
-    pub(crate) fn choice(&self) -> VerChoice<'a>
-        ensures global { result.global.now ≡ self.now.global.now }
-        ensures srel { result.srel ≡ self.now.zone.now.srel }
+    /// The `++VER` that counts, if one does.
+    pub(crate) fn ver(&self, id: Id) -> Option<&'a Ver>
+        ensures { option_copied result ≡ by_srel self.now.global.now self.now.zone.now.srel id }
     {
-        VerChoice::new(self.global, self.zone.srel())
+        VerChoice::new(self.global, self.zone.srel()).ver(id)
     }
 
     fn has_ver(&self, id: Id) -> bool
         ensures { result ≡ not (is_nil (vers_of self.now.global.now self.now.zone.now.srel id)) }
     {
-        match self.choice().ver(id) {
+        match self.ver(id) {
             Some(_) => true,
+            None => false,
+        }
+    }
+
+    /// Whether the `++VER` of the one that counts names the other in SUP.
+    pub(crate) fn supersedes(&self, id: Id, other: Id) -> bool
+        ensures { result ≡ is_in (sup_of (by_srel self.now.global.now self.now.zone.now.srel) id) other }
+    {
+        match self.ver(id) {
+            Some(ver) => ver.supersedes(other),
             None => false,
         }
     }

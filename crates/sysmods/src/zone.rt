@@ -1,5 +1,5 @@
 //! The received SYSMODs and the holds.
-ghost use Rattle.std.specs.Prelude.{◌≡◌, ◌↔◌, ◌<◌, ◌^◌, [], List, length, Ok, Err, IsTrue, IsOk, IfOk, IfErr, OnOk};
+ghost use Rattle.std.specs.Prelude.{◌≡◌, ◌↔◌, ◌<◌, ◌^◌, ◌++◌, [], List, length, Ok, Err, IsTrue, IsOk, IfOk, IfErr, OnOk};
 ghost use Rattle.std.specs.Prelude.{OnErr, option_copied, if◌then◌else◌};
 ghost use Rattle.std.specs.Map.Iter.{ShowsInOrder, deref};
 ghost use Rattle.terms.specs.declared.kinds.HoldKind.TheVariants.{System};
@@ -8,12 +8,13 @@ ghost use Rattle.terms.specs.Lookups.{sysmod_of, is_received, is_function, holds
 ghost use Rattle.terms.specs.Global.{IsGlobal, hold_of, is_replacing, hold as with_hold, release as released};
 ghost use Rattle.terms.specs.Global.{assign as assigned, without_sysmod};
 ghost use Rattle.terms.specs.Types.{a_global};
+ghost use Rattle.sysmods_received.specs.Namers.{namers_for};
 ghost use Rattle.sysmods.specs.Faults.{IsReceived, a_release, release_fault};
 ghost use Rattle.sysmods.specs.Parts.{IsMadeOf};
 
 use crate::parts::{are_owned, received_from};
 use crate::receive::take_in;
-use fields::{Id, Reason, Source};
+use fields::{Id, Reason, Source, Srel};
 use std::alloc::{AllocError, Global as Heap};
 use std::collections::btree_map::Values;
 use std::marker::Model;
@@ -126,6 +127,14 @@ impl Global {
         ensures form { IsGlobal self.now }
     {
         self.sysmods.get(id).is_some()
+    }
+
+    /// Appends the ids of the received SYSMODs that name the id in PRE, SUP or FMID of a `++VER` for the
+    /// SREL. It looks at those alone that name it in some way.
+    pub fn append_namers(&self, srel: Srel, id: Id, found: &mut Vec<Id>) -> Result<(), AllocError>
+        ensures { OnOk result (found.new.items ≡ found.old.items ++ namers_for self.now.sysmods srel id) }
+    {
+        self.sysmods.append_namers(srel, id, found)
     }
 
     /// Whether a function of this id is received.

@@ -1,6 +1,6 @@
 use Rattle.std.proofs.Common.{arith}
 use Rattle.select.proofs.Growth.{growth-start, growth-next, growth-end}
-use Rattle.select.proofs.growing.growing.Goals as goal
+use Rattle.select.proofs.growing.asked.Goals as goal
 
 pub loop-i-init : goal.loop-i-init
 loop-i-init c = growth-start _ _ _ c.args.start.now _ c.requires c.in_ok-seen.ensures
@@ -8,7 +8,7 @@ loop-i-init c = growth-start _ _ _ c.args.start.now _ c.requires c.in_ok-seen.en
 pub loop-i-preserved : goal.loop-i-preserved
 loop-i-preserved c =
     growth-next _ _ _ _ _ _ _ (omega arith) (rw c.as_slice.ensures.keys at c.index-as_slice-i.is)
-    c.in_ok-see_brought_in.ensures c.loop-i.invariant
+    c.in_ok-see_next.ensures c.loop-i.invariant
 
 pub returns : goal.returns
 returns c = growth-end _ _ _ _ c.loop-i.i (omega arith) c.loop-i.invariant

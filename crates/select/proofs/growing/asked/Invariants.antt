@@ -1,6 +1,6 @@
 use Rattle.std.proofs.Common.{◌-◌, ◌^◌}
 use Rattle.select.proofs.Growth.{IsGrowth}
-use Rattle.select.proofs.growing.growing.Given as goal
+use Rattle.select.proofs.growing.asked.Given as goal
 
 abbrev pub invariant-loop-i : goal.invariant-loop-i
 invariant-loop-i l = IsGrowth l.scope.global.now l.scope.zone.now l.scope.selection.now l.seen.keys l.i
