@@ -1,5 +1,5 @@
 //! How an APPLY changes its zone.
-//! The delta of `install` makes of the old zone the one that the definition of an install asks for (`Installs`),
+//! The delta of `install` makes of the old zone the one that the definition of an install asks for (`HasInstalled`),
 //! whatever zone comes of it: for SYSMODs that may be installed and of which no two change one element. Seen in the
 //! code alone: one pass over the zone's entries, and one over what is installed.
 #![tactic(auto)]
