@@ -13,10 +13,7 @@ pub fn error_at(number: usize, error: StatementError) -> McsError
 {
     match error {
         StatementError::Memory => McsError::Memory,
-        StatementError::Fault(code) => McsError::Fault {
-            number,
-            code,
-        },
+        StatementError::Fault(code) => McsError::Fault { number, code },
     }
 }
 

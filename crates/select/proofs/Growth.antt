@@ -90,7 +90,7 @@ module _ (g : Global) (zone : Zone) (sel : Selection) where
   asked_next : (z w : Id) → IsAsked g zone sel z → Contains (next_asked g zone sel z) w → IsAsked g zone sel w
   asked_next z w asks h =
       elim (Contains-append_cases (if is_open g zone sel z then asked_by g zone z else []) (superseders g zone sel z) w h)
-      [ | inl own ↦ by (is_open g zone sel z) refl own | inr over ↦ over_asked w z asks over ]
+      [ inl own ↦ by (is_open g zone sel z) refl own | inr over ↦ over_asked w z asks over ]
     where
       by : (b : Bool) → is_open g zone sel z ≡ b → Contains (if b then asked_by g zone z else []) w
           → IsAsked g zone sel w

@@ -72,10 +72,10 @@ module _ (g : Global) (zone : Zone) where
       by None none = absurd (none_in z none)
       by (Some v) h = elim (Contains-append_cases (filter (λ z. not (is_applied zone z)) (at_most_one v.fmid))
           (filter (λ z. not (is_supplied zone z)) v.pre ++ filter (λ z. not (is_supplied zone z)) v.req) z h) [
-        | inl fmid ↦ inl fmid
-        | inr rest ↦ inr (Contains-append_cases (filter (λ z. not (is_supplied zone z)) v.pre)
-            (filter (λ z. not (is_supplied zone z)) v.req) z rest)
-      ]
+            | inl fmid ↦ inl fmid
+            | inr rest ↦ inr (Contains-append_cases (filter (λ z. not (is_supplied zone z)) v.pre)
+                (filter (λ z. not (is_supplied zone z)) v.req) z rest)
+          ]
 
   from_parts : (x z : Id)
       → Contains (filter (λ z. not (is_applied zone z)) (at_most_one (fmid_of c x))) z

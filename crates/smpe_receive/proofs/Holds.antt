@@ -27,7 +27,7 @@ released g new r None e = cc
 released g new r (Some h) e = by h.internal e
   where
     by : (b : Bool) → (if b then Err Rl2 else Ok (without_hold r.id r.kind r.reason g)) ≡ Ok new
-      → new ≡ without_hold r.id r.kind r.reason g
+        → new ≡ without_hold r.id r.kind r.reason g
     by true e = cc
     by false e = cc
 

@@ -96,7 +96,7 @@ release_forms g r has = found (hold_of g r.id r.kind r.reason)
     }
 
     released : (internal : Bool)
-      → HasGlobalForms (global_after g (if internal then Err Rl2 else Ok (without_hold r.id r.kind r.reason g)))
+        → HasGlobalForms (global_after g (if internal then Err Rl2 else Ok (without_hold r.id r.kind r.reason g)))
     released true = has
     released false = without
 
@@ -184,7 +184,7 @@ rejected_forms g zones x has = by (is_received g x) (list_any (λ (z : NamedZone
     }
 
     by : (there applied : Bool)
-      → HasGlobalForms (global_after g (if not there then Err Rj2 else if applied then Err Rj1 else
+        → HasGlobalForms (global_after g (if not there then Err Rj2 else if applied then Err Rj1 else
         Ok (without_sysmod g x)))
     by false applied = has
     by true true = has

@@ -27,7 +27,7 @@ pub kept_elem : (id : Id) (c : Change) → SuitColumns elem.columns (elem_row id
 kept_elem id c = kept_action c.action
   where
     kept_action : (a : Action)
-      → SuitColumns elem.columns (value.Text id ∷ value.Text (type_text c.elem_type) ∷ value.Text
+        → SuitColumns elem.columns (value.Text id ∷ value.Text (type_text c.elem_type) ∷ value.Text
         c.name ∷ action_cells a)
     kept_action (Replaces distlib syslib lines) = (
       refl,
