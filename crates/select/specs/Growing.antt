@@ -32,7 +32,7 @@ asked_by g zone x = option_map_or (asked_in zone) (by_srel g zone.srel x) []
 abbrev pub superseders : Global → Zone → Selection → Id → List Id
 superseders g zone sel z =
     if sel.groupextend then filter (λ y. is_in (sup_of (by_srel g zone.srel) y) z)
-        (namers_for g.sysmods zone.srel z) else []
+    (namers_for g.sysmods zone.srel z) else []
 
 -- what is asked for once an id is: if it is open, what it asks for itself, and those that supersede it
 abbrev pub next_asked : Global → Zone → Selection → Id → List Id

@@ -90,12 +90,7 @@ fn see_if_open(scope: &Scope, id: Id, seen: &mut IndexSet<Id>) -> Result<(), All
     Ok(())
 }
 
-fn see_if_over(
-    scope: &Scope,
-    id: Id,
-    namer: Id,
-    seen: &mut IndexSet<Id>,
-) -> Result<(), AllocError>
+fn see_if_over(scope: &Scope, id: Id, namer: Id, seen: &mut IndexSet<Id>) -> Result<(), AllocError>
     ensures { OnOk result (seen.new.keys
         ≡ (if is_in (sup_of (by_srel scope.now.global.now scope.now.zone.now.srel) namer) id
         then insert_key bytes_eq seen.old.keys namer else seen.old.keys)) }
@@ -134,18 +129,15 @@ fn see_superseders(
     let selection = scope.selection;
     if selection.groupextend {
         let mut namers = Vec::new(alloc);
-        scope.global.append_namers(scope.zone.srel(), id, &mut namers)?;
+        scope
+            .global
+            .append_namers(scope.zone.srel(), id, &mut namers)?;
         see_those_over(scope, id, namers.as_slice(), seen)?;
     }
     Ok(())
 }
 
-fn see_next(
-    alloc: Heap,
-    scope: &Scope,
-    id: Id,
-    seen: &mut IndexSet<Id>,
-) -> Result<(), AllocError>
+fn see_next(alloc: Heap, scope: &Scope, id: Id, seen: &mut IndexSet<Id>) -> Result<(), AllocError>
     ensures { OnOk result (AddsAll seen.old.keys
         (next_asked scope.now.global.now scope.now.zone.now scope.now.selection.now id) seen.new.keys) }
 {
@@ -172,11 +164,7 @@ fn see_first(scope: &Scope, id: Id, seen: &mut IndexSet<Id>) -> Result<(), Alloc
 }
 
 /// What those of the start ask for that bring others in.
-fn asked_by_start(
-    alloc: Heap,
-    scope: &Scope,
-    start: &[Id],
-) -> Result<IndexSet<Id>, AllocError>
+fn asked_by_start(alloc: Heap, scope: &Scope, start: &[Id]) -> Result<IndexSet<Id>, AllocError>
     ensures { IfOk result (λ seen. AddsAll []
         (flat_map (asked_first scope.now.global.now scope.now.zone.now scope.now.selection.now) start.now)
         seen.keys) }

@@ -9,7 +9,7 @@ pub loop-id-init : goal.loop-id-init
 loop-id-init c = subst (AddsAll [] []) (sym c.new-seen.ensures.empty) (adds-none [])
 
 pub loop-id-preserved : goal.loop-id-preserved
-loop-id-preserved c = 
+loop-id-preserved c =
     adds-flat (asked_first c.args.scope.now.global.now c.args.scope.now.zone.now c.args.scope.now.selection.now) []
     c.args.start.now c.loop-id.seen.keys c.see_first.new.seen.keys c.loop-id.id-index c.id-item.result (omega arith)
     c.id-item.is c.in_ok-see_first.ensures c.loop-id.invariant
