@@ -6,8 +6,10 @@
 #![tactic(auto)]
 
 mod judging;
+mod numbered;
 mod own;
 mod rows;
+mod serving;
 mod sharing;
 mod wanted;
 
