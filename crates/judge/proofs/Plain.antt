@@ -17,7 +17,7 @@ use Rattle.terms.specs.Served.{is_plain, has_plain_ver, has_plain_changes, is_un
 use Rattle.terms.specs.Candidates.{is_installable}
 use Rattle.lemmas.proofs.Searches.{find-gives}
 use Rattle.lemmas.proofs.Texts.{same_from}
-use Rattle.lemmas.proofs.Members.{in_map, here_or, there, in_filter}
+use Rattle.lemmas.proofs.Members.{in_map, here_or, in_filter}
 
 -- its ++VER that counts has no NPRE, no DELETE and no ++IF
 pub record NamesNothing (c : Choice) (x : Id) : Type 0 where

@@ -1,5 +1,5 @@
 -- The pairs of ids and the places of who stands for them.
-use Rattle.std.proofs.Common.{◌≡◌, ◌≢◌, inl, inr, ℕ, zero, suc, ◌<◌, ◌+◌, true, false, not, List, [], ◌∷◌, ◌++◌}
+use Rattle.std.proofs.Common.{◌≡◌, inl, inr, ℕ, zero, suc, ◌<◌, ◌+◌, true, false, not, List, [], ◌∷◌, ◌++◌}
 use Rattle.std.proofs.Common.{length, Some, IsTrue, refl, sym, ap, ap₂, ◌∙◌, subst, true≢false, filter, map, Contains}
 use Rattle.std.proofs.Common.{arith, slice_get}
 use Rattle.std.specs.Prelude.{All, AllPairs, ◌↔◌, ◌&&◌, get_or}
