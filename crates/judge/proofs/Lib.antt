@@ -3,5 +3,9 @@ pub mod Plain
 pub mod Collapsed
 pub mod Lists
 pub mod Needed
+pub mod Rising
+pub mod Wants
+pub mod Standing
+pub mod Demands
 pub mod Marks
 pub mod Places

@@ -6,13 +6,12 @@ use Rattle.std.specs.Prelude.{All, ◌↔◌, ◌==◌, ◌&&◌, nat_eq}
 use Rattle.std.specs.Option.{option_map, option_map_or}
 use Rattle.std.specs.Str.{bytes_eq}
 use Rattle.std.proofs.lemmas.Bool.{and_parts, eqb-true, cases_order, cases_eq, not-true}
-use Rattle.std.specs.Ordering.{is_lt, nat_cmp}
+use Rattle.std.specs.Ordering.{nat_cmp}
 use Rattle.std.specs.Cmp.Lexicographic.{slice_cmp}
 use Rattle.std.proofs.lemmas.Map.Lookups.{exact_bytes}
 use Rattle.terms.specs.Rising.{StandsAt}
-use Rattle.std.proofs.lemmas.Cmp.{nat_list_cmp_total, nat_eq_equiv, tied_itself}
+use Rattle.std.proofs.lemmas.Cmp.{nat_eq_equiv}
 use Rattle.std.proofs.lemmas.List.{length-map}
-use Rattle.terms.specs.Needs.{Needs, Serves}
 use Rattle.std.proofs.lemmas.Option.{slice_get_within, slice_get-get_or, slice_get-map, get_or_from_slice_get}
 use Rattle.std.proofs.lemmas.Option.{same_Some}
 use Rattle.std.proofs.lemmas.List.Folds.{Any-from_list_any, list_any-from_Any}
@@ -43,13 +42,18 @@ use Rattle.judge.specs.Placed.{Beside}
 use Rattle.judge.specs.Own.{is_foreign_at, HasFaults, passes}
 use Rattle.judge.specs.Sharing.{change_key, HasClaim, IsSharedAt}
 use Rattle.judge.specs.Rows.{fails_test, is_among, row_of, is_eligible_at}
-use Rattle.judge.specs.Wanted.{open_fmid, ArePlaces, AreWants}
+use Rattle.judge.specs.Wanted.{a_want}
+use Rattle.judge.specs.declared.wanted.Want.{Want}
+use Rattle.judge.specs.Serving.{AreOwnPlaces, ArePlaces}
+use Rattle.judge.specs.Numbered.{HasProblem}
+use Rattle.judge.proofs.Demands.{is-demand, demand-at, wants-once}
 use Rattle.terms.proofs.Ids.{is_in-from_Contains}
+use Rattle.judge.proofs.Rising.{before-apart}
 use Rattle.judge.proofs.Plain.{IsPlain}
 use Rattle.judge.proofs.Collapsed.{change-found, change-has, never-held-system, never-held-user, never-prevented}
 use Rattle.judge.proofs.Collapsed.{never-bare-update, never-deleted, foreign-from, foreign-gives, lower-from}
 use Rattle.judge.proofs.Collapsed.{lower-gives, unapplied-gives, survives-from, clash-shares, share-clashes}
-use Rattle.judge.proofs.Needed.{needs-only, needs-open, serves-itself}
+use Rattle.judge.proofs.Needed.{needs-open}
 
 off : (b : Bool) → ¬ IsTrue b → not b ≡ true
 off true lacks = absurd (lacks refl)
@@ -61,13 +65,6 @@ bytes-apart x y e same = true≢false (sym (subst (λ z. bytes_eq x z ≡ true) 
 
 bytes-differ : (x y : Id) → x ≢ y → not (bytes_eq x y) ≡ true
 bytes-differ x y other = off (bytes_eq x y) (λ same. other (same_from x y same))
-
--- ids in order are apart
-before-apart : (x y : Id) → IsTrue (is_before x y) → x ≢ y
-before-apart x y below same = true≢false (sym (subst (λ z. is_before x z ≡ true) (sym same) below) ∙ not_below x)
-  where
-    not_below : (x : Id) → is_before x x ≡ false
-    not_below x = ap is_lt (tied_itself nat_list_cmp_total x)
 
 -- ids at two places are two
 places-apart : (ids : List Id) → IsRising ids → (n m : ℕ) (x y : Id) → slice_get ids n ≡ Some x
@@ -89,7 +86,7 @@ two-places ids rising n m x y at_x at_y other = elim (cases_order n m) [
 -- where a function stands among them
 
 pub one-place : (ids : List Id) → IsRising ids → (f x : Id) (i : ℕ) → slice_get ids i ≡ Some x → x ≡ f
-    → ArePlaces ids f (i ∷ [])
+    → AreOwnPlaces ids f (i ∷ [])
 one-place ids rising f x i at is n y at_y = (
   λ h.
       let same : i ≡ n = elim (here_or i [] n h) [ inl here ↦ here | inr later ↦ absurd (omega (arith, later.1)) ] in
@@ -101,7 +98,7 @@ one-place ids rising f x i at is n y at_y = (
   ],
 )
 
-pub no-place : (ids : List Id) (f : Id) → is_in ids f ≡ false → ArePlaces ids f []
+pub no-place : (ids : List Id) (f : Id) → is_in ids f ≡ false → AreOwnPlaces ids f []
 no-place ids f none n y at_y = (
   λ h. absurd (omega (arith, h.1)),
   λ e. absurd (true≢false (sym (is_in-from_Contains ids f (subst (Contains ids) e (contains_at ids n y at_y))) ∙ none)),
@@ -389,46 +386,53 @@ module _ (g : Global) (zone : Zone) (ids : List Id) (held : All (λ e. IsTrue (i
     )
 
     -- the numbered problem
-    pub is-problem : (p : Problem) (needed : List (NeedKind × Id)) → IsProblem p → p.size ≡ length ids
-        → Beside (λ n a flag. flag ≡ is_eligible_at shared n a) faults p.eligible
-        → AreWants (open_fmid g zone) ids (length ids) p.demands needed
+    pub is-problem : (p : Problem) (needed : List (NeedKind × Id)) (flags : List Bool) → IsProblem p
+        → Beside (λ n a flag. flag ≡ is_eligible_at shared n a) faults flags
+        → HasProblem s.choice zone ids flags p needed
         → IsInstallProblem s p needed
-    is-problem p needed numbers size flags wants = record {
+    is-problem p needed flags numbers flagged has = record {
       survivors = survivors;
       are_survivors = are-survivors;
       problem = record {
         numbers = numbers;
-        size = size;
+        size = has.demands.size;
         eligible = λ n x at.
             let a = beside-own n x at in
-            let below : n < length p.eligible = subst (λ k. n < k) (sym flags.lengths)
+            let below : n < length flags = subst (λ k. n < k) (sym flagged.lengths)
             (slice_get_within faults n a.0 a.1) in
-            let flag = slice_get-get_or p.eligible n false below in
+            let flag = slice_get-get_or flags n false below in
             let is : holds p.eligible n ≡ is_eligible_at shared n a.0 =
-            flags.each n a.0 (get_or p.eligible n false) a.1 flag in
+            ap (λ l. holds l n) has.demands.eligible ∙ flagged.each n a.0 (get_or flags n false) a.1 flag in
             let both = eligible-if n x a.0 at a.1 in
             (λ on. both.0 (sym is ∙ on), λ eligible. is ∙ both.1 eligible);
-        lengths = wants.lengths;
+        lengths = ap length has.demands.needed_are ∙ length-map has.wants (λ w. (w.kind, w.id))
+            ∙ sym has.demands.demands.lengths;
         demands = λ i d need at_d at_need.
-            let w = wants.each i d need at_d at_need in
+            let w = is-demand ids has.pairs flags has.wants p needed has.demands i d need at_d at_need in
+            let open_at = (has.are_wants.members w.0.of need.0 need.1).0 (subst (Contains has.wants) w.3
+            (contains_at has.wants i w.0 w.1)) in
             record {
               of = (
-                w.x,
-                w.of,
-                subst (λ k. Needs s survivors w.x k need.1) (sym w.kind)
-                    (needs-open g zone ids held plain survivors survivors-among w.x need.1
-                    (contains_at ids d.of w.x w.of) w.fmid),
+                open_at.x,
+                subst (λ k. slice_get ids k ≡ Some open_at.x) (sym w.2.of) open_at.at,
+                (needs-open g zone ids held plain survivors survivors-among open_at.x need.0 need.1
+                    (contains_at ids w.0.of open_at.x open_at.at)).1 open_at.is_open,
               );
-              any = λ n y at_y.
-                  let both = w.any n y at_y in
-                  subst (λ k. Contains d.any n ↔ Serves s.choice k y need.1) (sym w.kind)
-                  (λ h. inl (both.0 h), λ serves. both.1 ((serves-itself s.choice y need.1).0 serves));
+              any = subst (λ (v : Want). ArePlaces s.choice ids v.kind v.id d.any) w.3 (w.2.any s.choice has.served);
             };
         all = λ n x z kind at need.
-            let only = needs-only g zone ids held plain survivors survivors-among x z kind need in
-            let found = wants.all n x z (slice_get_within ids n x at) at only.1 in
-            (found.0, found.1, found.2, found.3 ∙ ap (λ k. Some (k, z)) (sym only.0), found.4);
-        once = λ i j d e need at_d at_e need_d need_e same. wants.once i j d e at_d at_e same;
+            let found = found_at has.wants (a_want n kind z) ((has.are_wants.members n kind z).1 (record {
+              below = slice_get_within ids n x at;
+              x = x;
+              at = at;
+              is_open = (needs-open g zone ids held plain survivors survivors-among x kind z
+                  (contains_at ids n x at)).0 need;
+            })) in
+            let d = demand-at ids has.pairs flags has.wants p needed has.demands found.0 (a_want n kind z) found.1 in
+            (found.0, d.0, d.1, d.2, d.3);
+        once = λ i j d e need at_d at_e need_d need_e same.
+            wants-once ids has.pairs flags has.wants p needed has.demands has.are_wants.once i j d e need at_d at_e
+            need_d need_e same;
       };
     }
 

@@ -11,19 +11,16 @@ use Rattle.terms.specs.Lookups.{is_nil, sysmod_of, is_function, changes_of, hold
 use Rattle.terms.specs.Lookups.{is_supplied, delby_of}
 use Rattle.std.specs.Str.{bytes_eq}
 use Rattle.terms.proofs.Nil.{nil_from}
-use Rattle.terms.specs.Choice.{Choice, by_srel, vers_of, pre_of, req_of, sup_of, npre_of, del_of, ifs_of}
+use Rattle.terms.specs.Choice.{Choice, by_srel, vers_of, npre_of, del_of, ifs_of}
 use Rattle.terms.specs.Changes.{is_replacement}
 use Rattle.terms.specs.Served.{is_plain, has_plain_ver, has_plain_changes, is_unheld, is_served_zone, is_served}
 use Rattle.terms.specs.Candidates.{is_installable}
 use Rattle.lemmas.proofs.Searches.{find-gives}
 use Rattle.lemmas.proofs.Texts.{same_from}
-use Rattle.lemmas.proofs.Members.{in_map, here_or, there, in_filter}
+use Rattle.lemmas.proofs.Members.{in_map, here_or, in_filter}
 
--- its ++VER that counts names nothing but its function
+-- its ++VER that counts has no NPRE, no DELETE and no ++IF
 pub record NamesNothing (c : Choice) (x : Id) : Type 0 where
-  pub pre : pre_of c x ≡ []
-  pub req : req_of c x ≡ []
-  pub sup : sup_of c x ≡ []
   pub npre : npre_of c x ≡ []
   pub del : del_of c x ≡ []
   pub ifs : ifs_of c x ≡ []
@@ -33,9 +30,6 @@ names-nothing c x plain = by (c x) refl
   where
     by : (o : Option Ver) → c x ≡ o → NamesNothing c x
     by None e = record {
-      pre = ap (λ o. option_map_or (λ v. v.pre) o []) e;
-      req = ap (λ o. option_map_or (λ v. v.req) o []) e;
-      sup = ap (λ o. option_map_or (λ v. v.sup) o []) e;
       npre = ap (λ o. option_map_or (λ v. v.npre) o []) e;
       del = ap (λ o. option_map_or (λ v. v.del) o []) e;
       ifs = ap (λ o. option_map_or (λ v. v.ifs) o []) e;
@@ -46,12 +40,7 @@ names-nothing c x plain = by (c x) refl
         p in
         let d = and_parts (is_nil v.pre && is_nil v.req && is_nil v.sup && is_nil v.npre) (is_nil v.del) f.0 in
         let n = and_parts (is_nil v.pre && is_nil v.req && is_nil v.sup) (is_nil v.npre) d.0 in
-        let u = and_parts (is_nil v.pre && is_nil v.req) (is_nil v.sup) n.0 in
-        let r = and_parts (is_nil v.pre) (is_nil v.req) u.0 in
         record {
-          pre = ap (λ o. option_map_or (λ v. v.pre) o []) e ∙ nil_from v.pre r.0;
-          req = ap (λ o. option_map_or (λ v. v.req) o []) e ∙ nil_from v.req r.1;
-          sup = ap (λ o. option_map_or (λ v. v.sup) o []) e ∙ nil_from v.sup u.1;
           npre = ap (λ o. option_map_or (λ v. v.npre) o []) e ∙ nil_from v.npre n.1;
           del = ap (λ o. option_map_or (λ v. v.del) o []) e ∙ nil_from v.del d.1;
           ifs = ap (λ o. option_map_or (λ v. v.ifs) o []) e ∙ nil_from v.ifs f.1;

@@ -5,10 +5,10 @@ ghost use Rattle.terms.specs.Candidates.{is_installable};
 ghost use Rattle.terms.specs.Judged.{setting, IsInstallProblem};
 ghost use Rattle.judge.specs.Failed.{AreFailedTests};
 
+use crate::numbered::wants_of;
 use crate::own::all_faults;
 use crate::rows::{all_eligible, all_rows};
 use crate::sharing::shared_places;
-use crate::wanted::wants_of;
 use fields::{Id, IdList};
 use solve::System;
 use std::alloc::{AllocError, Global as Heap};

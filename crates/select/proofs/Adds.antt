@@ -1,6 +1,6 @@
 -- How the ids that are seen grow, by one test and one list after the other.
 use Rattle.std.proofs.Common.{◌≡◌, ℕ, ◌<◌, ◌+◌, inl, inr, Bool, true, false, List, [], ◌∷◌, ◌++◌, length, take, get_or}
-use Rattle.std.proofs.Common.{filter, Contains, cond, if◌then◌else◌, sym, subst, ap, ◌∙◌, append_assoc}
+use Rattle.std.proofs.Common.{filter, cond, if◌then◌else◌, sym, subst, ap, ◌∙◌, append_assoc}
 use Rattle.std.specs.List.{flat_map}
 use Rattle.std.specs.Str.{bytes_eq}
 use Rattle.std.proofs.lemmas.List.{append-nil, take_more}

@@ -1,28 +1,25 @@
 -- The ids that are asked for, as a search finds them, and the candidates.
-use Rattle.std.proofs.Common.{◌≡◌, ℕ, ◌<◌, ◌≤◌, ◌+◌, ◌⊎◌, inl, inr, Bool, true, false, ◌||◌, not, List, [], ◌∷◌, ◌++◌}
-use Rattle.std.proofs.Common.{length, take, get_or, filter, map, Option, None, Some, Contains, IsTrue, All, cond}
-use Rattle.std.proofs.Common.{if◌then◌else◌, refl, sym, subst, ap, ◌∙◌, ◌↔◌, true≢false}
+use Rattle.std.proofs.Common.{◌≡◌, ℕ, ◌<◌, ◌≤◌, ◌+◌, ◌⊎◌, inl, inr, Bool, true, false, ◌||◌, List, [], ◌∷◌, ◌++◌}
+use Rattle.std.proofs.Common.{length, get_or, filter, Contains, IsTrue, All}
+use Rattle.std.proofs.Common.{if◌then◌else◌, refl, sym, subst, ap, ◌∙◌, ◌↔◌}
 use Rattle.std.specs.List.{flat_map}
-use Rattle.std.specs.Option.{option_map_or, option_and_then}
-use Rattle.std.specs.Str.{bytes_eq}
 use Rattle.std.proofs.lemmas.Bool.{and_parts, and_from, or_cases, or_left, or_right}
 use Rattle.std.proofs.lemmas.List.Elements.{Contains-get_or, Contains-append_left, Contains-append_right}
 use Rattle.std.proofs.lemmas.List.Elements.{Contains-append_cases}
-use Rattle.terms.specs.Types.{Id, Ver, Sysmod, Global, Zone, Selection}
-use Rattle.terms.specs.Lookups.{is_in, at_most_one, is_applied, is_supplied, sysmod_of, IsRising}
-use Rattle.terms.specs.Choice.{Choice, by_srel, vers_of, fmid_of, pre_of, req_of, sup_of}
+use Rattle.terms.specs.Types.{Id, Global, Zone, Selection}
+use Rattle.terms.specs.Lookups.{is_in, IsRising}
+use Rattle.terms.specs.Choice.{Choice, by_srel, sup_of}
 use Rattle.terms.specs.Over.{Leads, Supersedes}
 use Rattle.terms.specs.Global.{named}
-use Rattle.terms.specs.Candidates.{is_installable, is_open, is_start, is_growing_start, is_mass_chosen, if_needed}
+use Rattle.terms.specs.Candidates.{is_installable, is_open, is_start, is_growing_start, is_mass_chosen}
 use Rattle.terms.specs.Candidates.{needed_ids, open_reasons, Extends, BringsIn, IsClosedPair, AreCandidates}
 use Rattle.terms.proofs.Ids.{is_in-from_Contains, Contains-from_is_in}
 use Rattle.terms.proofs.Leads.{reaches_named, reaches_last}
-use Rattle.lemmas.proofs.Members.{none_in, in_map, filter_in, in_filter}
-use Rattle.lemmas.proofs.Searches.{find-gives}
+use Rattle.lemmas.proofs.Members.{none_in, filter_in, in_filter}
 use Rattle.sysmods_paths.specs.Seen.{AddsAll, IsGoing}
 use Rattle.sysmods_paths.proofs.Going.{going-start, going-next, going-end}
 use Rattle.sysmods_received.specs.Namers.{namers_for}
-use Rattle.select.specs.Growing.{WillDo, IsAsked, asked_in, asked_by, superseders, next_asked, asked_first, AreAsked}
+use Rattle.select.specs.Growing.{WillDo, IsAsked, asked_by, superseders, next_asked, asked_first, AreAsked}
 use Rattle.select.proofs.Flat.{flat_in, in_flat}
 use Rattle.select.proofs.Opened.{open_parts}
 use Rattle.select.proofs.Needs.{needed_asked, asked_needed, super_listed}

@@ -5,13 +5,12 @@ use Rattle.std.specs.List.{list_all, flat_map}
 use Rattle.std.specs.Option.{option_map_or, option_and_then}
 use Rattle.std.specs.Str.{bytes_eq}
 use Rattle.std.proofs.lemmas.Bool.{and_parts}
-use Rattle.std.proofs.lemmas.List.{append-nil}
 use Rattle.std.proofs.lemmas.List.Elements.{Contains-append_left, Contains-append_right, Contains-append_cases}
 use Rattle.terms.specs.declared.kinds.HoldKind.TheVariants.{Error}
 use Rattle.terms.specs.Types.{Text, Id, Ver, Sysmod, Global, Zone, Selection}
 use Rattle.terms.specs.Lookups.{at_most_one, is_applied, is_supplied, is_function, applied_ids, holds_of, sysmod_of}
 use Rattle.terms.specs.Lookups.{is_in}
-use Rattle.terms.specs.Choice.{Choice, by_srel, vers_of, fmid_of, pre_of, req_of, sup_of}
+use Rattle.terms.specs.Choice.{Choice, by_srel, fmid_of, pre_of, req_of, sup_of}
 use Rattle.terms.specs.Served.{has_plain_ver, is_served_zone}
 use Rattle.terms.specs.Global.{named, names_for}
 use Rattle.terms.specs.Candidates.{is_open, if_reqs, stated_for, if_needed, needed_ids, open_reasons}
@@ -24,7 +23,7 @@ use Rattle.terms.proofs.Ids.{is_in-from_Contains}
 use Rattle.terms.proofs.Nil.{nil_from}
 use Rattle.select.specs.Growing.{asked_in, asked_by}
 use Rattle.select.proofs.Flat.{in_flat}
-use Rattle.select.proofs.Opened.{open_parts, plain_parts}
+use Rattle.select.proofs.Opened.{open_parts, no_ifs}
 
 -- Where what is served names its function alone, nothing is needed by ++IF and nothing is held.
 module _ (g : Global) (zone : Zone) where
@@ -34,7 +33,7 @@ module _ (g : Global) (zone : Zone) where
   -- a plain ++VER states nothing by ++IF
   no_if_reqs : (there : Id → Bool) (x : Id) → has_plain_ver g zone x ≡ true → if_reqs c there x ≡ []
   no_if_reqs there x plain = ap (λ is. flat_map (λ i. i.req) (filter (λ i. there i.function) is))
-      (plain_parts g zone x plain).ifs
+      (no_ifs g zone x plain)
 
   none_stated : (xs : List Id) (f : Id) → list_all (has_plain_ver g zone) xs ≡ true → stated_for c xs f ≡ []
   none_stated [] f all = refl

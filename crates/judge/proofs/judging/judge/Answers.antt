@@ -27,14 +27,11 @@ returns-clause-problem c =
     let own = rw c.as_slice-list.ensures.items at c.in_ok-faults.ensures in
     let shares = rw (c.as_slice-list.ensures.items, c.as_slice.ensures.value) at c.in_ok-shared.ensures in
     let flags = rw c.as_slice-3.ensures.value at c.in_ok-eligible.ensures in
-    let valid = c.in_ok-system.ensures.valid in
-    let wants = c.in_ok-system.ensures.wants in
     rw (same-pairs c.in_ok-system.needed.items)
     (is-problem g zone ids c.known.ensures.held rising (λ x h.
     plain-from g zone x (All-contains (λ x. IsTrue (is_installable g zone x)) ids x c.requires h))
     c.in_ok-faults.faults.items own c.in_ok-shared.shared.keys shares c.in_ok-system.system c.in_ok-system.needed.items
-    valid wants.size
-    (rw wants.eligible flags) wants.needs)
+    c.in_ok-eligible.eligible.items c.in_ok-system.ensures.valid flags c.in_ok-system.ensures.problem)
 
 pub returns-clause-tests : goal.returns-clause-tests
 returns-clause-tests c =
