@@ -3,6 +3,7 @@
 //! has both. Known are SET, RECEIVE, REJECT and APPLY without BYPASS; any other command or operand is told as unknown.
 #![tactic(auto)]
 
+mod bypass;
 mod command;
 mod doubles;
 mod errors;
@@ -14,6 +15,7 @@ mod read;
 mod tables;
 mod values;
 
+pub use bypass::{Bypass, Reasons};
 pub use command::{Command, Install, ReceiveWhat, Selection};
 pub use errors::CntlError;
 pub use file::read_cntl;

@@ -22,3 +22,9 @@ pub type IdList = Rising<Id>;
 
 /// Source ids in rising order.
 pub type SourceList = Rising<Source>;
+
+/// Reasons of holds in rising order.
+pub type ReasonList = Rising<Reason>;
+
+/// Classes of holds in rising order.
+pub type ClassList = Rising<Class>;

@@ -7,8 +7,8 @@ use std::cmp::Ordering;
 use std::marker::Model;
 use terms::HoldKind;
 
-/// A hold on a SYSMOD. Its key is the id, the kind and the reason. It is internal if it came inside
-/// the SYSMOD.
+/// A hold on a SYSMOD. Its key is the id, the kind and the reason, which of an ERROR hold is an id. It is internal if
+/// it came inside the SYSMOD.
 #[derive(Drop)]
 pub struct Hold {
     pub id: Id,
@@ -25,6 +25,7 @@ impl Model for Hold {
     ghost use Rattle.std.specs.Prelude.{option_map};
     ghost use Rattle.std.specs.String.{string_bytes};
     ghost use Rattle.terms.specs.Types as terms;
+    ghost use Rattle.terms.specs.Forms.{IsReason};
 
     ghost Value = { terms.Hold };
 
@@ -38,6 +39,8 @@ impl Model for Hold {
       comment = option_map string_bytes a.comment;
       internal = a.internal;
     } };
+
+    ghost invariant = { λ a. IsReason a.kind a.reason };
 }
 
 impl Hold {

@@ -75,7 +75,7 @@ impl TryClone for Entry {
 }
 
 /// An element entry: the function that owns it, the SYSMOD that last replaced it, those that updated
-/// it since, its libraries and its records.
+/// it since, its libraries and its records, which are numbered in MAC and SRC elements.
 #[derive(Drop)]
 pub struct Element {
     pub elem_type: ElemType,
@@ -90,6 +90,7 @@ pub struct Element {
 
 impl Model for Element {
     ghost use Rattle.terms.specs.Types.{Element as ElementEntry};
+    ghost use Rattle.terms.specs.Texts.{HasForm};
 
     ghost Value = { ElementEntry };
 
@@ -103,6 +104,8 @@ impl Model for Element {
       syslib = e.syslib;
       text = e.text.items;
     } };
+
+    ghost invariant = { λ e. HasForm e.elem_type e.text.items };
 }
 
 impl Keyed for Element {
