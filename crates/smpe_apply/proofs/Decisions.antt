@@ -11,13 +11,12 @@ use Rattle.std.proofs.lemmas.List.Kept.{AllPairs-filter}
 use Rattle.std.proofs.lemmas.List.Sorted.{IsPermutation-map, IsPermutation-sym, Contains-permutation}
 use Rattle.terms.specs.declared.kinds.ElemType.{ElemType}
 use Rattle.terms.specs.declared.not_chosen.NotChosen.{NotChosen}
-use Rattle.terms.specs.Types.{Text, Id, type_number, Change, Global, Zone, Selection}
+use Rattle.terms.specs.Types.{Text, Id, type_number, Change, Global, Zone, Bypass, Selection}
 use Rattle.terms.specs.Lookups.{IsRising, is_in, change_of, changes_of, has_change}
 use Rattle.terms.specs.Choice.{by_srel, fmid_of}
-use Rattle.terms.specs.CommandForms.{no_bypass}
 use Rattle.terms.specs.Candidates.{AreCandidates, is_installable, not_chosen}
 use Rattle.terms.specs.Tests.{Setting, IsEligible, Fails, ShareElement, owner_of}
-use Rattle.terms.specs.Needs.{Needs, Serves}
+use Rattle.terms.specs.Needs.{Needs, Serves, bypassed_ids}
 use Rattle.terms.specs.Judged.{setting}
 use Rattle.lemmas.proofs.Apart.{AreApart}
 use Rattle.lemmas.proofs.Members.{map_in, in_map, none_in, filter_in, in_filter}
@@ -25,12 +24,13 @@ use Rattle.lemmas.proofs.Pairs.{AllPairs-join}
 use Rattle.terms.proofs.Ids.{is_in-from_Contains, Contains-from_is_in, apart-from_rising}
 use Rattle.lemmas.proofs.Texts.{same_or_not}
 use Rattle.lemmas.proofs.Searches.{find-gives}
-use Rattle.machine.specs.Outcome.{Status, Failure, Failed, Line}
+use Rattle.machine.specs.Outcome.{Status, Superseded, Failure, Failed, Line}
 use Rattle.machine.specs.Installing.{Decision, IsDecision, IsDecided, IsFailure, HasStatus, IsIn, IsUnder, IsOff, IsOut}
 use Rattle.machine.specs.Installing.{AreInstallLines, installed_status, not_chosen_status}
 use Rattle.terms.specs.Install.{TakesEffect}
-use Rattle.change.proofs.Installable.{replaces, supersedes_none}
-use Rattle.smpe_apply.specs.Statuses.{kept_statuses, failed_statuses, left_out_statuses, all_statuses, AreById}
+use Rattle.change.proofs.Installable.{replaces}
+use Rattle.smpe_apply.specs.Statuses.{kept_status, kept_statuses, failed_statuses, left_out_statuses}
+use Rattle.smpe_apply.specs.Statuses.{all_statuses, AreById}
 use Rattle.smpe_apply.proofs.ById.{rises_by_id}
 use Rattle.smpe_apply.proofs.InstallLines.{are_install_lines}
 
@@ -58,13 +58,13 @@ no_reason g zone sel x why ok is = by (is_in (sel.select ++ sel.group) x) (is_in
     by true true n e = let none = rw (n, e) at is in absurd cc
     by true false n e = let none = rw (n, e, ok) at is in absurd cc
 
-module _ (g : Global) (zone : Zone) (sel : Selection) (date : Text) (cands kept : List Id)
+module _ (g : Global) (zone : Zone) (sel : Selection) (bypass : Bypass) (date : Text) (cands kept : List Id)
     (failed : List (Id × Failure))
     (are : AreCandidates g (by_srel g zone.srel) zone sel cands)
     (ok : All (λ x. IsTrue (is_installable g zone x)) cands)
-    (decided : IsDecided (setting g zone None cands no_bypass) kept failed) where
+    (decided : IsDecided (setting g zone None cands bypass) kept failed) where
   abbrev s : Setting
-  s = setting g zone None cands no_bypass
+  s = setting g zone None cands bypass
 
   eligible : (x : Id) → Contains kept x → IsEligible s x
   eligible x h = let stays = (decided.members x).0 h in stays.1.eligible x stays.2
@@ -101,9 +101,10 @@ module _ (g : Global) (zone : Zone) (sel : Selection) (date : Text) (cands kept 
           λ same. other (sym (own x shared.0 shared.1 h shared.2) ∙ same ∙ own y shared.0 shared.1 k shared.3) in
           absurd ((eligible x h).1 ((eligible x h).0, (y, (eligible y k).0, other, inr (inr (shared, inl owners)))))
 
-  abbrev pub decision : Decision
-  decision = record {
-    setting = setting g zone None cands no_bypass;
+  -- with the pairs of a kept id and a bypassed requisite of it
+  abbrev pub decision : List (Id × Id) → Decision
+  decision bypassed = record {
+    setting = setting g zone None cands bypass;
     survivors = decided.survivors;
     kept = kept;
     installing = record {
@@ -111,13 +112,15 @@ module _ (g : Global) (zone : Zone) (sel : Selection) (date : Text) (cands kept 
       choice = by_srel g zone.srel;
       zone = zone;
       kept = kept;
-      bypassed = [];
+      bypassed = bypassed;
       date = date;
     };
   }
 
-  pub decides : IsDecision g zone None sel no_bypass date decision
-  decides = record {
+  pub decides : (bypassed : List (Id × Id))
+      → ((x z : Id) → Contains bypassed (x, z) ↔ (Contains kept x × Contains (bypassed_ids s x) z))
+      → IsDecision g zone None sel bypass date (decision bypassed)
+  decides bypassed are_bypassed = record {
     cands = cands;
     candidates = are;
     setting = refl;
@@ -128,17 +131,9 @@ module _ (g : Global) (zone : Zone) (sel : Selection) (date : Text) (cands kept 
       rising = decided.rising;
       members = decided.members;
     };
-    bypassed = [];
-    are_bypassed = λ x z. (λ h. absurd (none_in (x, z) h), λ h. absurd (none_in z h.1));
+    bypassed = bypassed;
+    are_bypassed = are_bypassed;
     installing = refl;
-  }
-
-  -- nothing kept is superseded
-  installed : (x : Id) → Contains kept x → TakesEffect decision.installing x
-  installed x h = record {
-    kept = h;
-    first = λ y there other.
-        supersedes_none g zone y (installable y (cand y there)) x;
   }
 
   abbrev failed_ids : List Id
@@ -156,21 +151,23 @@ module _ (g : Global) (zone : Zone) (sel : Selection) (date : Text) (cands kept 
       by true e = absurd (off (Contains-from_is_in kept x e))
       by false e = ap not e
 
-  module _ (left_out : List (Id × NotChosen)) (rising : IsRising (map (λ f. f.0) left_out))
+  module _ (bypassed : List (Id × Id)) (effective : List Id)
+      (in_effect : (x : Id) → Contains effective x ↔ TakesEffect (decision bypassed).installing x)
+      (left_out : List (Id × NotChosen)) (rising : IsRising (map (λ f. f.0) left_out))
       (members : (x : Id) (why : NotChosen) → Contains left_out (x, why) ↔ (not_chosen g zone sel x ≡ Some why)) where
     abbrev all : List (Id × Status)
-    all = all_statuses zone.kind kept failed left_out
+    all = all_statuses zone.kind effective kept failed left_out
 
     abbrev left_ids : List Id
     left_ids = map (λ f. f.0) left_out
 
     all_ids : map (λ p. p.0) all ≡ kept ++ failed_ids ++ left_ids
     all_ids =
-        let front : List (Id × Status) = kept_statuses zone.kind kept in
+        let front : List (Id × Status) = kept_statuses zone.kind effective kept in
         let middle : List (Id × Status) = failed_statuses failed in
         let back : List (Id × Status) = left_out_statuses left_out in
         let id : Id × Status → Id = λ p. p.0 in
-        let a : map id front ≡ kept = ids_of (λ (x : Id). x) (λ x. installed_status zone.kind) kept ∙ map-id kept in
+        let a : map id front ≡ kept = ids_of (λ (x : Id). x) (kept_status zone.kind effective) kept ∙ map-id kept in
         let b : map id middle ≡ failed_ids = ids_of (λ (f : Id × Failure). f.0) (λ f. Failed f.1) failed ∙ decided.ids
         in
         let c : map id back ≡ left_ids = ids_of (λ (f : Id × NotChosen). f.0) (λ f. not_chosen_status f.1) left_out in
@@ -200,37 +197,49 @@ module _ (g : Global) (zone : Zone) (sel : Selection) (date : Text) (cands kept 
         (apart-from_rising left_ids rising) apart_from_left)
 
     -- each status is one of the id
-    has_status : (p : Id × Status) → Contains all p → HasStatus decision sel p.0 p.1
+    has_status : (p : Id × Status) → Contains all p → HasStatus (decision bypassed) sel p.0 p.1
     has_status p h =
-        elim (Contains-append_cases (kept_statuses zone.kind kept ++ failed_statuses failed)
+        elim (Contains-append_cases (kept_statuses zone.kind effective kept ++ failed_statuses failed)
         (left_out_statuses left_out) p h) [
-          | inl first ↦ elim (Contains-append_cases (kept_statuses zone.kind kept) (failed_statuses failed) p first)
+          | inl first ↦ elim (Contains-append_cases (kept_statuses zone.kind effective kept) (failed_statuses failed) p first)
               [ inl k ↦ of_kept k | inr f ↦ of_failed f ]
           | inr out ↦ of_left out
         ]
       where
-        of_kept : Contains (kept_statuses zone.kind kept) p → HasStatus decision sel p.0 p.1
+        of_kept : Contains (kept_statuses zone.kind effective kept) p → HasStatus (decision bypassed) sel p.0 p.1
         of_kept k =
-            let m = map_in (λ (x : Id). (x, installed_status zone.kind)) kept p k in
-            subst (λ q. HasStatus decision sel q.0 q.1) m.2 (IsIn (installed m.0 m.1))
+            let m = map_in (λ (x : Id). (x, kept_status zone.kind effective x)) kept p k in
+            subst (λ q. HasStatus (decision bypassed) sel q.0 q.1) m.2 (by m.0 m.1 (is_in effective m.0) refl)
+          where
+            by : (x : Id) → Contains kept x → (b : Bool) → is_in effective x ≡ b
+                → HasStatus (decision bypassed) sel x (kept_status zone.kind effective x)
+            by x in_kept true e =
+                let here = (in_effect x).0 (Contains-from_is_in effective x e) in
+                subst (λ b. HasStatus (decision bypassed) sel x (if b then installed_status zone.kind else Superseded))
+                (sym e) (IsIn here)
+            by x in_kept false e =
+                let off : ¬ TakesEffect (decision bypassed).installing x =
+                λ takes. true≢false (sym (is_in-from_Contains effective x ((in_effect x).1 takes)) ∙ e) in
+                subst (λ b. HasStatus (decision bypassed) sel x (if b then installed_status zone.kind else Superseded))
+                (sym e) (IsUnder in_kept off)
 
-        of_failed : Contains (failed_statuses failed) p → HasStatus decision sel p.0 p.1
+        of_failed : Contains (failed_statuses failed) p → HasStatus (decision bypassed) sel p.0 p.1
         of_failed f =
             let m = map_in (λ (f : Id × Failure). (f.0, Failed f.1)) failed p f in
             let id : Contains failed_ids m.0.0 = subst (λ xs. Contains xs m.0.0) decided.ids
             (in_map (λ (f : Id × Failure). f.0) failed m.0 m.1) in
             let why = All-contains (λ f. IsFailure cands kept (Fails s) (IsEligible s) (Needs s decided.survivors)
             (Serves s.choice) f.0 f.1) failed m.0 decided.failures m.1 in
-            subst (λ q. HasStatus decision sel q.0 q.1) m.2 (IsOff m.0.1
+            subst (λ q. HasStatus (decision bypassed) sel q.0 q.1) m.2 (IsOff m.0.1
             (filter_in (λ y. not (is_in kept y)) cands m.0.0 id).0 (not_kept m.0.0 id) why)
 
-        of_left : Contains (left_out_statuses left_out) p → HasStatus decision sel p.0 p.1
+        of_left : Contains (left_out_statuses left_out) p → HasStatus (decision bypassed) sel p.0 p.1
         of_left out =
             let m = map_in (λ (f : Id × NotChosen). (f.0, not_chosen_status f.1)) left_out p out in
-            subst (λ q. HasStatus decision sel q.0 q.1) m.2 (IsOut m.0.1 ((members m.0.0 m.0.1).0 m.1))
+            subst (λ q. HasStatus (decision bypassed) sel q.0 q.1) m.2 (IsOut m.0.1 ((members m.0.0 m.0.1).0 m.1))
 
     -- each id with a status is there
-    listed : (x : Id) {st : Status} → HasStatus decision sel x st → Contains (kept ++ failed_ids ++ left_ids) x
+    listed : (x : Id) {st : Status} → HasStatus (decision bypassed) sel x st → Contains (kept ++ failed_ids ++ left_ids) x
     listed x (IsIn i) = Contains-append_left (kept ++ failed_ids) left_ids x
         (Contains-append_left kept failed_ids x i.kept)
     listed x (IsUnder k _) = Contains-append_left (kept ++ failed_ids) left_ids x
@@ -241,11 +250,11 @@ module _ (g : Global) (zone : Zone) (sel : Selection) (date : Text) (cands kept 
         Contains-append_right (kept ++ failed_ids) left_ids x
         (in_map (λ (f : Id × NotChosen). f.0) left_out (x, why) ((members x why).1 is))
 
-    pub install_lines : (lines : List Line) → AreById g all lines → AreInstallLines decision sel lines
+    pub install_lines : (lines : List Line) → AreById g all lines → AreInstallLines (decision bypassed) sel lines
     install_lines lines made =
         let same : IsPermutation (map (λ p. p.0) all) (map (λ p. p.0) made.found) =
         IsPermutation-map (λ p. p.0) all made.found made.by_id.same in
-        are_install_lines decision sel made.found lines (rises_by_id all made.found made.by_id.same made.by_id.sorted
+        are_install_lines (decision bypassed) sel made.found lines (rises_by_id all made.found made.by_id.same made.by_id.sorted
         all_apart) made.lines_are
         (λ p h. has_status p (Contains-permutation made.found all p (IsPermutation-sym all made.found made.by_id.same)
         h))

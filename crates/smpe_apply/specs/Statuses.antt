@@ -1,12 +1,13 @@
 -- What becomes of ids, before it is lines.
-use Rattle.std.specs.Prelude.{◌≡◌, List, ◌++◌, map, IsPermutation}
+use Rattle.std.specs.Prelude.{◌≡◌, List, ◌++◌, map, IsPermutation, if◌then◌else◌}
 use Rattle.std.specs.List.Sorted.{IsSortedByKey}
 use Rattle.std.specs.Ordering.{nat_cmp}
 use Rattle.std.specs.Cmp.Lexicographic.{slice_cmp}
 use Rattle.terms.specs.declared.kinds.ZoneKind.{ZoneKind}
 use Rattle.terms.specs.declared.not_chosen.NotChosen.{NotChosen}
 use Rattle.terms.specs.Types.{Id, Global}
-use Rattle.machine.specs.Outcome.{Status, Failure, Failed, Line, StatusLine}
+use Rattle.terms.specs.Lookups.{is_in}
+use Rattle.machine.specs.Outcome.{Status, Superseded, Failure, Failed, Line, StatusLine}
 use Rattle.machine.specs.Receiving.{place_of}
 use Rattle.machine.specs.Installing.{installed_status, not_chosen_status}
 use Rattle.report.specs.declared.outcome.Status as reported
@@ -21,9 +22,12 @@ said p = (p.0, status_view p.1)
 abbrev pub why_failed : Id × reported_failure.Failure → Id × Failure
 why_failed f = (f.0, failure_view f.1)
 
--- the ids that are installed in this kind of zone
-abbrev pub kept_statuses : ZoneKind → List Id → List (Id × Status)
-kept_statuses kind kept = map (λ x. (x, installed_status kind)) kept
+-- the status of a kept id: installed in this kind of zone where it takes effect, else superseded
+abbrev pub kept_status : ZoneKind → List Id → Id → Status
+kept_status kind effective x = if is_in effective x then installed_status kind else Superseded
+
+abbrev pub kept_statuses : ZoneKind → List Id → List Id → List (Id × Status)
+kept_statuses kind effective kept = map (λ x. (x, kept_status kind effective x)) kept
 
 abbrev pub failed_statuses : List (Id × Failure) → List (Id × Status)
 failed_statuses failed = map (λ f. (f.0, Failed f.1)) failed
@@ -31,8 +35,10 @@ failed_statuses failed = map (λ f. (f.0, Failed f.1)) failed
 abbrev pub left_out_statuses : List (Id × NotChosen) → List (Id × Status)
 left_out_statuses found = map (λ f. (f.0, not_chosen_status f.1)) found
 
-abbrev pub all_statuses : ZoneKind → List Id → List (Id × Failure) → List (Id × NotChosen) → List (Id × Status)
-all_statuses kind kept failed found = kept_statuses kind kept ++ failed_statuses failed ++ left_out_statuses found
+abbrev pub all_statuses : ZoneKind → List Id → List Id → List (Id × Failure) → List (Id × NotChosen)
+    → List (Id × Status)
+all_statuses kind effective kept failed found =
+    kept_statuses kind effective kept ++ failed_statuses failed ++ left_out_statuses found
 
 -- the same ids with their statuses, by id
 pub record IsById (all found : List (Id × Status)) : Type 0 where

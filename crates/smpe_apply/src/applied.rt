@@ -1,19 +1,16 @@
 //! The zone's change and the lines of an APPLY.
-ghost use Rattle.std.specs.Prelude.{◌≡◌, None, All, IsTrue, List, IfOk, map};
-ghost use Rattle.terms.specs.Types.{Id as AnId, Zone as AZone};
-ghost use Rattle.terms.specs.Candidates.{is_installable};
-ghost use Rattle.terms.specs.CommandForms.{no_bypass};
+ghost use Rattle.std.specs.Prelude.{◌≡◌, None, IfOk, map};
+ghost use Rattle.terms.specs.Types.{Zone as AZone};
 ghost use Rattle.terms.specs.Forms.{IsDottedDate};
 ghost use Rattle.terms.specs.Delta.{IsChanged};
 ghost use Rattle.machine.specs.Installing.{InstallsSelected};
 ghost use Rattle.report.specs.Views.{line_view};
-ghost use Rattle.change.specs.Puts.{puts};
 
 use crate::decided::{Decided, decide};
 use crate::lines::lines;
 use crate::statuses::statuses;
-use change::install;
-use cntl::Selection;
+use change::{install, taking_effect};
+use cntl::{Bypass, Selection};
 use fields::YyDdd;
 use report::Line;
 use select::{candidates, not_chosen};
@@ -28,28 +25,34 @@ pub struct Applied {
     pub lines: Vec<Line>,
 }
 
-/// Installs what is selected into the zone. Whether the command checks alone is its caller's matter.
+/// Installs what is selected into the zone, less what BYPASS leaves out of account. Whether the command checks alone is
+/// its caller's matter.
 pub fn apply(
     alloc: Heap,
     global: &Global,
     zone: &Zone,
     selection: &Selection,
+    bypass: &Bypass,
     date: YyDdd,
 ) -> Result<Applied, AllocError>
     ensures installs { IfOk result (λ a. (new : AZone) → IsChanged a.delta zone.now new →
-        InstallsSelected global.now zone.now None selection.now no_bypass date new (map line_view a.lines.items)) }
-    ensures puts { IfOk result (λ a. (kept : List AnId) × All (λ x. IsTrue (is_installable global.now zone.now x)) kept
-        × (a.delta ≡ puts global.now date kept)) }
+        InstallsSelected global.now zone.now None selection.now bypass.now date new (map line_view a.lines.items)) }
     ensures dated { IsDottedDate date }
 {
     prove!(date.as_bytes().len() == 6);
     let ids = candidates(alloc, global, zone, selection)?;
-    let Decided { kept, failed } = decide(alloc, global, zone, &ids)?;
-    let delta = install(alloc, global, zone, &kept, date)?;
+    let Decided {
+        kept,
+        failed,
+        bypassed,
+    } = decide(alloc, global, zone, &ids, bypass)?;
+    let effective = taking_effect(alloc, global, zone.srel(), &kept)?;
+    let delta = install(alloc, global, zone, &kept, bypassed.as_slice(), date)?;
     let left_out = not_chosen(alloc, global, zone, selection)?;
     let found = statuses(
         alloc,
         zone.kind(),
+        &effective,
         kept.as_slice(),
         failed,
         left_out.as_slice(),

@@ -1,8 +1,9 @@
 //! The kept candidates and the failures of the others.
-ghost use Rattle.std.specs.Prelude.{◌≡◌, None, All, IsTrue, IfOk, length, map};
-ghost use Rattle.terms.specs.Types.{Global as AGlobal, Zone as AZone};
-ghost use Rattle.terms.specs.CommandForms.{no_bypass};
+ghost use Rattle.std.specs.Prelude.{◌≡◌, ◌↔◌, List, Option, None, All, Contains, IsTrue, IfOk, length, map, filter};
+ghost use Rattle.terms.specs.Types.{Id as AnId, Global as AGlobal, Zone as AZone, Bypass as ABypass};
+ghost use Rattle.terms.specs.Lookups.{is_in};
 ghost use Rattle.terms.specs.Candidates.{is_installable};
+ghost use Rattle.terms.specs.Needs.{bypassed_ids};
 ghost use Rattle.terms.specs.Judged.{setting, IsInstallProblem};
 ghost use Rattle.judge.specs.Failed.{AreFailedTests};
 ghost use Rattle.machine.specs.Installing.{IsDecided};
@@ -11,19 +12,32 @@ ghost use Rattle.report.specs.Views.{failure_view};
 use crate::failures::{Findings, failures};
 use crate::kept::kept_ids;
 use crate::needs::open_needs;
+use cntl::Bypass;
 use fields::{Id, IdList};
-use judge::{Judged, judge};
+use judge::{Judged, install_system};
 use report::Failure;
 use solve::{Solver, Worklist, causers};
 use std::alloc::{AllocError, Global as Heap};
 use sysmods::Global;
 use zones::Zone;
 
-/// The kept candidates, and each other one with the reason, in their order.
+/// The kept candidates, each other one with the reason, in their order, and the bypassed requisites of the kept ones.
 #[derive(Drop)]
 pub struct Decided {
     pub kept: IdList,
     pub failed: Vec<(Id, Failure)>,
+    pub bypassed: Vec<(Id, Id)>,
+}
+
+// The pairs whose first id is kept.
+fn of_kept(alloc: Heap, kept: &IdList, pairs: &[(Id, Id)]) -> Result<Vec<(Id, Id)>, AllocError>
+    ensures { IfOk result (λ found. found.items ≡ filter (λ p. is_in kept.now p.0) pairs.now) }
+{
+    pairs
+        .iter()
+        .filter(|pair| kept.contains(pair.0))
+        .copied()
+        .collect(alloc)
 }
 
 /// Decides by what is known of the candidates.
@@ -35,17 +49,19 @@ pub(crate) fn decide_judged(
     requires size { judged.system.size ≡ length ids.now }
     requires needed { length judged.needed.items ≡ length judged.system.demands }
     requires tests { length judged.tests.items ≡ length ids.now }
-    ensures { IfOk result (λ d. (g : AGlobal) (zone : AZone)
-        → IsInstallProblem (setting g zone None ids.now no_bypass) judged.system
+    ensures decided { IfOk result (λ d. (g : AGlobal) (zone : AZone) (related : Option AZone) (bypass : ABypass)
+        → IsInstallProblem (setting g zone related ids.now bypass) judged.system
         (map (λ n. (n.0, n.1)) judged.needed.items)
-        → AreFailedTests (setting g zone None ids.now no_bypass) (map (λ row. row.items) judged.tests.items)
-        → IsDecided (setting g zone None ids.now no_bypass) d.kept
+        → AreFailedTests (setting g zone related ids.now bypass) (map (λ row. row.items) judged.tests.items)
+        → IsDecided (setting g zone related ids.now bypass) d.kept
         (map (λ f. (f.0, failure_view f.1)) d.failed.items)) }
+    ensures bypassed { IfOk result (λ d. d.bypassed.items ≡ filter (λ p. is_in d.kept p.0) judged.bypassed.items) }
 {
     let Judged {
         system,
         needed,
         tests,
+        bypassed,
     } = judged;
     let set = Worklist.greatest(alloc, &system)?;
     let causers = causers(alloc, &system, &set)?;
@@ -57,7 +73,12 @@ pub(crate) fn decide_judged(
         causers,
     };
     let failed = failures(alloc, ids.as_slice(), &kept, &found)?;
-    Ok(Decided { kept, failed })
+    let bypassed = of_kept(alloc, &kept, bypassed.as_slice())?;
+    Ok(Decided {
+        kept,
+        failed,
+        bypassed,
+    })
 }
 
 /// Decides which candidates of an APPLY in this zone are kept: those of the greatest self-supporting set.
@@ -66,11 +87,14 @@ pub fn decide(
     global: &Global,
     zone: &Zone,
     ids: &IdList,
+    bypass: &Bypass,
 ) -> Result<Decided, AllocError>
     requires { All (λ x. IsTrue (is_installable global.now zone.now x)) ids.now }
-    ensures { IfOk result (λ d. IsDecided (setting global.now zone.now None ids.now no_bypass) d.kept
+    ensures decided { IfOk result (λ d. IsDecided (setting global.now zone.now None ids.now bypass.now) d.kept
         (map (λ f. (f.0, failure_view f.1)) d.failed.items)) }
+    ensures bypassed { IfOk result (λ d. (x z : AnId) → Contains {X = AnId × AnId} d.bypassed.items (x, z)
+        ↔ (Contains d.kept x × Contains (bypassed_ids (setting global.now zone.now None ids.now bypass.now) x) z)) }
 {
-    let judged = judge(alloc, global, zone, ids)?;
+    let judged = install_system(alloc, global, zone, None, ids, bypass)?;
     decide_judged(alloc, ids, judged)
 }

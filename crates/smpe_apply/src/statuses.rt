@@ -2,10 +2,10 @@
 ghost use Rattle.std.specs.Prelude.{◌≡◌, ◌++◌, map, IfOk, OnOk};
 ghost use Rattle.machine.specs.Installing.{installed_status, not_chosen_status};
 ghost use Rattle.report.specs.Views.{status_view};
-ghost use Rattle.smpe_apply.specs.Statuses.{said, why_failed, kept_statuses, failed_statuses, left_out_statuses};
-ghost use Rattle.smpe_apply.specs.Statuses.{all_statuses};
+ghost use Rattle.smpe_apply.specs.Statuses.{said, why_failed, kept_status, kept_statuses, failed_statuses};
+ghost use Rattle.smpe_apply.specs.Statuses.{left_out_statuses, all_statuses};
 
-use fields::Id;
+use fields::{Id, IdList};
 use report::{Failure, Status};
 use std::alloc::{AllocError, Global as Heap};
 use terms::{NotChosen, ZoneKind};
@@ -16,6 +16,17 @@ fn installed_status(kind: ZoneKind) -> Status
     match kind {
         ZoneKind::Target => Status::Applied,
         ZoneKind::Distribution => Status::Accepted,
+    }
+}
+
+/// The status of a kept id, of which those take effect that stand in the list.
+fn kept_status(kind: ZoneKind, effective: &IdList, id: Id) -> Status
+    ensures { status_view result ≡ kept_status kind effective.now id }
+{
+    if effective.contains(id) {
+        installed_status(kind)
+    } else {
+        Status::Superseded
     }
 }
 
@@ -33,12 +44,14 @@ fn left_out_status(why: NotChosen) -> Status
 fn push_kept(
     statuses: &mut Vec<(Id, Status)>,
     kind: ZoneKind,
+    effective: &IdList,
     kept: &[Id],
 ) -> Result<(), AllocError>
-    ensures { OnOk result (map said statuses.new.items ≡ map said statuses.old.items ++ kept_statuses kind kept.now) }
+    ensures { OnOk result (map said statuses.new.items ≡ map said statuses.old.items
+        ++ kept_statuses kind effective.now kept.now) }
 {
     for id in kept {
-        statuses.push((*id, installed_status(kind)))?;
+        statuses.push((*id, kept_status(kind, effective, *id)))?;
     }
     Ok(())
 }
@@ -69,20 +82,21 @@ fn push_left_out(
     Ok(())
 }
 
-/// The statuses of all ids that have one: of those that are installed in this kind of zone, of those that failed, and
-/// of those that were left out.
+/// The statuses of all ids that have one: of those that are kept for this kind of zone, of which some take effect, of
+/// those that failed, and of those that were left out.
 pub(crate) fn statuses(
     alloc: Heap,
     kind: ZoneKind,
+    effective: &IdList,
     kept: &[Id],
     failed: Vec<(Id, Failure)>,
     left_out: &[(Id, NotChosen)],
 ) -> Result<Vec<(Id, Status)>, AllocError>
     ensures { IfOk result (λ found. map said found.items
-        ≡ all_statuses kind kept.now (map why_failed failed.items) left_out.now) }
+        ≡ all_statuses kind effective.now kept.now (map why_failed failed.items) left_out.now) }
 {
     let mut found = Vec::new(alloc);
-    push_kept(&mut found, kind, kept)?;
+    push_kept(&mut found, kind, effective, kept)?;
     push_failed(&mut found, failed)?;
     push_left_out(&mut found, left_out)?;
     Ok(found)

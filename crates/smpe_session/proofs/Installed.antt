@@ -10,10 +10,7 @@ use Rattle.std.proofs.lemmas.Cmp.{nat_list_cmp_total, tied_itself}
 use Rattle.std.proofs.lemmas.List.Elements.{All-append, All-weaker, recursion_from_All}
 use Rattle.indexmap.specs.IndexMap.{get, Updates}
 use Rattle.terms.specs.declared.codes.CommandWord.TheVariants as word
-use Rattle.terms.specs.Types.{Text, Zone, NamedZone, Selection, Install, Apply}
-use Rattle.terms.specs.CommandForms.{no_bypass}
-use Rattle.terms.specs.Candidates.{is_installable}
-use Rattle.change.specs.Puts.{puts}
+use Rattle.terms.specs.Types.{Text, Zone, NamedZone, Bypass, Selection, Install, Apply}
 use Rattle.terms.specs.Delta.{ZoneDelta, IsChanged}
 use Rattle.terms.specs.Lookups.{is_before}
 use Rattle.terms.specs.Rising.{Rises, with_item}
@@ -140,9 +137,9 @@ module _ (s : State) (name : Text) (old new : Zone) (is : IsInventory (kept s))
 -- what was planned, as the command's own words
 module _ (date : Text) (files : Files) (i : Install) (s : State) (at : Session) (name : Text) (zone : Zone)
     (target : IsTarget s at i name zone)
-    (sel : Selection) (delta : ZoneDelta) (new : Zone) (lines : List Line)
-    (plan : IsPlan at.global zone sel date delta new lines) (here : IsSessionOf s at)
-    (selection : i.selection ≡ sel) (bypass : i.bypass ≡ no_bypass) where
+    (sel : Selection) (bypass : Bypass) (delta : ZoneDelta) (new : Zone) (lines : List Line)
+    (plan : IsPlan at.global zone sel bypass date delta new lines) (here : IsSessionOf s at)
+    (selection : i.selection ≡ sel) (bypasses : i.bypass ≡ bypass) where
   pub install-performs : (check : Bool) (t : State) → i.check ≡ check → t ≡ (if check then s else with_zone s name new)
       → Performs date files s (Apply i) t (Ran (record { word = word.Apply; boundary = at.boundary; check = check })
       lines)
@@ -157,7 +154,7 @@ module _ (date : Text) (files : Files) (i : Install) (s : State) (at : Session) 
       lines = plan.printed;
       installs = subst (λ g. InstallsSelected g zone None i.selection i.bypass date new plan.printed) here.global
           (subst (λ x. InstallsSelected at.global zone None x i.bypass date new plan.printed) (sym selection)
-          (subst (λ b. InstallsSelected at.global zone None sel b date new plan.printed) (sym bypass) plan.installs));
+          (subst (λ b. InstallsSelected at.global zone None sel b date new plan.printed) (sym bypasses) plan.installs));
       state = state ∙ ap (λ c. if c then s else with_zone s name new) (sym checks);
       prints = ap (λ ls. Ran (record { word = word.Apply; boundary = at.boundary; check = check }) ls) plan.lines_are
           ∙ ap (λ b. Ran (record { word = word.Apply; boundary = b; check = check }) (or_nothing plan.printed))
@@ -168,10 +165,9 @@ module _ (date : Text) (files : Files) (i : Install) (s : State) (at : Session) 
   )
 
   install-inventory : IsInventory (kept s) → IsInventory (kept (with_zone s name new))
-  install-inventory is = apply_kept (kept s) name zone new date plan.kept plan.dated is target.is_there
-      (subst (λ g. All (λ x. IsTrue (is_installable g zone x)) plan.kept) here.global plan.installable)
-      (subst (λ g. IsChanged (puts g date plan.kept) zone new) here.global
-      (subst (λ d. IsChanged d zone new) plan.puts plan.changed))
+  install-inventory is = apply_kept (kept s) name zone new None sel bypass date plan.printed plan.dated is
+      target.is_there
+      (subst (λ g. InstallsSelected g zone None sel bypass date new plan.printed) here.global plan.installs)
 
   -- what a commit of the change asks for
   pub install-commits : {Committed : Type 0} → IsInventory (kept s)

@@ -1,13 +1,10 @@
 -- Where APPLY runs, and what it comes to before it is committed.
-use Rattle.std.specs.Prelude.{◌≡◌, List, All, None, Some, IsTrue, Result, Ok, Err}
+use Rattle.std.specs.Prelude.{◌≡◌, List, None, Some, Result, Ok, Err}
 use Rattle.std.specs.Str.{bytes_eq}
 use Rattle.indexmap.specs.IndexMap.{get}
-use Rattle.terms.specs.Types.{Text, Id, Global, Zone, Selection, Install, Apply}
-use Rattle.terms.specs.Candidates.{is_installable}
-use Rattle.terms.specs.CommandForms.{no_bypass}
+use Rattle.terms.specs.Types.{Text, Global, Zone, Bypass, Selection, Install, Apply}
 use Rattle.terms.specs.Delta.{ZoneDelta, IsChanged}
 use Rattle.terms.specs.Forms.{IsDottedDate}
-use Rattle.change.specs.Puts.{puts}
 use Rattle.machine.specs.Installing.{InstallsSelected}
 use Rattle.machine.specs.Outcome.{Line, or_nothing}
 use Rattle.machine.specs.State.{State, zone_named, misplaced}
@@ -28,13 +25,10 @@ HasTarget s at i name zone (Ok v) = IsTarget s at i (name v) (zone v)
 HasTarget s at i name zone (Err why) = misplaced s (Apply i) ≡ Some (refusal_view why)
 
 -- The change, the changed zone and the lines are those of an APPLY.
-pub record IsPlan (g : Global) (zone : Zone) (sel : Selection) (date : Text) (delta : ZoneDelta) (new : Zone)
-    (lines : List Line) : Type 0 where
+pub record IsPlan (g : Global) (zone : Zone) (sel : Selection) (bypass : Bypass) (date : Text) (delta : ZoneDelta)
+    (new : Zone) (lines : List Line) : Type 0 where
   pub dated : IsDottedDate date
-  pub kept : List Id
-  pub installable : All (λ x. IsTrue (is_installable g zone x)) kept
-  pub puts : delta ≡ puts g date kept
   pub changed : IsChanged delta zone new
   pub printed : List Line
-  pub installs : InstallsSelected g zone None sel no_bypass date new printed
+  pub installs : InstallsSelected g zone None sel bypass date new printed
   pub lines_are : lines ≡ or_nothing printed

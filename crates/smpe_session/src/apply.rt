@@ -20,7 +20,7 @@ use crate::lines::or_nothing;
 use crate::load::commit_change;
 use crate::session::Session;
 use crate::set::keep_zone;
-use cntl::{Install, Selection};
+use cntl::{Bypass, Install, Selection};
 use fields::{YyDdd, ZoneName};
 use indexmap::IndexMap;
 use report::{Header, Line, Outcome, Refusal};
@@ -53,12 +53,13 @@ fn plan(
     global: &Global,
     zone: &Zone,
     selection: &Selection,
+    bypass: &Bypass,
     date: YyDdd,
 ) -> Result<Planned, AllocError>
-    ensures { IfOk result (λ p. IsPlan global.now zone.now selection.now date p.delta p.zone
+    ensures { IfOk result (λ p. IsPlan global.now zone.now selection.now bypass.now date p.delta p.zone
         (map line_view p.lines.items)) }
 {
-    let Applied { delta, lines } = apply(alloc, global, zone, selection, date)?;
+    let Applied { delta, lines } = apply(alloc, global, zone, selection, bypass, date)?;
     let lines = or_nothing(lines)?;
     let zone = delta.apply(alloc, zone)?;
     Ok(Planned { delta, zone, lines })
@@ -126,6 +127,7 @@ impl Session {
                     &self.global,
                     place.zone,
                     &install.selection,
+                    &install.bypass,
                     date,
                 )?;
                 // The changed zone was made all the same: it shows that the lines are an APPLY's.

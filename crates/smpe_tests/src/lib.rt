@@ -11,6 +11,10 @@ mod play;
 #[cfg(test)]
 mod receives;
 #[cfg(test)]
+mod requisites;
+#[cfg(test)]
+mod selection;
+#[cfg(test)]
 mod tests;
 #[cfg(test)]
 mod words;

@@ -6,6 +6,13 @@ ghost use Rattle.sqlite_disk.specs.Memory.{memory_is_usable};
 use crate::cards::{AGAIN, BAD_PTFIN, CLASH, FIX_ALONE, FUNCTION_WITH_FIX, NO_COMMAND, REFUSALS};
 use crate::play::{Step, play_all, play_each};
 use crate::receives::{BAD_HOLDS, HOLDS, INTERNAL_HOLD, LOOP, SOURCE, SOURCES_AND_REJECTS};
+use crate::requisites::{
+    BYPASSED_HOLD, BYPASSED_PRE, CONDITIONAL_REQUISITE, HELD_REQUISITE, HELD_SUPERSEDER,
+    NO_CONDITION, OPEN_ERROR, OPEN_PRE, REQ_BOTH_WAYS, RESOLVED_ERROR, SUPERSEDED,
+};
+use crate::selection::{
+    BY_TYPE, EXCLUDED, EXTENDED, EXTENDED_TWICE, MISSING, NOT_EXTENDED, NOTHING_OPEN,
+};
 use sqlite::{Connection, Error, FileStore, Files, Options};
 use sqlite_disk::Memory;
 use std::alloc::Global;
@@ -25,6 +32,22 @@ const ALL: &[&[Step]] = &[
     INTERNAL_HOLD,
     LOOP,
     BAD_HOLDS,
+    OPEN_PRE,
+    BYPASSED_PRE,
+    REQ_BOTH_WAYS,
+    HELD_REQUISITE,
+    BYPASSED_HOLD,
+    RESOLVED_ERROR,
+    OPEN_ERROR,
+    HELD_SUPERSEDER,
+    SUPERSEDED,
+    CONDITIONAL_REQUISITE,
+    NO_CONDITION,
+    EXTENDED,
+    NOT_EXTENDED,
+    BY_TYPE,
+    EXCLUDED,
+    EXTENDED_TWICE,
 ];
 
 #[test]

@@ -7,48 +7,44 @@ use Rattle.smpe_apply.proofs.applied.apply.Goals as goal
 
 pub install-requires-clause-installable : goal.install-requires-clause-installable
 install-requires-clause-installable c =
-    kept_installable c.args.global.now c.args.zone.now c.args.selection.now c.args.date c.in_ok-ids.ids
-    c.in_ok-kept.field-0.kept (map why_failed c.in_ok-kept.field-0.failed.items)
-    c.in_ok-ids.ensures.members c.in_ok-ids.ensures.installable c.in_ok-kept.ensures
+    kept_installable c.args.global.now c.args.zone.now c.args.selection.now c.args.bypass.now c.args.date
+    c.in_ok-ids.ids c.in_ok-kept.field-0.kept (map why_failed c.in_ok-kept.field-0.failed.items)
+    c.in_ok-ids.ensures.members c.in_ok-ids.ensures.installable c.in_ok-kept.ensures.decided
 
 pub install-requires-clause-apart : goal.install-requires-clause-apart
 install-requires-clause-apart c =
-    kept_apart c.args.global.now c.args.zone.now c.args.selection.now c.args.date c.in_ok-ids.ids
+    kept_apart c.args.global.now c.args.zone.now c.args.selection.now c.args.bypass.now c.args.date c.in_ok-ids.ids
     c.in_ok-kept.field-0.kept (map why_failed c.in_ok-kept.field-0.failed.items)
-    c.in_ok-ids.ensures.members c.in_ok-ids.ensures.installable c.in_ok-kept.ensures
+    c.in_ok-ids.ensures.members c.in_ok-ids.ensures.installable c.in_ok-kept.ensures.decided
 
 pub returns-clause-installs : goal.returns-clause-installs
 returns-clause-installs c new changed =
     let g = c.args.global.now in
     let zone = c.args.zone.now in
+    let sel = c.args.selection.now in
+    let bypass = c.args.bypass.now in
     let kept = c.in_ok-kept.field-0.kept in
     let failed = map why_failed c.in_ok-kept.field-0.failed.items in
+    let bypassed = c.in_ok-kept.field-0.bypassed.items in
+    let effective = c.in_ok-effective.effective in
     let left_out = c.in_ok-left_out.left_out.items in
-    let all : map said c.in_ok-found.found.items ≡ all_statuses zone.kind kept failed left_out =
+    let all : map said c.in_ok-found.found.items ≡ all_statuses zone.kind effective kept failed left_out =
     c.in_ok-found.ensures
-    ∙ ap (λ kind. all_statuses kind c.as_slice.result.now failed c.as_slice-2.result.now) c.kind.ensures
-    ∙ ap (λ ids. all_statuses zone.kind ids failed c.as_slice-2.result.now) c.as_slice.ensures.items
-    ∙ ap (λ out. all_statuses zone.kind kept failed out) c.as_slice-2.ensures.value in
-    let lines : AreById g (all_statuses zone.kind kept failed left_out) (map line_view c.in_ok-lines.field-0.items) =
+    ∙ ap (λ kind. all_statuses kind effective c.as_slice-2.result.now failed c.as_slice-3.result.now) c.kind.ensures
+    ∙ ap (λ ids. all_statuses zone.kind effective ids failed c.as_slice-3.result.now) c.as_slice-2.ensures.items
+    ∙ ap (λ out. all_statuses zone.kind effective kept failed out) c.as_slice-3.ensures.value in
+    let lines : AreById g (all_statuses zone.kind effective kept failed left_out)
+        (map line_view c.in_ok-lines.field-0.items) =
     subst (λ ps. AreById g ps (map line_view c.in_ok-lines.field-0.items)) all c.in_ok-lines.ensures in
+    let are = c.in_ok-ids.ensures.members in
+    let ok = c.in_ok-ids.ensures.installable in
+    let decided = c.in_ok-kept.ensures.decided in
     record {
-      decision = decision g zone c.args.selection.now c.args.date c.in_ok-ids.ids kept failed
-          c.in_ok-ids.ensures.members c.in_ok-ids.ensures.installable c.in_ok-kept.ensures;
-      decides = decides g zone c.args.selection.now c.args.date c.in_ok-ids.ids kept failed c.in_ok-ids.ensures.members
-          c.in_ok-ids.ensures.installable c.in_ok-kept.ensures;
-      lines_are = install_lines g zone c.args.selection.now c.args.date c.in_ok-ids.ids kept failed
-          c.in_ok-ids.ensures.members c.in_ok-ids.ensures.installable c.in_ok-kept.ensures
-          left_out c.in_ok-left_out.ensures.rising c.in_ok-left_out.ensures.members
-          (map line_view c.in_ok-lines.field-0.items) lines;
-      installs = c.in_ok-delta.ensures.installs new (subst (λ delta. IsChanged delta zone new) c.delta.view_is changed);
+      decision = decision g zone sel bypass c.args.date c.in_ok-ids.ids kept failed are ok decided bypassed;
+      decides = decides g zone sel bypass c.args.date c.in_ok-ids.ids kept failed are ok decided bypassed
+          c.in_ok-kept.ensures.bypassed;
+      lines_are = install_lines g zone sel bypass c.args.date c.in_ok-ids.ids kept failed are ok decided bypassed
+          effective c.in_ok-effective.ensures left_out c.in_ok-left_out.ensures.rising
+          c.in_ok-left_out.ensures.members (map line_view c.in_ok-lines.field-0.items) lines;
+      installs = c.in_ok-delta.ensures new (subst (λ delta. IsChanged delta zone new) c.delta.view_is changed);
     }
-
-pub returns-clause-puts : goal.returns-clause-puts
-returns-clause-puts c =
-    let kept = c.in_ok-kept.field-0.kept in (
-      kept,
-      kept_installable c.args.global.now c.args.zone.now c.args.selection.now c.args.date c.in_ok-ids.ids kept
-          (map why_failed c.in_ok-kept.field-0.failed.items)
-          c.in_ok-ids.ensures.members c.in_ok-ids.ensures.installable c.in_ok-kept.ensures,
-      c.delta.view_is ∙ c.in_ok-delta.ensures.puts,
-    )

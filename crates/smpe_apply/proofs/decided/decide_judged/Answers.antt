@@ -1,6 +1,5 @@
 use Rattle.std.proofs.Common.{◌≡◌, ◌<◌, ◌∙◌, None, length, ℕ, subst, refl}
 use Rattle.std.specs.Prelude.{All}
-use Rattle.terms.specs.CommandForms.{no_bypass}
 use Rattle.terms.specs.Lookups.{IsRising}
 use Rattle.terms.specs.Judged.{setting}
 use Rattle.solve.specs.Rows.{row_at}
@@ -22,12 +21,12 @@ failures-requires c =
           (causers-within system c.in_ok-set.set rows c.in_ok-causers.ensures.exact n);
     }
 
-pub returns : goal.returns
-returns c g zone judged tests =
+pub returns-clause-decided : goal.returns-clause-decided
+returns-clause-decided c g zone related bypass judged tests =
     let system = c.args.judged.system in
     let needed = c.args.judged.needed.items in
     let ids = c.args.ids.now in
-    let s = setting g zone None ids no_bypass in
+    let s = setting g zone related ids bypass in
     let rising = rw c.as_slice-2.ensures.items at c.as_slice-2.ensures.rising in
     let problem = rw (same-pairs needed) at judged in
     let kept_rising = subst IsRising c.kept.view_is c.kept.invariant in

@@ -20,7 +20,7 @@ returns-then-install-clause-ended g c = λ clean s is keeps files.
     let target = c.in-Ok.ensures s i is (kept-inventory g.S.Store c.args.store.now s clean keeps) in
     let plan = c.in_ok-delta-in-Ok.ensures in
     let performs = install-performs c.args.date files i s at c.in-Ok.place.name c.in-Ok.place.zone.now target
-    c.install.inside.selection p.delta p.zone (map line_view p.lines.items) plan is
+    c.install.inside.selection c.install.inside.bypass p.delta p.zone (map line_view p.lines.items) plan is
     (sym (ap (λ w. w.selection) c.install.view_is)) (sym (ap (λ w. w.bypass) c.install.view_is))
     c.install.inside.check s (sym (ap (λ w. w.check) c.install.view_is))
     (ap (λ b. if b then s else with_zone s c.in-Ok.place.name p.zone) (sym c.if-install.true)) in
@@ -38,7 +38,7 @@ returns-in_err-replace_zone-in-Ok-clause-ended g c = λ clean s is keeps files.
     let bypass = sym (ap (λ w. w.bypass) c.install.view_is) in
     let t = with_zone s c.in-Ok.place.name p.zone in
     let performs = install-performs c.args.date files i s at c.in-Ok.place.name c.in-Ok.place.zone.now target
-    c.install.inside.selection p.delta p.zone (map line_view p.lines.items) plan is selection bypass
+    c.install.inside.selection c.install.inside.bypass p.delta p.zone (map line_view p.lines.items) plan is selection bypass
     c.install.inside.check t (sym (ap (λ w. w.check) c.install.view_is))
     (ap (λ b. if b then s else t) (sym c.if-install.false)) in
     performs-staying g.S.Store c.replace_zone.new.store s _ c.args.date files (Apply i)
@@ -47,7 +47,7 @@ returns-in_err-replace_zone-in-Ok-clause-ended g c = λ clean s is keeps files.
     (staying-unsettled g.S.Store c.replace_zone.new.store s c.args.date files (Apply i) t _ performs
     c.in_err-replace_zone-in-Ok.field-0.0
     (install-commits c.args.date files i s at c.in-Ok.place.name c.in-Ok.place.zone.now target
-    c.install.inside.selection p.delta p.zone (map line_view p.lines.items) plan is selection bypass inventory
+    c.install.inside.selection c.install.inside.bypass p.delta p.zone (map line_view p.lines.items) plan is selection bypass inventory
     (λ was. c.in_err-replace_zone-in-Ok.ensures.ended s t was keeps)))
 
 pub returns-in_ok-replace_zone-in-Ok-clause-ended : goal.returns-in_ok-replace_zone-in-Ok-clause-ended
@@ -62,7 +62,7 @@ returns-in_ok-replace_zone-in-Ok-clause-ended g c = λ clean s is keeps files.
     let bypass = sym (ap (λ w. w.bypass) c.install.view_is) in
     let t = with_zone s c.in-Ok.place.name p.zone in
     let performs = install-performs c.args.date files i s at c.in-Ok.place.name c.in-Ok.place.zone.now target
-    c.install.inside.selection p.delta p.zone (map line_view p.lines.items) plan is selection bypass
+    c.install.inside.selection c.install.inside.bypass p.delta p.zone (map line_view p.lines.items) plan is selection bypass
     c.install.inside.check t (sym (ap (λ w. w.check) c.install.view_is))
     (ap (λ b. if b then s else t) (sym c.if-install.false)) in (
       t,
@@ -70,7 +70,7 @@ returns-in_ok-replace_zone-in-Ok-clause-ended g c = λ clean s is keeps files.
       install-session s c.in-Ok.place.name c.in-Ok.place.zone.now p.zone inventory target.is_there at _ is refl refl
           c.in_ok-replace_zone-in-Ok.ensures.updates,
       install-commits c.args.date files i s at c.in-Ok.place.name c.in-Ok.place.zone.now target
-          c.install.inside.selection p.delta p.zone (map line_view p.lines.items) plan is selection bypass inventory
+          c.install.inside.selection c.install.inside.bypass p.delta p.zone (map line_view p.lines.items) plan is selection bypass inventory
           (λ was. c.in_ok-replace_zone-in-Ok.ensures.ended s t was keeps),
     )
 
