@@ -220,7 +220,8 @@ pub(crate) const HELD_SUPERSEDER: &[Step] = &[
         ptfin: &[],
         rest: "",
         hold: &[],
-        report: "SET TGT1\nRC 00\nAPPLY TGT1\nUA00011 PTF      APPLIED\nUA00012 PTF      FAILED\n  TEST J2\n\x20 CAUSER UA00012\nRC 08\n",
+        report: "SET TGT1\nRC 00\nAPPLY TGT1\nUA00011 PTF      APPLIED\n\
+            UA00012 PTF      FAILED\n  TEST J2\n  CAUSER UA00012\nRC 08\n",
         code: 8,
     },
 ];
