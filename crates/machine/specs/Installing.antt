@@ -97,13 +97,13 @@ not_chosen_status out.NoVer = NoVer
 
 -- The status of an id: installed, kept and superseded, failed, or named by the command and no candidate.
 pub data HasStatus (d : Decision) (sel : Selection) (x : Id) : Status → Type 0 where
-  IsIn : TakesEffect d.installing x → HasStatus d sel x (installed_status d.setting.zone.kind)
-  IsUnder : Contains d.kept x → (¬ TakesEffect d.installing x) → HasStatus d sel x Superseded
-  IsOff : (f : Failure) → Contains d.setting.cands x → (¬ Contains d.kept x)
+  IsInstalled : TakesEffect d.installing x → HasStatus d sel x (installed_status d.setting.zone.kind)
+  IsSuperseded : Contains d.kept x → (¬ TakesEffect d.installing x) → HasStatus d sel x Superseded
+  IsFailed : (f : Failure) → Contains d.setting.cands x → (¬ Contains d.kept x)
       → IsFailure d.setting.cands d.kept (Fails d.setting) (IsEligible d.setting) (Needs d.setting d.survivors)
       (Serves d.setting.choice) x f
       → HasStatus d sel x (Failed f)
-  IsOut : (why : NotChosen) → not_chosen d.setting.global d.setting.zone sel x ≡ Some why
+  IsNotChosen : (why : NotChosen) → not_chosen d.setting.global d.setting.zone sel x ≡ Some why
       → HasStatus d sel x (not_chosen_status why)
 
 -- The lines by id: one for each id that has a status.

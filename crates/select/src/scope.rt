@@ -5,7 +5,7 @@ ghost use Rattle.terms.specs.Choice.{by_srel, sup_of, vers_of};
 ghost use Rattle.terms.specs.Served.{is_served, is_served_zone};
 ghost use Rattle.terms.specs.Candidates.{is_installable, is_open};
 
-use crate::served::{changes_plainly, has_plain_ver, is_served_zone, is_unheld};
+use crate::served::{changes_plainly, has_plain_ver, is_served_zone};
 use cntl::Selection;
 use fields::Id;
 use sysmods::{Global, VerChoice};
@@ -67,7 +67,6 @@ impl<'a> Scope<'a> {
     {
         has_plain_ver(self.global, self.zone, id)
             && changes_plainly(self.global, id)
-            && is_unheld(self.global, id)
             && self.serves_zone
     }
 

@@ -3,14 +3,14 @@ ghost use Rattle.std.specs.Prelude.{◌≡◌, ◌==◌, ◌&&◌, ◌||◌, not
 ghost use Rattle.std.specs.List.{list_all};
 ghost use Rattle.std.specs.Option.{option_map_or};
 ghost use Rattle.terms.specs.Types.{kind_number};
-ghost use Rattle.terms.specs.Lookups.{is_nil, sysmod_of, holds_of};
+ghost use Rattle.terms.specs.Lookups.{is_nil, sysmod_of};
 ghost use Rattle.terms.specs.Changes.{is_replacement};
-ghost use Rattle.terms.specs.Served.{is_plain, has_plain_ver, has_plain_changes, is_unheld, is_served_zone};
+ghost use Rattle.terms.specs.Served.{is_plain, has_plain_ver, has_plain_changes, is_served_zone};
 
 use fields::{Id, Srel};
 use sysmods::{Global, VerChoice};
 use sysmods_records::{Action, ElemChange, Sysmod, Ver};
-use terms::{HoldKind, Kind};
+use terms::Kind;
 use zones::{Entry, Zone};
 
 pub(crate) fn is_nil<T>(items: &[T]) -> bool
@@ -22,15 +22,10 @@ pub(crate) fn is_nil<T>(items: &[T]) -> bool
 fn is_plain(ver: &Ver) -> bool
     ensures { result ≡ is_plain ver.now }
 {
-    is_nil(ver.pre.as_slice())
-        && is_nil(ver.req.as_slice())
-        && is_nil(ver.sup.as_slice())
-        && is_nil(ver.npre.as_slice())
-        && is_nil(ver.del.as_slice())
-        && is_nil(ver.ifs.as_slice())
+    is_nil(ver.npre.as_slice()) && is_nil(ver.del.as_slice())
 }
 
-/// Whether the `++VER` for the zone's SREL names its function alone, if there is one.
+/// Whether the `++VER` for the zone's SREL has no NPRE and no DELETE, if there is one.
 pub(crate) fn has_plain_ver(global: &Global, zone: &Zone, id: Id) -> bool
     ensures { result ≡ has_plain_ver global.now zone.now id }
 {
@@ -76,21 +71,6 @@ pub(crate) fn changes_plainly(global: &Global, id: Id) -> bool
         Some(sysmod) => has_plain_changes(sysmod),
         None => true,
     }
-}
-
-fn has_no_hold(global: &Global, kind: HoldKind, id: Id) -> bool
-    ensures { result ≡ is_nil (holds_of global.now kind id) }
-{
-    global.holds_of(kind, id).next().is_none()
-}
-
-/// Whether no hold stands on it.
-pub(crate) fn is_unheld(global: &Global, id: Id) -> bool
-    ensures { result ≡ is_unheld global.now id }
-{
-    has_no_hold(global, HoldKind::Error, id)
-        && has_no_hold(global, HoldKind::System, id)
-        && has_no_hold(global, HoldKind::User, id)
 }
 
 fn is_served_entry(global: &Global, zone: &Zone, entry: &Entry) -> bool

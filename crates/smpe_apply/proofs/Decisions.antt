@@ -25,7 +25,7 @@ use Rattle.terms.proofs.Ids.{is_in-from_Contains, Contains-from_is_in, apart-fro
 use Rattle.lemmas.proofs.Texts.{same_or_not}
 use Rattle.lemmas.proofs.Searches.{find-gives}
 use Rattle.machine.specs.Outcome.{Status, Superseded, Failure, Failed, Line}
-use Rattle.machine.specs.Installing.{Decision, IsDecision, IsDecided, IsFailure, HasStatus, IsIn, IsUnder, IsOff, IsOut}
+use Rattle.machine.specs.Installing.{Decision, IsDecision, IsDecided, IsFailure, HasStatus, IsInstalled, IsSuperseded, IsFailed, IsNotChosen}
 use Rattle.machine.specs.Installing.{AreInstallLines, installed_status, not_chosen_status}
 use Rattle.terms.specs.Install.{TakesEffect}
 use Rattle.change.proofs.Installable.{replaces}
@@ -216,12 +216,12 @@ module _ (g : Global) (zone : Zone) (sel : Selection) (bypass : Bypass) (date : 
             by x in_kept true e =
                 let here = (in_effect x).0 (Contains-from_is_in effective x e) in
                 subst (λ b. HasStatus (decision bypassed) sel x (if b then installed_status zone.kind else Superseded))
-                (sym e) (IsIn here)
+                (sym e) (IsInstalled here)
             by x in_kept false e =
                 let off : ¬ TakesEffect (decision bypassed).installing x =
                 λ takes. true≢false (sym (is_in-from_Contains effective x ((in_effect x).1 takes)) ∙ e) in
                 subst (λ b. HasStatus (decision bypassed) sel x (if b then installed_status zone.kind else Superseded))
-                (sym e) (IsUnder in_kept off)
+                (sym e) (IsSuperseded in_kept off)
 
         of_failed : Contains (failed_statuses failed) p → HasStatus (decision bypassed) sel p.0 p.1
         of_failed f =
@@ -230,23 +230,23 @@ module _ (g : Global) (zone : Zone) (sel : Selection) (bypass : Bypass) (date : 
             (in_map (λ (f : Id × Failure). f.0) failed m.0 m.1) in
             let why = All-contains (λ f. IsFailure cands kept (Fails s) (IsEligible s) (Needs s decided.survivors)
             (Serves s.choice) f.0 f.1) failed m.0 decided.failures m.1 in
-            subst (λ q. HasStatus (decision bypassed) sel q.0 q.1) m.2 (IsOff m.0.1
+            subst (λ q. HasStatus (decision bypassed) sel q.0 q.1) m.2 (IsFailed m.0.1
             (filter_in (λ y. not (is_in kept y)) cands m.0.0 id).0 (not_kept m.0.0 id) why)
 
         of_left : Contains (left_out_statuses left_out) p → HasStatus (decision bypassed) sel p.0 p.1
         of_left out =
             let m = map_in (λ (f : Id × NotChosen). (f.0, not_chosen_status f.1)) left_out p out in
-            subst (λ q. HasStatus (decision bypassed) sel q.0 q.1) m.2 (IsOut m.0.1 ((members m.0.0 m.0.1).0 m.1))
+            subst (λ q. HasStatus (decision bypassed) sel q.0 q.1) m.2 (IsNotChosen m.0.1 ((members m.0.0 m.0.1).0 m.1))
 
     -- each id with a status is there
     listed : (x : Id) {st : Status} → HasStatus (decision bypassed) sel x st → Contains (kept ++ failed_ids ++ left_ids) x
-    listed x (IsIn i) = Contains-append_left (kept ++ failed_ids) left_ids x
+    listed x (IsInstalled i) = Contains-append_left (kept ++ failed_ids) left_ids x
         (Contains-append_left kept failed_ids x i.kept)
-    listed x (IsUnder k _) = Contains-append_left (kept ++ failed_ids) left_ids x
+    listed x (IsSuperseded k _) = Contains-append_left (kept ++ failed_ids) left_ids x
         (Contains-append_left kept failed_ids x k)
-    listed x (IsOff f c off _) = Contains-append_left (kept ++ failed_ids) left_ids x
+    listed x (IsFailed f c off _) = Contains-append_left (kept ++ failed_ids) left_ids x
         (Contains-append_right kept failed_ids x (or_kept x c off))
-    listed x (IsOut why is) =
+    listed x (IsNotChosen why is) =
         Contains-append_right (kept ++ failed_ids) left_ids x
         (in_map (λ (f : Id × NotChosen). f.0) left_out (x, why) ((members x why).1 is))
 

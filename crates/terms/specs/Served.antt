@@ -1,18 +1,17 @@
--- Which SYSMODs are served as yet, so that nothing is installed whose operands nobody looks at: those that need their
--- function alone. What is not served is received and kept, and is not open to APPLY and ACCEPT. (A limit of this
--- installer, and of no manual.)
+-- Which SYSMODs are served as yet, so that nothing is installed whose operands nobody looks at: those that forbid and
+-- delete nothing, and whose elements, if they have any, are a function's own. What is not served is received and kept,
+-- and is not open to APPLY and ACCEPT. (A limit of this installer, and of no manual.)
 use Rattle.std.specs.Prelude.{◌&&◌, ◌||◌, ◌==◌, Bool, true}
 use Rattle.std.specs.List.{list_all}
 use Rattle.std.specs.Option.{option_map_or}
-use Rattle.terms.specs.declared.kinds.HoldKind.TheVariants.{Error, System, User}
 use Rattle.terms.specs.Types.{Id, kind_number, Ver, Sysmod, Global, Zone}
-use Rattle.terms.specs.Lookups.{is_nil, sysmod_of, holds_of, applied_ids}
+use Rattle.terms.specs.Lookups.{is_nil, sysmod_of, applied_ids}
 use Rattle.terms.specs.Choice.{by_srel}
 use Rattle.terms.specs.Changes.{is_replacement}
 
--- whether a ++VER names its function alone: no PRE, REQ, SUP, NPRE and DELETE, and no ++IF
+-- whether a ++VER has no NPRE and no DELETE
 abbrev pub is_plain : Ver → Bool
-is_plain v = is_nil v.pre && is_nil v.req && is_nil v.sup && is_nil v.npre && is_nil v.del && is_nil v.ifs
+is_plain v = is_nil v.npre && is_nil v.del
 
 -- whether the ++VER for the zone's SREL is such a one, if there is one
 abbrev pub has_plain_ver : Global → Zone → Id → Bool
@@ -23,10 +22,6 @@ abbrev pub has_plain_changes : Sysmod → Bool
 has_plain_changes s = is_nil s.changes || ((kind_number s.kind == 0) && list_all (λ h. is_replacement h.action)
     s.changes)
 
--- whether no hold stands on it
-abbrev pub is_unheld : Global → Id → Bool
-is_unheld g x = is_nil (holds_of g Error x) && is_nil (holds_of g System x) && is_nil (holds_of g User x)
-
 -- whether the zone has only such SYSMODs applied as could be served by their ++VERs
 abbrev pub is_served_zone : Global → Zone → Bool
 is_served_zone g zone = list_all (has_plain_ver g zone) (applied_ids zone)
@@ -34,5 +29,4 @@ is_served_zone g zone = list_all (has_plain_ver g zone) (applied_ids zone)
 -- whether the SYSMOD is served in the zone
 abbrev pub is_served : Global → Zone → Id → Bool
 is_served g zone x =
-    has_plain_ver g zone x && option_map_or has_plain_changes (sysmod_of g x) true && is_unheld g x && is_served_zone g
-    zone
+    has_plain_ver g zone x && option_map_or has_plain_changes (sysmod_of g x) true && is_served_zone g zone
