@@ -149,13 +149,13 @@ is_start-select : map (is_start deleting base (select (hcc ∷ haa ∷ hdd ∷ [
     true ∷ []
 is_start-select = refl
 
--- without operands PTFs alone are taken, and not one that has REQ
-is_start-mass : map (is_start deleting base (select [])) (haa ∷ hdd ∷ ua21 ∷ ua23 ∷ []) ≡ false ∷ false ∷ true ∷ false ∷
+-- without operands PTFs alone are taken
+is_start-mass : map (is_start deleting base (select [])) (haa ∷ hdd ∷ ua21 ∷ ua23 ∷ []) ≡ false ∷ false ∷ true ∷ true ∷
     []
 is_start-mass = refl
 
--- where something is applied that has REQ, nothing is open
-is_start-unserved : is_start deleting full (select (hdd ∷ [])) hdd ≡ false
+-- where something is applied that has DELETE, nothing is open
+is_start-unserved : is_start deleting (record full { entries = applied hcc ∷ [] }) (select (hdd ∷ [])) hdd ≡ false
 is_start-unserved = refl
 
 not_chosen-select : map (not_chosen deleting full (select (hcc ∷ haa ∷ (99 ∷ []) ∷ [])))
