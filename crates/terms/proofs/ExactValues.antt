@@ -1,12 +1,11 @@
 -- A command is determined by its pieces, and no pieces are both a command and at fault.
 use Rattle.std.proofs.Common.{◌≡◌, ◌≢◌, ◌≤◌, Bool, true, false, List, [], ◌∷◌, map, get_or, Option, Some, None, refl}
 use Rattle.std.proofs.Common.{sym, ◌∙◌, ap, ap₂, subst, arith, cond}
-use Rattle.std.specs.Prelude.{◌||◌, All, AllPairs, IsSomeAnd, codes, not, if◌then◌else◌}
+use Rattle.std.specs.Prelude.{◌||◌, AllPairs, IsSomeAnd, codes, not, if◌then◌else◌}
+use Rattle.std.specs.List.{list_any}
 use Rattle.std.specs.Str.{bytes_eq}
-use Rattle.std.proofs.lemmas.Bool.{true≢false, false_from_ne_true}
+use Rattle.std.proofs.lemmas.Bool.{true≢false}
 use Rattle.std.proofs.lemmas.List.Folds.{list_any_none}
-use Rattle.std.proofs.lemmas.List.Elements.{All-head, All-tail}
-use Rattle.std.proofs.lemmas.Slice.Eq.{bytes_eq-Decides}
 use Rattle.std.proofs.lemmas.Cmp.{nat_list_eq_equiv}
 use Rattle.terms.specs.declared.codes.CommandWord.{CommandWord}
 use Rattle.terms.specs.declared.codes.CommandWord.TheVariants as word
@@ -18,13 +17,14 @@ use Rattle.terms.specs.Forms.{IsId, IsSource, IsZoneName}
 use Rattle.terms.specs.Statement.{Piece}
 use Rattle.terms.specs.Words.{Word, HasWords}
 use Rattle.terms.specs.Operands.{operand, HasSorted}
-use Rattle.terms.specs.CommandForms.{operands_of, command_word, HasSome, HasReceive, HasSelection, HasInstall}
+use Rattle.terms.specs.CommandForms.{operands_of, members_of, command_word, HasSome, HasReceive, HasSelection, HasInstall}
 use Rattle.terms.specs.CommandForms.{HasRestoreList, HasOperands, IsCommand}
-use Rattle.terms.specs.Commands.{words_in, is_often, has_double, is_unchosen, BeginsWith, IsCommandFault}
-use Rattle.lemmas.proofs.Pairs.{pairs_map, AllPairs-first, AllPairs-rest}
+use Rattle.terms.specs.Commands.{words_in, runs_in, list_behind, is_often, has_double, is_unchosen, BeginsWith, IsCommandFault}
+use Rattle.lemmas.proofs.Pairs.{pairs_map}
 use Rattle.terms.proofs.ExactWords.{words-only}
 use Rattle.terms.proofs.ExactOperands.{required-only, optional-only, texts-only, some-only, flag-only}
-use Rattle.terms.proofs.OperandWords.{count, count_same, count_other, words_of, often, seldom}
+use Rattle.terms.proofs.OperandWords.{count, count_once, count_same, count_other, words_of, often, seldom}
+use Rattle.terms.proofs.ExactBypass.{bypass-only, bypass_once}
 use Rattle.terms.proofs.CommandLines.{begins-only, of_command}
 
 abbrev what : Bool → Bool → Option Text → ReceiveWhat
@@ -77,10 +77,11 @@ selection-only ws s t h k =
     ∙ ap (λ x. make t.functions t.ptfs t.apars t.usermods t.select t.exclude t.sourceid t.forfmid x s.groupextend) e8
     ∙ ap (λ x. make t.functions t.ptfs t.apars t.usermods t.select t.exclude t.sourceid t.forfmid t.group x) e9
 
-install-only : (ws : List Word) (i j : Install) → HasInstall ws i → HasInstall ws j → i ≡ j
-install-only ws i j h k =
+install-only : (w : CommandWord) (ws : List Word) (i j : Install) → HasInstall w ws i → HasInstall w ws j → i ≡ j
+install-only w ws i j h k =
     ap (λ x. record i { selection = x }) (selection-only ws i.selection j.selection h.selection k.selection)
-    ∙ ap (λ x. record i { selection = j.selection; bypass = x }) (h.bypass ∙ sym k.bypass)
+    ∙ ap (λ x. record i { selection = j.selection; bypass = x })
+    (bypass-only w (operand (codes "BYPASS") ws) i.bypass j.bypass h.bypass k.bypass)
     ∙ ap (λ x. record j { check = x }) (flag-only (operand (codes "CHECK") ws) i.check j.check h.check k.check)
 
 none_some : (found : Option Word) (ids : List Text) → found ≡ None → HasSome IsId found ids → ⊥
@@ -98,8 +99,8 @@ values-only : (ws : List Word) (c d : Command) → command_word c ≡ command_wo
 values-only ws (Set x) (Set y) e h k = ap (λ v. Set v) (required-only IsZoneName (operand (codes "BDY") ws) x y h k)
 values-only ws (Receive x) (Receive y) e h k = ap (λ v. Receive v) (receive-only ws x y h k)
 values-only ws (Reject x) (Reject y) e h k = ap (λ v. Reject v) (some-only IsId (operand (codes "SELECT") ws) x y h.0 k.0)
-values-only ws (Apply x) (Apply y) e h k = ap (λ v. Apply v) (install-only ws x y h k)
-values-only ws (Accept x) (Accept y) e h k = ap (λ v. Accept v) (install-only ws x y h k)
+values-only ws (Apply x) (Apply y) e h k = ap (λ v. Apply v) (install-only word.Apply ws x y h k)
+values-only ws (Accept x) (Accept y) e h k = ap (λ v. Accept v) (install-only word.Accept ws x y h k)
 values-only ws (Restore x a) (Restore y b) e h k = ap (λ v. Restore v a) (list-only ws x y h.0 k.0) ∙ ap (λ v. Restore y v) (flag-only (operand (codes "CHECK") ws) a b h.1 k.1)
 values-only ws (ListZone x) (ListZone y) e h k = ap (λ v. ListZone v) (flag-only (operand (codes "TEXT") ws) x y h k)
 values-only ws Report Report e h k = refl
@@ -111,27 +112,6 @@ value-only pieces c d k l =
     let o = of_command pieces (command_word c) k.rest d (k.begins, k.known) l in
     let same = words-only k.rest k.words o.1.0 k.has_words o.1.1 in
     values-only o.1.0 c d (sym o.0) (subst (λ ws. HasOperands ws c) same k.has_operands) o.1.3
-
--- how often a word stands in a list without doubles
-count_none : (t : Text) (texts : List Text) → All (λ s. t ≢ s) texts → count t texts ≡ 0
-count_none t [] apart = refl
-count_none t (s ∷ texts) apart =
-    let other : bytes_eq t s ≡ false = false_from_ne_true (bytes_eq t s)
-    (λ same. All-head (λ s. t ≢ s) s texts apart ((bytes_eq-Decides t s).0 same)) in
-    count_other t s texts other ∙ count_none t texts (All-tail (λ s. t ≢ s) s texts apart)
-
-count_once : (t : Text) (texts : List Text) → AllPairs (λ a b. a ≢ b) texts → count t texts ≤ 1
-count_once t [] apart = omega arith
-count_once t (s ∷ texts) apart = at (count_once t texts (AllPairs-rest (λ a b. a ≢ b) s texts apart)) (bytes_eq t s)
-    refl
-  where
-    at : count t texts ≤ 1 → (b : Bool) → bytes_eq t s ≡ b → count t (s ∷ texts) ≤ 1
-    at more true same =
-        let is : t ≡ s = (bytes_eq-Decides t s).0 same in
-        let none = count_none t texts (subst (λ u. All (λ v. u ≢ v) texts) (sym is)
-        (AllPairs-first (λ a b. a ≢ b) s texts apart)) in
-        omega (arith, count_same t s texts same, none)
-    at more false other = omega (arith, count_other t s texts other, more)
 
 abbrev texts_of : List Word → List Text
 texts_of ws = map (λ (w : Word). w.word) ws
@@ -167,6 +147,18 @@ present name (w ∷ ws) P some = at (present name ws P) (bytes_eq w.word name) r
           more (subst (λ o. IsSomeAnd o P) later some),
         )
 
+-- no member of BYPASS is there twice
+members_once : (c : Command) (rest : List Piece) (ws : List Word) → HasWords rest ws → HasOperands ws c
+    → list_any (is_often 2 (runs_in (list_behind (codes "BYPASS") rest))) (members_of (command_word c)) ≡ false
+members_once (Set x) rest ws h v = refl
+members_once (Receive x) rest ws h v = refl
+members_once (Reject x) rest ws h v = refl
+members_once (Apply i) rest ws h v = bypass_once word.Apply rest ws i.bypass h v.bypass
+members_once (Accept i) rest ws h v = bypass_once word.Accept rest ws i.bypass h v.bypass
+members_once (Restore list check) rest ws h v = refl
+members_once (ListZone x) rest ws h v = refl
+members_once Report rest ws h v = refl
+
 -- A command has no operand twice, and RESTORE has one of SELECT and GROUP.
 single : (pieces : List Piece) (c : Command) (k : IsCommand pieces c) → has_double (command_word c) k.rest ≡ false
 single pieces c k =
@@ -174,22 +166,24 @@ single pieces c k =
     let apart : AllPairs (λ a b. a ≢ b) (texts_of k.words) =
     pairs_map (λ a b. a.word ≢ b.word) (λ s t. s ≢ t) (λ (w : Word). w.word) (λ a b n. n) k.words
     k.are_operands.once in
-    list_any_none (is_often 2 k.rest) (operands_of (command_word c)) (λ i d below.
+    let operands : list_any (is_often 2 (words_in k.rest)) (operands_of (command_word c)) ≡ false =
+    list_any_none (is_often 2 (words_in k.rest)) (operands_of (command_word c)) (λ i d below.
     let name = get_or (operands_of (command_word c)) i d in
-    seldom 2 k.rest name (omega (arith, count_once name (texts_of k.words) apart, ap (count name) is)))
+    seldom 2 (words_in k.rest) name (omega (arith, count_once name (texts_of k.words) apart, ap (count name) is))) in
+    ap₂ (λ a b. a || b) operands (members_once c k.rest k.words k.has_words k.has_operands)
 
 chosen_list : (rest : List Piece) (ws : List Word) (list : RestoreList) → HasWords rest ws → HasRestoreList ws list
     → is_unchosen word.Restore rest ≡ false
 chosen_list rest ws (RestoreSelect ids) h r =
     let is : words_in rest ≡ texts_of ws = ap words_in h ∙ words_of ws in
-    let there' : is_often 1 rest (codes "SELECT") ≡ true = often 1 rest (codes "SELECT") (omega (arith, present (codes "SELECT") ws (λ w. HasSorted IsId w ids) r.1.0, ap (count (codes "SELECT")) is)) in
-    let none : is_often 1 rest (codes "GROUP") ≡ false = seldom 1 rest (codes "GROUP") (omega (arith, absent (codes "GROUP") ws r.0, ap (count (codes "GROUP")) is)) in
-    ap (λ b. if b then is_often 1 rest (codes "GROUP") else not (is_often 1 rest (codes "GROUP"))) there' ∙ none
+    let there' : is_often 1 (words_in rest) (codes "SELECT") ≡ true = often 1 (words_in rest) (codes "SELECT") (omega (arith, present (codes "SELECT") ws (λ w. HasSorted IsId w ids) r.1.0, ap (count (codes "SELECT")) is)) in
+    let none : is_often 1 (words_in rest) (codes "GROUP") ≡ false = seldom 1 (words_in rest) (codes "GROUP") (omega (arith, absent (codes "GROUP") ws r.0, ap (count (codes "GROUP")) is)) in
+    ap (λ b. if b then is_often 1 (words_in rest) (codes "GROUP") else not (is_often 1 (words_in rest) (codes "GROUP"))) there' ∙ none
 chosen_list rest ws (RestoreGroup ids) h r =
     let is : words_in rest ≡ texts_of ws = ap words_in h ∙ words_of ws in
-    let there' : is_often 1 rest (codes "GROUP") ≡ true = often 1 rest (codes "GROUP") (omega (arith, present (codes "GROUP") ws (λ w. HasSorted IsId w ids) r.1.0, ap (count (codes "GROUP")) is)) in
-    let none : is_often 1 rest (codes "SELECT") ≡ false = seldom 1 rest (codes "SELECT") (omega (arith, absent (codes "SELECT") ws r.0, ap (count (codes "SELECT")) is)) in
-    ap (λ b. if b then is_often 1 rest (codes "GROUP") else not (is_often 1 rest (codes "GROUP"))) none ∙ ap not there'
+    let there' : is_often 1 (words_in rest) (codes "GROUP") ≡ true = often 1 (words_in rest) (codes "GROUP") (omega (arith, present (codes "GROUP") ws (λ w. HasSorted IsId w ids) r.1.0, ap (count (codes "GROUP")) is)) in
+    let none : is_often 1 (words_in rest) (codes "SELECT") ≡ false = seldom 1 (words_in rest) (codes "SELECT") (omega (arith, absent (codes "SELECT") ws r.0, ap (count (codes "SELECT")) is)) in
+    ap (λ b. if b then is_often 1 (words_in rest) (codes "GROUP") else not (is_often 1 (words_in rest) (codes "GROUP"))) none ∙ ap not there'
 
 chosen : (rest : List Piece) (ws : List Word) (c : Command) → HasWords rest ws → HasOperands ws c
     → is_unchosen (command_word c) rest ≡ false

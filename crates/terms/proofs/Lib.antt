@@ -32,6 +32,8 @@ pub mod SameLists
 pub mod SameZones
 pub mod NothingDeleted
 pub mod OperandWords
+pub mod BypassMembers
+pub mod ExactBypass
 pub mod ExactOperands
 pub mod CommandLines
 pub mod ExactValues

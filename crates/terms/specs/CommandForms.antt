@@ -1,14 +1,18 @@
--- The form of each command: its word, its operands and its value (SMP/E Commands: SET, RECEIVE, REJECT, APPLY, ACCEPT,
--- RESTORE, LIST, REPORT).
-use Rattle.std.specs.Prelude.{◌≡◌, ◌||◌, Bool, true, false, not, List, [], ◌∷◌, Option, None, IsSomeAnd, IsTrue, codes}
+-- The form of each command: its word, its operands and its value (SMP/E Commands: SET, RECEIVE, REJECT, APPLY and ACCEPT
+-- with BYPASS, RESTORE, LIST, REPORT).
+use Rattle.std.specs.Prelude.{◌≡◌, ◌||◌, Bool, true, false, not, List, [], ◌∷◌, Option, Some, None, IsSomeAnd, IsTrue}
+use Rattle.std.specs.Prelude.{codes}
+use Rattle.terms.specs.declared.kinds.HoldKind.{HoldKind}
+use Rattle.terms.specs.declared.kinds.HoldKind.TheVariants.{Error, System, User}
 use Rattle.terms.specs.declared.codes.CommandWord.{CommandWord}
 use Rattle.terms.specs.declared.codes.CommandWord.TheVariants as word
-use Rattle.terms.specs.Types.{Text, NoReason, Bypass, Selection, Install, RestoreList, RestoreSelect, RestoreGroup}
-use Rattle.terms.specs.Types.{ReceiveWhat, Command, Set, Receive, Reject, Apply, Accept, Restore, ListZone, Report}
+use Rattle.terms.specs.Types.{Text, Reasons, NoReason, AnyReason, TheseReasons, Bypass, Selection, Install, RestoreList}
+use Rattle.terms.specs.Types.{RestoreSelect, RestoreGroup, ReceiveWhat, Command, Set, Receive, Reject, Apply, Accept}
+use Rattle.terms.specs.Types.{Restore, ListZone, Report}
 use Rattle.terms.specs.Statement.{Piece, TheWord}
 use Rattle.terms.specs.Spelling.{word_text}
-use Rattle.terms.specs.Forms.{IsId, IsSource, IsZoneName}
-use Rattle.terms.specs.Words.{IsShort, Word, HasWords}
+use Rattle.terms.specs.Forms.{IsId, IsClass, IsReason, IsSource, IsZoneName}
+use Rattle.terms.specs.Words.{IsShort, Word, HasWords, HasMembers}
 use Rattle.terms.specs.Operands.{operand, AreOperands, HasSorted, HasRequired, HasOptional, HasTexts, HasFlag}
 
 -- Whether the command can be performed as yet. Another one is no command.
@@ -23,7 +27,20 @@ is_known _ = false
 abbrev pub install_operands : List Text
 install_operands =
     codes "FUNCTIONS" ∷ codes "PTFS" ∷ codes "APARS" ∷ codes "USERMODS" ∷ codes "SELECT" ∷ codes "EXCLUDE"
-    ∷ codes "SOURCEID" ∷ codes "FORFMID" ∷ codes "GROUP" ∷ codes "GROUPEXTEND" ∷ codes "CHECK" ∷ []
+    ∷ codes "SOURCEID" ∷ codes "FORFMID" ∷ codes "GROUP" ∷ codes "GROUPEXTEND" ∷ codes "BYPASS" ∷ codes "CHECK"
+    ∷ []
+
+-- the members of APPLY's BYPASS, which ACCEPT's has too
+abbrev pub apply_members : List Text
+apply_members =
+    codes "PRE" ∷ codes "REQ" ∷ codes "IFREQ" ∷ codes "ID" ∷ codes "HOLDERROR" ∷ codes "HOLDSYSTEM" ∷ codes "HOLDUSER"
+    ∷ codes "HOLDCLASS" ∷ []
+
+-- the members that the BYPASS of a command may have, of APPLY and ACCEPT alone
+abbrev pub members_of : CommandWord → List Text
+members_of word.Apply = apply_members
+members_of word.Accept = codes "APPLYCHECK" ∷ apply_members
+members_of _ = []
 
 -- the operands that a command may have
 abbrev pub operands_of : CommandWord → List Text
@@ -92,10 +109,41 @@ no_bypass = record {
   holdclass = [];
 }
 
--- APPLY and ACCEPT. BYPASS is no operand yet.
-pub record HasInstall (words : List Word) (i : Install) : Type 0 where
+-- the reasons of HOLDERROR, HOLDSYSTEM or HOLDUSER: all of them where the member has no list
+abbrev pub HasReasons : HoldKind → Option Word → Reasons → Type 0
+HasReasons kind None reasons = reasons ≡ NoReason
+HasReasons kind (Some m) NoReason = ⊥
+HasReasons kind (Some m) AnyReason = m.list ≡ None
+HasReasons kind (Some m) (TheseReasons reasons) = HasSorted (IsReason kind) m reasons × IsShort reasons
+
+-- the members of BYPASS, each with its own list where it has one
+pub record HasBypassed (members : List Word) (b : Bypass) : Type 0 where
+  pub pre : HasFlag (operand (codes "PRE") members) b.pre
+  pub req : HasFlag (operand (codes "REQ") members) b.req
+  pub ifreq : HasFlag (operand (codes "IFREQ") members) b.ifreq
+  pub same_id : HasFlag (operand (codes "ID") members) b.same_id
+  pub applycheck : HasFlag (operand (codes "APPLYCHECK") members) b.applycheck
+  pub holderror : HasReasons Error (operand (codes "HOLDERROR") members) b.holderror
+  pub holdsystem : HasReasons System (operand (codes "HOLDSYSTEM") members) b.holdsystem
+  pub holduser : HasReasons User (operand (codes "HOLDUSER") members) b.holduser
+  pub holdclass : HasShort IsClass (operand (codes "HOLDCLASS") members) b.holdclass
+
+-- The text of BYPASS's list has members that the command may have, each at most once.
+pub record IsBypassList (w : CommandWord) (text : Text) (b : Bypass) : Type 0 where
+  pub members : List Word
+  pub has_members : HasMembers text members
+  pub are_members : AreOperands (members_of w) members
+  pub has_bypassed : HasBypassed members b
+
+-- BYPASS, which needs its list; where it is absent, nothing is bypassed
+abbrev pub HasBypass : CommandWord → Option Word → Bypass → Type 0
+HasBypass w None b = b ≡ no_bypass
+HasBypass w (Some found) b = IsSomeAnd found.list (λ text. IsBypassList w text b)
+
+-- APPLY and ACCEPT
+pub record HasInstall (w : CommandWord) (words : List Word) (i : Install) : Type 0 where
   pub selection : HasSelection words i.selection
-  pub bypass : i.bypass ≡ no_bypass
+  pub bypass : HasBypass w (operand (codes "BYPASS") words) i.bypass
   pub check : HasFlag (operand (codes "CHECK") words) i.check
 
 -- SELECT or GROUP of RESTORE, and not both
@@ -108,8 +156,8 @@ abbrev pub HasOperands : List Word → Command → Type 0
 HasOperands words (Set zone) = HasRequired IsZoneName (operand (codes "BDY") words) zone
 HasOperands words (Receive what) = HasReceive words what
 HasOperands words (Reject ids) = HasSome IsId (operand (codes "SELECT") words) ids
-HasOperands words (Apply i) = HasInstall words i
-HasOperands words (Accept i) = HasInstall words i
+HasOperands words (Apply i) = HasInstall word.Apply words i
+HasOperands words (Accept i) = HasInstall word.Accept words i
 HasOperands words (Restore ids check) = HasRestoreList words ids × HasFlag (operand (codes "CHECK") words) check
 HasOperands words (ListZone text) = HasFlag (operand (codes "TEXT") words) text
 HasOperands words Report = HasFlag (operand (codes "ERRSYSMODS") words) true

@@ -1,6 +1,6 @@
 -- The commands of a command file, and its first fault.
-use Rattle.std.specs.Prelude.{◌≡◌, ℕ, Bool, true, false, List, [], ◌∷◌, not, if◌then◌else◌, count_by, nat_le, codes}
-use Rattle.std.specs.Prelude.{IsTrue, ◌⊎◌}
+use Rattle.std.specs.Prelude.{◌≡◌, ◌==◌, ◌||◌, ℕ, Bool, true, false, List, [], ◌∷◌, ◌++◌, Option, Some, None, not, codes}
+use Rattle.std.specs.Prelude.{IsTrue, ◌⊎◌, if◌then◌else◌, count_by, nat_le}
 use Rattle.std.specs.List.{list_any}
 use Rattle.std.specs.Str.{bytes_eq}
 use Rattle.terms.specs.declared.codes.CommandWord.{CommandWord}
@@ -9,10 +9,11 @@ use Rattle.terms.specs.declared.codes.CnCode.{CnCode}
 use Rattle.terms.specs.declared.codes.CnCode.TheVariants.{Cn1, Cn2, Cn3, Cn4, Cn5}
 use Rattle.terms.specs.Types.{Text, Command}
 use Rattle.terms.specs.Spelling.{word_text}
+use Rattle.terms.specs.Forms.{is_word_byte}
 use Rattle.terms.specs.Records.{HasRecords, IsRecFault, RecFault, rec_fault_record}
-use Rattle.terms.specs.Statement.{Piece, TheWord, joined, IsIdle, StFault}
+use Rattle.terms.specs.Statement.{Piece, TheWord, TheList, joined, IsIdle, StFault}
 use Rattle.terms.specs.CommandCuts.{TakesCommand, IsCutFault}
-use Rattle.terms.specs.CommandForms.{is_known, operands_of, IsCommand}
+use Rattle.terms.specs.CommandForms.{is_known, operands_of, members_of, IsCommand}
 
 -- a fault of the command file, with the number of the record where the command begins
 pub record CntlFault : Type 0 where
@@ -37,18 +38,43 @@ words_in [] = []
 words_in (TheWord text ∷ ps) = text ∷ words_in ps
 words_in (_ ∷ ps) = words_in ps
 
--- whether the word is there so often, or more often
-abbrev pub is_often : ℕ → List Piece → Text → Bool
-is_often n pieces name = nat_le n (count_by (bytes_eq name) (words_in pieces))
+-- the list that comes first, if one does
+abbrev pub leading_list : List Piece → Option Text
+leading_list (TheList list ∷ ps) = Some list
+leading_list _ = None
 
--- whether a known operand of the command is there twice
+-- the list right behind the first word of that name, if there is one
+abbrev pub list_behind : Text → List Piece → Option Text
+list_behind name [] = None
+list_behind name (TheWord text ∷ ps) = if bytes_eq name text then leading_list ps else list_behind name ps
+list_behind name (_ ∷ ps) = list_behind name ps
+
+-- The runs of word characters outside inner lists, empty ones among them. The first one goes on from `run`.
+abbrev pub runs_from : Bool → Text → Text → List Text
+runs_from inner run [] = run ∷ []
+runs_from true run (b ∷ bs) = runs_from (not (b == 41)) run bs
+runs_from false run (b ∷ bs) =
+    if is_word_byte b then runs_from false (run ++ b ∷ []) bs else run ∷ runs_from (b == 40) [] bs
+
+-- the members in a list of BYPASS, whatever stands between them
+abbrev pub runs_in : Option Text → List Text
+runs_in None = []
+runs_in (Some list) = runs_from false [] list
+
+-- whether the text is there so often, or more often
+abbrev pub is_often : ℕ → List Text → Text → Bool
+is_often n texts name = nat_le n (count_by (bytes_eq name) texts)
+
+-- whether a known operand of the command is there twice, or a member that its BYPASS may have
 abbrev pub has_double : CommandWord → List Piece → Bool
-has_double w pieces = list_any (is_often 2 pieces) (operands_of w)
+has_double w pieces = list_any (is_often 2 (words_in pieces)) (operands_of w)
+    || list_any (is_often 2 (runs_in (list_behind (codes "BYPASS") pieces))) (members_of w)
 
 -- RESTORE has both SELECT and GROUP, or none of them.
 abbrev pub is_unchosen : CommandWord → List Piece → Bool
 is_unchosen word.Restore pieces =
-    if is_often 1 pieces (codes "SELECT") then is_often 1 pieces (codes "GROUP") else not (is_often 1 pieces (codes "GROUP"))
+    if is_often 1 (words_in pieces) (codes "SELECT") then is_often 1 (words_in pieces) (codes "GROUP")
+    else not (is_often 1 (words_in pieces) (codes "GROUP"))
 is_unchosen _ pieces = false
 
 -- the pieces begin with that command's word, and the command is known
