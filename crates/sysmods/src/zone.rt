@@ -8,7 +8,7 @@ ghost use Rattle.terms.specs.Lookups.{sysmod_of, is_received, is_function, holds
 ghost use Rattle.terms.specs.Global.{IsGlobal, hold_of, is_replacing, hold as with_hold, release as released};
 ghost use Rattle.terms.specs.Global.{assign as assigned, without_sysmod};
 ghost use Rattle.terms.specs.Types.{a_global};
-ghost use Rattle.sysmods_received.specs.Namers.{namers_for};
+ghost use Rattle.sysmods_received.specs.Namers.{namers_for, function_namers};
 ghost use Rattle.sysmods.specs.Faults.{IsReceived, a_release, release_fault};
 ghost use Rattle.sysmods.specs.Parts.{IsMadeOf};
 
@@ -135,6 +135,14 @@ impl Global {
         ensures { OnOk result (found.new.items ≡ found.old.items ++ namers_for self.now.sysmods srel id) }
     {
         self.sysmods.append_namers(srel, id, found)
+    }
+
+    /// Appends the ids of the received SYSMODs that name the id as a function: in DELETE, in FMID or in an
+    /// `++IF`. It looks at those alone that name it in some way.
+    pub fn append_function_namers(&self, id: Id, found: &mut Vec<Id>) -> Result<(), AllocError>
+        ensures { OnOk result (found.new.items ≡ found.old.items ++ function_namers self.now.sysmods id) }
+    {
+        self.sysmods.append_function_namers(id, found)
     }
 
     /// Whether a function of this id is received.

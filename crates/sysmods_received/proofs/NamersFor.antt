@@ -21,10 +21,11 @@ use Rattle.lemmas.proofs.Searches.{find-passes, find-filter_all, find-filter_non
 use Rattle.terms.proofs.Ids.{is_in-from_Contains, Contains-from_is_in}
 use Rattle.terms.proofs.Loops.{named_by_all}
 use Rattle.terms.proofs.SameLists.{rising_same}
-use Rattle.sysmods_received.specs.declared.ways.Way.TheVariants.{Named}
+use Rattle.sysmods_received.specs.declared.ways.Way.TheVariants.{Named, AsFunction}
 use Rattle.sysmods_received.specs.Index.{Sets, has, IsIndexed}
 use Rattle.sysmods_received.specs.Held.{found, zone_of}
-use Rattle.sysmods_received.specs.Namers.{namers_for}
+use Rattle.sysmods_received.specs.Namers.{namers_for, names_as_function, function_namers}
+use Rattle.sysmods_received.specs.Ways.{names_so}
 use Rattle.sysmods_received.proofs.Named.{any-flat}
 use Rattle.sysmods_received.proofs.Namers.{mentioned}
 
@@ -127,3 +128,46 @@ module _ (xs : List Sysmod) (srel : Text) (z : Id) where
       (pairs_map (λ a b. IsTrue (is_lt (slice_cmp nat_cmp a.id b.id))) (λ a b. IsTrue (is_lt (slice_cmp nat_cmp a b)))
       (λ s. s.id) (λ a b less. less) xs rising)
       (λ y names. complete y (named-by_indexed sets indexed y names)) named-by_received
+
+-- The same of those that name an id as a function.
+module _ (xs : List Sysmod) (z : Id) where
+  abbrev Of : Option Sysmod → Bool
+  Of o = option_map_or (names_so AsFunction z) o false
+
+  function-namer : (y : Id) → names_as_function xs z y ≡ true
+      → (s : Sysmod) × (found xs y ≡ Some s) × (s.id ≡ y) × (names_so AsFunction z s ≡ true)
+  function-namer y names = by (found xs y) refl
+    where
+      by : (o : Option Sysmod) → found xs y ≡ o
+          → (s : Sysmod) × (found xs y ≡ Some s) × (s.id ≡ y) × (names_so AsFunction z s ≡ true)
+      by None there = absurd (true≢false (sym names ∙ ap Of there))
+      by (Some s) there = (
+        s,
+        there,
+        same_from s.id y (find-passes (λ r. bytes_eq r.id y) xs s there),
+        sym (ap Of there) ∙ names,
+      )
+
+  function-namer_received : (y : Id) → names_as_function xs z y ≡ true → is_in (map (λ s. s.id) xs) y ≡ true
+  function-namer_received y names =
+      let s = function-namer y names in
+      subst (λ w. is_in (map (λ r. r.id) xs) w ≡ true) s.2
+      (is_in-from_Contains (map (λ r. r.id) xs) s.0.id (in_map (λ r. r.id) xs s.0
+      (find-gives (λ r. bytes_eq r.id y) xs s.0 s.1).1))
+
+  function-namer_indexed : (sets : Sets) → All (IsIndexed sets) xs → (y : Id) → names_as_function xs z y ≡ true
+      → IsTrue (has sets z y)
+  function-namer_indexed sets indexed y names =
+      let s = function-namer y names in
+      subst (λ w. IsTrue (has sets z w)) s.2
+      (All-find (IsIndexed sets) (λ r. bytes_eq r.id y) xs s.0 indexed s.1 z (mentioned AsFunction z s.0 s.3))
+
+  pub function-namers-among : (sets : Sets) (ks : List Id) → All (IsIndexed sets) xs
+      → Rises (slice_cmp nat_cmp) (λ s. s.id) xs
+      → Rises (slice_cmp nat_cmp) (λ k. k) ks → ((y : Id) → IsTrue (has sets z y) → is_in ks y ≡ true)
+      → filter (names_as_function xs z) ks ≡ function_namers xs z
+  function-namers-among sets ks indexed rising rising_ks complete =
+      same_passing (names_as_function xs z) ks (map (λ s. s.id) xs) rising_ks
+      (pairs_map (λ a b. IsTrue (is_lt (slice_cmp nat_cmp a.id b.id))) (λ a b. IsTrue (is_lt (slice_cmp nat_cmp a b)))
+      (λ s. s.id) (λ a b less. less) xs rising)
+      (λ y names. complete y (function-namer_indexed sets indexed y names)) function-namer_received

@@ -12,7 +12,7 @@ ghost use Rattle.terms.specs.Lookups.{is_in};
 ghost use Rattle.terms.specs.Rising.{Rises, with_item};
 ghost use Rattle.terms.specs.Global.{named, named_functions, names_for, with_source};
 ghost use Rattle.sysmods_received.specs.Held.{found, zone_of};
-ghost use Rattle.sysmods_received.specs.Namers.{namers_for};
+ghost use Rattle.sysmods_received.specs.Namers.{namers_for, names_as_function, function_namers};
 ghost use Rattle.sysmods_received.specs.Ways.{names_so};
 
 use crate::index::Index;
@@ -195,6 +195,35 @@ impl Received {
     {
         match self.index.sets.get(&id) {
             Some(namers) => self.append_some(namers, srel, id, found),
+            None => Ok(()),
+        }
+    }
+
+    fn append_some_as_function(
+        &self,
+        namers: &BTreeSet<Id>,
+        id: Id,
+        found: &mut Vec<Id>,
+    ) -> Result<(), AllocError>
+        ensures ok { OnOk result (found.new.items ≡ found.old.items
+            ++ filter (names_as_function self.now id) namers.now.keys) }
+        ensures ordered { IsOrdered (slice_cmp nat_cmp) namers.now }
+    {
+        for namer in namers.iter() {
+            if self.names_so(*namer, Way::AsFunction, id) {
+                found.push(*namer)?;
+            }
+        }
+        Ok(())
+    }
+
+    /// Appends the ids of the received SYSMODs that name the id as a function: in DELETE, in FMID or in
+    /// an `++IF`. It looks at those alone that name it in some way.
+    pub fn append_function_namers(&self, id: Id, found: &mut Vec<Id>) -> Result<(), AllocError>
+        ensures { OnOk result (found.new.items ≡ found.old.items ++ function_namers self.now id) }
+    {
+        match self.index.sets.get(&id) {
+            Some(namers) => self.append_some_as_function(namers, id, found),
             None => Ok(()),
         }
     }
