@@ -19,7 +19,7 @@ use Rattle.terms.specs.Tests.{Setting, IsEligible, Fails, ShareElement, owner_of
 use Rattle.terms.specs.Needs.{Needs, Serves, bypassed_ids}
 use Rattle.terms.specs.Judged.{setting}
 use Rattle.lemmas.proofs.Apart.{AreApart}
-use Rattle.lemmas.proofs.Members.{map_in, in_map, none_in, filter_in, in_filter}
+use Rattle.lemmas.proofs.Members.{map_in, in_map, filter_in, in_filter}
 use Rattle.lemmas.proofs.Pairs.{AllPairs-join}
 use Rattle.terms.proofs.Ids.{is_in-from_Contains, Contains-from_is_in, apart-from_rising}
 use Rattle.lemmas.proofs.Texts.{same_or_not}
@@ -32,6 +32,7 @@ use Rattle.change.proofs.Installable.{replaces}
 use Rattle.smpe_apply.specs.Statuses.{kept_status, kept_statuses, failed_statuses, left_out_statuses}
 use Rattle.smpe_apply.specs.Statuses.{all_statuses, AreById}
 use Rattle.smpe_apply.proofs.ById.{rises_by_id}
+use Rattle.smpe_apply.proofs.Bypassed.{kept-cand}
 use Rattle.smpe_apply.proofs.InstallLines.{are_install_lines}
 
 -- lists without doubles that share nothing have none together
@@ -70,7 +71,7 @@ module _ (g : Global) (zone : Zone) (sel : Selection) (bypass : Bypass) (date : 
   eligible x h = let stays = (decided.members x).0 h in stays.1.eligible x stays.2
 
   cand : (x : Id) → Contains kept x → Contains cands x
-  cand x h = (eligible x h).0.0.0
+  cand = kept-cand s kept failed decided
 
   installable : (x : Id) → Contains cands x → IsTrue (is_installable g zone x)
   installable x h = All-contains (λ y. IsTrue (is_installable g zone y)) cands x ok h

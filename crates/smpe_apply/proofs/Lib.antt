@@ -1,4 +1,5 @@
 pub mod ById
+pub mod Bypassed
 pub mod CandidateIds
 pub mod Choosing
 pub mod Decisions

@@ -96,5 +96,6 @@ pub fn decide(
         ↔ (Contains d.kept x × Contains (bypassed_ids (setting global.now zone.now None ids.now bypass.now) x) z)) }
 {
     let judged = install_system(alloc, global, zone, None, ids, bypass)?;
-    decide_judged(alloc, ids, judged)
+    let decided = decide_judged(alloc, ids, judged)?;
+    Ok(decided)
 }

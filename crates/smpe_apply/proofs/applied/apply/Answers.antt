@@ -1,5 +1,7 @@
-use Rattle.std.proofs.Common.{◌≡◌, map, ap, ◌∙◌, subst}
+use Rattle.std.proofs.Common.{◌≡◌, map, refl, sym, ap, ◌∙◌, subst}
+use Rattle.terms.specs.Choice.{by_srel}
 use Rattle.terms.specs.Delta.{IsChanged}
+use Rattle.terms.specs.Install.{HasInstalled}
 use Rattle.report.specs.Views.{line_view}
 use Rattle.smpe_apply.specs.Statuses.{said, why_failed, all_statuses, AreById}
 use Rattle.smpe_apply.proofs.Decisions.{kept_installable, kept_apart, decision, decides, install_lines}
@@ -39,12 +41,16 @@ returns-clause-installs c new changed =
     let are = c.in_ok-ids.ensures.members in
     let ok = c.in_ok-ids.ensures.installable in
     let decided = c.in_ok-kept.ensures.decided in
+    let d = decision g zone sel bypass c.args.date c.in_ok-ids.ids kept failed are ok decided bypassed in
+    let in_effect = c.in_ok-effective.ensures d.installing refl (ap (by_srel g) (sym c.srel.ensures)) in
     record {
-      decision = decision g zone sel bypass c.args.date c.in_ok-ids.ids kept failed are ok decided bypassed;
+      decision = d;
       decides = decides g zone sel bypass c.args.date c.in_ok-ids.ids kept failed are ok decided bypassed
           c.in_ok-kept.ensures.bypassed;
       lines_are = install_lines g zone sel bypass c.args.date c.in_ok-ids.ids kept failed are ok decided bypassed
-          effective c.in_ok-effective.ensures left_out c.in_ok-left_out.ensures.rising
+          effective in_effect left_out c.in_ok-left_out.ensures.rising
           c.in_ok-left_out.ensures.members (map line_view c.in_ok-lines.field-0.items) lines;
-      installs = c.in_ok-delta.ensures new (subst (λ delta. IsChanged delta zone new) c.delta.view_is changed);
+      installs = subst (λ pairs. HasInstalled (record d.installing { bypassed = pairs }) new) c.as_slice.ensures.value
+          (c.in_ok-delta.ensures.installs new
+          (subst (λ delta. IsChanged delta zone new) c.delta.view_is changed));
     }

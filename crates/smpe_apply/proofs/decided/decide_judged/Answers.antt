@@ -1,4 +1,4 @@
-use Rattle.std.proofs.Common.{◌≡◌, ◌<◌, ◌∙◌, None, length, ℕ, subst, refl}
+use Rattle.std.proofs.Common.{◌≡◌, ◌<◌, ◌∙◌, length, ℕ, subst, refl}
 use Rattle.std.specs.Prelude.{All}
 use Rattle.terms.specs.Lookups.{IsRising}
 use Rattle.terms.specs.Judged.{setting}
