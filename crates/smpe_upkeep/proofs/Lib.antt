@@ -7,5 +7,6 @@ pub mod Printable
 pub mod PtfinForms
 pub mod ReceivingForms
 pub mod RejectingForms
+pub mod Stable
 pub mod StatementForms
 pub mod ZonesKept
