@@ -2,7 +2,9 @@ pub mod Defined
 pub mod GlobalForms
 pub mod HoldFileForms
 pub mod InstallForms
+pub mod LessForms
 pub mod Lists
+pub mod OperandForms
 pub mod Printable
 pub mod PtfinForms
 pub mod ReceivingForms
