@@ -1,7 +1,10 @@
 pub mod Defined
+pub mod ElementsAfter
+pub mod EntriesAfter
 pub mod GlobalForms
 pub mod HoldFileForms
 pub mod InstallForms
+pub mod Installed
 pub mod LessForms
 pub mod Lists
 pub mod OperandForms
@@ -11,4 +14,5 @@ pub mod ReceivingForms
 pub mod RejectingForms
 pub mod Stable
 pub mod StatementForms
+pub mod Topmost
 pub mod ZonesKept

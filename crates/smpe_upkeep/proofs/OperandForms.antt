@@ -7,7 +7,7 @@ use Rattle.std.specs.Option.{option_map_or, option_and_then}
 use Rattle.std.specs.Str.{bytes_eq}
 use Rattle.std.proofs.lemmas.Bool.{and_parts, eqb-true}
 use Rattle.std.proofs.lemmas.List.Elements.{All-nil, All-contains, Contains-append_cases}
-use Rattle.lemmas.proofs.Members.{here, there as behind, none_in, filter_in}
+use Rattle.lemmas.proofs.Members.{none_in, filter_in}
 use Rattle.lemmas.proofs.Searches.{All-find, find-gives}
 use Rattle.lemmas.proofs.Texts.{same_from}
 use Rattle.terms.specs.declared.kinds.Kind.{Kind}
@@ -24,16 +24,7 @@ use Rattle.terms.specs.Forms.{IsId}
 use Rattle.terms.proofs.ElementOrder.{type_from_number}
 use Rattle.terms.proofs.Leads.{last_step}
 use Rattle.store_schema.specs.Forms.{HasIfForms, HasVerForms, HasChangeForms, HasSysmodForms}
-
--- what a flat map contains
-pub flat_map_in : {X Y : Type 0} (f : X → List Y) (xs : List X) (y : Y) → Contains (flat_map f xs) y
-    → (x : X) × Contains xs x × Contains (f x) y
-flat_map_in f [] y there = absurd (none_in y there)
-flat_map_in f (x ∷ xs) y there =
-    elim (Contains-append_cases (f x) (flat_map f xs) y there) [
-      | inl first ↦ (x, here x xs, first)
-      | inr later ↦ let in_rest = flat_map_in f xs y later in (in_rest.0, behind x xs in_rest.0 in_rest.1, in_rest.2)
-    ]
+use Rattle.smpe_upkeep.proofs.Lists.{flat_map_in}
 
 -- one of two lists, by a test
 either_in : {X : Type 0} (b : Bool) (xs : List X) (x : X) → Contains (if b then xs else []) x → Contains xs x

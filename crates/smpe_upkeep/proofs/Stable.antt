@@ -96,11 +96,17 @@ stable_listed ids h = record {
   rising = part_of (λ l. l.rising) (stable_rising ids) h;
 }
 
-pub stable_records : (lines : Lines) → Stable (AreRecords lines)
-stable_records lines = stable_all (λ line. (length line ≡ 80) × All (λ b. b < 256) line) (λ line h. (
+abbrev pub IsRecord : List ℕ → Type 0
+IsRecord line = (length line ≡ 80) × All (λ b. b < 256) line
+
+pub stable_record : (line : List ℕ) → Stable (IsRecord line)
+stable_record line h = (
   part_of (λ r. r.0) (stable_number _ 80) h,
   part_of (λ r. r.1) (stable_all (λ b. b < 256) (λ b. stable_lt b 256) line) h,
-)) lines
+)
+
+pub stable_records : (lines : Lines) → Stable (AreRecords lines)
+stable_records lines = stable_all IsRecord stable_record lines
 
 stable_numbered_line : (line : List ℕ) → Stable (IsNumberedLine line)
 stable_numbered_line line h = (
