@@ -28,7 +28,7 @@ use Rattle.smpe_upkeep.proofs.Stable.{by_either, part_of, IsRecord, stable_recor
 use Rattle.smpe_upkeep.proofs.Topmost.{IsTopmost, topmost}
 use Rattle.smpe_upkeep.proofs.LessForms.{none_listed, element_forms}
 use Rattle.smpe_upkeep.proofs.OperandForms.{change_forms, owner_form}
-use Rattle.smpe_upkeep.proofs.Installed.{HasInstallForms, cleared_forms, effect_form}
+use Rattle.smpe_upkeep.proofs.GivenForms.{HasInstallForms, cleared_forms, effect_form}
 
 -- the record of a text at a number
 line_in : (text : Lines) (n : ℕ) (line : List ℕ) → line_at text n ≡ Some line → AreRecords text → IsRecord line

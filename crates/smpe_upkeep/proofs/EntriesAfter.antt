@@ -24,7 +24,7 @@ use Rattle.smpe_upkeep.proofs.Lists.{find-itself}
 use Rattle.smpe_upkeep.proofs.Stable.{Stable, by_either, part_of, stable_id, stable_dotted}
 use Rattle.smpe_upkeep.proofs.LessForms.{applied_forms, supby_forms, delby_forms, waived_forms}
 use Rattle.smpe_upkeep.proofs.OperandForms.{function_form, del_form, superseded_form}
-use Rattle.smpe_upkeep.proofs.Installed.{HasInstallForms, cleared_forms, effect_form}
+use Rattle.smpe_upkeep.proofs.GivenForms.{HasInstallForms, cleared_forms, effect_form}
 
 module _ (i : Installation) (has : HasInstallForms i) where
   -- a kept SYSMOD that passes a test

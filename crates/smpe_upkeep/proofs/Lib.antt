@@ -1,10 +1,11 @@
+pub mod Decisions
 pub mod Defined
 pub mod ElementsAfter
 pub mod EntriesAfter
+pub mod GivenForms
 pub mod GlobalForms
 pub mod HoldFileForms
 pub mod InstallForms
-pub mod Installed
 pub mod LessForms
 pub mod Lists
 pub mod OperandForms
