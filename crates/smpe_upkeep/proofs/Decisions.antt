@@ -1,25 +1,23 @@
 -- What APPLY and ACCEPT decide to install has its forms, where the received SYSMODs and the zone have theirs.
-use Rattle.std.proofs.Common.{◌≡◌, ◌≢◌, true, not, ◌&&◌, List, [], filter, Option, None, Some, All, Contains, IsTrue}
+use Rattle.std.proofs.Common.{◌≡◌, ◌≢◌, true, not, List, [], filter, Option, None, Some, All, Contains, IsTrue}
 use Rattle.std.proofs.Common.{inr, refl, sym, ◌∙◌, ap, subst, get_or, true≢false}
 use Rattle.std.specs.Prelude.{◌↔◌}
 use Rattle.std.specs.Option.{option_map_or}
 use Rattle.std.specs.Str.{bytes_eq}
 use Rattle.std.proofs.lemmas.Bool.{and_parts}
 use Rattle.std.proofs.lemmas.List.Elements.{All-contains_itself}
-use Rattle.terms.specs.declared.kinds.Kind.{Kind}
-use Rattle.terms.specs.Types.{Text, Id, Ver, Sysmod, Global, Zone, Bypass, Selection}
+use Rattle.terms.specs.Types.{Text, Id, Sysmod, Global, Zone, Bypass, Selection}
 use Rattle.terms.specs.Lookups.{is_nil, sysmod_of}
 use Rattle.terms.specs.Choice.{Choice, vers_of, by_srel}
 use Rattle.terms.specs.Over.{IsOver}
-use Rattle.terms.specs.Candidates.{is_installable, is_open, IsClosedPair, IsCandidate, AreCandidates}
+use Rattle.terms.specs.Candidates.{is_installable, is_open, IsCandidate}
 use Rattle.terms.specs.Tests.{Setting, ShareElement, IsEligible}
 use Rattle.terms.specs.Needs.{bypassed_ids}
 use Rattle.terms.specs.Judged.{setting, IsKeptSet}
-use Rattle.terms.specs.Install.{Installation}
 use Rattle.terms.specs.Forms.{IsId, IsDottedDate}
-use Rattle.store_schema.specs.Forms.{HasVerForms, HasSysmodForms, HasZoneForms}
+use Rattle.store_schema.specs.Forms.{HasSysmodForms, HasZoneForms}
 use Rattle.machine.specs.Installing.{Decision, IsDecision}
-use Rattle.smpe_upkeep.proofs.OperandForms.{sysmod_forms, ver_forms, bypassed_form}
+use Rattle.smpe_upkeep.proofs.OperandForms.{HasVers, sysmod_forms, ver_forms, bypassed_form}
 use Rattle.smpe_upkeep.proofs.GivenForms.{HasInstallForms}
 
 -- The open ids are a closed pair by themselves, so each candidate is open.
@@ -73,8 +71,8 @@ module _ (g : Global) (sysmods : All HasSysmodForms g.sysmods) (zone : Zone) (fo
     ordered = λ x y of_x of_y. eligible_ordered decided x y (eligible x of_x) (eligible y of_y);
   })
     where
-      vers : (x : Id) (v : Ver) → by_srel g zone.srel x ≡ Some v → (kind : Kind) × HasVerForms kind x v
-      vers x v at = (ver_forms g sysmods zone.srel x v at).1
+      vers : HasVers (by_srel g zone.srel)
+      vers = ver_forms g sysmods zone.srel
 
       eligible : (x : Id) → Contains d.kept x → IsEligible decided x
       eligible = kept_eligible decided d.kept (subst (λ s. IsKeptSet s d.kept) decides.setting decides.kept)

@@ -1,8 +1,7 @@
 -- The elements of a zone after an installation have their forms.
-use Rattle.std.proofs.Common.{◌≡◌, ◌≢◌, ◌⊎◌, inl, inr, ℕ, Bool, true, false, List, [], ◌∷◌, Option, Some, None, All, Contains, IsTrue}
-use Rattle.std.proofs.Common.{IsSome, refl, sym, ◌∙◌, ap, subst, get_or, is_some}
+use Rattle.std.proofs.Common.{◌≡◌, ◌≢◌, inl, inr, ℕ, Bool, true, false, List, Option, Some, None, All, Contains, IsTrue}
+use Rattle.std.proofs.Common.{refl, sym, ◌∙◌, ap, subst, get_or, is_some}
 use Rattle.std.specs.Prelude.{IsFalse, ◌==◌, not}
-use Rattle.std.proofs.lemmas.Cmp.{nat_list_cmp_total}
 use Rattle.std.proofs.lemmas.List.Elements.{All-contains, All-contains_itself}
 use Rattle.std.proofs.lemmas.Option.{same_Some}
 use Rattle.lemmas.proofs.Members.{filter_in}
@@ -12,7 +11,7 @@ use Rattle.terms.specs.declared.kinds.Kind.{Kind}
 use Rattle.terms.specs.declared.kinds.ElemType.{ElemType}
 use Rattle.terms.specs.declared.kinds.ElemType.TheVariants.{Mac, Src, Clist, Data, Exec, Parm, Proc}
 use Rattle.terms.specs.Types.{Text, Id, Lines, Action, Replaces, Updates, Change, Element, Zone}
-use Rattle.terms.specs.Lookups.{element_key, element_cmp, change_of, has_change, element_of}
+use Rattle.terms.specs.Lookups.{element_key, change_of, has_change, element_of}
 use Rattle.terms.specs.Delta.{element_eq}
 use Rattle.terms.specs.Over.{names, IsOver}
 use Rattle.terms.specs.Texts.{number_of, is_control, line_at, given, IsNumbered, Touches}
@@ -21,11 +20,11 @@ use Rattle.terms.specs.Install.{IsUpdated as IsElementUpdated, HasInstalled}
 use Rattle.terms.specs.Forms.{IsId, IsName}
 use Rattle.terms.proofs.ElementOrder.{element_cmp_total, element_ties}
 use Rattle.terms.proofs.Leads.{reaches_through}
-use Rattle.store_schema.specs.Forms.{AreListed, AreRecords, IsTextOf, IsUpdated, HasActionForms, HasChangeForms}
+use Rattle.store_schema.specs.Forms.{AreListed, AreRecords, IsTextOf, IsUpdated, HasActionForms}
 use Rattle.store_schema.specs.Forms.{HasElementForms}
 use Rattle.smpe_upkeep.proofs.Lists.{find-itself, line_at-itself}
 use Rattle.smpe_upkeep.proofs.Stable.{by_either, part_of, IsRecord, stable_record, stable_text, stable_element}
-use Rattle.smpe_upkeep.proofs.Topmost.{IsTopmost, topmost}
+use Rattle.smpe_upkeep.proofs.Topmost.{topmost}
 use Rattle.smpe_upkeep.proofs.LessForms.{none_listed, element_forms}
 use Rattle.smpe_upkeep.proofs.OperandForms.{change_forms, owner_form}
 use Rattle.smpe_upkeep.proofs.GivenForms.{HasInstallForms, cleared_forms, effect_form}
@@ -69,8 +68,7 @@ module _ (i : Installation) (has : HasInstallForms i) where
     action_forms : (x : Id) (h : Change) (a : Action) → change_of i.global x type name ≡ Some h → h.action ≡ a
         → IsName name × ((kind : Kind) × HasActionForms kind type name a)
     action_forms x h a at does =
-        let is = change_forms i.global has.sysmods x type name h at in
-        (
+        let is = change_forms i.global has.sysmods x type name h at in (
           subst IsName is.1 is.2.1.name,
           (
             is.2.0,
@@ -121,11 +119,15 @@ module _ (i : Installation) (has : HasInstallForms i) where
           i.kept y updates.1.installed.kept updates (λ found.
           let x = found.0 in
           let top = found.1 in
-          refuted (x, top.is.0, record {
-            updater = top.is.1;
-            touches = top.is.2;
-            over = λ z other updater touches apart. top.over z updater.installed.kept (other, updater, touches) apart;
-          }))
+          refuted (
+            x,
+            top.is.0,
+            record {
+              updater = top.is.1;
+              touches = top.is.2;
+              over = λ z other updater touches apart. top.over z updater.installed.kept (other, updater, touches) apart;
+            },
+          ))
 
       module _ (base e : Element) (is_base : HasElementForms base)
           (updated : IsElementUpdated i type name replacer base e) where
@@ -184,7 +186,8 @@ module _ (i : Installation) (has : HasInstallForms i) where
         umids = umids_after e.elem_type e.name replacer base e forms updated;
         distlib = forms.distlib;
         syslib = forms.syslib;
-        text = text_after e.elem_type e.name replacer base e forms updated (ap (λ (o : Element). o.elem_type) updated.rest);
+        text = text_after e.elem_type e.name replacer base e forms updated
+            (ap (λ (o : Element). o.elem_type) updated.rest);
       })
 
   module _ (new : Zone) (installs : HasInstalled i new) where

@@ -1,6 +1,6 @@
 -- The entries of a zone after an installation have their forms.
-use Rattle.std.proofs.Common.{◌≡◌, ◌≢◌, ◌⊎◌, inl, inr, Bool, true, false, not, List, [], ◌∷◌, Option, Some, None, All}
-use Rattle.std.proofs.Common.{Contains, IfSome, IsSome, IsTrue, refl, sym, ◌∙◌, ap, subst, get_or, filter}
+use Rattle.std.proofs.Common.{◌≡◌, inl, inr, Bool, true, false, not, List, [], ◌∷◌, Option, Some, None, All}
+use Rattle.std.proofs.Common.{Contains, IfSome, IsTrue, refl, sym, ◌∙◌, ap, subst, get_or, filter}
 use Rattle.std.specs.Prelude.{if◌then◌else◌, ◌&&◌, ◌||◌, slice_get, is_some}
 use Rattle.std.specs.Option.{option_map_or, option_and_then}
 use Rattle.std.specs.Str.{bytes_eq}
@@ -12,7 +12,8 @@ use Rattle.std.proofs.lemmas.Option.{same_Some}
 use Rattle.lemmas.proofs.Members.{here, filter_in}
 use Rattle.lemmas.proofs.Places.{contains_at}
 use Rattle.terms.specs.Types.{Text, Id, Entry, Zone}
-use Rattle.terms.specs.Lookups.{is_nil, IsRising, is_in, is_function, is_held, waives_applied, entry_of, applied_of, supby_of, delby_of, waived_of}
+use Rattle.terms.specs.Lookups.{is_nil, IsRising, is_in, is_function, is_held, waives_applied, entry_of, applied_of}
+use Rattle.terms.specs.Lookups.{supby_of, delby_of, waived_of}
 use Rattle.terms.specs.Choice.{del_of}
 use Rattle.terms.specs.Deleted.{deletions, is_deleted, is_taken_out}
 use Rattle.terms.specs.Install.{Installation, TakesEffect, cleared, deleters, delby_after, HasInstalled}
@@ -88,8 +89,7 @@ module _ (i : Installation) (has : HasInstallForms i) where
     delby_forms_after x y at = delby_after_forms x y (sym (installs.delby x) ∙ at)
 
     -- an entry is there for a date, for SUPBY or for DELBY
-    entry_id : (e : Entry) → entry_of new e.id ≡ Some e → IsTrue (is_some e.applied || not (is_nil e.supby) || is_some e.delby)
-        → IsId e.id
+    entry_id : (e : Entry) → entry_of new e.id ≡ Some e → IsTrue (is_held e) → IsId e.id
     entry_id e found held = elim (or_cases (is_some e.applied || not (is_nil e.supby)) (is_some e.delby) held) [
       | inl first ↦ elim (or_cases (is_some e.applied) (not (is_nil e.supby)) first) [
         | inl applied ↦ by_date e.applied (ap (option_and_then (λ e. e.applied)) found) applied
@@ -112,8 +112,9 @@ module _ (i : Installation) (has : HasInstallForms i) where
 
     entry_after : (e : Entry) → Contains new.entries e → HasEntryForms e
     entry_after e there =
-        let found : entry_of new e.id ≡ Some e = find-itself nat_list_cmp_total (λ (e : Entry). e.id) bytes_eq texts_ties
-        new.entries e installs.is_zone.entries there in
+        let found : entry_of new e.id ≡ Some e =
+        find-itself nat_list_cmp_total (λ (e : Entry). e.id) bytes_eq texts_ties new.entries e installs.is_zone.entries
+        there in
         let applied : applied_of new e.id ≡ e.applied = ap (option_and_then (λ (e : Entry). e.applied)) found in
         let supby : supby_of new e.id ≡ e.supby = ap (λ o. option_map_or (λ (e : Entry). e.supby) o []) found in
         let delby : delby_of new e.id ≡ e.delby = ap (option_and_then (λ (e : Entry). e.delby)) found in
@@ -126,9 +127,9 @@ module _ (i : Installation) (has : HasInstallForms i) where
           waived = listed waived (waived_after e.id) (installs.waived_rising e.id);
           waived_if_applied = λ some. elim (or_cases (is_some e.applied) (is_nil e.waived)
               (All-contains (λ e. IsTrue (waives_applied e)) new.entries e installs.is_zone.waived there)) [
-            | inl is ↦ is
-            | inr none ↦ absurd (some (nil_from e.waived none))
-          ];
+                | inl is ↦ is
+                | inr none ↦ absurd (some (nil_from e.waived none))
+              ];
         }
       where
         date_of : (o : Option Text) → applied_of new e.id ≡ o → IfSome o IsDottedDate

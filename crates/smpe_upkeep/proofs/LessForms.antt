@@ -1,7 +1,7 @@
 -- A zone that SYSMODs are taken out of keeps its forms, and what its entries and elements say has the forms.
-use Rattle.std.proofs.Common.{◌≡◌, ◌≢◌, Bool, true, false, not, List, [], Option, Some, None, All, Contains, IfSome, arith}
+use Rattle.std.proofs.Common.{◌≡◌, Bool, true, false, not, List, [], Option, Some, None, All, Contains, IfSome, arith}
 use Rattle.std.proofs.Common.{IsTrue, refl, subst, filter, map}
-use Rattle.std.specs.Prelude.{if◌then◌else◌, ◌&&◌, ◌==◌, slice_get}
+use Rattle.std.specs.Prelude.{if◌then◌else◌, ◌&&◌, ◌==◌}
 use Rattle.std.specs.Option.{option_map_or, option_and_then}
 use Rattle.std.specs.Str.{bytes_eq}
 use Rattle.std.proofs.lemmas.List.Elements.{All-nil, All-filter, All-map, All-contains, All-weaker}

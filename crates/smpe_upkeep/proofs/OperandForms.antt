@@ -1,20 +1,18 @@
 -- What received SYSMODs name in their ++VERs and change by their element statements has its forms.
-use Rattle.std.proofs.Common.{◌≡◌, ◌≢◌, ◌∷◌, inl, inr, Bool, true, false, List, [], Option, Some, None, All, Contains, IfSome}
-use Rattle.std.proofs.Common.{IsTrue, refl, sym, ◌∙◌, ap, subst, find, filter}
+use Rattle.std.proofs.Common.{◌≡◌, ◌≢◌, inl, inr, Bool, true, false, List, [], Option, Some, None, All, Contains}
+use Rattle.std.proofs.Common.{IfSome, refl, subst, find, filter}
 use Rattle.std.specs.Prelude.{◌++◌, ◌&&◌, ◌||◌, ◌==◌, unwrap_or, if◌then◌else◌}
-use Rattle.std.specs.List.{flat_map}
 use Rattle.std.specs.Option.{option_map_or, option_and_then}
 use Rattle.std.specs.Str.{bytes_eq}
 use Rattle.std.proofs.lemmas.Bool.{and_parts, eqb-true}
-use Rattle.std.proofs.lemmas.List.Elements.{All-nil, All-contains, Contains-append_cases}
+use Rattle.std.proofs.lemmas.List.Elements.{All-contains, Contains-append_cases}
 use Rattle.lemmas.proofs.Members.{none_in, filter_in}
 use Rattle.lemmas.proofs.Searches.{All-find, find-gives}
 use Rattle.lemmas.proofs.Texts.{same_from}
 use Rattle.terms.specs.declared.kinds.Kind.{Kind}
 use Rattle.terms.specs.declared.kinds.ElemType.{ElemType}
-use Rattle.terms.specs.declared.codes.NeedKind.TheVariants.{Ifreq}
 use Rattle.terms.specs.Types.{Text, Id, IfReq, Ver, Change, Sysmod, Global, Zone, type_number, kind_number}
-use Rattle.terms.specs.Lookups.{sysmod_of, is_function, changes_of, change_of, is_in, is_applied, applied_ids}
+use Rattle.terms.specs.Lookups.{sysmod_of, is_function, change_of, is_in, is_applied, applied_ids}
 use Rattle.terms.specs.Choice.{Choice, by_srel, fmid_of, pre_of, req_of, sup_of, del_of, ifs_of}
 use Rattle.terms.specs.Over.{Supersedes, owner}
 use Rattle.terms.specs.Candidates.{if_reqs, stated_for, if_needed}
@@ -60,27 +58,25 @@ module _ (g : Global) (sysmods : All HasSysmodForms g.sysmods) where
       by None found at = absurd (cc at)
       by (Some s) found at =
           let passes = find-gives test s.changes h at in
-          let parts = and_parts (type_number h.elem_type == type_number type) (bytes_eq h.name name) passes.0 in
-          (
+          let parts = and_parts (type_number h.elem_type == type_number type) (bytes_eq h.name name) passes.0 in (
             type_from_number h.elem_type type (eqb-true _ _ parts.0),
             same_from h.name name parts.1,
             (s.kind, All-find (HasChangeForms s.kind) test s.changes h (sysmod_forms x s found).1.changes at),
           )
 
   -- the ++VER for an SREL
-  pub ver_forms : (srel : Text) (x : Id) (v : Ver) → by_srel g srel x ≡ Some v → IsId x × ((kind : Kind) × HasVerForms kind x v)
+  pub ver_forms : (srel : Text) (x : Id) (v : Ver) → by_srel g srel x ≡ Some v → (kind : Kind) × HasVerForms kind x v
   ver_forms srel x v = by (sysmod_of g x) refl
     where
       by : (s : Option Sysmod) → sysmod_of g x ≡ s
           → option_and_then (λ s. find (λ v. bytes_eq v.srel srel) s.vers) s ≡ Some v
-          → IsId x × ((kind : Kind) × HasVerForms kind x v)
+          → (kind : Kind) × HasVerForms kind x v
       by None found at = absurd (cc at)
       by (Some s) found at =
-          let has = sysmod_forms x s found in
-          (
-            subst IsId has.0 has.1.id,
-            (s.kind, subst (λ y. HasVerForms s.kind y v) has.0
-            (All-find (HasVerForms s.kind s.id) (λ v. bytes_eq v.srel srel) s.vers v has.1.vers at)),
+          let has = sysmod_forms x s found in (
+            s.kind,
+            subst (λ y. HasVerForms s.kind y v) has.0
+                (All-find (HasVerForms s.kind s.id) (λ v. bytes_eq v.srel srel) s.vers v has.1.vers at),
           )
 
 -- The ++VERs that count have their forms.

@@ -1,8 +1,8 @@
 -- Forms are stable: what can't be refuted of them is so. So a form may be shown by cases that nothing decides.
-use Rattle.std.proofs.Common.{◌≡◌, ◌≤◌, ◌<◌, ◌⊎◌, inl, inr, ℕ, Bool, true, false, List, get_or, IsTrue, refl, arith, All}
-use Rattle.std.proofs.Common.{AllPairs, length}
+use Rattle.std.proofs.Common.{◌≡◌, ◌≤◌, ◌<◌, ◌⊎◌, inl, inr, ℕ, Bool, true, false, List, get_or, IsTrue, refl, arith}
+use Rattle.std.proofs.Common.{All, length}
 use Rattle.std.specs.Char.{IsAsciiDigit}
-use Rattle.std.specs.Prelude.{slice_index, slice_index_or}
+use Rattle.std.specs.Prelude.{slice_index_or}
 use Rattle.std.proofs.lemmas.Bool.{cases_lt, cases_eq}
 use Rattle.terms.specs.declared.kinds.ElemType.{ElemType}
 use Rattle.terms.specs.declared.kinds.ElemType.TheVariants.{Mac, Src, Clist, Data, Exec, Parm, Proc}
