@@ -1,7 +1,62 @@
--- What each item of a list has.
-use Rattle.std.proofs.Common.{List, [], ◌∷◌}
-use Rattle.std.specs.List.{AllByRecursion}
+-- What each item of a list has, and what stands in lists.
+use Rattle.std.proofs.Common.{◌≡◌, ◌≤◌, ◌+◌, inl, inr, ℕ, Bool, Some, List, [], ◌∷◌, Contains, find, ap, ◌∙◌, subst}
+use Rattle.std.proofs.Common.{arith}
+use Rattle.std.specs.List.{AllByRecursion, flat_map}
+use Rattle.std.specs.declared.cmp.Ordering.{Ordering}
+use Rattle.std.specs.Ordering.{is_eq}
+use Rattle.std.specs.Cmp.{IsTotalOrder}
+use Rattle.std.proofs.lemmas.Cmp.{tied_itself}
+use Rattle.std.proofs.lemmas.List.Elements.{Contains-append_cases}
+use Rattle.lemmas.proofs.Members.{here, there, here_or, none_in, parts}
+use Rattle.terms.specs.Rising.{Rises}
+use Rattle.terms.specs.Types.{Lines}
+use Rattle.terms.specs.Texts.{number_of, line_at, IsNumbered}
+use Rattle.terms.proofs.RisingLists.{find-there, Splits-around}
+use Rattle.terms.proofs.Texts.{Rises as LinesRise, Rises-numbered, line_at-head, line_at-tail}
 
 pub each_alike : {X : Type 0} (P : Type 0) → P → (xs : List X) → AllByRecursion (λ (x : X). P) xs
-each_alike P here [] = tt
-each_alike P here (x ∷ xs) = (here, each_alike P here xs)
+each_alike P is [] = tt
+each_alike P is (x ∷ xs) = (is, each_alike P is xs)
+
+-- an item of a list of lists
+pub flat_map_in : {X Y : Type 0} (f : X → List Y) (xs : List X) (y : Y) → Contains (flat_map f xs) y
+    → (x : X) × Contains xs x × Contains (f x) y
+flat_map_in f [] y is_in = absurd (none_in y is_in)
+flat_map_in f (x ∷ xs) y is_in =
+    elim (Contains-append_cases (f x) (flat_map f xs) y is_in) [
+      | inl first ↦ (x, here x xs, first)
+      | inr later ↦ let in_rest = flat_map_in f xs y later in (in_rest.0, there x xs in_rest.0 in_rest.1, in_rest.2)
+    ]
+
+-- An item of a list that rises is what is found at its key.
+pub find-itself : {X K : Type 0} {R : K → K → Ordering} → IsTotalOrder R → (key : X → K) (E : K → K → Bool)
+    → ((a b : K) → E a b ≡ is_eq (R a b)) → (xs : List X) (x : X) → Rises R key xs → Contains xs x
+    → find (λ y. E (key y) (key x)) xs ≡ Some x
+find-itself {R = R} o key E ties xs x rises is_in =
+    let p = parts xs x is_in in
+    let tie = tied_itself o (key x) in
+    ap (find (λ y. E (key y) (key x))) p.2
+    ∙ find-there o key E ties (key x) p.0 p.1 x
+    (Splits-around o key (key x) p.0 p.1 x (subst (Rises R key) p.2 rises) tie) tie
+
+-- So is a record of a numbered text, at its number.
+pub line_at-itself : (text : Lines) (line : List ℕ) → IsNumbered text → Contains text line
+    → line_at text (number_of line) ≡ Some line
+line_at-itself text line numbered = among 0 text (Rises-numbered text numbered)
+  where
+    above : (least : ℕ) (text : Lines) → LinesRise least text → Contains text line → least ≤ number_of line
+    above least [] rises is_in = absurd (none_in line is_in)
+    above least (x ∷ xs) rises is_in = elim (here_or x xs line is_in) [
+      | inl first ↦ subst (λ l. least ≤ number_of l) first rises.0
+      | inr later ↦ let rest = above (number_of x + 1) xs rises.1 later in omega (arith, rest, rises.0)
+    ]
+
+    among : (least : ℕ) (text : Lines) → LinesRise least text → Contains text line
+        → line_at text (number_of line) ≡ Some line
+    among least [] rises is_in = absurd (none_in line is_in)
+    among least (x ∷ xs) rises is_in = elim (here_or x xs line is_in) [
+      | inl first ↦ subst (λ l. line_at (x ∷ xs) (number_of l) ≡ Some l) first (line_at-head x xs)
+      | inr later ↦
+          let over = above (number_of x + 1) xs rises.1 later in
+          line_at-tail x xs (number_of line) (λ e. omega (arith, e, over)) ∙ among (number_of x + 1) xs rises.1 later
+    ]
