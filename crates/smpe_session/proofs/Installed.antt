@@ -165,9 +165,8 @@ module _ (date : Text) (files : Files) (i : Install) (s : State) (at : Session) 
   )
 
   install-inventory : IsInventory (kept s) → IsInventory (kept (with_zone s name new))
-  install-inventory is = apply_kept (kept s) name zone new None sel bypass date plan.printed plan.dated is
-      target.is_there
-      (subst (λ g. InstallsSelected g zone None sel bypass date new plan.printed) here.global plan.installs)
+  install-inventory is = apply_kept (kept s) name zone new None sel bypass date plan.printed is target.is_there
+      (subst (λ g. InstallsSelected g zone None sel bypass date new plan.printed) here.global plan.installs) plan.dated
 
   -- what a commit of the change asks for
   pub install-commits : {Committed : Type 0} → IsInventory (kept s)
