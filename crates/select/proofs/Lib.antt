@@ -2,6 +2,8 @@ pub mod Kept
 pub mod Flat
 pub mod Adds
 pub mod Opened
+pub mod Applied
+pub mod ErrorReasons
 pub mod Needs
 pub mod Fmids
 pub mod Starts

@@ -5,6 +5,7 @@
 //! under GROUPEXTEND a look at those that name an id which is asked for.
 #![tactic(auto)]
 
+mod asking;
 mod chosen;
 mod filters;
 mod growing;
