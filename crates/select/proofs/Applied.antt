@@ -1,6 +1,6 @@
 -- The ids that are applied in a zone.
-use Rattle.std.proofs.Common.{◌≡◌, Bool, true, false, List, [], ◌∷◌, map, filter, find, is_some, Option, None, Some, Contains}
-use Rattle.std.proofs.Common.{IsTrue, All, AllPairs, refl, sym, subst, ap, ◌∙◌, ◌↔◌, true≢false, inl, inr}
+use Rattle.std.proofs.Common.{◌≡◌, Bool, false, List, [], ◌∷◌, filter, find, is_some, Option, None, Some, Contains}
+use Rattle.std.proofs.Common.{IsTrue, refl, sym, subst, ap, ◌∙◌, ◌↔◌, true≢false, inl, inr}
 use Rattle.std.specs.Option.{option_map_or}
 use Rattle.std.specs.Ordering.{is_lt, nat_cmp}
 use Rattle.std.specs.Cmp.Lexicographic.{slice_cmp}

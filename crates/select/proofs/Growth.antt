@@ -25,8 +25,10 @@ use Rattle.select.specs.Growing.{superseders, next_asked, asked_first}
 use Rattle.select.proofs.Applied.{AppliedAre}
 use Rattle.select.proofs.Flat.{flat_in, in_flat}
 use Rattle.select.proofs.Opened.{open_parts}
-use Rattle.select.proofs.Needs.{Asks, asks_from, asks_needed, asks_asked, asks_with, asks_more, needed_asked, reason_asked}
-use Rattle.select.proofs.Needs.{needed_for, grower_states, asked_brought, IsCalledFor, brought_called, super_listed}
+use Rattle.select.proofs.Needs.{Asks, asks_from, asks_needed, asks_asked, asks_with, asks_more, needed_asked}
+use Rattle.select.proofs.Needs.{reason_asked, needed_for}
+use Rattle.select.proofs.Listed.{super_listed}
+use Rattle.select.proofs.Brought.{grower_states, asked_brought, IsCalledFor, brought_called}
 
 -- a list of what one has, and behind it another
 pub joined : (ids all start keys grown : List Id) → all ≡ start ++ keys → keys ≡ grown
@@ -56,7 +58,7 @@ with_one : (p q : Id → Bool) (xs : List Id) (d z : Id) → IsTrue (p z || (is_
 with_one p q xs d z h = elim (or_cases (p z) (is_in (xs ++ d ∷ []) z && q z) h) [
   | inl first ↦ inl (or_left (p z) (is_in xs z && q z) first)
   | inr both ↦ let parts = and_parts (is_in (xs ++ d ∷ []) z) (q z) both in by parts.1
-    (Contains-push_cases xs d z (Contains-from_is_in (xs ++ d ∷ []) z parts.0))
+      (Contains-push_cases xs d z (Contains-from_is_in (xs ++ d ∷ []) z parts.0))
 ]
   where
     by : IsTrue (q z) → Contains xs z ⊎ (d ≡ z) → IsTrue (p z || (is_in xs z && q z)) ⊎ ((d ≡ z) × IsTrue (q d))
@@ -268,7 +270,8 @@ module _ (g : Global) (zone : Zone) (sel : Selection) where
         by : Asks g zone sel (taken_up g zone sel (take n old)) x z
             ⊎ ((f : Id) × IsTrue (taken_up g zone sel done f) × (taken_up g zone sel (take n old) f ≡ false)
             × IsTrue (not (is_supplied zone z)) × Contains (if_reqs c (bytes_eq f) x) z) → Contains new z
-        by (inl same) = stays z (has.asked x z grows (asks_asked g zone sel (taken_up g zone sel (take n old)) x z same))
+        by (inl same) = stays z
+            (has.asked x z grows (asks_asked g zone sel (taken_up g zone sel (take n old)) x z same))
         by (inr (f, taken, other, is_free, within)) =
             elim (with_one (is_start g zone sel) (is_open g zone sel) (take n old) d f taken) [
               | inl was ↦ absurd (true≢false (sym was ∙ other))

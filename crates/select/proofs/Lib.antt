@@ -5,6 +5,8 @@ pub mod Opened
 pub mod Applied
 pub mod ErrorReasons
 pub mod Needs
+pub mod Listed
+pub mod Brought
 pub mod Fmids
 pub mod Starts
 pub mod Growth

@@ -137,11 +137,7 @@ fn append_if_for(function: Id, condition: &IfReq, found: &mut Vec<Id>) -> Result
     append_if(function == condition.function, condition, found)
 }
 
-fn append_all_for(
-    function: Id,
-    conditions: &[IfReq],
-    found: &mut Vec<Id>,
-) -> Result<(), AllocError>
+fn append_all_for(function: Id, conditions: &[IfReq], found: &mut Vec<Id>) -> Result<(), AllocError>
     ensures { OnOk result (found.new.items ≡ found.old.items ++ reqs_if (bytes_eq function) conditions.now) }
 {
     for condition in conditions {

@@ -1,4 +1,7 @@
 //! What GROUP and GROUPEXTEND ask for beside the start.
+//! The search goes once through the ids that are asked for, open or not, and each brings others. A requisite by `++IF`
+//! has two premises, that one SYSMOD grows and that a function is a candidate: it is asked for when the later of the
+//! two is met.
 ghost use Rattle.std.specs.Prelude.{◌≡◌, ◌++◌, ◌↔◌, [], filter, Contains, IsTrue, IfOk, OnOk, if◌then◌else◌};
 ghost use Rattle.std.specs.List.{flat_map};
 ghost use Rattle.terms.specs.Types.{Id as AnId};
