@@ -1,38 +1,13 @@
 -- How the ids that are seen grow, by one test and one list after the other.
-use Rattle.std.proofs.Common.{◌≡◌, ℕ, ◌<◌, ◌+◌, inl, inr, Bool, true, false, List, [], ◌∷◌, ◌++◌, length, take, get_or}
-use Rattle.std.proofs.Common.{filter, cond, if◌then◌else◌, sym, subst, ap, ◌∙◌, append_assoc}
+use Rattle.std.proofs.Common.{◌≡◌, ℕ, ◌<◌, ◌+◌, inl, inr, List, [], ◌∷◌, ◌++◌, length, take, get_or}
+use Rattle.std.proofs.Common.{sym, subst, ap, ◌∙◌, append_assoc}
 use Rattle.std.specs.List.{flat_map}
-use Rattle.std.specs.Str.{bytes_eq}
 use Rattle.std.proofs.lemmas.List.{append-nil, take_more}
 use Rattle.std.proofs.lemmas.List.Elements.{Contains-append_left, Contains-append_right, Contains-append_cases}
 use Rattle.std.proofs.lemmas.Grind.{flat_map-append}
 use Rattle.terms.specs.Types.{Id}
-use Rattle.indexmap.specs.IndexSet.{insert_key}
 use Rattle.sysmods_paths.specs.Seen.{AddsAll}
-use Rattle.sysmods_paths.proofs.Growth.{adds-none, adds-insert, adds-keeps}
-use Rattle.select.proofs.Kept.{filter_next}
-
--- the next of a list is inserted, if it passes
-pub adds-if : (p : Id → Bool) (old start seen new : List Id) (i : ℕ) (x : Id) → i < length start → x ≡ get_or start i x
-    → new ≡ (if p x then insert_key bytes_eq seen x else seen) → AddsAll old (filter p (take i start)) seen
-    → AddsAll old (filter p (take (i + 1) start)) new
-adds-if p old start seen new i x below at is adds =
-    subst (λ named. AddsAll old named new) (sym (filter_next p start i x below at))
-    (subst (AddsAll old _) (sym is) (by (p x)))
-  where
-    by : (b : Bool) → AddsAll old (filter p (take i start) ++ cond b (x ∷ []) [])
-        (if b then insert_key bytes_eq seen x else seen)
-    by true = adds-insert old (filter p (take i start)) seen x adds
-    by false = subst (λ named. AddsAll old named seen) (sym (append-nil (filter p (take i start)))) adds
-
--- one id is inserted, if it passes
-pub adds-one : (p : Id → Bool) (old new : List Id) (x : Id) → new ≡ (if p x then insert_key bytes_eq old x else old)
-    → AddsAll old (filter p (x ∷ [])) new
-adds-one p old new x is = subst (AddsAll old _) (sym is) (by (p x))
-  where
-    by : (b : Bool) → AddsAll old (cond b (x ∷ []) []) (if b then insert_key bytes_eq old x else old)
-    by true = adds-insert old [] old x (adds-none old)
-    by false = adds-none old
+use Rattle.sysmods_paths.proofs.Growth.{adds-keeps}
 
 -- one list and then another
 pub adds-append : (old mid new xs ys : List Id) → AddsAll old xs mid → AddsAll mid ys new → AddsAll old (xs ++ ys) new

@@ -1,28 +1,34 @@
 -- The ids that are asked for, as a search finds them, and the candidates.
-use Rattle.std.proofs.Common.{◌≡◌, ℕ, ◌<◌, ◌≤◌, ◌+◌, ◌⊎◌, inl, inr, Bool, true, false, ◌||◌, List, [], ◌∷◌, ◌++◌}
-use Rattle.std.proofs.Common.{length, get_or, filter, Contains, IsTrue, All}
-use Rattle.std.proofs.Common.{if◌then◌else◌, refl, sym, subst, ap, ◌∙◌, ◌↔◌}
+use Rattle.std.proofs.Common.{◌≡◌, ℕ, ◌<◌, ◌≤◌, ◌+◌, ◌⊎◌, inl, inr, Bool, true, false, not, ◌&&◌, ◌||◌, List, [], ◌∷◌}
+use Rattle.std.proofs.Common.{◌++◌, length, length-append, take, drop, get_or, filter, Contains, IsTrue, All, arith}
+use Rattle.std.proofs.Common.{if◌then◌else◌, refl, sym, subst, ap, ◌∙◌, ◌↔◌, true≢false}
 use Rattle.std.specs.List.{flat_map}
+use Rattle.std.specs.Str.{bytes_eq}
 use Rattle.std.proofs.lemmas.Bool.{and_parts, and_from, or_cases, or_left, or_right}
+use Rattle.std.proofs.lemmas.List.{take_more, take_all, take-append-drop}
 use Rattle.std.proofs.lemmas.List.Elements.{Contains-get_or, Contains-append_left, Contains-append_right}
-use Rattle.std.proofs.lemmas.List.Elements.{Contains-append_cases}
+use Rattle.std.proofs.lemmas.List.Elements.{Contains-append_cases, Contains-push_cases}
 use Rattle.terms.specs.Types.{Id, Global, Zone, Selection}
-use Rattle.terms.specs.Lookups.{is_in, IsRising}
+use Rattle.terms.specs.Lookups.{is_in, is_supplied, IsRising}
 use Rattle.terms.specs.Choice.{Choice, by_srel, sup_of}
 use Rattle.terms.specs.Over.{Leads, Supersedes}
-use Rattle.terms.specs.Global.{named}
-use Rattle.terms.specs.Candidates.{is_installable, is_open, is_start, is_growing_start, is_mass_chosen}
+use Rattle.terms.specs.Candidates.{is_installable, is_open, is_start, is_growing_start, is_mass_chosen, if_reqs}
 use Rattle.terms.specs.Candidates.{needed_ids, open_reasons, Extends, BringsIn, IsClosedPair, AreCandidates}
 use Rattle.terms.proofs.Ids.{is_in-from_Contains, Contains-from_is_in}
 use Rattle.terms.proofs.Leads.{reaches_named, reaches_last}
-use Rattle.lemmas.proofs.Members.{none_in, filter_in, in_filter}
-use Rattle.sysmods_paths.specs.Seen.{AddsAll, IsGoing}
-use Rattle.sysmods_paths.proofs.Going.{going-start, going-next, going-end}
+use Rattle.lemmas.proofs.Members.{none_in, here, filter_in, in_filter}
+use Rattle.sysmods_paths.specs.Seen.{AddsAll}
+use Rattle.sysmods_paths.proofs.Growth.{adds-keeps, adds-cases, take-adds}
 use Rattle.sysmods_received.specs.Namers.{namers_for}
-use Rattle.select.specs.Growing.{WillDo, IsAsked, asked_by, superseders, next_asked, asked_first, AreAsked}
+use Rattle.select.specs.Growing.{WillDo, IsAsked, taken_up, has_grown, asked_by, HasAsked, AreAsked, brought_by}
+use Rattle.select.specs.Growing.{superseders, next_asked, asked_first}
+use Rattle.select.proofs.Applied.{AppliedAre}
 use Rattle.select.proofs.Flat.{flat_in, in_flat}
 use Rattle.select.proofs.Opened.{open_parts}
-use Rattle.select.proofs.Needs.{needed_asked, asked_needed, super_listed}
+use Rattle.select.proofs.Needs.{Asks, asks_from, asks_needed, asks_asked, asks_with, asks_more, needed_asked}
+use Rattle.select.proofs.Needs.{reason_asked, needed_for}
+use Rattle.select.proofs.Listed.{super_listed}
+use Rattle.select.proofs.Brought.{grower_states, asked_brought, IsCalledFor, brought_called}
 
 -- a list of what one has, and behind it another
 pub joined : (ids all start keys grown : List Id) → all ≡ start ++ keys → keys ≡ grown
@@ -34,6 +40,31 @@ joined ids all start keys grown parts same both x = subst (λ xs. Contains ids x
 -- what is kept of a list that is another
 pub kept_of : (p : Id → Bool) (kept xs ys : List Id) → kept ≡ filter p xs → xs ≡ ys → kept ≡ filter p ys
 kept_of p kept xs ys is same = is ∙ ap (filter p) same
+
+-- one that passes, or is in a list and passes another test, does so with a list that has more
+with_more : (p q : Id → Bool) (xs ys : List Id) (z : Id) → (Contains xs z → Contains ys z)
+    → IsTrue (p z || (is_in xs z && q z)) → IsTrue (p z || (is_in ys z && q z))
+with_more p q xs ys z more h = elim (or_cases (p z) (is_in xs z && q z) h) [
+  | inl first ↦ or_left (p z) (is_in ys z && q z) first
+  | inr both ↦ (
+      let parts = and_parts (is_in xs z) (q z) both in
+      or_right (p z) (is_in ys z && q z) (and_from (is_in ys z) (q z)
+      (is_in-from_Contains ys z (more (Contains-from_is_in xs z parts.0))) parts.1))
+]
+
+-- with a list that has one more, it does so as before, or is that one
+with_one : (p q : Id → Bool) (xs : List Id) (d z : Id) → IsTrue (p z || (is_in (xs ++ d ∷ []) z && q z))
+    → IsTrue (p z || (is_in xs z && q z)) ⊎ ((d ≡ z) × IsTrue (q d))
+with_one p q xs d z h = elim (or_cases (p z) (is_in (xs ++ d ∷ []) z && q z) h) [
+  | inl first ↦ inl (or_left (p z) (is_in xs z && q z) first)
+  | inr both ↦ let parts = and_parts (is_in (xs ++ d ∷ []) z) (q z) both in by parts.1
+      (Contains-push_cases xs d z (Contains-from_is_in (xs ++ d ∷ []) z parts.0))
+]
+  where
+    by : IsTrue (q z) → Contains xs z ⊎ (d ≡ z) → IsTrue (p z || (is_in xs z && q z)) ⊎ ((d ≡ z) × IsTrue (q d))
+    by passes (inl was) = inl (or_right (p z) (is_in xs z && q z) (and_from (is_in xs z) (q z)
+        (is_in-from_Contains xs z was) passes))
+    by passes (inr same) = inr (same, subst (λ w. IsTrue (q w)) (sym same) passes)
 
 module _ (g : Global) (zone : Zone) (sel : Selection) where
   abbrev c : Choice
@@ -47,22 +78,36 @@ module _ (g : Global) (zone : Zone) (sel : Selection) where
       → IsTrue (is_start g zone sel x) × IsTrue (sel.groupextend || is_in sel.group x)
   growing_starts x grows = and_parts (is_start g zone sel x) (sel.groupextend || is_in sel.group x) grows
 
-  -- what an id that grows in every closed pair asks for is asked for
-  grower_asks : (x z : Id)
-      → ((cands growing : Id → Bool) → IsClosedPair g c zone sel cands growing → IsTrue (growing x))
-      → Contains (asked_by g zone x) z → IsAsked g zone sel z
-  grower_asks x z grows asks cands growing closed y opened will =
-      closed.grown x y (grows cands growing closed) (opened, by will)
-    where
-      needed : Contains (needed_ids g c zone cands x) z
-      needed = asked_needed g zone cands x z asks
+  -- it grows in every closed pair
+  abbrev AlwaysGrows : Id → Type 0
+  AlwaysGrows x = (cands growing : Id → Bool) → IsClosedPair g c zone sel cands growing → IsTrue (growing x)
 
-      by : WillDo c sel y z
+  -- it is needed by x, or an open reason that x brings in
+  abbrev IsWanted : (Id → Bool) → Id → Id → Type 0
+  IsWanted cands x z =
+      Contains (needed_ids g c zone cands x) z ⊎ (IsTrue sel.groupextend × Contains (open_reasons g zone x) z)
+
+  -- what one that grows wants in every closed pair is asked for
+  wanted_asked : (x z : Id) → AlwaysGrows x
+      → ((cands growing : Id → Bool) → IsClosedPair g c zone sel cands growing → IsWanted cands x z)
+      → IsAsked g zone sel z
+  wanted_asked x z grows wants cands growing closed y opened will =
+      closed.grown x y (grows cands growing closed) (opened, by (wants cands growing closed) will)
+    where
+      by : IsWanted cands x z → WillDo c sel y z
           → Contains (needed_ids g c zone cands x) y ⊎ (IsTrue sel.groupextend × Extends g c zone cands x y)
-      by (inl same) = inl (subst (Contains (needed_ids g c zone cands x)) (sym same) needed)
-      by (inr (extend, over)) = inr (
+      by (inl needed) (inl same) = inl (subst (Contains (needed_ids g c zone cands x)) (sym same) needed)
+      by (inl needed) (inr (extend, over)) = inr (
         extend,
         (z, Contains-append_left (needed_ids g c zone cands x) (open_reasons g zone x) z needed, inr over),
+      )
+      by (inr (extend, reason)) (inl same) = inr (
+        extend,
+        (z, Contains-append_right (needed_ids g c zone cands x) (open_reasons g zone x) z reason, inl same),
+      )
+      by (inr (extend, reason)) (inr (_, over)) = inr (
+        extend,
+        (z, Contains-append_right (needed_ids g c zone cands x) (open_reasons g zone x) z reason, inr over),
       )
 
   -- one that supersedes what is asked for is asked for
@@ -83,67 +128,203 @@ module _ (g : Global) (zone : Zone) (sel : Selection) where
           over y (inl same) = subst (λ w. Supersedes c w z) (sym same) (reaches_named (sup_of c) x z names)
           over y (inr (_, higher)) = reaches_last (sup_of c) y x z higher names
 
-  -- what an id that is asked for brings along is asked for
-  asked_next : (z w : Id) → IsAsked g zone sel z → Contains (next_asked g zone sel z) w → IsAsked g zone sel w
-  asked_next z w asks h =
-      elim (Contains-append_cases (if is_open g zone sel z then asked_by g zone z else []) (superseders g zone sel z) w h)
-      [ inl own ↦ by (is_open g zone sel z) refl own | inr over ↦ over_asked w z asks over ]
-    where
-      by : (b : Bool) → is_open g zone sel z ≡ b → Contains (if b then asked_by g zone z else []) w
-          → IsAsked g zone sel w
-      by false e none = absurd (none_in w none)
-      by true e there = grower_asks z w (λ cands growing closed. asks cands growing closed z e (inl refl)) there
+  -- what supersedes an id directly is among those that are asked for once it is
+  superseder_listed : (y z : Id) → IsTrue sel.groupextend → Contains (sup_of c y) z
+      → Contains (superseders g zone sel z) y
+  superseder_listed y z extend names =
+      subst (λ b. Contains (if b then filter (λ y. is_in (sup_of c y) z) (namers_for g.sysmods zone.srel z) else []) y)
+      (sym extend) (in_filter (λ y. is_in (sup_of c y) z) (namers_for g.sysmods zone.srel z) y
+      (super_listed g zone.srel y z names) (is_in-from_Contains (sup_of c y) z names))
 
-  -- what one of the start asks for is asked for
-  first_asked : (x z : Id) → IsTrue (is_start g zone sel x) → Contains (asked_first g zone sel x) z
+  -- Where ids are asked for, what one of them brings is.
+  module _ (seen : List Id) (sound : (z : Id) → Contains seen z → IsAsked g zone sel z) where
+    asked_grows : (x : Id) → IsTrue (is_in seen x && is_open g zone sel x) → AlwaysGrows x
+    asked_grows x h cands growing closed =
+        let parts = and_parts (is_in seen x) (is_open g zone sel x) h in
+        sound x (Contains-from_is_in seen x parts.0) cands growing closed x parts.1 (inl refl)
+
+    grown_grows : (x : Id) → IsTrue (has_grown g zone sel seen x) → AlwaysGrows x
+    grown_grows x h cands growing closed =
+        elim (or_cases (is_growing_start g zone sel x) (is_in seen x && is_open g zone sel x) h) [
+          | inl first ↦ closed.growing_start x first
+          | inr asked ↦ asked_grows x asked cands growing closed
+        ]
+
+    taken_candidate : (x : Id) → IsTrue (taken_up g zone sel seen x) → (cands growing : Id → Bool)
+        → IsClosedPair g c zone sel cands growing → IsTrue (cands x)
+    taken_candidate x h cands growing closed =
+        elim (or_cases (is_start g zone sel x) (is_in seen x && is_open g zone sel x) h) [
+          | inl start ↦ closed.start x start
+          | inr asked ↦ closed.part x (asked_grows x asked cands growing closed)
+        ]
+
+    brought_asked : AppliedAre zone → (x z : Id) → AlwaysGrows x → Contains (brought_by g zone sel seen x) z
+        → IsAsked g zone sel z
+    brought_asked applied x z grows h = by (brought_called g zone sel seen x applied z h)
+      where
+        by : IsCalledFor g zone sel seen x z → IsAsked g zone sel z
+        by (inl asks) = wanted_asked x z grows (λ cands growing closed. asks_needed g zone sel cands x z
+            (asks_more g zone sel (taken_up g zone sel seen) cands x z
+            (λ f taken. taken_candidate f taken cands growing closed) asks))
+        by (inr (y, y_grows, is_free, within)) =
+            wanted_asked y z (grown_grows y y_grows) (λ cands growing closed. inl (needed_for g zone sel cands x y z
+            (closed.part x (grows cands growing closed)) is_free within))
+
+    asked_next : AppliedAre zone → (z w : Id) → IsAsked g zone sel z → Contains (next_asked g zone sel seen z) w
+        → IsAsked g zone sel w
+    asked_next applied z w asks h =
+        elim (Contains-append_cases (if is_open g zone sel z then brought_by g zone sel seen z else [])
+        (superseders g zone sel z) w h)
+        [ inl own ↦ by (is_open g zone sel z) refl own | inr over ↦ over_asked w z asks over ]
+      where
+        by : (b : Bool) → is_open g zone sel z ≡ b → Contains (if b then brought_by g zone sel seen z else []) w
+            → IsAsked g zone sel w
+        by false e none = absurd (none_in w none)
+        by true e there = brought_asked applied z w (λ cands growing closed. asks cands growing closed z e (inl refl))
+            there
+
+  none_asked : (z : Id) → Contains {X = Id} [] z → IsAsked g zone sel z
+  none_asked z none = absurd (none_in z none)
+
+  -- what one of the start brings is asked for
+  first_asked : AppliedAre zone → (x z : Id) → IsTrue (is_start g zone sel x) → Contains (asked_first g zone sel x) z
       → IsAsked g zone sel z
-  first_asked x z start h = by (sel.groupextend || is_in sel.group x) refl h
+  first_asked applied x z start h = by (sel.groupextend || is_in sel.group x) refl h
     where
-      by : (b : Bool) → (sel.groupextend || is_in sel.group x) ≡ b → Contains (if b then asked_by g zone x else []) z
+      by : (b : Bool) → (sel.groupextend || is_in sel.group x) ≡ b
+          → Contains (if b then brought_by g zone sel [] x else []) z
           → IsAsked g zone sel z
       by false e none = absurd (none_in z none)
-      by true e there = grower_asks x z (λ cands growing closed. closed.growing_start x
+      by true e there = brought_asked [] none_asked applied x z (λ cands growing closed. closed.growing_start x
           (and_from (is_start g zone sel x) (sel.groupextend || is_in sel.group x) start e)) there
 
-  asks_first : (x z : Id) → IsTrue (is_growing_start g zone sel x) → Contains (asked_by g zone x) z
+  brought_first : (x z : Id) → IsTrue (is_growing_start g zone sel x) → Contains (brought_by g zone sel [] x) z
       → Contains (asked_first g zone sel x) z
-  asks_first x z grows asks = subst (λ b. Contains (if b then asked_by g zone x else []) z)
-      (sym (growing_starts x grows).1) asks
-
-  abbrev Begins : Id → Type 0
-  Begins z = (x : Id) × IsTrue (is_growing_start g zone sel x) × Contains (asked_by g zone x) z
+  brought_first x z grows brought = subst (λ b. Contains (if b then brought_by g zone sel [] x else []) z)
+      (sym (growing_starts x grows).1) brought
 
   -- the search has seen these ids and gone through the first n of them
-  abbrev pub IsGrowth : List Id → ℕ → Type 0
-  IsGrowth seen n = IsGoing (next_asked g zone sel) Begins (IsAsked g zone sel) seen n
+  pub record IsGrowth (seen : List Id) (n : ℕ) : Type 0 where
+    pub within : n ≤ length seen
+    pub has : HasAsked g zone sel (take n seen) seen
 
-  pub growth-start : (start seen : List Id) → ((x : Id) → Contains start x ↔ IsTrue (is_start g zone sel x))
+  pub growth-start : AppliedAre zone → (start seen : List Id)
+      → ((x : Id) → Contains start x ↔ IsTrue (is_start g zone sel x))
       → AddsAll [] (flat_map (asked_first g zone sel) start) seen → IsGrowth seen 0
-  growth-start start seen starts adds =
-      going-start (next_asked g zone sel) _ _ (flat_map (asked_first g zone sel) start) seen belongs begins adds
+  growth-start applied start seen starts adds = record {
+    within = omega arith;
+    has = record {
+      sound = λ z h. elim (adds-cases [] (flat_map (asked_first g zone sel) start) seen adds z h) [
+        | inl none ↦ none_asked z none
+        | inr there ↦ (
+            let from = flat_in (asked_first g zone sel) start z there in
+            first_asked applied from.0 z ((starts from.0).0 from.1) from.2)
+      ];
+      asked = λ x z grows asks. adds.has z (in_flat (asked_first g zone sel) start x z
+          ((starts x).1 (growing_starts x (first x grows)).0)
+          (brought_first x z (first x grows) (asked_brought g zone sel [] x applied z
+          (asks_from g zone sel (taken_up g zone sel []) x z asks))));
+      over = λ y z extend none names. absurd (none_in z none);
+    };
+  }
     where
-      belongs : (z : Id) → Contains (flat_map (asked_first g zone sel) start) z → IsAsked g zone sel z
-      belongs z there =
-          let from = flat_in (asked_first g zone sel) start z there in
-          first_asked from.0 z ((starts from.0).0 from.1) from.2
+      first : (x : Id) → IsTrue (has_grown g zone sel [] x) → IsTrue (is_growing_start g zone sel x)
+      first x h = elim (or_cases (is_growing_start g zone sel x) false h)
+          [ inl grows ↦ grows | inr none ↦ absurd (true≢false (sym none)) ]
 
-      begins : (z : Id) → Begins z → Contains (flat_map (asked_first g zone sel) start) z
-      begins z (x, grows, asks) =
-          in_flat (asked_first g zone sel) start x z ((starts x).1 (growing_starts x grows).0) (asks_first x z grows asks)
+  -- It goes through one more.
+  module _ (applied : AppliedAre zone) (old new : List Id) (n : ℕ) (d : Id) (below : n < length old)
+      (at : d ≡ get_or old n d) (adds : AddsAll old (next_asked g zone sel old d) new)
+      (has : HasAsked g zone sel (take n old) old) where
+    abbrev done : List Id
+    done = take n old ++ d ∷ []
 
-  -- it goes through one more
-  pub growth-next : (old new : List Id) (n : ℕ) (x : Id) → n < length old → x ≡ get_or old n x
-      → AddsAll old (next_asked g zone sel x) new → IsGrowth old n → IsGrowth new (n + 1)
-  growth-next old new n x below at adds s =
-      going-next (next_asked g zone sel) _ _ asked_next old new n x below at adds s
+    done_is : take (n + 1) old ≡ done
+    done_is = take_more old n d below ∙ ap (λ w. take n old ++ w ∷ []) (sym at)
+
+    done_seen : (z : Id) → Contains done z → Contains old z
+    done_seen z h = subst (λ xs. Contains xs z) (take-append-drop (n + 1) old)
+        (Contains-append_left (take (n + 1) old) (drop (n + 1) old) z (subst (λ xs. Contains xs z) (sym done_is) h))
+
+    was_seen : (z : Id) → Contains (take n old) z → Contains old z
+    was_seen z h = done_seen z (Contains-append_left (take n old) (d ∷ []) z h)
+
+    d_seen : Contains old d
+    d_seen = done_seen d (Contains-append_right (take n old) (d ∷ []) d (here d []))
+
+    stays : (z : Id) → Contains old z → Contains new z
+    stays = adds-keeps old (next_asked g zone sel old d) new adds
+
+    brought_in : IsTrue (is_open g zone sel d) → (z : Id) → Contains (brought_by g zone sel old d) z → Contains new z
+    brought_in opened z h = adds.has z
+        (Contains-append_left (if is_open g zone sel d then brought_by g zone sel old d else []) (superseders g zone sel
+        d) z (subst (λ b. Contains (if b then brought_by g zone sel old d else []) z) (sym opened) h))
+
+    -- what one that had grown before asks for by now
+    before : (x z : Id) → IsTrue (has_grown g zone sel (take n old) x)
+        → Contains (asked_by g zone sel (taken_up g zone sel done) x) z → Contains new z
+    before x z grows asks =
+        by (asks_with g zone sel (taken_up g zone sel done) (taken_up g zone sel (take n old)) x z
+        (asks_from g zone sel (taken_up g zone sel done) x z asks))
+      where
+        by : Asks g zone sel (taken_up g zone sel (take n old)) x z
+            ⊎ ((f : Id) × IsTrue (taken_up g zone sel done f) × (taken_up g zone sel (take n old) f ≡ false)
+            × IsTrue (not (is_supplied zone z)) × Contains (if_reqs c (bytes_eq f) x) z) → Contains new z
+        by (inl same) = stays z
+            (has.asked x z grows (asks_asked g zone sel (taken_up g zone sel (take n old)) x z same))
+        by (inr (f, taken, other, is_free, within)) =
+            elim (with_one (is_start g zone sel) (is_open g zone sel) (take n old) d f taken) [
+              | inl was ↦ absurd (true≢false (sym was ∙ other))
+              | inr (same, opened) ↦ brought_in opened z (grower_states g zone sel old d x z
+                  (with_more (is_growing_start g zone sel) (is_open g zone sel) (take n old) old x (was_seen x) grows)
+                  is_free (subst (λ w. Contains (if_reqs c (bytes_eq w) x) z) (sym same) within))
+            ]
+
+    -- what it asks for itself
+    itself : IsTrue (is_open g zone sel d) → (z : Id) → Contains (asked_by g zone sel (taken_up g zone sel done) d) z
+        → Contains new z
+    itself opened z asks = brought_in opened z (asked_brought g zone sel old d applied z
+        (asks_more g zone sel (taken_up g zone sel done) (taken_up g zone sel old) d z
+        (λ f. with_more (is_start g zone sel) (is_open g zone sel) done old f (done_seen f))
+        (asks_from g zone sel (taken_up g zone sel done) d z asks)))
+
+    has_more : HasAsked g zone sel done new
+    has_more = record {
+      sound = λ z h. elim (adds-cases old (next_asked g zone sel old d) new adds z h) [
+        | inl was ↦ has.sound z was
+        | inr named ↦ asked_next old has.sound applied d z (has.sound d d_seen) named
+      ];
+      asked = λ x z grows asks.
+          elim (with_one (is_growing_start g zone sel) (is_open g zone sel) (take n old) d x grows) [
+            | inl was ↦ before x z was asks
+            | inr (same, opened) ↦ itself opened z
+                (subst (λ w. Contains (asked_by g zone sel (taken_up g zone sel done) w) z) (sym same) asks)
+          ];
+      over = λ y z extend there names. elim (Contains-push_cases (take n old) d z there) [
+        | inl was ↦ stays y (has.over y z extend was names)
+        | inr same ↦ adds.has y (Contains-append_right
+            (if is_open g zone sel d then brought_by g zone sel old d else []) (superseders g zone sel d) y
+            (superseder_listed y d extend (subst (Contains (sup_of c y)) (sym same) names)))
+      ];
+    }
+
+    more_within : n + 1 ≤ length new
+    more_within = omega (arith, ap length adds.kept ∙ length-append old adds.added)
+
+    more_done : take (n + 1) new ≡ done
+    more_done = take-adds old (next_asked g zone sel old d) new (n + 1) adds (omega arith) ∙ done_is
+
+  pub growth-next : AppliedAre zone → (old new : List Id) (n : ℕ) (x : Id) → n < length old → x ≡ get_or old n x
+      → AddsAll old (next_asked g zone sel old x) new → IsGrowth old n → IsGrowth new (n + 1)
+  growth-next applied old new n x below at adds s = record {
+    within = more_within applied old new n x below at adds s.has;
+    has = subst (λ xs. HasAsked g zone sel xs new) (sym (more_done applied old new n x below at adds s.has))
+        (has_more applied old new n x below at adds s.has);
+  }
 
   -- having gone through all, it has all
   pub growth-end : (seen : List Id) (n : ℕ) → length seen ≤ n → IsGrowth seen n → AreAsked g zone sel seen
-  growth-end seen n all s = record {
-    sound = s.sound;
-    first = λ x z grows asks. s.first z (x, grows, asks);
-    closed = going-end (next_asked g zone sel) _ _ seen n all s;
-  }
+  growth-end seen n all s = subst (λ xs. HasAsked g zone sel xs seen) (take_all n seen all) s.has
 
   -- The candidates are the start and what is asked for and open.
   module _ (start seen grown ids : List Id) (starts : (x : Id) → Contains start x ↔ IsTrue (is_start g zone sel x))
@@ -163,53 +344,57 @@ module _ (g : Global) (zone : Zone) (sel : Selection) where
     cases x h = elim (Contains-append_cases start grown x ((both x).0 h))
         [ inl s ↦ inl ((starts x).0 s) | inr r ↦ inr r ]
 
-    -- what grows
     abbrev grows : Id → Bool
-    grows x = is_growing_start g zone sel x || is_in grown x
+    grows x = has_grown g zone sel seen x
 
     grower : (x : Id) → IsTrue (grows x) → IsTrue (is_growing_start g zone sel x) ⊎ Contains grown x
-    grower x h = elim (or_cases (is_growing_start g zone sel x) (is_in grown x) h)
-        [ inl l ↦ inl l | inr r ↦ inr (Contains-from_is_in grown x r) ]
+    grower x h = elim (or_cases (is_growing_start g zone sel x) (is_in seen x && is_open g zone sel x) h) [
+      | inl l ↦ inl l
+      | inr r ↦ (
+          let parts = and_parts (is_in seen x) (is_open g zone sel x) r in
+          inr (in_grown x parts.1 (Contains-from_is_in seen x parts.0)))
+    ]
 
-    grows_from : (x : Id) → Contains grown x → IsTrue (grows x)
-    grows_from x h = or_right (is_growing_start g zone sel x) (is_in grown x) (is_in-from_Contains grown x h)
+    seen_open : (x : Id) → Contains seen x → IsTrue (is_open g zone sel x)
+        → IsTrue (is_in seen x && is_open g zone sel x)
+    seen_open x there open_x = and_from (is_in seen x) (is_open g zone sel x) (is_in-from_Contains seen x there) open_x
+
+    grows_from : (x : Id) → Contains seen x → IsTrue (is_open g zone sel x) → IsTrue (grows x)
+    grows_from x there open_x = or_right (is_growing_start g zone sel x) (is_in seen x && is_open g zone sel x)
+        (seen_open x there open_x)
+
+    -- each candidate is one as far as the ids are asked for
+    candidate_taken : (x : Id) → IsTrue (is_in ids x) → IsTrue (taken_up g zone sel seen x)
+    candidate_taken x h = elim (cases x (Contains-from_is_in ids x h)) [
+      | inl s ↦ or_left (is_start g zone sel x) (is_in seen x && is_open g zone sel x) s
+      | inr r ↦ or_right (is_start g zone sel x) (is_in seen x && is_open g zone sel x)
+          (seen_open x (grown_in x r).0 (grown_in x r).1)
+    ]
 
     grower_open : (x : Id) → IsTrue (grows x) → IsTrue (is_open g zone sel x)
     grower_open x h = elim (grower x h) [ inl l ↦ start_open x (growing_starts x l).0 | inr r ↦ (grown_in x r).1 ]
 
-    grower_seen : (x z : Id) → IsTrue (grows x) → Contains (asked_by g zone x) z → Contains seen z
-    grower_seen x z h asks = by (grower x h)
-      where
-        by : IsTrue (is_growing_start g zone sel x) ⊎ Contains grown x → Contains seen z
-        by (inl first) = asked.first x z first asks
-        by (inr there) =
-            let parts = grown_in x there in
-            asked.closed x z parts.0 (Contains-append_left (if is_open g zone sel x then asked_by g zone x else [])
-            (superseders g zone sel x) z
-            (subst (λ b. Contains (if b then asked_by g zone x else []) z) (sym parts.1) asks))
-
-    one_over : IsTrue sel.groupextend → (y z : Id) → Contains (sup_of c y) z → Contains seen z → Contains seen y
-    one_over extend y z names there =
-        asked.closed z y there (Contains-append_right (if is_open g zone sel z then asked_by g zone z else [])
-        (superseders g zone sel z) y
-        (subst (λ b. Contains (if b then filter (λ y. is_in (sup_of c y) z) (namers_for g.sysmods zone.srel z) else [])
-        y) (sym extend) (in_filter (λ y. is_in (sup_of c y) z) (namers_for g.sysmods zone.srel z) y
-        (super_listed g zone.srel y z names) (is_in-from_Contains (sup_of c y) z names))))
+    asked_seen : (x z : Id) → IsTrue (grows x) → Contains (asked_by g zone sel (is_in ids) x) z → Contains seen z
+    asked_seen x z h asks = asked.asked x z h (asks_asked g zone sel (taken_up g zone sel seen) x z
+        (asks_more g zone sel (is_in ids) (taken_up g zone sel seen) x z candidate_taken
+        (asks_from g zone sel (is_in ids) x z asks)))
 
     over_seen : IsTrue sel.groupextend → (y z : Id) (between : List Id) → Leads (sup_of c) y between z
         → Contains seen z → Contains seen y
-    over_seen extend y z [] names there = one_over extend y z names there
-    over_seen extend y z (w ∷ ws) leads there = one_over extend y w leads.0 (over_seen extend w z ws leads.1 there)
+    over_seen extend y z [] names there = asked.over y z extend there names
+    over_seen extend y z (w ∷ ws) leads there =
+        asked.over y w extend (over_seen extend w z ws leads.1 there) leads.0
 
-    brought_seen : (cands : Id → Bool) (x y : Id) → IsTrue (grows x) → BringsIn g c zone sel cands x y
-        → Contains seen y
-    brought_seen cands x y h (open_y, inl needed) =
-        grower_seen x y h (needed_asked g zone sel cands x y (grower_open x h) (inl needed))
-    brought_seen cands x y h (open_y, inr (extend, (z, named, way))) = by way
+    brought_seen : (x y : Id) → IsTrue (grows x) → BringsIn g c zone sel (is_in ids) x y → Contains seen y
+    brought_seen x y h (open_y, inl needed) = asked_seen x y h (needed_asked g zone sel (is_in ids) x y needed)
+    brought_seen x y h (open_y, inr (extend, (z, named, way))) = by way
       where
         there : Contains seen z
-        there = grower_seen x z h (needed_asked g zone sel cands x z (grower_open x h)
-            (Contains-append_cases (needed_ids g c zone cands x) (open_reasons g zone x) z named))
+        there = asked_seen x z h
+            (elim (Contains-append_cases (needed_ids g c zone (is_in ids) x) (open_reasons g zone x) z named) [
+              | inl needed ↦ needed_asked g zone sel (is_in ids) x z needed
+              | inr reason ↦ reason_asked g zone sel (is_in ids) x z extend reason
+            ])
 
         by : (y ≡ z) ⊎ Supersedes c y z → Contains seen y
         by (inl same) = subst (Contains seen) (sym same) there
@@ -218,13 +403,13 @@ module _ (g : Global) (zone : Zone) (sel : Selection) where
     pub least_pair : IsClosedPair g c zone sel (is_in ids) grows
     least_pair = record {
       start = λ x h. is_in-from_Contains ids x (from_start x h);
-      growing_start = λ x h. or_left (is_growing_start g zone sel x) (is_in grown x) h;
+      growing_start = λ x h. or_left (is_growing_start g zone sel x) (is_in seen x && is_open g zone sel x) h;
       part = λ x h. is_in-from_Contains ids x (elim (grower x h) [
         | inl l ↦ from_start x (growing_starts x l).0
         | inr r ↦ (both x).1 (Contains-append_right start grown x r)
       ]);
       only_open = grower_open;
-      grown = λ x y h brought. grows_from y (in_grown y brought.0 (brought_seen (is_in ids) x y h brought));
+      grown = λ x y h brought. grows_from y (brought_seen x y h brought) brought.0;
     }
 
     grown_candidate : (x : Id) → Contains grown x → (cands growing : Id → Bool)

@@ -1,7 +1,9 @@
 -- What a filter keeps, and tests of what it keeps.
 use Rattle.std.proofs.Common.{◌≡◌, ◌<◌, ◌+◌, ℕ, length, take, get_or, Bool, true, false, not, ◌&&◌, ◌||◌, List, [], ◌∷◌}
-use Rattle.std.proofs.Common.{◌++◌, map, filter, cond, refl, sym, ap, ◌∙◌}
+use Rattle.std.proofs.Common.{◌++◌, map, filter, cond, if◌then◌else◌, refl, sym, ap, ◌∙◌, append_assoc}
 use Rattle.std.specs.List.{list_all, list_any, flat_map}
+use Rattle.std.proofs.lemmas.Grind.{flat_map-append}
+use Rattle.std.proofs.lemmas.List.{append-nil}
 use Rattle.std.proofs.lemmas.List.Folds.{list_any-append}
 use Rattle.std.proofs.lemmas.List.Elements.{filter_more}
 
@@ -34,3 +36,22 @@ pub filter_next : {X : Type 0} (p : X → Bool) (xs : List X) (i : ℕ) (x : X) 
     → filter p (take (i + 1) xs) ≡ filter p (take i xs) ++ cond (p x) (x ∷ []) []
 filter_next p xs i x below at =
     filter_more p xs i x below ∙ ap (λ y. filter p (take i xs) ++ cond (p y) (y ∷ []) []) (sym at)
+
+-- what is made of what is kept so far, at one item more
+pub kept_more : {X Y : Type 0} (p : X → Bool) (f : X → List Y) (xs : List X) (i : ℕ) (x : X) → i < length xs
+    → x ≡ get_or xs i x → (old seen new : List Y) → new ≡ seen ++ (if p x then f x else [])
+    → seen ≡ old ++ flat_map f (filter p (take i xs)) → new ≡ old ++ flat_map f (filter p (take (i + 1) xs))
+kept_more p f xs i x below at old seen new more so_far =
+    more ∙ ap (λ ys. ys ++ (if p x then f x else [])) so_far
+    ∙ append_assoc old (flat_map f (filter p (take i xs))) (if p x then f x else [])
+    ∙ ap (λ ys. old ++ ys) (sym next)
+  where
+    one : (b : Bool) → flat_map f (cond b (x ∷ []) []) ≡ (if b then f x else [])
+    one true = append-nil (f x)
+    one false = refl
+
+    next : flat_map f (filter p (take (i + 1) xs))
+        ≡ flat_map f (filter p (take i xs)) ++ (if p x then f x else [])
+    next = ap (flat_map f) (filter_next p xs i x below at)
+        ∙ flat_map-append f (filter p (take i xs)) (cond (p x) (x ∷ []) [])
+        ∙ ap (λ ys. flat_map f (filter p (take i xs)) ++ ys) (one (p x))

@@ -2,7 +2,11 @@ pub mod Kept
 pub mod Flat
 pub mod Adds
 pub mod Opened
+pub mod Applied
+pub mod ErrorReasons
 pub mod Needs
+pub mod Listed
+pub mod Brought
 pub mod Fmids
 pub mod Starts
 pub mod Growth

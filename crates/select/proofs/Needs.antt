@@ -1,199 +1,205 @@
--- What a SYSMOD needs, and what is asked for by it.
-use Rattle.std.proofs.Common.{◌≡◌, ◌⊎◌, inl, inr, Bool, true, false, not, ◌||◌, List, [], ◌∷◌, ◌++◌, map, filter, find}
-use Rattle.std.proofs.Common.{Option, None, Some, Contains, IsTrue, if◌then◌else◌, refl, sym, subst, ap, ◌∙◌}
-use Rattle.std.specs.List.{list_all, flat_map}
-use Rattle.std.specs.Option.{option_map_or, option_and_then}
+-- What a SYSMOD needs, and what it asks for once it grows.
+use Rattle.std.proofs.Common.{◌≡◌, ◌⊎◌, inl, inr, Bool, true, false, not, ◌||◌, List, [], ◌++◌, map}
+use Rattle.std.proofs.Common.{filter, Contains, IsTrue, if◌then◌else◌, refl, sym}
+use Rattle.std.proofs.Common.{subst, ◌∙◌, true≢false}
 use Rattle.std.specs.Str.{bytes_eq}
-use Rattle.std.proofs.lemmas.Bool.{and_parts}
+use Rattle.std.proofs.lemmas.Bool.{or_right}
 use Rattle.std.proofs.lemmas.List.Elements.{Contains-append_left, Contains-append_right, Contains-append_cases}
+use Rattle.terms.specs.Types.{Id, IfReq, Global, Zone, Selection}
 use Rattle.terms.specs.declared.kinds.HoldKind.TheVariants.{Error}
-use Rattle.terms.specs.Types.{Text, Id, Ver, Sysmod, Global, Zone, Selection}
-use Rattle.terms.specs.Lookups.{at_most_one, is_applied, is_supplied, is_function, applied_ids, holds_of, sysmod_of}
-use Rattle.terms.specs.Lookups.{is_in}
-use Rattle.terms.specs.Choice.{Choice, by_srel, fmid_of, pre_of, req_of, sup_of}
-use Rattle.terms.specs.Served.{has_plain_ver, is_served_zone}
-use Rattle.terms.specs.Global.{named, names_for}
-use Rattle.terms.specs.Candidates.{is_open, if_reqs, stated_for, if_needed, needed_ids, open_reasons}
-use Rattle.lemmas.proofs.Members.{none_in, in_map, filter_in, in_filter}
-use Rattle.lemmas.proofs.Searches.{find-gives}
-use Rattle.lemmas.proofs.Texts.{same_from}
-use Rattle.sysmods_received.specs.Held.{zone_of}
-use Rattle.sysmods_received.specs.Namers.{namers_for}
-use Rattle.terms.proofs.Ids.{is_in-from_Contains}
-use Rattle.terms.proofs.Nil.{nil_from}
-use Rattle.select.specs.Growing.{asked_in, asked_by}
-use Rattle.select.proofs.Flat.{in_flat}
-use Rattle.select.proofs.Opened.{open_parts, no_ifs}
+use Rattle.terms.specs.Lookups.{at_most_one, is_applied, is_supplied, is_function, applied_ids, holds_of}
+use Rattle.terms.specs.Choice.{Choice, by_srel, fmid_of, pre_of, req_of, ifs_of}
+use Rattle.terms.specs.Candidates.{if_reqs, stated_for, if_needed, needed_ids, open_reasons}
+use Rattle.lemmas.proofs.Members.{none_in, filter_in, in_filter}
+use Rattle.lemmas.proofs.Texts.{same_from, same_itself}
+use Rattle.select.specs.Growing.{asked_by}
+use Rattle.select.proofs.Flat.{flat_in, in_flat}
 
--- Where what is served names its function alone, nothing is needed by ++IF and nothing is held.
-module _ (g : Global) (zone : Zone) where
+-- The requisites of ++IFs whose function passes.
+pub if_in : (c : Choice) (p : Id → Bool) (x z : Id) → Contains (if_reqs c p x) z
+    → (i : IfReq) × Contains (ifs_of c x) i × IsTrue (p i.function) × Contains i.req z
+if_in c p x z h =
+    let from = flat_in (λ i. i.req) (filter (λ i. p i.function) (ifs_of c x)) z h in
+    let kept = filter_in (λ i. p i.function) (ifs_of c x) from.0 from.1 in
+    (from.0, kept.0, kept.1, from.2)
+
+pub in_if : (c : Choice) (p : Id → Bool) (x z : Id) (i : IfReq) → Contains (ifs_of c x) i → IsTrue (p i.function)
+    → Contains i.req z → Contains (if_reqs c p x) z
+in_if c p x z i there passes within =
+    in_flat (λ i. i.req) (filter (λ i. p i.function) (ifs_of c x)) i z
+    (in_filter (λ i. p i.function) (ifs_of c x) i there passes) within
+
+-- those of one test are those of another, or those of a function that passes the first alone
+pub if_split : (c : Choice) (p q : Id → Bool) (x z : Id) → Contains (if_reqs c p x) z
+    → Contains (if_reqs c q x) z
+    ⊎ ((f : Id) × IsTrue (p f) × (q f ≡ false) × Contains (if_reqs c (bytes_eq f) x) z)
+if_split c p q x z h = let from = if_in c p x z h in by from (q from.0.function) refl
+  where
+    by : (from : (i : IfReq) × Contains (ifs_of c x) i × IsTrue (p i.function) × Contains i.req z) → (b : Bool)
+        → q from.0.function ≡ b
+        → Contains (if_reqs c q x) z
+        ⊎ ((f : Id) × IsTrue (p f) × (q f ≡ false) × Contains (if_reqs c (bytes_eq f) x) z)
+    by (i, at, passes, within) true e = inl (in_if c q x z i at e within)
+    by (i, at, passes, within) false e = inr (
+      i.function,
+      passes,
+      e,
+      in_if c (bytes_eq i.function) x z i at
+          (same_itself i.function) within,
+    )
+
+module _ (g : Global) (zone : Zone) (sel : Selection) where
   abbrev c : Choice
   c = by_srel g zone.srel
 
-  -- a plain ++VER states nothing by ++IF
-  no_if_reqs : (there : Id → Bool) (x : Id) → has_plain_ver g zone x ≡ true → if_reqs c there x ≡ []
-  no_if_reqs there x plain = ap (λ is. flat_map (λ i. i.req) (filter (λ i. there i.function) is))
-      (no_ifs g zone x plain)
+  abbrev free : Id → Bool
+  free z = not (is_supplied zone z)
 
-  none_stated : (xs : List Id) (f : Id) → list_all (has_plain_ver g zone) xs ≡ true → stated_for c xs f ≡ []
-  none_stated [] f all = refl
-  none_stated (x ∷ xs) f all =
-      let parts = and_parts (has_plain_ver g zone x) (list_all (has_plain_ver g zone) xs) all in
-      ap (λ ys. ys ++ stated_for c xs f) (no_if_reqs (bytes_eq f) x parts.0) ∙ none_stated xs f parts.1
+  abbrev fmids : Id → List Id
+  fmids x = filter (λ z. not (is_applied zone z)) (at_most_one (fmid_of c x))
 
-  none_if_needed : (cands : Id → Bool) (x : Id) → has_plain_ver g zone x ≡ true → is_served_zone g zone ≡ true
-      → if_needed g c zone cands x ≡ []
-  none_if_needed cands x plain served =
-      ap (λ ys. ys ++ (if is_function g x then stated_for c (applied_ids zone) x else []))
-      (no_if_reqs (λ f. is_applied zone f || cands f) x plain)
-      ∙ by (is_function g x)
-    where
-      by : (b : Bool) → (if b then stated_for c (applied_ids zone) x else []) ≡ []
-      by true = none_stated (applied_ids zone) x served
-      by false = refl
+  abbrev with_ifs : (Id → Bool) → Id → Bool
+  with_ifs cands f = is_applied zone f || cands f
 
-  no_reasons : (sel : Selection) (x : Id) → IsTrue (is_open g zone sel x) → open_reasons g zone x ≡ []
-  no_reasons sel x opened =
-      ap (λ hs. filter (λ z. not (is_supplied zone z)) (map (λ h. h.reason) hs))
-      (nil_from (holds_of g Error x) (open_parts g zone sel x opened).no_error)
+  abbrev error_reasons : Id → List Id
+  error_reasons x = map (λ h. h.reason) (holds_of g Error x)
 
-  -- what a SYSMOD asks for, by the operands of its ++VER
-  by_parts : (x z : Id) → Contains (asked_by g zone x) z
-      → Contains (filter (λ z. not (is_applied zone z)) (at_most_one (fmid_of c x))) z
-      ⊎ Contains (filter (λ z. not (is_supplied zone z)) (pre_of c x)) z
-      ⊎ Contains (filter (λ z. not (is_supplied zone z)) (req_of c x)) z
-  by_parts x z asks = by (c x) asks
-    where
-      by : (o : Option Ver) → Contains (option_map_or (asked_in zone) o []) z
-          → Contains (filter (λ z. not (is_applied zone z)) (at_most_one (option_and_then (λ v. v.fmid) o))) z
-          ⊎ Contains (filter (λ z. not (is_supplied zone z)) (option_map_or (λ v. v.pre) o [])) z
-          ⊎ Contains (filter (λ z. not (is_supplied zone z)) (option_map_or (λ v. v.req) o [])) z
-      by None none = absurd (none_in z none)
-      by (Some v) h = elim (Contains-append_cases (filter (λ z. not (is_applied zone z)) (at_most_one v.fmid))
-          (filter (λ z. not (is_supplied zone z)) v.pre ++ filter (λ z. not (is_supplied zone z)) v.req) z h) [
-            | inl fmid ↦ inl fmid
-            | inr rest ↦ inr (Contains-append_cases (filter (λ z. not (is_supplied zone z)) v.pre)
-                (filter (λ z. not (is_supplied zone z)) v.req) z rest)
-          ]
+  abbrev for_function : Id → List Id
+  for_function x = if is_function g x then stated_for c (applied_ids zone) x else []
 
-  from_parts : (x z : Id)
-      → Contains (filter (λ z. not (is_applied zone z)) (at_most_one (fmid_of c x))) z
-      ⊎ Contains (filter (λ z. not (is_supplied zone z)) (pre_of c x)) z
-      ⊎ Contains (filter (λ z. not (is_supplied zone z)) (req_of c x)) z
-      → Contains (asked_by g zone x) z
-  from_parts x z h = by (c x) h
-    where
-      by : (o : Option Ver)
-          → Contains (filter (λ z. not (is_applied zone z)) (at_most_one (option_and_then (λ v. v.fmid) o))) z
-          ⊎ Contains (filter (λ z. not (is_supplied zone z)) (option_map_or (λ v. v.pre) o [])) z
-          ⊎ Contains (filter (λ z. not (is_supplied zone z)) (option_map_or (λ v. v.req) o [])) z
-          → Contains (option_map_or (asked_in zone) o []) z
-      by None (inl none) = absurd (none_in z none)
-      by None (inr (inl none)) = absurd (none_in z none)
-      by None (inr (inr none)) = absurd (none_in z none)
-      by (Some v) (inl fmid) =
-          Contains-append_left (filter (λ z. not (is_applied zone z)) (at_most_one v.fmid))
-          (filter (λ z. not (is_supplied zone z)) v.pre ++ filter (λ z. not (is_supplied zone z)) v.req) z fmid
-      by (Some v) (inr (inl pre)) =
-          Contains-append_right (filter (λ z. not (is_applied zone z)) (at_most_one v.fmid))
-          (filter (λ z. not (is_supplied zone z)) v.pre ++ filter (λ z. not (is_supplied zone z)) v.req) z
-          (Contains-append_left (filter (λ z. not (is_supplied zone z)) v.pre)
-          (filter (λ z. not (is_supplied zone z)) v.req) z pre)
-      by (Some v) (inr (inr req)) =
-          Contains-append_right (filter (λ z. not (is_applied zone z)) (at_most_one v.fmid))
-          (filter (λ z. not (is_supplied zone z)) v.pre ++ filter (λ z. not (is_supplied zone z)) v.req) z
-          (Contains-append_right (filter (λ z. not (is_supplied zone z)) v.pre)
-          (filter (λ z. not (is_supplied zone z)) v.req) z req)
+  abbrev all_listed : (Id → Bool) → Id → List Id
+  all_listed cands x = pre_of c x ++ req_of c x ++ if_needed g c zone cands x
 
-  -- what it names as its function, and all else that it names
-  abbrev fmids_of : Id → List Id
-  fmids_of x = filter (λ z. not (is_applied zone z)) (at_most_one (fmid_of c x))
+  -- by which operand it asks for an id
+  pub data Asks (cands : Id → Bool) (x z : Id) : Type 0 where
+    Fmid : Contains (fmids x) z → Asks cands x z
+    Listed : IsTrue (free z) → Contains (pre_of c x ++ req_of c x) z → Asks cands x z
+    ByIf : IsTrue (free z) → Contains (if_reqs c (with_ifs cands) x) z → Asks cands x z
+    Stated : IsTrue (free z) → Contains (for_function x) z → Asks cands x z
+    Reason : IsTrue sel.groupextend → Contains (open_reasons g zone x) z → Asks cands x z
 
-  abbrev listed_of : (Id → Bool) → Id → List Id
-  listed_of cands x = pre_of c x ++ req_of c x ++ if_needed g c zone cands x
-
-  -- What it asks for it needs.
-  pub asked_needed : (cands : Id → Bool) (x z : Id) → Contains (asked_by g zone x) z
-      → Contains (needed_ids g c zone cands x) z
+  pub asks_from : (cands : Id → Bool) (x z : Id) → Contains (asked_by g zone sel cands x) z → Asks cands x z
   unfolding needed_ids
-  asked_needed cands x z asks = by (by_parts x z asks)
+  asks_from cands x z h =
+      elim (Contains-append_cases (needed_ids g c zone cands x) (if sel.groupextend then open_reasons g zone x else [])
+      z h) [
+        | inl needed ↦ elim (Contains-append_cases (fmids x) (filter free (all_listed cands x)) z needed) [
+          | inl fmid ↦ Fmid fmid
+          | inr rest ↦ listed_ask (filter_in free (all_listed cands x) z rest)
+        ]
+        | inr reason ↦ by sel.groupextend refl reason
+      ]
     where
-      keep : Contains (listed_of cands x) z → not (is_supplied zone z) ≡ true → Contains ((fmids_of x) ++ filter (λ z. not
-          (is_supplied zone z)) (listed_of cands x)) z
-      keep there free = Contains-append_right (fmids_of x) (filter (λ z. not (is_supplied zone z)) (listed_of cands x)) z
-          (in_filter (λ z. not (is_supplied zone z)) (listed_of cands x) z there free)
+      by : (b : Bool) → sel.groupextend ≡ b → Contains (if b then open_reasons g zone x else []) z → Asks cands x z
+      by true e there = Reason e there
+      by false e none = absurd (none_in z none)
 
-      by : Contains (fmids_of x) z ⊎ Contains (filter (λ z. not (is_supplied zone z)) (pre_of c x)) z
-          ⊎ Contains (filter (λ z. not (is_supplied zone z)) (req_of c x)) z
-          → Contains ((fmids_of x) ++ filter (λ z. not (is_supplied zone z)) (listed_of cands x)) z
-      by (inl fmid) = Contains-append_left (fmids_of x) (filter (λ z. not (is_supplied zone z)) (listed_of cands x)) z fmid
-      by (inr (inl pre)) =
-          let parts = filter_in (λ z. not (is_supplied zone z)) (pre_of c x) z pre in
-          keep (Contains-append_left (pre_of c x ++ req_of c x) (if_needed g c zone cands x) z
-          (Contains-append_left (pre_of c x) (req_of c x) z parts.0)) parts.1
-      by (inr (inr req)) =
-          let parts = filter_in (λ z. not (is_supplied zone z)) (req_of c x) z req in
-          keep (Contains-append_left (pre_of c x ++ req_of c x) (if_needed g c zone cands x) z
-          (Contains-append_right (pre_of c x) (req_of c x) z parts.0)) parts.1
-
-  -- What an open one needs it asks for, and so the reasons of its holds: there are none.
-  pub needed_asked : (sel : Selection) (cands : Id → Bool) (x z : Id) → IsTrue (is_open g zone sel x)
-      → Contains (needed_ids g c zone cands x) z ⊎ Contains (open_reasons g zone x) z → Contains (asked_by g zone x) z
-  unfolding needed_ids
-  needed_asked sel cands x z opened (inr reason) =
-      absurd (none_in z (subst (λ xs. Contains xs z) (no_reasons sel x opened) reason))
-  needed_asked sel cands x z opened (inl needed) = from_parts x z
-      (elim (Contains-append_cases (filter (λ z. not (is_applied zone z)) (at_most_one (fmid_of c x)))
-      (filter (λ z. not (is_supplied zone z)) (listed_of cands x)) z needed) [
-        | inl fmid ↦ inl fmid
-        | inr rest ↦ inr (let parts = filter_in (λ z. not (is_supplied zone z)) (listed_of cands x) z rest in by parts.0 parts.1)
-      ])
-    where
-      by : Contains (listed_of cands x) z → not (is_supplied zone z) ≡ true
-          → Contains (filter (λ z. not (is_supplied zone z)) (pre_of c x)) z
-          ⊎ Contains (filter (λ z. not (is_supplied zone z)) (req_of c x)) z
-      by there free =
+      listed_ask : Contains (all_listed cands x) z × (free z ≡ true)
+          → Asks cands x z
+      listed_ask (there, is_free) =
           elim (Contains-append_cases (pre_of c x ++ req_of c x) (if_needed g c zone cands x) z there) [
-            | inl first ↦ elim (Contains-append_cases (pre_of c x) (req_of c x) z first) [
-              | inl pre ↦ inl (in_filter (λ z. not (is_supplied zone z)) (pre_of c x) z pre free)
-              | inr req ↦ inr (in_filter (λ z. not (is_supplied zone z)) (req_of c x) z req free)
+            | inl names ↦ Listed is_free names
+            | inr ifs ↦ elim (Contains-append_cases (if_reqs c (with_ifs cands) x) (for_function x) z ifs) [
+              | inl own ↦ ByIf is_free own
+              | inr others ↦ Stated is_free others
             ]
-            | inr none ↦ absurd (none_in z (subst (λ xs. Contains xs z)
-                (none_if_needed cands x (open_parts g zone sel x opened).plain
-                (open_parts g zone sel x opened).zone_served) none))
           ]
 
--- What supersedes an id directly is received and names it.
-abbrev of_srel : Text → Ver → Bool
-of_srel srel v = bytes_eq v.srel srel
+  pub needed_listed : (cands : Id → Bool) (x z : Id) → IsTrue (free z)
+      → Contains (all_listed cands x) z → Contains (needed_ids g c zone cands x) z
+  unfolding needed_ids
+  needed_listed cands x z is_free h =
+      Contains-append_right (fmids x) (filter free (all_listed cands x)) z
+      (in_filter free (all_listed cands x) z h is_free)
 
-pub super_listed : (g : Global) (srel : Text) (y z : Id) → Contains (sup_of (by_srel g srel) y) z
-    → Contains (namers_for g.sysmods srel z) y
-super_listed g srel y z names = by (sysmod_of g y) refl names
-  where
-    in_named : (v : Ver) → Contains v.sup z → Contains (named v) z
-    in_named v h = Contains-append_left (v.pre ++ v.sup) (at_most_one v.fmid) z (Contains-append_right v.pre v.sup z h)
+  needed_fmid : (cands : Id → Bool) (x z : Id) → Contains (fmids x) z → Contains (needed_ids g c zone cands x) z
+  unfolding needed_ids
+  needed_fmid cands x z h =
+      Contains-append_left (fmids x) (filter free (all_listed cands x)) z h
 
-    among : (vs : List Ver) → Contains (option_map_or (λ v. v.sup) (find (of_srel srel) vs) []) z
-        → Contains (flat_map named (filter (of_srel srel) vs)) z
-    among vs h = at (find (of_srel srel) vs) refl h
-      where
-        at : (o : Option Ver) → find (of_srel srel) vs ≡ o → Contains (option_map_or (λ v. v.sup) o []) z
-            → Contains (flat_map named (filter (of_srel srel) vs)) z
-        at None e none = absurd (none_in z none)
-        at (Some v) e h =
-            let gives = find-gives (of_srel srel) vs v e in
-            in_flat named (filter (of_srel srel) vs) v z (in_filter (of_srel srel) vs v gives.1 gives.0) (in_named v h)
+  needed_if : (cands : Id → Bool) (x z : Id) → IsTrue (free z) → Contains (if_needed g c zone cands x) z
+      → Contains (needed_ids g c zone cands x) z
+  needed_if cands x z is_free h =
+      needed_listed cands x z is_free
+      (Contains-append_right (pre_of c x ++ req_of c x) (if_needed g c zone cands x) z h)
 
-    by : (o : Option Sysmod) → sysmod_of g y ≡ o
-        → Contains (option_map_or (λ v. v.sup) (option_and_then (λ s. find (of_srel srel) s.vers) o) []) z
-        → Contains (namers_for g.sysmods srel z) y
-    by None e none = absurd (none_in z none)
-    by (Some s) e h =
-        let gives = find-gives (λ s. bytes_eq s.id y) g.sysmods s e in
-        in_filter (λ y. is_in (names_for (zone_of g.sysmods) srel y) z) (map (λ s. s.id) g.sysmods) y
-        (subst (Contains (map (λ s. s.id) g.sysmods)) (same_from s.id y gives.0)
-        (in_map (λ s. s.id) g.sysmods s gives.1))
-        (is_in-from_Contains (names_for (zone_of g.sysmods) srel y) z
-        (subst (λ o. Contains (flat_map named (option_map_or (λ s. filter (of_srel srel) s.vers) o [])) z) (sym e)
-        (among s.vers h)))
+  -- what it asks for it needs, or it is an open reason
+  pub asks_needed : (cands : Id → Bool) (x z : Id) → Asks cands x z
+      → Contains (needed_ids g c zone cands x) z ⊎ (IsTrue sel.groupextend × Contains (open_reasons g zone x) z)
+  asks_needed cands x z (Fmid h) = inl (needed_fmid cands x z h)
+  asks_needed cands x z (Listed is_free h) =
+      inl (needed_listed cands x z is_free (Contains-append_left (pre_of c x ++ req_of c x) (if_needed g c zone cands x)
+      z h))
+  asks_needed cands x z (ByIf is_free h) =
+      inl (needed_if cands x z is_free (Contains-append_left (if_reqs c (with_ifs cands) x) (for_function x) z h))
+  asks_needed cands x z (Stated is_free h) =
+      inl (needed_if cands x z is_free (Contains-append_right (if_reqs c (with_ifs cands) x) (for_function x) z h))
+  asks_needed cands x z (Reason extend h) = inr (extend, h)
+
+  -- and back
+  pub needed_asked : (cands : Id → Bool) (x z : Id) → Contains (needed_ids g c zone cands x) z
+      → Contains (asked_by g zone sel cands x) z
+  needed_asked cands x z h = Contains-append_left (needed_ids g c zone cands x)
+      (if sel.groupextend then open_reasons g zone x else []) z h
+
+  pub reason_asked : (cands : Id → Bool) (x z : Id) → IsTrue sel.groupextend → Contains (open_reasons g zone x) z
+      → Contains (asked_by g zone sel cands x) z
+  reason_asked cands x z extend h = Contains-append_right (needed_ids g c zone cands x)
+      (if sel.groupextend then open_reasons g zone x else []) z
+      (subst (λ b. Contains (if b then open_reasons g zone x else []) z) (sym extend) h)
+
+  pub asks_asked : (cands : Id → Bool) (x z : Id) → Asks cands x z → Contains (asked_by g zone sel cands x) z
+  asks_asked cands x z asks = elim (asks_needed cands x z asks) [
+    | inl needed ↦ needed_asked cands x z needed
+    | inr (extend, reason) ↦ reason_asked cands x z extend reason
+  ]
+
+  -- With other candidates it asks for the same, or by an ++IF whose function is a candidate there alone.
+  pub asks_with : (cands others : Id → Bool) (x z : Id) → Asks cands x z
+      → Asks others x z
+      ⊎ ((f : Id) × IsTrue (cands f) × (others f ≡ false) × IsTrue (free z) × Contains (if_reqs c (bytes_eq f) x) z)
+  asks_with cands others x z (Fmid h) = inl (Fmid h)
+  asks_with cands others x z (Listed is_free h) = inl (Listed is_free h)
+  asks_with cands others x z (Stated is_free h) = inl (Stated is_free h)
+  asks_with cands others x z (Reason extend h) = inl (Reason extend h)
+  asks_with cands others x z (ByIf is_free h) =
+      elim (if_split c (with_ifs cands) (with_ifs others) x z h) [
+        | inl same ↦ inl (ByIf is_free same)
+        | inr (f, is, other, within) ↦ inr (
+          f,
+          only f (is_applied zone f) refl is other,
+          (none_of f other).1,
+          is_free,
+          within,
+        )
+      ]
+    where
+      none_of : (f : Id) → with_ifs others f ≡ false → (is_applied zone f ≡ false) × (others f ≡ false)
+      none_of f other = parts (is_applied zone f) (others f) other
+        where
+          parts : (a b : Bool) → (a || b) ≡ false → (a ≡ false) × (b ≡ false)
+          parts true b e = absurd (true≢false e)
+          parts false b e = (refl, e)
+
+      only : (f : Id) (b : Bool) → is_applied zone f ≡ b → IsTrue (with_ifs cands f) → with_ifs others f ≡ false
+          → IsTrue (cands f)
+      only f true e is other = absurd (true≢false (sym e ∙ (none_of f other).0))
+      only f false e is other = subst (λ b. IsTrue (b || cands f)) e is
+
+  -- with more candidates it asks for no less
+  pub asks_more : (cands others : Id → Bool) (x z : Id) → ((f : Id) → IsTrue (cands f) → IsTrue (others f))
+      → Asks cands x z → Asks others x z
+  asks_more cands others x z more asks = elim (asks_with cands others x z asks) [
+    | inl same ↦ same
+    | inr (f, is, other, _, _) ↦ absurd (true≢false (sym (more f is) ∙ other))
+  ]
+
+  -- one that grows needs what its ++IFs for a candidate name
+  pub needed_for : (cands : Id → Bool) (x y z : Id) → IsTrue (cands x) → IsTrue (free z)
+      → Contains (if_reqs c (bytes_eq x) y) z → Contains (needed_ids g c zone cands y) z
+  needed_for cands x y z cand is_free h =
+      let from = if_in c (bytes_eq x) y z h in
+      needed_if cands y z is_free (Contains-append_left (if_reqs c (with_ifs cands) y) (for_function y) z
+      (in_if c (with_ifs cands) y z from.0 from.1
+      (or_right (is_applied zone from.0.function) (cands from.0.function)
+      (subst (λ f. IsTrue (cands f)) (same_from x from.0.function from.2) cand)) from.3))

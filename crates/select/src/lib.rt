@@ -2,9 +2,11 @@
 //! `candidates` answers what the first sets of all closed pairs share; each of them may be installed. `not_chosen` has
 //! the first reason for each id that SELECT or GROUP names, and that is neither excluded nor open. Seen in the code
 //! alone: one pass over the zone's entries, one over the received SYSMODs where there is a mass choice, look-ups, and
-//! under GROUPEXTEND a look at those that name an id which is asked for.
+//! for each id that grows a look at those that name it as a function, under GROUPEXTEND for each id that is asked for
+//! one at those that name it.
 #![tactic(auto)]
 
+mod asking;
 mod chosen;
 mod filters;
 mod growing;

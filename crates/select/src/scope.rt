@@ -1,7 +1,7 @@
 //! What is open to an APPLY.
 ghost use Rattle.std.specs.Prelude.{◌≡◌, not, is_some, option_copied};
 ghost use Rattle.terms.specs.Lookups.{is_in, is_nil, delby_of};
-ghost use Rattle.terms.specs.Choice.{by_srel, sup_of, vers_of};
+ghost use Rattle.terms.specs.Choice.{by_srel, fmid_of, sup_of, vers_of};
 ghost use Rattle.terms.specs.Served.{is_served, is_served_zone};
 ghost use Rattle.terms.specs.Candidates.{is_installable, is_open};
 
@@ -41,6 +41,13 @@ impl<'a> Scope<'a> {
         ensures { option_copied result ≡ by_srel self.now.global.now self.now.zone.now.srel id }
     {
         VerChoice::new(self.global, self.zone.srel()).ver(id)
+    }
+
+    /// The FMID of the `++VER` that counts.
+    pub(crate) fn fmid(&self, id: Id) -> Option<Id>
+        ensures { result ≡ fmid_of (by_srel self.now.global.now self.now.zone.now.srel) id }
+    {
+        VerChoice::new(self.global, self.zone.srel()).fmid(id)
     }
 
     fn has_ver(&self, id: Id) -> bool

@@ -35,7 +35,8 @@ pub(crate) fn is_named(selection: &Selection, id: Id) -> bool
     selection.select.contains(id) || selection.group.contains(id)
 }
 
-fn is_start(scope: &Scope, id: Id) -> bool
+/// Whether it is open, and the mass choice, SELECT or GROUP names it.
+pub(crate) fn is_start(scope: &Scope, id: Id) -> bool
     ensures { result ≡ is_start scope.now.global.now scope.now.zone.now scope.now.selection.now id }
 {
     scope.is_open(id) && (is_named(scope.selection, id) || is_mass_chosen(scope, id))

@@ -7,8 +7,7 @@ use Rattle.std.specs.Str.{bytes_eq}
 use Rattle.std.proofs.lemmas.List.Folds.{list_any-append}
 use Rattle.terms.specs.Types.{Text, Id, Ver, Sysmod}
 use Rattle.terms.specs.Lookups.{is_in}
-use Rattle.terms.specs.Over.{Leads}
-use Rattle.terms.specs.Global.{named, names_for, HasLoop, with_sysmod}
+use Rattle.terms.specs.Global.{named, names_for, with_sysmod}
 use Rattle.terms.proofs.Ids.{is_in-from_Contains}
 use Rattle.lemmas.proofs.Texts.{same_from, same_itself}
 use Rattle.terms.proofs.Loops.{names-own, names-others, all_vers}

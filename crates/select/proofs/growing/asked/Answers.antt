@@ -1,14 +1,16 @@
 use Rattle.std.proofs.Common.{arith}
+use Rattle.select.proofs.Applied.{applied-are}
 use Rattle.select.proofs.Growth.{growth-start, growth-next, growth-end}
 use Rattle.select.proofs.growing.asked.Goals as goal
 
 pub loop-i-init : goal.loop-i-init
-loop-i-init c = growth-start _ _ _ c.args.start.now _ c.requires c.in_ok-seen.ensures
+loop-i-init c =
+    growth-start _ _ _ (applied-are _ c.known.ensures) c.args.start.now _ c.requires c.in_ok-seen.ensures
 
 pub loop-i-preserved : goal.loop-i-preserved
 loop-i-preserved c =
-    growth-next _ _ _ _ _ _ _ (omega arith) (rw c.as_slice.ensures.keys at c.index-as_slice-i.is)
-    c.in_ok-see_next.ensures c.loop-i.invariant
+    growth-next _ _ _ (applied-are _ c.known.ensures) _ _ _ _ (omega arith)
+    (rw c.as_slice.ensures.keys at c.index-as_slice-i.is) c.in_ok-see_next.ensures c.loop-i.invariant
 
 pub returns : goal.returns
 returns c = growth-end _ _ _ _ c.loop-i.i (omega arith) c.loop-i.invariant

@@ -14,7 +14,8 @@ pub returns-in-Some : goal.returns-in-Some
 returns-in-Some c =
     let sets = c.self.inside.index.sets in
     let keys = c.in-Some.namers.now.keys in
-    subst (λ (ids : List Id). OnOk c.append_some_as_function.result (c.append_some_as_function.new.found.items ≡ c.args.found.now.items ++ ids))
+    let found = c.append_some_as_function.new.found.items in
+    subst (λ (ids : List Id). OnOk c.append_some_as_function.result (found ≡ c.args.found.now.items ++ ids))
     (function-namers-among c.args.self.now c.args.id sets keys
     (subst (All (IsIndexed sets)) c.self.view_is c.self.invariant.indexed)
     (subst (Rises (slice_cmp nat_cmp) (λ s. s.id)) c.self.view_is
