@@ -1,6 +1,7 @@
 pub mod Few
 pub mod Plain
 pub mod Collapsed
+pub mod Alone
 pub mod Lists
 pub mod Needed
 pub mod Rising
@@ -9,3 +10,4 @@ pub mod Standing
 pub mod Demands
 pub mod Marks
 pub mod Places
+pub mod Problems

@@ -6,9 +6,8 @@ ghost use Rattle.terms.specs.Judged.{setting, IsInstallProblem};
 ghost use Rattle.judge.specs.Failed.{AreFailedTests};
 
 use crate::numbered::wants_of;
-use crate::own::all_faults;
-use crate::rows::{all_eligible, all_rows};
-use crate::sharing::shared_places;
+use crate::tested::test_all;
+use cntl::Bypass;
 use fields::{Id, IdList};
 use solve::System;
 use std::alloc::{AllocError, Global as Heap};
@@ -34,18 +33,11 @@ pub fn judge(alloc: Heap, global: &Global, zone: &Zone, ids: &IdList) -> Result<
         (map (λ row. row.items) j.tests.items)) }
 {
     zone.known();
-    let list = ids.as_slice();
-    // They are no more than the received SYSMODs.
-    prove!(global.len() < 65_536);
-    prove!(list.len() < 4_294_967_296);
-    let faults = all_faults(alloc, global, zone, list)?;
-    let shared = shared_places(alloc, global, list, faults.as_slice())?;
-    let tests = all_rows(alloc, faults.as_slice(), &shared)?;
-    let eligible = all_eligible(alloc, faults.as_slice(), &shared)?;
-    let (system, needed) = wants_of(alloc, global, zone, ids, eligible)?;
+    let tested = test_all(alloc, global, zone, None, ids, &Bypass::none(alloc))?;
+    let (system, needed) = wants_of(alloc, global, zone, ids, tested.eligible)?;
     Ok(Judged {
         system,
         needed,
-        tests,
+        tests: tested.tests,
     })
 }

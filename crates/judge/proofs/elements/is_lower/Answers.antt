@@ -4,7 +4,7 @@ use Rattle.std.proofs.lemmas.Result.{IfOk-weaker}
 use Rattle.terms.specs.Over.{IsOver}
 use Rattle.sysmods.specs.Choices.{choice}
 use Rattle.judge.proofs.Collapsed.{lower-first, lower-rest}
-use Rattle.judge.proofs.own.is_lower.Goals as goal
+use Rattle.judge.proofs.elements.is_lower.Goals as goal
 
 pub returns-then-not-branch : goal.returns-then-not-branch
 returns-then-not-branch c =
