@@ -36,7 +36,6 @@ use Rattle.lemmas.proofs.Texts.{same_from, same_itself}
 use Rattle.judge.specs.declared.own.OwnFaults.{OwnFaults}
 use Rattle.judge.specs.Own.{is_foreign_at, is_bare_at, HasFaults, passes}
 use Rattle.judge.specs.Rows.{fails_test}
-use Rattle.judge.specs.Sharing.{change_key}
 use Rattle.judge.proofs.Plain.{IsPlain, applied-among}
 use Rattle.judge.proofs.Collapsed.{change-there, change-found, change-has, view-is}
 
@@ -65,6 +64,9 @@ any-left {X} p xs = (
     by (y ∷ ys) e some =
         let f = filter_in p xs y (subst (λ l. Contains l y) (sym e) (here y ys)) in
         list_any-from_Any p xs (f.0.0, y, f.0.1, f.0.2, f.1)
+
+abbrev change_key : Change → ElemType × Text
+change_key h = (h.elem_type, h.name)
 
 -- the statement about an element is the one that is found
 pub change-own : (g : Global) → IsGlobal g → (x : Id) (h : Change) → Contains (changes_of g x) h

@@ -11,3 +11,4 @@ pub mod Demands
 pub mod Marks
 pub mod Places
 pub mod Problems
+pub mod Overs

@@ -6,3 +6,4 @@ pub mod Serving
 pub mod Numbered
 pub mod Sharing
 pub mod Rows
+pub mod Overs

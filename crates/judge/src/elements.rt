@@ -1,5 +1,5 @@
 //! The tests that look at the elements which a candidate changes.
-ghost use Rattle.std.specs.Prelude.{◌≡◌, ◌==◌, ◌↔◌, ◌&&◌, ◌∷◌, Any, find, option_copied, IsTrue, IfOk};
+ghost use Rattle.std.specs.Prelude.{◌≡◌, ◌==◌, ◌↔◌, ◌&&◌, ◌∷◌, Any, find, option_copied, IsTrue, IfOk, OnOk};
 ghost use Rattle.std.specs.List.{list_any};
 ghost use Rattle.std.specs.Option.{option_map_or};
 ghost use Rattle.std.specs.Str.{bytes_eq};
@@ -8,10 +8,13 @@ ghost use Rattle.terms.specs.Over.{IsOver};
 ghost use Rattle.terms.specs.Changes.{is_replacement, has_replacement};
 ghost use Rattle.sysmods_records.specs.Views.{action_of};
 ghost use Rattle.sysmods.specs.Choices.{choice};
+ghost use Rattle.judge.specs.Overs.{AreOver};
 ghost use Rattle.judge.specs.Own.{is_foreign_at, IsLower, IsLowerAt, has_base, is_bare_at};
 
+use crate::known::over;
 use crate::own::changes_of;
 use fields::{Id, IdList, Name};
+use indexmap::IndexSet;
 use std::alloc::{AllocError, Global as Heap};
 use sysmods::{Global, VerChoice};
 use sysmods_records::{Action, ElemChange};
@@ -41,13 +44,16 @@ pub(crate) fn is_foreign(zone: &Zone, owner: Id, changes: &[ElemChange]) -> bool
 fn is_not_over_one(
     alloc: Heap,
     vers: &VerChoice<'_>,
+    known: &mut IndexSet<(Id, Id)>,
     id: Id,
     others: &[Id],
 ) -> Result<bool, AllocError>
-    ensures { IfOk result (λ lower. IsTrue lower ↔ Any (λ z. ¬ IsOver (choice vers.now) id z) others.now) }
+    requires { AreOver (choice vers.now) known.old.keys }
+    ensures lower { IfOk result (λ lower. IsTrue lower ↔ Any (λ z. ¬ IsOver (choice vers.now) id z) others.now) }
+    ensures known { OnOk result (AreOver (choice vers.now) known.new.keys) }
 {
     for other in others {
-        if !vers.over(alloc, id, *other)? {
+        if !over(alloc, vers, known, id, *other)? {
             return Ok(true);
         }
     }
@@ -58,28 +64,34 @@ fn is_not_over_one(
 fn is_lower(
     alloc: Heap,
     vers: &VerChoice<'_>,
+    known: &mut IndexSet<(Id, Id)>,
     id: Id,
     element: &Element,
 ) -> Result<bool, AllocError>
-    ensures { IfOk result (λ lower. IsTrue lower ↔ IsLower (choice vers.now) id element.now) }
+    requires { AreOver (choice vers.now) known.old.keys }
+    ensures lower { IfOk result (λ lower. IsTrue lower ↔ IsLower (choice vers.now) id element.now) }
+    ensures known { OnOk result (AreOver (choice vers.now) known.new.keys) }
 {
-    if !vers.over(alloc, id, element.rmid)? {
+    if !over(alloc, vers, known, id, element.rmid)? {
         return Ok(true);
     }
-    is_not_over_one(alloc, vers, id, element.umids.as_slice())
+    is_not_over_one(alloc, vers, known, id, element.umids.as_slice())
 }
 
 fn is_lower_at(
     alloc: Heap,
     vers: &VerChoice<'_>,
+    known: &mut IndexSet<(Id, Id)>,
     zone: &Zone,
     id: Id,
     change: &ElemChange,
 ) -> Result<bool, AllocError>
-    ensures { IfOk result (λ lower. IsTrue lower ↔ IsLowerAt (choice vers.now) zone.now id change.now) }
+    requires { AreOver (choice vers.now) known.old.keys }
+    ensures lower { IfOk result (λ lower. IsTrue lower ↔ IsLowerAt (choice vers.now) zone.now id change.now) }
+    ensures known { OnOk result (AreOver (choice vers.now) known.new.keys) }
 {
     match zone.element(change.elem_type, change.name) {
-        Some(element) => is_lower(alloc, vers, id, element),
+        Some(element) => is_lower(alloc, vers, known, id, element),
         None => Ok(false),
     }
 }
@@ -88,14 +100,17 @@ fn is_lower_at(
 pub(crate) fn is_lower_somewhere(
     alloc: Heap,
     vers: &VerChoice<'_>,
+    known: &mut IndexSet<(Id, Id)>,
     zone: &Zone,
     id: Id,
     changes: &[ElemChange],
 ) -> Result<bool, AllocError>
-    ensures { IfOk result (λ lower. IsTrue lower ↔ Any (IsLowerAt (choice vers.now) zone.now id) changes.now) }
+    requires { AreOver (choice vers.now) known.old.keys }
+    ensures lower { IfOk result (λ lower. IsTrue lower ↔ Any (IsLowerAt (choice vers.now) zone.now id) changes.now) }
+    ensures known { OnOk result (AreOver (choice vers.now) known.new.keys) }
 {
     for change in changes {
-        if is_lower_at(alloc, vers, zone, id, change)? {
+        if is_lower_at(alloc, vers, known, zone, id, change)? {
             return Ok(true);
         }
     }

@@ -8,6 +8,7 @@
 mod bypassing;
 mod elements;
 mod judging;
+mod known;
 mod numbered;
 mod own;
 mod rows;

@@ -1,13 +1,15 @@
 //! The tests that look at one candidate alone.
-ghost use Rattle.std.specs.Prelude.{◌≡◌, ◌==◌, ◌<◌, ◌&&◌, ◌↔◌, Some, Any, not, IsTrue, IsFalse, IfOk, length, slice_get};
+ghost use Rattle.std.specs.Prelude.{◌≡◌, ◌==◌, ◌<◌, ◌&&◌, ◌↔◌, Some, Any, not, IsTrue, IsFalse, IfOk, OnOk, length, slice_get};
 ghost use Rattle.std.specs.Prelude.{option_copied, false};
 ghost use Rattle.std.specs.List.{list_any};
 ghost use Rattle.std.specs.Option.{option_map_or};
 ghost use Rattle.terms.specs.Types.{zone_number};
 ghost use Rattle.terms.specs.Lookups.{changes_of, holds_of, is_applied};
+ghost use Rattle.terms.specs.Choice.{by_srel};
 ghost use Rattle.terms.specs.Tests.{is_bypassed_hold};
 ghost use Rattle.terms.specs.Judged.{setting};
 ghost use Rattle.sysmods.specs.Choices.{choice};
+ghost use Rattle.judge.specs.Overs.{AreOver};
 ghost use Rattle.judge.specs.Own.{IsLowerAt, HasFaults, passes};
 ghost use Rattle.judge.specs.Placed.{Beside};
 
@@ -15,6 +17,7 @@ use crate::bypassing::is_bypassed_hold;
 use crate::elements::{has_bare_update, is_foreign, is_lower_somewhere};
 use cntl::Bypass;
 use fields::{Id, IdList};
+use indexmap::IndexSet;
 use std::alloc::{AllocError, Global as Heap};
 use sysmods::{Global, VerChoice};
 use sysmods_records::ElemChange;
@@ -71,18 +74,21 @@ fn is_held(global: &Global, bypass: &Bypass, kind: HoldKind, id: Id) -> bool
 fn is_lower(
     alloc: Heap,
     vers: &VerChoice<'_>,
+    known: &mut IndexSet<(Id, Id)>,
     zone: &Zone,
     bypass: &Bypass,
     id: Id,
     changes: &[ElemChange],
 ) -> Result<bool, AllocError>
-    ensures { IfOk result (λ lower. IsTrue lower
+    requires { AreOver (choice vers.now) known.old.keys }
+    ensures lower { IfOk result (λ lower. IsTrue lower
         ↔ (IsFalse bypass.now.same_id × Any (IsLowerAt (choice vers.now) zone.now id) changes.now)) }
+    ensures known { OnOk result (AreOver (choice vers.now) known.new.keys) }
 {
     if bypass.same_id {
         return Ok(false);
     }
-    is_lower_somewhere(alloc, vers, zone, id, changes)
+    is_lower_somewhere(alloc, vers, known, zone, id, changes)
 }
 
 fn has_applied(related: Option<&Zone>, id: Id) -> bool
@@ -102,29 +108,30 @@ fn is_unapplied(zone: &Zone, related: Option<&Zone>, bypass: &Bypass, id: Id) ->
     zone.kind() == ZoneKind::Distribution && !bypass.applycheck && !has_applied(related, id)
 }
 
+// What the candidate fails by itself, given whether it is lower.
 fn own_faults(
-    alloc: Heap,
     global: &Global,
     zone: &Zone,
     related: Option<&Zone>,
     ids: &IdList,
     bypass: &Bypass,
     id: Id,
-) -> Result<OwnFaults, AllocError>
-    ensures { IfOk result (HasFaults (setting global.now zone.now (option_copied related.entry) ids.now bypass.now)
-        id) }
+    lower: bool,
+) -> OwnFaults
+    requires { IsTrue lower ↔ (IsFalse bypass.now.same_id
+        × Any (IsLowerAt (by_srel global.now zone.now.srel) zone.now id) (changes_of global.now id)) }
+    ensures { HasFaults (setting global.now zone.now (option_copied related.entry) ids.now bypass.now) id result }
 {
     let vers = VerChoice::new(global, zone.srel());
     let changes = changes_of(global, id);
-    let lower = is_lower(alloc, &vers, zone, bypass, id, changes)?;
-    Ok(OwnFaults {
+    OwnFaults {
         system_held: is_held(global, bypass, HoldKind::System, id),
         user_held: is_held(global, bypass, HoldKind::User, id),
         foreign: is_foreign(zone, vers.owner(id), changes),
         lower,
         bare: has_bare_update(global, zone, ids, vers.fmid(id), changes),
         unapplied: is_unapplied(zone, related, bypass, id),
-    })
+    }
 }
 
 /// What each candidate fails by itself.
@@ -139,9 +146,13 @@ pub(crate) fn all_faults(
     ensures { IfOk result (λ faults. Beside (λ n x own. HasFaults
         (setting global.now zone.now (option_copied related.entry) ids.now bypass.now) x own) ids.now faults.items) }
 {
+    let vers = VerChoice::new(global, zone.srel());
+    let mut known = IndexSet::new(alloc);
     let mut faults = Vec::new(alloc);
     for id in ids.as_slice() {
-        faults.push(own_faults(alloc, global, zone, related, ids, bypass, *id)?)?;
+        let changes = changes_of(global, *id);
+        let lower = is_lower(alloc, &vers, &mut known, zone, bypass, *id, changes)?;
+        faults.push(own_faults(global, zone, related, ids, bypass, *id, lower))?;
     }
     Ok(faults)
 }
