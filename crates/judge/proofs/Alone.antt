@@ -24,8 +24,8 @@ use Rattle.terms.specs.Deleted.{is_deleted}
 use Rattle.terms.specs.Delta.{element_eq}
 use Rattle.terms.specs.Global.{IsGlobal, IsSysmod}
 use Rattle.terms.specs.Tests.{Setting, owner_of, is_bypassed_hold, ChangesInView}
-use Rattle.terms.specs.Tests.{FailsJ1, FailsJ2, FailsJ3, FailsJ4, FailsJ5, FailsJ6, FailsJ7, FailsJ8, FailsJ9, FailsAlone, Fails}
-use Rattle.terms.specs.Tests.{Survives, has_candidate_base}
+use Rattle.terms.specs.Tests.{FailsJ1, FailsJ2, FailsJ3, FailsJ4, FailsJ5, FailsJ6, FailsJ7, FailsJ8, FailsJ9}
+use Rattle.terms.specs.Tests.{FailsAlone, Fails, Survives, has_candidate_base}
 use Rattle.terms.specs.Judged.{setting}
 use Rattle.terms.proofs.ElementOrder.{element_cmp_total, element_ties}
 use Rattle.terms.proofs.NothingDeleted.{is_deleted-none}

@@ -15,8 +15,8 @@ use Rattle.terms.specs.Tests.{Setting, owner_of, is_bypassed_hold}
 use Rattle.judge.specs.declared.own.OwnFaults.{OwnFaults}
 
 -- whether a hold of the kind stands against x
-abbrev pub is_held : Setting → HoldKind → Id → Bool
-is_held s kind x = list_any (λ h. not (is_bypassed_hold s.bypass h)) (holds_of s.global kind x)
+abbrev pub has_standing_hold : Setting → HoldKind → Id → Bool
+has_standing_hold s kind x = list_any (λ h. not (is_bypassed_hold s.bypass h)) (holds_of s.global kind x)
 
 -- whether the statement is about an element of the zone that another than this one owns
 abbrev pub is_foreign_at : Zone → Id → Change → Bool
@@ -48,9 +48,10 @@ is_unapplied s x =
     (zone_number s.zone.kind == 1) && not s.bypass.applycheck
     && not (option_map_or (λ target. is_applied target x) s.related false)
 
+-- J1, J2 and J4 to J7, each as the code tests it
 pub record HasFaults (s : Setting) (x : Id) (a : OwnFaults) : Type 0 where
-  pub system_held : a.system_held ≡ is_held s System x
-  pub user_held : a.user_held ≡ is_held s User x
+  pub system_held : a.system_held ≡ has_standing_hold s System x
+  pub user_held : a.user_held ≡ has_standing_hold s User x
   pub foreign : a.foreign ≡ list_any (is_foreign_at s.zone (owner_of s x)) (changes_of s.global x)
   pub lower : IsTrue a.lower
       ↔ (IsFalse s.bypass.same_id × Any (IsLowerAt s.choice s.zone x) (changes_of s.global x))

@@ -1,6 +1,6 @@
 //! The tests that look at one candidate alone.
-ghost use Rattle.std.specs.Prelude.{◌≡◌, ◌==◌, ◌<◌, ◌&&◌, ◌↔◌, Some, Any, not, IsTrue, IsFalse, IfOk, OnOk, length, slice_get};
-ghost use Rattle.std.specs.Prelude.{option_copied, false};
+ghost use Rattle.std.specs.Prelude.{◌≡◌, ◌==◌, ◌<◌, ◌&&◌, ◌↔◌, Some, Any, not, IsTrue, IsFalse, IfOk, OnOk};
+ghost use Rattle.std.specs.Prelude.{length, slice_get, option_copied, false};
 ghost use Rattle.std.specs.List.{list_any};
 ghost use Rattle.std.specs.Option.{option_map_or};
 ghost use Rattle.terms.specs.Types.{zone_number};
@@ -62,7 +62,7 @@ pub(crate) fn changes_of(global: &Global, id: Id) -> &[ElemChange]
 }
 
 // Whether a hold of this kind stands against it.
-fn is_held(global: &Global, bypass: &Bypass, kind: HoldKind, id: Id) -> bool
+fn has_standing_hold(global: &Global, bypass: &Bypass, kind: HoldKind, id: Id) -> bool
     ensures { result ≡ list_any (λ h. not (is_bypassed_hold bypass.now h)) (holds_of global.now kind id) }
 {
     global
@@ -125,8 +125,8 @@ fn own_faults(
     let vers = VerChoice::new(global, zone.srel());
     let changes = changes_of(global, id);
     OwnFaults {
-        system_held: is_held(global, bypass, HoldKind::System, id),
-        user_held: is_held(global, bypass, HoldKind::User, id),
+        system_held: has_standing_hold(global, bypass, HoldKind::System, id),
+        user_held: has_standing_hold(global, bypass, HoldKind::User, id),
         foreign: is_foreign(zone, vers.owner(id), changes),
         lower,
         bare: has_bare_update(global, zone, ids, vers.fmid(id), changes),
