@@ -2,6 +2,7 @@ pub mod Few
 pub mod Plain
 pub mod Collapsed
 pub mod Lists
+pub mod Growing
 pub mod Needed
 pub mod Rising
 pub mod Wants

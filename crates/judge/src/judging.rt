@@ -9,6 +9,7 @@ use crate::numbered::wants_of;
 use crate::own::all_faults;
 use crate::rows::{all_eligible, all_rows};
 use crate::sharing::shared_places;
+use cntl::Bypass;
 use fields::{Id, IdList};
 use solve::System;
 use std::alloc::{AllocError, Global as Heap};
@@ -42,7 +43,7 @@ pub fn judge(alloc: Heap, global: &Global, zone: &Zone, ids: &IdList) -> Result<
     let shared = shared_places(alloc, global, list, faults.as_slice())?;
     let tests = all_rows(alloc, faults.as_slice(), &shared)?;
     let eligible = all_eligible(alloc, faults.as_slice(), &shared)?;
-    let (system, needed) = wants_of(alloc, global, zone, ids, eligible)?;
+    let (system, needed) = wants_of(alloc, global, zone, ids, &Bypass::none(alloc), eligible)?;
     Ok(Judged {
         system,
         needed,

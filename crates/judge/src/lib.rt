@@ -6,12 +6,16 @@
 #![tactic(auto)]
 
 mod bypassing;
+mod conditions;
 mod judging;
 mod numbered;
 mod own;
+mod reasons;
 mod rows;
+mod scope;
 mod serving;
 mod sharing;
+mod stated;
 mod wanted;
 
 pub use judging::{Judged, judge};
