@@ -117,3 +117,15 @@ listed-at lists k v there = ap (λ o. option_map_or (λ v. v.items) o []) there
 
 pub listed-none : (lists : Lists) (k : Id) → get C lists k ≡ None → listed lists k ≡ []
 listed-none lists k there = ap (λ o. option_map_or (λ v. v.items) o []) there
+
+-- what a loop over a list keeps of it, where the next item is taken from the front
+pub kept-next : {X Y : Type 0} (p : X → Bool) (f : X → Y) (x : X) (all rest : List X) (old new base : List Y)
+    → all ≡ x ∷ rest → new ≡ old ++ cond (p x) (f x ∷ []) [] → old ++ map f (filter p all) ≡ base
+    → new ++ map f (filter p rest) ≡ base
+kept-next {X} {Y} p f x all rest old new base first next was =
+    ap (λ l. l ++ map f (filter p rest)) next ∙ append_assoc old (cond (p x) (f x ∷ []) []) (map f (filter p rest))
+    ∙ ap (λ l. old ++ l) (by (p x)) ∙ ap (λ l. old ++ map f (filter p l)) (sym first) ∙ was
+  where
+    by : (b : Bool) → cond b (f x ∷ []) [] ++ map f (filter p rest) ≡ map f (cond b (x ∷ filter p rest) (filter p rest))
+    by true = refl
+    by false = refl

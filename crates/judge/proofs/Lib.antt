@@ -3,6 +3,8 @@ pub mod Plain
 pub mod Collapsed
 pub mod Lists
 pub mod Growing
+pub mod Paired
+pub mod Errors
 pub mod Needed
 pub mod Rising
 pub mod Wants

@@ -5,5 +5,6 @@ pub mod Conditions
 pub mod Wanted
 pub mod Serving
 pub mod Numbered
+pub mod Bypassed
 pub mod Sharing
 pub mod Rows

@@ -5,6 +5,7 @@
 //! supersedes what, are judged as they are. Seen in the code alone: one pass over what the survivors change.
 #![tactic(auto)]
 
+mod bypassed;
 mod bypassing;
 mod conditions;
 mod judging;

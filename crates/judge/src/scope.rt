@@ -35,7 +35,7 @@ impl<'a> Scope<'a> {
     pub(crate) fn fmid(&self, id: Id) -> Option<Id>
         ensures { result ≡ fmid_of (by_srel self.now.global.now self.now.zone.now.srel) id }
     {
-        self.vers().fmid(id)
+        self.ver(id)?.fmid
     }
 
     fn ver(&self, id: Id) -> Option<&'a Ver>
@@ -83,8 +83,8 @@ impl<'a> Scope<'a> {
         self.zone.is_applied(id) || self.ids.contains(id)
     }
 
-    // Whether BYPASS(PRE), BYPASS(REQ) or BYPASS(IFREQ) covers needs of the kind.
-    fn is_bypassed(&self, kind: NeedKind) -> bool
+    /// Whether BYPASS(PRE), BYPASS(REQ) or BYPASS(IFREQ) covers needs of the kind.
+    pub(crate) fn is_bypassed(&self, kind: NeedKind) -> bool
         ensures { result ≡ is_bypassed self.now.bypass.now kind }
     {
         let bypass = self.bypass;
