@@ -45,7 +45,7 @@ filter-append {X} p (x ∷ xs) ys =
     by false = refl
 
 -- the items of a list's front and the next
-front-more : {X : Type 0} (xs : List X) (k : ℕ) (x : X) → k < length xs → x ≡ get_or xs k x
+pub front-more : {X : Type 0} (xs : List X) (k : ℕ) (x : X) → k < length xs → x ≡ get_or xs k x
     → take (k + 1) xs ≡ take k xs ++ x ∷ []
 front-more xs k x below at = take_more xs k x below ∙ ap (λ v. take k xs ++ v ∷ []) (sym at)
 
