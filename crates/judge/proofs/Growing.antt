@@ -1,6 +1,6 @@
 -- Lists of requisites that grow as ++IFs are gone through.
 use Rattle.std.proofs.Common.{◌≡◌, ◌<◌, ◌+◌, ℕ, Bool, true, false, List, [], ◌∷◌, ◌++◌, map, take, filter, length, get_or}
-use Rattle.std.proofs.Common.{refl, sym, ap, ◌∙◌, subst, Some, None, Option, Global, Vec, cond, append_assoc, append-nil}
+use Rattle.std.proofs.Common.{refl, sym, ap, ◌∙◌, subst, Some, None, Global, Vec, cond, append_assoc, append-nil}
 use Rattle.std.proofs.Common.{true≢false}
 use Rattle.std.specs.Prelude.{is_some}
 use Rattle.std.specs.List.{flat_map}

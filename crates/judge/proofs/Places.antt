@@ -42,18 +42,15 @@ use Rattle.judge.specs.Placed.{Beside}
 use Rattle.judge.specs.Own.{is_foreign_at, HasFaults, passes}
 use Rattle.judge.specs.Sharing.{change_key, HasClaim, IsSharedAt}
 use Rattle.judge.specs.Rows.{fails_test, is_among, row_of, is_eligible_at}
-use Rattle.judge.specs.Wanted.{a_want}
-use Rattle.judge.specs.declared.wanted.Want.{Want}
-use Rattle.judge.specs.Serving.{AreOwnPlaces, ArePlaces}
+use Rattle.judge.specs.Serving.{AreOwnPlaces}
 use Rattle.judge.specs.Numbered.{HasProblem}
-use Rattle.judge.proofs.Demands.{is-demand, demand-at, wants-once}
 use Rattle.terms.proofs.Ids.{is_in-from_Contains}
 use Rattle.judge.proofs.Rising.{before-apart}
 use Rattle.judge.proofs.Plain.{IsPlain}
 use Rattle.judge.proofs.Collapsed.{change-found, change-has, never-held-system, never-held-user, never-prevented}
 use Rattle.judge.proofs.Collapsed.{never-bare-update, never-deleted, foreign-from, foreign-gives, lower-from}
 use Rattle.judge.proofs.Collapsed.{lower-gives, unapplied-gives, survives-from, clash-shares, share-clashes}
-use Rattle.judge.proofs.Needed.{needs-open}
+use Rattle.judge.proofs.Problems.{install-problem}
 
 off : (b : Bool) → ¬ IsTrue b → not b ≡ true
 off true lacks = absurd (lacks refl)
@@ -388,53 +385,21 @@ module _ (g : Global) (zone : Zone) (ids : List Id) (held : All (λ e. IsTrue (i
     -- the numbered problem
     pub is-problem : (p : Problem) (needed : List (NeedKind × Id)) (flags : List Bool) → IsProblem p
         → Beside (λ n a flag. flag ≡ is_eligible_at shared n a) faults flags
-        → HasProblem s.choice zone ids flags p needed
+        → HasProblem g zone ids no_bypass flags p needed
         → IsInstallProblem s p needed
-    is-problem p needed flags numbers flagged has = record {
-      survivors = survivors;
-      are_survivors = are-survivors;
-      problem = record {
-        numbers = numbers;
-        size = has.demands.size;
-        eligible = λ n x at.
+    is-problem p needed flags numbers flagged has =
+        install-problem g zone None ids no_bypass held (λ x h. (plain x h).names_nothing.del) survivors are-survivors
+        flags eligible-at p needed numbers has
+      where
+        eligible-at : (n : ℕ) (x : Id) → slice_get ids n ≡ Some x → IsTrue (holds flags n) ↔ IsEligible s x
+        eligible-at n x at =
             let a = beside-own n x at in
             let below : n < length flags = subst (λ k. n < k) (sym flagged.lengths)
             (slice_get_within faults n a.0 a.1) in
             let flag = slice_get-get_or flags n false below in
-            let is : holds p.eligible n ≡ is_eligible_at shared n a.0 =
-            ap (λ l. holds l n) has.demands.eligible ∙ flagged.each n a.0 (get_or flags n false) a.1 flag in
+            let is : holds flags n ≡ is_eligible_at shared n a.0 = flagged.each n a.0 (get_or flags n false) a.1 flag in
             let both = eligible-if n x a.0 at a.1 in
-            (λ on. both.0 (sym is ∙ on), λ eligible. is ∙ both.1 eligible);
-        lengths = ap length has.demands.needed_are ∙ length-map has.wants (λ w. (w.kind, w.id))
-            ∙ sym has.demands.demands.lengths;
-        demands = λ i d need at_d at_need.
-            let w = is-demand ids has.pairs flags has.wants p needed has.demands i d need at_d at_need in
-            let open_at = (has.are_wants.members w.0.of need.0 need.1).0 (subst (Contains has.wants) w.3
-            (contains_at has.wants i w.0 w.1)) in
-            record {
-              of = (
-                open_at.x,
-                subst (λ k. slice_get ids k ≡ Some open_at.x) (sym w.2.of) open_at.at,
-                (needs-open g zone ids held plain survivors survivors-among open_at.x need.0 need.1
-                    (contains_at ids w.0.of open_at.x open_at.at)).1 open_at.is_open,
-              );
-              any = subst (λ (v : Want). ArePlaces s.choice ids v.kind v.id d.any) w.3 (w.2.any s.choice has.served);
-            };
-        all = λ n x z kind at need.
-            let found = found_at has.wants (a_want n kind z) ((has.are_wants.members n kind z).1 (record {
-              below = slice_get_within ids n x at;
-              x = x;
-              at = at;
-              is_open = (needs-open g zone ids held plain survivors survivors-among x kind z
-                  (contains_at ids n x at)).0 need;
-            })) in
-            let d = demand-at ids has.pairs flags has.wants p needed has.demands found.0 (a_want n kind z) found.1 in
-            (found.0, d.0, d.1, d.2, d.3);
-        once = λ i j d e need at_d at_e need_d need_e same.
-            wants-once ids has.pairs flags has.wants p needed has.demands has.are_wants.once i j d e need at_d at_e
-            need_d need_e same;
-      };
-    }
+            (λ on. both.0 (sym is ∙ on), λ eligible. is ∙ both.1 eligible)
 
 -- what a search finds
 pub stands-at : (ids : List Id) (f : Id) (i : ℕ) → i < length ids → (x : Id)

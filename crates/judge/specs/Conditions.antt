@@ -4,12 +4,11 @@ use Rattle.std.specs.declared.alloc.Global.{Global}
 use Rattle.std.specs.Option.{option_map_or}
 use Rattle.std.specs.Ordering.{nat_cmp}
 use Rattle.std.specs.Cmp.Lexicographic.{slice_cmp}
-use Rattle.std.specs.Str.{bytes_eq}
 use Rattle.std.specs.BTreeMap.{BTreeMap, get}
 use Rattle.terms.specs.Types.{Id, Zone}
 use Rattle.terms.specs.Lookups.{is_in, is_applied, applied_ids}
 use Rattle.terms.specs.Choice.{Choice}
-use Rattle.terms.specs.Candidates.{if_reqs, stated_for}
+use Rattle.terms.specs.Candidates.{stated_for}
 
 -- whether the function is applied or a candidate
 abbrev pub is_there : Zone → List Id → Id → Bool

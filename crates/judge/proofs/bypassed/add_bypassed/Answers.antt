@@ -1,8 +1,7 @@
-use Rattle.std.proofs.Common.{◌++◌, [], subst, cond}
+use Rattle.std.proofs.Common.{◌++◌, [], cond}
 use Rattle.terms.specs.Lookups.{is_in}
 use Rattle.terms.specs.Choice.{by_srel, pre_of, req_of}
 use Rattle.terms.specs.Candidates.{if_needed}
-use Rattle.judge.specs.Bypassed.{AddsPairs}
 use Rattle.judge.proofs.Paired.{pairs-then}
 use Rattle.judge.proofs.bypassed.add_bypassed.Goals as goal
 

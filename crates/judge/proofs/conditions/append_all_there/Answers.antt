@@ -1,5 +1,4 @@
-use Rattle.std.proofs.Common.{◌≤◌, length, take_all, arith, subst, ◌≡◌, ◌++◌, filter}
-use Rattle.std.specs.List.{flat_map}
+use Rattle.std.proofs.Common.{arith}
 use Rattle.judge.specs.Conditions.{is_there}
 use Rattle.judge.proofs.Growing.{grown, conditions-more}
 use Rattle.judge.proofs.conditions.append_all_there.Goals as goal

@@ -2,6 +2,7 @@ use Rattle.std.proofs.Common.{All, arith, subst, sym}
 use Rattle.std.proofs.lemmas.List.Elements.{All-contains}
 use Rattle.terms.specs.Candidates.{is_installable}
 use Rattle.std.specs.Prelude.{IsTrue}
+use Rattle.judge.specs.Numbered.{HasProblem}
 use Rattle.judge.proofs.Few.{few}
 use Rattle.judge.proofs.Plain.{plain-from}
 use Rattle.judge.proofs.Places.{is-problem, are-failed, same-pairs}
@@ -31,7 +32,9 @@ returns-clause-problem c =
     (is-problem g zone ids c.known.ensures.held rising (λ x h.
     plain-from g zone x (All-contains (λ x. IsTrue (is_installable g zone x)) ids x c.requires h))
     c.in_ok-faults.faults.items own c.in_ok-shared.shared.keys shares c.in_ok-system.system c.in_ok-system.needed.items
-    c.in_ok-eligible.eligible.items c.in_ok-system.ensures.valid flags c.in_ok-system.ensures.problem)
+    c.in_ok-eligible.eligible.items c.in_ok-system.ensures.valid flags
+    (subst (λ b. HasProblem g zone ids b c.in_ok-eligible.eligible.items c.in_ok-system.system
+    c.in_ok-system.needed.items) c.none.ensures c.in_ok-system.ensures.problem))
 
 pub returns-clause-tests : goal.returns-clause-tests
 returns-clause-tests c =

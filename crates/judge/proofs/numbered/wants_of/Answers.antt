@@ -1,4 +1,4 @@
-use Rattle.std.proofs.Common.{◌<◌, ap, length, subst, sym}
+use Rattle.std.proofs.Common.{◌<◌, length, subst, sym}
 use Rattle.std.specs.Prelude.{All}
 use Rattle.judge.specs.Serving.{AreServed}
 use Rattle.judge.proofs.Wants.{wants-within}

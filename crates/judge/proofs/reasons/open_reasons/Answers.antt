@@ -1,4 +1,4 @@
-use Rattle.std.proofs.Common.{◌∙◌, ◌++◌, [], ap, map, filter, subst, Contains}
+use Rattle.std.proofs.Common.{◌∙◌, ◌++◌, ap, map, filter, subst, Contains}
 use Rattle.std.specs.Prelude.{◌↔◌, not}
 use Rattle.terms.specs.declared.kinds.HoldKind.TheVariants.{Error}
 use Rattle.terms.specs.Types.{Id}

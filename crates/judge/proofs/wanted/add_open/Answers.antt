@@ -1,7 +1,5 @@
-use Rattle.std.proofs.Common.{subst, Contains, List}
-use Rattle.std.specs.Prelude.{◌↔◌}
+use Rattle.std.proofs.Common.{subst}
 use Rattle.terms.specs.declared.codes.NeedKind.TheVariants.{Fmid, Pre, Req, Ifreq, HoldError}
-use Rattle.terms.specs.Types.{Id}
 use Rattle.terms.specs.Lookups.{at_most_one}
 use Rattle.judge.specs.Wanted.{AddsPart, IsOfKind}
 use Rattle.judge.proofs.Wants.{five-parts, same-asked}
