@@ -11,5 +11,5 @@ pub mod Wants
 pub mod Standing
 pub mod Demands
 pub mod Marks
-pub mod Problems
+pub mod Numbering
 pub mod Places

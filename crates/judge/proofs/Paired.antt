@@ -63,9 +63,6 @@ pairs-alike x xs ys old new same adds y z = (
 )
 
 module _ (g : Global) (zone : Zone) (ids : List Id) (b : Bypass) where
-  pub none-bypassed : AreBypassed g zone ids b [] []
-  none-bypassed x z = (λ h. absurd (none_in (x, z) h), λ h. absurd (none_in x h.0))
-
   -- the next candidate
   pub bypassed-next : (xs : List Id) (k : ℕ) (x : Id) (old new : List (Id × Id)) → k < length xs → x ≡ get_or xs k x
       → AddsPairs x (bypassed_for g zone ids b x) old new → AreBypassed g zone ids b (take k xs) old

@@ -50,7 +50,7 @@ use Rattle.judge.proofs.Plain.{IsPlain}
 use Rattle.judge.proofs.Collapsed.{change-found, change-has, never-held-system, never-held-user, never-prevented}
 use Rattle.judge.proofs.Collapsed.{never-bare-update, never-deleted, foreign-from, foreign-gives, lower-from}
 use Rattle.judge.proofs.Collapsed.{lower-gives, unapplied-gives, survives-from, clash-shares, share-clashes}
-use Rattle.judge.proofs.Problems.{install-problem}
+use Rattle.judge.proofs.Numbering.{install-problem}
 
 off : (b : Bool) → ¬ IsTrue b → not b ≡ true
 off true lacks = absurd (lacks refl)

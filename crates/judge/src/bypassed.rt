@@ -95,6 +95,9 @@ pub(crate) fn bypassed_pairs(
         ids,
         bypass,
     };
+    if !scope.bypasses_requisites() {
+        return Ok(Vec::new(alloc));
+    }
     let stated = all_stated(alloc, &scope)?;
     let mut pairs = Vec::new(alloc);
     for id in ids.as_slice() {

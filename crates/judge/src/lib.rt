@@ -1,8 +1,9 @@
 //! Which tests each candidate of an APPLY fails, and what each one needs.
 //! For candidates that may all be installed, `judge` answers who fails which test, and the numbered problem of who is
 //! eligible and needs whom. Lemmas reduce these for what is served as yet: a candidate looks at the zone itself, J1 to
-//! J3, J6 and J8 fail nowhere, and it needs nothing by `++IF`, by holds or by deletions. Its FMID, PRE and REQ, and who
-//! supersedes what, are judged as they are. Seen in the code alone: one pass over what the survivors change.
+//! J3, J6 and J8 fail nowhere, and it needs nothing by deletions. Its FMID, PRE and REQ, its requisites by `++IF`, the
+//! ERROR holds on it, and who supersedes what, are judged as they are. What applied SYSMODs state in their `++IF`s is
+//! gathered in one pass over the zone. Seen in the code alone: one pass over what the survivors change.
 #![tactic(auto)]
 
 mod bypassed;

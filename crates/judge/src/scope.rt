@@ -1,6 +1,7 @@
 //! What the needs of an APPLY are looked up in.
 ghost use Rattle.std.specs.Prelude.{◌≡◌, ◌||◌, option_copied};
 ghost use Rattle.terms.specs.Lookups.{IsRising};
+ghost use Rattle.terms.specs.declared.codes.NeedKind.TheVariants.{Pre, Req, Ifreq};
 ghost use Rattle.terms.specs.Needs.{is_bypassed, is_met};
 ghost use Rattle.sysmods.specs.Choices.{choice};
 ghost use Rattle.terms.specs.Choice.{by_srel, fmid_of, pre_of, req_of, ifs_of};
@@ -94,6 +95,16 @@ impl<'a> Scope<'a> {
             NeedKind::Ifreq => bypass.ifreq,
             _ => false,
         }
+    }
+
+    /// Whether it covers any requisites at all.
+    pub(crate) fn bypasses_requisites(&self) -> bool
+        ensures { result ≡ (is_bypassed self.now.bypass.now Pre || is_bypassed self.now.bypass.now Req
+            || is_bypassed self.now.bypass.now Ifreq) }
+    {
+        self.is_bypassed(NeedKind::Pre)
+            || self.is_bypassed(NeedKind::Req)
+            || self.is_bypassed(NeedKind::Ifreq)
     }
 
     // Whether the zone meets a need: as an FMID only what is applied does.
