@@ -1,4 +1,4 @@
--- What is installable names its function alone, is held by nothing, and changes elements only as a function.
+-- What is installable has no NPRE, DELETE and ++IF, no ERROR hold, and changes elements only as a function.
 use Rattle.std.proofs.Common.{◌≡◌, ◌⊎◌, inl, inr, Bool, true, false, not, List, [], ◌∷◌, Option, None, Some, IsTrue}
 use Rattle.std.proofs.Common.{refl, sym, ap, ◌∙◌, subst, true≢false, filter, Contains, arith}
 use Rattle.std.specs.Prelude.{◌&&◌, ◌==◌, is_some}
@@ -52,8 +52,6 @@ pub record IsPlain (g : Global) (zone : Zone) (x : Id) : Type 0 where
   pub changes : (changes_of g x ≡ []) ⊎ (IsTrue (is_function g x)
       × IsTrue (list_all (λ h. is_replacement h.action) (changes_of g x)))
   pub no_error : holds_of g Error x ≡ []
-  pub no_system : holds_of g System x ≡ []
-  pub no_user : holds_of g User x ≡ []
   pub applied : (y : Id) → Contains (applied_ids zone) y → NamesNothing (by_srel g zone.srel) y
 
 plain-changes : (g : Global) (x : Id) → option_map_or has_plain_changes (sysmod_of g x) true ≡ true
@@ -117,13 +115,11 @@ plain-from g zone x installable =
     let b = and_parts (ver && changes) (is_unheld g x) a.0 in
     let c = and_parts ver changes b.0 in
     let e = and_parts (is_nil (holds_of g Error x) && is_nil (holds_of g System x)) (is_nil (holds_of g User x)) b.1 in
-    let f = and_parts (is_nil (holds_of g Error x)) (is_nil (holds_of g System x)) e.0 in
     record {
       names_nothing = names-nothing (by_srel g zone.srel) x c.0;
       changes = plain-changes g x c.1;
-      no_error = nil_from (holds_of g Error x) f.0;
-      no_system = nil_from (holds_of g System x) f.1;
-      no_user = nil_from (holds_of g User x) e.1;
+      no_error = nil_from (holds_of g Error x) (and_parts (is_nil (holds_of g Error x)) (is_nil (holds_of g System x))
+          e.0).0;
       applied = λ y on. names-nothing (by_srel g zone.srel) y
           (all-from (has_plain_ver g zone) (applied_ids zone) y a.1 on);
     }
