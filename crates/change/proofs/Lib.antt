@@ -1,4 +1,5 @@
+pub mod Gathered
 pub mod InTurn
+pub mod Made
 pub mod Installable
-pub mod Putting
-pub mod AfterInstall
+pub mod TakingEffect
