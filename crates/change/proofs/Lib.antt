@@ -1,5 +1,6 @@
 pub mod Gathered
 pub mod InTurn
-pub mod Made
 pub mod Installable
+pub mod Made
+pub mod Planned
 pub mod TakingEffect

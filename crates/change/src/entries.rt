@@ -54,6 +54,7 @@ fn entry_after(alloc: Heap, zone: &Zone, plan: &Plan, id: Id) -> Result<Entry, A
     ensures held { IfOk result (λ e. IsTrue (is_held e)) }
     ensures waived { IfOk result (λ e. IsTrue (waives_applied e)) }
 {
+    zone.known();
     if plan.effective.contains(id) {
         return applied_entry(alloc, zone, plan, id);
     }
