@@ -1,6 +1,10 @@
+pub mod AfterElements
 pub mod Gathered
 pub mod InTurn
 pub mod Installable
 pub mod Made
 pub mod Planned
+pub mod Put
+pub mod Putting
 pub mod TakingEffect
+pub mod Uncleared
