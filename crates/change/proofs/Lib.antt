@@ -1,4 +1,6 @@
 pub mod AfterElements
+pub mod AfterEntries
+pub mod AfterInstall
 pub mod Gathered
 pub mod InTurn
 pub mod Installable
