@@ -2,7 +2,7 @@
 -- functions of which no two change one element.
 use Rattle.std.proofs.Common.{◌≡◌, inl, inr, Bool, true, false, List, [], ◌∷◌, Option, Some, None, refl, sym, ap}
 use Rattle.std.proofs.Common.{◌∙◌, subst, true≢false, IsTrue, All, arith}
-use Rattle.std.specs.Prelude.{◌&&◌, ◌==◌, ◌↔◌, is_some, find, Contains, unwrap_or, IsFalse, if◌then◌else◌}
+use Rattle.std.specs.Prelude.{◌==◌, ◌↔◌, is_some, find, Contains, unwrap_or, IsFalse, if◌then◌else◌}
 use Rattle.std.specs.List.{flat_map}
 use Rattle.std.specs.Option.{option_map_or}
 use Rattle.std.specs.Ordering.{is_eq}
@@ -21,7 +21,7 @@ use Rattle.terms.specs.Changes.{is_replacement, has_replacement}
 use Rattle.terms.specs.Global.{IsGlobal, IsSysmod}
 use Rattle.terms.specs.Candidates.{is_installable}
 use Rattle.terms.specs.Tests.{ShareElement}
-use Rattle.terms.specs.Delta.{ZoneDelta, IsChanged, edit_key, edit_put, element_eq, after_edits}
+use Rattle.terms.specs.Delta.{edit_key, edit_put, element_eq, after_edits}
 use Rattle.terms.specs.Install.{Installation, TakesEffect, cleared, replaced, IsReplacer, IsUpdater, HasElementAfter}
 use Rattle.terms.specs.Install.{IsUpdated}
 use Rattle.lemmas.proofs.Members.{here, here_or, none_in}

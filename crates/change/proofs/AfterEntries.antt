@@ -1,5 +1,5 @@
 -- Whatever zone the edits of entries make of the old one has the entries that the install asks for.
-use Rattle.std.proofs.Common.{◌≡◌, ◌≢◌, ◌⊎◌, inl, inr, Bool, true, false, not, List, [], ◌∷◌, ◌++◌, Option, Some, None}
+use Rattle.std.proofs.Common.{◌≡◌, ◌⊎◌, inl, inr, Bool, true, false, not, List, [], ◌∷◌, Option, Some, None}
 use Rattle.std.proofs.Common.{refl, sym, ap, ◌∙◌, subst, true≢false, IsTrue, All, arith}
 use Rattle.std.specs.Prelude.{◌&&◌, ◌||◌, ◌↔◌, is_some, Contains, IsFalse, unwrap_or}
 use Rattle.std.specs.Option.{option_map_or, option_and_then}
@@ -22,7 +22,7 @@ use Rattle.terms.proofs.Ids.{is_in-from_Contains, Contains-from_is_in, in_or_not
 use Rattle.change.specs.declared.plan.Plan.{Plan}
 use Rattle.change.specs.Pairs.{others_of}
 use Rattle.change.specs.Plans.{installation, IsTouched, IsPlan}
-use Rattle.change.specs.Entries.{is_open, bare_entry, old_entry, IsAppliedEntry, IsSupersededEntry, IsEntryAfter}
+use Rattle.change.specs.Entries.{is_open, bare_entry, old_entry, IsAppliedEntry, IsSupersededEntry}
 use Rattle.change.specs.Entries.{entry_after, HasPutEntries}
 use Rattle.change.proofs.Installable.{no_entry}
 use Rattle.change.proofs.TakingEffect.{never_itself}
@@ -268,8 +268,8 @@ module _ (g : Global) (zone : Zone) (kept : List Id) (bypassed : List (Id × Id)
         let e = applied_entry x t in
         let at : waived_of new x ≡ e.0.waived = ap waived_in e.1 in (
           λ h.
-          let both = (e.2.waived.members z).0 (subst (λ zs. Contains zs z) at h) in
-          ((plan.bypassed x z).0 both.0, (open_is z).0 both.1),
+              let both = (e.2.waived.members z).0 (subst (λ zs. Contains zs z) at h) in
+              ((plan.bypassed x z).0 both.0, (open_is z).0 both.1),
           λ h. subst (λ zs. Contains zs z) (sym at) ((e.2.waived.members z).1
               ((plan.bypassed x z).1 h.0, (open_is z).1 h.1)),
         )

@@ -1,7 +1,7 @@
 -- What lists have after one more: pairs of ids, and the groups of them.
 use Rattle.std.proofs.Common.{◌≡◌, ◌⊎◌, inl, inr, Bool, true, false, ℕ, ◌+◌, ◌<◌, List, [], ◌∷◌, ◌++◌, length}
 use Rattle.std.proofs.Common.{refl, sym, ap, ap₂, ◌∙◌, subst, cond, true≢false, map, get_or, take}
-use Rattle.std.specs.Prelude.{◌↔◌, Contains, Some, None, find, Option}
+use Rattle.std.specs.Prelude.{◌↔◌, Contains, Some, find}
 use Rattle.std.specs.Option.{option_map_or}
 use Rattle.std.specs.declared.cmp.Ordering.{Ordering}
 use Rattle.std.specs.declared.cmp.Ordering.TheVariants.{Less, Equal, Greater}
@@ -170,3 +170,9 @@ superseded-next c xs k x old new below is adds are z y = (
 
 pub superseded-none : (c : Choice) → AreSuperseded c [] []
 superseded-none c z y = (λ h. absurd (none_in {X = Id × Id} (z, y) h), λ h. absurd (none_in y h.0))
+
+-- the same pairs in another order
+pub superseded-same : (c : Choice) (xs : List Id) (old new : List (Id × Id))
+    → ((z y : Id) → Has new z y ↔ Has old z y) → AreSuperseded c xs old → AreSuperseded c xs new
+superseded-same c xs old new same are z y =
+    (λ h. (are z y).0 ((same z y).0 h), λ h. (same z y).1 ((are z y).1 h))

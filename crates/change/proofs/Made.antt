@@ -1,9 +1,9 @@
 -- The entries that are made are those of an install.
-use Rattle.std.proofs.Common.{◌≡◌, ◌⊎◌, inl, inr, Bool, true, false, not, List, [], ◌∷◌, ◌++◌, Option, Some, None, refl}
-use Rattle.std.proofs.Common.{sym, ap, ap₂, ◌∙◌, subst, true≢false, IsTrue, All}
-use Rattle.std.specs.Prelude.{◌↔◌, ◌||◌, Contains, filter, is_some, unwrap_or, IsFalse}
+use Rattle.std.proofs.Common.{◌≡◌, inl, inr, Bool, true, false, not, List, [], ◌∷◌, ◌++◌, Option, Some, None, refl}
+use Rattle.std.proofs.Common.{sym, ap, ap₂, ◌∙◌, subst, true≢false, IsTrue}
+use Rattle.std.specs.Prelude.{◌↔◌, ◌||◌, Contains, filter, is_some, unwrap_or}
 use Rattle.lemmas.proofs.Members.{none_in, in_filter, filter_in}
-use Rattle.terms.specs.Types.{Text, Id, Entry, Zone}
+use Rattle.terms.specs.Types.{Id, Entry, Zone}
 use Rattle.terms.specs.Lookups.{IsRising, IsZone, is_nil, is_in, is_held, waives_applied, entry_of}
 use Rattle.terms.proofs.Ids.{is_in-from_Contains}
 use Rattle.lemmas.proofs.Searches.{find-gives, All-find}

@@ -1,5 +1,5 @@
 -- The lists of an install.
-use Rattle.std.proofs.Common.{◌≡◌, ◌⊎◌, inl, inr, List, ◌++◌, refl, sym, ap, ◌∙◌, subst, map}
+use Rattle.std.proofs.Common.{◌≡◌, inl, inr, List, ◌++◌, refl, subst, map}
 use Rattle.std.specs.Prelude.{◌↔◌, Contains}
 use Rattle.std.proofs.lemmas.List.Elements.{Contains-append_left, Contains-append_right, Contains-append_cases}
 use Rattle.lemmas.proofs.Members.{in_map, map_in}
@@ -7,7 +7,7 @@ use Rattle.terms.specs.Types.{Text, Id, Global, Zone}
 use Rattle.terms.specs.Choice.{by_srel}
 use Rattle.terms.specs.Install.{Installation, TakesEffect}
 use Rattle.change.specs.declared.pairs.Group.{Group}
-use Rattle.change.specs.Pairs.{others_of, AreGrouped}
+use Rattle.change.specs.Pairs.{AreGrouped}
 use Rattle.change.specs.Superseded.{AreSuperseded}
 use Rattle.change.specs.Plans.{installation, IsPlan}
 

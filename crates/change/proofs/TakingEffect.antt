@@ -1,5 +1,5 @@
 -- Who takes effect: the kept SYSMODs that none of them supersedes, as no SYSMOD supersedes itself.
-use Rattle.std.proofs.Common.{◌≡◌, ◌≢◌, inl, inr, Bool, true, false, not, List, Option, Some, None, refl, sym, ap}
+use Rattle.std.proofs.Common.{◌≡◌, inl, inr, Bool, true, false, not, List, Option, Some, None, refl, sym}
 use Rattle.std.proofs.Common.{[], ◌++◌, ◌∙◌, subst, true≢false, map}
 use Rattle.std.specs.Prelude.{◌↔◌, Contains, filter, find}
 use Rattle.std.specs.List.{flat_map}
@@ -59,13 +59,13 @@ pub takes_effect : (g : Global) (srel : Text) (kept : List Id) (pairs : List (Id
     → (x : Id) → Contains result x ↔ TakesEffect i x
 takes_effect g srel kept pairs superseded left result is are firsts filtered same i i_kept i_choice x = (
   λ h.
-  let f = filter_in (λ x. not (is_in superseded x)) kept x (subst (λ xs. Contains xs x) filtered ((same x).0 h)) in
-  record {
-    kept = subst (λ xs. Contains xs x) (sym i_kept) f.0;
-    first = λ y there other over. true≢false (sym (is_in-from_Contains superseded x (overridden y
-        (subst (λ xs. Contains xs y) i_kept there) (subst (λ c. Supersedes c y x) i_choice over)))
-        ∙ not-true (is_in superseded x) f.1);
-  },
+      let f = filter_in (λ x. not (is_in superseded x)) kept x (subst (λ xs. Contains xs x) filtered ((same x).0 h)) in
+      record {
+        kept = subst (λ xs. Contains xs x) (sym i_kept) f.0;
+        first = λ y there other over. true≢false (sym (is_in-from_Contains superseded x (overridden y
+            (subst (λ xs. Contains xs y) i_kept there) (subst (λ c. Supersedes c y x) i_choice over)))
+            ∙ not-true (is_in superseded x) f.1);
+      },
   λ t. (same x).1 (subst (λ xs. Contains xs x) (sym filtered) (in_filter (λ x. not (is_in superseded x)) kept x
       (subst (λ xs. Contains xs x) i_kept t.kept) (free t (is_in superseded x) refl))),
 )

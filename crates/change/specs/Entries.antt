@@ -6,7 +6,7 @@ use Rattle.std.specs.Cmp.Lexicographic.{slice_cmp}
 use Rattle.std.specs.Str.{bytes_eq}
 use Rattle.terms.specs.declared.kinds.Edit.{Edit}
 use Rattle.terms.specs.declared.kinds.Edit.TheVariants.{Put}
-use Rattle.terms.specs.Types.{Text, Id, Entry, Zone}
+use Rattle.terms.specs.Types.{Id, Entry, Zone}
 use Rattle.terms.specs.Lookups.{IsRising, is_in, is_supplied, entry_of}
 use Rattle.terms.specs.Rising.{with_item}
 use Rattle.terms.specs.Delta.{ZoneDelta, edit_key, edit_put, after_edits}

@@ -85,12 +85,7 @@ fn waived(alloc: Heap, zone: &Zone, plan: &Plan, id: Id) -> Result<IdList, Alloc
     Ok(ids)
 }
 
-fn open_among(
-    alloc: Heap,
-    zone: &Zone,
-    touched: &IdList,
-    ids: &[Id],
-) -> Result<Vec<Id>, AllocError>
+fn open_among(alloc: Heap, zone: &Zone, touched: &IdList, ids: &[Id]) -> Result<Vec<Id>, AllocError>
     ensures { IfOk result (λ left. left.items ≡ filter (is_open zone.now touched.now) ids.now) }
 {
     ids.iter()
@@ -107,12 +102,7 @@ fn is_open(zone: &Zone, touched: &IdList, id: Id) -> bool
 }
 
 // The entry of what is superseded: the old one with more in SUPBY.
-fn superseded_entry(
-    alloc: Heap,
-    zone: &Zone,
-    plan: &Plan,
-    id: Id,
-) -> Result<Entry, AllocError>
+fn superseded_entry(alloc: Heap, zone: &Zone, plan: &Plan, id: Id) -> Result<Entry, AllocError>
     ensures { IfOk result (IsSupersededEntry zone.now plan.now id) }
 {
     let old = old_entry(alloc, zone, id)?;

@@ -66,12 +66,7 @@ fn put_elements(
 }
 
 /// Puts the elements that the SYSMOD replaces.
-fn put_sysmod(
-    alloc: Heap,
-    global: &Global,
-    id: Id,
-    delta: &mut ZoneDelta,
-) -> Result<(), AllocError>
+fn put_sysmod(alloc: Heap, global: &Global, id: Id, delta: &mut ZoneDelta) -> Result<(), AllocError>
     ensures { OnOk result (delta.new ≡ after_sysmod global.now delta.old id) }
 {
     match global.get(id) {

@@ -35,12 +35,7 @@ pub(crate) fn grouped(alloc: Heap, pairs: &[(Id, Id)]) -> Result<Table<Group>, A
     Ok(groups)
 }
 
-fn add_pair(
-    alloc: Heap,
-    groups: &mut Table<Group>,
-    id: Id,
-    other: Id,
-) -> Result<(), AllocError>
+fn add_pair(alloc: Heap, groups: &mut Table<Group>, id: Id, other: Id) -> Result<(), AllocError>
     ensures { OnOk result (AddsPair id other groups.old groups.new) }
 {
     let mut others = others(alloc, groups, id)?;
@@ -56,6 +51,14 @@ pub(crate) fn others(alloc: Heap, groups: &Table<Group>, id: Id) -> Result<IdLis
         Some(group) => group.others.try_clone(alloc),
         None => Ok(IdList::new(alloc)),
     }
+}
+
+/// The pairs in order.
+pub(crate) fn sorted(mut pairs: Vec<(Id, Id)>) -> Vec<(Id, Id)>
+    ensures { (x y : AnId) → Contains {X = AnId × AnId} result.items (x, y) ↔ Contains {X = AnId × AnId} pairs.items (x, y) }
+{
+    pairs.sort_unstable();
+    pairs
 }
 
 /// The first ids.

@@ -4,7 +4,7 @@ ghost use Rattle.terms.specs.Types.{Id as AnId};
 ghost use Rattle.change.specs.Plans.{IsPlan, installation};
 
 use crate::effective::{superseded_pairs, taking_effect};
-use crate::pairs::{Group, firsts, grouped};
+use crate::pairs::{Group, firsts, grouped, sorted};
 use fields::{Id, IdList, YyDdd};
 use std::alloc::{AllocError, Global as Heap};
 use sysmods::{Global, VerChoice};
@@ -33,7 +33,7 @@ pub(crate) fn planned(
 {
     let vers = VerChoice::new(global, zone.srel());
     let effective = taking_effect(alloc, global, zone.srel(), kept)?;
-    let pairs = superseded_pairs(alloc, &vers, effective.as_slice())?;
+    let pairs = sorted(superseded_pairs(alloc, &vers, effective.as_slice())?);
     let touched = touched(alloc, effective.as_slice(), pairs.as_slice())?;
     Ok(Plan {
         effective,

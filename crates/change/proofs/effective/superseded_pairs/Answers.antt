@@ -1,4 +1,4 @@
-use Rattle.std.proofs.Common.{subst, ap, sym, ◌∙◌, take, arith, []}
+use Rattle.std.proofs.Common.{subst, sym, arith, []}
 use Rattle.std.proofs.lemmas.List.{take_all}
 use Rattle.sysmods.specs.Choices.{choice}
 use Rattle.change.specs.Superseded.{AreSuperseded}

@@ -1,15 +1,14 @@
-use Rattle.std.proofs.Common.{◌≡◌, ◌∙◌, ap, subst, map, not}
+use Rattle.std.proofs.Common.{◌∙◌, ap, subst, map, not}
 use Rattle.std.specs.Prelude.{◌↔◌, Contains, filter}
 use Rattle.terms.specs.Types.{Id}
 use Rattle.terms.specs.Lookups.{is_in}
 use Rattle.terms.specs.Choice.{by_srel}
-use Rattle.sysmods.specs.Choices.{choice}
 use Rattle.change.specs.Superseded.{AreSuperseded}
 use Rattle.change.proofs.TakingEffect.{takes_effect}
 use Rattle.change.proofs.effective.taking_effect.Goals as goal
 
 pub returns : goal.returns
-returns c = 
+returns c =
     let pairs = c.in_ok-pairs.pairs.items in
     let are : AreSuperseded (by_srel c.args.global.now c.args.srel) c.args.kept.now pairs =
     rw (← c.new-vers.ensures.global, ← c.new-vers.ensures.srel, ← c.as_slice.ensures.items) c.in_ok-pairs.ensures in

@@ -6,7 +6,7 @@ use Rattle.change.proofs.Made.{superseded-from}
 use Rattle.change.proofs.entries.superseded_entry.Goals as goal
 
 pub returns : goal.returns
-returns c = 
+returns c =
     let old = c.in_ok-old.old in
     let supby = c.in_ok-supby.supby in
     subst (IsSupersededEntry c.args.zone.now c.args.plan.now c.args.id)

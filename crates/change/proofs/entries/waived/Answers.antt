@@ -1,5 +1,4 @@
-use Rattle.std.proofs.Common.{◌∙◌, ap, subst}
-use Rattle.std.specs.Prelude.{filter}
+use Rattle.std.proofs.Common.{◌∙◌, subst}
 use Rattle.terms.specs.Lookups.{IsRising}
 use Rattle.change.proofs.Made.{waived-from}
 use Rattle.change.proofs.entries.waived.Goals as goal

@@ -6,6 +6,7 @@ use Rattle.terms.specs.Install.{Installation, TakesEffect}
 use Rattle.change.specs.Pairs.{AreGrouped}
 use Rattle.change.specs.Superseded.{AreSuperseded}
 use Rattle.change.specs.Plans.{installation, IsPlan}
+use Rattle.change.proofs.Gathered.{superseded-same}
 use Rattle.change.proofs.Planned.{is-plan}
 use Rattle.change.proofs.plan.planned.Goals as goal
 
@@ -15,13 +16,15 @@ returns c =
     let zone = c.args.zone.now in
     let kept = c.args.kept.now in
     let effective = c.in_ok-effective.effective in
-    let pairs = c.in_ok-pairs.pairs.items in
+    let pairs = c.sorted-pairs.result.items in
     let takes : (i : Installation) → i.kept ≡ kept → i.choice ≡ by_srel g zone.srel
-        → (x : Id) → Contains effective x ↔ TakesEffect i x =
+    → (x : Id) → Contains effective x ↔ TakesEffect i x =
     λ i k choice. c.in_ok-effective.ensures i k (choice ∙ ap (by_srel g) (sym c.srel-2.ensures)) in
     let are : AreSuperseded (by_srel g zone.srel) effective pairs =
-    rw (← c.srel.ensures, ← c.new-vers.ensures.global, ← c.new-vers.ensures.srel, ← c.as_slice.ensures.items)
-    c.in_ok-pairs.ensures in
+    superseded-same (by_srel g zone.srel) effective c.in_ok-superseded_pairs.field-0.items pairs
+    c.sorted-pairs.ensures
+    (rw (← c.srel.ensures, ← c.new-vers.ensures.global, ← c.new-vers.ensures.srel, ← c.as_slice.ensures.items)
+    c.in_ok-superseded_pairs.ensures) in
     subst (λ xs. IsPlan (installation g zone kept c.args.bypassed.now c.args.date) (record {
       effective = xs;
       superseders = c.in_ok-grouped.field-0;
