@@ -91,14 +91,16 @@ module _ (g : Global) (zone : Zone) (kept : List Id) (bypassed : List (Id × Id)
     changes_rise : (x : Id) → Rises element_cmp change_key (changes_of g x)
     changes_rise x = by (sysmod_of g x) refl
       where
-        by : (o : Option Sysmod) → sysmod_of g x ≡ o → Rises element_cmp change_key (option_map_or (λ s. s.changes) o [])
+        by : (o : Option Sysmod) → sysmod_of g x ≡ o
+            → Rises element_cmp change_key (option_map_or (λ s. s.changes) o [])
         by None at = λ i j d less below. absurd (omega (arith, below))
         by (Some s) at = (All-find IsSysmod (λ s. bytes_eq s.id x) g.sysmods s is_global.formed at).changes
 
     -- who puts an element
     put_by : (type : ElemType) (name : Text) (y : ElementEdit) → Contains (flat_map (elements_of g) effective) y
         → element_eq (put_key y) (type, name) ≡ true
-        → (x : Id) × Contains effective x × ((h : Change) × (change_of g x type name ≡ Some h) × Contains (made_by x h) y)
+        → (x : Id) × Contains effective x
+        × ((h : Change) × (change_of g x type name ≡ Some h) × Contains (made_by x h) y)
     put_by type name y there hit =
         let m = flat_in (elements_of g) effective y there in
         let n = flat_in (made_by m.0) (changes_of g m.0) y m.2 in
@@ -130,7 +132,8 @@ module _ (g : Global) (zone : Zone) (kept : List Id) (bypassed : List (Id × Id)
         let there = in_flat (elements_of g) effective x item within
         (in_flat (made_by x) (changes_of g x) h item found.1
         (subst (λ ys. Contains ys item) (sym made) (here item []))) in
-        in_turn-some element_cmp_total put_key element_eq element_ties (flat_map (elements_of g) effective) [] (type, name)
+        in_turn-some element_cmp_total put_key element_eq element_ties (flat_map (elements_of g) effective) []
+        (type, name)
         item (itself (type, name))
         (only made) (inr there)
       where
@@ -155,10 +158,12 @@ module _ (g : Global) (zone : Zone) (kept : List Id) (bypassed : List (Id × Id)
             elim (here_or (Put (own_element x type name distlib syslib lines)) [] y one)
             [ inl is ↦ sym is | inr later ↦ absurd (none_in y later) ]
 
-    element_not_put : (type : ElemType) (name : Text) → ((x : Id) → Contains effective x → has_change g x type name ≡ false)
+    element_not_put : (type : ElemType) (name : Text)
+        → ((x : Id) → Contains effective x → has_change g x type name ≡ false)
         → find (λ d. element_eq (put_key d) (type, name)) edits ≡ None
     element_not_put type name none =
-        in_turn-none element_cmp_total put_key element_eq element_ties (flat_map (elements_of g) effective) [] (type, name)
+        in_turn-none element_cmp_total put_key element_eq element_ties (flat_map (elements_of g) effective) []
+        (type, name)
         (λ y there. by y there (element_eq (put_key y) (type, name)) refl)
       where
         by : (y : ElementEdit) → Contains (flat_map (elements_of g) effective) y → (b : Bool)
@@ -224,7 +229,8 @@ module _ (g : Global) (zone : Zone) (kept : List Id) (bypassed : List (Id × Id)
 
     module _ (new : Zone) (changed : (type : ElemType) (name : Text)
         → element_of new type name ≡ after_edits element_eq element_key edits zone.elements (type, name)) where
-      pub element_changed : (type : ElemType) (name : Text) (x : Id) → TakesEffect i x → IsTrue (has_change g x type name)
+      pub element_changed : (type : ElemType) (name : Text) (x : Id) → TakesEffect i x
+          → IsTrue (has_change g x type name)
           → (e : Element) × (element_of new type name ≡ Some e) × HasElementAfter i type name e
       element_changed type name x ins has = by (change_of g x type name) refl
         where

@@ -1,4 +1,5 @@
--- What is known of an installable SYSMOD, as only those are served that delete nothing, and only functions have elements.
+-- What is known of an installable SYSMOD, as only those are served that delete nothing, and only functions change
+-- elements.
 use Rattle.std.proofs.Common.{◌≡◌, inl, inr, Bool, true, false, not, List, [], ◌∷◌, Option, Some, None, refl, sym, ap}
 use Rattle.std.proofs.Common.{◌∙◌, subst, true≢false, IsTrue}
 use Rattle.std.specs.Prelude.{◌&&◌, ◌||◌, ◌==◌, is_some, Contains}

@@ -49,7 +49,8 @@ pub never_itself : (g : Global) → IsGlobal g → (srel : Text) (x : Id) → ¬
 never_itself g is srel x over =
     is.no_loop (srel, x, reaches_more (sup_of (by_srel g srel)) (names_for g srel) (sup_named g srel) x x over)
 
-pub takes_effect : (g : Global) (srel : Text) (kept : List Id) (pairs : List (Id × Id)) (superseded left result : List Id)
+pub takes_effect : (g : Global) (srel : Text) (kept : List Id) (pairs : List (Id × Id))
+    (superseded left result : List Id)
     → IsGlobal g
     → AreSuperseded (by_srel g srel) kept pairs
     → ((x : Id) → Contains superseded x ↔ Contains (map (λ (p : Id × Id). p.0) pairs) x)

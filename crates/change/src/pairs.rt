@@ -55,7 +55,8 @@ pub(crate) fn others(alloc: Heap, groups: &Table<Group>, id: Id) -> Result<IdLis
 
 /// The pairs in order.
 pub(crate) fn sorted(mut pairs: Vec<(Id, Id)>) -> Vec<(Id, Id)>
-    ensures { (x y : AnId) → Contains {X = AnId × AnId} result.items (x, y) ↔ Contains {X = AnId × AnId} pairs.items (x, y) }
+    ensures { (x y : AnId)
+        → Contains {X = AnId × AnId} result.items (x, y) ↔ Contains {X = AnId × AnId} pairs.items (x, y) }
 {
     pairs.sort_unstable();
     pairs

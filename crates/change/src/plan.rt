@@ -46,7 +46,8 @@ pub(crate) fn planned(
 
 // Those that take effect, and what they supersede.
 fn touched(alloc: Heap, effective: &[Id], pairs: &[(Id, Id)]) -> Result<IdList, AllocError>
-    ensures { IfOk result (λ ids. (x : AnId) → Contains ids x ↔ Contains (map (λ p. p.0) pairs.now ++ effective.now) x) }
+    ensures { IfOk result (λ ids. (x : AnId)
+        → Contains ids x ↔ Contains (map (λ p. p.0) pairs.now ++ effective.now) x) }
 {
     let mut ids = firsts(alloc, pairs)?;
     ids.extend_from_slice(effective)?;

@@ -14,5 +14,6 @@ returns c =
     (superseded-from c.args.zone.now c.args.plan.now c.args.id old c.in_ok-more.more supby c.in_ok-old.ensures
     c.in_ok-more.ensures
     (subst (λ ids. (x : Id) → Contains supby x ↔ Contains ids x)
-    (ap₂ (λ xs ys. xs ++ ys) (c.as_slice.ensures.items ∙ ap (λ (e : Entry). e.supby) c.old.view_is) c.as_slice-2.ensures.items) c.in_ok-supby.ensures.members)
+    (ap₂ (λ xs ys. xs ++ ys) (c.as_slice.ensures.items ∙ ap (λ (e : Entry). e.supby) c.old.view_is)
+    c.as_slice-2.ensures.items) c.in_ok-supby.ensures.members)
     c.in_ok-supby.ensures.rising)

@@ -14,5 +14,6 @@ loop-pair-preserved c =
 
 pub returns : goal.returns
 returns c =
-    subst (λ pairs. AreGrouped pairs c.loop-pair.groups) (take_all c.loop-pair.pair-index c.args.pairs.now (omega arith))
+    subst (λ pairs. AreGrouped pairs c.loop-pair.groups)
+    (take_all c.loop-pair.pair-index c.args.pairs.now (omega arith))
     c.loop-pair.invariant
