@@ -1,4 +1,12 @@
+pub mod AfterElements
+pub mod AfterEntries
+pub mod AfterInstall
+pub mod Gathered
 pub mod InTurn
 pub mod Installable
+pub mod Made
+pub mod Planned
+pub mod Put
 pub mod Putting
-pub mod AfterInstall
+pub mod TakingEffect
+pub mod Uncleared
