@@ -30,7 +30,7 @@ module _ (g : Global) (zone : Zone) (x : Id) (ok : IsTrue (is_installable g zone
   served = (and_parts _ _ inner.0).1
 
   plain : (has_plain_ver g zone x ≡ true) × (option_map_or has_plain_changes (sysmod_of g x) true ≡ true)
-  plain = and_parts _ _ (and_parts _ _ (and_parts _ _ served).0).0
+  plain = and_parts _ _ (and_parts _ _ served).0
 
   -- it deletes nothing
   pub no_del : del_of (by_srel g zone.srel) x ≡ []
@@ -40,8 +40,7 @@ module _ (g : Global) (zone : Zone) (x : Id) (ok : IsTrue (is_installable g zone
       by None at = ap (λ o. option_map_or (λ v. v.del) o []) at
       by (Some v) at =
           let all : is_plain v ≡ true = sym (ap (λ o. option_map_or is_plain o true) at) ∙ plain.0 in
-          let front = and_parts _ _ (and_parts _ _ all).0 in
-          ap (λ o. option_map_or (λ v. v.del) o []) at ∙ nil_from v.del front.1
+          ap (λ o. option_map_or (λ v. v.del) o []) at ∙ nil_from v.del (and_parts _ _ all).1
 
   -- the zone has no entry of it
   pub no_entry : IsZone zone → entry_of zone x ≡ None
