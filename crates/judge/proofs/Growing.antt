@@ -1,6 +1,7 @@
 -- Lists of requisites that grow as ++IFs are gone through.
-use Rattle.std.proofs.Common.{◌≡◌, ◌<◌, ◌+◌, ℕ, Bool, true, false, List, [], ◌∷◌, ◌++◌, map, take, filter, length, get_or}
-use Rattle.std.proofs.Common.{refl, sym, ap, ◌∙◌, subst, Some, None, Global, Vec, cond, append_assoc, append-nil}
+use Rattle.std.proofs.Common.{◌≡◌, ◌<◌, ◌+◌, ℕ, Bool, true, false, List, [], ◌∷◌, ◌++◌, map, take, filter, length}
+use Rattle.std.proofs.Common.{get_or, refl, sym, ap, ◌∙◌, subst, Some, None, Global, Vec, cond, append_assoc}
+use Rattle.std.proofs.Common.{append-nil}
 use Rattle.std.proofs.Common.{true≢false}
 use Rattle.std.specs.Prelude.{is_some}
 use Rattle.std.specs.List.{flat_map}
@@ -56,7 +57,8 @@ pub conditions-more : (p : Id → Bool) (conditions : List IfReq) (k : ℕ) (i :
 conditions-more p conditions k i below at =
     ap (λ l. flat_map (λ i. i.req) (filter (λ i. p i.function) l)) (front-more conditions k i below at)
     ∙ ap (flat_map (λ i. i.req)) (filter-append (λ i. p i.function) (take k conditions) (i ∷ []))
-    ∙ flat_map-append (λ i. i.req) (filter (λ i. p i.function) (take k conditions)) (filter (λ i. p i.function) (i ∷ []))
+    ∙ flat_map-append (λ i. i.req) (filter (λ i. p i.function) (take k conditions))
+    (filter (λ i. p i.function) (i ∷ []))
     ∙ ap (λ l. flat_map (λ i. i.req) (filter (λ i. p i.function) (take k conditions)) ++ l)
     (filter-one (λ i. p i.function) (λ i. i.req) i)
 
@@ -99,7 +101,8 @@ pub adds-update : (old new : Lists) (k : Id) (w : Vec Id Global) (req : List Id)
     → Adds old new (λ f. cond (bytes_eq f k) req [])
 adds-update old new k w req updates goes_on f = by (is_eq (C k f)) refl
   where
-    now : (b : Bool) → is_eq (C k f) ≡ b → listed new f ≡ option_map_or (λ v. v.items) (cond b (Some w) (get C old f)) []
+    now : (b : Bool) → is_eq (C k f) ≡ b
+        → listed new f ≡ option_map_or (λ v. v.items) (cond b (Some w) (get C old f)) []
     now b e = ap (λ o. option_map_or (λ v. v.items) o []) (updates.0 f ∙ ap (λ a. cond a (Some w) (get C old f)) e)
 
     by : (b : Bool) → is_eq (C k f) ≡ b → listed new f ≡ listed old f ++ cond (bytes_eq f k) req []
@@ -108,8 +111,9 @@ adds-update old new k w req updates goes_on f = by (is_eq (C k f)) refl
         now true e ∙ goes_on ∙ ap (λ x. listed old x ++ req) same
         ∙ ap (λ b. listed old f ++ cond b req []) (sym (subst (λ x. bytes_eq f x ≡ true) (sym same) (same_itself f)))
     by false e =
+        let here : f ≡ k → bytes_eq k f ≡ true = λ is. subst (λ x. bytes_eq k x ≡ true) (sym is) (same_itself k) in
         let other : bytes_eq f k ≡ false = off-from (bytes_eq f k) (λ same. true≢false
-        (sym (is_eq-slice_cmp k f ∙ subst (λ x. bytes_eq k x ≡ true) (sym (same_from f k same)) (same_itself k)) ∙ e)) in
+        (sym (is_eq-slice_cmp k f ∙ here (same_from f k same)) ∙ e)) in
         now false e ∙ sym (append-nil (listed old f)) ∙ ap (λ b. listed old f ++ cond b req []) (sym other)
 
 pub listed-at : (lists : Lists) (k : Id) (v : Vec Id Global) → get C lists k ≡ Some v → listed lists k ≡ v.items

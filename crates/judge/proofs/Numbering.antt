@@ -1,5 +1,6 @@
 -- The numbered problem of candidates that delete nothing is the command's.
-use Rattle.std.proofs.Common.{◌≡◌, ℕ, Bool, List, [], Option, Some, IsTrue, sym, ap, ◌∙◌, subst, Contains, length, slice_get}
+use Rattle.std.proofs.Common.{◌≡◌, ℕ, Bool, List, [], Option, Some, IsTrue, sym, ap, ◌∙◌, subst, Contains, length}
+use Rattle.std.proofs.Common.{slice_get}
 use Rattle.std.specs.Prelude.{All, ◌↔◌}
 use Rattle.std.proofs.lemmas.List.{length-map}
 use Rattle.std.proofs.lemmas.Option.{slice_get_within}

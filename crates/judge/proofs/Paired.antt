@@ -14,7 +14,8 @@ pairs-map x more old new are y z = (up, down)
   where
     up : Contains new (y, z) → Contains old (y, z) ⊎ ((y ≡ x) × Contains more z)
     up h =
-        elim (Contains-append_cases old (map (λ z. (x, z)) more) (y, z) (subst (λ l. Contains {X = Id × Id} l (y, z)) are h)) [
+        elim (Contains-append_cases old (map (λ z. (x, z)) more) (y, z)
+        (subst (λ l. Contains {X = Id × Id} l (y, z)) are h)) [
           | inl was ↦ inl was
           | inr added ↦
               let m = map_in (λ z. (x, z)) more (y, z) added in
@@ -29,7 +30,8 @@ pairs-map x more old new are y z = (up, down)
         (Contains-append_left old (map (λ z. (x, z)) more) (y, z) was)
     down (inr added) = subst (λ l. Contains {X = Id × Id} l (y, z)) (sym are)
         (Contains-append_right old (map (λ z. (x, z)) more) (y, z)
-        (subst (λ w. Contains {X = Id × Id} (map (λ z. (x, z)) more) (w, z)) (sym added.0) (in_map (λ z. (x, z)) more z added.1)))
+        (subst (λ w. Contains {X = Id × Id} (map (λ z. (x, z)) more) (w, z)) (sym added.0)
+        (in_map (λ z. (x, z)) more z added.1)))
 
 pub pairs-same : (x : Id) (old : List (Id × Id)) → AddsPairs x [] old old
 pairs-same x old y z = (λ h. inl h, λ h. elim h [ inl was ↦ was | inr added ↦ absurd (none_in z added.1) ])
