@@ -4,7 +4,7 @@ use Rattle.terms.specs.Commands.{words_in}
 use Rattle.terms.proofs.OperandWords.{count}
 use Rattle.rec80.specs.Views.{left_of}
 use Rattle.operands.specs.Left.{LeavesPieces}
-use Rattle.cntl.proofs.doubles.behind_word.Given as goal
+use Rattle.cntl_doubles.proofs.words.behind_word.Given as goal
 
 abbrev pub invariant-loop-piece : goal.invariant-loop-piece
 invariant-loop-piece l = (pieces : List Piece) → LeavesPieces l.words pieces

@@ -3,7 +3,7 @@ use Rattle.std.specs.Prelude.{All}
 use Rattle.terms.specs.Statement.{Piece}
 use Rattle.terms.specs.Commands.{is_often}
 use Rattle.operands.specs.Left.{LeavesPieces}
-use Rattle.cntl.proofs.doubles.any_twice.Given as goal
+use Rattle.cntl_doubles.proofs.words.any_twice.Given as goal
 
 abbrev pub invariant-loop-name : goal.invariant-loop-name
 invariant-loop-name l = (pieces : List Piece) → LeavesPieces l.words pieces

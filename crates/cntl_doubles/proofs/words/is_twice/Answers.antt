@@ -1,8 +1,8 @@
 use Rattle.std.proofs.Common.{◌∙◌}
 use Rattle.terms.proofs.OperandWords.{again}
 use Rattle.rec80.specs.Views.{left_of}
-use Rattle.cntl.proofs.Doubling.{there_is}
-use Rattle.cntl.proofs.doubles.is_twice.Goals as goal
+use Rattle.cntl_doubles.proofs.Doubling.{there_is}
+use Rattle.cntl_doubles.proofs.words.is_twice.Goals as goal
 
 pub returns : goal.returns
 returns c = λ pieces h.

@@ -3,7 +3,7 @@ use Rattle.std.proofs.lemmas.List.{take_all}
 use Rattle.std.proofs.lemmas.List.Elements.{All-more, All-same}
 use Rattle.std.proofs.lemmas.List.Folds.{list_any_none}
 use Rattle.terms.specs.Commands.{is_often}
-use Rattle.cntl.proofs.doubles.any_twice.Goals as goal
+use Rattle.cntl_doubles.proofs.words.any_twice.Goals as goal
 
 pub loop-name-preserved : goal.loop-name-preserved
 loop-name-preserved c = λ pieces h.

@@ -2,7 +2,7 @@ use Rattle.std.proofs.Common.{◌∙◌, sym, ap}
 use Rattle.terms.specs.Commands.{words_in}
 use Rattle.terms.proofs.OperandWords.{count, named, not_named}
 use Rattle.rec80.specs.Pieces.{piece_of}
-use Rattle.cntl.proofs.doubles.behind_word.Goals as goal
+use Rattle.cntl_doubles.proofs.words.behind_word.Goals as goal
 
 pub returns-then-is_named-clause-found : goal.returns-then-is_named-clause-found
 returns-then-is_named-clause-found c = λ pieces h.
