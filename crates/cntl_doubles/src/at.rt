@@ -1,5 +1,5 @@
 //! A walk over a list, byte by byte, that looks for a name among the runs of word characters outside inner lists.
-ghost use Rattle.std.specs.Prelude.{◌≡◌, ◌≢◌, ◌<◌, ◌++◌, ◌∷◌, [], ℕ, List, true, false, length};
+ghost use Rattle.std.specs.Prelude.{◌≡◌, ◌≢◌, ◌==◌, ◌<◌, ◌++◌, ◌∷◌, [], ℕ, List, true, false, length};
 ghost use Rattle.terms.specs.Forms.{is_word_byte};
 ghost use Rattle.cntl_doubles.specs.Walks.{IsAt, is_inner, GoesOn};
 
@@ -14,7 +14,7 @@ pub enum At<'n> {
     Other,
 }
 
-pub fn is_part_of_word(byte: u8) -> bool
+fn is_part_of_word(byte: u8) -> bool
     ensures { result ≡ is_word_byte byte }
 {
     byte.is_ascii_uppercase()
@@ -49,9 +49,9 @@ fn behind_run<'n>(byte: u8, name: &'n [u8]) -> At<'n>
 }
 
 /// Behind the byte, where the run up to here is not the name, or goes on.
-pub fn behind<'n>(at: At<'n>, byte: u8, name: &'n [u8]) -> At<'n>
-    ensures { (run : List ℕ) → 0 < length name.now → IsAt name.now at run
-        → (run ≡ name.now → is_word_byte byte ≡ true) → GoesOn name.now at run byte result }
+pub fn behind<'n>(at: &At<'n>, byte: u8, name: &'n [u8]) -> At<'n>
+    ensures { (run : List ℕ) → 0 < length name.now → IsAt name.now at.now run
+        → (run ≡ name.now → is_word_byte byte ≡ true) → GoesOn name.now at.now run byte result }
 {
     match at {
         At::Inner => {
@@ -89,4 +89,18 @@ pub fn is_whole(at: &At<'_>) -> bool
         At::Inner => false,
         At::Other => false,
     }
+}
+
+/// Whether the run up to here is the name, and ends before the byte.
+pub fn ends_before(at: &At<'_>, byte: u8) -> bool
+    ensures whole { result ≡ true → (name run : List ℕ) → IsAt name at.now run → run ≡ name }
+    ensures outer { result ≡ true → is_inner at.now ≡ false }
+    ensures stops { result ≡ true → is_word_byte byte ≡ false }
+    ensures goes_on { result ≡ false → (name run : List ℕ) → 0 < length name → IsAt name at.now run → run ≡ name
+        → is_word_byte byte ≡ true }
+{
+    if is_part_of_word(byte) {
+        return false;
+    }
+    is_whole(at)
 }

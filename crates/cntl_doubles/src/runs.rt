@@ -5,7 +5,7 @@ ghost use Rattle.terms.specs.Commands.{runs_from, is_often};
 ghost use Rattle.terms.proofs.OperandWords.{count};
 ghost use Rattle.rec80.specs.Cursors.{text_of};
 
-use crate::at::{At, behind, is_part_of_word, is_whole};
+use crate::at::{At, behind, ends_before, is_whole};
 use rec80::Text;
 
 /// What stands behind the first run that is the name.
@@ -18,10 +18,10 @@ fn behind_name<'a>(list: &Text<'a>, name: &[u8]) -> Option<Text<'a>>
     let mut rest = *list;
     let mut at = At::Part(name);
     while let Some((byte, next)) = rest.next_byte() {
-        if is_whole(&at) && !is_part_of_word(byte) {
+        if ends_before(&at, byte) {
             return Some(rest);
         }
-        at = behind(at, byte, name);
+        at = behind(&at, byte, name);
         rest = next;
     }
     if is_whole(&at) { Some(rest) } else { None }

@@ -1,5 +1,5 @@
 //! Words outside parentheses.
-ghost use Rattle.std.specs.Prelude.{◌≡◌, ◌+◌, ℕ, List, None, map, option_map, IfSome, IfNone};
+ghost use Rattle.std.specs.Prelude.{◌≡◌, ◌+◌, ◌∷◌, ℕ, List, None, map, option_map, IfSome, IfNone};
 ghost use Rattle.std.specs.List.{list_any};
 ghost use Rattle.terms.specs.Statement.{Piece as AnyPiece};
 ghost use Rattle.terms.specs.Commands.{words_in, leading_list, list_behind, is_often};
@@ -60,16 +60,26 @@ pub fn any_twice(names: &[&[u8]], words: &Words<'_>) -> bool
     false
 }
 
+fn as_list<'a>(piece: &Piece<'a>) -> Option<Text<'a>>
+    ensures { (rest : List AnyPiece) → option_map text_of result ≡ leading_list (piece_of piece.now ∷ rest) }
+{
+    match piece {
+        Piece::Word(_) => None,
+        Piece::List(list) => Some(*list),
+        Piece::Stray(_) => None,
+    }
+}
+
 /// The list that comes next.
 fn next_list<'a>(words: &Words<'a>) -> Option<Text<'a>>
     ensures { (pieces : List AnyPiece) → LeavesPieces words.now pieces
         → option_map text_of result ≡ leading_list pieces }
 {
     let mut left = *words;
-    match left.next_piece() {
-        Some(Piece::List(list)) => Some(list),
-        _ => None,
-    }
+    let Some(piece) = left.next_piece() else {
+        return None;
+    };
+    as_list(&piece)
 }
 
 /// The list right behind the first word of that name.

@@ -1,4 +1,5 @@
 use Rattle.std.proofs.Common.{◌∙◌}
+use Rattle.terms.specs.Commands.{words_in}
 use Rattle.terms.proofs.OperandWords.{again}
 use Rattle.rec80.specs.Views.{left_of}
 use Rattle.cntl_doubles.proofs.Doubling.{there_is}
@@ -9,4 +10,4 @@ returns c = λ pieces h.
     let t = c.in-Some.ensures.found pieces h in
     c.is_some.ensures ∙ there_is c.behind_word-2.result (left_of c.in-Some.after) c.args.name.now
     c.behind_word-2.ensures.found c.behind_word-2.ensures.none t.0 t.1
-    ∙ again pieces t.0 c.args.name.now t.2
+    ∙ again (words_in pieces) (words_in t.0) c.args.name.now t.2
