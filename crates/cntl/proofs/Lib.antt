@@ -1,4 +1,3 @@
-pub mod Doubling
 pub mod Valued
 pub mod Formed
 pub mod Worded

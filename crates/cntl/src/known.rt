@@ -1,6 +1,4 @@
 ghost use Rattle.std.specs.Prelude.{◌≡◌, true, false, List};
-ghost use Rattle.std.specs.List.{list_any};
-ghost use Rattle.std.specs.Str.{bytes_eq};
 ghost use Rattle.terms.specs.Lookups.{is_in};
 ghost use Rattle.terms.specs.Statement.{Piece};
 ghost use Rattle.terms.specs.Words as grammar;
@@ -11,13 +9,8 @@ ghost use Rattle.cntl.specs.Views.{command_word_of};
 
 use crate::known_word::KnownWord;
 use crate::tables::operands_of;
+use operands::is_among;
 use rec80::Words;
-
-fn is_among(names: &[&[u8]], text: &[u8]) -> bool
-    ensures { result ≡ list_any (λ name. bytes_eq text.now name.now) names.now }
-{
-    names.iter().any(|name| text == *name)
-}
 
 fn is_operand(word: KnownWord, text: &[u8]) -> bool
     ensures { result ≡ is_in (operands_of (command_word_of word)) text.now }
