@@ -2,3 +2,4 @@ pub mod Valued
 pub mod Formed
 pub mod Worded
 pub mod Exact
+pub mod Bypassing

@@ -35,8 +35,8 @@ fn member_flag(list: &Text<'_>, name: &[u8]) -> Result<bool, BadOperand>
     flag(&named_member(list, name))
 }
 
-fn suits_kind(kind: HoldKind, reason: &Reason) -> bool
-    ensures { IsTrue result ↔ IsReason kind reason.now }
+fn suits_kind(kind: HoldKind, reason: Reason) -> bool
+    ensures { IsTrue result ↔ IsReason kind reason }
 {
     match kind {
         HoldKind::Error => reason.is_id(),
@@ -48,7 +48,15 @@ fn suits_kind(kind: HoldKind, reason: &Reason) -> bool
 fn suit_kind(kind: HoldKind, reasons: &ReasonList) -> bool
     ensures { IsTrue result ↔ All (IsReason kind) reasons.now }
 {
-    reasons.iter().all(|reason| suits_kind(kind, reason))
+    reasons.iter().all(|reason| suits_kind(kind, *reason))
+}
+
+fn class_reasons(alloc: Global, member: &Word<'_>) -> Result<ReasonList, OperandError>
+    ensures ok { IfOk result (λ list. HasSorted IsClass (word_of member.now) list × IsShort list) }
+    ensures bad { IfErr result (λ e. Excludes e ((values : List (List ℕ))
+        × (HasSorted IsClass (word_of member.now) values × IsShort values))) }
+{
+    short_list::<Reason>(alloc, member)
 }
 
 /// The reasons in the list of a member, which are those of holds of the kind.
@@ -61,7 +69,7 @@ fn reason_list(
     ensures bad { IfErr result (λ e. Excludes e ((values : List (List ℕ))
         × (HasSorted (IsReason kind) (word_of member.now) values × IsShort values))) }
 {
-    let reasons = short_list::<Reason>(alloc, member)?;
+    let reasons = class_reasons(alloc, member)?;
     if !suit_kind(kind, &reasons) {
         return Err(OperandError::Bad);
     }
@@ -89,6 +97,14 @@ fn reasons(
     Ok(Reasons::These(reason_list(alloc, kind, &member)?))
 }
 
+fn class_list(alloc: Global, member: &Word<'_>) -> Result<ClassList, OperandError>
+    ensures ok { IfOk result (λ list. HasSorted IsClass (word_of member.now) list × IsShort list) }
+    ensures bad { IfErr result (λ e. Excludes e ((values : List (List ℕ))
+        × (HasSorted IsClass (word_of member.now) values × IsShort values))) }
+{
+    short_list::<Class>(alloc, member)
+}
+
 fn classes(alloc: Global, list: &Text<'_>) -> Result<ClassList, OperandError>
     ensures ok { (ms : List grammar.Word) → HasMembers (text_of list.now) ms
         → IfOk result (λ classes. HasShort IsClass (operand (codes "HOLDCLASS") ms) classes) }
@@ -96,7 +112,7 @@ fn classes(alloc: Global, list: &Text<'_>) -> Result<ClassList, OperandError>
         ((classes : List (List ℕ)) × HasShort IsClass (operand (codes "HOLDCLASS") ms) classes)) }
 {
     match named_member(list, b"HOLDCLASS") {
-        Some(member) => short_list::<Class>(alloc, &member),
+        Some(member) => class_list(alloc, &member),
         None => Ok(ClassList::new(alloc)),
     }
 }
