@@ -1,5 +1,5 @@
 -- The members of BYPASS, and why there are none.
-use Rattle.std.proofs.Common.{◌≡◌, ◌<◌, Bool, false, List, [], length, map, get_or, Option, Some, None, sym, ◌∙◌, ap, subst}
+use Rattle.std.proofs.Common.{◌≡◌, false, List, [], get_or, Option, Some, None, sym, ◌∙◌, ap, subst}
 use Rattle.std.proofs.Common.{arith}
 use Rattle.std.specs.Prelude.{All, Contains, IsSomeAnd, codes}
 use Rattle.std.specs.List.{list_any}
@@ -12,7 +12,7 @@ use Rattle.terms.specs.Types.{Text, Bypass}
 use Rattle.terms.specs.Forms.{IsClass, IsReason}
 use Rattle.terms.specs.Statement.{Piece}
 use Rattle.terms.specs.Words.{Word, HasWords, HasMembers, IsListOf}
-use Rattle.terms.specs.Operands.{operand, AreSorted, HasSorted}
+use Rattle.terms.specs.Operands.{HasSorted}
 use Rattle.terms.specs.CommandForms.{members_of, HasBypassed, IsBypassList, HasBypass}
 use Rattle.terms.specs.Commands.{list_behind, runs_from, runs_in, is_often, has_double}
 use Rattle.terms.proofs.BypassMembers.{behind_operand}

@@ -60,11 +60,7 @@ fn class_reasons(alloc: Global, member: &Word<'_>) -> Result<ReasonList, Operand
 }
 
 /// The reasons in the list of a member, which are those of holds of the kind.
-fn reason_list(
-    alloc: Global,
-    kind: HoldKind,
-    member: &Word<'_>,
-) -> Result<ReasonList, OperandError>
+fn reason_list(alloc: Global, kind: HoldKind, member: &Word<'_>) -> Result<ReasonList, OperandError>
     ensures ok { IfOk result (λ list. HasSorted (IsReason kind) (word_of member.now) list × IsShort list) }
     ensures bad { IfErr result (λ e. Excludes e ((values : List (List ℕ))
         × (HasSorted (IsReason kind) (word_of member.now) values × IsShort values))) }
@@ -137,11 +133,7 @@ fn bypassed(alloc: Global, list: &Text<'_>) -> Result<Bypass, OperandError>
 }
 
 /// What the list of BYPASS says, of whose members none is there twice.
-fn bypass_list(
-    alloc: Global,
-    word: KnownWord,
-    list: &Text<'_>,
-) -> Result<Bypass, OperandError>
+fn bypass_list(alloc: Global, word: KnownWord, list: &Text<'_>) -> Result<Bypass, OperandError>
     ensures ok { list_any (is_often 2 (runs_from false [] (text_of list.now))) (members_of (command_word_of word))
         ≡ false → IfOk result (λ b. IsBypassList (command_word_of word) (text_of list.now) b) }
     ensures bad { IfErr result (λ e. Excludes e ((b : terms.Bypass)
@@ -154,11 +146,7 @@ fn bypass_list(
 }
 
 /// What BYPASS says, of whose members none is there twice. Where it is absent, nothing is bypassed.
-pub fn bypass(
-    alloc: Global,
-    word: KnownWord,
-    words: &Words<'_>,
-) -> Result<Bypass, OperandError>
+pub fn bypass(alloc: Global, word: KnownWord, words: &Words<'_>) -> Result<Bypass, OperandError>
     ensures ok { (ws : List grammar.Word) → LeavesWords words.now ws → AreSingle (command_word_of word) ws
         → IfOk result (λ b. HasBypass (command_word_of word) (operand (codes "BYPASS") ws) b) }
     ensures bad { (ws : List grammar.Word) → LeavesWords words.now ws → IfErr result (λ e. Excludes e

@@ -61,11 +61,7 @@ fn selection(alloc: Global, words: &Words<'_>) -> Result<Selection, OperandError
     })
 }
 
-fn install(
-    alloc: Global,
-    word: KnownWord,
-    words: &Words<'_>,
-) -> Result<Install, OperandError>
+fn install(alloc: Global, word: KnownWord, words: &Words<'_>) -> Result<Install, OperandError>
     ensures ok { (ws : List grammar.Word) → LeavesWords words.now ws → AreSingle (command_word_of word) ws
         → IfOk result (λ i. HasInstall (command_word_of word) ws i) }
     ensures bad { (ws : List grammar.Word) → LeavesWords words.now ws

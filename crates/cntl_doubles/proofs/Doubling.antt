@@ -1,7 +1,6 @@
 -- How often a word stands, and what list, by what stands behind the first one.
-use Rattle.std.proofs.Common.{◌≡◌, ◌+◌, Bool, true, false, List, ◌∷◌, Option, Some, None, refl, sym, ap, arith}
+use Rattle.std.proofs.Common.{◌≡◌, ◌+◌, true, false, List, ◌∷◌, Option, Some, None, refl, sym, ap, arith}
 use Rattle.std.specs.Prelude.{is_some, IfSome, IfNone, if◌then◌else◌}
-use Rattle.std.specs.Str.{bytes_eq}
 use Rattle.terms.specs.Types.{Text}
 use Rattle.terms.specs.Statement.{Piece, TheWord, TheList, Blank, Comment, Stray, HasSolid}
 use Rattle.terms.specs.Commands.{words_in, leading_list, list_behind, is_often}

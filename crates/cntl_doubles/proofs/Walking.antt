@@ -1,5 +1,5 @@
 -- A walk over the runs of a list, one byte more, and at its end.
-use Rattle.std.proofs.Common.{◌≡◌, ◌≢◌, ◌<◌, ◌+◌, ℕ, true, false, List, [], ◌∷◌, ◌++◌, length, sym, ◌∙◌, ap, cond}
+use Rattle.std.proofs.Common.{◌≡◌, ◌≢◌, ◌<◌, ◌+◌, ℕ, true, false, [], ◌∷◌, ◌++◌, length, sym, ◌∙◌, ap, cond}
 use Rattle.std.specs.Str.{bytes_eq}
 use Rattle.lemmas.proofs.Texts.{same_itself, other_text}
 use Rattle.terms.specs.Types.{Text}

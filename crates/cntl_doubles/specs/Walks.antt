@@ -1,5 +1,5 @@
 -- A walk over the runs of a list that looks for a name.
-use Rattle.std.specs.Prelude.{◌≡◌, ℕ, Bool, true, false, List, [], ◌∷◌, ◌++◌}
+use Rattle.std.specs.Prelude.{◌≡◌, ℕ, Bool, true, false, [], ◌∷◌, ◌++◌}
 use Rattle.terms.specs.Types.{Text}
 use Rattle.terms.specs.Commands.{runs_from}
 use Rattle.terms.proofs.OperandWords.{count}

@@ -33,7 +33,11 @@ fn behind_part<'n>(left: &'n [u8], byte: u8) -> At<'n>
     let Some((first, rest)) = left.split_first() else {
         return At::Other;
     };
-    if *first == byte { At::Part(rest) } else { At::Other }
+    if *first == byte {
+        At::Part(rest)
+    } else {
+        At::Other
+    }
 }
 
 /// Behind a character of no word.

@@ -1,4 +1,4 @@
-use Rattle.std.proofs.Common.{◌≡◌, List, ◌++◌, map, length}
+use Rattle.std.proofs.Common.{List, ◌++◌, map, length}
 use Rattle.terms.specs.Words.{Word, HasMembers}
 use Rattle.rec80.specs.Cursors.{text_of}
 use Rattle.rec80.specs.Lists.{LeavesMembers, members_text}
