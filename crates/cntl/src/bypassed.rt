@@ -12,12 +12,13 @@ ghost use Rattle.rec80.specs.Cursors.{text_of};
 ghost use Rattle.rec80.specs.Views.{word_of};
 ghost use Rattle.operands.specs.Left.{LeavesWords};
 ghost use Rattle.operands.specs.Failing.{Excludes};
-ghost use Rattle.cntl.specs.Views.{command_word_of, reasons_in};
+ghost use Rattle.cntl_words.specs.Views.{command_word_of};
+ghost use Rattle.cntl.specs.Views.{reasons_in};
 ghost use Rattle.cntl.specs.Singles.{AreSingle};
 
 use crate::bypass::{Bypass, Reasons};
-use crate::known_word::KnownWord;
-use crate::tables::members_of;
+use cntl_words::KnownWord;
+use cntl_words::members_of;
 use crate::values::short_list;
 use fields::{Class, ClassList, Reason, ReasonList};
 use operands::{BadOperand, OperandError, are_members, flag, named_member, operand};

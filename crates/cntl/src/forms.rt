@@ -5,12 +5,13 @@ ghost use Rattle.terms.specs.Words as grammar;
 ghost use Rattle.terms.specs.CommandForms.{HasReceive, HasSelection, HasInstall, HasOperands, command_word};
 ghost use Rattle.operands.specs.Left.{LeavesWords};
 ghost use Rattle.operands.specs.Failing.{Excludes};
-ghost use Rattle.cntl.specs.Views.{command_word_of, command_of};
+ghost use Rattle.cntl_words.specs.Views.{command_word_of};
+ghost use Rattle.cntl.specs.Views.{command_of};
 ghost use Rattle.cntl.specs.Singles.{AreSingle};
 
 use crate::bypassed::bypass;
 use crate::command::{Command, Install, ReceiveWhat, Selection};
-use crate::known_word::KnownWord;
+use cntl_words::KnownWord;
 use crate::values::{flag_of, id_list, some_ids, source_list, zone};
 use fields::Source;
 use operands::{BadOperand, OperandError, optional};

@@ -6,14 +6,10 @@
 mod bypass;
 mod bypassed;
 mod command;
-mod doubles;
 mod errors;
 mod file;
 mod forms;
-mod known;
-mod known_word;
 mod read;
-mod tables;
 mod values;
 
 pub use bypass::{Bypass, Reasons};

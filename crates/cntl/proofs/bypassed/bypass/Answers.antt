@@ -8,7 +8,7 @@ use Rattle.terms.specs.Commands.{runs_in, is_often}
 use Rattle.terms.proofs.BypassMembers.{list_of}
 use Rattle.rec80.specs.Cursors.{text_of}
 use Rattle.rec80.specs.Views.{word_of}
-use Rattle.cntl.specs.Views.{command_word_of}
+use Rattle.cntl_words.specs.Views.{command_word_of}
 use Rattle.cntl.proofs.Bypassing.{bypass_is}
 use Rattle.cntl.proofs.bypassed.bypass.Goals as goal
 

@@ -2,7 +2,7 @@ use Rattle.std.proofs.Common.{◌∙◌, ap, subst}
 use Rattle.std.proofs.lemmas.Result.{err_from_is_err_and}
 use Rattle.cntl.proofs.Formed.{of_reject, of_apply}
 use Rattle.operands.proofs.Failing.{excludes_more}
-use Rattle.cntl.specs.Views.{command_word_of}
+use Rattle.cntl_words.specs.Views.{command_word_of}
 use Rattle.cntl.specs.Singles.{AreSingle}
 use Rattle.cntl.proofs.forms.read_operands.Goals as goal
 

@@ -1,6 +1,7 @@
 use Rattle.std.proofs.Common.{◌∙◌, sym}
 use Rattle.terms.proofs.CommandLines.{of_command, is_command}
-use Rattle.cntl.specs.Views.{command_word_of, command_of}
+use Rattle.cntl_words.specs.Views.{command_word_of}
+use Rattle.cntl.specs.Views.{command_of}
 use Rattle.cntl.proofs.Bypassing.{single_words}
 use Rattle.cntl.proofs.Worded.{chosen}
 use Rattle.cntl.proofs.read.read_command.Goals as goal
