@@ -14,6 +14,6 @@ of_reject ws (Reject ids) e h = (ids, h)
 of_reject ws c e h = absurd (cc (e))
 
 pub of_apply : (ws : List Word) (c : Command) → command_word c ≡ word.Apply → HasOperands ws c
-    → (i : Install) × HasInstall ws i
+    → (i : Install) × HasInstall word.Apply ws i
 of_apply ws (Apply i) e h = (i, h)
 of_apply ws c e h = absurd (cc (e))

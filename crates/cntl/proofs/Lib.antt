@@ -1,5 +1,5 @@
-pub mod Doubling
 pub mod Valued
 pub mod Formed
 pub mod Worded
 pub mod Exact
+pub mod Bypassing

@@ -11,9 +11,9 @@ use Rattle.terms.proofs.CommandLines.{same_text}
 use Rattle.rec80.specs.declared.piece.Piece.{Piece as Read}
 use Rattle.rec80.specs.declared.piece.Piece.TheVariants.{Word as ReadWord, List as ReadList, Stray as ReadStray}
 use Rattle.rec80.specs.Pieces.{piece_of}
-use Rattle.cntl.specs.declared.known_word.KnownWord.{KnownWord}
-use Rattle.cntl.specs.declared.known_word.KnownWord.TheVariants as known
-use Rattle.cntl.specs.Views.{command_word_of}
+use Rattle.cntl_words.specs.declared.known_word.KnownWord.{KnownWord}
+use Rattle.cntl_words.specs.declared.known_word.KnownWord.TheVariants as known
+use Rattle.cntl_words.specs.Views.{command_word_of}
 
 pub no_piece : (ps : List Piece) (w : CommandWord) (rest : List Piece) → ps ≡ [] → BeginsWith ps w rest → ⊥
 no_piece ps w rest none b = let begins : ps ≡ TheWord (word_text w) ∷ rest = b.0 in cc (none, begins)

@@ -1,24 +1,14 @@
 -- Commands as the definitions see them.
-use Rattle.terms.specs.declared.codes.CommandWord.{CommandWord}
-use Rattle.terms.specs.declared.codes.CommandWord.TheVariants as word
 use Rattle.terms.specs.Types as terms
 use Rattle.cntl.specs.declared.bypass.Reasons.{Reasons}
 use Rattle.cntl.specs.declared.bypass.Reasons.TheVariants.{None, Any, These}
 use Rattle.cntl.specs.declared.command.Command.{Command}
 use Rattle.cntl.specs.declared.command.Command.TheVariants.{Set, Receive, Reject, Apply}
-use Rattle.cntl.specs.declared.known_word.KnownWord.{KnownWord}
-use Rattle.cntl.specs.declared.known_word.KnownWord.TheVariants as known
 
 abbrev pub reasons_in : Reasons → terms.Reasons
 reasons_in None = terms.NoReason
 reasons_in Any = terms.AnyReason
 reasons_in (These reasons) = terms.TheseReasons reasons
-
-abbrev pub command_word_of : KnownWord → CommandWord
-command_word_of known.Set = word.Set
-command_word_of known.Receive = word.Receive
-command_word_of known.Reject = word.Reject
-command_word_of known.Apply = word.Apply
 
 abbrev pub command_of : Command → terms.Command
 command_of (Set zone) = terms.Set zone

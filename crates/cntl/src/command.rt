@@ -1,3 +1,4 @@
+use crate::bypass::Bypass;
 use fields::{IdList, Source, SourceList, ZoneName};
 use std::marker::Model;
 
@@ -56,16 +57,16 @@ impl Model for Selection {
 #[derive(Drop)]
 pub struct Install {
     pub selection: Selection,
+    pub bypass: Bypass,
     pub check: bool,
 }
 
 impl Model for Install {
     ghost use Rattle.terms.specs.Types as terms;
-    ghost use Rattle.terms.specs.CommandForms.{no_bypass};
 
     ghost Value = { terms.Install };
 
-    ghost view = { λ a. record { selection = a.selection; bypass = no_bypass; check = a.check } };
+    ghost view = { λ a. record { selection = a.selection; bypass = a.bypass; check = a.check } };
 }
 
 /// A command, of those that can be performed as yet.

@@ -5,10 +5,13 @@ ghost use Rattle.terms.specs.Words as grammar;
 ghost use Rattle.terms.specs.CommandForms.{HasReceive, HasSelection, HasInstall, HasOperands, command_word};
 ghost use Rattle.operands.specs.Left.{LeavesWords};
 ghost use Rattle.operands.specs.Failing.{Excludes};
-ghost use Rattle.cntl.specs.Views.{command_word_of, command_of};
+ghost use Rattle.cntl_words.specs.Views.{command_word_of};
+ghost use Rattle.cntl.specs.Views.{command_of};
+ghost use Rattle.cntl.specs.Singles.{AreSingle};
 
+use crate::bypassed::bypass;
 use crate::command::{Command, Install, ReceiveWhat, Selection};
-use crate::known_word::KnownWord;
+use cntl_words::KnownWord;
 use crate::values::{flag_of, id_list, some_ids, source_list, zone};
 use fields::Source;
 use operands::{BadOperand, OperandError, optional};
@@ -59,24 +62,31 @@ fn selection(alloc: Global, words: &Words<'_>) -> Result<Selection, OperandError
     })
 }
 
-fn install(alloc: Global, words: &Words<'_>) -> Result<Install, OperandError>
-    ensures ok { (ws : List grammar.Word) → LeavesWords words.now ws → IfOk result (λ i. HasInstall ws i) }
+fn install(alloc: Global, word: KnownWord, words: &Words<'_>) -> Result<Install, OperandError>
+    ensures ok { (ws : List grammar.Word) → LeavesWords words.now ws → AreSingle (command_word_of word) ws
+        → IfOk result (λ i. HasInstall (command_word_of word) ws i) }
     ensures bad { (ws : List grammar.Word) → LeavesWords words.now ws
-        → IfErr result (λ e. Excludes e ((i : terms.Install) × HasInstall ws i)) }
+        → IfErr result (λ e. Excludes e ((i : terms.Install) × HasInstall (command_word_of word) ws i)) }
 {
     let check = flag_of(words, b"CHECK")?;
     let selection = selection(alloc, words)?;
-    Ok(Install { selection, check })
+    let bypass = bypass(alloc, word, words)?;
+    Ok(Install {
+        selection,
+        bypass,
+        check,
+    })
 }
 
-/// The command of this word and of the operands that are left, which are known ones.
+/// The command of this word and of the operands that are left, which are known ones. No member of BYPASS is there
+/// twice.
 pub fn read_operands(
     alloc: Global,
     word: KnownWord,
     words: &Words<'_>,
 ) -> Result<Command, OperandError>
     ensures word { IfOk result (λ c. command_word (command_of c) ≡ command_word_of word) }
-    ensures ok { (ws : List grammar.Word) → LeavesWords words.now ws
+    ensures ok { (ws : List grammar.Word) → LeavesWords words.now ws → AreSingle (command_word_of word) ws
         → IfOk result (λ c. HasOperands ws (command_of c)) }
     ensures bad { (ws : List grammar.Word) → LeavesWords words.now ws
         → IfErr result (λ e. Excludes e ((c : terms.Command) × ((command_word c ≡ command_word_of word)
@@ -86,6 +96,6 @@ pub fn read_operands(
         KnownWord::Set => Ok(Command::Set(zone(words)?)),
         KnownWord::Receive => Ok(Command::Receive(receive(words)?)),
         KnownWord::Reject => Ok(Command::Reject(some_ids(alloc, words, b"SELECT")?)),
-        KnownWord::Apply => Ok(Command::Apply(install(alloc, words)?)),
+        KnownWord::Apply => Ok(Command::Apply(install(alloc, KnownWord::Apply, words)?)),
     }
 }

@@ -1,18 +1,15 @@
 //! Command files: their commands, or the first fault.
 //! `read_cntl` answers the commands that the grammar relates the file to, else its first fault with the record; no file
-//! has both. Known are SET, RECEIVE, REJECT and APPLY without BYPASS; any other command or operand is told as unknown.
+//! has both. Known are SET, RECEIVE, REJECT and APPLY; any other command or operand is told as unknown.
 #![tactic(auto)]
 
 mod bypass;
+mod bypassed;
 mod command;
-mod doubles;
 mod errors;
 mod file;
 mod forms;
-mod known;
-mod known_word;
 mod read;
-mod tables;
 mod values;
 
 pub use bypass::{Bypass, Reasons};

@@ -41,7 +41,7 @@ pub fn zone(words: &Words<'_>) -> Result<ZoneName, BadOperand>
 }
 
 /// The members of the word's list in rising order, where they are no more than a list may have.
-fn short_list<T: Member>(alloc: Global, word: &Word<'_>) -> Result<Rising<T>, OperandError>
+pub fn short_list<T: Member>(alloc: Global, word: &Word<'_>) -> Result<Rising<T>, OperandError>
     ensures ok { IfOk result (λ list. HasSorted T.form (word_of word.now) (map T.text list)
         × IsShort (map T.text list)) }
     ensures bad { IfErr result (λ e. Excludes e ((values : List (List ℕ))

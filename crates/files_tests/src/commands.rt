@@ -1,7 +1,7 @@
 //! Operands and command files.
 
 use crate::cards::{Spelled, file, record};
-use cntl::{CntlError, Command, Install, ReceiveWhat, read_cntl};
+use cntl::{Bypass, CntlError, Command, Install, Reasons, ReceiveWhat, read_cntl};
 use operands::{flag, ids, one_member, operand, sources};
 use rec80::{Record, Records, Word};
 use spelling::cn_text;
@@ -130,6 +130,34 @@ const FILES: &[[&str; 3]] = &[
     ["APPLY. APPLY.", "", "1 Cn5"],
     ["APPLY.", "/* open", "2 Cn5"],
     ["APPLY.", "APPLY NO", "2 Cn5"],
+    ["APPLY BYPASS(PRE,REQ IFREQ , ID).", "", "APPLY PRE REQ IFREQ ID;"],
+    [
+        "APPLY BYPASS(HOLDUSER,HOLDSYSTEM",
+        "HOLDERROR) CHECK.",
+        "APPLY CHECK HOLDERROR HOLDSYSTEM HOLDUSER;",
+    ],
+    [
+        "APPLY BYPASS(HOLDERROR (AA00002,AA00001)",
+        " HOLDSYSTEM(DOC A),HOLDUSER(PRE REQ),PRE HOLDCLASS(C B)).",
+        "APPLY PRE HOLDERROR(AA00001 AA00002 ) HOLDSYSTEM(A DOC ) HOLDUSER(PRE REQ ) HOLDCLASS(B C );",
+    ],
+    ["APPLY BYPASS(PRE PRE).", "", "1 Cn3"],
+    ["APPLY BYPASS(PRE!PRE) NO.", "", "1 Cn3"],
+    ["APPLY BYPASS(PRE,,PRE).", "", "1 Cn3"],
+    ["APPLY BYPASS(PRE) BYPASS(REQ).", "", "1 Cn3"],
+    ["APPLY BYPASS(PRE,,REQ).", "", "1 Cn2"],
+    ["APPLY BYPASS(,PRE).", "", "1 Cn2"],
+    ["APPLY BYPASS(PRE,).", "", "1 Cn2"],
+    ["APPLY BYPASS(HOLDUSER(A)PRE).", "", "1 Cn2"],
+    ["APPLY BYPASS(HOLDUSER(A A)).", "", "1 Cn2"],
+    ["APPLY BYPASS(HOLDERROR(A)).", "", "1 Cn2"],
+    ["APPLY BYPASS(HOLDCLASS).", "", "1 Cn2"],
+    ["APPLY BYPASS(PRE(A)).", "", "1 Cn2"],
+    ["APPLY BYPASS(APPLYCHECK).", "", "1 Cn2"],
+    ["APPLY BYPASS(APPLYCHECK APPLYCHECK).", "", "1 Cn2"],
+    ["APPLY BYPASS.", "BYPASS", "1 Cn2"],
+    ["APPLY BYPASS( ).", "", "1 Cn2"],
+    ["REJECT SELECT(UA00001) BYPASS(PRE PRE).", "", "1 Cn2"],
     ["ACCEPT CHECK CHECK.", "", "1 Cn1"],
     ["APPLY.", "RESTORE SELECT(UA00001).", "2 Cn1"],
     ["LIST.", "", "1 Cn1"],
@@ -151,12 +179,48 @@ fn put_receive(spelled: &mut Spelled, what: &ReceiveWhat) {
     }
 }
 
+fn put_reasons(spelled: &mut Spelled, reasons: &Reasons, name: &[u8]) {
+    match reasons {
+        Reasons::None => {}
+        Reasons::Any => spelled.put(name),
+        Reasons::These(list) => {
+            spelled.put(name);
+            spelled.put(b"(");
+            for reason in list.iter() {
+                spelled.put(reason.as_bytes());
+                spelled.put(b" ");
+            }
+            spelled.put(b")");
+        }
+    }
+}
+
+fn put_bypass(spelled: &mut Spelled, bypass: &Bypass) {
+    put_flag(spelled, bypass.pre, b" PRE");
+    put_flag(spelled, bypass.req, b" REQ");
+    put_flag(spelled, bypass.ifreq, b" IFREQ");
+    put_flag(spelled, bypass.same_id, b" ID");
+    put_flag(spelled, bypass.applycheck, b" APPLYCHECK");
+    put_reasons(spelled, &bypass.holderror, b" HOLDERROR");
+    put_reasons(spelled, &bypass.holdsystem, b" HOLDSYSTEM");
+    put_reasons(spelled, &bypass.holduser, b" HOLDUSER");
+    if !bypass.holdclass.is_empty() {
+        spelled.put(b" HOLDCLASS(");
+        for class in bypass.holdclass.iter() {
+            spelled.put(class.as_bytes());
+            spelled.put(b" ");
+        }
+        spelled.put(b")");
+    }
+}
+
 fn put_apply(spelled: &mut Spelled, install: &Install) {
     spelled.put(b"APPLY");
     put_flag(spelled, install.selection.ptfs, b" PTFS");
     put_flag(spelled, install.selection.groupextend, b" EXTEND");
     put_flag(spelled, install.check, b" CHECK");
     spelled.put_ids(b" SELECT", &install.selection.select);
+    put_bypass(spelled, &install.bypass);
 }
 
 fn put_command(spelled: &mut Spelled, command: &Command) {

@@ -1,5 +1,7 @@
 -- The words that are left of a statement or a command.
-use Rattle.std.specs.Prelude.{List}
+use Rattle.std.specs.Prelude.{List, All, IsTrue}
+use Rattle.terms.specs.Types.{Text}
+use Rattle.terms.specs.Lookups.{is_in}
 use Rattle.terms.specs.Statement.{Piece, HasSolid}
 use Rattle.terms.specs.Words.{Word, HasWords}
 use Rattle.rec80.specs.declared.words.Words.{Words}
@@ -12,3 +14,7 @@ LeavesPieces words pieces = HasSolid (left_of words) pieces
 -- These words are left, and nothing else.
 abbrev pub LeavesWords : Words → List Word → Type 0
 LeavesWords words ws = (pieces : List Piece) × LeavesPieces words pieces × HasWords pieces ws
+
+-- words or members of these names alone
+abbrev pub AreNamed : List Text → List Word → Type 0
+AreNamed names words = All (λ w. IsTrue (is_in names w.word)) words

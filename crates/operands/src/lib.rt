@@ -1,17 +1,19 @@
 //! Operands of statements and commands: they are found among the words, and their values are read.
-//! `operand` is the one of a name. A flag, a list's only member, and a list without doubles, in rising order, are read
+//! `operand` is the one of a name, and `named_member` that of a list. A flag, a list's only member, and a list without doubles, in rising order, are read
 //! just where the word has that form.
 #![tactic(auto)]
 
 mod errors;
 mod find;
+mod known;
 mod lists;
 mod member;
 mod members;
 mod values;
 
 pub use errors::{BadOperand, OperandError};
-pub use find::operand;
+pub use find::{named_member, operand};
+pub use known::{are_members, is_among};
 pub use lists::{ids, listed, listed_ids, rising, sources};
 pub use member::Member;
 pub use values::{flag, one, one_member, optional, required};

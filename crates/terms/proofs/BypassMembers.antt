@@ -36,9 +36,9 @@ no_member (b ∷ bs) stops = false_from_ne_true (is_word_byte b) (λ h. true≢f
 abbrev pub AreWordBytes : Text → Type 0
 AreWordBytes text = All (λ b. IsTrue (is_word_byte b)) text
 
-goes_on : (run : Text) (b : ℕ) (bs : Text) → is_word_byte b ≡ true
+pub run_goes_on : (run : Text) (b : ℕ) (bs : Text) → is_word_byte b ≡ true
     → runs_from false run (b ∷ bs) ≡ runs_from false (run ++ b ∷ []) bs
-goes_on run b bs h = ap (λ c. if c then runs_from false (run ++ b ∷ []) bs else run ∷ runs_from (b == 40) [] bs) h
+run_goes_on run b bs h = ap (λ c. if c then runs_from false (run ++ b ∷ []) bs else run ∷ runs_from (b == 40) [] bs) h
 
 pub run_stops : (run : Text) (b : ℕ) (bs : Text) → is_word_byte b ≡ false
     → runs_from false run (b ∷ bs) ≡ run ∷ runs_from (b == 40) [] bs
@@ -48,7 +48,7 @@ run_word : (word run after : Text) → AreWordBytes word
     → runs_from false run (word ++ after) ≡ runs_from false (run ++ word) after
 run_word [] run after each = ap (λ r. runs_from false r after) (sym (append-nil run))
 run_word (b ∷ word) run after each =
-    goes_on run b (word ++ after) (All-head (λ b. IsTrue (is_word_byte b)) b word each)
+    run_goes_on run b (word ++ after) (All-head (λ b. IsTrue (is_word_byte b)) b word each)
     ∙ run_word word (run ++ b ∷ []) after (All-tail (λ b. IsTrue (is_word_byte b)) b word each)
     ∙ ap (λ r. runs_from false r after) (append_assoc run (b ∷ []) word)
 

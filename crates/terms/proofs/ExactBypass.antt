@@ -99,6 +99,9 @@ name_is w t h =
     let parts = and_parts (nat_le 1 (length t)) (list_all is_word_byte t) is in
     (omega (arith, leb-true 1 (length t) parts.0), AllPass-from_list_all is_word_byte t parts.1)
 
+pub names_some : (w : CommandWord) → All (λ t. 0 < length t) (members_of w)
+names_some w = λ i d below. (name_is w (get_or (members_of w) i d) (Contains-get_or (members_of w) i d below)).0
+
 -- Members that the command's BYPASS may have stand in a list as often as their names among its runs.
 pub runs_count : (w : CommandWord) (text : Text) (ms : List Word) (t : Text) → HasMembers text ms
     → All (λ m. IsTrue (is_in (members_of w) m.word)) ms → Contains (members_of w) t
@@ -130,7 +133,7 @@ members_single w text ms h are =
       runs_count w text ms name h are.known (Contains-get_or (members_of w) i d below),
     )))
 
-none_single : (names : List Text) → list_any (is_often 2 []) names ≡ false
+pub none_single : (names : List Text) → list_any (is_often 2 []) names ≡ false
 none_single names = list_any_none (is_often 2 []) names (λ i d below. refl)
 
 list_single : (w : CommandWord) (list : Option Text) (b : Bypass) → IsSomeAnd list (λ text. IsBypassList w text b)

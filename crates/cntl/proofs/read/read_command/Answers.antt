@@ -1,6 +1,8 @@
 use Rattle.std.proofs.Common.{◌∙◌, sym}
 use Rattle.terms.proofs.CommandLines.{of_command, is_command}
-use Rattle.cntl.specs.Views.{command_word_of, command_of}
+use Rattle.cntl_words.specs.Views.{command_word_of}
+use Rattle.cntl.specs.Views.{command_of}
+use Rattle.cntl.proofs.Bypassing.{single_words}
 use Rattle.cntl.proofs.Worded.{chosen}
 use Rattle.cntl.proofs.read.read_command.Goals as goal
 
@@ -42,4 +44,5 @@ returns-in-Ok-clause-command c = λ pieces h.
     let k = c.are_operands.ensures.known c.if-not-are_operands.false t.0 t.2 in
     is_command pieces (command_word_of c.in-Some.word) t.0 k.0 (command_of c.in-Ok.command) t.1 k.1 k.2
     (sym (c.has_double.ensures t.0 t.2) ∙ c.if-has_double.false) c.in-Ok.ensures.word
-    (c.in-Ok.ensures.ok k.0 (t.0, t.2, k.1))
+    (c.in-Ok.ensures.ok k.0 (t.0, t.2, k.1) (single_words (command_word_of c.in-Some.word) t.0 k.0 k.1
+    (sym (c.has_double.ensures t.0 t.2) ∙ c.if-has_double.false)))

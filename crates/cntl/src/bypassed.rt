@@ -1,0 +1,163 @@
+//! The operand BYPASS and its members.
+ghost use Rattle.std.specs.Prelude.{◌≡◌, ◌↔◌, ℕ, Bool, false, List, [], All, IsTrue, codes, IfOk, IfErr, OnErr};
+ghost use Rattle.std.specs.List.{list_any};
+ghost use Rattle.terms.specs.Types as terms;
+ghost use Rattle.terms.specs.Forms.{IsClass, IsReason};
+ghost use Rattle.terms.specs.Words as grammar;
+ghost use Rattle.terms.specs.Words.{HasMembers, IsShort};
+ghost use Rattle.terms.specs.Operands.{operand, HasFlag, HasSorted};
+ghost use Rattle.terms.specs.CommandForms.{members_of, HasShort, HasReasons, HasBypassed, IsBypassList, HasBypass};
+ghost use Rattle.terms.specs.Commands.{runs_from, is_often};
+ghost use Rattle.rec80.specs.Cursors.{text_of};
+ghost use Rattle.rec80.specs.Views.{word_of};
+ghost use Rattle.operands.specs.Left.{LeavesWords};
+ghost use Rattle.operands.specs.Failing.{Excludes};
+ghost use Rattle.cntl_words.specs.Views.{command_word_of};
+ghost use Rattle.cntl.specs.Views.{reasons_in};
+ghost use Rattle.cntl.specs.Singles.{AreSingle};
+
+use crate::bypass::{Bypass, Reasons};
+use cntl_words::KnownWord;
+use cntl_words::members_of;
+use crate::values::short_list;
+use fields::{Class, ClassList, Reason, ReasonList};
+use operands::{BadOperand, OperandError, are_members, flag, named_member, operand};
+use rec80::{Text, Word, Words};
+use std::alloc::Global;
+use terms::HoldKind;
+
+/// Whether the member of that name is there, which has no list.
+fn member_flag(list: &Text<'_>, name: &[u8]) -> Result<bool, BadOperand>
+    ensures ok { (ms : List grammar.Word) → HasMembers (text_of list.now) ms
+        → IfOk result (λ flag. HasFlag (operand name.now ms) flag) }
+    ensures bad { (ms : List grammar.Word) → HasMembers (text_of list.now) ms → OnErr result ((flag : Bool)
+        → HasFlag (operand name.now ms) flag → ⊥) }
+{
+    flag(&named_member(list, name))
+}
+
+fn suits_kind(kind: HoldKind, reason: Reason) -> bool
+    ensures { IsTrue result ↔ IsReason kind reason }
+{
+    match kind {
+        HoldKind::Error => reason.is_id(),
+        HoldKind::System | HoldKind::User => true,
+    }
+}
+
+/// Whether each is a reason of holds of the kind.
+fn suit_kind(kind: HoldKind, reasons: &ReasonList) -> bool
+    ensures { IsTrue result ↔ All (IsReason kind) reasons.now }
+{
+    reasons.iter().all(|reason| suits_kind(kind, *reason))
+}
+
+fn class_reasons(alloc: Global, member: &Word<'_>) -> Result<ReasonList, OperandError>
+    ensures ok { IfOk result (λ list. HasSorted IsClass (word_of member.now) list × IsShort list) }
+    ensures bad { IfErr result (λ e. Excludes e ((values : List (List ℕ))
+        × (HasSorted IsClass (word_of member.now) values × IsShort values))) }
+{
+    short_list::<Reason>(alloc, member)
+}
+
+/// The reasons in the list of a member, which are those of holds of the kind.
+fn reason_list(alloc: Global, kind: HoldKind, member: &Word<'_>) -> Result<ReasonList, OperandError>
+    ensures ok { IfOk result (λ list. HasSorted (IsReason kind) (word_of member.now) list × IsShort list) }
+    ensures bad { IfErr result (λ e. Excludes e ((values : List (List ℕ))
+        × (HasSorted (IsReason kind) (word_of member.now) values × IsShort values))) }
+{
+    let reasons = class_reasons(alloc, member)?;
+    if !suit_kind(kind, &reasons) {
+        return Err(OperandError::Bad);
+    }
+    Ok(reasons)
+}
+
+/// The reasons of the member of that name, all of them where it has no list.
+fn reasons(
+    alloc: Global,
+    kind: HoldKind,
+    list: &Text<'_>,
+    name: &[u8],
+) -> Result<Reasons, OperandError>
+    ensures ok { (ms : List grammar.Word) → HasMembers (text_of list.now) ms
+        → IfOk result (λ r. HasReasons kind (operand name.now ms) (reasons_in r)) }
+    ensures bad { (ms : List grammar.Word) → HasMembers (text_of list.now) ms
+        → IfErr result (λ e. Excludes e ((r : terms.Reasons) × HasReasons kind (operand name.now ms) r)) }
+{
+    let Some(member) = named_member(list, name) else {
+        return Ok(Reasons::None);
+    };
+    if member.list.is_none() {
+        return Ok(Reasons::Any);
+    }
+    Ok(Reasons::These(reason_list(alloc, kind, &member)?))
+}
+
+fn class_list(alloc: Global, member: &Word<'_>) -> Result<ClassList, OperandError>
+    ensures ok { IfOk result (λ list. HasSorted IsClass (word_of member.now) list × IsShort list) }
+    ensures bad { IfErr result (λ e. Excludes e ((values : List (List ℕ))
+        × (HasSorted IsClass (word_of member.now) values × IsShort values))) }
+{
+    short_list::<Class>(alloc, member)
+}
+
+fn classes(alloc: Global, list: &Text<'_>) -> Result<ClassList, OperandError>
+    ensures ok { (ms : List grammar.Word) → HasMembers (text_of list.now) ms
+        → IfOk result (λ classes. HasShort IsClass (operand (codes "HOLDCLASS") ms) classes) }
+    ensures bad { (ms : List grammar.Word) → HasMembers (text_of list.now) ms → IfErr result (λ e. Excludes e
+        ((classes : List (List ℕ)) × HasShort IsClass (operand (codes "HOLDCLASS") ms) classes)) }
+{
+    match named_member(list, b"HOLDCLASS") {
+        Some(member) => class_list(alloc, &member),
+        None => Ok(ClassList::new(alloc)),
+    }
+}
+
+/// What the members of the list say.
+fn bypassed(alloc: Global, list: &Text<'_>) -> Result<Bypass, OperandError>
+    ensures ok { (ms : List grammar.Word) → HasMembers (text_of list.now) ms → IfOk result (λ b. HasBypassed ms b) }
+    ensures bad { (ms : List grammar.Word) → HasMembers (text_of list.now) ms
+        → IfErr result (λ e. Excludes e ((b : terms.Bypass) × HasBypassed ms b)) }
+{
+    Ok(Bypass {
+        pre: member_flag(list, b"PRE")?,
+        req: member_flag(list, b"REQ")?,
+        ifreq: member_flag(list, b"IFREQ")?,
+        same_id: member_flag(list, b"ID")?,
+        applycheck: member_flag(list, b"APPLYCHECK")?,
+        holderror: reasons(alloc, HoldKind::Error, list, b"HOLDERROR")?,
+        holdsystem: reasons(alloc, HoldKind::System, list, b"HOLDSYSTEM")?,
+        holduser: reasons(alloc, HoldKind::User, list, b"HOLDUSER")?,
+        holdclass: classes(alloc, list)?,
+    })
+}
+
+/// What the list of BYPASS says, of whose members none is there twice.
+fn bypass_list(alloc: Global, word: KnownWord, list: &Text<'_>) -> Result<Bypass, OperandError>
+    ensures ok { list_any (is_often 2 (runs_from false [] (text_of list.now))) (members_of (command_word_of word))
+        ≡ false → IfOk result (λ b. IsBypassList (command_word_of word) (text_of list.now) b) }
+    ensures bad { IfErr result (λ e. Excludes e ((b : terms.Bypass)
+        × IsBypassList (command_word_of word) (text_of list.now) b)) }
+{
+    if !are_members(members_of(word), list) {
+        return Err(OperandError::Bad);
+    }
+    bypassed(alloc, list)
+}
+
+/// What BYPASS says, of whose members none is there twice. Where it is absent, nothing is bypassed.
+pub fn bypass(alloc: Global, word: KnownWord, words: &Words<'_>) -> Result<Bypass, OperandError>
+    ensures ok { (ws : List grammar.Word) → LeavesWords words.now ws → AreSingle (command_word_of word) ws
+        → IfOk result (λ b. HasBypass (command_word_of word) (operand (codes "BYPASS") ws) b) }
+    ensures bad { (ws : List grammar.Word) → LeavesWords words.now ws → IfErr result (λ e. Excludes e
+        ((b : terms.Bypass) × HasBypass (command_word_of word) (operand (codes "BYPASS") ws) b)) }
+{
+    let Some(found) = operand(words, b"BYPASS") else {
+        return Ok(Bypass::none(alloc));
+    };
+    let Some(list) = found.list else {
+        return Err(OperandError::Bad);
+    };
+    bypass_list(alloc, word, &list)
+}
