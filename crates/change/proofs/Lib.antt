@@ -2,3 +2,6 @@ pub mod InTurn
 pub mod Installable
 pub mod Putting
 pub mod AfterInstall
+pub mod FoldUpdates
+pub mod FoldSteps
+pub mod FoldEnd
