@@ -1,12 +1,10 @@
 -- What the fold makes of an element is the element after the installed SYSMODs that change it.
 use Rattle.std.proofs.Common.{◌≡◌, ◌≢◌, ◌⊎◌, inl, inr, Bool, true, false, List, [], ◌∷◌, ◌++◌, Option, Some, None, refl, sym}
 use Rattle.std.proofs.Common.{ap, ◌∙◌, subst, true≢false, IsTrue, AllPairs, All, Contains}
-use Rattle.std.specs.Prelude.{◌↔◌, ◌<◌, ℕ, is_some, IsFalse, IfSome, Any, find, filter, length, take, drop, suc, get_or}
+use Rattle.std.specs.Prelude.{◌↔◌, ℕ, is_some, IsFalse, IfSome, Any, find, filter}
 use Rattle.std.specs.Option.{IsSome, option_map_or, option_and_then}
 use Rattle.std.specs.List.{flat_map}
 use Rattle.std.specs.Str.{bytes_eq}
-use Rattle.std.proofs.Math.Seq.{drop-cons}
-use Rattle.std.proofs.lemmas.List.{take-append-drop}
 use Rattle.std.proofs.lemmas.List.Elements.{Contains-append_left, Contains-append_right, Contains-append_cases}
 use Rattle.lemmas.proofs.Members.{there, here_or, none_in, in_middle, in_filter}
 use Rattle.lemmas.proofs.Pairs.{AllPairs-parts}
@@ -23,6 +21,7 @@ use Rattle.terms.specs.Install.{HasElementAfter}
 use Rattle.terms.proofs.Leads.{reaches_through, reaches_more}
 use Rattle.change.specs.Folding.{UpdatesBy, AreUpdates, IsUpdatedBy, HasReplaced, HasUpdated, IsFolded, AreChangers}
 use Rattle.change.proofs.InTurn.{in_flat}
+use Rattle.change.proofs.Ordered.{all_in}
 use Rattle.change.proofs.FoldSteps.{none_updated}
 
 -- ---- nothing is over itself
@@ -52,20 +51,6 @@ unfolding names_in
 not_over_itself g srel is x over =
     is.no_loop (srel, x, reaches_more (names (by_srel g srel)) (names_for g srel)
     (λ y z h. by_sysmod srel (sysmod_of g y) z h) x x over)
-
--- ---- what stands before a place
-
-pub all_in : {X : Type 0} (P : X → Type 0) (xs : List X) (x : X) → All P xs → Contains xs x → P x
-all_in P xs x all h = subst P h.2 (all h.0 x h.1)
-
--- each of those so far has the relation to the next one
-pub newest : {X : Type 0} (R : X → X → Type 0) (xs : List X) (k : ℕ) (x : X) → AllPairs R xs → k < length xs
-    → x ≡ get_or xs k x → (y : X) → Contains (take k xs) y → R y x
-newest R xs k x pairs below is y m =
-    let split : xs ≡ take k xs ++ get_or xs k x ∷ drop (suc k) xs =
-    sym (take-append-drop k xs) ∙ ap (λ ys. take k xs ++ ys) (drop-cons xs k x below) in
-    let sides = AllPairs-parts R (take k xs) (drop (suc k) xs) (get_or xs k x) (subst (AllPairs R) split pairs) in
-    subst (R y) (sym is) (all_in (λ z. R z (get_or xs k x)) (take k xs) y sides.0 m)
 
 -- ---- what is known of a SYSMOD that changes the element
 

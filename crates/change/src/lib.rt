@@ -6,5 +6,6 @@
 
 mod folding;
 mod installing;
+mod ordering;
 
 pub use installing::install;

@@ -5,8 +5,9 @@ use Rattle.terms.specs.Choice.{by_srel}
 use Rattle.terms.specs.Lookups.{IsRising}
 use Rattle.terms.specs.Over.{IsOver}
 use Rattle.change.specs.Folding.{IsFolded, AreChangers}
-use Rattle.change.proofs.FoldEnd.{folded_none, folded_some, folded_after, not_over_itself, newest}
+use Rattle.change.proofs.FoldEnd.{folded_none, folded_some, folded_after, not_over_itself}
 use Rattle.change.proofs.FoldSteps.{fold_more}
+use Rattle.change.proofs.Ordered.{newest}
 use Rattle.change.proofs.folding.element_after.Goals as goal
 
 pub loop-id-init : goal.loop-id-init
