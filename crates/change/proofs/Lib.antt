@@ -6,3 +6,4 @@ pub mod Ordered
 pub mod FoldUpdates
 pub mod FoldSteps
 pub mod FoldEnd
+pub mod Grouped

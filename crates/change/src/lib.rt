@@ -5,6 +5,7 @@
 #![tactic(auto)]
 
 mod folding;
+mod grouping;
 mod installing;
 mod ordering;
 
