@@ -1,22 +1,22 @@
 -- What the fold makes of an element is the element after the installed SYSMODs that change it.
-use Rattle.std.proofs.Common.{◌≡◌, ◌≢◌, ◌⊎◌, inl, inr, Bool, true, false, List, [], ◌∷◌, ◌++◌, Option, Some, None, refl, sym}
+use Rattle.std.proofs.Common.{◌≡◌, ◌⊎◌, inl, inr, Bool, true, false, List, [], ◌∷◌, ◌++◌, Option, Some, None, refl, sym}
 use Rattle.std.proofs.Common.{ap, ◌∙◌, subst, true≢false, IsTrue, AllPairs, All, Contains}
-use Rattle.std.specs.Prelude.{◌↔◌, ℕ, is_some, IsFalse, IfSome, Any, find, filter}
+use Rattle.std.specs.Prelude.{◌↔◌, is_some, IsFalse, IfSome, Any, find, filter}
 use Rattle.std.specs.Option.{IsSome, option_map_or, option_and_then}
 use Rattle.std.specs.List.{flat_map}
 use Rattle.std.specs.Str.{bytes_eq}
-use Rattle.std.proofs.lemmas.List.Elements.{Contains-append_left, Contains-append_right, Contains-append_cases}
+use Rattle.std.proofs.lemmas.List.Elements.{Contains-append_right, Contains-append_cases}
 use Rattle.lemmas.proofs.Members.{there, here_or, none_in, in_middle, in_filter}
 use Rattle.lemmas.proofs.Pairs.{AllPairs-parts}
 use Rattle.lemmas.proofs.Searches.{find-gives}
 use Rattle.terms.specs.declared.kinds.ElemType.{ElemType}
-use Rattle.terms.specs.Types.{Text, Id, Lines, Action, Replaces, Updates, Change, Sysmod, Ver, Global, Element}
+use Rattle.terms.specs.Types.{Text, Id, Lines, Change, Sysmod, Ver, Global, Element}
 use Rattle.terms.specs.Lookups.{IsRising, at_most_one, sysmod_of, change_of, has_change, element_of}
 use Rattle.terms.specs.Global.{IsGlobal, named, names_for}
 use Rattle.terms.specs.Choice.{Choice, by_srel}
 use Rattle.terms.specs.Changes.{is_replacement, has_replacement}
-use Rattle.terms.specs.Over.{IsOver, names, owner}
-use Rattle.terms.specs.Install.{Installation, TakesEffect, cleared, IsReplacer, HasBase, IsUpdater, Decides, IsUpdated}
+use Rattle.terms.specs.Over.{IsOver, names}
+use Rattle.terms.specs.Install.{Installation, TakesEffect, cleared, IsReplacer, IsUpdater, IsUpdated}
 use Rattle.terms.specs.Install.{HasElementAfter}
 use Rattle.terms.proofs.Leads.{reaches_through, reaches_more}
 use Rattle.change.specs.Folding.{UpdatesBy, AreUpdates, IsUpdatedBy, HasReplaced, HasUpdated, IsFolded, AreChangers}
@@ -49,8 +49,12 @@ by_sysmod srel (Some s) z h = by_ver srel s.vers (find (λ v. bytes_eq v.srel sr
 pub not_over_itself : (g : Global) (srel : Text) → IsGlobal g → (x : Id) → ¬ IsOver (by_srel g srel) x x
 unfolding names_in
 not_over_itself g srel is x over =
-    is.no_loop (srel, x, reaches_more (names (by_srel g srel)) (names_for g srel)
-    (λ y z h. by_sysmod srel (sysmod_of g y) z h) x x over)
+    is.no_loop (
+      srel,
+      x,
+      reaches_more (names (by_srel g srel)) (names_for g srel)
+          (λ y z h. by_sysmod srel (sysmod_of g y) z h) x x over,
+    )
 
 -- ---- what is known of a SYSMOD that changes the element
 
@@ -106,8 +110,7 @@ module _ (i : Installation) (type : ElemType) (name : Text) where
     -- behind a replacement
     after_replacer : (e : Element) → HasReplaced i.global i.choice type name xs (Some e) → HasElementAfter i type name e
     after_replacer e f =
-        let same : e ≡ f.e = cc f.new_is in
-        (
+        let same : e ≡ f.e = cc f.new_is in (
           Some f.replacer,
           f.base,
           (replacer, f.replaces),
@@ -174,8 +177,7 @@ module _ (i : Installation) (type : ElemType) (name : Text) where
     after_zone : (base e : Element) → Some base ≡ element_of (cleared i) type name
         → HasUpdated i.global i.choice type name xs (Some base) (Some e) → HasElementAfter i type name e
     after_zone base e at f =
-        let same : e ≡ f.updated.0 = cc f.updated.1 in
-        (
+        let same : e ≡ f.updated.0 = cc f.updated.1 in (
           None,
           base,
           (none_replaces, sym at),

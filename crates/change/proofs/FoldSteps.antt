@@ -1,22 +1,18 @@
 -- One SYSMOD more is folded in, and what all of them make of an element is what the definitions ask for.
-use Rattle.std.proofs.Common.{◌≡◌, ◌≢◌, ◌⊎◌, inl, inr, Bool, true, false, List, [], ◌∷◌, ◌++◌, Option, Some, None, refl, sym}
-use Rattle.std.proofs.Common.{ap, ◌∙◌, subst, true≢false, IsTrue, arith, append_assoc, AllPairs, Contains}
-use Rattle.std.specs.Prelude.{◌↔◌, ℕ, is_some, IsFalse, IfSome}
-use Rattle.std.specs.Option.{option_map_or}
+use Rattle.std.proofs.Common.{◌≡◌, ◌≢◌, ◌⊎◌, inl, inr, List, [], ◌∷◌, ◌++◌, Option, Some, None, refl, sym}
+use Rattle.std.proofs.Common.{ap, ◌∙◌, subst, arith, append_assoc, Contains}
+use Rattle.std.specs.Prelude.{ℕ}
 use Rattle.std.proofs.lemmas.List.Elements.{Contains-append_left, Contains-append_right, Contains-append_cases}
 use Rattle.lemmas.proofs.Members.{there, here_or, none_in, in_middle}
 use Rattle.terms.specs.declared.kinds.ElemType.{ElemType}
-use Rattle.terms.specs.Types.{Text, Id, Lines, Action, Replaces, Updates, Change, Global, Element}
-use Rattle.terms.specs.Lookups.{IsRising, change_of, has_change, element_of}
+use Rattle.terms.specs.Types.{Text, Id, Lines, Action, Replaces, Updates, Global, Element}
+use Rattle.terms.specs.Lookups.{IsRising, change_of}
 use Rattle.terms.specs.Choice.{Choice}
-use Rattle.terms.specs.Changes.{is_replacement, has_replacement}
 use Rattle.terms.specs.Over.{IsOver, names, owner}
-use Rattle.terms.specs.Texts.{IsNumbered, line_at, given, Touches}
-use Rattle.terms.specs.Install.{Installation, TakesEffect, cleared, IsReplacer, HasBase, IsUpdater, Decides, IsUpdated}
-use Rattle.terms.specs.Install.{HasElementAfter}
+use Rattle.terms.specs.Texts.{line_at, given, Touches}
 use Rattle.terms.proofs.Leads.{reaches_through}
 use Rattle.change.specs.Folding.{replacement, IsUpdateOf, IsMadeBy, IsStep, UpdatesBy, AreUpdates, DecidesAmong}
-use Rattle.change.specs.Folding.{IsUpdatedBy, IsUpdatedFrom, ReplacesBy, HasReplaced, HasUpdated, IsFolded, AreChangers}
+use Rattle.change.specs.Folding.{IsUpdatedBy, HasReplaced, HasUpdated, IsFolded}
 
 none_rise : IsRising []
 none_rise = λ i j d less below. absurd (omega (arith, below))

@@ -1,20 +1,18 @@
 -- One update of an element, and the statement by which a SYSMOD changes it.
-use Rattle.std.proofs.Common.{◌≡◌, ◌⊎◌, inl, inr, Bool, true, false, List, [], ◌∷◌, ◌++◌, Option, Some, None, refl, sym}
+use Rattle.std.proofs.Common.{◌≡◌, ◌⊎◌, inl, inr, List, [], ◌∷◌, ◌++◌, Option, Some, None, refl, sym}
 use Rattle.std.proofs.Common.{ap, ◌∙◌, subst, Contains, true≢false}
-use Rattle.std.specs.Prelude.{◌↔◌, ◌==◌, ℕ, IsTrue, IfErr, Result, Ok, Err, is_some, find, position, get_or}
+use Rattle.std.specs.Prelude.{◌==◌, ℕ, IsTrue, IfErr, Result, Ok, Err, is_some, find, position, get_or}
 use Rattle.std.specs.Option.{IsSome, option_map_or}
 use Rattle.std.specs.Result.{IsOk}
 use Rattle.std.specs.declared.cmp.Ordering.{Ordering}
 use Rattle.std.specs.declared.cmp.Ordering.TheVariants.{Less, Equal, Greater}
 use Rattle.std.specs.Ordering.{nat_cmp, is_lt, is_eq, ordering_reverse}
-use Rattle.std.specs.Cmp.{IsTotalOrder}
 use Rattle.std.specs.Cmp.Lexicographic.{slice_cmp, texts_ties}
 use Rattle.std.specs.Str.{bytes_eq}
 use Rattle.std.proofs.lemmas.Bool.{and_parts, eqb-true}
 use Rattle.std.proofs.lemmas.Cmp.{nat_list_cmp_total}
 use Rattle.std.proofs.lemmas.List.Elements.{Contains-append_left, Contains-append_right, Contains-append_cases}
 use Rattle.lemmas.proofs.Members.{here_or, none_in, in_middle, in_filter, filter_in}
-use Rattle.lemmas.proofs.Orderings.{Less-from_is_lt}
 use Rattle.lemmas.proofs.Texts.{same_from}
 use Rattle.terms.specs.declared.kinds.ElemType.{ElemType}
 use Rattle.terms.specs.Types.{Text, Id, Lines, type_number, Change, Sysmod, Global, Element}

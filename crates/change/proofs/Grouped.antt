@@ -1,10 +1,9 @@
 -- The elements that SYSMODs change, added one SYSMOD after the other, each stand there with all that change them.
-use Rattle.std.proofs.Common.{◌≡◌, ◌≢◌, ◌⊎◌, inl, inr, Bool, true, false, List, [], ◌∷◌, ◌++◌, Option, Some, None, refl, sym}
-use Rattle.std.proofs.Common.{ap, ◌∙◌, subst, true≢false, IsTrue, All, Contains, cond, append_assoc, append-nil, arith}
+use Rattle.std.proofs.Common.{◌≡◌, ◌≢◌, Bool, true, false, List, [], ◌∷◌, ◌++◌, Option, Some, None, refl, sym}
+use Rattle.std.proofs.Common.{ap, ◌∙◌, subst, IsTrue, All, Contains, cond, append_assoc, append-nil, arith}
 use Rattle.std.specs.Prelude.{◌==◌, find, filter, fold, is_some, get_or}
 use Rattle.std.specs.Option.{option_map_or}
 use Rattle.std.specs.Ordering.{is_lt, is_eq, ordering_reverse}
-use Rattle.std.specs.declared.cmp.Ordering.TheVariants.{Less}
 use Rattle.std.specs.Str.{bytes_eq}
 use Rattle.std.proofs.lemmas.Bool.{and_parts, eqb-true}
 use Rattle.std.proofs.lemmas.Cmp.{tied_itself}
@@ -18,14 +17,13 @@ use Rattle.terms.specs.declared.kinds.ElemType.{ElemType}
 use Rattle.terms.specs.declared.kinds.Edit.TheVariants.{Put}
 use Rattle.terms.specs.Types.{Text, Id, type_number, Change, Sysmod, Global}
 use Rattle.terms.specs.Lookups.{element_cmp, sysmod_of, changes_of, has_change}
-use Rattle.terms.specs.Rising.{Rises, with_item}
+use Rattle.terms.specs.Rising.{Rises}
 use Rattle.terms.specs.Delta.{element_eq}
 use Rattle.terms.specs.Global.{IsGlobal, IsSysmod}
 use Rattle.terms.proofs.Edits.{Rises-with_item, All-with_item, find-after_edit}
 use Rattle.terms.proofs.ElementOrder.{element_cmp_total, element_ties, type_from_number}
 use Rattle.change.specs.Grouping.{ChangedElement, changed_key, AreByElement, changers_in, with_changer, with_changes}
 use Rattle.change.proofs.InTurn.{find-member}
-use Rattle.change.proofs.Ordered.{all_in}
 
 abbrev Key : Type 0
 Key = ElemType × Text

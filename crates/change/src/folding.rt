@@ -75,7 +75,13 @@ fn after_one(
     ensures new { IfOk result (λ new. IfSome new (λ e. e.elem_type ≡ elem_type)) }
 {
     let owner = VerChoice::new(global, srel).owner(id);
-    changed(alloc, owner, id, change_of(global, id, elem_type, name), old)
+    changed(
+        alloc,
+        owner,
+        id,
+        change_of(global, id, elem_type, name),
+        old,
+    )
 }
 
 /// The SYSMOD's statement for the element.
@@ -95,9 +101,7 @@ fn find_change(changes: &[ElemChange], elem_type: ElemType, name: Name) -> Optio
     ensures place { result ≡ position (is_for elem_type name) changes.now }
     ensures within { IfSome result (λ i. i < length changes.now) }
 {
-    changes
-        .iter()
-        .position(|change| change.elem_type == elem_type && change.name == name)
+    changes.iter().position(|change| change.elem_type == elem_type && change.name == name)
 }
 
 /// The element after one statement that changes it.
@@ -171,12 +175,7 @@ fn updated(
 }
 
 /// The text with the update made.
-fn merged(
-    alloc: Heap,
-    name: Name,
-    text: Vec<Line>,
-    lines: &[Line],
-) -> Result<Vec<Line>, AllocError>
+fn merged(alloc: Heap, name: Name, text: Vec<Line>, lines: &[Line]) -> Result<Vec<Line>, AllocError>
     requires numbered { IsNumbered text.items }
     requires update { IsUpdate name lines.now }
     ensures { IfOk result (λ new. IsMerge text.items lines.now new.items) }

@@ -1,4 +1,4 @@
-use Rattle.std.proofs.Common.{◌≡◌, ◌∙◌, [], ap, subst, sym}
+use Rattle.std.proofs.Common.{◌∙◌, [], ap, subst, sym}
 use Rattle.std.specs.Prelude.{fold}
 use Rattle.std.proofs.lemmas.List.{take_all}
 use Rattle.change.specs.Grouping.{AreByElement, with_changes}

@@ -7,5 +7,5 @@ use Rattle.change.proofs.ordering.in_order.Given as goal
 abbrev pub invariant-loop-id : goal.invariant-loop-id
 invariant-loop-id l = record {
   same : IsPermutation (take l.id-index l.ids) l.ordered.items;
-  order : AllPairs (λ x y. IsOver (choice l.vers) y x) l.ordered.items
+  order : AllPairs (λ x y. IsOver (choice l.vers) y x) l.ordered.items;
 }

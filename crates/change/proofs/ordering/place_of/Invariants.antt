@@ -7,7 +7,7 @@ use Rattle.change.proofs.ordering.place_of.Given as goal
 abbrev pub invariant-loop-place : goal.invariant-loop-place
 invariant-loop-place l = record {
   within : l.place ≤ length l.ordered;
-  back : All (λ x. ¬ IsOver (choice l.vers) l.id x) (drop l.place l.ordered)
+  back : All (λ x. ¬ IsOver (choice l.vers) l.id x) (drop l.place l.ordered);
 }
 
 abbrev pub decreases-loop-place : goal.decreases-loop-place
