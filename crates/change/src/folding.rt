@@ -28,12 +28,13 @@ pub(crate) fn element_after(
     name: Name,
     changers: &[Id],
 ) -> Result<Element, AllocError>
-    requires base { IfSome (option_copied base) (λ e. e.elem_type ≡ elem_type) }
+    requires base { IfSome (option_copied base) (λ e. (e.elem_type ≡ elem_type) × (e.name ≡ name)) }
     requires changers { All (λ x. IsTrue (has_change global.now x elem_type name)) changers.now }
     requires order { AllPairs (λ x y. IsOver (by_srel global.now srel) y x) changers.now }
     requires some { IsSome (option_copied base)
         ⊎ Any (λ x. IsTrue (has_replacement global.now x elem_type name)) changers.now }
-    ensures { IfOk result (λ e. (i : Installation)
+    ensures key { IfOk result (λ e. (e.elem_type ≡ elem_type) × (e.name ≡ name)) }
+    ensures element { IfOk result (λ e. (i : Installation)
         → AreChangers i global.now (by_srel global.now srel) elem_type name (option_copied base.entry) changers.now
         → HasElementAfter i elem_type name e) }
 {
@@ -70,9 +71,9 @@ fn after_one(
     id: Id,
 ) -> Result<Option<Element>, AllocError>
     requires changes { IsTrue (has_change global.now id elem_type name) }
-    requires old { IfSome old (λ e. e.elem_type ≡ elem_type) }
+    requires old { IfSome old (λ e. (e.elem_type ≡ elem_type) × (e.name ≡ name)) }
     ensures step { IfOk result (λ new. IsStep global.now (by_srel global.now srel) elem_type name id old new) }
-    ensures new { IfOk result (λ new. IfSome new (λ e. e.elem_type ≡ elem_type)) }
+    ensures new { IfOk result (λ new. IfSome new (λ e. (e.elem_type ≡ elem_type) × (e.name ≡ name))) }
 {
     let owner = VerChoice::new(global, srel).owner(id);
     changed(
@@ -112,10 +113,11 @@ fn changed(
     change: &ElemChange,
     old: Option<Element>,
 ) -> Result<Option<Element>, AllocError>
-    requires { IfSome old (λ e. e.elem_type ≡ change.now.elem_type) }
+    requires { IfSome old (λ e. (e.elem_type ≡ change.now.elem_type) × (e.name ≡ change.now.name)) }
     ensures made { IfOk result
         (λ new. IsMadeBy owner id change.now.elem_type change.now.name change.now.action old new) }
-    ensures new { IfOk result (λ new. IfSome new (λ e. e.elem_type ≡ change.now.elem_type)) }
+    ensures new { IfOk result (λ new. IfSome new
+        (λ e. (e.elem_type ≡ change.now.elem_type) × (e.name ≡ change.now.name))) }
 {
     match &change.action {
         Action::Replaces {

@@ -17,7 +17,8 @@ loop-id-init c =
       folded = folded_none c.args.global.now (by_srel c.args.global.now c.args.srel) c.args.elem_type c.args.name
           c.in_ok-element.element
           (subst (λ o. IfSome o (λ e. IsRising e.umids)) same c.in_ok-element.ensures.rising);
-      typed = subst (λ o. IfSome o (λ e. e.elem_type ≡ c.args.elem_type)) same c.requires.base;
+      keyed = subst (λ o. IfSome o (λ e. (e.elem_type ≡ c.args.elem_type) × (e.name ≡ c.args.name))) same
+          c.requires.base;
     }
 
 pub loop-id-preserved : goal.loop-id-preserved
@@ -37,7 +38,7 @@ loop-id-preserved c =
           (newest (λ v w. IsOver choice w v) xs k x c.requires.order below c.id-item.is)
           (not_over_itself g c.args.srel c.len.ensures.form x) c.loop-id.invariant.folded
           c.in_ok-element-2.ensures.step);
-      typed = c.in_ok-element-2.ensures.new;
+      keyed = c.in_ok-element-2.ensures.new;
     }
 
 pub unwrap-requires : goal.unwrap-requires
@@ -50,8 +51,8 @@ unwrap-requires c =
     (subst (λ o. IsSome o ⊎ Any (λ x. IsTrue (has_replacement g x c.args.elem_type c.args.name)) c.args.changers.now)
     (sym c.in_ok-element.ensures.same) c.requires.some)
 
-pub returns : goal.returns
-returns c i are =
+pub returns-clause-element : goal.returns-clause-element
+returns-clause-element c i are =
     let g = c.args.global.now in
     let choice = by_srel g c.args.srel in
     let xs = c.args.changers.now in

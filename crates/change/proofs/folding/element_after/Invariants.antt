@@ -8,5 +8,5 @@ abbrev pub invariant-loop-id : goal.invariant-loop-id
 invariant-loop-id l = record {
   folded : IsFolded l.global (by_srel l.global l.srel) l.elem_type l.name (take l.id-index l.changers) l.initial.element
       l.element;
-  typed : IfSome l.element (λ e. e.elem_type ≡ l.elem_type);
+  keyed : IfSome l.element (λ e. (e.elem_type ≡ l.elem_type) × (e.name ≡ l.name));
 }

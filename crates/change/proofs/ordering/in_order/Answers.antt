@@ -1,5 +1,6 @@
-use Rattle.std.proofs.Common.{◌≤◌, ◌<◌, ◌-◌, All, AllPairs, IsPermutation, drop, get_or, length, subst, sym, take, ◌+◌}
+use Rattle.std.proofs.Common.{List, ◌≤◌, ◌<◌, ◌-◌, All, AllPairs, IsPermutation, drop, get_or, length, subst, sym, take, ◌+◌}
 use Rattle.sysmods.specs.Choices.{choice}
+use Rattle.terms.specs.Types.{Id}
 use Rattle.terms.specs.Over.{IsOver}
 use Rattle.change.proofs.Ordered.{ordered_more, permuted_more}
 use Rattle.change.proofs.ordering.in_order.Goals as goal
@@ -16,7 +17,7 @@ loop-id-preserved c =
     let same = c.loop-id.invariant.same in
     let placed = c.in_ok-place.ensures in
     let listed = c.deref.ensures.value in
-    let inserted = sym c.in_ok-insert.ensures.items in
+    let inserted = sym {A = List Id} c.in_ok-insert.ensures.items in
     record {
       same = subst (IsPermutation (take (k + 1) ids)) inserted (permuted_more ids k x xs p below c.id-item.is same);
       order = subst (AllPairs (λ y z. over z y)) inserted
