@@ -25,13 +25,13 @@ use Rattle.terms.proofs.ElementOrder.{element_cmp_total, element_ties, type_from
 use Rattle.change.specs.Grouping.{ChangedElement, changed_key, AreByElement, changers_in, with_changer, with_changes}
 use Rattle.change.proofs.InTurn.{find-member}
 
-abbrev Key : Type 0
+abbrev pub Key : Type 0
 Key = ElemType × Text
 
-abbrev change_key : Change → Key
+abbrev pub change_key : Change → Key
 change_key h = (h.elem_type, h.name)
 
-same_key : (a b : Key) → element_eq a b ≡ true → a ≡ b
+pub same_key : (a b : Key) → element_eq a b ≡ true → a ≡ b
 same_key a b e =
     let both = and_parts (type_number a.0 == type_number b.0) (bytes_eq a.1 b.1) e in
     ap (λ (t : ElemType). (t, a.1)) (type_from_number a.0 b.0 (eqb-true _ _ both.0))

@@ -7,3 +7,4 @@ pub mod FoldUpdates
 pub mod FoldSteps
 pub mod FoldEnd
 pub mod Grouped
+pub mod AllElements

@@ -1,3 +1,4 @@
 pub mod Puts
 pub mod Folding
 pub mod Grouping
+pub mod Elements

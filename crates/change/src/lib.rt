@@ -4,6 +4,7 @@
 //! code alone: one pass over the zone's entries, and one over what is installed.
 #![tactic(auto)]
 
+mod elements;
 mod folding;
 mod grouping;
 mod installing;
