@@ -1,10 +1,9 @@
 -- The elements of an install: what deletions leave of them, and the SYSMODs that change each.
 use Rattle.std.proofs.Common.{◌≡◌, ◌≢◌, ◌⊎◌, inl, inr, Bool, true, false, List, [], ◌∷◌, ◌++◌, Option, Some, None, refl, sym}
-use Rattle.std.proofs.Common.{ap, ◌∙◌, subst, true≢false, IsTrue, All, Any, Contains, cond, arith, IsPermutation, AllPairs, map, IsSome}
+use Rattle.std.proofs.Common.{ap, ◌∙◌, subst, true≢false, IsTrue, All, Any, Contains, arith, IsPermutation, AllPairs, map, IsSome}
 use Rattle.std.proofs.Common.{◌<◌, ◌+◌, ℕ, length, take, subst₂}
-use Rattle.std.specs.Prelude.{◌&&◌, ◌==◌, ◌↔◌, not, find, filter, is_some, get_or}
+use Rattle.std.specs.Prelude.{not, find, filter, get_or}
 use Rattle.std.specs.Ordering.{is_lt}
-use Rattle.std.specs.Str.{bytes_eq}
 use Rattle.std.proofs.lemmas.List.{map-append, take_more}
 use Rattle.std.proofs.lemmas.List.Elements.{filter_passes, Contains-get_or}
 use Rattle.std.proofs.lemmas.List.Kept.{AllPairs-filter}
@@ -178,7 +177,7 @@ module _ (g : Global) (c : Choice) (type : ElemType) (name : Text) (ids xs : Lis
     base_is = ap (λ z. element_of z type name) (sym is.cleared_is);
     members = λ x. (
       λ h. let f = filter_in (λ y. has_change g y type name) ids x (subst (λ l. Contains l x) same h) in
-      ((is.members x).0 f.0, f.1),
+          ((is.members x).0 f.0, f.1),
       λ h. subst (λ l. Contains l x) (sym same)
           (in_filter (λ y. has_change g y type name) ids x ((is.members x).1 h.0) h.1),
     );

@@ -10,11 +10,11 @@ use Rattle.terms.specs.Install.{Installation, TakesEffect, cleared, HasElementAf
 
 -- an install of which these SYSMODs take effect on the zone less these deletions
 pub record IsInstallOf (i : Installation) (g : Global) (c : Choice) (zone : Zone) (deletions effective : List Id) : Type 0
-    where
-  pub global : i.global ≡ g
-  pub choice : i.choice ≡ c
-  pub cleared_is : cleared i ≡ zone_less g c deletions zone
-  pub members : (x : Id) → Contains effective x ↔ TakesEffect i x
+  where
+    pub global : i.global ≡ g
+    pub choice : i.choice ≡ c
+    pub cleared_is : cleared i ≡ zone_less g c deletions zone
+    pub members : (x : Id) → Contains effective x ↔ TakesEffect i x
 
 -- Each element that the install changes stands there once, as it is after the install, and no other one.
 pub record AreElementsAfter (i : Installation) (es : List Element) : Type 0 where

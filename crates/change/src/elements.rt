@@ -35,7 +35,7 @@ pub(crate) fn elements_after(
     requires some { (type : AType) (name : Text)
         → Any (λ x. IsTrue (has_change global.now x type name)) effective.now
         → IsSome
-            (element_of (zone_less global.now (by_srel global.now zone.now.srel) deletions.now zone.now) type name)
+        (element_of (zone_less global.now (by_srel global.now zone.now.srel) deletions.now zone.now) type name)
         ⊎ Any (λ x. IsTrue (has_replacement global.now x type name)) effective.now }
     ensures { IfOk result (λ es. (i : Installation)
         → IsInstallOf i global.now (by_srel global.now zone.now.srel) zone.now deletions.now effective.now
@@ -73,7 +73,15 @@ fn changed_element(
         → HasElementAfter i changed.now.elem_type changed.now.name e) }
 {
     let base = left_of(global, zone, deletions, changed.elem_type, changed.name);
-    after_all(alloc, global, zone.srel(), base, changed.elem_type, changed.name, &changed.changers)
+    after_all(
+        alloc,
+        global,
+        zone.srel(),
+        base,
+        changed.elem_type,
+        changed.name,
+        &changed.changers,
+    )
 }
 
 /// The element after these SYSMODs, in the order that over gives them.

@@ -1,4 +1,4 @@
-use Rattle.std.proofs.Common.{◌∙◌, ◌⊎◌, All, AllPairs, Any, IsTrue, inl, inr, ap, subst, sym, IsPermutation}
+use Rattle.std.proofs.Common.{◌∙◌, ◌⊎◌, AllPairs, IsTrue, inl, inr, ap, subst, sym, IsPermutation}
 use Rattle.std.proofs.lemmas.List.Sorted.{All-permutation}
 use Rattle.std.proofs.lemmas.Result.{IfOk-weaker}
 use Rattle.terms.specs.Changes.{has_replacement}

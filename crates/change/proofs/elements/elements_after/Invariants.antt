@@ -9,5 +9,5 @@ use Rattle.change.proofs.elements.elements_after.Given as goal
 abbrev pub invariant-loop-changed : goal.invariant-loop-changed
 invariant-loop-changed l = record {
   keys : map element_key l.elements.items ≡ map changed_key (take l.changed-index l.changes);
-  after : All (IsAfter l.global (by_srel l.global l.zone.srel) l.zone l.deletions l.effective) l.elements.items
+  after : All (IsAfter l.global (by_srel l.global l.zone.srel) l.zone l.deletions l.effective) l.elements.items;
 }
