@@ -8,3 +8,4 @@ pub mod FoldSteps
 pub mod FoldEnd
 pub mod Grouped
 pub mod AllElements
+pub mod Deletions
