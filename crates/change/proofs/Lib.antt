@@ -10,3 +10,10 @@ pub mod Put
 pub mod Putting
 pub mod TakingEffect
 pub mod Uncleared
+pub mod Ordered
+pub mod FoldUpdates
+pub mod FoldSteps
+pub mod FoldEnd
+pub mod Grouped
+pub mod AllElements
+pub mod Deletions

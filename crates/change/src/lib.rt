@@ -6,8 +6,12 @@
 #![tactic(auto)]
 
 mod effective;
+mod elements;
 mod entries;
+mod folding;
+mod grouping;
 mod installing;
+mod ordering;
 mod pairs;
 mod plan;
 

@@ -1,0 +1,245 @@
+-- What the fold makes of an element is the element after the installed SYSMODs that change it.
+use Rattle.std.proofs.Common.{◌≡◌, ◌⊎◌, inl, inr, Bool, true, false, List, [], ◌∷◌, ◌++◌, Option, Some, None, refl, sym}
+use Rattle.std.proofs.Common.{ap, ◌∙◌, subst, true≢false, IsTrue, AllPairs, All, Contains}
+use Rattle.std.specs.Prelude.{◌↔◌, is_some, IsFalse, IfSome, Any, find, filter}
+use Rattle.std.specs.Option.{IsSome, option_map_or, option_and_then}
+use Rattle.std.specs.List.{flat_map}
+use Rattle.std.specs.Str.{bytes_eq}
+use Rattle.std.proofs.lemmas.List.Elements.{Contains-append_right, Contains-append_cases}
+use Rattle.lemmas.proofs.Members.{there, here_or, none_in, in_middle, in_filter}
+use Rattle.lemmas.proofs.Pairs.{AllPairs-parts}
+use Rattle.lemmas.proofs.Searches.{find-gives}
+use Rattle.terms.specs.declared.kinds.ElemType.{ElemType}
+use Rattle.terms.specs.Types.{Text, Id, Lines, Change, Sysmod, Ver, Global, Element}
+use Rattle.terms.specs.Lookups.{IsRising, at_most_one, sysmod_of, change_of, has_change, element_of}
+use Rattle.terms.specs.Global.{IsGlobal, named, names_for}
+use Rattle.terms.specs.Choice.{Choice, by_srel}
+use Rattle.terms.specs.Changes.{is_replacement, has_replacement}
+use Rattle.terms.specs.Over.{IsOver, names}
+use Rattle.terms.specs.Install.{Installation, TakesEffect, cleared, IsReplacer, IsUpdater, IsUpdated}
+use Rattle.terms.specs.Install.{HasElementAfter}
+use Rattle.terms.proofs.Leads.{reaches_through, reaches_more}
+use Rattle.change.specs.Folding.{UpdatesBy, AreUpdates, IsUpdatedBy, HasReplaced, HasUpdated, IsFolded, AreChangers}
+use Rattle.change.proofs.InTurn.{in_flat}
+use Rattle.change.proofs.Ordered.{all_in}
+use Rattle.change.proofs.FoldSteps.{none_updated}
+
+-- ---- nothing is over itself
+
+names_in : Option Ver → List Id
+names_in o = option_map_or (λ v. v.pre) o [] ++ option_map_or (λ v. v.sup) o []
+    ++ at_most_one (option_and_then (λ v. v.fmid) o)
+
+by_ver : (srel : Text) (vers : List Ver) (o : Option Ver) → find (λ v. bytes_eq v.srel srel) vers ≡ o → (z : Id)
+    → Contains (names_in o) z → Contains (flat_map named (filter (λ v. bytes_eq v.srel srel) vers)) z
+unfolding names_in
+by_ver srel vers None e z h = absurd (none_in z h)
+by_ver srel vers (Some v) e z h =
+    let found = find-gives (λ w. bytes_eq w.srel srel) vers v e in
+    in_flat named (filter (λ w. bytes_eq w.srel srel) vers) v z
+    (in_filter (λ w. bytes_eq w.srel srel) vers v found.1 found.0) h
+
+by_sysmod : (srel : Text) (o : Option Sysmod) (z : Id)
+    → Contains (names_in (option_and_then (λ s. find (λ v. bytes_eq v.srel srel) s.vers) o)) z
+    → Contains (flat_map named (option_map_or (λ s. filter (λ v. bytes_eq v.srel srel) s.vers) o [])) z
+unfolding names_in
+by_sysmod srel None z h = absurd (none_in z h)
+by_sysmod srel (Some s) z h = by_ver srel s.vers (find (λ v. bytes_eq v.srel srel) s.vers) refl z h
+
+pub not_over_itself : (g : Global) (srel : Text) → IsGlobal g → (x : Id) → ¬ IsOver (by_srel g srel) x x
+unfolding names_in
+not_over_itself g srel is x over =
+    is.no_loop (
+      srel,
+      x,
+      reaches_more (names (by_srel g srel)) (names_for g srel)
+          (λ y z h. by_sysmod srel (sysmod_of g y) z h) x x over,
+    )
+
+-- ---- what is known of a SYSMOD that changes the element
+
+pub replaces_changes : (g : Global) (x : Id) (type : ElemType) (name : Text) → IsTrue (has_replacement g x type name)
+    → IsTrue (has_change g x type name)
+replaces_changes g x type name h = by (change_of g x type name) h
+  where
+    by : (o : Option Change) → IsTrue (option_map_or (λ h. is_replacement h.action) o false) → IsTrue (is_some o)
+    by None h = h
+    by (Some k) h = refl
+
+pub update_replaces_not : (g : Global) (c : Choice) (x : Id) (type : ElemType) (name : Text) (update : Lines)
+    → UpdatesBy g c type name x update → IsTrue (has_replacement g x type name) → ⊥
+update_replaces_not g c x type name update u h =
+    true≢false (sym h ∙ ap (λ o. option_map_or (λ k. is_replacement k.action) o false) u.1 ∙ ap is_replacement u.2)
+
+-- ---- the end
+
+module _ (i : Installation) (type : ElemType) (name : Text) where
+  -- the updaters of the definition are these
+  updated_is : (replacer : Option Id) (ys : List Id) (base e : Element) → AreUpdates i.global i.choice type name ys
+      → ((y : Id) (u : Lines) → IsUpdater i type name replacer y u → Contains ys y)
+      → ((y : Id) (u : Lines) → Contains ys y → UpdatesBy i.global i.choice type name y u
+      → IsUpdater i type name replacer y u)
+      → IsUpdatedBy i.global i.choice type name ys base e → IsUpdated i type name replacer base e
+  updated_is replacer ys base e all back of up = record {
+    rest = up.rest;
+    rising = up.rising;
+    umids = λ y. (
+      λ h. elim ((up.umids y).0 h) [
+        | inl based ↦ inl based
+        | inr m ↦ let u = all y m in inr (u.0, of y u.0 m u.1)
+      ],
+      λ h. elim h [
+        | inl based ↦ (up.umids y).1 (inl based)
+        | inr u ↦ (up.umids y).1 (inr (back y u.0 u.1))
+      ],
+    );
+    decided = λ n y update d. up.decided n y update (record {
+      member = back y update d.updater;
+      updates = d.updater.updates;
+      touches = d.touches;
+      over = λ z other m updates. d.over z other (of z other m updates);
+    });
+    others = λ n none. up.others n (λ y u m updates. none y u (of y u m updates));
+    numbered = λ y u is. up.numbered y (back y u is);
+    same = λ none. up.same (λ y m. let u = all y m in none y u.0 (of y u.0 m u.1));
+  }
+
+  module _ (xs : List Id) (order : AllPairs (λ x y. IsOver i.choice y x) xs)
+      (itself : (x : Id) → ¬ IsOver i.choice x x)
+      (members : (x : Id) → Contains xs x ↔ (TakesEffect i x × IsTrue (has_change i.global x type name))) where
+    -- behind a replacement
+    after_replacer : (e : Element) → HasReplaced i.global i.choice type name xs (Some e) → HasElementAfter i type name e
+    after_replacer e f =
+        let same : e ≡ f.e = cc f.new_is in (
+          Some f.replacer,
+          f.base,
+          (replacer, f.replaces),
+          subst (IsUpdated i type name (Some f.replacer) f.base) (sym same)
+              (updated_is (Some f.replacer) f.back f.base f.e f.updates updater_back updater_of f.updated),
+        )
+      where
+        r : Id
+        r = f.replacer
+
+        sides : All (λ y. IsOver i.choice f.replacer y) f.front × All (λ y. IsOver i.choice y f.replacer) f.back
+        sides = AllPairs-parts (λ x y. IsOver i.choice y x) f.front f.back f.replacer
+            (subst (AllPairs (λ x y. IsOver i.choice y x)) f.parts order)
+
+        within : (y : Id) → Contains (f.front ++ f.replacer ∷ f.back) y → Contains xs y
+        within y h = subst (λ l. Contains l y) (sym f.parts) h
+
+        in_back : (y : Id) → Contains f.back y → Contains xs y
+        in_back y m = within y (Contains-append_right f.front (f.replacer ∷ f.back) y (there f.replacer f.back y m))
+
+        where_in : (y : Id) → Contains xs y → Contains f.front y ⊎ ((f.replacer ≡ y) ⊎ Contains f.back y)
+        where_in y h =
+            elim (Contains-append_cases f.front (f.replacer ∷ f.back) y (subst (λ l. Contains l y) f.parts h)) [
+              | inl before ↦ inl before
+              | inr rest ↦ inr (here_or f.replacer f.back y rest)
+            ]
+
+        replacer : IsReplacer i type name f.replacer
+        replacer = record {
+          installed = ((members f.replacer).0 (within f.replacer (in_middle f.front f.replacer f.back))).0;
+          replaces = ap (λ o. option_map_or (λ k. is_replacement k.action) o false) f.replaces.4
+              ∙ ap is_replacement f.replaces.5;
+          over = λ y ins replaces other.
+              elim (where_in y ((members y).1 (ins, replaces_changes i.global y type name replaces))) [
+                | inl before ↦ all_in (λ z. IsOver i.choice f.replacer z) f.front y sides.0 before
+                | inr rest ↦ elim rest [
+                  | inl same ↦ absurd (other (sym same))
+                  | inr m ↦ let u = f.updates y m in
+                      absurd (update_replaces_not i.global i.choice y type name u.0 u.1 replaces)
+                ]
+              ];
+        }
+
+        updater_back : (y : Id) (u : Lines) → IsUpdater i type name (Some f.replacer) y u → Contains f.back y
+        updater_back y u is =
+            elim (where_in y ((members y).1 (is.installed, ap is_some is.updates.1))) [
+              | inl before ↦ absurd (itself f.replacer (reaches_through (names i.choice) f.replacer y f.replacer
+                  (all_in (λ z. IsOver i.choice f.replacer z) f.front y sides.0 before) is.over))
+              | inr rest ↦ elim rest [
+                | inl same ↦ absurd (itself f.replacer (subst (λ z. IsOver i.choice z f.replacer) (sym same) is.over))
+                | inr m ↦ m
+              ]
+            ]
+
+        updater_of : (y : Id) (u : Lines) → Contains f.back y → UpdatesBy i.global i.choice type name y u
+            → IsUpdater i type name (Some f.replacer) y u
+        updater_of y u m updates = record {
+          installed = ((members y).0 (in_back y m)).0;
+          updates = updates;
+          over = all_in (λ z. IsOver i.choice z f.replacer) f.back y sides.1 m;
+        }
+
+    -- updates of what the zone has
+    after_zone : (base e : Element) → Some base ≡ element_of (cleared i) type name
+        → HasUpdated i.global i.choice type name xs (Some base) (Some e) → HasElementAfter i type name e
+    after_zone base e at f =
+        let same : e ≡ f.updated.0 = cc f.updated.1 in (
+          None,
+          base,
+          (none_replaces, sym at),
+          subst (IsUpdated i type name None base) (sym same)
+              (updated_is None xs base f.updated.0 f.updates updater_back updater_of f.updated.2),
+        )
+      where
+        none_replaces : (y : Id) → TakesEffect i y → IsFalse (has_replacement i.global y type name)
+        none_replaces y ins = by (has_replacement i.global y type name) refl
+          where
+            by : (b : Bool) → has_replacement i.global y type name ≡ b → has_replacement i.global y type name ≡ false
+            by false is = is
+            by true is =
+                let u = f.updates y ((members y).1 (ins, replaces_changes i.global y type name is)) in
+                absurd (update_replaces_not i.global i.choice y type name u.0 u.1 is)
+
+        updater_back : (y : Id) (u : Lines) → IsUpdater i type name None y u → Contains xs y
+        updater_back y u is = (members y).1 (is.installed, ap is_some is.updates.1)
+
+        updater_of : (y : Id) (u : Lines) → Contains xs y → UpdatesBy i.global i.choice type name y u
+            → IsUpdater i type name None y u
+        updater_of y u m updates = record { installed = ((members y).0 m).0; updates = updates; over = tt }
+
+    after_fold : (start : Option Element) (e : Element) → start ≡ element_of (cleared i) type name
+        → IsFolded i.global i.choice type name xs start (Some e) → HasElementAfter i type name e
+    after_fold start e at (inl f) = after_replacer e f
+    after_fold None e at (inr f) = let none : Some e ≡ None = f.updated in absurd (cc none)
+    after_fold (Some base) e at (inr f) = after_zone base e at f
+
+-- what the fold makes of the zone's element, for any such installation
+pub folded_after : (g : Global) (c : Choice) (type : ElemType) (name : Text) (xs : List Id) (start : Option Element)
+    (e : Element) → AllPairs (λ x y. IsOver c y x) xs → ((x : Id) → ¬ IsOver c x x)
+    → IsFolded g c type name xs start (Some e) → (i : Installation) → AreChangers i g c type name start xs
+    → HasElementAfter i type name e
+folded_after g c type name xs start e order itself folded i are =
+    after_fold i type name xs (subst (λ d. AllPairs (λ x y. IsOver d y x) xs) (sym are.choice) order)
+    (subst (λ d. (x : Id) → ¬ IsOver d x x) (sym are.choice) itself)
+    (subst (λ h. (x : Id) → Contains xs x ↔ (TakesEffect i x × IsTrue (has_change h x type name))) (sym are.global)
+    are.members)
+    start e are.base_is
+    (subst (λ h. IsFolded h i.choice type name xs start (Some e)) (sym are.global)
+    (subst (λ d. IsFolded g d type name xs start (Some e)) (sym are.choice) folded))
+
+-- ---- the start, and that there is an element at the end
+
+pub folded_none : (g : Global) (c : Choice) (type : ElemType) (name : Text) (start : Option Element)
+    → IfSome start (λ e. IsRising e.umids) → IsFolded g c type name [] start start
+folded_none g c type name start rising = inr (by start rising)
+  where
+    by : (o : Option Element) → IfSome o (λ e. IsRising e.umids) → HasUpdated g c type name [] o o
+    by None rising = record { updates = λ y m. absurd (none_in y m); updated = refl }
+    by (Some base) rising = record {
+      updates = λ y m. absurd (none_in y m);
+      updated = (base, refl, none_updated g c type name base rising);
+    }
+
+pub folded_some : (g : Global) (c : Choice) (type : ElemType) (name : Text) (xs : List Id) (start new : Option Element)
+    → IsFolded g c type name xs start new
+    → IsSome start ⊎ Any (λ x. IsTrue (has_replacement g x type name)) xs → IsSome new
+folded_some g c type name xs start new (inl f) some = ap is_some f.new_is
+folded_some g c type name xs (Some base) new (inr f) some = ap is_some f.updated.1
+folded_some g c type name xs None new (inr f) (inl some) = absurd (true≢false (sym some))
+folded_some g c type name xs None new (inr f) (inr any) =
+    let u = f.updates any.1 (any.0, any.2, any.3) in
+    absurd (update_replaces_not g c any.1 type name u.0 u.1 any.4)

@@ -1,0 +1,132 @@
+-- One update of an element, and the statement by which a SYSMOD changes it.
+use Rattle.std.proofs.Common.{◌≡◌, ◌⊎◌, inl, inr, List, [], ◌∷◌, ◌++◌, Option, Some, None, refl, sym}
+use Rattle.std.proofs.Common.{ap, ◌∙◌, subst, Contains, true≢false}
+use Rattle.std.specs.Prelude.{◌==◌, ℕ, IsTrue, IfErr, Result, Ok, Err, is_some, find, position, get_or}
+use Rattle.std.specs.Option.{IsSome, option_map_or}
+use Rattle.std.specs.Result.{IsOk}
+use Rattle.std.specs.declared.cmp.Ordering.{Ordering}
+use Rattle.std.specs.declared.cmp.Ordering.TheVariants.{Less, Equal, Greater}
+use Rattle.std.specs.Ordering.{nat_cmp, is_lt, is_eq, ordering_reverse}
+use Rattle.std.specs.Cmp.Lexicographic.{slice_cmp, texts_ties}
+use Rattle.std.specs.Str.{bytes_eq}
+use Rattle.std.proofs.lemmas.Bool.{and_parts, eqb-true}
+use Rattle.std.proofs.lemmas.Cmp.{nat_list_cmp_total}
+use Rattle.std.proofs.lemmas.List.Elements.{Contains-append_left, Contains-append_right, Contains-append_cases}
+use Rattle.lemmas.proofs.Members.{here_or, none_in, in_middle, in_filter, filter_in}
+use Rattle.lemmas.proofs.Texts.{same_from}
+use Rattle.terms.specs.declared.kinds.ElemType.{ElemType}
+use Rattle.terms.specs.Types.{Text, Id, Lines, type_number, Change, Sysmod, Global, Element}
+use Rattle.terms.specs.Lookups.{IsRising, sysmod_of, change_of, changes_of, has_change}
+use Rattle.terms.specs.Rising.{before, behind, with_item}
+use Rattle.terms.specs.Texts.{IsMerge}
+use Rattle.lemmas.proofs.Searches.{find-passes}
+use Rattle.sysmods.proofs.First.{find-position, find-no_position}
+use Rattle.terms.proofs.ElementOrder.{type_from_number}
+use Rattle.change.specs.Folding.{is_for, IsUpdateOf}
+
+-- an error that can't be
+pub ok_unless : {T E : Type 0} (r : Result T E) (P : E → Type 0) → IfErr r P → ((e : E) → P e → ⊥) → IsOk r
+ok_unless (Ok x) P h none = refl
+ok_unless (Err e) P h none = absurd (none e h)
+
+-- what stands in a list of ids with one id more
+in_with : (xs : List Id) (x z : Id) → Contains (with_item (slice_cmp nat_cmp) (λ y. y) xs x) z
+    → Contains xs z ⊎ (x ≡ z)
+in_with xs x z h =
+    elim (Contains-append_cases (before (slice_cmp nat_cmp) (λ y. y) x xs ++ x ∷ []) (behind (slice_cmp nat_cmp)
+    (λ y. y) x xs) z h) [
+      | inl front ↦ elim (Contains-append_cases (before (slice_cmp nat_cmp) (λ y. y) x xs) (x ∷ []) z front) [
+        | inl low ↦ inl (filter_in (λ y. is_lt (slice_cmp nat_cmp y x)) xs z low).0
+        | inr one ↦ elim (here_or x [] z one) [ inl same ↦ inr same | inr later ↦ absurd (none_in z later) ]
+      ]
+      | inr high ↦ inl (filter_in (λ y. is_lt (slice_cmp nat_cmp x y)) xs z high).0
+    ]
+
+abbrev low : List Id → Id → List Id
+low xs x = before (slice_cmp nat_cmp) (λ y. y) x xs
+
+abbrev high : List Id → Id → List Id
+high xs x = behind (slice_cmp nat_cmp) (λ y. y) x xs
+
+with_it : (xs : List Id) (x z : Id) → x ≡ z → Contains (with_item (slice_cmp nat_cmp) (λ y. y) xs x) z
+with_it xs x z same =
+    Contains-append_left (low xs x ++ x ∷ []) (high xs x) z
+    (subst (Contains (low xs x ++ x ∷ [])) same (in_middle (low xs x) x []))
+
+with_old : (xs : List Id) (x z : Id) → Contains xs z → (r : Ordering) → slice_cmp nat_cmp z x ≡ r
+    → Contains (with_item (slice_cmp nat_cmp) (λ y. y) xs x) z
+with_old xs x z there Less e =
+    Contains-append_left (low xs x ++ x ∷ []) (high xs x) z (Contains-append_left (low xs x) (x ∷ []) z
+    (in_filter (λ y. is_lt (slice_cmp nat_cmp y x)) xs z there (ap is_lt e)))
+with_old xs x z there Equal e = with_it xs x z (sym (same_from z x (texts_ties z x ∙ ap is_eq e)))
+with_old xs x z there Greater e =
+    Contains-append_right (low xs x ++ x ∷ []) (high xs x) z
+    (in_filter (λ y. is_lt (slice_cmp nat_cmp x y)) xs z there
+    (ap is_lt (nat_list_cmp_total.antisymm x z ∙ ap ordering_reverse e)))
+
+with_in : (xs : List Id) (x z : Id) → Contains xs z ⊎ (x ≡ z)
+    → Contains (with_item (slice_cmp nat_cmp) (λ y. y) xs x) z
+with_in xs x z (inl there) = with_old xs x z there (slice_cmp nat_cmp z x) refl
+with_in xs x z (inr same) = with_it xs x z same
+
+-- an element with the merged text and one UMID more
+pub update_made : (x : Id) (update : Lines) (was old e : Element) → was ≡ old
+    → e ≡ record was { umids = e.umids; text = e.text } → IsRising e.umids
+    → e.umids ≡ with_item (slice_cmp nat_cmp) (λ y. y) was.umids x → IsMerge was.text update e.text
+    → IsUpdateOf x update old e
+update_made x update was old e same rest rising umids merged =
+    subst (λ o. IsUpdateOf x update o e) same (record {
+      rest = rest;
+      rising = rising;
+      umids = λ z. (
+        λ h. in_with was.umids x z (subst (λ l. Contains l z) umids h),
+        λ h. subst (λ l. Contains l z) (sym umids) (with_in was.umids x z h),
+      );
+      merged = merged;
+    })
+
+-- the statement that is found is for the element
+pub is_for-parts : (type : ElemType) (name : Text) (h : Change) → IsTrue (is_for type name h)
+    → (h.elem_type ≡ type) × (h.name ≡ name)
+is_for-parts type name h is =
+    let both = and_parts (type_number h.elem_type == type_number type) (bytes_eq h.name name) is in
+    (type_from_number h.elem_type type (eqb-true _ _ both.0), same_from h.name name both.1)
+
+-- what changes an element is received
+pub change_received : (g : Global) (x : Id) (type : ElemType) (name : Text) → IsTrue (has_change g x type name)
+    → IsSome (sysmod_of g x)
+change_received g x type name has = by (sysmod_of g x) has
+  where
+    by : (o : Option Sysmod) → IsTrue (is_some (find (is_for type name) (option_map_or (λ s. s.changes) o [])))
+        → IsSome o
+    by None has = has
+    by (Some s) has = refl
+
+-- the statement that is found has the type and the name
+pub change_key : (g : Global) (x : Id) (type : ElemType) (name : Text) (h : Change) → change_of g x type name ≡ Some h
+    → (h.elem_type ≡ type) × (h.name ≡ name)
+change_key g x type name h at = is_for-parts type name h (find-passes (is_for type name) (changes_of g x) h at)
+
+-- a statement is looked for among those of the SYSMOD
+change_in : (g : Global) (x : Id) (type : ElemType) (name : Text) (s : Sysmod) (changes : List Change)
+    → sysmod_of g x ≡ Some s → changes ≡ s.changes → change_of g x type name ≡ find (is_for type name) changes
+change_in g x type name s changes at is =
+    ap (λ o. find (is_for type name) (option_map_or (λ v. v.changes) o [])) at
+    ∙ ap (find (is_for type name)) (sym is)
+
+-- it has a place there, if the SYSMOD changes the element
+pub statement_place : (g : Global) (x : Id) (type : ElemType) (name : Text) (s : Sysmod) (changes : List Change)
+    (o : Option ℕ) → sysmod_of g x ≡ Some s → changes ≡ s.changes → o ≡ position (is_for type name) changes
+    → IsTrue (has_change g x type name) → IsSome o
+statement_place g x type name s changes (Some k) at is place has = refl
+statement_place g x type name s changes None at is place has =
+    absurd (true≢false (sym has ∙ ap is_some (change_in g x type name s changes at is
+    ∙ find-no_position (is_for type name) changes (sym place))))
+
+-- and stands at that place
+pub statement_at : (g : Global) (x : Id) (type : ElemType) (name : Text) (s : Sysmod) (changes : List Change) (k : ℕ)
+    (h : Change) → sysmod_of g x ≡ Some s → changes ≡ s.changes → position (is_for type name) changes ≡ Some k
+    → h ≡ get_or changes k h → change_of g x type name ≡ Some h
+statement_at g x type name s changes k h at is place there =
+    change_in g x type name s changes at is ∙ find-position (is_for type name) changes k h place
+    ∙ ap (λ v. Some v) (sym there)

@@ -1,0 +1,11 @@
+use Rattle.std.proofs.Common.{AllPairs, IsPermutation, take}
+use Rattle.sysmods.specs.Choices.{choice}
+use Rattle.terms.specs.Over.{IsOver}
+use Rattle.change.proofs.ordering.in_order.Given as goal
+
+-- the ids so far are in order
+abbrev pub invariant-loop-id : goal.invariant-loop-id
+invariant-loop-id l = record {
+  same : IsPermutation (take l.id-index l.ids) l.ordered.items;
+  order : AllPairs (λ x y. IsOver (choice l.vers) y x) l.ordered.items;
+}

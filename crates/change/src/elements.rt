@@ -1,0 +1,138 @@
+//! The elements that SYSMODs change.
+ghost use Rattle.std.specs.Prelude.{◌≡◌, ◌⊎◌, All, AllPairs, Any, IsTrue, IsSome, IfOk, IfSome, option_copied};
+ghost use Rattle.terms.specs.declared.kinds.ElemType.{ElemType as AType};
+ghost use Rattle.terms.specs.Changes.{has_replacement};
+ghost use Rattle.terms.specs.Choice.{by_srel};
+ghost use Rattle.terms.specs.Deleted.{is_deleted, zone_less};
+ghost use Rattle.terms.specs.Install.{Installation, HasElementAfter};
+ghost use Rattle.terms.specs.Lookups.{element_of, has_change};
+ghost use Rattle.terms.specs.Over.{IsOver};
+ghost use Rattle.terms.specs.Tests.{ShareElement};
+ghost use Rattle.terms.specs.Types.{Text};
+ghost use Rattle.change.specs.Elements.{AreElementsAfter, IsInstallOf};
+ghost use Rattle.change.specs.Folding.{AreChangers};
+
+use crate::folding::element_after;
+use crate::grouping::{Changed, changes_by_element};
+use crate::ordering::in_order;
+use fields::{Id, Name, Srel};
+use std::alloc::{AllocError, Global as Heap};
+use sysmods::{Global, VerChoice};
+use terms::ElemType;
+use zones::{Element, Zone};
+
+/// The elements that these SYSMODs change, rising by type and name, as they are when all of them have taken effect on
+/// the zone less the deletions. Over orders those that change one element, and what they update is there.
+pub(crate) fn elements_after(
+    alloc: Heap,
+    global: &Global,
+    zone: &Zone,
+    deletions: &[Id],
+    effective: &[Id],
+) -> Result<Vec<Element>, AllocError>
+    requires order { AllPairs (λ x y. ShareElement global.now x y
+        → IsOver (by_srel global.now zone.now.srel) x y ⊎ IsOver (by_srel global.now zone.now.srel) y x) effective.now }
+    requires some { (type : AType) (name : Text)
+        → Any (λ x. IsTrue (has_change global.now x type name)) effective.now
+        → IsSome
+        (element_of (zone_less global.now (by_srel global.now zone.now.srel) deletions.now zone.now) type name)
+        ⊎ Any (λ x. IsTrue (has_replacement global.now x type name)) effective.now }
+    ensures { IfOk result (λ es. (i : Installation)
+        → IsInstallOf i global.now (by_srel global.now zone.now.srel) zone.now deletions.now effective.now
+        → AreElementsAfter i es.items) }
+{
+    let table = changes_by_element(alloc, global, effective)?;
+    let mut elements = Vec::new(alloc);
+    let changes = table.as_slice();
+    for changed in changes {
+        elements.push(changed_element(alloc, global, zone, deletions, changed)?)?;
+    }
+    Ok(elements)
+}
+
+/// The element after the SYSMODs that change it.
+fn changed_element(
+    alloc: Heap,
+    global: &Global,
+    zone: &Zone,
+    deletions: &[Id],
+    changed: &Changed,
+) -> Result<Element, AllocError>
+    requires changers { All (λ x. IsTrue (has_change global.now x changed.now.elem_type changed.now.name))
+        changed.now.changers }
+    requires order { AllPairs (λ x y. IsOver (by_srel global.now zone.now.srel) x y
+        ⊎ IsOver (by_srel global.now zone.now.srel) y x) changed.now.changers }
+    requires some { IsSome (element_of (zone_less global.now (by_srel global.now zone.now.srel) deletions.now zone.now)
+        changed.now.elem_type changed.now.name)
+        ⊎ Any (λ x. IsTrue (has_replacement global.now x changed.now.elem_type changed.now.name)) changed.now.changers }
+    ensures key { IfOk result (λ e. (e.elem_type ≡ changed.now.elem_type) × (e.name ≡ changed.now.name)) }
+    ensures element { IfOk result (λ e. (i : Installation)
+        → AreChangers i global.now (by_srel global.now zone.now.srel) changed.now.elem_type changed.now.name
+        (element_of (zone_less global.now (by_srel global.now zone.now.srel) deletions.now zone.now)
+        changed.now.elem_type changed.now.name) changed.now.changers
+        → HasElementAfter i changed.now.elem_type changed.now.name e) }
+{
+    let base = left_of(global, zone, deletions, changed.elem_type, changed.name);
+    after_all(
+        alloc,
+        global,
+        zone.srel(),
+        base,
+        changed.elem_type,
+        changed.name,
+        &changed.changers,
+    )
+}
+
+/// The element after these SYSMODs, in the order that over gives them.
+fn after_all(
+    alloc: Heap,
+    global: &Global,
+    srel: Srel,
+    base: Option<&Element>,
+    elem_type: ElemType,
+    name: Name,
+    changers: &[Id],
+) -> Result<Element, AllocError>
+    requires base { IfSome (option_copied base) (λ e. (e.elem_type ≡ elem_type) × (e.name ≡ name)) }
+    requires changers { All (λ x. IsTrue (has_change global.now x elem_type name)) changers.now }
+    requires order { AllPairs (λ x y. IsOver (by_srel global.now srel) x y ⊎ IsOver (by_srel global.now srel) y x)
+        changers.now }
+    requires some { IsSome (option_copied base)
+        ⊎ Any (λ x. IsTrue (has_replacement global.now x elem_type name)) changers.now }
+    ensures key { IfOk result (λ e. (e.elem_type ≡ elem_type) × (e.name ≡ name)) }
+    ensures element { IfOk result (λ e. (i : Installation)
+        → AreChangers i global.now (by_srel global.now srel) elem_type name (option_copied base.entry) changers.now
+        → HasElementAfter i elem_type name e) }
+{
+    let vers = VerChoice::new(global, srel);
+    let ordered = in_order(alloc, &vers, changers)?;
+    element_after(alloc, global, srel, base, elem_type, name, &ordered)
+}
+
+/// The element that the zone has, unless the deletions meet its owner's chain.
+fn left_of<'a>(
+    global: &Global,
+    zone: &'a Zone,
+    deletions: &[Id],
+    elem_type: ElemType,
+    name: Name,
+) -> Option<&'a Element>
+    ensures left { option_copied result ≡ element_of
+        (zone_less global.now (by_srel global.now zone.now.srel) deletions.now zone.now) elem_type name }
+    ensures key { IfSome (option_copied result) (λ e. (e.elem_type ≡ elem_type) × (e.name ≡ name)) }
+{
+    zone.known();
+    let element = zone.element(elem_type, name)?;
+    if is_deleted(global, zone.srel(), element.fmid, deletions) {
+        return None;
+    }
+    Some(element)
+}
+
+/// Whether the deletions meet its chain.
+fn is_deleted(global: &Global, srel: Srel, id: Id, deletions: &[Id]) -> bool
+    ensures { result ≡ is_deleted global.now (by_srel global.now srel) deletions.now id }
+{
+    VerChoice::new(global, srel).meets(id, deletions)
+}

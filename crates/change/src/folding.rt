@@ -1,0 +1,200 @@
+//! What the SYSMODs that change one element make of it, one after the other in the order of over.
+ghost use Rattle.std.specs.Prelude.{◌≡◌, ◌<◌, ◌⊎◌, All, AllPairs, Any, IsTrue, IsSome, IfOk, IfSome, Some, length, position};
+ghost use Rattle.std.specs.Prelude.{option_copied};
+ghost use Rattle.terms.specs.Choice.{by_srel};
+ghost use Rattle.terms.specs.Changes.{has_replacement};
+ghost use Rattle.terms.specs.Install.{Installation, HasElementAfter};
+ghost use Rattle.terms.specs.Lookups.{IsRising, change_of, has_change};
+ghost use Rattle.terms.specs.Over.{IsOver, owner as owner_of};
+ghost use Rattle.terms.specs.Texts.{IsMerge, IsNumbered, IsUpdate};
+ghost use Rattle.change.specs.Folding.{AreChangers, IsMadeBy, IsStep, IsUpdateOf, is_for};
+
+use fields::{Id, IdList, Name, Srel};
+use std::alloc::{AllocError, Global as Heap};
+use sysmods::{Global, VerChoice};
+use sysmods_records::{Action, ElemChange};
+use terms::ElemType;
+use text80::{Line, Numbered, TextError, Update, merge};
+use zones::{Element, TryClone};
+
+/// The element after all these SYSMODs, which change it and of which each later one is over each earlier one. The zone
+/// has it already, as `base`, or one of them replaces it.
+pub(crate) fn element_after(
+    alloc: Heap,
+    global: &Global,
+    srel: Srel,
+    base: Option<&Element>,
+    elem_type: ElemType,
+    name: Name,
+    changers: &[Id],
+) -> Result<Element, AllocError>
+    requires base { IfSome (option_copied base) (λ e. (e.elem_type ≡ elem_type) × (e.name ≡ name)) }
+    requires changers { All (λ x. IsTrue (has_change global.now x elem_type name)) changers.now }
+    requires order { AllPairs (λ x y. IsOver (by_srel global.now srel) y x) changers.now }
+    requires some { IsSome (option_copied base)
+        ⊎ Any (λ x. IsTrue (has_replacement global.now x elem_type name)) changers.now }
+    ensures key { IfOk result (λ e. (e.elem_type ≡ elem_type) × (e.name ≡ name)) }
+    ensures element { IfOk result (λ e. (i : Installation)
+        → AreChangers i global.now (by_srel global.now srel) elem_type name (option_copied base.entry) changers.now
+        → HasElementAfter i elem_type name e) }
+{
+    prove!(global.len() < 65_536);
+    let mut element = copy_of(alloc, base)?;
+    for id in changers {
+        element = after_one(alloc, global, srel, element, elem_type, name, *id)?;
+    }
+    Ok(element.unwrap())
+}
+
+/// A copy of the zone's element, if it has one.
+fn copy_of(alloc: Heap, base: Option<&Element>) -> Result<Option<Element>, AllocError>
+    ensures same { IfOk result (λ copy. copy ≡ option_copied base.entry) }
+    ensures rising { IfSome (option_copied base.entry) (λ e. IsRising e.umids) }
+{
+    match base {
+        Some(element) => {
+            let _ = element.umids.as_slice();
+            Ok(Some(element.try_clone(alloc)?))
+        }
+        None => Ok(None),
+    }
+}
+
+/// The element after one SYSMOD that changes it.
+fn after_one(
+    alloc: Heap,
+    global: &Global,
+    srel: Srel,
+    old: Option<Element>,
+    elem_type: ElemType,
+    name: Name,
+    id: Id,
+) -> Result<Option<Element>, AllocError>
+    requires changes { IsTrue (has_change global.now id elem_type name) }
+    requires old { IfSome old (λ e. (e.elem_type ≡ elem_type) × (e.name ≡ name)) }
+    ensures step { IfOk result (λ new. IsStep global.now (by_srel global.now srel) elem_type name id old new) }
+    ensures new { IfOk result (λ new. IfSome new (λ e. (e.elem_type ≡ elem_type) × (e.name ≡ name))) }
+{
+    let owner = VerChoice::new(global, srel).owner(id);
+    changed(
+        alloc,
+        owner,
+        id,
+        change_of(global, id, elem_type, name),
+        old,
+    )
+}
+
+/// The SYSMOD's statement for the element.
+fn change_of(global: &Global, id: Id, elem_type: ElemType, name: Name) -> &ElemChange
+    requires { IsTrue (has_change global.now id elem_type name) }
+    ensures change { change_of global.now id elem_type name ≡ Some result.now }
+    ensures elem_type { result.now.elem_type ≡ elem_type }
+    ensures name { result.now.name ≡ name }
+{
+    let sysmod = global.get(id).unwrap();
+    let place = find_change(sysmod.changes.as_slice(), elem_type, name).unwrap();
+    &sysmod.changes[place]
+}
+
+/// Where the statement for the element stands.
+fn find_change(changes: &[ElemChange], elem_type: ElemType, name: Name) -> Option<usize>
+    ensures place { result ≡ position (is_for elem_type name) changes.now }
+    ensures within { IfSome result (λ i. i < length changes.now) }
+{
+    changes.iter().position(|change| change.elem_type == elem_type && change.name == name)
+}
+
+/// The element after one statement that changes it.
+fn changed(
+    alloc: Heap,
+    owner: Id,
+    id: Id,
+    change: &ElemChange,
+    old: Option<Element>,
+) -> Result<Option<Element>, AllocError>
+    requires { IfSome old (λ e. (e.elem_type ≡ change.now.elem_type) × (e.name ≡ change.now.name)) }
+    ensures made { IfOk result
+        (λ new. IsMadeBy owner id change.now.elem_type change.now.name change.now.action old new) }
+    ensures new { IfOk result (λ new. IfSome new
+        (λ e. (e.elem_type ≡ change.now.elem_type) × (e.name ≡ change.now.name))) }
+{
+    match &change.action {
+        Action::Replaces {
+            distlib,
+            syslib,
+            lines,
+        } => Ok(Some(Element {
+            elem_type: change.elem_type,
+            name: change.name,
+            fmid: owner,
+            rmid: id,
+            umids: IdList::new(alloc),
+            distlib: *distlib,
+            syslib: *syslib,
+            text: Vec::from_slice(alloc, lines.as_slice())?,
+        })),
+        Action::Updates { lines } => match old {
+            Some(element) => Ok(Some(updated(alloc, id, change.name, lines.as_slice(), element)?)),
+            None => Ok(None),
+        },
+    }
+}
+
+/// The element after an update by the SYSMOD.
+fn updated(
+    alloc: Heap,
+    id: Id,
+    name: Name,
+    lines: &[Line],
+    old: Element,
+) -> Result<Element, AllocError>
+    requires numbered { IsNumbered old.text }
+    requires update { IsUpdate name lines.now }
+    ensures { IfOk result (IsUpdateOf id lines.now old) }
+{
+    let Element {
+        elem_type,
+        name: element_name,
+        fmid,
+        rmid,
+        mut umids,
+        distlib,
+        syslib,
+        text,
+    } = old;
+    umids.insert(id)?;
+    Ok(Element {
+        elem_type,
+        name: element_name,
+        fmid,
+        rmid,
+        umids,
+        distlib,
+        syslib,
+        text: merged(alloc, name, text, lines)?,
+    })
+}
+
+/// The text with the update made.
+fn merged(alloc: Heap, name: Name, text: Vec<Line>, lines: &[Line]) -> Result<Vec<Line>, AllocError>
+    requires numbered { IsNumbered text.items }
+    requires update { IsUpdate name lines.now }
+    ensures { IfOk result (λ new. IsMerge text.items lines.now new.items) }
+{
+    let text = Numbered::read(text).unwrap();
+    let update = update_of(alloc, name, lines)?;
+    Ok(merge(alloc, &text, &update)?.into_lines())
+}
+
+/// The records, which are an update of the element of this name.
+fn update_of(alloc: Heap, name: Name, lines: &[Line]) -> Result<Update, AllocError>
+    requires { IsUpdate name lines.now }
+    ensures { IfOk result (λ update. update ≡ lines.now) }
+{
+    match Update::read(alloc, Vec::from_slice(alloc, lines)?, name.as_bytes()) {
+        Ok(update) => Ok(update),
+        Err(TextError::Memory) => Err(AllocError),
+        Err(TextError::Fault(_)) => unreachable!(),
+    }
+}
