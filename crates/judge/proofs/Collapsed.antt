@@ -20,7 +20,7 @@ use Rattle.terms.specs.Over.{IsOver}
 use Rattle.terms.specs.Changes.{is_replacement, has_update}
 use Rattle.terms.specs.Deleted.{deletions, is_deleted, zone_less}
 use Rattle.terms.specs.Tests.{Setting, view_of, owner_of, is_bypassed_hold, ChangesInView, FailsJ1, FailsJ2, FailsJ3}
-use Rattle.terms.specs.Tests.{FailsJ4, FailsJ5, FailsJ6, FailsJ7, FailsJ8, FailsAlone, Survives, ShareElement, Clash}
+use Rattle.terms.specs.Tests.{FailsJ4, FailsJ5, FailsJ6, FailsJ7, FailsJ8, FailsAlone, Survives}
 use Rattle.terms.specs.CommandForms.{no_bypass}
 use Rattle.terms.specs.Judged.{setting}
 use Rattle.lemmas.proofs.Searches.{find-gives}
@@ -209,22 +209,6 @@ module _ (g : Global) (zone : Zone) (ids : List Id)
         passes J10 = λ none. none
         passes J11 = λ none. none
         passes J12 = λ none. none
-
-    -- survivors that share an element clash, and no others do
-    pub clash-shares : (y : Id) → Contains ids y → Clash S x y → ShareElement g x y
-    clash-shares y in_y (inl named) = absurd (none_named (npre_of C x) y own.names_nothing.npre named)
-    clash-shares y in_y (inr (inl named)) = absurd (none_named (npre_of C y) x (plain y in_y).names_nothing.npre named)
-    clash-shares y in_y (inr (inr (shared, apart))) = shared
-
-  pub share-clashes : (x y : Id) → Contains ids x → Contains ids y → x ≢ y → ShareElement g x y → Clash S x y
-  share-clashes x y in_x in_y other (type, name, has_x, has_y) =
-      let hx = change-found g x type name has_x in
-      let hy = change-found g y type name has_y in
-      inr (inr (
-        (type, name, has_x, has_y),
-        inl (λ same. other
-            (sym (owner-is x in_x hx.0 hx.1) ∙ same ∙ owner-is y in_y hy.0 hy.1)),
-      ))
 
 -- what is not over the SYSMODs that made an element
 pub lower-first : (c : Choice) (x rmid : Id) (umids : List Id) → ¬ IsOver c x rmid

@@ -4,5 +4,6 @@ pub mod Own
 pub mod Wanted
 pub mod Serving
 pub mod Numbered
+pub mod Claims
 pub mod Sharing
 pub mod Rows

@@ -12,7 +12,7 @@ use crate::sharing::shared_places;
 use fields::{Id, IdList};
 use solve::System;
 use std::alloc::{AllocError, Global as Heap};
-use sysmods::Global;
+use sysmods::{Global, VerChoice};
 use terms::{NeedKind, Test};
 use zones::Zone;
 
@@ -39,7 +39,8 @@ pub fn judge(alloc: Heap, global: &Global, zone: &Zone, ids: &IdList) -> Result<
     prove!(global.len() < 65_536);
     prove!(list.len() < 4_294_967_296);
     let faults = all_faults(alloc, global, zone, list)?;
-    let shared = shared_places(alloc, global, list, faults.as_slice())?;
+    let vers = VerChoice::new(global, zone.srel());
+    let shared = shared_places(alloc, global, &vers, list, faults.as_slice())?;
     let tests = all_rows(alloc, faults.as_slice(), &shared)?;
     let eligible = all_eligible(alloc, faults.as_slice(), &shared)?;
     let (system, needed) = wants_of(alloc, global, zone, ids, eligible)?;

@@ -5,6 +5,8 @@
 //! supersedes what, are judged as they are. Seen in the code alone: one pass over what the survivors change.
 #![tactic(auto)]
 
+mod chains;
+mod claims;
 mod judging;
 mod numbered;
 mod own;
