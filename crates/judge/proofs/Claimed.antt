@@ -1,8 +1,7 @@
 -- The claims of the candidates, and the claims of one element side by side.
-use Rattle.std.proofs.Common.{◌≡◌, ◌≢◌, ◌⊎◌, inl, inr, ℕ, ◌+◌, Bool, true, false, List, [], ◌∷◌, ◌++◌, Option, None}
+use Rattle.std.proofs.Common.{◌≡◌, ◌≢◌, inl, inr, ℕ, ◌+◌, Bool, true, false, List, [], ◌++◌}
 use Rattle.std.proofs.Common.{Some, refl, sym, ap, ap₂, ◌∙◌, subst, true≢false, map, Contains, cond, arith, slice_get}
 use Rattle.std.proofs.Common.{IsPermutation, ◌<◌, ◌≤◌, length, get_or}
-use Rattle.std.specs.Prelude.{◌↔◌, ◌&&◌}
 use Rattle.std.specs.List.Sorted.{IsSortedByKey}
 use Rattle.std.specs.declared.cmp.Ordering.{Ordering}
 use Rattle.std.specs.declared.cmp.Ordering.TheVariants.{Less, Equal, Greater}
@@ -11,39 +10,23 @@ use Rattle.std.specs.Cmp.{IsTotalOrder}
 use Rattle.std.specs.Cmp.Lexicographic.{slice_cmp}
 use Rattle.std.proofs.lemmas.List.Sorted.{Contains-permutation, IsPermutation-sym, ranks_by, sorted_far}
 use Rattle.std.proofs.lemmas.Map.Lookups.{exact_bytes, exact_pairs, exact_unsigned, CmpEqualImpliesEq}
-use Rattle.std.specs.Str.{bytes_eq}
-use Rattle.std.proofs.lemmas.Bool.{and_parts, eqb-true, eq-eqb, cases_eq}
+use Rattle.std.proofs.lemmas.Bool.{cases_eq}
 use Rattle.std.proofs.lemmas.List.{append-nil}
 use Rattle.std.proofs.lemmas.List.Elements.{Contains-append_left, Contains-append_right, Contains-append_cases}
 use Rattle.std.proofs.lemmas.Option.{same_Some, slice_get_within, get_or_from_slice_get}
 use Rattle.terms.specs.declared.kinds.ElemType.{ElemType}
 use Rattle.terms.specs.Types.{Text, Id, Global, type_number}
 use Rattle.terms.specs.Lookups.{changes_of, element_cmp}
-use Rattle.terms.proofs.ElementOrder.{eq-types, cmp-keys, element_cmp_total, type_from_number}
-use Rattle.lemmas.proofs.Texts.{same_from, same_itself}
+use Rattle.terms.proofs.ElementOrder.{cmp-keys, element_cmp_total, type_from_number}
 use Rattle.lemmas.proofs.Members.{in_map, map_in}
-use Rattle.terms.specs.contracts.kinds.ElemTypePartialEq.TheImpl as type_equality
 use Rattle.terms.specs.contracts.kinds.ElemTypeOrd.TheImpl as type_order
 use Rattle.judge.specs.declared.own.OwnFaults.{OwnFaults}
 use Rattle.judge.specs.declared.claims.Claim.{Claim}
 use Rattle.judge.specs.Own.{passes}
-use Rattle.judge.specs.Claims.{change_key, key_eq, a_claim, PassesAt, HasClaim, AreClaims, AreGrouped}
+use Rattle.judge.specs.Claims.{change_key, a_claim, HasClaim, AreClaims, AreGrouped}
 
-abbrev pub Key : Type 0
+abbrev Key : Type 0
 Key = ElemType × Text
-
-pub key-from : (a b : Key) → key_eq a b ≡ true → a ≡ b
-key-from a b e =
-    let parts = and_parts (type_equality.ghosts.eq a.0 b.0) (bytes_eq a.1 b.1) e in
-    let types : a.0 ≡ b.0 = type_from_number a.0 b.0 (eqb-true (type_number a.0) (type_number b.0)
-    (sym (eq-types a.0 b.0) ∙ parts.0)) in
-    let names : a.1 ≡ b.1 = same_from a.1 b.1 parts.1 in
-    ap₂ (λ t n. (t, n)) types names
-
-pub key-itself : (a : Key) → key_eq a a ≡ true
-key-itself a =
-    ap (λ b. b && bytes_eq a.1 a.1) (eq-types a.0 a.0 ∙ eq-eqb (type_number a.0) (type_number a.0) refl)
-    ∙ same_itself a.1
 
 module _ (g : Global) (ids : List Id) (faults : List OwnFaults) where
   wider : (k : ℕ) (key : Key) (x : Id) (n : ℕ) → HasClaim g ids faults k key x n → HasClaim g ids faults (k + 1) key x n

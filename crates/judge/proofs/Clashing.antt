@@ -9,7 +9,7 @@ use Rattle.terms.specs.declared.kinds.ElemType.{ElemType}
 use Rattle.terms.specs.Types.{Text, Id, Global}
 use Rattle.terms.specs.Lookups.{changes_of, has_change}
 use Rattle.terms.specs.Choice.{Choice, npre_of}
-use Rattle.terms.specs.Tests.{Setting, Survives, ShareElement, MayNotShare, Clash, FailsJ9}
+use Rattle.terms.specs.Tests.{Setting, Survives, Clash, FailsJ9}
 use Rattle.judge.specs.declared.own.OwnFaults.{OwnFaults}
 use Rattle.judge.specs.declared.claims.Claim.{Claim}
 use Rattle.judge.specs.Own.{passes}

@@ -1,7 +1,7 @@
 -- The marks of the claims on one element that clash.
-use Rattle.std.proofs.Common.{◌≡◌, ◌≢◌, ◌⊎◌, inl, inr, ℕ, Bool, true, false, List, [], ◌∷◌, ◌++◌, refl, sym, subst}
-use Rattle.std.proofs.Common.{Contains, cond, arith, map}
-use Rattle.std.specs.Prelude.{◌↔◌, All, take, drop}
+use Rattle.std.proofs.Common.{◌≡◌, ◌⊎◌, inl, inr, ℕ, Bool, true, false, List, [], ◌∷◌, ◌++◌, refl, sym, subst}
+use Rattle.std.proofs.Common.{Contains, cond, arith}
+use Rattle.std.specs.Prelude.{◌↔◌, take, drop}
 use Rattle.std.specs.List.{list_any, insert}
 use Rattle.std.proofs.lemmas.List.{take-append-drop}
 use Rattle.std.proofs.lemmas.List.Elements.{Contains-append_left, Contains-append_right, Contains-append_cases}
@@ -13,7 +13,7 @@ use Rattle.lemmas.proofs.Pairs.{AllPairs-between}
 use Rattle.terms.specs.Types.{Id, Global}
 use Rattle.terms.specs.Choice.{Choice}
 use Rattle.judge.specs.declared.claims.Claim.{Claim}
-use Rattle.judge.specs.Sharing.{StandApart, Clashes, ClashesOnOne, Marks, IsOfPair, IsAgainst, IsAmong, IsBelow, IsChain}
+use Rattle.judge.specs.Sharing.{StandApart, Clashes, Marks, IsOfPair, IsAgainst, IsAmong, IsBelow, IsChain}
 use Rattle.judge.specs.Sharing.{FitsAt, AreMarked}
 
 -- ---- marks one after the other
@@ -111,18 +111,18 @@ module _ (g : Global) (c : Choice) where
       ))
 
   against-both : (a : Claim) (chain others : List Claim) (old middle new : List ℕ)
-      → Marks (IsAgainst g c a others) old middle → Marks (IsAgainst g c a chain) middle new
+      → Marks (IsAgainst g c a chain) old middle → Marks (IsAgainst g c a others) middle new
       → Marks (IsAgainst g c a (chain ++ others)) old new
   against-both a chain others old middle new first second =
-      marks-join (IsAgainst g c a others) (IsAgainst g c a chain) (IsAgainst g c a (chain ++ others)) old middle new
+      marks-join (IsAgainst g c a chain) (IsAgainst g c a others) (IsAgainst g c a (chain ++ others)) old middle new
       first second (λ n. (
         λ against. elim (Contains-append_cases chain others against.0 against.1) [
-          | inl front ↦ inr (against.0, front, against.2)
-          | inr back ↦ inl (against.0, back, against.2)
+          | inl front ↦ inl (against.0, front, against.2)
+          | inr back ↦ inr (against.0, back, against.2)
         ],
         λ h. elim h [
-          | inl against ↦ (against.0, Contains-append_right chain others against.0 against.1, against.2)
-          | inr against ↦ (against.0, Contains-append_left chain others against.0 against.1, against.2)
+          | inl against ↦ (against.0, Contains-append_left chain others against.0 against.1, against.2)
+          | inr against ↦ (against.0, Contains-append_right chain others against.0 against.1, against.2)
         ],
       ))
 
@@ -271,17 +271,17 @@ module _ (g : Global) (c : Choice) where
 
   -- it does not
   pub left-out : (claims chain others new_others : List Claim) (before shared middle marked : List ℕ) (a : Claim)
-      → new_others ≡ others ++ a ∷ [] → Marks (IsAgainst g c a others) shared middle
-      → Marks (IsAgainst g c a chain) middle marked
+      → new_others ≡ others ++ a ∷ [] → Marks (IsAgainst g c a chain) shared middle
+      → Marks (IsAgainst g c a others) middle marked
       → AreMarked g c claims chain others before shared
       → AreMarked g c (claims ++ a ∷ []) chain new_others before marked
-  left-out claims chain others new_others before shared middle marked a made against_others against_chain m =
+  left-out claims chain others new_others before shared middle marked a made against_chain against_others m =
       subst (λ l. AreMarked g c (claims ++ a ∷ []) chain l before marked) (sym made) (record {
         members = λ b. (from b, to b);
         ordered = m.ordered;
         marks = marks-join (IsAmong (Clashes g c) claims) (IsAgainst g c a (chain ++ others))
             (IsAmong (Clashes g c) (claims ++ a ∷ [])) before shared marked m.marks
-            (against-both a chain others shared middle marked against_others against_chain)
+            (against-both a chain others shared middle marked against_chain against_others)
             (among-more claims (chain ++ others) a (λ b h. (m.members b).0 h) (λ b h. inl ((m.members b).1 h)));
       })
     where

@@ -19,13 +19,12 @@ use Rattle.std.proofs.lemmas.List.Elements.{All-contains, filter_passes}
 use Rattle.std.proofs.lemmas.List.Kept.{AllPairs-filter}
 use Rattle.std.proofs.lemmas.Map.Views.{list_any-from_Contains}
 use Rattle.indexmap.proofs.CallerLemmas.{Contains-list_any}
-use Rattle.terms.specs.declared.kinds.ElemType.{ElemType}
 use Rattle.terms.specs.declared.kinds.ZoneKind.{ZoneKind}
 use Rattle.terms.specs.declared.kinds.ZoneKind.TheVariants.{Target, Distribution}
 use Rattle.terms.specs.declared.codes.NeedKind.{NeedKind}
 use Rattle.terms.specs.declared.codes.Test.{Test}
 use Rattle.terms.specs.declared.codes.Test.TheVariants.{J1, J2, J3, J4, J5, J6, J7, J8, J9, J10, J11, J12}
-use Rattle.terms.specs.Types.{Text, Id, Change, Element, Global, Zone, zone_number}
+use Rattle.terms.specs.Types.{Id, Change, Element, Global, Zone, zone_number}
 use Rattle.terms.specs.Lookups.{IsRising, is_held, is_before, is_in, changes_of, element_of}
 use Rattle.terms.specs.Tests.{Setting, FailsJ4, FailsJ5, FailsJ7, FailsJ9, Survives, AreSurvivors, IsEligible, Fails}
 use Rattle.terms.specs.CommandForms.{no_bypass}
@@ -34,7 +33,7 @@ use Rattle.terms.specs.Problem.{Problem, IsProblem, holds}
 use Rattle.lemmas.proofs.Pairs.{AllPairs-rest}
 use Rattle.lemmas.proofs.Places.{contains_at, found_at}
 use Rattle.lemmas.proofs.Texts.{same_from, same_itself}
-use Rattle.lemmas.proofs.Members.{map_in, in_map, here_or, here, filter_in, in_filter}
+use Rattle.lemmas.proofs.Members.{here_or, here, filter_in, in_filter}
 use Rattle.machine.specs.Installing.{all_tests}
 use Rattle.judge.specs.declared.own.OwnFaults.{OwnFaults}
 use Rattle.judge.specs.Failed.{AreFailedTests}

@@ -7,7 +7,6 @@ use Rattle.std.proofs.lemmas.Bool.{cases_eq, cases_order}
 use Rattle.std.proofs.lemmas.List.{get_or-take, get_or-drop, length-take-le, length-drop}
 use Rattle.std.proofs.lemmas.List.Elements.{Contains-append_left, Contains-append_right, Contains-append_cases}
 use Rattle.std.proofs.lemmas.Option.{slice_get_within, slice_get-get_or, get_or_from_slice_get}
-use Rattle.lemmas.proofs.Members.{none_in}
 use Rattle.terms.specs.Types.{Global}
 use Rattle.terms.specs.Choice.{Choice}
 use Rattle.judge.specs.declared.claims.Claim.{Claim}
@@ -32,7 +31,7 @@ in-part xs start end x low high h =
     let inside : start + p.0 < length xs = omega (arith, p.2, high, low) in (
       start + p.0,
       slice_get-get_or xs (start + p.0) x inside ∙ ap (λ v. Some v) (sym (get_or-drop start xs p.0 x)
-      ∙ get_or-is (drop start xs) p.0 x p.1),
+          ∙ get_or-is (drop start xs) p.0 x p.1),
       omega arith,
       omega (arith, p.2, low),
     )

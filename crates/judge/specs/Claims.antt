@@ -1,7 +1,5 @@
 -- What the candidates change that pass by themselves.
-use Rattle.std.specs.Prelude.{◌≡◌, ◌↔◌, ◌<◌, ◌&&◌, ℕ, Bool, List, Some, IsTrue, Contains, map, slice_get}
-use Rattle.std.specs.Str.{bytes_eq}
-use Rattle.terms.specs.contracts.kinds.ElemTypePartialEq.TheImpl as type_equality
+use Rattle.std.specs.Prelude.{◌≡◌, ◌↔◌, ◌<◌, ℕ, List, Some, IsTrue, Contains, map, slice_get}
 use Rattle.terms.specs.declared.kinds.ElemType.{ElemType}
 use Rattle.terms.specs.Types.{Text, Id, Change, Global}
 use Rattle.terms.specs.Lookups.{changes_of}
@@ -12,10 +10,6 @@ use Rattle.judge.specs.Own.{passes}
 -- the type and the name of the element that a statement changes
 abbrev pub change_key : Change → ElemType × Text
 change_key h = (h.elem_type, h.name)
-
--- whether two are the same, as `==` compares them
-abbrev pub key_eq : ElemType × Text → ElemType × Text → Bool
-key_eq a b = type_equality.ghosts.eq a.0 b.0 && bytes_eq a.1 b.1
 
 -- a candidate, with its place, changes this element
 abbrev pub a_claim : ElemType × Text → Id → ℕ → Claim

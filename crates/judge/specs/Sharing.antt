@@ -1,5 +1,5 @@
 -- Which candidates may not change one element beside another.
-use Rattle.std.specs.Prelude.{◌≡◌, ◌≢◌, ◌↔◌, ◌<◌, ◌≤◌, ◌⊎◌, ℕ, List, [], ◌∷◌, ◌++◌, Some, All, AllPairs, Contains}
+use Rattle.std.specs.Prelude.{◌≡◌, ◌≢◌, ◌↔◌, ◌<◌, ◌≤◌, ◌⊎◌, ℕ, List, ◌++◌, Some, All, AllPairs, Contains}
 use Rattle.std.specs.Prelude.{take, drop, slice_get, length}
 use Rattle.terms.specs.declared.kinds.ElemType.{ElemType}
 use Rattle.terms.specs.Types.{Text, Id, Global}

@@ -22,10 +22,10 @@ fn are_ordered(alloc: Heap, vers: &VerChoice<'_>, x: Id, y: Id) -> Result<bool, 
     ensures { IfOk result (λ ordered. IsTrue ordered ↔ (IsOver (choice vers.now) x y
         ⊎ IsOver (choice vers.now) y x)) }
 {
-    if vers.over(alloc, y, x)? {
+    if vers.over(alloc, x, y)? {
         return Ok(true);
     }
-    vers.over(alloc, x, y)
+    vers.over(alloc, y, x)
 }
 
 /// Whether two SYSMODs may not change one element.

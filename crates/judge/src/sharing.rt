@@ -14,7 +14,7 @@ use indexmap::IndexSet;
 use std::alloc::{AllocError, Global as Heap};
 use sysmods::{Global, VerChoice};
 
-// Whether nothing is to be marked for the two: they are of one candidate, or both are marked.
+// Whether no test is needed for the two: they are of one candidate, or both are marked.
 fn is_settled(one: &Claim, other: &Claim, shared: &IndexSet<u32>) -> bool
     ensures settled { IsTrue result → (one.now.id ≡ other.now.id) ⊎ (Contains shared.now.keys one.now.place
         × Contains shared.now.keys other.now.place) }
@@ -61,8 +61,8 @@ fn mark_against(
     Ok(())
 }
 
-/// The claims on one element so far. Those of the chain may share it with each other: each is over those before it,
-/// and one search finds the place of the next. The others are compared one by one.
+/// The claims on one element so far. Those of the chain may share it with each other, as each is over those before
+/// it: a claim that is over the last of them is over all. The others are compared one by one.
 #[derive(Drop)]
 struct Claimants {
     chain: Vec<Claim>,
@@ -83,12 +83,13 @@ fn take_in(
         → AreMarked vers.now.global.now (choice vers.now) (claims ++ claim.now ∷ []) known.new.chain.items
         known.new.others.items before shared.new.keys) }
 {
-    mark_against(alloc, vers, claim, known.others.as_slice(), shared)?;
     let Some(place) = place_in(alloc, vers, known.chain.as_slice(), claim)? else {
         mark_against(alloc, vers, claim, known.chain.as_slice(), shared)?;
+        mark_against(alloc, vers, claim, known.others.as_slice(), shared)?;
         known.others.push(*claim)?;
         return Ok(());
     };
+    mark_against(alloc, vers, claim, known.others.as_slice(), shared)?;
     known.chain.insert(place, *claim)?;
     Ok(())
 }

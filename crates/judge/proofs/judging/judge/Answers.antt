@@ -25,8 +25,13 @@ returns-clause-problem c =
     let ids = c.args.ids.now in
     let rising = rw c.as_slice-list.ensures.items at c.as_slice-list.ensures.rising in
     let own = rw c.as_slice-list.ensures.items at c.in_ok-faults.ensures in
-    let shares = rw (c.as_slice-list.ensures.items, c.as_slice.ensures.value, c.new-vers.ensures.global,
-    c.new-vers.ensures.srel, c.srel.ensures) at c.in_ok-shared.ensures in
+    let shares = rw (
+      c.as_slice-list.ensures.items,
+      c.as_slice.ensures.value,
+      c.new-vers.ensures.global,
+      c.new-vers.ensures.srel,
+      c.srel.ensures,
+    ) at c.in_ok-shared.ensures in
     let flags = rw c.as_slice-3.ensures.value at c.in_ok-eligible.ensures in
     rw (same-pairs c.in_ok-system.needed.items)
     (is-problem g zone ids c.known.ensures.held rising (λ x h.
@@ -41,8 +46,13 @@ returns-clause-tests c =
     let ids = c.args.ids.now in
     let rising = rw c.as_slice-list.ensures.items at c.as_slice-list.ensures.rising in
     let own = rw c.as_slice-list.ensures.items at c.in_ok-faults.ensures in
-    let shares = rw (c.as_slice-list.ensures.items, c.as_slice.ensures.value, c.new-vers.ensures.global,
-    c.new-vers.ensures.srel, c.srel.ensures) at c.in_ok-shared.ensures in
+    let shares = rw (
+      c.as_slice-list.ensures.items,
+      c.as_slice.ensures.value,
+      c.new-vers.ensures.global,
+      c.new-vers.ensures.srel,
+      c.srel.ensures,
+    ) at c.in_ok-shared.ensures in
     let rows = rw c.as_slice-2.ensures.value at c.in_ok-tests.ensures in
     are-failed g zone ids c.known.ensures.held rising (λ x h.
     plain-from g zone x (All-contains (λ x. IsTrue (is_installable g zone x)) ids x c.requires h))

@@ -1,4 +1,4 @@
-use Rattle.std.proofs.Common.{ℕ, Contains, length, subst}
+use Rattle.std.proofs.Common.{ℕ, Contains, subst}
 use Rattle.std.specs.Prelude.{◌↔◌}
 use Rattle.std.proofs.lemmas.Result.{IfOk-weaker}
 use Rattle.sysmods.specs.Choices.{choice}
