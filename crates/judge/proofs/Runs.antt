@@ -1,6 +1,6 @@
 -- The claims of one element after the other.
-use Rattle.std.proofs.Common.{◌≡◌, ◌≢◌, ◌∙◌, ◌⊎◌, inl, inr, ℕ, ◌+◌, ◌-◌, ◌<◌, ◌≤◌, List, ◌++◌, Some, sym, ap, subst, arith}
-use Rattle.std.proofs.Common.{Contains, get_or, slice_get, length}
+use Rattle.std.proofs.Common.{◌≡◌, ◌≢◌, ◌∙◌, ◌⊎◌, inl, inr, ℕ, ◌+◌, ◌-◌, ◌<◌, ◌≤◌, List, ◌++◌, Some, sym, ap, subst}
+use Rattle.std.proofs.Common.{arith, Contains, get_or, slice_get, length}
 use Rattle.std.specs.Prelude.{◌↔◌, take, drop}
 use Rattle.std.proofs.Math.Seq.{take-add}
 use Rattle.std.proofs.lemmas.Bool.{cases_eq, cases_order}
