@@ -57,3 +57,10 @@ module _ (g : Global) (c : Choice) where
       front = subst (All (λ b. IsBelow g c b a)) (sym (take_all (length chain) chain (omega arith))) all;
       back = λ i d within. absurd (omega (arith, within, length-drop (length chain) chain));
     }
+
+    pub fits-front : All (λ b. IsBelow g c a b) (drop 0 chain) → FitsAt g c chain a 0
+    fits-front all = record {
+      within = omega arith;
+      front = λ i d within. absurd (omega (arith, within));
+      back = all;
+    }

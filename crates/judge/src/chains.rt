@@ -117,7 +117,7 @@ fn is_in_front(
     is_below(alloc, vers, claim, &chain[place])
 }
 
-// Where a claim fits into the chain that is not at its end.
+// Where a claim fits into the chain that is neither over all of it nor below all.
 fn place_inside(
     alloc: Heap,
     vers: &VerChoice<'_>,
@@ -128,6 +128,13 @@ fn place_inside(
     ensures fits { IfOk result (λ place. IfSome place (λ k. IsChain vers.now.global.now (choice vers.now) chain.now
         → FitsAt vers.now.global.now (choice vers.now) chain.now claim.now k)) }
 {
+    let Some(first) = chain.first() else {
+        return Ok(None);
+    };
+    // What is not over the first fits nowhere, and needs no search for its place.
+    if !is_below(alloc, vers, first, claim)? {
+        return Ok(None);
+    }
     let place = search_end(alloc, vers, chain, claim)?;
     if !is_in_front(alloc, vers, chain, place, claim)? {
         return Ok(None);
@@ -148,6 +155,9 @@ pub(crate) fn place_in(
 {
     if is_at_end(alloc, vers, chain, claim)? {
         return Ok(Some(chain.len()));
+    }
+    if is_in_front(alloc, vers, chain, 0, claim)? {
+        return Ok(Some(0));
     }
     place_inside(alloc, vers, chain, claim)
 }
