@@ -78,8 +78,7 @@ IsSplit claims k =
     (i j : ℕ) (a b : Claim) → slice_get claims i ≡ Some a → slice_get claims j ≡ Some b → i < k → k ≤ j
     → a.element ≢ b.element
 
--- the candidate at the place passes by itself, and so does another one, with which it may not share an element that both
--- change
+-- the candidate at the place passes by itself, and so does another one; both change an element that they may not share
 pub record IsClashing (g : Global) (c : Choice) (ids : List Id) (faults : List OwnFaults) (n : ℕ) : Type 0 where
   pub x : Id
   pub passes : PassesAt ids faults n x
