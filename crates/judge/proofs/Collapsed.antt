@@ -91,41 +91,6 @@ module _ (g : Global) (zone : Zone) (ids : List Id)
       (Contains-get_or survivors i d below))).names_nothing.del))
       ∙ zone_less-none g C zone held
 
-  module _ (x : Id) (in_ids : Contains ids x) where
-    abbrev own : IsPlain g zone x
-    own = plain x in_ids
-
-    -- what has statements is a function, so it is its own owner
-    pub owner-is : (h : Change) → Contains (changes_of g x) h → owner_of S x ≡ x
-    owner-is h of = by own.changes
-      where
-        by : (changes_of g x ≡ []) ⊎ (IsTrue (is_function g x)
-            × IsTrue (list_all (λ h. is_replacement h.action) (changes_of g x))) → owner_of S x ≡ x
-        by (inl none) = absurd (none_there (subst (λ l. Contains l h) none of))
-          where
-            none_there : Contains [] h → ⊥
-            none_there t = omega (arith, t.1)
-        by (inr both) = ap (λ b. cond b x (unwrap_or (fmid_of C x) x)) both.0
-
-    none_named : (l : List Id) (z : Id) → l ≡ [] → ¬ Contains l z
-    none_named l z none h = let t = subst (λ l. Contains l z) none h in omega (arith, t.1)
-
-    -- survivors that share an element clash, and no others do
-    pub clash-shares : (y : Id) → Contains ids y → Clash S x y → ShareElement g x y
-    clash-shares y in_y (inl named) = absurd (none_named (npre_of C x) y own.names_nothing.npre named)
-    clash-shares y in_y (inr (inl named)) = absurd (none_named (npre_of C y) x (plain y in_y).names_nothing.npre named)
-    clash-shares y in_y (inr (inr (shared, apart))) = shared
-
-  pub share-clashes : (x y : Id) → Contains ids x → Contains ids y → x ≢ y → ShareElement g x y → Clash S x y
-  share-clashes x y in_x in_y other (type, name, has_x, has_y) =
-      let hx = change-found g x type name has_x in
-      let hy = change-found g y type name has_y in
-      inr (inr (
-        (type, name, has_x, has_y),
-        inl (λ same. other
-            (sym (owner-is x in_x hx.0 hx.1) ∙ same ∙ owner-is y in_y hy.0 hy.1)),
-      ))
-
 -- what is not over the SYSMODs that made an element
 pub lower-first : (c : Choice) (x rmid : Id) (umids : List Id) → ¬ IsOver c x rmid
     → IsTrue true ↔ Any (λ z. ¬ IsOver c x z) (rmid ∷ umids)

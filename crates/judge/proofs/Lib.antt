@@ -11,7 +11,11 @@ pub mod Rising
 pub mod Wants
 pub mod Standing
 pub mod Demands
+pub mod Claimed
+pub mod Chained
 pub mod Marks
 pub mod Numbering
+pub mod Runs
+pub mod Clashing
 pub mod Places
 pub mod Overs

@@ -1,327 +1,315 @@
--- Who shares an element: the claims of the candidates, and the marks that one pass over them makes.
-use Rattle.std.proofs.Common.{◌≡◌, ◌≢◌, ◌⊎◌, inl, inr, ℕ, ◌+◌, Bool, true, false, List, [], ◌∷◌, ◌++◌, Option, None}
-use Rattle.std.proofs.Common.{Some, refl, sym, ap, ap₂, ◌∙◌, subst, true≢false, map, Contains, cond, arith, slice_get}
-use Rattle.std.specs.Prelude.{◌↔◌, ◌&&◌}
-use Rattle.std.specs.List.{list_any}
-use Rattle.std.specs.Str.{bytes_eq}
-use Rattle.std.proofs.lemmas.Bool.{and_parts, eqb-true, eq-eqb, cases_eq}
-use Rattle.std.proofs.lemmas.List.{append-nil}
+-- The marks of the claims on one element that clash.
+use Rattle.std.proofs.Common.{◌≡◌, ◌⊎◌, inl, inr, ℕ, Bool, true, false, List, [], ◌∷◌, ◌++◌, refl, sym, subst}
+use Rattle.std.proofs.Common.{Contains, cond, arith}
+use Rattle.std.specs.Prelude.{◌↔◌, take, drop}
+use Rattle.std.specs.List.{list_any, insert}
+use Rattle.std.proofs.lemmas.List.{take-append-drop}
 use Rattle.std.proofs.lemmas.List.Elements.{Contains-append_left, Contains-append_right, Contains-append_cases}
-use Rattle.std.proofs.lemmas.List.Elements.{Contains-push, Contains-push_cases}
-use Rattle.std.proofs.lemmas.Option.{same_Some}
+use Rattle.std.proofs.lemmas.List.Elements.{Contains-push, Contains-push_cases, All-contains}
 use Rattle.indexmap.specs.IndexSet.{insert_key}
 use Rattle.indexmap.proofs.CallerLemmas.{Contains-insert_key}
-use Rattle.terms.specs.declared.kinds.ElemType.{ElemType}
-use Rattle.terms.specs.Types.{Text, Id, Global, type_number}
-use Rattle.terms.specs.Lookups.{changes_of}
-use Rattle.terms.proofs.ElementOrder.{eq-types, type_from_number}
-use Rattle.lemmas.proofs.Texts.{same_from, same_itself}
-use Rattle.lemmas.proofs.Members.{in_map, map_in}
-use Rattle.terms.specs.contracts.kinds.ElemTypePartialEq.TheImpl as type_equality
-use Rattle.judge.specs.declared.own.OwnFaults.{OwnFaults}
-use Rattle.judge.specs.declared.sharing.Claim.{Claim}
-use Rattle.judge.specs.Own.{passes}
-use Rattle.judge.specs.Sharing.{change_key, key_eq, a_claim, HasClaim, AreClaims, IsSharedPlace, AreMarked, MarksOne}
-use Rattle.judge.specs.Sharing.{IsSharedAt}
+use Rattle.lemmas.proofs.Members.{none_in, here_or, in_middle, there}
+use Rattle.lemmas.proofs.Pairs.{AllPairs-between}
+use Rattle.terms.specs.Types.{Id, Global}
+use Rattle.terms.specs.Choice.{Choice}
+use Rattle.judge.specs.declared.claims.Claim.{Claim}
+use Rattle.judge.specs.Sharing.{StandApart, Clashes, Marks, IsOfPair, IsAgainst, IsAmong, IsBelow, IsChain}
+use Rattle.judge.specs.Sharing.{FitsAt, AreMarked}
 
-abbrev Key : Type 0
-Key = ElemType × Text
+-- ---- marks one after the other
 
-pub key-from : (a b : Key) → key_eq a b ≡ true → a ≡ b
-key-from a b e =
-    let parts = and_parts (type_equality.ghosts.eq a.0 b.0) (bytes_eq a.1 b.1) e in
-    let types : a.0 ≡ b.0 = type_from_number a.0 b.0 (eqb-true (type_number a.0) (type_number b.0)
-    (sym (eq-types a.0 b.0) ∙ parts.0)) in
-    let names : a.1 ≡ b.1 = same_from a.1 b.1 parts.1 in
-    ap₂ (λ t n. (t, n)) types names
+pub marks-join : (P Q R : ℕ → Type 0) (old middle new : List ℕ) → Marks P old middle → Marks Q middle new
+    → ((n : ℕ) → R n ↔ (P n ⊎ Q n)) → Marks R old new
+marks-join P Q R old middle new first second both n = (
+  λ h. elim ((second n).0 h) [
+    | inl in_middle ↦ elim ((first n).0 in_middle) [ inl was ↦ inl was | inr p ↦ inr ((both n).1 (inl p)) ]
+    | inr q ↦ inr ((both n).1 (inr q))
+  ],
+  λ h. (second n).1 (elim h [
+    | inl was ↦ inl ((first n).1 (inl was))
+    | inr r ↦ elim ((both n).0 r) [ inl p ↦ inl ((first n).1 (inr p)) | inr q ↦ inr q ]
+  ]),
+)
 
-pub key-itself : (a : Key) → key_eq a a ≡ true
-key-itself a =
-    ap (λ b. b && bytes_eq a.1 a.1) (eq-types a.0 a.0 ∙ eq-eqb (type_number a.0) (type_number a.0) refl)
-    ∙ same_itself a.1
-
--- ---- marks
-
-more-shared : (claims : List Claim) (claim : Claim) (n : ℕ) → IsSharedPlace claims n
-    → IsSharedPlace (claims ++ claim ∷ []) n
-more-shared claims claim n s = record {
-  key = s.key;
-  other = s.other;
-  own = Contains-append_left claims (claim ∷ []) _ s.own;
-  others = Contains-append_left claims (claim ∷ []) _ s.others;
-  apart = s.apart;
-}
-
-module _ (claim : Claim) (first : Key → Option ℕ) (shared : List ℕ) (first' : Key → Option ℕ) (shared' : List ℕ) where
-  Meets : ℕ → Type 0
-  Meets m = (p : ℕ) × (first claim.element ≡ Some p) × (p ≢ claim.place) × ((m ≡ p) ⊎ (m ≡ claim.place))
-
-  Knows : Claim → Type 0
-  Knows c = (p : ℕ) × (first' c.element ≡ Some p) × ((p ≡ c.place) ⊎ (Contains shared' p × Contains shared' c.place))
-
-  marks-step : ((k : Key) (p : ℕ) → first k ≡ Some p → first' k ≡ Some p)
-      → ((k : Key) (p : ℕ) → first' k ≡ Some p → (first k ≡ Some p) ⊎ (claim ≡ a_claim k p))
-      → Knows claim
-      → ((m : ℕ) → Contains shared m → Contains shared' m)
-      → ((m : ℕ) → Contains shared' m → Contains shared m ⊎ Meets m)
-      → MarksOne claim first shared first' shared'
-  unfolding Meets Knows
-  marks-step kept only knows grows new claims m = record {
-    first_is = λ k p e. elim (only k p e) [
-      | inl old ↦ Contains-append_left claims (claim ∷ []) (a_claim k p) (m.first_is k p old)
-      | inr is ↦ subst (Contains (claims ++ claim ∷ [])) is (Contains-push claims claim)
-    ];
-    seen = λ k p h. elim (Contains-push_cases claims claim (a_claim k p) h) [
-      | inl old ↦ let s = m.seen k p old in
-          (s.0, kept k s.0 s.1, elim s.2 [ inl same ↦ inl same | inr both ↦ inr (grows s.0 both.0, grows p both.1) ])
-      | inr is ↦ subst Knows is knows
-    ];
-    marks = λ n h. elim (new n h) [
-      | inl old ↦ more-shared claims claim n (m.marks n old)
-      | inr meets ↦ both claims m n meets
-    ];
-  }
-    where
-      both : (claims : List Claim) → AreMarked claims first shared → (n : ℕ) → Meets n
-          → IsSharedPlace (claims ++ claim ∷ []) n
-      both claims m n (p, at, apart, who) =
-          let earlier : Contains (claims ++ claim ∷ []) (a_claim claim.element p) =
-          Contains-append_left claims (claim ∷ []) (a_claim claim.element p) (m.first_is claim.element p at) in
-          let this : Contains (claims ++ claim ∷ []) (a_claim claim.element claim.place) = Contains-push claims claim in
-          elim who [
-            | inl is_first ↦ record {
-              key = claim.element;
-              other = claim.place;
-              own = subst (λ v. Contains (claims ++ claim ∷ []) (a_claim claim.element v)) (sym is_first) earlier;
-              others = this;
-              apart = λ same. apart (sym is_first ∙ same);
-            }
-            | inr is_this ↦ record {
-              key = claim.element;
-              other = p;
-              own = subst (λ v. Contains (claims ++ claim ∷ []) (a_claim claim.element v)) (sym is_this) this;
-              others = earlier;
-              apart = λ same. apart (sym same ∙ is_this);
-            }
-          ]
-
-  -- nobody has claimed it
-  pub marks-first : first claim.element ≡ None → ((q : Key) → first' q ≡ cond (key_eq claim.element q)
-      (Some claim.place) (first q))
-      → shared' ≡ shared → MarksOne claim first shared first' shared'
-  unfolding Meets Knows
-  marks-first none updated same =
-      marks-step kept only (
-        claim.place,
-        updated claim.element ∙ ap (λ b. cond b (Some claim.place) (first claim.element))
-            (key-itself claim.element),
-        inl refl,
-      )
-      (λ m h. subst (λ l. Contains l m) (sym same) h)
-      (λ m h. inl (subst (λ l. Contains l m) same h))
-    where
-      kept : (k : Key) (p : ℕ) → first k ≡ Some p → first' k ≡ Some p
-      kept k p e = by (key_eq claim.element k) refl
-        where
-          by : (b : Bool) → key_eq claim.element k ≡ b → first' k ≡ Some p
-          by true is = let no : None ≡ Some p = sym none ∙ ap first (key-from claim.element k is) ∙ e in absurd (cc no)
-          by false is = updated k ∙ ap (λ b. cond b (Some claim.place) (first k)) is ∙ e
-
-      only : (k : Key) (p : ℕ) → first' k ≡ Some p → (first k ≡ Some p) ⊎ (claim ≡ a_claim k p)
-      only k p e = by (key_eq claim.element k) refl
-        where
-          by : (b : Bool) → key_eq claim.element k ≡ b → (first k ≡ Some p) ⊎ (claim ≡ a_claim k p)
-          by true is =
-              let it : Some claim.place ≡ Some p = sym (updated k ∙ ap (λ b. cond b (Some claim.place) (first k)) is)
-              ∙ e in
-              let place : claim.place ≡ p = cc it in
-              inr (ap₂ a_claim (key-from claim.element k is) place)
-          by false is = inl (sym (updated k ∙ ap (λ b. cond b (Some claim.place) (first k)) is) ∙ e)
-
-  -- it has claimed it itself
-  pub marks-again : (p : ℕ) → first claim.element ≡ Some p → p ≡ claim.place → ((q : Key) → first' q ≡ first q)
-      → shared' ≡ shared
-      → MarksOne claim first shared first' shared'
-  unfolding Meets Knows
-  marks-again p at own same_first same =
-      marks-step (λ k q e. same_first k ∙ e) (λ k q e. inl (sym (same_first k) ∙ e))
-      (p, same_first claim.element ∙ at, inl own)
-      (λ m h. subst (λ l. Contains l m) (sym same) h)
-      (λ m h. inl (subst (λ l. Contains l m) same h))
+pub marks-same : (P : ℕ → Type 0) (old new : List ℕ) → new ≡ old → ((n : ℕ) → P n → Contains old n) → Marks P old new
+marks-same P old new same known n = (
+  λ h. inl (subst (λ l. Contains l n) same h),
+  λ h. subst (λ l. Contains l n) (sym same) (elim h [ inl was ↦ was | inr p ↦ known n p ]),
+)
 
 module _ (eq : ℕ → ℕ → Bool) (exact : (a b : ℕ) → eq a b ≡ true → a ≡ b) where
-  inserted-keeps : (ks : List ℕ) (k m : ℕ) → Contains ks m → Contains (insert_key eq ks k) m
-  inserted-keeps ks k m h = by (list_any (eq k) ks)
+  -- one more mark
+  pub marks-insert : (old new : List ℕ) (k : ℕ) → new ≡ insert_key eq old k → Marks (λ n. n ≡ k) old new
+  marks-insert old new k made n = (
+    λ h. cases (list_any (eq k) old) (subst (λ l. Contains l n) made h),
+    λ h. subst (λ l. Contains l n) (sym made) (elim h [
+      | inl was ↦ keeps (list_any (eq k) old) was
+      | inr same ↦ subst (Contains (insert_key eq old k)) (sym same) (Contains-insert_key eq exact old k)
+    ]),
+  )
     where
-      by : (b : Bool) → Contains (cond b ks (ks ++ k ∷ [])) m
-      by true = h
-      by false = Contains-append_left ks (k ∷ []) m h
+      keeps : (b : Bool) → Contains old n → Contains (cond b old (old ++ k ∷ [])) n
+      keeps true h = h
+      keeps false h = Contains-append_left old (k ∷ []) n h
 
-  inserted-cases : (ks : List ℕ) (k m : ℕ) → Contains (insert_key eq ks k) m → Contains ks m ⊎ (m ≡ k)
-  inserted-cases ks k m = by (list_any (eq k) ks)
+      cases : (b : Bool) → Contains (cond b old (old ++ k ∷ [])) n → Contains old n ⊎ (n ≡ k)
+      cases true h = inl h
+      cases false h = elim (Contains-push_cases old k n h) [ inl was ↦ inl was | inr is ↦ inr (sym is) ]
+
+module _ (g : Global) (c : Choice) where
+  pub apart-turned : (x y : Id) → StandApart g c x y → StandApart g c y x
+  apart-turned x y (inl owners) = inl (λ same. owners (sym same))
+  apart-turned x y (inr neither) = inr (neither.1, neither.0)
+
+  pub clashes-turned : (a b : Claim) → Clashes g c a b → Clashes g c b a
+  clashes-turned a b clash = ((λ same. clash.0 (sym same)), apart-turned a.id b.id clash.1)
+
+  -- ---- a pair
+
+  pub pair-settled : (a b : Claim) (old new : List ℕ) → new ≡ old
+      → (a.id ≡ b.id) ⊎ (Contains old a.place × Contains old b.place) → Marks (IsOfPair g c a b) old new
+  pair-settled a b old new same settled = marks-same (IsOfPair g c a b) old new same (λ n pair. by n pair settled)
     where
-      by : (b : Bool) → Contains (cond b ks (ks ++ k ∷ [])) m → Contains ks m ⊎ (m ≡ k)
-      by true h = inl h
-      by false h = elim (Contains-push_cases ks k m h) [ inl old ↦ inl old | inr is ↦ inr (sym is) ]
+      by : (n : ℕ) → IsOfPair g c a b n → (a.id ≡ b.id) ⊎ (Contains old a.place × Contains old b.place)
+          → Contains old n
+      by n (clash, who) (inl own) = absurd (clash.0 own)
+      by n (clash, inl is) (inr both) = subst (Contains old) (sym is) both.0
+      by n (clash, inr is) (inr both) = subst (Contains old) (sym is) both.1
 
-  -- another has claimed it
-  pub marks-other : (claim : Claim) (first : Key → Option ℕ) (shared : List ℕ) (first' : Key → Option ℕ)
-      (middle shared' : List ℕ) (p : ℕ)
-      → first claim.element ≡ Some p → p ≢ claim.place → ((q : Key) → first' q ≡ first q)
-      → middle ≡ insert_key eq shared p → shared' ≡ insert_key eq middle claim.place
-      → MarksOne claim first shared first' shared'
-  unfolding Meets Knows
-  marks-other claim first shared first' middle shared' p at other same_first to_middle to_end =
-      marks-step claim first shared first' shared' (λ k q e. same_first k ∙ e) (λ k q e. inl (sym (same_first k) ∙ e)) (
-        p,
-        same_first claim.element ∙ at,
-        inr (
-          further p (subst (λ l. Contains l p) (sym to_middle) (Contains-insert_key eq exact shared p)),
-          subst (λ l. Contains l claim.place) (sym to_end) (Contains-insert_key eq exact middle claim.place),
-        ),
-      )
-      (λ m h. further m (subst (λ l. Contains l m) (sym to_middle) (inserted-keeps shared p m h)))
-      (λ m h. elim (inserted-cases middle claim.place m (subst (λ l. Contains l m) to_end h)) [
-        | inl in_middle ↦ elim (inserted-cases shared p m (subst (λ l. Contains l m) to_middle in_middle)) [
-          | inl old ↦ inl old
-          | inr is_p ↦ inr (p, at, other, inl is_p)
+  pub pair-free : (a b : Claim) (old new : List ℕ) → new ≡ old → ¬ StandApart g c a.id b.id
+      → Marks (IsOfPair g c a b) old new
+  pair-free a b old new same free = marks-same (IsOfPair g c a b) old new same (λ n pair. absurd (free pair.0.1))
+
+  pub pair-marked : (a b : Claim) (old middle new : List ℕ) → Clashes g c a b → Marks (λ n. n ≡ a.place) old middle
+      → Marks (λ n. n ≡ b.place) middle new → Marks (IsOfPair g c a b) old new
+  pair-marked a b old middle new clash first second =
+      marks-join (λ n. n ≡ a.place) (λ n. n ≡ b.place) (IsOfPair g c a b) old middle new first second
+      (λ n. (λ pair. pair.1, λ who. (clash, who)))
+
+  -- ---- a claim against others
+
+  pub against-none : (a : Claim) (old : List ℕ) → Marks (IsAgainst g c a []) old old
+  against-none a old n = (
+    λ h. inl h,
+    λ h. elim h [ inl was ↦ was | inr against ↦ absurd (none_in against.0 against.1) ],
+  )
+
+  pub against-more : (a b : Claim) (others : List Claim) (old middle new : List ℕ)
+      → Marks (IsAgainst g c a others) old middle → Marks (IsOfPair g c a b) middle new
+      → Marks (IsAgainst g c a (others ++ b ∷ [])) old new
+  against-more a b others old middle new first second =
+      marks-join (IsAgainst g c a others) (IsOfPair g c a b) (IsAgainst g c a (others ++ b ∷ [])) old middle new first
+      second (λ n. (
+        λ against. elim (Contains-push_cases others b against.0 against.1) [
+          | inl was ↦ inl (against.0, was, against.2)
+          | inr is ↦ inr (subst (λ v. IsOfPair g c a v n) (sym is) against.2)
+        ],
+        λ h. elim h [
+          | inl against ↦ (against.0, Contains-append_left others (b ∷ []) against.0 against.1, against.2)
+          | inr pair ↦ (b, Contains-push others b, pair)
+        ],
+      ))
+
+  against-both : (a : Claim) (chain others : List Claim) (old middle new : List ℕ)
+      → Marks (IsAgainst g c a chain) old middle → Marks (IsAgainst g c a others) middle new
+      → Marks (IsAgainst g c a (chain ++ others)) old new
+  against-both a chain others old middle new first second =
+      marks-join (IsAgainst g c a chain) (IsAgainst g c a others) (IsAgainst g c a (chain ++ others)) old middle new
+      first second (λ n. (
+        λ against. elim (Contains-append_cases chain others against.0 against.1) [
+          | inl front ↦ inl (against.0, front, against.2)
+          | inr back ↦ inr (against.0, back, against.2)
+        ],
+        λ h. elim h [
+          | inl against ↦ (against.0, Contains-append_left chain others against.0 against.1, against.2)
+          | inr against ↦ (against.0, Contains-append_right chain others against.0 against.1, against.2)
+        ],
+      ))
+
+  -- ---- one more claim
+
+  -- those that it may not share with are among the ones that it was compared with
+  among-more : (claims against : List Claim) (a : Claim) → ((b : Claim) → Contains against b → Contains claims b)
+      → ((b : Claim) → Contains claims b → Contains against b ⊎ ¬ Clashes g c a b)
+      → (n : ℕ) → IsAmong (Clashes g c) (claims ++ a ∷ []) n
+      ↔ (IsAmong (Clashes g c) claims n ⊎ IsAgainst g c a against n)
+  among-more claims against a within covers n = (from, to)
+    where
+      compared : (b : Claim) → Contains claims b → Clashes g c a b → (n ≡ a.place) ⊎ (n ≡ b.place)
+          → IsAgainst g c a against n
+      compared b there clash who = elim (covers b there) [
+        | inl told ↦ (b, told, (clash, who))
+        | inr free ↦ absurd (free clash)
+      ]
+
+      from : IsAmong (Clashes g c) (claims ++ a ∷ []) n → IsAmong (Clashes g c) claims n ⊎ IsAgainst g c a against n
+      from among = elim (Contains-push_cases claims a among.a among.own) [
+        | inl own ↦ elim (Contains-push_cases claims a among.b among.other) [
+          | inl other ↦ inl (record {
+            a = among.a;
+            b = among.b;
+            own = own;
+            other = other;
+            clash = among.clash;
+            place = among.place;
+          })
+          | inr is ↦ inr (compared among.a own (clashes-turned among.a a
+              (subst (λ v. Clashes g c among.a v) (sym is) among.clash)) (inr among.place))
         ]
-        | inr is_n ↦ inr (p, at, other, inr is_n)
-      ])
-    where
-      further : (m : ℕ) → Contains middle m → Contains shared' m
-      further m h = subst (λ l. Contains l m) (sym to_end) (inserted-keeps middle claim.place m h)
+        | inr is ↦ elim (Contains-push_cases claims a among.b among.other) [
+          | inl other ↦ inr (compared among.b other (subst (λ v. Clashes g c v among.b) (sym is) among.clash)
+              (inl (subst (λ (v : Claim). n ≡ v.place) (sym is) among.place)))
+          | inr same ↦ absurd (among.clash.0 (subst (λ (v : Claim). v.id ≡ among.b.id) is
+              (subst (λ (v : Claim). a.id ≡ v.id) same refl)))
+        ]
+      ]
 
--- the marks tell who shares an element
-pub marked-all : (claims : List Claim) (first : Key → Option ℕ) (shared : List ℕ) → AreMarked claims first shared
-    → (n : ℕ) → Contains shared n ↔ IsSharedPlace claims n
-marked-all claims first shared m n = (m.marks n, by)
-  where
-    by : IsSharedPlace claims n → Contains shared n
-    by s =
-        let a = m.seen s.key n s.own in
-        let b = m.seen s.key s.other s.others in
-        let it : Some a.0 ≡ Some b.0 = sym a.1 ∙ b.1 in
-        let same : a.0 ≡ b.0 = cc it in
-        elim a.2 [
-          | inl mine ↦ elim b.2 [
-            | inl theirs ↦ absurd (s.apart (sym mine ∙ same ∙ theirs))
-            | inr both ↦ subst (Contains shared) (sym same ∙ mine) both.0
+      to : IsAmong (Clashes g c) claims n ⊎ IsAgainst g c a against n → IsAmong (Clashes g c) (claims ++ a ∷ []) n
+      to (inl among) = record {
+        a = among.a;
+        b = among.b;
+        own = Contains-append_left claims (a ∷ []) among.a among.own;
+        other = Contains-append_left claims (a ∷ []) among.b among.other;
+        clash = among.clash;
+        place = among.place;
+      }
+      to (inr (b, told, (clash, inl is))) = record {
+        a = a;
+        b = b;
+        own = Contains-push claims a;
+        other = Contains-append_left claims (a ∷ []) b (within b told);
+        clash = clash;
+        place = is;
+      }
+      to (inr (b, told, (clash, inr is))) = record {
+        a = b;
+        b = a;
+        own = Contains-append_left claims (a ∷ []) b (within b told);
+        other = Contains-push claims a;
+        clash = clashes-turned a b clash;
+        place = is;
+      }
+
+  below-shares : (a b : Claim) → IsBelow g c a b → ¬ Clashes g c a b
+  below-shares a b below (other, inl owners) = owners below.0
+  below-shares a b below (other, inr neither) = neither.1 below.1
+
+  fits-shares : (chain : List Claim) (a : Claim) (k : ℕ) → FitsAt g c chain a k → (b : Claim) → Contains chain b
+      → ¬ Clashes g c a b
+  fits-shares chain a k fits b there clash =
+      elim (Contains-append_cases (take k chain) (drop k chain) b
+      (subst (λ l. Contains l b) (sym (take-append-drop k chain)) there)) [
+        | inl front ↦ below-shares b a (All-contains (λ b. IsBelow g c b a) (take k chain) b fits.front front)
+            (clashes-turned a b clash)
+        | inr back ↦ below-shares a b (All-contains (λ b. IsBelow g c a b) (drop k chain) b fits.back back) clash
+      ]
+
+  inserted : (chain : List Claim) (a : Claim) (k : ℕ) (b : Claim) → Contains (insert chain k a) b
+      ↔ (Contains chain b ⊎ (a ≡ b))
+  inserted chain a k b = (
+    λ h. elim (Contains-append_cases (take k chain) (a ∷ drop k chain) b h) [
+      | inl front ↦ inl (whole (Contains-append_left (take k chain) (drop k chain) b front))
+      | inr rest ↦ elim (here_or a (drop k chain) b rest) [
+        | inl is ↦ inr is
+        | inr back ↦ inl (whole (Contains-append_right (take k chain) (drop k chain) b back))
+      ]
+    ],
+    λ h. elim h [
+      | inl was ↦ elim (Contains-append_cases (take k chain) (drop k chain) b
+          (subst (λ l. Contains l b) (sym (take-append-drop k chain)) was)) [
+            | inl front ↦ Contains-append_left (take k chain) (a ∷ drop k chain) b front
+            | inr back ↦ Contains-append_right (take k chain) (a ∷ drop k chain) b (there a (drop k chain) b back)
           ]
-          | inr both ↦ both.1
-        ]
-
--- ---- claims
-
-module _ (g : Global) (ids : List Id) (faults : List OwnFaults) where
-  wider : (k : ℕ) (key : Key) (n : ℕ) → HasClaim g ids faults k key n → HasClaim g ids faults (k + 1) key n
-  wider k key n h = record {
-    below = omega (arith, h.below);
-    x = h.x;
-    at = h.at;
-    own = h.own;
-    own_at = h.own_at;
-    passing = h.passing;
-    changes = h.changes;
-  }
-
-  narrower : (k : ℕ) (key : Key) (n : ℕ) → n ≢ k → HasClaim g ids faults (k + 1) key n → HasClaim g ids faults k key n
-  narrower k key n other h = record {
-    below = omega (arith, h.below, other);
-    x = h.x;
-    at = h.at;
-    own = h.own;
-    own_at = h.own_at;
-    passing = h.passing;
-    changes = h.changes;
-  }
-
-  -- the next candidate fails by itself
-  pub claims-skip : (k : ℕ) (own : OwnFaults) (claims : List Claim) → slice_get faults k ≡ Some own → passes own ≡ false
-      → AreClaims g ids faults k claims → AreClaims g ids faults (k + 1) claims
-  claims-skip k own claims at fails are key n = (
-    λ h. wider k key n ((are key n).0 h),
-    λ h. elim (cases_eq n k) [
-      | inl this ↦
-          let here : Some own ≡ Some h.own = sym at ∙ subst (λ m. slice_get faults m ≡ Some h.own) this h.own_at in
-          absurd (true≢false (sym h.passing ∙ ap passes (sym (same_Some own h.own here)) ∙ fails))
-      | inr other ↦ (are key n).1 (narrower k key n other h)
+      | inr is ↦ subst (Contains (insert chain k a)) is (in_middle (take k chain) a (drop k chain))
     ],
   )
-
-  abbrev claims_at : ℕ → Id → List Claim
-  claims_at k x = map (λ h. a_claim (change_key h) k) (changes_of g x)
-
-  -- the next candidate claims what it changes
-  pub claims-more : (k : ℕ) (x : Id) (own : OwnFaults) (claims : List Claim) → slice_get ids k ≡ Some x
-      → slice_get faults k ≡ Some own
-      → passes own ≡ true → AreClaims g ids faults k claims
-      → AreClaims g ids faults (k + 1) (claims ++ claims_at k x)
-  claims-more k x own claims at own_at passing are key n = (gives, takes)
     where
-      gives : Contains (claims ++ claims_at k x) (a_claim key n) → HasClaim g ids faults (k + 1) key n
-      gives h = elim (Contains-append_cases claims (claims_at k x) (a_claim key n) h) [
-        | inl old ↦ wider k key n ((are key n).0 old)
-        | inr later ↦
-            let m = map_in (λ h. a_claim (change_key h) k) (changes_of g x) (a_claim key n) later in
-            let place : k ≡ n = ap (λ (c : Claim). c.place) m.2 in
-            let element : change_key m.0 ≡ key = ap (λ (c : Claim). c.element) m.2 in
-            subst (HasClaim g ids faults (k + 1) key) place (record {
-              below = omega arith;
-              x = x;
-              at = at;
-              own = own;
-              own_at = own_at;
-              passing = passing;
-              changes = subst (Contains (map change_key (changes_of g x))) element
-                  (in_map change_key (changes_of g x) m.0 m.1);
-            })
+      whole : Contains (take k chain ++ drop k chain) b → Contains chain b
+      whole = subst (λ l. Contains l b) (take-append-drop k chain)
+
+  -- it fits into the chain
+  pub taken-in : (claims chain new_chain others : List Claim) (before shared marked : List ℕ) (a : Claim) (k : ℕ)
+      → (IsChain g c chain → FitsAt g c chain a k) → new_chain ≡ insert chain k a
+      → Marks (IsAgainst g c a others) shared marked
+      → AreMarked g c claims chain others before shared
+      → AreMarked g c (claims ++ a ∷ []) new_chain others before marked
+  taken-in claims chain new_chain others before shared marked a k place made against m =
+      subst (λ l. AreMarked g c (claims ++ a ∷ []) l others before marked) (sym made) (record {
+        members = λ b. (from b, to b);
+        ordered = AllPairs-between (IsBelow g c) (take k chain) (drop k chain) a
+            (subst (IsChain g c) (sym (take-append-drop k chain)) m.ordered) fits.front fits.back;
+        marks = marks-join (IsAmong (Clashes g c) claims) (IsAgainst g c a others)
+            (IsAmong (Clashes g c) (claims ++ a ∷ [])) before shared marked m.marks against
+            (among-more claims others a (λ b h. (m.members b).0 (Contains-append_right chain others b h))
+            (λ b h. elim (Contains-append_cases chain others b ((m.members b).1 h)) [
+              | inl in_chain ↦ inr (fits-shares chain a k fits b in_chain)
+              | inr other ↦ inl other
+            ]));
+      })
+    where
+      fits : FitsAt g c chain a k
+      fits = place m.ordered
+
+      from : (b : Claim) → Contains (insert chain k a ++ others) b → Contains (claims ++ a ∷ []) b
+      from b h = elim (Contains-append_cases (insert chain k a) others b h) [
+        | inl front ↦ elim ((inserted chain a k b).0 front) [
+          | inl was ↦ Contains-append_left claims (a ∷ []) b ((m.members b).0 (Contains-append_left chain others b was))
+          | inr is ↦ subst (Contains (claims ++ a ∷ [])) is (Contains-push claims a)
+        ]
+        | inr back ↦ Contains-append_left claims (a ∷ []) b ((m.members b).0
+            (Contains-append_right chain others b back))
       ]
 
-      takes : HasClaim g ids faults (k + 1) key n → Contains (claims ++ claims_at k x) (a_claim key n)
-      takes h = elim (cases_eq n k) [
-        | inl this ↦
-            let here : Some x ≡ Some h.x = sym at ∙ subst (λ m. slice_get ids m ≡ Some h.x) this h.at in
-            let m = map_in change_key (changes_of g x) key (subst (λ y. Contains (map change_key (changes_of g y)) key)
-            (sym (same_Some x h.x here)) h.changes) in
-            Contains-append_right claims (claims_at k x) (a_claim key n)
-            (subst (Contains (claims_at k x)) (ap₂ a_claim m.2 (sym this))
-            (in_map (λ h. a_claim (change_key h) k) (changes_of g x) m.0 m.1))
-        | inr other ↦ Contains-append_left claims (claims_at k x) (a_claim key n)
-            ((are key n).1 (narrower k key n other h))
+      to : (b : Claim) → Contains (claims ++ a ∷ []) b → Contains (insert chain k a ++ others) b
+      to b h = elim (Contains-push_cases claims a b h) [
+        | inl was ↦ elim (Contains-append_cases chain others b ((m.members b).1 was)) [
+          | inl front ↦ Contains-append_left (insert chain k a) others b ((inserted chain a k b).1 (inl front))
+          | inr back ↦ Contains-append_right (insert chain k a) others b back
+        ]
+        | inr is ↦ Contains-append_left (insert chain k a) others b ((inserted chain a k b).1 (inr is))
       ]
 
-  pub claims-next : (k : ℕ) (x : Id) (own : OwnFaults) (claims new : List Claim) → slice_get ids k ≡ Some x
-      → slice_get faults k ≡ Some own
-      → new ≡ claims ++ cond (passes own) (map (λ h. a_claim (change_key h) k) (changes_of g x)) []
-      → AreClaims g ids faults k claims → AreClaims g ids faults (k + 1) new
-  claims-next k x own claims new at own_at made are = by (passes own) refl
+  -- it does not
+  pub left-out : (claims chain others new_others : List Claim) (before shared middle marked : List ℕ) (a : Claim)
+      → new_others ≡ others ++ a ∷ [] → Marks (IsAgainst g c a chain) shared middle
+      → Marks (IsAgainst g c a others) middle marked
+      → AreMarked g c claims chain others before shared
+      → AreMarked g c (claims ++ a ∷ []) chain new_others before marked
+  left-out claims chain others new_others before shared middle marked a made against_chain against_others m =
+      subst (λ l. AreMarked g c (claims ++ a ∷ []) chain l before marked) (sym made) (record {
+        members = λ b. (from b, to b);
+        ordered = m.ordered;
+        marks = marks-join (IsAmong (Clashes g c) claims) (IsAgainst g c a (chain ++ others))
+            (IsAmong (Clashes g c) (claims ++ a ∷ [])) before shared marked m.marks
+            (against-both a chain others shared middle marked against_chain against_others)
+            (among-more claims (chain ++ others) a (λ b h. (m.members b).0 h) (λ b h. inl ((m.members b).1 h)));
+      })
     where
-      by : (b : Bool) → passes own ≡ b → AreClaims g ids faults (k + 1) new
-      by true on =
-          subst (AreClaims g ids faults (k + 1)) (sym (made ∙ ap (λ b. claims ++ cond b (claims_at k x) []) on))
-          (claims-more k x own claims at own_at on are)
-      by false fails =
-          subst (AreClaims g ids faults (k + 1)) (sym (made ∙ ap (λ b. claims ++ cond b (claims_at k x) []) fails
-          ∙ append-nil claims))
-          (claims-skip k own claims own_at fails are)
+      from : (b : Claim) → Contains (chain ++ (others ++ a ∷ [])) b → Contains (claims ++ a ∷ []) b
+      from b h = elim (Contains-append_cases chain (others ++ a ∷ []) b h) [
+        | inl front ↦ Contains-append_left claims (a ∷ []) b ((m.members b).0
+            (Contains-append_left chain others b front))
+        | inr back ↦ elim (Contains-push_cases others a b back) [
+          | inl was ↦ Contains-append_left claims (a ∷ []) b ((m.members b).0
+              (Contains-append_right chain others b was))
+          | inr is ↦ subst (Contains (claims ++ a ∷ [])) is (Contains-push claims a)
+        ]
+      ]
 
-  -- who shares a place shares an element
-  pub shared-at : (claims : List Claim) (end : ℕ) → AreClaims g ids faults end claims → (n : ℕ)
-      → IsSharedPlace claims n ↔ IsSharedAt g ids faults end n
-  shared-at claims end are n = (
-    λ s. record {
-      key = s.key;
-      other = s.other;
-      own = (are s.key n).0 s.own;
-      others = (are s.key s.other).0 s.others;
-      apart = s.apart;
-    },
-    λ s. record {
-      key = s.key;
-      other = s.other;
-      own = (are s.key n).1 s.own;
-      others = (are s.key s.other).1 s.others;
-      apart = s.apart;
-    },
-  )
+      to : (b : Claim) → Contains (claims ++ a ∷ []) b → Contains (chain ++ (others ++ a ∷ [])) b
+      to b h = elim (Contains-push_cases claims a b h) [
+        | inl was ↦ elim (Contains-append_cases chain others b ((m.members b).1 was)) [
+          | inl front ↦ Contains-append_left chain (others ++ a ∷ []) b front
+          | inr back ↦ Contains-append_right chain (others ++ a ∷ []) b
+              (Contains-append_left others (a ∷ []) b back)
+        ]
+        | inr is ↦ Contains-append_right chain (others ++ a ∷ []) b
+            (subst (Contains (others ++ a ∷ [])) is (Contains-push others a))
+      ]
+
+  pub marked-none : (shared : List ℕ) → AreMarked g c [] [] [] shared shared
+  marked-none shared = record {
+    members = λ a. (λ h. h, λ h. h);
+    ordered = λ i j d less below. absurd (omega (arith, below));
+    marks = marks-same (IsAmong (Clashes g c) []) shared shared refl (λ n among. absurd (none_in among.a among.own));
+  }

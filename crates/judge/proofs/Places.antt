@@ -35,13 +35,13 @@ use Rattle.judge.specs.declared.own.OwnFaults.{OwnFaults}
 use Rattle.judge.specs.Failed.{AreFailedTests, AreEligible}
 use Rattle.judge.specs.Placed.{Beside}
 use Rattle.judge.specs.Own.{HasFaults, passes}
-use Rattle.judge.specs.Sharing.{change_key, HasClaim, IsSharedAt}
+use Rattle.judge.specs.Sharing.{IsClashing}
 use Rattle.judge.specs.Rows.{fails_test, is_among, row_of, is_eligible_at}
 use Rattle.judge.specs.Serving.{AreOwnPlaces}
 use Rattle.terms.proofs.Ids.{is_in-from_Contains}
 use Rattle.judge.proofs.Rising.{before-apart}
 use Rattle.judge.proofs.Plain.{IsPlain}
-use Rattle.judge.proofs.Collapsed.{change-found, change-has, clash-shares, share-clashes}
+use Rattle.judge.proofs.Clashing.{fails-nine}
 use Rattle.judge.proofs.Alone.{off, bytes-differ, survives-if as survives-alone, test-fails as fails-alone}
 
 -- ids at two places are two
@@ -156,71 +156,14 @@ module _ (g : Global) (zone : Zone) (related : Option Zone) (ids : List Id) (byp
     );
   }
 
-  module _ (shared : List ℕ) (shares : (n : ℕ) → Contains shared n ↔ IsSharedAt g ids faults (length ids) n) where
-    same-at : (n : ℕ) (x y : Id) → slice_get ids n ≡ Some x → slice_get ids n ≡ Some y → x ≡ y
-    same-at n x y e f = let both : Some x ≡ Some y = sym e ∙ f in cc both
-
-    has-claimed : (key : ElemType × Text) (x : Id) → Contains (map change_key (changes_of g x)) key
-        → IsTrue (has_change g x key.0 key.1)
-    has-claimed key x h =
-        let m = map_in change_key (changes_of g x) key h in
-        subst (λ k. IsTrue (has_change g x k.0 k.1)) m.2 (change-has g x m.0 m.1)
-
-    a-claim : (n : ℕ) (x : Id) → slice_get ids n ≡ Some x → Survives s x → (type : ElemType) (name : Text)
-        → IsTrue (has_change g x type name)
-        → HasClaim g ids faults (length ids) (type, name) n
-    a-claim n x at survives type name has =
-        let a = beside-own n x at in
-        let found = change-found g x type name has in
-        record {
-          below = slice_get_within ids n x at;
-          x = x;
-          at = at;
-          own = a.0;
-          own_at = a.1;
-          passing = (survives-if n x a.0 at a.1).1 survives;
-          changes = subst (Contains (map change_key (changes_of g x))) (ap₂ (λ t m. (t, m)) found.2 found.3)
-              (in_map change_key (changes_of g x) found.0 found.1);
-        }
-
+  module _ (shared : List ℕ) (shares : (n : ℕ) → Contains shared n ↔ IsClashing g s.choice ids faults n) where
     pub nine : (n : ℕ) (x : Id) → slice_get ids n ≡ Some x → IsTrue (is_among shared n) ↔ FailsJ9 s x
-    nine n x at = (
-      λ on.
-          let sh = (shares n).0 (Contains-list_any nat_eq eqb-true shared n on) in
-          let same = same-at n sh.own.x x sh.own.at at in
-          let survives = subst (Survives s) same ((survives-if n sh.own.x sh.own.own sh.own.at sh.own.own_at).0
-          sh.own.passing) in
-          let y = sh.others.x in
-          let survives_y = (survives-if sh.other y sh.others.own sh.others.at sh.others.own_at).0 sh.others.passing in
-          let other : x ≢ y = two-places ids rising n sh.other x y at sh.others.at sh.apart in (
-            survives,
-            (
-              y,
-              survives_y,
-              other,
-              share-clashes g zone ids held plain x y survives.0.0 survives_y.0.0 other (
-                sh.key.0,
-                sh.key.1,
-                subst (λ v. IsTrue (has_change g v sh.key.0 sh.key.1)) same
-                    (has-claimed sh.key sh.own.x sh.own.changes),
-                has-claimed sh.key y sh.others.changes,
-              ),
-            ),
-          ),
-      λ fails.
-          let y = fails.1.0 in
-          let survives_y = fails.1.1 in
-          let element = clash-shares g zone ids held plain x fails.0.0.0 y survives_y.0.0 fails.1.3 in
-          let found = found_at ids y survives_y.0.0 in
-          list_any-from_Contains nat_eq_equiv n shared
-          ((shares n).1 (record {
-            key = (element.0, element.1);
-            other = found.0;
-            own = a-claim n x at fails.0 element.0 element.1 element.2;
-            others = a-claim found.0 y found.1 survives_y element.0 element.1 element.3;
-            apart = λ e. fails.1.2 (same-at n x y at (subst (λ k. slice_get ids k ≡ Some y) (sym e) found.1));
-          })),
-    )
+    nine n x at =
+        let both = fails-nine s faults own.lengths survives-if
+        (λ y survives. (plain y survives.0.0).names_nothing.npre) n x at in (
+          λ on. both.0 ((shares n).0 (Contains-list_any nat_eq eqb-true shared n on)),
+          λ fails. list_any-from_Contains nat_eq_equiv n shared ((shares n).1 (both.1 fails)),
+        )
 
     test-fails : (n : ℕ) (x : Id) (a : OwnFaults) → slice_get ids n ≡ Some x → slice_get faults n ≡ Some a
         → (t : Test) → IsTrue (fails_test a (is_among shared n) t) ↔ Fails s x t

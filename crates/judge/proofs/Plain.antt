@@ -42,34 +42,7 @@ names-nothing c x plain = by (c x) refl
 -- what an installable SYSMOD is, for the judge
 pub record IsPlain (g : Global) (zone : Zone) (x : Id) : Type 0 where
   pub names_nothing : NamesNothing (by_srel g zone.srel) x
-  pub changes : (changes_of g x ≡ []) ⊎ (IsTrue (is_function g x)
-      × IsTrue (list_all (λ h. is_replacement h.action) (changes_of g x)))
   pub applied : (y : Id) → Contains (applied_ids zone) y → NamesNothing (by_srel g zone.srel) y
-
-plain-changes : (g : Global) (x : Id) → option_map_or has_plain_changes (sysmod_of g x) true ≡ true
-    → (changes_of g x ≡ []) ⊎ (IsTrue (is_function g x) × IsTrue
-    (list_all (λ h. is_replacement h.action) (changes_of g x)))
-plain-changes g x plain = by (sysmod_of g x) refl
-  where
-    by : (o : Option Sysmod) → sysmod_of g x ≡ o
-        → (changes_of g x ≡ []) ⊎ (IsTrue (is_function g x) × IsTrue
-        (list_all (λ h. is_replacement h.action) (changes_of g x)))
-    by None e = inl (ap (λ o. option_map_or (λ s. s.changes) o []) e)
-    by (Some s) e =
-        let p : has_plain_changes s ≡ true = sym (ap (λ o. option_map_or has_plain_changes o true) e) ∙ plain in
-        let are : changes_of g x ≡ s.changes = ap (λ o. option_map_or (λ s. s.changes) o []) e in
-        elim (or_cases (is_nil s.changes) ((kind_number s.kind == 0) && list_all (λ h. is_replacement h.action)
-        s.changes) p) [
-          | inl none ↦ inl (are ∙ nil_from s.changes none)
-          | inr both ↦
-              let parts = and_parts (kind_number s.kind == 0) (list_all (λ h. is_replacement h.action) s.changes) both
-              in
-              inr (
-                ap (λ o. option_map_or (λ s. kind_number s.kind == 0) o false) e
-                    ∙ parts.0,
-                ap (list_all (λ h. is_replacement h.action)) are ∙ parts.1,
-              )
-        ]
 
 pub all-from : {X : Type 0} (p : X → Bool) (xs : List X) (x : X) → list_all p xs ≡ true → Contains xs x → p x ≡ true
 all-from p [] x all h = absurd (omega (arith, h.1))
@@ -107,7 +80,6 @@ plain-from g zone x installable =
     let b = and_parts ver changes a.0 in
     record {
       names_nothing = names-nothing (by_srel g zone.srel) x b.0;
-      changes = plain-changes g x b.1;
       applied = λ y on. names-nothing (by_srel g zone.srel) y
           (all-from (has_plain_ver g zone) (applied_ids zone) y a.1 on);
     }

@@ -6,6 +6,7 @@ pub mod Wanted
 pub mod Serving
 pub mod Numbered
 pub mod Bypassed
+pub mod Claims
 pub mod Sharing
 pub mod Rows
 pub mod Overs

@@ -1,67 +1,90 @@
--- Which candidates change one element with another.
-use Rattle.std.specs.Prelude.{◌≡◌, ◌≢◌, ◌↔◌, ◌<◌, ◌&&◌, ◌⊎◌, ℕ, Bool, List, [], ◌∷◌, ◌++◌, Option, Some, IsTrue}
-use Rattle.std.specs.Prelude.{Contains, map, slice_get}
-use Rattle.std.specs.Str.{bytes_eq}
-use Rattle.terms.specs.contracts.kinds.ElemTypePartialEq.TheImpl as type_equality
+-- Which candidates may not change one element beside another.
+use Rattle.std.specs.Prelude.{◌≡◌, ◌≢◌, ◌↔◌, ◌<◌, ◌≤◌, ◌⊎◌, ℕ, List, ◌++◌, Some, All, AllPairs, Contains}
+use Rattle.std.specs.Prelude.{take, drop, slice_get, length}
 use Rattle.terms.specs.declared.kinds.ElemType.{ElemType}
-use Rattle.terms.specs.Types.{Text, Id, Change, Global}
-use Rattle.terms.specs.Lookups.{changes_of}
+use Rattle.terms.specs.Types.{Text, Id, Global}
+use Rattle.terms.specs.Choice.{Choice}
+use Rattle.terms.specs.Over.{IsOver, owner}
+use Rattle.terms.specs.Tests.{ShareElement}
 use Rattle.judge.specs.declared.own.OwnFaults.{OwnFaults}
-use Rattle.judge.specs.declared.sharing.Claim.{Claim}
-use Rattle.judge.specs.Own.{passes}
+use Rattle.judge.specs.declared.claims.Claim.{Claim}
+use Rattle.judge.specs.Claims.{PassesAt}
 
--- the type and the name of the element that a statement changes
-abbrev pub change_key : Change → ElemType × Text
-change_key h = (h.elem_type, h.name)
+-- they have two owners, or over does not order them
+abbrev pub StandApart : Global → Choice → Id → Id → Type 0
+StandApart g c x y = (owner g c x ≢ owner g c y) ⊎ ((¬ IsOver c x y) × (¬ IsOver c y x))
 
--- whether two are the same, as maps compare them
-abbrev pub key_eq : ElemType × Text → ElemType × Text → Bool
-key_eq a b = type_equality.ghosts.eq a.0 b.0 && bytes_eq a.1 b.1
+-- two claims on one element clash
+abbrev pub Clashes : Global → Choice → Claim → Claim → Type 0
+Clashes g c a b = (a.id ≢ b.id) × StandApart g c a.id b.id
 
--- a candidate, by its place, changes this element
-abbrev pub a_claim : ElemType × Text → ℕ → Claim
-a_claim key n = record { element = key; place = n }
+-- and claims on any elements
+abbrev pub ClashesOnOne : Global → Choice → Claim → Claim → Type 0
+ClashesOnOne g c a b = (a.element ≡ b.element) × Clashes g c a b
 
--- the candidate at the place passes by itself and changes the element
-pub record HasClaim (g : Global) (ids : List Id) (faults : List OwnFaults) (end : ℕ) (key : ElemType × Text) (n : ℕ) :
+-- the marks are the old ones and these
+abbrev pub Marks : (ℕ → Type 0) → List ℕ → List ℕ → Type 0
+Marks More old new = (n : ℕ) → Contains new n ↔ (Contains old n ⊎ More n)
+
+-- the place of one of two that clash
+abbrev pub IsOfPair : Global → Choice → Claim → Claim → ℕ → Type 0
+IsOfPair g c a b n = Clashes g c a b × ((n ≡ a.place) ⊎ (n ≡ b.place))
+
+-- the place of the claim or of one of these others, which clash
+abbrev pub IsAgainst : Global → Choice → Claim → List Claim → ℕ → Type 0
+IsAgainst g c a others n = (b : Claim) × Contains others b × IsOfPair g c a b n
+
+-- the place of a claim that clashes with another of the list
+pub record IsAmong (R : Claim → Claim → Type 0) (claims : List Claim) (n : ℕ) : Type 0 where
+  pub a : Claim
+  pub b : Claim
+  pub own : Contains claims a
+  pub other : Contains claims b
+  pub clash : R a b
+  pub place : n ≡ a.place
+
+-- one owner, and the second is over the first
+abbrev pub IsBelow : Global → Choice → Claim → Claim → Type 0
+IsBelow g c a b = (owner g c a.id ≡ owner g c b.id) × IsOver c b.id a.id
+
+-- each claim is over those before it
+abbrev pub IsChain : Global → Choice → List Claim → Type 0
+IsChain g c chain = AllPairs (IsBelow g c) chain
+
+-- the claim fits into the chain at this place
+pub record FitsAt (g : Global) (c : Choice) (chain : List Claim) (a : Claim) (k : ℕ) : Type 0 where
+  pub within : k ≤ length chain
+  pub front : All (λ b. IsBelow g c b a) (take k chain)
+  pub back : All (λ b. IsBelow g c a b) (drop k chain)
+
+-- after these claims on one element: a chain of them, the others, and the marks since some earlier ones
+pub record AreMarked (g : Global) (c : Choice) (claims chain others : List Claim) (before shared : List ℕ) :
     Type 0 where
-  pub below : n < end
+  pub members : (a : Claim) → Contains (chain ++ others) a ↔ Contains claims a
+  pub ordered : IsChain g c chain
+  pub marks : Marks (IsAmong (Clashes g c) claims) before shared
+
+-- the claims from the place on, up to the end, are those of one element
+pub record IsRun (claims : List Claim) (start end : ℕ) : Type 0 where
+  pub element : ElemType × Text
+  pub more : start < end
+  pub within : end ≤ length claims
+  pub same : (i : ℕ) (a : Claim) → slice_get claims i ≡ Some a → start ≤ i → i < end → a.element ≡ element
+  pub ends : (a : Claim) → slice_get claims end ≡ Some a → a.element ≢ element
+
+-- no element has claims both in front of the place and from it on
+abbrev pub IsSplit : List Claim → ℕ → Type 0
+IsSplit claims k =
+    (i j : ℕ) (a b : Claim) → slice_get claims i ≡ Some a → slice_get claims j ≡ Some b → i < k → k ≤ j
+    → a.element ≢ b.element
+
+-- the candidate at the place passes by itself, and so does another one; both change an element that they may not share
+pub record IsClashing (g : Global) (c : Choice) (ids : List Id) (faults : List OwnFaults) (n : ℕ) : Type 0 where
   pub x : Id
-  pub at : slice_get ids n ≡ Some x
-  pub own : OwnFaults
-  pub own_at : slice_get faults n ≡ Some own
-  pub passing : IsTrue (passes own)
-  pub changes : Contains (map change_key (changes_of g x)) key
-
--- the claims are those of the candidates in front of a place
-abbrev pub AreClaims : Global → List Id → List OwnFaults → ℕ → List Claim → Type 0
-AreClaims g ids faults end claims =
-    (key : ElemType × Text) (n : ℕ) → Contains claims (a_claim key n) ↔ HasClaim g ids faults end key n
-
--- another one claims an element that this one claims
-pub record IsSharedPlace (claims : List Claim) (n : ℕ) : Type 0 where
-  pub key : ElemType × Text
-  pub other : ℕ
-  pub own : Contains claims (a_claim key n)
-  pub others : Contains claims (a_claim key other)
-  pub apart : n ≢ other
-
--- what is known after these claims: for each element the first who claims it, and who shares one
-pub record AreMarked (claims : List Claim) (first : ElemType × Text → Option ℕ) (shared : List ℕ) : Type 0 where
-  pub first_is : (key : ElemType × Text) (n : ℕ) → first key ≡ Some n → Contains claims (a_claim key n)
-  pub seen : (key : ElemType × Text) (n : ℕ) → Contains claims (a_claim key n)
-      → (p : ℕ) × (first key ≡ Some p) × ((p ≡ n) ⊎ (Contains shared p × Contains shared n))
-  pub marks : (n : ℕ) → Contains shared n → IsSharedPlace claims n
-
--- with one more claim
-abbrev pub MarksOne : Claim → (ElemType × Text → Option ℕ) → List ℕ → (ElemType × Text → Option ℕ) → List ℕ → Type 0
-MarksOne claim first shared new_first new_shared =
-    (claims : List Claim) → AreMarked claims first shared → AreMarked (claims ++ claim ∷ []) new_first new_shared
-
--- the candidate at the place passes by itself and changes an element that another such one changes
-pub record IsSharedAt (g : Global) (ids : List Id) (faults : List OwnFaults) (end : ℕ) (n : ℕ) : Type 0 where
-  pub key : ElemType × Text
-  pub other : ℕ
-  pub own : HasClaim g ids faults end key n
-  pub others : HasClaim g ids faults end key other
-  pub apart : n ≢ other
+  pub passes : PassesAt ids faults n x
+  pub place : ℕ
+  pub y : Id
+  pub other : PassesAt ids faults place y
+  pub apart : x ≢ y
+  pub element : ShareElement g x y
+  pub may_not : StandApart g c x y

@@ -12,7 +12,7 @@ use cntl::Bypass;
 use fields::{Id, IdList};
 use solve::System;
 use std::alloc::{AllocError, Global as Heap};
-use sysmods::Global;
+use sysmods::{Global, VerChoice};
 use terms::{NeedKind, Test};
 use zones::Zone;
 

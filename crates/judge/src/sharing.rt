@@ -1,128 +1,167 @@
-//! Which candidates change one element with another.
-ghost use Rattle.std.specs.Prelude.{◌≡◌, ◌↔◌, ◌<◌, ◌^◌, ◌++◌, [], ℕ, length, map, Contains, OnOk, IfOk, if◌then◌else◌};
-ghost use Rattle.judge.specs.Own.{passes};
-ghost use Rattle.indexmap.specs.IndexMap.{get};
-ghost use Rattle.judge.specs.Sharing.{change_key, key_eq, a_claim, AreClaims, HasClaim, IsSharedAt, IsSharedPlace};
-ghost use Rattle.judge.specs.Sharing.{MarksOne};
+//! Which candidates change an element that they may not share with another candidate.
+ghost use Rattle.std.specs.Prelude.{◌≡◌, ◌↔◌, ◌<◌, ◌≤◌, ◌^◌, ◌⊎◌, [], ◌∷◌, ◌++◌, ℕ, List, length, IsTrue};
+ghost use Rattle.std.specs.Prelude.{Contains, OnOk, IfOk};
+ghost use Rattle.sysmods.specs.Choices.{choice};
+ghost use Rattle.judge.specs.Claims.{AreGrouped};
+ghost use Rattle.judge.specs.Sharing.{Marks, IsOfPair, IsAgainst, IsAmong, Clashes, ClashesOnOne, AreMarked, IsRun};
+ghost use Rattle.judge.specs.Sharing.{IsClashing};
 
-use crate::own::{OwnFaults, changes_of, own_at};
-use fields::{Id, Name};
-use indexmap::{IndexMap, IndexSet};
+use crate::chains::{may_not_share, place_in};
+use crate::claims::{Claim, claims_of};
+use crate::own::OwnFaults;
+use fields::Id;
+use indexmap::IndexSet;
 use std::alloc::{AllocError, Global as Heap};
-use sysmods::Global;
-use sysmods_records::ElemChange;
-use terms::ElemType;
+use sysmods::{Global, VerChoice};
 
-/// A candidate, by its place, changes an element.
-#[derive(Clone, Copy)]
-struct Claim {
-    element: (ElemType, Name),
-    place: u32,
-}
-
-// Adds the claims of one candidate.
-fn add_claims(claims: &mut Vec<Claim>, changes: &[ElemChange], place: u32) -> Result<(), AllocError>
-    ensures { OnOk result (claims.new.items ≡ claims.old.items ++ map (λ h. a_claim (change_key h) place) changes.now) }
+// Whether no test is needed for the two: they are of one candidate, or both are marked.
+fn is_settled(one: &Claim, other: &Claim, shared: &IndexSet<u32>) -> bool
+    ensures settled { IsTrue result → (one.now.id ≡ other.now.id) ⊎ (Contains shared.now.keys one.now.place
+        × Contains shared.now.keys other.now.place) }
+    ensures own { one.now.id ≡ other.now.id → IsTrue result }
 {
-    for change in changes {
-        claims.push(Claim {
-            element: (change.elem_type, change.name),
-            place,
-        })?;
-    }
-    Ok(())
+    one.id == other.id || shared.contains(&one.place) && shared.contains(&other.place)
 }
 
-// Adds the claims of a candidate if it passes by itself.
-fn add_if_passing(
-    claims: &mut Vec<Claim>,
-    own: OwnFaults,
-    changes: &[ElemChange],
-    place: u32,
-) -> Result<(), AllocError>
-    ensures { OnOk result (claims.new.items
-        ≡ claims.old.items ++ (if passes own then map (λ h. a_claim (change_key h) place) changes.now else [])) }
-{
-    if own.passes() {
-        add_claims(claims, changes, place)?;
-    }
-    Ok(())
-}
-
-// The claims of the candidates that pass by themselves.
-fn claims_of(
+// Marks two claims on one element if they clash.
+fn mark_pair(
     alloc: Heap,
-    global: &Global,
-    ids: &[Id],
-    faults: &[OwnFaults],
-) -> Result<Vec<Claim>, AllocError>
-    requires lengths { length faults.now ≡ length ids.now }
-    requires fits { length ids.now < 2 ^ 32 }
-    ensures { IfOk result (λ claims. AreClaims global.now ids.now faults.now (length ids.now) claims.items) }
-{
-    let mut claims = Vec::new(alloc);
-    for i in 0..ids.len() {
-        let own = own_at(faults, i);
-        let id = ids[i];
-        add_if_passing(&mut claims, own, changes_of(global, id), i as u32)?;
-    }
-    Ok(claims)
-}
-
-// The first who claimed the element.
-fn first_place(first: &IndexMap<(ElemType, Name), u32>, element: (ElemType, Name)) -> Option<u32>
-    ensures { result ≡ get key_eq first.now element }
-{
-    match first.get(&element) {
-        Some(place) => Some(*place),
-        None => None,
-    }
-}
-
-// Takes one more claim in: who claims an element behind another shares it with that one.
-fn mark(
-    claim: Claim,
-    first: &mut IndexMap<(ElemType, Name), u32>,
+    vers: &VerChoice<'_>,
+    one: &Claim,
+    other: &Claim,
     shared: &mut IndexSet<u32>,
 ) -> Result<(), AllocError>
-    ensures { OnOk result (MarksOne claim (get key_eq first.old) shared.old.keys (get key_eq first.new)
+    ensures { OnOk result (Marks (IsOfPair vers.now.global.now (choice vers.now) one.now other.now) shared.old.keys
         shared.new.keys) }
 {
-    let Some(place) = first_place(first, claim.element) else {
-        first.insert(claim.element, claim.place)?;
+    if is_settled(one, other, shared) {
         return Ok(());
-    };
-    if place != claim.place {
-        shared.insert(place)?;
-        shared.insert(claim.place)?;
+    }
+    if may_not_share(alloc, vers, one.id, other.id)? {
+        shared.insert(one.place)?;
+        shared.insert(other.place)?;
     }
     Ok(())
 }
 
-fn shared_among(alloc: Heap, claims: &[Claim]) -> Result<IndexSet<u32>, AllocError>
-    ensures { IfOk result (λ shared. (n : ℕ) → Contains shared.keys n ↔ IsSharedPlace claims.now n) }
+// Marks a claim and those of the others that it clashes with.
+fn mark_against(
+    alloc: Heap,
+    vers: &VerChoice<'_>,
+    claim: &Claim,
+    others: &[Claim],
+    shared: &mut IndexSet<u32>,
+) -> Result<(), AllocError>
+    ensures { OnOk result (Marks (IsAgainst vers.now.global.now (choice vers.now) claim.now others.now) shared.old.keys
+        shared.new.keys) }
 {
-    let mut first = IndexMap::new(alloc);
-    let mut shared = IndexSet::new(alloc);
+    for other in others {
+        mark_pair(alloc, vers, claim, other, shared)?;
+    }
+    Ok(())
+}
+
+/// The claims on one element so far. Those of the chain may share it with each other, as each is over those before
+/// it: a claim that is over the last of them is over all. The others are compared one by one.
+#[derive(Drop)]
+struct Claimants {
+    chain: Vec<Claim>,
+    others: Vec<Claim>,
+}
+
+// Takes one more claim in.
+fn take_in(
+    alloc: Heap,
+    vers: &VerChoice<'_>,
+    claim: &Claim,
+    known: &mut Claimants,
+    shared: &mut IndexSet<u32>,
+) -> Result<(), AllocError>
+    ensures { OnOk result ((claims : List Claim) (before : List ℕ)
+        → AreMarked vers.now.global.now (choice vers.now) claims known.old.chain.items known.old.others.items before
+        shared.old.keys
+        → AreMarked vers.now.global.now (choice vers.now) (claims ++ claim.now ∷ []) known.new.chain.items
+        known.new.others.items before shared.new.keys) }
+{
+    let Some(place) = place_in(alloc, vers, known.chain.as_slice(), claim)? else {
+        mark_against(alloc, vers, claim, known.chain.as_slice(), shared)?;
+        mark_against(alloc, vers, claim, known.others.as_slice(), shared)?;
+        known.others.push(*claim)?;
+        return Ok(());
+    };
+    mark_against(alloc, vers, claim, known.others.as_slice(), shared)?;
+    known.chain.insert(place, *claim)?;
+    Ok(())
+}
+
+// Marks the claims on one element that clash.
+fn mark_run(
+    alloc: Heap,
+    vers: &VerChoice<'_>,
+    claims: &[Claim],
+    shared: &mut IndexSet<u32>,
+) -> Result<(), AllocError>
+    ensures { OnOk result (Marks (IsAmong (Clashes vers.now.global.now (choice vers.now)) claims.now) shared.old.keys
+        shared.new.keys) }
+{
+    let mut known = Claimants {
+        chain: Vec::new(alloc),
+        others: Vec::new(alloc),
+    };
     for claim in claims {
-        mark(*claim, &mut first, &mut shared)?;
+        take_in(alloc, vers, claim, &mut known, shared)?;
+    }
+    Ok(())
+}
+
+// The end of the claims on one element that begin at the place.
+fn run_end(claims: &[Claim], start: usize) -> usize
+    requires { start < length claims.now }
+    ensures { IsRun claims.now start result }
+{
+    let first = &claims[start];
+    let mut end = start + 1;
+    while end < claims.len() && claims[end].is_beside(first) {
+        end += 1;
+    }
+    end
+}
+
+// Marks the claims that clash.
+fn shared_among(
+    alloc: Heap,
+    vers: &VerChoice<'_>,
+    claims: &[Claim],
+) -> Result<IndexSet<u32>, AllocError>
+    requires { AreGrouped claims.now }
+    ensures { IfOk result (λ shared. (n : ℕ) → Contains shared.keys n
+        ↔ IsAmong (ClashesOnOne vers.now.global.now (choice vers.now)) claims.now n) }
+{
+    let mut shared = IndexSet::new(alloc);
+    let mut start = 0;
+    while start < claims.len() {
+        let end = run_end(claims, start);
+        mark_run(alloc, vers, &claims[start..end], &mut shared)?;
+        start = end;
     }
     Ok(shared)
 }
 
-/// The places of the candidates that pass by themselves and change an element that another such one
-/// changes.
+/// The places of the candidates that pass by themselves and change an element that they may not share with another
+/// such one.
 pub(crate) fn shared_places(
     alloc: Heap,
     global: &Global,
+    vers: &VerChoice<'_>,
     ids: &[Id],
     faults: &[OwnFaults],
 ) -> Result<IndexSet<u32>, AllocError>
     requires lengths { length faults.now ≡ length ids.now }
     requires fits { length ids.now < 2 ^ 32 }
-    ensures { IfOk result (λ shared. (n : ℕ) → Contains shared.keys n ↔ IsSharedAt global.now ids.now faults.now
-        (length ids.now) n) }
+    requires same { vers.now.global.now ≡ global.now }
+    ensures { IfOk result (λ shared. (n : ℕ) → Contains shared.keys n ↔ IsClashing global.now (choice vers.now) ids.now
+        faults.now n) }
 {
     let claims = claims_of(alloc, global, ids, faults)?;
-    shared_among(alloc, claims.as_slice())
+    shared_among(alloc, vers, claims.as_slice())
 }

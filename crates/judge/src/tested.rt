@@ -10,7 +10,7 @@ use crate::sharing::shared_places;
 use cntl::Bypass;
 use fields::IdList;
 use std::alloc::{AllocError, Global as Heap};
-use sysmods::Global;
+use sysmods::{Global, VerChoice};
 use terms::Test;
 use zones::Zone;
 
@@ -44,7 +44,8 @@ pub(crate) fn test_all(
     prove!(global.len() < 65_536);
     prove!(list.len() < 4_294_967_296);
     let faults = all_faults(alloc, global, zone, related, ids, bypass)?;
-    let shared = shared_places(alloc, global, list, faults.as_slice())?;
+    let vers = VerChoice::new(global, zone.srel());
+    let shared = shared_places(alloc, global, &vers, list, faults.as_slice())?;
     let tests = all_rows(alloc, faults.as_slice(), &shared)?;
     let eligible = all_eligible(alloc, faults.as_slice(), &shared)?;
     Ok(Tested { tests, eligible })

@@ -24,7 +24,13 @@ returns-clause-tests c =
     let zone = c.args.zone.now in
     let ids = c.args.ids.now in
     let rising = rw c.as_slice-list.ensures.items at c.as_slice-list.ensures.rising in
-    let shares = rw (c.as_slice-list.ensures.items, c.as_slice.ensures.value) at c.in_ok-shared.ensures in
+    let shares = rw (
+      c.as_slice-list.ensures.items,
+      c.as_slice.ensures.value,
+      c.new-vers.ensures.global,
+      c.new-vers.ensures.srel,
+      c.srel.ensures,
+    ) at c.in_ok-shared.ensures in
     let rows = rw c.as_slice-2.ensures.value at c.in_ok-tests.ensures in
     are-failed g zone (option_copied c.args.related) ids c.args.bypass.now c.len.ensures.form c.known.ensures.held
     rising (λ x h. plain-from g zone x (All-contains (λ x. IsTrue (is_installable g zone x)) ids x c.requires h))
@@ -37,7 +43,13 @@ returns-clause-eligible c =
     let zone = c.args.zone.now in
     let ids = c.args.ids.now in
     let rising = rw c.as_slice-list.ensures.items at c.as_slice-list.ensures.rising in
-    let shares = rw (c.as_slice-list.ensures.items, c.as_slice.ensures.value) at c.in_ok-shared.ensures in
+    let shares = rw (
+      c.as_slice-list.ensures.items,
+      c.as_slice.ensures.value,
+      c.new-vers.ensures.global,
+      c.new-vers.ensures.srel,
+      c.srel.ensures,
+    ) at c.in_ok-shared.ensures in
     let flags = rw c.as_slice-3.ensures.value at c.in_ok-eligible.ensures in
     are-eligible g zone (option_copied c.args.related) ids c.args.bypass.now c.len.ensures.form c.known.ensures.held
     rising (λ x h. plain-from g zone x (All-contains (λ x. IsTrue (is_installable g zone x)) ids x c.requires h))

@@ -1,0 +1,131 @@
+-- Which candidates fail J9: for any setting, where it is known who survives, and no survivor names others in NPRE.
+use Rattle.std.proofs.Common.{◌≡◌, ◌∙◌, inl, inr, ℕ, zero, suc, ◌<◌, List, [], ◌∷◌, length, Some, IsTrue, refl, sym}
+use Rattle.std.proofs.Common.{ap₂, subst, map, Contains, arith, slice_get}
+use Rattle.std.specs.Prelude.{◌↔◌}
+use Rattle.std.proofs.lemmas.Option.{slice_get_within, same_Some}
+use Rattle.lemmas.proofs.Members.{map_in, in_map, none_in_nil}
+use Rattle.lemmas.proofs.Places.{found_at}
+use Rattle.terms.specs.declared.kinds.ElemType.{ElemType}
+use Rattle.terms.specs.Types.{Text, Id, Global}
+use Rattle.terms.specs.Lookups.{changes_of, has_change}
+use Rattle.terms.specs.Choice.{Choice, npre_of}
+use Rattle.terms.specs.Tests.{Setting, Survives, Clash, FailsJ9}
+use Rattle.judge.specs.declared.own.OwnFaults.{OwnFaults}
+use Rattle.judge.specs.declared.claims.Claim.{Claim}
+use Rattle.judge.specs.Own.{passes}
+use Rattle.judge.specs.Claims.{change_key, a_claim, PassesAt, AreClaims}
+use Rattle.judge.specs.Sharing.{ClashesOnOne, IsAmong, IsClashing}
+use Rattle.judge.proofs.Collapsed.{change-found, change-has}
+
+-- what it claims, it changes, and the other way round
+changes-from : (g : Global) (x : Id) (key : ElemType × Text) → Contains (map change_key (changes_of g x)) key
+    → IsTrue (has_change g x key.0 key.1)
+changes-from g x key h =
+    let m = map_in change_key (changes_of g x) key h in
+    subst (λ k. IsTrue (has_change g x k.0 k.1)) m.2 (change-has g x m.0 m.1)
+
+changes-to : (g : Global) (x : Id) (type : ElemType) (name : Text) → IsTrue (has_change g x type name)
+    → Contains (map change_key (changes_of g x)) (type, name)
+changes-to g x type name has =
+    let found = change-found g x type name has in
+    subst (Contains (map change_key (changes_of g x))) (ap₂ (λ t m. (t, m)) found.2 found.3)
+    (in_map change_key (changes_of g x) found.0 found.1)
+
+-- the claims that clash are those of the candidates that do
+pub clashing-at : (g : Global) (c : Choice) (ids : List Id) (faults : List OwnFaults) (claims : List Claim)
+    → AreClaims g ids faults (length ids) claims → (n : ℕ)
+    → IsAmong (ClashesOnOne g c) claims n ↔ IsClashing g c ids faults n
+clashing-at g c ids faults claims are n = (from, to)
+  where
+    from : IsAmong (ClashesOnOne g c) claims n → IsClashing g c ids faults n
+    from m =
+        let own = (are m.a.element m.a.id m.a.place).0 m.own in
+        let other = (are m.b.element m.b.id m.b.place).0 m.other in
+        record {
+          x = m.a.id;
+          passes = subst (λ k. PassesAt ids faults k m.a.id) (sym m.place) own.by;
+          place = m.b.place;
+          y = m.b.id;
+          other = other.by;
+          apart = m.clash.1.0;
+          element = (
+            m.a.element.0,
+            m.a.element.1,
+            changes-from g m.a.id m.a.element own.changes,
+            subst (λ k. IsTrue (has_change g m.b.id k.0 k.1)) (sym m.clash.0)
+                (changes-from g m.b.id m.b.element other.changes),
+          );
+          may_not = m.clash.1.1;
+        }
+
+    to : IsClashing g c ids faults n → IsAmong (ClashesOnOne g c) claims n
+    to h =
+        let key : ElemType × Text = (h.element.0, h.element.1) in
+        record {
+          a = a_claim key h.x n;
+          b = a_claim key h.y h.place;
+          own = (are key h.x n).1 (record {
+            below = slice_get_within ids n h.x h.passes.at;
+            by = h.passes;
+            changes = changes-to g h.x key.0 key.1 h.element.2;
+          });
+          other = (are key h.y h.place).1 (record {
+            below = slice_get_within ids h.place h.y h.other.at;
+            by = h.other;
+            changes = changes-to g h.y key.0 key.1 h.element.3;
+          });
+          clash = (refl, (h.apart, h.may_not));
+          place = refl;
+        }
+
+module _ (s : Setting) (faults : List OwnFaults) (lengths : length faults ≡ length s.cands)
+    (survives : (n : ℕ) (x : Id) (a : OwnFaults) → slice_get s.cands n ≡ Some x → slice_get faults n ≡ Some a
+    → IsTrue (passes a) ↔ Survives s x)
+    (no_npre : (x : Id) → Survives s x → npre_of s.choice x ≡ []) where
+  own-at : (n : ℕ) (x : Id) → slice_get s.cands n ≡ Some x → (a : OwnFaults) × (slice_get faults n ≡ Some a)
+  own-at n x at = by faults n (subst (λ k. n < k) (sym lengths) (slice_get_within s.cands n x at))
+    where
+      by : (all : List OwnFaults) (n : ℕ) → n < length all → (a : OwnFaults) × (slice_get all n ≡ Some a)
+      by [] n below = absurd (omega (arith, below))
+      by (a ∷ more) zero below = (a, refl)
+      by (a ∷ more) (suc n) below = by more n (omega (arith, below))
+
+  passes-from : (n : ℕ) (x : Id) → PassesAt s.cands faults n x → Survives s x
+  passes-from n x p = (survives n x p.own p.at p.own_at).0 p.passing
+
+  passes-to : (n : ℕ) (x : Id) → slice_get s.cands n ≡ Some x → Survives s x → PassesAt s.cands faults n x
+  passes-to n x at h =
+      let a = own-at n x at in
+      record { at = at; own = a.0; own_at = a.1; passing = (survives n x a.0 at a.1).1 h }
+
+  -- a candidate that clashes fails J9, and no other does
+  pub fails-nine : (n : ℕ) (x : Id) → slice_get s.cands n ≡ Some x
+      → IsClashing s.global s.choice s.cands faults n ↔ FailsJ9 s x
+  fails-nine n x at = (from, to)
+    where
+      from : IsClashing s.global s.choice s.cands faults n → FailsJ9 s x
+      from h =
+          let same : h.x ≡ x = same_Some h.x x (sym h.passes.at ∙ at) in
+          subst (FailsJ9 s) same (
+            passes-from n h.x h.passes,
+            (h.y, passes-from h.place h.y h.other, h.apart, inr (inr (h.element, h.may_not))),
+          )
+
+      to : FailsJ9 s x → IsClashing s.global s.choice s.cands faults n
+      to (own, (y, other, apart, clash)) = by clash
+        where
+          by : Clash s x y → IsClashing s.global s.choice s.cands faults n
+          by (inl named) = none_in_nil (npre_of s.choice x) y (no_npre x own) named
+          by (inr (inl named)) = none_in_nil (npre_of s.choice y) x (no_npre y other) named
+          by (inr (inr both)) =
+              let found = found_at s.cands y other.0.0 in
+              record {
+                x = x;
+                passes = passes-to n x at own;
+                place = found.0;
+                y = y;
+                other = passes-to found.0 y found.1 other;
+                apart = apart;
+                element = both.0;
+                may_not = both.1;
+              }
