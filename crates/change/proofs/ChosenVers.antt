@@ -1,4 +1,4 @@
--- What the ++VERs for one SREL say, in a global zone: FMIDs make no loop, and functions are superseded by none.
+-- What the ++VERs that count for one SREL say, in a global zone: they make no loop, and supersede no function.
 use Rattle.std.proofs.Common.{◌≡◌, ◌∙◌, Bool, true, false, not, List, [], ◌∷◌, ◌++◌, map, filter, find, Option, None, Some}
 use Rattle.std.proofs.Common.{All, Contains, IsTrue, inl, inr, refl, sym, ap, subst, true≢false}
 use Rattle.std.specs.Prelude.{◌&&◌, ◌||◌, ◌⊎◌, is_some, ◌==◌}
@@ -14,10 +14,9 @@ use Rattle.lemmas.proofs.Texts.{same_from}
 use Rattle.terms.specs.Types.{Text, Id, kind_number, Ver, Sysmod, Global}
 use Rattle.terms.specs.Lookups.{at_most_one, is_in, sysmod_of, is_received, is_function}
 use Rattle.terms.specs.Choice.{Choice, by_srel, fmid_of, sup_of}
-use Rattle.terms.specs.Over.{Reaches, Supersedes}
+use Rattle.terms.specs.Over.{Reaches, Supersedes, names}
 use Rattle.terms.specs.Global.{named, names_for, HasLoop, is_service, named_functions, fits_roles, RolesFit}
 use Rattle.terms.proofs.Leads.{reaches_more, last_step}
-use Rattle.change.proofs.FmidChains.{fmids}
 
 -- what stands in the joined images of a list's items
 pub in_flat : {X Y : Type 0} (f : X → List Y) (xs : List X) (x : X) (y : Y) → Contains xs x → Contains (f x) y
@@ -73,37 +72,38 @@ module _ (g : Global) (srel : Text) where
       by None at is = absurd (cc is)
       by (Some v) at is = (v, chosen x v at, is)
 
-  -- what has an FMID is received
-  pub fmid_received : (x f : Id) → fmid_of (by_srel g srel) x ≡ Some f → Contains (map (λ s. s.id) g.sysmods) x
-  fmid_received x f at =
-      let from = (fmid_by x f at).1 in
+  -- What names anything is received, and names it for the SREL.
+  names_by : (x z : Id) → Contains (names (by_srel g srel) x) z → (v : Ver) × Chosen x v × Contains (named v) z
+  names_by x z = by (by_srel g srel x) refl
+    where
+      by : (o : Option Ver) → by_srel g srel x ≡ o
+          → Contains (option_map_or (λ v. v.pre) o [] ++ option_map_or (λ v. v.sup) o []
+          ++ at_most_one (option_and_then (λ v. v.fmid) o)) z
+          → (v : Ver) × Chosen x v × Contains (named v) z
+      by None at is = absurd (none_in z is)
+      by (Some v) at is = (v, chosen x v at, is)
+
+  pub names_received : (x z : Id) → Contains (names (by_srel g srel) x) z → Contains (map (λ s. s.id) g.sysmods) x
+  names_received x z is =
+      let from = (names_by x z is).1 in
       let gives = find-gives (λ s. bytes_eq s.id x) g.sysmods from.sysmod from.received in
       subst (Contains (map (λ s. s.id) g.sysmods)) (same_from from.sysmod.id x gives.0)
       (in_map (λ s. s.id) g.sysmods from.sysmod gives.1)
 
-  -- and names it for the SREL
-  fmid_named : (x f : Id) → Contains (fmids (by_srel g srel) x) f → Contains (names_for g srel x) f
-  fmid_named x f is = by (fmid_of (by_srel g srel) x) refl is
-    where
-      by : (o : Option Id) → fmid_of (by_srel g srel) x ≡ o → Contains (at_most_one o) f
-          → Contains (names_for g srel x) f
-      by None at is = absurd (none_in f is)
-      by (Some z) at is =
-          let v = (fmid_by x z at).0 in
-          let from = (fmid_by x z at).1 in
-          let gives = find-gives (λ v. bytes_eq v.srel srel) from.sysmod.vers v from.found in
-          let among : Contains (filter (λ v. bytes_eq v.srel srel) from.sysmod.vers) v =
-          in_filter (λ v. bytes_eq v.srel srel) from.sysmod.vers v gives.1 gives.0 in
-          let there : Contains (at_most_one v.fmid) f =
-          subst (λ o. Contains (at_most_one o) f) (sym (fmid_by x z at).2) is in
-          subst (λ o. Contains (flat_map named (option_map_or
-              (λ s. filter (λ v. bytes_eq v.srel srel) s.vers) o [])) f) (sym from.received)
-          (in_flat named (filter (λ v. bytes_eq v.srel srel) from.sysmod.vers) v f among
-          (Contains-append_right (v.pre ++ v.sup) (at_most_one v.fmid) f there))
+  names_among : (x z : Id) → Contains (names (by_srel g srel) x) z → Contains (names_for g srel x) z
+  names_among x z is =
+      let v = (names_by x z is).0 in
+      let from = (names_by x z is).1 in
+      let gives = find-gives (λ v. bytes_eq v.srel srel) from.sysmod.vers v from.found in
+      let among : Contains (filter (λ v. bytes_eq v.srel srel) from.sysmod.vers) v =
+      in_filter (λ v. bytes_eq v.srel srel) from.sysmod.vers v gives.1 gives.0 in
+      subst (λ o. Contains (flat_map named (option_map_or (λ s. filter (λ v. bytes_eq v.srel srel) s.vers) o [])) z)
+      (sym from.received)
+      (in_flat named (filter (λ v. bytes_eq v.srel srel) from.sysmod.vers) v z among (names_by x z is).2)
 
-  pub fmid_no_loop : ¬ HasLoop g → (x : Id) → ¬ Reaches (fmids (by_srel g srel)) x x
-  fmid_no_loop none x loop =
-      none (srel, x, reaches_more (fmids (by_srel g srel)) (names_for g srel) fmid_named x x loop)
+  pub names_no_loop : ¬ HasLoop g → (x : Id) → ¬ Reaches (names (by_srel g srel)) x x
+  names_no_loop none x loop =
+      none (srel, x, reaches_more (names (by_srel g srel)) (names_for g srel) names_among x x loop)
 
   -- Roles fit.
   module _ (roles : RolesFit g) where

@@ -1,23 +1,25 @@
--- The chain of a SYSMOD is the SYSMOD and the chain of its FMID, as FMIDs make no loop and what has one is received.
-use Rattle.std.proofs.Common.{◌≡◌, ◌≢◌, ◌≤◌, ◌<◌, ◌+◌, ◌∙◌, ℕ, zero, suc, Bool, true, false, List, [], ◌∷◌, length, map}
+-- The chain of a SYSMOD is the SYSMOD and the chain of its FMID, as there is no loop and what names anything is received.
+use Rattle.std.proofs.Common.{◌≡◌, ◌≢◌, ◌≤◌, ◌<◌, ◌+◌, ◌∙◌, ℕ, zero, suc, Bool, true, false, List, [], ◌∷◌, ◌++◌, length, map}
 use Rattle.std.proofs.Common.{Option, None, Some, Contains, get_or, inl, inr, refl, sym, ap, subst, arith, IsTrue}
 use Rattle.std.specs.Prelude.{◌||◌, if◌then◌else◌, unwrap_or}
 use Rattle.std.proofs.lemmas.Bool.{or_right}
 use Rattle.std.proofs.lemmas.List.{length-map}
-use Rattle.std.proofs.lemmas.List.Elements.{Contains-get_or}
+use Rattle.std.proofs.lemmas.List.Elements.{Contains-get_or, Contains-append_right}
 use Rattle.std.proofs.lemmas.List.Kept.{AllPairs-cons}
 use Rattle.lemmas.proofs.Apart.{AreApart, apart-le}
 use Rattle.lemmas.proofs.Members.{here, there, here_or, none_in}
 use Rattle.terms.specs.Types.{Id, Global}
 use Rattle.terms.specs.Lookups.{at_most_one, is_in, meets, is_function}
-use Rattle.terms.specs.Choice.{Choice, fmid_of}
-use Rattle.terms.specs.Over.{Reaches, chain_from, chain, owner}
+use Rattle.terms.specs.Choice.{Choice, fmid_of, pre_of, sup_of}
+use Rattle.terms.specs.Over.{Reaches, names, chain_from, chain, owner}
 use Rattle.terms.specs.Deleted.{is_deleted}
 use Rattle.terms.proofs.Leads.{reaches_named, reaches_first}
 
--- what a SYSMOD names in FMID
-abbrev pub fmids : Choice → Id → List Id
-fmids c x = at_most_one (fmid_of c x)
+-- an FMID is named
+pub fmid_named : (c : Choice) (x f : Id) → fmid_of c x ≡ Some f → Contains (names c x) f
+fmid_named c x f at =
+    Contains-append_right (pre_of c x ++ sup_of c x) (at_most_one (fmid_of c x)) f
+    (subst (λ o. Contains (at_most_one o) f) (sym at) (here f []))
 
 module _ (c : Choice) where
   -- A walk that ends in time is that of any longer one.
@@ -61,23 +63,23 @@ module _ (c : Choice) where
       by (Some f) at long = (f, at)
 
   -- each id behind the first is reached by FMID
-  chain_reached : (n : ℕ) (x y : Id) → Contains (chain_from n c (fmid_of c x)) y → Reaches (fmids c) x y
+  chain_reached : (n : ℕ) (x y : Id) → Contains (chain_from n c (fmid_of c x)) y → Reaches (names c) x y
   chain_reached zero x y within = absurd (none_in y within)
   chain_reached (suc n) x y within = by (λ f. chain_reached n f y) (fmid_of c x) refl within
     where
-      by : ((f : Id) → Contains (chain_from n c (fmid_of c f)) y → Reaches (fmids c) f y) → (o : Option Id)
-          → fmid_of c x ≡ o → Contains (chain_from (suc n) c o) y → Reaches (fmids c) x y
+      by : ((f : Id) → Contains (chain_from n c (fmid_of c f)) y → Reaches (names c) f y) → (o : Option Id)
+          → fmid_of c x ≡ o → Contains (chain_from (suc n) c o) y → Reaches (names c) x y
       by again None at none = absurd (none_in y none)
       by again (Some f) at within =
-          let named : Contains (fmids c x) f = subst (λ o. Contains (at_most_one o) f) (sym at) (here f []) in
+          let named = fmid_named c x f at in
           elim (here_or f (chain_from n c (fmid_of c f)) y within) [
-            | inl same ↦ reaches_named (fmids c) x y (subst (Contains (fmids c x)) same named)
-            | inr later ↦ reaches_first (fmids c) x f y named (again f later)
+            | inl same ↦ reaches_named (names c) x y (subst (Contains (names c x)) same named)
+            | inr later ↦ reaches_first (names c) x f y named (again f later)
           ]
 
-  -- FMIDs make no loop, and what has one is among the ids.
-  module _ (ids : List Id) (named : (x f : Id) → fmid_of c x ≡ Some f → Contains ids x)
-      (no_loop : (x : Id) → ¬ Reaches (fmids c) x x) where
+  -- There is no loop, and what names anything is among the ids.
+  module _ (ids : List Id) (named : (x y : Id) → Contains (names c x) y → Contains ids x)
+      (no_loop : (x : Id) → ¬ Reaches (names c) x x) where
     chain_apart : (n : ℕ) (o : Option Id) → AreApart (chain_from n c o)
     chain_apart zero o = λ i j d before below same. omega (arith, below)
     chain_apart (suc n) None = λ i j d before below same. omega (arith, below)
@@ -89,12 +91,12 @@ module _ (c : Choice) where
         others k d below same =
             let at = chain_reached n x (get_or (chain_from n c (fmid_of c x)) k d)
             (Contains-get_or (chain_from n c (fmid_of c x)) k d below) in
-            no_loop x (subst (Reaches (fmids c) x) (sym same) at)
+            no_loop x (subst (Reaches (names c) x) (sym same) at)
 
     chain_full : (n : ℕ) (o : Option Id) → length (chain_from (suc n) c o) ≡ suc n → n ≤ length ids
     chain_full n o full =
         let within = apart-le (chain_from n c o) ids (chain_apart n o)
-        (λ y at. let names = chain_names n o y full at in named y names.0 names.1) in
+        (λ y at. let next = chain_names n o y full at in named y next.0 (fmid_named c y next.0 next.1)) in
         omega (arith, within, chain_front n o full)
 
     chain_short : (x : Id) → chain_from (suc (length ids)) c (fmid_of c x) ≡ chain_from (length ids) c (fmid_of c x)
@@ -109,8 +111,9 @@ module _ (c : Choice) where
             omega (arith, bound, not_full)
 
 -- The chain of a SYSMOD has the chain of its FMID, and that of its owner.
-module _ (g : Global) (c : Choice) (named : (x f : Id) → fmid_of c x ≡ Some f → Contains (map (λ s. s.id) g.sysmods) x)
-    (no_loop : (x : Id) → ¬ Reaches (fmids c) x x) where
+module _ (g : Global) (c : Choice)
+    (named : (x y : Id) → Contains (names c x) y → Contains (map (λ s. s.id) g.sysmods) x)
+    (no_loop : (x : Id) → ¬ Reaches (names c) x x) where
   pub chain_of : (x : Id) → chain g c x ≡ x ∷ chain_from (length g.sysmods + 1) c (fmid_of c x)
   chain_of x =
       let n = length (map (λ s. s.id) g.sysmods) in

@@ -15,7 +15,7 @@ use Rattle.terms.specs.Lookups.{at_most_one, is_in, IsZone, change_of, has_chang
 use Rattle.terms.specs.Lookups.{is_applied, is_function}
 use Rattle.terms.specs.Choice.{Choice, by_srel, fmid_of, del_of}
 use Rattle.terms.specs.Changes.{is_replacement, has_replacement, has_update}
-use Rattle.terms.specs.Over.{IsOver, chain, owner, Reaches, Supersedes}
+use Rattle.terms.specs.Over.{IsOver, names, Reaches, Supersedes}
 use Rattle.terms.specs.Global.{IsGlobal}
 use Rattle.terms.specs.Deleted.{deletions, is_deleted, zone_less}
 use Rattle.terms.specs.Tests.{Setting, view_of, owner_of, ShareElement, MayNotShare, ChangesInView, has_candidate_base}
@@ -25,8 +25,9 @@ use Rattle.terms.specs.Judged.{Stays}
 use Rattle.terms.specs.Kept.{SupportsItself}
 use Rattle.terms.specs.Install.{Installation, TakesEffect, cleared}
 use Rattle.terms.proofs.Ids.{Contains-from_is_in}
-use Rattle.change.proofs.ChosenVers.{fmid_received, fmid_no_loop, fmid_function, function_first}
-use Rattle.change.proofs.FmidChains.{fmids, deleted_by_owner}
+use Rattle.change.proofs.ChosenVers.{names_received, names_no_loop, fmid_function, function_first}
+use Rattle.change.proofs.FmidChains.{deleted_by_owner}
+use Rattle.change.proofs.Walks.{reaches_or_not}
 use Rattle.change.proofs.LessLookups.{deleted_by_one, element_stays, element_was, applied_was}
 
 -- an update changes the element
@@ -93,13 +94,26 @@ module _ (s : Setting) (survivors kept : List Id) (members : (x : Id) → Contai
 
   module _ (is_zone : IsZone s.zone) (is_global : IsGlobal s.global) (chosen : s.choice ≡ by_srel s.global s.zone.srel)
       (not_applied : (x : Id) → Contains s.cands x → is_applied s.zone x ≡ false) where
-    named : (x f : Id) → fmid_of s.choice x ≡ Some f → Contains (map (λ s. s.id) s.global.sysmods) x
-    named = subst (λ (c : Choice). (x f : Id) → fmid_of c x ≡ Some f → Contains (map (λ s. s.id) s.global.sysmods) x)
-        (sym chosen) (fmid_received s.global s.zone.srel)
+    named : (x z : Id) → Contains (names s.choice x) z → Contains (map (λ s. s.id) s.global.sysmods) x
+    named = subst (λ (c : Choice). (x z : Id) → Contains (names c x) z → Contains (map (λ s. s.id) s.global.sysmods) x)
+        (sym chosen) (names_received s.global s.zone.srel)
 
-    no_loop : (x : Id) → ¬ Reaches (fmids s.choice) x x
-    no_loop = subst (λ (c : Choice). (x : Id) → ¬ Reaches (fmids c) x x) (sym chosen)
-        (fmid_no_loop s.global s.zone.srel is_global.no_loop)
+    no_loop : (x : Id) → ¬ Reaches (names s.choice) x x
+    no_loop = subst (λ (c : Choice). (x : Id) → ¬ Reaches (names c) x x) (sym chosen)
+        (names_no_loop s.global s.zone.srel is_global.no_loop)
+
+    -- So over does order what is kept and shares an element.
+    pub kept_over : (x y : Id) → Contains kept x → Contains kept y → x ≢ y → ShareElement s.global x y
+        → IsOver s.choice x y ⊎ IsOver s.choice y x
+    kept_over x y of_x of_y other share =
+        let ids = map (λ s. s.id) s.global.sysmods in
+        elim (reaches_or_not (names s.choice) ids named no_loop x y) [
+          | inl over ↦ inl over
+          | inr not_over ↦ elim (reaches_or_not (names s.choice) ids named no_loop y x) [
+            | inl over ↦ inr over
+            | inr apart ↦ absurd (kept_ordered x y of_x of_y other share (not_over, apart))
+          ]
+        ]
 
     -- J8: no deletion of what is kept meets the owner of what is kept.
     pub kept_undeleted : (x : Id) → Contains kept x

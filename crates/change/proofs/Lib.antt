@@ -6,3 +6,4 @@ pub mod FmidChains
 pub mod ChosenVers
 pub mod LessLookups
 pub mod KeptTogether
+pub mod Walks
