@@ -1,7 +1,7 @@
 -- What APPLY and ACCEPT keep may be installed together.
 use Rattle.std.proofs.Common.{◌≡◌, ◌≢◌, ◌⊎◌, inl, inr, ◌∙◌, Bool, true, false, not, List, [], ◌∷◌, Option, None, Some}
 use Rattle.std.proofs.Common.{Contains, IsTrue, IsSome, is_some, find, map, refl, sym, ap, subst, true≢false}
-use Rattle.std.specs.Prelude.{◌↔◌, ◌&&◌, ◌==◌, IsFalse}
+use Rattle.std.specs.Prelude.{◌↔◌, ◌&&◌, ◌||◌, ◌==◌}
 use Rattle.std.specs.Option.{option_map_or}
 use Rattle.std.specs.Str.{bytes_eq}
 use Rattle.std.proofs.lemmas.Bool.{and_parts}
@@ -12,10 +12,10 @@ use Rattle.terms.specs.declared.codes.NeedKind.TheVariants.{Fmid}
 use Rattle.terms.specs.declared.codes.Test.TheVariants.{J4, J6}
 use Rattle.terms.specs.Types.{Text, Id, type_number, Change, Sysmod, Global, Element, Zone}
 use Rattle.terms.specs.Lookups.{at_most_one, is_in, IsZone, change_of, has_change, element_of, sysmod_of, is_received}
-use Rattle.terms.specs.Lookups.{is_applied, is_function}
+use Rattle.terms.specs.Lookups.{is_applied, is_supplied, is_nil, supby_of}
 use Rattle.terms.specs.Choice.{Choice, by_srel, fmid_of, del_of}
 use Rattle.terms.specs.Changes.{is_replacement, has_replacement, has_update}
-use Rattle.terms.specs.Over.{IsOver, names, Reaches, Supersedes}
+use Rattle.terms.specs.Over.{IsOver, names, owner, Reaches, Supersedes}
 use Rattle.terms.specs.Global.{IsGlobal}
 use Rattle.terms.specs.Deleted.{deletions, is_deleted, zone_less}
 use Rattle.terms.specs.Tests.{Setting, view_of, owner_of, ShareElement, MayNotShare, ChangesInView, has_candidate_base}
@@ -39,6 +39,21 @@ update_changes g x type name = by (change_of g x type name)
     by None has = absurd (true≢false (sym has))
     by (Some h) has = refl
 
+-- a change replaces or updates
+pub replaces_or_updates : (g : Global) (x : Id) (type : ElemType) (name : Text) → IsTrue (has_change g x type name)
+    → IsTrue (has_replacement g x type name) ⊎ IsTrue (has_update g x type name)
+replaces_or_updates g x type name = by (change_of g x type name)
+  where
+    either : (b : Bool) → (b ≡ true) ⊎ (not b ≡ true)
+    either true = inl refl
+    either false = inr refl
+
+    by : (o : Option Change) → is_some o ≡ true
+        → (option_map_or (λ h. is_replacement h.action) o false ≡ true)
+        ⊎ (option_map_or (λ h. not (is_replacement h.action)) o false ≡ true)
+    by None has = absurd (true≢false (sym has))
+    by (Some h) has = either (is_replacement h.action)
+
 -- what replaces anything is received
 pub replacement_received : (g : Global) (x : Id) (type : ElemType) (name : Text)
     → IsTrue (has_replacement g x type name) → IsTrue (is_received g x)
@@ -49,6 +64,21 @@ replacement_received g x type name has = by (sysmod_of g x) refl
         (find (λ h. (type_number h.elem_type == type_number type) && bytes_eq h.name name)
         (option_map_or (λ s. s.changes) o [])) false) at))
     by (Some s) at = refl
+
+-- what is not supplied is not applied
+pub unsupplied : (zone : Zone) (x : Id) → is_supplied zone x ≡ false → is_applied zone x ≡ false
+unsupplied zone x = by (is_applied zone x)
+  where
+    by : (b : Bool) → (b || not (is_nil (supby_of zone x))) ≡ false → b ≡ false
+    by true none = none
+    by false none = refl
+
+-- an install of what is kept in a setting
+pub record InstallsKept (s : Setting) (ids : List Id) (i : Installation) : Type 0 where
+  pub global : i.global ≡ s.global
+  pub choice : i.choice ≡ s.choice
+  pub zone : i.zone ≡ s.zone
+  pub kept : i.kept ≡ ids
 
 module _ (s : Setting) (survivors kept : List Id) (members : (x : Id) → Contains kept x ↔ Stays s survivors x) where
   pub kept_eligible : (x : Id) → Contains kept x → IsEligible s x
@@ -170,3 +200,72 @@ module _ (s : Setting) (survivors kept : List Id) (members : (x : Id) → Contai
             × IsTrue (has_replacement s.global f type name))
         by true has = inr (comes (fmid_of s.choice x) refl has)
         by false none = inl (there (element_of (view_of s x) type name) refl none)
+
+    -- An FMID that is received takes effect where it is kept, since nothing supersedes a function.
+    pub fmid_first : (x f : Id) → fmid_of s.choice x ≡ Some f → IsTrue (is_received s.global f) → (y : Id)
+        → ¬ Supersedes s.choice y f
+    fmid_first = subst (λ (c : Choice). (x f : Id) → fmid_of c x ≡ Some f → IsTrue (is_received s.global f) → (y : Id)
+        → ¬ Supersedes c y f) (sym chosen)
+        (λ x f at received. function_first s.global s.zone.srel is_global.roles f
+        (fmid_function s.global s.zone.srel is_global.roles x f at received))
+
+    -- The same of an install of what is kept.
+    module _ (i : Installation) (of : InstallsKept s kept i) where
+      in_kept : (x : Id) → Contains i.kept x → Contains kept x
+      in_kept x is = subst (λ ids. Contains ids x) of.kept is
+
+      cleared_is : cleared i ≡ zone_less s.global s.choice (deletions s.choice kept) s.zone
+      cleared_is =
+          ap (λ g. zone_less g i.choice (deletions i.choice i.kept) i.zone) of.global
+          ∙ ap (λ c. zone_less s.global c (deletions c i.kept) i.zone) of.choice
+          ∙ ap (λ ids. zone_less s.global s.choice (deletions s.choice ids) i.zone) of.kept
+          ∙ ap (zone_less s.global s.choice (deletions s.choice kept)) of.zone
+
+      pub install_owner : (x y : Id) → Contains i.kept x → Contains i.kept y → ShareElement i.global x y
+          → owner i.global i.choice x ≡ owner i.global i.choice y
+      install_owner x y of_x of_y share =
+          let one = kept_owner x y (in_kept x of_x) (in_kept y of_y)
+          (subst (λ g. ShareElement g x y) of.global share) in
+          let same : (z : Id) → owner i.global i.choice z ≡ owner_of s z =
+          λ z. ap (λ g. owner g i.choice z) of.global ∙ ap (λ c. owner s.global c z) of.choice in
+          same x ∙ one ∙ sym (same y)
+
+      pub install_over : (x y : Id) → Contains i.kept x → Contains i.kept y → x ≢ y → ShareElement i.global x y
+          → IsOver i.choice x y ⊎ IsOver i.choice y x
+      install_over x y of_x of_y other share =
+          subst (λ c. IsOver c x y ⊎ IsOver c y x) (sym of.choice)
+          (kept_over x y (in_kept x of_x) (in_kept y of_y) other (subst (λ g. ShareElement g x y) of.global share))
+
+      pub install_base : (x : Id) (type : ElemType) (name : Text) → Contains i.kept x
+          → IsTrue (has_update i.global x type name)
+          → IsSome (element_of (cleared i) type name)
+          ⊎ ((f : Id) × (fmid_of i.choice x ≡ Some f) × TakesEffect i f × IsTrue (has_replacement i.global f type name))
+      install_base x type name is updates =
+          elim (kept_base x type name (in_kept x is) (subst (λ g. IsTrue (has_update g x type name)) of.global updates)) [
+            | inl there ↦ inl (subst (λ zone. IsSome (element_of zone type name)) (sym cleared_is) there)
+            | inr base ↦ inr (
+              base.0,
+              subst (λ c. fmid_of c x ≡ Some base.0) (sym of.choice) base.1,
+              record {
+                kept = subst (λ ids. Contains ids base.0) (sym of.kept) base.2;
+                first = λ y of_y other over. fmid_first x base.0 base.1
+                    (replacement_received s.global base.0 type name base.3) y
+                    (subst (λ c. Supersedes c y base.0) of.choice over);
+              },
+              subst (λ g. IsTrue (has_replacement g base.0 type name)) (sym of.global) base.3,
+            )
+          ]
+
+      -- So each element that changes is there after the deletions, or is replaced.
+      pub changed_base : (x : Id) (type : ElemType) (name : Text) → TakesEffect i x
+          → IsTrue (has_change i.global x type name)
+          → IsSome (element_of (cleared i) type name)
+          ⊎ ((y : Id) × TakesEffect i y × IsTrue (has_replacement i.global y type name))
+      changed_base x type name effect changes =
+          elim (replaces_or_updates i.global x type name changes) [
+            | inl replaces ↦ inr (x, effect, replaces)
+            | inr updates ↦ elim (install_base x type name effect.kept updates) [
+              | inl there ↦ inl there
+              | inr base ↦ inr (base.0, base.2, base.3)
+            ]
+          ]
