@@ -1,385 +1,67 @@
--- Whatever zone the puts make of the old one is the one that the kept SYSMODs ask for.
-use Rattle.std.proofs.Common.{◌≡◌, ◌⊎◌, inl, inr, Bool, true, false, List, [], ◌∷◌, Option, Some, None, refl, sym, ap}
-use Rattle.std.proofs.Common.{◌∙◌, subst, true≢false, IsTrue, All, map, arith}
-use Rattle.std.specs.Prelude.{◌&&◌, ◌==◌, ◌↔◌, is_some, find, Contains, filter, slice_get, unwrap_or, IsFalse}
-use Rattle.std.specs.Prelude.{if◌then◌else◌}
-use Rattle.std.specs.List.{flat_map}
-use Rattle.std.specs.Option.{option_map_or, option_and_then}
-use Rattle.std.specs.Ordering.{is_eq}
-use Rattle.std.specs.Cmp.Lexicographic.{texts_ties}
+-- Whatever zone the edits make of the old one is the one that the install asks for.
+use Rattle.std.proofs.Common.{◌≡◌, ◌∙◌, List, [], ap, IsTrue, All}
+use Rattle.std.specs.Prelude.{find, Contains, fold}
+use Rattle.std.specs.Option.{option_map_or}
 use Rattle.std.specs.Str.{bytes_eq}
-use Rattle.std.proofs.lemmas.Cmp.{nat_list_cmp_total, tied_itself}
-use Rattle.std.proofs.lemmas.Bool.{and_parts, eqb-true}
+use Rattle.std.specs.List.{flat_map}
 use Rattle.terms.specs.declared.kinds.ElemType.{ElemType}
-use Rattle.terms.specs.declared.kinds.Edit.TheVariants.{Put}
-use Rattle.terms.specs.Types.{Text, Id, Lines, type_number, Action, Replaces, Updates, Change, Sysmod, Global, Entry}
-use Rattle.terms.specs.Types.{Element, Zone}
-use Rattle.terms.specs.Lookups.{IsRising, IsZone, is_in, sysmod_of, is_function, change_of, changes_of, has_change}
-use Rattle.terms.specs.Lookups.{element_cmp, element_key, entry_of, element_of, supby_of, delby_of, waived_of}
-use Rattle.terms.specs.Lookups.{is_supplied}
-use Rattle.terms.specs.Rising.{Rises}
-use Rattle.terms.specs.Choice.{Choice, by_srel, del_of, fmid_of}
-use Rattle.terms.specs.Over.{Supersedes}
-use Rattle.terms.specs.Changes.{is_replacement, has_replacement}
-use Rattle.terms.specs.Deleted.{deletions, is_deleted, is_taken_out, zone_less}
-use Rattle.terms.specs.Global.{IsGlobal, IsSysmod}
+use Rattle.terms.specs.Types.{Text, Id, Global, Zone}
+use Rattle.terms.specs.Lookups.{IsRising, IsZone, element_key, entry_of, element_of}
+use Rattle.terms.specs.Global.{IsGlobal}
 use Rattle.terms.specs.Candidates.{is_installable}
 use Rattle.terms.specs.Tests.{ShareElement}
-use Rattle.terms.specs.Delta.{IsChanged, edit_key, edit_put, element_eq}
-use Rattle.terms.specs.Install.{Installation, TakesEffect, cleared, deleters, delby_after, replaced, IsReplacer}
-use Rattle.terms.specs.Install.{IsUpdater, HasElementAfter, IsUpdated, HasInstalled}
-use Rattle.lemmas.proofs.Members.{here, here_or, none_in, in_map, map_in}
-use Rattle.terms.proofs.Ids.{in_or_not}
-use Rattle.terms.proofs.ElementOrder.{element_cmp_total, element_ties, type_from_number}
-use Rattle.lemmas.proofs.Texts.{same_from, same_itself}
-use Rattle.lemmas.proofs.Searches.{All-find, filter-none, find-gives}
-use Rattle.terms.proofs.NothingDeleted.{deletions-none, is_deleted-none, zone_less-none}
-use Rattle.change.specs.Puts.{applied_entry, own_element, puts}
-use Rattle.change.proofs.InTurn.{flat_in, in_flat, find-member, in_turn-none, in_turn-some}
-use Rattle.change.proofs.Installable.{no_del, supersedes_none, no_entry, replaces}
-use Rattle.change.proofs.Putting.{EntryEdit, ElementEdit, made_of, made_by, entry_of_date, elements_of, entries-puts}
-use Rattle.change.proofs.Putting.{elements-puts}
+use Rattle.terms.specs.Delta.{ZoneDelta, IsChanged, edit_key, edit_put, element_eq, after_edits}
+use Rattle.terms.specs.Install.{HasInstalled}
+use Rattle.change.specs.declared.plan.Plan.{Plan}
+use Rattle.change.specs.Plans.{installation, IsPlan}
+use Rattle.change.specs.Entries.{entry_after, HasPutEntries}
+use Rattle.change.specs.Puts.{after_sysmod}
+use Rattle.change.proofs.AfterElements.{element_changed, element_unchanged}
+use Rattle.change.proofs.AfterEntries as entries
+use Rattle.change.proofs.Putting.{elements_of, put_elements, entries-sysmods, elements-sysmods}
 
-abbrev entry_key : EntryEdit → Id
-entry_key = edit_key (λ e. e.id)
-
-abbrev put_key : ElementEdit → ElemType × Text
-put_key = edit_key element_key
-
-abbrev change_key : Change → ElemType × Text
-change_key h = (h.elem_type, h.name)
-
--- what a statement puts has its key
-made-key : (x : Id) (type : ElemType) (name : Text) (a : Action) (y : ElementEdit) → Contains (made_of x type name a) y
-    → put_key y ≡ (type, name)
-made-key x type name (Replaces distlib syslib lines) y h =
-    elim (here_or (Put (own_element x type name distlib syslib lines)) [] y h) [
-      | inl same ↦ sym (ap put_key same)
-      | inr later ↦ absurd (none_in y later)
-    ]
-made-key x type name (Updates lines) y h = absurd (none_in y h)
-
--- what a replacement puts
-made-replaces : (x : Id) (type : ElemType) (name : Text) (h : Change) (distlib syslib : Text) (lines : Lines)
-    → element_eq (change_key h) (type, name) ≡ true → h.action ≡ Replaces distlib syslib lines
-    → made_by x h ≡ Put (own_element x type name distlib syslib lines) ∷ []
-made-replaces x type name h distlib syslib lines at action =
-    let both = and_parts (type_number h.elem_type == type_number type) (bytes_eq h.name name) at in
-    ap (made_of x h.elem_type h.name) action
-    ∙ ap (λ t. Put (own_element x t h.name distlib syslib lines) ∷ [])
-    (type_from_number h.elem_type type (eqb-true _ _ both.0))
-    ∙ ap (λ n. Put (own_element x type n distlib syslib lines) ∷ []) (same_from h.name name both.1)
-
-none_rise : IsRising []
-none_rise = λ i j d less below. absurd (omega (arith, below))
-
-module _ (g : Global) (zone : Zone) (kept : List Id) (date : Text) (is_global : IsGlobal g) (is_zone : IsZone zone)
-    (lists : All (λ e. IsRising e.supby × IsRising e.waived) zone.entries)
+module _ (g : Global) (zone : Zone) (kept : List Id) (bypassed : List (Id × Id)) (date : Text) (is_global : IsGlobal g)
+    (is_zone : IsZone zone) (lists : All (λ e. IsRising e.supby × IsRising e.waived) zone.entries)
     (installable : All (λ x. IsTrue (is_installable g zone x)) kept)
     (apart : (x y : Id) → Contains kept x → Contains kept y → ShareElement g x y → x ≡ y) where
-  abbrev choice : Choice
-  choice = by_srel g zone.srel
-
-  abbrev i : Installation
-  i = record { global = g; choice = by_srel g zone.srel; zone = zone; kept = kept; bypassed = []; date = date }
-
-  ok : (x : Id) → Contains kept x → IsTrue (is_installable g zone x)
-  ok x h = subst (λ y. IsTrue (is_installable g zone y)) h.2 (installable h.0 x h.1)
-
-  -- ---- which are installed, and what is deleted
-
-  installed : (x : Id) → Contains kept x → TakesEffect i x
-  installed x h = record { kept = h; first = λ y there other. supersedes_none g zone y (ok y there) x }
-
-  same_zone : cleared i ≡ zone
-  same_zone =
-      ap (λ dels. zone_less g choice dels zone) (deletions-none choice kept
-      (λ k d h. no_del g zone _ (installable k d h)))
-      ∙ zone_less-none g choice zone is_zone.held
-
-  deleters_none : (x : Id) → deleters i x ≡ []
-  deleters_none x = by (is_function g x && is_taken_out g choice (deletions choice kept) zone x)
-    where
-      by : (b : Bool) → (if b then filter (λ k. is_deleted g choice (del_of choice k) x) kept else filter
-          (λ k. is_in (del_of choice k) x) kept) ≡ []
-      by true = filter-none (λ k. is_deleted g choice (del_of choice k) x) kept
-          (λ k d h. ap (λ dels. is_deleted g choice dels x) (no_del g zone _ (installable k d h))
-          ∙ is_deleted-none g choice x)
-      by false = filter-none (λ k. is_in (del_of choice k) x) kept
-          (λ k d h. ap (λ dels. is_in dels x) (no_del g zone _ (installable k d h)))
-
-  delby_same : (x : Id) → delby_after i x ≡ delby_of zone x
-  unfolding delby_after
-  delby_same x = by (delby_of zone x)
-    where
-      by : (o : Option Id) → (if is_some o then o else slice_get (deleters i x) 0) ≡ o
-      by (Some k) = refl
-      by None = ap (λ ds. slice_get ds 0) (deleters_none x)
-
-  -- ---- entries
-
-  entry_put : (x : Id) → Contains kept x → find (λ d. bytes_eq (entry_key d) x) (puts g date kept).entries ≡ Some
-      (Put (applied_entry date x))
-  entry_put x h =
-      ap (find (λ d. bytes_eq (entry_key d) x)) (entries-puts g date kept)
-      ∙ in_turn-some nat_list_cmp_total entry_key bytes_eq texts_ties (map (entry_of_date date) kept) [] x
-      (Put (applied_entry date x)) (same_itself x) only
-      (inr (in_map (entry_of_date date) kept x h))
-    where
-      only : (y : EntryEdit) → Contains (map (entry_of_date date) kept) y → bytes_eq (entry_key y) x ≡ true
-          → y ≡ Put (applied_entry date x)
-      only y there hit =
-          let m = map_in (entry_of_date date) kept y there in
-          sym m.2 ∙ ap (entry_of_date date) (same_from m.0 x (ap (λ v. bytes_eq (entry_key v) x) m.2 ∙ hit))
-
-  entry_not_put : (x : Id) → (¬ Contains kept x) → find (λ d. bytes_eq (entry_key d) x) (puts g date kept).entries
-      ≡ None
-  entry_not_put x out =
-      ap (find (λ d. bytes_eq (entry_key d) x)) (entries-puts g date kept)
-      ∙ in_turn-none nat_list_cmp_total entry_key bytes_eq texts_ties (map (entry_of_date date) kept) [] x
-      (λ y there. by y there (bytes_eq (entry_key y) x) refl)
-    where
-      by : (y : EntryEdit) → Contains (map (entry_of_date date) kept) y → (b : Bool) → bytes_eq (entry_key y) x ≡ b
-          → bytes_eq (entry_key y) x ≡ false
-      by y there false e = e
-      by y there true e =
-          let m = map_in (entry_of_date date) kept y there in
-          absurd (out (subst (Contains kept) (same_from m.0 x (ap (λ v. bytes_eq (entry_key v) x) m.2 ∙ e)) m.1))
-
-  -- ---- elements
-
-  changes_rise : (x : Id) → Rises element_cmp change_key (changes_of g x)
-  changes_rise x = by (sysmod_of g x) refl
-    where
-      by : (o : Option Sysmod) → sysmod_of g x ≡ o → Rises element_cmp change_key (option_map_or (λ s. s.changes) o [])
-      by None at = λ i j d less below. absurd (omega (arith, below))
-      by (Some s) at = (All-find IsSysmod (λ s. bytes_eq s.id x) g.sysmods s is_global.formed at).changes
-
-  -- who puts an element
-  put_by : (type : ElemType) (name : Text) (y : ElementEdit) → Contains (flat_map (elements_of g) kept) y
-      → element_eq (put_key y) (type, name) ≡ true
-      → (x : Id) × Contains kept x × ((h : Change) × (change_of g x type name ≡ Some h) × Contains (made_by x h) y)
-  put_by type name y there hit =
-      let m = flat_in (elements_of g) kept y there in
-      let n = flat_in (made_by m.0) (changes_of g m.0) y m.2 in
-      let at : element_eq (change_key n.0) (type, name) ≡ true =
-      ap (λ k. element_eq k (type, name)) (sym (made-key m.0 n.0.elem_type n.0.name n.0.action y n.2)) ∙ hit in (
-        m.0,
-        m.1,
-        (
-          n.0,
-          find-member element_cmp_total change_key element_eq element_ties (changes_of g m.0) n.0
-              (type, name) (changes_rise m.0) n.1 at,
-          n.2,
-        ),
-      )
-
-  changes_it : (x : Id) (type : ElemType) (name : Text) (h : Change) → change_of g x type name ≡ Some h
-      → IsTrue (has_change g x type name)
-  changes_it x type name h at = ap is_some at
-
-  element_put : (x : Id) (type : ElemType) (name : Text) (h : Change) (distlib syslib : Text) (lines : Lines)
-      → Contains kept x
-      → change_of g x type name ≡ Some h → h.action ≡ Replaces distlib syslib lines
-      → find (λ d. element_eq (put_key d) (type, name)) (puts g date kept).elements ≡ Some
-      (Put (own_element x type name distlib syslib lines))
-  element_put x type name h distlib syslib lines within at action =
-      let found = find-gives (λ c. element_eq (change_key c) (type, name)) (changes_of g x) h at in
-      let item : ElementEdit = Put (own_element x type name distlib syslib lines) in
-      let made = made-replaces x type name h distlib syslib lines found.0 action in
-      let there = in_flat (elements_of g) kept x item within
-      (in_flat (made_by x) (changes_of g x) h item found.1
-      (subst (λ ys. Contains ys item) (sym made) (here item []))) in
-      ap (find (λ d. element_eq (put_key d) (type, name))) (elements-puts g date kept)
-      ∙ in_turn-some element_cmp_total put_key element_eq element_ties (flat_map (elements_of g) kept) [] (type, name)
-      item (itself (type, name))
-      (only made) (inr there)
-    where
-      itself : (k : ElemType × Text) → element_eq k k ≡ true
-      itself k = element_ties k k ∙ ap is_eq (tied_itself element_cmp_total k)
-
-      only : made_by x h ≡ Put (own_element x type name distlib syslib lines) ∷ [] → (y : ElementEdit)
-          → Contains (flat_map (elements_of g) kept) y
-          → element_eq (put_key y) (type, name) ≡ true → y ≡ Put (own_element x type name distlib syslib lines)
-      only made y there hit =
-          let p = put_by type name y there hit in
-          let same : p.0 ≡ x = apart p.0 x p.1 within (
-            type,
-            name,
-            changes_it p.0 type name p.2.0 p.2.1,
-            changes_it x type name h at,
-          ) in
-          let both : Some p.2.0 ≡ Some h = sym p.2.1 ∙ ap (λ v. change_of g v type name) same ∙ at in
-          let change : p.2.0 ≡ h = cc both in
-          let one : Contains (Put (own_element x type name distlib syslib lines) ∷ []) y =
-          subst (λ ys. Contains ys y) (ap (λ v. made_by v p.2.0) same ∙ ap (made_by x) change ∙ made) p.2.2 in
-          elim (here_or (Put (own_element x type name distlib syslib lines)) [] y one)
-          [ inl is ↦ sym is | inr later ↦ absurd (none_in y later) ]
-
-  element_not_put : (type : ElemType) (name : Text) → ((x : Id) → Contains kept x → has_change g x type name ≡ false)
-      → find (λ d. element_eq (put_key d) (type, name)) (puts g date kept).elements ≡ None
-  element_not_put type name none =
-      ap (find (λ d. element_eq (put_key d) (type, name))) (elements-puts g date kept)
-      ∙ in_turn-none element_cmp_total put_key element_eq element_ties (flat_map (elements_of g) kept) [] (type, name)
-      (λ y there. by y there (element_eq (put_key y) (type, name)) refl)
-    where
-      by : (y : ElementEdit) → Contains (flat_map (elements_of g) kept) y → (b : Bool)
-          → element_eq (put_key y) (type, name) ≡ b → element_eq (put_key y) (type, name) ≡ false
-      by y there false e = e
-      by y there true e =
-          let p = put_by type name y there e in
-          absurd (true≢false (sym (changes_it p.0 type name p.2.0 p.2.1) ∙ none p.0 p.1))
-
-  -- what the definitions call the replaced element
-  replaced_is : (x : Id) (type : ElemType) (name distlib syslib : Text) (lines : Lines) → is_function g x ≡ true
-      → own_element x type name distlib syslib lines ≡ replaced i x type name distlib syslib lines
-  replaced_is x type name distlib syslib lines function =
-      ap (λ b. record (own_element x type name distlib syslib lines)
-      { fmid = if b then x else unwrap_or (fmid_of choice x) x }) (sym function)
-
-  no_updater : (type : ElemType) (name : Text) (replacer : Option Id) (y : Id) (update : Lines)
-      → IsUpdater i type name replacer y update → ⊥
-  no_updater type name replacer y update u =
-      let h = u.updates.0 in
-      let found = find-gives (λ c. element_eq (change_key c) (type, name)) (changes_of g y) h u.updates.1 in
-      let only = (replaces g zone y (ok y u.installed.kept) h found.1).0 in
-      true≢false (sym only ∙ ap is_replacement u.updates.2)
-
-  -- the element that a kept function replaces
-  element_after : (type : ElemType) (name : Text) (x : Id) (h : Change) (distlib syslib : Text) (lines : Lines)
-      → Contains kept x
-      → change_of g x type name ≡ Some h → h.action ≡ Replaces distlib syslib lines
-      → HasElementAfter i type name (own_element x type name distlib syslib lines)
-  element_after type name x h distlib syslib lines within at action =
-      let found = find-gives (λ c. element_eq (change_key c) (type, name)) (changes_of g x) h at in
-      let function = (replaces g zone x (ok x within) h found.1).1 in
-      let none = no_updater type name (Some x) in
-      let only : IsReplacer i type name x = record {
-        installed = installed x within;
-        replaces = ap (λ o. option_map_or (λ c. is_replacement c.action) o false) at ∙ ap is_replacement action;
-        over = λ y ins also other. absurd (other (apart y x ins.kept within
-            (type, name, some_change y type name also, changes_it x type name h at)));
-      } in
-      let same : IsUpdated i type name (Some x) (own_element x type name distlib syslib lines)
-      (own_element x type name distlib syslib lines) = record {
-        rest = refl;
-        rising = none_rise;
-        umids = λ y. (λ h. inl h, λ h. elim h [ inl old ↦ old | inr new ↦ absurd (none y new.0 new.1) ]);
-        decided = λ n y update d. absurd (none y update d.updater);
-        others = λ n out. refl;
-        numbered = λ y update u. absurd (none y update u);
-        same = λ out. refl;
-      } in (
-        Some x,
-        own_element x type name distlib syslib lines,
-        (only, (h, distlib, syslib, lines, at, action, replaced_is x type name distlib syslib lines function)),
-        same,
-      )
-    where
-      some_change : (y : Id) (type : ElemType) (name : Text) → IsTrue (has_replacement g y type name)
-          → IsTrue (has_change g y type name)
-      some_change y type name also = by (change_of g y type name) also
-        where
-          by : (o : Option Change) → option_map_or (λ c. is_replacement c.action) o false ≡ true → is_some o ≡ true
-          by None off = absurd (true≢false (sym off))
-          by (Some c) on = refl
-
-  -- ---- the new zone
-
-  module _ (new : Zone) (changed : IsChanged (puts g date kept) zone new) where
-    entry_kept : (x : Id) → Contains kept x → entry_of new x ≡ Some (applied_entry date x)
-    entry_kept x h = changed.entries x ∙ ap (λ o. option_map_or edit_put o (entry_of zone x)) (entry_put x h)
-
-    entry_other : (x : Id) → (¬ Contains kept x) → entry_of new x ≡ entry_of zone x
-    entry_other x out = changed.entries x ∙ ap (λ o. option_map_or edit_put o (entry_of zone x)) (entry_not_put x out)
-
-    old_lists : (x : Id) → IsRising (supby_of zone x) × IsRising (waived_of zone x)
-    old_lists x = by (entry_of zone x) refl
-      where
-        by : (o : Option Entry) → entry_of zone x ≡ o → IsRising (option_map_or (λ e. e.supby) o [])
-            × IsRising (option_map_or (λ e. e.waived) o [])
-        by None at = (none_rise, none_rise)
-        by (Some e) at = All-find (λ e. IsRising e.supby × IsRising e.waived) (λ e. bytes_eq e.id x) zone.entries e
-            lists at
-
-    -- a field that has the same value in a new entry as where there is none
-    field_same : {X : Type 0} (field : Option Entry → X) (x : Id) → field (Some (applied_entry date x)) ≡ field None
-        → field (entry_of new x) ≡ field (entry_of zone x)
-    field_same field x bare =
-        elim (in_or_not kept x) [
-          | inl h ↦ ap field (entry_kept x h) ∙ bare ∙ sym (ap field (no_entry g zone x (ok x h) is_zone))
-          | inr out ↦ ap field (entry_other x out)
-        ]
-
-    field_other : {X : Type 0} (field : Option Entry → X) (x : Id) → (¬ TakesEffect i x)
-        → field (entry_of new x) ≡ field (entry_of (cleared i) x)
-    field_other field x out = ap field (entry_other x (λ h. out (installed x h)))
-        ∙ ap (λ z. field (entry_of z x)) (sym same_zone)
-
-    supby_same : (x : Id) → supby_of new x ≡ supby_of (cleared i) x
-    supby_same x = field_same (λ o. option_map_or (λ e. e.supby) o []) x refl ∙ ap (λ z. supby_of z x) (sym same_zone)
-
-    supby_is : (x y : Id) → Contains (supby_of new x) y ↔ (Contains (supby_of (cleared i) x) y
-        ⊎ (TakesEffect i y × Supersedes choice y x))
-    supby_is x y = (
-      λ h. inl (subst (λ ys. Contains ys y) (supby_same x) h),
-      λ h. elim h [
-        | inl old ↦ subst (λ ys. Contains ys y) (sym (supby_same x)) old
-        | inr over ↦ absurd (supersedes_none g zone y (ok y over.0.kept) x over.1)
-      ],
-    )
-
-    waived_is : (x z : Id) → TakesEffect i x → Contains (waived_of new x) z ↔
-        (Contains i.bypassed (x, z) × IsFalse (is_supplied new z))
-    waived_is x z ins = (
-      λ h. absurd (none_in z (subst (λ zs. Contains zs z) (ap (λ o. option_map_or (λ e. e.waived) o [])
-          (entry_kept x ins.kept)) h)),
-      λ h. absurd (none_in (x, z) h.0),
-    )
-
-    element_changed : (type : ElemType) (name : Text) (x : Id) → TakesEffect i x → IsTrue (has_change g x type name)
-        → (e : Element) × (element_of new type name ≡ Some e) × HasElementAfter i type name e
-    element_changed type name x ins has = by (change_of g x type name) refl
-      where
-        by : (o : Option Change) → change_of g x type name ≡ o
-            → (e : Element) × (element_of new type name ≡ Some e) × HasElementAfter i type name e
-        by None at = absurd (true≢false (sym has ∙ ap is_some at))
-        by (Some h) at = by_action h.action refl
-          where
-            by_action : (a : Action) → h.action ≡ a → (e : Element) × (element_of new type name ≡ Some e)
-                × HasElementAfter i type name e
-            by_action (Replaces distlib syslib lines) action = (
-              own_element x type name distlib syslib lines,
-              changed.elements type name ∙ ap (λ o. option_map_or edit_put o (element_of zone type name))
-                  (element_put x type name h distlib syslib lines ins.kept at action),
-              element_after type name x h distlib syslib lines ins.kept at action,
-            )
-            by_action (Updates lines) action =
-                let found = find-gives (λ c. element_eq (change_key c) (type, name)) (changes_of g x) h at in
-                absurd (true≢false (sym (replaces g zone x (ok x ins.kept) h found.1).0 ∙ ap is_replacement action))
-
-    element_unchanged : (type : ElemType) (name : Text) → ((x : Id) → TakesEffect i x
-        → IsFalse (has_change g x type name)) → element_of new type name ≡ element_of (cleared i) type name
-    element_unchanged type name none =
-        changed.elements type name
-        ∙ ap (λ o. option_map_or edit_put o (element_of zone type name))
-        (element_not_put type name (λ x h. none x (installed x h)))
-        ∙ ap (λ z. element_of z type name) (sym same_zone)
-
-    pub installs : HasInstalled i new
-    installs = record {
-      rest = changed.rest;
-      is_zone = changed.is_zone;
-      applied = λ x ins. ap (option_and_then (λ e. e.applied)) (entry_kept x ins.kept);
-      not_applied = field_other (option_and_then (λ e. e.applied));
-      supby_rising = λ x. subst IsRising (sym (field_same (λ o. option_map_or (λ e. e.supby) o []) x refl))
-          (old_lists x).0;
-      supby = supby_is;
-      delby = λ x. field_same (option_and_then (λ e. e.delby)) x refl ∙ sym (delby_same x);
-      waived_rising = λ x. subst IsRising (sym (field_same (λ o. option_map_or (λ e. e.waived) o []) x refl))
-          (old_lists x).1;
-      waived = waived_is;
-      not_waived = field_other (λ o. option_map_or (λ e. e.waived) o []);
-      changed = element_changed;
-      unchanged = element_unchanged;
-    }
+  pub installs : (p : Plan) (start between delta : ZoneDelta) → IsPlan (installation g zone kept bypassed date) p
+      → start.elements ≡ []
+      → HasPutEntries zone p p.touched start between → delta ≡ fold (after_sysmod g) between p.effective
+      → (new : Zone) → IsChanged delta zone new → HasInstalled (installation g zone kept bypassed date) new
+  installs p start between delta plan empty put is new changed =
+      let at_entry : (x : Id) → entry_of new x ≡ entry_after between zone x =
+      λ x. changed.entries x
+      ∙ ap (λ es. option_map_or edit_put (find (λ e. bytes_eq (edit_key (λ e. e.id) e) x) es) (entry_of zone x))
+      (ap (λ d. d.entries) is ∙ entries-sysmods g between p.effective) in
+      let edits : delta.elements ≡ put_elements [] (flat_map (elements_of g) p.effective) =
+      ap (λ d. d.elements) is ∙ elements-sysmods g between p.effective
+      ∙ ap (λ es. put_elements es (flat_map (elements_of g) p.effective)) (put.elements ∙ empty) in
+      let at_element : (type : ElemType) (name : Text) → element_of new type name ≡ after_edits element_eq element_key
+      (put_elements [] (flat_map (elements_of g) p.effective)) zone.elements (type, name) =
+      λ type name. changed.elements type name
+      ∙ ap (λ es. option_map_or edit_put (find (λ e. element_eq (edit_key element_key e) (type, name)) es)
+      (element_of zone type name)) edits in
+      record {
+        rest = changed.rest;
+        is_zone = changed.is_zone;
+        applied = entries.applied g zone kept bypassed date is_global is_zone lists installable p plan start between put
+            new at_entry;
+        not_applied = entries.not_applied g zone kept bypassed date is_global is_zone lists installable p plan start
+            between put new at_entry;
+        supby_rising = entries.supby_rising g zone kept bypassed date is_global is_zone lists installable p plan start
+            between put new at_entry;
+        supby = entries.supby g zone kept bypassed date is_global is_zone lists installable p plan start between put
+            new at_entry;
+        delby = entries.delby g zone kept bypassed date is_global is_zone lists installable p plan start between put
+            new at_entry;
+        waived_rising = entries.waived_rising g zone kept bypassed date is_global is_zone lists installable p plan start
+            between put new at_entry;
+        waived = entries.waived g zone kept bypassed date is_global is_zone lists installable p plan start between put
+            new at_entry;
+        not_waived = entries.not_waived g zone kept bypassed date is_global is_zone lists installable p plan start
+            between put new at_entry;
+        changed = element_changed g zone kept bypassed date is_global is_zone installable apart p.effective
+            plan.effective new at_element;
+        unchanged = element_unchanged g zone kept bypassed date is_global is_zone installable apart p.effective
+            plan.effective new at_element;
+      }

@@ -17,27 +17,11 @@ use Rattle.terms.specs.Choice.{Choice, by_srel, fmid_of, sup_of}
 use Rattle.terms.specs.Over.{Reaches, Supersedes, names}
 use Rattle.terms.specs.Global.{named, names_for, HasLoop, is_service, named_functions, fits_roles, RolesFit}
 use Rattle.terms.proofs.Leads.{reaches_more, last_step}
+use Rattle.change.proofs.InTurn.{in_flat}
 
--- what stands in the joined images of a list's items
-pub in_flat : {X Y : Type 0} (f : X → List Y) (xs : List X) (x : X) (y : Y) → Contains xs x → Contains (f x) y
-    → Contains (flat_map f xs) y
-in_flat f [] x y is within = absurd (none_in x is)
-in_flat f (z ∷ xs) x y is within = elim (here_or z xs x is) [
-  | inl same ↦ Contains-append_left (f z) (flat_map f xs) y (subst (λ w. Contains (f w) y) (sym same) within)
-  | inr later ↦ Contains-append_right (f z) (flat_map f xs) y (in_flat f xs x y later within)
-]
-
-pub flat_in : {X Y : Type 0} (f : X → List Y) (xs : List X) (y : Y) → Contains (flat_map f xs) y
-    → (x : X) × Contains xs x × Contains (f x) y
-flat_in f [] y is = absurd (none_in y is)
-flat_in f (x ∷ xs) y is = elim (Contains-append_cases (f x) (flat_map f xs) y is) [
-  | inl first ↦ (x, here x xs, first)
-  | inr later ↦ let rest = flat_in f xs y later in (rest.0, there x xs rest.0 rest.1, rest.2)
-]
-
--- what names something in a test has what is tested
-no_test : {X : Type 0} (p : X → Bool) (xs : List X) → list_any p xs ≡ false → (x : X) → Contains xs x → p x ≡ false
-no_test p xs none x is = All-contains (λ x. p x ≡ false) xs x (All-from_no_list_any p xs none) is
+-- an item of a list of which none passes the test
+fails_test : {X : Type 0} (p : X → Bool) (xs : List X) → list_any p xs ≡ false → (x : X) → Contains xs x → p x ≡ false
+fails_test p xs none x is = All-contains (λ x. p x ≡ false) xs x (All-from_no_list_any p xs none) is
 
 module _ (g : Global) (srel : Text) where
   -- the ++VER that counts is one of a received SYSMOD
@@ -126,7 +110,7 @@ module _ (g : Global) (srel : Text) where
         (Contains-append_right v.del (at_most_one v.fmid) f
         (subst (λ o. Contains (at_most_one o) f) (sym (fmid_by x f at).2) (here f []))) in
         by (is_function g f) (sym (ap (λ b. b && not (is_function g f)) received)
-        ∙ no_test (is_service g) (named_functions v) (chosen_fits x v (fmid_by x f at).1).1 f names)
+        ∙ fails_test (is_service g) (named_functions v) (chosen_fits x v (fmid_by x f at).1).1 f names)
       where
         by : (b : Bool) → not b ≡ false → b ≡ true
         by true is = refl
@@ -142,4 +126,4 @@ module _ (g : Global) (srel : Text) where
         named_never : (z : Id) → Contains (sup_of (by_srel g srel) z) f → ⊥
         named_never z names =
             let by = named_by (λ v. v.sup) z f names in
-            true≢false (sym function ∙ no_test (is_function g) by.0.sup (chosen_fits z by.0 by.1).0 f by.2)
+            true≢false (sym function ∙ fails_test (is_function g) by.0.sup (chosen_fits z by.0 by.1).0 f by.2)

@@ -44,8 +44,8 @@ module _ {X K : Type 0} {R : K → K → Ordering} (o : IsTotalOrder R) (key : X
       ap (find (λ y. E (key y) k)) p.2
       ∙ find-there o key E ties k p.0 p.1 x (Splits-around o key k p.0 p.1 x (subst (Rises R key) p.2 rises) tie) tie
 
-  find-with_item : (xs : List X) (x : X) (k : K) → find (λ y. E (key y) k) (with_item R key xs x) ≡ cond (E (key x) k)
-      (Some x) (find (λ y. E (key y) k) xs)
+  pub find-with_item : (xs : List X) (x : X) (k : K)
+      → find (λ y. E (key y) k) (with_item R key xs x) ≡ cond (E (key x) k) (Some x) (find (λ y. E (key y) k) xs)
   find-with_item xs x k = find-after_edit o key E ties xs (Put x) k
 
   -- a key that none of them has

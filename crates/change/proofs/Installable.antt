@@ -1,4 +1,5 @@
--- What is known of an installable SYSMOD, as only those are served that need their function alone.
+-- What is known of an installable SYSMOD, as only those are served that delete nothing, and only functions change
+-- elements.
 use Rattle.std.proofs.Common.{◌≡◌, inl, inr, Bool, true, false, not, List, [], ◌∷◌, Option, Some, None, refl, sym, ap}
 use Rattle.std.proofs.Common.{◌∙◌, subst, true≢false, IsTrue}
 use Rattle.std.specs.Prelude.{◌&&◌, ◌||◌, ◌==◌, is_some, Contains}
@@ -10,8 +11,7 @@ use Rattle.terms.proofs.Nil.{nil_from}
 use Rattle.terms.specs.Types.{Id, kind_number, Ver, Sysmod, Change, Entry, Global, Zone}
 use Rattle.terms.specs.Lookups.{IsZone, is_nil, is_held, sysmod_of, is_function, entry_of, delby_of, is_supplied}
 use Rattle.terms.specs.Lookups.{changes_of}
-use Rattle.terms.specs.Choice.{by_srel, vers_of, sup_of, del_of}
-use Rattle.terms.specs.Over.{Leads, Supersedes}
+use Rattle.terms.specs.Choice.{by_srel, vers_of, del_of}
 use Rattle.terms.specs.Changes.{is_replacement}
 use Rattle.terms.specs.Served.{is_plain, has_plain_ver, has_plain_changes, is_served}
 use Rattle.terms.specs.Candidates.{is_installable}
@@ -30,19 +30,9 @@ module _ (g : Global) (zone : Zone) (x : Id) (ok : IsTrue (is_installable g zone
   served = (and_parts _ _ inner.0).1
 
   plain : (has_plain_ver g zone x ≡ true) × (option_map_or has_plain_changes (sysmod_of g x) true ≡ true)
-  plain = and_parts _ _ (and_parts _ _ (and_parts _ _ served).0).0
+  plain = and_parts _ _ (and_parts _ _ served).0
 
-  -- it supersedes and deletes nil_from
-  pub no_sup : sup_of (by_srel g zone.srel) x ≡ []
-  no_sup = by (by_srel g zone.srel x) refl
-    where
-      by : (o : Option Ver) → by_srel g zone.srel x ≡ o → sup_of (by_srel g zone.srel) x ≡ []
-      by None at = ap (λ o. option_map_or (λ v. v.sup) o []) at
-      by (Some v) at =
-          let all : is_plain v ≡ true = sym (ap (λ o. option_map_or is_plain o true) at) ∙ plain.0 in
-          let front = and_parts _ _ (and_parts _ _ (and_parts _ _ all).0).0 in
-          ap (λ o. option_map_or (λ v. v.sup) o []) at ∙ nil_from v.sup (and_parts _ _ front.0).1
-
+  -- it deletes nothing
   pub no_del : del_of (by_srel g zone.srel) x ≡ []
   no_del = by (by_srel g zone.srel x) refl
     where
@@ -50,15 +40,7 @@ module _ (g : Global) (zone : Zone) (x : Id) (ok : IsTrue (is_installable g zone
       by None at = ap (λ o. option_map_or (λ v. v.del) o []) at
       by (Some v) at =
           let all : is_plain v ≡ true = sym (ap (λ o. option_map_or is_plain o true) at) ∙ plain.0 in
-          let front = and_parts _ _ (and_parts _ _ all).0 in
-          ap (λ o. option_map_or (λ v. v.del) o []) at ∙ nil_from v.del front.1
-
-  pub supersedes_none : (z : Id) → ¬ Supersedes (by_srel g zone.srel) x z
-  supersedes_none z (between, path) = by between path
-    where
-      by : (between : List Id) → Leads (sup_of (by_srel g zone.srel)) x between z → ⊥
-      by [] path = none_in z (subst (λ xs. Contains xs z) no_sup path)
-      by (y ∷ ys) path = none_in y (subst (λ xs. Contains xs y) no_sup path.0)
+          ap (λ o. option_map_or (λ v. v.del) o []) at ∙ nil_from v.del (and_parts _ _ all).1
 
   -- the zone has no entry of it
   pub no_entry : IsZone zone → entry_of zone x ≡ None

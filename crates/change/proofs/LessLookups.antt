@@ -25,7 +25,7 @@ use Rattle.terms.specs.Over.{chain}
 use Rattle.terms.specs.Deleted.{deletions, is_deleted, is_taken_out, entry_less, entries_less, zone_less}
 use Rattle.terms.proofs.Ids.{is_in-from_Contains, Contains-from_is_in}
 use Rattle.terms.proofs.RisingLists.{find-there, Splits-around}
-use Rattle.change.proofs.ChosenVers.{flat_in}
+use Rattle.change.proofs.InTurn.{flat_in, find-member}
 
 -- a list with an item that passes the test has a first one
 pub find-some : {X : Type 0} (p : X → Bool) (xs : List X) (x : X) → Contains xs x → p x ≡ true → IsSome (find p xs)
@@ -38,17 +38,6 @@ find-some {X} p (y ∷ ys) x is passes = by (find-some p ys x) (p y) refl
       | inl same ↦ absurd (true≢false (sym passes ∙ ap p (sym same) ∙ e))
       | inr later ↦ rw e (again later passes)
     ]
-
--- an item of a list that rises is what is found at its key
-pub find-own : {X K : Type 0} {R : K → K → Ordering} → IsTotalOrder R → (key : X → K) (E : K → K → Bool)
-    → ((a b : K) → E a b ≡ is_eq (R a b)) → (xs : List X) (x : X) → Rises R key xs → Contains xs x
-    → find (λ y. E (key y) (key x)) xs ≡ Some x
-find-own {R = R} o key E ties xs x rises is =
-    let p = parts xs x is in
-    let tie = tied_itself o (key x) in
-    ap (find (λ y. E (key y) (key x))) p.2
-    ∙ find-there o key E ties (key x) p.0 p.1 x
-    (Splits-around o key (key x) p.0 p.1 x (subst (Rises R key) p.2 rises) tie) tie
 
 module _ (g : Global) (c : Choice) where
   -- what deletions of several SYSMODs delete, those of one of them delete
@@ -109,11 +98,11 @@ module _ (g : Global) (c : Choice) where
             let among = filter_in is_held (map (entry_less is_gone) zone.entries) e gives.1 in
             let from = map_in (entry_less is_gone) zone.entries e among.0 in
             let was : Entry = from.0 in
-            let id : was.id ≡ x = ap (λ e. e.id) from.2 ∙ same_from e.id x gives.0 in
-            let found : entry_of zone was.id ≡ Some was =
-            find-own nat_list_cmp_total (λ (e : Entry). e.id) bytes_eq texts_ties zone.entries was is_zone.entries
-            from.1 in
+            let id : bytes_eq was.id x ≡ true = subst (λ e. bytes_eq e.id x ≡ true) (sym from.2) gives.0 in
+            let found : entry_of zone x ≡ Some was =
+            find-member nat_list_cmp_total (λ (e : Entry). e.id) bytes_eq texts_ties zone.entries was x is_zone.entries
+            from.1 id in
             let none : is_some was.applied ≡ false =
             sym (ap (λ o. option_map_or (λ (e : Entry). is_some e.applied) o false) found)
-            ∙ ap (is_applied zone) id ∙ not_applied in
+            ∙ not_applied in
             sym (ap (λ e. is_some e.applied) from.2) ∙ undated was (is_gone was.id) none

@@ -1,28 +1,19 @@
--- The edits of a delta that SYSMODs were put into, as lists.
-use Rattle.std.proofs.Common.{◌≡◌, List, [], ◌∷◌, refl, sym, ap, ◌∙◌, map}
+-- The edits of elements in a delta that SYSMODs were put into, as a list.
+use Rattle.std.proofs.Common.{◌≡◌, List, [], ◌∷◌, refl, sym, ap, ◌∙◌}
 use Rattle.std.specs.Prelude.{fold}
 use Rattle.std.specs.List.{flat_map}
-use Rattle.std.specs.Ordering.{nat_cmp}
-use Rattle.std.specs.Cmp.Lexicographic.{slice_cmp}
 use Rattle.std.proofs.lemmas.List.Sums.{fold-append}
 use Rattle.terms.specs.declared.kinds.ElemType.{ElemType}
 use Rattle.terms.specs.declared.kinds.Edit.{Edit}
 use Rattle.terms.specs.declared.kinds.Edit.TheVariants.{Put}
-use Rattle.terms.specs.Types.{Text, Id, Action, Replaces, Updates, Change, Global, Entry, Element}
+use Rattle.terms.specs.Types.{Text, Id, Action, Replaces, Updates, Change, Global, Element}
 use Rattle.terms.specs.Lookups.{element_cmp, element_key, changes_of}
 use Rattle.terms.specs.Rising.{with_item}
 use Rattle.terms.specs.Delta.{ZoneDelta, edit_key}
-use Rattle.change.specs.Puts.{applied_entry, own_element, with_entry, after_action, after_change, after_sysmod}
-use Rattle.change.specs.Puts.{no_edits, puts}
-
-abbrev pub EntryEdit : Type 0
-EntryEdit = Edit Entry Id
+use Rattle.change.specs.Puts.{own_element, after_action, after_change, after_sysmod}
 
 abbrev pub ElementEdit : Type 0
 ElementEdit = Edit Element (ElemType × Text)
-
-abbrev pub put_entries : List EntryEdit → List EntryEdit → List EntryEdit
-put_entries old items = fold (with_item (slice_cmp nat_cmp) (edit_key (λ e. e.id))) old items
 
 abbrev pub put_elements : List ElementEdit → List ElementEdit → List ElementEdit
 put_elements old items = fold (with_item element_cmp (edit_key element_key)) old items
@@ -35,10 +26,7 @@ made_of x type name (Updates lines) = []
 abbrev pub made_by : Id → Change → List ElementEdit
 made_by x h = made_of x h.elem_type h.name h.action
 
--- what all SYSMODs put
-abbrev pub entry_of_date : Text → Id → EntryEdit
-entry_of_date date x = Put (applied_entry date x)
-
+-- what a SYSMOD puts
 abbrev pub elements_of : Global → Id → List ElementEdit
 elements_of g x = flat_map (made_by x) (changes_of g x)
 
@@ -66,27 +54,16 @@ module _ (x : Id) where
       ∙ sym (fold-append (with_item element_cmp (edit_key element_key)) d.elements (made_by x h)
       (flat_map (made_by x) hs))
 
-module _ (g : Global) (date : Text) where
-  entries-sysmods : (d : ZoneDelta) (xs : List Id) → (fold (after_sysmod g date) d xs).entries ≡ put_entries d.entries
-      (map (entry_of_date date) xs)
+module _ (g : Global) where
+  pub entries-sysmods : (d : ZoneDelta) (xs : List Id) → (fold (after_sysmod g) d xs).entries ≡ d.entries
   entries-sysmods d [] = refl
-  entries-sysmods d (x ∷ xs) =
-      entries-sysmods (after_sysmod g date d x) xs
-      ∙ ap (λ es. put_entries es (map (entry_of_date date) xs))
-      (entries-changes x (with_entry d (applied_entry date x)) (changes_of g x))
+  entries-sysmods d (x ∷ xs) = entries-sysmods (after_sysmod g d x) xs ∙ entries-changes x d (changes_of g x)
 
-  elements-sysmods : (d : ZoneDelta) (xs : List Id) → (fold (after_sysmod g date) d xs).elements ≡ put_elements
+  pub elements-sysmods : (d : ZoneDelta) (xs : List Id) → (fold (after_sysmod g) d xs).elements ≡ put_elements
       d.elements (flat_map (elements_of g) xs)
   elements-sysmods d [] = refl
   elements-sysmods d (x ∷ xs) =
-      elements-sysmods (after_sysmod g date d x) xs
-      ∙ ap (λ es. put_elements es (flat_map (elements_of g) xs))
-      (elements-changes x (with_entry d (applied_entry date x)) (changes_of g x))
+      elements-sysmods (after_sysmod g d x) xs
+      ∙ ap (λ es. put_elements es (flat_map (elements_of g) xs)) (elements-changes x d (changes_of g x))
       ∙ sym (fold-append (with_item element_cmp (edit_key element_key)) d.elements (elements_of g x)
       (flat_map (elements_of g) xs))
-
-  pub entries-puts : (kept : List Id) → (puts g date kept).entries ≡ put_entries [] (map (entry_of_date date) kept)
-  entries-puts kept = entries-sysmods no_edits kept
-
-  pub elements-puts : (kept : List Id) → (puts g date kept).elements ≡ put_elements [] (flat_map (elements_of g) kept)
-  elements-puts kept = elements-sysmods no_edits kept

@@ -1,1 +1,5 @@
+pub mod Entries
+pub mod Pairs
+pub mod Plans
 pub mod Puts
+pub mod Superseded

@@ -6,84 +6,73 @@ ghost use Rattle.terms.specs.Candidates.{is_installable};
 ghost use Rattle.terms.specs.Tests.{ShareElement};
 ghost use Rattle.terms.specs.Delta.{IsChanged};
 ghost use Rattle.terms.specs.Install.{HasInstalled};
-ghost use Rattle.change.specs.Puts.{applied_entry, with_entry, after_change, after_sysmod, puts};
+ghost use Rattle.change.specs.Entries.{Differs};
+ghost use Rattle.change.specs.Puts.{after_change, after_sysmod};
 
+use crate::entries::put_entries;
+use crate::plan::planned;
 use fields::{Id, IdList, YyDdd};
 use std::alloc::{AllocError, Global as Heap};
 use sysmods::Global;
 use sysmods_records::{Action, ElemChange};
-use zones::{Element, Entry, Zone, ZoneDelta};
+use zones::{Element, Zone, ZoneDelta};
 
-/// What the kept SYSMODs, of which no two change one element, put into the zone on this date.
+/// What the kept SYSMODs, of which no two change one element, put into the zone on this date. `bypassed` has pairs of a
+/// SYSMOD and a bypassed requisite of it.
 pub fn install(
     alloc: Heap,
     global: &Global,
     zone: &Zone,
     kept: &IdList,
+    bypassed: &[(Id, Id)],
     date: YyDdd,
 ) -> Result<ZoneDelta, AllocError>
     requires installable { All (λ x. IsTrue (is_installable global.now zone.now x)) kept.now }
     requires apart { (x y : AnId) → Contains kept.now x → Contains kept.now y → ShareElement global.now x y → x ≡ y }
-    ensures puts { IfOk result (λ delta. delta ≡ puts global.now date kept.now) }
     ensures installs { IfOk result (λ delta. (new : AZone) → IsChanged delta zone.now new →
         HasInstalled (record {
           global = global.now;
           choice = by_srel global.now zone.now.srel;
           zone = zone.now;
           kept = kept.now;
-          bypassed = [];
+          bypassed = bypassed.now;
           date = date;
         }) new) }
+    ensures differs { IfOk result (λ delta. All (Differs zone.now) delta.entries) }
 {
     prove!(global.len() < 65_536);
     zone.known();
     zone.known_lists();
-    put_sysmods(alloc, global, kept.as_slice(), date)
-}
-
-/// The entries and elements of these SYSMODs, one SYSMOD after the other.
-fn put_sysmods(
-    alloc: Heap,
-    global: &Global,
-    ids: &[Id],
-    date: YyDdd,
-) -> Result<ZoneDelta, AllocError>
-    ensures { IfOk result (λ delta. delta ≡ puts global.now date ids.now) }
-{
+    let plan = planned(alloc, global, zone, kept, bypassed, date)?;
     let mut delta = ZoneDelta::new(alloc);
-    for id in ids {
-        put_sysmod(alloc, &mut delta, global, *id, date)?;
-    }
+    put_entries(alloc, zone, &plan, &mut delta)?;
+    put_elements(alloc, global, plan.effective.as_slice(), &mut delta)?;
     Ok(delta)
 }
 
-/// Puts the SYSMOD's entry, and the elements that it replaces.
-fn put_sysmod(
+/// Puts the elements that these SYSMODs replace, one SYSMOD after the other.
+fn put_elements(
     alloc: Heap,
-    delta: &mut ZoneDelta,
     global: &Global,
-    id: Id,
-    date: YyDdd,
+    ids: &[Id],
+    delta: &mut ZoneDelta,
 ) -> Result<(), AllocError>
-    ensures { OnOk result (delta.new ≡ after_sysmod global.now date delta.old id) }
+    ensures { OnOk result (delta.new ≡ fold (after_sysmod global.now) delta.old ids.now) }
 {
-    put_entry(alloc, delta, id, date)?;
+    for id in ids {
+        put_sysmod(alloc, global, *id, delta)?;
+    }
+    Ok(())
+}
+
+/// Puts the elements that the SYSMOD replaces.
+fn put_sysmod(alloc: Heap, global: &Global, id: Id, delta: &mut ZoneDelta) -> Result<(), AllocError>
+    ensures { OnOk result (delta.new ≡ after_sysmod global.now delta.old id) }
+{
     match global.get(id) {
         Some(sysmod) => put_changes(alloc, delta, id, sysmod.changes.as_slice()),
         None => Ok(()),
     }
-}
-
-fn put_entry(alloc: Heap, delta: &mut ZoneDelta, id: Id, date: YyDdd) -> Result<(), AllocError>
-    ensures { OnOk result (delta.new ≡ with_entry delta.old (applied_entry date id)) }
-{
-    delta.put_entry(Entry {
-        id,
-        applied: Some(date),
-        supby: IdList::new(alloc),
-        delby: None,
-        waived: IdList::new(alloc),
-    })
 }
 
 fn put_changes(

@@ -1,40 +1,41 @@
--- The tests of candidates that are all installable: they look at the zone itself, and only those on elements, on ACCEPT and on
--- shared elements can fail.
-use Rattle.std.proofs.Common.{◌≡◌, ◌≢◌, ◌⊎◌, inl, inr, zero, suc, Bool, true, false, not, List, [], ◌∷◌, Option, None}
-use Rattle.std.proofs.Common.{Some, IsTrue, refl, sym, ap, ◌∙◌, subst, true≢false, filter, find, Contains, cond, arith}
+-- Candidates that are all installable look at the zone itself, and clash where they share an element.
+use Rattle.std.proofs.Common.{◌≡◌, ◌≢◌, ◌⊎◌, inl, inr, zero, suc, Bool, true, false, List, [], ◌∷◌, Option, None}
+use Rattle.std.proofs.Common.{Some, IsTrue, refl, sym, ap, ◌∙◌, subst, true≢false, find, Contains, cond, arith}
 use Rattle.std.proofs.Common.{eq-eqb}
 use Rattle.std.specs.Prelude.{All, Any, is_some, unwrap_or, ◌↔◌, ◌==◌, ◌&&◌}
 use Rattle.std.specs.List.{list_all}
-use Rattle.std.specs.Option.{option_map_or}
 use Rattle.std.specs.Str.{bytes_eq}
 use Rattle.std.proofs.lemmas.Bool.{and_parts, eqb-true}
 use Rattle.std.proofs.lemmas.List.Elements.{Contains-get_or}
 use Rattle.terms.specs.declared.kinds.ElemType.{ElemType}
-use Rattle.terms.specs.declared.kinds.ZoneKind.TheVariants.{Distribution}
-use Rattle.terms.specs.declared.codes.Test.{Test}
-use Rattle.terms.specs.declared.codes.Test.TheVariants.{J1, J2, J3, J4, J5, J6, J7, J8, J9, J10, J11, J12}
-use Rattle.terms.specs.Types.{Text, Id, Change, Element, Global, Zone, type_number}
-use Rattle.terms.specs.Lookups.{is_held, is_function, changes_of, change_of, has_change, is_applied, element_of}
+use Rattle.terms.specs.Types.{Text, Id, Change, Global, Zone, type_number}
+use Rattle.terms.specs.Lookups.{is_held, is_function, changes_of, change_of, has_change}
 use Rattle.terms.specs.Choice.{Choice, by_srel, fmid_of, npre_of}
 use Rattle.terms.specs.Over.{IsOver}
-use Rattle.terms.specs.Changes.{is_replacement, has_update}
-use Rattle.terms.specs.Deleted.{deletions, is_deleted, zone_less}
-use Rattle.terms.specs.Tests.{Setting, view_of, owner_of, is_bypassed_hold, ChangesInView, FailsJ1, FailsJ2, FailsJ3}
-use Rattle.terms.specs.Tests.{FailsJ4, FailsJ5, FailsJ6, FailsJ7, FailsJ8, FailsAlone, Survives, ShareElement, Clash}
+use Rattle.terms.specs.Changes.{is_replacement}
+use Rattle.terms.specs.Deleted.{deletions, zone_less}
+use Rattle.terms.specs.Tests.{Setting, view_of, owner_of}
+use Rattle.terms.specs.Tests.{ShareElement, Clash}
 use Rattle.terms.specs.CommandForms.{no_bypass}
 use Rattle.terms.specs.Judged.{setting}
 use Rattle.lemmas.proofs.Searches.{find-gives}
 use Rattle.lemmas.proofs.Texts.{same_from, same_itself}
 use Rattle.terms.proofs.ElementOrder.{type_from_number}
 use Rattle.lemmas.proofs.Members.{here_or}
-use Rattle.terms.proofs.NothingDeleted.{view-none, deletions-none, zone_less-none, is_deleted-none}
-use Rattle.judge.proofs.Plain.{IsPlain, all-from, applied-among}
+use Rattle.terms.proofs.NothingDeleted.{view-none, deletions-none, zone_less-none}
+use Rattle.judge.proofs.Plain.{IsPlain}
 
--- x changes this element, which the zone has
-pub record Touches (g : Global) (zone : Zone) (x : Id) (e : Element) : Type 0 where
-  pub change : Change
-  pub of : Contains (changes_of g x) change
-  pub at : element_of zone change.elem_type change.name ≡ Some e
+-- the statement that is found is one about the element
+pub change-there : (g : Global) (x : Id) (type : ElemType) (name : Text) (h : Change) → change_of g x type name ≡ Some h
+    → Contains (changes_of g x) h × (h.elem_type ≡ type) × (h.name ≡ name)
+change-there g x type name h e =
+    let found = find-gives (λ h. (type_number h.elem_type == type_number type) && bytes_eq h.name name) (changes_of g x)
+    h e in
+    let parts = and_parts (type_number h.elem_type == type_number type) (bytes_eq h.name name) found.0 in (
+      found.1,
+      type_from_number h.elem_type type (eqb-true (type_number h.elem_type) (type_number type) parts.0),
+      same_from h.name name parts.1,
+    )
 
 -- a change of an element is one of its statements
 pub change-found : (g : Global) (x : Id) (type : ElemType) (name : Text) → IsTrue (has_change g x type name)
@@ -44,15 +45,7 @@ change-found g x type name has = by (change_of g x type name) refl
     by : (o : Option Change) → change_of g x type name ≡ o → (h : Change) × Contains (changes_of g x) h
         × (h.elem_type ≡ type) × (h.name ≡ name)
     by None e = absurd (true≢false (sym has ∙ ap is_some e))
-    by (Some h) e =
-        let found = find-gives (λ h. (type_number h.elem_type == type_number type) && bytes_eq h.name name)
-        (changes_of g x) h e in
-        let parts = and_parts (type_number h.elem_type == type_number type) (bytes_eq h.name name) found.0 in (
-          h,
-          found.1,
-          type_from_number h.elem_type type (eqb-true (type_number h.elem_type) (type_number type) parts.0),
-          same_from h.name name parts.1,
-        )
+    by (Some h) e = let t = change-there g x type name h e in (h, t.0, t.1, t.2)
 
 finds : {X : Type 0} (p : X → Bool) (xs : List X) (x : X) → Contains xs x → p x ≡ true → is_some (find p xs) ≡ true
 finds p [] x h e = absurd (omega (arith, h.1))
@@ -114,101 +107,8 @@ module _ (g : Global) (zone : Zone) (ids : List Id)
             none_there t = omega (arith, t.1)
         by (inr both) = ap (λ b. cond b x (unwrap_or (fmid_of C x) x)) both.0
 
-    pub touches-from : (e : Element) → ChangesInView S x e → Touches g zone x e
-    touches-from e (type, name, has, at) =
-        let found = change-found g x type name has in
-        record {
-          change = found.0;
-          of = found.1;
-          at = ap (λ t. element_of zone t found.0.name) found.2 ∙ ap (λ n. element_of zone type n) found.3
-              ∙ sym (ap (λ z. element_of z type name) (view-is x)) ∙ at;
-        }
-
-    pub touches-gives : (e : Element) → Touches g zone x e → ChangesInView S x e
-    touches-gives e t = (
-      t.change.elem_type,
-      t.change.name,
-      change-has g x t.change t.of,
-      ap (λ z. element_of z t.change.elem_type t.change.name) (view-is x) ∙ t.at,
-    )
-
-    pub never-held-system : ¬ FailsJ1 S x
-    never-held-system fails = fails (ap (filter (λ h. not (is_bypassed_hold no_bypass h))) own.no_system)
-
-    pub never-held-user : ¬ FailsJ2 S x
-    never-held-user fails = fails (ap (filter (λ h. not (is_bypassed_hold no_bypass h))) own.no_user)
-
     none_named : (l : List Id) (z : Id) → l ≡ [] → ¬ Contains l z
     none_named l z none h = let t = subst (λ l. Contains l z) none h in omega (arith, t.1)
-
-    pub never-prevented : ¬ FailsJ3 S x
-    never-prevented (y, on, inl named) = none_named (npre_of C x) y own.names_nothing.npre named
-    never-prevented (y, on, inr (is_function, named)) =
-        none_named (npre_of C y) x (own.applied y (applied-among zone y
-        (sym (ap (λ z. is_applied z y) (view-is x)) ∙ on))).npre named
-
-    pub never-updates : (type : ElemType) (name : Text) → has_update g x type name ≡ false
-    never-updates type name = by (change_of g x type name) refl
-      where
-        by : (o : Option Change) → change_of g x type name ≡ o → has_update g x type name ≡ false
-        by None e = ap (λ o. option_map_or (λ h. not (is_replacement h.action)) o false) e
-        by (Some h) e = ap (λ o. option_map_or (λ h. not (is_replacement h.action)) o false) e ∙ replaces own.changes
-          where
-            found : Contains (changes_of g x) h
-            found = (find-gives (λ h. (type_number h.elem_type == type_number type) && bytes_eq h.name name)
-                (changes_of g x) h e).1
-
-            replaces : (changes_of g x ≡ []) ⊎ (IsTrue (is_function g x)
-                × IsTrue (list_all (λ h. is_replacement h.action) (changes_of g x)))
-                → not (is_replacement h.action) ≡ false
-            replaces (inl none) = let t = subst (λ l. Contains l h) none found in absurd (omega (arith, t.1))
-            replaces (inr both) = ap not (all-from (λ h. is_replacement h.action) (changes_of g x) h both.1 found)
-
-    pub never-bare-update : ¬ FailsJ6 S x
-    never-bare-update (type, name, updates, lacks, base) = true≢false (sym updates ∙ never-updates type name)
-
-    pub never-deleted : ¬ FailsJ8 S x
-    never-deleted (passes, (y, passes_y, deleted)) =
-        true≢false (sym deleted ∙ ap (λ dels. is_deleted g C dels x) (plain y passes_y.0).names_nothing.del
-        ∙ is_deleted-none g C x)
-
-    -- it changes an element that another owns
-    pub foreign-from : FailsJ4 S x → (e : Element) × Touches g zone x e × (e.fmid ≢ x)
-    foreign-from (e, changes, other) =
-        let t = touches-from e changes in (e, t, λ same. other (same ∙ sym (owner-is t.change t.of)))
-
-    pub foreign-gives : (e : Element) → Touches g zone x e → e.fmid ≢ x → FailsJ4 S x
-    foreign-gives e t other = (e, touches-gives e t, λ same. other (same ∙ owner-is t.change t.of))
-
-    -- it changes an element that others made later
-    pub lower-from : FailsJ5 S x → (e : Element) × (z : Id) × Touches g zone x e × Contains (e.rmid ∷ e.umids) z
-        × ¬ IsOver C x z
-    lower-from (off, (e, z, changes, of, lacks)) = (e, z, touches-from e changes, of, lacks)
-
-    pub lower-gives : (e : Element) (z : Id) → Touches g zone x e → Contains (e.rmid ∷ e.umids) z → ¬ IsOver C x z
-        → FailsJ5 S x
-    lower-gives e z t of lacks = (refl, (e, z, touches-gives e t, of, lacks))
-
-    pub unapplied-gives : zone.kind ≡ Distribution → FailsJ7 S x
-    unapplied-gives kind = (kind, refl, refl)
-
-    -- what fails none of three tests survives
-    pub survives-from : ¬ FailsJ4 S x → ¬ FailsJ5 S x → ¬ FailsJ7 S x → Survives S x
-    survives-from four five seven = ((in_ids, passes), never-deleted)
-      where
-        passes : (test : Test) → ¬ FailsAlone S x test
-        passes J1 = never-held-system
-        passes J2 = never-held-user
-        passes J3 = never-prevented
-        passes J4 = four
-        passes J5 = five
-        passes J6 = never-bare-update
-        passes J7 = seven
-        passes J8 = λ none. none
-        passes J9 = λ none. none
-        passes J10 = λ none. none
-        passes J11 = λ none. none
-        passes J12 = λ none. none
 
     -- survivors that share an element clash, and no others do
     pub clash-shares : (y : Id) → Contains ids y → Clash S x y → ShareElement g x y

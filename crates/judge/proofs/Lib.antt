@@ -1,11 +1,17 @@
 pub mod Few
 pub mod Plain
 pub mod Collapsed
+pub mod Alone
 pub mod Lists
+pub mod Growing
+pub mod Paired
+pub mod Errors
 pub mod Needed
 pub mod Rising
 pub mod Wants
 pub mod Standing
 pub mod Demands
 pub mod Marks
+pub mod Numbering
 pub mod Places
+pub mod Overs

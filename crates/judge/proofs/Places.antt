@@ -2,7 +2,7 @@
 use Rattle.std.proofs.Common.{◌≡◌, ◌≢◌, inl, inr, ℕ, zero, suc, ◌<◌, ◌+◌, Bool, true, false, not, List, [], ◌∷◌, length}
 use Rattle.std.proofs.Common.{Option, None, Some, IsTrue, refl, sym, ap, ap₂, ◌∙◌, subst, true≢false, filter, map}
 use Rattle.std.proofs.Common.{Contains, cond, arith, slice_get, get_or}
-use Rattle.std.specs.Prelude.{All, ◌↔◌, ◌==◌, ◌&&◌, nat_eq}
+use Rattle.std.specs.Prelude.{All, ◌↔◌, nat_eq}
 use Rattle.std.specs.Option.{option_map, option_map_or}
 use Rattle.std.specs.Str.{bytes_eq}
 use Rattle.std.proofs.lemmas.Bool.{and_parts, eqb-true, cases_order, cases_eq, not-true}
@@ -14,57 +14,35 @@ use Rattle.std.proofs.lemmas.Cmp.{nat_eq_equiv}
 use Rattle.std.proofs.lemmas.List.{length-map}
 use Rattle.std.proofs.lemmas.Option.{slice_get_within, slice_get-get_or, slice_get-map, get_or_from_slice_get}
 use Rattle.std.proofs.lemmas.Option.{same_Some}
-use Rattle.std.proofs.lemmas.List.Folds.{Any-from_list_any, list_any-from_Any}
 use Rattle.std.proofs.lemmas.List.Elements.{All-contains, filter_passes}
 use Rattle.std.proofs.lemmas.List.Kept.{AllPairs-filter}
 use Rattle.std.proofs.lemmas.Map.Views.{list_any-from_Contains}
 use Rattle.indexmap.proofs.CallerLemmas.{Contains-list_any}
 use Rattle.terms.specs.declared.kinds.ElemType.{ElemType}
-use Rattle.terms.specs.declared.kinds.ZoneKind.{ZoneKind}
-use Rattle.terms.specs.declared.kinds.ZoneKind.TheVariants.{Target, Distribution}
-use Rattle.terms.specs.declared.codes.NeedKind.{NeedKind}
 use Rattle.terms.specs.declared.codes.Test.{Test}
-use Rattle.terms.specs.declared.codes.Test.TheVariants.{J1, J2, J3, J4, J5, J6, J7, J8, J9, J10, J11, J12}
-use Rattle.terms.specs.Types.{Text, Id, Change, Element, Global, Zone, zone_number}
-use Rattle.terms.specs.Lookups.{IsRising, is_held, is_before, is_in, changes_of, has_change, element_of}
-use Rattle.terms.specs.Tests.{Setting, FailsJ4, FailsJ5, FailsJ7, FailsJ9, Survives, AreSurvivors, IsEligible, Fails}
-use Rattle.terms.specs.CommandForms.{no_bypass}
-use Rattle.terms.specs.Judged.{setting, IsInstallProblem}
-use Rattle.terms.specs.Problem.{Problem, IsProblem, holds}
+use Rattle.terms.specs.Types.{Text, Id, Bypass, Global, Zone}
+use Rattle.terms.specs.Lookups.{IsRising, is_held, is_before, is_in, changes_of, has_change}
+use Rattle.terms.specs.Tests.{Setting, FailsJ9, Survives, AreSurvivors, IsEligible, Fails}
+use Rattle.terms.specs.Judged.{setting}
+use Rattle.terms.specs.Global.{IsGlobal}
+use Rattle.terms.specs.Problem.{holds}
 use Rattle.lemmas.proofs.Pairs.{AllPairs-rest}
 use Rattle.lemmas.proofs.Places.{contains_at, found_at}
-use Rattle.lemmas.proofs.Texts.{same_from, same_itself}
+use Rattle.lemmas.proofs.Texts.{same_itself}
 use Rattle.lemmas.proofs.Members.{map_in, in_map, here_or, here, filter_in, in_filter}
 use Rattle.machine.specs.Installing.{all_tests}
 use Rattle.judge.specs.declared.own.OwnFaults.{OwnFaults}
-use Rattle.judge.specs.Failed.{AreFailedTests}
+use Rattle.judge.specs.Failed.{AreFailedTests, AreEligible}
 use Rattle.judge.specs.Placed.{Beside}
-use Rattle.judge.specs.Own.{is_foreign_at, HasFaults, passes}
+use Rattle.judge.specs.Own.{HasFaults, passes}
 use Rattle.judge.specs.Sharing.{change_key, HasClaim, IsSharedAt}
 use Rattle.judge.specs.Rows.{fails_test, is_among, row_of, is_eligible_at}
-use Rattle.judge.specs.Wanted.{a_want}
-use Rattle.judge.specs.declared.wanted.Want.{Want}
-use Rattle.judge.specs.Serving.{AreOwnPlaces, ArePlaces}
-use Rattle.judge.specs.Numbered.{HasProblem}
-use Rattle.judge.proofs.Demands.{is-demand, demand-at, wants-once}
+use Rattle.judge.specs.Serving.{AreOwnPlaces}
 use Rattle.terms.proofs.Ids.{is_in-from_Contains}
 use Rattle.judge.proofs.Rising.{before-apart}
 use Rattle.judge.proofs.Plain.{IsPlain}
-use Rattle.judge.proofs.Collapsed.{change-found, change-has, never-held-system, never-held-user, never-prevented}
-use Rattle.judge.proofs.Collapsed.{never-bare-update, never-deleted, foreign-from, foreign-gives, lower-from}
-use Rattle.judge.proofs.Collapsed.{lower-gives, unapplied-gives, survives-from, clash-shares, share-clashes}
-use Rattle.judge.proofs.Needed.{needs-open}
-
-off : (b : Bool) → ¬ IsTrue b → not b ≡ true
-off true lacks = absurd (lacks refl)
-off false lacks = refl
-
-bytes-apart : (x y : Id) → not (bytes_eq x y) ≡ true → x ≢ y
-bytes-apart x y e same = true≢false (sym (subst (λ z. bytes_eq x z ≡ true) same (same_itself x))
-    ∙ not-true (bytes_eq x y) e)
-
-bytes-differ : (x y : Id) → x ≢ y → not (bytes_eq x y) ≡ true
-bytes-differ x y other = off (bytes_eq x y) (λ same. other (same_from x y same))
+use Rattle.judge.proofs.Collapsed.{change-found, change-has, clash-shares, share-clashes}
+use Rattle.judge.proofs.Alone.{off, bytes-differ, survives-if as survives-alone, test-fails as fails-alone}
 
 -- ids at two places are two
 places-apart : (ids : List Id) → IsRising ids → (n m : ℕ) (x y : Id) → slice_get ids n ≡ Some x
@@ -126,91 +104,19 @@ own-at (y ∷ ys) (b ∷ faults) k rising (suc n) m x a at own place =
     ∙ own-at ys faults (suc k) (AllPairs-rest (λ u v. IsTrue (is_before u v)) y ys rising) n m x a at own
     (omega (arith, place))
 
-module _ (g : Global) (zone : Zone) (ids : List Id) (held : All (λ e. IsTrue (is_held e)) zone.entries)
-    (rising : IsRising ids)
+module _ (g : Global) (zone : Zone) (related : Option Zone) (ids : List Id) (bypass : Bypass)
+    (is_global : IsGlobal g) (held : All (λ e. IsTrue (is_held e)) zone.entries) (rising : IsRising ids)
     (plain : (x : Id) → Contains ids x → IsPlain g zone x)
-    (faults : List OwnFaults) (own : Beside (λ n x a. HasFaults g zone x a) ids faults) where
+    (faults : List OwnFaults)
+    (own : Beside (λ n x a. HasFaults (setting g zone related ids bypass) x a) ids faults) where
   abbrev s : Setting
-  s = setting g zone None ids no_bypass
+  s = setting g zone related ids bypass
 
-  module _ (n : ℕ) (x : Id) (a : OwnFaults) (at : slice_get ids n ≡ Some x) (at_own : slice_get faults n ≡ Some a) where
-    abbrev in_ids : Contains ids x
-    in_ids = contains_at ids n x at
-
-    foreign-at : (h : Change) → is_foreign_at zone x h ≡ true
-        → (e : Element) × (element_of zone h.elem_type h.name ≡ Some e) × (e.fmid ≢ x)
-    foreign-at h foreign = by (element_of zone h.elem_type h.name) refl
-      where
-        by : (o : Option Element) → element_of zone h.elem_type h.name ≡ o
-            → (e : Element) × (element_of zone h.elem_type h.name ≡ Some e) × (e.fmid ≢ x)
-        by None e = absurd (true≢false (sym foreign ∙ ap (λ o. option_map_or (λ e. not (bytes_eq e.fmid x)) o false) e))
-        by (Some v) e = (
-          v,
-          e,
-          bytes-apart v.fmid x (sym (ap (λ o. option_map_or (λ e. not (bytes_eq e.fmid x)) o false)
-              e) ∙ foreign),
-        )
-
-    four : IsTrue a.foreign ↔ FailsJ4 s x
-    four = (
-      λ foreign.
-          let any = Any-from_list_any (is_foreign_at zone x) (changes_of g x)
-          (sym (own.each n x a at at_own).foreign ∙ foreign) in
-          let found = foreign-at any.1 any.4 in
-          foreign-gives g zone ids held plain x in_ids found.0
-          (record { change = any.1; of = (any.0, any.2, any.3); at = found.1 }) found.2,
-      λ fails.
-          let t = foreign-from g zone ids held plain x in_ids fails in
-          (own.each n x a at at_own).foreign ∙ list_any-from_Any (is_foreign_at zone x) (changes_of g x) (
-            t.1.of.0,
-            t.1.change,
-            t.1.of.1,
-            t.1.of.2,
-            ap (λ o. option_map_or (λ e. not (bytes_eq e.fmid x)) o false) t.1.at ∙ bytes-differ t.0.fmid x t.2,
-          ),
-    )
-
-    five : IsTrue a.lower ↔ FailsJ5 s x
-    five = (
-      λ lower.
-          let any = (own.each n x a at at_own).lower.0 lower in
-          let e = any.4.0 in
-          let z = any.4.2 in
-          lower-gives g zone ids held plain x in_ids e z.1 (record
-          { change = any.1; of = (any.0, any.2, any.3); at = any.4.1 }) (z.0, z.2, z.3) z.4,
-      λ fails.
-          let t = lower-from g zone ids held plain x in_ids fails in
-          let touch = t.2 in
-          (own.each n x a at at_own).lower.1
-          (touch.of.0, touch.change, touch.of.1, touch.of.2, (t.0, touch.at, (t.3.0, t.1, t.3.1, t.3.2, t.4))),
-    )
-
-    seven : IsTrue a.unapplied ↔ FailsJ7 s x
-    seven = (
-      λ off. unapplied-gives g zone ids held plain x in_ids (kind-is zone.kind
-          (sym (own.each n x a at at_own).unapplied ∙ off)),
-      λ fails. (own.each n x a at at_own).unapplied ∙ ap (λ k. zone_number k == 1) fails.0,
-    )
-      where
-        kind-is : (k : ZoneKind) → (zone_number k == 1) ≡ true → k ≡ Distribution
-        kind-is Target e = absurd (true≢false (sym e))
-        kind-is Distribution e = refl
-
-    pub survives-if : IsTrue (passes a) ↔ Survives s x
-    survives-if = (
-      λ on.
-          let p = and_parts (not a.foreign && not a.lower) (not a.unapplied) on in
-          let q = and_parts (not a.foreign) (not a.lower) p.0 in
-          survives-from g zone ids held plain x in_ids
-          (λ f. true≢false (sym (four.1 f) ∙ not-true a.foreign q.0))
-          (λ f. true≢false (sym (five.1 f) ∙ not-true a.lower q.1))
-          (λ f. true≢false (sym (seven.1 f) ∙ not-true a.unapplied p.1)),
-      λ survives.
-          let no_four = off a.foreign (λ on. survives.0.1 J4 (four.0 on)) in
-          let no_five = off a.lower (λ on. survives.0.1 J5 (five.0 on)) in
-          let no_seven = off a.unapplied (λ on. survives.0.1 J7 (seven.0 on)) in
-          rw (no_four, no_five, no_seven) refl,
-    )
+  pub survives-if : (n : ℕ) (x : Id) (a : OwnFaults) → slice_get ids n ≡ Some x → slice_get faults n ≡ Some a
+      → IsTrue (passes a) ↔ Survives s x
+  survives-if n x a at at_own =
+      survives-alone g zone related ids bypass is_global held plain x (contains_at ids n x at) a
+      (own.each n x a at at_own)
 
   beside-own : (n : ℕ) (x : Id) → slice_get ids n ≡ Some x → (a : OwnFaults) × (slice_get faults n ≡ Some a)
   beside-own n x at = by faults n (subst (λ k. n < k) (sym own.lengths) (slice_get_within ids n x at))
@@ -316,27 +222,11 @@ module _ (g : Global) (zone : Zone) (ids : List Id) (held : All (λ e. IsTrue (i
           })),
     )
 
-    none : (T : Type 0) → ¬ T → IsTrue false ↔ T
-    none T lacks = (λ e. absurd (true≢false (sym e)), λ t. absurd (lacks t))
-
     test-fails : (n : ℕ) (x : Id) (a : OwnFaults) → slice_get ids n ≡ Some x → slice_get faults n ≡ Some a
         → (t : Test) → IsTrue (fails_test a (is_among shared n) t) ↔ Fails s x t
-    test-fails n x a at at_own J1 = none (Fails s x J1) (never-held-system g zone ids held plain x
-        (contains_at ids n x at))
-    test-fails n x a at at_own J2 = none (Fails s x J2) (never-held-user g zone ids held plain x
-        (contains_at ids n x at))
-    test-fails n x a at at_own J3 = none (Fails s x J3) (never-prevented g zone ids held plain x
-        (contains_at ids n x at))
-    test-fails n x a at at_own J4 = four n x a at at_own
-    test-fails n x a at at_own J5 = five n x a at at_own
-    test-fails n x a at at_own J6 = none (Fails s x J6) (never-bare-update g zone ids held plain x
-        (contains_at ids n x at))
-    test-fails n x a at at_own J7 = seven n x a at at_own
-    test-fails n x a at at_own J8 = none (Fails s x J8) (never-deleted g zone ids held plain x (contains_at ids n x at))
-    test-fails n x a at at_own J9 = nine n x at
-    test-fails n x a at at_own J10 = none (Fails s x J10) (λ no. no)
-    test-fails n x a at at_own J11 = none (Fails s x J11) (λ no. no)
-    test-fails n x a at at_own J12 = none (Fails s x J12) (λ no. no)
+    test-fails n x a at at_own =
+        fails-alone g zone related ids bypass is_global held plain x (contains_at ids n x at) a
+        (own.each n x a at at_own) (is_among shared n) (nine n x at)
 
     abbrev fails_at : Option (ℕ × OwnFaults) → Test → Bool
     fails_at o t = option_map_or (λ p. fails_test p.1 (is_among shared p.0) t) o false
@@ -385,55 +275,20 @@ module _ (g : Global) (zone : Zone) (ids : List Id) (held : All (λ e. IsTrue (i
           rw (alone, apart) refl,
     )
 
-    -- the numbered problem
-    pub is-problem : (p : Problem) (needed : List (NeedKind × Id)) (flags : List Bool) → IsProblem p
-        → Beside (λ n a flag. flag ≡ is_eligible_at shared n a) faults flags
-        → HasProblem s.choice zone ids flags p needed
-        → IsInstallProblem s p needed
-    is-problem p needed flags numbers flagged has = record {
+    -- the flags of who is eligible
+    pub are-eligible : (flags : List Bool) → Beside (λ n a flag. flag ≡ is_eligible_at shared n a) faults flags
+        → AreEligible s flags
+    are-eligible flags flagged = record {
+      lengths = flagged.lengths ∙ own.lengths;
+      eligible = λ n x at.
+          let a = beside-own n x at in
+          let below : n < length flags = subst (λ k. n < k) (sym flagged.lengths) (slice_get_within faults n a.0 a.1) in
+          let flag = slice_get-get_or flags n false below in
+          let is : holds flags n ≡ is_eligible_at shared n a.0 = flagged.each n a.0 (get_or flags n false) a.1 flag in
+          let both = eligible-if n x a.0 at a.1 in
+          (λ on. both.0 (sym is ∙ on), λ eligible. is ∙ both.1 eligible);
       survivors = survivors;
       are_survivors = are-survivors;
-      problem = record {
-        numbers = numbers;
-        size = has.demands.size;
-        eligible = λ n x at.
-            let a = beside-own n x at in
-            let below : n < length flags = subst (λ k. n < k) (sym flagged.lengths)
-            (slice_get_within faults n a.0 a.1) in
-            let flag = slice_get-get_or flags n false below in
-            let is : holds p.eligible n ≡ is_eligible_at shared n a.0 =
-            ap (λ l. holds l n) has.demands.eligible ∙ flagged.each n a.0 (get_or flags n false) a.1 flag in
-            let both = eligible-if n x a.0 at a.1 in
-            (λ on. both.0 (sym is ∙ on), λ eligible. is ∙ both.1 eligible);
-        lengths = ap length has.demands.needed_are ∙ length-map has.wants (λ w. (w.kind, w.id))
-            ∙ sym has.demands.demands.lengths;
-        demands = λ i d need at_d at_need.
-            let w = is-demand ids has.pairs flags has.wants p needed has.demands i d need at_d at_need in
-            let open_at = (has.are_wants.members w.0.of need.0 need.1).0 (subst (Contains has.wants) w.3
-            (contains_at has.wants i w.0 w.1)) in
-            record {
-              of = (
-                open_at.x,
-                subst (λ k. slice_get ids k ≡ Some open_at.x) (sym w.2.of) open_at.at,
-                (needs-open g zone ids held plain survivors survivors-among open_at.x need.0 need.1
-                    (contains_at ids w.0.of open_at.x open_at.at)).1 open_at.is_open,
-              );
-              any = subst (λ (v : Want). ArePlaces s.choice ids v.kind v.id d.any) w.3 (w.2.any s.choice has.served);
-            };
-        all = λ n x z kind at need.
-            let found = found_at has.wants (a_want n kind z) ((has.are_wants.members n kind z).1 (record {
-              below = slice_get_within ids n x at;
-              x = x;
-              at = at;
-              is_open = (needs-open g zone ids held plain survivors survivors-among x kind z
-                  (contains_at ids n x at)).0 need;
-            })) in
-            let d = demand-at ids has.pairs flags has.wants p needed has.demands found.0 (a_want n kind z) found.1 in
-            (found.0, d.0, d.1, d.2, d.3);
-        once = λ i j d e need at_d at_e need_d need_e same.
-            wants-once ids has.pairs flags has.wants p needed has.demands has.are_wants.once i j d e need at_d at_e
-            need_d need_e same;
-      };
     }
 
 -- what a search finds

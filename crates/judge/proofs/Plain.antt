@@ -1,4 +1,4 @@
--- What is installable names its function alone, is held by nothing, and changes elements only as a function.
+-- What is installable has no NPRE, DELETE and ++IF, no ERROR hold, and changes elements only as a function.
 use Rattle.std.proofs.Common.{◌≡◌, ◌⊎◌, inl, inr, Bool, true, false, not, List, [], ◌∷◌, Option, None, Some, IsTrue}
 use Rattle.std.proofs.Common.{refl, sym, ap, ◌∙◌, subst, true≢false, filter, Contains, arith}
 use Rattle.std.specs.Prelude.{◌&&◌, ◌==◌, is_some}
@@ -13,17 +13,16 @@ use Rattle.std.specs.Str.{bytes_eq}
 use Rattle.terms.proofs.Nil.{nil_from}
 use Rattle.terms.specs.Choice.{Choice, by_srel, vers_of, npre_of, del_of, ifs_of}
 use Rattle.terms.specs.Changes.{is_replacement}
-use Rattle.terms.specs.Served.{is_plain, has_plain_ver, has_plain_changes, is_unheld, is_served_zone, is_served}
+use Rattle.terms.specs.Served.{is_plain, has_plain_ver, has_plain_changes, is_served_zone, is_served}
 use Rattle.terms.specs.Candidates.{is_installable}
 use Rattle.lemmas.proofs.Searches.{find-gives}
 use Rattle.lemmas.proofs.Texts.{same_from}
 use Rattle.lemmas.proofs.Members.{in_map, here_or, in_filter}
 
--- its ++VER that counts has no NPRE, no DELETE and no ++IF
+-- its ++VER that counts has no NPRE and no DELETE
 pub record NamesNothing (c : Choice) (x : Id) : Type 0 where
   pub npre : npre_of c x ≡ []
   pub del : del_of c x ≡ []
-  pub ifs : ifs_of c x ≡ []
 
 pub names-nothing : (c : Choice) (x : Id) → option_map_or is_plain (c x) true ≡ true → NamesNothing c x
 names-nothing c x plain = by (c x) refl
@@ -32,18 +31,12 @@ names-nothing c x plain = by (c x) refl
     by None e = record {
       npre = ap (λ o. option_map_or (λ v. v.npre) o []) e;
       del = ap (λ o. option_map_or (λ v. v.del) o []) e;
-      ifs = ap (λ o. option_map_or (λ v. v.ifs) o []) e;
     }
     by (Some v) e =
-        let p : is_plain v ≡ true = sym (ap (λ o. option_map_or is_plain o true) e) ∙ plain in
-        let f = and_parts (is_nil v.pre && is_nil v.req && is_nil v.sup && is_nil v.npre && is_nil v.del) (is_nil v.ifs)
-        p in
-        let d = and_parts (is_nil v.pre && is_nil v.req && is_nil v.sup && is_nil v.npre) (is_nil v.del) f.0 in
-        let n = and_parts (is_nil v.pre && is_nil v.req && is_nil v.sup) (is_nil v.npre) d.0 in
+        let both = and_parts (is_nil v.npre) (is_nil v.del) (sym (ap (λ o. option_map_or is_plain o true) e) ∙ plain) in
         record {
-          npre = ap (λ o. option_map_or (λ v. v.npre) o []) e ∙ nil_from v.npre n.1;
-          del = ap (λ o. option_map_or (λ v. v.del) o []) e ∙ nil_from v.del d.1;
-          ifs = ap (λ o. option_map_or (λ v. v.ifs) o []) e ∙ nil_from v.ifs f.1;
+          npre = ap (λ o. option_map_or (λ v. v.npre) o []) e ∙ nil_from v.npre both.0;
+          del = ap (λ o. option_map_or (λ v. v.del) o []) e ∙ nil_from v.del both.1;
         }
 
 -- what an installable SYSMOD is, for the judge
@@ -51,9 +44,6 @@ pub record IsPlain (g : Global) (zone : Zone) (x : Id) : Type 0 where
   pub names_nothing : NamesNothing (by_srel g zone.srel) x
   pub changes : (changes_of g x ≡ []) ⊎ (IsTrue (is_function g x)
       × IsTrue (list_all (λ h. is_replacement h.action) (changes_of g x)))
-  pub no_error : holds_of g Error x ≡ []
-  pub no_system : holds_of g System x ≡ []
-  pub no_user : holds_of g User x ≡ []
   pub applied : (y : Id) → Contains (applied_ids zone) y → NamesNothing (by_srel g zone.srel) y
 
 plain-changes : (g : Global) (x : Id) → option_map_or has_plain_changes (sysmod_of g x) true ≡ true
@@ -113,17 +103,11 @@ plain-from g zone x installable =
     let served = (and_parts has_ver (is_served g zone x) free.0).1 in
     let ver : Bool = has_plain_ver g zone x in
     let changes : Bool = option_map_or has_plain_changes (sysmod_of g x) true in
-    let a = and_parts (ver && changes && is_unheld g x) (is_served_zone g zone) served in
-    let b = and_parts (ver && changes) (is_unheld g x) a.0 in
-    let c = and_parts ver changes b.0 in
-    let e = and_parts (is_nil (holds_of g Error x) && is_nil (holds_of g System x)) (is_nil (holds_of g User x)) b.1 in
-    let f = and_parts (is_nil (holds_of g Error x)) (is_nil (holds_of g System x)) e.0 in
+    let a = and_parts (ver && changes) (is_served_zone g zone) served in
+    let b = and_parts ver changes a.0 in
     record {
-      names_nothing = names-nothing (by_srel g zone.srel) x c.0;
-      changes = plain-changes g x c.1;
-      no_error = nil_from (holds_of g Error x) f.0;
-      no_system = nil_from (holds_of g System x) f.1;
-      no_user = nil_from (holds_of g User x) e.1;
+      names_nothing = names-nothing (by_srel g zone.srel) x b.0;
+      changes = plain-changes g x b.1;
       applied = λ y on. names-nothing (by_srel g zone.srel) y
           (all-from (has_plain_ver g zone) (applied_ids zone) y a.1 on);
     }

@@ -1,8 +1,11 @@
 pub mod Failed
 pub mod Placed
 pub mod Own
+pub mod Conditions
 pub mod Wanted
 pub mod Serving
 pub mod Numbered
+pub mod Bypassed
 pub mod Sharing
 pub mod Rows
+pub mod Overs

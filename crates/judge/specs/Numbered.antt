@@ -1,8 +1,8 @@
 -- The numbered problem of the needs.
 use Rattle.std.specs.Prelude.{◌≡◌, ℕ, Bool, List, [], ◌∷◌, ◌++◌, length, map}
 use Rattle.terms.specs.declared.codes.NeedKind.{NeedKind}
-use Rattle.terms.specs.Types.{Id, Zone}
-use Rattle.terms.specs.Choice.{Choice}
+use Rattle.terms.specs.Types.{Id, Global, Zone, Bypass}
+use Rattle.terms.specs.Choice.{by_srel}
 use Rattle.terms.specs.Problem.{Demand, Problem}
 use Rattle.judge.specs.declared.wanted.Want.{Want}
 use Rattle.judge.specs.Placed.{Beside}
@@ -30,11 +30,11 @@ pub record AddsDemand (ids : List Id) (pairs : List (Id × ℕ)) (w : Want) (old
   pub problem : new ≡ record old { demands = old.demands ++ (record { of = w.of; any = any }) ∷ [] }
   pub needed : new_needed ≡ old_needed ++ (w.kind, w.id) ∷ []
 
--- the problem of the candidates with these flags has all their needs by their ++VERs
-pub record HasProblem (c : Choice) (zone : Zone) (ids : List Id) (flags : List Bool) (p : Problem)
+-- the problem of the candidates with these flags has all their needs
+pub record HasProblem (g : Global) (zone : Zone) (ids : List Id) (b : Bypass) (flags : List Bool) (p : Problem)
     (needed : List (NeedKind × Id)) : Type 0 where
   pub wants : List Want
-  pub are_wants : AreWants (IsOpenAt c zone ids (length ids)) wants
+  pub are_wants : AreWants (IsOpenAt g zone ids b (length ids)) wants
   pub pairs : List (Id × ℕ)
-  pub served : AreServed c ids (length ids) pairs
+  pub served : AreServed (by_srel g zone.srel) ids (length ids) pairs
   pub demands : HasDemands ids pairs flags wants p needed

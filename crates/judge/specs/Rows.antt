@@ -3,15 +3,18 @@ use Rattle.std.specs.Prelude.{◌&&◌, ℕ, Bool, false, not, List, filter}
 use Rattle.std.specs.List.{list_any}
 use Rattle.std.specs.Prelude.{nat_eq}
 use Rattle.terms.specs.declared.codes.Test.{Test}
-use Rattle.terms.specs.declared.codes.Test.TheVariants.{J4, J5, J7, J9}
+use Rattle.terms.specs.declared.codes.Test.TheVariants.{J1, J2, J4, J5, J6, J7, J9}
 use Rattle.machine.specs.Installing.{all_tests}
 use Rattle.judge.specs.declared.own.OwnFaults.{OwnFaults}
 use Rattle.judge.specs.Own.{passes}
 
 -- the tests, by what the candidate fails by itself and whether it shares an element
 abbrev pub fails_test : OwnFaults → Bool → Test → Bool
+fails_test a shares J1 = a.system_held
+fails_test a shares J2 = a.user_held
 fails_test a shares J4 = a.foreign
 fails_test a shares J5 = a.lower
+fails_test a shares J6 = a.bare
 fails_test a shares J7 = a.unapplied
 fails_test a shares J9 = shares
 fails_test a shares _ = false

@@ -1,14 +1,14 @@
-ghost use Rattle.std.specs.Prelude.{◌≡◌, None, All, IsTrue, IfOk, map};
-ghost use Rattle.terms.specs.Lookups.{IsRising};
-ghost use Rattle.terms.specs.CommandForms.{no_bypass};
+ghost use Rattle.std.specs.Prelude.{◌≡◌, ◌↔◌, All, Contains, IsTrue, IfOk, map, option_copied};
+ghost use Rattle.terms.specs.Types.{Id as AnId};
 ghost use Rattle.terms.specs.Candidates.{is_installable};
+ghost use Rattle.terms.specs.Needs.{bypassed_ids};
 ghost use Rattle.terms.specs.Judged.{setting, IsInstallProblem};
 ghost use Rattle.judge.specs.Failed.{AreFailedTests};
 
+use crate::bypassed::bypassed_pairs;
 use crate::numbered::wants_of;
-use crate::own::all_faults;
-use crate::rows::{all_eligible, all_rows};
-use crate::sharing::shared_places;
+use crate::tested::test_all;
+use cntl::Bypass;
 use fields::{Id, IdList};
 use solve::System;
 use std::alloc::{AllocError, Global as Heap};
@@ -17,35 +17,44 @@ use terms::{NeedKind, Test};
 use zones::Zone;
 
 /// What is known of the candidates, which are numbered by their places: who is eligible and needs whom, the kind
-/// and the id of each need, and for each candidate the tests that it fails.
+/// and the id of each need, for each candidate the tests that it fails, and each candidate with each of its PRE, REQ and
+/// IFREQ that BYPASS covers.
 #[derive(Drop)]
 pub struct Judged {
     pub system: System,
     pub needed: Vec<(NeedKind, Id)>,
     pub tests: Vec<Vec<Test>>,
+    pub bypassed: Vec<(Id, Id)>,
 }
 
-/// Judges the candidates of an APPLY in this zone.
-pub fn judge(alloc: Heap, global: &Global, zone: &Zone, ids: &IdList) -> Result<Judged, AllocError>
+/// Judges the candidates of an APPLY or ACCEPT in this zone, for ACCEPT with the related target zone.
+pub fn install_system(
+    alloc: Heap,
+    global: &Global,
+    zone: &Zone,
+    related: Option<&Zone>,
+    ids: &IdList,
+    bypass: &Bypass,
+) -> Result<Judged, AllocError>
     requires { All (λ x. IsTrue (is_installable global.now zone.now x)) ids.now }
-    ensures problem { IfOk result (λ j. IsInstallProblem (setting global.now zone.now None ids.now no_bypass) j.system
+    ensures problem { IfOk result (λ j. IsInstallProblem
+        (setting global.now zone.now (option_copied related.entry) ids.now bypass.now) j.system
         (map (λ n. (n.0, n.1)) j.needed.items)) }
-    ensures tests { IfOk result (λ j. AreFailedTests (setting global.now zone.now None ids.now no_bypass)
+    ensures tests { IfOk result (λ j. AreFailedTests
+        (setting global.now zone.now (option_copied related.entry) ids.now bypass.now)
         (map (λ row. row.items) j.tests.items)) }
+    ensures bypassed { IfOk result (λ j. (x z : AnId) → Contains {X = AnId × AnId} j.bypassed.items (x, z)
+        ↔ (Contains ids.now x × Contains (bypassed_ids
+        (setting global.now zone.now (option_copied related.entry) ids.now bypass.now) x) z)) }
 {
     zone.known();
-    let list = ids.as_slice();
-    // They are no more than the received SYSMODs.
-    prove!(global.len() < 65_536);
-    prove!(list.len() < 4_294_967_296);
-    let faults = all_faults(alloc, global, zone, list)?;
-    let shared = shared_places(alloc, global, list, faults.as_slice())?;
-    let tests = all_rows(alloc, faults.as_slice(), &shared)?;
-    let eligible = all_eligible(alloc, faults.as_slice(), &shared)?;
-    let (system, needed) = wants_of(alloc, global, zone, ids, eligible)?;
+    let tested = test_all(alloc, global, zone, related, ids, bypass)?;
+    let (system, needed) = wants_of(alloc, global, zone, ids, bypass, tested.eligible)?;
+    let bypassed = bypassed_pairs(alloc, global, zone, ids, bypass)?;
     Ok(Judged {
         system,
         needed,
-        tests,
+        tests: tested.tests,
+        bypassed,
     })
 }

@@ -1,16 +1,26 @@
 //! Which tests each candidate of an APPLY fails, and what each one needs.
-//! For candidates that may all be installed, `judge` answers who fails which test, and the numbered problem of who is
-//! eligible and needs whom. Lemmas reduce these for what is served as yet: a candidate looks at the zone itself, J1 to
-//! J3, J6 and J8 fail nowhere, and it needs nothing by `++IF`, by holds or by deletions. Its FMID, PRE and REQ, and who
-//! supersedes what, are judged as they are. Seen in the code alone: one pass over what the survivors change.
+//! For candidates that may all be installed, `install_system` answers who fails which test, the numbered problem of who
+//! is eligible and needs whom, and what of that BYPASS covers. Lemmas reduce these for what is served as yet: a candidate
+//! looks at the zone itself, J3 and J8 fail nowhere, and it needs nothing by deletions. All else is judged as it is. What
+//! applied SYSMODs state in their `++IF`s is gathered in one pass over the zone. Seen in the code alone: one pass over
+//! what the survivors change.
 #![tactic(auto)]
 
+mod bypassed;
+mod bypassing;
+mod conditions;
+mod elements;
 mod judging;
+mod known;
 mod numbered;
 mod own;
+mod reasons;
 mod rows;
+mod scope;
 mod serving;
 mod sharing;
+mod stated;
+mod tested;
 mod wanted;
 
-pub use judging::{Judged, judge};
+pub use judging::{Judged, install_system};

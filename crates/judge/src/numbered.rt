@@ -1,16 +1,17 @@
 //! The numbered problem of who is eligible and needs whom.
 ghost use Rattle.std.specs.Prelude.{◌≡◌, ◌<◌, ◌^◌, length, All, OnOk, IfOk};
-ghost use Rattle.terms.specs.Choice.{by_srel};
 ghost use Rattle.terms.specs.Problem.{IsProblem};
 ghost use Rattle.judge.specs.Numbered.{AddsDemand, HasDemands, HasProblem};
 
+use crate::scope::Scope;
 use crate::serving::{places_of, served};
 use crate::wanted::{Want, all_wants, want_at};
+use cntl::Bypass;
 use fields::{Id, IdList};
 use solve::{Need, System};
 use std::alloc::{AllocError, Global as Heap};
 use std::collections::BTreeSet;
-use sysmods::{Global, VerChoice};
+use sysmods::Global;
 use terms::NeedKind;
 use zones::Zone;
 
@@ -66,17 +67,23 @@ pub(crate) fn wants_of(
     global: &Global,
     zone: &Zone,
     ids: &IdList,
+    bypass: &Bypass,
     eligible: Vec<bool>,
 ) -> Result<(System, Vec<(NeedKind, Id)>), AllocError>
     requires fits { length ids.now < 2 ^ 32 }
     requires flags { length eligible.items ≡ length ids.now }
     ensures valid { IfOk result (λ r. IsProblem r.0) }
     ensures problem { IfOk result
-        (λ r. HasProblem (by_srel global.now zone.now.srel) zone.now ids.now eligible.items r.0 r.1.items) }
+        (λ r. HasProblem global.now zone.now ids.now bypass.now eligible.items r.0 r.1.items) }
 {
-    let vers = VerChoice::new(global, zone.srel());
-    let wants = all_wants(alloc, &vers, zone, ids)?;
-    let served = served(alloc, &vers, ids)?;
+    let scope = Scope {
+        global,
+        zone,
+        ids,
+        bypass,
+    };
+    let wants = all_wants(alloc, &scope)?;
+    let served = served(alloc, &scope.vers(), ids)?;
     let (system, needed) = numbered(alloc, ids, &served, wants.as_slice(), eligible)?;
     Ok((system, needed))
 }

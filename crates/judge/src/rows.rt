@@ -24,8 +24,11 @@ fn row_of(alloc: Heap, own: OwnFaults, shares: bool) -> Result<Vec<Test>, AllocE
     ensures { IfOk result (λ row. row.items ≡ filter (fails_test own shares) all_tests) }
 {
     let mut tests = Vec::new(alloc);
+    add_if(&mut tests, own.system_held, Test::J1)?;
+    add_if(&mut tests, own.user_held, Test::J2)?;
     add_if(&mut tests, own.foreign, Test::J4)?;
     add_if(&mut tests, own.lower, Test::J5)?;
+    add_if(&mut tests, own.bare, Test::J6)?;
     add_if(&mut tests, own.unapplied, Test::J7)?;
     add_if(&mut tests, shares, Test::J9)?;
     Ok(tests)

@@ -1,0 +1,178 @@
+-- What lists have after one more: pairs of ids, and the groups of them.
+use Rattle.std.proofs.Common.{◌≡◌, ◌⊎◌, inl, inr, Bool, true, false, ℕ, ◌+◌, ◌<◌, List, [], ◌∷◌, ◌++◌, length}
+use Rattle.std.proofs.Common.{refl, sym, ap, ap₂, ◌∙◌, subst, cond, true≢false, map, get_or, take}
+use Rattle.std.specs.Prelude.{◌↔◌, Contains, Some, find}
+use Rattle.std.specs.Option.{option_map_or}
+use Rattle.std.specs.declared.cmp.Ordering.{Ordering}
+use Rattle.std.specs.declared.cmp.Ordering.TheVariants.{Less, Equal, Greater}
+use Rattle.std.specs.Ordering.{nat_cmp, is_lt, is_eq, ordering_reverse}
+use Rattle.std.specs.Cmp.Lexicographic.{slice_cmp, texts_ties}
+use Rattle.std.specs.Str.{bytes_eq}
+use Rattle.std.proofs.lemmas.Cmp.{nat_list_cmp_total}
+use Rattle.std.proofs.lemmas.List.{take_more}
+use Rattle.std.proofs.lemmas.List.Elements.{Contains-append_left, Contains-append_right, Contains-append_cases}
+use Rattle.lemmas.proofs.Members.{here, here_or, none_in, in_map, map_in, in_filter, filter_in}
+use Rattle.lemmas.proofs.Texts.{same_from, same_itself}
+use Rattle.terms.specs.Types.{Id}
+use Rattle.terms.specs.Choice.{Choice}
+use Rattle.terms.specs.Over.{Supersedes}
+use Rattle.terms.specs.Rising.{with_item, before, behind}
+use Rattle.change.specs.declared.pairs.Group.{Group}
+use Rattle.change.specs.Pairs.{others_of, AddsPair, AreGrouped}
+use Rattle.change.specs.Superseded.{AddsSuperseded, AreSuperseded}
+use Rattle.change.proofs.InTurn.{find-with_item}
+
+abbrev Has : List (Id × Id) → Id → Id → Type 0
+Has pairs a b = Contains {X = Id × Id} pairs (a, b)
+
+-- one more at the end of a list
+pub in_push : {X : Type 0} (xs : List X) (x y : X) → Contains (xs ++ x ∷ []) y ↔ (Contains xs y ⊎ (x ≡ y))
+in_push xs x y = (
+  λ h. elim (Contains-append_cases xs (x ∷ []) y h) [
+    | inl old ↦ inl old
+    | inr last ↦ elim (here_or x [] y last) [ inl same ↦ inr same | inr later ↦ absurd (none_in y later) ]
+  ],
+  λ h. elim h [
+    | inl old ↦ Contains-append_left xs (x ∷ []) y old
+    | inr same ↦ Contains-append_right xs (x ∷ []) y (subst (Contains (x ∷ [])) same (here x []))
+  ],
+)
+
+-- the next of a list, as a loop goes over it
+pub in_more : {X : Type 0} (xs : List X) (k : ℕ) (x : X) → k < length xs → x ≡ get_or xs k x
+    → (y : X) → Contains (take (k + 1) xs) y ↔ (Contains (take k xs) y ⊎ (x ≡ y))
+in_more xs k x below is y =
+    subst (λ ys. Contains ys y ↔ (Contains (take k xs) y ⊎ (x ≡ y)))
+    (sym (take_more xs k x below ∙ ap (λ v. take k xs ++ v ∷ []) (sym is))) (in_push (take k xs) x y)
+
+-- ids with one more at its place
+pub in-with_item : (xs : List Id) (z y : Id) → Contains (with_item (slice_cmp nat_cmp) (λ x. x) xs z) y
+    ↔ (Contains xs y ⊎ (z ≡ y))
+in-with_item xs z y = (
+  λ h. elim (Contains-append_cases (low ++ z ∷ []) high y h) [
+    | inl front ↦ elim ((in_push low z y).0 front) [
+      | inl old ↦ inl (filter_in (λ x. is_lt (slice_cmp nat_cmp x z)) xs y old).0
+      | inr same ↦ inr same
+    ]
+    | inr back ↦ inl (filter_in (λ x. is_lt (slice_cmp nat_cmp z x)) xs y back).0
+  ],
+  λ h. elim h [
+    | inl old ↦ by old (slice_cmp nat_cmp y z) refl
+    | inr same ↦ Contains-append_left (low ++ z ∷ []) high y ((in_push low z y).1 (inr same))
+  ],
+)
+  where
+    low : List Id
+    low = before (slice_cmp nat_cmp) (λ x. x) z xs
+
+    high : List Id
+    high = behind (slice_cmp nat_cmp) (λ x. x) z xs
+
+    by : Contains xs y → (r : Ordering) → slice_cmp nat_cmp y z ≡ r → Contains ((low ++ z ∷ []) ++ high) y
+    by old Less e = Contains-append_left (low ++ z ∷ []) high y ((in_push low z y).1
+        (inl (in_filter (λ x. is_lt (slice_cmp nat_cmp x z)) xs y old (ap is_lt e))))
+    by old Equal e = Contains-append_left (low ++ z ∷ []) high y ((in_push low z y).1
+        (inr (sym (same_from y z (texts_ties y z ∙ ap is_eq e)))))
+    by old Greater e = Contains-append_right (low ++ z ∷ []) high y
+        (in_filter (λ x. is_lt (slice_cmp nat_cmp z x)) xs y old
+        (ap is_lt (nat_list_cmp_total.antisymm z y ∙ ap ordering_reverse e)))
+
+pub adds-pair : (groups new : List Group) (x z : Id) (added : List Id)
+    → added ≡ with_item (slice_cmp nat_cmp) (λ v. v) (others_of groups x) z
+    → new ≡ with_item (slice_cmp nat_cmp) (λ g. g.id) groups (record { id = x; others = added })
+    → AddsPair x z groups new
+adds-pair groups new x z added has is y w = by (bytes_eq x y) refl
+  where
+    group : Group
+    group = record { id = x; others = added }
+
+    at : (b : Bool) → bytes_eq x y ≡ b
+        → others_of new y ≡ option_map_or (λ g. g.others) (cond b (Some group) (find (λ g. bytes_eq g.id y) groups)) []
+    at b e = ap (λ gs. others_of gs y) is
+        ∙ ap (λ o. option_map_or (λ g. g.others) o [])
+        (find-with_item nat_list_cmp_total (λ (g : Group). g.id) bytes_eq texts_ties groups group y)
+        ∙ ap (λ c. option_map_or (λ g. g.others) (cond c (Some group) (find (λ g. bytes_eq g.id y) groups)) []) e
+
+    by : (b : Bool) → bytes_eq x y ≡ b
+        → Contains (others_of new y) w ↔ (Contains (others_of groups y) w ⊎ ((y ≡ x) × (w ≡ z)))
+    by true e =
+        let same : x ≡ y = same_from x y e in
+        let all : others_of new y ≡ with_item (slice_cmp nat_cmp) (λ v. v) (others_of groups y) z = at true e ∙ has
+        ∙ ap (λ v. with_item (slice_cmp nat_cmp) (λ v. v) (others_of groups v) z) same in
+        let within = in-with_item (others_of groups y) z w in (
+          λ h. elim (within.0 (subst (λ ys. Contains ys w) all h)) [
+            | inl old ↦ inl old
+            | inr other ↦ inr (sym same, sym other)
+          ],
+          λ h. subst (λ ys. Contains ys w) (sym all) (within.1 (elim h [
+            | inl old ↦ inl old
+            | inr new ↦ inr (sym new.1)
+          ])),
+        )
+    by false e = (
+      λ h. inl (subst (λ ys. Contains ys w) (at false e) h),
+      λ h. elim h [
+        | inl old ↦ subst (λ ys. Contains ys w) (sym (at false e)) old
+        | inr new ↦ absurd (true≢false (sym (same_itself x) ∙ ap (bytes_eq x) (sym new.0) ∙ e))
+      ],
+    )
+
+pub grouped-next : (pairs : List (Id × Id)) (k : ℕ) (p : Id × Id) (old new : List Group) → k < length pairs
+    → p ≡ get_or pairs k p → AddsPair p.0 p.1 old new → AreGrouped (take k pairs) old
+    → AreGrouped (take (k + 1) pairs) new
+grouped-next pairs k p old new below is adds are x z = (
+  λ h. (in_more pairs k p below is (x, z)).1 (elim ((adds x z).0 h) [
+    | inl was ↦ inl ((are x z).0 was)
+    | inr last ↦ inr (ap₂ (λ a b. (a, b)) (sym last.0) (sym last.1))
+  ]),
+  λ h. (adds x z).1 (elim ((in_more pairs k p below is (x, z)).0 h) [
+    | inl was ↦ inl ((are x z).1 was)
+    | inr last ↦ inr (sym (ap (λ q. q.0) last), sym (ap (λ q. q.1) last))
+  ]),
+)
+
+pub grouped-none : AreGrouped [] []
+grouped-none x z = (λ h. absurd (none_in z h), λ h. absurd (none_in {X = Id × Id} (x, z) h))
+
+pub adds-superseded : (c : Choice) (x : Id) (sup : List Id) (old new : List (Id × Id))
+    → ((z : Id) → Contains sup z ↔ Supersedes c x z) → new ≡ old ++ map (λ z. (z, x)) sup → AddsSuperseded c x old new
+adds-superseded c x sup old new supersedes are z y = (
+  λ h. elim (Contains-append_cases old (map (λ z. (z, x)) sup) (z, y) (subst (λ l. Has l z y) are h)) [
+    | inl was ↦ inl was
+    | inr back ↦
+        let m = map_in (λ z. (z, x)) sup (z, y) back in
+        inr (sym (ap (λ p. p.1) m.2), (supersedes z).0 (subst (Contains sup) (ap (λ p. p.0) m.2) m.1))
+  ],
+  λ h. subst (λ l. Has l z y) (sym are) (elim h [
+    | inl was ↦ Contains-append_left old (map (λ z. (z, x)) sup) (z, y) was
+    | inr last ↦ Contains-append_right old (map (λ z. (z, x)) sup) (z, y)
+        (subst (λ v. Has (map (λ z. (z, x)) sup) z v) (sym last.0) (in_map (λ z. (z, x)) sup z
+        ((supersedes z).1 last.1)))
+  ]),
+)
+
+pub superseded-next : (c : Choice) (xs : List Id) (k : ℕ) (x : Id) (old new : List (Id × Id)) → k < length xs
+    → x ≡ get_or xs k x → AddsSuperseded c x old new → AreSuperseded c (take k xs) old
+    → AreSuperseded c (take (k + 1) xs) new
+superseded-next c xs k x old new below is adds are z y = (
+  λ h. elim ((adds z y).0 h) [
+    | inl was ↦ let w = (are z y).0 was in ((in_more xs k x below is y).1 (inl w.0), w.1)
+    | inr last ↦ (
+      (in_more xs k x below is y).1 (inr (sym last.0)),
+      subst (λ v. Supersedes c v z) (sym last.0) last.1,
+    )
+  ],
+  λ h. (adds z y).1 (elim ((in_more xs k x below is y).0 h.0) [
+    | inl was ↦ inl ((are z y).1 (was, h.1))
+    | inr same ↦ inr (sym same, subst (λ v. Supersedes c v z) (sym same) h.1)
+  ]),
+)
+
+pub superseded-none : (c : Choice) → AreSuperseded c [] []
+superseded-none c z y = (λ h. absurd (none_in {X = Id × Id} (z, y) h), λ h. absurd (none_in y h.0))
+
+-- the same pairs in another order
+pub superseded-same : (c : Choice) (xs : List Id) (old new : List (Id × Id))
+    → ((z y : Id) → Has new z y ↔ Has old z y) → AreSuperseded c xs old → AreSuperseded c xs new
+superseded-same c xs old new same are z y =
+    (λ h. (are z y).0 ((same z y).0 h), λ h. (same z y).1 ((are z y).1 h))

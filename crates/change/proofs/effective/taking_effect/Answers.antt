@@ -1,0 +1,21 @@
+use Rattle.std.proofs.Common.{◌∙◌, ap, subst, map, not}
+use Rattle.std.specs.Prelude.{◌↔◌, Contains, filter}
+use Rattle.terms.specs.Types.{Id}
+use Rattle.terms.specs.Lookups.{is_in}
+use Rattle.terms.specs.Choice.{by_srel}
+use Rattle.change.specs.Superseded.{AreSuperseded}
+use Rattle.change.proofs.TakingEffect.{takes_effect}
+use Rattle.change.proofs.effective.taking_effect.Goals as goal
+
+pub returns : goal.returns
+returns c =
+    let pairs = c.in_ok-pairs.pairs.items in
+    let are : AreSuperseded (by_srel c.args.global.now c.args.srel) c.args.kept.now pairs =
+    rw (← c.new-vers.ensures.global, ← c.new-vers.ensures.srel, ← c.as_slice.ensures.items) c.in_ok-pairs.ensures in
+    takes_effect c.args.global.now c.args.srel c.args.kept.now pairs c.from_vec-superseded.result
+    c.in_ok-effective.effective.items c.from_vec.result c.len.ensures.form are
+    (subst (λ ids. (x : Id) → Contains c.from_vec-superseded.result x ↔ Contains ids x)
+    (c.in_ok-firsts.ensures ∙ ap (map (λ p. p.0)) c.as_slice-2.ensures.value) c.from_vec-superseded.ensures)
+    (c.in_ok-effective.ensures
+    ∙ ap (filter (λ x. not (is_in c.from_vec-superseded.result x))) c.as_slice-3.ensures.items)
+    c.from_vec.ensures

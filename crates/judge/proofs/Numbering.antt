@@ -1,0 +1,72 @@
+-- The numbered problem of candidates that delete nothing is the command's.
+use Rattle.std.proofs.Common.{◌≡◌, ℕ, Bool, List, [], Option, Some, IsTrue, sym, ap, ◌∙◌, subst, Contains, length}
+use Rattle.std.proofs.Common.{slice_get}
+use Rattle.std.specs.Prelude.{All, ◌↔◌}
+use Rattle.std.proofs.lemmas.List.{length-map}
+use Rattle.std.proofs.lemmas.Option.{slice_get_within}
+use Rattle.terms.specs.declared.codes.NeedKind.{NeedKind}
+use Rattle.terms.specs.Types.{Id, Global, Zone, Bypass}
+use Rattle.terms.specs.Lookups.{is_held}
+use Rattle.terms.specs.Choice.{by_srel, del_of}
+use Rattle.terms.specs.Tests.{Setting, AreSurvivors, IsEligible}
+use Rattle.terms.specs.Judged.{setting, IsInstallProblem}
+use Rattle.terms.specs.Problem.{Problem, IsProblem, holds}
+use Rattle.lemmas.proofs.Places.{contains_at, found_at}
+use Rattle.judge.specs.declared.wanted.Want.{Want}
+use Rattle.judge.specs.Wanted.{a_want}
+use Rattle.judge.specs.Serving.{ArePlaces}
+use Rattle.judge.specs.Numbered.{HasProblem}
+use Rattle.judge.proofs.Demands.{is-demand, demand-at, wants-once}
+use Rattle.judge.proofs.Needed.{needs-open}
+
+module _ (g : Global) (zone : Zone) (related : Option Zone) (ids : List Id) (b : Bypass)
+    (held : All (λ e. IsTrue (is_held e)) zone.entries)
+    (no-del : (x : Id) → Contains ids x → del_of (by_srel g zone.srel) x ≡ []) where
+  abbrev s : Setting
+  s = setting g zone related ids b
+
+  pub install-problem : (survivors : List Id) → AreSurvivors s survivors → (flags : List Bool)
+      → ((n : ℕ) (x : Id) → slice_get ids n ≡ Some x → IsTrue (holds flags n) ↔ IsEligible s x)
+      → (p : Problem) (needed : List (NeedKind × Id)) → IsProblem p → HasProblem g zone ids b flags p needed
+      → IsInstallProblem s p needed
+  install-problem survivors are flags eligible p needed numbers has = record {
+    survivors = survivors;
+    are_survivors = are;
+    problem = record {
+      numbers = numbers;
+      size = has.demands.size;
+      eligible = λ n x at. subst (λ l. IsTrue (holds l n) ↔ IsEligible s x) (sym has.demands.eligible)
+          (eligible n x at);
+      lengths = ap length has.demands.needed_are ∙ length-map has.wants (λ w. (w.kind, w.id))
+          ∙ sym has.demands.demands.lengths;
+      demands = λ i d need at_d at_need.
+          let w = is-demand ids has.pairs flags has.wants p needed has.demands i d need at_d at_need in
+          let open_at = (has.are_wants.members w.0.of need.0 need.1).0 (subst (Contains has.wants) w.3
+          (contains_at has.wants i w.0 w.1)) in
+          record {
+            of = (
+              open_at.x,
+              subst (λ k. slice_get ids k ≡ Some open_at.x) (sym w.2.of) open_at.at,
+              (needs-open g zone related ids b held no-del survivors among open_at.x need.0 need.1
+                  (contains_at ids w.0.of open_at.x open_at.at)).1 open_at.is_open,
+            );
+            any = subst (λ (v : Want). ArePlaces s.choice ids v.kind v.id d.any) w.3 (w.2.any s.choice has.served);
+          };
+      all = λ n x z kind at need.
+          let found = found_at has.wants (a_want n kind z) ((has.are_wants.members n kind z).1 (record {
+            below = slice_get_within ids n x at;
+            x = x;
+            at = at;
+            is_open = (needs-open g zone related ids b held no-del survivors among x kind z
+                (contains_at ids n x at)).0 need;
+          })) in
+          let d = demand-at ids has.pairs flags has.wants p needed has.demands found.0 (a_want n kind z) found.1 in
+          (found.0, d.0, d.1, d.2, d.3);
+      once = λ i j d e need at_d at_e need_d need_e same.
+          wants-once ids has.pairs flags has.wants p needed has.demands has.are_wants.once i j d e need at_d at_e
+          need_d need_e same;
+    };
+  }
+    where
+      among : (x : Id) → Contains survivors x → Contains ids x
+      among x h = ((are.members x).0 h).0.0

@@ -1,0 +1,9 @@
+use Rattle.std.proofs.Common.{◌≡◌, ◌++◌, filter, take}
+use Rattle.std.specs.List.{flat_map}
+use Rattle.judge.specs.Conditions.{is_there}
+use Rattle.judge.proofs.conditions.append_all_there.Given as goal
+
+abbrev pub invariant-loop-condition : goal.invariant-loop-condition
+invariant-loop-condition l =
+    l.found.items ≡ l.fn.found.items ++ flat_map (λ i. i.req) (filter (λ i. is_there l.scope.zone.now l.scope.ids.now
+    i.function) (take l.condition-index l.conditions))

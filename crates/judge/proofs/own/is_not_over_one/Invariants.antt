@@ -1,7 +1,0 @@
-use Rattle.std.proofs.Common.{All, take}
-use Rattle.terms.specs.Over.{IsOver}
-use Rattle.sysmods.specs.Choices.{choice}
-use Rattle.judge.proofs.own.is_not_over_one.Given as goal
-
-abbrev pub invariant-loop-other : goal.invariant-loop-other
-invariant-loop-other l = All (λ z. IsOver (choice l.vers) l.id z) (take l.other-index l.others)

@@ -1,0 +1,126 @@
+//! What the needs of an APPLY are looked up in.
+ghost use Rattle.std.specs.Prelude.{◌≡◌, ◌||◌, option_copied};
+ghost use Rattle.terms.specs.Lookups.{IsRising};
+ghost use Rattle.terms.specs.declared.codes.NeedKind.TheVariants.{Pre, Req, Ifreq};
+ghost use Rattle.terms.specs.Needs.{is_bypassed, is_met};
+ghost use Rattle.sysmods.specs.Choices.{choice};
+ghost use Rattle.terms.specs.Choice.{by_srel, fmid_of, pre_of, req_of, ifs_of};
+ghost use Rattle.judge.specs.Conditions.{is_there};
+ghost use Rattle.judge.specs.Wanted.{is_open};
+
+use cntl::Bypass;
+use fields::{Id, IdList};
+use sysmods::{Global, VerChoice};
+use sysmods_records::{IfReq, Ver};
+use terms::NeedKind;
+use zones::Zone;
+
+/// The received SYSMODs, the zone, the candidates and BYPASS.
+#[derive(Clone, Copy)]
+pub(crate) struct Scope<'a> {
+    pub(crate) global: &'a Global,
+    pub(crate) zone: &'a Zone,
+    pub(crate) ids: &'a IdList,
+    pub(crate) bypass: &'a Bypass,
+}
+
+impl<'a> Scope<'a> {
+    /// The `++VER`s that count for the zone.
+    pub(crate) fn vers(&self) -> VerChoice<'a>
+        ensures { choice result ≡ by_srel self.now.global.now self.now.zone.now.srel }
+    {
+        VerChoice::new(self.global, self.zone.srel())
+    }
+
+    /// The FMID of a SYSMOD.
+    pub(crate) fn fmid(&self, id: Id) -> Option<Id>
+        ensures { result ≡ fmid_of (by_srel self.now.global.now self.now.zone.now.srel) id }
+    {
+        self.ver(id)?.fmid
+    }
+
+    fn ver(&self, id: Id) -> Option<&'a Ver>
+        ensures { option_copied result ≡ by_srel self.now.global.now self.now.zone.now.srel id }
+    {
+        VerChoice::new(self.global, self.zone.srel()).ver(id)
+    }
+
+    /// Its PRE.
+    pub(crate) fn pre(&self, id: Id) -> &'a [Id]
+        ensures items { result.now ≡ pre_of (by_srel self.now.global.now self.now.zone.now.srel) id }
+        ensures rising { IsRising result.now }
+    {
+        match self.ver(id) {
+            Some(ver) => ver.pre.as_slice(),
+            None => &[],
+        }
+    }
+
+    /// Its REQ.
+    pub(crate) fn req(&self, id: Id) -> &'a [Id]
+        ensures items { result.now ≡ req_of (by_srel self.now.global.now self.now.zone.now.srel) id }
+        ensures rising { IsRising result.now }
+    {
+        match self.ver(id) {
+            Some(ver) => ver.req.as_slice(),
+            None => &[],
+        }
+    }
+
+    /// Its `++IF`s.
+    pub(crate) fn ifs(&self, id: Id) -> &'a [IfReq]
+        ensures { result.now ≡ ifs_of (by_srel self.now.global.now self.now.zone.now.srel) id }
+    {
+        match self.ver(id) {
+            Some(ver) => ver.ifs.as_slice(),
+            None => &[],
+        }
+    }
+
+    /// Whether the function is applied or a candidate.
+    pub(crate) fn has_function(&self, id: Id) -> bool
+        ensures { result ≡ is_there self.now.zone.now self.now.ids.now id }
+    {
+        self.zone.is_applied(id) || self.ids.contains(id)
+    }
+
+    /// Whether BYPASS(PRE), BYPASS(REQ) or BYPASS(IFREQ) covers needs of the kind.
+    pub(crate) fn is_bypassed(&self, kind: NeedKind) -> bool
+        ensures { result ≡ is_bypassed self.now.bypass.now kind }
+    {
+        let bypass = self.bypass;
+        match kind {
+            NeedKind::Pre => bypass.pre,
+            NeedKind::Req => bypass.req,
+            NeedKind::Ifreq => bypass.ifreq,
+            _ => false,
+        }
+    }
+
+    /// Whether it covers any requisites at all.
+    pub(crate) fn bypasses_requisites(&self) -> bool
+        ensures { result ≡ (is_bypassed self.now.bypass.now Pre || is_bypassed self.now.bypass.now Req
+            || is_bypassed self.now.bypass.now Ifreq) }
+    {
+        self.is_bypassed(NeedKind::Pre)
+            || self.is_bypassed(NeedKind::Req)
+            || self.is_bypassed(NeedKind::Ifreq)
+    }
+
+    // Whether the zone meets a need: as an FMID only what is applied does.
+    fn is_met(&self, kind: NeedKind, id: Id) -> bool
+        ensures { result ≡ is_met self.now.zone.now kind id }
+    {
+        match kind {
+            NeedKind::Fmid => self.zone.is_applied(id),
+            _ => self.zone.supplies(id),
+        }
+    }
+
+    /// Whether neither BYPASS nor the zone meets a need.
+    pub(crate) fn is_open(&self, kind: NeedKind, id: Id) -> bool
+        ensures { result ≡ is_open self.now.zone.now self.now.bypass.now kind id }
+    {
+        !self.is_bypassed(kind) && !self.is_met(kind, id)
+    }
+}
