@@ -1,19 +1,19 @@
 -- What the ++VERs that count for one SREL say, in a global zone: they make no loop, and supersede no function.
-use Rattle.std.proofs.Common.{◌≡◌, ◌∙◌, Bool, true, false, not, List, [], ◌∷◌, ◌++◌, map, filter, find, Option, None, Some}
+use Rattle.std.proofs.Common.{◌≡◌, ◌∙◌, Bool, true, false, not, List, [], ◌++◌, map, filter, find, Option, None, Some}
 use Rattle.std.proofs.Common.{All, Contains, IsTrue, inl, inr, refl, sym, ap, subst, true≢false}
-use Rattle.std.specs.Prelude.{◌&&◌, ◌||◌, ◌⊎◌, is_some, ◌==◌}
+use Rattle.std.specs.Prelude.{◌&&◌}
 use Rattle.std.specs.List.{list_any, flat_map}
 use Rattle.std.specs.Option.{option_map_or, option_and_then}
 use Rattle.std.specs.Str.{bytes_eq}
-use Rattle.std.proofs.lemmas.List.Elements.{Contains-append_left, Contains-append_right, Contains-append_cases}
+use Rattle.std.proofs.lemmas.List.Elements.{Contains-append_left, Contains-append_right}
 use Rattle.std.proofs.lemmas.List.Elements.{All-contains}
 use Rattle.lemmas.proofs.Booleans.{neither}
-use Rattle.lemmas.proofs.Members.{here, there, here_or, none_in, in_map, in_filter}
+use Rattle.lemmas.proofs.Members.{here, none_in, in_map, in_filter}
 use Rattle.lemmas.proofs.Searches.{find-gives, All-find, All-from_no_list_any}
 use Rattle.lemmas.proofs.Texts.{same_from}
-use Rattle.terms.specs.Types.{Text, Id, kind_number, Ver, Sysmod, Global}
-use Rattle.terms.specs.Lookups.{at_most_one, is_in, sysmod_of, is_received, is_function}
-use Rattle.terms.specs.Choice.{Choice, by_srel, fmid_of, sup_of}
+use Rattle.terms.specs.Types.{Text, Id, Ver, Sysmod, Global}
+use Rattle.terms.specs.Lookups.{at_most_one, sysmod_of, is_received, is_function}
+use Rattle.terms.specs.Choice.{by_srel, fmid_of, sup_of}
 use Rattle.terms.specs.Over.{Reaches, Supersedes, names}
 use Rattle.terms.specs.Global.{named, names_for, HasLoop, is_service, named_functions, fits_roles, RolesFit}
 use Rattle.terms.proofs.Leads.{reaches_more, last_step}

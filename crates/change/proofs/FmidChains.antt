@@ -1,13 +1,14 @@
--- The chain of a SYSMOD is the SYSMOD and the chain of its FMID, as there is no loop and what names anything is received.
-use Rattle.std.proofs.Common.{◌≡◌, ◌≢◌, ◌≤◌, ◌<◌, ◌+◌, ◌∙◌, ℕ, zero, suc, Bool, true, false, List, [], ◌∷◌, ◌++◌, length, map}
-use Rattle.std.proofs.Common.{Option, None, Some, Contains, get_or, inl, inr, refl, sym, ap, subst, arith, IsTrue}
+-- The chain of a SYSMOD is the SYSMOD and the chain of its FMID, as there is no loop and what names anything is
+-- received.
+use Rattle.std.proofs.Common.{◌≡◌, ◌≢◌, ◌≤◌, ◌<◌, ◌+◌, ◌∙◌, ℕ, zero, suc, Bool, true, false, List, [], ◌∷◌, ◌++◌}
+use Rattle.std.proofs.Common.{length, map, get_or, Option, None, Some, Contains, inl, inr, refl, sym, ap, subst, arith}
 use Rattle.std.specs.Prelude.{◌||◌, if◌then◌else◌, unwrap_or}
 use Rattle.std.proofs.lemmas.Bool.{or_right}
 use Rattle.std.proofs.lemmas.List.{length-map}
 use Rattle.std.proofs.lemmas.List.Elements.{Contains-get_or, Contains-append_right}
 use Rattle.std.proofs.lemmas.List.Kept.{AllPairs-cons}
 use Rattle.lemmas.proofs.Apart.{AreApart, apart-le}
-use Rattle.lemmas.proofs.Members.{here, there, here_or, none_in}
+use Rattle.lemmas.proofs.Members.{here, here_or, none_in}
 use Rattle.terms.specs.Types.{Id, Global}
 use Rattle.terms.specs.Lookups.{at_most_one, is_in, meets, is_function}
 use Rattle.terms.specs.Choice.{Choice, fmid_of, pre_of, sup_of}

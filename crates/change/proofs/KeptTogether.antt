@@ -1,5 +1,5 @@
 -- What APPLY and ACCEPT keep may be installed together.
-use Rattle.std.proofs.Common.{◌≡◌, ◌≢◌, ◌⊎◌, inl, inr, ◌∙◌, Bool, true, false, not, List, [], ◌∷◌, Option, None, Some}
+use Rattle.std.proofs.Common.{◌≡◌, ◌≢◌, ◌⊎◌, inl, inr, ◌∙◌, Bool, true, false, not, List, [], Option, None, Some}
 use Rattle.std.proofs.Common.{Contains, IsTrue, IsSome, is_some, find, map, refl, sym, ap, subst, true≢false}
 use Rattle.std.specs.Prelude.{◌↔◌, ◌&&◌, ◌||◌, ◌==◌}
 use Rattle.std.specs.Option.{option_map_or}
@@ -18,11 +18,10 @@ use Rattle.terms.specs.Changes.{is_replacement, has_replacement, has_update}
 use Rattle.terms.specs.Over.{IsOver, names, owner, Reaches, Supersedes}
 use Rattle.terms.specs.Global.{IsGlobal}
 use Rattle.terms.specs.Deleted.{deletions, is_deleted, zone_less}
-use Rattle.terms.specs.Tests.{Setting, view_of, owner_of, ShareElement, MayNotShare, ChangesInView, has_candidate_base}
-use Rattle.terms.specs.Tests.{PassesAlone, Survives, IsEligible}
-use Rattle.terms.specs.Needs.{Needs, Serves, zone_left}
+use Rattle.terms.specs.Tests.{Setting, view_of, owner_of, ShareElement, MayNotShare, has_candidate_base}
+use Rattle.terms.specs.Tests.{PassesAlone, IsEligible}
+use Rattle.terms.specs.Needs.{Needs}
 use Rattle.terms.specs.Judged.{Stays}
-use Rattle.terms.specs.Kept.{SupportsItself}
 use Rattle.terms.specs.Install.{Installation, TakesEffect, cleared}
 use Rattle.terms.proofs.Ids.{Contains-from_is_in}
 use Rattle.change.proofs.ChosenVers.{names_received, names_no_loop, fmid_function, function_first}
@@ -105,7 +104,7 @@ module _ (s : Setting) (survivors kept : List Id) (members : (x : Id) → Contai
       → ¬ ((¬ IsOver s.choice x y) × (¬ IsOver s.choice y x))
   kept_ordered x y of_x of_y other share neither = kept_share x y of_x of_y other share (inr neither)
 
-  -- An FMID that is a candidate is kept with what names it, as the zone less deletions does not have it applied.
+  -- An FMID that is not applied is kept with what names it, since no zone less deletions has it applied.
   pub kept_fmid : IsZone s.zone → (x f : Id) → Contains kept x → fmid_of s.choice x ≡ Some f
       → is_applied s.zone f ≡ false → Contains kept f
   kept_fmid is_zone x f is at not_applied =
@@ -117,10 +116,14 @@ module _ (s : Setting) (survivors kept : List Id) (members : (x : Id) → Contai
         not_met = applied_was s.global s.choice (deletions s.choice survivors) s.zone is_zone f not_applied;
       } in
       let server = stays.1.served x f Fmid stays.2 needs in
-      (members f).1 (stays.0, stays.1, elim server.2 [
-        | inl same ↦ subst (λ y. IsTrue (stays.0 y)) same server.1
-        | inr over ↦ absurd (true≢false (sym over.0))
-      ])
+      (members f).1 (
+        stays.0,
+        stays.1,
+        elim server.2 [
+          | inl same ↦ subst (λ y. IsTrue (stays.0 y)) same server.1
+          | inr over ↦ absurd (true≢false (sym over.0))
+        ],
+      )
 
   module _ (is_zone : IsZone s.zone) (is_global : IsGlobal s.global) (chosen : s.choice ≡ by_srel s.global s.zone.srel)
       (not_applied : (x : Id) → Contains s.cands x → is_applied s.zone x ≡ false) where
@@ -241,7 +244,8 @@ module _ (s : Setting) (survivors kept : List Id) (members : (x : Id) → Contai
           → IsSome (element_of (cleared i) type name)
           ⊎ ((f : Id) × (fmid_of i.choice x ≡ Some f) × TakesEffect i f × IsTrue (has_replacement i.global f type name))
       install_base x type name is updates =
-          elim (kept_base x type name (in_kept x is) (subst (λ g. IsTrue (has_update g x type name)) of.global updates)) [
+          elim (kept_base x type name (in_kept x is)
+          (subst (λ g. IsTrue (has_update g x type name)) of.global updates)) [
             | inl there ↦ inl (subst (λ zone. IsSome (element_of zone type name)) (sym cleared_is) there)
             | inr base ↦ inr (
               base.0,

@@ -1,30 +1,21 @@
 -- What is found in a zone less what DELETE takes out of it.
 use Rattle.std.proofs.Common.{◌≡◌, ◌∙◌, Bool, true, false, not, List, [], ◌∷◌, map, filter, find, Option, None, Some}
-use Rattle.std.proofs.Common.{Contains, IsTrue, IsSome, is_some, inl, inr, refl, sym, ap, subst, true≢false}
-use Rattle.std.specs.Prelude.{◌&&◌, ◌==◌, if◌then◌else◌, IsFalse}
-use Rattle.std.specs.List.{flat_map, list_any}
+use Rattle.std.proofs.Common.{Contains, IsSome, is_some, inl, inr, refl, sym, ap, subst, true≢false}
+use Rattle.std.specs.Prelude.{◌&&◌, ◌==◌, if◌then◌else◌}
 use Rattle.std.specs.Option.{option_map_or}
-use Rattle.std.specs.declared.cmp.Ordering.{Ordering}
-use Rattle.std.specs.Ordering.{is_eq, nat_cmp}
-use Rattle.std.specs.Cmp.{IsTotalOrder}
-use Rattle.std.specs.Cmp.Lexicographic.{slice_cmp, texts_ties}
+use Rattle.std.specs.Cmp.Lexicographic.{texts_ties}
 use Rattle.std.specs.Str.{bytes_eq}
-use Rattle.std.proofs.lemmas.Bool.{and_parts}
-use Rattle.std.proofs.lemmas.Cmp.{nat_list_cmp_total, tied_itself}
+use Rattle.std.proofs.lemmas.Cmp.{nat_list_cmp_total}
 use Rattle.std.proofs.lemmas.List.Folds.{Any-from_list_any, list_any-from_Any}
-use Rattle.std.proofs.lemmas.Option.{same_Some}
-use Rattle.lemmas.proofs.Members.{here_or, none_in, parts, map_in, in_filter, filter_in}
+use Rattle.lemmas.proofs.Members.{here_or, none_in, map_in, in_filter, filter_in}
 use Rattle.lemmas.proofs.Searches.{find-gives}
-use Rattle.lemmas.proofs.Texts.{same_from}
 use Rattle.terms.specs.declared.kinds.ElemType.{ElemType}
-use Rattle.terms.specs.Rising.{Rises}
 use Rattle.terms.specs.Types.{Text, Id, type_number, Global, Entry, Element, Zone}
 use Rattle.terms.specs.Lookups.{is_held, is_in, IsZone, entry_of, element_of, is_applied}
 use Rattle.terms.specs.Choice.{Choice, del_of}
 use Rattle.terms.specs.Over.{chain}
 use Rattle.terms.specs.Deleted.{deletions, is_deleted, is_taken_out, entry_less, entries_less, zone_less}
 use Rattle.terms.proofs.Ids.{is_in-from_Contains, Contains-from_is_in}
-use Rattle.terms.proofs.RisingLists.{find-there, Splits-around}
 use Rattle.change.proofs.InTurn.{flat_in, find-member}
 
 -- a list with an item that passes the test has a first one
@@ -45,8 +36,7 @@ module _ (g : Global) (c : Choice) where
       → (k : Id) × Contains ks k × (is_deleted g c (del_of c k) x ≡ true)
   deleted_by_one ks x deleted =
       let any = Any-from_list_any (λ y. is_in (deletions c ks) y) (chain g c x) deleted in
-      let from = flat_in (del_of c) ks any.1 (Contains-from_is_in (deletions c ks) any.1 any.4) in
-      (
+      let from = flat_in (del_of c) ks any.1 (Contains-from_is_in (deletions c ks) any.1 any.4) in (
         from.0,
         from.1,
         list_any-from_Any (λ y. is_in (del_of c from.0) y) (chain g c x)
@@ -75,7 +65,8 @@ module _ (g : Global) (c : Choice) where
         ((filter_in (λ e. not (is_deleted g c dels e.fmid)) zone.elements e gives.1).0, gives.0)
 
     -- No id comes to be applied.
-    pub applied_was : IsZone zone → (x : Id) → is_applied zone x ≡ false → is_applied (zone_less g c dels zone) x ≡ false
+    pub applied_was : IsZone zone → (x : Id) → is_applied zone x ≡ false
+        → is_applied (zone_less g c dels zone) x ≡ false
     unfolding zone_less
     applied_was is_zone x not_applied = by (find (λ e. bytes_eq e.id x) less) refl
       where
