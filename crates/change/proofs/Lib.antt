@@ -9,10 +9,10 @@ pub mod InTurn
 pub mod Installable
 pub mod KeptTogether
 pub mod LessLookups
+pub mod Walks
 pub mod Made
 pub mod Planned
 pub mod Put
 pub mod Putting
 pub mod TakingEffect
 pub mod Uncleared
-pub mod Walks
