@@ -1,9 +1,15 @@
 pub mod AfterElements
 pub mod AfterEntries
 pub mod AfterInstall
+pub mod ChosenVers
+pub mod EffectiveIds
+pub mod FmidChains
 pub mod Gathered
 pub mod InTurn
 pub mod Installable
+pub mod KeptTogether
+pub mod LessLookups
+pub mod Walks
 pub mod Made
 pub mod Planned
 pub mod Put
