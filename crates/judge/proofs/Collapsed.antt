@@ -1,21 +1,18 @@
 -- Candidates that are all installable look at the zone itself, and clash where they share an element.
-use Rattle.std.proofs.Common.{◌≡◌, ◌≢◌, ◌⊎◌, inl, inr, zero, suc, Bool, true, false, List, [], ◌∷◌, Option, None}
+use Rattle.std.proofs.Common.{◌≡◌, inl, inr, zero, suc, Bool, true, false, List, [], ◌∷◌, Option, None}
 use Rattle.std.proofs.Common.{Some, IsTrue, refl, sym, ap, ◌∙◌, subst, true≢false, find, Contains, cond, arith}
 use Rattle.std.proofs.Common.{eq-eqb}
-use Rattle.std.specs.Prelude.{All, Any, is_some, unwrap_or, ◌↔◌, ◌==◌, ◌&&◌}
-use Rattle.std.specs.List.{list_all}
+use Rattle.std.specs.Prelude.{All, Any, is_some, ◌↔◌, ◌==◌, ◌&&◌}
 use Rattle.std.specs.Str.{bytes_eq}
 use Rattle.std.proofs.lemmas.Bool.{and_parts, eqb-true}
 use Rattle.std.proofs.lemmas.List.Elements.{Contains-get_or}
 use Rattle.terms.specs.declared.kinds.ElemType.{ElemType}
 use Rattle.terms.specs.Types.{Text, Id, Change, Global, Zone, type_number}
-use Rattle.terms.specs.Lookups.{is_held, is_function, changes_of, change_of, has_change}
-use Rattle.terms.specs.Choice.{Choice, by_srel, fmid_of, npre_of}
+use Rattle.terms.specs.Lookups.{is_held, changes_of, change_of, has_change}
+use Rattle.terms.specs.Choice.{Choice, by_srel}
 use Rattle.terms.specs.Over.{IsOver}
-use Rattle.terms.specs.Changes.{is_replacement}
 use Rattle.terms.specs.Deleted.{deletions, zone_less}
-use Rattle.terms.specs.Tests.{Setting, view_of, owner_of}
-use Rattle.terms.specs.Tests.{ShareElement, Clash}
+use Rattle.terms.specs.Tests.{Setting, view_of}
 use Rattle.terms.specs.CommandForms.{no_bypass}
 use Rattle.terms.specs.Judged.{setting}
 use Rattle.lemmas.proofs.Searches.{find-gives}

@@ -18,10 +18,9 @@ use Rattle.std.proofs.lemmas.List.Elements.{All-contains, filter_passes}
 use Rattle.std.proofs.lemmas.List.Kept.{AllPairs-filter}
 use Rattle.std.proofs.lemmas.Map.Views.{list_any-from_Contains}
 use Rattle.indexmap.proofs.CallerLemmas.{Contains-list_any}
-use Rattle.terms.specs.declared.kinds.ElemType.{ElemType}
 use Rattle.terms.specs.declared.codes.Test.{Test}
-use Rattle.terms.specs.Types.{Text, Id, Bypass, Global, Zone}
-use Rattle.terms.specs.Lookups.{IsRising, is_held, is_before, is_in, changes_of, has_change}
+use Rattle.terms.specs.Types.{Id, Bypass, Global, Zone}
+use Rattle.terms.specs.Lookups.{IsRising, is_held, is_before, is_in}
 use Rattle.terms.specs.Tests.{Setting, FailsJ9, Survives, AreSurvivors, IsEligible, Fails}
 use Rattle.terms.specs.Judged.{setting}
 use Rattle.terms.specs.Global.{IsGlobal}
@@ -29,7 +28,7 @@ use Rattle.terms.specs.Problem.{holds}
 use Rattle.lemmas.proofs.Pairs.{AllPairs-rest}
 use Rattle.lemmas.proofs.Places.{contains_at, found_at}
 use Rattle.lemmas.proofs.Texts.{same_itself}
-use Rattle.lemmas.proofs.Members.{map_in, in_map, here_or, here, filter_in, in_filter}
+use Rattle.lemmas.proofs.Members.{here_or, here, filter_in, in_filter}
 use Rattle.machine.specs.Installing.{all_tests}
 use Rattle.judge.specs.declared.own.OwnFaults.{OwnFaults}
 use Rattle.judge.specs.Failed.{AreFailedTests, AreEligible}

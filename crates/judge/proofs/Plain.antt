@@ -1,18 +1,16 @@
 -- What is installable has no NPRE, DELETE and ++IF, no ERROR hold, and changes elements only as a function.
-use Rattle.std.proofs.Common.{◌≡◌, ◌⊎◌, inl, inr, Bool, true, false, not, List, [], ◌∷◌, Option, None, Some, IsTrue}
+use Rattle.std.proofs.Common.{◌≡◌, inl, inr, Bool, true, false, not, List, [], ◌∷◌, Option, None, Some, IsTrue}
 use Rattle.std.proofs.Common.{refl, sym, ap, ◌∙◌, subst, true≢false, filter, Contains, arith}
-use Rattle.std.specs.Prelude.{◌&&◌, ◌==◌, is_some}
+use Rattle.std.specs.Prelude.{◌&&◌, is_some}
 use Rattle.std.specs.List.{list_all}
 use Rattle.std.specs.Option.{option_map_or}
-use Rattle.std.proofs.lemmas.Bool.{and_parts, or_cases}
-use Rattle.terms.specs.declared.kinds.HoldKind.TheVariants.{Error, System, User}
-use Rattle.terms.specs.Types.{Id, Ver, Sysmod, Global, Zone, kind_number}
-use Rattle.terms.specs.Lookups.{is_nil, sysmod_of, is_function, changes_of, holds_of, applied_ids, is_applied, entry_of}
+use Rattle.std.proofs.lemmas.Bool.{and_parts}
+use Rattle.terms.specs.Types.{Id, Ver, Global, Zone}
+use Rattle.terms.specs.Lookups.{is_nil, sysmod_of, applied_ids, is_applied, entry_of}
 use Rattle.terms.specs.Lookups.{is_supplied, delby_of}
 use Rattle.std.specs.Str.{bytes_eq}
 use Rattle.terms.proofs.Nil.{nil_from}
-use Rattle.terms.specs.Choice.{Choice, by_srel, vers_of, npre_of, del_of, ifs_of}
-use Rattle.terms.specs.Changes.{is_replacement}
+use Rattle.terms.specs.Choice.{Choice, by_srel, vers_of, npre_of, del_of}
 use Rattle.terms.specs.Served.{is_plain, has_plain_ver, has_plain_changes, is_served_zone, is_served}
 use Rattle.terms.specs.Candidates.{is_installable}
 use Rattle.lemmas.proofs.Searches.{find-gives}
