@@ -131,14 +131,9 @@ const FILES: &[[&str; 3]] = &[
     ["APPLY.", "/* open", "2 Cn5"],
     ["APPLY.", "APPLY NO", "2 Cn5"],
     [
-        "APPLY BYPASS(PRE,REQ IFREQ , ID).",
-        "",
-        "APPLY PRE REQ IFREQ ID;",
-    ],
-    [
-        "APPLY BYPASS(HOLDUSER,HOLDSYSTEM).",
-        "",
-        "APPLY HOLDSYSTEM HOLDUSER;",
+        "APPLY BYPASS(PRE,REQ IFREQ , ID",
+        "HOLDUSER,HOLDSYSTEM) CHECK.",
+        "APPLY CHECK PRE REQ IFREQ ID HOLDSYSTEM HOLDUSER;",
     ],
     [
         "APPLY BYPASS(HOLDERROR (AA00002,AA00001)",
