@@ -42,10 +42,13 @@ pub struct Release {
 
 impl Model for Release {
     ghost use Rattle.terms.specs.Types as terms;
+    ghost use Rattle.terms.specs.Forms.{IsReason};
 
     ghost Value = { terms.Release };
 
     ghost view = { λ a. record { id = a.id; kind = a.kind; reason = a.reason; fmid = a.fmid } };
+
+    ghost invariant = { λ a. IsReason a.kind a.reason };
 
     ghost inverse = { λ r. record { id = r.id; kind = r.kind; reason = r.reason; fmid = r.fmid } };
 }

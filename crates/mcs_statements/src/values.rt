@@ -61,6 +61,7 @@ fn suits_kind(kind: HoldKind, reason: Reason) -> bool
 pub fn required_reason(kind: HoldKind, words: &Words<'_>, name: &[u8]) -> Option<Reason>
     ensures some { (ws : List grammar.Word) → LeavesWords words.now ws
         → IfSome result (λ v. HasRequired (IsReason kind) (operand name.now ws) v) }
+    ensures form { IfSome result (λ v. IsReason kind v) }
     ensures none { (ws : List grammar.Word) → LeavesWords words.now ws
         → IfNone result ((v : List ℕ) → HasRequired (IsReason kind) (operand name.now ws) v → ⊥) }
 {

@@ -22,3 +22,6 @@ pub returns-clause-some : goal.returns-clause-some
 returns-clause-some c = λ ws l.
     class_reason c.args.kind (operand c.args.name.now ws) c.in-Some.reason (c.in-Some.ensures.some ws l)
     (c.suits_kind.ensures.0 c.if-not-suits_kind.false)
+
+pub returns-clause-form : goal.returns-clause-form
+returns-clause-form c = c.suits_kind.ensures.0 c.if-not-suits_kind.false
