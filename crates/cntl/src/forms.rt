@@ -11,8 +11,8 @@ ghost use Rattle.cntl.specs.Singles.{AreSingle};
 
 use crate::bypassed::bypass;
 use crate::command::{Command, Install, ReceiveWhat, Selection};
-use cntl_words::KnownWord;
 use crate::values::{flag_of, id_list, some_ids, source_list, zone};
+use cntl_words::KnownWord;
 use fields::Source;
 use operands::{BadOperand, OperandError, optional};
 use rec80::Words;

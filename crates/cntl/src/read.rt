@@ -10,11 +10,9 @@ ghost use Rattle.cntl.specs.Views.{command_of};
 ghost use Rattle.cntl.specs.Faults.{FailsCommand};
 
 use crate::command::Command;
-use cntl_words::has_double;
 use crate::errors::CommandError;
 use crate::forms::read_operands;
-use cntl_words::are_operands;
-use cntl_words::{KnownWord, read_known};
+use cntl_words::{KnownWord, are_operands, has_double, read_known};
 use operands::OperandError;
 use rec80::{Piece, Words};
 use std::alloc::Global;

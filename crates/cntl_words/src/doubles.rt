@@ -8,8 +8,8 @@ ghost use Rattle.operands.specs.Left.{LeavesPieces};
 ghost use Rattle.cntl_words.specs.Views.{command_word_of};
 
 use crate::known_word::KnownWord;
-use crate::tables::{members_of, operands_of};
 use crate::runs::any_run_twice;
+use crate::tables::{members_of, operands_of};
 use crate::words::{any_twice, list_behind};
 use rec80::Words;
 

@@ -130,11 +130,10 @@ const FILES: &[[&str; 3]] = &[
     ["APPLY. APPLY.", "", "1 Cn5"],
     ["APPLY.", "/* open", "2 Cn5"],
     ["APPLY.", "APPLY NO", "2 Cn5"],
-    ["APPLY BYPASS(PRE,REQ IFREQ , ID).", "", "APPLY PRE REQ IFREQ ID;"],
     [
-        "APPLY BYPASS(HOLDUSER,HOLDSYSTEM",
-        "HOLDERROR) CHECK.",
-        "APPLY CHECK HOLDERROR HOLDSYSTEM HOLDUSER;",
+        "APPLY BYPASS(PRE,REQ IFREQ , ID",
+        "HOLDUSER,HOLDSYSTEM) CHECK.",
+        "APPLY CHECK PRE REQ IFREQ ID HOLDSYSTEM HOLDUSER;",
     ],
     [
         "APPLY BYPASS(HOLDERROR (AA00002,AA00001)",
@@ -149,7 +148,6 @@ const FILES: &[[&str; 3]] = &[
     ["APPLY BYPASS(,PRE).", "", "1 Cn2"],
     ["APPLY BYPASS(PRE,).", "", "1 Cn2"],
     ["APPLY BYPASS(HOLDUSER(A)PRE).", "", "1 Cn2"],
-    ["APPLY BYPASS(HOLDUSER(A A)).", "", "1 Cn2"],
     ["APPLY BYPASS(HOLDERROR(A)).", "", "1 Cn2"],
     ["APPLY BYPASS(HOLDCLASS).", "", "1 Cn2"],
     ["APPLY BYPASS(PRE(A)).", "", "1 Cn2"],
@@ -180,18 +178,14 @@ fn put_receive(spelled: &mut Spelled, what: &ReceiveWhat) {
 }
 
 fn put_reasons(spelled: &mut Spelled, reasons: &Reasons, name: &[u8]) {
-    match reasons {
-        Reasons::None => {}
-        Reasons::Any => spelled.put(name),
-        Reasons::These(list) => {
-            spelled.put(name);
-            spelled.put(b"(");
-            for reason in list.iter() {
-                spelled.put(reason.as_bytes());
-                spelled.put(b" ");
-            }
-            spelled.put(b")");
+    put_flag(spelled, !matches!(reasons, Reasons::None), name);
+    if let Reasons::These(list) = reasons {
+        spelled.put(b"(");
+        for reason in list.iter() {
+            spelled.put(reason.as_bytes());
+            spelled.put(b" ");
         }
+        spelled.put(b")");
     }
 }
 

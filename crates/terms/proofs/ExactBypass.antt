@@ -1,6 +1,6 @@
 -- What BYPASS says is determined, and none of its members is there twice.
-use Rattle.std.proofs.Common.{◌≡◌, ◌≢◌, ◌≤◌, ◌<◌, Bool, true, false, IsTrue, List, [], length, map, get_or, Option, Some}
-use Rattle.std.proofs.Common.{None, refl, sym, ◌∙◌, ap, subst, arith}
+use Rattle.std.proofs.Common.{◌≡◌, ◌≢◌, ◌≤◌, ◌<◌, Bool, true, false, IsTrue, List, [], length, map, get_or, Option}
+use Rattle.std.proofs.Common.{Some, None, refl, sym, ◌∙◌, ap, subst, arith}
 use Rattle.std.specs.Prelude.{◌&&◌, All, AllPairs, Contains, IsSomeAnd, codes, nat_le}
 use Rattle.std.specs.List.{list_any, list_all}
 use Rattle.std.proofs.lemmas.Bool.{and_parts, leb-true}

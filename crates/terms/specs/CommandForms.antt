@@ -1,5 +1,5 @@
--- The form of each command: its word, its operands and its value (SMP/E Commands: SET, RECEIVE, REJECT, APPLY and ACCEPT
--- with BYPASS, RESTORE, LIST, REPORT).
+-- The form of each command: its word, its operands and its value (SMP/E Commands: SET, RECEIVE, REJECT, APPLY, ACCEPT,
+-- BYPASS of these two, RESTORE, LIST, REPORT).
 use Rattle.std.specs.Prelude.{◌≡◌, ◌||◌, Bool, true, false, not, List, [], ◌∷◌, Option, Some, None, IsSomeAnd, IsTrue}
 use Rattle.std.specs.Prelude.{codes}
 use Rattle.terms.specs.declared.kinds.HoldKind.{HoldKind}

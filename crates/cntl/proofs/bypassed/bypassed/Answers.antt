@@ -4,7 +4,8 @@ use Rattle.cntl.proofs.bypassed.bypassed.Goals as goal
 
 pub returns-in_err-member_flag-5-clause-bad : goal.returns-in_err-member_flag-5-clause-bad
 returns-in_err-member_flag-5-clause-bad c = λ ms h.
-    let p = err_from_is_err_and c.from_residual-in_err-member_flag-5.result c.from_residual-in_err-member_flag-5.ensures.1 in
+    let p = err_from_is_err_and c.from_residual-in_err-member_flag-5.result
+    c.from_residual-in_err-member_flag-5.ensures.1 in
     rw (p.1, p.2) (λ s. c.in_err-member_flag-5.ensures.bad ms h s.0.applycheck s.1.applycheck)
 
 pub returns-in_err-reasons-clause-bad : goal.returns-in_err-reasons-clause-bad

@@ -18,4 +18,5 @@ returns c = λ some.
     take_all c.loop-name.name-index c.args.names.now (omega arith) in
     let runs = runs_from false [] (text_of c.args.list.now) in
     sym (list_any_none (λ name. is_often 2 runs name.now) c.args.names.now
-    (All-same (λ name. is_often 2 runs name.now ≡ false) c.args.names.now (take c.loop-name.name-index c.args.names.now) (sym all) (c.loop-name.invariant some)))
+    (All-same (λ name. is_often 2 runs name.now ≡ false) c.args.names.now
+    (take c.loop-name.name-index c.args.names.now) (sym all) (c.loop-name.invariant some)))

@@ -7,7 +7,8 @@ use Rattle.cntl_words.proofs.words.any_twice.Goals as goal
 
 pub loop-name-preserved : goal.loop-name-preserved
 loop-name-preserved c = λ pieces h.
-    All-more (λ name. is_often 2 (words_in pieces) name.now ≡ false) c.args.names.now c.loop-name.name-index _ (omega arith)
+    All-more (λ name. is_often 2 (words_in pieces) name.now ≡ false) c.args.names.now c.loop-name.name-index _
+    (omega arith)
     (c.loop-name.invariant pieces h) (sym (c.is_twice.ensures pieces h) ∙ c.if-is_twice.false)
 
 pub returns : goal.returns
