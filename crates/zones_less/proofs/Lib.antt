@@ -1,0 +1,9 @@
+pub mod Steps
+pub mod Alike
+pub mod Entries
+pub mod Filtered
+pub mod Lookups
+pub mod Views
+pub mod Flats
+pub mod Requisites
+pub mod Lost
