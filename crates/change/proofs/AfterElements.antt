@@ -1,5 +1,5 @@
 -- Whatever zone the edits of elements make of the old one has the elements that the install asks for.
-use Rattle.std.proofs.Common.{◌≡◌, inl, inr, Bool, true, false, List, [], ◌∷◌, Option, Some, None, refl, sym, ap}
+use Rattle.std.proofs.Common.{◌≡◌, inr, Bool, true, false, List, [], ◌∷◌, Some, None, refl, sym, ap}
 use Rattle.std.proofs.Common.{◌∙◌, subst, true≢false, IsTrue, map}
 use Rattle.std.specs.Prelude.{find, Contains, IsFalse, fold}
 use Rattle.std.specs.Option.{option_map_or}

@@ -1,20 +1,16 @@
 -- What is known of an installable SYSMOD, as only those are served that delete nothing.
-use Rattle.std.proofs.Common.{◌≡◌, inl, inr, Bool, true, false, not, List, [], ◌∷◌, Option, Some, None, refl, sym, ap}
-use Rattle.std.proofs.Common.{◌∙◌, subst, true≢false, IsTrue}
-use Rattle.std.specs.Prelude.{◌&&◌, ◌||◌, ◌==◌, is_some, Contains}
-use Rattle.std.specs.List.{list_all}
+use Rattle.std.proofs.Common.{◌≡◌, Bool, true, false, not, [], Option, Some, None, refl, sym, ap}
+use Rattle.std.proofs.Common.{◌∙◌, true≢false, IsTrue}
+use Rattle.std.specs.Prelude.{◌&&◌, ◌||◌, is_some}
 use Rattle.std.specs.Option.{option_map_or}
 use Rattle.std.specs.Str.{bytes_eq}
 use Rattle.std.proofs.lemmas.Bool.{and_parts, not-true}
 use Rattle.terms.proofs.Nil.{nil_from}
-use Rattle.terms.specs.Types.{Id, kind_number, Ver, Sysmod, Change, Entry, Global, Zone}
-use Rattle.terms.specs.Lookups.{IsZone, is_nil, is_held, sysmod_of, is_function, entry_of, delby_of, is_supplied}
-use Rattle.terms.specs.Lookups.{changes_of}
+use Rattle.terms.specs.Types.{Id, Ver, Entry, Global, Zone}
+use Rattle.terms.specs.Lookups.{IsZone, is_nil, is_held, entry_of, delby_of, is_supplied}
 use Rattle.terms.specs.Choice.{by_srel, vers_of, del_of}
-use Rattle.terms.specs.Changes.{is_replacement}
-use Rattle.terms.specs.Served.{is_plain, has_plain_ver, has_plain_changes, is_served}
+use Rattle.terms.specs.Served.{is_plain, has_plain_ver, is_served}
 use Rattle.terms.specs.Candidates.{is_installable}
-use Rattle.lemmas.proofs.Members.{here_or, none_in}
 use Rattle.lemmas.proofs.Searches.{All-find}
 
 module _ (g : Global) (zone : Zone) (x : Id) (ok : IsTrue (is_installable g zone x)) where
