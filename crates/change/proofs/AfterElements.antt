@@ -81,7 +81,8 @@ module _ (i : Installation) (zone : Zone) (same_zone : cleared i ≡ zone) (es :
       in_turn-none element_cmp_total put_key element_eq element_ties (map put es) [] (type, name)
       (λ d there. by d there (element_eq (put_key d) (type, name)) refl)
     where
-      by : (d : ElementEdit) → Contains (map put es) d → (b : Bool) → element_eq (put_key d) (type, name) ≡ b → b ≡ false
+      by : (d : ElementEdit) → Contains (map put es) d → (b : Bool) → element_eq (put_key d) (type, name) ≡ b
+          → b ≡ false
       by d there false at = refl
       by d there true at =
           let m = map_in put es d there in
