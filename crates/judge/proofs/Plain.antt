@@ -11,7 +11,7 @@ use Rattle.terms.specs.Lookups.{is_supplied, delby_of}
 use Rattle.std.specs.Str.{bytes_eq}
 use Rattle.terms.proofs.Nil.{nil_from}
 use Rattle.terms.specs.Choice.{Choice, by_srel, vers_of, npre_of, del_of}
-use Rattle.terms.specs.Served.{is_plain, has_plain_ver, has_plain_changes, is_served_zone, is_served}
+use Rattle.terms.specs.Served.{is_plain, has_plain_ver, is_served_zone, is_served}
 use Rattle.terms.specs.Candidates.{is_installable}
 use Rattle.lemmas.proofs.Searches.{find-gives}
 use Rattle.lemmas.proofs.Texts.{same_from}
@@ -72,12 +72,9 @@ plain-from g zone x installable =
     installable in
     let free = and_parts (has_ver && is_served g zone x) (not (is_supplied zone x)) off.0 in
     let served = (and_parts has_ver (is_served g zone x) free.0).1 in
-    let ver : Bool = has_plain_ver g zone x in
-    let changes : Bool = option_map_or has_plain_changes (sysmod_of g x) true in
-    let a = and_parts (ver && changes) (is_served_zone g zone) served in
-    let b = and_parts ver changes a.0 in
+    let a = and_parts (has_plain_ver g zone x) (is_served_zone g zone) served in
     record {
-      names_nothing = names-nothing (by_srel g zone.srel) x b.0;
+      names_nothing = names-nothing (by_srel g zone.srel) x a.0;
       applied = λ y on. names-nothing (by_srel g zone.srel) y
           (all-from (has_plain_ver g zone) (applied_ids zone) y a.1 on);
     }

@@ -5,7 +5,7 @@ ghost use Rattle.terms.specs.Choice.{by_srel, fmid_of, sup_of, vers_of};
 ghost use Rattle.terms.specs.Served.{is_served, is_served_zone};
 ghost use Rattle.terms.specs.Candidates.{is_installable, is_open};
 
-use crate::served::{changes_plainly, has_plain_ver, is_served_zone};
+use crate::served::{has_plain_ver, is_served_zone};
 use cntl::Selection;
 use fields::Id;
 use sysmods::{Global, VerChoice};
@@ -72,9 +72,7 @@ impl<'a> Scope<'a> {
     fn is_served(&self, id: Id) -> bool
         ensures { result ≡ is_served self.now.global.now self.now.zone.now id }
     {
-        has_plain_ver(self.global, self.zone, id)
-            && changes_plainly(self.global, id)
-            && self.serves_zone
+        has_plain_ver(self.global, self.zone, id) && self.serves_zone
     }
 
     pub(crate) fn is_deleted(&self, id: Id) -> bool

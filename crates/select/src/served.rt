@@ -1,16 +1,12 @@
 //! Whether a SYSMOD is served as yet.
-ghost use Rattle.std.specs.Prelude.{◌≡◌, ◌==◌, ◌&&◌, ◌||◌, not, is_some, true};
+ghost use Rattle.std.specs.Prelude.{◌≡◌, ◌&&◌, ◌||◌, not, is_some};
 ghost use Rattle.std.specs.List.{list_all};
-ghost use Rattle.std.specs.Option.{option_map_or};
-ghost use Rattle.terms.specs.Types.{kind_number};
-ghost use Rattle.terms.specs.Lookups.{is_nil, sysmod_of};
-ghost use Rattle.terms.specs.Changes.{is_replacement};
-ghost use Rattle.terms.specs.Served.{is_plain, has_plain_ver, has_plain_changes, is_served_zone};
+ghost use Rattle.terms.specs.Lookups.{is_nil};
+ghost use Rattle.terms.specs.Served.{is_plain, has_plain_ver, is_served_zone};
 
-use fields::{Id, Srel};
+use fields::Id;
 use sysmods::{Global, VerChoice};
-use sysmods_records::{Action, ElemChange, Sysmod, Ver};
-use terms::Kind;
+use sysmods_records::Ver;
 use zones::{Entry, Zone};
 
 pub(crate) fn is_nil<T>(items: &[T]) -> bool
@@ -31,44 +27,6 @@ pub(crate) fn has_plain_ver(global: &Global, zone: &Zone, id: Id) -> bool
 {
     match VerChoice::new(global, zone.srel()).ver(id) {
         Some(ver) => is_plain(ver),
-        None => true,
-    }
-}
-
-fn replaces(change: &ElemChange) -> bool
-    ensures { result ≡ is_replacement change.now.action }
-{
-    match change.action {
-        Action::Replaces { .. } => true,
-        Action::Updates { .. } => false,
-    }
-}
-
-fn only_replaces(changes: &[ElemChange]) -> bool
-    ensures { result ≡ list_all (λ h. is_replacement h.action) changes.now }
-{
-    changes.iter().all(replaces)
-}
-
-fn replaces_as_function(sysmod: &Sysmod) -> bool
-    ensures { result ≡ ((kind_number sysmod.now.kind == 0) && list_all (λ h. is_replacement h.action)
-        sysmod.now.changes) }
-{
-    sysmod.kind == Kind::Function && only_replaces(sysmod.changes.as_slice())
-}
-
-fn has_plain_changes(sysmod: &Sysmod) -> bool
-    ensures { result ≡ has_plain_changes sysmod.now }
-{
-    is_nil(sysmod.changes.as_slice()) || replaces_as_function(sysmod)
-}
-
-/// Whether it has no element statements, or is a function and only replaces, if it is received.
-pub(crate) fn changes_plainly(global: &Global, id: Id) -> bool
-    ensures { result ≡ option_map_or has_plain_changes (sysmod_of global.now id) true }
-{
-    match global.get(id) {
-        Some(sysmod) => has_plain_changes(sysmod),
         None => true,
     }
 }

@@ -3,7 +3,7 @@ use Rattle.std.proofs.Common.{◌≡◌, ◌≢◌, ◌⊎◌, inl, inr, Bool, t
 use Rattle.std.proofs.Common.{IsTrue, filter, map, refl, sym, ap, ◌∙◌, subst, true≢false}
 use Rattle.std.specs.Prelude.{◌↔◌, ◌&&◌, ◌==◌, All, Contains, IsPermutation, is_some, unwrap_or, if◌then◌else◌}
 use Rattle.std.specs.Str.{bytes_eq}
-use Rattle.std.proofs.lemmas.Bool.{not-true}
+use Rattle.std.proofs.lemmas.Bool.{and_parts, not-true}
 use Rattle.std.proofs.lemmas.List.{map-append, map-id}
 use Rattle.std.proofs.lemmas.List.Elements.{All-contains, Contains-get_or, Contains-append_left, Contains-append_right}
 use Rattle.std.proofs.lemmas.List.Elements.{Contains-append_cases}
@@ -12,10 +12,12 @@ use Rattle.std.proofs.lemmas.List.Sorted.{IsPermutation-map, IsPermutation-sym, 
 use Rattle.terms.specs.declared.kinds.ElemType.{ElemType}
 use Rattle.terms.specs.declared.not_chosen.NotChosen.{NotChosen}
 use Rattle.terms.specs.Types.{Text, Id, type_number, Change, Global, Zone, Bypass, Selection}
-use Rattle.terms.specs.Lookups.{IsRising, is_in, change_of, changes_of, has_change}
-use Rattle.terms.specs.Choice.{by_srel, fmid_of}
+use Rattle.terms.specs.Lookups.{IsRising, IsZone, is_in, is_applied, is_supplied}
+use Rattle.terms.specs.Choice.{by_srel}
+use Rattle.terms.specs.Over.{IsOver}
+use Rattle.terms.specs.Global.{IsGlobal}
 use Rattle.terms.specs.Candidates.{AreCandidates, is_installable, not_chosen}
-use Rattle.terms.specs.Tests.{Setting, IsEligible, Fails, ShareElement, owner_of}
+use Rattle.terms.specs.Tests.{Setting, IsEligible, Fails, ShareElement}
 use Rattle.terms.specs.Needs.{Needs, Serves, bypassed_ids}
 use Rattle.terms.specs.Judged.{setting}
 use Rattle.lemmas.proofs.Apart.{AreApart}
@@ -28,7 +30,8 @@ use Rattle.machine.specs.Outcome.{Status, Superseded, Failure, Failed, Line}
 use Rattle.machine.specs.Installing.{Decision, IsDecision, IsDecided, IsFailure, HasStatus, IsInstalled, IsSuperseded, IsFailed, IsNotChosen}
 use Rattle.machine.specs.Installing.{AreInstallLines, installed_status, not_chosen_status}
 use Rattle.terms.specs.Install.{TakesEffect}
-use Rattle.change.proofs.Installable.{replaces}
+use Rattle.change.specs.Elements.{HasBases}
+use Rattle.change.proofs.KeptTogether.{install_over, changed_base, unsupplied}
 use Rattle.smpe_apply.specs.Statuses.{kept_status, kept_statuses, failed_statuses, left_out_statuses}
 use Rattle.smpe_apply.specs.Statuses.{all_statuses, AreById}
 use Rattle.smpe_apply.proofs.ById.{rises_by_id}
@@ -79,29 +82,6 @@ module _ (g : Global) (zone : Zone) (sel : Selection) (bypass : Bypass) (date : 
   pub kept_installable : All (λ x. IsTrue (is_installable g zone x)) kept
   kept_installable = λ i d below. installable _ (cand _ (Contains-get_or kept i d below))
 
-  -- what changes an element is a function, and so its own owner
-  own : (x : Id) (type : ElemType) (name : Text) → Contains kept x → IsTrue (has_change g x type name)
-      → owner_of s x ≡ x
-  own x type name h changes = by (change_of g x type name) refl
-    where
-      by : (o : Option Change) → change_of g x type name ≡ o → owner_of s x ≡ x
-      by None at = absurd (true≢false (sym changes ∙ ap is_some at))
-      by (Some c) at =
-          let found = find-gives (λ c. (type_number c.elem_type == type_number type) && bytes_eq c.name name)
-          (changes_of g x) c at in
-          ap (λ b. if b then x else unwrap_or (fmid_of s.choice x) x)
-          (replaces g zone x (installable x (cand x h)) c found.1).1
-
-  pub kept_apart : (x y : Id) → Contains kept x → Contains kept y → ShareElement g x y → x ≡ y
-  kept_apart x y h k shared = by (same_or_not x y)
-    where
-      by : (x ≡ y) ⊎ (x ≢ y) → x ≡ y
-      by (inl same) = same
-      by (inr other) =
-          let owners : owner_of s x ≢ owner_of s y =
-          λ same. other (sym (own x shared.0 shared.1 h shared.2) ∙ same ∙ own y shared.0 shared.1 k shared.3) in
-          absurd ((eligible x h).1 ((eligible x h).0, (y, (eligible y k).0, other, inr (inr (shared, inl owners)))))
-
   -- with the pairs of a kept id and a bypassed requisite of it
   abbrev pub decision : List (Id × Id) → Decision
   decision bypassed = record {
@@ -117,6 +97,22 @@ module _ (g : Global) (zone : Zone) (sel : Selection) (bypass : Bypass) (date : 
       date = date;
     };
   }
+
+  unapplied : (x : Id) → Contains cands x → is_applied zone x ≡ false
+  unapplied x h = unsupplied zone x (not-true (is_supplied zone x)
+      (and_parts _ _ (and_parts _ _ (installable x h)).0).1)
+
+  -- The kept ones may be installed together: over orders those that share an element, and an element that one of them
+  -- updates is there, or one of them replaces it.
+  module _ (is_zone : IsZone zone) (is_global : IsGlobal g) (bypassed : List (Id × Id)) where
+    pub kept_order : (x y : Id) → Contains kept x → Contains kept y → x ≢ y → ShareElement g x y
+        → IsOver (by_srel g zone.srel) x y ⊎ IsOver (by_srel g zone.srel) y x
+    kept_order = install_over s decided.survivors kept decided.members is_zone is_global refl unapplied
+        (decision bypassed).installing (record { global = refl; choice = refl; zone = refl; kept = refl })
+
+    pub kept_bases : HasBases (decision bypassed).installing
+    kept_bases = changed_base s decided.survivors kept decided.members is_zone is_global refl unapplied
+        (decision bypassed).installing (record { global = refl; choice = refl; zone = refl; kept = refl })
 
   pub decides : (bypassed : List (Id × Id))
       → ((x z : Id) → Contains bypassed (x, z) ↔ (Contains kept x × Contains (bypassed_ids s x) z))

@@ -40,6 +40,8 @@ pub fn apply(
     ensures dated { IsDottedDate date }
 {
     prove!(date.as_bytes().len() == 6);
+    prove!(global.len() < 65_536);
+    zone.known();
     let ids = candidates(alloc, global, zone, selection)?;
     let Decided {
         kept,

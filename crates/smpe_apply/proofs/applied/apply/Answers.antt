@@ -3,8 +3,10 @@ use Rattle.terms.specs.Choice.{by_srel}
 use Rattle.terms.specs.Delta.{IsChanged}
 use Rattle.terms.specs.Install.{HasInstalled}
 use Rattle.report.specs.Views.{line_view}
+use Rattle.change.specs.Elements.{HasBases}
+use Rattle.change.specs.Plans.{installation}
 use Rattle.smpe_apply.specs.Statuses.{said, why_failed, all_statuses, AreById}
-use Rattle.smpe_apply.proofs.Decisions.{kept_installable, kept_apart, decision, decides, install_lines}
+use Rattle.smpe_apply.proofs.Decisions.{kept_installable, kept_order, kept_bases, decision, decides, install_lines}
 use Rattle.smpe_apply.proofs.applied.apply.Goals as goal
 
 pub install-requires-clause-installable : goal.install-requires-clause-installable
@@ -13,11 +15,21 @@ install-requires-clause-installable c =
     c.in_ok-ids.ids c.in_ok-kept.field-0.kept (map why_failed c.in_ok-kept.field-0.failed.items)
     c.in_ok-ids.ensures.members c.in_ok-ids.ensures.installable c.in_ok-kept.ensures.decided
 
-pub install-requires-clause-apart : goal.install-requires-clause-apart
-install-requires-clause-apart c =
-    kept_apart c.args.global.now c.args.zone.now c.args.selection.now c.args.bypass.now c.args.date c.in_ok-ids.ids
+pub install-requires-clause-order : goal.install-requires-clause-order
+install-requires-clause-order c =
+    kept_order c.args.global.now c.args.zone.now c.args.selection.now c.args.bypass.now c.args.date c.in_ok-ids.ids
     c.in_ok-kept.field-0.kept (map why_failed c.in_ok-kept.field-0.failed.items)
-    c.in_ok-ids.ensures.members c.in_ok-ids.ensures.installable c.in_ok-kept.ensures.decided
+    c.in_ok-ids.ensures.members c.in_ok-ids.ensures.installable c.in_ok-kept.ensures.decided c.known.ensures
+    c.len.ensures.form c.in_ok-kept.field-0.bypassed.items
+
+pub install-requires-clause-base : goal.install-requires-clause-base
+install-requires-clause-base c =
+    subst (λ pairs. HasBases (installation c.args.global.now c.args.zone.now c.in_ok-kept.field-0.kept pairs
+    c.args.date)) (sym c.as_slice.ensures.value)
+    (kept_bases c.args.global.now c.args.zone.now c.args.selection.now c.args.bypass.now c.args.date c.in_ok-ids.ids
+    c.in_ok-kept.field-0.kept (map why_failed c.in_ok-kept.field-0.failed.items)
+    c.in_ok-ids.ensures.members c.in_ok-ids.ensures.installable c.in_ok-kept.ensures.decided c.known.ensures
+    c.len.ensures.form c.in_ok-kept.field-0.bypassed.items)
 
 pub returns-clause-installs : goal.returns-clause-installs
 returns-clause-installs c new changed =
