@@ -1,6 +1,8 @@
 -- The elements of an install: what deletions leave of them, and the SYSMODs that change each.
-use Rattle.std.proofs.Common.{◌≡◌, ◌≢◌, ◌⊎◌, inl, inr, Bool, true, false, List, [], ◌∷◌, ◌++◌, Option, Some, None, refl, sym}
-use Rattle.std.proofs.Common.{ap, ◌∙◌, subst, true≢false, IsTrue, All, Any, Contains, arith, IsPermutation, AllPairs, map, IsSome}
+use Rattle.std.proofs.Common.{◌≡◌, ◌≢◌, ◌⊎◌, inl, inr, Bool, true, false, List, [], ◌∷◌, ◌++◌, Option, Some, None, refl}
+use Rattle.std.proofs.Common.{sym}
+use Rattle.std.proofs.Common.{ap, ◌∙◌, subst, true≢false, IsTrue, All, Any, Contains, arith, IsPermutation, AllPairs}
+use Rattle.std.proofs.Common.{map, IsSome}
 use Rattle.std.proofs.Common.{◌<◌, ◌+◌, ℕ, length, take, subst₂}
 use Rattle.std.specs.Prelude.{not, find, filter, get_or}
 use Rattle.std.specs.Ordering.{is_lt}

@@ -1,5 +1,6 @@
 //! What the SYSMODs that change one element make of it, one after the other in the order of over.
-ghost use Rattle.std.specs.Prelude.{◌≡◌, ◌<◌, ◌⊎◌, All, AllPairs, Any, IsTrue, IsSome, IfOk, IfSome, Some, length, position};
+ghost use Rattle.std.specs.Prelude.{◌≡◌, ◌<◌, ◌⊎◌, All, AllPairs, Any, IsTrue, IsSome, IfOk, IfSome, Some, length};
+ghost use Rattle.std.specs.Prelude.{position};
 ghost use Rattle.std.specs.Prelude.{option_copied};
 ghost use Rattle.terms.specs.Choice.{by_srel};
 ghost use Rattle.terms.specs.Changes.{has_replacement};

@@ -16,8 +16,8 @@ use sysmods::{Global, VerChoice};
 use terms::{NeedKind, Test};
 use zones::Zone;
 
-/// What is known of the candidates, which are numbered by their places: who is eligible and needs whom, the kind
-/// and the id of each need, for each candidate the tests that it fails, and each candidate with each of its PRE, REQ and
+/// What is known of the candidates, which are numbered by their places: who is eligible and needs whom, the kind and
+/// the id of each need, for each candidate the tests that it fails, and each candidate with each of its PRE, REQ and
 /// IFREQ that BYPASS covers.
 #[derive(Drop)]
 pub struct Judged {

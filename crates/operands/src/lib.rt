@@ -1,6 +1,6 @@
 //! Operands of statements and commands: they are found among the words, and their values are read.
-//! `operand` is the one of a name, and `named_member` the one of a list. A flag, a list's only member, and a list without
-//! doubles, in rising order, are read just where the word has that form.
+//! `operand` is the one of a name, and `named_member` the one of a list. A flag, a list's only member, and a list
+//! without doubles, in rising order, are read just where the word has that form.
 #![tactic(auto)]
 
 mod errors;

@@ -1,4 +1,5 @@
--- What an APPLY decides, from what its parts answer: the kept ones may be installed together, and the lines are those of the decision.
+-- What an APPLY decides, from what its parts answer: the kept ones may be installed together, and the lines are those
+-- of the decision.
 use Rattle.std.proofs.Common.{◌≡◌, ◌≢◌, ◌⊎◌, inl, inr, Bool, true, false, not, List, [], ◌∷◌, ◌++◌, Option, None, Some}
 use Rattle.std.proofs.Common.{IsTrue, filter, map, refl, sym, ap, ◌∙◌, subst, true≢false}
 use Rattle.std.specs.Prelude.{◌↔◌, ◌&&◌, ◌==◌, All, Contains, IsPermutation, is_some, unwrap_or, if◌then◌else◌}
@@ -27,7 +28,8 @@ use Rattle.terms.proofs.Ids.{is_in-from_Contains, Contains-from_is_in, apart-fro
 use Rattle.lemmas.proofs.Texts.{same_or_not}
 use Rattle.lemmas.proofs.Searches.{find-gives}
 use Rattle.machine.specs.Outcome.{Status, Superseded, Failure, Failed, Line}
-use Rattle.machine.specs.Installing.{Decision, IsDecision, IsDecided, IsFailure, HasStatus, IsInstalled, IsSuperseded, IsFailed, IsNotChosen}
+use Rattle.machine.specs.Installing.{Decision, IsDecision, IsDecided, IsFailure, HasStatus, IsInstalled, IsSuperseded}
+use Rattle.machine.specs.Installing.{IsFailed, IsNotChosen}
 use Rattle.machine.specs.Installing.{AreInstallLines, installed_status, not_chosen_status}
 use Rattle.terms.specs.Install.{TakesEffect}
 use Rattle.change.specs.Elements.{HasBases}

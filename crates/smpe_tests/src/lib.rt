@@ -5,6 +5,8 @@
 #[cfg(test)]
 mod cards;
 #[cfg(test)]
+mod elements;
+#[cfg(test)]
 mod messages;
 #[cfg(test)]
 mod play;

@@ -4,15 +4,14 @@ ghost use Rattle.std.specs.Prelude.{IsTrue};
 ghost use Rattle.sqlite_disk.specs.Memory.{memory_is_usable};
 
 use crate::cards::{AGAIN, BAD_PTFIN, CLASH, FIX_ALONE, FUNCTION_WITH_FIX, NO_COMMAND, REFUSALS};
+use crate::elements::{CHAIN, EMPTYING_UPDATE, NO_BASE, UNORDERED, UPDATE_IN_A_DELETED_RANGE};
 use crate::play::{Step, play_all, play_each};
 use crate::receives::{BAD_HOLDS, HOLDS, INTERNAL_HOLD, LOOP, SOURCE, SOURCES_AND_REJECTS};
 use crate::requisites::{
     BYPASSED_HOLD, BYPASSED_PRE, CONDITIONAL_REQUISITE, HELD_REQUISITE, HELD_SUPERSEDER,
     NO_CONDITION, OPEN_ERROR, OPEN_PRE, REQ_BOTH_WAYS, RESOLVED_ERROR, SUPERSEDED,
 };
-use crate::selection::{
-    BY_TYPE, EXCLUDED, EXTENDED, EXTENDED_TWICE, MISSING, NOT_EXTENDED, NOTHING_OPEN,
-};
+use crate::selection::{BY_TYPE, EXCLUDED, EXTENDED, EXTENDED_TWICE, NOT_EXTENDED};
 use sqlite::{Connection, Error, FileStore, Files, Options};
 use sqlite_disk::Memory;
 use std::alloc::Global;
@@ -48,6 +47,11 @@ const ALL: &[&[Step]] = &[
     BY_TYPE,
     EXCLUDED,
     EXTENDED_TWICE,
+    UNORDERED,
+    CHAIN,
+    UPDATE_IN_A_DELETED_RANGE,
+    EMPTYING_UPDATE,
+    NO_BASE,
 ];
 
 #[test]

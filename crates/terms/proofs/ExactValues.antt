@@ -17,9 +17,11 @@ use Rattle.terms.specs.Forms.{IsId, IsSource, IsZoneName}
 use Rattle.terms.specs.Statement.{Piece}
 use Rattle.terms.specs.Words.{Word, HasWords}
 use Rattle.terms.specs.Operands.{operand, HasSorted}
-use Rattle.terms.specs.CommandForms.{operands_of, members_of, command_word, HasSome, HasReceive, HasSelection, HasInstall}
+use Rattle.terms.specs.CommandForms.{operands_of, members_of, command_word, HasSome, HasReceive, HasSelection}
+use Rattle.terms.specs.CommandForms.{HasInstall}
 use Rattle.terms.specs.CommandForms.{HasRestoreList, HasOperands, IsCommand}
-use Rattle.terms.specs.Commands.{words_in, runs_in, list_behind, is_often, has_double, is_unchosen, BeginsWith, IsCommandFault}
+use Rattle.terms.specs.Commands.{words_in, runs_in, list_behind, is_often, has_double, is_unchosen, BeginsWith}
+use Rattle.terms.specs.Commands.{IsCommandFault}
 use Rattle.lemmas.proofs.Pairs.{pairs_map}
 use Rattle.terms.proofs.ExactWords.{words-only}
 use Rattle.terms.proofs.ExactOperands.{required-only, optional-only, texts-only, some-only, flag-only}

@@ -47,7 +47,8 @@ sysmod x kind v changes = record { id = x; kind = kind; sources = []; vers = v â
 abbrev macro : Text
 macro = 77 âˆ· []
 
--- HAA1100 has a macro, HCC1200 has DELETE(HAA1100), UA00021 is service for HAA1100, and UA00023 for HDD1100 with REQ(UA00021).
+-- HAA1100 has a macro, HCC1200 has DELETE(HAA1100), UA00021 is service for HAA1100, and UA00023 for HDD1100 with
+-- REQ(UA00021).
 abbrev deleting : Global
 deleting = record {
   holds = [];

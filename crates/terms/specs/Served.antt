@@ -1,6 +1,6 @@
 -- Which SYSMODs are served as yet, so that nothing is installed whose operands nobody looks at: those that forbid and
--- delete nothing, in a zone where nothing applied does. What is not served is received and kept, and is not open to APPLY
--- and ACCEPT. (A limit of this installer, and of no manual.)
+-- delete nothing, in a zone where nothing applied does. What is not served is received and kept, and is not open to
+-- APPLY and ACCEPT. (A limit of this installer, and of no manual.)
 use Rattle.std.specs.Prelude.{◌&&◌, Bool, true}
 use Rattle.std.specs.List.{list_all}
 use Rattle.std.specs.Option.{option_map_or}

@@ -1,4 +1,5 @@
-use Rattle.std.proofs.Common.{List, ◌≤◌, ◌<◌, ◌-◌, All, AllPairs, IsPermutation, drop, get_or, length, subst, sym, take, ◌+◌}
+use Rattle.std.proofs.Common.{List, ◌≤◌, ◌<◌, ◌-◌, All, AllPairs, IsPermutation, drop, get_or, length, subst, sym, take}
+use Rattle.std.proofs.Common.{◌+◌}
 use Rattle.sysmods.specs.Choices.{choice}
 use Rattle.terms.specs.Types.{Id}
 use Rattle.terms.specs.Over.{IsOver}

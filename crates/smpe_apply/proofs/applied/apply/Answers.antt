@@ -48,7 +48,7 @@ returns-clause-installs c new changed =
     ∙ ap (λ ids. all_statuses zone.kind effective ids failed c.as_slice-3.result.now) c.as_slice-2.ensures.items
     ∙ ap (λ out. all_statuses zone.kind effective kept failed out) c.as_slice-3.ensures.value in
     let lines : AreById g (all_statuses zone.kind effective kept failed left_out)
-        (map line_view c.in_ok-lines.field-0.items) =
+    (map line_view c.in_ok-lines.field-0.items) =
     subst (λ ps. AreById g ps (map line_view c.in_ok-lines.field-0.items)) all c.in_ok-lines.ensures in
     let are = c.in_ok-ids.ensures.members in
     let ok = c.in_ok-ids.ensures.installable in

@@ -1,0 +1,192 @@
+//! Jobs over elements of service, as text cards.
+
+use crate::cards::{FUNCTION_INSTALLED, FUNCTION_RECEIVED};
+use crate::play::Step;
+
+/// Two that replace one macro, neither over the other, fail together.
+pub(crate) const UNORDERED: &[Step] = &[
+    FUNCTION_RECEIVED,
+    FUNCTION_INSTALLED,
+    Step {
+        cntl: &["SET BDY(GLOBAL).", "RECEIVE SYSMODS."],
+        ptfin: &[
+            &[
+                "++PTF(UA00015).",
+                "++VER(Z038) FMID(HAA1100).",
+                "++MAC(M1) DISTLIB(AMACLIB) SYSLIB(MACLIB).",
+                "         MACRO 15                                                       00000010",
+            ],
+            &[
+                "++PTF(UA00016).",
+                "++VER(Z038) FMID(HAA1100).",
+                "++MAC(M1) DISTLIB(AMACLIB) SYSLIB(MACLIB).",
+                "         MACRO 16                                                       00000010",
+            ],
+        ],
+        rest: "",
+        hold: &[],
+        report: "SET GLOBAL\nRC 00\nRECEIVE GLOBAL\nUA00015 PTF      RECEIVED\nUA00016 PTF      RECEIVED\n\
+            RC 00\n",
+        code: 0,
+    },
+    Step {
+        cntl: &["SET BDY(TGT1).", "APPLY SELECT(UA00015,UA00016)."],
+        ptfin: &[],
+        rest: "",
+        hold: &[],
+        report: "SET TGT1\nRC 00\nAPPLY TGT1\nUA00015 PTF      FAILED\n  TEST J9\n  CAUSER UA00015\n\
+            UA00016 PTF      FAILED\n  TEST J9\n  CAUSER UA00016\nRC 08\n",
+        code: 8,
+    },
+];
+
+/// Three that replace one macro, each over the one before, go on together; a fourth that is over none of them fails.
+pub(crate) const CHAIN: &[Step] = &[
+    FUNCTION_RECEIVED,
+    FUNCTION_INSTALLED,
+    Step {
+        cntl: &["SET BDY(GLOBAL).", "RECEIVE SYSMODS."],
+        ptfin: &[
+            &[
+                "++PTF(UA00017).",
+                "++VER(Z038) FMID(HAA1100).",
+                "++MAC(M1) DISTLIB(AMACLIB) SYSLIB(MACLIB).",
+                "         MACRO 17                                                       00000010",
+            ],
+            &[
+                "++PTF(UA00018).",
+                "++VER(Z038) FMID(HAA1100) PRE(UA00017).",
+                "++MAC(M1) DISTLIB(AMACLIB) SYSLIB(MACLIB).",
+                "         MACRO 18                                                       00000010",
+            ],
+            &[
+                "++PTF(UA00019).",
+                "++VER(Z038) FMID(HAA1100) PRE(UA00018).",
+                "++MAC(M1) DISTLIB(AMACLIB) SYSLIB(MACLIB).",
+                "         MACRO 19                                                       00000010",
+            ],
+        ],
+        rest: "",
+        hold: &[],
+        report: "SET GLOBAL\nRC 00\nRECEIVE GLOBAL\nUA00017 PTF      RECEIVED\nUA00018 PTF      RECEIVED\n\
+            UA00019 PTF      RECEIVED\nRC 00\n",
+        code: 0,
+    },
+    Step {
+        cntl: &["SET BDY(TGT1).", "APPLY."],
+        ptfin: &[],
+        rest: "",
+        hold: &[],
+        report: "SET TGT1\nRC 00\nAPPLY TGT1\nUA00017 PTF      APPLIED\nUA00018 PTF      APPLIED\n\
+            UA00019 PTF      APPLIED\nRC 00\n",
+        code: 0,
+    },
+    Step {
+        cntl: &["SET BDY(GLOBAL).", "RECEIVE SYSMODS."],
+        ptfin: &[&[
+            "++PTF(UA00020).",
+            "++VER(Z038) FMID(HAA1100).",
+            "++MAC(M1) DISTLIB(AMACLIB) SYSLIB(MACLIB).",
+            "         MACRO 20                                                       00000010",
+        ]],
+        rest: "",
+        hold: &[],
+        report: "SET GLOBAL\nRC 00\nRECEIVE GLOBAL\nUA00020 PTF      RECEIVED\nRC 00\n",
+        code: 0,
+    },
+    Step {
+        cntl: &["SET BDY(TGT1).", "APPLY SELECT(UA00020)."],
+        ptfin: &[],
+        rest: "",
+        hold: &[],
+        report: "SET TGT1\nRC 00\nAPPLY TGT1\nUA00020 PTF      FAILED\n  TEST J5\n  CAUSER UA00020\nRC 08\n",
+        code: 8,
+    },
+];
+
+/// An update that gives a record in a range that it deletes.
+pub(crate) const UPDATE_IN_A_DELETED_RANGE: &[Step] = &[
+    FUNCTION_RECEIVED,
+    FUNCTION_INSTALLED,
+    Step {
+        cntl: &["SET BDY(GLOBAL).", "RECEIVE SYSMODS."],
+        ptfin: &[&[
+            "++PTF(UA00025).",
+            "++VER(Z038) FMID(HAA1100).",
+            "++MACUPD(M1).",
+            "./ CHANGE NAME=M1",
+            "         NEW FIVE                                                       00000005",
+            "./ DELETE SEQ1=00000010,SEQ2=00000010",
+            "         NEW TEN                                                        00000010",
+            "         NEW TWENTY                                                     00000020",
+        ]],
+        rest: "",
+        hold: &[],
+        report: "SET GLOBAL\nRC 00\nRECEIVE GLOBAL\nUA00025 PTF      RECEIVED\nRC 00\n",
+        code: 0,
+    },
+    Step {
+        cntl: &["SET BDY(TGT1).", "APPLY SELECT(UA00025)."],
+        ptfin: &[],
+        rest: "",
+        hold: &[],
+        report: "SET TGT1\nRC 00\nAPPLY TGT1\nUA00025 PTF      APPLIED\nRC 00\n",
+        code: 0,
+    },
+];
+
+/// An update that deletes each record.
+pub(crate) const EMPTYING_UPDATE: &[Step] = &[
+    FUNCTION_RECEIVED,
+    FUNCTION_INSTALLED,
+    Step {
+        cntl: &["SET BDY(GLOBAL).", "RECEIVE SYSMODS."],
+        ptfin: &[&[
+            "++PTF(UA00026).",
+            "++VER(Z038) FMID(HAA1100).",
+            "++MACUPD(M1).",
+            "./ CHANGE NAME=M1",
+            "./ DELETE SEQ1=00000000,SEQ2=99999999",
+        ]],
+        rest: "",
+        hold: &[],
+        report: "SET GLOBAL\nRC 00\nRECEIVE GLOBAL\nUA00026 PTF      RECEIVED\nRC 00\n",
+        code: 0,
+    },
+    Step {
+        cntl: &["SET BDY(TGT1).", "APPLY SELECT(UA00026)."],
+        ptfin: &[],
+        rest: "",
+        hold: &[],
+        report: "SET TGT1\nRC 00\nAPPLY TGT1\nUA00026 PTF      APPLIED\nRC 00\n",
+        code: 0,
+    },
+];
+
+/// An update of a macro that is not there.
+pub(crate) const NO_BASE: &[Step] = &[
+    FUNCTION_RECEIVED,
+    FUNCTION_INSTALLED,
+    Step {
+        cntl: &["SET BDY(GLOBAL).", "RECEIVE SYSMODS."],
+        ptfin: &[&[
+            "++PTF(UA00038).",
+            "++VER(Z038) FMID(HAA1100).",
+            "++MACUPD(M9).",
+            "./ CHANGE NAME=M9",
+            "         NEW LINE                                                       00000010",
+        ]],
+        rest: "",
+        hold: &[],
+        report: "SET GLOBAL\nRC 00\nRECEIVE GLOBAL\nUA00038 PTF      RECEIVED\nRC 00\n",
+        code: 0,
+    },
+    Step {
+        cntl: &["SET BDY(TGT1).", "APPLY SELECT(UA00038)."],
+        ptfin: &[],
+        rest: "",
+        hold: &[],
+        report: "SET TGT1\nRC 00\nAPPLY TGT1\nUA00038 PTF      FAILED\n  TEST J6\n  CAUSER UA00038\nRC 08\n",
+        code: 8,
+    },
+];
