@@ -1,4 +1,5 @@
-//! Each list of jobs in memory, with one open for all, and on disks in memory, with an open for each.
+//! Each list of jobs in memory, with one open for all, and on disks in memory, with an open for each. A test has few
+//! lists, since its proof spells all of them out.
 
 ghost use Rattle.std.specs.Prelude.{IsTrue};
 ghost use Rattle.sqlite_disk.specs.Memory.{memory_is_usable};
@@ -17,7 +18,7 @@ use sqlite_disk::Memory;
 use std::alloc::Global;
 use std::test::Fail;
 
-const ALL: &[&[Step]] = &[
+const FIRST_JOBS: &[&[Step]] = &[
     FUNCTION_WITH_FIX,
     FIX_ALONE,
     CLASH,
@@ -25,28 +26,37 @@ const ALL: &[&[Step]] = &[
     BAD_PTFIN,
     AGAIN,
     REFUSALS,
+];
+
+const RECEIVES: &[&[Step]] = &[
     SOURCE,
     HOLDS,
     SOURCES_AND_REJECTS,
     INTERNAL_HOLD,
     LOOP,
     BAD_HOLDS,
+];
+
+const REQUISITES: &[&[Step]] = &[
     OPEN_PRE,
     BYPASSED_PRE,
     REQ_BOTH_WAYS,
     HELD_REQUISITE,
     BYPASSED_HOLD,
+];
+
+const RESOLUTIONS: &[&[Step]] = &[
     RESOLVED_ERROR,
     OPEN_ERROR,
     HELD_SUPERSEDER,
     SUPERSEDED,
     CONDITIONAL_REQUISITE,
     NO_CONDITION,
-    EXTENDED,
-    NOT_EXTENDED,
-    BY_TYPE,
-    EXCLUDED,
-    EXTENDED_TWICE,
+];
+
+const SELECTIONS: &[&[Step]] = &[EXTENDED, NOT_EXTENDED, BY_TYPE, EXCLUDED, EXTENDED_TWICE];
+
+const ELEMENTS: &[&[Step]] = &[
     UNORDERED,
     CHAIN,
     UPDATE_IN_A_DELETED_RANGE,
@@ -54,10 +64,8 @@ const ALL: &[&[Step]] = &[
     NO_BASE,
 ];
 
-#[test]
-fn in_memory(rt: HostRuntime) -> Result<(), Fail> {
-    let alloc = rt.alloc();
-    for steps in ALL {
+fn play_in_memory(alloc: Global, lists: &[&[Step]]) -> Result<(), Fail> {
+    for steps in lists {
         let _conn = play_all(alloc, Connection::open_in_memory(alloc)?, steps)?;
     }
     Ok(())
@@ -72,12 +80,45 @@ fn files(alloc: Global, log: Memory, db: Memory) -> Result<Connection<FileStore<
     }
 }
 
-#[test]
-fn on_disks(rt: HostRuntime) -> Result<(), Fail> {
-    let alloc = rt.alloc();
-    for steps in ALL {
+fn play_on_disks(alloc: Global, lists: &[&[Step]]) -> Result<(), Fail> {
+    for steps in lists {
         let conn = files(alloc, Memory::new(alloc), Memory::new(alloc))?;
         let _conn = play_each(alloc, conn, steps)?;
     }
     Ok(())
+}
+
+fn play_both(alloc: Global, lists: &[&[Step]]) -> Result<(), Fail> {
+    play_in_memory(alloc, lists)?;
+    play_on_disks(alloc, lists)
+}
+
+#[test]
+fn first_jobs(rt: HostRuntime) -> Result<(), Fail> {
+    play_both(rt.alloc(), FIRST_JOBS)
+}
+
+#[test]
+fn receives(rt: HostRuntime) -> Result<(), Fail> {
+    play_both(rt.alloc(), RECEIVES)
+}
+
+#[test]
+fn requisites(rt: HostRuntime) -> Result<(), Fail> {
+    play_both(rt.alloc(), REQUISITES)
+}
+
+#[test]
+fn resolutions(rt: HostRuntime) -> Result<(), Fail> {
+    play_both(rt.alloc(), RESOLUTIONS)
+}
+
+#[test]
+fn selections(rt: HostRuntime) -> Result<(), Fail> {
+    play_both(rt.alloc(), SELECTIONS)
+}
+
+#[test]
+fn elements(rt: HostRuntime) -> Result<(), Fail> {
+    play_both(rt.alloc(), ELEMENTS)
 }
