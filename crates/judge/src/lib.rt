@@ -12,7 +12,10 @@ mod bypassing;
 mod chains;
 mod claims;
 mod conditions;
+mod deleted;
 mod elements;
+mod forbidden;
+mod forbidding;
 mod judging;
 mod known;
 mod numbered;
@@ -24,6 +27,7 @@ mod serving;
 mod sharing;
 mod stated;
 mod tested;
+mod view;
 mod wanted;
 
 pub use judging::{Judged, install_system};

@@ -13,5 +13,5 @@ loop-i-preserved c =
 
 pub returns : goal.returns
 returns c =
-    beside-through (λ n own row. row.items ≡ row_of c.args.shared.now.keys n own) c.args.faults.now c.loop-i.rows.items
+    beside-through (λ n own row. row.items ≡ row_of c.args.clashing.now.keys n own) c.args.faults.now c.loop-i.rows.items
     c.loop-i.i (omega arith) c.loop-i.invariant
