@@ -69,16 +69,6 @@ listed-at all k v there = ap (λ o. option_map_or (λ v. v.items) o []) there
 pub listed-none : (all : Forbidders) (k : Id) → get C all k ≡ None → forbidders_of all k ≡ []
 listed-none all k there = ap (λ o. option_map_or (λ v. v.items) o []) there
 
-pub gains-none : (old new : Forbidders) (More : Id → Id → Type 0) → new ≡ old → ((z y : Id) → ¬ More z y)
-    → Gains old new More
-gains-none old new More same lacks z y = (
-  λ h. inl (subst (λ l. Contains (forbidders_of l z) y) same h),
-  λ h. subst (λ l. Contains (forbidders_of l z) y) (sym same) (elim h [
-    | inl was ↦ was
-    | inr m ↦ absurd (lacks z y m)
-  ]),
-)
-
 pub gains-alike : (old new : Forbidders) (P Q : Id → Id → Type 0) → ((z y : Id) → P z y ↔ Q z y) → Gains old new P
     → Gains old new Q
 gains-alike old new P Q same gains z y = (
@@ -141,12 +131,6 @@ module _ (g : terms.Global) (c : Choice) where
         λ h. record { id = h.1; applied = applied; function = function; names = h.0 },
         λ h. (h.names, h.id),
       ))
-
-  pub forbidders-none : (all : Forbidders) → ((z : Id) → forbidders_of all z ≡ []) → AreForbidders g c [] all
-  forbidders-none all none z y = (
-    λ h. absurd (none_in y (subst (λ l. Contains l y) (none z) h)),
-    λ h. absurd (none_in h.0 h.1),
-  )
 
   -- one more entry
   pub forbidders-next : (entries : List Entry) (i : ℕ) (e : Entry) (old new : Forbidders) → i < length entries

@@ -54,37 +54,7 @@ either-marked i m old middle new first second =
     marks-join (λ n. n ≡ i) (λ n. n ≡ m) (IsEither i m) old middle new first second (λ n. (λ h. h, λ h. h))
 
 module _ (ids : List Id) (faults : List OwnFaults) where
-  -- ---- where an id stands that passes
-
-  pub passing-none : (x : Id) → ((n : ℕ) → (nowhere ≡ Some n) ↔ (slice_get ids n ≡ Some x)) → (n : ℕ)
-      → (nowhere ≡ Some n) ↔ PassesAt ids faults n x
-  passing-none x told n = (λ e. absurd (cc e), λ p. (told n).1 p.at)
-
-  pub passing-not : (x : Id) (i : ℕ) (a : OwnFaults) → ((n : ℕ) → (Some i ≡ Some n) ↔ (slice_get ids n ≡ Some x))
-      → slice_get faults i ≡ Some a → passes a ≡ false → (n : ℕ) → (nowhere ≡ Some n) ↔ PassesAt ids faults n x
-  passing-not x i a told at fails n = (
-    λ e. absurd (cc e),
-    λ p.
-        let same : i ≡ n = same_Some i n ((told n).1 p.at) in
-        let here : a ≡ p.own = same_Some a p.own (sym at ∙ subst (λ k. slice_get faults k ≡ Some p.own) (sym same)
-        p.own_at) in
-        absurd (true≢false (sym p.passing ∙ ap passes (sym here) ∙ fails)),
-  )
-
-  pub passing-there : (x : Id) (i : ℕ) (a : OwnFaults) → ((n : ℕ) → (Some i ≡ Some n) ↔ (slice_get ids n ≡ Some x))
-      → slice_get faults i ≡ Some a → passes a ≡ true → (n : ℕ) → (Some i ≡ Some n) ↔ PassesAt ids faults n x
-  passing-there x i a told at on n = (
-    λ e. subst (λ k. PassesAt ids faults k x) (same_Some i n e)
-        (record { at = (told i).0 refl; own = a; own_at = at; passing = on }),
-    λ p. (told n).1 p.at,
-  )
-
   -- ---- x, and one that it names
-
-  pub named-itself : (i : ℕ) (x y : Id) (old new : List ℕ) → new ≡ old → x ≡ y
-      → Marks (IsOfNamed ids faults i x y) old new
-  named-itself i x y old new same is =
-      marks-same (IsOfNamed ids faults i x y) old new same (λ n h. absurd (h.0 is))
 
   pub named-none : (i : ℕ) (x y : Id) (old new : List ℕ) → new ≡ old
       → ((n : ℕ) → (nowhere ≡ Some n) ↔ PassesAt ids faults n y) → Marks (IsOfNamed ids faults i x y) old new
@@ -122,13 +92,6 @@ module _ (ids : List Id) (faults : List OwnFaults) where
       )))
 
   module _ (c : Choice) where
-    pub by-none : (i : ℕ) (a : OwnFaults) (old new : List ℕ) → new ≡ old → slice_get faults i ≡ Some a
-        → passes a ≡ false → Marks (IsByNpre c ids faults i) old new
-    by-none i a old new same at fails =
-        marks-same (IsByNpre c ids faults i) old new same (λ n h.
-        let here : a ≡ h.1.own = same_Some a h.1.own (sym at ∙ h.1.own_at) in
-        absurd (true≢false (sym h.1.passing ∙ ap passes (sym here) ∙ fails)))
-
     pub by-this : (i : ℕ) (x : Id) (a : OwnFaults) (old new : List ℕ) → slice_get ids i ≡ Some x
         → slice_get faults i ≡ Some a → passes a ≡ true → Marks (IsOfOne ids faults i x (npre_of c x)) old new
         → Marks (IsByNpre c ids faults i) old new
@@ -139,10 +102,6 @@ module _ (ids : List Id) (faults : List OwnFaults) where
         ))
 
     -- ---- all of them
-
-    pub before-none : (old new : List ℕ) → new ≡ old → Marks (IsByNpreBefore c ids faults 0) old new
-    before-none old new same =
-        marks-same (IsByNpreBefore c ids faults 0) old new same (λ n h. absurd (omega (arith, h.1)))
 
     pub before-next : (end : ℕ) (old middle new : List ℕ) → Marks (IsByNpreBefore c ids faults end) old middle
         → Marks (IsByNpre c ids faults end) middle new → Marks (IsByNpreBefore c ids faults (end + 1)) old new

@@ -88,7 +88,8 @@ fn is_lower_at(
     change: &ElemChange,
 ) -> Result<bool, AllocError>
     requires { AreOver (choice view.now.vers.now) known.old.keys }
-    ensures lower { IfOk result (λ lower. IsTrue lower ↔ IsLowerAt (choice view.now.vers.now) (seen view.now) id change.now) }
+    ensures lower { IfOk result (λ lower. IsTrue lower
+        ↔ IsLowerAt (choice view.now.vers.now) (seen view.now) id change.now) }
     ensures known { OnOk result (AreOver (choice view.now.vers.now) known.new.keys) }
 {
     match view.element(change.elem_type, change.name) {
@@ -106,7 +107,8 @@ pub(crate) fn is_lower_somewhere(
     changes: &[ElemChange],
 ) -> Result<bool, AllocError>
     requires { AreOver (choice view.now.vers.now) known.old.keys }
-    ensures lower { IfOk result (λ lower. IsTrue lower ↔ Any (IsLowerAt (choice view.now.vers.now) (seen view.now) id) changes.now) }
+    ensures lower { IfOk result (λ lower. IsTrue lower
+        ↔ Any (IsLowerAt (choice view.now.vers.now) (seen view.now) id) changes.now) }
     ensures known { OnOk result (AreOver (choice view.now.vers.now) known.new.keys) }
 {
     for change in changes {
