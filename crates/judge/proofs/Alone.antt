@@ -1,7 +1,7 @@
 -- What candidates fail by themselves: those of J1 to J8 that their faults say.
-use Rattle.std.proofs.Common.{◌≡◌, ◌≢◌, inl, inr, Bool, true, false, not, List, [], ◌∷◌, Option, None, Some, IsTrue}
+use Rattle.std.proofs.Common.{◌≡◌, ◌≢◌, Bool, true, false, not, List, [], ◌∷◌, Option, None, Some, IsTrue}
 use Rattle.std.proofs.Common.{refl, sym, ap, ◌∙◌, subst, true≢false, filter, find, Contains, arith}
-use Rattle.std.specs.Prelude.{All, ◌↔◌, ◌==◌, ◌&&◌, is_some}
+use Rattle.std.specs.Prelude.{◌↔◌, ◌==◌, ◌&&◌, is_some}
 use Rattle.std.specs.List.{list_any}
 use Rattle.std.specs.Option.{option_map_or}
 use Rattle.std.specs.Str.{bytes_eq}

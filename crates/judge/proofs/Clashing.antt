@@ -1,6 +1,6 @@
 -- Which candidates fail J9: for any setting, where it is known who survives.
-use Rattle.std.proofs.Common.{◌≡◌, ◌∙◌, inl, inr, ℕ, zero, suc, ◌<◌, List, [], ◌∷◌, length, Some, IsTrue, refl, sym}
-use Rattle.std.proofs.Common.{ap₂, subst, map, Contains, arith, slice_get}
+use Rattle.std.proofs.Common.{◌≡◌, ◌∙◌, inl, inr, ℕ, List, length, Some, IsTrue, refl, sym}
+use Rattle.std.proofs.Common.{ap₂, subst, map, Contains, slice_get}
 use Rattle.std.specs.Prelude.{◌↔◌, ◌⊎◌}
 use Rattle.std.proofs.lemmas.Option.{slice_get_within, same_Some}
 use Rattle.lemmas.proofs.Members.{map_in, in_map}

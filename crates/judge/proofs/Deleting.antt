@@ -1,15 +1,14 @@
 -- J8: whom the DELETEs take of those that pass J1 to J7.
-use Rattle.std.proofs.Common.{◌≡◌, ◌≢◌, ◌∙◌, inl, inr, ℕ, ◌<◌, ◌+◌, Bool, true, false, List, [], ◌∷◌, ◌++◌}
+use Rattle.std.proofs.Common.{◌≡◌, ◌∙◌, inl, inr, ℕ, ◌<◌, ◌+◌, Bool, true, false, List, [], ◌∷◌, ◌++◌}
 use Rattle.std.proofs.Common.{Some, length, refl, sym, ap, subst, cond, Contains, IsTrue, true≢false, slice_get, arith}
 use Rattle.std.specs.Prelude.{◌↔◌, ◌&&◌}
-use Rattle.std.specs.List.{list_any, flat_map}
 use Rattle.std.proofs.lemmas.Bool.{and_parts, cases_eq}
 use Rattle.std.proofs.lemmas.Option.{same_Some, slice_get_within}
 use Rattle.std.proofs.lemmas.List.{append-nil}
 use Rattle.std.proofs.lemmas.List.Elements.{Contains-append_left, Contains-append_right, Contains-append_cases}
 use Rattle.std.proofs.lemmas.List.Elements.{Contains-push, Contains-push_cases}
 use Rattle.std.proofs.lemmas.List.Folds.{Any-from_list_any, list_any-from_Any}
-use Rattle.terms.specs.Types.{Id, Global}
+use Rattle.terms.specs.Types.{Id}
 use Rattle.terms.specs.Lookups.{is_in}
 use Rattle.terms.specs.Choice.{Choice, del_of}
 use Rattle.terms.specs.Over.{chain}
@@ -64,12 +63,16 @@ module _ (ids : List Id) (faults : List OwnFaults) where
           let is : new ≡ old ++ y ∷ [] = made ∙ ap (λ b. old ++ cond b (y ∷ []) []) on in (
             λ h. elim (Contains-push_cases old y x (subst (λ l. Contains l x) is h)) [
               | inl was ↦ let p = (are x).0 was in (p.0, omega (arith, p.1), p.2)
-              | inr last ↦ (k, omega arith, record {
-                at = at ∙ ap (λ v. Some v) last;
-                own = own;
-                own_at = own_at;
-                passing = on;
-              })
+              | inr last ↦ (
+                k,
+                omega arith,
+                record {
+                  at = at ∙ ap (λ v. Some v) last;
+                  own = own;
+                  own_at = own_at;
+                  passing = on;
+                },
+              )
             ],
             λ h. subst (λ l. Contains l x) (sym is) (elim (cases_eq h.0 k) [
               | inl last ↦ subst (Contains (old ++ y ∷ [])) (same_Some y x (sym at

@@ -3,7 +3,7 @@ use Rattle.std.proofs.Common.{◌≡◌, List, Option, filter, IsTrue, IsFalse, 
 use Rattle.std.specs.Prelude.{◌↔◌, Any}
 use Rattle.std.specs.List.{list_any}
 use Rattle.terms.specs.declared.kinds.HoldKind.TheVariants.{System, User}
-use Rattle.terms.specs.Types.{Id, Change, Global, Zone}
+use Rattle.terms.specs.Types.{Id, Change, Global}
 use Rattle.terms.specs.Lookups.{changes_of, is_in}
 use Rattle.terms.specs.Choice.{Choice, fmid_of}
 use Rattle.terms.specs.Over.{chain, owner}

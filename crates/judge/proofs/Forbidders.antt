@@ -19,7 +19,6 @@ use Rattle.terms.specs.Types.{Id, Entry, Zone}
 use Rattle.terms.specs.Lookups.{IsZone, is_applied, is_function, entry_of}
 use Rattle.terms.specs.Choice.{Choice, npre_of}
 use Rattle.terms.specs.Deleted.{is_deleted, zone_less}
-use Rattle.lemmas.proofs.Members.{none_in}
 use Rattle.lemmas.proofs.Searches.{find-gives}
 use Rattle.lemmas.proofs.Texts.{same_from, same_itself}
 use Rattle.zones_less.proofs.Lookups.{is_applied-less}
@@ -181,10 +180,14 @@ module _ (g : terms.Global) (c : Choice) where
           let there = and_parts (is_applied zone y) (not (is_deleted g c dels y))
           (sym (is_applied-less g c dels zone is_zone y) ∙ on) in
           let e = applied-entry zone y there.0 in
-          let listed = (are x y).1 (e.0, e.1, record {
-            id = sym e.2;
-            applied = e.3;
-            function = subst (λ y. IsTrue (is_function g y)) (sym e.2) by.0;
-            names = subst (λ y. Contains (npre_of c y) x) (sym e.2) by.1;
-          }) in
+          let listed = (are x y).1 (
+            e.0,
+            e.1,
+            record {
+              id = sym e.2;
+              applied = e.3;
+              function = subst (λ y. IsTrue (is_function g y)) (sym e.2) by.0;
+              names = subst (λ y. Contains (npre_of c y) x) (sym e.2) by.1;
+            },
+          ) in
           list_any-from_Any (is_applied left) (forbidders_of all x) (listed.0, y, listed.1, listed.2, on)

@@ -1,6 +1,6 @@
 -- The marks of candidates that forbid each other by NPRE.
-use Rattle.std.proofs.Common.{◌≡◌, ◌≢◌, ◌∙◌, ◌⊎◌, inl, inr, ℕ, ◌<◌, ◌+◌, Bool, true, false, List, [], ◌∷◌, ◌++◌}
-use Rattle.std.proofs.Common.{Option, None, Some, length, take, get_or, refl, sym, ap, subst, Contains, IsTrue}
+use Rattle.std.proofs.Common.{◌≡◌, ◌≢◌, ◌∙◌, ◌⊎◌, inl, inr, ℕ, ◌<◌, ◌+◌, true, false, List, [], ◌∷◌, ◌++◌}
+use Rattle.std.proofs.Common.{Option, None, Some, length, take, get_or, refl, sym, ap, subst, Contains}
 use Rattle.std.proofs.Common.{true≢false, slice_get, arith}
 use Rattle.std.specs.Prelude.{◌↔◌}
 use Rattle.std.proofs.lemmas.Bool.{cases_eq}
@@ -10,7 +10,6 @@ use Rattle.terms.specs.Types.{Id, Global}
 use Rattle.terms.specs.Lookups.{IsRising, is_in}
 use Rattle.terms.specs.Choice.{Choice, npre_of}
 use Rattle.terms.proofs.Ids.{is_in-from_Contains}
-use Rattle.lemmas.proofs.Members.{none_in}
 use Rattle.lemmas.proofs.Places.{contains_at}
 use Rattle.judge.specs.declared.own.OwnFaults.{OwnFaults}
 use Rattle.judge.specs.Own.{passes}

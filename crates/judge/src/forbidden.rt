@@ -46,7 +46,12 @@ fn add(alloc: Heap, forbidders: &mut Forbidders, named: Id, by: Id) -> Result<()
     Ok(())
 }
 
-fn add_each(alloc: Heap, forbidders: &mut Forbidders, named: &[Id], by: Id) -> Result<(), AllocError>
+fn add_each(
+    alloc: Heap,
+    forbidders: &mut Forbidders,
+    named: &[Id],
+    by: Id,
+) -> Result<(), AllocError>
     ensures { OnOk result (Gains forbidders.old forbidders.new (λ z y. Contains named.now z × (y ≡ by))) }
 {
     for id in named {

@@ -1,4 +1,4 @@
-use Rattle.std.proofs.Common.{◌≡◌, ◌∙◌, ◌++◌, List, [], ◌∷◌, filter, ap, sym, append-nil}
+use Rattle.std.proofs.Common.{◌∙◌, ◌++◌, List, [], ◌∷◌, filter, ap, sym, append-nil}
 use Rattle.terms.specs.declared.codes.Test.{Test}
 use Rattle.terms.specs.declared.codes.Test.TheVariants.{J1, J2, J3, J4, J5, J6, J7, J8, J9, J10, J11, J12}
 use Rattle.machine.specs.Installing.{all_tests}
