@@ -187,7 +187,8 @@ module _ (s : Setting) (is_global : IsGlobal s.global) where
       six : IsTrue a.bare ↔ FailsJ6 s x
       six = (
         λ bare.
-            let any = Any-from_list_any (is_bare_at g seen s.cands (fmid_of s.choice x)) (changes_of g x) (sym own.bare ∙ bare) in
+            let any = Any-from_list_any (is_bare_at g seen s.cands (fmid_of s.choice x)) (changes_of g x)
+            (sym own.bare ∙ bare) in
             let h = any.1 in
             let p = and_parts (not (is_replacement h.action) && not (is_some (element_of seen h.elem_type h.name)))
             (not (has_candidate_base s x h.elem_type h.name)) any.4 in
@@ -224,8 +225,8 @@ module _ (s : Setting) (is_global : IsGlobal s.global) where
       seven : IsTrue a.unapplied ↔ FailsJ7 s x
       seven = (
         λ unapplied.
-            let p = and_parts ((zone_number s.zone.kind == 1) && not s.bypass.applycheck) (not (has_applied s.related x))
-            (sym own.unapplied ∙ unapplied) in
+            let p = and_parts ((zone_number s.zone.kind == 1) && not s.bypass.applycheck)
+            (not (has_applied s.related x)) (sym own.unapplied ∙ unapplied) in
             let q = and_parts (zone_number s.zone.kind == 1) (not s.bypass.applycheck) p.0 in (
               distribution-from s.zone.kind q.0,
               not-true s.bypass.applycheck q.1,

@@ -74,8 +74,8 @@ fn all_with(
     faults: &[OwnFaults],
 ) -> Result<Vec<OwnFaults>, AllocError>
     requires { length faults.now ≡ length ids.now }
-    ensures { IfOk result (λ all. Beside (λ n x own. IsMarked vers.now.global.now (choice vers.now) dels.now faults.now n
-        x own) ids.now all.items) }
+    ensures { IfOk result (λ all. Beside (λ n x own. IsMarked vers.now.global.now (choice vers.now) dels.now faults.now
+        n x own) ids.now all.items) }
 {
     let mut all = Vec::new(alloc);
     for i in 0..ids.len() {

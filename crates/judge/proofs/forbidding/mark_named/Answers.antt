@@ -12,7 +12,8 @@ overflow_cast-other c =
 pub returns : goal.returns
 returns c =
     named-there c.args.ids.now c.args.faults.now c.args.place c.in-Some.other c.args.id c.args.named
-    c.args.marked.now.keys c.mark_both.new.marked.keys (λ same. true≢false (sym (c.is_same.ensures.1 same) ∙ c.if-is_same.false))
+    c.args.marked.now.keys c.mark_both.new.marked.keys
+    (λ same. true≢false (sym (c.is_same.ensures.1 same) ∙ c.if-is_same.false))
     (rw c.in-Some.is at c.passing_place.ensures) c.in_ok-mark_both.ensures
 
 pub returns-in_default : goal.returns-in_default
