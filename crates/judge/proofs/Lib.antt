@@ -19,3 +19,8 @@ pub mod Runs
 pub mod Clashing
 pub mod Places
 pub mod Overs
+pub mod Forbidders
+pub mod Naming
+pub mod Deleting
+pub mod Faulted
+pub mod Filled

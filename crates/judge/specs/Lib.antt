@@ -10,3 +10,7 @@ pub mod Claims
 pub mod Sharing
 pub mod Rows
 pub mod Overs
+pub mod Views
+pub mod Forbidders
+pub mod Deletes
+pub mod Forbidding
