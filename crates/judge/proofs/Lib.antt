@@ -6,6 +6,7 @@ pub mod Lists
 pub mod Growing
 pub mod Paired
 pub mod Errors
+pub mod Stating
 pub mod Needed
 pub mod Rising
 pub mod Wants

@@ -1,6 +1,7 @@
 pub mod Failed
 pub mod Placed
 pub mod Own
+pub mod Left
 pub mod Conditions
 pub mod Wanted
 pub mod Serving

@@ -7,6 +7,7 @@ ghost use Rattle.judge.specs.Failed.{AreFailedTests};
 
 use crate::bypassed::bypassed_pairs;
 use crate::numbered::wants_of;
+use crate::scope::Scope;
 use crate::tested::test_all;
 use cntl::Bypass;
 use fields::{Id, IdList};
@@ -49,8 +50,15 @@ pub fn install_system(
 {
     zone.known();
     let tested = test_all(alloc, global, zone, related, ids, bypass)?;
-    let (system, needed) = wants_of(alloc, global, zone, ids, bypass, tested.eligible)?;
-    let bypassed = bypassed_pairs(alloc, global, zone, ids, bypass)?;
+    let scope = Scope {
+        global,
+        zone,
+        ids,
+        bypass,
+    };
+    let survivors = IdList::new(alloc);
+    let (system, needed) = wants_of(alloc, &scope, &survivors, tested.eligible)?;
+    let bypassed = bypassed_pairs(alloc, &scope)?;
     Ok(Judged {
         system,
         needed,

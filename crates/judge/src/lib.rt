@@ -15,6 +15,7 @@ mod conditions;
 mod elements;
 mod judging;
 mod known;
+mod left;
 mod numbered;
 mod own;
 mod reasons;
