@@ -7,6 +7,7 @@ pub mod Growing
 pub mod Paired
 pub mod Errors
 pub mod Stating
+pub mod Survivors
 pub mod Needed
 pub mod Rising
 pub mod Wants

@@ -10,4 +10,5 @@ pub mod Bypassed
 pub mod Claims
 pub mod Sharing
 pub mod Rows
+pub mod Surviving
 pub mod Overs
