@@ -1,11 +1,10 @@
 -- What candidates need, whatever the related zone.
-use Rattle.std.proofs.Common.{◌≡◌, Bool, true, not, List, Option, None, IsTrue, refl, sym, ap, ◌∙◌, subst, Contains}
+use Rattle.std.proofs.Common.{◌≡◌, Bool, true, not, List, Option, None, refl, sym, ap, ◌∙◌, subst, Contains}
 use Rattle.std.specs.Prelude.{◌↔◌, ◌&&◌, IsFalse}
 use Rattle.std.proofs.lemmas.Bool.{and_parts, not-true}
 use Rattle.terms.specs.declared.codes.NeedKind.{NeedKind}
 use Rattle.terms.specs.declared.codes.NeedKind.TheVariants.{Fmid, Pre, Req, Ifreq, HoldError, Orphan, Elem, Dep}
 use Rattle.terms.specs.Types.{Id, Global, Zone, Bypass}
-use Rattle.terms.specs.Lookups.{is_in}
 use Rattle.terms.specs.Tests.{Setting}
 use Rattle.terms.specs.Needs.{Needs, asked, orphans, is_bypassed, is_met, zone_left}
 use Rattle.terms.specs.Judged.{setting}

@@ -1,6 +1,6 @@
 -- The survivors are the candidates that fail at most the test which looks at survivors alone.
-use Rattle.std.proofs.Common.{◌≡◌, ◌⊎◌, inl, inr, ℕ, ◌<◌, ◌+◌, Bool, true, false, List, [], ◌∷◌, ◌++◌, map, filter, cond}
-use Rattle.std.proofs.Common.{Some, IsTrue, refl, sym, ap, ◌∙◌, subst, Contains, arith, slice_get, append-nil, true≢false}
+use Rattle.std.proofs.Common.{◌≡◌, ◌⊎◌, inl, inr, ℕ, ◌+◌, Bool, true, false, List, [], ◌∷◌, ◌++◌, filter, cond}
+use Rattle.std.proofs.Common.{Some, refl, sym, ap, ◌∙◌, subst, Contains, arith, slice_get, append-nil, true≢false}
 use Rattle.std.proofs.Common.{length}
 use Rattle.std.specs.Prelude.{◌↔◌}
 use Rattle.std.specs.List.{list_all}
@@ -13,7 +13,7 @@ use Rattle.terms.specs.declared.codes.Test.{Test}
 use Rattle.terms.specs.declared.codes.Test.TheVariants.{J1, J2, J3, J4, J5, J6, J7, J8, J9, J10, J11, J12}
 use Rattle.terms.specs.Types.{Id}
 use Rattle.terms.specs.Lookups.{IsRising}
-use Rattle.terms.specs.Tests.{Setting, AreSurvivors, Survives, PassesAlone, FailsAlone, FailsJ8, Fails}
+use Rattle.terms.specs.Tests.{Setting, AreSurvivors, Survives, FailsAlone, Fails}
 use Rattle.machine.specs.Installing.{all_tests}
 use Rattle.judge.specs.Failed.{AreFailedTests}
 use Rattle.judge.specs.Surviving.{is_clash, SurvivesIn}

@@ -41,11 +41,7 @@ fn add_if_surviving(found: &mut Vec<Id>, id: Id, failed: &[Test]) -> Result<(), 
 }
 
 /// The survivors among the candidates that fail these tests.
-pub(crate) fn survivors(
-    alloc: Heap,
-    ids: &IdList,
-    rows: &[Vec<Test>],
-) -> Result<IdList, AllocError>
+pub(crate) fn survivors(alloc: Heap, ids: &IdList, rows: &[Vec<Test>]) -> Result<IdList, AllocError>
     requires { length rows.now ≡ length ids.now }
     ensures rising { IfOk result (λ survivors. IsRising survivors) }
     ensures members { IfOk result (λ survivors. (x : AnId) → Contains survivors x

@@ -1,4 +1,4 @@
-use Rattle.std.proofs.Common.{◌≡◌, ◌∙◌, map, sym}
+use Rattle.std.proofs.Common.{map}
 use Rattle.std.specs.Prelude.{option_copied}
 use Rattle.terms.specs.Tests.{AreSurvivors}
 use Rattle.terms.specs.Judged.{setting}

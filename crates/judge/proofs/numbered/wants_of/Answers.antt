@@ -2,7 +2,6 @@ use Rattle.std.proofs.Common.{◌≡◌, ◌∙◌, ◌<◌, length, subst, sym}
 use Rattle.std.specs.Prelude.{All}
 use Rattle.terms.specs.Deleted.{deletions, zone_less}
 use Rattle.judge.specs.Left.{choice_of, setting_of}
-use Rattle.judge.specs.Serving.{AreServed}
 use Rattle.judge.specs.Wanted.{AreWants, IsOpenAt}
 use Rattle.judge.proofs.Wants.{wants-within}
 use Rattle.judge.proofs.numbered.wants_of.Goals as goal

@@ -1,4 +1,4 @@
-use Rattle.std.proofs.Common.{◌≡◌, ◌∙◌, [], cond, refl, sym, ap, subst, Contains}
+use Rattle.std.proofs.Common.{◌∙◌, [], cond, refl, sym, ap, subst, Contains}
 use Rattle.std.specs.Prelude.{◌↔◌}
 use Rattle.terms.specs.Types.{Id}
 use Rattle.terms.specs.Needs.{orphans}
