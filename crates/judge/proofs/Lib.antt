@@ -6,6 +6,8 @@ pub mod Lists
 pub mod Growing
 pub mod Paired
 pub mod Errors
+pub mod Stating
+pub mod Survivors
 pub mod Needed
 pub mod Rising
 pub mod Wants

@@ -1,6 +1,7 @@
 pub mod Failed
 pub mod Placed
 pub mod Own
+pub mod Left
 pub mod Conditions
 pub mod Wanted
 pub mod Serving
@@ -9,6 +10,7 @@ pub mod Bypassed
 pub mod Claims
 pub mod Sharing
 pub mod Rows
+pub mod Surviving
 pub mod Overs
 pub mod Views
 pub mod Forbidders

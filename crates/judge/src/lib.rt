@@ -1,10 +1,10 @@
 //! Which tests each candidate of an APPLY fails, and what each one needs.
-//! For candidates that may all be installed, `install_system` answers who fails which test, the numbered problem of
-//! who is eligible and needs whom, and what of that BYPASS covers. The tests are J1 to J9 for every setting: each
-//! candidate looks at its own view of the zone. Lemmas reduce the needs for what is served as yet: nothing is needed by
-//! deletions. What applied SYSMODs state in their `++IF`s is gathered in one pass over the zone, and so is whom applied
-//! functions name in NPRE. Seen in the code alone: no zone is copied; what the survivors change is gone through element
-//! by element, and those that may share one stand in a chain, which mostly takes the next one in by one search.
+//! For candidates that may all be installed, `install_system` answers who fails which test, the numbered problem of who
+//! is eligible and needs whom, and what of that BYPASS covers, for every setting. What applied SYSMODs state in their
+//! `++IF`s is gathered in one pass over the zone, and so is whom applied functions name in NPRE. Seen in the code alone:
+//! a candidate's view of the zone, like what survivors leave of it, is no copy but a list of deletions beside the zone;
+//! what the survivors change is gone through element by element, and those that may share one stand in a chain, which
+//! mostly takes the next one in by one search.
 #![tactic(auto)]
 
 mod bypassed;
@@ -18,6 +18,7 @@ mod forbidden;
 mod forbidding;
 mod judging;
 mod known;
+mod left;
 mod numbered;
 mod own;
 mod reasons;
@@ -26,6 +27,7 @@ mod scope;
 mod serving;
 mod sharing;
 mod stated;
+mod surviving;
 mod tested;
 mod view;
 mod wanted;
