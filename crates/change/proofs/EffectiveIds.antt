@@ -1,5 +1,6 @@
 -- What is known of the kept SYSMODs of an install, of the list of those that take effect.
-use Rattle.std.proofs.Common.{◌≢◌, ◌⊎◌, inl, inr, List, AllPairs, Any, Contains, IsTrue, IsSome, get_or, arith}
+use Rattle.std.proofs.Common.{◌≡◌, ◌≢◌, ◌⊎◌, inl, inr, List, AllPairs, Any, Contains, IsTrue, IsSome, get_or, arith}
+use Rattle.std.proofs.Common.{subst, sym}
 use Rattle.std.specs.Prelude.{◌↔◌}
 use Rattle.std.proofs.lemmas.List.Elements.{Contains-get_or}
 use Rattle.terms.specs.declared.kinds.ElemType.{ElemType}
@@ -10,6 +11,14 @@ use Rattle.terms.specs.Over.{IsOver}
 use Rattle.terms.specs.Tests.{ShareElement}
 use Rattle.terms.specs.Install.{Installation, TakesEffect, cleared}
 use Rattle.terms.proofs.Ids.{apart-from_rising}
+use Rattle.change.specs.Elements.{HasBases}
+use Rattle.change.specs.declared.plan.Plan.{Plan}
+use Rattle.change.specs.Plans.{IsPlan}
+
+-- the list of those that take effect, as a plan has it
+pub members_are : (i : Installation) (p : Plan) (ids : List Id) → IsPlan i p → ids ≡ p.effective → (x : Id)
+    → Contains ids x ↔ TakesEffect i x
+members_are i p ids plan same x = subst (λ xs. Contains xs x ↔ TakesEffect i x) (sym same) (plan.effective x)
 
 module _ (i : Installation) (effective : List Id) (members : (x : Id) → Contains effective x ↔ TakesEffect i x) where
   -- those that share an element are ordered by over
@@ -24,10 +33,7 @@ module _ (i : Installation) (effective : List Id) (members : (x : Id) → Contai
       (apart-from_rising effective rising j k d before below) share
 
   -- an element that one of them changes is there after the deletions, or one of them replaces it
-  pub effective_base : ((x : Id) (type : ElemType) (name : Text) → TakesEffect i x
-      → IsTrue (has_change i.global x type name)
-      → IsSome (element_of (cleared i) type name)
-      ⊎ ((y : Id) × TakesEffect i y × IsTrue (has_replacement i.global y type name)))
+  pub effective_base : HasBases i
       → (type : ElemType) (name : Text) → Any (λ x. IsTrue (has_change i.global x type name)) effective
       → IsSome (element_of (cleared i) type name)
       ⊎ Any (λ x. IsTrue (has_replacement i.global x type name)) effective

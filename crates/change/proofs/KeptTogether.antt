@@ -24,6 +24,7 @@ use Rattle.terms.specs.Needs.{Needs}
 use Rattle.terms.specs.Judged.{Stays}
 use Rattle.terms.specs.Install.{Installation, TakesEffect, cleared}
 use Rattle.terms.proofs.Ids.{Contains-from_is_in}
+use Rattle.change.specs.Elements.{HasBases}
 use Rattle.change.proofs.ChosenVers.{names_received, names_no_loop, fmid_function, function_first}
 use Rattle.change.proofs.FmidChains.{deleted_by_owner}
 use Rattle.change.proofs.Walks.{reaches_or_not}
@@ -261,10 +262,7 @@ module _ (s : Setting) (survivors kept : List Id) (members : (x : Id) → Contai
           ]
 
       -- So each element that changes is there after the deletions, or is replaced.
-      pub changed_base : (x : Id) (type : ElemType) (name : Text) → TakesEffect i x
-          → IsTrue (has_change i.global x type name)
-          → IsSome (element_of (cleared i) type name)
-          ⊎ ((y : Id) × TakesEffect i y × IsTrue (has_replacement i.global y type name))
+      pub changed_base : HasBases i
       changed_base x type name effect changes =
           elim (replaces_or_updates i.global x type name changes) [
             | inl replaces ↦ inr (x, effect, replaces)

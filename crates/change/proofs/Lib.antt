@@ -13,7 +13,6 @@ pub mod Walks
 pub mod Made
 pub mod Planned
 pub mod Put
-pub mod Putting
 pub mod TakingEffect
 pub mod Uncleared
 pub mod Ordered

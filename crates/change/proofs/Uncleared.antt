@@ -17,11 +17,12 @@ module _ (g : Global) (zone : Zone) (kept : List Id) (bypassed : List (Id × Id)
   abbrev choice : Choice
   choice = by_srel g zone.srel
 
-  pub same_zone : cleared (installation g zone kept bypassed date) ≡ zone
-  same_zone =
-      ap (λ dels. zone_less g choice dels zone) (deletions-none choice kept
+  pub none_deleted : cleared (installation g zone kept bypassed date) ≡ zone_less g choice [] zone
+  none_deleted = ap (λ dels. zone_less g choice dels zone) (deletions-none choice kept
       (λ k d h. no_del g zone _ (installable k d h)))
-      ∙ zone_less-none g choice zone is_zone.held
+
+  pub same_zone : cleared (installation g zone kept bypassed date) ≡ zone
+  same_zone = none_deleted ∙ zone_less-none g choice zone is_zone.held
 
   deleters_none : (x : Id) → deleters (installation g zone kept bypassed date) x ≡ []
   deleters_none x = by (is_function g x && is_taken_out g choice (deletions choice kept) zone x)

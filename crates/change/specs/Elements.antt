@@ -1,8 +1,9 @@
 -- The elements that the SYSMODs of an install change.
-use Rattle.std.specs.Prelude.{◌≡◌, ◌↔◌, List, All, Contains, IsTrue}
+use Rattle.std.specs.Prelude.{◌≡◌, ◌↔◌, ◌⊎◌, List, All, Contains, IsTrue, IsSome}
 use Rattle.terms.specs.declared.kinds.ElemType.{ElemType}
 use Rattle.terms.specs.Types.{Text, Id, Global, Element, Zone}
-use Rattle.terms.specs.Lookups.{element_cmp, element_key, has_change}
+use Rattle.terms.specs.Lookups.{element_cmp, element_key, element_of, has_change}
+use Rattle.terms.specs.Changes.{has_replacement}
 use Rattle.terms.specs.Rising.{Rises}
 use Rattle.terms.specs.Choice.{Choice}
 use Rattle.terms.specs.Deleted.{zone_less}
@@ -23,3 +24,10 @@ pub record AreElementsAfter (i : Installation) (es : List Element) : Type 0 wher
       → (e : Element) × Contains es e × (element_key e ≡ (type, name))
   pub only : All (λ e. (x : Id) × TakesEffect i x × IsTrue (has_change i.global x e.elem_type e.name)) es
   pub after : All (λ e. HasElementAfter i e.elem_type e.name e) es
+
+-- Each element that the install changes is in the zone less the deletions, or a SYSMOD that takes effect replaces it.
+abbrev pub HasBases : Installation → Type 0
+HasBases i =
+    (x : Id) (type : ElemType) (name : Text) → TakesEffect i x → IsTrue (has_change i.global x type name)
+    → IsSome (element_of (cleared i) type name)
+    ⊎ ((y : Id) × TakesEffect i y × IsTrue (has_replacement i.global y type name))

@@ -1,8 +1,12 @@
-use Rattle.std.proofs.Common.{◌≡◌, take}
-use Rattle.std.specs.Prelude.{fold}
-use Rattle.change.specs.Puts.{after_sysmod}
+use Rattle.std.proofs.Common.{◌≡◌, ◌++◌, length}
+use Rattle.std.specs.Vec.Iter.{into_iter_items, into_iter_len}
+use Rattle.change.specs.Puts.{with_elements}
 use Rattle.change.proofs.installing.put_elements.Given as goal
 
--- the SYSMODs so far are put
-abbrev pub invariant-loop-id : goal.invariant-loop-id
-invariant-loop-id l = l.delta ≡ fold (after_sysmod l.global) l.initial.delta (take l.id-index l.ids)
+-- the elements so far are put
+abbrev pub invariant-loop-element : goal.invariant-loop-element
+invariant-loop-element l = record {
+  all : l.yielded ++ into_iter_items l.element-iterator ≡ into_iter_items l.initial.element-iterator;
+  put : l.delta ≡ with_elements l.initial.delta l.yielded;
+  count : into_iter_len l.element-iterator ≡ length (into_iter_items l.element-iterator);
+}

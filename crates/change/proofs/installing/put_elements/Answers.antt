@@ -1,0 +1,30 @@
+use Rattle.std.proofs.Common.{◌≡◌, ◌∷◌, [], ◌++◌, length, sym, ap, ◌∙◌, append_assoc, append-nil, arith}
+use Rattle.std.specs.Vec.Iter.{into_iter_items}
+use Rattle.std.proofs.lemmas.List.{nil_from_length}
+use Rattle.std.proofs.lemmas.List.Sums.{fold-append}
+use Rattle.change.specs.Puts.{with_element, with_elements}
+use Rattle.change.proofs.installing.put_elements.Goals as goal
+
+pub loop-element-preserved : goal.loop-element-preserved
+loop-element-preserved c =
+    let at = c.loop-element in
+    let x = c.in-Some.element in
+    let steps : into_iter_items at.element-iterator ≡ x ∷ into_iter_items c.next.new.self = c.in-Some.ensures.steps.0 in
+    record {
+      all = append_assoc at.yielded (x ∷ []) _ ∙ rw (← steps) at.invariant.all;
+      put = c.in_ok-put_element.ensures.ok ∙ ap (λ d. with_element d x) at.invariant.put
+          ∙ sym (fold-append with_element c.args.delta.now at.yielded (x ∷ []));
+      count = let was = at.invariant.count in
+          let gone = c.in-Some.ensures.steps.1 in
+          let short = ap length steps in
+          omega arith;
+    }
+
+pub returns : goal.returns
+returns c =
+    let at = c.loop-element in
+    let empty : into_iter_items at.element-iterator ≡ [] = nil_from_length _
+    (sym at.invariant.count ∙ c.in-None.ensures.steps.0) in
+    let all = sym (append-nil at.yielded) ∙ rw empty at at.invariant.all
+    ∙ c.into_iter-element-iterator.ensures.into_iter_gives.0 in
+    at.invariant.put ∙ ap (with_elements c.args.delta.now) all
