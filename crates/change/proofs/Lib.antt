@@ -1,6 +1,7 @@
 pub mod AfterElements
 pub mod AfterEntries
 pub mod AfterInstall
+pub mod Cleared
 pub mod Gathered
 pub mod InTurn
 pub mod Installable

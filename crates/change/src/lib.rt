@@ -5,6 +5,7 @@
 //! entries, and one over what is installed.
 #![tactic(auto)]
 
+mod deleting;
 mod effective;
 mod entries;
 mod installing;
