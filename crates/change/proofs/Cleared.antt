@@ -1,8 +1,8 @@
 -- What a zone less deletions has at an id.
-use Rattle.std.proofs.Common.{◌≡◌, Bool, true, false, not, List, [], ◌∷◌, Option, Some, None, refl, sym, ap, ◌∙◌, cond, get_or}
-use Rattle.std.proofs.Common.{All, IsTrue, map, true≢false}
-use Rattle.std.specs.Prelude.{◌||◌, find, filter, is_some, unwrap_or}
-use Rattle.std.specs.Option.{option_map_or, option_and_then}
+use Rattle.std.proofs.Common.{◌≡◌, Bool, true, false, List, [], ◌∷◌, Option, Some, None, refl, sym, ap, ◌∙◌, cond, get_or}
+use Rattle.std.proofs.Common.{All, map}
+use Rattle.std.specs.Prelude.{find, filter}
+use Rattle.std.specs.Option.{option_and_then}
 use Rattle.std.specs.Ordering.{nat_cmp, is_lt}
 use Rattle.std.specs.Cmp.Lexicographic.{slice_cmp}
 use Rattle.std.specs.Str.{bytes_eq}
@@ -10,13 +10,11 @@ use Rattle.std.proofs.lemmas.List.Elements.{All-head, All-tail}
 use Rattle.lemmas.proofs.Pairs.{AllPairs-first, AllPairs-rest}
 use Rattle.lemmas.proofs.Orderings.{Less-from_is_lt}
 use Rattle.lemmas.proofs.Texts.{same_from, other_from_less, same_back}
-use Rattle.lemmas.proofs.Searches.{All-find}
-use Rattle.terms.specs.Types.{Text, Id, Entry, Global, Zone}
-use Rattle.terms.specs.Lookups.{IsZone, is_nil, is_held, waives_applied, entry_of, applied_of, supby_of, delby_of, waived_of}
+use Rattle.terms.specs.Types.{Id, Entry, Global, Zone}
+use Rattle.terms.specs.Lookups.{IsZone, is_held, entry_of}
 use Rattle.terms.specs.Rising.{Rises}
 use Rattle.terms.specs.Choice.{Choice}
-use Rattle.terms.specs.Deleted.{is_taken_out, entry_less, entries_less, zone_less}
-use Rattle.change.specs.Entries.{bare_entry, old_entry}
+use Rattle.terms.specs.Deleted.{is_taken_out, entry_less, zone_less}
 
 -- what is left of an item that may be kept
 abbrev pub left_if : {X : Type 0} → (X → Bool) → X → Option X
