@@ -14,7 +14,7 @@ pub mod Made
 pub mod Planned
 pub mod Put
 pub mod TakingEffect
-pub mod Uncleared
+pub mod Leaving
 pub mod Ordered
 pub mod FoldUpdates
 pub mod FoldSteps
@@ -22,3 +22,4 @@ pub mod FoldEnd
 pub mod Grouped
 pub mod AllElements
 pub mod Deletions
+pub mod Removed

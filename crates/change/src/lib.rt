@@ -5,6 +5,7 @@
 //! the code alone: one pass over the zone's entries, and one over what is installed.
 #![tactic(auto)]
 
+mod deleting;
 mod effective;
 mod elements;
 mod entries;
