@@ -4,8 +4,10 @@ use Rattle.std.specs.Prelude.{find}
 use Rattle.std.specs.Option.{option_map_or}
 use Rattle.std.specs.Str.{bytes_eq}
 use Rattle.terms.specs.declared.kinds.ElemType.{ElemType}
-use Rattle.terms.specs.Types.{Text, Id, Element, Zone}
+use Rattle.terms.specs.Types.{Text, Id, Global, Element, Zone}
 use Rattle.terms.specs.Lookups.{IsRising, IsZone, entry_of, element_key, element_of}
+use Rattle.terms.specs.Choice.{by_srel}
+use Rattle.terms.specs.Deleted.{deletions}
 use Rattle.terms.specs.Global.{IsGlobal}
 use Rattle.terms.specs.Delta.{ZoneDelta, IsChanged, edit_key, edit_put, element_eq, after_edits}
 use Rattle.terms.specs.Install.{Installation, cleared, HasInstalled}
@@ -19,6 +21,13 @@ use Rattle.change.specs.Puts.{less_elements, with_elements}
 use Rattle.change.proofs.AfterElements.{put_entries_stay, element_changed, element_unchanged}
 use Rattle.change.proofs.AfterEntries as entries
 use Rattle.change.proofs.Removed.{removed_stay, removed_at}
+
+-- the deletions of kept SYSMODs, by the ++VERs that were looked at
+pub deletions_are : (g : Global) (srel : Text) (h : Global) (other : Text) (ids kept dels : List Id) → h ≡ g
+    → other ≡ srel → ids ≡ kept → dels ≡ deletions (by_srel h other) ids → dels ≡ deletions (by_srel g srel) kept
+deletions_are g srel h other ids kept dels global same_srel same is =
+    is ∙ ap (λ v. deletions (by_srel v other) ids) global ∙ ap (λ t. deletions (by_srel g t) ids) same_srel
+    ∙ ap (deletions (by_srel g srel)) same
 
 module _ (d : Deleting) (bypassed : List (Id × Id)) (date : Text) (is_global : IsGlobal d.global.now)
     (is_zone : IsZone d.zone.now) (lists : All (λ e. IsRising e.supby × IsRising e.waived) d.zone.now.entries)
