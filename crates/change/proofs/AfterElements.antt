@@ -1,5 +1,5 @@
 -- Whatever zone the edits of elements make of the old one has the elements that the install asks for.
-use Rattle.std.proofs.Common.{◌≡◌, inl, inr, Bool, true, false, List, [], ◌∷◌, Option, Some, None, refl, sym, ap}
+use Rattle.std.proofs.Common.{◌≡◌, inr, Bool, true, false, List, [], ◌∷◌, Some, refl, sym, ap}
 use Rattle.std.proofs.Common.{◌∙◌, subst, true≢false, IsTrue, map}
 use Rattle.std.specs.Prelude.{find, Contains, IsFalse, fold}
 use Rattle.std.specs.Option.{option_map_or}
@@ -82,7 +82,8 @@ module _ (i : Installation) (zone : Zone) (es : List Element) (after : AreElemen
       in_turn-none element_cmp_total put_key element_eq element_ties (map put es) old (type, name)
       (λ d there. by d there (element_eq (put_key d) (type, name)) refl)
     where
-      by : (d : ElementEdit) → Contains (map put es) d → (b : Bool) → element_eq (put_key d) (type, name) ≡ b → b ≡ false
+      by : (d : ElementEdit) → Contains (map put es) d → (b : Bool) → element_eq (put_key d) (type, name) ≡ b
+          → b ≡ false
       by d there false at = refl
       by d there true at =
           let m = map_in put es d there in

@@ -9,10 +9,10 @@ use Rattle.std.proofs.lemmas.List.Elements.{Contains-append_left, Contains-appen
 use Rattle.lemmas.proofs.Members.{here, none_in}
 use Rattle.lemmas.proofs.Searches.{All-find}
 use Rattle.lemmas.proofs.Texts.{same_or_not}
-use Rattle.terms.specs.Types.{Text, Id, Entry, Global, Zone}
+use Rattle.terms.specs.Types.{Text, Id, Entry, Zone}
 use Rattle.terms.specs.Lookups.{IsRising, IsZone, is_nil, is_in, is_held, waives_applied, entry_of, applied_of}
 use Rattle.terms.specs.Lookups.{supby_of, delby_of, waived_of, is_applied, is_supplied}
-use Rattle.terms.specs.Choice.{Choice, by_srel}
+use Rattle.terms.specs.Choice.{Choice}
 use Rattle.terms.specs.Over.{Supersedes}
 use Rattle.terms.specs.Global.{IsGlobal}
 use Rattle.terms.specs.Delta.{ZoneDelta}
@@ -21,9 +21,9 @@ use Rattle.terms.specs.Install.{Installation, TakesEffect, cleared, delby_after}
 use Rattle.terms.proofs.Ids.{is_in-from_Contains, Contains-from_is_in, in_or_not}
 use Rattle.change.specs.declared.deleting.Deleting.{Deleting}
 use Rattle.change.specs.declared.plan.Plan.{Plan}
-use Rattle.change.specs.Deleting.{AreDeletions, choice_of, left, delby_left, at_stake}
+use Rattle.change.specs.Deleting.{AreDeletions, choice_of, left, at_stake}
 use Rattle.change.specs.Pairs.{others_of}
-use Rattle.change.specs.Plans.{installation, IsFresh, IsTouched, IsPlan}
+use Rattle.change.specs.Plans.{installation, IsFresh, IsPlan}
 use Rattle.change.specs.Entries.{is_open, bare_entry, old_entry, if_held, entry_after, IsAppliedEntry, IsOtherEntry}
 use Rattle.change.specs.Entries.{IsMadeEntry, HasPutEntries}
 use Rattle.change.proofs.Installable.{no_entry}

@@ -1,5 +1,5 @@
 -- Deletions count by their members alone.
-use Rattle.std.proofs.Common.{◌≡◌, Bool, true, false, List, Contains, IsTrue, refl, sym, ap, ◌∙◌, true≢false}
+use Rattle.std.proofs.Common.{◌≡◌, Bool, true, false, List, Contains, refl, sym, ap, ◌∙◌, true≢false}
 use Rattle.std.specs.Prelude.{◌↔◌, ◌&&◌, not, filter}
 use Rattle.std.specs.List.{list_any}
 use Rattle.terms.specs.Types.{Id, Global, Zone}

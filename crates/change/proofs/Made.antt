@@ -1,5 +1,5 @@
 -- The entries that are made are those of an install.
-use Rattle.std.proofs.Common.{◌≡◌, Bool, true, false, List, [], ◌∷◌, ◌++◌, Option, Some, None, refl}
+use Rattle.std.proofs.Common.{◌≡◌, true, false, List, ◌++◌, Option, Some, None, refl}
 use Rattle.std.proofs.Common.{sym, ap, ap₂, ◌∙◌, subst, true≢false, IsTrue}
 use Rattle.std.specs.Prelude.{◌↔◌, ◌||◌, Contains, filter, is_some, unwrap_or}
 use Rattle.std.specs.Str.{bytes_eq}

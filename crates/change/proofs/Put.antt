@@ -1,6 +1,6 @@
 -- One entry after the other is put.
 use Rattle.std.proofs.Common.{◌≡◌, ◌≢◌, ◌⊎◌, inl, inr, Bool, true, false, ℕ, ◌+◌, ◌<◌, List, [], length, get_or}
-use Rattle.std.proofs.Common.{Option, Some, None, refl, sym, ap, ◌∙◌, subst, cond, true≢false, take, All, IsTrue}
+use Rattle.std.proofs.Common.{Some, None, refl, sym, ap, ◌∙◌, subst, cond, true≢false, take, All, IsTrue}
 use Rattle.std.specs.Prelude.{Contains, find, if◌then◌else◌, IsFalse}
 use Rattle.std.specs.Option.{option_map_or}
 use Rattle.std.specs.Ordering.{nat_cmp}

@@ -8,7 +8,7 @@ use Rattle.std.proofs.lemmas.List.Sums.{fold-append}
 use Rattle.terms.specs.declared.kinds.ElemType.{ElemType}
 use Rattle.terms.specs.declared.kinds.Edit.{Edit}
 use Rattle.terms.specs.declared.kinds.Edit.TheVariants.{Remove}
-use Rattle.terms.specs.Types.{Text, Element, Zone}
+use Rattle.terms.specs.Types.{Text, Element}
 use Rattle.terms.specs.Lookups.{IsZone, element_cmp, element_key, element_of}
 use Rattle.terms.specs.Rising.{with_item}
 use Rattle.terms.specs.Deleted.{is_deleted}
@@ -21,7 +21,7 @@ use Rattle.change.specs.declared.deleting.Deleting.{Deleting}
 use Rattle.change.specs.Deleting.{choice_of, is_cut, left}
 use Rattle.change.specs.Puts.{less_element, less_elements}
 use Rattle.change.proofs.AllElements.{left_none, left_some, left_gone}
-use Rattle.change.proofs.Grouped.{Key, same_key}
+use Rattle.change.proofs.Grouped.{Key}
 use Rattle.change.proofs.InTurn.{find-member, in_turn-none, in_turn-some}
 
 abbrev ElementEdit : Type 0

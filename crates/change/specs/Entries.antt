@@ -15,7 +15,7 @@ use Rattle.change.specs.declared.plan.Plan.{Plan}
 use Rattle.change.specs.Deleting.{left, delby_left}
 use Rattle.change.specs.Pairs.{others_of}
 
--- whether the zone supplies it after the install no more than before
+-- whether nothing supplies it after the install
 abbrev pub is_open : Deleting → Plan → Id → Bool
 is_open d p z = not (is_in p.effective z) && is_nil (others_of p.superseders z) && not (is_supplied (left d) z)
 

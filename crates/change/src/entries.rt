@@ -97,7 +97,12 @@ fn waived(alloc: Heap, deleting: &Deleting, plan: &Plan, id: Id) -> Result<IdLis
     Ok(ids)
 }
 
-fn open_among(alloc: Heap, deleting: &Deleting, plan: &Plan, ids: &[Id]) -> Result<Vec<Id>, AllocError>
+fn open_among(
+    alloc: Heap,
+    deleting: &Deleting,
+    plan: &Plan,
+    ids: &[Id],
+) -> Result<Vec<Id>, AllocError>
     ensures { IfOk result (λ left. left.items ≡ filter (is_open deleting.now plan.now) ids.now) }
 {
     ids.iter()

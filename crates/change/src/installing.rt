@@ -21,8 +21,8 @@ use sysmods::{Global, VerChoice};
 use zones::{Element, Zone, ZoneDelta};
 use zones_less::deletions;
 
-/// What the kept SYSMODs put into the zone on this date. Over orders those that change one element, and what they
-/// update is there. `bypassed` has pairs of a SYSMOD and a bypassed requisite of it.
+/// What the kept SYSMODs put into the zone and take out of it on this date. Over orders those that change one element,
+/// and what they update is there. `bypassed` has pairs of a SYSMOD and a bypassed requisite of it.
 pub fn install(
     alloc: Heap,
     global: &Global,
@@ -60,7 +60,13 @@ pub fn install(
     let mut delta = ZoneDelta::new(alloc);
     put_entries(alloc, &deleting, &plan, &mut delta)?;
     remove_elements(&deleting, &mut delta)?;
-    let elements = elements_after(alloc, global, zone, dels.as_slice(), plan.effective.as_slice())?;
+    let elements = elements_after(
+        alloc,
+        global,
+        zone,
+        dels.as_slice(),
+        plan.effective.as_slice(),
+    )?;
     put_elements(elements, &mut delta)?;
     Ok(delta)
 }

@@ -2,7 +2,6 @@ use Rattle.std.proofs.Common.{◌∙◌, ap, sym}
 use Rattle.std.specs.Prelude.{option_copied}
 use Rattle.terms.specs.Choice.{by_srel}
 use Rattle.change.proofs.AllElements.{asked_deleted, left_none, left_some, left_gone, found_key}
-use Rattle.change.proofs.Deletions.{zone_less-same}
 use Rattle.change.proofs.elements.left_of.Goals as goal
 
 pub returns-in_err-element-clause-left : goal.returns-in_err-element-clause-left
