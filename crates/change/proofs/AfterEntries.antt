@@ -268,7 +268,8 @@ module _ (d : Deleting) (bypassed : List (Id × Id)) (date : Text) (is_global : 
     supby_left x y =
         elim (takes_or_not x) [
           | inl t ↦ (
-            λ h. absurd (none_in y (subst (λ ys. Contains ys y) (supby_reads x ∙ ap (λ v. v.supby) (effect x t).rest) h)),
+            λ h. absurd (none_in y (subst (λ ys. Contains ys y)
+                (supby_reads x ∙ ap (λ v. v.supby) (effect x t).rest) h)),
             λ h. elim h [
               | inl old ↦ absurd (none_in y (subst (λ ys. Contains ys y) (ap supby_in (none_left x t)) old))
               | inr by ↦ absurd (not_superseded x y t by.0 by.1)

@@ -56,22 +56,22 @@ module _ (d : Deleting) (bypassed : List (Id × Id)) (date : Text) (is_global : 
       record {
         rest = changed.rest;
         is_zone = changed.is_zone;
-        applied = entries.applied d bypassed date is_global is_zone lists dels fresh p plan start between put new
-            at_entry;
-        not_applied = entries.not_applied d bypassed date is_global is_zone lists dels fresh p plan start between put new
-            at_entry;
-        supby_rising = entries.supby_rising d bypassed date is_global is_zone lists dels fresh p plan start between put new
-            at_entry;
-        supby = entries.supby d bypassed date is_global is_zone lists dels fresh p plan start between put new
-            at_entry;
-        delby = entries.delby d bypassed date is_global is_zone lists dels fresh p plan start between put new
-            at_entry;
-        waived_rising = entries.waived_rising d bypassed date is_global is_zone lists dels fresh p plan start between put new
-            at_entry;
-        waived = entries.waived d bypassed date is_global is_zone lists dels fresh p plan start between put new
-            at_entry;
-        not_waived = entries.not_waived d bypassed date is_global is_zone lists dels fresh p plan start between put new
-            at_entry;
+        applied = entries.applied d bypassed date is_global is_zone lists dels fresh p plan start between
+            put new at_entry;
+        not_applied = entries.not_applied d bypassed date is_global is_zone lists dels fresh p plan start between
+            put new at_entry;
+        supby_rising = entries.supby_rising d bypassed date is_global is_zone lists dels fresh p plan start between
+            put new at_entry;
+        supby = entries.supby d bypassed date is_global is_zone lists dels fresh p plan start between
+            put new at_entry;
+        delby = entries.delby d bypassed date is_global is_zone lists dels fresh p plan start between
+            put new at_entry;
+        waived_rising = entries.waived_rising d bypassed date is_global is_zone lists dels fresh p plan start between
+            put new at_entry;
+        waived = entries.waived d bypassed date is_global is_zone lists dels fresh p plan start between
+            put new at_entry;
+        not_waived = entries.not_waived d bypassed date is_global is_zone lists dels fresh p plan start between
+            put new at_entry;
         changed = element_changed i zone es after less.elements delta less is refl at_element new changed.elements;
         unchanged = element_unchanged i zone es after less.elements delta less is refl at_element new changed.elements;
       }

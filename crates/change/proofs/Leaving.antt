@@ -135,7 +135,8 @@ module _ (d : Deleting) (dels : AreDeletions d) where
           else filter (λ k. is_in (del_of (choice_of d) k) x) d.kept.now) 0)
       by (Some k) = refl
       by None = either (is_function_gone d x)
-          ∙ ap (λ ds. slice_get (if is_function d.global.now x && is_taken_out d.global.now (choice_of d) ds d.zone.now x
+          ∙ ap (λ ds. slice_get
+          (if is_function d.global.now x && is_taken_out d.global.now (choice_of d) ds d.zone.now x
           then filter (λ k. is_deleted d.global.now (choice_of d) (del_of (choice_of d) k) x) d.kept.now
           else filter (λ k. is_in (del_of (choice_of d) k) x) d.kept.now) 0) dels
 

@@ -29,21 +29,22 @@ pub is-plan : (g : Global) (zone : Zone) (kept : List Id) (bypassed : List (Id �
       touched = touched;
       date = date;
     })
-is-plan g zone kept bypassed date dels effective touched pairs superseders by_id takes are all gathered waived = record {
-  effective = takes (installation g zone kept bypassed date) refl refl;
-  superseders = λ x y. (
-    λ h. let both = (are x y).0 ((gathered x y).0 h) in
-        ((takes (installation g zone kept bypassed date) refl refl y).0 both.0, both.1),
-    λ h. (gathered x y).1 ((are x y).1 ((takes (installation g zone kept bypassed date) refl refl y).1 h.0, h.1)),
-  );
-  bypassed = waived;
-  touched = λ x h. (all x).1 (elim h [
-    | inl changes ↦ Contains-append_left (map first pairs ++ effective) (at_stake zone dels) x (elim changes [
-      | inl own ↦ Contains-append_right (map first pairs) effective x own
-      | inr by ↦ Contains-append_left (map first pairs) effective x (in_map first pairs (x, by.0)
-          ((gathered x by.0).0 by.1))
-    ])
-    | inr deleted ↦ Contains-append_right (map first pairs ++ effective) (at_stake zone dels) x deleted
-  ]);
-  date = refl;
-}
+is-plan g zone kept bypassed date dels effective touched pairs superseders by_id takes are all gathered waived =
+    record {
+      effective = takes (installation g zone kept bypassed date) refl refl;
+      superseders = λ x y. (
+        λ h. let both = (are x y).0 ((gathered x y).0 h) in
+            ((takes (installation g zone kept bypassed date) refl refl y).0 both.0, both.1),
+        λ h. (gathered x y).1 ((are x y).1 ((takes (installation g zone kept bypassed date) refl refl y).1 h.0, h.1)),
+      );
+      bypassed = waived;
+      touched = λ x h. (all x).1 (elim h [
+        | inl changes ↦ Contains-append_left (map first pairs ++ effective) (at_stake zone dels) x (elim changes [
+          | inl own ↦ Contains-append_right (map first pairs) effective x own
+          | inr by ↦ Contains-append_left (map first pairs) effective x (in_map first pairs (x, by.0)
+              ((gathered x by.0).0 by.1))
+        ])
+        | inr deleted ↦ Contains-append_right (map first pairs ++ effective) (at_stake zone dels) x deleted
+      ]);
+      date = refl;
+    }

@@ -113,7 +113,8 @@ module _ (d : Deleting) (p : Plan) where
         by_other y out false off =
             after_put old v y false off ∙ so_far.others y (λ was. out ((in_more xs k x below is y).1 (inl was)))
 
-    is_put : IsTrue (is_held e) → entry_of zone x ≢ Some e → HasPutEntries d p (take (k + 1) xs) start (with_entry old e)
+    is_put : IsTrue (is_held e) → entry_of zone x ≢ Some e
+        → HasPutEntries d p (take (k + 1) xs) start (with_entry old e)
     is_put held new = edited (Put e) made.after.id (sym (ap (λ b. if b then Some e else None) held))
         (λ there. new (ap (entry_of zone) (sym made.after.id) ∙ there))
 

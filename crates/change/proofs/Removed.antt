@@ -1,6 +1,6 @@
 -- The elements that deletions take out of a zone are removed.
-use Rattle.std.proofs.Common.{◌≡◌, Bool, true, false, List, [], ◌∷◌, Option, Some, None, refl, sym, ap, ◌∙◌, true≢false, inr}
-use Rattle.std.proofs.Common.{map, filter, ℕ, ◌<◌, ◌+◌, ◌++◌, length, take, get_or}
+use Rattle.std.proofs.Common.{◌≡◌, Bool, true, false, List, [], ◌∷◌, Option, Some, None, refl, sym, ap, ◌∙◌, true≢false}
+use Rattle.std.proofs.Common.{inr, map, filter, ℕ, ◌<◌, ◌+◌, ◌++◌, length, take, get_or}
 use Rattle.std.specs.Prelude.{find, Contains, fold, if◌then◌else◌}
 use Rattle.std.specs.Option.{option_map_or}
 use Rattle.std.proofs.lemmas.List.{take_more}
@@ -100,8 +100,8 @@ module _ (d : Deleting) where
         → element_eq (element_key m) key ≡ true → m ≡ e
     only_one e m at there hit =
         let both : Some m ≡ Some e =
-        sym (find-member element_cmp_total element_key element_eq element_ties elements m key is_zone.elements there hit)
-        ∙ at in
+        sym (find-member element_cmp_total element_key element_eq element_ties elements m key is_zone.elements there
+        hit) ∙ at in
         cc both
 
     from_element : (r : ElementEdit) → Contains (removals elements) r
@@ -147,7 +147,8 @@ module _ (d : Deleting) where
         ∙ by (element_of d.zone.now type name) refl
       where
         stands : find at_key (all_removed [] elements) ≡ None
-            → after_edits element_eq element_key (all_removed [] elements) elements key ≡ element_of d.zone.now type name
+            → after_edits element_eq element_key (all_removed [] elements) elements key
+            ≡ element_of d.zone.now type name
         stands none = ap (λ o. option_map_or edit_put o (element_of d.zone.now type name)) none
 
         by_cut : (e : Element) → element_of d.zone.now type name ≡ Some e → (b : Bool) → is_cut d e.fmid ≡ b

@@ -4,8 +4,8 @@ ghost use Rattle.terms.specs.Lookups.{is_in, is_supplied, delby_of};
 ghost use Rattle.terms.specs.Choice.{del_of};
 ghost use Rattle.terms.specs.Deleted.{is_deleted, entry_less};
 ghost use Rattle.sysmods.specs.Choices.{choice};
-ghost use Rattle.change.specs.Deleting.{AreDeletions, is_cut, is_gone, left, first_meeting, first_naming, first_deleter, is_function_gone};
-ghost use Rattle.change.specs.Deleting.{delby_left};
+ghost use Rattle.change.specs.Deleting.{AreDeletions, is_cut, is_gone, left, first_meeting, first_naming};
+ghost use Rattle.change.specs.Deleting.{is_function_gone, first_deleter, delby_left};
 ghost use Rattle.change.specs.Entries.{old_entry};
 
 use fields::{Id, IdList};
