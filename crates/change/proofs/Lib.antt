@@ -21,5 +21,4 @@ pub mod FoldSteps
 pub mod FoldEnd
 pub mod Grouped
 pub mod AllElements
-pub mod Deletions
 pub mod Removed

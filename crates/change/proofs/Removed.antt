@@ -1,6 +1,6 @@
 -- The elements that deletions take out of a zone are removed.
 use Rattle.std.proofs.Common.{◌≡◌, Bool, true, false, List, [], ◌∷◌, Option, Some, None, refl, sym, ap, ◌∙◌, true≢false}
-use Rattle.std.proofs.Common.{inr, map, filter, ℕ, ◌<◌, ◌+◌, ◌++◌, length, take, get_or}
+use Rattle.std.proofs.Common.{inr, not, map, filter, ℕ, ◌<◌, ◌+◌, ◌++◌, length, take, get_or}
 use Rattle.std.specs.Prelude.{find, Contains, fold, if◌then◌else◌}
 use Rattle.std.specs.Option.{option_map_or}
 use Rattle.std.proofs.lemmas.List.{take_more}
@@ -17,10 +17,11 @@ use Rattle.terms.specs.Delta.{ZoneDelta, edit_key, edit_put, element_eq, after_e
 use Rattle.terms.proofs.ElementOrder.{element_cmp_total, element_ties}
 use Rattle.lemmas.proofs.Members.{in_map, map_in, in_filter, filter_in}
 use Rattle.lemmas.proofs.Searches.{find-gives}
+use Rattle.zones_less.proofs.Filtered.{passing}
+use Rattle.zones_less.proofs.Lookups.{element_of-less}
 use Rattle.change.specs.declared.deleting.Deleting.{Deleting}
 use Rattle.change.specs.Deleting.{choice_of, is_cut, left}
 use Rattle.change.specs.Puts.{less_element, less_elements}
-use Rattle.change.proofs.AllElements.{left_none, left_some, left_gone}
 use Rattle.change.proofs.Grouped.{Key}
 use Rattle.change.proofs.InTurn.{find-member, in_turn-none, in_turn-some}
 
@@ -146,6 +147,12 @@ module _ (d : Deleting) where
         (removed_are start elements ∙ ap (λ old. all_removed old elements) empty)
         ∙ by (element_of d.zone.now type name) refl
       where
+        left_is : (o : Option Element) → element_of d.zone.now type name ≡ o
+            → element_of (left d) type name ≡ passing (λ e. not (is_cut d e.fmid)) o
+        left_is o at =
+            element_of-less d.global.now (choice_of d) d.dels.now d.zone.now is_zone type name
+            ∙ ap (passing (λ e. not (is_cut d e.fmid))) at
+
         stands : find at_key (all_removed [] elements) ≡ None
             → after_edits element_eq element_key (all_removed [] elements) elements key
             ≡ element_of d.zone.now type name
@@ -155,17 +162,17 @@ module _ (d : Deleting) where
             → after_edits element_eq element_key (all_removed [] elements) elements key ≡ element_of (left d) type name
         by_cut e at true gone =
             ap (λ o. option_map_or edit_put o (element_of d.zone.now type name)) (one_removal e at gone)
-            ∙ sym (left_gone d.global.now (choice_of d) d.dels.now d.zone.now type name is_zone e at gone)
+            ∙ sym (left_is (Some e) at ∙ ap (λ b. if not b then Some e else None) gone)
         by_cut e at false stays =
             stands (no_removal (λ m there gone hit. true≢false (sym gone
             ∙ ap (λ v. is_cut d v.fmid) (only_one e m at there hit) ∙ stays)))
-            ∙ at ∙ sym (left_some d.global.now (choice_of d) d.dels.now d.zone.now type name e at stays)
+            ∙ at ∙ sym (left_is (Some e) at ∙ ap (λ b. if not b then Some e else None) stays)
 
         by : (o : Option Element) → element_of d.zone.now type name ≡ o
             → after_edits element_eq element_key (all_removed [] elements) elements key ≡ element_of (left d) type name
         by None at =
             stands (no_removal (λ m there gone hit. missing m there hit)) ∙ at
-            ∙ sym (left_none d.global.now (choice_of d) d.dels.now d.zone.now type name at)
+            ∙ sym (left_is None at)
           where
             missing : (m : Element) → Contains elements m → element_eq (element_key m) key ≡ true → ⊥
             missing m there hit =
