@@ -1,5 +1,4 @@
 pub mod Few
-pub mod Plain
 pub mod Collapsed
 pub mod Alone
 pub mod Lists
