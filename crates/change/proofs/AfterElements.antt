@@ -1,5 +1,5 @@
 -- Whatever zone the edits of elements make of the old one has the elements that the install asks for.
-use Rattle.std.proofs.Common.{◌≡◌, inr, Bool, true, false, List, [], ◌∷◌, Some, None, refl, sym, ap}
+use Rattle.std.proofs.Common.{◌≡◌, inr, Bool, true, false, List, [], ◌∷◌, Some, refl, sym, ap}
 use Rattle.std.proofs.Common.{◌∙◌, subst, true≢false, IsTrue, map}
 use Rattle.std.specs.Prelude.{find, Contains, IsFalse, fold}
 use Rattle.std.specs.Option.{option_map_or}
@@ -46,17 +46,17 @@ put_elements_are d (e ∷ es) = put_elements_are (with_element d e) es
 
 -- ---- what stands in the new zone
 
-module _ (i : Installation) (zone : Zone) (same_zone : cleared i ≡ zone) (es : List Element)
-    (after : AreElementsAfter i es) where
+module _ (i : Installation) (zone : Zone) (es : List Element) (after : AreElementsAfter i es)
+    (old : List ElementEdit) where
   itself : (k : Key) → element_eq k k ≡ true
   itself k = element_ties k k ∙ ap is_eq (tied_itself element_cmp_total k)
 
   -- an element of the list stands at its key
   found : (e : Element) (k : Key) → Contains es e → element_key e ≡ k
-      → find (λ d. element_eq (put_key d) k) (put_all [] es) ≡ Some (put e)
+      → find (λ d. element_eq (put_key d) k) (put_all old es) ≡ Some (put e)
   unfolding put
   found e k is key =
-      in_turn-some element_cmp_total put_key element_eq element_ties (map put es) [] k (put e) hit only
+      in_turn-some element_cmp_total put_key element_eq element_ties (map put es) old k (put e) hit only
       (inr (in_map put es e is))
     where
       hit : element_eq (element_key e) k ≡ true
@@ -72,13 +72,14 @@ module _ (i : Installation) (zone : Zone) (same_zone : cleared i ≡ zone) (es :
           let one : m.0 ≡ e = cc both in
           sym m.2 ∙ ap put one
 
-  -- at the key of an element that nothing changes stands none
+  -- at the key of an element that nothing changes stands what stood there
   not_found : (type : ElemType) (name : Text)
       → ((x : Id) → TakesEffect i x → IsFalse (has_change i.global x type name))
-      → find (λ d. element_eq (put_key d) (type, name)) (put_all [] es) ≡ None
+      → find (λ d. element_eq (put_key d) (type, name)) (put_all old es)
+      ≡ find (λ d. element_eq (put_key d) (type, name)) old
   unfolding put
   not_found type name none =
-      in_turn-none element_cmp_total put_key element_eq element_ties (map put es) [] (type, name)
+      in_turn-none element_cmp_total put_key element_eq element_ties (map put es) old (type, name)
       (λ d there. by d there (element_eq (put_key d) (type, name)) refl)
     where
       by : (d : ElementEdit) → Contains (map put es) d → (b : Bool) → element_eq (put_key d) (type, name) ≡ b
@@ -93,13 +94,15 @@ module _ (i : Installation) (zone : Zone) (same_zone : cleared i ≡ zone) (es :
           absurd (true≢false (sym changes.2
           ∙ ap (λ (k : Key). has_change i.global changes.0 k.0 k.1) key ∙ none changes.0 changes.1))
 
-  module _ (delta start : ZoneDelta) (is : delta ≡ with_elements start es) (empty : start.elements ≡ [])
+  module _ (delta start : ZoneDelta) (is : delta ≡ with_elements start es) (starts : start.elements ≡ old)
+      (less : (type : ElemType) (name : Text)
+      → after_edits element_eq element_key old zone.elements (type, name) ≡ element_of (cleared i) type name)
       (new : Zone) (changed : (type : ElemType) (name : Text)
       → element_of new type name ≡ after_edits element_eq element_key delta.elements zone.elements (type, name)) where
     at_key : (type : ElemType) (name : Text)
-        → element_of new type name ≡ after_edits element_eq element_key (put_all [] es) zone.elements (type, name)
+        → element_of new type name ≡ after_edits element_eq element_key (put_all old es) zone.elements (type, name)
     at_key type name =
-        let edits = ap (λ d. d.elements) is ∙ put_elements_are start es ∙ ap (λ old. put_all old es) empty in
+        let edits = ap (λ d. d.elements) is ∙ put_elements_are start es ∙ ap (λ es'. put_all es' es) starts in
         changed type name
         ∙ ap (λ ds. after_edits element_eq element_key ds zone.elements (type, name)) edits
 
@@ -122,4 +125,4 @@ module _ (i : Installation) (zone : Zone) (same_zone : cleared i ≡ zone) (es :
     element_unchanged type name none =
         at_key type name
         ∙ ap (λ o. option_map_or edit_put o (element_of zone type name)) (not_found type name none)
-        ∙ ap (λ z. element_of z type name) (sym same_zone)
+        ∙ less type name

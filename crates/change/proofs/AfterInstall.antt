@@ -1,58 +1,77 @@
 -- Whatever zone the edits make of the old one is the one that the install asks for.
-use Rattle.std.proofs.Common.{◌≡◌, ◌∙◌, List, [], ap, IsTrue, All}
+use Rattle.std.proofs.Common.{◌≡◌, ◌∙◌, List, [], refl, sym, ap, All}
 use Rattle.std.specs.Prelude.{find}
 use Rattle.std.specs.Option.{option_map_or}
 use Rattle.std.specs.Str.{bytes_eq}
+use Rattle.terms.specs.declared.kinds.ElemType.{ElemType}
 use Rattle.terms.specs.Types.{Text, Id, Global, Element, Zone}
-use Rattle.terms.specs.Lookups.{IsRising, IsZone, entry_of}
+use Rattle.terms.specs.Lookups.{IsRising, IsZone, entry_of, element_key, element_of}
+use Rattle.terms.specs.Choice.{by_srel}
+use Rattle.terms.specs.Deleted.{deletions}
 use Rattle.terms.specs.Global.{IsGlobal}
-use Rattle.terms.specs.Candidates.{is_installable}
-use Rattle.terms.specs.Delta.{ZoneDelta, IsChanged, edit_key, edit_put}
+use Rattle.terms.specs.Delta.{ZoneDelta, IsChanged, edit_key, edit_put, element_eq, after_edits}
 use Rattle.terms.specs.Install.{Installation, cleared, HasInstalled}
+use Rattle.change.specs.declared.deleting.Deleting.{Deleting}
 use Rattle.change.specs.declared.plan.Plan.{Plan}
-use Rattle.change.specs.Plans.{installation, IsPlan}
+use Rattle.change.specs.Deleting.{AreDeletions}
+use Rattle.change.specs.Plans.{installation, IsFresh, IsPlan}
 use Rattle.change.specs.Entries.{entry_after, HasPutEntries}
 use Rattle.change.specs.Elements.{AreElementsAfter}
-use Rattle.change.specs.Puts.{with_elements}
+use Rattle.change.specs.Puts.{less_elements, with_elements}
 use Rattle.change.proofs.AfterElements.{put_entries_stay, element_changed, element_unchanged}
 use Rattle.change.proofs.AfterEntries as entries
-use Rattle.change.proofs.Uncleared.{same_zone}
+use Rattle.change.proofs.Removed.{removed_stay, removed_at}
 
-module _ (g : Global) (zone : Zone) (kept : List Id) (bypassed : List (Id × Id)) (date : Text) (is_global : IsGlobal g)
-    (is_zone : IsZone zone) (lists : All (λ e. IsRising e.supby × IsRising e.waived) zone.entries)
-    (installable : All (λ x. IsTrue (is_installable g zone x)) kept) where
+-- the deletions of kept SYSMODs, by the ++VERs that were looked at
+pub deletions_are : (g : Global) (srel : Text) (h : Global) (other : Text) (ids kept dels : List Id) → h ≡ g
+    → other ≡ srel → ids ≡ kept → dels ≡ deletions (by_srel h other) ids → dels ≡ deletions (by_srel g srel) kept
+deletions_are g srel h other ids kept dels global same_srel same is =
+    is ∙ ap (λ v. deletions (by_srel v other) ids) global ∙ ap (λ t. deletions (by_srel g t) ids) same_srel
+    ∙ ap (deletions (by_srel g srel)) same
+
+module _ (d : Deleting) (bypassed : List (Id × Id)) (date : Text) (is_global : IsGlobal d.global.now)
+    (is_zone : IsZone d.zone.now) (lists : All (λ e. IsRising e.supby × IsRising e.waived) d.zone.now.entries)
+    (dels : AreDeletions d) (fresh : All (IsFresh d.zone.now) d.kept.now) where
   abbrev i : Installation
-  i = installation g zone kept bypassed date
+  i = installation d.global.now d.zone.now d.kept.now bypassed date
 
-  pub installs : (p : Plan) (start between delta : ZoneDelta) (es : List Element) → IsPlan i p → start.elements ≡ []
-      → HasPutEntries zone p p.touched start between → AreElementsAfter i es → delta ≡ with_elements between es
-      → (new : Zone) → IsChanged delta zone new → HasInstalled i new
-  installs p start between delta es plan empty put after is new changed =
+  pub installs : (p : Plan) (start between less delta : ZoneDelta) (es : List Element) → IsPlan i d.dels.now p
+      → start.elements ≡ [] → HasPutEntries d p p.touched start between
+      → less ≡ less_elements d between d.zone.now.elements → AreElementsAfter i es → delta ≡ with_elements less es
+      → (new : Zone) → IsChanged delta d.zone.now new → HasInstalled i new
+  installs p start between less delta es plan empty put cut after is new changed =
+      let zone : Zone = d.zone.now in
       let at_entry : (x : Id) → entry_of new x ≡ entry_after between zone x =
       λ x. changed.entries x
       ∙ ap (λ es. option_map_or edit_put (find (λ e. bytes_eq (edit_key (λ e. e.id) e) x) es) (entry_of zone x))
-      (ap (λ d. d.entries) is ∙ put_entries_stay between es) in
-      let same : cleared i ≡ zone = same_zone g zone kept bypassed date is_zone installable in
-      let none : between.elements ≡ [] = put.elements ∙ empty in
+      (ap (λ d. d.entries) is ∙ put_entries_stay less es ∙ ap (λ d. d.entries) cut
+      ∙ removed_stay d between zone.elements) in
+      let at_element : (type : ElemType) (name : Text)
+      → after_edits element_eq element_key less.elements zone.elements (type, name)
+      ≡ element_of (cleared i) type name =
+      λ type name. ap (λ (v : ZoneDelta). after_edits element_eq element_key v.elements zone.elements (type, name)) cut
+      ∙ removed_at d is_zone type name between (put.elements ∙ empty)
+      ∙ ap (λ z. element_of z type name)
+      (sym (entries.cleared_is d bypassed date is_global is_zone lists dels fresh)) in
       record {
         rest = changed.rest;
         is_zone = changed.is_zone;
-        applied = entries.applied g zone kept bypassed date is_global is_zone lists installable p plan start between put
-            new at_entry;
-        not_applied = entries.not_applied g zone kept bypassed date is_global is_zone lists installable p plan start
-            between put new at_entry;
-        supby_rising = entries.supby_rising g zone kept bypassed date is_global is_zone lists installable p plan start
-            between put new at_entry;
-        supby = entries.supby g zone kept bypassed date is_global is_zone lists installable p plan start between put
-            new at_entry;
-        delby = entries.delby g zone kept bypassed date is_global is_zone lists installable p plan start between put
-            new at_entry;
-        waived_rising = entries.waived_rising g zone kept bypassed date is_global is_zone lists installable p plan start
-            between put new at_entry;
-        waived = entries.waived g zone kept bypassed date is_global is_zone lists installable p plan start between put
-            new at_entry;
-        not_waived = entries.not_waived g zone kept bypassed date is_global is_zone lists installable p plan start
-            between put new at_entry;
-        changed = element_changed i zone same es after delta between is none new changed.elements;
-        unchanged = element_unchanged i zone same es after delta between is none new changed.elements;
+        applied = entries.applied d bypassed date is_global is_zone lists dels fresh p plan start between
+            put new at_entry;
+        not_applied = entries.not_applied d bypassed date is_global is_zone lists dels fresh p plan start between
+            put new at_entry;
+        supby_rising = entries.supby_rising d bypassed date is_global is_zone lists dels fresh p plan start between
+            put new at_entry;
+        supby = entries.supby d bypassed date is_global is_zone lists dels fresh p plan start between
+            put new at_entry;
+        delby = entries.delby d bypassed date is_global is_zone lists dels fresh p plan start between
+            put new at_entry;
+        waived_rising = entries.waived_rising d bypassed date is_global is_zone lists dels fresh p plan start between
+            put new at_entry;
+        waived = entries.waived d bypassed date is_global is_zone lists dels fresh p plan start between
+            put new at_entry;
+        not_waived = entries.not_waived d bypassed date is_global is_zone lists dels fresh p plan start between
+            put new at_entry;
+        changed = element_changed i zone es after less.elements delta less is refl at_element new changed.elements;
+        unchanged = element_unchanged i zone es after less.elements delta less is refl at_element new changed.elements;
       }

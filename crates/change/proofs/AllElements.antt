@@ -1,10 +1,8 @@
 -- The elements of an install: what deletions leave of them, and the SYSMODs that change each.
-use Rattle.std.proofs.Common.{◌≡◌, ◌≢◌, ◌⊎◌, inl, inr, Bool, true, false, List, [], ◌∷◌, ◌++◌, Option, Some, None, refl}
-use Rattle.std.proofs.Common.{sym}
-use Rattle.std.proofs.Common.{ap, ◌∙◌, subst, true≢false, IsTrue, All, Any, Contains, arith, IsPermutation, AllPairs}
-use Rattle.std.proofs.Common.{map, IsSome}
+use Rattle.std.proofs.Common.{◌≡◌, ◌≢◌, ◌⊎◌, inl, inr, true, List, [], ◌∷◌, ◌++◌, Option, Some, None, refl, sym}
+use Rattle.std.proofs.Common.{ap, ◌∙◌, subst, IsTrue, All, Any, Contains, arith, IsPermutation, AllPairs, map, IsSome}
 use Rattle.std.proofs.Common.{◌<◌, ◌+◌, ℕ, length, take, subst₂}
-use Rattle.std.specs.Prelude.{not, find, filter, get_or}
+use Rattle.std.specs.Prelude.{IfSome, filter, get_or}
 use Rattle.std.specs.Ordering.{is_lt}
 use Rattle.std.proofs.lemmas.List.{map-append, take_more}
 use Rattle.std.proofs.lemmas.List.Elements.{filter_passes, Contains-get_or}
@@ -15,96 +13,33 @@ use Rattle.lemmas.proofs.Pairs.{pairs_map, pairs_unmap}
 use Rattle.lemmas.proofs.Searches.{find-gives}
 use Rattle.terms.specs.declared.kinds.ElemType.{ElemType}
 use Rattle.terms.specs.Types.{Text, Id, Global, Element, Zone}
-use Rattle.terms.specs.Lookups.{IsZone, element_cmp, element_key, has_change, element_of}
-use Rattle.terms.specs.Choice.{Choice, by_srel}
-use Rattle.terms.specs.Deleted.{is_deleted, zone_less}
+use Rattle.terms.specs.Lookups.{element_cmp, element_key, has_change, element_of}
+use Rattle.terms.specs.Choice.{Choice}
+use Rattle.terms.specs.Deleted.{zone_less}
 use Rattle.terms.specs.Delta.{element_eq}
 use Rattle.terms.specs.Install.{Installation, TakesEffect, HasElementAfter}
 use Rattle.terms.specs.Changes.{has_replacement}
 use Rattle.terms.specs.Over.{IsOver}
 use Rattle.terms.specs.Tests.{ShareElement}
-use Rattle.terms.proofs.ElementOrder.{element_cmp_total, element_ties}
 use Rattle.change.specs.Elements.{IsInstallOf, AreElementsAfter}
 use Rattle.change.specs.Folding.{AreChangers}
 use Rattle.change.specs.Grouping.{ChangedElement, changed_key, AreByElement}
-use Rattle.change.proofs.InTurn.{find-member}
 use Rattle.change.proofs.FoldEnd.{replaces_changes}
 use Rattle.change.proofs.Grouped.{Key, same_key}
 use Rattle.change.proofs.Ordered.{all_in}
 
--- ---- what a filter leaves of what a search finds
-
-find_left : {X : Type 0} (p q : X → Bool) (xs : List X) (x : X) → find p xs ≡ Some x → q x ≡ true
-    → find p (filter q xs) ≡ Some x
-find_left p q [] x at stays = absurd (cc at)
-find_left {X} p q (y ∷ ys) x at stays = by (find_left p q ys x) (p y) (q y) refl refl
-  where
-    by : (find p ys ≡ Some x → q x ≡ true → find p (filter q ys) ≡ Some x) → (found kept : Bool) → p y ≡ found
-        → q y ≡ kept → find p (filter q (y ∷ ys)) ≡ Some x
-    by again true true e f =
-        let one : Some y ≡ Some x = rw e at at in
-        rw (f, e) one
-    by again true false e f =
-        let one : Some y ≡ Some x = rw e at at in
-        let same : y ≡ x = cc one in
-        absurd (true≢false (sym stays ∙ ap q (sym same) ∙ f))
-    by again false true e f = let later : find p ys ≡ Some x = rw e at at in rw (f, e) (again later stays)
-    by again false false e f = let later : find p ys ≡ Some x = rw e at at in rw f (again later stays)
-
-find_none : {X : Type 0} (p q : X → Bool) (xs : List X) → find p xs ≡ None → find p (filter q xs) ≡ None
-find_none p q [] at = refl
-find_none {X} p q (y ∷ ys) at = by (find_none p q ys) (p y) (q y) refl refl
-  where
-    by : (find p ys ≡ None → find p (filter q ys) ≡ None) → (found kept : Bool) → p y ≡ found → q y ≡ kept
-        → find p (filter q (y ∷ ys)) ≡ None
-    by again true kept e f = let one : Some y ≡ None = rw e at at in absurd (cc one)
-    by again false true e f = let later : find p ys ≡ None = rw e at at in rw (f, e) (again later)
-    by again false false e f = let later : find p ys ≡ None = rw e at at in rw f (again later)
-
-find_gone : {X : Type 0} (p q : X → Bool) (xs : List X) (x : X) → ((y : X) → Contains xs y → p y ≡ true → y ≡ x)
-    → q x ≡ false → find p (filter q xs) ≡ None
-find_gone {X} p q xs x only gone = by (find p (filter q xs)) refl
-  where
-    by : (o : Option X) → find p (filter q xs) ≡ o → find p (filter q xs) ≡ None
-    by None at = at
-    by (Some y) at =
-        let found = find-gives p (filter q xs) y at in
-        let stays = filter_in q xs y found.1 in
-        absurd (true≢false (sym stays.1 ∙ ap q (only y stays.0 found.0) ∙ gone))
-
-module _ (g : Global) (c : Choice) (deletions : List Id) (zone : Zone) (type : ElemType) (name : Text) where
-  pub left_none : element_of zone type name ≡ None → element_of (zone_less g c deletions zone) type name ≡ None
-  unfolding zone_less
-  left_none at =
-      find_none (λ e. element_eq (element_key e) (type, name)) (λ e. not (is_deleted g c deletions e.fmid)) zone.elements
-      at
-
-  pub left_some : (e : Element) → element_of zone type name ≡ Some e → is_deleted g c deletions e.fmid ≡ false
-      → element_of (zone_less g c deletions zone) type name ≡ Some e
-  unfolding zone_less
-  left_some e at stays =
-      find_left (λ d. element_eq (element_key d) (type, name)) (λ d. not (is_deleted g c deletions d.fmid)) zone.elements
-      e at (ap not stays)
-
-  pub left_gone : IsZone zone → (e : Element) → element_of zone type name ≡ Some e
-      → is_deleted g c deletions e.fmid ≡ true → element_of (zone_less g c deletions zone) type name ≡ None
-  unfolding zone_less
-  left_gone is e at gone =
-      find_gone (λ d. element_eq (element_key d) (type, name)) (λ d. not (is_deleted g c deletions d.fmid)) zone.elements
-      e only (ap not gone)
-    where
-      only : (d : Element) → Contains zone.elements d → element_eq (element_key d) (type, name) ≡ true → d ≡ e
-      only d there hit =
-          let both : Some d ≡ Some e =
-          sym (find-member element_cmp_total element_key element_eq element_ties zone.elements d (type, name)
-          is.elements there hit) ∙ at in
-          cc both
-
-  pub found_key : (e : Element) → element_of zone type name ≡ Some e → (e.elem_type ≡ type) × (e.name ≡ name)
+module _ (zone : Zone) (type : ElemType) (name : Text) where
+  found_key : (e : Element) → element_of zone type name ≡ Some e → (e.elem_type ≡ type) × (e.name ≡ name)
   found_key e at =
       let found = find-gives (λ d. element_eq (element_key d) (type, name)) zone.elements e at in
       let same = same_key (element_key e) (type, name) found.0 in
       (ap (λ k. k.0) same, ap (λ k. k.1) same)
+
+  -- what a zone has there is of this type and name
+  pub key_of_found : (o : Option Element) → o ≡ element_of zone type name
+      → IfSome o (λ e. (e.elem_type ≡ type) × (e.name ≡ name))
+  key_of_found None at = tt
+  key_of_found (Some e) at = found_key e (sym at)
 
 -- ---- the changers in another order
 
@@ -257,11 +192,3 @@ all_after g c zone deletions ids changes es by keys after i is = record {
         let has : IsTrue (has_change g x.0 e.elem_type e.name) =
         subst (λ (k : Key). IsTrue (has_change g x.0 k.0 k.1)) m.2 f.1 in
         (x.0, (is.members x.0).0 f.0, subst (λ h. IsTrue (has_change h x.0 e.elem_type e.name)) (sym is.global) has)
-
--- whether the deletions meet the chain of an id, as the code asks it
-pub asked_deleted : (g : Global) (deletions : List Id) (s srel : Text) (x y : Id) (b answer : Bool)
-    → b ≡ is_deleted g (by_srel g s) deletions x → s ≡ srel → x ≡ y → b ≡ answer
-    → is_deleted g (by_srel g srel) deletions y ≡ answer
-asked_deleted g deletions s srel x y b answer is srels ids asked =
-    subst (λ z. is_deleted g (by_srel g srel) deletions z ≡ answer) ids
-    (subst (λ t. is_deleted g (by_srel g t) deletions x ≡ answer) srels (sym is ∙ asked))

@@ -16,9 +16,9 @@ use Rattle.change.specs.declared.plan.Plan.{Plan}
 use Rattle.change.specs.Plans.{IsPlan}
 
 -- the list of those that take effect, as a plan has it
-pub members_are : (i : Installation) (p : Plan) (ids : List Id) → IsPlan i p → ids ≡ p.effective → (x : Id)
-    → Contains ids x ↔ TakesEffect i x
-members_are i p ids plan same x = subst (λ xs. Contains xs x ↔ TakesEffect i x) (sym same) (plan.effective x)
+pub members_are : (i : Installation) (dels : List Id) (p : Plan) (ids : List Id) → IsPlan i dels p → ids ≡ p.effective
+    → (x : Id) → Contains ids x ↔ TakesEffect i x
+members_are i dels p ids plan same x = subst (λ xs. Contains xs x ↔ TakesEffect i x) (sym same) (plan.effective x)
 
 module _ (i : Installation) (effective : List Id) (members : (x : Id) → Contains effective x ↔ TakesEffect i x) where
   -- those that share an element are ordered by over

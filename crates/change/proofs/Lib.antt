@@ -14,11 +14,11 @@ pub mod Made
 pub mod Planned
 pub mod Put
 pub mod TakingEffect
-pub mod Uncleared
+pub mod Leaving
 pub mod Ordered
 pub mod FoldUpdates
 pub mod FoldSteps
 pub mod FoldEnd
 pub mod Grouped
 pub mod AllElements
-pub mod Deletions
+pub mod Removed

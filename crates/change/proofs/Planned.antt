@@ -1,12 +1,13 @@
 -- The lists of an install.
-use Rattle.std.proofs.Common.{◌≡◌, inl, inr, List, ◌++◌, refl, subst, map}
+use Rattle.std.proofs.Common.{◌≡◌, inl, inr, List, ◌++◌, refl, map}
 use Rattle.std.specs.Prelude.{◌↔◌, Contains}
-use Rattle.std.proofs.lemmas.List.Elements.{Contains-append_left, Contains-append_right, Contains-append_cases}
-use Rattle.lemmas.proofs.Members.{in_map, map_in}
+use Rattle.std.proofs.lemmas.List.Elements.{Contains-append_left, Contains-append_right}
+use Rattle.lemmas.proofs.Members.{in_map}
 use Rattle.terms.specs.Types.{Text, Id, Global, Zone}
 use Rattle.terms.specs.Choice.{by_srel}
 use Rattle.terms.specs.Install.{Installation, TakesEffect}
 use Rattle.change.specs.declared.pairs.Group.{Group}
+use Rattle.change.specs.Deleting.{at_stake}
 use Rattle.change.specs.Pairs.{AreGrouped}
 use Rattle.change.specs.Superseded.{AreSuperseded}
 use Rattle.change.specs.Plans.{installation, IsPlan}
@@ -15,39 +16,35 @@ abbrev first : Id × Id → Id
 first p = p.0
 
 pub is-plan : (g : Global) (zone : Zone) (kept : List Id) (bypassed : List (Id × Id)) (date : Text)
-    (effective touched : List Id) (pairs : List (Id × Id)) (superseders by_id : List Group)
+    (dels effective touched : List Id) (pairs : List (Id × Id)) (superseders by_id : List Group)
     → ((i : Installation) → i.kept ≡ kept → i.choice ≡ by_srel g zone.srel
     → (x : Id) → Contains effective x ↔ TakesEffect i x)
     → AreSuperseded (by_srel g zone.srel) effective pairs
-    → ((x : Id) → Contains touched x ↔ Contains (map first pairs ++ effective) x)
+    → ((x : Id) → Contains touched x ↔ Contains ((map first pairs ++ effective) ++ at_stake zone dels) x)
     → AreGrouped pairs superseders → AreGrouped bypassed by_id
-    → IsPlan (installation g zone kept bypassed date) (record {
+    → IsPlan (installation g zone kept bypassed date) dels (record {
       effective = effective;
       superseders = superseders;
       bypassed = by_id;
       touched = touched;
       date = date;
     })
-is-plan g zone kept bypassed date effective touched pairs superseders by_id takes are all gathered waived = record {
-  effective = takes (installation g zone kept bypassed date) refl refl;
-  superseders = λ x y. (
-    λ h. let both = (are x y).0 ((gathered x y).0 h) in
-        ((takes (installation g zone kept bypassed date) refl refl y).0 both.0, both.1),
-    λ h. (gathered x y).1 ((are x y).1 ((takes (installation g zone kept bypassed date) refl refl y).1 h.0, h.1)),
-  );
-  bypassed = waived;
-  touched = λ x. (
-    λ h. elim (Contains-append_cases (map first pairs) effective x ((all x).0 h)) [
-      | inl named ↦
-          let m = map_in first pairs x named in
-          inr (m.0.1, (gathered x m.0.1).1 (subst (λ v. Contains {X = Id × Id} pairs (v, m.0.1)) m.2 m.1))
-      | inr own ↦ inl own
-    ],
-    λ h. (all x).1 (elim h [
-      | inl own ↦ Contains-append_right (map first pairs) effective x own
-      | inr by ↦ Contains-append_left (map first pairs) effective x (in_map first pairs (x, by.0)
-          ((gathered x by.0).0 by.1))
-    ]),
-  );
-  date = refl;
-}
+is-plan g zone kept bypassed date dels effective touched pairs superseders by_id takes are all gathered waived =
+    record {
+      effective = takes (installation g zone kept bypassed date) refl refl;
+      superseders = λ x y. (
+        λ h. let both = (are x y).0 ((gathered x y).0 h) in
+            ((takes (installation g zone kept bypassed date) refl refl y).0 both.0, both.1),
+        λ h. (gathered x y).1 ((are x y).1 ((takes (installation g zone kept bypassed date) refl refl y).1 h.0, h.1)),
+      );
+      bypassed = waived;
+      touched = λ x h. (all x).1 (elim h [
+        | inl changes ↦ Contains-append_left (map first pairs ++ effective) (at_stake zone dels) x (elim changes [
+          | inl own ↦ Contains-append_right (map first pairs) effective x own
+          | inr by ↦ Contains-append_left (map first pairs) effective x (in_map first pairs (x, by.0)
+              ((gathered x by.0).0 by.1))
+        ])
+        | inr deleted ↦ Contains-append_right (map first pairs ++ effective) (at_stake zone dels) x deleted
+      ]);
+      date = refl;
+    }

@@ -1,7 +1,7 @@
 -- One entry after the other is put.
 use Rattle.std.proofs.Common.{◌≡◌, ◌≢◌, ◌⊎◌, inl, inr, Bool, true, false, ℕ, ◌+◌, ◌<◌, List, [], length, get_or}
-use Rattle.std.proofs.Common.{Some, refl, sym, ap, ◌∙◌, subst, cond, true≢false, take, All}
-use Rattle.std.specs.Prelude.{Contains, find}
+use Rattle.std.proofs.Common.{Some, None, refl, sym, ap, ◌∙◌, subst, cond, true≢false, take, All, IsTrue}
+use Rattle.std.specs.Prelude.{Contains, find, if◌then◌else◌, IsFalse}
 use Rattle.std.specs.Option.{option_map_or}
 use Rattle.std.specs.Ordering.{nat_cmp}
 use Rattle.std.specs.Cmp.Lexicographic.{slice_cmp, texts_ties}
@@ -11,26 +11,35 @@ use Rattle.std.proofs.lemmas.List.Elements.{All-nil}
 use Rattle.lemmas.proofs.Members.{none_in}
 use Rattle.lemmas.proofs.Texts.{same_from, same_itself}
 use Rattle.terms.specs.declared.kinds.Edit.{Edit}
-use Rattle.terms.specs.declared.kinds.Edit.TheVariants.{Put}
+use Rattle.terms.specs.declared.kinds.Edit.TheVariants.{Put, Remove}
 use Rattle.terms.specs.Types.{Id, Entry, Zone}
-use Rattle.terms.specs.Lookups.{entry_of}
+use Rattle.terms.specs.Lookups.{is_held, entry_of}
 use Rattle.terms.specs.Rising.{with_item}
 use Rattle.terms.specs.Delta.{ZoneDelta, edit_key, edit_put}
 use Rattle.terms.proofs.Edits.{All-with_item}
 use Rattle.terms.proofs.Ids.{in_or_not}
+use Rattle.change.specs.declared.deleting.Deleting.{Deleting}
 use Rattle.change.specs.declared.plan.Plan.{Plan}
-use Rattle.change.specs.Entries.{IsEntryAfter, PutsEntry, entry_after, Differs, HasPutEntries}
+use Rattle.change.specs.Entries.{IsMadeEntry, PutsEntry, entry_after, if_held, with_entry, without_entry, Differs}
+use Rattle.change.specs.Entries.{HasPutEntries}
 use Rattle.change.proofs.Gathered.{in_more}
 use Rattle.change.proofs.InTurn.{find-with_item}
 
-abbrev key_of : Edit Entry Id → Id
+abbrev EntryEdit : Type 0
+EntryEdit = Edit Entry Id
+
+abbrev key_of : EntryEdit → Id
 key_of = edit_key (λ e. e.id)
 
-abbrev with_entry : ZoneDelta → Entry → ZoneDelta
-with_entry d e = record d { entries = with_item (slice_cmp nat_cmp) (edit_key (λ e. e.id)) d.entries (Put e) }
+-- the delta with an edit
+abbrev with_edit : ZoneDelta → EntryEdit → ZoneDelta
+with_edit d v = record d { entries = with_item (slice_cmp nat_cmp) key_of d.entries v }
 
-module _ (zone : Zone) (p : Plan) where
-  pub put-none : (delta : ZoneDelta) → delta.entries ≡ [] → HasPutEntries zone p [] delta delta
+module _ (d : Deleting) (p : Plan) where
+  abbrev zone : Zone
+  zone = d.zone.now
+
+  pub put-none : (delta : ZoneDelta) → delta.entries ≡ [] → HasPutEntries d p [] delta delta
   put-none delta empty = record {
     elements = refl;
     put = λ x h. absurd (none_in x h);
@@ -38,27 +47,24 @@ module _ (zone : Zone) (p : Plan) where
     differ = subst (All (Differs zone)) (sym empty) (All-nil (Differs zone));
   }
 
-  -- what stands at an id after an entry is put
-  after_put : (d : ZoneDelta) (e : Entry) (y : Id) (b : Bool) → bytes_eq e.id y ≡ b
-      → entry_after (with_entry d e) zone y ≡ cond b (Some e) (entry_after d zone y)
-  after_put d e y b at =
+  -- what stands at an id after an edit
+  after_put : (delta : ZoneDelta) (v : EntryEdit) (y : Id) (b : Bool) → bytes_eq (key_of v) y ≡ b
+      → entry_after (with_edit delta v) zone y ≡ cond b (edit_put v) (entry_after delta zone y)
+  after_put delta v y b at =
       ap (λ o. option_map_or edit_put o (entry_of zone y))
-      (find-with_item nat_list_cmp_total key_of bytes_eq texts_ties d.entries (Put e) y)
-      ∙ by (bytes_eq e.id y) at
+      (find-with_item nat_list_cmp_total key_of bytes_eq texts_ties delta.entries v y)
+      ∙ by (bytes_eq (key_of v) y) at
     where
       by : (c : Bool) → c ≡ b
-          → option_map_or edit_put (cond c (Some (Put e)) (find (λ e. bytes_eq (key_of e) y) d.entries))
-          (entry_of zone y) ≡ cond b (Some e) (entry_after d zone y)
-      by true same = ap (λ c. cond c (Some e) (entry_after d zone y)) same
-      by false same = ap (λ c. cond c (Some e) (entry_after d zone y)) same
+          → option_map_or edit_put (cond c (Some v) (find (λ e. bytes_eq (key_of e) y) delta.entries))
+          (entry_of zone y) ≡ cond b (edit_put v) (entry_after delta zone y)
+      by true same = ap (λ c. cond c (edit_put v) (entry_after delta zone y)) same
+      by false same = ap (λ c. cond c (edit_put v) (entry_after delta zone y)) same
 
   module _ (xs : List Id) (k : ℕ) (x : Id) (start old : ZoneDelta) (below : k < length xs) (is : x ≡ get_or xs k x)
-      (e : Entry) (made : IsEntryAfter zone p x e) (so_far : HasPutEntries zone p (take k xs) start old) where
-    at_id : (y : Id) → bytes_eq e.id y ≡ true → x ≡ y
-    at_id y hit = sym made.id ∙ same_from e.id y hit
-
-    stands : entry_of zone x ≡ Some e → HasPutEntries zone p (take (k + 1) xs) start old
-    stands there = record {
+      (e : Entry) (made : IsMadeEntry d p x e) (so_far : HasPutEntries d p (take k xs) start old) where
+    stands : IsTrue (is_held e) → entry_of zone x ≡ Some e → HasPutEntries d p (take (k + 1) xs) start old
+    stands held there = record {
       elements = so_far.elements;
       put = λ y h. elim ((in_more xs k x below is y).0 h) [
         | inl was ↦ so_far.put y was
@@ -66,8 +72,9 @@ module _ (zone : Zone) (p : Plan) where
           | inl was ↦ so_far.put y was
           | inr out ↦ (
             e,
-            so_far.others y out ∙ ap (entry_of zone) (sym same) ∙ there,
-            subst (λ v. IsEntryAfter zone p v e) same made,
+            so_far.others y out ∙ ap (entry_of zone) (sym same) ∙ there
+                ∙ sym (ap (λ b. if b then Some e else None) held),
+            subst (λ v. IsMadeEntry d p v e) same made,
           )
         ]
       ];
@@ -75,40 +82,56 @@ module _ (zone : Zone) (p : Plan) where
       differ = so_far.differ;
     }
 
-    is_put : entry_of zone x ≢ Some e → HasPutEntries zone p (take (k + 1) xs) start (with_entry old e)
-    is_put new = record {
+    -- an edit at the id that leaves the entry there, if something holds it
+    edited : (v : EntryEdit) → key_of v ≡ x → edit_put v ≡ if_held e → Differs zone v
+        → HasPutEntries d p (take (k + 1) xs) start (with_edit old v)
+    edited v key puts differs = record {
       elements = so_far.elements;
-      put = λ y h. by_put y ((in_more xs k x below is y).0 h) (bytes_eq e.id y) refl;
-      others = λ y out. by_other y out (bytes_eq e.id y) refl;
-      differ = All-with_item (slice_cmp nat_cmp) key_of (Differs zone) old.entries (Put e) so_far.differ
-          (λ there. new (ap (entry_of zone) (sym made.id) ∙ there));
+      put = λ y h. by_put y ((in_more xs k x below is y).0 h) (bytes_eq (key_of v) y) refl;
+      others = λ y out. by_other y out (bytes_eq (key_of v) y) refl;
+      differ = All-with_item (slice_cmp nat_cmp) key_of (Differs zone) old.entries v so_far.differ differs;
     }
       where
-        by_put : (y : Id) → Contains (take k xs) y ⊎ (x ≡ y) → (b : Bool) → bytes_eq e.id y ≡ b
-            → (f : Entry) × (entry_after (with_entry old e) zone y ≡ Some f) × IsEntryAfter zone p y f
+        at_id : (y : Id) → bytes_eq (key_of v) y ≡ true → x ≡ y
+        at_id y hit = sym key ∙ same_from (key_of v) y hit
+
+        by_put : (y : Id) → Contains (take k xs) y ⊎ (x ≡ y) → (b : Bool) → bytes_eq (key_of v) y ≡ b
+            → (f : Entry) × (entry_after (with_edit old v) zone y ≡ if_held f) × IsMadeEntry d p y f
         by_put y h true hit = (
           e,
-          after_put old e y true hit,
-          subst (λ v. IsEntryAfter zone p v e) (at_id y hit) made,
+          after_put old v y true hit ∙ puts,
+          subst (λ v. IsMadeEntry d p v e) (at_id y hit) made,
         )
         by_put y (inl was) false off =
-            let f = so_far.put y was in (f.0, after_put old e y false off ∙ f.1, f.2)
+            let f = so_far.put y was in (f.0, after_put old v y false off ∙ f.1, f.2)
         by_put y (inr same) false off =
-            absurd (true≢false (sym (same_itself y) ∙ ap (λ v. bytes_eq v y) (sym (made.id ∙ same)) ∙ off))
+            absurd (true≢false (sym (same_itself y) ∙ ap (λ v. bytes_eq v y) (sym (key ∙ same)) ∙ off))
 
-        by_other : (y : Id) → (¬ Contains (take (k + 1) xs) y) → (b : Bool) → bytes_eq e.id y ≡ b
-            → entry_after (with_entry old e) zone y ≡ entry_of zone y
+        by_other : (y : Id) → (¬ Contains (take (k + 1) xs) y) → (b : Bool) → bytes_eq (key_of v) y ≡ b
+            → entry_after (with_edit old v) zone y ≡ entry_of zone y
         by_other y out true hit = absurd (out ((in_more xs k x below is y).1 (inr (at_id y hit))))
         by_other y out false off =
-            after_put old e y false off ∙ so_far.others y (λ was. out ((in_more xs k x below is y).1 (inl was)))
+            after_put old v y false off ∙ so_far.others y (λ was. out ((in_more xs k x below is y).1 (inl was)))
+
+    is_put : IsTrue (is_held e) → entry_of zone x ≢ Some e
+        → HasPutEntries d p (take (k + 1) xs) start (with_entry old e)
+    is_put held new = edited (Put e) made.after.id (sym (ap (λ b. if b then Some e else None) held))
+        (λ there. new (ap (entry_of zone) (sym made.after.id) ∙ there))
+
+    goes : IsFalse (is_held e) → HasPutEntries d p (take (k + 1) xs) start (without_entry old x)
+    goes unheld = edited (Remove x) refl (sym (ap (λ b. if b then Some e else None) unheld)) tt
 
   pub put-next : (xs : List Id) (k : ℕ) (x : Id) (start old new : ZoneDelta) → k < length xs → x ≡ get_or xs k x
-      → PutsEntry zone p x old new → HasPutEntries zone p (take k xs) start old
-      → HasPutEntries zone p (take (k + 1) xs) start new
+      → PutsEntry d p x old new → HasPutEntries d p (take k xs) start old
+      → HasPutEntries d p (take (k + 1) xs) start new
   put-next xs k x start old new below is puts so_far =
       elim puts.2 [
-        | inl same ↦ subst (HasPutEntries zone p (take (k + 1) xs) start) (sym same.0)
-            (stands xs k x start old below is puts.0 puts.1 so_far same.1)
-        | inr put ↦ subst (HasPutEntries zone p (take (k + 1) xs) start) (sym put.0)
-            (is_put xs k x start old below is puts.0 puts.1 so_far put.1)
+        | inl gone ↦ subst (HasPutEntries d p (take (k + 1) xs) start) (sym gone.0)
+            (goes xs k x start old below is puts.0 puts.1 so_far gone.1)
+        | inr held ↦ elim held [
+          | inl same ↦ subst (HasPutEntries d p (take (k + 1) xs) start) (sym same.0)
+              (stands xs k x start old below is puts.0 puts.1 so_far same.1 same.2)
+          | inr put ↦ subst (HasPutEntries d p (take (k + 1) xs) start) (sym put.0)
+              (is_put xs k x start old below is puts.0 puts.1 so_far put.1 put.2)
+        ]
       ]

@@ -6,3 +6,4 @@ pub mod Superseded
 pub mod Folding
 pub mod Grouping
 pub mod Elements
+pub mod Deleting

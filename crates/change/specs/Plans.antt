@@ -1,11 +1,13 @@
 -- What an install does to entries, as lists.
-use Rattle.std.specs.Prelude.{◌≡◌, ◌↔◌, ◌⊎◌, List, Contains}
+use Rattle.std.specs.Prelude.{◌≡◌, ◌↔◌, ◌⊎◌, List, Contains, IsFalse, is_some}
 use Rattle.terms.specs.Types.{Text, Id, Global, Zone}
+use Rattle.terms.specs.Lookups.{is_supplied, delby_of}
 use Rattle.terms.specs.Choice.{by_srel}
 use Rattle.terms.specs.Over.{Supersedes}
 use Rattle.terms.specs.Install.{Installation, TakesEffect}
 use Rattle.change.specs.declared.plan.Plan.{Plan}
 use Rattle.change.specs.Pairs.{others_of}
+use Rattle.change.specs.Deleting.{at_stake}
 
 -- an install by the ++VERs for the zone's SREL
 abbrev pub installation : Global → Zone → List Id → List (Id × Id) → Text → Installation
@@ -18,14 +20,19 @@ installation g zone kept bypassed date = record {
   date = date;
 }
 
+-- The zone neither supplies it nor has it deleted, so that it may be installed.
+pub record IsFresh (zone : Zone) (x : Id) : Type 0 where
+  pub not_supplied : IsFalse (is_supplied zone x)
+  pub not_deleted : IsFalse (is_some (delby_of zone x))
+
 -- It takes effect or is superseded, so that its entry changes.
 abbrev pub IsTouched : Plan → Id → Type 0
 IsTouched p x = Contains p.effective x ⊎ ((y : Id) × Contains (others_of p.superseders x) y)
 
--- the lists are those of the install
-pub record IsPlan (i : Installation) (p : Plan) : Type 0 where
+-- the lists are those of the install, with these deletions
+pub record IsPlan (i : Installation) (dels : List Id) (p : Plan) : Type 0 where
   pub effective : (x : Id) → Contains p.effective x ↔ TakesEffect i x
   pub superseders : (x y : Id) → Contains (others_of p.superseders x) y ↔ (TakesEffect i y × Supersedes i.choice y x)
   pub bypassed : (x z : Id) → Contains (others_of p.bypassed x) z ↔ Contains i.bypassed (x, z)
-  pub touched : (x : Id) → Contains p.touched x ↔ IsTouched p x
+  pub touched : (x : Id) → (IsTouched p x ⊎ Contains (at_stake i.zone dels) x) → Contains p.touched x
   pub date : p.date ≡ i.date

@@ -3,7 +3,7 @@ ghost use Rattle.std.specs.Prelude.{◌≡◌, ◌⊎◌, All, AllPairs, Any, Is
 ghost use Rattle.terms.specs.declared.kinds.ElemType.{ElemType as AType};
 ghost use Rattle.terms.specs.Changes.{has_replacement};
 ghost use Rattle.terms.specs.Choice.{by_srel};
-ghost use Rattle.terms.specs.Deleted.{is_deleted, zone_less};
+ghost use Rattle.terms.specs.Deleted.{zone_less};
 ghost use Rattle.terms.specs.Install.{Installation, HasElementAfter};
 ghost use Rattle.terms.specs.Lookups.{element_of, has_change};
 ghost use Rattle.terms.specs.Over.{IsOver};
@@ -20,6 +20,7 @@ use std::alloc::{AllocError, Global as Heap};
 use sysmods::{Global, VerChoice};
 use terms::ElemType;
 use zones::{Element, Zone};
+use zones_less::element_left;
 
 /// The elements that these SYSMODs change, rising by type and name, as they are when all of them have taken effect on
 /// the zone less the deletions. Over orders those that change one element, and what they update is there.
@@ -122,17 +123,6 @@ fn left_of<'a>(
         (zone_less global.now (by_srel global.now zone.now.srel) deletions.now zone.now) elem_type name }
     ensures key { IfSome (option_copied result) (λ e. (e.elem_type ≡ elem_type) × (e.name ≡ name)) }
 {
-    zone.known();
-    let element = zone.element(elem_type, name)?;
-    if is_deleted(global, zone.srel(), element.fmid, deletions) {
-        return None;
-    }
-    Some(element)
-}
-
-/// Whether the deletions meet its chain.
-fn is_deleted(global: &Global, srel: Srel, id: Id, deletions: &[Id]) -> bool
-    ensures { result ≡ is_deleted global.now (by_srel global.now srel) deletions.now id }
-{
-    VerChoice::new(global, srel).meets(id, deletions)
+    let vers = VerChoice::new(global, zone.srel());
+    element_left(&vers, deletions, zone, elem_type, name)
 }

@@ -1,114 +1,147 @@
 //! The entries that an install makes.
-ghost use Rattle.std.specs.Prelude.{◌≡◌, ◌↔◌, ◌++◌, [], Some, Contains, IsTrue, IfOk, OnOk, filter};
+ghost use Rattle.std.specs.Prelude.{◌≡◌, ◌↔◌, ◌++◌, [], Some, Contains, IsTrue, IfOk, OnOk, filter, not};
 ghost use Rattle.terms.specs.Types.{Id as AnId};
-ghost use Rattle.terms.specs.Lookups.{IsRising, is_in, is_supplied, is_held, waives_applied, entry_of};
+ghost use Rattle.terms.specs.Lookups.{IsRising, is_nil, entry_of};
+ghost use Rattle.change.specs.Deleting.{AreDeletions, left};
 ghost use Rattle.change.specs.Pairs.{others_of};
-ghost use Rattle.change.specs.Plans.{IsTouched};
-ghost use Rattle.change.specs.Entries.{is_open, old_entry, IsWaived, IsAppliedEntry, IsSupersededEntry, IsEntryAfter};
-ghost use Rattle.change.specs.Entries.{PutsEntry, HasPutEntries};
+ghost use Rattle.change.specs.Entries.{is_open, old_entry, IsWaived, IsAppliedEntry, IsOtherEntry, IsEntryAfter};
+ghost use Rattle.change.specs.Entries.{IsMadeEntry, PutsEntry, HasPutEntries};
 
-use crate::pairs::others;
+use crate::deleting::{Deleting, left_entry};
+use crate::pairs::{Group, others};
 use crate::plan::Plan;
 use fields::{Id, IdList};
 use std::alloc::{AllocError, Global as Heap};
-use zones::{Entry, TryClone, Zone, ZoneDelta};
+use zones::{Entry, Table, Zone, ZoneDelta};
 
 /// Puts the entries that change.
 pub(crate) fn put_entries(
     alloc: Heap,
-    zone: &Zone,
+    deleting: &Deleting,
     plan: &Plan,
     delta: &mut ZoneDelta,
 ) -> Result<(), AllocError>
-    requires touched { (x : AnId) → Contains plan.now.touched x → IsTouched plan.now x }
+    requires dels { AreDeletions deleting.now }
     requires empty { delta.old.entries ≡ [] }
-    ensures { OnOk result (HasPutEntries zone.now plan.now plan.now.touched delta.old delta.new) }
+    ensures { OnOk result (HasPutEntries deleting.now plan.now plan.now.touched delta.old delta.new) }
 {
     for id in plan.touched.as_slice() {
-        put_entry(alloc, zone, plan, *id, delta)?;
+        put_entry(alloc, deleting, plan, *id, delta)?;
     }
     Ok(())
 }
 
-// An entry that stays as it is is not put.
+// An entry that stays as it is is not put, and one that nothing holds goes.
 fn put_entry(
     alloc: Heap,
-    zone: &Zone,
+    deleting: &Deleting,
     plan: &Plan,
     id: Id,
     delta: &mut ZoneDelta,
 ) -> Result<(), AllocError>
-    requires { IsTouched plan.now id }
-    ensures { OnOk result (PutsEntry zone.now plan.now id delta.old delta.new) }
+    requires { AreDeletions deleting.now }
+    ensures { OnOk result (PutsEntry deleting.now plan.now id delta.old delta.new) }
 {
-    let entry = entry_after(alloc, zone, plan, id)?;
-    if stands(zone, &entry) {
+    let entry = made_entry(alloc, deleting, plan, id)?;
+    if !entry.is_held() {
+        return delta.remove_entry(id);
+    }
+    if stands(deleting.zone, &entry) {
         return Ok(());
     }
     delta.put_entry(entry)
 }
 
-fn entry_after(alloc: Heap, zone: &Zone, plan: &Plan, id: Id) -> Result<Entry, AllocError>
-    requires { IsTouched plan.now id }
-    ensures after { IfOk result (IsEntryAfter zone.now plan.now id) }
-    ensures held { IfOk result (λ e. IsTrue (is_held e)) }
-    ensures waived { IfOk result (λ e. IsTrue (waives_applied e)) }
+fn made_entry(alloc: Heap, deleting: &Deleting, plan: &Plan, id: Id) -> Result<Entry, AllocError>
+    requires { AreDeletions deleting.now }
+    ensures { IfOk result (IsMadeEntry deleting.now plan.now id) }
 {
-    zone.known();
+    let entry = entry_after(alloc, deleting, plan, id)?;
+    entry.known();
+    Ok(entry)
+}
+
+fn entry_after(alloc: Heap, deleting: &Deleting, plan: &Plan, id: Id) -> Result<Entry, AllocError>
+    requires { AreDeletions deleting.now }
+    ensures { IfOk result (IsEntryAfter deleting.now plan.now id) }
+{
+    deleting.zone.known();
     if plan.effective.contains(id) {
-        return applied_entry(alloc, zone, plan, id);
+        return applied_entry(alloc, deleting, plan, id);
     }
-    superseded_entry(alloc, zone, plan, id)
+    other_entry(alloc, deleting, plan, id)
 }
 
 // The entry of a SYSMOD that takes effect.
-fn applied_entry(alloc: Heap, zone: &Zone, plan: &Plan, id: Id) -> Result<Entry, AllocError>
-    ensures { IfOk result (IsAppliedEntry zone.now plan.now id) }
+fn applied_entry(alloc: Heap, deleting: &Deleting, plan: &Plan, id: Id) -> Result<Entry, AllocError>
+    requires { AreDeletions deleting.now }
+    ensures { IfOk result (IsAppliedEntry deleting.now plan.now id) }
 {
     Ok(Entry {
         id,
         applied: Some(plan.date),
         supby: IdList::new(alloc),
-        delby: None,
-        waived: waived(alloc, zone, plan, id)?,
+        delby: deleting.delby(id),
+        waived: waived(alloc, deleting, plan, id)?,
     })
 }
 
 // The bypassed requisites that nothing supplies.
-fn waived(alloc: Heap, zone: &Zone, plan: &Plan, id: Id) -> Result<IdList, AllocError>
-    ensures { IfOk result (IsWaived zone.now plan.now id) }
+fn waived(alloc: Heap, deleting: &Deleting, plan: &Plan, id: Id) -> Result<IdList, AllocError>
+    ensures { IfOk result (IsWaived deleting.now plan.now id) }
 {
     let bypassed = others(alloc, &plan.bypassed, id)?;
-    let open = open_among(alloc, zone, &plan.touched, bypassed.as_slice())?;
+    let open = open_among(alloc, deleting, plan, bypassed.as_slice())?;
     let ids = IdList::from_vec(open);
     let _ = ids.as_slice();
     Ok(ids)
 }
 
-fn open_among(alloc: Heap, zone: &Zone, touched: &IdList, ids: &[Id]) -> Result<Vec<Id>, AllocError>
-    ensures { IfOk result (λ left. left.items ≡ filter (is_open zone.now touched.now) ids.now) }
+fn open_among(
+    alloc: Heap,
+    deleting: &Deleting,
+    plan: &Plan,
+    ids: &[Id],
+) -> Result<Vec<Id>, AllocError>
+    ensures { IfOk result (λ left. left.items ≡ filter (is_open deleting.now plan.now) ids.now) }
 {
     ids.iter()
-        .filter(|id| is_open(zone, touched, **id))
+        .filter(|id| is_open(deleting, plan, **id))
         .copied()
         .collect(alloc)
 }
 
-// Whether the zone supplies it neither before the install nor after it.
-fn is_open(zone: &Zone, touched: &IdList, id: Id) -> bool
-    ensures { result ≡ is_open zone.now touched.now id }
+// Whether nothing supplies it after the install.
+fn is_open(deleting: &Deleting, plan: &Plan, id: Id) -> bool
+    ensures { result ≡ is_open deleting.now plan.now id }
 {
-    !touched.contains(id) && !zone.supplies(id)
+    !plan.effective.contains(id) && has_none(&plan.superseders, id) && !deleting.supplies(id)
 }
 
-// The entry of what is superseded: the old one with more in SUPBY.
-fn superseded_entry(alloc: Heap, zone: &Zone, plan: &Plan, id: Id) -> Result<Entry, AllocError>
-    ensures { IfOk result (IsSupersededEntry zone.now plan.now id) }
+// Whether the id is paired with nothing.
+fn has_none(groups: &Table<Group>, id: Id) -> bool
+    ensures { result ≡ is_nil (others_of groups.now id) }
 {
-    let old = old_entry(alloc, zone, id)?;
+    match groups.get(id) {
+        Some(group) => group.others.is_empty(),
+        None => true,
+    }
+}
+
+// The entry of any other id: what is left of it, with more in SUPBY.
+fn other_entry(alloc: Heap, deleting: &Deleting, plan: &Plan, id: Id) -> Result<Entry, AllocError>
+    requires { AreDeletions deleting.now }
+    ensures { IfOk result (IsOtherEntry deleting.now plan.now id) }
+{
+    let old = left_entry(alloc, deleting, id)?;
     let more = others(alloc, &plan.superseders, id)?;
     let supby = joined(alloc, old.supby.as_slice(), more.as_slice())?;
-    Ok(Entry { supby, ..old })
+    let delby = deleting.delby(id);
+    Ok(Entry {
+        supby,
+        delby,
+        ..old
+    })
 }
 
 fn joined(alloc: Heap, ids: &[Id], more: &[Id]) -> Result<IdList, AllocError>
@@ -120,22 +153,6 @@ fn joined(alloc: Heap, ids: &[Id], more: &[Id]) -> Result<IdList, AllocError>
     let rising = IdList::from_vec(all);
     let _ = rising.as_slice();
     Ok(rising)
-}
-
-// The entry as it is, which may have nothing.
-fn old_entry(alloc: Heap, zone: &Zone, id: Id) -> Result<Entry, AllocError>
-    ensures { IfOk result (λ e. e ≡ old_entry zone.now id) }
-{
-    match zone.entry(id) {
-        Some(entry) => entry.try_clone(alloc),
-        None => Ok(Entry {
-            id,
-            applied: None,
-            supby: IdList::new(alloc),
-            delby: None,
-            waived: IdList::new(alloc),
-        }),
-    }
 }
 
 // Whether the zone has this very entry.

@@ -1,27 +1,28 @@
 //! What kept SYSMODs put into a zone.
-ghost use Rattle.std.specs.Prelude.{◌≡◌, ◌≢◌, ◌⊎◌, All, Contains, IsTrue, IfOk, OnOk};
+ghost use Rattle.std.specs.Prelude.{◌≡◌, ◌≢◌, ◌⊎◌, All, Contains, IfOk, OnOk};
 ghost use Rattle.terms.specs.Types.{Id as AnId, Zone as AZone};
 ghost use Rattle.terms.specs.Choice.{by_srel};
-ghost use Rattle.terms.specs.Candidates.{is_installable};
 ghost use Rattle.terms.specs.Over.{IsOver};
 ghost use Rattle.terms.specs.Tests.{ShareElement};
 ghost use Rattle.terms.specs.Delta.{IsChanged};
 ghost use Rattle.terms.specs.Install.{HasInstalled};
 ghost use Rattle.change.specs.Elements.{HasBases};
 ghost use Rattle.change.specs.Entries.{Differs};
-ghost use Rattle.change.specs.Plans.{installation};
-ghost use Rattle.change.specs.Puts.{with_elements};
+ghost use Rattle.change.specs.Plans.{installation, IsFresh};
+ghost use Rattle.change.specs.Puts.{with_elements, less_element, less_elements};
 
+use crate::deleting::Deleting;
 use crate::elements::elements_after;
 use crate::entries::put_entries;
 use crate::plan::planned;
 use fields::{Id, IdList, YyDdd};
 use std::alloc::{AllocError, Global as Heap};
-use sysmods::Global;
+use sysmods::{Global, VerChoice};
 use zones::{Element, Zone, ZoneDelta};
+use zones_less::deletions;
 
-/// What the kept SYSMODs put into the zone on this date. Over orders those that change one element, and what they
-/// update is there. `bypassed` has pairs of a SYSMOD and a bypassed requisite of it.
+/// What the kept SYSMODs put into the zone and take out of it on this date. Over orders those that change one element,
+/// and what they update is there. `bypassed` has pairs of a SYSMOD and a bypassed requisite of it.
 pub fn install(
     alloc: Heap,
     global: &Global,
@@ -30,7 +31,7 @@ pub fn install(
     bypassed: &[(Id, Id)],
     date: YyDdd,
 ) -> Result<ZoneDelta, AllocError>
-    requires installable { All (λ x. IsTrue (is_installable global.now zone.now x)) kept.now }
+    requires fresh { All (IsFresh zone.now) kept.now }
     requires order { (x y : AnId) → Contains kept.now x → Contains kept.now y → x ≢ y → ShareElement global.now x y
         → IsOver (by_srel global.now zone.now.srel) x y ⊎ IsOver (by_srel global.now zone.now.srel) y x }
     requires base { HasBases (installation global.now zone.now kept.now bypassed.now date) }
@@ -48,12 +49,62 @@ pub fn install(
     prove!(global.len() < 65_536);
     zone.known();
     zone.known_lists();
-    let plan = planned(alloc, global, zone, kept, bypassed, date)?;
+    let dels = deletions(alloc, &VerChoice::new(global, zone.srel()), kept.as_slice())?;
+    let plan = planned(alloc, global, zone, kept, dels.as_slice(), bypassed, date)?;
+    let deleting = Deleting {
+        global,
+        zone,
+        kept: kept.as_slice(),
+        dels: dels.as_slice(),
+    };
     let mut delta = ZoneDelta::new(alloc);
-    put_entries(alloc, zone, &plan, &mut delta)?;
-    let elements = elements_after(alloc, global, zone, &[], plan.effective.as_slice())?;
+    put_entries(alloc, &deleting, &plan, &mut delta)?;
+    remove_elements(&deleting, &mut delta)?;
+    let elements = elements_after(
+        alloc,
+        global,
+        zone,
+        dels.as_slice(),
+        plan.effective.as_slice(),
+    )?;
     put_elements(elements, &mut delta)?;
     Ok(delta)
+}
+
+/// Removes the elements whose owner's chain the deletions meet. Mostly nothing is deleted.
+fn remove_elements(deleting: &Deleting, delta: &mut ZoneDelta) -> Result<(), AllocError>
+    ensures { OnOk result (delta.new ≡ less_elements deleting.now delta.old deleting.now.zone.now.elements) }
+{
+    if deleting.dels.is_empty() {
+        return Ok(());
+    }
+    remove_among(deleting, deleting.zone.elements(), delta)
+}
+
+fn remove_among(
+    deleting: &Deleting,
+    elements: &[Element],
+    delta: &mut ZoneDelta,
+) -> Result<(), AllocError>
+    ensures { OnOk result (delta.new ≡ less_elements deleting.now delta.old elements.now) }
+{
+    for element in elements {
+        remove_if_deleted(deleting, element, delta)?;
+    }
+    Ok(())
+}
+
+fn remove_if_deleted(
+    deleting: &Deleting,
+    element: &Element,
+    delta: &mut ZoneDelta,
+) -> Result<(), AllocError>
+    ensures { OnOk result (delta.new ≡ less_element deleting.now delta.old element.now) }
+{
+    if deleting.deletes(element.fmid) {
+        return delta.remove_element(element.elem_type, element.name);
+    }
+    Ok(())
 }
 
 /// Puts these elements.

@@ -1,10 +1,12 @@
 //! How an APPLY changes its zone.
 //! The delta of `install` makes of the old zone the one that the definition of an install asks for (`HasInstalled`),
-//! whatever zone comes of it: for SYSMODs that may be installed, where over orders those that change one element, and
-//! what they update is there. `taking_effect` tells those that become APPLIED from those that are SUPERSEDED. Seen in
-//! the code alone: one pass over the zone's entries, and one over what is installed.
+//! whatever zone comes of it: for SYSMODs that the zone neither supplies nor has deleted, where over orders those that
+//! change one element, and what they update is there. `taking_effect` tells those that become APPLIED from those that
+//! are SUPERSEDED. Seen in the code alone: one pass over what is installed, and where something is deleted one over the
+//! zone's entries and elements.
 #![tactic(auto)]
 
+mod deleting;
 mod effective;
 mod elements;
 mod entries;

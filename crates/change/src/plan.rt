@@ -1,6 +1,7 @@
 //! What an install does to entries.
-ghost use Rattle.std.specs.Prelude.{◌≡◌, ◌↔◌, ◌++◌, Contains, IfOk, map};
+ghost use Rattle.std.specs.Prelude.{◌≡◌, ◌↔◌, ◌++◌, Contains, IfOk, OnOk, map};
 ghost use Rattle.terms.specs.Types.{Id as AnId};
+ghost use Rattle.change.specs.Deleting.{at_stake};
 ghost use Rattle.change.specs.Plans.{IsPlan, installation};
 
 use crate::effective::{superseded_pairs, taking_effect};
@@ -8,7 +9,7 @@ use crate::pairs::{Group, firsts, grouped, sorted};
 use fields::{Id, IdList, YyDdd};
 use std::alloc::{AllocError, Global as Heap};
 use sysmods::{Global, VerChoice};
-use zones::{Table, Zone};
+use zones::{Entry, Table, Zone};
 
 /// Who takes effect, who supersedes an id, what was bypassed of an id, and whose entries change.
 #[derive(Drop)]
@@ -26,15 +27,17 @@ pub(crate) fn planned(
     global: &Global,
     zone: &Zone,
     kept: &IdList,
+    dels: &[Id],
     bypassed: &[(Id, Id)],
     date: YyDdd,
 ) -> Result<Plan, AllocError>
-    ensures { IfOk result (IsPlan (installation global.now zone.now kept.now bypassed.now date)) }
+    ensures { IfOk result (IsPlan (installation global.now zone.now kept.now bypassed.now date) dels.now) }
 {
     let vers = VerChoice::new(global, zone.srel());
     let effective = taking_effect(alloc, global, zone.srel(), kept)?;
     let pairs = sorted(superseded_pairs(alloc, &vers, effective.as_slice())?);
-    let touched = touched(alloc, effective.as_slice(), pairs.as_slice())?;
+    let at_stake = at_stake(alloc, zone, dels)?;
+    let touched = touched(alloc, effective.as_slice(), pairs.as_slice(), &at_stake)?;
     Ok(Plan {
         effective,
         superseders: grouped(alloc, pairs.as_slice())?,
@@ -44,12 +47,39 @@ pub(crate) fn planned(
     })
 }
 
-// Those that take effect, and what they supersede.
-fn touched(alloc: Heap, effective: &[Id], pairs: &[(Id, Id)]) -> Result<IdList, AllocError>
+// Those that take effect, what they supersede, and those at stake.
+fn touched(
+    alloc: Heap,
+    effective: &[Id],
+    pairs: &[(Id, Id)],
+    at_stake: &[Id],
+) -> Result<IdList, AllocError>
     ensures { IfOk result (λ ids. (x : AnId)
-        → Contains ids x ↔ Contains (map (λ p. p.0) pairs.now ++ effective.now) x) }
+        → Contains ids x ↔ Contains ((map (λ p. p.0) pairs.now ++ effective.now) ++ at_stake.now) x) }
 {
     let mut ids = firsts(alloc, pairs)?;
     ids.extend_from_slice(effective)?;
+    ids.extend_from_slice(at_stake)?;
     Ok(IdList::from_vec(ids))
+}
+
+// The ids whose entries deletions may change. Mostly nothing is deleted.
+fn at_stake(alloc: Heap, zone: &Zone, dels: &[Id]) -> Result<Vec<Id>, AllocError>
+    ensures { IfOk result (λ ids. ids.items ≡ at_stake zone.now dels.now) }
+{
+    let mut ids = Vec::new(alloc);
+    if !dels.is_empty() {
+        ids.extend_from_slice(dels)?;
+        push_ids(zone.entries(), &mut ids)?;
+    }
+    Ok(ids)
+}
+
+fn push_ids(entries: &[Entry], ids: &mut Vec<Id>) -> Result<(), AllocError>
+    ensures { OnOk result (ids.new.items ≡ ids.old.items ++ map (λ e. e.id) entries.now) }
+{
+    for entry in entries {
+        ids.push(entry.id)?;
+    }
+    Ok(())
 }

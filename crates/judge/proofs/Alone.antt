@@ -1,7 +1,7 @@
--- What candidates that are all installable fail by themselves: those of J1 to J7 that their faults say, and never J8.
-use Rattle.std.proofs.Common.{◌≡◌, ◌≢◌, inl, inr, Bool, true, false, not, List, [], ◌∷◌, Option, None, Some, IsTrue}
+-- What candidates fail by themselves: those of J1 to J8 that their faults say.
+use Rattle.std.proofs.Common.{◌≡◌, ◌≢◌, Bool, true, false, not, List, [], ◌∷◌, Option, None, Some, IsTrue}
 use Rattle.std.proofs.Common.{refl, sym, ap, ◌∙◌, subst, true≢false, filter, find, Contains, arith}
-use Rattle.std.specs.Prelude.{All, ◌↔◌, ◌==◌, ◌&&◌, is_some}
+use Rattle.std.specs.Prelude.{◌↔◌, ◌==◌, ◌&&◌, is_some}
 use Rattle.std.specs.List.{list_any}
 use Rattle.std.specs.Option.{option_map_or}
 use Rattle.std.specs.Str.{bytes_eq}
@@ -14,30 +14,26 @@ use Rattle.terms.specs.declared.kinds.ZoneKind.{ZoneKind}
 use Rattle.terms.specs.declared.kinds.ZoneKind.TheVariants.{Target, Distribution}
 use Rattle.terms.specs.declared.codes.Test.{Test}
 use Rattle.terms.specs.declared.codes.Test.TheVariants.{J1, J2, J3, J4, J5, J6, J7, J8, J9, J10, J11, J12}
-use Rattle.terms.specs.Types.{Text, Id, Bypass, Change, Element, Global, Sysmod, Zone, zone_number}
-use Rattle.terms.specs.Lookups.{is_held, changes_of, change_of, element_cmp, element_of, holds_of}
+use Rattle.terms.specs.Types.{Text, Id, Change, Element, Global, Sysmod, Zone, zone_number}
+use Rattle.terms.specs.Lookups.{changes_of, change_of, element_cmp, element_of, holds_of}
 use Rattle.terms.specs.Lookups.{is_applied, sysmod_of}
 use Rattle.terms.specs.Rising.{Rises}
-use Rattle.terms.specs.Choice.{Choice, by_srel, fmid_of, npre_of}
+use Rattle.terms.specs.Choice.{fmid_of}
 use Rattle.terms.specs.Changes.{is_replacement, has_update}
-use Rattle.terms.specs.Deleted.{is_deleted}
 use Rattle.terms.specs.Delta.{element_eq}
 use Rattle.terms.specs.Global.{IsGlobal, IsSysmod}
-use Rattle.terms.specs.Tests.{Setting, owner_of, is_bypassed_hold, ChangesInView}
-use Rattle.terms.specs.Tests.{FailsJ1, FailsJ2, FailsJ3, FailsJ4, FailsJ5, FailsJ6, FailsJ7, FailsJ8, FailsJ9}
-use Rattle.terms.specs.Tests.{FailsAlone, Fails, Survives, has_candidate_base}
-use Rattle.terms.specs.Judged.{setting}
+use Rattle.terms.specs.Tests.{Setting, view_of, owner_of, is_bypassed_hold, ChangesInView}
+use Rattle.terms.specs.Tests.{FailsJ1, FailsJ2, FailsJ4, FailsJ5, FailsJ6, FailsJ7, FailsJ8, FailsJ9}
+use Rattle.terms.specs.Tests.{FailsAlone, PassesAlone, Fails, Survives, has_candidate_base}
 use Rattle.terms.proofs.ElementOrder.{element_cmp_total, element_ties}
-use Rattle.terms.proofs.NothingDeleted.{is_deleted-none}
 use Rattle.terms.proofs.RisingLists.{find-there, Splits-around}
 use Rattle.lemmas.proofs.Members.{here, none_in, filter_in, in_filter, parts}
 use Rattle.lemmas.proofs.Searches.{All-find}
 use Rattle.lemmas.proofs.Texts.{same_from, same_itself}
 use Rattle.judge.specs.declared.own.OwnFaults.{OwnFaults}
-use Rattle.judge.specs.Own.{is_foreign_at, is_bare_at, HasFaults, passes}
+use Rattle.judge.specs.Own.{is_foreign_at, is_bare_at, HasFaults, passes_alone, passes}
 use Rattle.judge.specs.Rows.{fails_test}
-use Rattle.judge.proofs.Plain.{IsPlain, applied-among}
-use Rattle.judge.proofs.Collapsed.{change-there, change-found, change-has, view-is}
+use Rattle.judge.proofs.Collapsed.{change-there, change-found, change-has}
 
 pub off : (b : Bool) → ¬ IsTrue b → not b ≡ true
 off true lacks = absurd (lacks refl)
@@ -109,64 +105,41 @@ update-found g x type name updates = by (change_of g x type name) refl
         let t = change-there g x type name h e in
         (h, t.0, t.1, t.2, sym (ap (λ o. option_map_or (λ h. not (is_replacement h.action)) o false) e) ∙ updates)
 
-module _ (g : Global) (zone : Zone) (related : Option Zone) (ids : List Id) (bypass : Bypass)
-    (is_global : IsGlobal g)
-    (held : All (λ e. IsTrue (is_held e)) zone.entries)
-    (plain : (x : Id) → Contains ids x → IsPlain g zone x) where
-  abbrev c : Choice
-  c = by_srel g zone.srel
+module _ (s : Setting) (is_global : IsGlobal s.global) where
+  abbrev g : Global
+  g = s.global
 
-  abbrev s : Setting
-  s = setting g zone related ids bypass
+  module _ (x : Id) (in_ids : Contains s.cands x) where
+    abbrev seen : Zone
+    seen = view_of s x
 
-  module _ (x : Id) (in_ids : Contains ids x) where
-    -- it changes an element of its view, which is the zone
+    -- it changes an element of its view
     from-view : (e : Element) → ChangesInView s x e
-        → (h : Change) × Contains (changes_of g x) h × (element_of zone h.elem_type h.name ≡ Some e)
+        → (h : Change) × Contains (changes_of g x) h × (element_of seen h.elem_type h.name ≡ Some e)
     from-view e (type, name, has, at) =
         let found = change-found g x type name has in (
           found.0,
           found.1,
-          ap (λ t. element_of zone t found.0.name) found.2 ∙ ap (λ n. element_of zone type n) found.3
-              ∙ sym (ap (λ z. element_of z type name) (view-is g zone ids held plain x)) ∙ at,
+          ap (λ t. element_of seen t found.0.name) found.2 ∙ ap (λ n. element_of seen type n) found.3 ∙ at,
         )
 
-    in-view : (h : Change) (e : Element) → Contains (changes_of g x) h → element_of zone h.elem_type h.name ≡ Some e
+    in-view : (h : Change) (e : Element) → Contains (changes_of g x) h → element_of seen h.elem_type h.name ≡ Some e
         → ChangesInView s x e
-    in-view h e of at = (
-      h.elem_type,
-      h.name,
-      change-has g x h of,
-      ap (λ z. element_of z h.elem_type h.name) (view-is g zone ids held plain x) ∙ at,
-    )
-
-    none_named : (l : List Id) (z : Id) → l ≡ [] → ¬ Contains l z
-    none_named l z none h = none_in z (subst (λ l. Contains l z) none h)
-
-    never-prevented : ¬ FailsJ3 s x
-    never-prevented (y, on, inl named) = none_named (npre_of c x) y (plain x in_ids).names_nothing.npre named
-    never-prevented (y, on, inr (is_function, named)) =
-        none_named (npre_of c y) x ((plain x in_ids).applied y (applied-among zone y
-        (sym (ap (λ z. is_applied z y) (view-is g zone ids held plain x)) ∙ on))).npre named
-
-    never-deleted : ¬ FailsJ8 s x
-    never-deleted (passes, (y, passes_y, deleted)) =
-        true≢false (sym deleted ∙ ap (λ dels. is_deleted g c dels x) (plain y passes_y.0).names_nothing.del
-        ∙ is_deleted-none g c x)
+    in-view h e of at = (h.elem_type, h.name, change-has g x h of, at)
 
     module _ (a : OwnFaults) (own : HasFaults s x a) where
       one : IsTrue a.system_held ↔ FailsJ1 s x
-      one = rw own.system_held (any-left (λ h. not (is_bypassed_hold bypass h)) (holds_of g System x))
+      one = rw own.system_held (any-left (λ h. not (is_bypassed_hold s.bypass h)) (holds_of g System x))
 
       two : IsTrue a.user_held ↔ FailsJ2 s x
-      two = rw own.user_held (any-left (λ h. not (is_bypassed_hold bypass h)) (holds_of g User x))
+      two = rw own.user_held (any-left (λ h. not (is_bypassed_hold s.bypass h)) (holds_of g User x))
 
-      foreign-at : (h : Change) → is_foreign_at zone (owner_of s x) h ≡ true
-          → (e : Element) × (element_of zone h.elem_type h.name ≡ Some e) × (e.fmid ≢ owner_of s x)
-      foreign-at h foreign = by (element_of zone h.elem_type h.name) refl
+      foreign-at : (h : Change) → is_foreign_at seen (owner_of s x) h ≡ true
+          → (e : Element) × (element_of seen h.elem_type h.name ≡ Some e) × (e.fmid ≢ owner_of s x)
+      foreign-at h foreign = by (element_of seen h.elem_type h.name) refl
         where
-          by : (o : Option Element) → element_of zone h.elem_type h.name ≡ o
-              → (e : Element) × (element_of zone h.elem_type h.name ≡ Some e) × (e.fmid ≢ owner_of s x)
+          by : (o : Option Element) → element_of seen h.elem_type h.name ≡ o
+              → (e : Element) × (element_of seen h.elem_type h.name ≡ Some e) × (e.fmid ≢ owner_of s x)
           by None e = absurd (true≢false (sym foreign ∙ ap (λ o. option_map_or (λ e. not (bytes_eq e.fmid
               (owner_of s x))) o false) e))
           by (Some v) e = (
@@ -179,13 +152,13 @@ module _ (g : Global) (zone : Zone) (related : Option Zone) (ids : List Id) (byp
       four : IsTrue a.foreign ↔ FailsJ4 s x
       four = (
         λ foreign.
-            let any = Any-from_list_any (is_foreign_at zone (owner_of s x)) (changes_of g x)
+            let any = Any-from_list_any (is_foreign_at seen (owner_of s x)) (changes_of g x)
             (sym own.foreign ∙ foreign) in
             let found = foreign-at any.1 any.4 in
             (found.0, in-view any.1 found.0 (any.0, any.2, any.3) found.1, found.2),
         λ fails.
             let t = from-view fails.0 fails.1 in
-            own.foreign ∙ list_any-from_Any (is_foreign_at zone (owner_of s x)) (changes_of g x) (
+            own.foreign ∙ list_any-from_Any (is_foreign_at seen (owner_of s x)) (changes_of g x) (
               t.1.0,
               t.0,
               t.1.1,
@@ -214,35 +187,35 @@ module _ (g : Global) (zone : Zone) (related : Option Zone) (ids : List Id) (byp
       six : IsTrue a.bare ↔ FailsJ6 s x
       six = (
         λ bare.
-            let any = Any-from_list_any (is_bare_at g zone ids (fmid_of c x)) (changes_of g x) (sym own.bare ∙ bare) in
+            let any = Any-from_list_any (is_bare_at g seen s.cands (fmid_of s.choice x)) (changes_of g x)
+            (sym own.bare ∙ bare) in
             let h = any.1 in
-            let p = and_parts (not (is_replacement h.action) && not (is_some (element_of zone h.elem_type h.name)))
+            let p = and_parts (not (is_replacement h.action) && not (is_some (element_of seen h.elem_type h.name)))
             (not (has_candidate_base s x h.elem_type h.name)) any.4 in
-            let q = and_parts (not (is_replacement h.action)) (not (is_some (element_of zone h.elem_type h.name))) p.0
+            let q = and_parts (not (is_replacement h.action)) (not (is_some (element_of seen h.elem_type h.name))) p.0
             in (
               h.elem_type,
               h.name,
               ap (λ o. option_map_or (λ h. not (is_replacement h.action)) o false)
                   (change-own g is_global x h (any.0, any.2, any.3)) ∙ q.0,
-              ap (λ z. element_of z h.elem_type h.name) (view-is g zone ids held plain x)
-                  ∙ none-from (element_of zone h.elem_type h.name) q.1,
+              none-from (element_of seen h.elem_type h.name) q.1,
               not-true (has_candidate_base s x h.elem_type h.name) p.1,
             ),
         λ (type, name, updates, lacks, base).
             let u = update-found g x type name updates in
             let h = u.0 in
-            let missing : element_of zone h.elem_type h.name ≡ None =
-            ap (λ t. element_of zone t h.name) u.2 ∙ ap (λ n. element_of zone type n) u.3
-            ∙ sym (ap (λ z. element_of z type name) (view-is g zone ids held plain x)) ∙ lacks in
+            let missing : element_of seen h.elem_type h.name ≡ None =
+            ap (λ t. element_of seen t h.name) u.2 ∙ ap (λ n. element_of seen type n) u.3
+            ∙ lacks in
             let no_base : has_candidate_base s x h.elem_type h.name ≡ false =
             ap (λ t. has_candidate_base s x t h.name) u.2 ∙ ap (λ n. has_candidate_base s x type n) u.3 ∙ base in
             own.bare
-            ∙ list_any-from_Any (is_bare_at g zone ids (fmid_of c x)) (changes_of g x) (
+            ∙ list_any-from_Any (is_bare_at g seen s.cands (fmid_of s.choice x)) (changes_of g x) (
               u.1.0,
               h,
               u.1.1,
               u.1.2,
-              ap (λ b. b && not (is_some (element_of zone h.elem_type h.name)) && not
+              ap (λ b. b && not (is_some (element_of seen h.elem_type h.name)) && not
                   (has_candidate_base s x h.elem_type h.name)) u.4
                   ∙ ap (λ o. not (is_some o) && not (has_candidate_base s x h.elem_type h.name)) missing
                   ∙ ap not no_base,
@@ -252,78 +225,91 @@ module _ (g : Global) (zone : Zone) (related : Option Zone) (ids : List Id) (byp
       seven : IsTrue a.unapplied ↔ FailsJ7 s x
       seven = (
         λ unapplied.
-            let p = and_parts ((zone_number zone.kind == 1) && not bypass.applycheck) (not (has_applied related x))
-            (sym own.unapplied ∙ unapplied) in
-            let q = and_parts (zone_number zone.kind == 1) (not bypass.applycheck) p.0 in (
-              distribution-from zone.kind q.0,
-              not-true bypass.applycheck q.1,
-              not-true (has_applied related x) p.1,
+            let p = and_parts ((zone_number s.zone.kind == 1) && not s.bypass.applycheck)
+            (not (has_applied s.related x)) (sym own.unapplied ∙ unapplied) in
+            let q = and_parts (zone_number s.zone.kind == 1) (not s.bypass.applycheck) p.0 in (
+              distribution-from s.zone.kind q.0,
+              not-true s.bypass.applycheck q.1,
+              not-true (has_applied s.related x) p.1,
             ),
         λ fails.
             own.unapplied
-            ∙ ap (λ k. (zone_number k == 1) && not bypass.applycheck && not (has_applied related x)) fails.0
-            ∙ ap (λ b. not b && not (has_applied related x)) fails.1
+            ∙ ap (λ k. (zone_number k == 1) && not s.bypass.applycheck && not (has_applied s.related x)) fails.0
+            ∙ ap (λ b. not b && not (has_applied s.related x)) fails.1
             ∙ ap not fails.2,
       )
 
-      -- it passes by itself where it survives
-      pub survives-if : IsTrue (passes a) ↔ Survives s x
-      survives-if = (
+      -- it passes J1 to J7
+      pub alone-if : IsTrue (passes_alone a) ↔ PassesAlone s x
+      alone-if = (
         λ on.
-            let p = and_parts (not a.system_held && not a.user_held && not a.foreign && not a.lower && not a.bare)
-            (not a.unapplied) on in
-            let q = and_parts (not a.system_held && not a.user_held && not a.foreign && not a.lower) (not a.bare) p.0 in
-            let r = and_parts (not a.system_held && not a.user_held && not a.foreign) (not a.lower) q.0 in
-            let t = and_parts (not a.system_held && not a.user_held) (not a.foreign) r.0 in
-            let u = and_parts (not a.system_held) (not a.user_held) t.0 in (
-              (
-                in_ids,
-                λ test. alone_passes test (not-true a.system_held u.0) (not-true a.user_held u.1)
-                    (not-true a.foreign t.1)
-                    (not-true a.lower r.1) (not-true a.bare q.1) (not-true a.unapplied p.1),
-              ),
-              never-deleted,
+            let p = and_parts (not a.system_held && not a.user_held && not a.forbidden && not a.foreign && not a.lower
+            && not a.bare) (not a.unapplied) on in
+            let q = and_parts (not a.system_held && not a.user_held && not a.forbidden && not a.foreign && not a.lower)
+            (not a.bare) p.0 in
+            let r = and_parts (not a.system_held && not a.user_held && not a.forbidden && not a.foreign)
+            (not a.lower) q.0 in
+            let t = and_parts (not a.system_held && not a.user_held && not a.forbidden) (not a.foreign) r.0 in
+            let v = and_parts (not a.system_held && not a.user_held) (not a.forbidden) t.0 in
+            let u = and_parts (not a.system_held) (not a.user_held) v.0 in (
+              in_ids,
+              λ test. by test (not-true a.system_held u.0) (not-true a.user_held u.1) (not-true a.forbidden v.1)
+                  (not-true a.foreign t.1) (not-true a.lower r.1) (not-true a.bare q.1) (not-true a.unapplied p.1),
             ),
-        λ survives.
-            let no_one = off a.system_held (λ on. survives.0.1 J1 (one.0 on)) in
-            let no_two = off a.user_held (λ on. survives.0.1 J2 (two.0 on)) in
-            let no_four = off a.foreign (λ on. survives.0.1 J4 (four.0 on)) in
-            let no_five = off a.lower (λ on. survives.0.1 J5 (five.0 on)) in
-            let no_six = off a.bare (λ on. survives.0.1 J6 (six.0 on)) in
-            let no_seven = off a.unapplied (λ on. survives.0.1 J7 (seven.0 on)) in
-            rw (no_one, no_two, no_four, no_five, no_six, no_seven) refl,
+        λ alone.
+            let no_one = off a.system_held (λ on. alone.1 J1 (one.0 on)) in
+            let no_two = off a.user_held (λ on. alone.1 J2 (two.0 on)) in
+            let no_three = off a.forbidden (λ on. alone.1 J3 (own.forbidden.0 on)) in
+            let no_four = off a.foreign (λ on. alone.1 J4 (four.0 on)) in
+            let no_five = off a.lower (λ on. alone.1 J5 (five.0 on)) in
+            let no_six = off a.bare (λ on. alone.1 J6 (six.0 on)) in
+            let no_seven = off a.unapplied (λ on. alone.1 J7 (seven.0 on)) in
+            rw (no_one, no_two, no_three, no_four, no_five, no_six, no_seven) refl,
       )
         where
-          alone_passes : (test : Test) → a.system_held ≡ false → a.user_held ≡ false → a.foreign ≡ false
+          by : (test : Test) → a.system_held ≡ false → a.user_held ≡ false → a.forbidden ≡ false → a.foreign ≡ false
               → a.lower ≡ false → a.bare ≡ false → a.unapplied ≡ false → ¬ FailsAlone s x test
-          alone_passes J1 e1 e2 e4 e5 e6 e7 fails = true≢false (sym (one.1 fails) ∙ e1)
-          alone_passes J2 e1 e2 e4 e5 e6 e7 fails = true≢false (sym (two.1 fails) ∙ e2)
-          alone_passes J3 e1 e2 e4 e5 e6 e7 fails = never-prevented fails
-          alone_passes J4 e1 e2 e4 e5 e6 e7 fails = true≢false (sym (four.1 fails) ∙ e4)
-          alone_passes J5 e1 e2 e4 e5 e6 e7 fails = true≢false (sym (five.1 fails) ∙ e5)
-          alone_passes J6 e1 e2 e4 e5 e6 e7 fails = true≢false (sym (six.1 fails) ∙ e6)
-          alone_passes J7 e1 e2 e4 e5 e6 e7 fails = true≢false (sym (seven.1 fails) ∙ e7)
-          alone_passes J8 e1 e2 e4 e5 e6 e7 fails = fails
-          alone_passes J9 e1 e2 e4 e5 e6 e7 fails = fails
-          alone_passes J10 e1 e2 e4 e5 e6 e7 fails = fails
-          alone_passes J11 e1 e2 e4 e5 e6 e7 fails = fails
-          alone_passes J12 e1 e2 e4 e5 e6 e7 fails = fails
+          by J1 e1 e2 e3 e4 e5 e6 e7 fails = true≢false (sym (one.1 fails) ∙ e1)
+          by J2 e1 e2 e3 e4 e5 e6 e7 fails = true≢false (sym (two.1 fails) ∙ e2)
+          by J3 e1 e2 e3 e4 e5 e6 e7 fails = true≢false (sym (own.forbidden.1 fails) ∙ e3)
+          by J4 e1 e2 e3 e4 e5 e6 e7 fails = true≢false (sym (four.1 fails) ∙ e4)
+          by J5 e1 e2 e3 e4 e5 e6 e7 fails = true≢false (sym (five.1 fails) ∙ e5)
+          by J6 e1 e2 e3 e4 e5 e6 e7 fails = true≢false (sym (six.1 fails) ∙ e6)
+          by J7 e1 e2 e3 e4 e5 e6 e7 fails = true≢false (sym (seven.1 fails) ∙ e7)
+          by J8 e1 e2 e3 e4 e5 e6 e7 fails = fails
+          by J9 e1 e2 e3 e4 e5 e6 e7 fails = fails
+          by J10 e1 e2 e3 e4 e5 e6 e7 fails = fails
+          by J11 e1 e2 e3 e4 e5 e6 e7 fails = fails
+          by J12 e1 e2 e3 e4 e5 e6 e7 fails = fails
 
       never : (T : Type 0) → ¬ T → IsTrue false ↔ T
       never T lacks = (λ e. absurd (true≢false (sym e)), λ t. absurd (lacks t))
 
-      -- the tests that it fails, given whether it fails J9
-      pub test-fails : (shares : Bool) → IsTrue shares ↔ FailsJ9 s x → (t : Test)
-          → IsTrue (fails_test a shares t) ↔ Fails s x t
-      test-fails shares nine J1 = one
-      test-fails shares nine J2 = two
-      test-fails shares nine J3 = never (Fails s x J3) never-prevented
-      test-fails shares nine J4 = four
-      test-fails shares nine J5 = five
-      test-fails shares nine J6 = six
-      test-fails shares nine J7 = seven
-      test-fails shares nine J8 = never (Fails s x J8) never-deleted
-      test-fails shares nine J9 = nine
-      test-fails shares nine J10 = never (Fails s x J10) (λ no. no)
-      test-fails shares nine J11 = never (Fails s x J11) (λ no. no)
-      test-fails shares nine J12 = never (Fails s x J12) (λ no. no)
+      module _ (eight : IsTrue a.deleted ↔ FailsJ8 s x) where
+        -- it has no faults where it survives
+        pub survives-if : IsTrue (passes a) ↔ Survives s x
+        survives-if = (
+          λ on.
+              let p = and_parts (passes_alone a) (not a.deleted) on in
+              (alone-if.0 p.0, λ fails. true≢false (sym (eight.1 fails) ∙ not-true a.deleted p.1)),
+          λ survives.
+              let alone = alone-if.1 survives.0 in
+              let no_eight = off a.deleted (λ on. survives.1 (eight.0 on)) in
+              ap (λ b. b && not a.deleted) alone ∙ no_eight,
+        )
+
+        -- the tests that it fails, given whether it fails J9
+        pub test-fails : (clashes : Bool) → IsTrue clashes ↔ FailsJ9 s x → (t : Test)
+            → IsTrue (fails_test a clashes t) ↔ Fails s x t
+        test-fails clashes nine J1 = one
+        test-fails clashes nine J2 = two
+        test-fails clashes nine J3 = own.forbidden
+        test-fails clashes nine J4 = four
+        test-fails clashes nine J5 = five
+        test-fails clashes nine J6 = six
+        test-fails clashes nine J7 = seven
+        test-fails clashes nine J8 = eight
+        test-fails clashes nine J9 = nine
+        test-fails clashes nine J10 = never (Fails s x J10) (λ no. no)
+        test-fails clashes nine J11 = never (Fails s x J11) (λ no. no)
+        test-fails clashes nine J12 = never (Fails s x J12) (λ no. no)

@@ -1,9 +1,9 @@
--- Which candidates fail J9: for any setting, where it is known who survives, and no survivor names others in NPRE.
-use Rattle.std.proofs.Common.{◌≡◌, ◌∙◌, inl, inr, ℕ, zero, suc, ◌<◌, List, [], ◌∷◌, length, Some, IsTrue, refl, sym}
-use Rattle.std.proofs.Common.{ap₂, subst, map, Contains, arith, slice_get}
-use Rattle.std.specs.Prelude.{◌↔◌}
+-- Which candidates fail J9: for any setting, where it is known who survives.
+use Rattle.std.proofs.Common.{◌≡◌, ◌∙◌, inl, inr, ℕ, List, length, Some, IsTrue, refl, sym}
+use Rattle.std.proofs.Common.{ap₂, subst, map, Contains, slice_get}
+use Rattle.std.specs.Prelude.{◌↔◌, ◌⊎◌}
 use Rattle.std.proofs.lemmas.Option.{slice_get_within, same_Some}
-use Rattle.lemmas.proofs.Members.{map_in, in_map, none_in_nil}
+use Rattle.lemmas.proofs.Members.{map_in, in_map}
 use Rattle.lemmas.proofs.Places.{found_at}
 use Rattle.terms.specs.declared.kinds.ElemType.{ElemType}
 use Rattle.terms.specs.Types.{Text, Id, Global}
@@ -15,7 +15,9 @@ use Rattle.judge.specs.declared.claims.Claim.{Claim}
 use Rattle.judge.specs.Own.{passes}
 use Rattle.judge.specs.Claims.{change_key, a_claim, PassesAt, AreClaims}
 use Rattle.judge.specs.Sharing.{ClashesOnOne, IsAmong, IsClashing}
+use Rattle.judge.specs.Forbidding.{IsForbidding}
 use Rattle.judge.proofs.Collapsed.{change-found, change-has}
+use Rattle.judge.proofs.Lists.{beside-there}
 
 -- what it claims, it changes, and the other way round
 changes-from : (g : Global) (x : Id) (key : ElemType × Text) → Contains (map change_key (changes_of g x)) key
@@ -80,15 +82,9 @@ clashing-at g c ids faults claims are n = (from, to)
 
 module _ (s : Setting) (faults : List OwnFaults) (lengths : length faults ≡ length s.cands)
     (survives : (n : ℕ) (x : Id) (a : OwnFaults) → slice_get s.cands n ≡ Some x → slice_get faults n ≡ Some a
-    → IsTrue (passes a) ↔ Survives s x)
-    (no_npre : (x : Id) → Survives s x → npre_of s.choice x ≡ []) where
+    → IsTrue (passes a) ↔ Survives s x) where
   own-at : (n : ℕ) (x : Id) → slice_get s.cands n ≡ Some x → (a : OwnFaults) × (slice_get faults n ≡ Some a)
-  own-at n x at = by faults n (subst (λ k. n < k) (sym lengths) (slice_get_within s.cands n x at))
-    where
-      by : (all : List OwnFaults) (n : ℕ) → n < length all → (a : OwnFaults) × (slice_get all n ≡ Some a)
-      by [] n below = absurd (omega (arith, below))
-      by (a ∷ more) zero below = (a, refl)
-      by (a ∷ more) (suc n) below = by more n (omega (arith, below))
+  own-at = beside-there s.cands faults lengths
 
   passes-from : (n : ℕ) (x : Id) → PassesAt s.cands faults n x → Survives s x
   passes-from n x p = (survives n x p.own p.at p.own_at).0 p.passing
@@ -100,32 +96,51 @@ module _ (s : Setting) (faults : List OwnFaults) (lengths : length faults ≡ le
 
   -- a candidate that clashes fails J9, and no other does
   pub fails-nine : (n : ℕ) (x : Id) → slice_get s.cands n ≡ Some x
-      → IsClashing s.global s.choice s.cands faults n ↔ FailsJ9 s x
+      → (IsClashing s.global s.choice s.cands faults n ⊎ IsForbidding s.choice s.cands faults n) ↔ FailsJ9 s x
   fails-nine n x at = (from, to)
     where
-      from : IsClashing s.global s.choice s.cands faults n → FailsJ9 s x
-      from h =
+      from : IsClashing s.global s.choice s.cands faults n ⊎ IsForbidding s.choice s.cands faults n → FailsJ9 s x
+      from (inl h) =
           let same : h.x ≡ x = same_Some h.x x (sym h.passes.at ∙ at) in
           subst (FailsJ9 s) same (
             passes-from n h.x h.passes,
             (h.y, passes-from h.place h.y h.other, h.apart, inr (inr (h.element, h.may_not))),
           )
+      from (inr h) =
+          let same : h.x ≡ x = same_Some h.x x (sym h.passes.at ∙ at) in
+          let clash : Clash s h.x h.y = elim h.names [ inl named ↦ inl named | inr by ↦ inr (inl by) ] in
+          subst (FailsJ9 s) same
+          (passes-from n h.x h.passes, (h.y, passes-from h.place h.y h.other, h.apart, clash))
 
-      to : FailsJ9 s x → IsClashing s.global s.choice s.cands faults n
+      to : FailsJ9 s x → IsClashing s.global s.choice s.cands faults n ⊎ IsForbidding s.choice s.cands faults n
       to (own, (y, other, apart, clash)) = by clash
         where
-          by : Clash s x y → IsClashing s.global s.choice s.cands faults n
-          by (inl named) = none_in_nil (npre_of s.choice x) y (no_npre x own) named
-          by (inr (inl named)) = none_in_nil (npre_of s.choice y) x (no_npre y other) named
-          by (inr (inr both)) =
-              let found = found_at s.cands y other.0.0 in
-              record {
-                x = x;
-                passes = passes-to n x at own;
-                place = found.0;
-                y = y;
-                other = passes-to found.0 y found.1 other;
-                apart = apart;
-                element = both.0;
-                may_not = both.1;
-              }
+          found : (k : ℕ) × (slice_get s.cands k ≡ Some y)
+          found = found_at s.cands y other.0.0
+
+          forbidding : Contains (npre_of s.choice x) y ⊎ Contains (npre_of s.choice y) x
+              → IsForbidding s.choice s.cands faults n
+          forbidding names = record {
+            x = x;
+            passes = passes-to n x at own;
+            place = found.0;
+            y = y;
+            other = passes-to found.0 y found.1 other;
+            apart = apart;
+            names = names;
+          }
+
+          by : Clash s x y
+              → IsClashing s.global s.choice s.cands faults n ⊎ IsForbidding s.choice s.cands faults n
+          by (inl named) = inr (forbidding (inl named))
+          by (inr (inl named)) = inr (forbidding (inr named))
+          by (inr (inr both)) = inl (record {
+            x = x;
+            passes = passes-to n x at own;
+            place = found.0;
+            y = y;
+            other = passes-to found.0 y found.1 other;
+            apart = apart;
+            element = both.0;
+            may_not = both.1;
+          })

@@ -1,4 +1,4 @@
--- Candidates that are all installable look at the zone itself, and clash where they share an element.
+-- Statements about an element, and who made it.
 use Rattle.std.proofs.Common.{◌≡◌, inl, inr, zero, suc, Bool, true, false, List, [], ◌∷◌, Option, None}
 use Rattle.std.proofs.Common.{Some, IsTrue, refl, sym, ap, ◌∙◌, subst, true≢false, find, Contains, cond, arith}
 use Rattle.std.proofs.Common.{eq-eqb}
@@ -20,7 +20,6 @@ use Rattle.lemmas.proofs.Texts.{same_from, same_itself}
 use Rattle.terms.proofs.ElementOrder.{type_from_number}
 use Rattle.lemmas.proofs.Members.{here_or}
 use Rattle.terms.proofs.NothingDeleted.{view-none, deletions-none, zone_less-none}
-use Rattle.judge.proofs.Plain.{IsPlain}
 
 -- the statement that is found is one about the element
 pub change-there : (g : Global) (x : Id) (type : ElemType) (name : Text) (h : Change) → change_of g x type name ≡ Some h
@@ -65,28 +64,6 @@ change-has g x h of =
   where
     eqb-itself : (n : _) → (n == n) ≡ true
     eqb-itself n = eq-eqb n n refl
-
-module _ (g : Global) (zone : Zone) (ids : List Id)
-    (held : All (λ e. IsTrue (is_held e)) zone.entries)
-    (plain : (x : Id) → Contains ids x → IsPlain g zone x) where
-  abbrev C : Choice
-  C = by_srel g zone.srel
-
-  abbrev S : Setting
-  S = setting g zone None ids no_bypass
-
-  -- each candidate looks at the zone itself
-  pub view-is : (x : Id) → view_of S x ≡ zone
-  view-is x = view-none g C ids zone x held (λ y h. (plain y h).names_nothing.del)
-
-  -- what survives deletes nothing
-  pub zone-left : (survivors : List Id) → ((x : Id) → Contains survivors x → Contains ids x)
-      → zone_less g C (deletions C survivors) zone ≡ zone
-  zone-left survivors among =
-      ap (λ dels. zone_less g C dels zone)
-      (deletions-none C survivors (λ i d below. (plain _ (among _
-      (Contains-get_or survivors i d below))).names_nothing.del))
-      ∙ zone_less-none g C zone held
 
 -- what is not over the SYSMODs that made an element
 pub lower-first : (c : Choice) (x rmid : Id) (umids : List Id) → ¬ IsOver c x rmid

@@ -22,7 +22,7 @@ module _ (g : Global) (zone : Zone) where
   received x ok = by (sysmod_of g x) refl
     where
       has_ver : not (is_nil (vers_of g zone.srel x)) ≡ true
-      has_ver = (and_parts _ _ (and_parts _ _ (and_parts _ _ ok).0).0).0
+      has_ver = (and_parts _ _ (and_parts _ _ ok).0).0
 
       by : (s : Option Sysmod) → sysmod_of g x ≡ s → Contains (map (λ s. s.id) g.sysmods) x
       by None at = absurd (true≢false (sym has_ver ∙ ap (λ s.

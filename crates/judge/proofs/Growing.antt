@@ -16,9 +16,9 @@ use Rattle.std.proofs.lemmas.List.{take_more, map-append}
 use Rattle.std.proofs.lemmas.List.Concat.{flat_map-append}
 use Rattle.terms.specs.Types.{Id, IfReq, Entry}
 use Rattle.terms.specs.Choice.{Choice}
-use Rattle.terms.specs.Candidates.{if_reqs, stated_for}
 use Rattle.lemmas.proofs.Texts.{same_from, same_itself}
-use Rattle.judge.specs.Conditions.{Lists, listed, Adds}
+use Rattle.judge.specs.declared.stated.Requisite.{Requisite}
+use Rattle.judge.specs.Conditions.{Lists, a_requisite, listed, stated_by, Adds}
 
 -- what grew by one part more
 pub grown : {X : Type 0} (base old part next new whole : List X) → old ≡ base ++ part → new ≡ old ++ next
@@ -62,31 +62,47 @@ conditions-more p conditions k i below at =
     ∙ ap (λ l. flat_map (λ i. i.req) (filter (λ i. p i.function) (take k conditions)) ++ l)
     (filter-one (λ i. p i.function) (λ i. i.req) i)
 
+-- the same, with who states them
+pub requisites-more : (by : Id) (p : Id → Bool) (conditions : List IfReq) (k : ℕ) (i : IfReq) → k < length conditions
+    → i ≡ get_or conditions k i
+    → map (a_requisite by) (flat_map (λ i. i.req) (filter (λ i. p i.function) (take (k + 1) conditions)))
+    ≡ map (a_requisite by) (flat_map (λ i. i.req) (filter (λ i. p i.function) (take k conditions)))
+    ++ cond (p i.function) (map (a_requisite by) i.req) []
+requisites-more by p conditions k i below at =
+    let front = flat_map (λ i. i.req) (filter (λ i. p i.function) (take k conditions)) in
+    ap (map (a_requisite by)) (conditions-more p conditions k i below at)
+    ∙ map-append (a_requisite by) front (cond (p i.function) i.req [])
+    ∙ ap (λ l. map (a_requisite by) front ++ l) (one (p i.function))
+  where
+    one : (b : Bool) → map (a_requisite by) (cond b i.req []) ≡ cond b (map (a_requisite by) i.req) []
+    one true = refl
+    one false = refl
+
 -- what one more entry states, if it is of an applied SYSMOD
 pub stated-more : (c : Choice) (f : Id) (entries : List Entry) (k : ℕ) (e : Entry) → k < length entries
     → e ≡ get_or entries k e
-    → stated_for c (map (λ e. e.id) (filter (λ e. is_some e.applied) (take (k + 1) entries))) f
-    ≡ stated_for c (map (λ e. e.id) (filter (λ e. is_some e.applied) (take k entries))) f
-    ++ cond (is_some e.applied) (if_reqs c (bytes_eq f) e.id) []
+    → flat_map (stated_by c f) (map (λ e. e.id) (filter (λ e. is_some e.applied) (take (k + 1) entries)))
+    ≡ flat_map (stated_by c f) (map (λ e. e.id) (filter (λ e. is_some e.applied) (take k entries)))
+    ++ cond (is_some e.applied) (stated_by c f e.id) []
 stated-more c f entries k e below at =
     let front = filter (λ e. is_some e.applied) (take k entries) in
     let one = filter (λ e. is_some e.applied) (e ∷ []) in
-    ap (λ l. stated_for c (map (λ e. e.id) (filter (λ e. is_some e.applied) l)) f) (front-more entries k e below at)
-    ∙ ap (λ l. stated_for c (map (λ e. e.id) l) f)
+    ap (λ l. flat_map (stated_by c f) (map (λ e. e.id) (filter (λ e. is_some e.applied) l))) (front-more entries k e below at)
+    ∙ ap (λ l. flat_map (stated_by c f) (map (λ e. e.id) l))
     (filter-append (λ e. is_some e.applied) (take k entries) (e ∷ []))
-    ∙ ap (λ l. stated_for c l f) (map-append (λ e. e.id) front one)
-    ∙ flat_map-append (if_reqs c (bytes_eq f)) (map (λ e. e.id) front) (map (λ e. e.id) one)
-    ∙ ap (λ l. stated_for c (map (λ e. e.id) front) f ++ l) (by (is_some e.applied) refl)
+    ∙ ap (λ l. flat_map (stated_by c f) l) (map-append (λ e. e.id) front one)
+    ∙ flat_map-append (stated_by c f) (map (λ e. e.id) front) (map (λ e. e.id) one)
+    ∙ ap (λ l. flat_map (stated_by c f) (map (λ e. e.id) front) ++ l) (by (is_some e.applied) refl)
   where
     by : (b : Bool) → is_some e.applied ≡ b
-        → stated_for c (map (λ e. e.id) (filter (λ e. is_some e.applied) (e ∷ []))) f
-        ≡ cond (is_some e.applied) (if_reqs c (bytes_eq f) e.id) []
+        → flat_map (stated_by c f) (map (λ e. e.id) (filter (λ e. is_some e.applied) (e ∷ [])))
+        ≡ cond (is_some e.applied) (stated_by c f e.id) []
     by true on =
-        ap (λ b. stated_for c (map (λ e. e.id) (cond b (e ∷ []) [])) f) on ∙ append-nil (if_reqs c (bytes_eq f) e.id)
-        ∙ ap (λ b. cond b (if_reqs c (bytes_eq f) e.id) []) (sym on)
+        ap (λ b. flat_map (stated_by c f) (map (λ e. e.id) (cond b (e ∷ []) []))) on ∙ append-nil (stated_by c f e.id)
+        ∙ ap (λ b. cond b (stated_by c f e.id) []) (sym on)
     by false on =
-        ap (λ b. stated_for c (map (λ e. e.id) (cond b (e ∷ []) [])) f) on
-        ∙ ap (λ b. cond b (if_reqs c (bytes_eq f) e.id) []) (sym on)
+        ap (λ b. flat_map (stated_by c f) (map (λ e. e.id) (cond b (e ∷ []) []))) on
+        ∙ ap (λ b. cond b (stated_by c f e.id) []) (sym on)
 
 abbrev C : Id → Id → Ordering
 C = slice_cmp nat_cmp
@@ -96,7 +112,7 @@ off-from true lacks = absurd (lacks refl)
 off-from false lacks = refl
 
 -- the list of one function is put in place of the one that it goes on
-pub adds-update : (old new : Lists) (k : Id) (w : Vec Id Global) (req : List Id) → UpdatesBy C (C k) old new (Some w)
+pub adds-update : (old new : Lists) (k : Id) (w : Vec Requisite Global) (req : List Requisite) → UpdatesBy C (C k) old new (Some w)
     → w.items ≡ listed old k ++ req
     → Adds old new (λ f. cond (bytes_eq f k) req [])
 adds-update old new k w req updates goes_on f = by (is_eq (C k f)) refl
@@ -116,7 +132,7 @@ adds-update old new k w req updates goes_on f = by (is_eq (C k f)) refl
         (sym (is_eq-slice_cmp k f ∙ here (same_from f k same)) ∙ e)) in
         now false e ∙ sym (append-nil (listed old f)) ∙ ap (λ b. listed old f ++ cond b req []) (sym other)
 
-pub listed-at : (lists : Lists) (k : Id) (v : Vec Id Global) → get C lists k ≡ Some v → listed lists k ≡ v.items
+pub listed-at : (lists : Lists) (k : Id) (v : Vec Requisite Global) → get C lists k ≡ Some v → listed lists k ≡ v.items
 listed-at lists k v there = ap (λ o. option_map_or (λ v. v.items) o []) there
 
 pub listed-none : (lists : Lists) (k : Id) → get C lists k ≡ None → listed lists k ≡ []

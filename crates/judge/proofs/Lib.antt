@@ -1,11 +1,12 @@
 pub mod Few
-pub mod Plain
 pub mod Collapsed
 pub mod Alone
 pub mod Lists
 pub mod Growing
 pub mod Paired
 pub mod Errors
+pub mod Stating
+pub mod Survivors
 pub mod Needed
 pub mod Rising
 pub mod Wants
@@ -19,3 +20,8 @@ pub mod Runs
 pub mod Clashing
 pub mod Places
 pub mod Overs
+pub mod Forbidders
+pub mod Naming
+pub mod Deleting
+pub mod Faulted
+pub mod Filled

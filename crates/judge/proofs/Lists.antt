@@ -43,6 +43,16 @@ beside-more R xs ys x y b r = record {
   ];
 }
 
+-- what stands beside an item
+pub beside-there : {X Y : Type 0} (xs : List X) (ys : List Y) → length ys ≡ length xs → (n : ℕ) (x : X)
+    → slice_get xs n ≡ Some x → (y : Y) × (slice_get ys n ≡ Some y)
+beside-there {X} {Y} xs ys same n x at = by ys n (subst (λ k. n < k) (sym same) (slice_get_within xs n x at))
+  where
+    by : (all : List Y) (n : ℕ) → n < length all → (y : Y) × (slice_get all n ≡ Some y)
+    by [] n below = absurd (omega (arith, below))
+    by (y ∷ more) zero below = (y, refl)
+    by (y ∷ more) (suc n) below = by more n (omega (arith, below))
+
 -- the next of a list, as a loop goes over it
 pub beside-next : {X Y : Type 0} (R : ℕ → X → Y → Type 0) (xs : List X) (ys new : List Y) (i : ℕ) (x : X) (y : Y)
     → i < length xs → x ≡ get_or xs i x

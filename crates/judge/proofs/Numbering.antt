@@ -1,13 +1,11 @@
--- The numbered problem of candidates that delete nothing is the command's.
-use Rattle.std.proofs.Common.{◌≡◌, ℕ, Bool, List, [], Option, Some, IsTrue, sym, ap, ◌∙◌, subst, Contains, length}
+-- The numbered problem of the candidates is the command's.
+use Rattle.std.proofs.Common.{◌≡◌, ℕ, Bool, List, Option, None, Some, IsTrue, sym, ap, ◌∙◌, subst, Contains, length}
 use Rattle.std.proofs.Common.{slice_get}
-use Rattle.std.specs.Prelude.{All, ◌↔◌}
+use Rattle.std.specs.Prelude.{◌↔◌}
 use Rattle.std.proofs.lemmas.List.{length-map}
 use Rattle.std.proofs.lemmas.Option.{slice_get_within}
 use Rattle.terms.specs.declared.codes.NeedKind.{NeedKind}
 use Rattle.terms.specs.Types.{Id, Global, Zone, Bypass}
-use Rattle.terms.specs.Lookups.{is_held}
-use Rattle.terms.specs.Choice.{by_srel, del_of}
 use Rattle.terms.specs.Tests.{Setting, AreSurvivors, IsEligible}
 use Rattle.terms.specs.Judged.{setting, IsInstallProblem}
 use Rattle.terms.specs.Problem.{Problem, IsProblem, holds}
@@ -19,15 +17,14 @@ use Rattle.judge.specs.Numbered.{HasProblem}
 use Rattle.judge.proofs.Demands.{is-demand, demand-at, wants-once}
 use Rattle.judge.proofs.Needed.{needs-open}
 
-module _ (g : Global) (zone : Zone) (related : Option Zone) (ids : List Id) (b : Bypass)
-    (held : All (λ e. IsTrue (is_held e)) zone.entries)
-    (no-del : (x : Id) → Contains ids x → del_of (by_srel g zone.srel) x ≡ []) where
+module _ (g : Global) (zone : Zone) (related : Option Zone) (ids : List Id) (b : Bypass) where
   abbrev s : Setting
   s = setting g zone related ids b
 
   pub install-problem : (survivors : List Id) → AreSurvivors s survivors → (flags : List Bool)
       → ((n : ℕ) (x : Id) → slice_get ids n ≡ Some x → IsTrue (holds flags n) ↔ IsEligible s x)
-      → (p : Problem) (needed : List (NeedKind × Id)) → IsProblem p → HasProblem g zone ids b flags p needed
+      → (p : Problem) (needed : List (NeedKind × Id)) → IsProblem p
+      → HasProblem (setting g zone None ids b) survivors flags p needed
       → IsInstallProblem s p needed
   install-problem survivors are flags eligible p needed numbers has = record {
     survivors = survivors;
@@ -47,7 +44,7 @@ module _ (g : Global) (zone : Zone) (related : Option Zone) (ids : List Id) (b :
             of = (
               open_at.x,
               subst (λ k. slice_get ids k ≡ Some open_at.x) (sym w.2.of) open_at.at,
-              (needs-open g zone related ids b held no-del survivors among open_at.x need.0 need.1
+              (needs-open g zone related ids b survivors open_at.x need.0 need.1
                   (contains_at ids w.0.of open_at.x open_at.at)).1 open_at.is_open,
             );
             any = subst (λ (v : Want). ArePlaces s.choice ids v.kind v.id d.any) w.3 (w.2.any s.choice has.served);
@@ -57,7 +54,7 @@ module _ (g : Global) (zone : Zone) (related : Option Zone) (ids : List Id) (b :
             below = slice_get_within ids n x at;
             x = x;
             at = at;
-            is_open = (needs-open g zone related ids b held no-del survivors among x kind z
+            is_open = (needs-open g zone related ids b survivors x kind z
                 (contains_at ids n x at)).0 need;
           })) in
           let d = demand-at ids has.pairs flags has.wants p needed has.demands found.0 (a_want n kind z) found.1 in
@@ -67,6 +64,3 @@ module _ (g : Global) (zone : Zone) (related : Option Zone) (ids : List Id) (b :
           need_d need_e same;
     };
   }
-    where
-      among : (x : Id) → Contains survivors x → Contains ids x
-      among x h = ((are.members x).0 h).0.0

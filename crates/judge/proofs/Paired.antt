@@ -3,9 +3,11 @@ use Rattle.std.proofs.Common.{◌≡◌, ◌⊎◌, inl, inr, ℕ, ◌<◌, ◌+
 use Rattle.std.proofs.Common.{sym, ap, subst}
 use Rattle.std.specs.Prelude.{◌↔◌}
 use Rattle.std.proofs.lemmas.List.Elements.{Contains-append_left, Contains-append_right, Contains-append_cases}
-use Rattle.terms.specs.Types.{Id, Global, Zone, Bypass}
+use Rattle.terms.specs.Types.{Id}
+use Rattle.terms.specs.Tests.{Setting}
+use Rattle.terms.specs.Needs.{bypassed_ids}
 use Rattle.lemmas.proofs.Members.{here, here_or, none_in, in_map, map_in}
-use Rattle.judge.specs.Bypassed.{bypassed_for, AddsPairs, AreBypassed}
+use Rattle.judge.specs.Bypassed.{AddsPairs, AreBypassed}
 use Rattle.judge.proofs.Growing.{front-more}
 
 pub pairs-map : (x : Id) (more : List Id) (old new : List (Id × Id)) → new ≡ old ++ map (λ z. (x, z)) more
@@ -64,34 +66,34 @@ pairs-alike x xs ys old new same adds y z = (
   λ h. (adds y z).1 (elim h [ inl was ↦ inl was | inr added ↦ inr (added.0, (same z).1 added.1) ]),
 )
 
-module _ (g : Global) (zone : Zone) (ids : List Id) (b : Bypass) where
+module _ (s : Setting) where
   -- the next candidate
   pub bypassed-next : (xs : List Id) (k : ℕ) (x : Id) (old new : List (Id × Id)) → k < length xs → x ≡ get_or xs k x
-      → AddsPairs x (bypassed_for g zone ids b x) old new → AreBypassed g zone ids b (take k xs) old
-      → AreBypassed g zone ids b (take (k + 1) xs) new
+      → AddsPairs x (bypassed_ids s x) old new → AreBypassed s (take k xs) old
+      → AreBypassed s (take (k + 1) xs) new
   bypassed-next xs k x old new below at adds was =
-      subst (λ l. AreBypassed g zone ids b l new) (sym (front-more xs k x below at)) (λ y z. (up y z, down y z))
+      subst (λ l. AreBypassed s l new) (sym (front-more xs k x below at)) (λ y z. (up y z, down y z))
     where
       up : (y z : Id) → Contains new (y, z)
-          → Contains (take k xs ++ x ∷ []) y × Contains (bypassed_for g zone ids b y) z
+          → Contains (take k xs ++ x ∷ []) y × Contains (bypassed_ids s y) z
       up y z h = elim ((adds y z).0 h) [
         | inl before ↦
             let both = (was y z).0 before in
             (Contains-append_left (take k xs) (x ∷ []) y both.0, both.1)
         | inr added ↦ (
           Contains-append_right (take k xs) (x ∷ []) y (subst (Contains (x ∷ [])) (sym added.0) (here x [])),
-          subst (λ w. Contains (bypassed_for g zone ids b w) z) (sym added.0) added.1,
+          subst (λ w. Contains (bypassed_ids s w) z) (sym added.0) added.1,
         )
       ]
 
-      down : (y z : Id) → Contains (take k xs ++ x ∷ []) y × Contains (bypassed_for g zone ids b y) z
+      down : (y z : Id) → Contains (take k xs ++ x ∷ []) y × Contains (bypassed_ids s y) z
           → Contains new (y, z)
       down y z h = elim (Contains-append_cases (take k xs) (x ∷ []) y h.0) [
         | inl before ↦ (adds y z).1 (inl ((was y z).1 (before, h.1)))
         | inr last ↦ elim (here_or x [] y last) [
           | inl same ↦ (adds y z).1 (inr (
             sym same,
-            subst (λ w. Contains (bypassed_for g zone ids b w) z) (sym same) h.1,
+            subst (λ w. Contains (bypassed_ids s w) z) (sym same) h.1,
           ))
           | inr none ↦ absurd (none_in y none)
         ]

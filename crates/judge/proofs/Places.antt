@@ -2,7 +2,7 @@
 use Rattle.std.proofs.Common.{◌≡◌, ◌≢◌, inl, inr, ℕ, zero, suc, ◌<◌, ◌+◌, Bool, true, false, not, List, [], ◌∷◌, length}
 use Rattle.std.proofs.Common.{Option, None, Some, IsTrue, refl, sym, ap, ap₂, ◌∙◌, subst, true≢false, filter, map}
 use Rattle.std.proofs.Common.{Contains, cond, arith, slice_get, get_or}
-use Rattle.std.specs.Prelude.{All, ◌↔◌, nat_eq}
+use Rattle.std.specs.Prelude.{◌↔◌, nat_eq}
 use Rattle.std.specs.Option.{option_map, option_map_or}
 use Rattle.std.specs.Str.{bytes_eq}
 use Rattle.std.proofs.lemmas.Bool.{and_parts, eqb-true, cases_order, cases_eq, not-true}
@@ -19,10 +19,9 @@ use Rattle.std.proofs.lemmas.List.Kept.{AllPairs-filter}
 use Rattle.std.proofs.lemmas.Map.Views.{list_any-from_Contains}
 use Rattle.indexmap.proofs.CallerLemmas.{Contains-list_any}
 use Rattle.terms.specs.declared.codes.Test.{Test}
-use Rattle.terms.specs.Types.{Id, Bypass, Global, Zone}
-use Rattle.terms.specs.Lookups.{IsRising, is_held, is_before, is_in}
-use Rattle.terms.specs.Tests.{Setting, FailsJ9, Survives, AreSurvivors, IsEligible, Fails}
-use Rattle.terms.specs.Judged.{setting}
+use Rattle.terms.specs.Types.{Id}
+use Rattle.terms.specs.Lookups.{IsRising, is_before, is_in}
+use Rattle.terms.specs.Tests.{Setting, FailsJ8, FailsJ9, Survives, AreSurvivors, IsEligible, Fails}
 use Rattle.terms.specs.Global.{IsGlobal}
 use Rattle.terms.specs.Problem.{holds}
 use Rattle.lemmas.proofs.Pairs.{AllPairs-rest}
@@ -34,13 +33,13 @@ use Rattle.judge.specs.declared.own.OwnFaults.{OwnFaults}
 use Rattle.judge.specs.Failed.{AreFailedTests, AreEligible}
 use Rattle.judge.specs.Placed.{Beside}
 use Rattle.judge.specs.Own.{HasFaults, passes}
-use Rattle.judge.specs.Sharing.{IsClashing}
+use Rattle.judge.specs.Forbidding.{AreClashing}
 use Rattle.judge.specs.Rows.{fails_test, is_among, row_of, is_eligible_at}
 use Rattle.judge.specs.Serving.{AreOwnPlaces}
 use Rattle.terms.proofs.Ids.{is_in-from_Contains}
 use Rattle.judge.proofs.Rising.{before-apart}
-use Rattle.judge.proofs.Plain.{IsPlain}
 use Rattle.judge.proofs.Clashing.{fails-nine}
+use Rattle.judge.proofs.Lists.{beside-there}
 use Rattle.judge.proofs.Alone.{off, bytes-differ, survives-if as survives-alone, test-fails as fails-alone}
 
 -- ids at two places are two
@@ -103,27 +102,20 @@ own-at (y ∷ ys) (b ∷ faults) k rising (suc n) m x a at own place =
     ∙ own-at ys faults (suc k) (AllPairs-rest (λ u v. IsTrue (is_before u v)) y ys rising) n m x a at own
     (omega (arith, place))
 
-module _ (g : Global) (zone : Zone) (related : Option Zone) (ids : List Id) (bypass : Bypass)
-    (is_global : IsGlobal g) (held : All (λ e. IsTrue (is_held e)) zone.entries) (rising : IsRising ids)
-    (plain : (x : Id) → Contains ids x → IsPlain g zone x)
-    (faults : List OwnFaults)
-    (own : Beside (λ n x a. HasFaults (setting g zone related ids bypass) x a) ids faults) where
-  abbrev s : Setting
-  s = setting g zone related ids bypass
+module _ (s : Setting) (is_global : IsGlobal s.global) (rising : IsRising s.cands) (faults : List OwnFaults)
+    (own : Beside (λ n x a. HasFaults s x a) s.cands faults)
+    (eight : (n : ℕ) (x : Id) (a : OwnFaults) → slice_get s.cands n ≡ Some x → slice_get faults n ≡ Some a
+    → IsTrue a.deleted ↔ FailsJ8 s x) where
+  abbrev ids : List Id
+  ids = s.cands
 
   pub survives-if : (n : ℕ) (x : Id) (a : OwnFaults) → slice_get ids n ≡ Some x → slice_get faults n ≡ Some a
       → IsTrue (passes a) ↔ Survives s x
   survives-if n x a at at_own =
-      survives-alone g zone related ids bypass is_global held plain x (contains_at ids n x at) a
-      (own.each n x a at at_own)
+      survives-alone s is_global x (contains_at ids n x at) a (own.each n x a at at_own) (eight n x a at at_own)
 
   beside-own : (n : ℕ) (x : Id) → slice_get ids n ≡ Some x → (a : OwnFaults) × (slice_get faults n ≡ Some a)
-  beside-own n x at = by faults n (subst (λ k. n < k) (sym own.lengths) (slice_get_within ids n x at))
-    where
-      by : (all : List OwnFaults) (n : ℕ) → n < length all → (a : OwnFaults) × (slice_get all n ≡ Some a)
-      by [] n below = absurd (omega (arith, below))
-      by (a ∷ more) zero below = (a, refl)
-      by (a ∷ more) (suc n) below = by more n (omega (arith, below))
+  beside-own = beside-there ids faults own.lengths
 
   -- the survivors
   abbrev is_survivor : Id → Bool
@@ -155,27 +147,26 @@ module _ (g : Global) (zone : Zone) (related : Option Zone) (ids : List Id) (byp
     );
   }
 
-  module _ (shared : List ℕ) (shares : (n : ℕ) → Contains shared n ↔ IsClashing g s.choice ids faults n) where
-    pub nine : (n : ℕ) (x : Id) → slice_get ids n ≡ Some x → IsTrue (is_among shared n) ↔ FailsJ9 s x
+  module _ (marked : List ℕ) (are : AreClashing s.global s.choice ids faults marked) where
+    pub nine : (n : ℕ) (x : Id) → slice_get ids n ≡ Some x → IsTrue (is_among marked n) ↔ FailsJ9 s x
     nine n x at =
-        let both = fails-nine s faults own.lengths survives-if
-        (λ y survives. (plain y survives.0.0).names_nothing.npre) n x at in (
-          λ on. both.0 ((shares n).0 (Contains-list_any nat_eq eqb-true shared n on)),
-          λ fails. list_any-from_Contains nat_eq_equiv n shared ((shares n).1 (both.1 fails)),
+        let both = fails-nine s faults own.lengths survives-if n x at in (
+          λ on. both.0 ((are n).0 (Contains-list_any nat_eq eqb-true marked n on)),
+          λ fails. list_any-from_Contains nat_eq_equiv n marked ((are n).1 (both.1 fails)),
         )
 
     test-fails : (n : ℕ) (x : Id) (a : OwnFaults) → slice_get ids n ≡ Some x → slice_get faults n ≡ Some a
-        → (t : Test) → IsTrue (fails_test a (is_among shared n) t) ↔ Fails s x t
+        → (t : Test) → IsTrue (fails_test a (is_among marked n) t) ↔ Fails s x t
     test-fails n x a at at_own =
-        fails-alone g zone related ids bypass is_global held plain x (contains_at ids n x at) a
-        (own.each n x a at at_own) (is_among shared n) (nine n x at)
+        fails-alone s is_global x (contains_at ids n x at) a (own.each n x a at at_own) (eight n x a at at_own)
+        (is_among marked n) (nine n x at)
 
     abbrev fails_at : Option (ℕ × OwnFaults) → Test → Bool
-    fails_at o t = option_map_or (λ p. fails_test p.1 (is_among shared p.0) t) o false
+    fails_at o t = option_map_or (λ p. fails_test p.1 (is_among marked p.0) t) o false
 
     -- the rows of failed tests
     pub are-failed : {R : Type 0} (items : R → List Test) (rows : List R)
-        → Beside (λ n a row. items row ≡ row_of shared n a) faults rows → AreFailedTests s (map items rows)
+        → Beside (λ n a row. items row ≡ row_of marked n a) faults rows → AreFailedTests s (map items rows)
     are-failed {R} items rows beside = record {
       lengths = length-map rows items ∙ beside.lengths ∙ own.lengths;
       fails = λ x. fails_at (own_of ids faults 0 x);
@@ -203,22 +194,22 @@ module _ (g : Global) (zone : Zone) (related : Option Zone) (ids : List Id) (byp
             ∙ ap (λ o. Some (filter (fails_at o) all_tests)) (sym is)
 
     eligible-if : (n : ℕ) (x : Id) (a : OwnFaults) → slice_get ids n ≡ Some x → slice_get faults n ≡ Some a
-        → IsTrue (is_eligible_at shared n a) ↔ IsEligible s x
+        → IsTrue (is_eligible_at marked n a) ↔ IsEligible s x
     eligible-if n x a at at_own = (
       λ on.
-          let p = and_parts (passes a) (not (is_among shared n)) on in (
+          let p = and_parts (passes a) (not (is_among marked n)) on in (
             (survives-if n x a at at_own).0 p.0,
             λ fails. true≢false
-                (sym ((nine n x at).1 fails) ∙ not-true (is_among shared n) p.1),
+                (sym ((nine n x at).1 fails) ∙ not-true (is_among marked n) p.1),
           ),
       λ eligible.
           let alone = (survives-if n x a at at_own).1 eligible.0 in
-          let apart = off (is_among shared n) (λ on. eligible.1 ((nine n x at).0 on)) in
+          let apart = off (is_among marked n) (λ on. eligible.1 ((nine n x at).0 on)) in
           rw (alone, apart) refl,
     )
 
     -- the flags of who is eligible
-    pub are-eligible : (flags : List Bool) → Beside (λ n a flag. flag ≡ is_eligible_at shared n a) faults flags
+    pub are-eligible : (flags : List Bool) → Beside (λ n a flag. flag ≡ is_eligible_at marked n a) faults flags
         → AreEligible s flags
     are-eligible flags flagged = record {
       lengths = flagged.lengths ∙ own.lengths;
@@ -226,7 +217,7 @@ module _ (g : Global) (zone : Zone) (related : Option Zone) (ids : List Id) (byp
           let a = beside-own n x at in
           let below : n < length flags = subst (λ k. n < k) (sym flagged.lengths) (slice_get_within faults n a.0 a.1) in
           let flag = slice_get-get_or flags n false below in
-          let is : holds flags n ≡ is_eligible_at shared n a.0 = flagged.each n a.0 (get_or flags n false) a.1 flag in
+          let is : holds flags n ≡ is_eligible_at marked n a.0 = flagged.each n a.0 (get_or flags n false) a.1 flag in
           let both = eligible-if n x a.0 at a.1 in
           (λ on. both.0 (sym is ∙ on), λ eligible. is ∙ both.1 eligible);
       survivors = survivors;

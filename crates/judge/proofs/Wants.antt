@@ -1,6 +1,6 @@
 -- The needs of candidates, each once, as they come in.
-use Rattle.std.proofs.Common.{◌≡◌, ◌≢◌, ◌⊎◌, inl, inr, ℕ, ◌<◌, ◌+◌, Bool, true, List, [], ◌++◌}
-use Rattle.std.proofs.Common.{Some, IsTrue, refl, sym, ap, ◌∙◌, subst, filter, map, Contains, arith, slice_get}
+use Rattle.std.proofs.Common.{◌≡◌, ◌≢◌, ◌⊎◌, inl, inr, ℕ, zero, suc, ◌<◌, ◌+◌, Bool, true, List, [], ◌++◌}
+use Rattle.std.proofs.Common.{Some, IsTrue, refl, sym, ap, append-nil, ◌∙◌, subst, filter, map, Contains, arith, slice_get}
 use Rattle.std.specs.Prelude.{All, ◌↔◌, get_or}
 use Rattle.std.proofs.lemmas.Bool.{cases_eq}
 use Rattle.std.proofs.lemmas.Option.{same_Some}
@@ -10,12 +10,14 @@ use Rattle.std.proofs.lemmas.List.Elements.{Contains-get_or}
 use Rattle.std.proofs.lemmas.List.Kept.{AllPairs-filter}
 use Rattle.terms.specs.declared.codes.NeedKind.{NeedKind}
 use Rattle.terms.specs.declared.codes.NeedKind.TheVariants.{Fmid, Pre, Req, Ifreq, HoldError, Orphan, Elem, Dep}
-use Rattle.terms.specs.Types.{Id, Global, Zone, Bypass}
+use Rattle.terms.specs.Types.{Id, Zone, Bypass}
 use Rattle.terms.specs.Lookups.{IsRising, is_before}
+use Rattle.terms.specs.Tests.{Setting}
+use Rattle.terms.specs.Needs.{asked}
 use Rattle.lemmas.proofs.Members.{map_in, in_map, filter_in, in_filter, none_in}
 use Rattle.lemmas.proofs.Pairs.{AllPairs-join, pairs_map}
 use Rattle.judge.specs.declared.wanted.Want.{Want}
-use Rattle.judge.specs.Wanted.{a_want, asked_for, is_open, IsOpen, AreWants, AddsPart, IsOfKind, IsOpenAt}
+use Rattle.judge.specs.Wanted.{a_want, is_open, IsOpen, AreWants, AddsPart, IsOfKind, IsOpenAt}
 use Rattle.judge.proofs.Rising.{before-apart}
 
 pub join : (D E : ℕ → NeedKind → Id → Type 0) (xs ys : List Want) → AreWants D xs → AreWants E ys
@@ -111,139 +113,146 @@ same-part of P Q a b both p = record {
   )) p.wants;
 }
 
--- the kinds are apart
-fmid-pre : Fmid ≢ Pre
-fmid-pre e = cc e
+-- the kinds by number
+rank : NeedKind → ℕ
+rank Fmid = 0
+rank Pre = 1
+rank Req = 2
+rank Ifreq = 3
+rank HoldError = 4
+rank Orphan = 5
+rank Elem = 6
+rank Dep = 7
 
-fmid-req : Fmid ≢ Req
-fmid-req e = cc e
+ranked : ℕ → NeedKind
+ranked zero = Fmid
+ranked (suc zero) = Pre
+ranked (suc (suc zero)) = Req
+ranked (suc (suc (suc zero))) = Ifreq
+ranked (suc (suc (suc (suc zero)))) = HoldError
+ranked (suc (suc (suc (suc (suc zero))))) = Orphan
+ranked (suc (suc (suc (suc (suc (suc zero)))))) = Elem
+ranked _ = Dep
 
-fmid-ifreq : Fmid ≢ Ifreq
-fmid-ifreq e = cc e
+ranked-rank : (kind : NeedKind) → ranked (rank kind) ≡ kind
+unfolding rank ranked
+ranked-rank Fmid = refl
+ranked-rank Pre = refl
+ranked-rank Req = refl
+ranked-rank Ifreq = refl
+ranked-rank HoldError = refl
+ranked-rank Orphan = refl
+ranked-rank Elem = refl
+ranked-rank Dep = refl
 
-fmid-hold : Fmid ≢ HoldError
-fmid-hold e = cc e
+same-rank : (j k : NeedKind) → rank j ≡ rank k → j ≡ k
+same-rank j k e = sym (ranked-rank j) ∙ ap ranked e ∙ ranked-rank k
 
-pre-req : Pre ≢ Req
-pre-req e = cc e
-
-pre-ifreq : Pre ≢ Ifreq
-pre-ifreq e = cc e
-
-pre-hold : Pre ≢ HoldError
-pre-hold e = cc e
-
-req-ifreq : Req ≢ Ifreq
-req-ifreq e = cc e
-
-req-hold : Req ≢ HoldError
-req-hold e = cc e
-
-ifreq-hold : Ifreq ≢ HoldError
-ifreq-hold e = cc e
-
--- FMID, PRE, REQ, IFREQ and HOLDERROR
-module _ (g : Global) (zone : Zone) (ids : List Id) (b : Bypass) (of : ℕ) (x : Id) where
+-- the needs of a candidate, kind by kind
+module _ (s : Setting) (survivors : List Id) (left : Zone) (of : ℕ) (x : Id) where
   abbrev Of : NeedKind → NeedKind → Id → Type 0
-  Of kind = IsOfKind zone b kind (asked_for g zone ids b x kind)
+  Of kind = IsOfKind left s.bypass kind (asked s survivors x kind)
 
-  gives : (kind : NeedKind) (z : Id) → IsOpen g zone ids b x kind z
-      → (((Of Fmid kind z ⊎ Of Pre kind z) ⊎ Of Req kind z) ⊎ Of Ifreq kind z) ⊎ Of HoldError kind z
-  gives Fmid z h = inl (inl (inl (inl (refl, h.0, h.1))))
-  gives Pre z h = inl (inl (inl (inr (refl, h.0, h.1))))
-  gives Req z h = inl (inl (inr (refl, h.0, h.1)))
-  gives Ifreq z h = inl (inr (refl, h.0, h.1))
-  gives HoldError z h = inr (refl, h.0, h.1)
-  gives Orphan z h = absurd (none_in z h.0)
-  gives Elem z h = absurd (none_in z h.0)
-  gives Dep z h = absurd (none_in z h.0)
+  -- those of the kinds in front of a number
+  abbrev UpTo : ℕ → NeedKind → Id → Type 0
+  UpTo n kind z = (rank kind < n) × IsOpen s survivors left x kind z
 
-  open-of : (kind k : NeedKind) (z : Id) → Of kind k z → IsOpen g zone ids b x k z
-  open-of kind k z h = subst (λ j. IsOpen g zone ids b x j z) (sym h.0) (h.1, h.2)
+  no-kind : (l : List Want) → AddsPart of (UpTo 0) l l
+  no-kind l = record {
+    more = [];
+    are = sym (append-nil l);
+    wants = record {
+      members = λ n kind z. (λ h. absurd (none_in (a_want n kind z) h), λ h. absurd (omega (arith, h.1.0)));
+      once = λ i j d less below. absurd (omega (arith, below));
+    };
+  }
 
-  is-open : (kind : NeedKind) (z : Id)
-      → ((((Of Fmid kind z ⊎ Of Pre kind z) ⊎ Of Req kind z) ⊎ Of Ifreq kind z) ⊎ Of HoldError kind z)
-      ↔ IsOpen g zone ids b x kind z
-  is-open kind z = (back, gives kind z)
+  next-kind : (kind : NeedKind) (a b c : List Want) → AddsPart of (UpTo (rank kind)) a b → AddsPart of (Of kind) b c
+      → AddsPart of (UpTo (rank kind + 1)) a c
+  next-kind kind a b c front next =
+      same-part of (λ k z. UpTo (rank kind) k z ⊎ Of kind k z) (UpTo (rank kind + 1)) a c (λ k z. (up k z, down k z))
+      (both-parts of (UpTo (rank kind)) (Of kind) a b c front next (λ k z h o. omega (arith, h.0, ap rank o.0)))
     where
-      back : (((Of Fmid kind z ⊎ Of Pre kind z) ⊎ Of Req kind z) ⊎ Of Ifreq kind z) ⊎ Of HoldError kind z
-          → IsOpen g zone ids b x kind z
-      back (inl (inl (inl (inl h)))) = open-of Fmid kind z h
-      back (inl (inl (inl (inr h)))) = open-of Pre kind z h
-      back (inl (inl (inr h))) = open-of Req kind z h
-      back (inl (inr h)) = open-of Ifreq kind z h
-      back (inr h) = open-of HoldError kind z h
+      up : (k : NeedKind) (z : Id) → UpTo (rank kind) k z ⊎ Of kind k z → UpTo (rank kind + 1) k z
+      up k z (inl h) = (omega (arith, h.0), h.1)
+      up k z (inr o) = (
+        omega (arith, ap rank o.0),
+        subst (λ j. IsOpen s survivors left x j z) (sym o.0) (o.1, o.2),
+      )
 
-  pub five-parts : (l0 l1 l2 l3 l4 l5 : List Want) → AddsPart of (Of Fmid) l0 l1 → AddsPart of (Of Pre) l1 l2
+      down : (k : NeedKind) (z : Id) → UpTo (rank kind + 1) k z → UpTo (rank kind) k z ⊎ Of kind k z
+      down k z h = elim (cases_eq (rank k) (rank kind)) [
+        | inl this ↦
+            let same : k ≡ kind = same-rank k kind this in
+            let of_kind = subst (λ j. IsOpen s survivors left x j z) same h.1 in
+            inr (same, of_kind.0, of_kind.1)
+        | inr other ↦ inl (omega (arith, h.0, other), h.1)
+      ]
+
+  asked-below : (kind : NeedKind) (z : Id) → IsOpen s survivors left x kind z → rank kind < 6
+  unfolding rank
+  asked-below Fmid z h = omega arith
+  asked-below Pre z h = omega arith
+  asked-below Req z h = omega arith
+  asked-below Ifreq z h = omega arith
+  asked-below HoldError z h = omega arith
+  asked-below Orphan z h = omega arith
+  asked-below Elem z h = absurd (none_in z h.0)
+  asked-below Dep z h = absurd (none_in z h.0)
+
+  pub all-parts : (l0 l1 l2 l3 l4 l5 l6 : List Want) → AddsPart of (Of Fmid) l0 l1 → AddsPart of (Of Pre) l1 l2
       → AddsPart of (Of Req) l2 l3 → AddsPart of (Of Ifreq) l3 l4 → AddsPart of (Of HoldError) l4 l5
-      → AddsPart of (IsOpen g zone ids b x) l0 l5
-  five-parts l0 l1 l2 l3 l4 l5 fmid pre req ifreq hold =
-      same-part of (λ kind z. (((Of Fmid kind z ⊎ Of Pre kind z) ⊎ Of Req kind z) ⊎ Of Ifreq kind z)
-      ⊎ Of HoldError kind z) (IsOpen g zone ids b x) l0 l5 is-open
-      (both-parts of (λ kind z. ((Of Fmid kind z ⊎ Of Pre kind z) ⊎ Of Req kind z) ⊎ Of Ifreq kind z) (Of HoldError)
-      l0 l4 l5
-      (both-parts of (λ kind z. (Of Fmid kind z ⊎ Of Pre kind z) ⊎ Of Req kind z) (Of Ifreq) l0 l3 l4
-      (both-parts of (λ kind z. Of Fmid kind z ⊎ Of Pre kind z) (Of Req) l0 l2 l3
-      (both-parts of (Of Fmid) (Of Pre) l0 l1 l2 fmid pre at-pre) req at-req) ifreq at-ifreq) hold at-hold)
-    where
-      at-pre : (kind : NeedKind) (z : Id) → Of Fmid kind z → ¬ Of Pre kind z
-      at-pre kind z f p = fmid-pre (sym f.0 ∙ p.0)
+      → AddsPart of (Of Orphan) l5 l6 → AddsPart of (IsOpen s survivors left x) l0 l6
+  unfolding rank
+  all-parts l0 l1 l2 l3 l4 l5 l6 fmid pre req ifreq hold orphan =
+      same-part of (UpTo 6) (IsOpen s survivors left x) l0 l6
+      (λ kind z. (λ h. h.1, λ h. (asked-below kind z h, h)))
+      (next-kind Orphan l0 l5 l6
+      (next-kind HoldError l0 l4 l5
+      (next-kind Ifreq l0 l3 l4
+      (next-kind Req l0 l2 l3
+      (next-kind Pre l0 l1 l2
+      (next-kind Fmid l0 l0 l1 (no-kind l0) fmid) pre) req) ifreq) hold) orphan)
 
-      at-req : (kind : NeedKind) (z : Id) → (Of Fmid kind z ⊎ Of Pre kind z) → ¬ Of Req kind z
-      at-req kind z (inl f) r = fmid-req (sym f.0 ∙ r.0)
-      at-req kind z (inr p) r = pre-req (sym p.0 ∙ r.0)
-
-      at-ifreq : (kind : NeedKind) (z : Id) → ((Of Fmid kind z ⊎ Of Pre kind z) ⊎ Of Req kind z) → ¬ Of Ifreq kind z
-      at-ifreq kind z (inl (inl f)) i = fmid-ifreq (sym f.0 ∙ i.0)
-      at-ifreq kind z (inl (inr p)) i = pre-ifreq (sym p.0 ∙ i.0)
-      at-ifreq kind z (inr r) i = req-ifreq (sym r.0 ∙ i.0)
-
-      at-hold : (kind : NeedKind) (z : Id)
-          → (((Of Fmid kind z ⊎ Of Pre kind z) ⊎ Of Req kind z) ⊎ Of Ifreq kind z) → ¬ Of HoldError kind z
-      at-hold kind z (inl (inl (inl f))) h = fmid-hold (sym f.0 ∙ h.0)
-      at-hold kind z (inl (inl (inr p))) h = pre-hold (sym p.0 ∙ h.0)
-      at-hold kind z (inl (inr r)) h = req-hold (sym r.0 ∙ h.0)
-      at-hold kind z (inr i) h = ifreq-hold (sym i.0 ∙ h.0)
-
-module _ (g : Global) (zone : Zone) (ids : List Id) (b : Bypass) where
+module _ (s : Setting) (survivors : List Id) (left : Zone) where
   -- the next candidate
-  pub wants-next : (k : ℕ) (x : Id) (old new : List Want) → slice_get ids k ≡ Some x
-      → AddsPart k (IsOpen g zone ids b x) old new
-      → AreWants (IsOpenAt g zone ids b k) old → AreWants (IsOpenAt g zone ids b (k + 1)) new
+  pub wants-next : (k : ℕ) (x : Id) (old new : List Want) → slice_get s.cands k ≡ Some x
+      → AddsPart k (IsOpen s survivors left x) old new
+      → AreWants (IsOpenAt s survivors left k) old → AreWants (IsOpenAt s survivors left (k + 1)) new
   wants-next k x old new at p w =
-      subst (AreWants (IsOpenAt g zone ids b (k + 1))) (sym p.are)
+      subst (AreWants (IsOpenAt s survivors left (k + 1))) (sym p.are)
       (alike _ _ (old ++ p.more) (λ n kind z. (up n kind z, down n kind z))
-      (join (IsOpenAt g zone ids b k) (λ n kind z. (n ≡ k) × IsOpen g zone ids b x kind z) old p.more w p.wants
+      (join (IsOpenAt s survivors left k) (λ n kind z. (n ≡ k) × IsOpen s survivors left x kind z) old p.more w p.wants
       (λ n kind z l r. omega (arith, l.below, r.0))))
     where
       up : (n : ℕ) (kind : NeedKind) (z : Id)
-          → IsOpenAt g zone ids b k n kind z ⊎ ((n ≡ k) × IsOpen g zone ids b x kind z)
-          → IsOpenAt g zone ids b (k + 1) n kind z
+          → IsOpenAt s survivors left k n kind z ⊎ ((n ≡ k) × IsOpen s survivors left x kind z)
+          → IsOpenAt s survivors left (k + 1) n kind z
       up n kind z (inl l) = record { below = omega (arith, l.below); x = l.x; at = l.at; is_open = l.is_open }
       up n kind z (inr r) = record {
         below = omega (arith, r.0);
         x = x;
-        at = subst (λ m. slice_get ids m ≡ Some x) (sym r.0) at;
+        at = subst (λ m. slice_get s.cands m ≡ Some x) (sym r.0) at;
         is_open = r.1;
       }
 
-      down : (n : ℕ) (kind : NeedKind) (z : Id) → IsOpenAt g zone ids b (k + 1) n kind z
-          → IsOpenAt g zone ids b k n kind z ⊎ ((n ≡ k) × IsOpen g zone ids b x kind z)
+      down : (n : ℕ) (kind : NeedKind) (z : Id) → IsOpenAt s survivors left (k + 1) n kind z
+          → IsOpenAt s survivors left k n kind z ⊎ ((n ≡ k) × IsOpen s survivors left x kind z)
       down n kind z h = elim (cases_eq n k) [
         | inl this ↦
-            let same : h.x ≡ x = same_Some h.x x (sym h.at ∙ subst (λ m. slice_get ids m ≡ Some x) (sym this) at) in
-            inr (this, subst (λ y. IsOpen g zone ids b y kind z) same h.is_open)
+            let same : h.x ≡ x = same_Some h.x x (sym h.at ∙ subst (λ m. slice_get s.cands m ≡ Some x) (sym this) at) in
+            inr (this, subst (λ y. IsOpen s survivors left y kind z) same h.is_open)
         | inr other ↦ inl (record { below = omega (arith, h.below, other); x = h.x; at = h.at; is_open = h.is_open })
       ]
 
-  pub wants-none : AreWants (IsOpenAt g zone ids b 0) []
+  pub wants-none : AreWants (IsOpenAt s survivors left 0) []
   wants-none = record {
     members = λ n kind z. (λ h. absurd (none_in (a_want n kind z) h), λ h. absurd (omega (arith, h.below)));
     once = λ i j d less below. absurd (omega (arith, below));
   }
 
   -- each is of a candidate
-  pub wants-within : (end : ℕ) (wants : List Want) → AreWants (IsOpenAt g zone ids b end) wants
+  pub wants-within : (end : ℕ) (wants : List Want) → AreWants (IsOpenAt s survivors left end) wants
       → All (λ w. w.of < end) wants
   wants-within end wants w = λ k d below.
       let v : Want = get_or wants k d in

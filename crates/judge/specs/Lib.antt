@@ -1,6 +1,7 @@
 pub mod Failed
 pub mod Placed
 pub mod Own
+pub mod Left
 pub mod Conditions
 pub mod Wanted
 pub mod Serving
@@ -9,4 +10,9 @@ pub mod Bypassed
 pub mod Claims
 pub mod Sharing
 pub mod Rows
+pub mod Surviving
 pub mod Overs
+pub mod Views
+pub mod Forbidders
+pub mod Deletes
+pub mod Forbidding

@@ -1,8 +1,9 @@
 -- The numbered problem of the needs.
 use Rattle.std.specs.Prelude.{◌≡◌, ℕ, Bool, List, [], ◌∷◌, ◌++◌, length, map}
 use Rattle.terms.specs.declared.codes.NeedKind.{NeedKind}
-use Rattle.terms.specs.Types.{Id, Global, Zone, Bypass}
-use Rattle.terms.specs.Choice.{by_srel}
+use Rattle.terms.specs.Types.{Id}
+use Rattle.terms.specs.Tests.{Setting}
+use Rattle.terms.specs.Needs.{zone_left}
 use Rattle.terms.specs.Problem.{Demand, Problem}
 use Rattle.judge.specs.declared.wanted.Want.{Want}
 use Rattle.judge.specs.Placed.{Beside}
@@ -31,10 +32,10 @@ pub record AddsDemand (ids : List Id) (pairs : List (Id × ℕ)) (w : Want) (old
   pub needed : new_needed ≡ old_needed ++ (w.kind, w.id) ∷ []
 
 -- the problem of the candidates with these flags has all their needs
-pub record HasProblem (g : Global) (zone : Zone) (ids : List Id) (b : Bypass) (flags : List Bool) (p : Problem)
+pub record HasProblem (s : Setting) (survivors : List Id) (flags : List Bool) (p : Problem)
     (needed : List (NeedKind × Id)) : Type 0 where
   pub wants : List Want
-  pub are_wants : AreWants (IsOpenAt g zone ids b (length ids)) wants
+  pub are_wants : AreWants (IsOpenAt s survivors (zone_left s survivors) (length s.cands)) wants
   pub pairs : List (Id × ℕ)
-  pub served : AreServed (by_srel g zone.srel) ids (length ids) pairs
-  pub demands : HasDemands ids pairs flags wants p needed
+  pub served : AreServed s.choice s.cands (length s.cands) pairs
+  pub demands : HasDemands s.cands pairs flags wants p needed

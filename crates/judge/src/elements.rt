@@ -9,35 +9,37 @@ ghost use Rattle.terms.specs.Changes.{is_replacement, has_replacement};
 ghost use Rattle.sysmods_records.specs.Views.{action_of};
 ghost use Rattle.sysmods.specs.Choices.{choice};
 ghost use Rattle.judge.specs.Overs.{AreOver};
+ghost use Rattle.judge.specs.Views.{seen};
 ghost use Rattle.judge.specs.Own.{is_foreign_at, IsLower, IsLowerAt, has_base, is_bare_at};
 
 use crate::known::over;
 use crate::own::changes_of;
+use crate::view::View;
 use fields::{Id, IdList, Name};
 use indexmap::IndexSet;
 use std::alloc::{AllocError, Global as Heap};
 use sysmods::{Global, VerChoice};
 use sysmods_records::{Action, ElemChange};
 use terms::ElemType;
-use zones::{Element, Zone};
+use zones::Element;
 
-// Whether the zone has the element of the statement under another owner.
-fn is_foreign_at(zone: &Zone, owner: Id, change: &ElemChange) -> bool
-    ensures { result ≡ is_foreign_at zone.now owner change.now }
+// Whether the view has the element of the statement under another owner.
+fn is_foreign_at(view: &View<'_, '_>, owner: Id, change: &ElemChange) -> bool
+    ensures { result ≡ is_foreign_at (seen view.now) owner change.now }
 {
-    match zone.element(change.elem_type, change.name) {
+    match view.element(change.elem_type, change.name) {
         Some(element) => element.fmid != owner,
         None => false,
     }
 }
 
-/// Whether the zone has an element of these statements under another owner.
-pub(crate) fn is_foreign(zone: &Zone, owner: Id, changes: &[ElemChange]) -> bool
-    ensures { result ≡ list_any (is_foreign_at zone.now owner) changes.now }
+/// Whether the view has an element of these statements under another owner.
+pub(crate) fn is_foreign(view: &View<'_, '_>, owner: Id, changes: &[ElemChange]) -> bool
+    ensures { result ≡ list_any (is_foreign_at (seen view.now) owner) changes.now }
 {
     changes
         .iter()
-        .any(|change| is_foreign_at(zone, owner, change))
+        .any(|change| is_foreign_at(view, owner, change))
 }
 
 // Whether it is not over one of these.
@@ -80,18 +82,18 @@ fn is_lower(
 
 fn is_lower_at(
     alloc: Heap,
-    vers: &VerChoice<'_>,
+    view: &View<'_, '_>,
     known: &mut IndexSet<(Id, Id)>,
-    zone: &Zone,
     id: Id,
     change: &ElemChange,
 ) -> Result<bool, AllocError>
-    requires { AreOver (choice vers.now) known.old.keys }
-    ensures lower { IfOk result (λ lower. IsTrue lower ↔ IsLowerAt (choice vers.now) zone.now id change.now) }
-    ensures known { OnOk result (AreOver (choice vers.now) known.new.keys) }
+    requires { AreOver (choice view.now.vers.now) known.old.keys }
+    ensures lower { IfOk result (λ lower. IsTrue lower
+        ↔ IsLowerAt (choice view.now.vers.now) (seen view.now) id change.now) }
+    ensures known { OnOk result (AreOver (choice view.now.vers.now) known.new.keys) }
 {
-    match zone.element(change.elem_type, change.name) {
-        Some(element) => is_lower(alloc, vers, known, id, element),
+    match view.element(change.elem_type, change.name) {
+        Some(element) => is_lower(alloc, view.vers, known, id, element),
         None => Ok(false),
     }
 }
@@ -99,18 +101,18 @@ fn is_lower_at(
 /// Whether an element of these statements was made by a SYSMOD which it is not over.
 pub(crate) fn is_lower_somewhere(
     alloc: Heap,
-    vers: &VerChoice<'_>,
+    view: &View<'_, '_>,
     known: &mut IndexSet<(Id, Id)>,
-    zone: &Zone,
     id: Id,
     changes: &[ElemChange],
 ) -> Result<bool, AllocError>
-    requires { AreOver (choice vers.now) known.old.keys }
-    ensures lower { IfOk result (λ lower. IsTrue lower ↔ Any (IsLowerAt (choice vers.now) zone.now id) changes.now) }
-    ensures known { OnOk result (AreOver (choice vers.now) known.new.keys) }
+    requires { AreOver (choice view.now.vers.now) known.old.keys }
+    ensures lower { IfOk result (λ lower. IsTrue lower
+        ↔ Any (IsLowerAt (choice view.now.vers.now) (seen view.now) id) changes.now) }
+    ensures known { OnOk result (AreOver (choice view.now.vers.now) known.new.keys) }
 {
     for change in changes {
-        if is_lower_at(alloc, vers, known, zone, id, change)? {
+        if is_lower_at(alloc, view, known, id, change)? {
             return Ok(true);
         }
     }
@@ -163,32 +165,32 @@ fn has_base(global: &Global, ids: &IdList, fmid: Option<Id>, change: &ElemChange
     }
 }
 
-// Whether it updates what the zone lacks, and no base comes with it.
+// Whether it updates what the view lacks, and no base comes with it.
 fn is_bare_at(
     global: &Global,
-    zone: &Zone,
+    view: &View<'_, '_>,
     ids: &IdList,
     fmid: Option<Id>,
     change: &ElemChange,
 ) -> bool
-    ensures { result ≡ is_bare_at global.now zone.now ids.now fmid change.now }
+    ensures { result ≡ is_bare_at global.now (seen view.now) ids.now fmid change.now }
 {
     !is_replacement(change)
-        && zone.element(change.elem_type, change.name).is_none()
+        && view.element(change.elem_type, change.name).is_none()
         && !has_base(global, ids, fmid, change)
 }
 
-/// Whether one of these statements updates what the zone lacks, and no base of that comes with its function.
+/// Whether one of these statements updates what the view lacks, and no base of that comes with its function.
 pub(crate) fn has_bare_update(
     global: &Global,
-    zone: &Zone,
+    view: &View<'_, '_>,
     ids: &IdList,
     fmid: Option<Id>,
     changes: &[ElemChange],
 ) -> bool
-    ensures { result ≡ list_any (is_bare_at global.now zone.now ids.now fmid) changes.now }
+    ensures { result ≡ list_any (is_bare_at global.now (seen view.now) ids.now fmid) changes.now }
 {
     changes
         .iter()
-        .any(|change| is_bare_at(global, zone, ids, fmid, change))
+        .any(|change| is_bare_at(global, view, ids, fmid, change))
 }

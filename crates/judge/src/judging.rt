@@ -7,6 +7,8 @@ ghost use Rattle.judge.specs.Failed.{AreFailedTests};
 
 use crate::bypassed::bypassed_pairs;
 use crate::numbered::wants_of;
+use crate::scope::Scope;
+use crate::surviving::survivors;
 use crate::tested::test_all;
 use cntl::Bypass;
 use fields::{Id, IdList};
@@ -47,10 +49,16 @@ pub fn install_system(
         ↔ (Contains ids.now x × Contains (bypassed_ids
         (setting global.now zone.now (option_copied related.entry) ids.now bypass.now) x) z)) }
 {
-    zone.known();
     let tested = test_all(alloc, global, zone, related, ids, bypass)?;
-    let (system, needed) = wants_of(alloc, global, zone, ids, bypass, tested.eligible)?;
-    let bypassed = bypassed_pairs(alloc, global, zone, ids, bypass)?;
+    let scope = Scope {
+        global,
+        zone,
+        ids,
+        bypass,
+    };
+    let survivors = survivors(alloc, ids, tested.tests.as_slice())?;
+    let (system, needed) = wants_of(alloc, &scope, &survivors, tested.eligible)?;
+    let bypassed = bypassed_pairs(alloc, &scope)?;
     Ok(Judged {
         system,
         needed,

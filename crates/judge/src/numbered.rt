@@ -1,19 +1,19 @@
 //! The numbered problem of who is eligible and needs whom.
 ghost use Rattle.std.specs.Prelude.{◌≡◌, ◌<◌, ◌^◌, length, All, OnOk, IfOk};
 ghost use Rattle.terms.specs.Problem.{IsProblem};
+ghost use Rattle.judge.specs.Left.{setting_of};
 ghost use Rattle.judge.specs.Numbered.{AddsDemand, HasDemands, HasProblem};
 
+use crate::left::Left;
 use crate::scope::Scope;
 use crate::serving::{places_of, served};
 use crate::wanted::{Want, all_wants, want_at};
-use cntl::Bypass;
 use fields::{Id, IdList};
 use solve::{Need, System};
 use std::alloc::{AllocError, Global as Heap};
 use std::collections::BTreeSet;
-use sysmods::Global;
 use terms::NeedKind;
-use zones::Zone;
+use zones_less::deletions;
 
 // Adds one need.
 fn add_want(
@@ -61,29 +61,28 @@ fn numbered(
     Ok((system, needed))
 }
 
-/// The numbered problem of candidates of which these are eligible, and the kind and the id of each need.
+/// The numbered problem of candidates of which these survive and these are eligible, and the kind and the id of each
+/// need.
 pub(crate) fn wants_of(
     alloc: Heap,
-    global: &Global,
-    zone: &Zone,
-    ids: &IdList,
-    bypass: &Bypass,
+    scope: &Scope<'_>,
+    survivors: &IdList,
     eligible: Vec<bool>,
 ) -> Result<(System, Vec<(NeedKind, Id)>), AllocError>
-    requires fits { length ids.now < 2 ^ 32 }
-    requires flags { length eligible.items ≡ length ids.now }
+    requires fits { length scope.now.ids.now < 2 ^ 32 }
+    requires flags { length eligible.items ≡ length scope.now.ids.now }
     ensures valid { IfOk result (λ r. IsProblem r.0) }
     ensures problem { IfOk result
-        (λ r. HasProblem global.now zone.now ids.now bypass.now eligible.items r.0 r.1.items) }
+        (λ r. HasProblem (setting_of scope.now) survivors.now eligible.items r.0 r.1.items) }
 {
-    let scope = Scope {
-        global,
-        zone,
-        ids,
-        bypass,
+    let vers = scope.vers();
+    let dels = deletions(alloc, &vers, survivors.as_slice())?;
+    let left = Left {
+        scope: *scope,
+        dels: dels.as_slice(),
     };
-    let wants = all_wants(alloc, &scope)?;
-    let served = served(alloc, &scope.vers(), ids)?;
-    let (system, needed) = numbered(alloc, ids, &served, wants.as_slice(), eligible)?;
+    let wants = all_wants(alloc, &left, survivors)?;
+    let served = served(alloc, &vers, scope.ids)?;
+    let (system, needed) = numbered(alloc, scope.ids, &served, wants.as_slice(), eligible)?;
     Ok((system, needed))
 }

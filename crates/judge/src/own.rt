@@ -9,12 +9,17 @@ ghost use Rattle.terms.specs.Choice.{by_srel};
 ghost use Rattle.terms.specs.Tests.{is_bypassed_hold};
 ghost use Rattle.terms.specs.Judged.{setting};
 ghost use Rattle.sysmods.specs.Choices.{choice};
+ghost use Rattle.judge.specs.Forbidders.{AreForbidders};
 ghost use Rattle.judge.specs.Overs.{AreOver};
-ghost use Rattle.judge.specs.Own.{IsLowerAt, HasFaults, passes};
+ghost use Rattle.judge.specs.Own.{IsLowerAt, HasFaults, passes_alone, passes};
 ghost use Rattle.judge.specs.Placed.{Beside};
+ghost use Rattle.judge.specs.Views.{seen};
 
 use crate::bypassing::is_bypassed_hold;
 use crate::elements::{has_bare_update, is_foreign, is_lower_somewhere};
+use crate::forbidden::{Forbidders, forbidders, is_forbidden};
+use crate::scope::Scope;
+use crate::view::View;
 use cntl::Bypass;
 use fields::{Id, IdList};
 use indexmap::IndexSet;
@@ -23,31 +28,42 @@ use sysmods::{Global, VerChoice};
 use sysmods_records::ElemChange;
 use terms::{HoldKind, ZoneKind};
 use zones::Zone;
+use zones_less::view_deletions;
 
-/// What a candidate fails by itself: a SYSTEM hold (J1) or a USER hold (J2) stands against it, it changes an element
-/// that another owns (J4) or that a SYSMOD made which it is not over (J5), it updates an element that is not there
-/// (J6), or it is accepted where it is not applied (J7).
+/// What a candidate fails by itself: a SYSTEM hold (J1) or a USER hold (J2) stands against it, an NPRE forbids it (J3),
+/// it changes an element that another owns (J4) or that a SYSMOD made which it is not over (J5), it updates an element
+/// that is not there (J6), it is accepted where it is not applied (J7), or it has none of these and is deleted (J8).
 #[derive(Clone, Copy)]
 pub(crate) struct OwnFaults {
     pub(crate) system_held: bool,
     pub(crate) user_held: bool,
+    pub(crate) forbidden: bool,
     pub(crate) foreign: bool,
     pub(crate) lower: bool,
     pub(crate) bare: bool,
     pub(crate) unapplied: bool,
+    pub(crate) deleted: bool,
 }
 
 impl OwnFaults {
-    /// Whether it has none of them.
-    pub(crate) fn passes(self) -> bool
-        ensures { result ≡ passes self }
+    /// Whether it passes J1 to J7.
+    pub(crate) fn passes_alone(self) -> bool
+        ensures { result ≡ passes_alone self }
     {
         !self.system_held
             && !self.user_held
+            && !self.forbidden
             && !self.foreign
             && !self.lower
             && !self.bare
             && !self.unapplied
+    }
+
+    /// Whether it has none of the faults.
+    pub(crate) fn passes(self) -> bool
+        ensures { result ≡ passes self }
+    {
+        self.passes_alone() && !self.deleted
     }
 }
 
@@ -73,22 +89,21 @@ fn has_standing_hold(global: &Global, bypass: &Bypass, kind: HoldKind, id: Id) -
 // Whether an element that it changes was made by a SYSMOD which it is not over. BYPASS(ID) does not ask.
 fn is_lower(
     alloc: Heap,
-    vers: &VerChoice<'_>,
+    view: &View<'_, '_>,
     known: &mut IndexSet<(Id, Id)>,
-    zone: &Zone,
     bypass: &Bypass,
     id: Id,
     changes: &[ElemChange],
 ) -> Result<bool, AllocError>
-    requires { AreOver (choice vers.now) known.old.keys }
-    ensures lower { IfOk result (λ lower. IsTrue lower
-        ↔ (IsFalse bypass.now.same_id × Any (IsLowerAt (choice vers.now) zone.now id) changes.now)) }
-    ensures known { OnOk result (AreOver (choice vers.now) known.new.keys) }
+    requires { AreOver (choice view.now.vers.now) known.old.keys }
+    ensures lower { IfOk result (λ lower. IsTrue lower ↔ (IsFalse bypass.now.same_id
+        × Any (IsLowerAt (choice view.now.vers.now) (seen view.now) id) changes.now)) }
+    ensures known { OnOk result (AreOver (choice view.now.vers.now) known.new.keys) }
 {
     if bypass.same_id {
         return Ok(false);
     }
-    is_lower_somewhere(alloc, vers, known, zone, id, changes)
+    is_lower_somewhere(alloc, view, known, id, changes)
 }
 
 fn has_applied(related: Option<&Zone>, id: Id) -> bool
@@ -108,51 +123,58 @@ fn is_unapplied(zone: &Zone, related: Option<&Zone>, bypass: &Bypass, id: Id) ->
     zone.kind() == ZoneKind::Distribution && !bypass.applycheck && !has_applied(related, id)
 }
 
-// What the candidate fails by itself, given whether it is lower.
+// What the candidate fails of J1 to J7, in its view and with what it is known to be over.
 fn own_faults(
-    global: &Global,
-    zone: &Zone,
+    alloc: Heap,
+    scope: &Scope<'_>,
     related: Option<&Zone>,
-    ids: &IdList,
-    bypass: &Bypass,
+    forbidders: &Forbidders,
+    known: &mut IndexSet<(Id, Id)>,
     id: Id,
-    lower: bool,
-) -> OwnFaults
-    requires { IsTrue lower ↔ (IsFalse bypass.now.same_id
-        × Any (IsLowerAt (by_srel global.now zone.now.srel) zone.now id) (changes_of global.now id)) }
-    ensures { HasFaults (setting global.now zone.now (option_copied related.entry) ids.now bypass.now) id result }
+) -> Result<OwnFaults, AllocError>
+    requires known { AreOver (by_srel scope.now.global.now scope.now.zone.now.srel) known.old.keys }
+    requires forbidders { AreForbidders scope.now.global.now (by_srel scope.now.global.now scope.now.zone.now.srel)
+        scope.now.zone.now.entries forbidders.now }
+    ensures faults { IfOk result (HasFaults (setting scope.now.global.now scope.now.zone.now
+        (option_copied related.entry) scope.now.ids.now scope.now.bypass.now) id) }
+    ensures known { OnOk result (AreOver (by_srel scope.now.global.now scope.now.zone.now.srel) known.new.keys) }
 {
-    let vers = VerChoice::new(global, zone.srel());
-    let changes = changes_of(global, id);
-    OwnFaults {
-        system_held: has_standing_hold(global, bypass, HoldKind::System, id),
-        user_held: has_standing_hold(global, bypass, HoldKind::User, id),
-        foreign: is_foreign(zone, vers.owner(id), changes),
+    let vers = VerChoice::new(scope.global, scope.zone.srel());
+    let dels = view_deletions(alloc, &vers, scope.ids, id)?;
+    let view = View {
+        vers: &vers,
+        dels: dels.as_slice(),
+        zone: scope.zone,
+    };
+    let changes = changes_of(scope.global, id);
+    let lower = is_lower(alloc, &view, known, scope.bypass, id, changes)?;
+    Ok(OwnFaults {
+        system_held: has_standing_hold(scope.global, scope.bypass, HoldKind::System, id),
+        user_held: has_standing_hold(scope.global, scope.bypass, HoldKind::User, id),
+        forbidden: is_forbidden(&view, forbidders, id),
+        foreign: is_foreign(&view, vers.owner(id), changes),
         lower,
-        bare: has_bare_update(global, zone, ids, vers.fmid(id), changes),
-        unapplied: is_unapplied(zone, related, bypass, id),
-    }
+        bare: has_bare_update(scope.global, &view, scope.ids, vers.fmid(id), changes),
+        unapplied: is_unapplied(scope.zone, related, scope.bypass, id),
+        deleted: false,
+    })
 }
 
-/// What each candidate fails by itself.
+/// What each candidate fails of J1 to J7.
 pub(crate) fn all_faults(
     alloc: Heap,
-    global: &Global,
-    zone: &Zone,
+    scope: &Scope<'_>,
     related: Option<&Zone>,
-    ids: &IdList,
-    bypass: &Bypass,
 ) -> Result<Vec<OwnFaults>, AllocError>
-    ensures { IfOk result (λ faults. Beside (λ n x own. HasFaults
-        (setting global.now zone.now (option_copied related.entry) ids.now bypass.now) x own) ids.now faults.items) }
+    ensures { IfOk result (λ faults. Beside (λ n x own. HasFaults (setting scope.now.global.now scope.now.zone.now
+        (option_copied related.entry) scope.now.ids.now scope.now.bypass.now) x own) scope.now.ids.now faults.items) }
 {
-    let vers = VerChoice::new(global, zone.srel());
+    let vers = VerChoice::new(scope.global, scope.zone.srel());
+    let forbidders = forbidders(alloc, scope.global, &vers, scope.zone)?;
     let mut known = IndexSet::new(alloc);
     let mut faults = Vec::new(alloc);
-    for id in ids.as_slice() {
-        let changes = changes_of(global, *id);
-        let lower = is_lower(alloc, &vers, &mut known, zone, bypass, *id, changes)?;
-        faults.push(own_faults(global, zone, related, ids, bypass, *id, lower))?;
+    for id in scope.ids.as_slice() {
+        faults.push(own_faults(alloc, scope, related, &forbidders, &mut known, *id)?)?;
     }
     Ok(faults)
 }

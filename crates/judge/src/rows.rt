@@ -20,17 +20,19 @@ fn add_if(tests: &mut Vec<Test>, fails: bool, test: Test) -> Result<(), AllocErr
 }
 
 // The tests that a candidate fails.
-fn row_of(alloc: Heap, own: OwnFaults, shares: bool) -> Result<Vec<Test>, AllocError>
-    ensures { IfOk result (λ row. row.items ≡ filter (fails_test own shares) all_tests) }
+fn row_of(alloc: Heap, own: OwnFaults, clashes: bool) -> Result<Vec<Test>, AllocError>
+    ensures { IfOk result (λ row. row.items ≡ filter (fails_test own clashes) all_tests) }
 {
     let mut tests = Vec::new(alloc);
     add_if(&mut tests, own.system_held, Test::J1)?;
     add_if(&mut tests, own.user_held, Test::J2)?;
+    add_if(&mut tests, own.forbidden, Test::J3)?;
     add_if(&mut tests, own.foreign, Test::J4)?;
     add_if(&mut tests, own.lower, Test::J5)?;
     add_if(&mut tests, own.bare, Test::J6)?;
     add_if(&mut tests, own.unapplied, Test::J7)?;
-    add_if(&mut tests, shares, Test::J9)?;
+    add_if(&mut tests, own.deleted, Test::J8)?;
+    add_if(&mut tests, clashes, Test::J9)?;
     Ok(tests)
 }
 
@@ -40,26 +42,26 @@ fn is_among(places: &IndexSet<u32>, place: u32) -> bool
     places.contains(&place)
 }
 
-fn is_eligible(own: OwnFaults, shares: bool) -> bool
-    ensures { result ≡ (passes own && not shares) }
+fn is_eligible(own: OwnFaults, clashes: bool) -> bool
+    ensures { result ≡ (passes own && not clashes) }
 {
-    own.passes() && !shares
+    own.passes() && !clashes
 }
 
-/// The tests that each candidate fails, given who shares an element.
+/// The tests that each candidate fails, given who clashes.
 pub(crate) fn all_rows(
     alloc: Heap,
     faults: &[OwnFaults],
-    shared: &IndexSet<u32>,
+    clashing: &IndexSet<u32>,
 ) -> Result<Vec<Vec<Test>>, AllocError>
     requires { length faults.now < 2 ^ 32 }
-    ensures { IfOk result (λ rows. Beside (λ n own row. row.items ≡ row_of shared.now.keys n own) faults.now
+    ensures { IfOk result (λ rows. Beside (λ n own row. row.items ≡ row_of clashing.now.keys n own) faults.now
         rows.items) }
 {
     let mut rows = Vec::new(alloc);
     for i in 0..faults.len() {
         let own = own_at(faults, i);
-        rows.push(row_of(alloc, own, is_among(shared, i as u32))?)?;
+        rows.push(row_of(alloc, own, is_among(clashing, i as u32))?)?;
     }
     Ok(rows)
 }
@@ -68,16 +70,16 @@ pub(crate) fn all_rows(
 pub(crate) fn all_eligible(
     alloc: Heap,
     faults: &[OwnFaults],
-    shared: &IndexSet<u32>,
+    clashing: &IndexSet<u32>,
 ) -> Result<Vec<bool>, AllocError>
     requires { length faults.now < 2 ^ 32 }
-    ensures { IfOk result (λ flags. Beside (λ n own flag. flag ≡ is_eligible_at shared.now.keys n own) faults.now
+    ensures { IfOk result (λ flags. Beside (λ n own flag. flag ≡ is_eligible_at clashing.now.keys n own) faults.now
         flags.items) }
 {
     let mut flags = Vec::new(alloc);
     for i in 0..faults.len() {
         let own = own_at(faults, i);
-        flags.push(is_eligible(own, is_among(shared, i as u32)))?;
+        flags.push(is_eligible(own, is_among(clashing, i as u32)))?;
     }
     Ok(flags)
 }

@@ -2,11 +2,9 @@
 ghost use Rattle.std.specs.Prelude.{◌≡◌, ◌||◌, option_copied};
 ghost use Rattle.terms.specs.Lookups.{IsRising};
 ghost use Rattle.terms.specs.declared.codes.NeedKind.TheVariants.{Pre, Req, Ifreq};
-ghost use Rattle.terms.specs.Needs.{is_bypassed, is_met};
+ghost use Rattle.terms.specs.Needs.{is_bypassed};
 ghost use Rattle.sysmods.specs.Choices.{choice};
 ghost use Rattle.terms.specs.Choice.{by_srel, fmid_of, pre_of, req_of, ifs_of};
-ghost use Rattle.judge.specs.Conditions.{is_there};
-ghost use Rattle.judge.specs.Wanted.{is_open};
 
 use cntl::Bypass;
 use fields::{Id, IdList};
@@ -27,7 +25,8 @@ pub(crate) struct Scope<'a> {
 impl<'a> Scope<'a> {
     /// The `++VER`s that count for the zone.
     pub(crate) fn vers(&self) -> VerChoice<'a>
-        ensures { choice result ≡ by_srel self.now.global.now self.now.zone.now.srel }
+        ensures global { result.global.now ≡ self.now.global.now }
+        ensures srel { result.srel ≡ self.now.zone.now.srel }
     {
         VerChoice::new(self.global, self.zone.srel())
     }
@@ -77,13 +76,6 @@ impl<'a> Scope<'a> {
         }
     }
 
-    /// Whether the function is applied or a candidate.
-    pub(crate) fn has_function(&self, id: Id) -> bool
-        ensures { result ≡ is_there self.now.zone.now self.now.ids.now id }
-    {
-        self.zone.is_applied(id) || self.ids.contains(id)
-    }
-
     /// Whether BYPASS(PRE), BYPASS(REQ) or BYPASS(IFREQ) covers needs of the kind.
     pub(crate) fn is_bypassed(&self, kind: NeedKind) -> bool
         ensures { result ≡ is_bypassed self.now.bypass.now kind }
@@ -105,22 +97,5 @@ impl<'a> Scope<'a> {
         self.is_bypassed(NeedKind::Pre)
             || self.is_bypassed(NeedKind::Req)
             || self.is_bypassed(NeedKind::Ifreq)
-    }
-
-    // Whether the zone meets a need: as an FMID only what is applied does.
-    fn is_met(&self, kind: NeedKind, id: Id) -> bool
-        ensures { result ≡ is_met self.now.zone.now kind id }
-    {
-        match kind {
-            NeedKind::Fmid => self.zone.is_applied(id),
-            _ => self.zone.supplies(id),
-        }
-    }
-
-    /// Whether neither BYPASS nor the zone meets a need.
-    pub(crate) fn is_open(&self, kind: NeedKind, id: Id) -> bool
-        ensures { result ≡ is_open self.now.zone.now self.now.bypass.now kind id }
-    {
-        !self.is_bypassed(kind) && !self.is_met(kind, id)
     }
 }

@@ -1,11 +1,12 @@
 //! What applied SYSMODs state for functions in their `++IF`s.
-ghost use Rattle.std.specs.Prelude.{◌≡◌, ◌++◌, [], filter, is_some, OnOk, IfOk, if◌then◌else◌};
+ghost use Rattle.std.specs.Prelude.{◌≡◌, ◌++◌, [], ◌∷◌, map, filter, is_some, OnOk, IfOk, if◌then◌else◌};
 ghost use Rattle.std.specs.List.{flat_map};
 ghost use Rattle.std.specs.Str.{bytes_eq};
-ghost use Rattle.terms.specs.Candidates.{if_reqs};
-ghost use Rattle.terms.specs.Choice.{by_srel};
-ghost use Rattle.judge.specs.Conditions.{Adds, AreStated, listed};
+ghost use Rattle.terms.specs.Lookups.{is_applied};
+ghost use Rattle.judge.specs.Conditions.{Adds, AreStated, a_requisite, listed, stated_by};
+ghost use Rattle.judge.specs.Left.{choice_of, left_of};
 
+use crate::left::Left;
 use crate::scope::Scope;
 use fields::Id;
 use std::alloc::{AllocError, Global as Heap};
@@ -13,26 +14,49 @@ use std::collections::BTreeMap;
 use sysmods_records::IfReq;
 use zones::Entry;
 
-/// For each function the requisites that are stated for it.
-pub(crate) type Stated = BTreeMap<Id, Vec<Id>>;
+/// A requisite, and the applied SYSMOD that states it.
+#[derive(Clone, Copy)]
+pub(crate) struct Requisite {
+    pub(crate) by: Id,
+    pub(crate) id: Id,
+}
 
-fn add(alloc: Heap, stated: &mut Stated, function: Id, req: &[Id]) -> Result<(), AllocError>
-    ensures { OnOk result (Adds stated.old stated.new (λ f. if bytes_eq f function then req.now else [])) }
+/// For each function the requisites that are stated for it.
+pub(crate) type Stated = BTreeMap<Id, Vec<Requisite>>;
+
+fn requisites(alloc: Heap, by: Id, ids: &[Id]) -> Result<Vec<Requisite>, AllocError>
+    ensures { IfOk result (λ list. list.items ≡ map (a_requisite by) ids.now) }
 {
-    if let Some(ids) = stated.get_mut(&function) {
-        ids.extend_from_slice(req)?;
+    let mut list = Vec::new(alloc);
+    for id in ids {
+        list.push(Requisite { by, id: *id })?;
+    }
+    Ok(list)
+}
+
+fn add(stated: &mut Stated, function: Id, mut more: Vec<Requisite>) -> Result<(), AllocError>
+    ensures { OnOk result (Adds stated.old stated.new (λ f. if bytes_eq f function then more.items else [])) }
+{
+    if let Some(list) = stated.get_mut(&function) {
+        list.append(&mut more)?;
         return Ok(());
     }
-    stated.insert(function, Vec::from_slice(alloc, req)?)?;
+    stated.insert(function, more)?;
     Ok(())
 }
 
-fn add_conditions(alloc: Heap, stated: &mut Stated, conditions: &[IfReq]) -> Result<(), AllocError>
-    ensures { OnOk result (Adds stated.old stated.new (λ f. flat_map (λ i. i.req) (filter (λ i. bytes_eq f i.function)
-        conditions.now))) }
+fn add_conditions(
+    alloc: Heap,
+    stated: &mut Stated,
+    by: Id,
+    conditions: &[IfReq],
+) -> Result<(), AllocError>
+    ensures { OnOk result (Adds stated.old stated.new (λ f. map (a_requisite by) (flat_map (λ i. i.req)
+        (filter (λ i. bytes_eq f i.function) conditions.now)))) }
 {
     for condition in conditions {
-        add(alloc, stated, condition.function, condition.req.as_slice())?;
+        let more = requisites(alloc, by, condition.req.as_slice())?;
+        add(stated, condition.function, more)?;
     }
     Ok(())
 }
@@ -44,17 +68,17 @@ fn add_if_applied(
     stated: &mut Stated,
 ) -> Result<(), AllocError>
     ensures { OnOk result (Adds stated.old stated.new (λ f. if is_some entry.now.applied
-        then if_reqs (by_srel scope.now.global.now scope.now.zone.now.srel) (bytes_eq f) entry.now.id else [])) }
+        then stated_by (choice_of scope.now) f entry.now.id else [])) }
 {
     if entry.applied.is_some() {
-        add_conditions(alloc, stated, scope.ifs(entry.id))?;
+        add_conditions(alloc, stated, entry.id, scope.ifs(entry.id))?;
     }
     Ok(())
 }
 
 /// What all applied SYSMODs state.
 pub(crate) fn all_stated(alloc: Heap, scope: &Scope<'_>) -> Result<Stated, AllocError>
-    ensures { IfOk result (AreStated (by_srel scope.now.global.now scope.now.zone.now.srel) scope.now.zone.now) }
+    ensures { IfOk result (AreStated (choice_of scope.now) scope.now.zone.now) }
 {
     let mut stated = BTreeMap::new(alloc);
     for entry in scope.zone.entries() {
@@ -63,16 +87,42 @@ pub(crate) fn all_stated(alloc: Heap, scope: &Scope<'_>) -> Result<Stated, Alloc
     Ok(stated)
 }
 
-/// Appends what is stated for a function.
+fn append_if_left(
+    left: &Left<'_>,
+    requisite: Requisite,
+    found: &mut Vec<Id>,
+) -> Result<(), AllocError>
+    ensures { OnOk result (found.new.items ≡ found.old.items ++ map (λ r. r.id)
+        (filter (λ r. is_applied (left_of left.now) r.by) (requisite ∷ []))) }
+{
+    if left.has(requisite.by) {
+        found.push(requisite.id)?;
+    }
+    Ok(())
+}
+
+fn append_left(left: &Left<'_>, list: &[Requisite], found: &mut Vec<Id>) -> Result<(), AllocError>
+    ensures { OnOk result (found.new.items ≡ found.old.items ++ map (λ r. r.id)
+        (filter (λ r. is_applied (left_of left.now) r.by) list.now)) }
+{
+    for requisite in list {
+        append_if_left(left, *requisite, found)?;
+    }
+    Ok(())
+}
+
+/// Appends what SYSMODs that are left state for a function.
 pub(crate) fn append_stated(
+    left: &Left<'_>,
     stated: &Stated,
     function: Id,
     found: &mut Vec<Id>,
 ) -> Result<(), AllocError>
-    ensures { OnOk result (found.new.items ≡ found.old.items ++ listed stated.now function) }
+    ensures { OnOk result (found.new.items ≡ found.old.items ++ map (λ r. r.id)
+        (filter (λ r. is_applied (left_of left.now) r.by) (listed stated.now function))) }
 {
     match stated.get(&function) {
-        Some(ids) => found.extend_from_slice(ids.as_slice()),
+        Some(list) => append_left(left, list.as_slice(), found),
         None => Ok(()),
     }
 }

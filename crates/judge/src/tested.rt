@@ -4,9 +4,11 @@ ghost use Rattle.terms.specs.Candidates.{is_installable};
 ghost use Rattle.terms.specs.Judged.{setting};
 ghost use Rattle.judge.specs.Failed.{AreFailedTests, AreEligible};
 
+use crate::deleted::all_with_deleted;
+use crate::forbidding::clashing_places;
 use crate::own::all_faults;
 use crate::rows::{all_eligible, all_rows};
-use crate::sharing::shared_places;
+use crate::scope::Scope;
 use cntl::Bypass;
 use fields::IdList;
 use std::alloc::{AllocError, Global as Heap};
@@ -43,10 +45,17 @@ pub(crate) fn test_all(
     // They are no more than the received SYSMODs.
     prove!(global.len() < 65_536);
     prove!(list.len() < 4_294_967_296);
-    let faults = all_faults(alloc, global, zone, related, ids, bypass)?;
+    let scope = Scope {
+        global,
+        zone,
+        ids,
+        bypass,
+    };
     let vers = VerChoice::new(global, zone.srel());
-    let shared = shared_places(alloc, global, &vers, list, faults.as_slice())?;
-    let tests = all_rows(alloc, faults.as_slice(), &shared)?;
-    let eligible = all_eligible(alloc, faults.as_slice(), &shared)?;
+    let alone = all_faults(alloc, &scope, related)?;
+    let faults = all_with_deleted(alloc, &vers, list, alone.as_slice())?;
+    let clashing = clashing_places(alloc, global, &vers, list, faults.as_slice())?;
+    let tests = all_rows(alloc, faults.as_slice(), &clashing)?;
+    let eligible = all_eligible(alloc, faults.as_slice(), &clashing)?;
     Ok(Tested { tests, eligible })
 }

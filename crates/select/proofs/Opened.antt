@@ -6,7 +6,6 @@ use Rattle.std.proofs.lemmas.Bool.{and_parts}
 use Rattle.terms.specs.Types.{Text, Id, Sysmod, Global, Zone, Selection}
 use Rattle.terms.specs.Lookups.{is_nil, is_in, is_supplied, delby_of, sysmod_of}
 use Rattle.terms.specs.Choice.{vers_of, by_srel}
-use Rattle.terms.specs.Served.{is_served}
 use Rattle.terms.specs.Candidates.{is_installable, is_open}
 use Rattle.terms.proofs.Nil.{is_some-find}
 
@@ -30,10 +29,8 @@ pub open_parts : (g : Global) (zone : Zone) (sel : Selection) (x : Id) → is_op
 open_parts g zone sel x opened =
     let has_ver : Bool = not (is_nil (vers_of g zone.srel x)) in
     let whole = and_parts (is_installable g zone x) (not (is_in sel.exclude x)) opened in
-    let kept = and_parts (has_ver && is_served g zone x && not (is_supplied zone x))
-    (not (is_some (delby_of zone x))) whole.0 in
-    let unsupplied = and_parts (has_ver && is_served g zone x) (not (is_supplied zone x)) kept.0 in
+    let kept = and_parts (has_ver && not (is_supplied zone x)) (not (is_some (delby_of zone x))) whole.0 in
     record {
-      ver = ver_there g zone.srel x ∙ (and_parts has_ver (is_served g zone x) unsupplied.0).0;
+      ver = ver_there g zone.srel x ∙ (and_parts has_ver (not (is_supplied zone x)) kept.0).0;
       installable = whole.0;
     }

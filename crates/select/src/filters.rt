@@ -6,13 +6,18 @@ ghost use Rattle.terms.specs.Lookups.{at_most_one, is_function, is_in, is_nil, m
 ghost use Rattle.terms.specs.Choice.{vers_of};
 ghost use Rattle.terms.specs.Candidates.{takes_kind, forfmid_ids, passes_filters, has_mass_choice};
 
-use crate::served::is_nil;
 use cntl::Selection;
 use fields::{Id, IdList, SourceList, Srel};
 use sysmods::Global;
 use sysmods_records::{Sysmod, Ver};
 use terms::Kind;
 use zones::Zone;
+
+fn is_nil<T>(items: &[T]) -> bool
+    ensures { result ≡ is_nil items.now }
+{
+    items.is_empty()
+}
 
 fn takes_kind(selection: &Selection, kind: Kind) -> bool
     ensures { result ≡ takes_kind selection.now kind }

@@ -12,7 +12,6 @@ mod filters;
 mod growing;
 mod left_out;
 mod scope;
-mod served;
 mod start;
 
 pub use chosen::candidates;

@@ -2,24 +2,20 @@
 ghost use Rattle.std.specs.Prelude.{◌≡◌, not, is_some, option_copied};
 ghost use Rattle.terms.specs.Lookups.{is_in, is_nil, delby_of};
 ghost use Rattle.terms.specs.Choice.{by_srel, fmid_of, sup_of, vers_of};
-ghost use Rattle.terms.specs.Served.{is_served, is_served_zone};
 ghost use Rattle.terms.specs.Candidates.{is_installable, is_open};
 
-use crate::served::{has_plain_ver, is_served_zone};
 use cntl::Selection;
 use fields::Id;
 use sysmods::{Global, VerChoice};
 use sysmods_records::Ver;
 use zones::Zone;
 
-/// What an APPLY chooses from and by, and whether the zone is served.
+/// What an APPLY chooses from and by.
 #[derive(Clone, Copy)]
 pub(crate) struct Scope<'a> {
     pub(crate) global: &'a Global,
     pub(crate) zone: &'a Zone,
     pub(crate) selection: &'a Selection,
-    serves_zone: bool,
-    ghost served: { serves_zone ≡ is_served_zone global.now zone.now },
 }
 
 impl<'a> Scope<'a> {
@@ -32,7 +28,6 @@ impl<'a> Scope<'a> {
             global,
             zone,
             selection,
-            serves_zone: is_served_zone(global, zone),
         }
     }
 
@@ -69,12 +64,6 @@ impl<'a> Scope<'a> {
         }
     }
 
-    fn is_served(&self, id: Id) -> bool
-        ensures { result ≡ is_served self.now.global.now self.now.zone.now id }
-    {
-        has_plain_ver(self.global, self.zone, id) && self.serves_zone
-    }
-
     pub(crate) fn is_deleted(&self, id: Id) -> bool
         ensures { result ≡ is_some (delby_of self.now.zone.now id) }
     {
@@ -84,11 +73,11 @@ impl<'a> Scope<'a> {
         }
     }
 
-    /// Whether it has a `++VER` for the zone's SREL, is served, and is neither supplied nor deleted.
+    /// Whether it has a `++VER` for the zone's SREL, and is neither supplied nor deleted.
     fn is_installable(&self, id: Id) -> bool
         ensures { result ≡ is_installable self.now.global.now self.now.zone.now id }
     {
-        self.has_ver(id) && self.is_served(id) && !self.zone.supplies(id) && !self.is_deleted(id)
+        self.has_ver(id) && !self.zone.supplies(id) && !self.is_deleted(id)
     }
 
     /// Whether it may be installed and is not excluded.

@@ -7,6 +7,8 @@ mod cards;
 #[cfg(test)]
 mod elements;
 #[cfg(test)]
+mod functions;
+#[cfg(test)]
 mod messages;
 #[cfg(test)]
 mod play;

@@ -6,6 +6,7 @@ ghost use Rattle.sqlite_disk.specs.Memory.{memory_is_usable};
 
 use crate::cards::{AGAIN, BAD_PTFIN, CLASH, FIX_ALONE, FUNCTION_WITH_FIX, NO_COMMAND, REFUSALS};
 use crate::elements::{CHAIN, EMPTYING_UPDATE, NO_BASE, UNORDERED, UPDATE_IN_A_DELETED_RANGE};
+use crate::functions::{DELETED, DELETED_OWNER, ORPHANED};
 use crate::play::{Step, play_all, play_each};
 use crate::receives::{BAD_HOLDS, HOLDS, INTERNAL_HOLD, LOOP, SOURCE, SOURCES_AND_REJECTS};
 use crate::requisites::{
@@ -64,6 +65,8 @@ const ELEMENTS: &[&[Step]] = &[
     NO_BASE,
 ];
 
+const FUNCTIONS: &[&[Step]] = &[DELETED_OWNER, ORPHANED, DELETED];
+
 fn play_in_memory(alloc: Global, lists: &[&[Step]]) -> Result<(), Fail> {
     for steps in lists {
         let _conn = play_all(alloc, Connection::open_in_memory(alloc)?, steps)?;
@@ -121,4 +124,9 @@ fn selections(rt: HostRuntime) -> Result<(), Fail> {
 #[test]
 fn elements(rt: HostRuntime) -> Result<(), Fail> {
     play_both(rt.alloc(), ELEMENTS)
+}
+
+#[test]
+fn functions(rt: HostRuntime) -> Result<(), Fail> {
+    play_both(rt.alloc(), FUNCTIONS)
 }

@@ -37,7 +37,7 @@ installable_form : (g : Global) → All HasSysmodForms g.sysmods → (zone : Zon
 installable_form g sysmods zone x ok = by (sysmod_of g x) refl
   where
     has_ver : not (is_nil (vers_of g zone.srel x)) ≡ true
-    has_ver = (and_parts _ _ (and_parts _ _ (and_parts _ _ ok).0).0).0
+    has_ver = (and_parts _ _ (and_parts _ _ ok).0).0
 
     by : (s : Option Sysmod) → sysmod_of g x ≡ s → IsId x
     by None at = absurd (true≢false (sym has_ver ∙ ap (λ s.

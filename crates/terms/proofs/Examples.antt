@@ -145,8 +145,8 @@ delby_after-deletion = refl
 abbrev base : Zone
 base = record full { entries = applied haa ∷ []; elements = [] }
 
--- what is applied is not open, nor what has DELETE
-is_start-select : map (is_start deleting base (select (hcc ∷ haa ∷ hdd ∷ []))) (haa ∷ hcc ∷ hdd ∷ []) ≡ false ∷ false ∷
+-- what is applied is not open
+is_start-select : map (is_start deleting base (select (hcc ∷ haa ∷ hdd ∷ []))) (haa ∷ hcc ∷ hdd ∷ []) ≡ false ∷ true ∷
     true ∷ []
 is_start-select = refl
 
@@ -155,13 +155,9 @@ is_start-mass : map (is_start deleting base (select [])) (haa ∷ hdd ∷ ua21 �
     []
 is_start-mass = refl
 
--- where something is applied that has DELETE, nothing is open
-is_start-unserved : is_start deleting (record full { entries = applied hcc ∷ [] }) (select (hdd ∷ [])) hdd ≡ false
-is_start-unserved = refl
-
 not_chosen-select : map (not_chosen deleting full (select (hcc ∷ haa ∷ (99 ∷ []) ∷ [])))
     (haa ∷ hcc ∷ hdd ∷ (99 ∷ []) ∷ [])
-    ≡ Some Already ∷ Some NoVer ∷ None ∷ Some Missing ∷ []
+    ≡ Some Already ∷ None ∷ None ∷ Some Missing ∷ []
 unfolding not_chosen
 not_chosen-select = refl
 

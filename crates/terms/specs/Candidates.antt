@@ -16,13 +16,11 @@ use Rattle.terms.specs.Lookups.{IsRising, is_nil, at_most_one, is_in, meets, sys
 use Rattle.terms.specs.Lookups.{holds_of, applied_ids, is_applied, is_supplied, delby_of}
 use Rattle.terms.specs.Choice.{Choice, vers_of, fmid_of, pre_of, req_of, ifs_of}
 use Rattle.terms.specs.Over.{Supersedes}
-use Rattle.terms.specs.Served.{is_served}
 
--- It may be installed: it has a ++VER for the zone's SREL, is served, and is neither supplied nor deleted.
+-- It may be installed: it has a ++VER for the zone's SREL, and is neither supplied nor deleted.
 abbrev pub is_installable : Global → Zone → Id → Bool
 is_installable g zone x =
-    not (is_nil (vers_of g zone.srel x)) && is_served g zone x && not (is_supplied zone x) && not
-    (is_some (delby_of zone x))
+    not (is_nil (vers_of g zone.srel x)) && not (is_supplied zone x) && not (is_some (delby_of zone x))
 
 -- It may be, and stands not in EXCLUDE.
 abbrev pub is_open : Global → Zone → Selection → Id → Bool

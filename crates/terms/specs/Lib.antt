@@ -1,6 +1,5 @@
 pub mod Types
 pub mod Rising
-pub mod Served
 pub mod Spelling
 pub mod Lookups
 pub mod Delta

@@ -1,18 +1,14 @@
 use Rattle.std.proofs.lemmas.Result.{IfOk-weaker}
 use Rattle.std.proofs.Common.{sym}
-use Rattle.change.proofs.Made.{after-superseded, held-superseded, waives-superseded}
+use Rattle.change.proofs.Made.{after-applied, after-other}
 use Rattle.change.proofs.entries.entry_after.Goals as goal
 
-pub returns-clause-after : goal.returns-clause-after
-returns-clause-after c = IfOk-weaker c.superseded_entry.result _ _
-    (λ e. after-superseded c.args.zone.now c.args.plan.now c.args.id e (sym c.if-contains.ensures))
-    c.superseded_entry.ensures
+pub returns-then-contains : goal.returns-then-contains
+returns-then-contains c = IfOk-weaker c.applied_entry.result _ _
+    (λ e. after-applied c.args.deleting.now c.args.plan.now c.args.id e (sym c.if-contains.ensures))
+    c.applied_entry.ensures
 
-pub returns-clause-held : goal.returns-clause-held
-returns-clause-held c = IfOk-weaker c.superseded_entry.result _ _
-    (λ e. held-superseded c.args.zone.now c.args.plan.now c.args.id e (sym c.if-contains.ensures) c.requires)
-    c.superseded_entry.ensures
-
-pub returns-clause-waived : goal.returns-clause-waived
-returns-clause-waived c = IfOk-weaker c.superseded_entry.result _ _
-    (λ e. waives-superseded c.args.zone.now c.args.plan.now c.args.id e c.known.ensures) c.superseded_entry.ensures
+pub returns : goal.returns
+returns c = IfOk-weaker c.other_entry.result _ _
+    (λ e. after-other c.args.deleting.now c.args.plan.now c.args.id e c.known.ensures (sym c.if-contains.ensures))
+    c.other_entry.ensures

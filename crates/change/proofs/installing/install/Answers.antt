@@ -1,54 +1,98 @@
-use Rattle.std.proofs.Common.{◌⊎◌, Any, IsTrue, IsSome, refl, ap, sym, subst, All, ◌∙◌}
+use Rattle.std.proofs.Common.{◌≡◌, ◌⊎◌, ◌∙◌, Any, IsTrue, IsSome, List, refl, ap, sym, subst, All}
+use Rattle.terms.specs.Types.{Id, Zone}
 use Rattle.terms.specs.Changes.{has_replacement}
 use Rattle.terms.specs.Lookups.{element_of}
+use Rattle.terms.specs.Choice.{by_srel}
+use Rattle.terms.specs.Deleted.{deletions, zone_less}
+use Rattle.terms.specs.Delta.{IsChanged}
+use Rattle.terms.specs.Install.{Installation, HasInstalled}
+use Rattle.change.specs.declared.deleting.Deleting.{Deleting}
 use Rattle.change.specs.Entries.{Differs}
-use Rattle.change.specs.Plans.{installation}
+use Rattle.change.specs.Plans.{installation, IsFresh, IsPlan}
 use Rattle.change.proofs.AfterElements.{put_entries_stay}
-use Rattle.change.proofs.AfterInstall.{installs}
+use Rattle.change.proofs.AfterInstall.{deletions_are, installs}
 use Rattle.change.proofs.EffectiveIds.{members_are, effective_ordered, effective_base}
-use Rattle.change.proofs.Uncleared.{none_deleted}
+use Rattle.change.proofs.Removed.{removed_stay}
 use Rattle.change.proofs.installing.install.Goals as goal
 
-pub put_entries-requires-clause-touched : goal.put_entries-requires-clause-touched
-put_entries-requires-clause-touched c = λ x. (c.in_ok-plan.ensures.touched x).0
+pub put_entries-requires-clause-dels : goal.put_entries-requires-clause-dels
+put_entries-requires-clause-dels c =
+    let choice = by_srel c.args.global.now c.args.zone.now.srel in
+    c.as_slice-4.ensures.value
+    ∙ deletions_are c.args.global.now c.args.zone.now.srel _ _ _ c.as_slice-3.result.now _ c.new.ensures.global
+    (c.new.ensures.srel ∙ c.srel.ensures) (c.as_slice.ensures.items ∙ sym c.as_slice-3.ensures.items)
+    c.in_ok-dels.ensures
 
 pub elements_after-requires-clause-order : goal.elements_after-requires-clause-order
 elements_after-requires-clause-order c =
     let i = installation c.args.global.now c.args.zone.now c.args.kept.now c.args.bypassed.now c.args.date in
-    effective_ordered i c.as_slice.result.now
-    (members_are i c.in_ok-plan.plan c.as_slice.result.now c.in_ok-plan.ensures c.as_slice.ensures.items)
-    c.as_slice.ensures.rising c.requires.order
+    effective_ordered i c.as_slice-6.result.now
+    (members_are i c.as_slice-2.result.now c.in_ok-plan.plan c.as_slice-6.result.now c.in_ok-plan.ensures
+    c.as_slice-6.ensures.items)
+    c.as_slice-6.ensures.rising c.requires.order
 
 pub elements_after-requires-clause-some : goal.elements_after-requires-clause-some
 elements_after-requires-clause-some c = λ type name changed.
-    let i = installation c.args.global.now c.args.zone.now c.args.kept.now c.args.bypassed.now c.args.date in
-    let ids = c.as_slice.result.now in
-    subst (λ z. IsSome (element_of z type name)
-    ⊎ Any (λ x. IsTrue (has_replacement c.args.global.now x type name)) ids)
-    (none_deleted c.args.global.now c.args.zone.now c.args.kept.now c.args.bypassed.now c.args.date c.known.ensures
-    c.requires.installable)
-    (effective_base i ids (members_are i c.in_ok-plan.plan ids c.in_ok-plan.ensures c.as_slice.ensures.items)
+    let g = c.args.global.now in
+    let zone = c.args.zone.now in
+    let i = installation g zone c.args.kept.now c.args.bypassed.now c.args.date in
+    let ids = c.as_slice-6.result.now in
+    let dels : c.as_slice-5.result.now ≡ deletions (by_srel g zone.srel) c.args.kept.now =
+    c.as_slice-5.ensures.value
+    ∙ deletions_are g zone.srel _ _ _ c.args.kept.now _ c.new.ensures.global
+    (c.new.ensures.srel ∙ c.srel.ensures) c.as_slice.ensures.items c.in_ok-dels.ensures in
+    subst (λ z. IsSome (element_of z type name) ⊎ Any (λ x. IsTrue (has_replacement g x type name)) ids)
+    (ap (λ ds. zone_less g (by_srel g zone.srel) ds zone) (sym dels))
+    (effective_base i ids (members_are i c.as_slice-2.result.now c.in_ok-plan.plan ids c.in_ok-plan.ensures
+    c.as_slice-6.ensures.items)
     c.requires.base type name changed)
 
 pub returns-clause-installs : goal.returns-clause-installs
 returns-clause-installs c =
-    let i = installation c.args.global.now c.args.zone.now c.args.kept.now c.args.bypassed.now c.args.date in
-    installs c.args.global.now c.args.zone.now c.args.kept.now c.args.bypassed.now c.args.date c.len.ensures.form
-    c.known.ensures c.known_lists.ensures c.requires.installable c.in_ok-plan.plan c.new-delta.result
-    c.put_entries.new.delta c.put_elements.new.delta c.in_ok-elements.elements.items c.in_ok-plan.ensures
-    c.new-delta.ensures.elements c.in_ok-put_entries.ensures
-    (c.in_ok-elements.ensures i (record {
+    let g = c.args.global.now in
+    let zone = c.args.zone.now in
+    let plan = c.in_ok-plan.plan in
+    let d : Deleting = record {
+      global = c.args.global;
+      zone = c.args.zone;
+      kept = c.as_slice-3.result;
+      dels = c.as_slice-4.result;
+    } in
+    let i : List Id → Installation = λ ids. installation g zone ids c.args.bypassed.now c.args.date in
+    let dels : c.in_ok-dels.dels.items ≡ deletions (by_srel g zone.srel) d.kept.now =
+    deletions_are g zone.srel _ _ _ d.kept.now _ c.new.ensures.global (c.new.ensures.srel ∙ c.srel.ensures)
+    (c.as_slice.ensures.items ∙ sym c.as_slice-3.ensures.items) c.in_ok-dels.ensures in
+    let planned : IsPlan (i d.kept.now) d.dels.now plan =
+    subst (λ ids. IsPlan (i ids) d.dels.now plan) (sym c.as_slice-3.ensures.items)
+    (subst (λ ds. IsPlan (i c.args.kept.now) ds plan) (c.as_slice-2.ensures.value ∙ sym c.as_slice-4.ensures.value)
+    c.in_ok-plan.ensures) in
+    subst (λ ids. (new : Zone) → IsChanged c.put_elements.new.delta zone new → HasInstalled (i ids) new)
+    c.as_slice-3.ensures.items
+    (installs d c.args.bypassed.now c.args.date c.len.ensures.form c.known.ensures c.known_lists.ensures
+    (c.as_slice-4.ensures.value ∙ dels)
+    (subst (All (IsFresh zone)) (sym c.as_slice-3.ensures.items) c.requires.fresh)
+    plan c.new-delta.result c.put_entries.new.delta c.remove_elements.new.delta c.put_elements.new.delta
+    c.in_ok-elements.elements.items planned c.new-delta.ensures.elements c.in_ok-put_entries.ensures
+    c.in_ok-remove_elements.ensures
+    (c.in_ok-elements.ensures (i d.kept.now) (record {
       global = refl;
       choice = refl;
-      cleared_is = none_deleted c.args.global.now c.args.zone.now c.args.kept.now c.args.bypassed.now c.args.date
-          c.known.ensures c.requires.installable;
-      members = members_are i c.in_ok-plan.plan c.as_slice.result.now c.in_ok-plan.ensures c.as_slice.ensures.items;
+      cleared_is = ap (λ ds. zone_less g (by_srel g zone.srel) ds zone) (sym (c.as_slice-5.ensures.value ∙ dels));
+      members = members_are (i d.kept.now) d.dels.now plan c.as_slice-6.result.now planned c.as_slice-6.ensures.items;
     }))
-    c.in_ok-put_elements.ensures
+    c.in_ok-put_elements.ensures)
 
 pub returns-clause-differs : goal.returns-clause-differs
 returns-clause-differs c =
+    let d : Deleting = record {
+      global = c.args.global;
+      zone = c.args.zone;
+      kept = c.as_slice-3.result;
+      dels = c.as_slice-4.result;
+    } in
     subst (All (Differs c.args.zone.now))
     (sym (ap (λ d. d.entries) c.in_ok-put_elements.ensures
-    ∙ put_entries_stay c.put_entries.new.delta c.in_ok-elements.elements.items))
+    ∙ put_entries_stay c.remove_elements.new.delta c.in_ok-elements.elements.items
+    ∙ ap (λ d. d.entries) c.in_ok-remove_elements.ensures
+    ∙ removed_stay d c.put_entries.new.delta c.args.zone.now.elements))
     c.in_ok-put_entries.ensures.differ

@@ -25,17 +25,20 @@ returns c =
     c.sorted-pairs.ensures
     (rw (← c.srel.ensures, ← c.new-vers.ensures.global, ← c.new-vers.ensures.srel, ← c.as_slice.ensures.items)
     c.in_ok-superseded_pairs.ensures) in
-    subst (λ xs. IsPlan (installation g zone kept c.args.bypassed.now c.args.date) (record {
+    let dels = c.args.dels.now in
+    subst (λ xs. IsPlan (installation g zone kept c.args.bypassed.now c.args.date) dels (record {
       effective = xs;
       superseders = c.in_ok-grouped.field-0;
       bypassed = c.in_ok-grouped-2.field-0;
       touched = c.in_ok-touched.touched;
       date = c.args.date;
     })) (sym c.effective.view_is)
-    (is-plan g zone kept c.args.bypassed.now c.args.date effective c.in_ok-touched.touched pairs
+    (is-plan g zone kept c.args.bypassed.now c.args.date dels effective c.in_ok-touched.touched pairs
     c.in_ok-grouped.field-0 c.in_ok-grouped-2.field-0 takes are
     (subst (λ ids. (x : Id) → Contains c.in_ok-touched.touched x ↔ Contains ids x)
+    (ap₂ (λ xs ys. xs ++ ys)
     (ap₂ (λ xs ys. map (λ p. p.0) xs ++ ys) c.as_slice-3.ensures.value c.as_slice-2.ensures.items)
+    (c.deref.ensures.value ∙ c.in_ok-at_stake.ensures))
     c.in_ok-touched.ensures)
     (subst (λ ps. AreGrouped ps c.in_ok-grouped.field-0) c.as_slice-4.ensures.value c.in_ok-grouped.ensures)
     c.in_ok-grouped-2.ensures)

@@ -1,8 +1,8 @@
 use Rattle.std.proofs.Common.{◌≡◌, ◌∙◌, true, [], subst, sym, cond}
-use Rattle.terms.specs.Lookups.{is_in}
-use Rattle.terms.specs.Choice.{by_srel}
-use Rattle.terms.specs.Candidates.{if_needed}
+use Rattle.terms.specs.declared.codes.NeedKind.TheVariants.{Ifreq}
+use Rattle.terms.specs.Needs.{asked}
 use Rattle.judge.specs.Bypassed.{AddsPairs}
+use Rattle.judge.specs.Left.{setting_of}
 use Rattle.judge.proofs.Paired.{pairs-map, pairs-alike}
 use Rattle.judge.proofs.bypassed.add_ifreq.Goals as goal
 
@@ -12,7 +12,7 @@ returns-in_ok-add_pairs c =
     let x = c.args.id in
     let old = c.args.pairs.now.items in
     let new = c.add_pairs.new.pairs.items in
-    let needed = if_needed s.global.now (by_srel s.global.now s.zone.now.srel) s.zone.now (is_in s.ids.now) x in
+    let needed = asked (setting_of s) [] x Ifreq in
     let bypassed : s.bypass.now.ifreq ≡ true = sym c.is_bypassed.ensures ∙ c.if-is_bypassed.true in
     subst (λ b. AddsPairs x (cond b needed []) old new) (sym bypassed)
     (pairs-alike x _ needed old new (rw c.as_slice.ensures.items c.in_ok-requisites.ensures)

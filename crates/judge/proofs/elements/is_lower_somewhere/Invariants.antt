@@ -2,10 +2,11 @@ use Rattle.std.proofs.Common.{All, take}
 use Rattle.sysmods.specs.Choices.{choice}
 use Rattle.judge.specs.Own.{IsLowerAt}
 use Rattle.judge.specs.Overs.{AreOver}
+use Rattle.judge.specs.Views.{seen}
 use Rattle.judge.proofs.elements.is_lower_somewhere.Given as goal
 
 abbrev pub invariant-loop-change : goal.invariant-loop-change
 invariant-loop-change l = record {
-  known : AreOver (choice l.vers) l.known.keys;
-  not_lower : All (λ h. ¬ IsLowerAt (choice l.vers) l.zone l.id h) (take l.change-index l.changes);
+  known : AreOver (choice l.view.vers.now) l.known.keys;
+  not_lower : All (λ h. ¬ IsLowerAt (choice l.view.vers.now) (seen l.view) l.id h) (take l.change-index l.changes);
 }

@@ -4,4 +4,4 @@ use Rattle.judge.specs.Rows.{row_of}
 use Rattle.judge.proofs.rows.all_rows.Given as goal
 
 abbrev pub invariant-loop-i : goal.invariant-loop-i
-invariant-loop-i l = Beside (λ n own row. row.items ≡ row_of l.shared.keys n own) (take l.i l.faults) l.rows.items
+invariant-loop-i l = Beside (λ n own row. row.items ≡ row_of l.clashing.keys n own) (take l.i l.faults) l.rows.items

@@ -1,12 +1,12 @@
 use Rattle.std.proofs.Common.{◌≡◌, filter, map, take}
 use Rattle.std.specs.Prelude.{is_some}
+use Rattle.std.specs.List.{flat_map}
 use Rattle.terms.specs.Types.{Id}
-use Rattle.terms.specs.Choice.{by_srel}
-use Rattle.terms.specs.Candidates.{stated_for}
-use Rattle.judge.specs.Conditions.{listed}
+use Rattle.judge.specs.Conditions.{listed, stated_by}
+use Rattle.judge.specs.Left.{choice_of}
 use Rattle.judge.proofs.stated.all_stated.Given as goal
 
 abbrev pub invariant-loop-entry : goal.invariant-loop-entry
 invariant-loop-entry l =
-    (f : Id) → listed l.stated f ≡ stated_for (by_srel l.scope.global.now l.scope.zone.now.srel)
-    (map (λ e. e.id) (filter (λ e. is_some e.applied) (take l.entry-index l.entry-items))) f
+    (f : Id) → listed l.stated f ≡ flat_map (stated_by (choice_of l.scope) f)
+    (map (λ e. e.id) (filter (λ e. is_some e.applied) (take l.entry-index l.entry-items)))

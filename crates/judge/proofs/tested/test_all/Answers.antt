@@ -1,9 +1,9 @@
 use Rattle.std.proofs.Common.{All, arith, subst, sym}
-use Rattle.std.proofs.lemmas.List.Elements.{All-contains}
 use Rattle.terms.specs.Candidates.{is_installable}
 use Rattle.std.specs.Prelude.{IsTrue, option_copied}
+use Rattle.terms.specs.Judged.{setting}
 use Rattle.judge.proofs.Few.{few}
-use Rattle.judge.proofs.Plain.{plain-from}
+use Rattle.judge.proofs.Deleting.{own-still, eight}
 use Rattle.judge.proofs.Places.{are-failed, are-eligible}
 use Rattle.judge.proofs.tested.test_all.Goals as goal
 
@@ -20,38 +20,54 @@ prove-unreachable-requires-2 c =
 
 pub returns-clause-tests : goal.returns-clause-tests
 returns-clause-tests c =
-    let g = c.args.global.now in
-    let zone = c.args.zone.now in
-    let ids = c.args.ids.now in
+    let s = setting c.args.global.now c.args.zone.now (option_copied c.args.related) c.args.ids.now
+    c.args.bypass.now in
     let rising = rw c.as_slice-list.ensures.items at c.as_slice-list.ensures.rising in
-    let shares = rw (
+    let alone = c.in_ok-alone.alone.items in
+    let faults = c.in_ok-faults.faults.items in
+    let told = rw (
       c.as_slice-list.ensures.items,
       c.as_slice.ensures.value,
       c.new-vers.ensures.global,
       c.new-vers.ensures.srel,
       c.srel.ensures,
-    ) at c.in_ok-shared.ensures in
-    let rows = rw c.as_slice-2.ensures.value at c.in_ok-tests.ensures in
-    are-failed g zone (option_copied c.args.related) ids c.args.bypass.now c.len.ensures.form c.known.ensures.held
-    rising (λ x h. plain-from g zone x (All-contains (λ x. IsTrue (is_installable g zone x)) ids x c.requires h))
-    c.in_ok-faults.faults.items c.in_ok-faults.ensures c.in_ok-shared.shared.keys shares (λ row. row.items)
-    c.in_ok-tests.tests.items rows
+    ) at c.in_ok-faults.ensures in
+    let clashing = rw (
+      c.as_slice-list.ensures.items,
+      c.as_slice-2.ensures.value,
+      c.new-vers.ensures.global,
+      c.new-vers.ensures.srel,
+      c.srel.ensures,
+    ) at c.in_ok-clashing.ensures in
+    are-failed s c.len.ensures.form rising faults
+    (own-still s c.len.ensures.form alone faults c.in_ok-alone.ensures told.0 told.1 told.2)
+    (eight s c.len.ensures.form alone faults c.in_ok-alone.ensures told.0 told.1 told.2)
+    c.in_ok-clashing.clashing.keys clashing (λ row. row.items) c.in_ok-tests.tests.items
+    (rw c.as_slice-3.ensures.value at c.in_ok-tests.ensures)
 
 pub returns-clause-eligible : goal.returns-clause-eligible
 returns-clause-eligible c =
-    let g = c.args.global.now in
-    let zone = c.args.zone.now in
-    let ids = c.args.ids.now in
+    let s = setting c.args.global.now c.args.zone.now (option_copied c.args.related) c.args.ids.now
+    c.args.bypass.now in
     let rising = rw c.as_slice-list.ensures.items at c.as_slice-list.ensures.rising in
-    let shares = rw (
+    let alone = c.in_ok-alone.alone.items in
+    let faults = c.in_ok-faults.faults.items in
+    let told = rw (
       c.as_slice-list.ensures.items,
       c.as_slice.ensures.value,
       c.new-vers.ensures.global,
       c.new-vers.ensures.srel,
       c.srel.ensures,
-    ) at c.in_ok-shared.ensures in
-    let flags = rw c.as_slice-3.ensures.value at c.in_ok-eligible.ensures in
-    are-eligible g zone (option_copied c.args.related) ids c.args.bypass.now c.len.ensures.form c.known.ensures.held
-    rising (λ x h. plain-from g zone x (All-contains (λ x. IsTrue (is_installable g zone x)) ids x c.requires h))
-    c.in_ok-faults.faults.items c.in_ok-faults.ensures c.in_ok-shared.shared.keys shares
-    c.in_ok-eligible.eligible.items flags
+    ) at c.in_ok-faults.ensures in
+    let clashing = rw (
+      c.as_slice-list.ensures.items,
+      c.as_slice-2.ensures.value,
+      c.new-vers.ensures.global,
+      c.new-vers.ensures.srel,
+      c.srel.ensures,
+    ) at c.in_ok-clashing.ensures in
+    are-eligible s c.len.ensures.form rising faults
+    (own-still s c.len.ensures.form alone faults c.in_ok-alone.ensures told.0 told.1 told.2)
+    (eight s c.len.ensures.form alone faults c.in_ok-alone.ensures told.0 told.1 told.2)
+    c.in_ok-clashing.clashing.keys clashing c.in_ok-eligible.eligible.items
+    (rw c.as_slice-4.ensures.value at c.in_ok-eligible.ensures)

@@ -1,21 +1,23 @@
 use Rattle.std.proofs.Common.{◌≡◌, length, refl, arith, subst}
 use Rattle.std.proofs.lemmas.Option.{slice_get_read}
+use Rattle.judge.specs.Left.{setting_of, left_of}
 use Rattle.judge.specs.Wanted.{AreWants, IsOpenAt}
 use Rattle.judge.proofs.Wants.{wants-next}
 use Rattle.judge.proofs.wanted.all_wants.Goals as goal
 
 pub loop-i-preserved : goal.loop-i-preserved
 loop-i-preserved c =
-    let s = c.args.scope.now in
-    wants-next s.global.now s.zone.now s.ids.now s.bypass.now c.loop-i.i c.index-as_slice-i.result
+    let left = c.args.left.now in
+    let ids = left.scope.ids.now in
+    wants-next (setting_of left.scope) c.args.survivors.now (left_of left) c.loop-i.i c.index-as_slice-i.result
     c.loop-i.wants.items c.add_open.new.wants.items
-    (slice_get_read s.ids.now (length s.ids.now) c.loop-i.i c.index-as_slice-i.result refl (omega arith)
+    (slice_get_read ids (length ids) c.loop-i.i c.index-as_slice-i.result refl (omega arith)
     (rw c.as_slice.ensures.items at c.index-as_slice-i.is))
     c.in_ok-add_open.ensures c.loop-i.invariant
 
 pub returns : goal.returns
 returns c =
-    let s = c.args.scope.now in
-    let done : c.loop-i.i ≡ length s.ids.now = omega arith in
-    subst (λ n. AreWants (IsOpenAt s.global.now s.zone.now s.ids.now s.bypass.now n) c.loop-i.wants.items) done
-    c.loop-i.invariant
+    let left = c.args.left.now in
+    let done : c.loop-i.i ≡ length left.scope.ids.now = omega arith in
+    subst (λ n. AreWants (IsOpenAt (setting_of left.scope) c.args.survivors.now (left_of left) n) c.loop-i.wants.items)
+    done c.loop-i.invariant

@@ -6,12 +6,12 @@ use Rattle.report.specs.Views.{line_view}
 use Rattle.change.specs.Elements.{HasBases}
 use Rattle.change.specs.Plans.{installation}
 use Rattle.smpe_apply.specs.Statuses.{said, why_failed, all_statuses, AreById}
-use Rattle.smpe_apply.proofs.Decisions.{kept_installable, kept_order, kept_bases, decision, decides, install_lines}
+use Rattle.smpe_apply.proofs.Decisions.{kept_fresh, kept_order, kept_bases, decision, decides, install_lines}
 use Rattle.smpe_apply.proofs.applied.apply.Goals as goal
 
-pub install-requires-clause-installable : goal.install-requires-clause-installable
-install-requires-clause-installable c =
-    kept_installable c.args.global.now c.args.zone.now c.args.selection.now c.args.bypass.now c.args.date
+pub install-requires-clause-fresh : goal.install-requires-clause-fresh
+install-requires-clause-fresh c =
+    kept_fresh c.args.global.now c.args.zone.now c.args.selection.now c.args.bypass.now c.args.date
     c.in_ok-ids.ids c.in_ok-kept.field-0.kept (map why_failed c.in_ok-kept.field-0.failed.items)
     c.in_ok-ids.ensures.members c.in_ok-ids.ensures.installable c.in_ok-kept.ensures.decided
 

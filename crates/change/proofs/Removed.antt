@@ -1,0 +1,183 @@
+-- The elements that deletions take out of a zone are removed.
+use Rattle.std.proofs.Common.{◌≡◌, Bool, true, false, List, [], ◌∷◌, Option, Some, None, refl, sym, ap, ◌∙◌, true≢false}
+use Rattle.std.proofs.Common.{inr, not, map, filter, ℕ, ◌<◌, ◌+◌, ◌++◌, length, take, get_or}
+use Rattle.std.specs.Prelude.{find, Contains, fold, if◌then◌else◌}
+use Rattle.std.specs.Option.{option_map_or}
+use Rattle.std.proofs.lemmas.List.{take_more}
+use Rattle.std.proofs.lemmas.List.Sums.{fold-append}
+use Rattle.terms.specs.declared.kinds.ElemType.{ElemType}
+use Rattle.terms.specs.declared.kinds.Edit.{Edit}
+use Rattle.terms.specs.declared.kinds.Edit.TheVariants.{Remove}
+use Rattle.terms.specs.Types.{Text, Element}
+use Rattle.terms.specs.Lookups.{IsZone, element_cmp, element_key, element_of}
+use Rattle.terms.specs.Rising.{with_item}
+use Rattle.terms.specs.Deleted.{is_deleted}
+use Rattle.terms.proofs.NothingDeleted.{is_deleted-none}
+use Rattle.terms.specs.Delta.{ZoneDelta, edit_key, edit_put, element_eq, after_edits}
+use Rattle.terms.proofs.ElementOrder.{element_cmp_total, element_ties}
+use Rattle.lemmas.proofs.Members.{in_map, map_in, in_filter, filter_in}
+use Rattle.lemmas.proofs.Searches.{find-gives}
+use Rattle.zones_less.proofs.Filtered.{passing}
+use Rattle.zones_less.proofs.Lookups.{element_of-less}
+use Rattle.change.specs.declared.deleting.Deleting.{Deleting}
+use Rattle.change.specs.Deleting.{choice_of, is_cut, left}
+use Rattle.change.specs.Puts.{less_element, less_elements}
+use Rattle.change.proofs.Grouped.{Key}
+use Rattle.change.proofs.InTurn.{find-member, in_turn-none, in_turn-some}
+
+abbrev ElementEdit : Type 0
+ElementEdit = Edit Element Key
+
+removal : Element → ElementEdit
+removal e = Remove (element_key e)
+
+abbrev put_key : ElementEdit → Key
+put_key = edit_key element_key
+
+module _ (d : Deleting) where
+  cut : Element → Bool
+  cut e = is_cut d e.fmid
+
+  abbrev removals : List Element → List ElementEdit
+  removals es = map removal (filter cut es)
+
+  abbrev all_removed : List ElementEdit → List Element → List ElementEdit
+  all_removed old es = fold (with_item element_cmp put_key) old (removals es)
+
+  pub removed_stay : (delta : ZoneDelta) (es : List Element) → (less_elements d delta es).entries ≡ delta.entries
+  removed_stay delta [] = refl
+  removed_stay delta (e ∷ es) = removed_stay (less_element d delta e) es ∙ by (is_cut d e.fmid) refl
+    where
+      by : (b : Bool) → is_cut d e.fmid ≡ b → (less_element d delta e).entries ≡ delta.entries
+      by true at = rw at refl
+      by false at = rw at refl
+
+  -- one element more
+  pub removed_next : (delta : ZoneDelta) (es : List Element) (k : ℕ) (x : Element) → k < length es → x ≡ get_or es k x
+      → less_element d (less_elements d delta (take k es)) x ≡ less_elements d delta (take (k + 1) es)
+  removed_next delta es k x below at =
+      sym (ap (less_elements d delta) (take_more es k x below ∙ ap (λ y. take k es ++ y ∷ []) (sym at))
+      ∙ fold-append (less_element d) delta (take k es) (x ∷ []))
+
+  -- no deletions remove nothing
+  pub removed_none : d.dels.now ≡ [] → (delta : ZoneDelta) (es : List Element) → delta ≡ less_elements d delta es
+  removed_none no_dels delta [] = refl
+  removed_none no_dels delta (e ∷ es) =
+      sym (stays (is_cut d e.fmid) uncut) ∙ removed_none no_dels (less_element d delta e) es
+    where
+      uncut : is_cut d e.fmid ≡ false
+      uncut = ap (λ ds. is_deleted d.global.now (choice_of d) ds e.fmid) no_dels
+          ∙ is_deleted-none d.global.now (choice_of d) e.fmid
+
+      stays : (b : Bool) → b ≡ false → (if b then record delta {
+        elements = with_item element_cmp put_key delta.elements (Remove (element_key e));
+      } else delta) ≡ delta
+      stays true is = absurd (true≢false is)
+      stays false is = refl
+
+  removed_are : (delta : ZoneDelta) (es : List Element)
+      → (less_elements d delta es).elements ≡ all_removed delta.elements es
+  unfolding removal cut
+  removed_are delta [] = refl
+  removed_are delta (e ∷ es) = removed_are (less_element d delta e) es ∙ by (is_cut d e.fmid) refl
+    where
+      by : (b : Bool) → is_cut d e.fmid ≡ b
+          → all_removed (less_element d delta e).elements es ≡ all_removed delta.elements (e ∷ es)
+      by true at = rw at refl
+      by false at = rw at refl
+
+  module _ (is_zone : IsZone d.zone.now) (type : ElemType) (name : Text) where
+    abbrev key : Key
+    key = (type, name)
+
+    abbrev elements : List Element
+    elements = d.zone.now.elements
+
+    abbrev at_key : ElementEdit → Bool
+    at_key r = element_eq (put_key r) key
+
+    -- an element of the zone that has the key is the one that is found
+    only_one : (e m : Element) → element_of d.zone.now type name ≡ Some e → Contains elements m
+        → element_eq (element_key m) key ≡ true → m ≡ e
+    only_one e m at there hit =
+        let both : Some m ≡ Some e =
+        sym (find-member element_cmp_total element_key element_eq element_ties elements m key is_zone.elements there
+        hit) ∙ at in
+        cc both
+
+    from_element : (r : ElementEdit) → Contains (removals elements) r
+        → (m : Element) × Contains elements m × (is_cut d m.fmid ≡ true) × (removal m ≡ r)
+    unfolding cut
+    from_element r there =
+        let m = map_in removal (filter cut elements) r there in
+        let among = filter_in cut elements m.0 m.1 in
+        (m.0, among.0, among.1, m.2)
+
+    no_removal : ((m : Element) → Contains elements m → is_cut d m.fmid ≡ true
+        → element_eq (element_key m) key ≡ true → ⊥)
+        → find at_key (all_removed [] elements) ≡ None
+    unfolding removal
+    no_removal none =
+        in_turn-none element_cmp_total put_key element_eq element_ties (removals elements) [] key
+        (λ r there. by r there (at_key r) refl)
+      where
+        by : (r : ElementEdit) → Contains (removals elements) r → (b : Bool) → at_key r ≡ b → b ≡ false
+        by r there false hit = refl
+        by r there true hit =
+            let m = from_element r there in
+            absurd (none m.0 m.1 m.2 (ap at_key m.3 ∙ hit))
+
+    one_removal : (e : Element) → element_of d.zone.now type name ≡ Some e → is_cut d e.fmid ≡ true
+        → find at_key (all_removed [] elements) ≡ Some (removal e)
+    unfolding removal cut
+    one_removal e at gone =
+        let gives = find-gives (λ m. element_eq (element_key m) key) elements e at in
+        in_turn-some element_cmp_total put_key element_eq element_ties (removals elements) [] key (removal e)
+        gives.0
+        (λ r there hit. let m = from_element r there in
+        sym m.3 ∙ ap removal (only_one e m.0 at m.1 (ap at_key m.3 ∙ hit)))
+        (inr (in_map removal (filter cut elements) e (in_filter cut elements e gives.1 gone)))
+
+    pub removed_at : (start : ZoneDelta) → start.elements ≡ []
+        → after_edits element_eq element_key (less_elements d start elements).elements elements key
+        ≡ element_of (left d) type name
+    unfolding removal
+    removed_at start empty =
+        ap (λ edits. after_edits element_eq element_key edits elements key)
+        (removed_are start elements ∙ ap (λ old. all_removed old elements) empty)
+        ∙ by (element_of d.zone.now type name) refl
+      where
+        left_is : (o : Option Element) → element_of d.zone.now type name ≡ o
+            → element_of (left d) type name ≡ passing (λ e. not (is_cut d e.fmid)) o
+        left_is o at =
+            element_of-less d.global.now (choice_of d) d.dels.now d.zone.now is_zone type name
+            ∙ ap (passing (λ e. not (is_cut d e.fmid))) at
+
+        stands : find at_key (all_removed [] elements) ≡ None
+            → after_edits element_eq element_key (all_removed [] elements) elements key
+            ≡ element_of d.zone.now type name
+        stands none = ap (λ o. option_map_or edit_put o (element_of d.zone.now type name)) none
+
+        by_cut : (e : Element) → element_of d.zone.now type name ≡ Some e → (b : Bool) → is_cut d e.fmid ≡ b
+            → after_edits element_eq element_key (all_removed [] elements) elements key ≡ element_of (left d) type name
+        by_cut e at true gone =
+            ap (λ o. option_map_or edit_put o (element_of d.zone.now type name)) (one_removal e at gone)
+            ∙ sym (left_is (Some e) at ∙ ap (λ b. if not b then Some e else None) gone)
+        by_cut e at false stays =
+            stands (no_removal (λ m there gone hit. true≢false (sym gone
+            ∙ ap (λ v. is_cut d v.fmid) (only_one e m at there hit) ∙ stays)))
+            ∙ at ∙ sym (left_is (Some e) at ∙ ap (λ b. if not b then Some e else None) stays)
+
+        by : (o : Option Element) → element_of d.zone.now type name ≡ o
+            → after_edits element_eq element_key (all_removed [] elements) elements key ≡ element_of (left d) type name
+        by None at =
+            stands (no_removal (λ m there gone hit. missing m there hit)) ∙ at
+            ∙ sym (left_is None at)
+          where
+            missing : (m : Element) → Contains elements m → element_eq (element_key m) key ≡ true → ⊥
+            missing m there hit =
+                let both : Some m ≡ None =
+                sym (find-member element_cmp_total element_key element_eq element_ties elements m key is_zone.elements
+                there hit) ∙ at in
+                cc both
+        by (Some e) at = by_cut e at (is_cut d e.fmid) refl

@@ -1,0 +1,50 @@
+-- What the DELETE operands of kept SYSMODs take out of a zone.
+use Rattle.std.specs.Prelude.{◌≡◌, ◌&&◌, Bool, List, [], ◌++◌, Option, find, map, is_some, if◌then◌else◌}
+use Rattle.terms.specs.Types.{Id, Zone}
+use Rattle.terms.specs.Lookups.{is_in, is_function, is_nil, delby_of}
+use Rattle.terms.specs.Choice.{Choice, by_srel, del_of}
+use Rattle.terms.specs.Deleted.{deletions, is_deleted, is_taken_out, zone_less}
+use Rattle.change.specs.declared.deleting.Deleting.{Deleting}
+
+abbrev pub choice_of : Deleting → Choice
+choice_of d = by_srel d.global.now d.zone.now.srel
+
+-- the deletions are those of the kept SYSMODs
+abbrev pub AreDeletions : Deleting → Type 0
+AreDeletions d = d.dels.now ≡ deletions (choice_of d) d.kept.now
+
+-- whether its chain meets the deletions
+abbrev pub is_cut : Deleting → Id → Bool
+is_cut d = is_deleted d.global.now (choice_of d) d.dels.now
+
+-- whether the deletions take it out
+abbrev pub is_gone : Deleting → Id → Bool
+is_gone d = is_taken_out d.global.now (choice_of d) d.dels.now d.zone.now
+
+-- what is left of the zone
+abbrev pub left : Deleting → Zone
+left d = zone_less d.global.now (choice_of d) d.dels.now d.zone.now
+
+-- whether it is a function that is taken out
+abbrev pub is_function_gone : Deleting → Id → Bool
+is_function_gone d x = is_function d.global.now x && is_gone d x
+
+-- the first kept SYSMOD whose DELETE meets the chain of x
+abbrev pub first_meeting : Deleting → Id → Option Id
+first_meeting d x = find (λ k. is_deleted d.global.now (choice_of d) (del_of (choice_of d) k) x) d.kept.now
+
+-- the first kept SYSMOD that names x in DELETE
+abbrev pub first_naming : Deleting → Id → Option Id
+first_naming d x = find (λ k. is_in (del_of (choice_of d) k) x) d.kept.now
+
+-- the first kept SYSMOD that deletes x
+abbrev pub first_deleter : Deleting → Id → Option Id
+first_deleter d x = if is_function_gone d x then first_meeting d x else first_naming d x
+
+-- its DELBY: what is there, else the first that deletes it
+abbrev pub delby_left : Deleting → Id → Option Id
+delby_left d x = if is_some (delby_of d.zone.now x) then delby_of d.zone.now x else first_deleter d x
+
+-- the ids whose entries deletions may change
+abbrev pub at_stake : Zone → List Id → List Id
+at_stake zone dels = if is_nil dels then [] else dels ++ map (λ e. e.id) zone.entries

@@ -1,0 +1,117 @@
+//! Jobs over functions that delete others, as text cards.
+
+use crate::cards::{FUNCTION_INSTALLED, FUNCTION_RECEIVED};
+use crate::play::Step;
+
+/// Service for a function that another candidate deletes fails, and the deletion goes on.
+pub(crate) const DELETED_OWNER: &[Step] = &[
+    FUNCTION_RECEIVED,
+    FUNCTION_INSTALLED,
+    Step {
+        cntl: &["SET BDY(GLOBAL).", "RECEIVE SYSMODS."],
+        ptfin: &[
+            &["++PTF(UA00039).", "++VER(Z038) FMID(HAA1100)."],
+            &["++FUNCTION(HCC1200).", "++VER(Z038) DELETE(HAA1100)."],
+        ],
+        rest: "",
+        hold: &[],
+        report: "SET GLOBAL\nRC 00\nRECEIVE GLOBAL\nUA00039 PTF      RECEIVED\nHCC1200 FUNCTION RECEIVED\n\
+            RC 00\n",
+        code: 0,
+    },
+    Step {
+        cntl: &["SET BDY(TGT1).", "APPLY SELECT(HCC1200,UA00039)."],
+        ptfin: &[],
+        rest: "",
+        hold: &[],
+        report: "SET TGT1\nRC 00\nAPPLY TGT1\nHCC1200 FUNCTION APPLIED\nUA00039 PTF      FAILED\n  TEST J8\n  NEED FMID HAA1100\n  CAUSER UA00039\n\
+            RC 08\n",
+        code: 8,
+    },
+];
+
+/// A function may not delete what service of another function requires.
+pub(crate) const ORPHANED: &[Step] = &[
+    FUNCTION_RECEIVED,
+    FUNCTION_INSTALLED,
+    Step {
+        cntl: &["SET BDY(GLOBAL).", "RECEIVE SYSMODS."],
+        ptfin: &[
+            &["++FUNCTION(HDD1100).", "++VER(Z038)."],
+            &["++PTF(UA00021).", "++VER(Z038) FMID(HAA1100)."],
+            &["++PTF(UA00023).", "++VER(Z038) FMID(HDD1100) REQ(UA00021)."],
+            &["++FUNCTION(HCC1200).", "++VER(Z038) DELETE(HAA1100)."],
+        ],
+        rest: "",
+        hold: &[],
+        report: "SET GLOBAL\nRC 00\nRECEIVE GLOBAL\nHDD1100 FUNCTION RECEIVED\nUA00021 PTF      RECEIVED\n\
+            UA00023 PTF      RECEIVED\nHCC1200 FUNCTION RECEIVED\nRC 00\n",
+        code: 0,
+    },
+    Step {
+        cntl: &["SET BDY(TGT1).", "APPLY SELECT(HDD1100,UA00021,UA00023)."],
+        ptfin: &[],
+        rest: "",
+        hold: &[],
+        report: "SET TGT1\nRC 00\nAPPLY TGT1\nHDD1100 FUNCTION APPLIED\nUA00021 PTF      APPLIED\n\
+            UA00023 PTF      APPLIED\nRC 00\n",
+        code: 0,
+    },
+    Step {
+        cntl: &["SET BDY(TGT1).", "APPLY SELECT(HCC1200)."],
+        ptfin: &[],
+        rest: "",
+        hold: &[],
+        report: "SET TGT1\nRC 00\nAPPLY TGT1\nHCC1200 FUNCTION FAILED\n  NEED ORPHAN UA00021\n  CAUSER HCC1200\n\
+            RC 08\n",
+        code: 8,
+    },
+];
+
+/// With that superseded it may, and what it deleted can't come back.
+pub(crate) const DELETED: &[Step] = &[
+    FUNCTION_RECEIVED,
+    FUNCTION_INSTALLED,
+    Step {
+        cntl: &["SET BDY(GLOBAL).", "RECEIVE SYSMODS."],
+        ptfin: &[
+            &["++FUNCTION(HDD1100).", "++VER(Z038)."],
+            &["++PTF(UA00021).", "++VER(Z038) FMID(HAA1100)."],
+            &["++PTF(UA00023).", "++VER(Z038) FMID(HDD1100) REQ(UA00021)."],
+            &[
+                "++FUNCTION(HCC1200).",
+                "++VER(Z038) DELETE(HAA1100) SUP(UA00021).",
+            ],
+        ],
+        rest: "",
+        hold: &[],
+        report: "SET GLOBAL\nRC 00\nRECEIVE GLOBAL\nHDD1100 FUNCTION RECEIVED\nUA00021 PTF      RECEIVED\n\
+            UA00023 PTF      RECEIVED\nHCC1200 FUNCTION RECEIVED\nRC 00\n",
+        code: 0,
+    },
+    Step {
+        cntl: &["SET BDY(TGT1).", "APPLY SELECT(HDD1100,UA00021,UA00023)."],
+        ptfin: &[],
+        rest: "",
+        hold: &[],
+        report: "SET TGT1\nRC 00\nAPPLY TGT1\nHDD1100 FUNCTION APPLIED\nUA00021 PTF      APPLIED\n\
+            UA00023 PTF      APPLIED\nRC 00\n",
+        code: 0,
+    },
+    Step {
+        cntl: &["SET BDY(TGT1).", "APPLY SELECT(HCC1200)."],
+        ptfin: &[],
+        rest: "",
+        hold: &[],
+        report: "SET TGT1\nRC 00\nAPPLY TGT1\nHCC1200 FUNCTION APPLIED\nRC 00\n",
+        code: 0,
+    },
+    Step {
+        cntl: &["SET BDY(TGT1).", "APPLY SELECT(HAA1100)."],
+        ptfin: &[],
+        rest: "",
+        hold: &[],
+        report: "SET TGT1\nRC 00\nAPPLY TGT1\nHAA1100 FUNCTION DELETED\nRC 08\n",
+        code: 8,
+    },
+];
