@@ -11,7 +11,7 @@ use Rattle.terms.specs.declared.not_chosen.NotChosen.TheVariants.{Already, Delet
 use Rattle.terms.specs.Types.{Text, Id, Ver, Change, Replaces, Sysmod, Global, Entry, Zone, NoReason, AnyReason, Bypass}
 use Rattle.terms.specs.Types.{Selection}
 use Rattle.terms.specs.Lookups.{is_applied}
-use Rattle.terms.specs.Choice.{by_srel}
+use Rattle.terms.specs.Choice.{counting}
 use Rattle.terms.specs.Over.{Supersedes, chain}
 use Rattle.terms.specs.Deleted.{zone_less}
 use Rattle.terms.specs.Candidates.{IsCandidate, is_start, needed_ids, not_chosen}
@@ -111,7 +111,7 @@ select xs = record {
 }
 
 -- the chain of UA00021 is itself and its FMID
-chain-service : chain deleting (by_srel deleting srel) ua21 ≡ ua21 ∷ haa ∷ []
+chain-service : chain deleting (counting deleting full []) ua21 ≡ ua21 ∷ haa ∷ []
 chain-service = refl
 
 -- HCC1200 takes the supplier of UA00021 from UA00023
@@ -120,7 +120,7 @@ unfolding orphans zone_less
 orphans-deleter = refl
 
 -- with HAA1100 its service and its macro go
-zone_less-deletion : zone_less deleting (by_srel deleting srel) (haa ∷ []) full
+zone_less-deletion : zone_less deleting (counting deleting full []) (haa ∷ []) full
     ≡ record full { entries = applied hdd ∷ applied ua23 ∷ []; elements = [] }
 unfolding zone_less
 zone_less-deletion = refl
@@ -128,7 +128,7 @@ zone_less-deletion = refl
 abbrev installing : Installation
 installing = record {
   global = deleting;
-  choice = by_srel deleting srel;
+  choice = counting deleting full (hcc ∷ []);
   zone = full;
   kept = hcc ∷ [];
   bypassed = [];
@@ -171,7 +171,7 @@ unfolding not_chosen
 not_chosen-deleted = refl
 
 -- what UA00023 asks for
-binding_ids-service : binding_ids (by_srel deleting srel) full (is_applied full) ua23 ≡ ua21 ∷ []
+binding_ids-service : binding_ids (counting deleting full []) full (is_applied full) ua23 ≡ ua21 ∷ []
 binding_ids-service = refl
 
 asked-service : map (asked (setting deleting full None (ua23 ∷ []) no_bypass) [] ua23)
@@ -220,18 +220,18 @@ extending = record {
       ∷ [];
 }
 
-needed_ids-missing : needed_ids extending (by_srel extending srel) base (λ x. false) ua7 ≡ ua8 ∷ []
+needed_ids-missing : needed_ids extending base (λ x. false) ua7 ≡ ua8 ∷ []
 unfolding needed_ids
 needed_ids-missing = refl
 
-supersedes_missing : Supersedes (by_srel extending srel) ua10 ua8
+supersedes_missing : Supersedes (counting extending base []) ua10 ua8
 supersedes_missing = ([], (0, omega arith, refl))
 
 -- GROUP brings in the function of what it names
 abbrev grouped : Selection
 grouped = record (select []) { group = ua21 ∷ [] }
 
-grouped_candidate : IsCandidate deleting (by_srel deleting srel) (record full { entries = [] }) grouped haa
+grouped_candidate : IsCandidate deleting (record full { entries = [] }) grouped haa
 unfolding needed_ids
 grouped_candidate = λ cands growing pair.
     pair.part haa (pair.grown ua21 haa (pair.growing_start ua21 refl) (refl, inl (0, omega arith, refl)))
