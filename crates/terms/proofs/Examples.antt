@@ -1,6 +1,6 @@
 -- Small zones that show the definitions at work. Ids are single numbers here.
-use Rattle.std.specs.Prelude.{◌≡◌, true, false, List, [], ◌∷◌, None, Some, refl, map}
-use Rattle.std.proofs.Common.{inl, arith}
+use Rattle.std.specs.Prelude.{◌≡◌, ◌≢◌, true, false, List, [], ◌∷◌, None, Some, Contains, refl, map}
+use Rattle.std.proofs.Common.{inl, inr, arith, sym, subst}
 use Rattle.terms.specs.declared.kinds.Kind.{Kind}
 use Rattle.terms.specs.declared.kinds.Kind.TheVariants.{Function, Ptf}
 use Rattle.terms.specs.declared.kinds.HoldKind.TheVariants.{Error, User}
@@ -8,17 +8,18 @@ use Rattle.terms.specs.declared.kinds.ElemType.TheVariants.{Mac}
 use Rattle.terms.specs.declared.kinds.ZoneKind.TheVariants.{Target}
 use Rattle.terms.specs.declared.codes.NeedKind.TheVariants.{Fmid, Pre, Req, Ifreq, HoldError, Orphan}
 use Rattle.terms.specs.declared.not_chosen.NotChosen.TheVariants.{Already, Deleted, Missing, NoVer}
+use Rattle.lemmas.proofs.Members.{here_or, none_in}
 use Rattle.terms.specs.Types.{Text, Id, Ver, Change, Replaces, Sysmod, Global, Entry, Zone, NoReason, AnyReason, Bypass}
 use Rattle.terms.specs.Types.{Selection}
 use Rattle.terms.specs.Lookups.{is_applied}
-use Rattle.terms.specs.Choice.{counting}
-use Rattle.terms.specs.Over.{Supersedes, chain}
-use Rattle.terms.specs.Deleted.{zone_less}
+use Rattle.terms.specs.Choice.{counting, del_of}
+use Rattle.terms.specs.Over.{Leads, Reaches, Supersedes, names, chain}
+use Rattle.terms.specs.Deleted.{is_deleted, zone_less}
 use Rattle.terms.specs.Candidates.{IsCandidate, is_start, needed_ids, not_chosen}
-use Rattle.terms.specs.Tests.{FailsJ2, standing_holds}
-use Rattle.terms.specs.Needs.{asked, orphans, binding_ids, Needs}
+use Rattle.terms.specs.Tests.{Setting, Clash, FailsJ2, standing_holds}
+use Rattle.terms.specs.Needs.{asked, orphans, binding_ids, Needs, Serves}
 use Rattle.terms.specs.Judged.{setting}
-use Rattle.terms.specs.Install.{Installation, delby_after}
+use Rattle.terms.specs.Install.{Installation, TakesEffect, delby_after}
 
 abbrev srel : Text
 srel = 9 ∷ []
@@ -257,3 +258,109 @@ standing_holds-bypassed = refl
 standing_holds-class : standing_holds (setting extending base None (ua7 ∷ [])
     (record no_bypass { holdclass = (6 ∷ []) ∷ [] })) User ua7 ≡ []
 standing_holds-class = refl
+
+-- UA00010 supersedes the reason of the ERROR hold on UA00007, and so it serves the need for it.
+abbrev resolving : Setting
+resolving = setting extending base None (ua7 ∷ ua10 ∷ []) no_bypass
+
+asked-error : asked resolving [] ua7 HoldError ≡ ua8 ∷ []
+asked-error = refl
+
+serves-error : Serves resolving.choice HoldError ua10 ua8
+serves-error = inr (refl, ([], (0, omega arith, refl)))
+
+-- only UA00010 itself would serve a need for it as FMID
+serves-fmid : Serves resolving.choice Fmid ua10 ua8 → ⊥
+serves-fmid (inl same) = absurd (cc same)
+serves-fmid (inr more) = absurd (cc (more.0))
+
+-- Kept with what supersedes it, UA00008 is not installed.
+abbrev superseding : Installation
+superseding = record installing {
+  global = extending;
+  choice = counting extending base (ua8 ∷ ua10 ∷ []);
+  zone = base;
+  kept = ua8 ∷ ua10 ∷ [];
+}
+
+superseded : TakesEffect superseding ua8 → ⊥
+superseded effect = effect.first ua10 (1, omega arith, refl) (λ same. absurd (cc same)) ([], (0, omega arith, refl))
+
+-- UA00013 has an ++IF for HCC1200 that requires UA00014, whether HCC1200 passes its tests or not.
+abbrev ua13 : Id
+ua13 = 113 ∷ []
+
+abbrev ua14 : Id
+ua14 = 114 ∷ []
+
+abbrev conditional : Global
+conditional = record {
+  holds = [];
+  sysmods =
+      sysmod haa Function plain []
+      ∷ sysmod hcc Function plain []
+      ∷ sysmod ua13 Ptf (record plain { fmid = Some haa; ifs = record { function = hcc; req = ua14 ∷ [] } ∷ [] }) []
+      ∷ [];
+}
+
+asked-condition : asked (setting conditional base None (hcc ∷ ua13 ∷ []) no_bypass) [] ua13 Ifreq ≡ ua14 ∷ []
+unfolding zone_less
+asked-condition = refl
+
+asked-no_condition : asked (setting conditional base None (ua13 ∷ []) no_bypass) [] ua13 Ifreq ≡ []
+unfolding zone_less
+asked-no_condition = refl
+
+-- Two PTFs for one function replace its macro, and neither is over the other.
+abbrev ua15 : Id
+ua15 = 115 ∷ []
+
+abbrev ua16 : Id
+ua16 = 116 ∷ []
+
+abbrev replacing : List Change
+replacing = record { elem_type = Mac; name = macro; action = Replaces [] [] [] } ∷ []
+
+abbrev unordered : Global
+unordered = record {
+  holds = [];
+  sysmods =
+      sysmod haa Function plain replacing
+      ∷ sysmod ua15 Ptf (record plain { fmid = Some haa }) replacing
+      ∷ sysmod ua16 Ptf (record plain { fmid = Some haa }) replacing
+      ∷ [];
+}
+
+-- what a SYSMOD leads to there
+abbrev led_to : Id → Id → Type 0
+led_to x z = Reaches (names (counting unordered base [])) x z
+
+none-above : (x : Id) → led_to haa x → ⊥
+none-above x ([], at) = none_in x at
+none-above x (y ∷ ys, (at, rest)) = none_in y at
+
+only-function : (x : Id) → x ≢ haa → (y : Id) → names (counting unordered base []) y ≡ haa ∷ [] → led_to y x → ⊥
+only-function x other y is ([], at) =
+    elim (here_or haa [] x (subst (λ xs. Contains xs x) is at)) [ inl same ↦ other (sym same) | inr none ↦ none_in x none ]
+only-function x other y is (z ∷ zs, (at, rest)) =
+    elim (here_or haa [] z (subst (λ xs. Contains xs z) is at))
+    [ inl same ↦ none-above x (zs, subst (λ w. Leads (names (counting unordered base [])) w zs x) (sym same) rest)
+    | inr none ↦ none_in z none ]
+
+-- so each of them clashes with the other
+clashes : Clash (setting unordered base None [] no_bypass) ua15 ua16
+clashes = inr (inr ((Mac, macro, refl, refl),
+    inr (only-function ua16 (λ same. absurd (cc same)) ua15 refl, only-function ua15 (λ same. absurd (cc same)) ua16 refl)))
+
+-- With HCC1200 service for HAA1100 is deleted; where something applied supersedes it, its entry stays.
+deleted-service : is_deleted deleting (counting deleting full []) (del_of (counting deleting full []) hcc) ua21 ≡ true
+deleted-service = refl
+
+zone_less-superseded : zone_less deleting (counting deleting full []) (haa ∷ [])
+    (record full { entries = applied hdd ∷ record (applied ua21) { supby = ua23 ∷ [] } ∷ applied ua23 ∷ [] })
+    ≡ record full {
+      entries = applied hdd ∷ record (applied ua21) { applied = None; supby = ua23 ∷ [] } ∷ applied ua23 ∷ [];
+      elements = [];
+    }
+unfolding zone_less
+zone_less-superseded = refl
