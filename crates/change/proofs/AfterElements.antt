@@ -6,12 +6,14 @@ use Rattle.std.specs.Option.{option_map_or}
 use Rattle.std.specs.Ordering.{is_eq}
 use Rattle.std.proofs.lemmas.Cmp.{tied_itself}
 use Rattle.terms.specs.declared.kinds.ElemType.{ElemType}
-use Rattle.terms.specs.declared.kinds.Edit.{Edit}
-use Rattle.terms.specs.declared.kinds.Edit.TheVariants.{Put}
+use Rattle.tables.specs.declared.edits.Edit.{Edit}
+use Rattle.tables.specs.declared.edits.Edit.TheVariants.{Put}
 use Rattle.terms.specs.Types.{Text, Id, Element, Zone}
 use Rattle.terms.specs.Lookups.{has_change, element_cmp, element_key, element_of}
 use Rattle.terms.specs.Rising.{with_item}
-use Rattle.terms.specs.Delta.{ZoneDelta, edit_key, edit_put, element_eq, after_edits}
+use Rattle.zones.specs.Delta.{ZoneDelta}
+use Rattle.terms.specs.Lookups.{element_eq}
+use Rattle.tables.specs.Edits.{edit_key, edit_put, after_edits}
 use Rattle.terms.specs.Install.{Installation, TakesEffect, cleared, HasElementAfter}
 use Rattle.terms.proofs.ElementOrder.{element_cmp_total, element_ties}
 use Rattle.lemmas.proofs.Members.{in_map, map_in}

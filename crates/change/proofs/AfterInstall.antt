@@ -6,10 +6,12 @@ use Rattle.std.specs.Str.{bytes_eq}
 use Rattle.terms.specs.declared.kinds.ElemType.{ElemType}
 use Rattle.terms.specs.Types.{Text, Id, Global, Element, Zone}
 use Rattle.terms.specs.Lookups.{IsRising, IsZone, entry_of, element_key, element_of}
-use Rattle.terms.specs.Choice.{by_srel}
+use Rattle.sysmods.specs.Choices.{by_srel}
 use Rattle.terms.specs.Deleted.{deletions}
 use Rattle.terms.specs.Global.{IsGlobal}
-use Rattle.terms.specs.Delta.{ZoneDelta, IsChanged, edit_key, edit_put, element_eq, after_edits}
+use Rattle.zones.specs.Delta.{ZoneDelta, IsChanged}
+use Rattle.terms.specs.Lookups.{element_eq}
+use Rattle.tables.specs.Edits.{edit_key, edit_put, after_edits}
 use Rattle.terms.specs.Install.{Installation, cleared, HasInstalled}
 use Rattle.change.specs.declared.deleting.Deleting.{Deleting}
 use Rattle.change.specs.declared.plan.Plan.{Plan}

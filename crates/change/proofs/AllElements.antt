@@ -16,7 +16,7 @@ use Rattle.terms.specs.Types.{Text, Id, Global, Element, Zone}
 use Rattle.terms.specs.Lookups.{element_cmp, element_key, has_change, element_of}
 use Rattle.terms.specs.Choice.{Choice}
 use Rattle.terms.specs.Deleted.{zone_less}
-use Rattle.terms.specs.Delta.{element_eq}
+use Rattle.terms.specs.Lookups.{element_eq}
 use Rattle.terms.specs.Install.{Installation, TakesEffect, HasElementAfter}
 use Rattle.terms.specs.Changes.{has_replacement}
 use Rattle.terms.specs.Over.{IsOver}

@@ -13,7 +13,8 @@ use Rattle.lemmas.proofs.Searches.{find-gives, All-find, All-from_no_list_any}
 use Rattle.lemmas.proofs.Texts.{same_from}
 use Rattle.terms.specs.Types.{Text, Id, Ver, Sysmod, Global}
 use Rattle.terms.specs.Lookups.{at_most_one, sysmod_of, is_received, is_function}
-use Rattle.terms.specs.Choice.{by_srel, fmid_of, sup_of}
+use Rattle.terms.specs.Choice.{fmid_of, sup_of}
+use Rattle.sysmods.specs.Choices.{by_srel}
 use Rattle.terms.specs.Over.{Reaches, Supersedes, names}
 use Rattle.terms.specs.Global.{named, names_for, HasLoop, is_service, named_functions, fits_roles, RolesFit}
 use Rattle.terms.proofs.Leads.{reaches_more, last_step}

@@ -13,7 +13,8 @@ use Rattle.terms.specs.declared.kinds.ElemType.{ElemType}
 use Rattle.terms.specs.Types.{Text, Id, Lines, Change, Sysmod, Ver, Global, Element}
 use Rattle.terms.specs.Lookups.{IsRising, at_most_one, sysmod_of, change_of, has_change, element_of}
 use Rattle.terms.specs.Global.{IsGlobal, named, names_for}
-use Rattle.terms.specs.Choice.{Choice, by_srel}
+use Rattle.terms.specs.Choice.{Choice}
+use Rattle.sysmods.specs.Choices.{by_srel}
 use Rattle.terms.specs.Changes.{is_replacement, has_replacement}
 use Rattle.terms.specs.Over.{IsOver, names}
 use Rattle.terms.specs.Install.{Installation, TakesEffect, cleared, IsReplacer, IsUpdater, IsUpdated}

@@ -14,13 +14,14 @@ use Rattle.lemmas.proofs.Pairs.{AllPairs-first, AllPairs-rest}
 use Rattle.lemmas.proofs.Searches.{find-over, find-gives, All-find}
 use Rattle.lemmas.proofs.Texts.{same_from}
 use Rattle.terms.specs.declared.kinds.ElemType.{ElemType}
-use Rattle.terms.specs.declared.kinds.Edit.TheVariants.{Put}
+use Rattle.tables.specs.declared.edits.Edit.TheVariants.{Put}
 use Rattle.terms.specs.Types.{Text, Id, type_number, Change, Sysmod, Global}
 use Rattle.terms.specs.Lookups.{element_cmp, sysmod_of, changes_of, has_change}
 use Rattle.terms.specs.Rising.{Rises}
-use Rattle.terms.specs.Delta.{element_eq}
+use Rattle.terms.specs.Lookups.{element_eq}
 use Rattle.terms.specs.Global.{IsGlobal, IsSysmod}
-use Rattle.terms.proofs.Edits.{Rises-with_item, All-with_item, find-after_edit}
+use Rattle.terms.proofs.Placing.{Rises-with_item, All-with_item}
+use Rattle.tables.proofs.Editing.{find-after_edit}
 use Rattle.terms.proofs.ElementOrder.{element_cmp_total, element_ties, type_from_number}
 use Rattle.change.specs.Grouping.{ChangedElement, changed_key, AreByElement, changers_in, with_changer, with_changes}
 use Rattle.change.proofs.InTurn.{find-member}

@@ -8,10 +8,10 @@ use Rattle.std.specs.Ordering.{is_eq}
 use Rattle.std.specs.Cmp.{IsTotalOrder}
 use Rattle.std.proofs.lemmas.List.Elements.{Contains-append_left, Contains-append_right, Contains-append_cases}
 use Rattle.lemmas.proofs.Orderings.{Equal-from_is_eq}
-use Rattle.terms.specs.declared.kinds.Edit.TheVariants.{Put}
+use Rattle.tables.specs.declared.edits.Edit.TheVariants.{Put}
 use Rattle.terms.specs.Rising.{Rises, with_item}
 use Rattle.terms.proofs.RisingLists.{find-there, Splits-around}
-use Rattle.terms.proofs.Edits.{find-after_edit}
+use Rattle.tables.proofs.Editing.{find-after_edit}
 use Rattle.lemmas.proofs.Members.{here, there, here_or, none_in, parts}
 
 -- what lists of lists contain

@@ -13,7 +13,8 @@ use Rattle.terms.specs.declared.codes.Test.TheVariants.{J4, J6}
 use Rattle.terms.specs.Types.{Text, Id, type_number, Change, Sysmod, Global, Element, Zone}
 use Rattle.terms.specs.Lookups.{at_most_one, is_in, IsZone, change_of, has_change, element_of, sysmod_of, is_received}
 use Rattle.terms.specs.Lookups.{is_applied, is_supplied, is_nil, supby_of}
-use Rattle.terms.specs.Choice.{Choice, by_srel, fmid_of, del_of}
+use Rattle.terms.specs.Choice.{Choice, fmid_of, del_of}
+use Rattle.sysmods.specs.Choices.{by_srel}
 use Rattle.terms.specs.Changes.{is_replacement, has_replacement, has_update}
 use Rattle.terms.specs.Over.{IsOver, names, owner, Reaches, Supersedes}
 use Rattle.terms.specs.Global.{IsGlobal}

@@ -4,7 +4,7 @@ use Rattle.std.specs.Prelude.{◌↔◌, Contains}
 use Rattle.std.proofs.lemmas.List.Elements.{Contains-append_left, Contains-append_right}
 use Rattle.lemmas.proofs.Members.{in_map}
 use Rattle.terms.specs.Types.{Text, Id, Global, Zone}
-use Rattle.terms.specs.Choice.{by_srel}
+use Rattle.sysmods.specs.Choices.{by_srel}
 use Rattle.terms.specs.Install.{Installation, TakesEffect}
 use Rattle.change.specs.declared.pairs.Group.{Group}
 use Rattle.change.specs.Deleting.{at_stake}

@@ -10,13 +10,14 @@ use Rattle.std.proofs.lemmas.Cmp.{nat_list_cmp_total}
 use Rattle.std.proofs.lemmas.List.Elements.{All-nil}
 use Rattle.lemmas.proofs.Members.{none_in}
 use Rattle.lemmas.proofs.Texts.{same_from, same_itself}
-use Rattle.terms.specs.declared.kinds.Edit.{Edit}
-use Rattle.terms.specs.declared.kinds.Edit.TheVariants.{Put, Remove}
+use Rattle.tables.specs.declared.edits.Edit.{Edit}
+use Rattle.tables.specs.declared.edits.Edit.TheVariants.{Put, Remove}
 use Rattle.terms.specs.Types.{Id, Entry, Zone}
 use Rattle.terms.specs.Lookups.{is_held, entry_of}
 use Rattle.terms.specs.Rising.{with_item}
-use Rattle.terms.specs.Delta.{ZoneDelta, edit_key, edit_put}
-use Rattle.terms.proofs.Edits.{All-with_item}
+use Rattle.zones.specs.Delta.{ZoneDelta}
+use Rattle.tables.specs.Edits.{edit_key, edit_put}
+use Rattle.terms.proofs.Placing.{All-with_item}
 use Rattle.terms.proofs.Ids.{in_or_not}
 use Rattle.change.specs.declared.deleting.Deleting.{Deleting}
 use Rattle.change.specs.declared.plan.Plan.{Plan}

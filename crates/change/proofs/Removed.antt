@@ -6,14 +6,16 @@ use Rattle.std.specs.Option.{option_map_or}
 use Rattle.std.proofs.lemmas.List.{take_more}
 use Rattle.std.proofs.lemmas.List.Sums.{fold-append}
 use Rattle.terms.specs.declared.kinds.ElemType.{ElemType}
-use Rattle.terms.specs.declared.kinds.Edit.{Edit}
-use Rattle.terms.specs.declared.kinds.Edit.TheVariants.{Remove}
+use Rattle.tables.specs.declared.edits.Edit.{Edit}
+use Rattle.tables.specs.declared.edits.Edit.TheVariants.{Remove}
 use Rattle.terms.specs.Types.{Text, Element}
 use Rattle.terms.specs.Lookups.{IsZone, element_cmp, element_key, element_of}
 use Rattle.terms.specs.Rising.{with_item}
 use Rattle.terms.specs.Deleted.{is_deleted}
 use Rattle.terms.proofs.NothingDeleted.{is_deleted-none}
-use Rattle.terms.specs.Delta.{ZoneDelta, edit_key, edit_put, element_eq, after_edits}
+use Rattle.zones.specs.Delta.{ZoneDelta}
+use Rattle.terms.specs.Lookups.{element_eq}
+use Rattle.tables.specs.Edits.{edit_key, edit_put, after_edits}
 use Rattle.terms.proofs.ElementOrder.{element_cmp_total, element_ties}
 use Rattle.lemmas.proofs.Members.{in_map, map_in, in_filter, filter_in}
 use Rattle.lemmas.proofs.Searches.{find-gives}

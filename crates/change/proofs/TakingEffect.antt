@@ -12,7 +12,8 @@ use Rattle.lemmas.proofs.Searches.{find-gives}
 use Rattle.lemmas.proofs.Texts.{same_or_not}
 use Rattle.terms.specs.Types.{Text, Id, Ver, Sysmod, Global}
 use Rattle.terms.specs.Lookups.{at_most_one, is_in, sysmod_of}
-use Rattle.terms.specs.Choice.{by_srel, sup_of}
+use Rattle.terms.specs.Choice.{sup_of}
+use Rattle.sysmods.specs.Choices.{by_srel}
 use Rattle.terms.specs.Over.{Supersedes}
 use Rattle.terms.specs.Global.{IsGlobal, named, names_for}
 use Rattle.terms.specs.Install.{Installation, TakesEffect}

@@ -2,7 +2,8 @@
 use Rattle.std.specs.Prelude.{◌≡◌, ◌&&◌, Bool, List, [], ◌++◌, Option, find, map, is_some, if◌then◌else◌}
 use Rattle.terms.specs.Types.{Id, Zone}
 use Rattle.terms.specs.Lookups.{is_in, is_function, is_nil, delby_of}
-use Rattle.terms.specs.Choice.{Choice, by_srel, del_of}
+use Rattle.terms.specs.Choice.{Choice, del_of}
+use Rattle.sysmods.specs.Choices.{by_srel}
 use Rattle.terms.specs.Deleted.{deletions, is_deleted, is_taken_out, zone_less}
 use Rattle.change.specs.declared.deleting.Deleting.{Deleting}
 

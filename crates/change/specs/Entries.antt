@@ -4,12 +4,13 @@ use Rattle.std.specs.Prelude.{IsTrue, IsFalse, IfSome, unwrap_or, if◌then◌el
 use Rattle.std.specs.Ordering.{nat_cmp}
 use Rattle.std.specs.Cmp.Lexicographic.{slice_cmp}
 use Rattle.std.specs.Str.{bytes_eq}
-use Rattle.terms.specs.declared.kinds.Edit.{Edit}
-use Rattle.terms.specs.declared.kinds.Edit.TheVariants.{Put, Remove}
+use Rattle.tables.specs.declared.edits.Edit.{Edit}
+use Rattle.tables.specs.declared.edits.Edit.TheVariants.{Put, Remove}
 use Rattle.terms.specs.Types.{Id, Entry, Zone}
 use Rattle.terms.specs.Lookups.{IsRising, is_in, is_nil, is_supplied, is_held, waives_applied, entry_of}
 use Rattle.terms.specs.Rising.{with_item}
-use Rattle.terms.specs.Delta.{ZoneDelta, edit_key, edit_put, after_edits}
+use Rattle.zones.specs.Delta.{ZoneDelta}
+use Rattle.tables.specs.Edits.{edit_key, edit_put, after_edits}
 use Rattle.change.specs.declared.deleting.Deleting.{Deleting}
 use Rattle.change.specs.declared.plan.Plan.{Plan}
 use Rattle.change.specs.Deleting.{left, delby_left}

@@ -5,7 +5,7 @@ use Rattle.terms.specs.declared.kinds.ElemType.{ElemType}
 use Rattle.terms.specs.Types.{Text, Id, Change, Global}
 use Rattle.terms.specs.Lookups.{element_cmp, changes_of, has_change}
 use Rattle.terms.specs.Rising.{Rises, with_item}
-use Rattle.terms.specs.Delta.{element_eq}
+use Rattle.terms.specs.Lookups.{element_eq}
 
 -- an element, by type and name, and SYSMODs that change it
 pub record ChangedElement : Type 0 where

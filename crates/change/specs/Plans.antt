@@ -2,7 +2,7 @@
 use Rattle.std.specs.Prelude.{◌≡◌, ◌↔◌, ◌⊎◌, List, Contains, IsFalse, is_some}
 use Rattle.terms.specs.Types.{Text, Id, Global, Zone}
 use Rattle.terms.specs.Lookups.{is_supplied, delby_of}
-use Rattle.terms.specs.Choice.{by_srel}
+use Rattle.sysmods.specs.Choices.{by_srel}
 use Rattle.terms.specs.Over.{Supersedes}
 use Rattle.terms.specs.Install.{Installation, TakesEffect}
 use Rattle.change.specs.declared.plan.Plan.{Plan}

@@ -1,10 +1,11 @@
 -- Elements that are removed from a zone and put into it one after the other.
 use Rattle.std.specs.Prelude.{List, fold, if◌then◌else◌}
-use Rattle.terms.specs.declared.kinds.Edit.TheVariants.{Put, Remove}
+use Rattle.tables.specs.declared.edits.Edit.TheVariants.{Put, Remove}
 use Rattle.terms.specs.Types.{Element}
 use Rattle.terms.specs.Lookups.{element_cmp, element_key}
 use Rattle.terms.specs.Rising.{with_item}
-use Rattle.terms.specs.Delta.{ZoneDelta, edit_key}
+use Rattle.zones.specs.Delta.{ZoneDelta}
+use Rattle.tables.specs.Edits.{edit_key}
 use Rattle.change.specs.declared.deleting.Deleting.{Deleting}
 use Rattle.change.specs.Deleting.{is_cut}
 

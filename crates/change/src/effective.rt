@@ -2,7 +2,7 @@
 ghost use Rattle.std.specs.Prelude.{◌≡◌, ◌↔◌, ◌++◌, not, Contains, IsTrue, IfOk, OnOk, filter, map};
 ghost use Rattle.terms.specs.Types.{Id as AnId};
 ghost use Rattle.terms.specs.Lookups.{is_in};
-ghost use Rattle.terms.specs.Choice.{by_srel};
+ghost use Rattle.sysmods.specs.Choices.{by_srel};
 ghost use Rattle.terms.specs.Over.{Supersedes};
 ghost use Rattle.terms.specs.Install.{Installation, TakesEffect};
 ghost use Rattle.sysmods.specs.Choices.{choice};

@@ -2,7 +2,7 @@
 ghost use Rattle.std.specs.Prelude.{◌≡◌, ◌<◌, ◌⊎◌, All, AllPairs, Any, IsTrue, IsSome, IfOk, IfSome, Some, length};
 ghost use Rattle.std.specs.Prelude.{position};
 ghost use Rattle.std.specs.Prelude.{option_copied};
-ghost use Rattle.terms.specs.Choice.{by_srel};
+ghost use Rattle.sysmods.specs.Choices.{by_srel};
 ghost use Rattle.terms.specs.Changes.{has_replacement};
 ghost use Rattle.terms.specs.Install.{Installation, HasElementAfter};
 ghost use Rattle.terms.specs.Lookups.{IsRising, change_of, has_change};

@@ -1,10 +1,10 @@
 //! What kept SYSMODs put into a zone.
 ghost use Rattle.std.specs.Prelude.{◌≡◌, ◌≢◌, ◌⊎◌, All, Contains, IfOk, OnOk};
 ghost use Rattle.terms.specs.Types.{Id as AnId, Zone as AZone};
-ghost use Rattle.terms.specs.Choice.{by_srel};
+ghost use Rattle.sysmods.specs.Choices.{by_srel};
 ghost use Rattle.terms.specs.Over.{IsOver};
 ghost use Rattle.terms.specs.Tests.{ShareElement};
-ghost use Rattle.terms.specs.Delta.{IsChanged};
+ghost use Rattle.zones.specs.Delta.{IsChanged};
 ghost use Rattle.terms.specs.Install.{HasInstalled};
 ghost use Rattle.change.specs.Elements.{HasBases};
 ghost use Rattle.change.specs.Entries.{Differs};

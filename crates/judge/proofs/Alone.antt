@@ -20,7 +20,7 @@ use Rattle.terms.specs.Lookups.{is_applied, sysmod_of}
 use Rattle.terms.specs.Rising.{Rises}
 use Rattle.terms.specs.Choice.{fmid_of}
 use Rattle.terms.specs.Changes.{is_replacement, has_update}
-use Rattle.terms.specs.Delta.{element_eq}
+use Rattle.terms.specs.Lookups.{element_eq}
 use Rattle.terms.specs.Global.{IsGlobal, IsSysmod}
 use Rattle.terms.specs.Tests.{Setting, view_of, owner_of, is_bypassed_hold, ChangesInView}
 use Rattle.terms.specs.Tests.{FailsJ1, FailsJ2, FailsJ4, FailsJ5, FailsJ6, FailsJ7, FailsJ8, FailsJ9}

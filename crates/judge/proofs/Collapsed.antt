@@ -9,7 +9,8 @@ use Rattle.std.proofs.lemmas.List.Elements.{Contains-get_or}
 use Rattle.terms.specs.declared.kinds.ElemType.{ElemType}
 use Rattle.terms.specs.Types.{Text, Id, Change, Global, Zone, type_number}
 use Rattle.terms.specs.Lookups.{is_held, changes_of, change_of, has_change}
-use Rattle.terms.specs.Choice.{Choice, by_srel}
+use Rattle.terms.specs.Choice.{Choice}
+use Rattle.sysmods.specs.Choices.{by_srel}
 use Rattle.terms.specs.Over.{IsOver}
 use Rattle.terms.specs.Deleted.{deletions, zone_less}
 use Rattle.terms.specs.Tests.{Setting, view_of}

@@ -8,7 +8,7 @@ use Rattle.std.proofs.lemmas.List.{map-append, take_more}
 use Rattle.std.proofs.lemmas.Option.{slice_get_within, slice_get-map, get_or_from_slice_get, same_Some}
 use Rattle.terms.specs.declared.codes.NeedKind.{NeedKind}
 use Rattle.terms.specs.Types.{Id}
-use Rattle.terms.specs.Problem.{Demand, Problem}
+use Rattle.solve.specs.Problem.{Demand, Problem}
 use Rattle.judge.specs.declared.wanted.Want.{Want}
 use Rattle.judge.specs.Wanted.{a_want}
 use Rattle.judge.specs.Numbered.{IsDemandFor, HasDemands, AddsDemand}

@@ -7,8 +7,9 @@ use Rattle.std.proofs.lemmas.Option.{slice_get_within}
 use Rattle.terms.specs.declared.codes.NeedKind.{NeedKind}
 use Rattle.terms.specs.Types.{Id, Global, Zone, Bypass}
 use Rattle.terms.specs.Tests.{Setting, AreSurvivors, IsEligible}
-use Rattle.terms.specs.Judged.{setting, IsInstallProblem}
-use Rattle.terms.specs.Problem.{Problem, IsProblem, holds}
+use Rattle.terms.specs.Judged.{setting}
+use Rattle.judge.specs.InstallProblem.{IsInstallProblem}
+use Rattle.solve.specs.Problem.{Problem, IsProblem, holds}
 use Rattle.lemmas.proofs.Places.{contains_at, found_at}
 use Rattle.judge.specs.declared.wanted.Want.{Want}
 use Rattle.judge.specs.Wanted.{a_want}

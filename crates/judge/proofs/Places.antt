@@ -23,7 +23,7 @@ use Rattle.terms.specs.Types.{Id}
 use Rattle.terms.specs.Lookups.{IsRising, is_before, is_in}
 use Rattle.terms.specs.Tests.{Setting, FailsJ8, FailsJ9, Survives, AreSurvivors, IsEligible, Fails}
 use Rattle.terms.specs.Global.{IsGlobal}
-use Rattle.terms.specs.Problem.{holds}
+use Rattle.solve.specs.Problem.{holds}
 use Rattle.lemmas.proofs.Pairs.{AllPairs-rest}
 use Rattle.lemmas.proofs.Places.{contains_at, found_at}
 use Rattle.lemmas.proofs.Texts.{same_itself}

@@ -17,7 +17,7 @@ use Rattle.terms.specs.Types.{Text, Id, Global, Entry, Zone}
 use Rattle.terms.specs.Lookups.{is_held, is_applied, applied_ids, IsZone}
 use Rattle.terms.specs.Choice.{Choice}
 use Rattle.terms.specs.Deleted.{is_deleted, is_taken_out, entry_less, zone_less}
-use Rattle.terms.specs.Candidates.{if_reqs, stated_for}
+use Rattle.terms.specs.Conditions.{if_reqs, stated_for}
 use Rattle.zones_less.proofs.Flats.{filter-weaker}
 use Rattle.zones_less.proofs.Lookups.{is_applied-less}
 use Rattle.judge.specs.declared.stated.Requisite.{Requisite}

@@ -10,7 +10,7 @@ use Rattle.std.specs.BTreeMap.{BTreeMap, get}
 use Rattle.terms.specs.Types.{Id, Zone}
 use Rattle.terms.specs.Lookups.{is_in, is_applied, applied_ids}
 use Rattle.terms.specs.Choice.{Choice}
-use Rattle.terms.specs.Candidates.{if_reqs}
+use Rattle.terms.specs.Conditions.{if_reqs}
 use Rattle.judge.specs.declared.stated.Requisite.{Requisite}
 
 -- whether the function is applied or a candidate

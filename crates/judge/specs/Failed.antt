@@ -3,7 +3,7 @@ use Rattle.std.specs.Prelude.{◌≡◌, ◌↔◌, ℕ, Bool, List, Some, lengt
 use Rattle.terms.specs.declared.codes.Test.{Test}
 use Rattle.terms.specs.Types.{Id}
 use Rattle.terms.specs.Tests.{Setting, AreSurvivors, IsEligible, Fails}
-use Rattle.terms.specs.Problem.{holds}
+use Rattle.solve.specs.Problem.{holds}
 use Rattle.machine.specs.Installing.{all_tests}
 
 -- there is a row for each candidate, and it has the tests that the candidate fails

@@ -1,7 +1,8 @@
 -- What deletions leave of the zone, and the setting, by the values of the code.
 use Rattle.std.specs.Prelude.{None}
 use Rattle.terms.specs.Types.{Zone}
-use Rattle.terms.specs.Choice.{Choice, by_srel}
+use Rattle.terms.specs.Choice.{Choice}
+use Rattle.sysmods.specs.Choices.{by_srel}
 use Rattle.terms.specs.Deleted.{zone_less}
 use Rattle.terms.specs.Tests.{Setting}
 use Rattle.terms.specs.Judged.{setting}

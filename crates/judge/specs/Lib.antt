@@ -16,3 +16,4 @@ pub mod Views
 pub mod Forbidders
 pub mod Deletes
 pub mod Forbidding
+pub mod InstallProblem

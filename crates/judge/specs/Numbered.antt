@@ -4,7 +4,7 @@ use Rattle.terms.specs.declared.codes.NeedKind.{NeedKind}
 use Rattle.terms.specs.Types.{Id}
 use Rattle.terms.specs.Tests.{Setting}
 use Rattle.terms.specs.Needs.{zone_left}
-use Rattle.terms.specs.Problem.{Demand, Problem}
+use Rattle.solve.specs.Problem.{Demand, Problem}
 use Rattle.judge.specs.declared.wanted.Want.{Want}
 use Rattle.judge.specs.Placed.{Beside}
 use Rattle.judge.specs.Wanted.{AreWants, IsOpenAt}

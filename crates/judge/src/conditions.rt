@@ -4,7 +4,7 @@ ghost use Rattle.std.specs.List.{flat_map};
 ghost use Rattle.terms.specs.Types.{Id as AnId};
 ghost use Rattle.terms.specs.Lookups.{is_applied, is_function, is_in};
 ghost use Rattle.terms.specs.Deleted.{view};
-ghost use Rattle.terms.specs.Candidates.{if_reqs, if_needed};
+ghost use Rattle.terms.specs.Conditions.{if_reqs, if_needed};
 ghost use Rattle.judge.specs.Conditions.{AreStated, is_there, listed};
 ghost use Rattle.judge.specs.Left.{choice_of, left_of};
 

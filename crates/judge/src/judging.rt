@@ -2,7 +2,8 @@ ghost use Rattle.std.specs.Prelude.{◌≡◌, ◌↔◌, All, Contains, IsTrue,
 ghost use Rattle.terms.specs.Types.{Id as AnId};
 ghost use Rattle.terms.specs.Candidates.{is_installable};
 ghost use Rattle.terms.specs.Needs.{bypassed_ids};
-ghost use Rattle.terms.specs.Judged.{setting, IsInstallProblem};
+ghost use Rattle.terms.specs.Judged.{setting};
+ghost use Rattle.judge.specs.InstallProblem.{IsInstallProblem};
 ghost use Rattle.judge.specs.Failed.{AreFailedTests};
 
 use crate::bypassed::bypassed_pairs;

@@ -1,6 +1,6 @@
 //! The numbered problem of who is eligible and needs whom.
 ghost use Rattle.std.specs.Prelude.{◌≡◌, ◌<◌, ◌^◌, length, All, OnOk, IfOk};
-ghost use Rattle.terms.specs.Problem.{IsProblem};
+ghost use Rattle.solve.specs.Problem.{IsProblem};
 ghost use Rattle.judge.specs.Left.{setting_of};
 ghost use Rattle.judge.specs.Numbered.{AddsDemand, HasDemands, HasProblem};
 

@@ -5,7 +5,7 @@ ghost use Rattle.std.specs.List.{list_any};
 ghost use Rattle.std.specs.Option.{option_map_or};
 ghost use Rattle.terms.specs.Types.{zone_number};
 ghost use Rattle.terms.specs.Lookups.{changes_of, holds_of, is_applied};
-ghost use Rattle.terms.specs.Choice.{by_srel};
+ghost use Rattle.sysmods.specs.Choices.{by_srel};
 ghost use Rattle.terms.specs.Tests.{is_bypassed_hold};
 ghost use Rattle.terms.specs.Judged.{setting};
 ghost use Rattle.sysmods.specs.Choices.{choice};

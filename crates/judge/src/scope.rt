@@ -4,7 +4,8 @@ ghost use Rattle.terms.specs.Lookups.{IsRising};
 ghost use Rattle.terms.specs.declared.codes.NeedKind.TheVariants.{Pre, Req, Ifreq};
 ghost use Rattle.terms.specs.Needs.{is_bypassed};
 ghost use Rattle.sysmods.specs.Choices.{choice};
-ghost use Rattle.terms.specs.Choice.{by_srel, fmid_of, pre_of, req_of, ifs_of};
+ghost use Rattle.terms.specs.Choice.{fmid_of, pre_of, req_of, ifs_of};
+ghost use Rattle.sysmods.specs.Choices.{by_srel};
 
 use cntl::Bypass;
 use fields::{Id, IdList};

@@ -1,11 +1,11 @@
 -- REPORT ERRSYSMODS of a zone: what is applied and held for error, and what would resolve that.
 -- (IBM z/OS SMP/E Commands, REPORT ERRSYSMODS, whose zone is the boundary's here.)
-use Rattle.std.specs.Prelude.{◌≡◌, ◌⊎◌, ◌↔◌, ◌&&◌, Bool, not, List, Contains, IsTrue, map, filter, is_some}
+use Rattle.std.specs.Prelude.{◌≡◌, ◌⊎◌, ◌↔◌, ◌&&◌, Bool, not, List, [], Contains, IsTrue, map, filter, is_some}
 use Rattle.std.specs.List.{flat_map}
 use Rattle.terms.specs.declared.kinds.HoldKind.TheVariants.{Error}
 use Rattle.terms.specs.Types.{Id, Hold, Entry, Global, Zone}
 use Rattle.terms.specs.Lookups.{IsRising, is_nil, holds_of, is_supplied}
-use Rattle.terms.specs.Choice.{by_srel, vers_of}
+use Rattle.terms.specs.Choice.{vers_of, counting}
 use Rattle.terms.specs.Over.{Supersedes}
 use Rattle.machine.specs.Outcome.{Line, ErrsysmodLine}
 
@@ -20,7 +20,7 @@ is_current e = is_some e.applied && is_nil e.supby
 -- y is received with a ++VER for the zone's SREL, and is the reason or supersedes it
 pub record Resolves (g : Global) (zone : Zone) (reason y : Id) : Type 0 where
   pub fits : IsTrue (not (is_nil (vers_of g zone.srel y)))
-  pub reaches : (y ≡ reason) ⊎ Supersedes (by_srel g zone.srel) y reason
+  pub reaches : (y ≡ reason) ⊎ Supersedes (counting g zone []) y reason
 
 -- A line for each such hold, by the entries and then by reason, with all that resolve it, rising.
 pub record AreErrsysmods (g : Global) (zone : Zone) (lines : List Line) : Type 0 where

@@ -12,7 +12,7 @@ use Rattle.terms.specs.declared.not_chosen.NotChosen.{NotChosen}
 use Rattle.terms.specs.declared.not_chosen.NotChosen.TheVariants as out
 use Rattle.terms.specs.Types.{Text, Id, Global, Zone, Bypass, Selection}
 use Rattle.terms.specs.Lookups.{IsRising, is_in}
-use Rattle.terms.specs.Choice.{by_srel}
+use Rattle.terms.specs.Choice.{counting}
 use Rattle.terms.specs.Tests.{Setting, Fails, IsEligible, AreSurvivors}
 use Rattle.terms.specs.Needs.{Needs, Serves, bypassed_ids}
 use Rattle.terms.specs.Candidates.{AreCandidates, not_chosen}
@@ -59,7 +59,7 @@ pub record Decision : Type 0 where
 pub record IsDecision (g : Global) (zone : Zone) (related : Option Zone) (sel : Selection) (bypass : Bypass)
     (date : Text) (d : Decision) : Type 0 where
   pub cands : List Id
-  pub candidates : AreCandidates g (by_srel g zone.srel) zone sel cands
+  pub candidates : AreCandidates g zone sel cands
   pub setting : d.setting ≡ setting g zone related cands bypass
   pub survivors : AreSurvivors d.setting d.survivors
   pub kept : IsKeptSet d.setting d.kept
@@ -67,7 +67,7 @@ pub record IsDecision (g : Global) (zone : Zone) (related : Option Zone) (sel : 
   pub are_bypassed : (x z : Id) → Contains bypassed (x, z) ↔ (Contains d.kept x × Contains (bypassed_ids d.setting x) z)
   pub installing : d.installing ≡ record {
     global = g;
-    choice = by_srel g zone.srel;
+    choice = counting g zone cands;
     zone = zone;
     kept = d.kept;
     bypassed = bypassed;

@@ -1,20 +1,24 @@
 -- The machine: what each act makes of the state and prints, and what a list of jobs does.
--- (IBM z/OS SMP/E Commands: SET, RECEIVE, REJECT and APPLY. The other commands are not known yet.)
-use Rattle.std.specs.Prelude.{◌≡◌, ◌⊎◌, ℕ, Bool, true, false, IsTrue, List, [], ◌∷◌, ◌++◌, map, None, Some, Result, Ok}
-use Rattle.std.specs.Prelude.{Err, if◌then◌else◌}
+-- (IBM z/OS SMP/E Commands: SET, RECEIVE, REJECT, APPLY, ACCEPT, RESTORE, LIST and REPORT ERRSYSMODS.)
+use Rattle.std.specs.Prelude.{◌≡◌, ◌⊎◌, ℕ, Bool, true, false, IsTrue, List, [], ◌∷◌, ◌++◌, map, Option, None, Some}
+use Rattle.std.specs.Prelude.{Result, Ok, Err, if◌then◌else◌}
 use Rattle.std.specs.List.{flat_map}
-use Rattle.terms.specs.Types.{Text, Id, Global, Zone, Item, HoldItem, ReceiveWhat, Install, Command, Set, Receive}
-use Rattle.terms.specs.Types.{Reject, Apply}
+use Rattle.std.specs.Option.{option_map_or, option_and_then}
+use Rattle.terms.specs.Types.{Text, Id, Global, Zone, Item, HoldItem, ReceiveWhat, Install, RestoreList, Command, Set}
+use Rattle.terms.specs.Types.{Receive, Reject, Apply, Accept, Restore, ListZone, Report}
 use Rattle.terms.specs.Ptfin.{McsFault, IsPtfin, IsPtfinFault}
 use Rattle.terms.specs.HoldFile.{IsHoldFile, IsHoldFileFault}
 use Rattle.terms.specs.Commands.{CntlFault, IsCommandFile, IsCommandFileFault}
 use Rattle.machine.specs.Outcome.{Line, Refusal, Cm4, Cm5, ControlFault, Outcome, Ran, Refused, Control, header_of}
-use Rattle.machine.specs.Outcome.{or_nothing, job_code}
+use Rattle.machine.specs.Outcome.{or_nothing, list_global, list_zone, job_code}
 use Rattle.machine.specs.Report.{text}
-use Rattle.machine.specs.State.{State, zone_named, with_zone, misplaced, ZoneDefinition, ZoneFault, define_zone}
+use Rattle.machine.specs.State.{State, zone_named, current_zone, target_of, with_zone, at_global, misplaced}
+use Rattle.machine.specs.State.{ZoneDefinition, ZoneFault, define_zone}
 use Rattle.machine.specs.Receiving.{TakesItem, TakesHoldItem}
 use Rattle.machine.specs.Rejecting.{RejectsId}
 use Rattle.machine.specs.Installing.{InstallsSelected}
+use Rattle.machine.specs.Restoring.{RestoresListed}
+use Rattle.machine.specs.Errsysmods.{AreErrsysmods}
 use Rattle.machine.specs.Runs.{Runs}
 
 -- the files that a job's RECEIVE reads
@@ -49,17 +53,45 @@ pub record Rejects (s : State) (ids : List Id) (t : State) (outcome : Outcome) :
   pub state : t ≡ record s { global = new }
   pub prints : outcome ≡ Ran (header_of (Reject ids) s.boundary) lines
 
--- APPLY installs into the zone of the boundary. With CHECK it prints the same and changes nothing.
-pub record Applies (date : Text) (s : State) (i : Install) (t : State) (outcome : Outcome) : Type 0 where
+-- APPLY and ACCEPT install into the zone of the boundary. ACCEPT has the target zone in view that is related to it.
+-- With CHECK they print the same and change nothing.
+pub record InstallsThere (date : Text) (s : State) (c : Command) (i : Install) (related : Text → Option Zone)
+    (t : State) (outcome : Outcome) : Type 0 where
   pub name : Text
   pub at : s.boundary ≡ Some name
   pub zone : Zone
   pub is_there : zone_named s.zones name ≡ Some zone
   pub new : Zone
   pub lines : List Line
-  pub installs : InstallsSelected s.global zone None i.selection i.bypass date new lines
+  pub installs : InstallsSelected s.global zone (related name) i.selection i.bypass date new lines
   pub state : t ≡ (if i.check then s else with_zone s name new)
-  pub prints : outcome ≡ Ran (header_of (Apply i) s.boundary) (or_nothing lines)
+  pub prints : outcome ≡ Ran (header_of c s.boundary) (or_nothing lines)
+
+-- RESTORE takes SYSMODs off the target zone of the boundary, back to what its distribution zone holds.
+pub record RestoresThere (s : State) (what : RestoreList) (check : Bool) (t : State) (outcome : Outcome) : Type 0 where
+  pub name : Text
+  pub at : s.boundary ≡ Some name
+  pub zone : Zone
+  pub is_there : zone_named s.zones name ≡ Some zone
+  pub accepted : Zone
+  pub related : option_and_then (zone_named s.zones) zone.related ≡ Some accepted
+  pub new : Zone
+  pub lines : List Line
+  pub restores : RestoresListed s.global zone accepted what new lines
+  pub state : t ≡ (if check then s else with_zone s name new)
+  pub prints : outcome ≡ Ran (header_of (Restore what check) s.boundary) lines
+
+-- what LIST prints: the global zone, or the zone of the boundary
+abbrev pub listed : State → Bool → List Line
+listed s text = if at_global s then list_global s.global else option_map_or (list_zone text) (current_zone s) []
+
+-- REPORT looks at the zone of the boundary.
+pub record ReportsThere (s : State) (outcome : Outcome) : Type 0 where
+  pub zone : Zone
+  pub is_there : current_zone s ≡ Some zone
+  pub lines : List Line
+  pub lines_are : AreErrsysmods s.global zone lines
+  pub prints : outcome ≡ Ran (header_of Report s.boundary) lines
 
 -- a command where it can run
 abbrev pub RunsThere : Text → Files → State → Command → State → Outcome → Type 0
@@ -67,8 +99,12 @@ RunsThere date files s (Set name) t outcome =
     (t ≡ record s { boundary = Some name }) × (outcome ≡ Ran (header_of (Set name) s.boundary) [])
 RunsThere date files s (Receive what) t outcome = Takes files s what t outcome
 RunsThere date files s (Reject ids) t outcome = Rejects s ids t outcome
-RunsThere date files s (Apply i) t outcome = Applies date s i t outcome
-RunsThere date files s _ t outcome = ⊥
+RunsThere date files s (Apply i) t outcome = InstallsThere date s (Apply i) i (λ name. None) t outcome
+RunsThere date files s (Accept i) t outcome = InstallsThere date s (Accept i) i (target_of s.zones) t outcome
+RunsThere date files s (Restore what check) t outcome = RestoresThere s what check t outcome
+RunsThere date files s (ListZone text) t outcome =
+    (t ≡ s) × (outcome ≡ Ran (header_of (ListZone text) s.boundary) (listed s text))
+RunsThere date files s Report t outcome = (t ≡ s) × ReportsThere s outcome
 
 -- a command; where it can't run it is refused and changes nothing
 abbrev pub Performs : Text → Files → State → Command → State → Outcome → Type 0

@@ -1,9 +1,9 @@
 -- What RESTORE makes of a target zone, and what it prints of each id.
 -- (IBM z/OS SMP/E Commands, RESTORE processing. The lines are this project's.)
-use Rattle.std.specs.Prelude.{◌≡◌, ◌↔◌, List, Contains, map}
+use Rattle.std.specs.Prelude.{◌≡◌, ◌↔◌, List, [], Contains, map}
 use Rattle.terms.specs.Types.{Id, Global, Zone, RestoreList}
 use Rattle.terms.specs.Lookups.{IsRising, is_in}
-use Rattle.terms.specs.Choice.{by_srel}
+use Rattle.terms.specs.Choice.{counting}
 use Rattle.terms.specs.Needs.{Serves}
 use Rattle.terms.specs.Restore.{Restoring, NeedsInRestore, AreListed, restore_candidates, FailsRestore, MayBeRestored}
 use Rattle.terms.specs.Restore.{IsRestored, Restores}
@@ -24,7 +24,7 @@ pub data HasRestoreStatus (r : Restoring) (ids kept : List Id) (x : Id) : Status
 pub record RestoresListed (g : Global) (zone accepted : Zone) (what : RestoreList) (new : Zone) (lines : List Line) :
     Type 0 where
   pub setting : Restoring
-  pub setting_is : setting ≡ record { global = g; choice = by_srel g zone.srel; zone = zone; accepted = accepted }
+  pub setting_is : setting ≡ record { global = g; choice = counting g zone []; zone = zone; accepted = accepted }
   pub ids : List Id
   pub listed : AreListed setting what ids
   pub kept : List Id

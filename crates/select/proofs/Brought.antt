@@ -8,8 +8,9 @@ use Rattle.std.proofs.lemmas.List.Elements.{Contains-append_left, Contains-appen
 use Rattle.terms.specs.declared.kinds.HoldKind.TheVariants.{Error}
 use Rattle.terms.specs.Types.{Id, Global, Zone, Selection}
 use Rattle.terms.specs.Lookups.{at_most_one, is_applied, is_supplied, is_function, applied_ids, holds_of}
-use Rattle.terms.specs.Choice.{Choice, by_srel, fmid_of, pre_of, req_of, ifs_of}
-use Rattle.terms.specs.Candidates.{if_reqs, stated_for}
+use Rattle.terms.specs.Choice.{Choice, fmid_of, pre_of, req_of, ifs_of}
+use Rattle.sysmods.specs.Choices.{by_srel}
+use Rattle.terms.specs.Conditions.{if_reqs, stated_for}
 use Rattle.lemmas.proofs.Members.{none_in, filter_in, in_filter}
 use Rattle.sysmods_received.specs.Namers.{function_namers}
 use Rattle.select.specs.Growing.{taken_up, has_grown, reqs_if, is_there, counts_for, stated, reasons}

@@ -10,9 +10,10 @@ use Rattle.std.proofs.lemmas.List.Elements.{Contains-append_left, Contains-appen
 use Rattle.terms.specs.Types.{Text, Id, IfReq, Ver, Sysmod, Global}
 use Rattle.terms.specs.Lookups.{at_most_one, sysmod_of}
 use Rattle.terms.specs.Lookups.{is_in}
-use Rattle.terms.specs.Choice.{by_srel, ifs_of, sup_of}
+use Rattle.terms.specs.Choice.{ifs_of, sup_of}
+use Rattle.sysmods.specs.Choices.{by_srel}
 use Rattle.terms.specs.Global.{named, named_functions, names_for}
-use Rattle.terms.specs.Candidates.{if_reqs}
+use Rattle.terms.specs.Conditions.{if_reqs}
 use Rattle.lemmas.proofs.Members.{none_in, here_or, in_map, in_filter}
 use Rattle.lemmas.proofs.Searches.{find-gives}
 use Rattle.lemmas.proofs.Texts.{same_from}

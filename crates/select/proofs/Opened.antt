@@ -5,7 +5,8 @@ use Rattle.std.specs.Str.{bytes_eq}
 use Rattle.std.proofs.lemmas.Bool.{and_parts}
 use Rattle.terms.specs.Types.{Text, Id, Sysmod, Global, Zone, Selection}
 use Rattle.terms.specs.Lookups.{is_nil, is_in, is_supplied, delby_of, sysmod_of}
-use Rattle.terms.specs.Choice.{vers_of, by_srel}
+use Rattle.terms.specs.Choice.{vers_of}
+use Rattle.sysmods.specs.Choices.{by_srel}
 use Rattle.terms.specs.Candidates.{is_installable, is_open}
 use Rattle.terms.proofs.Nil.{is_some-find}
 

@@ -7,7 +7,7 @@ use Rattle.std.proofs.lemmas.Bool.{and_parts, or_cases}
 use Rattle.std.proofs.lemmas.List.Elements.{Contains-append_left, Contains-append_right, All-contains_itself}
 use Rattle.terms.specs.Types.{Text, Id, Sysmod, Global, Zone, Selection}
 use Rattle.terms.specs.Lookups.{is_in, sysmod_of}
-use Rattle.terms.specs.Choice.{by_srel}
+use Rattle.sysmods.specs.Choices.{by_srel}
 use Rattle.terms.specs.Candidates.{is_open, has_mass_choice, is_mass_chosen, is_start}
 use Rattle.terms.proofs.Ids.{Contains-from_is_in}
 use Rattle.lemmas.proofs.Members.{in_map, filter_in, in_filter}

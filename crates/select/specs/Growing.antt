@@ -6,9 +6,11 @@ use Rattle.std.specs.Str.{bytes_eq}
 use Rattle.terms.specs.declared.kinds.HoldKind.TheVariants.{Error}
 use Rattle.terms.specs.Types.{Id, hold_number, IfReq, Hold, Global, Zone, Selection}
 use Rattle.terms.specs.Lookups.{at_most_one, is_applied, is_supplied, is_function, is_in, holds_of}
-use Rattle.terms.specs.Choice.{Choice, by_srel, fmid_of, pre_of, req_of, ifs_of, sup_of}
+use Rattle.terms.specs.Choice.{Choice, fmid_of, pre_of, req_of, ifs_of, sup_of}
+use Rattle.sysmods.specs.Choices.{by_srel}
 use Rattle.terms.specs.Over.{Supersedes}
-use Rattle.terms.specs.Candidates.{is_open, is_start, is_growing_start, if_reqs, needed_ids, open_reasons, IsClosedPair}
+use Rattle.terms.specs.Candidates.{is_open, is_start, is_growing_start, needed_ids, open_reasons, IsClosedPair}
+use Rattle.terms.specs.Conditions.{if_reqs}
 use Rattle.sysmods_received.specs.Namers.{namers_for, function_namers}
 
 -- y will do for z: it is z, or under GROUPEXTEND supersedes it

@@ -6,8 +6,10 @@ ghost use Rattle.std.specs.Str.{bytes_eq};
 ghost use Rattle.terms.specs.declared.kinds.HoldKind.TheVariants.{Error};
 ghost use Rattle.terms.specs.Types.{hold_number};
 ghost use Rattle.terms.specs.Lookups.{at_most_one, is_applied, is_function, is_in, is_supplied, holds_of};
-ghost use Rattle.terms.specs.Choice.{by_srel, fmid_of};
-ghost use Rattle.terms.specs.Candidates.{is_open, is_growing_start, if_reqs};
+ghost use Rattle.terms.specs.Choice.{fmid_of};
+ghost use Rattle.sysmods.specs.Choices.{by_srel};
+ghost use Rattle.terms.specs.Candidates.{is_open, is_growing_start};
+ghost use Rattle.terms.specs.Conditions.{if_reqs};
 ghost use Rattle.select.specs.Growing.{taken_up, has_grown, is_there, reqs_if, own_requisites, counts_for, stated};
 ghost use Rattle.select.specs.Growing.{error_reason, reasons, brought_by};
 

@@ -1,6 +1,6 @@
 //! The candidates.
 ghost use Rattle.std.specs.Prelude.{◌≡◌, filter, All, IsTrue, IfOk};
-ghost use Rattle.terms.specs.Choice.{by_srel};
+ghost use Rattle.sysmods.specs.Choices.{by_srel};
 ghost use Rattle.terms.specs.Candidates.{AreCandidates, is_installable, is_open};
 
 use crate::growing::asked;

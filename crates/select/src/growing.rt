@@ -6,7 +6,8 @@ ghost use Rattle.std.specs.Prelude.{◌≡◌, ◌++◌, ◌↔◌, [], filter, 
 ghost use Rattle.std.specs.List.{flat_map};
 ghost use Rattle.terms.specs.Types.{Id as AnId};
 ghost use Rattle.terms.specs.Lookups.{is_in};
-ghost use Rattle.terms.specs.Choice.{by_srel, sup_of};
+ghost use Rattle.terms.specs.Choice.{sup_of};
+ghost use Rattle.sysmods.specs.Choices.{by_srel};
 ghost use Rattle.terms.specs.Candidates.{is_open, is_start};
 ghost use Rattle.sysmods_paths.specs.Seen.{AddsAll};
 ghost use Rattle.select.specs.Growing.{AreAsked, brought_by, asked_first, superseders, next_asked};

@@ -1,7 +1,8 @@
 //! What is open to an APPLY.
 ghost use Rattle.std.specs.Prelude.{◌≡◌, not, is_some, option_copied};
 ghost use Rattle.terms.specs.Lookups.{is_in, is_nil, delby_of};
-ghost use Rattle.terms.specs.Choice.{by_srel, fmid_of, sup_of, vers_of};
+ghost use Rattle.terms.specs.Choice.{fmid_of, sup_of, vers_of};
+ghost use Rattle.sysmods.specs.Choices.{by_srel};
 ghost use Rattle.terms.specs.Candidates.{is_installable, is_open};
 
 use cntl::Selection;

@@ -12,18 +12,19 @@ use Rattle.std.proofs.lemmas.List.Elements.{All-map, All-weaker, Contains-get_or
 use Rattle.terms.specs.declared.codes.NeedKind.{NeedKind}
 use Rattle.terms.specs.Types.{Id}
 use Rattle.terms.specs.Lookups.{IsRising, is_before, is_in}
-use Rattle.terms.specs.Problem.{Demand, Problem, IsDemand, holds, AreKept}
-use Rattle.terms.specs.Kept.{IsProblemOf}
-use Rattle.terms.specs.Causes as numbered
+use Rattle.solve.specs.Problem.{Demand, Problem, IsDemand, holds, AreKept}
+use Rattle.solve.specs.Numbered.{IsProblemOf}
+use Rattle.solve.specs.Causes as numbered
 use Rattle.terms.specs.Failures.{IsOpenNeed, IsCauser}
 use Rattle.terms.specs.Tests.{Setting, IsEligible, Fails}
 use Rattle.terms.specs.Needs.{Needs, Serves}
-use Rattle.terms.specs.Judged.{IsInstallProblem, Stays}
+use Rattle.judge.specs.InstallProblem.{IsInstallProblem}
+use Rattle.terms.specs.Judged.{Stays}
 use Rattle.lemmas.proofs.Members.{in_map, map_in}
 use Rattle.lemmas.proofs.Pairs.{pairs_map}
-use Rattle.terms.proofs.Numbered.{stays_from_kept, kept_from_stays}
+use Rattle.solve.proofs.Numbered.{stays_from_kept, kept_from_stays}
 use Rattle.lemmas.proofs.Places.{All-found, contains_at, found_at}
-use Rattle.terms.proofs.NumberedCauses.{causer_id, causer_number}
+use Rattle.solve.proofs.NumberedCauses.{causer_id, causer_number}
 use Rattle.solve.specs.Rows.{row_at}
 use Rattle.lemmas.proofs.Searches.{All-from_no_list_any}
 use Rattle.judge.specs.Failed.{AreFailedTests}

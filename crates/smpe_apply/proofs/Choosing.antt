@@ -4,7 +4,7 @@ use Rattle.std.proofs.Common.{Contains, refl, sym, ap, ◌∙◌, subst, arith, 
 use Rattle.std.specs.Prelude.{◌↔◌}
 use Rattle.std.proofs.lemmas.Bool.{cases_lt}
 use Rattle.std.proofs.lemmas.List.Elements.{Contains-append_left, Contains-append_right, Contains-append_cases}
-use Rattle.terms.specs.Problem.{holds}
+use Rattle.solve.specs.Problem.{holds}
 use Rattle.lemmas.proofs.Members.{here_or}
 
 -- an item is taken where the test holds

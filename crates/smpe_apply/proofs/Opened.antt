@@ -10,7 +10,7 @@ use Rattle.std.proofs.lemmas.List.{get_or-set_same, get_or-set_other, length-map
 use Rattle.std.proofs.lemmas.List.Elements.{Contains-append_left, Contains-append_right, Contains-append_cases}
 use Rattle.terms.specs.declared.codes.NeedKind.{NeedKind}
 use Rattle.terms.specs.Types.{Id}
-use Rattle.terms.specs.Problem.{Demand, holds}
+use Rattle.solve.specs.Problem.{Demand, holds}
 use Rattle.solve.specs.Rows.{row_at}
 use Rattle.solve.proofs.Added.{row_at-get_or}
 use Rattle.solve.proofs.Times.{eqb-other}

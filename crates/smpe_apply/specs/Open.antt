@@ -6,7 +6,7 @@ use Rattle.std.specs.declared.alloc.Global.{Global}
 use Rattle.terms.specs.declared.codes.NeedKind.{NeedKind}
 use Rattle.terms.specs.Types.{Id}
 use Rattle.terms.specs.Lookups.{IsRising}
-use Rattle.terms.specs.Problem.{Demand, holds}
+use Rattle.solve.specs.Problem.{Demand, holds}
 use Rattle.solve.specs.Rows.{row_at}
 use Rattle.machine.specs.Outcome.{OpenNeed}
 use Rattle.machine.specs.Installing.{all_needs}

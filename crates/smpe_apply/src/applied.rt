@@ -2,7 +2,7 @@
 ghost use Rattle.std.specs.Prelude.{◌≡◌, None, IfOk, map};
 ghost use Rattle.terms.specs.Types.{Zone as AZone};
 ghost use Rattle.terms.specs.Forms.{IsDottedDate};
-ghost use Rattle.terms.specs.Delta.{IsChanged};
+ghost use Rattle.zones.specs.Delta.{IsChanged};
 ghost use Rattle.machine.specs.Installing.{InstallsSelected};
 ghost use Rattle.report.specs.Views.{line_view};
 

@@ -4,7 +4,8 @@ ghost use Rattle.terms.specs.Types.{Id as AnId, Global as AGlobal, Zone as AZone
 ghost use Rattle.terms.specs.Lookups.{is_in};
 ghost use Rattle.terms.specs.Candidates.{is_installable};
 ghost use Rattle.terms.specs.Needs.{bypassed_ids};
-ghost use Rattle.terms.specs.Judged.{setting, IsInstallProblem};
+ghost use Rattle.terms.specs.Judged.{setting};
+ghost use Rattle.judge.specs.InstallProblem.{IsInstallProblem};
 ghost use Rattle.judge.specs.Failed.{AreFailedTests};
 ghost use Rattle.machine.specs.Installing.{IsDecided};
 ghost use Rattle.report.specs.Views.{failure_view};

@@ -2,7 +2,7 @@
 ghost use Rattle.std.specs.Prelude.{◌≡◌, ◌↔◌, ◌⊎◌, ◌<◌, ◌++◌, [], ℕ, All, Contains, IfOk, OnOk, length, map};
 ghost use Rattle.std.specs.List.{list_any};
 ghost use Rattle.terms.specs.Types.{Id as AnId};
-ghost use Rattle.terms.specs.Problem.{holds};
+ghost use Rattle.solve.specs.Problem.{holds};
 ghost use Rattle.solve.specs.Need.{demand};
 ghost use Rattle.solve.specs.Rows.{row_at};
 ghost use Rattle.report.specs.Views.{need_view};

@@ -11,7 +11,7 @@ use Rattle.std.proofs.lemmas.List.Elements.{All-append, All-weaker, recursion_fr
 use Rattle.indexmap.specs.IndexMap.{get, Updates}
 use Rattle.terms.specs.declared.codes.CommandWord.TheVariants as word
 use Rattle.terms.specs.Types.{Text, Zone, NamedZone, Bypass, Selection, Install, Apply}
-use Rattle.terms.specs.Delta.{ZoneDelta, IsChanged}
+use Rattle.zones.specs.Delta.{ZoneDelta, IsChanged}
 use Rattle.terms.specs.Lookups.{is_before}
 use Rattle.terms.specs.Rising.{Rises, with_item}
 use Rattle.lemmas.proofs.Pairs.{pairs_unmap, AllPairs-parts}

@@ -5,7 +5,7 @@ ghost use Rattle.indexmap.specs.IndexMap.{get, Updates};
 ghost use Rattle.sqlite.specs.Held.{state};
 ghost use Rattle.sqlite.specs.State.{HasCleanDisk};
 ghost use Rattle.terms.specs.Types.{Text, Install as AnInstall, Apply, Zone as AZone};
-ghost use Rattle.terms.specs.Delta.{IsChanged};
+ghost use Rattle.zones.specs.Delta.{IsChanged};
 ghost use Rattle.store_zones.specs.Zones.{IsZoneChange};
 ghost use Rattle.store_schema.specs.Inventory.{IsInventory};
 ghost use Rattle.machine.specs.State.{State};

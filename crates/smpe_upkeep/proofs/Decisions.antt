@@ -8,7 +8,8 @@ use Rattle.std.proofs.lemmas.Bool.{and_parts}
 use Rattle.std.proofs.lemmas.List.Elements.{All-contains_itself}
 use Rattle.terms.specs.Types.{Text, Id, Sysmod, Global, Zone, Bypass, Selection}
 use Rattle.terms.specs.Lookups.{is_nil, sysmod_of}
-use Rattle.terms.specs.Choice.{Choice, vers_of, by_srel}
+use Rattle.terms.specs.Choice.{Choice, vers_of}
+use Rattle.sysmods.specs.Choices.{by_srel}
 use Rattle.terms.specs.Over.{IsOver}
 use Rattle.terms.specs.Candidates.{is_installable, is_open, IsCandidate}
 use Rattle.terms.specs.Tests.{Setting, ShareElement, IsEligible}

@@ -12,7 +12,7 @@ use Rattle.terms.specs.declared.kinds.ElemType.{ElemType}
 use Rattle.terms.specs.declared.kinds.ElemType.TheVariants.{Mac, Src, Clist, Data, Exec, Parm, Proc}
 use Rattle.terms.specs.Types.{Text, Id, Lines, Action, Replaces, Updates, Change, Element, Zone}
 use Rattle.terms.specs.Lookups.{element_key, change_of, has_change, element_of}
-use Rattle.terms.specs.Delta.{element_eq}
+use Rattle.terms.specs.Lookups.{element_eq}
 use Rattle.terms.specs.Over.{names, IsOver}
 use Rattle.terms.specs.Texts.{number_of, is_control, line_at, given, IsNumbered, Touches}
 use Rattle.terms.specs.Install.{Installation, TakesEffect, cleared, HasBase, IsUpdater, Decides, HasElementAfter}

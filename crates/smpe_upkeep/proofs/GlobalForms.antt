@@ -15,7 +15,7 @@ use Rattle.terms.specs.Global.{IsSysmod, IsGlobal, hold_cmp, has_key, hold_of, m
 use Rattle.terms.specs.Global.{release, without_hold, assign, with_sysmod, received, ReceiveFault, HasFault, Rj1, Rj2}
 use Rattle.terms.specs.Global.{without_sysmod, reject}
 use Rattle.terms.proofs.GlobalKept.{IsOwned, hold-kept, without_hold-kept, assign-kept, without_sysmod-kept}
-use Rattle.terms.proofs.Edits.{All-with_item, Rises-with_item}
+use Rattle.terms.proofs.Placing.{All-with_item, Rises-with_item}
 use Rattle.terms.proofs.GlobalLookups.{assigned}
 use Rattle.sysmods.proofs.Receiving.{kept}
 use Rattle.store_schema.specs.Forms.{HasSysmodForms, HasHoldForms}

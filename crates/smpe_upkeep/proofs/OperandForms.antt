@@ -13,9 +13,10 @@ use Rattle.terms.specs.declared.kinds.Kind.{Kind}
 use Rattle.terms.specs.declared.kinds.ElemType.{ElemType}
 use Rattle.terms.specs.Types.{Text, Id, IfReq, Ver, Change, Sysmod, Global, Zone, type_number, kind_number}
 use Rattle.terms.specs.Lookups.{sysmod_of, is_function, change_of, is_in, is_applied, applied_ids}
-use Rattle.terms.specs.Choice.{Choice, by_srel, fmid_of, pre_of, req_of, sup_of, del_of, ifs_of}
+use Rattle.terms.specs.Choice.{Choice, fmid_of, pre_of, req_of, sup_of, del_of, ifs_of}
+use Rattle.sysmods.specs.Choices.{by_srel}
 use Rattle.terms.specs.Over.{Supersedes, owner}
-use Rattle.terms.specs.Candidates.{if_reqs, stated_for, if_needed}
+use Rattle.terms.specs.Conditions.{if_reqs, stated_for, if_needed}
 use Rattle.terms.specs.Tests.{Setting, view_of}
 use Rattle.terms.specs.Needs.{bypassed_ids}
 use Rattle.terms.specs.Forms.{IsId}

@@ -32,7 +32,7 @@ use Rattle.terms.specs.Ptfin.{with_hold, after, sysmod_in, MayStand, CannotStand
 use Rattle.terms.specs.Ptfin.{IsHeader, IsUpdateWord, IsPlaced, IsKnown, IsGood, BeginsWithStatements, IsPtfin}
 use Rattle.terms.proofs.ElementOrder.{change_cmp_total}
 use Rattle.terms.proofs.GlobalKept.{Rises-map}
-use Rattle.terms.proofs.Edits.{All-with_item, Rises-with_item}
+use Rattle.terms.proofs.Placing.{All-with_item, Rises-with_item}
 use Rattle.lemmas.proofs.Each.{recursion-append, recursion-front, recursion-back}
 use Rattle.store_schema.specs.Forms.{AreRecords, SuitsKind, HasIfForms, HasVerForms, HasChangeForms, HasHoldForms}
 use Rattle.smpe_upkeep.proofs.Printable.{HasPrintableList, operands_printable}

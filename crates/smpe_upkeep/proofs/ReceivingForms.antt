@@ -20,7 +20,7 @@ use Rattle.terms.specs.Global.{IsSysmod, change_cmp, ReceiveFault, Receives}
 use Rattle.terms.specs.Ptfin.{IsPtfin}
 use Rattle.terms.specs.HoldFile.{IsHoldFile}
 use Rattle.lemmas.proofs.Pairs.{pairs_map}
-use Rattle.terms.proofs.Edits.{All-with_item, Rises-with_item}
+use Rattle.terms.proofs.Placing.{All-with_item, Rises-with_item}
 use Rattle.store_schema.specs.Forms.{AreListed, is_change_before, HasSysmodForms, HasHoldForms}
 use Rattle.store_schema.specs.Inventory.{Inventory, IsInventory}
 use Rattle.machine.specs.Outcome.{Line}

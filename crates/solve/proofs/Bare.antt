@@ -7,7 +7,7 @@ use Rattle.std.proofs.lemmas.Bool.{and_parts, and_from, cases_eq, cases_Bool}
 use Rattle.std.specs.Prelude.{◌&&◌, ◌||◌, ◌==◌, IsTrue, ◌↔◌}
 use Rattle.std.specs.List.{Any, list_any}
 use Rattle.std.proofs.lemmas.List.Folds.{Any-from_list_any, list_any-from_Any, list_any_more}
-use Rattle.terms.specs.Problem.{Demand, holds}
+use Rattle.solve.specs.Problem.{Demand, holds}
 use Rattle.solve.specs.declared.system.Need.{Need}
 use Rattle.solve.specs.Need.{demand}
 use Rattle.solve.proofs.Maps.{Any-map, Any-unmap}

@@ -13,8 +13,8 @@ use Rattle.std.proofs.lemmas.Bool.{cases_eq, cases_Bool, and_parts, and_from, lt
 use Rattle.solve.proofs.Passing.{clash}
 use Rattle.lemmas.proofs.Searches.{All-from_no_list_any}
 use Rattle.solve.proofs.Times.{times-from_Contains, Contains-from_times, Contains-from_is_in, is_in-from_Contains}
-use Rattle.terms.specs.Problem.{Problem, Demand, IsDemand, IsProblem, holds, IsSelfSupporting, IsGreatest}
-use Rattle.terms.specs.Causes.{HasFailed, LeadsTo, LeadsThrough, LeadsOn, IsRoot, IsCauser}
+use Rattle.solve.specs.Problem.{Problem, Demand, IsDemand, IsProblem, holds, IsSelfSupporting, IsGreatest}
+use Rattle.solve.specs.Causes.{HasFailed, LeadsTo, LeadsThrough, LeadsOn, IsRoot, IsCauser}
 use Rattle.solve.specs.Rows.{row_at, times}
 use Rattle.solve.specs.Marks.{is_in}
 

@@ -9,8 +9,8 @@ use Rattle.std.proofs.lemmas.List.Elements.{Contains-append_left, Contains-appen
 use Rattle.std.proofs.lemmas.List.Elements.{Contains-get_or}
 use Rattle.std.proofs.lemmas.List.Quantifiers.{Any-push}
 use Rattle.lemmas.proofs.Each.{Any-push_cases, Any-append_left}
-use Rattle.terms.specs.Problem.{Problem, Demand, holds}
-use Rattle.terms.specs.Causes.{HasFailed, LeadsBy, LeadsTo}
+use Rattle.solve.specs.Problem.{Problem, Demand, holds}
+use Rattle.solve.specs.Causes.{HasFailed, LeadsBy, LeadsTo}
 use Rattle.solve.specs.Rows.{row_at, times}
 use Rattle.solve.specs.Marks.{AreLeads}
 use Rattle.solve.proofs.Times.{Contains-replicate, replicate-Contains, Contains-from_times, times-from_Contains}

@@ -10,3 +10,7 @@ pub mod Leads
 pub mod CauserRows
 pub mod Sums
 pub mod Searches
+pub mod Greatest
+pub mod LeastSets
+pub mod NumberedCauses
+pub mod Numbered

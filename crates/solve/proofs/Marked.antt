@@ -7,7 +7,7 @@ use Rattle.std.proofs.lemmas.List.{get_or-set_same, get_or-set_other, get_or_pas
 use Rattle.std.proofs.lemmas.List.{length_push}
 use Rattle.std.proofs.lemmas.List.Sums.{sum_by-set, sum_by-cons}
 use Rattle.std.proofs.lemmas.Bool.{cases_Bool, cases_eq, cases_lt, or_right}
-use Rattle.terms.specs.Problem.{holds}
+use Rattle.solve.specs.Problem.{holds}
 use Rattle.solve.specs.Parts.{count_of}
 use Rattle.solve.specs.Rows.{times}
 use Rattle.solve.specs.Marks.{AreClear, IsListOf, is_in, IsMarked}

@@ -13,8 +13,8 @@ use Rattle.std.proofs.lemmas.List.Folds.{Any-from_list_any, sum_by-replicate}
 use Rattle.std.proofs.lemmas.List.Sums.{sum_by-set, sum_by-cons, sum-map, get_or-le-sum_by, count_by-le-length}
 use Rattle.std.proofs.lemmas.List.Sums.{sum_by-le-sum_by, sum_by-le, sum_by-take-le, sum_by_push, sum_by-append}
 use Rattle.std.proofs.lemmas.Bool.{cases_Bool, cases_eq, cases_lt}
-use Rattle.terms.specs.Problem.{Problem, Demand, IsDemand, IsProblem, IsSelfSupporting, AreKept, holds, strikes_of}
-use Rattle.terms.specs.Problem.{pairs_of}
+use Rattle.solve.specs.Problem.{Problem, Demand, IsDemand, IsProblem, IsSelfSupporting, AreKept, holds, strikes_of}
+use Rattle.solve.specs.Problem.{pairs_of}
 use Rattle.solve.specs.Parts.{HasEvery, IsWithin, IsServed, count_of}
 use Rattle.solve.specs.declared.system.Need.{Need}
 use Rattle.solve.specs.Need.{demand}

@@ -7,8 +7,8 @@ use Rattle.std.specs.List.{All, Contains}
 use Rattle.std.proofs.lemmas.List.{take-take, take_all, get_or-take, length-take, length-set}
 use Rattle.std.proofs.lemmas.List.Elements.{All-nil, All-more, All-contains, All-weaker, Contains-get_or}
 use Rattle.std.proofs.lemmas.Bool.{cases_eq, or_right, or_cases}
-use Rattle.terms.specs.Problem.{Problem, holds}
-use Rattle.terms.specs.Causes.{LeadsTo, LeadsThrough, LeadsOn}
+use Rattle.solve.specs.Problem.{Problem, holds}
+use Rattle.solve.specs.Causes.{LeadsTo, LeadsThrough, LeadsOn}
 use Rattle.solve.specs.Parts.{count_of}
 use Rattle.solve.specs.Rows.{row_at, times, one_if}
 use Rattle.solve.specs.Marks.{AreLeads, AreClear, IsListOf, IsMarked, is_in}

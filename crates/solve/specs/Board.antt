@@ -3,7 +3,7 @@ use Rattle.std.specs.Prelude.{◌≡◌, ◌<◌, ◌≤◌, ◌+◌, ℕ, Bool,
 use Rattle.std.specs.Prelude.{sum}
 use Rattle.std.specs.List.{slice_index_or, sum_by}
 use Rattle.std.specs.declared.alloc.Global.{Global}
-use Rattle.terms.specs.Problem.{Problem, Demand, holds}
+use Rattle.solve.specs.Problem.{Problem, Demand, holds}
 use Rattle.solve.specs.declared.worklist.Board.{Board}
 use Rattle.solve.specs.Parts.{HasEvery, IsWithin, count_of}
 use Rattle.solve.specs.Rows.{row_at, times, one_if}

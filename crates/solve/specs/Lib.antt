@@ -5,3 +5,7 @@ pub mod Rows
 pub mod Marks
 pub mod Board
 pub mod Rules
+pub mod Problem
+pub mod Causes
+pub mod Least
+pub mod Numbered

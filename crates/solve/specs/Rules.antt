@@ -1,5 +1,5 @@
 use Rattle.solve.specs.declared.growth.Rule.{Rule as RustRule}
-use Rattle.terms.specs.Least.{Rule}
+use Rattle.solve.specs.Least.{Rule}
 
 -- a rule without where its list lies in memory
 abbrev pub as_rule : RustRule → Rule

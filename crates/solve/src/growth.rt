@@ -1,6 +1,6 @@
 ghost use Rattle.std.specs.Prelude.{◌≡◌, ◌<◌, ◌^◌, ◌+◌, ◌++◌, ◌∷◌, [], ◌↔◌, IfOk, OnOk, OnErr, IsTrue, length, map};
 ghost use Rattle.std.specs.Prelude.{not};
-ghost use Rattle.terms.specs.Least.{IsRule, IsLeast};
+ghost use Rattle.solve.specs.Least.{IsRule, IsLeast};
 ghost use Rattle.solve.specs.Rules.{as_rule};
 
 use crate::Solver;
@@ -26,8 +26,8 @@ pub struct Rules {
 }
 
 impl Model for Rules {
-    ghost use Rattle.terms.specs.Problem.{IsProblem};
-    ghost use Rattle.terms.specs.Least.{Growth, growth_of};
+    ghost use Rattle.solve.specs.Problem.{IsProblem};
+    ghost use Rattle.solve.specs.Least.{Growth, growth_of};
 
     ghost Value = { Growth };
 

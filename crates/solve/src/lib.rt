@@ -13,7 +13,7 @@ mod system;
 mod worklist;
 
 ghost use Rattle.std.specs.Prelude.{IfOk};
-ghost use Rattle.terms.specs.Problem.{AreKept};
+ghost use Rattle.solve.specs.Problem.{AreKept};
 
 pub use causes::causers;
 pub use growth::{Rule, Rules, least};

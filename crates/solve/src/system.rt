@@ -1,7 +1,7 @@
 ghost use Rattle.std.specs.Prelude.{◌≡◌, ◌<◌, ◌^◌, ◌+◌, ◌++◌, ◌∷◌, [], ◌↔◌, length, map, All, AllPairs, OnOk, OnErr};
 ghost use Rattle.std.specs.Prelude.{IsTrue};
 ghost use Rattle.solve.specs.Need.{demand};
-ghost use Rattle.terms.specs.Problem.{IsDemand, IsProblem};
+ghost use Rattle.solve.specs.Problem.{IsDemand, IsProblem};
 
 use std::alloc::{AllocError, Global};
 use std::marker::Model;
@@ -34,7 +34,7 @@ pub struct System {
 }
 
 impl Model for System {
-    ghost use Rattle.terms.specs.Problem.{Problem, IsProblem};
+    ghost use Rattle.solve.specs.Problem.{Problem, IsProblem};
 
     ghost Value = { Problem };
 

@@ -1,6 +1,6 @@
 ghost use Rattle.std.specs.Prelude.{◌≡◌, ◌<◌, ◌≤◌, ◌+◌, ◌*◌, ◌^◌, ◌∷◌, [], ℕ, List, IfOk, IsTrue, length, map, All};
 ghost use Rattle.std.specs.Prelude.{count_by};
-ghost use Rattle.terms.specs.Problem.{AreKept, holds, pairs_of, strikes_of, most_turns};
+ghost use Rattle.solve.specs.Problem.{AreKept, holds, pairs_of, strikes_of, most_turns};
 ghost use Rattle.solve.specs.Rows.{row_at};
 ghost use Rattle.solve.specs.Board.{AreServed, AtRest, SettledBelow, IsDrop, open_in, eligible_in};
 

@@ -11,7 +11,7 @@ use Rattle.sqlite.proofs.StateLemmas.{survives_then}
 use Rattle.sqlite.proofs.Callers.{survives_begin}
 use Rattle.terms.specs.declared.kinds.ZoneKind.{ZoneKind}
 use Rattle.terms.specs.Types.{Text}
-use Rattle.terms.specs.Delta.{ZoneDelta, IsDelta}
+use Rattle.zones.specs.Delta.{ZoneDelta, IsDelta}
 use Rattle.store_rows.specs.Inside.{StaysInside}
 use Rattle.store_rows.specs.Rows.{HasContents}
 use Rattle.store_schema.specs.Inventory.{Inventory, IsInventory}

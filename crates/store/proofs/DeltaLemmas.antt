@@ -11,12 +11,14 @@ use Rattle.lemmas.proofs.Each.{All-middle}
 use Rattle.sqlite.specs.Store.{Ghosts}
 use Rattle.sqlite.specs.Held.{Held}
 use Rattle.terms.specs.declared.kinds.ElemType.{ElemType}
-use Rattle.terms.specs.declared.kinds.Edit.{Edit}
-use Rattle.terms.specs.declared.kinds.Edit.TheVariants.{Put, Remove}
+use Rattle.tables.specs.declared.edits.Edit.{Edit}
+use Rattle.tables.specs.declared.edits.Edit.TheVariants.{Put, Remove}
 use Rattle.terms.specs.Types.{Text, Id, Entry, Element, Zone}
 use Rattle.terms.specs.Lookups.{IsZone, element_cmp, element_key}
-use Rattle.terms.specs.Delta.{ZoneDelta, IsDelta, IsChanged, element_eq, after_edit}
-use Rattle.terms.proofs.Edits.{find-edited, Rises-edited}
+use Rattle.zones.specs.Delta.{ZoneDelta, IsDelta, IsChanged}
+use Rattle.terms.specs.Lookups.{element_eq}
+use Rattle.tables.specs.Edits.{after_edit}
+use Rattle.tables.proofs.Editing.{find-edited, Rises-edited}
 use Rattle.terms.proofs.ElementOrder.{element_cmp_total, element_ties}
 use Rattle.terms.proofs.SameLists.{rising_same}
 use Rattle.store_rows.specs.Inside.{StaysInside}

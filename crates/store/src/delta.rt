@@ -9,7 +9,8 @@ use fields::{Id, Name, ZoneName};
 use sqlite::{Alter, Error, Transaction};
 use std::alloc::Global;
 use store_zones::{put_element, put_entry, remove_element, remove_entry};
-use terms::{Edit, ElemType};
+use tables::Edit;
+use terms::ElemType;
 use zones::{Element, Entry, ZoneDelta};
 
 fn edit_entry<S: Alter>(

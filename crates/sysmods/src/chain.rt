@@ -1,7 +1,7 @@
 //! The chain of an id.
 ghost use Rattle.std.specs.Prelude.{◌≡◌};
 ghost use Rattle.std.specs.Iterator.{YieldsFirst, item_count};
-ghost use Rattle.terms.specs.Choice.{by_srel};
+ghost use Rattle.sysmods.specs.Choices.{by_srel};
 ghost use Rattle.terms.specs.Over.{chain};
 
 use crate::choice::VerChoice;
@@ -25,7 +25,7 @@ impl<'a> Model for Chain<'a> {
 
     ghost Value = { List terms.Id };
 
-    ghost use Rattle.terms.specs.Choice.{by_srel};
+    ghost use Rattle.sysmods.specs.Choices.{by_srel};
     ghost use Rattle.terms.specs.Over.{chain_from};
 
     ghost view = { λ a. chain_from a.most (by_srel a.global.now a.srel) a.next };

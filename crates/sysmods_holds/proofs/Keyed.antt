@@ -17,13 +17,13 @@ use Rattle.std.proofs.lemmas.Bool.{and_parts}
 use Rattle.terms.specs.declared.kinds.HoldKind.{HoldKind}
 use Rattle.terms.specs.Types.{Text, Id, Hold, hold_number}
 use Rattle.terms.specs.Global.{has_key, hold_cmp}
-use Rattle.terms.specs.KeyedMaps.{KnowKeys}
+use Rattle.sysmods_holds.specs.KeyedMaps.{KnowKeys}
 use Rattle.terms.specs.Rising.{Rises, with_item}
 use Rattle.lemmas.proofs.Texts.{same_from, same_back}
 use Rattle.terms.proofs.GlobalKept.{kind_from}
 use Rattle.terms.proofs.HoldOrder.{has_key-ties, number_back}
 use Rattle.lemmas.proofs.Orderings.{is_eq-then}
-use Rattle.terms.proofs.KeyedMaps as keyed
+use Rattle.sysmods_holds.proofs.KeyedMaps as keyed
 use Rattle.sysmods_holds.specs.declared.key.Place.{Place}
 use Rattle.sysmods_holds.specs.declared.key.Place.TheVariants.{First, At, Last}
 use Rattle.sysmods_holds.specs.declared.key.HoldKey.{HoldKey}

@@ -2,3 +2,4 @@ pub mod Internal
 pub mod Keyed
 pub mod Listed
 pub mod Undoing
+pub mod KeyedMaps

@@ -8,7 +8,7 @@ use Rattle.std.specs.BTreeMap.{insert_entry, is_at}
 use Rattle.terms.specs.Types.{Hold}
 use Rattle.terms.specs.Global.{hold_cmp, marked}
 use Rattle.terms.specs.Rising.{with_item}
-use Rattle.terms.proofs.KeyedMaps as keyed
+use Rattle.sysmods_holds.proofs.KeyedMaps as keyed
 use Rattle.sysmods_holds.specs.declared.key.HoldKey.{HoldKey}
 use Rattle.sysmods_holds.specs.declared.undo.Undo.{Undo}
 use Rattle.sysmods_holds.specs.declared.undo.Undo.TheVariants.{Remove, Restore}

@@ -8,7 +8,7 @@ use Rattle.std.proofs.lemmas.Cmp.{then_total, on_total, nat_cmp_total, nat_list_
 use Rattle.terms.specs.declared.kinds.HoldKind.{HoldKind}
 use Rattle.std.specs.List.Sorted.{IsStrictlySortedBy}
 use Rattle.std.specs.Map.{keys_of}
-use Rattle.terms.specs.KeyedMaps.{KnowKeys}
+use Rattle.sysmods_holds.specs.KeyedMaps.{KnowKeys}
 use Rattle.terms.specs.Types as terms
 use Rattle.sysmods_holds.specs.declared.key.Place.{Place}
 use Rattle.sysmods_holds.specs.declared.key.Place.TheVariants.{First, At, Last}

@@ -23,7 +23,7 @@ use Rattle.terms.specs.Global.{is_service, fits_roles, named_functions, RolesFit
 use Rattle.terms.proofs.GlobalLookups.{sysmod_of-with_sysmod}
 use Rattle.lemmas.proofs.Texts.{same_back}
 use Rattle.lemmas.proofs.Booleans.{neither, both_none}
-use Rattle.terms.proofs.Edits.{All-with_item}
+use Rattle.terms.proofs.Placing.{All-with_item}
 use Rattle.sysmods_received.specs.Held.{found, zone_of}
 
 pub services_in_parts : (g : Global) (v : Ver)

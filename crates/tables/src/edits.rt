@@ -2,15 +2,21 @@
 ghost use Rattle.std.specs.Prelude.{◌≡◌, ◌++◌, IfOk, OnOk};
 ghost use Rattle.std.specs.Option.{option_to_list};
 ghost use Rattle.terms.specs.Rising.{Rises, before, behind};
-ghost use Rattle.terms.specs.Delta.{edit_key, edit_put, edited};
+ghost use Rattle.tables.specs.Edits.{edit_key, edit_put, edited};
 
 use crate::copies::{TryClone, copy_all};
 use crate::keyed::{Keyed, place};
 use std::alloc::{AllocError, Global};
-use terms::Edit;
+
+/// What a change does at a key: it puts an item there, or what stands there goes.
+#[derive(Drop)]
+pub enum Edit<T, K> {
+    Put(T),
+    Remove(K),
+}
 
 impl<T: Keyed> Keyed for Edit<T, T::Key> {
-    ghost use Rattle.terms.specs.Delta.{edit_key};
+    ghost use Rattle.tables.specs.Edits.{edit_key};
 
     type Key = T::Key;
 

@@ -7,5 +7,6 @@ mod keyed;
 mod table;
 
 pub use copies::{TryClone, copied};
+pub use edits::Edit;
 pub use keyed::{Keyed, are_rising, place};
 pub use table::Table;

@@ -4,14 +4,13 @@ ghost use Rattle.std.specs.Prelude.{IfSome, IfNone, OnOk, OnErr, List, IsPermuta
 ghost use Rattle.std.specs.Prelude.{if◌then◌else◌};
 ghost use Rattle.std.specs.Ordering.{is_lt};
 ghost use Rattle.terms.specs.Rising.{Rises, with_item, Splits, StandsAt};
-ghost use Rattle.terms.specs.Delta.{edited};
+ghost use Rattle.tables.specs.Edits.{edited};
 
 use crate::copies::{TryClone, copied};
-use crate::edits::edited;
+use crate::edits::{Edit, edited};
 use crate::keyed::{Keyed, are_rising, place, stands_last};
 use std::alloc::{AllocError, Global};
 use std::marker::Model;
-use terms::Edit;
 
 /// Items that rise by their keys, no key twice. A contract sees them as their list.
 #[derive(Drop)]

@@ -14,7 +14,7 @@ use Rattle.terms.specs.contracts.kinds.ElemTypePartialEq.TheImpl as type_equalit
 use Rattle.terms.specs.Types.{Text, type_number, Change}
 use Rattle.terms.specs.Global.{change_cmp}
 use Rattle.terms.specs.Lookups.{element_cmp}
-use Rattle.terms.specs.Delta.{element_eq}
+use Rattle.terms.specs.Lookups.{element_eq}
 
 -- what `cmp` of two types answers
 pub cmp-types : (a b : ElemType) → type_order.ghosts.cmp a b ≡ nat_cmp (type_number a) (type_number b)

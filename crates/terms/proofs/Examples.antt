@@ -1,6 +1,6 @@
 -- Small zones that show the definitions at work. Ids are single numbers here.
-use Rattle.std.specs.Prelude.{◌≡◌, true, false, List, [], ◌∷◌, None, Some, refl, map}
-use Rattle.std.proofs.Common.{inl, arith}
+use Rattle.std.specs.Prelude.{◌≡◌, ◌≢◌, true, false, List, [], ◌∷◌, None, Some, Contains, refl, map}
+use Rattle.std.proofs.Common.{inl, inr, arith, sym, subst}
 use Rattle.terms.specs.declared.kinds.Kind.{Kind}
 use Rattle.terms.specs.declared.kinds.Kind.TheVariants.{Function, Ptf}
 use Rattle.terms.specs.declared.kinds.HoldKind.TheVariants.{Error, User}
@@ -8,17 +8,18 @@ use Rattle.terms.specs.declared.kinds.ElemType.TheVariants.{Mac}
 use Rattle.terms.specs.declared.kinds.ZoneKind.TheVariants.{Target}
 use Rattle.terms.specs.declared.codes.NeedKind.TheVariants.{Fmid, Pre, Req, Ifreq, HoldError, Orphan}
 use Rattle.terms.specs.declared.not_chosen.NotChosen.TheVariants.{Already, Deleted, Missing, NoVer}
+use Rattle.lemmas.proofs.Members.{here_or, none_in}
 use Rattle.terms.specs.Types.{Text, Id, Ver, Change, Replaces, Sysmod, Global, Entry, Zone, NoReason, AnyReason, Bypass}
 use Rattle.terms.specs.Types.{Selection}
 use Rattle.terms.specs.Lookups.{is_applied}
-use Rattle.terms.specs.Choice.{by_srel}
-use Rattle.terms.specs.Over.{Supersedes, chain}
-use Rattle.terms.specs.Deleted.{zone_less}
+use Rattle.terms.specs.Choice.{counting, del_of}
+use Rattle.terms.specs.Over.{Leads, Reaches, Supersedes, names, chain}
+use Rattle.terms.specs.Deleted.{is_deleted, zone_less}
 use Rattle.terms.specs.Candidates.{IsCandidate, is_start, needed_ids, not_chosen}
-use Rattle.terms.specs.Tests.{FailsJ2, standing_holds}
-use Rattle.terms.specs.Needs.{asked, orphans, binding_ids, Needs}
+use Rattle.terms.specs.Tests.{Setting, Clash, FailsJ2, standing_holds}
+use Rattle.terms.specs.Needs.{asked, orphans, binding_ids, Needs, Serves}
 use Rattle.terms.specs.Judged.{setting}
-use Rattle.terms.specs.Install.{Installation, delby_after}
+use Rattle.terms.specs.Install.{Installation, TakesEffect, delby_after}
 
 abbrev srel : Text
 srel = 9 ∷ []
@@ -111,7 +112,7 @@ select xs = record {
 }
 
 -- the chain of UA00021 is itself and its FMID
-chain-service : chain deleting (by_srel deleting srel) ua21 ≡ ua21 ∷ haa ∷ []
+chain-service : chain deleting (counting deleting full []) ua21 ≡ ua21 ∷ haa ∷ []
 chain-service = refl
 
 -- HCC1200 takes the supplier of UA00021 from UA00023
@@ -120,7 +121,7 @@ unfolding orphans zone_less
 orphans-deleter = refl
 
 -- with HAA1100 its service and its macro go
-zone_less-deletion : zone_less deleting (by_srel deleting srel) (haa ∷ []) full
+zone_less-deletion : zone_less deleting (counting deleting full []) (haa ∷ []) full
     ≡ record full { entries = applied hdd ∷ applied ua23 ∷ []; elements = [] }
 unfolding zone_less
 zone_less-deletion = refl
@@ -128,7 +129,7 @@ zone_less-deletion = refl
 abbrev installing : Installation
 installing = record {
   global = deleting;
-  choice = by_srel deleting srel;
+  choice = counting deleting full (hcc ∷ []);
   zone = full;
   kept = hcc ∷ [];
   bypassed = [];
@@ -171,7 +172,7 @@ unfolding not_chosen
 not_chosen-deleted = refl
 
 -- what UA00023 asks for
-binding_ids-service : binding_ids (by_srel deleting srel) full (is_applied full) ua23 ≡ ua21 ∷ []
+binding_ids-service : binding_ids (counting deleting full []) full (is_applied full) ua23 ≡ ua21 ∷ []
 binding_ids-service = refl
 
 asked-service : map (asked (setting deleting full None (ua23 ∷ []) no_bypass) [] ua23)
@@ -220,18 +221,18 @@ extending = record {
       ∷ [];
 }
 
-needed_ids-missing : needed_ids extending (by_srel extending srel) base (λ x. false) ua7 ≡ ua8 ∷ []
+needed_ids-missing : needed_ids extending base (λ x. false) ua7 ≡ ua8 ∷ []
 unfolding needed_ids
 needed_ids-missing = refl
 
-supersedes_missing : Supersedes (by_srel extending srel) ua10 ua8
+supersedes_missing : Supersedes (counting extending base []) ua10 ua8
 supersedes_missing = ([], (0, omega arith, refl))
 
 -- GROUP brings in the function of what it names
 abbrev grouped : Selection
 grouped = record (select []) { group = ua21 ∷ [] }
 
-grouped_candidate : IsCandidate deleting (by_srel deleting srel) (record full { entries = [] }) grouped haa
+grouped_candidate : IsCandidate deleting (record full { entries = [] }) grouped haa
 unfolding needed_ids
 grouped_candidate = λ cands growing pair.
     pair.part haa (pair.grown ua21 haa (pair.growing_start ua21 refl) (refl, inl (0, omega arith, refl)))
@@ -257,3 +258,109 @@ standing_holds-bypassed = refl
 standing_holds-class : standing_holds (setting extending base None (ua7 ∷ [])
     (record no_bypass { holdclass = (6 ∷ []) ∷ [] })) User ua7 ≡ []
 standing_holds-class = refl
+
+-- UA00010 supersedes the reason of the ERROR hold on UA00007, and so it serves the need for it.
+abbrev resolving : Setting
+resolving = setting extending base None (ua7 ∷ ua10 ∷ []) no_bypass
+
+asked-error : asked resolving [] ua7 HoldError ≡ ua8 ∷ []
+asked-error = refl
+
+serves-error : Serves resolving.choice HoldError ua10 ua8
+serves-error = inr (refl, ([], (0, omega arith, refl)))
+
+-- only UA00010 itself would serve a need for it as FMID
+serves-fmid : Serves resolving.choice Fmid ua10 ua8 → ⊥
+serves-fmid (inl same) = absurd (cc same)
+serves-fmid (inr more) = absurd (cc (more.0))
+
+-- Kept with what supersedes it, UA00008 is not installed.
+abbrev superseding : Installation
+superseding = record installing {
+  global = extending;
+  choice = counting extending base (ua8 ∷ ua10 ∷ []);
+  zone = base;
+  kept = ua8 ∷ ua10 ∷ [];
+}
+
+superseded : TakesEffect superseding ua8 → ⊥
+superseded effect = effect.first ua10 (1, omega arith, refl) (λ same. absurd (cc same)) ([], (0, omega arith, refl))
+
+-- UA00013 has an ++IF for HCC1200 that requires UA00014, whether HCC1200 passes its tests or not.
+abbrev ua13 : Id
+ua13 = 113 ∷ []
+
+abbrev ua14 : Id
+ua14 = 114 ∷ []
+
+abbrev conditional : Global
+conditional = record {
+  holds = [];
+  sysmods =
+      sysmod haa Function plain []
+      ∷ sysmod hcc Function plain []
+      ∷ sysmod ua13 Ptf (record plain { fmid = Some haa; ifs = record { function = hcc; req = ua14 ∷ [] } ∷ [] }) []
+      ∷ [];
+}
+
+asked-condition : asked (setting conditional base None (hcc ∷ ua13 ∷ []) no_bypass) [] ua13 Ifreq ≡ ua14 ∷ []
+unfolding zone_less
+asked-condition = refl
+
+asked-no_condition : asked (setting conditional base None (ua13 ∷ []) no_bypass) [] ua13 Ifreq ≡ []
+unfolding zone_less
+asked-no_condition = refl
+
+-- Two PTFs for one function replace its macro, and neither is over the other.
+abbrev ua15 : Id
+ua15 = 115 ∷ []
+
+abbrev ua16 : Id
+ua16 = 116 ∷ []
+
+abbrev replacing : List Change
+replacing = record { elem_type = Mac; name = macro; action = Replaces [] [] [] } ∷ []
+
+abbrev unordered : Global
+unordered = record {
+  holds = [];
+  sysmods =
+      sysmod haa Function plain replacing
+      ∷ sysmod ua15 Ptf (record plain { fmid = Some haa }) replacing
+      ∷ sysmod ua16 Ptf (record plain { fmid = Some haa }) replacing
+      ∷ [];
+}
+
+-- what a SYSMOD leads to there
+abbrev led_to : Id → Id → Type 0
+led_to x z = Reaches (names (counting unordered base [])) x z
+
+none-above : (x : Id) → led_to haa x → ⊥
+none-above x ([], at) = none_in x at
+none-above x (y ∷ ys, (at, rest)) = none_in y at
+
+only-function : (x : Id) → x ≢ haa → (y : Id) → names (counting unordered base []) y ≡ haa ∷ [] → led_to y x → ⊥
+only-function x other y is ([], at) =
+    elim (here_or haa [] x (subst (λ xs. Contains xs x) is at)) [ inl same ↦ other (sym same) | inr none ↦ none_in x none ]
+only-function x other y is (z ∷ zs, (at, rest)) =
+    elim (here_or haa [] z (subst (λ xs. Contains xs z) is at))
+    [ inl same ↦ none-above x (zs, subst (λ w. Leads (names (counting unordered base [])) w zs x) (sym same) rest)
+    | inr none ↦ none_in z none ]
+
+-- so each of them clashes with the other
+clashes : Clash (setting unordered base None [] no_bypass) ua15 ua16
+clashes = inr (inr ((Mac, macro, refl, refl),
+    inr (only-function ua16 (λ same. absurd (cc same)) ua15 refl, only-function ua15 (λ same. absurd (cc same)) ua16 refl)))
+
+-- With HCC1200 service for HAA1100 is deleted; where something applied supersedes it, its entry stays.
+deleted-service : is_deleted deleting (counting deleting full []) (del_of (counting deleting full []) hcc) ua21 ≡ true
+deleted-service = refl
+
+zone_less-superseded : zone_less deleting (counting deleting full []) (haa ∷ [])
+    (record full { entries = applied hdd ∷ record (applied ua21) { supby = ua23 ∷ [] } ∷ applied ua23 ∷ [] })
+    ≡ record full {
+      entries = applied hdd ∷ record (applied ua21) { applied = None; supby = ua23 ∷ [] } ∷ applied ua23 ∷ [];
+      elements = [];
+    }
+unfolding zone_less
+zone_less-superseded = refl

@@ -14,7 +14,7 @@ use Rattle.std.proofs.lemmas.Cmp.{nat_cmp_total, nat_list_cmp_total, on_total, t
 use Rattle.std.proofs.lemmas.List.Elements.{All-nil, All-head, All-tail, All-filter, All-map, All-weaker, filter_passes}
 use Rattle.std.proofs.lemmas.List.Kept.{AllPairs-cons, AllPairs-filter}
 use Rattle.std.proofs.lemmas.Bool.{and_parts}
-use Rattle.terms.proofs.Edits.{All-with_item, Rises-with_item}
+use Rattle.terms.proofs.Placing.{All-with_item, Rises-with_item}
 use Rattle.lemmas.proofs.Options.{map_or-map, is_some-map}
 use Rattle.lemmas.proofs.Booleans.{or_false}
 use Rattle.lemmas.proofs.Pairs.{AllPairs-first, AllPairs-rest}

@@ -1,6 +1,4 @@
-pub mod Greatest
 pub mod GlobalGroups
-pub mod KeyedMaps
 pub mod HoldOrder
 pub mod GlobalKept
 pub mod GlobalLookups
@@ -8,14 +6,13 @@ pub mod GlobalRoles
 pub mod Ids
 pub mod Nil
 pub mod Leads
-pub mod Least
 pub mod Loops
 pub mod Rising
 pub mod RisingLists
+pub mod Placing
 pub mod Texts
 pub mod Controls
 pub mod Updates
-pub mod Numbered
 mod Examples
 pub mod Closings
 pub mod Gaps
@@ -23,11 +20,9 @@ pub mod Pieces
 pub mod Lengths
 pub mod Solids
 pub mod ElementOrder
-pub mod Edits
 pub mod Members
 pub mod Longest
 pub mod Exact
-pub mod NumberedCauses
 pub mod SameLists
 pub mod SameZones
 pub mod NothingDeleted

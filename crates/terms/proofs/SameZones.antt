@@ -9,7 +9,7 @@ use Rattle.terms.specs.declared.kinds.ElemType.{ElemType}
 use Rattle.terms.specs.Types.{Text, Id, Entry, Zone, a_zone}
 use Rattle.terms.specs.Lookups.{IsZone, is_nil, is_held, entry_of, element_of, element_key, applied_of, supby_of}
 use Rattle.terms.specs.Lookups.{delby_of, waived_of}
-use Rattle.terms.specs.Delta.{element_eq}
+use Rattle.terms.specs.Lookups.{element_eq}
 use Rattle.terms.proofs.ElementOrder.{element_cmp_total, element_ties}
 use Rattle.lemmas.proofs.Texts.{same_from}
 use Rattle.terms.proofs.SameLists.{rising_same}

@@ -3,19 +3,19 @@
 -- EXCLUDE, SOURCEID, FORFMID, GROUP and GROUPEXTEND. How these combine is this project's profile.)
 use Rattle.std.specs.Prelude.{◌≡◌, ◌⊎◌, ◌↔◌, ◌&&◌, ◌||◌, Bool, false, not, List, [], ◌∷◌, ◌++◌, Option, None, Some}
 use Rattle.std.specs.Prelude.{filter, map, is_some, IsTrue, Contains, if◌then◌else◌}
-use Rattle.std.specs.List.{flat_map}
+use Rattle.std.specs.List.{flat_map, list_any}
 use Rattle.std.specs.Option.{option_map_or}
-use Rattle.std.specs.Str.{bytes_eq}
 use Rattle.terms.specs.declared.kinds.Kind.{Kind}
 use Rattle.terms.specs.declared.kinds.Kind.TheVariants.{Function, Ptf, Apar, Usermod}
 use Rattle.terms.specs.declared.kinds.HoldKind.TheVariants.{Error}
 use Rattle.terms.specs.declared.not_chosen.NotChosen.{NotChosen}
 use Rattle.terms.specs.declared.not_chosen.NotChosen.TheVariants.{Already, Deleted, Missing, NoVer}
-use Rattle.terms.specs.Types.{Id, Sysmod, Global, Zone, Selection}
+use Rattle.terms.specs.Types.{Text, Id, Ver, Sysmod, Global, Zone, Selection}
 use Rattle.terms.specs.Lookups.{IsRising, is_nil, at_most_one, is_in, meets, sysmod_of, is_received, is_function}
 use Rattle.terms.specs.Lookups.{holds_of, applied_ids, is_applied, is_supplied, delby_of}
-use Rattle.terms.specs.Choice.{Choice, vers_of, fmid_of, pre_of, req_of, ifs_of}
-use Rattle.terms.specs.Over.{Supersedes}
+use Rattle.terms.specs.Choice.{vers_of, counting}
+use Rattle.terms.specs.Conditions.{reqs_where, stated_for}
+use Rattle.terms.specs.Over.{Reaches}
 
 -- It may be installed: it has a ++VER for the zone's SREL, and is neither supplied nor deleted.
 abbrev pub is_installable : Global → Zone → Id → Bool
@@ -33,10 +33,13 @@ takes_kind sel Ptf = sel.ptfs || not (sel.functions || sel.apars || sel.usermods
 takes_kind sel Apar = sel.apars
 takes_kind sel Usermod = sel.usermods
 
+-- the FMIDs of its ++VERs for the zone's SREL
+abbrev pub fmids_for : Global → Text → Id → List Id
+fmids_for g srel x = flat_map (λ v. at_most_one v.fmid) (vers_of g srel x)
+
 -- what FORFMID looks at: the FMIDs for the zone's SREL, and a function's own id
 abbrev pub forfmid_ids : Global → Zone → Id → List Id
-forfmid_ids g zone x =
-    flat_map (λ v. at_most_one v.fmid) (vers_of g zone.srel x) ++ (if is_function g x then x ∷ [] else [])
+forfmid_ids g zone x = fmids_for g zone.srel x ++ (if is_function g x then x ∷ [] else [])
 
 -- whether a SYSMOD passes all filters of the mass choice
 abbrev pub passes_filters : Global → Zone → Selection → Sysmod → Bool
@@ -66,60 +69,56 @@ is_start g zone sel x =
 abbrev pub is_growing_start : Global → Zone → Selection → Id → Bool
 is_growing_start g zone sel x = is_start g zone sel x && (sel.groupextend || is_in sel.group x)
 
--- the requisites of its ++IFs whose function is there
-abbrev pub if_reqs : Choice → (Id → Bool) → Id → List Id
-if_reqs c is_there x = flat_map (λ i. i.req) (filter (λ i. is_there i.function) (ifs_of c x))
+-- what a ++VER requires: PRE, REQ and by ++IFs whose function is applied or a candidate
+abbrev pub required_by : Zone → (Id → Bool) → Ver → List Id
+required_by zone cands v = v.pre ++ v.req ++ reqs_where (λ f. is_applied zone f || cands f) v.ifs
 
--- the ++IF requisites that these SYSMODs state for a function
-abbrev pub stated_for : Choice → List Id → Id → List Id
-stated_for c xs function = flat_map (if_reqs c (bytes_eq function)) xs
-
--- The requisites by ++IF: those of its own whose function is applied or a candidate, and for a function those that
--- applied SYSMODs state for it.
-abbrev pub if_needed : Global → Choice → Zone → (Id → Bool) → Id → List Id
-if_needed g c zone cands x =
-    if_reqs c (λ f. is_applied zone f || cands f) x
-    ++ (if is_function g x then stated_for c (applied_ids zone) x else [])
-
--- its needed ids: FMID, PRE, REQ and those by ++IF, less what the zone supplies; an FMID goes only if it is applied
-unfoldable pub needed_ids : Global → Choice → Zone → (Id → Bool) → Id → List Id
-needed_ids g c zone cands x =
-    filter (λ z. not (is_applied zone z)) (at_most_one (fmid_of c x))
-    ++ filter (λ z. not (is_supplied zone z)) (pre_of c x ++ req_of c x ++ if_needed g c zone cands x)
+-- Its needed ids: its FMIDs unless one is applied, and less what the zone supplies the requisites of its ++VERs for the
+-- zone's SREL and, of a function, those that applied SYSMODs state for it by ++IF.
+unfoldable pub needed_ids : Global → Zone → (Id → Bool) → Id → List Id
+needed_ids g zone cands x =
+    (if list_any (is_applied zone) (fmids_for g zone.srel x) then [] else fmids_for g zone.srel x)
+    ++ filter (λ z. not (is_supplied zone z)) (flat_map (required_by zone cands) (vers_of g zone.srel x)
+    ++ (if is_function g x then stated_for (counting g zone []) (applied_ids zone) x else []))
 
 -- the reasons of its ERROR holds that the zone does not supply: the APARs that would resolve them
 abbrev pub open_reasons : Global → Zone → Id → List Id
 open_reasons g zone x = filter (λ z. not (is_supplied zone z)) (map (λ h. h.reason) (holds_of g Error x))
 
+-- what it supersedes directly by its ++VERs for an SREL
+abbrev pub sups_for : Global → Text → Id → List Id
+sups_for g srel x = flat_map (λ v. v.sup) (vers_of g srel x)
+
 -- y is a needed id of x or the reason of an ERROR hold on it, or supersedes such an id
-abbrev pub Extends : Global → Choice → Zone → (Id → Bool) → Id → Id → Type 0
-Extends g c zone cands x y =
-    (z : Id) × Contains (needed_ids g c zone cands x ++ open_reasons g zone x) z × ((y ≡ z) ⊎ Supersedes c y z)
+abbrev pub Extends : Global → Zone → (Id → Bool) → Id → Id → Type 0
+Extends g zone cands x y =
+    (z : Id) × Contains (needed_ids g zone cands x ++ open_reasons g zone x) z
+    × ((y ≡ z) ⊎ Reaches (sups_for g zone.srel) y z)
 
 -- x brings y in: y is open, and needed by x or under GROUPEXTEND one that extends x
-abbrev pub BringsIn : Global → Choice → Zone → Selection → (Id → Bool) → Id → Id → Type 0
-BringsIn g c zone sel cands x y =
+abbrev pub BringsIn : Global → Zone → Selection → (Id → Bool) → Id → Id → Type 0
+BringsIn g zone sel cands x y =
     IsTrue (is_open g zone sel y)
-    × (Contains (needed_ids g c zone cands x) y ⊎ (IsTrue sel.groupextend × Extends g c zone cands x y))
+    × (Contains (needed_ids g zone cands x) y ⊎ (IsTrue sel.groupextend × Extends g zone cands x y))
 
 -- The candidates hold the start, and the growing ones among them have what each of them brings in.
-pub record IsClosedPair (g : Global) (c : Choice) (zone : Zone) (sel : Selection) (cands growing : Id → Bool) :
+pub record IsClosedPair (g : Global) (zone : Zone) (sel : Selection) (cands growing : Id → Bool) :
     Type 0 where
   pub start : (x : Id) → IsTrue (is_start g zone sel x) → IsTrue (cands x)
   pub growing_start : (x : Id) → IsTrue (is_growing_start g zone sel x) → IsTrue (growing x)
   pub part : (x : Id) → IsTrue (growing x) → IsTrue (cands x)
   pub only_open : (x : Id) → IsTrue (growing x) → IsTrue (is_open g zone sel x)
-  pub grown : (x y : Id) → IsTrue (growing x) → BringsIn g c zone sel cands x y → IsTrue (growing y)
+  pub grown : (x y : Id) → IsTrue (growing x) → BringsIn g zone sel cands x y → IsTrue (growing y)
 
 -- It is in the first set of every closed pair.
-abbrev pub IsCandidate : Global → Choice → Zone → Selection → Id → Type 0
-IsCandidate g c zone sel x =
-    (cands growing : Id → Bool) → IsClosedPair g c zone sel cands growing → IsTrue (cands x)
+abbrev pub IsCandidate : Global → Zone → Selection → Id → Type 0
+IsCandidate g zone sel x =
+    (cands growing : Id → Bool) → IsClosedPair g zone sel cands growing → IsTrue (cands x)
 
 -- all candidates
-pub record AreCandidates (g : Global) (c : Choice) (zone : Zone) (sel : Selection) (cands : List Id) : Type 0 where
+pub record AreCandidates (g : Global) (zone : Zone) (sel : Selection) (cands : List Id) : Type 0 where
   pub rising : IsRising cands
-  pub members : (x : Id) → Contains cands x ↔ IsCandidate g c zone sel x
+  pub members : (x : Id) → Contains cands x ↔ IsCandidate g zone sel x
 
 -- the reason that is printed of an id that SELECT or GROUP names, and that is not open though EXCLUDE does not name it
 unfoldable pub not_chosen : Global → Zone → Selection → Id → Option NotChosen

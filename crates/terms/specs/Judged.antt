@@ -1,19 +1,17 @@
 -- What APPLY and ACCEPT decide, all together: the setting of a command, and its kept set.
 use Rattle.std.specs.Prelude.{List, Option, Contains, ◌↔◌}
-use Rattle.terms.specs.declared.codes.NeedKind.{NeedKind}
 use Rattle.terms.specs.Types.{Id, Global, Zone, Bypass}
 use Rattle.terms.specs.Lookups.{IsRising}
-use Rattle.terms.specs.Choice.{by_srel}
-use Rattle.terms.specs.Problem.{Problem}
+use Rattle.terms.specs.Choice.{counting}
 use Rattle.terms.specs.Tests.{Setting, IsEligible, AreSurvivors}
 use Rattle.terms.specs.Needs.{Needs, Serves}
-use Rattle.terms.specs.Kept.{StaysKept, IsProblemOf}
+use Rattle.terms.specs.Kept.{StaysKept}
 
--- the setting in which each SYSMOD's ++VER is that of the zone's SREL
+-- the setting of a command with these candidates
 abbrev pub setting : Global → Zone → Option Zone → List Id → Bypass → Setting
 setting g zone related cands bypass = record {
   global = g;
-  choice = by_srel g zone.srel;
+  choice = counting g zone cands;
   zone = zone;
   related = related;
   cands = cands;
@@ -30,9 +28,3 @@ pub record IsKeptSet (s : Setting) (kept : List Id) : Type 0 where
   pub are_survivors : AreSurvivors s survivors
   pub rising : IsRising kept
   pub members : (x : Id) → Contains kept x ↔ Stays s survivors x
-
--- The problem is the command's, with the candidates numbered by their places.
-pub record IsInstallProblem (s : Setting) (p : Problem) (needed : List (NeedKind × Id)) : Type 0 where
-  pub survivors : List Id
-  pub are_survivors : AreSurvivors s survivors
-  pub problem : IsProblemOf (IsEligible s) (Needs s survivors) (Serves s.choice) s.cands p needed

@@ -2,13 +2,9 @@ pub mod Types
 pub mod Rising
 pub mod Spelling
 pub mod Lookups
-pub mod Delta
 pub mod Choice
 pub mod Over
 pub mod Global
-pub mod Problem
-pub mod Causes
-pub mod Least
 pub mod Forms
 pub mod Records
 pub mod Groups
@@ -25,6 +21,7 @@ pub mod Ptfin
 pub mod HoldFile
 pub mod Changes
 pub mod Deleted
+pub mod Conditions
 pub mod Candidates
 pub mod Tests
 pub mod Needs
@@ -34,4 +31,3 @@ pub mod Install
 pub mod Failures
 pub mod Restore
 pub mod Closed
-pub mod KeyedMaps

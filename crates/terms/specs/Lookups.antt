@@ -82,6 +82,10 @@ element_key e = (e.elem_type, e.name)
 abbrev pub element_cmp : ElemType × Text → ElemType × Text → Ordering
 element_cmp a b = ordering_then (nat_cmp (type_number a.0) (type_number b.0)) (slice_cmp nat_cmp a.1 b.1)
 
+-- whether the two are one type and one name
+abbrev pub element_eq : ElemType × Text → ElemType × Text → Bool
+element_eq a b = (type_number a.0 == type_number b.0) && bytes_eq a.1 b.1
+
 -- Entries and elements are in order, none twice. No entry is empty. A target zone alone names a related zone.
 pub record IsZone (zone : Zone) : Type 0 where
   pub entries : Rises (slice_cmp nat_cmp) (λ e. e.id) zone.entries

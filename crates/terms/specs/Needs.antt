@@ -11,7 +11,7 @@ use Rattle.terms.specs.Lookups.{at_most_one, is_in, is_applied, is_supplied, sup
 use Rattle.terms.specs.Choice.{Choice, fmid_of, pre_of, req_of, ifs_of, del_of}
 use Rattle.terms.specs.Over.{Supersedes}
 use Rattle.terms.specs.Deleted.{deletions, is_taken_out, zone_less}
-use Rattle.terms.specs.Candidates.{if_needed}
+use Rattle.terms.specs.Conditions.{if_needed}
 use Rattle.terms.specs.Tests.{Setting, view_of, standing_holds}
 
 -- the ids of the list that this SYSMOD does not waive

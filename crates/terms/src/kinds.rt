@@ -35,10 +35,3 @@ pub enum ZoneKind {
     Target,
     Distribution,
 }
-
-/// What a change does at a key: it puts an item there, or what stands there goes.
-#[derive(Drop)]
-pub enum Edit<T, K> {
-    Put(T),
-    Remove(K),
-}

@@ -11,7 +11,7 @@ mod statement_words;
 mod text_faults;
 
 pub use codes::{CnCode, CommandWord, IdRefusal, McCode, NeedKind, Test};
-pub use kinds::{Edit, ElemType, HoldKind, Kind, ZoneKind};
+pub use kinds::{ElemType, HoldKind, Kind, ZoneKind};
 pub use not_chosen::NotChosen;
 pub use statement_words::StatementWord;
 pub use text_faults::{TextCode, TextFault};

@@ -3,7 +3,8 @@ use Rattle.std.specs.Ordering.{nat_cmp}
 use Rattle.std.specs.Cmp.Lexicographic.{slice_cmp}
 use Rattle.terms.specs.Types.{Zone}
 use Rattle.terms.specs.Lookups.{element_cmp, element_key}
-use Rattle.terms.specs.Delta.{ZoneDelta, edited}
+use Rattle.zones.specs.Delta.{ZoneDelta}
+use Rattle.tables.specs.Edits.{edited}
 
 abbrev pub changed_zone : ZoneDelta → Zone → Zone
 changed_zone delta zone = record zone {

@@ -2,18 +2,19 @@
 ghost use Rattle.std.specs.Prelude.{◌≡◌, [], IsTrue, IfOk, OnOk, OnErr};
 ghost use Rattle.std.specs.Ordering.{nat_cmp};
 ghost use Rattle.std.specs.Cmp.Lexicographic.{slice_cmp};
-ghost use Rattle.terms.specs.declared.kinds.Edit.TheVariants.{Put, Remove};
+ghost use Rattle.tables.specs.declared.edits.Edit.TheVariants.{Put, Remove};
 ghost use Rattle.terms.specs.Lookups.{element_cmp, element_key, is_held, waives_applied};
 ghost use Rattle.terms.specs.Rising.{with_item};
-ghost use Rattle.terms.specs.Delta.{IsChanged, IsDelta, edit_key};
+ghost use Rattle.zones.specs.Delta.{IsChanged, IsDelta};
+ghost use Rattle.tables.specs.Edits.{edit_key};
 
 use crate::entries::{Element, Entry};
 use crate::zone::Zone;
 use fields::{Id, Name};
 use std::alloc::{AllocError, Global};
 use std::marker::Model;
-use tables::Table;
-use terms::{Edit, ElemType};
+use tables::{Edit, Table};
+use terms::ElemType;
 
 /// Entries and elements that are put and removed, one edit at a key.
 #[derive(Drop)]
@@ -24,7 +25,8 @@ pub struct ZoneDelta {
 
 impl Model for ZoneDelta {
     ghost use Rattle.std.specs.Prelude.{All, IfSome, IsTrue};
-    ghost use Rattle.terms.specs.Delta.{ZoneDelta as AZoneDelta, edit_put};
+    ghost use Rattle.zones.specs.Delta.{ZoneDelta as AZoneDelta};
+    ghost use Rattle.tables.specs.Edits.{edit_put};
     ghost use Rattle.terms.specs.Lookups.{is_held, waives_applied};
 
     ghost Value = { AZoneDelta };

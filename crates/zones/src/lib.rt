@@ -11,6 +11,7 @@ pub use delta::ZoneDelta;
 pub use entries::{Element, Entry};
 pub use fields::{Id, IdList, Name, Srel, YyDdd, ZoneName};
 pub use tables::{Keyed, Table, TryClone};
-pub use terms::{Edit, ElemType, ZoneKind};
+pub use tables::Edit;
+pub use terms::{ElemType, ZoneKind};
 pub use text80::Line;
 pub use zone::Zone;

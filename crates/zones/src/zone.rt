@@ -1,6 +1,6 @@
 //! A zone: a map from ids to entries, and one from types and names to elements.
 ghost use Rattle.std.specs.Prelude.{◌≡◌, ◌==◌, ◌↔◌, [], All, IsTrue, IsSome, IfSome, IfOk, is_some, option_copied};
-ghost use Rattle.terms.specs.Delta.{IsChanged};
+ghost use Rattle.zones.specs.Delta.{IsChanged};
 ghost use Rattle.terms.specs.Types.{zone_number, a_zone};
 ghost use Rattle.terms.specs.Lookups.{IsRising, IsZone, entry_of, element_of, is_applied, is_supplied, is_held};
 ghost use Rattle.terms.specs.Lookups.{waives_applied};

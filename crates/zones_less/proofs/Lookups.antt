@@ -14,7 +14,7 @@ use Rattle.terms.specs.Types.{Text, Id, Global, Entry, Element, Zone}
 use Rattle.terms.specs.Lookups.{is_nil, is_held, is_before, is_applied, is_supplied, entry_of, supby_of, element_of}
 use Rattle.terms.specs.Lookups.{element_key, IsZone}
 use Rattle.terms.specs.Choice.{Choice}
-use Rattle.terms.specs.Delta.{element_eq}
+use Rattle.terms.specs.Lookups.{element_eq}
 use Rattle.terms.specs.Deleted.{is_deleted, is_taken_out, entry_less, zone_less}
 use Rattle.terms.proofs.ElementOrder.{element_cmp_total, element_ties}
 use Rattle.zones_less.proofs.Filtered.{passing, find-filter}

@@ -2,7 +2,7 @@ use Rattle.std.proofs.Common.{◌∙◌, ap, subst, map, not}
 use Rattle.std.specs.Prelude.{◌↔◌, Contains, filter}
 use Rattle.terms.specs.Types.{Id}
 use Rattle.terms.specs.Lookups.{is_in}
-use Rattle.terms.specs.Choice.{by_srel}
+use Rattle.sysmods.specs.Choices.{by_srel}
 use Rattle.change.specs.Superseded.{AreSuperseded}
 use Rattle.change.proofs.TakingEffect.{takes_effect}
 use Rattle.change.proofs.effective.taking_effect.Goals as goal

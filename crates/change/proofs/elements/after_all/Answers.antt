@@ -2,7 +2,7 @@ use Rattle.std.proofs.Common.{◌∙◌, ◌⊎◌, AllPairs, IsTrue, inl, inr, 
 use Rattle.std.proofs.lemmas.List.Sorted.{All-permutation}
 use Rattle.std.proofs.lemmas.Result.{IfOk-weaker}
 use Rattle.terms.specs.Changes.{has_replacement}
-use Rattle.terms.specs.Choice.{by_srel}
+use Rattle.sysmods.specs.Choices.{by_srel}
 use Rattle.terms.specs.Lookups.{has_change}
 use Rattle.terms.specs.Over.{IsOver}
 use Rattle.change.proofs.AllElements.{permuted_any, permuted_changers}

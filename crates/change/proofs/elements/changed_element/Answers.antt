@@ -1,5 +1,5 @@
 use Rattle.std.proofs.Common.{◌∙◌, ◌⊎◌, AllPairs, ap, subst, sym}
-use Rattle.terms.specs.Choice.{by_srel}
+use Rattle.sysmods.specs.Choices.{by_srel}
 use Rattle.terms.specs.Over.{IsOver}
 use Rattle.change.proofs.elements.changed_element.Goals as goal
 

@@ -2,7 +2,7 @@ use Rattle.std.proofs.Common.{◌≡◌, ◌≢◌, ◌∙◌, [], ◌+◌, List
 use Rattle.std.proofs.lemmas.List.{take_all}
 use Rattle.std.proofs.lemmas.List.Elements.{All-push}
 use Rattle.terms.specs.Types.{Element}
-use Rattle.terms.specs.Choice.{by_srel}
+use Rattle.sysmods.specs.Choices.{by_srel}
 use Rattle.terms.specs.Deleted.{zone_less}
 use Rattle.terms.specs.Lookups.{element_key, element_of, has_change}
 use Rattle.change.specs.Grouping.{ChangedElement, changed_key}

@@ -1,5 +1,5 @@
 use Rattle.std.proofs.Common.{◌≡◌, All, map, take}
-use Rattle.terms.specs.Choice.{by_srel}
+use Rattle.sysmods.specs.Choices.{by_srel}
 use Rattle.terms.specs.Lookups.{element_key}
 use Rattle.change.specs.Grouping.{changed_key}
 use Rattle.change.proofs.AllElements.{IsAfter}

@@ -1,5 +1,5 @@
 use Rattle.std.specs.Prelude.{option_copied}
-use Rattle.terms.specs.Choice.{by_srel}
+use Rattle.sysmods.specs.Choices.{by_srel}
 use Rattle.terms.specs.Deleted.{zone_less}
 use Rattle.change.proofs.AllElements.{key_of_found}
 use Rattle.change.proofs.elements.left_of.Goals as goal

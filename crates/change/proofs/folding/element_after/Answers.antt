@@ -1,7 +1,7 @@
 use Rattle.std.proofs.Common.{◌≡◌, ◌∙◌, ◌⊎◌, [], ◌∷◌, ◌++◌, Any, sym, ap, subst, take, IfSome, IsSome, IsTrue}
 use Rattle.std.proofs.lemmas.List.{take_more, take_all}
 use Rattle.terms.specs.Changes.{has_replacement}
-use Rattle.terms.specs.Choice.{by_srel}
+use Rattle.sysmods.specs.Choices.{by_srel}
 use Rattle.terms.specs.Lookups.{IsRising}
 use Rattle.terms.specs.Over.{IsOver}
 use Rattle.change.specs.Folding.{IsFolded, AreChangers}

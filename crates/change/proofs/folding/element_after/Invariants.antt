@@ -1,5 +1,5 @@
 use Rattle.std.proofs.Common.{◌≡◌, take, IfSome}
-use Rattle.terms.specs.Choice.{by_srel}
+use Rattle.sysmods.specs.Choices.{by_srel}
 use Rattle.change.specs.Folding.{IsFolded}
 use Rattle.change.proofs.folding.element_after.Given as goal
 

@@ -2,7 +2,7 @@ use Rattle.std.proofs.Common.{◌∙◌, List, ap}
 use Rattle.terms.specs.Types.{Id}
 use Rattle.terms.specs.Lookups.{element_cmp}
 use Rattle.terms.specs.Rising.{with_item}
-use Rattle.terms.proofs.Edits.{with_item-agree}
+use Rattle.terms.proofs.Placing.{with_item-agree}
 use Rattle.terms.proofs.ElementOrder.{cmp-keys}
 use Rattle.change.specs.Grouping.{ChangedElement, changed_key}
 use Rattle.change.proofs.grouping.add_one.Goals as goal

@@ -2,9 +2,9 @@ use Rattle.std.proofs.Common.{◌≡◌, ◌⊎◌, ◌∙◌, Any, IsTrue, IsSo
 use Rattle.terms.specs.Types.{Id, Zone}
 use Rattle.terms.specs.Changes.{has_replacement}
 use Rattle.terms.specs.Lookups.{element_of}
-use Rattle.terms.specs.Choice.{by_srel}
+use Rattle.sysmods.specs.Choices.{by_srel}
 use Rattle.terms.specs.Deleted.{deletions, zone_less}
-use Rattle.terms.specs.Delta.{IsChanged}
+use Rattle.zones.specs.Delta.{IsChanged}
 use Rattle.terms.specs.Install.{Installation, HasInstalled}
 use Rattle.change.specs.declared.deleting.Deleting.{Deleting}
 use Rattle.change.specs.Entries.{Differs}

@@ -1,7 +1,7 @@
 use Rattle.std.proofs.Common.{◌≡◌, ◌∙◌, ◌++◌, ap, ap₂, sym, subst, map}
 use Rattle.std.specs.Prelude.{◌↔◌, Contains}
 use Rattle.terms.specs.Types.{Id}
-use Rattle.terms.specs.Choice.{by_srel}
+use Rattle.sysmods.specs.Choices.{by_srel}
 use Rattle.terms.specs.Install.{Installation, TakesEffect}
 use Rattle.change.specs.Pairs.{AreGrouped}
 use Rattle.change.specs.Superseded.{AreSuperseded}

@@ -4,7 +4,7 @@ use Rattle.terms.specs.Types.{Id}
 use Rattle.terms.specs.Lookups.{is_applied, is_function, is_in}
 use Rattle.terms.specs.Over.{chain}
 use Rattle.terms.specs.Deleted.{deletions, zone_less}
-use Rattle.terms.specs.Candidates.{if_needed, if_reqs}
+use Rattle.terms.specs.Conditions.{if_needed, if_reqs}
 use Rattle.judge.specs.declared.stated.Requisite.{Requisite}
 use Rattle.judge.specs.Conditions.{is_there, listed}
 use Rattle.judge.specs.Left.{choice_of}

@@ -1,6 +1,6 @@
 use Rattle.std.proofs.Common.{◌∙◌, length, ap, ap₂, arith, subst}
 use Rattle.std.specs.Prelude.{option_copied}
-use Rattle.terms.specs.Choice.{by_srel}
+use Rattle.sysmods.specs.Choices.{by_srel}
 use Rattle.terms.specs.Judged.{setting}
 use Rattle.judge.specs.Forbidders.{AreForbidders}
 use Rattle.judge.specs.Own.{HasFaults}

@@ -1,6 +1,6 @@
 use Rattle.std.proofs.Common.{take}
 use Rattle.std.specs.Prelude.{option_copied}
-use Rattle.terms.specs.Choice.{by_srel}
+use Rattle.sysmods.specs.Choices.{by_srel}
 use Rattle.terms.specs.Judged.{setting}
 use Rattle.judge.specs.Own.{HasFaults}
 use Rattle.judge.specs.Overs.{AreOver}

@@ -1,6 +1,6 @@
 use Rattle.std.proofs.Common.{◌∙◌, ap₂, sym, subst}
 use Rattle.std.specs.Prelude.{option_copied}
-use Rattle.terms.specs.Choice.{by_srel}
+use Rattle.sysmods.specs.Choices.{by_srel}
 use Rattle.terms.specs.Judged.{setting}
 use Rattle.sysmods.specs.Choices.{choice}
 use Rattle.judge.specs.Forbidders.{AreForbidders}

@@ -1,7 +1,7 @@
 use Rattle.std.proofs.Common.{arith}
 use Rattle.std.specs.Str.{bytes_eq}
-use Rattle.terms.specs.Choice.{by_srel}
-use Rattle.terms.specs.Candidates.{if_reqs}
+use Rattle.sysmods.specs.Choices.{by_srel}
+use Rattle.terms.specs.Conditions.{if_reqs}
 use Rattle.select.specs.Growing.{counts_for}
 use Rattle.select.proofs.Kept.{kept_more}
 use Rattle.select.proofs.asking.append_stated_among.Goals as goal

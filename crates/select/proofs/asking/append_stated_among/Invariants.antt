@@ -1,8 +1,8 @@
 use Rattle.std.proofs.Common.{◌≡◌, ◌++◌, filter, take}
 use Rattle.std.specs.List.{flat_map}
 use Rattle.std.specs.Str.{bytes_eq}
-use Rattle.terms.specs.Choice.{by_srel}
-use Rattle.terms.specs.Candidates.{if_reqs}
+use Rattle.sysmods.specs.Choices.{by_srel}
+use Rattle.terms.specs.Conditions.{if_reqs}
 use Rattle.select.specs.Growing.{counts_for}
 use Rattle.select.proofs.asking.append_stated_among.Given as goal
 

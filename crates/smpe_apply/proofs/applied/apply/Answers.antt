@@ -1,6 +1,6 @@
 use Rattle.std.proofs.Common.{◌≡◌, map, refl, sym, ap, ◌∙◌, subst}
-use Rattle.terms.specs.Choice.{by_srel}
-use Rattle.terms.specs.Delta.{IsChanged}
+use Rattle.sysmods.specs.Choices.{by_srel}
+use Rattle.zones.specs.Delta.{IsChanged}
 use Rattle.terms.specs.Install.{HasInstalled}
 use Rattle.report.specs.Views.{line_view}
 use Rattle.change.specs.Elements.{HasBases}

@@ -1,6 +1,6 @@
 use Rattle.std.proofs.Common.{◌≡◌, ℕ, take, length}
 use Rattle.std.specs.List.{list_any}
-use Rattle.terms.specs.Problem.{holds}
+use Rattle.solve.specs.Problem.{holds}
 use Rattle.solve.proofs.Bare.{is_bare}
 use Rattle.solve.proofs.causes.bare_needs.Given as goal
 

@@ -1,6 +1,6 @@
 use Rattle.std.proofs.Common.{◌≡◌, ◌++◌, ◌∙◌, List, ℕ, Bool, rules, arith, length, take, drop, sym}
 use Rattle.std.proofs.lemmas.Grind.{common_steps}
-use Rattle.terms.proofs.Greatest.{greatest_from_kept}
+use Rattle.solve.proofs.Greatest.{greatest_from_kept}
 use Rattle.solve.specs.Marks.{AreLeads}
 use Rattle.solve.proofs.Leads.{leads-small}
 use Rattle.solve.proofs.CauserRows.{causers-add, causers-skip, causers-all, has_causer}

@@ -1,6 +1,6 @@
 use Rattle.std.proofs.Common.{◌≡◌, ℕ, take}
 use Rattle.std.specs.Prelude.{◌&&◌, not}
-use Rattle.terms.specs.Problem.{holds}
+use Rattle.solve.specs.Problem.{holds}
 use Rattle.solve.specs.Marks.{is_in}
 use Rattle.solve.proofs.causes.clear.Given as goal
 

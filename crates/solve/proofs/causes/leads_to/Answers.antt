@@ -5,7 +5,7 @@ use Rattle.std.specs.declared.alloc.Global.{Global}
 use Rattle.std.proofs.Common.{ℕ}
 use Rattle.std.proofs.lemmas.List.{map_more}
 use Rattle.std.proofs.lemmas.Grind.{common_steps}
-use Rattle.terms.specs.Problem.{Demand, holds}
+use Rattle.solve.specs.Problem.{Demand, holds}
 use Rattle.solve.specs.Need.{demand}
 use Rattle.solve.proofs.Passing.{clash}
 use Rattle.solve.proofs.Leads.{AreLeadsBy, leads-none, leads-skip, leads-add}

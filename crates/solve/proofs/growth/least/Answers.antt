@@ -2,8 +2,8 @@ use Rattle.std.proofs.Common.{◌≡◌, List, Bool, ap, map, subst, sym, ◌∙
 use Rattle.std.specs.Prelude.{not, Vec}
 use Rattle.std.specs.declared.alloc.Global.{Global}
 use Rattle.std.proofs.lemmas.Result.{IfOk-weaker}
-use Rattle.terms.specs.Least.{IsLeast, growth_of}
-use Rattle.terms.proofs.Least.{least_from_kept}
+use Rattle.solve.specs.Least.{IsLeast, growth_of}
+use Rattle.solve.proofs.LeastSets.{least_from_kept}
 use Rattle.solve.proofs.growth.least.Goals as goal
 
 pub returns : goal.returns

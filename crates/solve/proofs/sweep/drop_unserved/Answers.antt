@@ -3,7 +3,7 @@ use Rattle.std.specs.List.{All}
 use Rattle.std.proofs.lemmas.List.Elements.{All-map}
 use Rattle.solve.specs.Need.{demand}
 use Rattle.solve.specs.Parts.{IsServed}
-use Rattle.terms.specs.Problem.{holds}
+use Rattle.solve.specs.Problem.{holds}
 use Rattle.solve.proofs.Passing.{clash}
 use Rattle.solve.proofs.Drops.{swept-stay, swept-drop, Contains-demand}
 use Rattle.solve.proofs.sweep.drop_unserved.Goals as goal

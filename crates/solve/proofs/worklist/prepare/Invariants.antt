@@ -1,5 +1,5 @@
 use Rattle.std.proofs.Common.{◌≡◌, ◌+◌, ◌*◌, length, map, take}
-use Rattle.terms.specs.Problem.{pairs_of}
+use Rattle.solve.specs.Problem.{pairs_of}
 use Rattle.solve.specs.Need.{demand}
 use Rattle.solve.specs.Board.{AreServed, eligible_in}
 use Rattle.solve.proofs.worklist.prepare.Given as goal

@@ -1,5 +1,5 @@
 use Rattle.std.proofs.Common.{◌∙◌, arith}
-use Rattle.terms.proofs.Edits.{editing-starts, editing-goes_on, editing-ends}
+use Rattle.tables.proofs.Editing.{editing-starts, editing-goes_on, editing-ends}
 use Rattle.tables.proofs.edits.edited.Goals as goal
 
 pub loop-edit-init : goal.loop-edit-init

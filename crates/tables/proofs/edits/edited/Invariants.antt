@@ -1,4 +1,4 @@
-use Rattle.terms.proofs.Edits.{IsEditing}
+use Rattle.tables.proofs.Editing.{IsEditing}
 use Rattle.tables.proofs.edits.edited.Given as goal
 
 -- the edits so far are done

@@ -1,5 +1,5 @@
 use Rattle.std.specs.List.{All}
-use Rattle.terms.specs.Problem.{IsDemand}
+use Rattle.solve.specs.Problem.{IsDemand}
 use Rattle.lemmas.proofs.Each.{All-unmap}
 use Rattle.solve.specs.Need.{demand}
 use Rattle.solve.proofs.system.System.needs.Goals as goal

@@ -1,5 +1,6 @@
 use Rattle.std.proofs.Common.{◌≡◌, ◌-◌, ◌∙◌, ◌∷◌, length, sym, ap, ap₂, arith}
-use Rattle.terms.specs.Choice.{by_srel, fmid_of}
+use Rattle.terms.specs.Choice.{fmid_of}
+use Rattle.sysmods.specs.Choices.{by_srel}
 use Rattle.terms.specs.Over.{chain_from}
 use Rattle.sysmods.proofs.Chains.{chain_first}
 use Rattle.sysmods.proofs.chain.ChainIterator.next.Goals as goal

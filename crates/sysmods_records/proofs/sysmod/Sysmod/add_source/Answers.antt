@@ -1,6 +1,6 @@
 -- Sources stay in order with one more.
 use Rattle.std.proofs.lemmas.Cmp.{nat_list_cmp_total}
-use Rattle.terms.proofs.Edits.{Rises-with_item}
+use Rattle.terms.proofs.Placing.{Rises-with_item}
 use Rattle.sysmods_records.proofs.sysmod.Sysmod.add_source.Goals as goal
 
 pub invariant_of-self-2 : goal.invariant_of-self-2

@@ -1,4 +1,4 @@
-use Rattle.terms.proofs.Edits.{Rises-edited}
+use Rattle.tables.proofs.Editing.{Rises-edited}
 use Rattle.tables.proofs.table.Table.edited.Goals as goal
 
 pub invariant_of-result : goal.invariant_of-result

@@ -1,11 +1,12 @@
 use Rattle.std.proofs.Common.{◌∙◌, ap, List}
 use Rattle.terms.specs.declared.kinds.ElemType.{ElemType}
-use Rattle.terms.specs.declared.kinds.Edit.{Edit}
-use Rattle.terms.specs.declared.kinds.Edit.TheVariants.{Put}
+use Rattle.tables.specs.declared.edits.Edit.{Edit}
+use Rattle.tables.specs.declared.edits.Edit.TheVariants.{Put}
 use Rattle.terms.specs.Types.{Text, Element}
 use Rattle.terms.specs.Lookups.{element_cmp, element_key}
-use Rattle.terms.specs.Delta.{ZoneDelta, edit_key}
-use Rattle.terms.proofs.Edits.{with_item-agree}
+use Rattle.zones.specs.Delta.{ZoneDelta}
+use Rattle.tables.specs.Edits.{edit_key}
+use Rattle.terms.proofs.Placing.{with_item-agree}
 use Rattle.terms.proofs.ElementOrder.{cmp-keys}
 use Rattle.zones.proofs.delta.ZoneDelta.put_element.Goals as goal
 

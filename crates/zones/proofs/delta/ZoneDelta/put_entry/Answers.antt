@@ -1,12 +1,12 @@
 use Rattle.std.proofs.Common.{IsTrue, IfSome}
 use Rattle.std.specs.Ordering.{nat_cmp}
 use Rattle.std.specs.Cmp.Lexicographic.{slice_cmp}
-use Rattle.terms.specs.declared.kinds.Edit.{Edit}
-use Rattle.terms.specs.declared.kinds.Edit.TheVariants.{Put}
+use Rattle.tables.specs.declared.edits.Edit.{Edit}
+use Rattle.tables.specs.declared.edits.Edit.TheVariants.{Put}
 use Rattle.terms.specs.Types.{Id, Entry}
 use Rattle.terms.specs.Lookups.{is_held, waives_applied}
-use Rattle.terms.specs.Delta.{edit_key, edit_put}
-use Rattle.terms.proofs.Edits.{All-with_item}
+use Rattle.tables.specs.Edits.{edit_key, edit_put}
+use Rattle.terms.proofs.Placing.{All-with_item}
 use Rattle.zones.proofs.delta.ZoneDelta.put_entry.Goals as goal
 
 pub invariant_of-self-2 : goal.invariant_of-self-2

@@ -3,8 +3,8 @@ use Rattle.std.specs.Cmp.Lexicographic.{texts_ties}
 use Rattle.std.specs.Str.{bytes_eq}
 use Rattle.std.proofs.lemmas.Cmp.{nat_list_cmp_total}
 use Rattle.terms.specs.Lookups.{is_held, waives_applied, element_cmp, element_key}
-use Rattle.terms.specs.Delta.{element_eq}
-use Rattle.terms.proofs.Edits.{All-edited, find-edited, edited-agree}
+use Rattle.terms.specs.Lookups.{element_eq}
+use Rattle.tables.proofs.Editing.{All-edited, find-edited, edited-agree}
 use Rattle.terms.proofs.ElementOrder.{cmp-keys, element_cmp_total, element_ties}
 use Rattle.zones.proofs.zone.Zone.changed.Goals as goal
 

@@ -12,8 +12,9 @@ use Rattle.lemmas.proofs.Places.{All-found}
 use Rattle.terms.specs.Types.{Id}
 use Rattle.terms.specs.declared.codes.NeedKind.{NeedKind}
 use Rattle.terms.specs.declared.codes.NeedKind.TheVariants.{Fmid}
-use Rattle.terms.specs.Problem.{Demand, IsDemand, Problem, IsKept}
-use Rattle.terms.specs.Kept.{StaysKept, IsProblemOf}
+use Rattle.solve.specs.Problem.{Demand, IsDemand, Problem, IsKept}
+use Rattle.terms.specs.Kept.{StaysKept}
+use Rattle.solve.specs.Numbered.{IsProblemOf}
 
 -- the ids of a set of numbers
 abbrev pub ids_in : List Id → (ℕ → Bool) → Id → Bool

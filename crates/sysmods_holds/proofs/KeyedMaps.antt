@@ -14,7 +14,7 @@ use Rattle.std.proofs.lemmas.List.Elements.{All-cons, All-nil}
 use Rattle.std.proofs.lemmas.List.Kept.{AllPairs-cons}
 use Rattle.std.proofs.lemmas.Map.Keys.{sorted_head, sorted_tail}
 use Rattle.lemmas.proofs.Orderings.{Greater-turned, Less-turned, above_lower, above_same, Equal-from_is_eq}
-use Rattle.terms.specs.KeyedMaps.{KnowKeys}
+use Rattle.sysmods_holds.specs.KeyedMaps.{KnowKeys}
 use Rattle.terms.specs.Rising.{Rises, with_item}
 use Rattle.terms.proofs.GlobalGroups.{put-ahead, put-behind}
 use Rattle.lemmas.proofs.Searches.{filter-all_recursion}

@@ -18,11 +18,12 @@ use Rattle.std.proofs.Math.Seq.{drop-cons}
 use Rattle.lemmas.proofs.Orderings.{Equal-from_is_eq, Less-from_is_lt}
 use Rattle.lemmas.proofs.Searches.{find-filter_all, find-filter_none, find-second, find-first, filter-all, filter-none}
 use Rattle.lemmas.proofs.Searches.{find-over}
-use Rattle.terms.specs.declared.kinds.Edit.{Edit}
-use Rattle.terms.specs.declared.kinds.Edit.TheVariants.{Put, Remove}
+use Rattle.tables.specs.declared.edits.Edit.{Edit}
+use Rattle.tables.specs.declared.edits.Edit.TheVariants.{Put, Remove}
 use Rattle.terms.specs.Rising.{Rises, before, behind, with_item, without_key, Splits}
-use Rattle.terms.specs.Delta.{edit_key, edit_put, after_edit, edited, after_edits}
+use Rattle.tables.specs.Edits.{edit_key, edit_put, after_edit, edited, after_edits}
 use Rattle.terms.proofs.RisingLists.{find-there, find-apart}
+use Rattle.terms.proofs.Placing.{Splits-cut, Splits-tied, Rises-with_item, Rises-without_key, with_item-agree, without_key-agree}
 use Rattle.lemmas.proofs.Pairs.{AllPairs-first, AllPairs-rest, AllPairs-between}
 
 -- Some edits are done: `new` has the items that no later edit is about, and `rest` those that one may be about.
@@ -33,52 +34,10 @@ pub record IsEditing {X K : Type 0} (R : K → K → Ordering) (key : X → K) (
   pub low : All (λ x. All (λ e. R (key x) (edit_key key e) ≡ Less) (drop done edits)) new
 
 module _ {X K : Type 0} {R : K → K → Ordering} (o : IsTotalOrder R) (key : X → K) where
-  -- what stands before a key and behind it, cut by the key
-  pub Splits-cut : (k : K) (xs : List X) → Splits R key k (before R key k xs) (behind R key k xs)
-  Splits-cut k xs = record {
-    low = λ i d h. Less-from_is_lt (R (key (get_or (before R key k xs) i d)) k)
-        (filter_passes (λ x. is_lt (R (key x) k)) xs i d h);
-    high = λ i d h. Less-from_is_lt (R k (key (get_or (behind R key k xs) i d)))
-        (filter_passes (λ x. is_lt (R k (key x))) xs i d h);
-  }
-
-  -- and by a key that ties with it
-  Splits-tied : (k l : K) (front back : List X) → R k l ≡ Equal → Splits R key k front back → Splits R key l front back
-  Splits-tied k l front back e s = record {
-    low = λ i d h. sym (alike_right o k l (key (get_or front i d)) e) ∙ s.low i d h;
-    high = λ i d h. sym (o.congr k l (key (get_or back i d)) e) ∙ s.high i d h;
-  }
-
-  -- two lists in order around a key
-  AllPairs-joined : (k : K) (front back : List X) → Rises R key front → Rises R key back → Splits R key k front back
-      → Rises R key (front ++ back)
-  AllPairs-joined k [] back low high s = high
-  AllPairs-joined k (x ∷ front) back low high s =
-      let T : X → X → Type 0 = λ a b. is_lt (R (key a) (key b)) ≡ true in
-      let first = All-head (λ y. R (key y) k ≡ Less) x front s.low in
-      let rest = AllPairs-joined k front back (AllPairs-rest T x front low) high
-      record { low = All-tail (λ y. R (key y) k ≡ Less) x front s.low; high = s.high } in
-      AllPairs-cons T x (front ++ back) (All-append (T x) front back (AllPairs-first T x front low)
-      (λ i d h. ap is_lt (o.trans (key x) k (key (get_or back i d)) first (s.high i d h)))) rest
-
-  pub Rises-without_key : (xs : List X) (k : K) → Rises R key xs → Rises R key (without_key R key xs k)
-  Rises-without_key xs k rises =
-      let T : X → X → Type 0 = λ a b. is_lt (R (key a) (key b)) ≡ true in
-      AllPairs-joined k (before R key k xs) (behind R key k xs) (AllPairs-filter T (λ x. is_lt (R (key x) k)) xs rises)
-      (AllPairs-filter T (λ x. is_lt (R k (key x))) xs rises) (Splits-cut k xs)
-
-  pub Rises-with_item : (xs : List X) (x : X) → Rises R key xs → Rises R key (with_item R key xs x)
-  Rises-with_item xs x rises =
-      let s = Splits-cut (key x) xs in
-      let T : X → X → Type 0 = λ a b. is_lt (R (key a) (key b)) ≡ true in
-      rw (append_assoc (before R key (key x) xs) (x ∷ []) (behind R key (key x) xs))
-      (AllPairs-between T (before R key (key x) xs) (behind R key (key x) xs) x (Rises-without_key xs (key x) rises)
-      (λ i d h. ap is_lt (s.low i d h)) (λ i d h. ap is_lt (s.high i d h)))
-
   -- an edit keeps the order
   pub Rises-after_edit : (xs : List X) (e : Edit X K) → Rises R key xs → Rises R key (after_edit R key xs e)
-  Rises-after_edit xs (Put x) rises = Rises-with_item xs x rises
-  Rises-after_edit xs (Remove k) rises = Rises-without_key xs k rises
+  Rises-after_edit xs (Put x) rises = Rises-with_item o key xs x rises
+  Rises-after_edit xs (Remove k) rises = Rises-without_key o key xs k rises
 
   pub Rises-edited : (edits : List (Edit X K)) (xs : List X) → Rises R key xs → Rises R key (edited R key xs edits)
   Rises-edited [] xs rises = rises
@@ -164,7 +123,7 @@ module _ {X K : Type 0} {R : K → K → Ordering} (o : IsTotalOrder R) (key : X
       ap (λ f. R (edit_key key f) (edit_key key (get_or (drop (done + 1) edits) i d))) (sym here)
       ∙ ap (λ f. R (edit_key key (get_or edits done d)) (edit_key key f)) there ∙ step in
       let k = edit_key key e in
-      let cut = Splits-cut k rest in
+      let cut = Splits-cut o key k rest in
       let between : All (λ x. All (λ f. R (key x) (edit_key key f) ≡ Less) (drop (done + 1) edits))
       (before R key k rest) =
       λ i d h. λ j f below. o.trans (key (get_or (before R key k rest) i d)) k
@@ -189,15 +148,15 @@ module _ {X K : Type 0} {R : K → K → Ordering} (o : IsTotalOrder R) (key : X
     find-put : (xs : List X) (x : X) (k : K) → E (key x) k ≡ true
         → find (λ y. E (key y) k) (with_item R key xs x) ≡ Some x
     find-put xs x k e =
-        let s = Splits-tied (key x) k (before R key (key x) xs) (behind R key (key x) xs) (tied (key x) k e)
-        (Splits-cut (key x) xs) in
+        let s = Splits-tied o key (key x) k (before R key (key x) xs) (behind R key (key x) xs) (tied (key x) k e)
+        (Splits-cut o key (key x) xs) in
         rw (append_assoc (before R key (key x) xs) (x ∷ []) (behind R key (key x) xs))
         (find-there o key E ties k (before R key (key x) xs) (behind R key (key x) xs) x s (tied (key x) k e))
 
     find-removed : (xs : List X) (l k : K) → E l k ≡ true → find (λ y. E (key y) k) (without_key R key xs l) ≡ None
     find-removed xs l k e =
         find-apart o key E ties k (before R key l xs) (behind R key l xs)
-        (Splits-tied l k (before R key l xs) (behind R key l xs) (tied l k e) (Splits-cut l xs))
+        (Splits-tied o key l k (before R key l xs) (behind R key l xs) (tied l k e) (Splits-cut o key l xs))
 
     -- the other keys are all before an edit's key or all behind it
     find-around : (mid : List X) (xs : List X) (l k : K) → find (λ y. E (key y) k) mid ≡ None → E l k ≡ false
@@ -279,31 +238,7 @@ module _ {X K : Type 0} {R : K → K → Ordering} (o : IsTotalOrder R) (key : X
             ∙ ap (λ b. option_map_or edit_put (cond b (Some e) (find (λ d. E (edit_key key d) k) edits))
             (find (λ y. E (key y) k) xs)) (sym t)
 
--- a fact of all items and of one more
-pub All-with_item : {X K : Type 0} (R : K → K → Ordering) (key : X → K) (P : X → Type 0) (xs : List X) (x : X)
-    → All P xs → P x → All P (with_item R key xs x)
-All-with_item R key P xs x all one =
-    All-append P (before R key (key x) xs ++ x ∷ []) (behind R key (key x) xs)
-    (All-append P (before R key (key x) xs) (x ∷ []) (All-filter (λ y. is_lt (R (key y) (key x))) P xs all)
-    (All-cons P x [] one (λ i d h. absurd (omega arith)))) (All-filter (λ y. is_lt (R (key x) (key y))) P xs all)
-
--- orders and tests that answer alike
-pub with_item-agree : {X K : Type 0} (R S : K → K → Ordering) → ((a b : K) → R a b ≡ S a b)
-    → (key : X → K) (xs : List X) (x : X) → with_item R key xs x ≡ with_item S key xs x
-with_item-agree R S same key xs x =
-    ap (λ ys. (ys ++ x ∷ []) ++ behind R key (key x) xs) (filter_agree (λ y. is_lt (R (key y) (key x)))
-    (λ y. is_lt (S (key y) (key x))) (λ y. ap is_lt (same (key y) (key x))) xs)
-    ∙ ap (λ ys. (before S key (key x) xs ++ x ∷ []) ++ ys) (filter_agree (λ y. is_lt (R (key x) (key y)))
-    (λ y. is_lt (S (key x) (key y))) (λ y. ap is_lt (same (key x) (key y))) xs)
-
-pub without_key-agree : {X K : Type 0} (R S : K → K → Ordering) → ((a b : K) → R a b ≡ S a b)
-    → (key : X → K) (xs : List X) (k : K) → without_key R key xs k ≡ without_key S key xs k
-without_key-agree R S same key xs k =
-    ap (λ ys. ys ++ behind R key k xs) (filter_agree (λ y. is_lt (R (key y) k)) (λ y. is_lt (S (key y) k))
-    (λ y. ap is_lt (same (key y) k)) xs)
-    ∙ ap (λ ys. before S key k xs ++ ys) (filter_agree (λ y. is_lt (R k (key y))) (λ y. is_lt (S k (key y)))
-    (λ y. ap is_lt (same k (key y))) xs)
-
+-- orders that answer alike
 pub edited-agree : {X K : Type 0} (R S : K → K → Ordering) → ((a b : K) → R a b ≡ S a b)
     → (key : X → K) (edits : List (Edit X K)) (xs : List X) → edited R key xs edits ≡ edited S key xs edits
 edited-agree R S same key [] xs = refl

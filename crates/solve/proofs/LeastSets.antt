@@ -7,9 +7,9 @@ use Rattle.std.proofs.lemmas.List.{get_or-map, get_or_past, length-map}
 use Rattle.std.proofs.lemmas.List.Elements.{All-contains, All-map, Contains-get_or}
 use Rattle.std.proofs.lemmas.List.Sums.{AllPass-from_list_all}
 use Rattle.std.proofs.lemmas.Bool.{cases_Bool, cases_lt, and_parts, and_from, ltb-true, lt-ltb, not-true}
-use Rattle.terms.specs.Problem.{Problem, Demand, IsDemand, IsProblem, IsSelfSupporting, AreKept, holds}
-use Rattle.terms.specs.Least.{Growth, IsClosed, IsLeast, rule_of, growth_of}
-use Rattle.terms.proofs.Greatest.{greatest_from_kept}
+use Rattle.solve.specs.Problem.{Problem, Demand, IsDemand, IsProblem, IsSelfSupporting, AreKept, holds}
+use Rattle.solve.specs.Least.{Growth, IsClosed, IsLeast, rule_of, growth_of}
+use Rattle.solve.proofs.Greatest.{greatest_from_kept}
 
 -- flags that are closed and part of every closed set are the least
 pub least_from_closed : (g : Growth) (flags : List Bool) → length flags ≡ length g.start → IsClosed g (holds flags)

@@ -8,9 +8,9 @@ use Rattle.lemmas.proofs.Places.{contains_at, found_at, any_at, any_found, All-f
 use Rattle.terms.specs.Types.{Id}
 use Rattle.terms.specs.declared.codes.NeedKind.{NeedKind}
 use Rattle.terms.specs.declared.codes.NeedKind.TheVariants.{Fmid}
-use Rattle.terms.specs.Problem.{Demand, IsDemand, Problem, holds}
-use Rattle.terms.specs.Kept.{IsProblemOf}
-use Rattle.terms.specs.Causes as numbered
+use Rattle.solve.specs.Problem.{Demand, IsDemand, Problem, holds}
+use Rattle.solve.specs.Numbered.{IsProblemOf}
+use Rattle.solve.specs.Causes as numbered
 use Rattle.terms.specs.Failures.{HasFailed, LeadsTo, LeadsThrough, HasBareNeed, IsRoot, IsCauser}
 
 none_within : {X : Type 0} (xs : List X) → ((x : X) → ¬ Contains xs x) → xs ≡ []

@@ -1,6 +1,6 @@
 -- A set that grows: it holds its start, and by each rule one number more once it holds all that the rule asks for.
 use Rattle.std.specs.Prelude.{◌≡◌, ◌<◌, ◌↔◌, ℕ, Bool, not, List, length, map, All, AllPairs, IsTrue}
-use Rattle.terms.specs.Problem.{Problem, Demand, holds}
+use Rattle.solve.specs.Problem.{Problem, Demand, holds}
 
 -- where all of these are in the set, that is
 pub record Rule : Type 0 where
