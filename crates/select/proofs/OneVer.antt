@@ -1,22 +1,22 @@
 -- A SYSMOD has one ++VER for an SREL at most, so that all of them say what the one that counts says.
-use Rattle.std.proofs.Common.{◌≡◌, Bool, true, false, not, ◌||◌, List, [], ◌∷◌, ◌++◌, filter, find, cond, Option, None}
+use Rattle.std.proofs.Common.{◌≡◌, Bool, true, false, not, ◌||◌, List, [], ◌∷◌, ◌++◌, filter, find, Option, None}
 use Rattle.std.proofs.Common.{Some, IsTrue, if◌then◌else◌, refl, subst, ap, ap₂, ◌∙◌, append_assoc}
 use Rattle.std.specs.List.{flat_map, list_any}
 use Rattle.std.specs.Option.{option_map_or, option_and_then}
 use Rattle.std.specs.Ordering.{is_lt, nat_cmp}
 use Rattle.std.specs.Cmp.Lexicographic.{slice_cmp}
 use Rattle.std.specs.Str.{bytes_eq}
-use Rattle.std.proofs.Math.Path.{fun_ext}
 use Rattle.std.proofs.lemmas.List.{append-nil}
 use Rattle.std.proofs.lemmas.List.Elements.{All-weaker}
 use Rattle.terms.specs.Rising.{Rises}
 use Rattle.terms.specs.Types.{Text, Id, Ver, Sysmod, Global, Zone}
 use Rattle.terms.specs.Lookups.{at_most_one, is_applied, is_supplied, is_function, applied_ids, sysmod_of}
 use Rattle.terms.specs.Global.{IsSysmod, IsGlobal}
-use Rattle.terms.specs.Choice.{Choice, vers_of, or_first, fits, counting, fmid_of, pre_of, req_of, sup_of}
+use Rattle.terms.specs.Choice.{Choice, vers_of, fmid_of, pre_of, req_of, sup_of}
 use Rattle.terms.specs.Conditions.{stated_for, if_needed}
 use Rattle.terms.specs.Candidates.{required_by, needed_ids, sups_for}
 use Rattle.sysmods.specs.Choices.{by_srel}
+use Rattle.sysmods.proofs.Counting.{counted}
 use Rattle.lemmas.proofs.Orderings.{Less-from_is_lt}
 use Rattle.lemmas.proofs.Pairs.{AllPairs-first, AllPairs-rest}
 use Rattle.lemmas.proofs.Searches.{All-find, filter-none}
@@ -46,6 +46,7 @@ one_kept srel (v ∷ vs) rising = by (one_kept srel vs (AllPairs-rest Below v vs
         (All-weaker (Below v) (λ w. is_for w ≡ false) (other e) vs (AllPairs-first Below v vs rising))))
     by rest false e = rw e rest
 
+-- All ++VERs for an SREL are the one that is looked up.
 pub one_ver : (g : Global) → IsGlobal g → (srel : Text) (x : Id) → vers_of g srel x ≡ at_most_one (by_srel g srel x)
 one_ver g form srel x = by (sysmod_of g x) refl
   where
@@ -55,20 +56,6 @@ one_ver g form srel x = by (sysmod_of g x) refl
     by None e = refl
     by (Some s) e =
         one_kept srel s.vers (All-find IsSysmod (λ s. bytes_eq s.id x) g.sysmods s form.formed e).vers
-
--- the one that counts is this one
-only_one : (p : Ver → Bool) (o : Option Ver) → or_first (at_most_one o) (find p (at_most_one o)) ≡ o
-only_one p None = refl
-only_one p (Some v) = by (p v)
-  where
-    by : (b : Bool) → or_first (v ∷ []) (cond b (Some v) None) ≡ Some v
-    by true = refl
-    by false = refl
-
-pub counted : (g : Global) (zone : Zone) (cands : List Id) → IsGlobal g → counting g zone cands ≡ by_srel g zone.srel
-counted g zone cands form = fun_ext (λ x.
-    ap (λ vs. or_first vs (find (fits zone cands) vs)) (one_ver g form zone.srel x)
-    ∙ only_one (fits zone cands) (by_srel g zone.srel x))
 
 -- It supersedes by all of its ++VERs what it supersedes by that one.
 pub sups_are : (g : Global) → IsGlobal g → (srel : Text) (x : Id) → sups_for g srel x ≡ sup_of (by_srel g srel) x
