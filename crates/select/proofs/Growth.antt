@@ -180,8 +180,8 @@ module _ (g : Global) (zone : Zone) (sel : Selection) (form : IsGlobal g) where
             (asks_more g zone sel (taken_up g zone sel seen) cands x z
             (λ f taken. taken_candidate f taken cands growing closed) asks))
         by (inr (y, y_grows, is_free, within)) =
-            wanted_asked y z (grown_grows y y_grows) (λ cands growing closed. inl (needed_for g zone sel form cands x y z
-            (closed.part x (grows cands growing closed)) is_free within))
+            wanted_asked y z (grown_grows y y_grows) (λ cands growing closed. inl (needed_for g zone sel form cands x y
+            z (closed.part x (grows cands growing closed)) is_free within))
 
     asked_next : AppliedAre zone → (z w : Id) → IsAsked g zone sel z → Contains (next_asked g zone sel seen z) w
         → IsAsked g zone sel w

@@ -5,7 +5,8 @@ use Rattle.select.proofs.growing.asked.Goals as goal
 
 pub loop-i-init : goal.loop-i-init
 loop-i-init c =
-    growth-start _ _ _ c.known.ensures (applied-are _ c.known-2.ensures) c.args.start.now _ c.requires c.in_ok-seen.ensures
+    growth-start _ _ _ c.known.ensures (applied-are _ c.known-2.ensures) c.args.start.now _ c.requires
+    c.in_ok-seen.ensures
 
 pub loop-i-preserved : goal.loop-i-preserved
 loop-i-preserved c =
