@@ -29,6 +29,9 @@ known_is known.Set = refl
 known_is known.Receive = refl
 known_is known.Reject = refl
 known_is known.Apply = refl
+known_is known.Accept = refl
+known_is known.List = refl
+known_is known.Report = refl
 
 -- RESTORE, which alone chooses between two operands, is not known.
 pub chosen : (w : KnownWord) (rest : List Piece) → is_unchosen (command_word_of w) rest ≡ false
@@ -36,6 +39,9 @@ chosen known.Set rest = refl
 chosen known.Receive rest = refl
 chosen known.Reject rest = refl
 chosen known.Apply rest = refl
+chosen known.Accept rest = refl
+chosen known.List rest = refl
+chosen known.Report rest = refl
 
 -- the text begins with that word
 abbrev Begins : Text → Text → Text → Type 0

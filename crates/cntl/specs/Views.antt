@@ -3,7 +3,7 @@ use Rattle.terms.specs.Types as terms
 use Rattle.cntl.specs.declared.bypass.Reasons.{Reasons}
 use Rattle.cntl.specs.declared.bypass.Reasons.TheVariants.{None, Any, These}
 use Rattle.cntl.specs.declared.command.Command.{Command}
-use Rattle.cntl.specs.declared.command.Command.TheVariants.{Set, Receive, Reject, Apply}
+use Rattle.cntl.specs.declared.command.Command.TheVariants.{Set, Receive, Reject, Apply, Accept, List, Report}
 
 abbrev pub reasons_in : Reasons → terms.Reasons
 reasons_in None = terms.NoReason
@@ -15,3 +15,6 @@ command_of (Set zone) = terms.Set zone
 command_of (Receive what) = terms.Receive what
 command_of (Reject ids) = terms.Reject ids
 command_of (Apply install) = terms.Apply install
+command_of (Accept install) = terms.Accept install
+command_of (List text) = terms.ListZone text
+command_of Report = terms.Report

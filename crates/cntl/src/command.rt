@@ -19,7 +19,7 @@ impl Model for ReceiveWhat {
     ghost view = { λ a. record { sysmods = a.sysmods; holddata = a.holddata; source = a.source } };
 }
 
-/// What APPLY chooses. An operand that is absent is an empty list.
+/// What APPLY or ACCEPT chooses. An operand that is absent is an empty list.
 #[derive(Drop)]
 pub struct Selection {
     pub functions: bool,
@@ -53,7 +53,7 @@ impl Model for Selection {
     } };
 }
 
-/// The operands of APPLY.
+/// The operands of APPLY or ACCEPT.
 #[derive(Drop)]
 pub struct Install {
     pub selection: Selection,
@@ -76,4 +76,9 @@ pub enum Command {
     Receive(ReceiveWhat),
     Reject(IdList),
     Apply(Install),
+    Accept(Install),
+    /// With TEXT, the texts of elements are listed too.
+    List { text: bool },
+    /// REPORT ERRSYSMODS.
+    Report,
 }

@@ -1,7 +1,8 @@
 //! The operands of each command.
-ghost use Rattle.std.specs.Prelude.{◌≡◌, ℕ, Bool, List, IfOk, IfErr, OnErr};
+ghost use Rattle.std.specs.Prelude.{◌≡◌, true, ℕ, Bool, List, codes, IfOk, IfErr, OnErr};
 ghost use Rattle.terms.specs.Types as terms;
 ghost use Rattle.terms.specs.Words as grammar;
+ghost use Rattle.terms.specs.Operands.{operand, HasFlag};
 ghost use Rattle.terms.specs.CommandForms.{HasReceive, HasSelection, HasInstall, HasOperands, command_word};
 ghost use Rattle.operands.specs.Left.{LeavesWords};
 ghost use Rattle.operands.specs.Failing.{Excludes};
@@ -31,6 +32,19 @@ fn receive(words: &Words<'_>) -> Result<ReceiveWhat, BadOperand>
         holddata: holddata || !sysmods,
         source,
     })
+}
+
+/// Whether REPORT names what it reports.
+fn errsysmods(words: &Words<'_>) -> Result<(), BadOperand>
+    ensures ok { (ws : List grammar.Word) → LeavesWords words.now ws
+        → IfOk result (λ _. HasFlag (operand (codes "ERRSYSMODS") ws) true) }
+    ensures bad { (ws : List grammar.Word) → LeavesWords words.now ws
+        → OnErr result (HasFlag (operand (codes "ERRSYSMODS") ws) true → ⊥) }
+{
+    if !flag_of(words, b"ERRSYSMODS")? {
+        return Err(BadOperand);
+    }
+    Ok(())
 }
 
 fn selection(alloc: Global, words: &Words<'_>) -> Result<Selection, OperandError>
@@ -97,5 +111,13 @@ pub fn read_operands(
         KnownWord::Receive => Ok(Command::Receive(receive(words)?)),
         KnownWord::Reject => Ok(Command::Reject(some_ids(alloc, words, b"SELECT")?)),
         KnownWord::Apply => Ok(Command::Apply(install(alloc, KnownWord::Apply, words)?)),
+        KnownWord::Accept => Ok(Command::Accept(install(alloc, KnownWord::Accept, words)?)),
+        KnownWord::List => Ok(Command::List {
+            text: flag_of(words, b"TEXT")?,
+        }),
+        KnownWord::Report => {
+            errsysmods(words)?;
+            Ok(Command::Report)
+        }
     }
 }

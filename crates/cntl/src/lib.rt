@@ -1,6 +1,6 @@
 //! Command files: their commands, or the first fault.
 //! `read_cntl` answers the commands that the grammar relates the file to, else its first fault with the record; no file
-//! has both. Known are SET, RECEIVE, REJECT and APPLY; any other command or operand is told as unknown.
+//! has both. RESTORE is not known yet.
 #![tactic(auto)]
 
 mod bypass;

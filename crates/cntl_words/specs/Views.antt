@@ -9,3 +9,6 @@ command_word_of known.Set = word.Set
 command_word_of known.Receive = word.Receive
 command_word_of known.Reject = word.Reject
 command_word_of known.Apply = word.Apply
+command_word_of known.Accept = word.Accept
+command_word_of known.List = word.List
+command_word_of known.Report = word.Report

@@ -15,6 +15,9 @@ pub enum KnownWord {
     Receive,
     Reject,
     Apply,
+    Accept,
+    List,
+    Report,
 }
 
 /// The known command that begins with this word.
@@ -27,6 +30,9 @@ pub fn read_known(text: &[u8]) -> Option<KnownWord>
         CommandWord::Receive => Some(KnownWord::Receive),
         CommandWord::Reject => Some(KnownWord::Reject),
         CommandWord::Apply => Some(KnownWord::Apply),
-        _ => None,
+        CommandWord::Accept => Some(KnownWord::Accept),
+        CommandWord::List => Some(KnownWord::List),
+        CommandWord::Report => Some(KnownWord::Report),
+        CommandWord::Restore => None,
     }
 }

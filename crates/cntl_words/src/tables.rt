@@ -4,7 +4,7 @@ ghost use Rattle.cntl_words.specs.Views.{command_word_of};
 
 use crate::known_word::KnownWord;
 
-/// The operands of APPLY.
+/// The operands of APPLY and ACCEPT.
 const INSTALL: &[&[u8]] = &[
     b"FUNCTIONS",
     b"PTFS",
@@ -21,7 +21,20 @@ const INSTALL: &[&[u8]] = &[
 ];
 
 /// The members of APPLY's BYPASS.
-const BYPASSED: &[&[u8]] = &[
+const APPLY_MEMBERS: &[&[u8]] = &[
+    b"PRE",
+    b"REQ",
+    b"IFREQ",
+    b"ID",
+    b"HOLDERROR",
+    b"HOLDSYSTEM",
+    b"HOLDUSER",
+    b"HOLDCLASS",
+];
+
+/// The members of ACCEPT's BYPASS.
+const ACCEPT_MEMBERS: &[&[u8]] = &[
+    b"APPLYCHECK",
     b"PRE",
     b"REQ",
     b"IFREQ",
@@ -40,7 +53,9 @@ pub fn operands_of(word: KnownWord) -> &'static [&'static [u8]]
         KnownWord::Set => &[b"BDY"],
         KnownWord::Receive => &[b"SYSMODS", b"HOLDDATA", b"SOURCEID"],
         KnownWord::Reject => &[b"SELECT"],
-        KnownWord::Apply => INSTALL,
+        KnownWord::Apply | KnownWord::Accept => INSTALL,
+        KnownWord::List => &[b"TEXT"],
+        KnownWord::Report => &[b"ERRSYSMODS"],
     }
 }
 
@@ -49,7 +64,12 @@ pub fn members_of(word: KnownWord) -> &'static [&'static [u8]]
     ensures { map (λ name. name.now) result.now ≡ members_of (command_word_of word) }
 {
     match word {
-        KnownWord::Apply => BYPASSED,
-        KnownWord::Set | KnownWord::Receive | KnownWord::Reject => &[],
+        KnownWord::Apply => APPLY_MEMBERS,
+        KnownWord::Accept => ACCEPT_MEMBERS,
+        KnownWord::Set
+        | KnownWord::Receive
+        | KnownWord::Reject
+        | KnownWord::List
+        | KnownWord::Report => &[],
     }
 }

@@ -156,9 +156,41 @@ const FILES: &[[&str; 3]] = &[
     ["APPLY BYPASS.", "BYPASS", "1 Cn2"],
     ["APPLY BYPASS( ).", "", "1 Cn2"],
     ["REJECT SELECT(UA00001) BYPASS(PRE PRE).", "", "1 Cn2"],
-    ["ACCEPT CHECK CHECK.", "", "1 Cn1"],
+    [
+        "SET BDY(DLB1).",
+        "ACCEPT SELECT(UA00024).",
+        "SET DLB1;ACCEPT SELECT(UA00024 );",
+    ],
+    [
+        "ACCEPT SELECT(UA00024)",
+        "BYPASS(APPLYCHECK).",
+        "ACCEPT SELECT(UA00024 ) APPLYCHECK;",
+    ],
+    [
+        "ACCEPT BYPASS(HOLDCLASS(B) PRE",
+        "APPLYCHECK) CHECK.",
+        "ACCEPT CHECK PRE APPLYCHECK HOLDCLASS(B );",
+    ],
+    ["ACCEPT CHECK CHECK.", "", "1 Cn3"],
+    ["ACCEPT BYPASS(APPLYCHECK,,APPLYCHECK).", "", "1 Cn3"],
+    ["ACCEPT BYPASS(APPLYCHECK(A)).", "", "1 Cn2"],
+    ["ACCEPT TEXT.", "", "1 Cn2"],
+    ["LIST.", "LIST TEXT.", "LIST;LIST TEXT;"],
+    ["LIST!.", "", "1 Cn2"],
+    ["!LIST.", "", "1 Cn1"],
+    ["(LIST).", "", "1 Cn1"],
+    ["LIST TEXT TEXT(A).", "", "1 Cn3"],
+    ["LIST TEXT(A).", "", "1 Cn2"],
+    ["LIST CHECK.", "", "1 Cn2"],
+    [
+        "SET BDY(TGT1).",
+        "REPORT ERRSYSMODS.",
+        "SET TGT1;REPORT ERRSYSMODS;",
+    ],
+    ["REPORT.", "", "1 Cn2"],
+    ["REPORT ERRSYSMODS(A).", "", "1 Cn2"],
+    ["REPORT ERRSYSMODS", "ERRSYSMODS.", "1 Cn3"],
     ["APPLY.", "RESTORE SELECT(UA00001).", "2 Cn1"],
-    ["LIST.", "", "1 Cn1"],
 ];
 
 fn put_flag(spelled: &mut Spelled, is_there: bool, word: &[u8]) {
@@ -208,8 +240,7 @@ fn put_bypass(spelled: &mut Spelled, bypass: &Bypass) {
     }
 }
 
-fn put_apply(spelled: &mut Spelled, install: &Install) {
-    spelled.put(b"APPLY");
+fn put_install(spelled: &mut Spelled, install: &Install) {
     put_flag(spelled, install.selection.ptfs, b" PTFS");
     put_flag(spelled, install.selection.groupextend, b" EXTEND");
     put_flag(spelled, install.check, b" CHECK");
@@ -229,7 +260,19 @@ fn put_command(spelled: &mut Spelled, command: &Command) {
             spelled.put(b"REJECT");
             spelled.put_ids(b" SELECT", ids);
         }
-        Command::Apply(install) => put_apply(spelled, install),
+        Command::Apply(install) => {
+            spelled.put(b"APPLY");
+            put_install(spelled, install);
+        }
+        Command::Accept(install) => {
+            spelled.put(b"ACCEPT");
+            put_install(spelled, install);
+        }
+        Command::List { text } => {
+            spelled.put(b"LIST");
+            put_flag(spelled, *text, b" TEXT");
+        }
+        Command::Report => spelled.put(b"REPORT ERRSYSMODS"),
     }
     spelled.put(b";");
 }

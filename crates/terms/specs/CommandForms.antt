@@ -21,7 +21,10 @@ is_known word.Set = true
 is_known word.Receive = true
 is_known word.Reject = true
 is_known word.Apply = true
-is_known _ = false
+is_known word.Accept = true
+is_known word.List = true
+is_known word.Report = true
+is_known word.Restore = false
 
 -- the operands of APPLY and ACCEPT
 abbrev pub install_operands : List Text

@@ -1,6 +1,6 @@
 use Rattle.std.proofs.Common.{◌∙◌, ap, subst}
 use Rattle.std.proofs.lemmas.Result.{err_from_is_err_and}
-use Rattle.cntl.proofs.Formed.{of_reject, of_apply}
+use Rattle.cntl.proofs.Formed.{of_reject, of_apply, of_accept, of_report}
 use Rattle.operands.proofs.Failing.{excludes_more}
 use Rattle.cntl_words.specs.Views.{command_word_of}
 use Rattle.cntl.specs.Singles.{AreSingle}
@@ -22,9 +22,31 @@ returns-in_err-install-in-Apply-clause-bad c = λ ws l.
     (λ x. of_apply ws x.0 (x.1.0 ∙ ap command_word_of c.in-Apply.is) x.1.1)
     (c.in_err-install-in-Apply.ensures.bad ws l))
 
+pub returns-in_err-install-in-Accept-clause-bad : goal.returns-in_err-install-in-Accept-clause-bad
+returns-in_err-install-in-Accept-clause-bad c = λ ws l.
+    let p = err_from_is_err_and c.from_residual-in_err-install-in-Accept.result
+    c.from_residual-in_err-install-in-Accept.ensures.1 in
+    rw (p.1, p.2) (excludes_more c.in_err-install-in-Accept.field-0.0 _ _
+    (λ x. of_accept ws x.0 (x.1.0 ∙ ap command_word_of c.in-Accept.is) x.1.1)
+    (c.in_err-install-in-Accept.ensures.bad ws l))
+
 pub returns-in_ok-some_ids-in-Reject-clause-ok : goal.returns-in_ok-some_ids-in-Reject-clause-ok
 returns-in_ok-some_ids-in-Reject-clause-ok c = λ ws l single. c.in_ok-some_ids-in-Reject.ensures.ok ws l
 
 pub returns-in_ok-install-in-Apply-clause-ok : goal.returns-in_ok-install-in-Apply-clause-ok
 returns-in_ok-install-in-Apply-clause-ok c = λ ws l single.
     c.in_ok-install-in-Apply.ensures.ok ws l (subst (λ w. AreSingle (command_word_of w) ws) c.in-Apply.is single)
+
+pub returns-in_ok-install-in-Accept-clause-ok : goal.returns-in_ok-install-in-Accept-clause-ok
+returns-in_ok-install-in-Accept-clause-ok c = λ ws l single.
+    c.in_ok-install-in-Accept.ensures.ok ws l (subst (λ w. AreSingle (command_word_of w) ws) c.in-Accept.is single)
+
+pub returns-in_err-errsysmods-in-Report-clause-bad : goal.returns-in_err-errsysmods-in-Report-clause-bad
+returns-in_err-errsysmods-in-Report-clause-bad c = λ ws l.
+    let p = err_from_is_err_and c.from_residual-in_err-errsysmods-in-Report.result
+    c.from_residual-in_err-errsysmods-in-Report.ensures.1 in
+    rw (p.1, p.2) (λ x. c.in_err-errsysmods-in-Report.ensures.bad ws l
+    (of_report ws x.0 (x.1.0 ∙ ap command_word_of c.in-Report.is) x.1.1))
+
+pub returns-in_ok-errsysmods-in-Report-clause-ok : goal.returns-in_ok-errsysmods-in-Report-clause-ok
+returns-in_ok-errsysmods-in-Report-clause-ok c = λ ws l single. c.in_ok-errsysmods-in-Report.ensures.ok ws l
