@@ -1,5 +1,7 @@
 -- What the code's outcomes stand for.
-use Rattle.std.specs.Prelude.{map}
+use Rattle.std.specs.Prelude.{List, ℕ, codes, map}
+use Rattle.terms.specs.declared.kinds.ZoneKind.{ZoneKind}
+use Rattle.terms.specs.declared.kinds.ZoneKind.TheVariants.{Target, Distribution}
 use Rattle.machine.specs.Outcome as machine
 use Rattle.report.specs.declared.outcome.Header.{Header}
 use Rattle.report.specs.declared.outcome.Refusal.{Refusal}
@@ -59,8 +61,16 @@ status_view status.NotApplied = machine.NotApplied
 abbrev pub line_view : Line → machine.Line
 line_view (line.Status id place status) = machine.StatusLine id (place_view place) (status_view status)
 line_view line.Nothing = machine.NothingLine
+line_view (line.Errsysmod id reason resolvers) = machine.ErrsysmodLine id reason resolvers.items
 
 abbrev pub outcome_view : Outcome → machine.Outcome
 outcome_view (outcome.Ran header lines) = machine.Ran (header_view header) (map line_view lines.items)
+outcome_view (outcome.ListedGlobal header global) = machine.Ran (header_view header) (machine.list_global global.now)
+outcome_view (outcome.Listed header zone text) = machine.Ran (header_view header) (machine.list_zone text zone.now)
 outcome_view (outcome.Refused header why) = machine.Refused (header_view header) (refusal_view why)
 outcome_view (outcome.Control number code) = machine.Control (record { number = number; code = code })
+
+-- the word before the date of an applied entry
+abbrev pub applied_word : ZoneKind → List ℕ
+applied_word Target = codes "APPLIED"
+applied_word Distribution = codes "ACCEPTED"

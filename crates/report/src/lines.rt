@@ -9,6 +9,7 @@ ghost use Rattle.terms.specs.Lookups.{at_most_one};
 ghost use Rattle.report.specs.Sent.{Sent};
 ghost use Rattle.report.specs.Views.{header_view, refusal_view, place_view, status_view, failure_view, line_view};
 
+use crate::errsysmod::put_errsysmod;
 use crate::outcome::{Failure, Header, Line, OpenNeed, Place, Refusal, Status};
 use crate::pieces::{put, put_left, put_number};
 use crate::sink::Sink;
@@ -206,5 +207,10 @@ pub(crate) fn put_line<W: Sink>(line: &Line, w: &mut W)
     match line {
         Line::Status { id, place, status } => put_status(*id, place, status, w),
         Line::Nothing => put(b"NOTHING\n", w),
+        Line::Errsysmod {
+            id,
+            reason,
+            resolvers,
+        } => put_errsysmod(*id, *reason, resolvers, w),
     }
 }

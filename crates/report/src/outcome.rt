@@ -1,7 +1,9 @@
 //! What commands print, before it is text.
 
 use fields::{Id, Reason, Source, ZoneName};
+use sysmods::Global;
 use terms::{CnCode, CommandWord, HoldKind, IdRefusal, Kind, McCode, NeedKind, Test};
+use zones::Zone;
 
 /// The first line of a report. Of SET the boundary is the zone that it names.
 #[derive(Clone, Copy, Debug)]
@@ -82,12 +84,36 @@ pub enum Line {
     },
     /// RECEIVE, APPLY or ACCEPT had no status line.
     Nothing,
+    /// An ERROR hold on what is applied, with the ids that resolve it, rising.
+    Errsysmod {
+        id: Id,
+        reason: Reason,
+        resolvers: Vec<Id>,
+    },
 }
 
-/// What a command prints, or the one line that a faulty command file leaves of its job.
+/// What a command prints, or the one line that a faulty command file leaves of its job. LIST prints what it refers to.
 #[derive(Drop)]
-pub enum Outcome {
-    Ran { header: Header, lines: Vec<Line> },
-    Refused { header: Header, refusal: Refusal },
-    Control { number: usize, code: CnCode },
+pub enum Outcome<'a> {
+    Ran {
+        header: Header,
+        lines: Vec<Line>,
+    },
+    ListedGlobal {
+        header: Header,
+        global: &'a Global,
+    },
+    Listed {
+        header: Header,
+        zone: &'a Zone,
+        text: bool,
+    },
+    Refused {
+        header: Header,
+        refusal: Refusal,
+    },
+    Control {
+        number: usize,
+        code: CnCode,
+    },
 }

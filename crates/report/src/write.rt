@@ -6,10 +6,12 @@ ghost use Rattle.machine.specs.Report.{line_text, code_text, text};
 ghost use Rattle.report.specs.Sent.{Sent};
 ghost use Rattle.report.specs.Views.{status_view, line_view, outcome_view};
 
+use crate::global_lines::put_global;
 use crate::lines::{put_header, put_line, put_refusal};
 use crate::outcome::{Line, Outcome, Status};
 use crate::pieces::{put, put_number, write_all};
 use crate::sink::{Sink, WriteFault};
+use crate::zone_lines::put_zone;
 use spelling::cn_text;
 use terms::{CnCode, IdRefusal};
 
@@ -32,7 +34,7 @@ fn line_code(line: &Line) -> u8
 {
     match line {
         Line::Status { status, .. } => status_code(status),
-        Line::Nothing => 4,
+        Line::Nothing | Line::Errsysmod { .. } => 4,
     }
 }
 
@@ -79,7 +81,7 @@ fn write_control<W: Sink>(number: usize, code: CnCode, w: &mut W) -> Result<u8, 
 }
 
 /// Writes the text of an outcome and answers its return code. After a fault a beginning of the text went out.
-pub fn write_report<W: Sink>(outcome: &Outcome, w: &mut W) -> Result<u8, WriteFault>
+pub fn write_report<W: Sink>(outcome: &Outcome<'_>, w: &mut W) -> Result<u8, WriteFault>
     ensures sends { Sent W.Sink w.old w.new (text (outcome_view outcome.now)) }
     ensures fault { W.has_failed w.new ≡ is_err result }
     ensures code { IfOk result (λ code. code ≡ outcome_code (outcome_view outcome.now)) }
@@ -89,6 +91,16 @@ pub fn write_report<W: Sink>(outcome: &Outcome, w: &mut W) -> Result<u8, WriteFa
             put_header(header, w);
             let code = put_lines(lines, w);
             finish(code, w)
+        }
+        Outcome::ListedGlobal { header, global } => {
+            put_header(header, w);
+            put_global(global, w);
+            finish(0, w)
+        }
+        Outcome::Listed { header, zone, text } => {
+            put_header(header, w);
+            put_zone(zone, *text, w);
+            finish(0, w)
         }
         Outcome::Refused { header, refusal } => {
             put_header(header, w);

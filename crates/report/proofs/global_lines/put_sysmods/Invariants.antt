@@ -1,0 +1,12 @@
+use Rattle.std.proofs.Common.{map}
+use Rattle.std.specs.List.{flat_map}
+use Rattle.machine.specs.Outcome.{SysmodLine}
+use Rattle.machine.specs.Report.{line_text}
+use Rattle.report.proofs.UnderWay.{UnderWay}
+use Rattle.report.proofs.global_lines.put_sysmods.Given as goal
+
+abbrev pub invariant-loop-sysmod : goal.invariant-loop-sysmod
+invariant-loop-sysmod g l =
+    UnderWay g.W.Sink l.initial.w l.w
+    (flat_map line_text (map (λ s. SysmodLine s.id s.kind s.sources) l.global.sysmods))
+    (flat_map line_text (map (λ s. SysmodLine s.id s.kind s.sources) l.sysmod-iterator))
