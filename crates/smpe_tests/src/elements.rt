@@ -82,6 +82,18 @@ pub(crate) const CHAIN: &[Step] = &[
         code: 0,
     },
     Step {
+        cntl: &["SET BDY(TGT1).", "LIST."],
+        ptfin: &[],
+        rest: "",
+        hold: &[],
+        report: "SET TGT1\nRC 00\nLIST TGT1\nENTRY HAA1100 APPLIED 24.138 SUPBY - DELBY - WAIVED -\n\
+            ENTRY UA00017 APPLIED 24.138 SUPBY - DELBY - WAIVED -\n\
+            ENTRY UA00018 APPLIED 24.138 SUPBY - DELBY - WAIVED -\n\
+            ENTRY UA00019 APPLIED 24.138 SUPBY - DELBY - WAIVED -\n\
+            ELEM MAC   M1       FMID HAA1100 RMID UA00019 UMID - DISTLIB AMACLIB SYSLIB MACLIB\nRC 00\n",
+        code: 0,
+    },
+    Step {
         cntl: &["SET BDY(GLOBAL).", "RECEIVE SYSMODS."],
         ptfin: &[&[
             "++PTF(UA00020).",
@@ -133,6 +145,19 @@ pub(crate) const UPDATE_IN_A_DELETED_RANGE: &[Step] = &[
         report: "SET TGT1\nRC 00\nAPPLY TGT1\nUA00025 PTF      APPLIED\nRC 00\n",
         code: 0,
     },
+    Step {
+        cntl: &["SET BDY(TGT1).", "LIST TEXT."],
+        ptfin: &[],
+        rest: "",
+        hold: &[],
+        report: "SET TGT1\nRC 00\nLIST TGT1\nENTRY HAA1100 APPLIED 24.138 SUPBY - DELBY - WAIVED -\n\
+            ENTRY UA00025 APPLIED 24.138 SUPBY - DELBY - WAIVED -\n\
+            ELEM MAC   M1       FMID HAA1100 RMID HAA1100 UMID UA00025 DISTLIB AMACLIB SYSLIB MACLIB\n\
+            \x20          NEW FIVE                                                       00000005\n\
+            \x20          NEW TEN                                                        00000010\n\
+            \x20          NEW TWENTY                                                     00000020\nRC 00\n",
+        code: 0,
+    },
 ];
 
 /// An update that deletes each record.
@@ -159,6 +184,16 @@ pub(crate) const EMPTYING_UPDATE: &[Step] = &[
         rest: "",
         hold: &[],
         report: "SET TGT1\nRC 00\nAPPLY TGT1\nUA00026 PTF      APPLIED\nRC 00\n",
+        code: 0,
+    },
+    Step {
+        cntl: &["SET BDY(TGT1).", "LIST TEXT."],
+        ptfin: &[],
+        rest: "",
+        hold: &[],
+        report: "SET TGT1\nRC 00\nLIST TGT1\nENTRY HAA1100 APPLIED 24.138 SUPBY - DELBY - WAIVED -\n\
+            ENTRY UA00026 APPLIED 24.138 SUPBY - DELBY - WAIVED -\n\
+            ELEM MAC   M1       FMID HAA1100 RMID HAA1100 UMID UA00026 DISTLIB AMACLIB SYSLIB MACLIB\nRC 00\n",
         code: 0,
     },
 ];

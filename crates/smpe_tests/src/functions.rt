@@ -24,7 +24,8 @@ pub(crate) const DELETED_OWNER: &[Step] = &[
         ptfin: &[],
         rest: "",
         hold: &[],
-        report: "SET TGT1\nRC 00\nAPPLY TGT1\nHCC1200 FUNCTION APPLIED\nUA00039 PTF      FAILED\n  TEST J8\n  NEED FMID HAA1100\n  CAUSER UA00039\n\
+        report: "SET TGT1\nRC 00\nAPPLY TGT1\nHCC1200 FUNCTION APPLIED\nUA00039 PTF      FAILED\n  TEST J8\n\
+            \x20 NEED FMID HAA1100\n  CAUSER UA00039\n\
             RC 08\n",
         code: 8,
     },
@@ -113,5 +114,16 @@ pub(crate) const DELETED: &[Step] = &[
         hold: &[],
         report: "SET TGT1\nRC 00\nAPPLY TGT1\nHAA1100 FUNCTION DELETED\nRC 08\n",
         code: 8,
+    },
+    Step {
+        cntl: &["SET BDY(TGT1).", "LIST."],
+        ptfin: &[],
+        rest: "",
+        hold: &[],
+        report: "SET TGT1\nRC 00\nLIST TGT1\nENTRY HAA1100 - SUPBY - DELBY HCC1200 WAIVED -\n\
+            ENTRY HCC1200 APPLIED 24.138 SUPBY - DELBY - WAIVED -\n\
+            ENTRY HDD1100 APPLIED 24.138 SUPBY - DELBY - WAIVED -\nENTRY UA00021 - SUPBY HCC1200 DELBY - WAIVED -\n\
+            ENTRY UA00023 APPLIED 24.138 SUPBY - DELBY - WAIVED -\nRC 00\n",
+        code: 0,
     },
 ];

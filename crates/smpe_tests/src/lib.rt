@@ -9,6 +9,10 @@ mod elements;
 #[cfg(test)]
 mod functions;
 #[cfg(test)]
+mod levels;
+#[cfg(test)]
+mod listings;
+#[cfg(test)]
 mod messages;
 #[cfg(test)]
 mod play;

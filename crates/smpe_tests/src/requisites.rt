@@ -46,6 +46,16 @@ pub(crate) const BYPASSED_PRE: &[Step] = &[
         report: "SET TGT1\nRC 00\nAPPLY TGT1\nUA00003 PTF      APPLIED\nRC 00\n",
         code: 0,
     },
+    Step {
+        cntl: &["SET BDY(TGT1).", "LIST."],
+        ptfin: &[],
+        rest: "",
+        hold: &[],
+        report: "SET TGT1\nRC 00\nLIST TGT1\nENTRY HAA1100 APPLIED 24.138 SUPBY - DELBY - WAIVED -\n\
+            ENTRY UA00003 APPLIED 24.138 SUPBY - DELBY - WAIVED UA00002\n\
+            ELEM MAC   M1       FMID HAA1100 RMID HAA1100 UMID - DISTLIB AMACLIB SYSLIB MACLIB\nRC 00\n",
+        code: 0,
+    },
 ];
 
 /// Two fixes that require each other go on together.
@@ -168,6 +178,18 @@ pub(crate) const RESOLVED_ERROR: &[Step] = &[
         rest: "",
         hold: &[],
         report: "SET TGT1\nRC 00\nAPPLY TGT1\nUA00005 PTF      APPLIED\nUA00006 PTF      APPLIED\nRC 00\n",
+        code: 0,
+    },
+    Step {
+        cntl: &["SET BDY(TGT1).", "LIST."],
+        ptfin: &[],
+        rest: "",
+        hold: &[],
+        report: "SET TGT1\nRC 00\nLIST TGT1\nENTRY AA00009 - SUPBY UA00006 DELBY - WAIVED -\n\
+            ENTRY HAA1100 APPLIED 24.138 SUPBY - DELBY - WAIVED -\n\
+            ENTRY UA00005 APPLIED 24.138 SUPBY - DELBY - WAIVED -\n\
+            ENTRY UA00006 APPLIED 24.138 SUPBY - DELBY - WAIVED -\n\
+            ELEM MAC   M1       FMID HAA1100 RMID HAA1100 UMID - DISTLIB AMACLIB SYSLIB MACLIB\nRC 00\n",
         code: 0,
     },
 ];

@@ -27,6 +27,17 @@ pub(crate) const EXTENDED: &[Step] = &[
         report: "SET TGT1\nRC 00\nAPPLY TGT1\nUA00007 PTF      APPLIED\nUA00010 PTF      APPLIED\nRC 00\n",
         code: 0,
     },
+    Step {
+        cntl: &["SET BDY(TGT1).", "LIST."],
+        ptfin: &[],
+        rest: "",
+        hold: &[],
+        report: "SET TGT1\nRC 00\nLIST TGT1\nENTRY HAA1100 APPLIED 24.138 SUPBY - DELBY - WAIVED -\n\
+            ENTRY UA00007 APPLIED 24.138 SUPBY - DELBY - WAIVED -\nENTRY UA00008 - SUPBY UA00010 DELBY - WAIVED -\n\
+            ENTRY UA00010 APPLIED 24.138 SUPBY - DELBY - WAIVED -\n\
+            ELEM MAC   M1       FMID HAA1100 RMID HAA1100 UMID - DISTLIB AMACLIB SYSLIB MACLIB\nRC 00\n",
+        code: 0,
+    },
 ];
 
 /// GROUP alone does not.

@@ -7,6 +7,13 @@ ghost use Rattle.sqlite_disk.specs.Memory.{memory_is_usable};
 use crate::cards::{AGAIN, BAD_PTFIN, CLASH, FIX_ALONE, FUNCTION_WITH_FIX, NO_COMMAND, REFUSALS};
 use crate::elements::{CHAIN, EMPTYING_UPDATE, NO_BASE, UNORDERED, UPDATE_IN_A_DELETED_RANGE};
 use crate::functions::{DELETED, DELETED_OWNER, ORPHANED};
+use crate::levels::{
+    ACCEPT_UNAPPLIED, ACCEPT_UNCHECKED, ACCEPTED_STAYS, BOTH_RESTORED, GROUP_RESTORED,
+    LEVEL_ACCEPTED, LEVEL_NOT_ACCEPTED, NOT_APPLIED, STILL_REQUIRED,
+};
+use crate::listings::{
+    BROKEN_PTFIN, CHECKED, DELETED_WITH_SERVICE, HELD_IN_ERROR, TWO_CAUSERS, UPDATED,
+};
 use crate::play::{Step, play_all, play_each};
 use crate::receives::{BAD_HOLDS, HOLDS, INTERNAL_HOLD, LOOP, SOURCE, SOURCES_AND_REJECTS};
 use crate::requisites::{
@@ -65,7 +72,22 @@ const ELEMENTS: &[&[Step]] = &[
     NO_BASE,
 ];
 
-const FUNCTIONS: &[&[Step]] = &[DELETED_OWNER, ORPHANED, DELETED];
+const FUNCTIONS: &[&[Step]] = &[DELETED_OWNER, ORPHANED, DELETED, DELETED_WITH_SERVICE];
+
+const LISTINGS: &[&[Step]] = &[BROKEN_PTFIN, CHECKED, UPDATED];
+
+const REPORTS: &[&[Step]] = &[HELD_IN_ERROR, TWO_CAUSERS];
+
+const ACCEPTS: &[&[Step]] = &[ACCEPT_UNAPPLIED, ACCEPT_UNCHECKED];
+
+const RESTORES: &[&[Step]] = &[
+    LEVEL_NOT_ACCEPTED,
+    BOTH_RESTORED,
+    LEVEL_ACCEPTED,
+    NOT_APPLIED,
+];
+
+const DEPENDENTS: &[&[Step]] = &[STILL_REQUIRED, GROUP_RESTORED, ACCEPTED_STAYS];
 
 fn play_in_memory(alloc: Global, lists: &[&[Step]]) -> Result<(), Fail> {
     for steps in lists {
@@ -129,4 +151,29 @@ fn elements(rt: HostRuntime) -> Result<(), Fail> {
 #[test]
 fn functions(rt: HostRuntime) -> Result<(), Fail> {
     play_both(rt.alloc(), FUNCTIONS)
+}
+
+#[test]
+fn listings(rt: HostRuntime) -> Result<(), Fail> {
+    play_both(rt.alloc(), LISTINGS)
+}
+
+#[test]
+fn reports(rt: HostRuntime) -> Result<(), Fail> {
+    play_both(rt.alloc(), REPORTS)
+}
+
+#[test]
+fn accepts(rt: HostRuntime) -> Result<(), Fail> {
+    play_both(rt.alloc(), ACCEPTS)
+}
+
+#[test]
+fn restores(rt: HostRuntime) -> Result<(), Fail> {
+    play_both(rt.alloc(), RESTORES)
+}
+
+#[test]
+fn dependents(rt: HostRuntime) -> Result<(), Fail> {
+    play_both(rt.alloc(), DEPENDENTS)
 }

@@ -1,0 +1,243 @@
+//! Jobs that look at zones by LIST and REPORT, as text cards.
+
+use crate::cards::{FUNCTION_INSTALLED, FUNCTION_RECEIVED};
+use crate::play::Step;
+
+/// Of a broken PTFIN nothing is received.
+pub(crate) const BROKEN_PTFIN: &[Step] = &[
+    FUNCTION_RECEIVED,
+    FUNCTION_INSTALLED,
+    Step {
+        cntl: &["SET BDY(GLOBAL).", "RECEIVE SYSMODS."],
+        ptfin: &[&[""]],
+        rest: "X",
+        hold: &[],
+        report: "SET GLOBAL\nRC 00\nRECEIVE GLOBAL\nREFUSED Cm4 RECORD 2 Mc1\nRC 12\n",
+        code: 12,
+    },
+    Step {
+        cntl: &["SET BDY(GLOBAL).", "LIST."],
+        ptfin: &[],
+        rest: "",
+        hold: &[],
+        report: "SET GLOBAL\nRC 00\nLIST GLOBAL\nSYSMOD HAA1100 FUNCTION SOURCEID -\nRC 00\n",
+        code: 0,
+    },
+];
+
+/// After CHECK the zone is as before.
+pub(crate) const CHECKED: &[Step] = &[
+    FUNCTION_RECEIVED,
+    FUNCTION_INSTALLED,
+    Step {
+        cntl: &[
+            "SET BDY(GLOBAL).",
+            "RECEIVE SYSMODS.",
+            "SET BDY(TGT1).",
+            "APPLY SELECT(UA00024) CHECK.",
+        ],
+        ptfin: &[&["++PTF(UA00024).", "++VER(Z038) FMID(HAA1100)."]],
+        rest: "",
+        hold: &[],
+        report: "SET GLOBAL\nRC 00\nRECEIVE GLOBAL\nUA00024 PTF      RECEIVED\nRC 00\nSET TGT1\nRC 00\n\
+            APPLY TGT1 CHECK\n\
+            UA00024 PTF      APPLIED\nRC 00\n",
+        code: 0,
+    },
+    Step {
+        cntl: &["SET BDY(TGT1).", "LIST."],
+        ptfin: &[],
+        rest: "",
+        hold: &[],
+        report: "SET TGT1\nRC 00\nLIST TGT1\nENTRY HAA1100 APPLIED 24.138 SUPBY - DELBY - WAIVED -\n\
+            ELEM MAC   M1       FMID HAA1100 RMID HAA1100 UMID - DISTLIB AMACLIB SYSLIB MACLIB\nRC 00\n",
+        code: 0,
+    },
+];
+
+/// An update gives and deletes records.
+pub(crate) const UPDATED: &[Step] = &[
+    FUNCTION_RECEIVED,
+    FUNCTION_INSTALLED,
+    Step {
+        cntl: &["SET BDY(GLOBAL).", "RECEIVE SYSMODS."],
+        ptfin: &[&[
+            "++PTF(UA00025).",
+            "++VER(Z038) FMID(HAA1100).",
+            "++MACUPD(M1).",
+            "./ CHANGE NAME=M1",
+            "         NEW FIVE                                                       00000005",
+            "./ DELETE SEQ1=00000010,SEQ2=00000010",
+            "         NEW TWENTY                                                     00000020",
+        ]],
+        rest: "",
+        hold: &[],
+        report: "SET GLOBAL\nRC 00\nRECEIVE GLOBAL\nUA00025 PTF      RECEIVED\nRC 00\n",
+        code: 0,
+    },
+    Step {
+        cntl: &["SET BDY(TGT1).", "APPLY SELECT(UA00025)."],
+        ptfin: &[],
+        rest: "",
+        hold: &[],
+        report: "SET TGT1\nRC 00\nAPPLY TGT1\nUA00025 PTF      APPLIED\nRC 00\n",
+        code: 0,
+    },
+    Step {
+        cntl: &["SET BDY(TGT1).", "LIST TEXT."],
+        ptfin: &[],
+        rest: "",
+        hold: &[],
+        report: "SET TGT1\nRC 00\nLIST TGT1\nENTRY HAA1100 APPLIED 24.138 SUPBY - DELBY - WAIVED -\n\
+            ENTRY UA00025 APPLIED 24.138 SUPBY - DELBY - WAIVED -\n\
+            ELEM MAC   M1       FMID HAA1100 RMID HAA1100 UMID UA00025 DISTLIB AMACLIB SYSLIB MACLIB\n\
+            \x20          NEW FIVE                                                       00000005\n\
+            \x20          NEW TWENTY                                                     00000020\nRC 00\n",
+        code: 0,
+    },
+];
+
+/// The entry of a deleted fix stays while an applied one supersedes it.
+pub(crate) const DELETED_WITH_SERVICE: &[Step] = &[
+    FUNCTION_RECEIVED,
+    FUNCTION_INSTALLED,
+    Step {
+        cntl: &["SET BDY(GLOBAL).", "RECEIVE SYSMODS."],
+        ptfin: &[
+            &["++FUNCTION(HDD1100).", "++VER(Z038)."],
+            &["++PTF(UA00052).", "++VER(Z038) FMID(HAA1100)."],
+            &["++PTF(UA00053).", "++VER(Z038) FMID(HDD1100) SUP(UA00052)."],
+            &["++FUNCTION(HCC1200).", "++VER(Z038) DELETE(HAA1100)."],
+        ],
+        rest: "",
+        hold: &[],
+        report: "SET GLOBAL\nRC 00\nRECEIVE GLOBAL\nHDD1100 FUNCTION RECEIVED\nUA00052 PTF      RECEIVED\n\
+            UA00053 PTF      RECEIVED\nHCC1200 FUNCTION RECEIVED\nRC 00\n",
+        code: 0,
+    },
+    Step {
+        cntl: &["SET BDY(TGT1).", "APPLY SELECT(HDD1100)."],
+        ptfin: &[],
+        rest: "",
+        hold: &[],
+        report: "SET TGT1\nRC 00\nAPPLY TGT1\nHDD1100 FUNCTION APPLIED\nRC 00\n",
+        code: 0,
+    },
+    Step {
+        cntl: &["SET BDY(TGT1).", "APPLY SELECT(UA00052)."],
+        ptfin: &[],
+        rest: "",
+        hold: &[],
+        report: "SET TGT1\nRC 00\nAPPLY TGT1\nUA00052 PTF      APPLIED\nRC 00\n",
+        code: 0,
+    },
+    Step {
+        cntl: &["SET BDY(TGT1).", "APPLY SELECT(UA00053)."],
+        ptfin: &[],
+        rest: "",
+        hold: &[],
+        report: "SET TGT1\nRC 00\nAPPLY TGT1\nUA00053 PTF      APPLIED\nRC 00\n",
+        code: 0,
+    },
+    Step {
+        cntl: &["SET BDY(TGT1).", "APPLY SELECT(HCC1200)."],
+        ptfin: &[],
+        rest: "",
+        hold: &[],
+        report: "SET TGT1\nRC 00\nAPPLY TGT1\nHCC1200 FUNCTION APPLIED\nRC 00\n",
+        code: 0,
+    },
+    Step {
+        cntl: &["SET BDY(TGT1).", "LIST."],
+        ptfin: &[],
+        rest: "",
+        hold: &[],
+        report: "SET TGT1\nRC 00\nLIST TGT1\nENTRY HAA1100 - SUPBY - DELBY HCC1200 WAIVED -\n\
+            ENTRY HCC1200 APPLIED 24.138 SUPBY - DELBY - WAIVED -\n\
+            ENTRY HDD1100 APPLIED 24.138 SUPBY - DELBY - WAIVED -\nENTRY UA00052 - SUPBY UA00053 DELBY - WAIVED -\n\
+            ENTRY UA00053 APPLIED 24.138 SUPBY - DELBY - WAIVED -\nRC 00\n",
+        code: 0,
+    },
+];
+
+/// What is applied and held for error, with what resolves it.
+pub(crate) const HELD_IN_ERROR: &[Step] = &[
+    FUNCTION_RECEIVED,
+    FUNCTION_INSTALLED,
+    Step {
+        cntl: &["SET BDY(GLOBAL).", "RECEIVE SYSMODS."],
+        ptfin: &[&["++PTF(UA00005).", "++VER(Z038) FMID(HAA1100)."]],
+        rest: "",
+        hold: &[],
+        report: "SET GLOBAL\nRC 00\nRECEIVE GLOBAL\nUA00005 PTF      RECEIVED\nRC 00\n",
+        code: 0,
+    },
+    Step {
+        cntl: &["SET BDY(TGT1).", "APPLY SELECT(UA00005)."],
+        ptfin: &[],
+        rest: "",
+        hold: &[],
+        report: "SET TGT1\nRC 00\nAPPLY TGT1\nUA00005 PTF      APPLIED\nRC 00\n",
+        code: 0,
+    },
+    Step {
+        cntl: &["SET BDY(GLOBAL).", "RECEIVE SYSMODS HOLDDATA."],
+        ptfin: &[&["++PTF(UA00006).", "++VER(Z038) FMID(HAA1100) SUP(AA00009)."]],
+        rest: "",
+        hold: &["++HOLD(UA00005) ERROR FMID(HAA1100) REASON(AA00009)."],
+        report: "SET GLOBAL\nRC 00\nRECEIVE GLOBAL\nUA00006 PTF      RECEIVED\nUA00005 ERROR    HELD AA00009\n\
+            RC 00\n",
+        code: 0,
+    },
+    Step {
+        cntl: &["SET BDY(TGT1).", "REPORT ERRSYSMODS."],
+        ptfin: &[],
+        rest: "",
+        hold: &[],
+        report: "SET TGT1\nRC 00\nREPORT TGT1\nERRSYSMOD UA00005 AA00009\n  RESOLVER UA00006\nRC 04\n",
+        code: 4,
+    },
+];
+
+/// A failed SYSMOD names each causer that it reaches.
+pub(crate) const TWO_CAUSERS: &[Step] = &[
+    FUNCTION_RECEIVED,
+    FUNCTION_INSTALLED,
+    Step {
+        cntl: &["SET BDY(GLOBAL).", "RECEIVE SYSMODS HOLDDATA."],
+        ptfin: &[
+            &["++PTF(UA00044).", "++VER(Z038) FMID(HAA1100) PRE(UA00045)."],
+            &[
+                "++PTF(UA00045).",
+                "++VER(Z038) FMID(HAA1100) PRE(UA00046) REQ(UA00047).",
+            ],
+            &["++PTF(UA00046).", "++VER(Z038) FMID(HAA1100)."],
+            &["++PTF(UA00047).", "++VER(Z038) FMID(HAA1100)."],
+        ],
+        rest: "",
+        hold: &[
+            "++HOLD(UA00046) SYSTEM FMID(HAA1100) REASON(ACTION).",
+            "++HOLD(UA00047) USER FMID(HAA1100) REASON(WAIT).",
+        ],
+        report: "SET GLOBAL\nRC 00\nRECEIVE GLOBAL\nUA00044 PTF      RECEIVED\nUA00045 PTF      RECEIVED\n\
+            UA00046 PTF      RECEIVED\nUA00047 PTF      RECEIVED\nUA00046 SYSTEM   HELD ACTION\n\
+            UA00047 USER     HELD WAIT\nRC 00\n",
+        code: 0,
+    },
+    Step {
+        cntl: &[
+            "SET BDY(TGT1).",
+            "APPLY SELECT(UA00044,UA00045,UA00046,UA00047).",
+        ],
+        ptfin: &[],
+        rest: "",
+        hold: &[],
+        report: "SET TGT1\nRC 00\nAPPLY TGT1\nUA00044 PTF      FAILED\n  NEED PRE UA00045\n  CAUSER UA00046\n\
+            \x20 CAUSER UA00047\n\
+            UA00045 PTF      FAILED\n  NEED PRE UA00046\n  NEED REQ UA00047\n  CAUSER UA00046\n  CAUSER UA00047\n\
+            UA00046 PTF      FAILED\n  TEST J1\n  CAUSER UA00046\nUA00047 PTF      FAILED\n  TEST J2\n\
+            \x20 CAUSER UA00047\n\
+            RC 08\n",
+        code: 8,
+    },
+];
