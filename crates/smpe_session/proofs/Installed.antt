@@ -1,5 +1,5 @@
--- What APPLY leads to: a state with one zone changed, whose tables are an inventory's.
-use Rattle.std.proofs.Common.{◌≡◌, ◌≢◌, ◌∙◌, Bool, true, false, List, [], ◌∷◌, ◌++◌, Option, Some, None, All, IsTrue}
+-- What APPLY and ACCEPT lead to: a state with one zone changed, whose tables are an inventory's.
+use Rattle.std.proofs.Common.{◌≡◌, ◌≢◌, ◌∙◌, Bool, true, false, List, [], ◌∷◌, ◌++◌, Option, Some, IsTrue}
 use Rattle.std.proofs.Common.{refl, sym, ap, subst, inl, inr, true≢false}
 use Rattle.std.specs.Prelude.{IsSome, find, option_map, if◌then◌else◌}
 use Rattle.std.specs.List.{AllByRecursion}
@@ -9,9 +9,11 @@ use Rattle.std.specs.Cmp.Lexicographic.{slice_cmp}
 use Rattle.std.proofs.lemmas.Cmp.{nat_list_cmp_total, tied_itself}
 use Rattle.std.proofs.lemmas.List.Elements.{All-append, All-weaker, recursion_from_All}
 use Rattle.indexmap.specs.IndexMap.{get, Updates}
-use Rattle.terms.specs.declared.codes.CommandWord.TheVariants as word
-use Rattle.terms.specs.Types.{Text, Zone, NamedZone, Bypass, Selection, Install, Apply}
+use Rattle.terms.specs.declared.kinds.ZoneKind.{ZoneKind}
+use Rattle.terms.specs.declared.kinds.ZoneKind.TheVariants.{Target, Distribution}
+use Rattle.terms.specs.Types.{Text, Zone, NamedZone, Bypass, Selection, Install, Command}
 use Rattle.zones.specs.Delta.{ZoneDelta, IsChanged}
+use Rattle.terms.specs.Forms.{IsDottedDate}
 use Rattle.terms.specs.Lookups.{is_before}
 use Rattle.terms.specs.Rising.{Rises, with_item}
 use Rattle.lemmas.proofs.Pairs.{pairs_unmap, AllPairs-parts}
@@ -20,15 +22,15 @@ use Rattle.terms.proofs.RisingLists.{with_item-there}
 use Rattle.store_zones.specs.Zones.{IsZoneChange}
 use Rattle.store_schema.specs.Inventory.{Inventory, IsInventory}
 use Rattle.machine.specs.Installing.{InstallsSelected}
-use Rattle.machine.specs.Outcome.{Refusal, Line, Ran, Refused, or_nothing}
+use Rattle.machine.specs.Outcome.{Header, Line, Refusal, Outcome, Ran, Refused, header_of, or_nothing}
 use Rattle.machine.specs.State.{State, zone_named, with_zone, misplaced}
-use Rattle.machine.specs.Machine.{Files, Performs}
+use Rattle.machine.specs.Machine.{Files, InstallsThere, RunsThere, Performs}
 use Rattle.store.specs.Kept.{kept}
 use Rattle.smpe_upkeep.proofs.ZonesKept.{stands_among}
 use Rattle.smpe_upkeep.proofs.InstallForms.{apply_kept}
 use Rattle.smpe_session.specs.declared.session.Session.{Session}
 use Rattle.smpe_session.specs.Sessions.{IsSessionOf}
-use Rattle.smpe_session.specs.Targets.{IsTarget, IsPlan}
+use Rattle.smpe_session.specs.Places.{install_command, related_for, IsPlace, IsPlan}
 use Rattle.smpe_session.proofs.Seeking.{zones-updated, some-updated}
 
 abbrev named : Text → Zone → NamedZone
@@ -134,56 +136,71 @@ module _ (s : State) (name : Text) (old new : Zone) (is : IsInventory (kept s))
     ];
   }
 
+-- the command where it can run
+runs-there : (date : Text) (files : Files) (kind : ZoneKind) (i : Install) (s t : State) (outcome : Outcome)
+    → InstallsThere date s (install_command kind i) i (related_for kind s.zones) t outcome
+    → RunsThere date files s (install_command kind i) t outcome
+runs-there date files Target i s t outcome there = there
+runs-there date files Distribution i s t outcome there = there
+
 -- what was planned, as the command's own words
-module _ (date : Text) (files : Files) (i : Install) (s : State) (at : Session) (name : Text) (zone : Zone)
-    (target : IsTarget s at i name zone)
-    (sel : Selection) (bypass : Bypass) (delta : ZoneDelta) (new : Zone) (lines : List Line)
-    (plan : IsPlan at.global zone sel bypass date delta new lines) (here : IsSessionOf s at)
-    (selection : i.selection ≡ sel) (bypasses : i.bypass ≡ bypass) where
-  pub install-performs : (check : Bool) (t : State) → i.check ≡ check → t ≡ (if check then s else with_zone s name new)
-      → Performs date files s (Apply i) t (Ran (record { word = word.Apply; boundary = at.boundary; check = check })
-      lines)
-  install-performs check t checks state = inr (
-    target.fits,
-    record {
+pub record IsReady (date : Text) (kind : ZoneKind) (i : Install) (s : State) (at : Session) (name : Text) (zone : Zone)
+    (delta : ZoneDelta) (new : Zone) (lines : List Line) : Type 0 where
+  pub place : IsPlace s at kind i name zone
+  pub dated : IsDottedDate date
+  pub changed : IsChanged delta zone new
+  pub printed : List Line
+  pub installs : InstallsSelected s.global zone (related_for kind s.zones name) i.selection i.bypass date new printed
+  pub lines_are : lines ≡ or_nothing printed
+
+pub planned : (date : Text) (kind : ZoneKind) (i : Install) (s : State) (at : Session) (name : Text) (zone : Zone)
+    (related : Option Zone) (sel : Selection) (bypass : Bypass) (delta : ZoneDelta) (new : Zone) (lines : List Line)
+    → IsSessionOf s at → IsPlace s at kind i name zone → related ≡ related_for kind s.zones name
+    → i.selection ≡ sel → i.bypass ≡ bypass → IsPlan at.global zone related sel bypass date delta new lines
+    → IsReady date kind i s at name zone delta new lines
+planned date kind i s at name zone related sel bypass delta new lines here place looks selection bypasses plan = record {
+  place = place;
+  dated = plan.dated;
+  changed = plan.changed;
+  printed = plan.printed;
+  installs = subst (λ r. InstallsSelected s.global zone r i.selection i.bypass date new plan.printed) looks
+      (subst (λ g. InstallsSelected g zone related i.selection i.bypass date new plan.printed) here.global
+      (subst (λ x. InstallsSelected at.global zone related x i.bypass date new plan.printed) (sym selection)
+      (subst (λ b. InstallsSelected at.global zone related sel b date new plan.printed) (sym bypasses) plan.installs)));
+  lines_are = plan.lines_are;
+}
+
+module _ (date : Text) (kind : ZoneKind) (i : Install) (s : State) (at : Session) (name : Text) (zone : Zone)
+    (delta : ZoneDelta) (new : Zone) (lines : List Line)
+    (ready : IsReady date kind i s at name zone delta new lines) where
+  pub install-performs : (files : Files) (check : Bool) (t : State) (header : Header) → i.check ≡ check
+      → t ≡ (if check then s else with_zone s name new) → header ≡ header_of (install_command kind i) s.boundary
+      → Performs date files s (install_command kind i) t (Ran header lines)
+  install-performs files check t header checks state headed = inr (
+    ready.place.fits,
+    runs-there date files kind i s t (Ran header lines) record {
       name = name;
-      at = target.boundary;
+      at = ready.place.boundary;
       zone = zone;
-      is_there = target.is_there;
+      is_there = ready.place.is_there;
       new = new;
-      lines = plan.printed;
-      installs = subst (λ g. InstallsSelected g zone None i.selection i.bypass date new plan.printed) here.global
-          (subst (λ x. InstallsSelected at.global zone None x i.bypass date new plan.printed) (sym selection)
-          (subst (λ b. InstallsSelected at.global zone None sel b date new plan.printed) (sym bypasses) plan.installs));
+      lines = ready.printed;
+      installs = ready.installs;
       state = state ∙ ap (λ c. if c then s else with_zone s name new) (sym checks);
-      prints = ap (λ ls. Ran (record { word = word.Apply; boundary = at.boundary; check = check }) ls) plan.lines_are
-          ∙ ap (λ b. Ran (record { word = word.Apply; boundary = b; check = check }) (or_nothing plan.printed))
-          here.boundary
-          ∙ ap (λ c. Ran (record { word = word.Apply; boundary = s.boundary; check = c }) (or_nothing plan.printed))
-          (sym checks);
+      prints = ap (Ran header) ready.lines_are ∙ ap (λ h. Ran h (or_nothing ready.printed)) headed;
     },
   )
-
-  install-inventory : IsInventory (kept s) → IsInventory (kept (with_zone s name new))
-  install-inventory is = apply_kept (kept s) name zone new None sel bypass date plan.printed is target.is_there
-      (subst (λ g. InstallsSelected g zone None sel bypass date new plan.printed) here.global plan.installs) plan.dated
 
   -- what a commit of the change asks for
   pub install-commits : {Committed : Type 0} → IsInventory (kept s)
       → ((was : Zone) → IsZoneChange name was new (kept s) (kept (with_zone s name new)) → IsChanged delta was new
       → IsInventory (kept (with_zone s name new)) → IsSome (get bytes_eq at.zones name) → Committed) → Committed
-  install-commits is commits =
-      commits zone (zone-change (kept s) name zone new is target.is_there) plan.changed (install-inventory is)
-      (subst IsSome (sym target.has) refl)
+  install-commits is commits = commits zone (zone-change (kept s) name zone new is ready.place.is_there) ready.changed
+      (apply_kept (kept s) name zone new (related_for kind s.zones name) i.selection i.bypass date ready.printed is
+      ready.place.is_there ready.installs ready.dated)
+      (subst IsSome (sym ready.place.has) refl)
 
--- APPLY where it can't run
-pub install-refused : (date : Text) (files : Files) (i : Install) (s : State) (boundary : Option Text) (check : Bool)
-    (why : Refusal) → boundary ≡ s.boundary → i.check ≡ check → misplaced s (Apply i) ≡ Some why
-    → Performs date files s (Apply i) s (Refused (record { word = word.Apply; boundary = boundary; check = check }) why)
-install-refused date files i s boundary check why same checks at = inl (
-  why,
-  at,
-  refl,
-  ap (λ b. Refused (record { word = word.Apply; boundary = b; check = check }) why) same
-      ∙ ap (λ c. Refused (record { word = word.Apply; boundary = s.boundary; check = c }) why) (sym checks),
-)
+-- the command where it can't run
+pub install-refused : (date : Text) (files : Files) (c : Command) (s : State) (header : Header) (why : Refusal)
+    → header ≡ header_of c s.boundary → misplaced s c ≡ Some why → Performs date files s c s (Refused header why)
+install-refused date files c s header why headed at = inl (why, at, refl, ap (λ h. Refused h why) headed)

@@ -4,5 +4,6 @@ mod Leading
 mod Places
 mod Received
 mod Rejected
+mod RelatedZone
 mod Seeking
 mod Stepping

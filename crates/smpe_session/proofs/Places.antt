@@ -1,12 +1,13 @@
 -- Where commands may run, by the boundary.
 use Rattle.std.proofs.Common.{◌≡◌, ◌≢◌, ◌∙◌, ◌==◌, Bool, true, false, not, List, All, Option, Some, None, refl, sym, ap}
-use Rattle.std.proofs.Common.{inl, inr}
+use Rattle.std.proofs.Common.{inl, inr, IsTrue}
 use Rattle.std.specs.Prelude.{if◌then◌else◌, is_some, find, option_map}
 use Rattle.std.specs.Option.{option_map_or, option_and_then}
 use Rattle.std.specs.Str.{bytes_eq}
 use Rattle.indexmap.specs.IndexMap.{get}
+use Rattle.terms.specs.declared.kinds.ZoneKind.{ZoneKind}
 use Rattle.terms.specs.declared.kinds.ZoneKind.TheVariants.{Target, Distribution}
-use Rattle.terms.specs.Types.{Text, zone_number, Zone, NamedZone, Id, ReceiveWhat, Receive, Reject, Install, Apply}
+use Rattle.terms.specs.Types.{Text, zone_number, Zone, NamedZone, Id, ReceiveWhat, Receive, Reject, Install}
 use Rattle.lemmas.proofs.Texts.{same_from, same_itself}
 use Rattle.lemmas.proofs.Searches.{All-find, find-gives}
 use Rattle.machine.specs.Outcome.{Refusal, Cm1, Cm3}
@@ -15,6 +16,7 @@ use Rattle.machine.specs.State.{State, global_name, zone_named, at_global, unles
 use Rattle.store.specs.Kept.{kept}
 use Rattle.smpe_session.specs.declared.session.Session.{Session}
 use Rattle.smpe_session.specs.Sessions.{IsSessionOf}
+use Rattle.smpe_session.specs.Places.{install_command}
 
 -- whether the boundary is the global zone
 abbrev refusal_at : Option Text → Option Refusal
@@ -49,34 +51,49 @@ at-elsewhere s name at other = sym (by_boundary s ∙ ap refusal_at at ∙ by (b
     by true same = absurd (other (sym (same_from global_name name same)))
     by false differs = refl
 
--- whether it names a zone that is a target zone
-abbrev refusal_of_kind : Option Text → Option Zone → Option Refusal
-refusal_of_kind boundary zone = if not (is_some boundary) then Some Cm1 else if option_map_or
-    (λ z. zone_number z.kind == zone_number Target) zone false then None else Some Cm3
+-- whether it names a zone of this kind
+abbrev refusal_of_kind : ZoneKind → Option Text → Option Zone → Option Refusal
+refusal_of_kind kind boundary zone = if not (is_some boundary) then Some Cm1 else if option_map_or
+    (λ z. zone_number z.kind == zone_number kind) zone false then None else Some Cm3
 
-by_kind : (s : State) (i : Install) → misplaced s (Apply i) ≡ refusal_of_kind s.boundary
-    (option_and_then (zone_named s.zones) s.boundary)
+by_kind : (s : State) (kind : ZoneKind) (i : Install) → misplaced s (install_command kind i) ≡ refusal_of_kind kind
+    s.boundary (option_and_then (zone_named s.zones) s.boundary)
 unfolding misplaced
-by_kind s i = refl
+by_kind s Target i = refl
+by_kind s Distribution i = refl
 
-pub apply-nowhere : (s : State) (i : Install) → s.boundary ≡ None → misplaced s (Apply i) ≡ Some Cm1
-apply-nowhere s i at = by_kind s i ∙ ap (λ b. refusal_of_kind b (option_and_then (zone_named s.zones) b)) at
+pub install-nowhere : (s : State) (kind : ZoneKind) (i : Install) → s.boundary ≡ None
+    → misplaced s (install_command kind i) ≡ Some Cm1
+install-nowhere s kind i at = by_kind s kind i
+    ∙ ap (λ b. refusal_of_kind kind b (option_and_then (zone_named s.zones) b)) at
 
-at_zone : (s : State) (i : Install) (name : Text) (found : Option Zone) → s.boundary ≡ Some name
+at_zone : (s : State) (kind : ZoneKind) (i : Install) (name : Text) (found : Option Zone) → s.boundary ≡ Some name
     → zone_named s.zones name ≡ found
-    → misplaced s (Apply i) ≡ refusal_of_kind (Some name) found
-at_zone s i name found at there = by_kind s i ∙ ap (λ b. refusal_of_kind b (option_and_then (zone_named s.zones) b)) at
-    ∙ ap (refusal_of_kind (Some name)) there
+    → misplaced s (install_command kind i) ≡ refusal_of_kind kind (Some name) found
+at_zone s kind i name found at there = by_kind s kind i
+    ∙ ap (λ b. refusal_of_kind kind b (option_and_then (zone_named s.zones) b)) at
+    ∙ ap (refusal_of_kind kind (Some name)) there
 
-pub apply-target : (s : State) (i : Install) (name : Text) (zone : Zone) → s.boundary ≡ Some name
-    → zone_named s.zones name ≡ Some zone → zone.kind ≡ Target → misplaced s (Apply i) ≡ None
-apply-target s i name zone at there kind = at_zone s i name (Some zone) at there
-    ∙ ap (λ k. if zone_number k == zone_number Target then None else Some Cm3) kind
+same_kind : (kind : ZoneKind) → IsTrue (zone_number kind == zone_number kind)
+same_kind Target = refl
+same_kind Distribution = refl
 
-pub apply-distribution : (s : State) (i : Install) (name : Text) (zone : Zone) → s.boundary ≡ Some name
-    → zone_named s.zones name ≡ Some zone → zone.kind ≡ Distribution → misplaced s (Apply i) ≡ Some Cm3
-apply-distribution s i name zone at there kind = at_zone s i name (Some zone) at there
-    ∙ ap (λ k. if zone_number k == zone_number Target then None else Some Cm3) kind
+other_kind : (a b : ZoneKind) → a ≢ b → (zone_number a == zone_number b) ≡ false
+other_kind Target Target other = absurd (other refl)
+other_kind Target Distribution other = refl
+other_kind Distribution Target other = refl
+other_kind Distribution Distribution other = absurd (other refl)
+
+pub install-fits : (s : State) (kind : ZoneKind) (i : Install) (name : Text) (zone : Zone) → s.boundary ≡ Some name
+    → zone_named s.zones name ≡ Some zone → zone.kind ≡ kind → misplaced s (install_command kind i) ≡ None
+install-fits s kind i name zone at there is = at_zone s kind i name (Some zone) at there
+    ∙ ap (λ k. if zone_number k == zone_number kind then None else Some Cm3) is
+    ∙ ap (λ b. if b then None else Some Cm3) (same_kind kind)
+
+pub install-other : (s : State) (kind : ZoneKind) (i : Install) (name : Text) (zone : Zone) → s.boundary ≡ Some name
+    → zone_named s.zones name ≡ Some zone → zone.kind ≢ kind → misplaced s (install_command kind i) ≡ Some Cm3
+install-other s kind i name zone at there other = at_zone s kind i name (Some zone) at there
+    ∙ ap (λ b. if b then None else Some Cm3) (other_kind zone.kind kind other)
 
 -- no zone of an inventory has the global zone's name
 pub none-global : (zones : List NamedZone) → All IsZoneNamed zones → zone_named zones global_name ≡ None
@@ -89,9 +106,11 @@ none-global zones all = by (find (λ z. bytes_eq z.name global_name) zones) refl
         (same_from z.name global_name (find-gives (λ z. bytes_eq z.name global_name) zones z at).0))
 
 -- a boundary that is no zone of the session is the global zone
-pub apply-global : (s : State) (at : Session) (i : Install) (name : Text) → IsSessionOf s at → IsInventory (kept s)
-    → s.boundary ≡ Some name → get bytes_eq at.zones name ≡ None → misplaced s (Apply i) ≡ Some Cm3
-apply-global s at i name is inventory named none = at_zone s i name None named (elim (is.current name named) [
-  | inl same ↦ ap (zone_named s.zones) same ∙ none-global s.zones inventory.zones
-  | inr some ↦ absurd (cc (sym (ap is_some none) ∙ some))
-])
+pub install-global : (s : State) (at : Session) (kind : ZoneKind) (i : Install) (name : Text) → IsSessionOf s at
+    → IsInventory (kept s) → s.boundary ≡ Some name → get bytes_eq at.zones name ≡ None
+    → misplaced s (install_command kind i) ≡ Some Cm3
+install-global s at kind i name is inventory named none = at_zone s kind i name None named
+    (elim (is.current name named) [
+      | inl same ↦ ap (zone_named s.zones) same ∙ none-global s.zones inventory.zones
+      | inr some ↦ absurd (cc (sym (ap is_some none) ∙ some))
+    ])

@@ -1,4 +1,4 @@
+pub mod Places
 pub mod Received
 pub mod Sessions
 pub mod Steps
-pub mod Targets

@@ -4,14 +4,15 @@
 //! before, and a crash leaves that one or the one that the command leads to. No contract says when these come.
 #![tactic(auto)]
 
-mod apply;
 mod boundary;
 mod files;
+mod install;
 mod lines;
 mod load;
 mod read;
 mod receive;
 mod reject;
+mod related;
 mod session;
 mod set;
 

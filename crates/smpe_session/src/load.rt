@@ -4,6 +4,7 @@ ghost use Rattle.sqlite.specs.Held.{state};
 ghost use Rattle.sqlite.specs.State.{HasCleanDisk};
 ghost use Rattle.machine.specs.State.{State, zone_named};
 ghost use Rattle.store_schema.specs.Inventory.{IsInventory};
+ghost use Rattle.store_zone_loads.specs.Found.{head_of};
 ghost use Rattle.store.specs.Changes.{Makes};
 ghost use Rattle.store.specs.Kept.{kept, Keeps};
 ghost use Rattle.smpe_session.specs.Steps.{HasLoaded, EndsCommitted};
@@ -12,6 +13,7 @@ use fields::ZoneName;
 use sqlite::Alter;
 use store::{Change, Store};
 use store_schema::StoreError;
+use store_zone_loads::ZoneHead;
 use sysmods::Global;
 use zones::Zone;
 
@@ -40,6 +42,14 @@ pub(crate) fn load_names<S: Alter>(store: &mut Store<S>) -> Result<Vec<ZoneName>
         → HasLoaded S.Store store.new s (λ names. names.items ≡ map (λ z. z.name) s.zones) result }
 {
     store.zone_names()
+}
+
+pub(crate) fn load_heads<S: Alter>(store: &mut Store<S>) -> Result<Vec<ZoneHead>, StoreError>
+    ensures clean { HasCleanDisk (state S.Store store.new) → HasCleanDisk (state S.Store store.old) }
+    ensures ended { HasCleanDisk (state S.Store store.new) → (s : State) → Keeps S.Store store.old s
+        → HasLoaded S.Store store.new s (λ heads. heads.items ≡ map head_of s.zones) result }
+{
+    store.zone_heads()
 }
 
 /// Commits what leads from one state to another.

@@ -17,6 +17,7 @@ use std::alloc::Global as Heap;
 use store::Store;
 use store_schema::StoreError;
 use sysmods::Global;
+use terms::ZoneKind;
 use zones::Zone;
 
 /// What a job has in memory of what the tables hold: the global zone and the zones that its SETs have named. And its
@@ -61,7 +62,9 @@ impl Session {
             Command::Set(name) => self.set(alloc, store, *name),
             Command::Receive(what) => self.receive(alloc, store, files, what),
             Command::Reject(ids) => self.reject(alloc, store, ids),
-            Command::Apply(install) => self.apply(alloc, store, date, install),
+            Command::Apply(operands) => {
+                self.install(alloc, store, date, ZoneKind::Target, operands)
+            }
         }
     }
 }

@@ -14,4 +14,4 @@ returns-in-Reject-clause-ended g c = λ clean s is keeps. rw c.in-Reject.is
 
 pub returns-in-Apply-clause-ended : goal.returns-in-Apply-clause-ended
 returns-in-Apply-clause-ended g c = λ clean s is keeps. rw c.in-Apply.is
-    (c.apply.ensures.ended clean s is keeps c.args.files.now)
+    (c.install.ensures.ended clean s is keeps c.args.files.now)

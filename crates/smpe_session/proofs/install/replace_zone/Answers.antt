@@ -1,5 +1,5 @@
 use Rattle.smpe_session.proofs.Stepping.{committed-err}
-use Rattle.smpe_session.proofs.apply.replace_zone.Goals as goal
+use Rattle.smpe_session.proofs.install.replace_zone.Goals as goal
 
 pub returns-in_err-commit_change-clause-ended : goal.returns-in_err-commit_change-clause-ended
 returns-in_err-commit_change-clause-ended g c = λ s t was keeps change changed is some.

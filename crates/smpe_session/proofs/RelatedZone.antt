@@ -1,0 +1,133 @@
+-- The target zone that is related to a distribution zone, found by its head.
+use Rattle.std.proofs.Common.{◌≡◌, ◌∙◌, Bool, true, false, List, [], ◌∷◌, Option, Some, None, IsTrue, Contains, map}
+use Rattle.std.proofs.Common.{refl, sym, ap, subst, inl, inr}
+use Rattle.std.specs.Prelude.{IsSome, is_some, find, option_map}
+use Rattle.std.specs.Option.{option_map_or}
+use Rattle.std.specs.Str.{bytes_eq}
+use Rattle.std.specs.Ordering.{nat_cmp}
+use Rattle.std.specs.Cmp.Lexicographic.{slice_cmp, texts_ties}
+use Rattle.std.proofs.lemmas.Bool.{or_right}
+use Rattle.std.proofs.lemmas.Cmp.{nat_list_cmp_total}
+use Rattle.indexmap.specs.IndexMap.{get}
+use Rattle.terms.specs.declared.kinds.ZoneKind.TheVariants.{Target, Distribution}
+use Rattle.terms.specs.Types.{Text, Zone, NamedZone}
+use Rattle.terms.specs.Lookups.{is_before}
+use Rattle.terms.specs.Rising.{Rises}
+use Rattle.lemmas.proofs.Pairs.{pairs_unmap}
+use Rattle.lemmas.proofs.Searches.{find-gives}
+use Rattle.store_schema.specs.Inventory.{IsInventory}
+use Rattle.store_zone_loads.specs.declared.head.ZoneHead.{ZoneHead}
+use Rattle.store_zone_loads.specs.Found.{head_of}
+use Rattle.machine.specs.State.{State, global_name, zone_named, target_of}
+use Rattle.store.specs.Kept.{kept}
+use Rattle.smpe_upkeep.proofs.Lists.{find-itself}
+use Rattle.smpe_session.specs.declared.session.Session.{Session}
+use Rattle.smpe_session.specs.Sessions.{IsSessionOf}
+use Rattle.smpe_session.specs.Steps.{IsSought}
+use Rattle.smpe_session.specs.Places.{HasRelated}
+use Rattle.smpe_session.proofs.Places.{none-global}
+
+-- an item found among what is made of items
+find-made : {X Y : Type 0} (p : Y → Bool) (f : X → Y) (xs : List X)
+    → find p (map f xs) ≡ option_map f (find (λ x. p (f x)) xs)
+find-made p f [] = refl
+find-made p f (x ∷ xs) = by (find-made p f xs) (p (f x)) refl
+  where
+    by : find p (map f xs) ≡ option_map f (find (λ y. p (f y)) xs) → (b : Bool) → p (f x) ≡ b
+        → find p (map f (x ∷ xs)) ≡ option_map f (find (λ y. p (f y)) (x ∷ xs))
+    by rest true e = rw e refl
+    by rest false e = rw e rest
+
+abbrev names_it : Text → NamedZone → Bool
+names_it name z = option_map_or (bytes_eq name) z.zone.related false
+
+abbrev target_in : Text → List NamedZone → Option NamedZone
+target_in name zones = find (names_it name) zones
+
+-- the name by the heads is that of the zone
+name-is : (name : Text) (zones : List NamedZone) (heads : List ZoneHead) (found : Option Text)
+    → heads ≡ map head_of zones
+    → found ≡ option_map (λ h. h.name) (find (λ h. option_map_or (bytes_eq name) h.related false) heads)
+    → found ≡ option_map (λ z. z.name) (target_in name zones)
+name-is name zones heads found are is =
+    is
+    ∙ ap (λ hs. option_map (λ (h : ZoneHead). h.name) (find (λ h. option_map_or (bytes_eq name) h.related false) hs)) are
+    ∙ ap (option_map (λ (h : ZoneHead). h.name)) (find-made (λ (h : ZoneHead).
+    option_map_or (bytes_eq name) h.related false) head_of zones)
+    ∙ by (target_in name zones)
+  where
+    by : (z : Option NamedZone) → option_map (λ (h : ZoneHead). h.name) (option_map head_of z)
+        ≡ option_map (λ (z : NamedZone). z.name) z
+    by None = refl
+    by (Some z) = refl
+
+-- where the boundary is at no zone, nothing is looked for
+pub related-nowhere : (s : State) (at : Session) → IsSessionOf s at → at.boundary ≡ None
+    → HasRelated s at Distribution None
+related-nowhere s at is none = record {
+  session = is;
+  is_related = λ name named. absurd (cc (sym named ∙ sym is.boundary ∙ none));
+}
+
+pub related-target : (s : State) (at : Session) → IsSessionOf s at → HasRelated s at Target None
+related-target s at is = record { session = is; is_related = λ name named. refl }
+
+module _ (s : State) (name : Text) (boundary : s.boundary ≡ Some name) (heads : List ZoneHead)
+    (are : heads ≡ map head_of s.zones) where
+  abbrev Found : Option Text → Type 0
+  Found found = found ≡ option_map (λ h. h.name) (find (λ h. option_map_or (bytes_eq name) h.related false) heads)
+
+  of_boundary : (q : Text) → s.boundary ≡ Some q → name ≡ q
+  of_boundary q bound = cc (sym boundary ∙ bound)
+
+  -- no zone names it
+  pub related-none : (at : Session) → IsSessionOf s at → Found None → HasRelated s at Distribution None
+  related-none at is found = record {
+    session = is;
+    is_related = λ q bound. subst (λ n. None ≡ target_of s.zones n) (of_boundary q bound)
+        (by (target_in name s.zones) refl (name-is name s.zones heads None are found));
+  }
+    where
+      by : (z : Option NamedZone) → target_in name s.zones ≡ z → None ≡ option_map (λ (z : NamedZone). z.name) z
+          → None ≡ target_of s.zones name
+      by None at none = sym (ap (option_map (λ (z : NamedZone). z.zone)) at)
+      by (Some z) at none = absurd (cc none)
+
+  -- one does, and was sought
+  pub related-some : (at : Session) (related : Text) (answer : Bool) → IsInventory (kept s) → Found (Some related)
+      → IsSought s at related answer → HasRelated s at Distribution (Some related)
+  related-some at related answer inventory found sought = record {
+    session = sought.session;
+    is_related = λ q bound. subst (λ n. get bytes_eq at.zones related ≡ target_of s.zones n) (of_boundary q bound)
+        (by (target_in name s.zones) refl (name-is name s.zones heads (Some related) are found));
+  }
+    where
+      rising : Rises (slice_cmp nat_cmp) (λ (z : NamedZone). z.name) s.zones
+      rising = pairs_unmap (λ (a b : NamedZone). IsTrue (is_before a.name b.name))
+          (λ (x y : Text). IsTrue (is_before x y)) (λ z. z.name) (λ a b lower. lower) s.zones inventory.names
+
+      -- a zone of the state is that of its name
+      its_own : (z : NamedZone) → Contains s.zones z → zone_named s.zones z.name ≡ Some z.zone
+      its_own z there = ap (option_map (λ (z : NamedZone). z.zone))
+          (find-itself nat_list_cmp_total (λ (z : NamedZone). z.name) bytes_eq texts_ties s.zones z rising there)
+
+      held : (zone : Zone) → zone_named s.zones related ≡ Some zone → get bytes_eq at.zones related ≡ Some zone
+      held zone there = elim (sought.here (sought.found ∙ or_right (bytes_eq related global_name)
+          (is_some (zone_named s.zones related)) (ap is_some there))) [
+            | inl global ↦ absurd (cc (sym there ∙ ap (zone_named s.zones) global ∙ none-global s.zones inventory.zones))
+            | inr some ↦ got (get bytes_eq at.zones related) refl some
+          ]
+        where
+          got : (o : Option Zone) → get bytes_eq at.zones related ≡ o → IsSome (get bytes_eq at.zones related)
+              → get bytes_eq at.zones related ≡ Some zone
+          got None e some = absurd (cc (sym some ∙ ap is_some e))
+          got (Some z) e some = e ∙ sym (sought.session.zones related z e) ∙ there
+
+      by : (z : Option NamedZone) → target_in name s.zones ≡ z → Some related ≡ option_map (λ (z : NamedZone). z.name) z
+          → get bytes_eq at.zones related ≡ target_of s.zones name
+      by None e is = absurd (cc is)
+      by (Some z) e is =
+          let same : related ≡ z.name = cc is in
+          let there = find-gives (names_it name) s.zones z e in
+          held z.zone (ap (zone_named s.zones) same ∙ its_own z there.1)
+          ∙ sym (ap (option_map (λ (z : NamedZone). z.zone)) e)

@@ -1,0 +1,10 @@
+use Rattle.std.proofs.Common.{◌≡◌, map}
+use Rattle.store_zone_loads.specs.Found.{head_of}
+use Rattle.smpe_session.proofs.Stepping.{loaded}
+use Rattle.smpe_session.proofs.load.load_heads.Goals as goal
+
+pub returns-clause-ended : goal.returns-clause-ended
+returns-clause-ended g c = λ clean s keeps.
+    let e = c.zone_heads.ensures in
+    loaded g.S.Store c.args.store.now c.zone_heads.new.self s (λ i heads. heads.items ≡ map head_of i.zones)
+    c.zone_heads.result clean e.found e.none e.same e.err e.which e.crash keeps

@@ -1,0 +1,120 @@
+use Rattle.std.proofs.Common.{◌∙◌, map, sym, ap, refl}
+use Rattle.std.specs.Prelude.{if◌then◌else◌}
+use Rattle.machine.specs.Outcome.{header_of}
+use Rattle.machine.specs.State.{with_zone}
+use Rattle.report.specs.Views.{line_view, header_view, refusal_view}
+use Rattle.smpe_session.specs.Places.{install_command}
+use Rattle.smpe_session.proofs.Installed.{planned, install-session, install-performs, install-commits, install-refused}
+use Rattle.smpe_session.proofs.Stepping.{kept-inventory, performs-unmoved, performs-short, performs-staying}
+use Rattle.smpe_session.proofs.Stepping.{staying-unsettled}
+use Rattle.smpe_session.proofs.session.Session.install.Goals as goal
+
+pub returns-in_err-related-clause-ended : goal.returns-in_err-related-clause-ended
+returns-in_err-related-clause-ended g c = λ clean s is keeps files.
+    performs-unmoved g.S.Store c.seek_related.new.store s c.seek_related.new.self c.args.date files
+    (install_command c.args.kind c.args.install.now) c.from_residual.result c.in_err-related.field-0.0
+    c.from_residual.ensures.1 (c.in_err-related.ensures.ended clean s is keeps)
+
+pub returns-in_err-delta-in-Ok-clause-ended : goal.returns-in_err-delta-in-Ok-clause-ended
+returns-in_err-delta-in-Ok-clause-ended g c = λ clean s is keeps files.
+    performs-short g.S.Store c.seek_related.new.store s c.seek_related.new.self c.args.date files
+    (install_command c.args.kind c.args.install.now) c.from_residual-in_err-delta-in-Ok.result
+    c.from_residual-in_err-delta-in-Ok.ensures.1 (c.in_ok-related.ensures.ended clean s is keeps).1
+
+pub returns-then-install-clause-ended : goal.returns-then-install-clause-ended
+returns-then-install-clause-ended g c = λ clean s is keeps files.
+    let at = c.seek_related.new.self in
+    let i = c.args.install.now in
+    let name = c.in-Ok.place.name in
+    let zone = c.in-Ok.place.zone.now in
+    let p = c.in_ok-delta-in-Ok.field-0 in
+    let lines = map line_view p.lines.items in
+    let sought = c.in_ok-related.ensures.ended clean s is keeps in
+    let inventory = kept-inventory g.S.Store c.seek_related.new.store s clean sought.1 in
+    let place = c.in-Ok.ensures s i sought.0.session inventory in
+    let checks = sym (ap (λ w. w.check) c.install.view_is) in
+    let ready = planned c.args.date c.args.kind i s at name zone _ c.install.inside.selection c.install.inside.bypass
+    p.delta p.zone lines sought.0.session place (c.zone_at.ensures ∙ sought.0.is_related name place.boundary)
+    (sym (ap (λ w. w.selection) c.install.view_is)) (sym (ap (λ w. w.bypass) c.install.view_is))
+    c.in_ok-delta-in-Ok.ensures in (
+      s,
+      install-performs c.args.date c.args.kind i s at name zone p.delta p.zone lines ready files c.install.inside.check s
+          (header_view c.header-header.result) checks
+          (ap (λ b. if b then s else with_zone s name p.zone) (sym c.if-install.true))
+          (c.header-header.ensures i checks ∙ ap (header_of (install_command c.args.kind i)) is.boundary),
+      sought.0.session,
+      sought.1,
+    )
+
+pub returns-in_err-replace_zone-in-Ok-clause-ended : goal.returns-in_err-replace_zone-in-Ok-clause-ended
+returns-in_err-replace_zone-in-Ok-clause-ended g c = λ clean s is keeps files.
+    let at = c.seek_related.new.self in
+    let i = c.args.install.now in
+    let name = c.in-Ok.place.name in
+    let zone = c.in-Ok.place.zone.now in
+    let p = c.in_ok-delta-in-Ok.field-0 in
+    let lines = map line_view p.lines.items in
+    let before = c.replace_zone.ensures.clean clean in
+    let sought = c.in_ok-related.ensures.ended before s is keeps in
+    let inventory = kept-inventory g.S.Store c.seek_related.new.store s before sought.1 in
+    let place = c.in-Ok.ensures s i sought.0.session inventory in
+    let checks = sym (ap (λ w. w.check) c.install.view_is) in
+    let ready = planned c.args.date c.args.kind i s at name zone _ c.install.inside.selection c.install.inside.bypass
+    p.delta p.zone lines sought.0.session place (c.zone_at.ensures ∙ sought.0.is_related name place.boundary)
+    (sym (ap (λ w. w.selection) c.install.view_is)) (sym (ap (λ w. w.bypass) c.install.view_is))
+    c.in_ok-delta-in-Ok.ensures in
+    let command = install_command c.args.kind i in
+    let t = with_zone s name p.zone in
+    let performs = install-performs c.args.date c.args.kind i s at name zone p.delta p.zone lines ready files
+    c.install.inside.check t (header_view c.header-header.result) checks
+    (ap (λ b. if b then s else t) (sym c.if-install.false))
+    (c.header-header.ensures i checks ∙ ap (header_of command) is.boundary) in
+    performs-staying g.S.Store c.replace_zone.new.store s _ c.args.date files command
+    c.from_residual-in_err-replace_zone-in-Ok.result c.in_err-replace_zone-in-Ok.field-0.0
+    c.from_residual-in_err-replace_zone-in-Ok.ensures.1
+    (staying-unsettled g.S.Store c.replace_zone.new.store s c.args.date files command t _ performs
+    c.in_err-replace_zone-in-Ok.field-0.0
+    (install-commits c.args.date c.args.kind i s at name zone p.delta p.zone lines ready inventory
+    (λ was. c.in_err-replace_zone-in-Ok.ensures.ended s t was sought.1)))
+
+pub returns-in_ok-replace_zone-in-Ok-clause-ended : goal.returns-in_ok-replace_zone-in-Ok-clause-ended
+returns-in_ok-replace_zone-in-Ok-clause-ended g c = λ clean s is keeps files.
+    let at = c.seek_related.new.self in
+    let i = c.args.install.now in
+    let name = c.in-Ok.place.name in
+    let zone = c.in-Ok.place.zone.now in
+    let p = c.in_ok-delta-in-Ok.field-0 in
+    let lines = map line_view p.lines.items in
+    let before = c.replace_zone.ensures.clean clean in
+    let sought = c.in_ok-related.ensures.ended before s is keeps in
+    let inventory = kept-inventory g.S.Store c.seek_related.new.store s before sought.1 in
+    let place = c.in-Ok.ensures s i sought.0.session inventory in
+    let checks = sym (ap (λ w. w.check) c.install.view_is) in
+    let ready = planned c.args.date c.args.kind i s at name zone _ c.install.inside.selection c.install.inside.bypass
+    p.delta p.zone lines sought.0.session place (c.zone_at.ensures ∙ sought.0.is_related name place.boundary)
+    (sym (ap (λ w. w.selection) c.install.view_is)) (sym (ap (λ w. w.bypass) c.install.view_is))
+    c.in_ok-delta-in-Ok.ensures in
+    let t = with_zone s name p.zone in (
+      t,
+      install-performs c.args.date c.args.kind i s at name zone p.delta p.zone lines ready files c.install.inside.check t
+          (header_view c.header-header.result) checks (ap (λ b. if b then s else t) (sym c.if-install.false))
+          (c.header-header.ensures i checks ∙ ap (header_of (install_command c.args.kind i)) is.boundary),
+      install-session s name zone p.zone inventory place.is_there at _ sought.0.session refl refl
+          c.in_ok-replace_zone-in-Ok.ensures.updates,
+      install-commits c.args.date c.args.kind i s at name zone p.delta p.zone lines ready inventory
+          (λ was. c.in_ok-replace_zone-in-Ok.ensures.ended s t was sought.1),
+    )
+
+pub returns-in-Err-clause-ended : goal.returns-in-Err-clause-ended
+returns-in-Err-clause-ended g c = λ clean s is keeps files.
+    let i = c.args.install.now in
+    let command = install_command c.args.kind i in
+    let sought = c.in_ok-related.ensures.ended clean s is keeps in
+    let inventory = kept-inventory g.S.Store c.seek_related.new.store s clean sought.1 in (
+      s,
+      install-refused c.args.date files command s (header_view c.header-header.result) (refusal_view c.in-Err.refusal)
+          (c.header-header.ensures i (sym (ap (λ w. w.check) c.install.view_is)) ∙ ap (header_of command) is.boundary)
+          (c.in-Err.ensures s i sought.0.session inventory),
+      sought.0.session,
+      sought.1,
+    )

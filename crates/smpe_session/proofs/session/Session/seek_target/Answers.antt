@@ -1,0 +1,24 @@
+use Rattle.std.proofs.Common.{◌∙◌, sym}
+use Rattle.smpe_session.proofs.RelatedZone.{related-none, related-some}
+use Rattle.smpe_session.proofs.Stepping.{kept-inventory}
+use Rattle.smpe_session.proofs.session.Session.seek_target.Goals as goal
+
+pub returns-in_default-target_name-clause-ended : goal.returns-in_default-target_name-clause-ended
+returns-in_default-target_name-clause-ended g c = λ clean s is keeps.
+    let loaded = c.in_ok-heads.ensures.ended clean s keeps in (
+      related-none s c.in-Some.name (sym is.boundary ∙ c.in-Some.is) c.as_slice.result.now
+          (c.as_slice.ensures.value ∙ loaded.0) c.args.self.now is c.in_default-target_name.ensures,
+      loaded.1,
+    )
+
+pub returns-clause-ended : goal.returns-clause-ended
+returns-clause-ended g c = λ clean s is keeps.
+    let before = c.seek.ensures.clean clean in
+    let loaded = c.in_ok-heads.ensures.ended before s keeps in
+    let inventory = kept-inventory g.S.Store c.load_heads.new.store s before loaded.1 in
+    let sought = c.in_ok-seek.ensures.ended clean s is loaded.1 in (
+      related-some s c.in-Some.name (sym is.boundary ∙ c.in-Some.is) c.as_slice.result.now
+          (c.as_slice.ensures.value ∙ loaded.0) c.seek.new.self c.in-Some-target_name.related c.in_ok-seek.field-0
+          inventory c.in-Some-target_name.ensures sought.0,
+      sought.1,
+    )

@@ -1,0 +1,56 @@
+-- Where APPLY and ACCEPT run, what they look at, and what they come to before it is committed.
+use Rattle.std.specs.Prelude.{◌≡◌, List, Option, None, Some, Result, Ok, Err}
+use Rattle.std.specs.Option.{option_and_then}
+use Rattle.std.specs.Str.{bytes_eq}
+use Rattle.indexmap.specs.IndexMap.{get}
+use Rattle.terms.specs.declared.kinds.ZoneKind.{ZoneKind}
+use Rattle.terms.specs.declared.kinds.ZoneKind.TheVariants.{Target, Distribution}
+use Rattle.terms.specs.Types.{Text, Global, Zone, NamedZone, Bypass, Selection, Install, Command, Apply, Accept}
+use Rattle.zones.specs.Delta.{ZoneDelta, IsChanged}
+use Rattle.terms.specs.Forms.{IsDottedDate}
+use Rattle.machine.specs.Installing.{InstallsSelected}
+use Rattle.machine.specs.Outcome.{Line, or_nothing}
+use Rattle.machine.specs.State.{State, zone_named, target_of, misplaced}
+use Rattle.report.specs.declared.outcome.Refusal.{Refusal}
+use Rattle.report.specs.Views.{refusal_view}
+use Rattle.smpe_session.specs.declared.session.Session.{Session}
+use Rattle.smpe_session.specs.Sessions.{IsSessionOf}
+
+-- the command that installs into a zone of this kind
+abbrev pub install_command : ZoneKind → Install → Command
+install_command Target i = Apply i
+install_command Distribution i = Accept i
+
+-- the zone that it looks at besides: ACCEPT at the related target zone
+abbrev pub related_for : ZoneKind → List NamedZone → Text → Option Zone
+related_for Target zones = λ name. None
+related_for Distribution zones = target_of zones
+
+-- The session has the zone that the command looks at besides, under this name.
+pub record HasRelated (s : State) (at : Session) (kind : ZoneKind) (related : Option Text) : Type 0 where
+  pub session : IsSessionOf s at
+  pub is_related : (name : Text) → s.boundary ≡ Some name
+      → option_and_then (get bytes_eq at.zones) related ≡ related_for kind s.zones name
+
+-- The boundary names a zone of the kind, which the session has.
+pub record IsPlace (s : State) (at : Session) (kind : ZoneKind) (i : Install) (name : Text) (zone : Zone) :
+    Type 0 where
+  pub boundary : s.boundary ≡ Some name
+  pub has : get bytes_eq at.zones name ≡ Some zone
+  pub is_there : zone_named s.zones name ≡ Some zone
+  pub fits : misplaced s (install_command kind i) ≡ None
+
+-- It is this zone, or else the command is refused.
+abbrev pub HasPlace : State → Session → ZoneKind → Install → {V : Type 0} → (V → Text) → (V → Zone) → Result V Refusal
+    → Type 0
+HasPlace s at kind i name zone (Ok v) = IsPlace s at kind i (name v) (zone v)
+HasPlace s at kind i name zone (Err why) = misplaced s (install_command kind i) ≡ Some (refusal_view why)
+
+-- The change, the changed zone and the lines are those of an APPLY or ACCEPT.
+pub record IsPlan (g : Global) (zone : Zone) (related : Option Zone) (sel : Selection) (bypass : Bypass) (date : Text)
+    (delta : ZoneDelta) (new : Zone) (lines : List Line) : Type 0 where
+  pub dated : IsDottedDate date
+  pub changed : IsChanged delta zone new
+  pub printed : List Line
+  pub installs : InstallsSelected g zone related sel bypass date new printed
+  pub lines_are : lines ≡ or_nothing printed

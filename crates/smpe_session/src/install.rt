@@ -1,0 +1,210 @@
+//! APPLY and ACCEPT: what is selected comes into the zone of the boundary.
+ghost use Rattle.std.specs.Prelude.{◌≡◌, Some, IfOk, OnOk, IsSome, map, option_copied};
+ghost use Rattle.std.specs.Option.{option_and_then};
+ghost use Rattle.std.specs.Str.{bytes_eq};
+ghost use Rattle.indexmap.specs.IndexMap.{get, Updates};
+ghost use Rattle.sqlite.specs.Held.{state};
+ghost use Rattle.sqlite.specs.State.{HasCleanDisk};
+ghost use Rattle.terms.specs.Types.{Text, Install as AnInstall, Zone as AZone};
+ghost use Rattle.zones.specs.Delta.{IsChanged};
+ghost use Rattle.store_zones.specs.Zones.{IsZoneChange};
+ghost use Rattle.store_schema.specs.Inventory.{IsInventory};
+ghost use Rattle.machine.specs.Outcome.{header_of};
+ghost use Rattle.machine.specs.State.{State};
+ghost use Rattle.machine.specs.Machine.{Files};
+ghost use Rattle.report.specs.Views.{line_view, header_view};
+ghost use Rattle.store.specs.Kept.{kept, Keeps};
+ghost use Rattle.smpe_session.specs.Sessions.{IsSessionOf, HasPerformed};
+ghost use Rattle.smpe_session.specs.Steps.{EndsCommitted, HasLoaded};
+ghost use Rattle.smpe_session.specs.Places.{install_command, HasRelated, HasPlace, IsPlan};
+
+use crate::lines::or_nothing;
+use crate::load::{commit_change, load_heads};
+use crate::related::target_name;
+use crate::session::Session;
+use crate::set::keep_zone;
+use cntl::{Bypass, Install, Selection};
+use fields::{YyDdd, ZoneName};
+use indexmap::IndexMap;
+use report::{Header, Line, Outcome, Refusal};
+use smpe_apply::{Applied, apply};
+use sqlite::Alter;
+use std::alloc::{AllocError, Global as Heap};
+use store::{Change, Store};
+use store_schema::StoreError;
+use sysmods::Global;
+use terms::{CommandWord, ZoneKind};
+use zones::{Zone, ZoneDelta};
+
+/// A zone under its name.
+#[derive(Clone, Copy)]
+struct Place<'a> {
+    name: ZoneName,
+    zone: &'a Zone,
+}
+
+/// What an APPLY or ACCEPT comes to before it is committed: the zone's change, the changed zone, and the lines.
+#[derive(Drop)]
+pub(crate) struct Planned {
+    delta: ZoneDelta,
+    zone: Zone,
+    lines: Vec<Line>,
+}
+
+/// The header of the command that installs into a zone of this kind.
+fn header(kind: ZoneKind, boundary: Option<ZoneName>, check: bool) -> Header
+    ensures { (i : AnInstall) → i.check ≡ check → header_view result ≡ header_of (install_command kind i) boundary }
+{
+    let word = match kind {
+        ZoneKind::Target => CommandWord::Apply,
+        ZoneKind::Distribution => CommandWord::Accept,
+    };
+    Header {
+        word,
+        boundary,
+        check,
+    }
+}
+
+fn plan(
+    alloc: Heap,
+    global: &Global,
+    zone: &Zone,
+    related: Option<&Zone>,
+    selection: &Selection,
+    bypass: &Bypass,
+    date: YyDdd,
+) -> Result<Planned, AllocError>
+    ensures { IfOk result (λ p. IsPlan global.now zone.now (option_copied related.entry) selection.now bypass.now date
+        p.delta p.zone (map line_view p.lines.items)) }
+{
+    let Applied { delta, lines } = apply(alloc, global, zone, related, selection, bypass, date)?;
+    let lines = or_nothing(lines)?;
+    let zone = delta.apply(alloc, zone)?;
+    Ok(Planned { delta, zone, lines })
+}
+
+/// Commits the change of a zone of the session, which then has the changed one.
+fn replace_zone<S: Alter>(
+    store: &mut Store<S>,
+    zones: &mut IndexMap<ZoneName, Zone>,
+    name: ZoneName,
+    delta: ZoneDelta,
+    zone: Zone,
+) -> Result<(), StoreError>
+    ensures clean { HasCleanDisk (state S.Store store.new) → HasCleanDisk (state S.Store store.old) }
+    ensures ended { (s t : State) (was : AZone) → Keeps S.Store store.old s
+        → IsZoneChange name was zone (kept s) (kept t) → IsChanged delta was zone
+        → IsInventory (kept t) → IsSome (get bytes_eq zones.old name) → EndsCommitted S.Store store.new s t result }
+    ensures updates { OnOk result (Updates bytes_eq zones.old zones.new name (Some zone)) }
+{
+    commit_change(store, &Change::Zone(name, delta))?;
+    keep_zone(zones, name, zone)?;
+    Ok(())
+}
+
+impl Session {
+    /// The zone of the boundary, where it is of this kind.
+    fn place(&self, kind: ZoneKind) -> Result<Place<'_>, Refusal>
+        ensures { (s : State) (i : AnInstall) → IsSessionOf s self.now → IsInventory (kept s)
+            → HasPlace s self.now kind i (λ v. v.name) (λ v. v.zone.now) result }
+    {
+        let Some(name) = self.boundary else {
+            return Err(Refusal::NoBoundary);
+        };
+        let Some(zone) = self.zones.get(&name) else {
+            return Err(Refusal::WrongKind);
+        };
+        if zone.kind() != kind {
+            return Err(Refusal::WrongKind);
+        }
+        Ok(Place { name, zone })
+    }
+
+    fn zone_at(&self, name: Option<ZoneName>) -> Option<&Zone>
+        ensures { option_copied result ≡ option_and_then (get bytes_eq self.now.zones) name }
+    {
+        match name {
+            Some(name) => self.zones.get(&name),
+            None => None,
+        }
+    }
+
+    /// The name of the target zone that is related to the zone of the boundary, if there is one. It is loaded.
+    fn seek_target<S: Alter>(
+        &mut self,
+        store: &mut Store<S>,
+    ) -> Result<Option<ZoneName>, StoreError>
+        ensures clean { HasCleanDisk (state S.Store store.new) → HasCleanDisk (state S.Store store.old) }
+        ensures ended { HasCleanDisk (state S.Store store.new) → (s : State) → IsSessionOf s self.old
+            → Keeps S.Store store.old s
+            → HasLoaded S.Store store.new s (λ related. HasRelated s self.new ZoneKind.Distribution related) result }
+    {
+        let Some(name) = self.boundary else {
+            return Ok(None);
+        };
+        let heads = load_heads(store)?;
+        let Some(related) = target_name(heads.as_slice(), name) else {
+            return Ok(None);
+        };
+        self.seek(store, related)?;
+        Ok(Some(related))
+    }
+
+    /// The name of the zone that the command looks at besides.
+    fn seek_related<S: Alter>(
+        &mut self,
+        store: &mut Store<S>,
+        kind: ZoneKind,
+    ) -> Result<Option<ZoneName>, StoreError>
+        ensures clean { HasCleanDisk (state S.Store store.new) → HasCleanDisk (state S.Store store.old) }
+        ensures ended { HasCleanDisk (state S.Store store.new) → (s : State) → IsSessionOf s self.old
+            → Keeps S.Store store.old s
+            → HasLoaded S.Store store.new s (λ related. HasRelated s self.new kind related) result }
+    {
+        match kind {
+            ZoneKind::Target => Ok(None),
+            ZoneKind::Distribution => self.seek_target(store),
+        }
+    }
+
+    /// APPLY into a target zone, ACCEPT into a distribution zone.
+    pub(crate) fn install<S: Alter>(
+        &mut self,
+        alloc: Heap,
+        store: &mut Store<S>,
+        date: YyDdd,
+        kind: ZoneKind,
+        install: &Install,
+    ) -> Result<Outcome, StoreError>
+        ensures clean { HasCleanDisk (state S.Store store.new) → HasCleanDisk (state S.Store store.old) }
+        ensures ended { HasCleanDisk (state S.Store store.new) → (s : State) → IsSessionOf s self.old
+            → Keeps S.Store store.old s
+            → (files : Files) → HasPerformed S.Store store.new s self.new date files (install_command kind install.now)
+            result }
+    {
+        let header = header(kind, self.boundary, install.check);
+        let related = self.seek_related(store, kind)?;
+        match self.place(kind) {
+            Ok(place) => {
+                let name = place.name;
+                let Planned { delta, zone, lines } = plan(
+                    alloc,
+                    &self.global,
+                    place.zone,
+                    self.zone_at(related),
+                    &install.selection,
+                    &install.bypass,
+                    date,
+                )?;
+                // The changed zone was made all the same: it shows that the lines are those of an install.
+                if install.check {
+                    return Ok(Outcome::Ran { header, lines });
+                }
+                replace_zone(store, &mut self.zones, name, delta, zone)?;
+                Ok(Outcome::Ran { header, lines })
+            }
+            Err(refusal) => Ok(Outcome::Refused { header, refusal }),
+        }
+    }
+}
