@@ -1,15 +1,18 @@
 //! A zone less what DELETE operands take out of it, look-ups in it without a copy, and the requisites that a DELETE
-//! orphans. All is as the definitions have it. Seen in the code alone: each item that stays is copied once.
+//! orphans. `entry_less` takes SYSMODs out of one entry, whatever test tells them. All is as the definitions have it.
+//! Seen in the code alone: each item that stays is copied once.
 #![tactic(auto)]
 
 mod binding;
 mod deleting;
+mod entry;
 mod left;
 mod less;
 mod orphaned;
 mod taking;
 
 pub use deleting::{deletions, view, view_deletions};
+pub use entry::{TakesOut, entry_less};
 pub use left::{element_left, is_left, supplies_left};
 pub use less::zone_less;
 pub use orphaned::orphans;
