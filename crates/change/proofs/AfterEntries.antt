@@ -26,10 +26,10 @@ use Rattle.change.specs.Pairs.{others_of}
 use Rattle.change.specs.Plans.{installation, IsFresh, IsPlan}
 use Rattle.change.specs.Entries.{is_open, bare_entry, old_entry, if_held, entry_after, IsAppliedEntry, IsOtherEntry}
 use Rattle.change.specs.Entries.{IsMadeEntry, HasPutEntries}
+use Rattle.change.proofs.ChosenVers.{looked_up, never_itself}
 use Rattle.change.proofs.Installable.{no_entry}
 use Rattle.change.proofs.Leaving.{left-none, old_held, delby_is, entry_stays, delby_stays}
 use Rattle.change.proofs.Made.{old_id, old_waives}
-use Rattle.change.proofs.TakingEffect.{never_itself}
 
 none_rise : IsRising []
 none_rise = λ i j d less below. absurd (omega (arith, below))
@@ -98,7 +98,7 @@ module _ (e : Entry) (waives : IsTrue (waives_applied e)) where
       by true held = refl
       by false unheld = none unheld
 
-module _ (d : Deleting) (bypassed : List (Id × Id)) (date : Text) (is_global : IsGlobal d.global.now)
+module _ (d : Deleting) (bypassed : List (Id × Id)) (date : Text) (is_global : IsGlobal d.vers.now.global.now)
     (is_zone : IsZone d.zone.now) (lists : All (λ e. IsRising e.supby × IsRising e.waived) d.zone.now.entries)
     (dels : AreDeletions d) (fresh : All (IsFresh d.zone.now) d.kept.now) where
   abbrev choice : Choice
@@ -108,20 +108,23 @@ module _ (d : Deleting) (bypassed : List (Id × Id)) (date : Text) (is_global : 
   zone = d.zone.now
 
   abbrev i : Installation
-  i = installation d.global.now d.zone.now d.kept.now bypassed date
+  i = installation d.vers.now.global.now (choice_of d) d.zone.now d.kept.now bypassed date
 
   pub cleared_is : cleared i ≡ left d
-  cleared_is = ap (λ ds. zone_less d.global.now choice ds zone) (sym dels)
+  cleared_is = ap (λ ds. zone_less d.vers.now.global.now choice ds zone) (sym dels)
 
   -- what takes effect has no entry in what is left
   none_left : (x : Id) → TakesEffect i x → entry_of (left d) x ≡ None
-  none_left x t = left-none d.global.now choice d.dels.now zone is_zone x
+  none_left x t = left-none d.vers.now.global.now choice d.dels.now zone is_zone x
       (no_entry zone x (subst (IsFresh zone) t.kept.2 (fresh t.kept.0 x t.kept.1)) is_zone)
+
+  itself : (x : Id) → ¬ Supersedes choice x x
+  itself = never_itself d.vers.now.global.now d.vers.now.srel choice (looked_up d.vers.now) is_global.no_loop
 
   not_superseded : (x y : Id) → TakesEffect i x → TakesEffect i y → ¬ Supersedes choice y x
   not_superseded x y t by over =
       elim (same_or_not y x) [
-        | inl same ↦ never_itself d.global.now is_global zone.srel x (subst (λ v. Supersedes choice v x) same over)
+        | inl same ↦ itself x (subst (λ v. Supersedes choice v x) same over)
         | inr other ↦ t.first y by.kept other over
       ]
 

@@ -4,10 +4,8 @@ use Rattle.std.specs.Prelude.{find}
 use Rattle.std.specs.Option.{option_map_or}
 use Rattle.std.specs.Str.{bytes_eq}
 use Rattle.terms.specs.declared.kinds.ElemType.{ElemType}
-use Rattle.terms.specs.Types.{Text, Id, Global, Element, Zone}
+use Rattle.terms.specs.Types.{Text, Id, Element, Zone}
 use Rattle.terms.specs.Lookups.{IsRising, IsZone, entry_of, element_key, element_of}
-use Rattle.sysmods.specs.Choices.{by_srel}
-use Rattle.terms.specs.Deleted.{deletions}
 use Rattle.terms.specs.Global.{IsGlobal}
 use Rattle.zones.specs.Delta.{ZoneDelta, IsChanged}
 use Rattle.terms.specs.Lookups.{element_eq}
@@ -15,7 +13,7 @@ use Rattle.tables.specs.Edits.{edit_key, edit_put, after_edits}
 use Rattle.terms.specs.Install.{Installation, cleared, HasInstalled}
 use Rattle.change.specs.declared.deleting.Deleting.{Deleting}
 use Rattle.change.specs.declared.plan.Plan.{Plan}
-use Rattle.change.specs.Deleting.{AreDeletions}
+use Rattle.change.specs.Deleting.{AreDeletions, choice_of}
 use Rattle.change.specs.Plans.{installation, IsFresh, IsPlan}
 use Rattle.change.specs.Entries.{entry_after, HasPutEntries}
 use Rattle.change.specs.Elements.{AreElementsAfter}
@@ -24,18 +22,11 @@ use Rattle.change.proofs.AfterElements.{put_entries_stay, element_changed, eleme
 use Rattle.change.proofs.AfterEntries as entries
 use Rattle.change.proofs.Removed.{removed_stay, removed_at}
 
--- the deletions of kept SYSMODs, by the ++VERs that were looked at
-pub deletions_are : (g : Global) (srel : Text) (h : Global) (other : Text) (ids kept dels : List Id) → h ≡ g
-    → other ≡ srel → ids ≡ kept → dels ≡ deletions (by_srel h other) ids → dels ≡ deletions (by_srel g srel) kept
-deletions_are g srel h other ids kept dels global same_srel same is =
-    is ∙ ap (λ v. deletions (by_srel v other) ids) global ∙ ap (λ t. deletions (by_srel g t) ids) same_srel
-    ∙ ap (deletions (by_srel g srel)) same
-
-module _ (d : Deleting) (bypassed : List (Id × Id)) (date : Text) (is_global : IsGlobal d.global.now)
+module _ (d : Deleting) (bypassed : List (Id × Id)) (date : Text) (is_global : IsGlobal d.vers.now.global.now)
     (is_zone : IsZone d.zone.now) (lists : All (λ e. IsRising e.supby × IsRising e.waived) d.zone.now.entries)
     (dels : AreDeletions d) (fresh : All (IsFresh d.zone.now) d.kept.now) where
   abbrev i : Installation
-  i = installation d.global.now d.zone.now d.kept.now bypassed date
+  i = installation d.vers.now.global.now (choice_of d) d.zone.now d.kept.now bypassed date
 
   pub installs : (p : Plan) (start between less delta : ZoneDelta) (es : List Element) → IsPlan i d.dels.now p
       → start.elements ≡ [] → HasPutEntries d p p.touched start between

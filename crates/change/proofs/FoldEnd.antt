@@ -1,61 +1,23 @@
 -- What the fold makes of an element is the element after the installed SYSMODs that change it.
 use Rattle.std.proofs.Common.{◌≡◌, ◌⊎◌, inl, inr, Bool, true, false, List, [], ◌∷◌, ◌++◌, Option, Some, None, refl, sym}
 use Rattle.std.proofs.Common.{ap, ◌∙◌, subst, true≢false, IsTrue, AllPairs, All, Contains}
-use Rattle.std.specs.Prelude.{◌↔◌, is_some, IsFalse, IfSome, Any, find, filter}
-use Rattle.std.specs.Option.{IsSome, option_map_or, option_and_then}
-use Rattle.std.specs.List.{flat_map}
-use Rattle.std.specs.Str.{bytes_eq}
+use Rattle.std.specs.Prelude.{◌↔◌, is_some, IsFalse, IfSome, Any}
+use Rattle.std.specs.Option.{IsSome, option_map_or}
 use Rattle.std.proofs.lemmas.List.Elements.{Contains-append_right, Contains-append_cases}
-use Rattle.lemmas.proofs.Members.{there, here_or, none_in, in_middle, in_filter}
+use Rattle.lemmas.proofs.Members.{there, here_or, none_in, in_middle}
 use Rattle.lemmas.proofs.Pairs.{AllPairs-parts}
-use Rattle.lemmas.proofs.Searches.{find-gives}
 use Rattle.terms.specs.declared.kinds.ElemType.{ElemType}
-use Rattle.terms.specs.Types.{Text, Id, Lines, Change, Sysmod, Ver, Global, Element}
-use Rattle.terms.specs.Lookups.{IsRising, at_most_one, sysmod_of, change_of, has_change, element_of}
-use Rattle.terms.specs.Global.{IsGlobal, named, names_for}
+use Rattle.terms.specs.Types.{Text, Id, Lines, Change, Global, Element}
+use Rattle.terms.specs.Lookups.{IsRising, change_of, has_change, element_of}
 use Rattle.terms.specs.Choice.{Choice}
-use Rattle.sysmods.specs.Choices.{by_srel}
 use Rattle.terms.specs.Changes.{is_replacement, has_replacement}
 use Rattle.terms.specs.Over.{IsOver, names}
 use Rattle.terms.specs.Install.{Installation, TakesEffect, cleared, IsReplacer, IsUpdater, IsUpdated}
 use Rattle.terms.specs.Install.{HasElementAfter}
-use Rattle.terms.proofs.Leads.{reaches_through, reaches_more}
+use Rattle.terms.proofs.Leads.{reaches_through}
 use Rattle.change.specs.Folding.{UpdatesBy, AreUpdates, IsUpdatedBy, HasReplaced, HasUpdated, IsFolded, AreChangers}
-use Rattle.change.proofs.InTurn.{in_flat}
 use Rattle.change.proofs.Ordered.{all_in}
 use Rattle.change.proofs.FoldSteps.{none_updated}
-
--- ---- nothing is over itself
-
-names_in : Option Ver → List Id
-names_in o = option_map_or (λ v. v.pre) o [] ++ option_map_or (λ v. v.sup) o []
-    ++ at_most_one (option_and_then (λ v. v.fmid) o)
-
-by_ver : (srel : Text) (vers : List Ver) (o : Option Ver) → find (λ v. bytes_eq v.srel srel) vers ≡ o → (z : Id)
-    → Contains (names_in o) z → Contains (flat_map named (filter (λ v. bytes_eq v.srel srel) vers)) z
-unfolding names_in
-by_ver srel vers None e z h = absurd (none_in z h)
-by_ver srel vers (Some v) e z h =
-    let found = find-gives (λ w. bytes_eq w.srel srel) vers v e in
-    in_flat named (filter (λ w. bytes_eq w.srel srel) vers) v z
-    (in_filter (λ w. bytes_eq w.srel srel) vers v found.1 found.0) h
-
-by_sysmod : (srel : Text) (o : Option Sysmod) (z : Id)
-    → Contains (names_in (option_and_then (λ s. find (λ v. bytes_eq v.srel srel) s.vers) o)) z
-    → Contains (flat_map named (option_map_or (λ s. filter (λ v. bytes_eq v.srel srel) s.vers) o [])) z
-unfolding names_in
-by_sysmod srel None z h = absurd (none_in z h)
-by_sysmod srel (Some s) z h = by_ver srel s.vers (find (λ v. bytes_eq v.srel srel) s.vers) refl z h
-
-pub not_over_itself : (g : Global) (srel : Text) → IsGlobal g → (x : Id) → ¬ IsOver (by_srel g srel) x x
-unfolding names_in
-not_over_itself g srel is x over =
-    is.no_loop (
-      srel,
-      x,
-      reaches_more (names (by_srel g srel)) (names_for g srel)
-          (λ y z h. by_sysmod srel (sysmod_of g y) z h) x x over,
-    )
 
 -- ---- what is known of a SYSMOD that changes the element
 

@@ -13,8 +13,7 @@ use Rattle.terms.specs.declared.codes.Test.TheVariants.{J4, J6}
 use Rattle.terms.specs.Types.{Text, Id, type_number, Change, Sysmod, Global, Element, Zone}
 use Rattle.terms.specs.Lookups.{at_most_one, is_in, IsZone, change_of, has_change, element_of, sysmod_of, is_received}
 use Rattle.terms.specs.Lookups.{is_applied, is_supplied, is_nil, supby_of}
-use Rattle.terms.specs.Choice.{Choice, fmid_of, del_of}
-use Rattle.sysmods.specs.Choices.{by_srel}
+use Rattle.terms.specs.Choice.{counting, fmid_of, del_of}
 use Rattle.terms.specs.Changes.{is_replacement, has_replacement, has_update}
 use Rattle.terms.specs.Over.{IsOver, names, owner, Reaches, Supersedes}
 use Rattle.terms.specs.Global.{IsGlobal}
@@ -26,7 +25,8 @@ use Rattle.terms.specs.Judged.{Stays}
 use Rattle.terms.specs.Install.{Installation, TakesEffect, cleared}
 use Rattle.terms.proofs.Ids.{Contains-from_is_in}
 use Rattle.change.specs.Elements.{HasBases}
-use Rattle.change.proofs.ChosenVers.{names_received, names_no_loop, fmid_function, function_first}
+use Rattle.change.proofs.ChosenVers.{AreFor, counting_for, names_received, names_no_loop, fmid_function}
+use Rattle.change.proofs.ChosenVers.{function_first}
 use Rattle.change.proofs.FmidChains.{deleted_by_owner}
 use Rattle.change.proofs.Walks.{reaches_or_not}
 use Rattle.change.proofs.LessLookups.{deleted_by_one, element_stays, element_was, applied_was}
@@ -127,15 +127,17 @@ module _ (s : Setting) (survivors kept : List Id) (members : (x : Id) → Contai
         ],
       )
 
-  module _ (is_zone : IsZone s.zone) (is_global : IsGlobal s.global) (chosen : s.choice ≡ by_srel s.global s.zone.srel)
+  module _ (is_zone : IsZone s.zone) (is_global : IsGlobal s.global)
+      (chosen : s.choice ≡ counting s.global s.zone s.cands)
       (not_applied : (x : Id) → Contains s.cands x → is_applied s.zone x ≡ false) where
+    are : AreFor s.global s.zone.srel s.choice
+    are = subst (AreFor s.global s.zone.srel) (sym chosen) (counting_for s.global s.zone s.cands)
+
     named : (x z : Id) → Contains (names s.choice x) z → Contains (map (λ s. s.id) s.global.sysmods) x
-    named = subst (λ (c : Choice). (x z : Id) → Contains (names c x) z → Contains (map (λ s. s.id) s.global.sysmods) x)
-        (sym chosen) (names_received s.global s.zone.srel)
+    named = names_received s.global s.zone.srel s.choice are
 
     no_loop : (x : Id) → ¬ Reaches (names s.choice) x x
-    no_loop = subst (λ (c : Choice). (x : Id) → ¬ Reaches (names c) x x) (sym chosen)
-        (names_no_loop s.global s.zone.srel is_global.no_loop)
+    no_loop = names_no_loop s.global s.zone.srel s.choice are is_global.no_loop
 
     -- So over does order what is kept and shares an element.
     pub kept_over : (x y : Id) → Contains kept x → Contains kept y → x ≢ y → ShareElement s.global x y
@@ -209,10 +211,9 @@ module _ (s : Setting) (survivors kept : List Id) (members : (x : Id) → Contai
     -- An FMID that is received takes effect where it is kept, since nothing supersedes a function.
     pub fmid_first : (x f : Id) → fmid_of s.choice x ≡ Some f → IsTrue (is_received s.global f) → (y : Id)
         → ¬ Supersedes s.choice y f
-    fmid_first = subst (λ (c : Choice). (x f : Id) → fmid_of c x ≡ Some f → IsTrue (is_received s.global f) → (y : Id)
-        → ¬ Supersedes c y f) (sym chosen)
-        (λ x f at received. function_first s.global s.zone.srel is_global.roles f
-        (fmid_function s.global s.zone.srel is_global.roles x f at received))
+    fmid_first x f at received =
+        function_first s.global s.zone.srel s.choice are is_global.roles f
+        (fmid_function s.global s.zone.srel s.choice are is_global.roles x f at received)
 
     -- The same of an install of what is kept.
     module _ (i : Installation) (of : InstallsKept s kept i) where

@@ -112,12 +112,13 @@ first_of {X} p (x ∷ xs) = by (first_of p xs) (p x) refl
 
 module _ (d : Deleting) (dels : AreDeletions d) where
   pub delby_is : (bypassed : List (Id × Id)) (date : Text) (x : Id)
-      → delby_left d x ≡ delby_after (installation d.global.now d.zone.now d.kept.now bypassed date) x
+      → delby_left d x
+      ≡ delby_after (installation d.vers.now.global.now (choice_of d) d.zone.now d.kept.now bypassed date) x
   unfolding delby_after
   delby_is bypassed date x = by (delby_of d.zone.now x)
     where
       meeting : Id → Bool
-      meeting k = is_deleted d.global.now (choice_of d) (del_of (choice_of d) k) x
+      meeting k = is_deleted d.vers.now.global.now (choice_of d) (del_of (choice_of d) k) x
 
       naming : Id → Bool
       naming k = is_in (del_of (choice_of d) k) x
@@ -129,15 +130,15 @@ module _ (d : Deleting) (dels : AreDeletions d) where
 
       by : (o : Option Id) → (if is_some o then o else first_deleter d x)
           ≡ (if is_some o then o else slice_get
-          (if is_function d.global.now x && is_taken_out d.global.now (choice_of d)
+          (if is_function d.vers.now.global.now x && is_taken_out d.vers.now.global.now (choice_of d)
           (deletions (choice_of d) d.kept.now) d.zone.now x
-          then filter (λ k. is_deleted d.global.now (choice_of d) (del_of (choice_of d) k) x) d.kept.now
+          then filter (λ k. is_deleted d.vers.now.global.now (choice_of d) (del_of (choice_of d) k) x) d.kept.now
           else filter (λ k. is_in (del_of (choice_of d) k) x) d.kept.now) 0)
       by (Some k) = refl
       by None = either (is_function_gone d x)
           ∙ ap (λ ds. slice_get
-          (if is_function d.global.now x && is_taken_out d.global.now (choice_of d) ds d.zone.now x
-          then filter (λ k. is_deleted d.global.now (choice_of d) (del_of (choice_of d) k) x) d.kept.now
+          (if is_function d.vers.now.global.now x && is_taken_out d.vers.now.global.now (choice_of d) ds d.zone.now x
+          then filter (λ k. is_deleted d.vers.now.global.now (choice_of d) (del_of (choice_of d) k) x) d.kept.now
           else filter (λ k. is_in (del_of (choice_of d) k) x) d.kept.now) 0) dels
 
   -- ---- an id that is not at stake
@@ -167,10 +168,10 @@ module _ (d : Deleting) (dels : AreDeletions d) where
         by : (ds : List Id) → d.dels.now ≡ ds → Stays
         by [] none = record {
           not_named = λ h. none_in x (subst (λ ds. Contains ds x) none h);
-          not_gone = ap (λ ds. is_taken_out d.global.now (choice_of d) ds d.zone.now x) none
-              ∙ is_taken_out-none d.global.now (choice_of d) d.zone.now x;
-          same = ap (λ ds. entry_of (zone_less d.global.now (choice_of d) ds d.zone.now) x) none
-              ∙ ap (λ z. entry_of z x) (zone_less-none d.global.now (choice_of d) d.zone.now is_zone.held);
+          not_gone = ap (λ ds. is_taken_out d.vers.now.global.now (choice_of d) ds d.zone.now x) none
+              ∙ is_taken_out-none d.vers.now.global.now (choice_of d) d.zone.now x;
+          same = ap (λ ds. entry_of (zone_less d.vers.now.global.now (choice_of d) ds d.zone.now) x) none
+              ∙ ap (λ z. entry_of z x) (zone_less-none d.vers.now.global.now (choice_of d) d.zone.now is_zone.held);
         }
         by (y ∷ ys) some =
             let free : ¬ Contains ((y ∷ ys) ++ map (λ e. e.id) d.zone.now.entries) x =
@@ -180,8 +181,8 @@ module _ (d : Deleting) (dels : AreDeletions d) where
               not_named = λ h. free (Contains-append_left (y ∷ ys) (map (λ e. e.id) d.zone.now.entries) x
                   (subst (λ ds. Contains ds x) some h));
               not_gone = ap (λ o. option_map_or (λ (e : Entry). is_some e.applied) o false
-                  && is_deleted d.global.now (choice_of d) d.dels.now x) none;
-              same = left-none d.global.now (choice_of d) d.dels.now d.zone.now is_zone x none ∙ sym none;
+                  && is_deleted d.vers.now.global.now (choice_of d) d.dels.now x) none;
+              same = left-none d.vers.now.global.now (choice_of d) d.dels.now d.zone.now is_zone x none ∙ sym none;
             }
 
     pub entry_stays : entry_of (left d) x ≡ entry_of d.zone.now x
@@ -192,7 +193,8 @@ module _ (d : Deleting) (dels : AreDeletions d) where
         ∙ sym (ap (λ o. (unwrap_or o (bare_entry x)).delby) stays.same)
       where
         undeleted : first_deleter d x ≡ None
-        undeleted = ap (λ b. if b then first_meeting d x else first_naming d x) (part (is_function d.global.now x))
+        undeleted = ap (λ b. if b then first_meeting d x else first_naming d x)
+            (part (is_function d.vers.now.global.now x))
             ∙ named_by_none (choice_of d) d.kept.now x
             (λ h. stays.not_named (subst (λ ds. Contains ds x) (sym dels) h))
           where

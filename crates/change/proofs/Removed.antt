@@ -68,8 +68,8 @@ module _ (d : Deleting) where
       sym (stays (is_cut d e.fmid) uncut) ∙ removed_none no_dels (less_element d delta e) es
     where
       uncut : is_cut d e.fmid ≡ false
-      uncut = ap (λ ds. is_deleted d.global.now (choice_of d) ds e.fmid) no_dels
-          ∙ is_deleted-none d.global.now (choice_of d) e.fmid
+      uncut = ap (λ ds. is_deleted d.vers.now.global.now (choice_of d) ds e.fmid) no_dels
+          ∙ is_deleted-none d.vers.now.global.now (choice_of d) e.fmid
 
       stays : (b : Bool) → b ≡ false → (if b then record delta {
         elements = with_item element_cmp put_key delta.elements (Remove (element_key e));
@@ -152,7 +152,7 @@ module _ (d : Deleting) where
         left_is : (o : Option Element) → element_of d.zone.now type name ≡ o
             → element_of (left d) type name ≡ passing (λ e. not (is_cut d e.fmid)) o
         left_is o at =
-            element_of-less d.global.now (choice_of d) d.dels.now d.zone.now is_zone type name
+            element_of-less d.vers.now.global.now (choice_of d) d.dels.now d.zone.now is_zone type name
             ∙ ap (passing (λ e. not (is_cut d e.fmid))) at
 
         stands : find at_key (all_removed [] elements) ≡ None

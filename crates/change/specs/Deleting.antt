@@ -1,14 +1,17 @@
 -- What the DELETE operands of kept SYSMODs take out of a zone.
 use Rattle.std.specs.Prelude.{◌≡◌, ◌&&◌, Bool, List, [], ◌++◌, Option, find, map, is_some, if◌then◌else◌}
-use Rattle.terms.specs.Types.{Id, Zone}
+use Rattle.terms.specs.Types.{Id, Global, Zone}
 use Rattle.terms.specs.Lookups.{is_in, is_function, is_nil, delby_of}
 use Rattle.terms.specs.Choice.{Choice, del_of}
-use Rattle.sysmods.specs.Choices.{by_srel}
+use Rattle.sysmods.specs.Choices.{choice}
 use Rattle.terms.specs.Deleted.{deletions, is_deleted, is_taken_out, zone_less}
 use Rattle.change.specs.declared.deleting.Deleting.{Deleting}
 
+abbrev pub global_of : Deleting → Global
+global_of d = d.vers.now.global.now
+
 abbrev pub choice_of : Deleting → Choice
-choice_of d = by_srel d.global.now d.zone.now.srel
+choice_of d = choice d.vers.now
 
 -- the deletions are those of the kept SYSMODs
 abbrev pub AreDeletions : Deleting → Type 0
@@ -16,23 +19,23 @@ AreDeletions d = d.dels.now ≡ deletions (choice_of d) d.kept.now
 
 -- whether its chain meets the deletions
 abbrev pub is_cut : Deleting → Id → Bool
-is_cut d = is_deleted d.global.now (choice_of d) d.dels.now
+is_cut d = is_deleted (global_of d) (choice_of d) d.dels.now
 
 -- whether the deletions take it out
 abbrev pub is_gone : Deleting → Id → Bool
-is_gone d = is_taken_out d.global.now (choice_of d) d.dels.now d.zone.now
+is_gone d = is_taken_out (global_of d) (choice_of d) d.dels.now d.zone.now
 
 -- what is left of the zone
 abbrev pub left : Deleting → Zone
-left d = zone_less d.global.now (choice_of d) d.dels.now d.zone.now
+left d = zone_less (global_of d) (choice_of d) d.dels.now d.zone.now
 
 -- whether it is a function that is taken out
 abbrev pub is_function_gone : Deleting → Id → Bool
-is_function_gone d x = is_function d.global.now x && is_gone d x
+is_function_gone d x = is_function (global_of d) x && is_gone d x
 
 -- the first kept SYSMOD whose DELETE meets the chain of x
 abbrev pub first_meeting : Deleting → Id → Option Id
-first_meeting d x = find (λ k. is_deleted d.global.now (choice_of d) (del_of (choice_of d) k) x) d.kept.now
+first_meeting d x = find (λ k. is_deleted (global_of d) (choice_of d) (del_of (choice_of d) k) x) d.kept.now
 
 -- the first kept SYSMOD that names x in DELETE
 abbrev pub first_naming : Deleting → Id → Option Id

@@ -2,18 +2,18 @@
 use Rattle.std.specs.Prelude.{◌≡◌, ◌↔◌, ◌⊎◌, List, Contains, IsFalse, is_some}
 use Rattle.terms.specs.Types.{Text, Id, Global, Zone}
 use Rattle.terms.specs.Lookups.{is_supplied, delby_of}
-use Rattle.sysmods.specs.Choices.{by_srel}
+use Rattle.terms.specs.Choice.{Choice}
 use Rattle.terms.specs.Over.{Supersedes}
 use Rattle.terms.specs.Install.{Installation, TakesEffect}
 use Rattle.change.specs.declared.plan.Plan.{Plan}
 use Rattle.change.specs.Pairs.{others_of}
 use Rattle.change.specs.Deleting.{at_stake}
 
--- an install by the ++VERs for the zone's SREL
-abbrev pub installation : Global → Zone → List Id → List (Id × Id) → Text → Installation
-installation g zone kept bypassed date = record {
+-- an install by these ++VERs
+abbrev pub installation : Global → Choice → Zone → List Id → List (Id × Id) → Text → Installation
+installation g choice zone kept bypassed date = record {
   global = g;
-  choice = by_srel g zone.srel;
+  choice = choice;
   zone = zone;
   kept = kept;
   bypassed = bypassed;

@@ -10,25 +10,25 @@ ghost use Rattle.change.specs.Entries.{old_entry};
 
 use fields::{Id, IdList};
 use std::alloc::{AllocError, Global as Heap};
-use sysmods::{Global, VerChoice};
+use sysmods::VerChoice;
 use zones::{Entry, TryClone, Zone};
 use zones_less::supplies_left;
 
-/// Kept SYSMODs, what they name in DELETE, and the zone that this takes from.
+/// Kept SYSMODs, what they name in DELETE by the `++VER`s that count, and the zone that this takes from.
 #[derive(Clone, Copy)]
-pub(crate) struct Deleting<'a> {
-    pub(crate) global: &'a Global,
+pub(crate) struct Deleting<'a, 'b> {
+    pub(crate) vers: &'a VerChoice<'b>,
     pub(crate) zone: &'a Zone,
     pub(crate) kept: &'a [Id],
     pub(crate) dels: &'a [Id],
 }
 
-impl<'a> Deleting<'a> {
+impl<'a, 'b> Deleting<'a, 'b> {
     /// Whether its chain meets the deletions.
     pub(crate) fn deletes(&self, id: Id) -> bool
         ensures { result ≡ is_cut self.now id }
     {
-        VerChoice::new(self.global, self.zone.srel()).meets(id, self.dels)
+        self.vers.meets(id, self.dels)
     }
 
     /// Whether it is applied and the deletions take it out.
@@ -42,8 +42,7 @@ impl<'a> Deleting<'a> {
     pub(crate) fn supplies(&self, id: Id) -> bool
         ensures { result ≡ is_supplied (left self.now) id }
     {
-        let vers = VerChoice::new(self.global, self.zone.srel());
-        supplies_left(&vers, self.dels, self.zone, id)
+        supplies_left(self.vers, self.dels, self.zone, id)
     }
 
     /// Its DELBY: what is there, else the first that deletes it.
@@ -70,15 +69,14 @@ impl<'a> Deleting<'a> {
     fn is_function_gone(&self, id: Id) -> bool
         ensures { result ≡ is_function_gone self.now id }
     {
-        self.global.is_function(id) && self.takes_out(id)
+        self.vers.global().is_function(id) && self.takes_out(id)
     }
 
     // The first whose deletions meet the id's chain.
     fn first_meeting(&self, id: Id) -> Option<Id>
         ensures { result ≡ first_meeting self.now id }
     {
-        let vers = VerChoice::new(self.global, self.zone.srel());
-        first_that_meets(&vers, self.kept, id)
+        first_that_meets(self.vers, self.kept, id)
     }
 
     // The first that names the id in DELETE. Hardly any id is named.
@@ -89,8 +87,7 @@ impl<'a> Deleting<'a> {
         if !is_among(self.dels, id) {
             return None;
         }
-        let vers = VerChoice::new(self.global, self.zone.srel());
-        first_that_names(&vers, self.kept, id)
+        first_that_names(self.vers, self.kept, id)
     }
 }
 

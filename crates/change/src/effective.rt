@@ -2,30 +2,23 @@
 ghost use Rattle.std.specs.Prelude.{◌≡◌, ◌↔◌, ◌++◌, not, Contains, IsTrue, IfOk, OnOk, filter, map};
 ghost use Rattle.terms.specs.Types.{Id as AnId};
 ghost use Rattle.terms.specs.Lookups.{is_in};
-ghost use Rattle.sysmods.specs.Choices.{by_srel};
 ghost use Rattle.terms.specs.Over.{Supersedes};
 ghost use Rattle.terms.specs.Install.{Installation, TakesEffect};
 ghost use Rattle.sysmods.specs.Choices.{choice};
 ghost use Rattle.change.specs.Superseded.{AddsSuperseded, AreSuperseded};
 
 use crate::pairs::firsts;
-use fields::{Id, IdList, Srel};
+use fields::{Id, IdList};
 use std::alloc::{AllocError, Global as Heap};
-use sysmods::{Global, VerChoice};
+use sysmods::VerChoice;
 
 /// The kept SYSMODs that no other kept one supersedes. The others of them become SUPERSEDED.
-pub fn taking_effect(
-    alloc: Heap,
-    global: &Global,
-    srel: Srel,
-    kept: &IdList,
-) -> Result<IdList, AllocError>
-    ensures { IfOk result (λ ids. (i : Installation) → i.kept ≡ kept.now → i.choice ≡ by_srel global.now srel
+pub fn taking_effect(alloc: Heap, vers: &VerChoice<'_>, kept: &IdList) -> Result<IdList, AllocError>
+    ensures { IfOk result (λ ids. (i : Installation) → i.kept ≡ kept.now → i.choice ≡ choice vers.now
         → (x : AnId) → Contains ids x ↔ TakesEffect i x) }
 {
-    prove!(global.len() < 65_536);
-    let vers = VerChoice::new(global, srel);
-    let pairs = superseded_pairs(alloc, &vers, kept.as_slice())?;
+    prove!(vers.global().len() < 65_536);
+    let pairs = superseded_pairs(alloc, vers, kept.as_slice())?;
     let superseded = IdList::from_vec(firsts(alloc, pairs.as_slice())?);
     let effective = without(alloc, kept.as_slice(), &superseded)?;
     Ok(IdList::from_vec(effective))

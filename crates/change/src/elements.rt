@@ -2,7 +2,7 @@
 ghost use Rattle.std.specs.Prelude.{◌≡◌, ◌⊎◌, All, AllPairs, Any, IsTrue, IsSome, IfOk, IfSome, option_copied};
 ghost use Rattle.terms.specs.declared.kinds.ElemType.{ElemType as AType};
 ghost use Rattle.terms.specs.Changes.{has_replacement};
-ghost use Rattle.sysmods.specs.Choices.{by_srel};
+ghost use Rattle.sysmods.specs.Choices.{choice};
 ghost use Rattle.terms.specs.Deleted.{zone_less};
 ghost use Rattle.terms.specs.Install.{Installation, HasElementAfter};
 ghost use Rattle.terms.specs.Lookups.{element_of, has_change};
@@ -15,9 +15,9 @@ ghost use Rattle.change.specs.Folding.{AreChangers};
 use crate::folding::element_after;
 use crate::grouping::{Changed, changes_by_element};
 use crate::ordering::in_order;
-use fields::{Id, Name, Srel};
+use fields::{Id, Name};
 use std::alloc::{AllocError, Global as Heap};
-use sysmods::{Global, VerChoice};
+use sysmods::VerChoice;
 use terms::ElemType;
 use zones::{Element, Zone};
 use zones_less::element_left;
@@ -26,27 +26,27 @@ use zones_less::element_left;
 /// the zone less the deletions. Over orders those that change one element, and what they update is there.
 pub(crate) fn elements_after(
     alloc: Heap,
-    global: &Global,
+    vers: &VerChoice<'_>,
     zone: &Zone,
     deletions: &[Id],
     effective: &[Id],
 ) -> Result<Vec<Element>, AllocError>
-    requires order { AllPairs (λ x y. ShareElement global.now x y
-        → IsOver (by_srel global.now zone.now.srel) x y ⊎ IsOver (by_srel global.now zone.now.srel) y x) effective.now }
+    requires order { AllPairs (λ x y. ShareElement vers.now.global.now x y
+        → IsOver (choice vers.now) x y ⊎ IsOver (choice vers.now) y x) effective.now }
     requires some { (type : AType) (name : Text)
-        → Any (λ x. IsTrue (has_change global.now x type name)) effective.now
+        → Any (λ x. IsTrue (has_change vers.now.global.now x type name)) effective.now
         → IsSome
-        (element_of (zone_less global.now (by_srel global.now zone.now.srel) deletions.now zone.now) type name)
-        ⊎ Any (λ x. IsTrue (has_replacement global.now x type name)) effective.now }
+        (element_of (zone_less vers.now.global.now (choice vers.now) deletions.now zone.now) type name)
+        ⊎ Any (λ x. IsTrue (has_replacement vers.now.global.now x type name)) effective.now }
     ensures { IfOk result (λ es. (i : Installation)
-        → IsInstallOf i global.now (by_srel global.now zone.now.srel) zone.now deletions.now effective.now
+        → IsInstallOf i vers.now.global.now (choice vers.now) zone.now deletions.now effective.now
         → AreElementsAfter i es.items) }
 {
-    let table = changes_by_element(alloc, global, effective)?;
+    let table = changes_by_element(alloc, vers.global(), effective)?;
     let mut elements = Vec::new(alloc);
     let changes = table.as_slice();
     for changed in changes {
-        elements.push(changed_element(alloc, global, zone, deletions, changed)?)?;
+        elements.push(changed_element(alloc, vers, zone, deletions, changed)?)?;
     }
     Ok(elements)
 }
@@ -54,30 +54,30 @@ pub(crate) fn elements_after(
 /// The element after the SYSMODs that change it.
 fn changed_element(
     alloc: Heap,
-    global: &Global,
+    vers: &VerChoice<'_>,
     zone: &Zone,
     deletions: &[Id],
     changed: &Changed,
 ) -> Result<Element, AllocError>
-    requires changers { All (λ x. IsTrue (has_change global.now x changed.now.elem_type changed.now.name))
+    requires changers { All (λ x. IsTrue (has_change vers.now.global.now x changed.now.elem_type changed.now.name))
         changed.now.changers }
-    requires order { AllPairs (λ x y. IsOver (by_srel global.now zone.now.srel) x y
-        ⊎ IsOver (by_srel global.now zone.now.srel) y x) changed.now.changers }
-    requires some { IsSome (element_of (zone_less global.now (by_srel global.now zone.now.srel) deletions.now zone.now)
+    requires order { AllPairs (λ x y. IsOver (choice vers.now) x y
+        ⊎ IsOver (choice vers.now) y x) changed.now.changers }
+    requires some { IsSome (element_of (zone_less vers.now.global.now (choice vers.now) deletions.now zone.now)
         changed.now.elem_type changed.now.name)
-        ⊎ Any (λ x. IsTrue (has_replacement global.now x changed.now.elem_type changed.now.name)) changed.now.changers }
+        ⊎ Any (λ x. IsTrue (has_replacement vers.now.global.now x changed.now.elem_type changed.now.name))
+        changed.now.changers }
     ensures key { IfOk result (λ e. (e.elem_type ≡ changed.now.elem_type) × (e.name ≡ changed.now.name)) }
     ensures element { IfOk result (λ e. (i : Installation)
-        → AreChangers i global.now (by_srel global.now zone.now.srel) changed.now.elem_type changed.now.name
-        (element_of (zone_less global.now (by_srel global.now zone.now.srel) deletions.now zone.now)
+        → AreChangers i vers.now.global.now (choice vers.now) changed.now.elem_type changed.now.name
+        (element_of (zone_less vers.now.global.now (choice vers.now) deletions.now zone.now)
         changed.now.elem_type changed.now.name) changed.now.changers
         → HasElementAfter i changed.now.elem_type changed.now.name e) }
 {
-    let base = left_of(global, zone, deletions, changed.elem_type, changed.name);
+    let base = left_of(vers, zone, deletions, changed.elem_type, changed.name);
     after_all(
         alloc,
-        global,
-        zone.srel(),
+        vers,
         base,
         changed.elem_type,
         changed.name,
@@ -88,41 +88,38 @@ fn changed_element(
 /// The element after these SYSMODs, in the order that over gives them.
 fn after_all(
     alloc: Heap,
-    global: &Global,
-    srel: Srel,
+    vers: &VerChoice<'_>,
     base: Option<&Element>,
     elem_type: ElemType,
     name: Name,
     changers: &[Id],
 ) -> Result<Element, AllocError>
     requires base { IfSome (option_copied base) (λ e. (e.elem_type ≡ elem_type) × (e.name ≡ name)) }
-    requires changers { All (λ x. IsTrue (has_change global.now x elem_type name)) changers.now }
-    requires order { AllPairs (λ x y. IsOver (by_srel global.now srel) x y ⊎ IsOver (by_srel global.now srel) y x)
+    requires changers { All (λ x. IsTrue (has_change vers.now.global.now x elem_type name)) changers.now }
+    requires order { AllPairs (λ x y. IsOver (choice vers.now) x y ⊎ IsOver (choice vers.now) y x)
         changers.now }
     requires some { IsSome (option_copied base)
-        ⊎ Any (λ x. IsTrue (has_replacement global.now x elem_type name)) changers.now }
+        ⊎ Any (λ x. IsTrue (has_replacement vers.now.global.now x elem_type name)) changers.now }
     ensures key { IfOk result (λ e. (e.elem_type ≡ elem_type) × (e.name ≡ name)) }
     ensures element { IfOk result (λ e. (i : Installation)
-        → AreChangers i global.now (by_srel global.now srel) elem_type name (option_copied base.entry) changers.now
+        → AreChangers i vers.now.global.now (choice vers.now) elem_type name (option_copied base.entry) changers.now
         → HasElementAfter i elem_type name e) }
 {
-    let vers = VerChoice::new(global, srel);
-    let ordered = in_order(alloc, &vers, changers)?;
-    element_after(alloc, global, srel, base, elem_type, name, &ordered)
+    let ordered = in_order(alloc, vers, changers)?;
+    element_after(alloc, vers, base, elem_type, name, &ordered)
 }
 
 /// The element that the zone has, unless the deletions meet its owner's chain.
 fn left_of<'a>(
-    global: &Global,
+    vers: &VerChoice<'_>,
     zone: &'a Zone,
     deletions: &[Id],
     elem_type: ElemType,
     name: Name,
 ) -> Option<&'a Element>
     ensures left { option_copied result ≡ element_of
-        (zone_less global.now (by_srel global.now zone.now.srel) deletions.now zone.now) elem_type name }
+        (zone_less vers.now.global.now (choice vers.now) deletions.now zone.now) elem_type name }
     ensures key { IfSome (option_copied result) (λ e. (e.elem_type ≡ elem_type) × (e.name ≡ name)) }
 {
-    let vers = VerChoice::new(global, zone.srel());
-    element_left(&vers, deletions, zone, elem_type, name)
+    element_left(vers, deletions, zone, elem_type, name)
 }

@@ -2,7 +2,7 @@
 ghost use Rattle.std.specs.Prelude.{◌≡◌, ◌<◌, ◌⊎◌, All, AllPairs, Any, IsTrue, IsSome, IfOk, IfSome, Some, length};
 ghost use Rattle.std.specs.Prelude.{position};
 ghost use Rattle.std.specs.Prelude.{option_copied};
-ghost use Rattle.sysmods.specs.Choices.{by_srel};
+ghost use Rattle.sysmods.specs.Choices.{choice};
 ghost use Rattle.terms.specs.Changes.{has_replacement};
 ghost use Rattle.terms.specs.Install.{Installation, HasElementAfter};
 ghost use Rattle.terms.specs.Lookups.{IsRising, change_of, has_change};
@@ -10,7 +10,7 @@ ghost use Rattle.terms.specs.Over.{IsOver, owner as owner_of};
 ghost use Rattle.terms.specs.Texts.{IsMerge, IsNumbered, IsUpdate};
 ghost use Rattle.change.specs.Folding.{AreChangers, IsMadeBy, IsStep, IsUpdateOf, is_for};
 
-use fields::{Id, IdList, Name, Srel};
+use fields::{Id, IdList, Name};
 use std::alloc::{AllocError, Global as Heap};
 use sysmods::{Global, VerChoice};
 use sysmods_records::{Action, ElemChange};
@@ -22,27 +22,26 @@ use zones::{Element, TryClone};
 /// has it already, as `base`, or one of them replaces it.
 pub(crate) fn element_after(
     alloc: Heap,
-    global: &Global,
-    srel: Srel,
+    vers: &VerChoice<'_>,
     base: Option<&Element>,
     elem_type: ElemType,
     name: Name,
     changers: &[Id],
 ) -> Result<Element, AllocError>
     requires base { IfSome (option_copied base) (λ e. (e.elem_type ≡ elem_type) × (e.name ≡ name)) }
-    requires changers { All (λ x. IsTrue (has_change global.now x elem_type name)) changers.now }
-    requires order { AllPairs (λ x y. IsOver (by_srel global.now srel) y x) changers.now }
+    requires changers { All (λ x. IsTrue (has_change vers.now.global.now x elem_type name)) changers.now }
+    requires order { AllPairs (λ x y. IsOver (choice vers.now) y x) changers.now }
     requires some { IsSome (option_copied base)
-        ⊎ Any (λ x. IsTrue (has_replacement global.now x elem_type name)) changers.now }
+        ⊎ Any (λ x. IsTrue (has_replacement vers.now.global.now x elem_type name)) changers.now }
     ensures key { IfOk result (λ e. (e.elem_type ≡ elem_type) × (e.name ≡ name)) }
     ensures element { IfOk result (λ e. (i : Installation)
-        → AreChangers i global.now (by_srel global.now srel) elem_type name (option_copied base.entry) changers.now
+        → AreChangers i vers.now.global.now (choice vers.now) elem_type name (option_copied base.entry) changers.now
         → HasElementAfter i elem_type name e) }
 {
-    prove!(global.len() < 65_536);
+    prove!(vers.global().len() < 65_536);
     let mut element = copy_of(alloc, base)?;
     for id in changers {
-        element = after_one(alloc, global, srel, element, elem_type, name, *id)?;
+        element = after_one(alloc, vers, element, elem_type, name, *id)?;
     }
     Ok(element.unwrap())
 }
@@ -64,24 +63,23 @@ fn copy_of(alloc: Heap, base: Option<&Element>) -> Result<Option<Element>, Alloc
 /// The element after one SYSMOD that changes it.
 fn after_one(
     alloc: Heap,
-    global: &Global,
-    srel: Srel,
+    vers: &VerChoice<'_>,
     old: Option<Element>,
     elem_type: ElemType,
     name: Name,
     id: Id,
 ) -> Result<Option<Element>, AllocError>
-    requires changes { IsTrue (has_change global.now id elem_type name) }
+    requires changes { IsTrue (has_change vers.now.global.now id elem_type name) }
     requires old { IfSome old (λ e. (e.elem_type ≡ elem_type) × (e.name ≡ name)) }
-    ensures step { IfOk result (λ new. IsStep global.now (by_srel global.now srel) elem_type name id old new) }
+    ensures step { IfOk result (λ new. IsStep vers.now.global.now (choice vers.now) elem_type name id old new) }
     ensures new { IfOk result (λ new. IfSome new (λ e. (e.elem_type ≡ elem_type) × (e.name ≡ name))) }
 {
-    let owner = VerChoice::new(global, srel).owner(id);
+    let owner = vers.owner(id);
     changed(
         alloc,
         owner,
         id,
-        change_of(global, id, elem_type, name),
+        change_of(vers.global(), id, elem_type, name),
         old,
     )
 }

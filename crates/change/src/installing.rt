@@ -1,7 +1,7 @@
 //! What kept SYSMODs put into a zone.
 ghost use Rattle.std.specs.Prelude.{◌≡◌, ◌≢◌, ◌⊎◌, All, Contains, IfOk, OnOk};
 ghost use Rattle.terms.specs.Types.{Id as AnId, Zone as AZone};
-ghost use Rattle.sysmods.specs.Choices.{by_srel};
+ghost use Rattle.sysmods.specs.Choices.{choice};
 ghost use Rattle.terms.specs.Over.{IsOver};
 ghost use Rattle.terms.specs.Tests.{ShareElement};
 ghost use Rattle.zones.specs.Delta.{IsChanged};
@@ -17,28 +17,29 @@ use crate::entries::put_entries;
 use crate::plan::planned;
 use fields::{Id, IdList, YyDdd};
 use std::alloc::{AllocError, Global as Heap};
-use sysmods::{Global, VerChoice};
+use sysmods::VerChoice;
 use zones::{Element, Zone, ZoneDelta};
 use zones_less::deletions;
 
-/// What the kept SYSMODs put into the zone and take out of it on this date. Over orders those that change one element,
-/// and what they update is there. `bypassed` has pairs of a SYSMOD and a bypassed requisite of it.
+/// What the kept SYSMODs put into the zone and take out of it on this date, by the `++VER`s that count. Over orders
+/// those that change one element, and what they update is there. `bypassed` has pairs of a SYSMOD and a bypassed
+/// requisite of it.
 pub fn install(
     alloc: Heap,
-    global: &Global,
+    vers: &VerChoice<'_>,
     zone: &Zone,
     kept: &IdList,
     bypassed: &[(Id, Id)],
     date: YyDdd,
 ) -> Result<ZoneDelta, AllocError>
     requires fresh { All (IsFresh zone.now) kept.now }
-    requires order { (x y : AnId) → Contains kept.now x → Contains kept.now y → x ≢ y → ShareElement global.now x y
-        → IsOver (by_srel global.now zone.now.srel) x y ⊎ IsOver (by_srel global.now zone.now.srel) y x }
-    requires base { HasBases (installation global.now zone.now kept.now bypassed.now date) }
+    requires order { (x y : AnId) → Contains kept.now x → Contains kept.now y → x ≢ y
+        → ShareElement vers.now.global.now x y → IsOver (choice vers.now) x y ⊎ IsOver (choice vers.now) y x }
+    requires base { HasBases (installation vers.now.global.now (choice vers.now) zone.now kept.now bypassed.now date) }
     ensures installs { IfOk result (λ delta. (new : AZone) → IsChanged delta zone.now new →
         HasInstalled (record {
-          global = global.now;
-          choice = by_srel global.now zone.now.srel;
+          global = vers.now.global.now;
+          choice = choice vers.now;
           zone = zone.now;
           kept = kept.now;
           bypassed = bypassed.now;
@@ -46,13 +47,13 @@ pub fn install(
         }) new) }
     ensures differs { IfOk result (λ delta. All (Differs zone.now) delta.entries) }
 {
-    prove!(global.len() < 65_536);
+    prove!(vers.global().len() < 65_536);
     zone.known();
     zone.known_lists();
-    let dels = deletions(alloc, &VerChoice::new(global, zone.srel()), kept.as_slice())?;
-    let plan = planned(alloc, global, zone, kept, dels.as_slice(), bypassed, date)?;
+    let dels = deletions(alloc, vers, kept.as_slice())?;
+    let plan = planned(alloc, vers, zone, kept, dels.as_slice(), bypassed, date)?;
     let deleting = Deleting {
-        global,
+        vers,
         zone,
         kept: kept.as_slice(),
         dels: dels.as_slice(),
@@ -62,7 +63,7 @@ pub fn install(
     remove_elements(&deleting, &mut delta)?;
     let elements = elements_after(
         alloc,
-        global,
+        vers,
         zone,
         dels.as_slice(),
         plan.effective.as_slice(),

@@ -1,6 +1,7 @@
 //! What an install does to entries.
 ghost use Rattle.std.specs.Prelude.{◌≡◌, ◌↔◌, ◌++◌, Contains, IfOk, OnOk, map};
 ghost use Rattle.terms.specs.Types.{Id as AnId};
+ghost use Rattle.sysmods.specs.Choices.{choice};
 ghost use Rattle.change.specs.Deleting.{at_stake};
 ghost use Rattle.change.specs.Plans.{IsPlan, installation};
 
@@ -8,7 +9,7 @@ use crate::effective::{superseded_pairs, taking_effect};
 use crate::pairs::{Group, firsts, grouped, sorted};
 use fields::{Id, IdList, YyDdd};
 use std::alloc::{AllocError, Global as Heap};
-use sysmods::{Global, VerChoice};
+use sysmods::VerChoice;
 use zones::{Entry, Table, Zone};
 
 /// Who takes effect, who supersedes an id, what was bypassed of an id, and whose entries change.
@@ -24,18 +25,18 @@ pub(crate) struct Plan {
 /// The plan of an install.
 pub(crate) fn planned(
     alloc: Heap,
-    global: &Global,
+    vers: &VerChoice<'_>,
     zone: &Zone,
     kept: &IdList,
     dels: &[Id],
     bypassed: &[(Id, Id)],
     date: YyDdd,
 ) -> Result<Plan, AllocError>
-    ensures { IfOk result (IsPlan (installation global.now zone.now kept.now bypassed.now date) dels.now) }
+    ensures { IfOk result
+        (IsPlan (installation vers.now.global.now (choice vers.now) zone.now kept.now bypassed.now date) dels.now) }
 {
-    let vers = VerChoice::new(global, zone.srel());
-    let effective = taking_effect(alloc, global, zone.srel(), kept)?;
-    let pairs = sorted(superseded_pairs(alloc, &vers, effective.as_slice())?);
+    let effective = taking_effect(alloc, vers, kept)?;
+    let pairs = sorted(superseded_pairs(alloc, vers, effective.as_slice())?);
     let at_stake = at_stake(alloc, zone, dels)?;
     let touched = touched(alloc, effective.as_slice(), pairs.as_slice(), &at_stake)?;
     Ok(Plan {

@@ -2,25 +2,18 @@
 use Rattle.std.proofs.Common.{◌≡◌, inl, inr, zero, suc, Bool, true, false, List, [], ◌∷◌, Option, None}
 use Rattle.std.proofs.Common.{Some, IsTrue, refl, sym, ap, ◌∙◌, subst, true≢false, find, Contains, cond, arith}
 use Rattle.std.proofs.Common.{eq-eqb}
-use Rattle.std.specs.Prelude.{All, Any, is_some, ◌↔◌, ◌==◌, ◌&&◌}
+use Rattle.std.specs.Prelude.{Any, is_some, ◌↔◌, ◌==◌, ◌&&◌}
 use Rattle.std.specs.Str.{bytes_eq}
 use Rattle.std.proofs.lemmas.Bool.{and_parts, eqb-true}
-use Rattle.std.proofs.lemmas.List.Elements.{Contains-get_or}
 use Rattle.terms.specs.declared.kinds.ElemType.{ElemType}
-use Rattle.terms.specs.Types.{Text, Id, Change, Global, Zone, type_number}
-use Rattle.terms.specs.Lookups.{is_held, changes_of, change_of, has_change}
+use Rattle.terms.specs.Types.{Text, Id, Change, Global, type_number}
+use Rattle.terms.specs.Lookups.{changes_of, change_of, has_change}
 use Rattle.terms.specs.Choice.{Choice}
-use Rattle.sysmods.specs.Choices.{by_srel}
 use Rattle.terms.specs.Over.{IsOver}
-use Rattle.terms.specs.Deleted.{deletions, zone_less}
-use Rattle.terms.specs.Tests.{Setting, view_of}
-use Rattle.terms.specs.CommandForms.{no_bypass}
-use Rattle.terms.specs.Judged.{setting}
 use Rattle.lemmas.proofs.Searches.{find-gives}
 use Rattle.lemmas.proofs.Texts.{same_from, same_itself}
 use Rattle.terms.proofs.ElementOrder.{type_from_number}
 use Rattle.lemmas.proofs.Members.{here_or}
-use Rattle.terms.proofs.NothingDeleted.{view-none, deletions-none, zone_less-none}
 
 -- the statement that is found is one about the element
 pub change-there : (g : Global) (x : Id) (type : ElemType) (name : Text) (h : Change) → change_of g x type name ≡ Some h

@@ -16,6 +16,7 @@ pub mod Claimed
 pub mod Chained
 pub mod Marks
 pub mod Numbering
+pub mod Chosen
 pub mod Runs
 pub mod Clashing
 pub mod Places

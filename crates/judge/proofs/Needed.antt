@@ -1,27 +1,29 @@
 -- What candidates need, whatever the related zone.
-use Rattle.std.proofs.Common.{◌≡◌, Bool, true, not, List, Option, None, refl, sym, ap, ◌∙◌, subst, Contains}
+use Rattle.std.proofs.Common.{◌≡◌, Bool, true, not, List, Option, refl, sym, ap, ◌∙◌, subst, Contains}
 use Rattle.std.specs.Prelude.{◌↔◌, ◌&&◌, IsFalse}
 use Rattle.std.proofs.lemmas.Bool.{and_parts, not-true}
 use Rattle.terms.specs.declared.codes.NeedKind.{NeedKind}
 use Rattle.terms.specs.declared.codes.NeedKind.TheVariants.{Fmid, Pre, Req, Ifreq, HoldError, Orphan, Elem, Dep}
-use Rattle.terms.specs.Types.{Id, Global, Zone, Bypass}
+use Rattle.terms.specs.Types.{Id, Zone}
 use Rattle.terms.specs.Tests.{Setting}
 use Rattle.terms.specs.Needs.{Needs, asked, orphans, is_bypassed, is_met, zone_left}
-use Rattle.terms.specs.Judged.{setting}
+use Rattle.judge.specs.declared.scope.Scope.{Scope}
+use Rattle.judge.specs.Left.{setting_with, setting_of}
 use Rattle.judge.specs.Wanted.{IsOpen}
 
-module _ (g : Global) (zone : Zone) (related : Option Zone) (ids : List Id) (b : Bypass) where
+module _ (scope : Scope) (related : Option Zone) where
   abbrev s : Setting
-  s = setting g zone related ids b
+  s = setting_with scope related
 
   abbrev alone : Setting
-  alone = setting g zone None ids b
+  alone = setting_of scope
 
   orphans-same : (x : Id) → orphans s x ≡ orphans alone x
   unfolding orphans
   orphans-same x = refl
 
-  asked-same : (survivors : List Id) (x : Id) (kind : NeedKind) → asked s survivors x kind ≡ asked alone survivors x kind
+  asked-same : (survivors : List Id) (x : Id) (kind : NeedKind)
+      → asked s survivors x kind ≡ asked alone survivors x kind
   asked-same survivors x Fmid = refl
   asked-same survivors x Pre = refl
   asked-same survivors x Req = refl
@@ -35,19 +37,19 @@ module _ (g : Global) (zone : Zone) (related : Option Zone) (ids : List Id) (b :
   both-off m n e f = ap (λ i. not i && not n) e ∙ ap not f
 
   -- it needs what it asks for and neither BYPASS nor what is left of the zone meets
-  pub needs-open : (survivors : List Id) (x : Id) (kind : NeedKind) (z : Id) → Contains ids x
+  pub needs-open : (survivors : List Id) (x : Id) (kind : NeedKind) (z : Id) → Contains scope.ids.now x
       → Needs s survivors x kind z ↔ IsOpen alone survivors (zone_left alone survivors) x kind z
   needs-open survivors x kind z in_ids = (
     λ n. (
       subst (λ l. Contains l z) (asked-same survivors x kind) n.asks,
-      both-off (is_bypassed b kind) (is_met (zone_left s survivors) kind z) n.not_bypassed n.not_met,
+      both-off (is_bypassed s.bypass kind) (is_met (zone_left s survivors) kind z) n.not_bypassed n.not_met,
     ),
     λ o.
-        let off = and_parts (not (is_bypassed b kind)) (not (is_met (zone_left s survivors) kind z)) o.1 in
+        let off = and_parts (not (is_bypassed s.bypass kind)) (not (is_met (zone_left s survivors) kind z)) o.1 in
         record {
           of = in_ids;
           asks = subst (λ l. Contains l z) (sym (asked-same survivors x kind)) o.0;
-          not_bypassed = not-true (is_bypassed b kind) off.0;
+          not_bypassed = not-true (is_bypassed s.bypass kind) off.0;
           not_met = not-true (is_met (zone_left s survivors) kind z) off.1;
         },
   )

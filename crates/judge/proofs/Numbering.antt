@@ -1,13 +1,14 @@
 -- The numbered problem of the candidates is the command's.
-use Rattle.std.proofs.Common.{◌≡◌, ℕ, Bool, List, Option, None, Some, IsTrue, sym, ap, ◌∙◌, subst, Contains, length}
+use Rattle.std.proofs.Common.{◌≡◌, ℕ, Bool, List, Option, Some, IsTrue, sym, ap, ◌∙◌, subst, Contains, length}
 use Rattle.std.proofs.Common.{slice_get}
 use Rattle.std.specs.Prelude.{◌↔◌}
 use Rattle.std.proofs.lemmas.List.{length-map}
 use Rattle.std.proofs.lemmas.Option.{slice_get_within}
 use Rattle.terms.specs.declared.codes.NeedKind.{NeedKind}
-use Rattle.terms.specs.Types.{Id, Global, Zone, Bypass}
+use Rattle.terms.specs.Types.{Id, Zone}
 use Rattle.terms.specs.Tests.{Setting, AreSurvivors, IsEligible}
-use Rattle.terms.specs.Judged.{setting}
+use Rattle.judge.specs.declared.scope.Scope.{Scope}
+use Rattle.judge.specs.Left.{setting_with, setting_of}
 use Rattle.judge.specs.InstallProblem.{IsInstallProblem}
 use Rattle.solve.specs.Problem.{Problem, IsProblem, holds}
 use Rattle.lemmas.proofs.Places.{contains_at, found_at}
@@ -18,14 +19,14 @@ use Rattle.judge.specs.Numbered.{HasProblem}
 use Rattle.judge.proofs.Demands.{is-demand, demand-at, wants-once}
 use Rattle.judge.proofs.Needed.{needs-open}
 
-module _ (g : Global) (zone : Zone) (related : Option Zone) (ids : List Id) (b : Bypass) where
+module _ (scope : Scope) (related : Option Zone) where
   abbrev s : Setting
-  s = setting g zone related ids b
+  s = setting_with scope related
 
   pub install-problem : (survivors : List Id) → AreSurvivors s survivors → (flags : List Bool)
-      → ((n : ℕ) (x : Id) → slice_get ids n ≡ Some x → IsTrue (holds flags n) ↔ IsEligible s x)
+      → ((n : ℕ) (x : Id) → slice_get s.cands n ≡ Some x → IsTrue (holds flags n) ↔ IsEligible s x)
       → (p : Problem) (needed : List (NeedKind × Id)) → IsProblem p
-      → HasProblem (setting g zone None ids b) survivors flags p needed
+      → HasProblem (setting_of scope) survivors flags p needed
       → IsInstallProblem s p needed
   install-problem survivors are flags eligible p needed numbers has = record {
     survivors = survivors;
@@ -38,30 +39,30 @@ module _ (g : Global) (zone : Zone) (related : Option Zone) (ids : List Id) (b :
       lengths = ap length has.demands.needed_are ∙ length-map has.wants (λ w. (w.kind, w.id))
           ∙ sym has.demands.demands.lengths;
       demands = λ i d need at_d at_need.
-          let w = is-demand ids has.pairs flags has.wants p needed has.demands i d need at_d at_need in
+          let w = is-demand s.cands has.pairs flags has.wants p needed has.demands i d need at_d at_need in
           let open_at = (has.are_wants.members w.0.of need.0 need.1).0 (subst (Contains has.wants) w.3
           (contains_at has.wants i w.0 w.1)) in
           record {
             of = (
               open_at.x,
-              subst (λ k. slice_get ids k ≡ Some open_at.x) (sym w.2.of) open_at.at,
-              (needs-open g zone related ids b survivors open_at.x need.0 need.1
-                  (contains_at ids w.0.of open_at.x open_at.at)).1 open_at.is_open,
+              subst (λ k. slice_get s.cands k ≡ Some open_at.x) (sym w.2.of) open_at.at,
+              (needs-open scope related survivors open_at.x need.0 need.1
+                  (contains_at s.cands w.0.of open_at.x open_at.at)).1 open_at.is_open,
             );
-            any = subst (λ (v : Want). ArePlaces s.choice ids v.kind v.id d.any) w.3 (w.2.any s.choice has.served);
+            any = subst (λ (v : Want). ArePlaces s.choice s.cands v.kind v.id d.any) w.3 (w.2.any s.choice has.served);
           };
       all = λ n x z kind at need.
           let found = found_at has.wants (a_want n kind z) ((has.are_wants.members n kind z).1 (record {
-            below = slice_get_within ids n x at;
+            below = slice_get_within s.cands n x at;
             x = x;
             at = at;
-            is_open = (needs-open g zone related ids b survivors x kind z
-                (contains_at ids n x at)).0 need;
+            is_open = (needs-open scope related survivors x kind z
+                (contains_at s.cands n x at)).0 need;
           })) in
-          let d = demand-at ids has.pairs flags has.wants p needed has.demands found.0 (a_want n kind z) found.1 in
+          let d = demand-at s.cands has.pairs flags has.wants p needed has.demands found.0 (a_want n kind z) found.1 in
           (found.0, d.0, d.1, d.2, d.3);
       once = λ i j d e need at_d at_e need_d need_e same.
-          wants-once ids has.pairs flags has.wants p needed has.demands has.are_wants.once i j d e need at_d at_e
+          wants-once s.cands has.pairs flags has.wants p needed has.demands has.are_wants.once i j d e need at_d at_e
           need_d need_e same;
     };
   }

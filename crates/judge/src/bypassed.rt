@@ -40,7 +40,7 @@ fn add_if(
 // Adds those by `++IF`.
 fn add_ifreq(
     alloc: Heap,
-    scope: &Scope<'_>,
+    scope: &Scope<'_, '_>,
     stated: &Stated,
     id: Id,
     pairs: &mut Vec<(Id, Id)>,
@@ -59,7 +59,7 @@ fn add_ifreq(
 // Adds those of one candidate.
 fn add_bypassed(
     alloc: Heap,
-    scope: &Scope<'_>,
+    scope: &Scope<'_, '_>,
     stated: &Stated,
     id: Id,
     pairs: &mut Vec<(Id, Id)>,
@@ -74,7 +74,10 @@ fn add_bypassed(
 }
 
 /// Each candidate with each of its PRE, REQ and IFREQ that BYPASS covers.
-pub(crate) fn bypassed_pairs(alloc: Heap, scope: &Scope<'_>) -> Result<Vec<(Id, Id)>, AllocError>
+pub(crate) fn bypassed_pairs(
+    alloc: Heap,
+    scope: &Scope<'_, '_>,
+) -> Result<Vec<(Id, Id)>, AllocError>
     ensures { IfOk result (λ pairs. AreBypassed (setting_of scope.now) scope.now.ids.now pairs.items) }
 {
     if !scope.bypasses_requisites() {

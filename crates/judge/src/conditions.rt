@@ -6,7 +6,7 @@ ghost use Rattle.terms.specs.Lookups.{is_applied, is_function, is_in};
 ghost use Rattle.terms.specs.Deleted.{view};
 ghost use Rattle.terms.specs.Conditions.{if_reqs, if_needed};
 ghost use Rattle.judge.specs.Conditions.{AreStated, is_there, listed};
-ghost use Rattle.judge.specs.Left.{choice_of, left_of};
+ghost use Rattle.judge.specs.Left.{global_of, choice_of, left_of};
 
 use crate::left::Left;
 use crate::scope::Scope;
@@ -17,7 +17,7 @@ use sysmods_records::IfReq;
 use zones_less::view_deletions;
 
 fn append_if_there(
-    left: &Left<'_>,
+    left: &Left<'_, '_>,
     condition: &IfReq,
     found: &mut Vec<Id>,
 ) -> Result<(), AllocError>
@@ -32,7 +32,7 @@ fn append_if_there(
 }
 
 fn append_all_there(
-    left: &Left<'_>,
+    left: &Left<'_, '_>,
     conditions: &[IfReq],
     found: &mut Vec<Id>,
 ) -> Result<(), AllocError>
@@ -46,7 +46,7 @@ fn append_all_there(
 }
 
 // Appends those of its own `++IF`s whose function is there.
-fn append_own(left: &Left<'_>, id: Id, found: &mut Vec<Id>) -> Result<(), AllocError>
+fn append_own(left: &Left<'_, '_>, id: Id, found: &mut Vec<Id>) -> Result<(), AllocError>
     ensures { OnOk result (found.new.items ≡ found.old.items
         ++ if_reqs (choice_of left.now.scope) (is_there (left_of left.now) left.now.scope.ids.now) id) }
 {
@@ -55,16 +55,16 @@ fn append_own(left: &Left<'_>, id: Id, found: &mut Vec<Id>) -> Result<(), AllocE
 
 // Appends those that SYSMODs that are left state for it, if it is a function.
 fn append_for_function(
-    left: &Left<'_>,
+    left: &Left<'_, '_>,
     stated: &Stated,
     id: Id,
     found: &mut Vec<Id>,
 ) -> Result<(), AllocError>
     ensures { OnOk result (found.new.items ≡ found.old.items
-        ++ (if is_function left.now.scope.global.now id then map (λ r. r.id)
+        ++ (if is_function (global_of left.now.scope) id then map (λ r. r.id)
         (filter (λ r. is_applied (left_of left.now) r.by) (listed stated.now id)) else [])) }
 {
-    if left.scope.global.is_function(id) {
+    if left.scope.global().is_function(id) {
         append_stated(left, stated, id, found)?;
     }
     Ok(())
@@ -73,17 +73,17 @@ fn append_for_function(
 /// The requisites of a candidate by `++IF` in its view of the zone, given what applied SYSMODs state.
 pub(crate) fn if_needed(
     alloc: Heap,
-    scope: &Scope<'_>,
+    scope: &Scope<'_, '_>,
     stated: &Stated,
     id: Id,
 ) -> Result<IdList, AllocError>
     requires { AreStated (choice_of scope.now) scope.now.zone.now stated.now }
-    ensures { IfOk result (λ ids. (z : AnId) → Contains ids z ↔ Contains (if_needed scope.now.global.now
-        (choice_of scope.now) (view scope.now.global.now (choice_of scope.now) scope.now.ids.now scope.now.zone.now id)
+    ensures { IfOk result (λ ids. (z : AnId) → Contains ids z ↔ Contains (if_needed (global_of scope.now)
+        (choice_of scope.now) (view (global_of scope.now) (choice_of scope.now) scope.now.ids.now scope.now.zone.now id)
         (is_in scope.now.ids.now) id) z) }
 {
     scope.zone.known();
-    let dels = view_deletions(alloc, &scope.vers(), scope.ids, id)?;
+    let dels = view_deletions(alloc, scope.vers, scope.ids, id)?;
     let left = Left {
         scope: *scope,
         dels: dels.as_slice(),

@@ -11,7 +11,7 @@ use crate::view::View;
 use fields::Id;
 use std::alloc::{AllocError, Global as Heap};
 use std::collections::BTreeMap;
-use sysmods::{Global, VerChoice};
+use sysmods::VerChoice;
 use zones::{Entry, Zone};
 
 /// For each id the applied functions that name it in NPRE.
@@ -63,14 +63,14 @@ fn add_each(
 // Adds what the SYSMOD of the entry names, if it is an applied function.
 fn add_function(
     alloc: Heap,
-    global: &Global,
     vers: &VerChoice<'_>,
     entry: &Entry,
     forbidders: &mut Forbidders,
 ) -> Result<(), AllocError>
-    ensures { OnOk result (Gains forbidders.old forbidders.new (ForbidsBy global.now (choice vers.now) entry.now)) }
+    ensures { OnOk result (Gains forbidders.old forbidders.new
+        (ForbidsBy vers.now.global.now (choice vers.now) entry.now)) }
 {
-    if entry.applied.is_some() && global.is_function(entry.id) {
+    if entry.applied.is_some() && vers.global().is_function(entry.id) {
         add_each(alloc, forbidders, npre(vers, entry.id), entry.id)?;
     }
     Ok(())
@@ -79,15 +79,14 @@ fn add_function(
 /// Who forbids whom, of the applied functions.
 pub(crate) fn forbidders(
     alloc: Heap,
-    global: &Global,
     vers: &VerChoice<'_>,
     zone: &Zone,
 ) -> Result<Forbidders, AllocError>
-    ensures { IfOk result (AreForbidders global.now (choice vers.now) zone.now.entries) }
+    ensures { IfOk result (AreForbidders vers.now.global.now (choice vers.now) zone.now.entries) }
 {
     let mut forbidders = BTreeMap::new(alloc);
     for entry in zone.entries() {
-        add_function(alloc, global, vers, entry, &mut forbidders)?;
+        add_function(alloc, vers, entry, &mut forbidders)?;
     }
     Ok(forbidders)
 }

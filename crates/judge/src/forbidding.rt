@@ -12,7 +12,7 @@ use crate::sharing::shared_places;
 use fields::Id;
 use indexmap::IndexSet;
 use std::alloc::{AllocError, Global as Heap};
-use sysmods::{Global, VerChoice};
+use sysmods::VerChoice;
 
 fn mark_both(marked: &mut IndexSet<u32>, one: u32, other: u32) -> Result<(), AllocError>
     ensures { OnOk result (Marks (IsEither one other) marked.old.keys marked.new.keys) }
@@ -137,7 +137,6 @@ fn mark_forbidding(
 /// The places of the candidates that pass by themselves and clash with another such one.
 pub(crate) fn clashing_places(
     alloc: Heap,
-    global: &Global,
     vers: &VerChoice<'_>,
     ids: &[Id],
     faults: &[OwnFaults],
@@ -145,10 +144,9 @@ pub(crate) fn clashing_places(
     requires rising { IsRising ids.now }
     requires lengths { length faults.now ≡ length ids.now }
     requires fits { length ids.now < 2 ^ 32 }
-    requires same { vers.now.global.now ≡ global.now }
-    ensures { IfOk result (λ places. AreClashing global.now (choice vers.now) ids.now faults.now places.keys) }
+    ensures { IfOk result (λ places. AreClashing vers.now.global.now (choice vers.now) ids.now faults.now places.keys) }
 {
-    let mut marked = shared_places(alloc, global, vers, ids, faults)?;
+    let mut marked = shared_places(alloc, vers, ids, faults)?;
     mark_forbidding(vers, ids, faults, &mut marked)?;
     Ok(marked)
 }

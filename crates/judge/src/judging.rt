@@ -5,6 +5,7 @@ ghost use Rattle.terms.specs.Needs.{bypassed_ids};
 ghost use Rattle.terms.specs.Judged.{setting};
 ghost use Rattle.judge.specs.InstallProblem.{IsInstallProblem};
 ghost use Rattle.judge.specs.Failed.{AreFailedTests};
+ghost use Rattle.judge.specs.Left.{global_of, setting_with};
 
 use crate::bypassed::bypassed_pairs;
 use crate::numbered::wants_of;
@@ -15,9 +16,10 @@ use cntl::Bypass;
 use fields::{Id, IdList};
 use solve::System;
 use std::alloc::{AllocError, Global as Heap};
-use sysmods::{Global, VerChoice};
+use sysmods::Global;
 use terms::{NeedKind, Test};
 use zones::Zone;
+use zones_less::choose;
 
 /// What is known of the candidates, which are numbered by their places: who is eligible and needs whom, the kind and
 /// the id of each need, for each candidate the tests that it fails, and each candidate with each of its PRE, REQ and
@@ -50,16 +52,35 @@ pub fn install_system(
         ↔ (Contains ids.now x × Contains (bypassed_ids
         (setting global.now zone.now (option_copied related.entry) ids.now bypass.now) x) z)) }
 {
-    let tested = test_all(alloc, global, zone, related, ids, bypass)?;
+    let vers = choose(global, zone, ids);
     let scope = Scope {
-        global,
+        vers: &vers,
         zone,
         ids,
         bypass,
     };
-    let survivors = survivors(alloc, ids, tested.tests.as_slice())?;
-    let (system, needed) = wants_of(alloc, &scope, &survivors, tested.eligible)?;
-    let bypassed = bypassed_pairs(alloc, &scope)?;
+    judge_by(alloc, &scope, related)
+}
+
+// Judges them by the `++VER`s of the scope.
+fn judge_by(
+    alloc: Heap,
+    scope: &Scope<'_, '_>,
+    related: Option<&Zone>,
+) -> Result<Judged, AllocError>
+    requires { All (λ x. IsTrue (is_installable (global_of scope.now) scope.now.zone.now x)) scope.now.ids.now }
+    ensures problem { IfOk result (λ j. IsInstallProblem (setting_with scope.now (option_copied related.entry)) j.system
+        (map (λ n. (n.0, n.1)) j.needed.items)) }
+    ensures tests { IfOk result (λ j. AreFailedTests (setting_with scope.now (option_copied related.entry))
+        (map (λ row. row.items) j.tests.items)) }
+    ensures bypassed { IfOk result (λ j. (x z : AnId) → Contains {X = AnId × AnId} j.bypassed.items (x, z)
+        ↔ (Contains scope.now.ids.now x × Contains (bypassed_ids (setting_with scope.now (option_copied
+        related.entry)) x) z)) }
+{
+    let tested = test_all(alloc, scope, related)?;
+    let survivors = survivors(alloc, scope.ids, tested.tests.as_slice())?;
+    let (system, needed) = wants_of(alloc, scope, &survivors, tested.eligible)?;
+    let bypassed = bypassed_pairs(alloc, scope)?;
     Ok(Judged {
         system,
         needed,

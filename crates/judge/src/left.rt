@@ -13,17 +13,17 @@ use zones_less::{is_left, supplies_left};
 
 /// The zone less these deletions.
 #[derive(Clone, Copy)]
-pub(crate) struct Left<'a> {
-    pub(crate) scope: Scope<'a>,
+pub(crate) struct Left<'a, 'b> {
+    pub(crate) scope: Scope<'a, 'b>,
     pub(crate) dels: &'a [Id],
 }
 
-impl<'a> Left<'a> {
+impl<'a, 'b> Left<'a, 'b> {
     /// Whether the SYSMOD is still applied.
     pub(crate) fn has(&self, id: Id) -> bool
         ensures { result ≡ is_applied (left_of self.now) id }
     {
-        is_left(&self.scope.vers(), self.dels, self.scope.zone, id)
+        is_left(self.scope.vers, self.dels, self.scope.zone, id)
     }
 
     /// Whether the function is still applied, or a candidate.
@@ -39,7 +39,7 @@ impl<'a> Left<'a> {
     {
         match kind {
             NeedKind::Fmid => self.has(id),
-            _ => supplies_left(&self.scope.vers(), self.dels, self.scope.zone, id),
+            _ => supplies_left(self.scope.vers, self.dels, self.scope.zone, id),
         }
     }
 

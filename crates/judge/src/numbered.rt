@@ -65,7 +65,7 @@ fn numbered(
 /// need.
 pub(crate) fn wants_of(
     alloc: Heap,
-    scope: &Scope<'_>,
+    scope: &Scope<'_, '_>,
     survivors: &IdList,
     eligible: Vec<bool>,
 ) -> Result<(System, Vec<(NeedKind, Id)>), AllocError>
@@ -75,14 +75,14 @@ pub(crate) fn wants_of(
     ensures problem { IfOk result
         (λ r. HasProblem (setting_of scope.now) survivors.now eligible.items r.0 r.1.items) }
 {
-    let vers = scope.vers();
-    let dels = deletions(alloc, &vers, survivors.as_slice())?;
+    let vers = scope.vers;
+    let dels = deletions(alloc, vers, survivors.as_slice())?;
     let left = Left {
         scope: *scope,
         dels: dels.as_slice(),
     };
     let wants = all_wants(alloc, &left, survivors)?;
-    let served = served(alloc, &vers, scope.ids)?;
+    let served = served(alloc, vers, scope.ids)?;
     let (system, needed) = numbered(alloc, scope.ids, &served, wants.as_slice(), eligible)?;
     Ok((system, needed))
 }

@@ -5,11 +5,10 @@ ghost use Rattle.std.specs.List.{list_any};
 ghost use Rattle.std.specs.Option.{option_map_or};
 ghost use Rattle.terms.specs.Types.{zone_number};
 ghost use Rattle.terms.specs.Lookups.{changes_of, holds_of, is_applied};
-ghost use Rattle.sysmods.specs.Choices.{by_srel};
 ghost use Rattle.terms.specs.Tests.{is_bypassed_hold};
-ghost use Rattle.terms.specs.Judged.{setting};
 ghost use Rattle.sysmods.specs.Choices.{choice};
 ghost use Rattle.judge.specs.Forbidders.{AreForbidders};
+ghost use Rattle.judge.specs.Left.{global_of, choice_of, setting_with};
 ghost use Rattle.judge.specs.Overs.{AreOver};
 ghost use Rattle.judge.specs.Own.{IsLowerAt, HasFaults, passes_alone, passes};
 ghost use Rattle.judge.specs.Placed.{Beside};
@@ -24,7 +23,7 @@ use cntl::Bypass;
 use fields::{Id, IdList};
 use indexmap::IndexSet;
 use std::alloc::{AllocError, Global as Heap};
-use sysmods::{Global, VerChoice};
+use sysmods::Global;
 use sysmods_records::ElemChange;
 use terms::{HoldKind, ZoneKind};
 use zones::Zone;
@@ -126,35 +125,35 @@ fn is_unapplied(zone: &Zone, related: Option<&Zone>, bypass: &Bypass, id: Id) ->
 // What the candidate fails of J1 to J7, in its view and with what it is known to be over.
 fn own_faults(
     alloc: Heap,
-    scope: &Scope<'_>,
+    scope: &Scope<'_, '_>,
     related: Option<&Zone>,
     forbidders: &Forbidders,
     known: &mut IndexSet<(Id, Id)>,
     id: Id,
 ) -> Result<OwnFaults, AllocError>
-    requires known { AreOver (by_srel scope.now.global.now scope.now.zone.now.srel) known.old.keys }
-    requires forbidders { AreForbidders scope.now.global.now (by_srel scope.now.global.now scope.now.zone.now.srel)
+    requires known { AreOver (choice_of scope.now) known.old.keys }
+    requires forbidders { AreForbidders (global_of scope.now) (choice_of scope.now)
         scope.now.zone.now.entries forbidders.now }
-    ensures faults { IfOk result (HasFaults (setting scope.now.global.now scope.now.zone.now
-        (option_copied related.entry) scope.now.ids.now scope.now.bypass.now) id) }
-    ensures known { OnOk result (AreOver (by_srel scope.now.global.now scope.now.zone.now.srel) known.new.keys) }
+    ensures faults { IfOk result (HasFaults (setting_with scope.now (option_copied related.entry)) id) }
+    ensures known { OnOk result (AreOver (choice_of scope.now) known.new.keys) }
 {
-    let vers = VerChoice::new(scope.global, scope.zone.srel());
-    let dels = view_deletions(alloc, &vers, scope.ids, id)?;
+    let vers = scope.vers;
+    let dels = view_deletions(alloc, vers, scope.ids, id)?;
     let view = View {
-        vers: &vers,
+        vers,
         dels: dels.as_slice(),
         zone: scope.zone,
     };
-    let changes = changes_of(scope.global, id);
+    let global = scope.global();
+    let changes = changes_of(global, id);
     let lower = is_lower(alloc, &view, known, scope.bypass, id, changes)?;
     Ok(OwnFaults {
-        system_held: has_standing_hold(scope.global, scope.bypass, HoldKind::System, id),
-        user_held: has_standing_hold(scope.global, scope.bypass, HoldKind::User, id),
+        system_held: has_standing_hold(global, scope.bypass, HoldKind::System, id),
+        user_held: has_standing_hold(global, scope.bypass, HoldKind::User, id),
         forbidden: is_forbidden(&view, forbidders, id),
         foreign: is_foreign(&view, vers.owner(id), changes),
         lower,
-        bare: has_bare_update(scope.global, &view, scope.ids, vers.fmid(id), changes),
+        bare: has_bare_update(global, &view, scope.ids, vers.fmid(id), changes),
         unapplied: is_unapplied(scope.zone, related, scope.bypass, id),
         deleted: false,
     })
@@ -163,14 +162,13 @@ fn own_faults(
 /// What each candidate fails of J1 to J7.
 pub(crate) fn all_faults(
     alloc: Heap,
-    scope: &Scope<'_>,
+    scope: &Scope<'_, '_>,
     related: Option<&Zone>,
 ) -> Result<Vec<OwnFaults>, AllocError>
-    ensures { IfOk result (λ faults. Beside (λ n x own. HasFaults (setting scope.now.global.now scope.now.zone.now
-        (option_copied related.entry) scope.now.ids.now scope.now.bypass.now) x own) scope.now.ids.now faults.items) }
+    ensures { IfOk result (λ faults. Beside (λ n x own. HasFaults (setting_with scope.now (option_copied
+        related.entry)) x own) scope.now.ids.now faults.items) }
 {
-    let vers = VerChoice::new(scope.global, scope.zone.srel());
-    let forbidders = forbidders(alloc, scope.global, &vers, scope.zone)?;
+    let forbidders = forbidders(alloc, scope.vers, scope.zone)?;
     let mut known = IndexSet::new(alloc);
     let mut faults = Vec::new(alloc);
     for id in scope.ids.as_slice() {

@@ -4,6 +4,7 @@ ghost use Rattle.terms.specs.declared.kinds.HoldKind.TheVariants.{Error};
 ghost use Rattle.terms.specs.Types.{Id as AnId};
 ghost use Rattle.terms.specs.Lookups.{holds_of};
 ghost use Rattle.terms.specs.Tests.{is_bypassed_hold};
+ghost use Rattle.judge.specs.Left.{global_of};
 
 use crate::bypassing::is_bypassed_hold;
 use crate::scope::Scope;
@@ -28,20 +29,20 @@ fn append_reason(bypass: &Bypass, hold: &Hold, found: &mut Vec<Id>) -> Result<()
     Ok(())
 }
 
-fn append_reasons(scope: &Scope<'_>, id: Id, found: &mut Vec<Id>) -> Result<(), AllocError>
+fn append_reasons(scope: &Scope<'_, '_>, id: Id, found: &mut Vec<Id>) -> Result<(), AllocError>
     ensures { OnOk result (found.new.items ≡ found.old.items ++ map (λ h. h.reason)
-        (filter (λ h. not (is_bypassed_hold scope.now.bypass.now h)) (holds_of scope.now.global.now Error id))) }
+        (filter (λ h. not (is_bypassed_hold scope.now.bypass.now h)) (holds_of (global_of scope.now) Error id))) }
 {
-    for hold in scope.global.holds_of(HoldKind::Error, id) {
+    for hold in scope.global().holds_of(HoldKind::Error, id) {
         append_reason(scope.bypass, hold, found)?;
     }
     Ok(())
 }
 
 /// The reasons of the ERROR holds on a candidate that BYPASS does not cover.
-pub(crate) fn open_reasons(alloc: Heap, scope: &Scope<'_>, id: Id) -> Result<IdList, AllocError>
+pub(crate) fn open_reasons(alloc: Heap, scope: &Scope<'_, '_>, id: Id) -> Result<IdList, AllocError>
     ensures { IfOk result (λ ids. (z : AnId) → Contains ids z ↔ Contains (map (λ h. h.reason)
-        (filter (λ h. not (is_bypassed_hold scope.now.bypass.now h)) (holds_of scope.now.global.now Error id))) z) }
+        (filter (λ h. not (is_bypassed_hold scope.now.bypass.now h)) (holds_of (global_of scope.now) Error id))) z) }
 {
     let mut found = Vec::new(alloc);
     append_reasons(scope, id, &mut found)?;

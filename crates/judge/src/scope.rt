@@ -5,7 +5,6 @@ ghost use Rattle.terms.specs.declared.codes.NeedKind.TheVariants.{Pre, Req, Ifre
 ghost use Rattle.terms.specs.Needs.{is_bypassed};
 ghost use Rattle.sysmods.specs.Choices.{choice};
 ghost use Rattle.terms.specs.Choice.{fmid_of, pre_of, req_of, ifs_of};
-ghost use Rattle.sysmods.specs.Choices.{by_srel};
 
 use cntl::Bypass;
 use fields::{Id, IdList};
@@ -14,40 +13,39 @@ use sysmods_records::{IfReq, Ver};
 use terms::NeedKind;
 use zones::Zone;
 
-/// The received SYSMODs, the zone, the candidates and BYPASS.
+/// The `++VER`s that count, the zone, the candidates and BYPASS.
 #[derive(Clone, Copy)]
-pub(crate) struct Scope<'a> {
-    pub(crate) global: &'a Global,
+pub(crate) struct Scope<'a, 'b> {
+    pub(crate) vers: &'a VerChoice<'b>,
     pub(crate) zone: &'a Zone,
     pub(crate) ids: &'a IdList,
     pub(crate) bypass: &'a Bypass,
 }
 
-impl<'a> Scope<'a> {
-    /// The `++VER`s that count for the zone.
-    pub(crate) fn vers(&self) -> VerChoice<'a>
-        ensures global { result.global.now ≡ self.now.global.now }
-        ensures srel { result.srel ≡ self.now.zone.now.srel }
+impl<'a, 'b> Scope<'a, 'b> {
+    /// The global zone.
+    pub(crate) fn global(&self) -> &'b Global
+        ensures { result.now ≡ self.now.vers.now.global.now }
     {
-        VerChoice::new(self.global, self.zone.srel())
+        self.vers.global()
     }
 
     /// The FMID of a SYSMOD.
     pub(crate) fn fmid(&self, id: Id) -> Option<Id>
-        ensures { result ≡ fmid_of (by_srel self.now.global.now self.now.zone.now.srel) id }
+        ensures { result ≡ fmid_of (choice self.now.vers.now) id }
     {
         self.ver(id)?.fmid
     }
 
-    fn ver(&self, id: Id) -> Option<&'a Ver>
-        ensures { option_copied result ≡ by_srel self.now.global.now self.now.zone.now.srel id }
+    fn ver(&self, id: Id) -> Option<&'b Ver>
+        ensures { option_copied result ≡ choice self.now.vers.now id }
     {
-        VerChoice::new(self.global, self.zone.srel()).ver(id)
+        self.vers.ver(id)
     }
 
     /// Its PRE.
-    pub(crate) fn pre(&self, id: Id) -> &'a [Id]
-        ensures items { result.now ≡ pre_of (by_srel self.now.global.now self.now.zone.now.srel) id }
+    pub(crate) fn pre(&self, id: Id) -> &'b [Id]
+        ensures items { result.now ≡ pre_of (choice self.now.vers.now) id }
         ensures rising { IsRising result.now }
     {
         match self.ver(id) {
@@ -57,8 +55,8 @@ impl<'a> Scope<'a> {
     }
 
     /// Its REQ.
-    pub(crate) fn req(&self, id: Id) -> &'a [Id]
-        ensures items { result.now ≡ req_of (by_srel self.now.global.now self.now.zone.now.srel) id }
+    pub(crate) fn req(&self, id: Id) -> &'b [Id]
+        ensures items { result.now ≡ req_of (choice self.now.vers.now) id }
         ensures rising { IsRising result.now }
     {
         match self.ver(id) {
@@ -68,8 +66,8 @@ impl<'a> Scope<'a> {
     }
 
     /// Its `++IF`s.
-    pub(crate) fn ifs(&self, id: Id) -> &'a [IfReq]
-        ensures { result.now ≡ ifs_of (by_srel self.now.global.now self.now.zone.now.srel) id }
+    pub(crate) fn ifs(&self, id: Id) -> &'b [IfReq]
+        ensures { result.now ≡ ifs_of (choice self.now.vers.now) id }
     {
         match self.ver(id) {
             Some(ver) => ver.ifs.as_slice(),

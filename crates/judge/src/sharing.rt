@@ -12,7 +12,7 @@ use crate::own::OwnFaults;
 use fields::Id;
 use indexmap::IndexSet;
 use std::alloc::{AllocError, Global as Heap};
-use sysmods::{Global, VerChoice};
+use sysmods::VerChoice;
 
 // Whether no test is needed for the two: they are of one candidate, or both are marked.
 fn is_settled(one: &Claim, other: &Claim, shared: &IndexSet<u32>) -> bool
@@ -151,17 +151,15 @@ fn shared_among(
 /// such one.
 pub(crate) fn shared_places(
     alloc: Heap,
-    global: &Global,
     vers: &VerChoice<'_>,
     ids: &[Id],
     faults: &[OwnFaults],
 ) -> Result<IndexSet<u32>, AllocError>
     requires lengths { length faults.now ≡ length ids.now }
     requires fits { length ids.now < 2 ^ 32 }
-    requires same { vers.now.global.now ≡ global.now }
-    ensures { IfOk result (λ shared. (n : ℕ) → Contains shared.keys n ↔ IsClashing global.now (choice vers.now) ids.now
-        faults.now n) }
+    ensures { IfOk result (λ shared. (n : ℕ) → Contains shared.keys n
+        ↔ IsClashing vers.now.global.now (choice vers.now) ids.now faults.now n) }
 {
-    let claims = claims_of(alloc, global, ids, faults)?;
+    let claims = claims_of(alloc, vers.global(), ids, faults)?;
     shared_among(alloc, vers, claims.as_slice())
 }

@@ -63,7 +63,7 @@ fn add_conditions(
 
 fn add_if_applied(
     alloc: Heap,
-    scope: &Scope<'_>,
+    scope: &Scope<'_, '_>,
     entry: &Entry,
     stated: &mut Stated,
 ) -> Result<(), AllocError>
@@ -77,7 +77,7 @@ fn add_if_applied(
 }
 
 /// What all applied SYSMODs state.
-pub(crate) fn all_stated(alloc: Heap, scope: &Scope<'_>) -> Result<Stated, AllocError>
+pub(crate) fn all_stated(alloc: Heap, scope: &Scope<'_, '_>) -> Result<Stated, AllocError>
     ensures { IfOk result (AreStated (choice_of scope.now) scope.now.zone.now) }
 {
     let mut stated = BTreeMap::new(alloc);
@@ -88,7 +88,7 @@ pub(crate) fn all_stated(alloc: Heap, scope: &Scope<'_>) -> Result<Stated, Alloc
 }
 
 fn append_if_left(
-    left: &Left<'_>,
+    left: &Left<'_, '_>,
     requisite: Requisite,
     found: &mut Vec<Id>,
 ) -> Result<(), AllocError>
@@ -101,7 +101,11 @@ fn append_if_left(
     Ok(())
 }
 
-fn append_left(left: &Left<'_>, list: &[Requisite], found: &mut Vec<Id>) -> Result<(), AllocError>
+fn append_left(
+    left: &Left<'_, '_>,
+    list: &[Requisite],
+    found: &mut Vec<Id>,
+) -> Result<(), AllocError>
     ensures { OnOk result (found.new.items ≡ found.old.items ++ map (λ r. r.id)
         (filter (λ r. is_applied (left_of left.now) r.by) list.now)) }
 {
@@ -113,7 +117,7 @@ fn append_left(left: &Left<'_>, list: &[Requisite], found: &mut Vec<Id>) -> Resu
 
 /// Appends what SYSMODs that are left state for a function.
 pub(crate) fn append_stated(
-    left: &Left<'_>,
+    left: &Left<'_, '_>,
     stated: &Stated,
     function: Id,
     found: &mut Vec<Id>,

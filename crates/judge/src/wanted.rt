@@ -28,7 +28,12 @@ pub(crate) struct Want {
 }
 
 // The ids that neither BYPASS nor what is left of the zone meets.
-fn unmet(alloc: Heap, left: &Left<'_>, kind: NeedKind, ids: &[Id]) -> Result<Vec<Id>, AllocError>
+fn unmet(
+    alloc: Heap,
+    left: &Left<'_, '_>,
+    kind: NeedKind,
+    ids: &[Id],
+) -> Result<Vec<Id>, AllocError>
     ensures { IfOk result (λ found. found.items
         ≡ filter (is_open (left_of left.now) left.now.scope.bypass.now kind) ids.now) }
 {
@@ -50,7 +55,7 @@ fn add_each(wants: &mut Vec<Want>, of: u32, kind: NeedKind, ids: &[Id]) -> Resul
 // Adds what a candidate asks for and is not met.
 fn add_asked(
     alloc: Heap,
-    left: &Left<'_>,
+    left: &Left<'_, '_>,
     of: u32,
     kind: NeedKind,
     asked: &[Id],
@@ -68,7 +73,7 @@ fn add_asked(
 // Adds the need for its function.
 fn add_function(
     alloc: Heap,
-    left: &Left<'_>,
+    left: &Left<'_, '_>,
     of: u32,
     fmid: Option<Id>,
     wants: &mut Vec<Want>,
@@ -85,7 +90,7 @@ fn add_function(
 // What its DELETE orphans, if it is a survivor.
 fn orphaned(
     alloc: Heap,
-    scope: &Scope<'_>,
+    scope: &Scope<'_, '_>,
     survivors: &IdList,
     id: Id,
 ) -> Result<IdList, AllocError>
@@ -93,7 +98,7 @@ fn orphaned(
         ↔ Contains (if is_in survivors.now id then orphans (setting_of scope.now) id else []) z) }
 {
     if survivors.contains(id) {
-        let ids = orphans(alloc, &scope.vers(), scope.zone, id)?;
+        let ids = orphans(alloc, scope.vers, scope.zone, id)?;
         return Ok(IdList::from_vec(ids));
     }
     Ok(IdList::new(alloc))
@@ -102,7 +107,7 @@ fn orphaned(
 // Adds the needs of one candidate.
 fn add_open(
     alloc: Heap,
-    left: &Left<'_>,
+    left: &Left<'_, '_>,
     survivors: &IdList,
     stated: &Stated,
     of: u32,
@@ -136,7 +141,7 @@ fn add_open(
 /// The needs of all candidates, where these survive and these are the deletions.
 pub(crate) fn all_wants(
     alloc: Heap,
-    left: &Left<'_>,
+    left: &Left<'_, '_>,
     survivors: &IdList,
 ) -> Result<Vec<Want>, AllocError>
     requires { length left.now.scope.ids.now < 2 ^ 32 }

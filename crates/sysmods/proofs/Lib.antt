@@ -1,4 +1,5 @@
 pub mod Chains
+pub mod Counting
 pub mod Empty
 pub mod First
 pub mod Fronts

@@ -1,14 +1,17 @@
 //! A zone less what DELETE operands take out of it, look-ups in it without a copy, and the requisites that a DELETE
-//! orphans. All is as the definitions have it. Seen in the code alone: each item that stays is copied once.
+//! orphans; and which `++VER`s count in a zone. All is as the definitions have it. Seen in the code alone: each item
+//! that stays is copied once.
 #![tactic(auto)]
 
 mod binding;
+mod choosing;
 mod deleting;
 mod left;
 mod less;
 mod orphaned;
 mod taking;
 
+pub use choosing::choose;
 pub use deleting::{deletions, view, view_deletions};
 pub use left::{element_left, is_left, supplies_left};
 pub use less::zone_less;

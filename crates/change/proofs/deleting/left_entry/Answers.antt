@@ -10,7 +10,7 @@ pub returns-in-Some : goal.returns-in-Some
 returns-in-Some c =
     let d = c.args.deleting.now in
     IfOk-weaker c.entry_less.result _ _
-    (λ e is. is ∙ left-some d.global.now (choice_of d) d.dels.now d.zone.now c.known.ensures c.args.id
+    (λ e is. is ∙ left-some d.vers.now.global.now (choice_of d) d.dels.now d.zone.now c.known.ensures c.args.id
     c.in-Some.entry.now (sym c.in-Some.ensures))
     c.entry_less.ensures
 
@@ -18,5 +18,5 @@ pub returns-in-None : goal.returns-in-None
 returns-in-None c =
     let d = c.args.deleting.now in
     rw (c.new.ensures, c.new-in-None.ensures)
-    (sym (ap (λ o. unwrap_or o (bare_entry c.args.id)) (left-none d.global.now (choice_of d) d.dels.now d.zone.now
-    c.known.ensures c.args.id (sym c.in-None.ensures))))
+    (sym (ap (λ o. unwrap_or o (bare_entry c.args.id)) (left-none d.vers.now.global.now (choice_of d) d.dels.now
+    d.zone.now c.known.ensures c.args.id (sym c.in-None.ensures))))

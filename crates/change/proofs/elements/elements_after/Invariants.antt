@@ -1,5 +1,5 @@
 use Rattle.std.proofs.Common.{◌≡◌, All, map, take}
-use Rattle.sysmods.specs.Choices.{by_srel}
+use Rattle.sysmods.specs.Choices.{choice}
 use Rattle.terms.specs.Lookups.{element_key}
 use Rattle.change.specs.Grouping.{changed_key}
 use Rattle.change.proofs.AllElements.{IsAfter}
@@ -9,5 +9,5 @@ use Rattle.change.proofs.elements.elements_after.Given as goal
 abbrev pub invariant-loop-changed : goal.invariant-loop-changed
 invariant-loop-changed l = record {
   keys : map element_key l.elements.items ≡ map changed_key (take l.changed-index l.changes);
-  after : All (IsAfter l.global (by_srel l.global l.zone.srel) l.zone l.deletions l.effective) l.elements.items;
+  after : All (IsAfter l.vers.global.now (choice l.vers) l.zone l.deletions l.effective) l.elements.items;
 }

@@ -2,7 +2,7 @@ use Rattle.std.proofs.Common.{◌≡◌, ◌⊎◌, ◌∙◌, Any, IsTrue, IsSo
 use Rattle.terms.specs.Types.{Id, Zone}
 use Rattle.terms.specs.Changes.{has_replacement}
 use Rattle.terms.specs.Lookups.{element_of}
-use Rattle.sysmods.specs.Choices.{by_srel}
+use Rattle.sysmods.specs.Choices.{choice}
 use Rattle.terms.specs.Deleted.{deletions, zone_less}
 use Rattle.zones.specs.Delta.{IsChanged}
 use Rattle.terms.specs.Install.{Installation, HasInstalled}
@@ -10,22 +10,21 @@ use Rattle.change.specs.declared.deleting.Deleting.{Deleting}
 use Rattle.change.specs.Entries.{Differs}
 use Rattle.change.specs.Plans.{installation, IsFresh, IsPlan}
 use Rattle.change.proofs.AfterElements.{put_entries_stay}
-use Rattle.change.proofs.AfterInstall.{deletions_are, installs}
+use Rattle.change.proofs.AfterInstall.{installs}
 use Rattle.change.proofs.EffectiveIds.{members_are, effective_ordered, effective_base}
 use Rattle.change.proofs.Removed.{removed_stay}
 use Rattle.change.proofs.installing.install.Goals as goal
 
 pub put_entries-requires-clause-dels : goal.put_entries-requires-clause-dels
 put_entries-requires-clause-dels c =
-    let choice = by_srel c.args.global.now c.args.zone.now.srel in
-    c.as_slice-4.ensures.value
-    ∙ deletions_are c.args.global.now c.args.zone.now.srel _ _ _ c.as_slice-3.result.now _ c.new.ensures.global
-    (c.new.ensures.srel ∙ c.srel.ensures) (c.as_slice.ensures.items ∙ sym c.as_slice-3.ensures.items)
-    c.in_ok-dels.ensures
+    c.as_slice-4.ensures.value ∙ c.in_ok-dels.ensures
+    ∙ ap (deletions (choice c.args.vers.now)) (c.as_slice.ensures.items ∙ sym c.as_slice-3.ensures.items)
 
 pub elements_after-requires-clause-order : goal.elements_after-requires-clause-order
 elements_after-requires-clause-order c =
-    let i = installation c.args.global.now c.args.zone.now c.args.kept.now c.args.bypassed.now c.args.date in
+    let vers = c.args.vers.now in
+    let zone = c.args.zone.now in
+    let i = installation vers.global.now (choice vers) zone c.args.kept.now c.args.bypassed.now c.args.date in
     effective_ordered i c.as_slice-6.result.now
     (members_are i c.as_slice-2.result.now c.in_ok-plan.plan c.as_slice-6.result.now c.in_ok-plan.ensures
     c.as_slice-6.ensures.items)
@@ -33,42 +32,42 @@ elements_after-requires-clause-order c =
 
 pub elements_after-requires-clause-some : goal.elements_after-requires-clause-some
 elements_after-requires-clause-some c = λ type name changed.
-    let g = c.args.global.now in
+    let g = c.args.vers.now.global.now in
+    let by = choice c.args.vers.now in
     let zone = c.args.zone.now in
-    let i = installation g zone c.args.kept.now c.args.bypassed.now c.args.date in
+    let i = installation g by zone c.args.kept.now c.args.bypassed.now c.args.date in
     let ids = c.as_slice-6.result.now in
-    let dels : c.as_slice-5.result.now ≡ deletions (by_srel g zone.srel) c.args.kept.now =
-    c.as_slice-5.ensures.value
-    ∙ deletions_are g zone.srel _ _ _ c.args.kept.now _ c.new.ensures.global
-    (c.new.ensures.srel ∙ c.srel.ensures) c.as_slice.ensures.items c.in_ok-dels.ensures in
+    let dels : c.as_slice-5.result.now ≡ deletions by c.args.kept.now =
+    c.as_slice-5.ensures.value ∙ c.in_ok-dels.ensures ∙ ap (deletions by) c.as_slice.ensures.items in
     subst (λ z. IsSome (element_of z type name) ⊎ Any (λ x. IsTrue (has_replacement g x type name)) ids)
-    (ap (λ ds. zone_less g (by_srel g zone.srel) ds zone) (sym dels))
+    (ap (λ ds. zone_less g by ds zone) (sym dels))
     (effective_base i ids (members_are i c.as_slice-2.result.now c.in_ok-plan.plan ids c.in_ok-plan.ensures
     c.as_slice-6.ensures.items)
     c.requires.base type name changed)
 
 pub returns-clause-installs : goal.returns-clause-installs
 returns-clause-installs c =
-    let g = c.args.global.now in
+    let g = c.args.vers.now.global.now in
+    let by = choice c.args.vers.now in
     let zone = c.args.zone.now in
     let plan = c.in_ok-plan.plan in
     let d : Deleting = record {
-      global = c.args.global;
+      vers = c.args.vers;
       zone = c.args.zone;
       kept = c.as_slice-3.result;
       dels = c.as_slice-4.result;
     } in
-    let i : List Id → Installation = λ ids. installation g zone ids c.args.bypassed.now c.args.date in
-    let dels : c.in_ok-dels.dels.items ≡ deletions (by_srel g zone.srel) d.kept.now =
-    deletions_are g zone.srel _ _ _ d.kept.now _ c.new.ensures.global (c.new.ensures.srel ∙ c.srel.ensures)
-    (c.as_slice.ensures.items ∙ sym c.as_slice-3.ensures.items) c.in_ok-dels.ensures in
+    let i : List Id → Installation = λ ids. installation g by zone ids c.args.bypassed.now c.args.date in
+    let dels : c.in_ok-dels.dels.items ≡ deletions by d.kept.now =
+    c.in_ok-dels.ensures ∙ ap (deletions by) (c.as_slice.ensures.items ∙ sym c.as_slice-3.ensures.items) in
     let planned : IsPlan (i d.kept.now) d.dels.now plan =
     subst (λ ids. IsPlan (i ids) d.dels.now plan) (sym c.as_slice-3.ensures.items)
     (subst (λ ds. IsPlan (i c.args.kept.now) ds plan) (c.as_slice-2.ensures.value ∙ sym c.as_slice-4.ensures.value)
     c.in_ok-plan.ensures) in
     subst (λ ids. (new : Zone) → IsChanged c.put_elements.new.delta zone new → HasInstalled (i ids) new)
     c.as_slice-3.ensures.items
-    (installs d c.args.bypassed.now c.args.date c.len.ensures.form c.known.ensures c.known_lists.ensures
+    (installs d c.args.bypassed.now c.args.date (rw c.global.ensures at c.len.ensures.form) c.known.ensures
+    c.known_lists.ensures
     (c.as_slice-4.ensures.value ∙ dels)
     (subst (All (IsFresh zone)) (sym c.as_slice-3.ensures.items) c.requires.fresh)
     plan c.new-delta.result c.put_entries.new.delta c.remove_elements.new.delta c.put_elements.new.delta
@@ -77,7 +76,7 @@ returns-clause-installs c =
     (c.in_ok-elements.ensures (i d.kept.now) (record {
       global = refl;
       choice = refl;
-      cleared_is = ap (λ ds. zone_less g (by_srel g zone.srel) ds zone) (sym (c.as_slice-5.ensures.value ∙ dels));
+      cleared_is = ap (λ ds. zone_less g by ds zone) (sym (c.as_slice-5.ensures.value ∙ dels));
       members = members_are (i d.kept.now) d.dels.now plan c.as_slice-6.result.now planned c.as_slice-6.ensures.items;
     }))
     c.in_ok-put_elements.ensures)
@@ -85,7 +84,7 @@ returns-clause-installs c =
 pub returns-clause-differs : goal.returns-clause-differs
 returns-clause-differs c =
     let d : Deleting = record {
-      global = c.args.global;
+      vers = c.args.vers;
       zone = c.args.zone;
       kept = c.as_slice-3.result;
       dels = c.as_slice-4.result;

@@ -1,7 +1,7 @@
-use Rattle.std.proofs.Common.{◌≡◌, ◌∙◌, ◌++◌, ap, ap₂, sym, subst, map}
+use Rattle.std.proofs.Common.{◌≡◌, ◌∙◌, ◌++◌, ap₂, sym, subst, map}
 use Rattle.std.specs.Prelude.{◌↔◌, Contains}
 use Rattle.terms.specs.Types.{Id}
-use Rattle.sysmods.specs.Choices.{by_srel}
+use Rattle.sysmods.specs.Choices.{choice}
 use Rattle.terms.specs.Install.{Installation, TakesEffect}
 use Rattle.change.specs.Pairs.{AreGrouped}
 use Rattle.change.specs.Superseded.{AreSuperseded}
@@ -12,28 +12,28 @@ use Rattle.change.proofs.plan.planned.Goals as goal
 
 pub returns : goal.returns
 returns c =
-    let g = c.args.global.now in
+    let g = c.args.vers.now.global.now in
+    let by = choice c.args.vers.now in
     let zone = c.args.zone.now in
     let kept = c.args.kept.now in
     let effective = c.in_ok-effective.effective in
     let pairs = c.sorted-pairs.result.items in
-    let takes : (i : Installation) → i.kept ≡ kept → i.choice ≡ by_srel g zone.srel
+    let takes : (i : Installation) → i.kept ≡ kept → i.choice ≡ by
     → (x : Id) → Contains effective x ↔ TakesEffect i x =
-    λ i k choice. c.in_ok-effective.ensures i k (choice ∙ ap (by_srel g) (sym c.srel-2.ensures)) in
-    let are : AreSuperseded (by_srel g zone.srel) effective pairs =
-    superseded-same (by_srel g zone.srel) effective c.in_ok-superseded_pairs.field-0.items pairs
+    c.in_ok-effective.ensures in
+    let are : AreSuperseded by effective pairs =
+    superseded-same by effective c.in_ok-superseded_pairs.field-0.items pairs
     c.sorted-pairs.ensures
-    (rw (← c.srel.ensures, ← c.new-vers.ensures.global, ← c.new-vers.ensures.srel, ← c.as_slice.ensures.items)
-    c.in_ok-superseded_pairs.ensures) in
+    (rw (← c.as_slice.ensures.items) c.in_ok-superseded_pairs.ensures) in
     let dels = c.args.dels.now in
-    subst (λ xs. IsPlan (installation g zone kept c.args.bypassed.now c.args.date) dels (record {
+    subst (λ xs. IsPlan (installation g by zone kept c.args.bypassed.now c.args.date) dels (record {
       effective = xs;
       superseders = c.in_ok-grouped.field-0;
       bypassed = c.in_ok-grouped-2.field-0;
       touched = c.in_ok-touched.touched;
       date = c.args.date;
     })) (sym c.effective.view_is)
-    (is-plan g zone kept c.args.bypassed.now c.args.date dels effective c.in_ok-touched.touched pairs
+    (is-plan g by zone kept c.args.bypassed.now c.args.date dels effective c.in_ok-touched.touched pairs
     c.in_ok-grouped.field-0 c.in_ok-grouped-2.field-0 takes are
     (subst (λ ids. (x : Id) → Contains c.in_ok-touched.touched x ↔ Contains ids x)
     (ap₂ (λ xs ys. xs ++ ys)

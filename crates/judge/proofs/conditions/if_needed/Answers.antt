@@ -14,7 +14,7 @@ use Rattle.judge.proofs.conditions.if_needed.Goals as goal
 pub returns : goal.returns
 returns c =
     let scope = c.args.scope.now in
-    let g = scope.global.now in
+    let g = scope.vers.now.global.now in
     let ch = choice_of scope in
     let zone = scope.zone.now in
     let ids = scope.ids.now in
@@ -23,7 +23,7 @@ returns c =
     let left = zone_less g ch dels zone in
     let own = if_reqs ch (is_there left ids) x in
     let seen : dels ≡ deletions ch (filter (is_in ids) (chain g ch x)) = c.as_slice.ensures.value
-    ∙ rw (c.vers.ensures.global, c.vers.ensures.srel) at c.in_ok-dels.ensures in
+    ∙ c.in_ok-dels.ensures in
     subst (λ l. (z : Id) → Contains c.from_vec.result z ↔ Contains l z)
     (c.in_ok-append_for_function.ensures
     ∙ ap (λ l. l ++ cond (is_function g x) (map (λ (r : Requisite). r.id) (filter (λ r. is_applied left r.by)

@@ -5,4 +5,4 @@ use Rattle.judge.proofs.forbidden.forbidders.Given as goal
 
 abbrev pub invariant-loop-entry : goal.invariant-loop-entry
 invariant-loop-entry l =
-    AreForbidders l.global (choice l.vers) (take l.entry-index l.entry-items) l.forbidders
+    AreForbidders l.vers.global.now (choice l.vers) (take l.entry-index l.entry-items) l.forbidders

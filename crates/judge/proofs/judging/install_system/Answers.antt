@@ -1,28 +1,40 @@
-use Rattle.std.proofs.Common.{map}
-use Rattle.std.specs.Prelude.{option_copied}
-use Rattle.terms.specs.Tests.{AreSurvivors}
-use Rattle.terms.specs.Judged.{setting}
-use Rattle.judge.proofs.Places.{same-pairs}
-use Rattle.judge.proofs.Numbering.{install-problem}
-use Rattle.judge.proofs.Survivors.{survivors-are}
+use Rattle.std.proofs.Common.{map, subst, sym, Contains, All}
+use Rattle.std.specs.Prelude.{◌↔◌, IfOk, IsTrue, option_copied}
+use Rattle.terms.specs.Types.{Id}
+use Rattle.terms.specs.Candidates.{is_installable}
+use Rattle.terms.specs.Needs.{bypassed_ids}
+use Rattle.sysmods.specs.Choices.{choice}
+use Rattle.judge.specs.Failed.{AreFailedTests}
+use Rattle.judge.specs.InstallProblem.{IsInstallProblem}
+use Rattle.judge.proofs.Chosen.{same-setting}
 use Rattle.judge.proofs.judging.install_system.Goals as goal
+
+pub judge_by-requires : goal.judge_by-requires
+judge_by-requires c =
+    subst (λ g. All (λ x. IsTrue (is_installable g c.args.zone.now x)) c.args.ids.now)
+    (sym c.choose-vers.ensures.global) c.requires
 
 pub returns-clause-problem : goal.returns-clause-problem
 returns-clause-problem c =
-    let g = c.args.global.now in
-    let zone = c.args.zone.now in
-    let ids = c.args.ids.now in
-    let related = option_copied c.args.related in
-    let b = c.args.bypass.now in
-    let eligible = c.in_ok-tested.ensures.eligible in
-    let are : AreSurvivors (setting g zone related ids b) c.in_ok-survivors.survivors =
-    survivors-are (setting g zone related ids b) (map (λ row. row.items) c.in_ok-tested.tested.tests.items)
-    c.in_ok-tested.ensures.tests c.in_ok-survivors.survivors c.in_ok-survivors.ensures.rising
-    (rw c.as_slice.ensures.value at c.in_ok-survivors.ensures.members) in
-    rw (same-pairs c.in_ok-system.needed.items)
-    (install-problem g zone related ids b c.in_ok-survivors.survivors are c.in_ok-tested.tested.eligible.items
-    eligible.eligible c.in_ok-system.system c.in_ok-system.needed.items c.in_ok-system.ensures.valid
-    c.in_ok-system.ensures.problem)
+    subst (λ s. IfOk c.judge_by.result (λ j. IsInstallProblem s j.system (map (λ n. (n.0, n.1)) j.needed.items)))
+    (same-setting c.args.zone.now (option_copied c.args.related) c.args.ids.now c.args.bypass.now c.args.global.now
+    c.choose-vers.result.global.now (choice c.choose-vers.result) c.choose-vers.ensures.global
+    c.choose-vers.ensures.counting)
+    c.judge_by.ensures.problem
+
+pub returns-clause-tests : goal.returns-clause-tests
+returns-clause-tests c =
+    subst (λ s. IfOk c.judge_by.result (λ j. AreFailedTests s (map (λ row. row.items) j.tests.items)))
+    (same-setting c.args.zone.now (option_copied c.args.related) c.args.ids.now c.args.bypass.now c.args.global.now
+    c.choose-vers.result.global.now (choice c.choose-vers.result) c.choose-vers.ensures.global
+    c.choose-vers.ensures.counting)
+    c.judge_by.ensures.tests
 
 pub returns-clause-bypassed : goal.returns-clause-bypassed
-returns-clause-bypassed c = c.in_ok-bypassed.ensures
+returns-clause-bypassed c =
+    subst (λ s. IfOk c.judge_by.result (λ j. (x z : Id) → Contains {X = Id × Id} j.bypassed.items (x, z)
+    ↔ (Contains c.args.ids.now x × Contains (bypassed_ids s x) z)))
+    (same-setting c.args.zone.now (option_copied c.args.related) c.args.ids.now c.args.bypass.now c.args.global.now
+    c.choose-vers.result.global.now (choice c.choose-vers.result) c.choose-vers.ensures.global
+    c.choose-vers.ensures.counting)
+    c.judge_by.ensures.bypassed

@@ -1,7 +1,7 @@
 use Rattle.std.proofs.Common.{◌≡◌, ◌∙◌, ◌<◌, length, subst, sym}
 use Rattle.std.specs.Prelude.{All}
 use Rattle.terms.specs.Deleted.{deletions, zone_less}
-use Rattle.judge.specs.Left.{choice_of, setting_of}
+use Rattle.judge.specs.Left.{global_of, choice_of, setting_of}
 use Rattle.judge.specs.Wanted.{AreWants, IsOpenAt}
 use Rattle.judge.proofs.Wants.{wants-within}
 use Rattle.judge.proofs.numbered.wants_of.Goals as goal
@@ -11,7 +11,7 @@ numbered-requires-clause-within c =
     let scope = c.args.scope.now in
     let ids = scope.ids.now in
     subst (All (λ w. w.of < length ids)) (sym c.as_slice-3.ensures.value)
-    (wants-within (setting_of scope) c.args.survivors.now (zone_less scope.global.now (choice_of scope)
+    (wants-within (setting_of scope) c.args.survivors.now (zone_less (global_of scope) (choice_of scope)
     c.as_slice-2.result.now scope.zone.now) (length ids) c.in_ok-wants.wants.items c.in_ok-wants.ensures)
 
 pub returns-clause-problem : goal.returns-clause-problem
@@ -21,12 +21,12 @@ returns-clause-problem c =
     let s = setting_of scope in
     let dels : c.as_slice-2.result.now ≡ deletions (choice_of scope) c.args.survivors.now =
     c.as_slice-2.ensures.value
-    ∙ rw (c.vers-vers.ensures.global, c.vers-vers.ensures.srel, c.as_slice.ensures.items) at c.in_ok-dels.ensures in
+    ∙ rw c.as_slice.ensures.items at c.in_ok-dels.ensures in
     record {
       wants = c.in_ok-wants.wants.items;
-      are_wants = subst (λ ds. AreWants (IsOpenAt s c.args.survivors.now (zone_less scope.global.now (choice_of scope)
+      are_wants = subst (λ ds. AreWants (IsOpenAt s c.args.survivors.now (zone_less (global_of scope) (choice_of scope)
           ds scope.zone.now) (length ids)) c.in_ok-wants.wants.items) dels c.in_ok-wants.ensures;
       pairs = c.in_ok-served.served.keys;
-      served = rw (c.vers-vers.ensures.global, c.vers-vers.ensures.srel) at c.in_ok-served.ensures;
+      served = c.in_ok-served.ensures;
       demands = rw c.as_slice-3.ensures.value at c.in_ok-system.ensures.demands;
     }

@@ -1,30 +1,23 @@
-use Rattle.std.proofs.Common.{◌∙◌, length, ap, ap₂, arith, subst}
+use Rattle.std.proofs.Common.{length, ap, arith}
 use Rattle.std.specs.Prelude.{option_copied}
-use Rattle.sysmods.specs.Choices.{by_srel}
-use Rattle.terms.specs.Judged.{setting}
-use Rattle.judge.specs.Forbidders.{AreForbidders}
+use Rattle.judge.specs.Left.{setting_with}
 use Rattle.judge.specs.Own.{HasFaults}
 use Rattle.judge.proofs.Lists.{beside-next, beside-through}
 use Rattle.judge.proofs.own.all_faults.Goals as goal
 
 pub own_faults-requires : goal.own_faults-requires
-own_faults-requires c =
-    let scope = c.args.scope.now in
-    record {
-      known = c.loop-id.invariant.known;
-      forbidders = subst (λ k. AreForbidders scope.global.now k scope.zone.now.entries
-          c.in_ok-forbidders.forbidders)
-          (ap₂ by_srel c.new-vers.ensures.global (c.new-vers.ensures.srel ∙ c.srel.ensures))
-          c.in_ok-forbidders.ensures;
-    }
+own_faults-requires c = record {
+  known = c.loop-id.invariant.known;
+  forbidders = c.in_ok-forbidders.ensures;
+}
 
 pub loop-id-preserved : goal.loop-id-preserved
 loop-id-preserved c =
     let scope = c.args.scope.now in
     record {
       known = c.in_ok-own_faults.ensures.known;
-      beside = beside-next (λ n x own. HasFaults (setting scope.global.now scope.zone.now
-          (option_copied c.args.related) scope.ids.now scope.bypass.now) x own) scope.ids.now
+      beside = beside-next (λ n x own. HasFaults (setting_with scope
+          (option_copied c.args.related)) x own) scope.ids.now
           c.loop-id.faults.items c.push.new.self.items c.loop-id.id-index c.id-item.result
           c.in_ok-own_faults.field-0 (omega (arith, ap length c.as_slice-id-items.ensures.items))
           (rw c.as_slice-id-items.ensures.items at c.id-item.is) c.in_ok-push.ensures.items
@@ -34,6 +27,6 @@ loop-id-preserved c =
 pub returns : goal.returns
 returns c =
     let scope = c.args.scope.now in
-    beside-through (λ n x own. HasFaults (setting scope.global.now scope.zone.now (option_copied c.args.related)
-    scope.ids.now scope.bypass.now) x own) scope.ids.now c.loop-id.faults.items c.loop-id.id-index
+    beside-through (λ n x own. HasFaults (setting_with scope (option_copied c.args.related)) x own) scope.ids.now
+    c.loop-id.faults.items c.loop-id.id-index
     (omega (arith, ap length c.as_slice-id-items.ensures.items)) c.loop-id.invariant.beside

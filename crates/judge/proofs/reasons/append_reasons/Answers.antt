@@ -12,7 +12,7 @@ loop-hold-init c = record {
   found = search rules;
   errors = subst (All (λ h. h.kind ≡ Error))
       (sym (c.into_iter-hold-iterator.ensures.into_iter_gives ∙ c.holds_of-hold-items.ensures.rest))
-      (all-errors c.args.scope.now.global.now c.args.id);
+      (all-errors c.global.result.now c.args.id);
 }
 
 pub append_reason-requires : goal.append_reason-requires

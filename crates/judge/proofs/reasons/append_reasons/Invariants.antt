@@ -11,6 +11,6 @@ invariant-loop-hold l = record {
   found : l.found.items ++ map (λ h. h.reason) (filter (λ h. not (is_bypassed_hold l.scope.bypass.now h))
       l.hold-iterator)
       ≡ l.fn.found.items ++ map (λ h. h.reason) (filter (λ h. not (is_bypassed_hold l.scope.bypass.now h))
-      (holds_of l.scope.global.now Error l.fn.id));
+      (holds_of l.scope.vers.now.global.now Error l.fn.id));
   errors : All (λ h. h.kind ≡ Error) l.hold-iterator;
 }

@@ -1,4 +1,4 @@
-use Rattle.std.proofs.Common.{◌∙◌, [], cond, refl, sym, ap, subst, Contains}
+use Rattle.std.proofs.Common.{◌∙◌, [], cond, refl, ap, subst, Contains}
 use Rattle.std.specs.Prelude.{◌↔◌}
 use Rattle.terms.specs.Types.{Id}
 use Rattle.terms.specs.Needs.{orphans}
@@ -10,6 +10,6 @@ returns-then-contains c =
     let s = setting_of c.args.scope.now in
     let x = c.args.id in
     subst (λ l. (z : Id) → Contains c.from_vec.result z ↔ Contains l z)
-    (c.in_ok-ids.ensures s (sym c.vers.ensures.global) (rw (c.vers.ensures.global, c.vers.ensures.srel) refl) refl
+    (c.in_ok-ids.ensures s refl refl refl
     ∙ ap (λ b. cond b (orphans s x) []) c.if-contains.ensures)
     c.from_vec.ensures
