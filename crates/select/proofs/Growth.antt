@@ -12,9 +12,10 @@ use Rattle.terms.specs.Types.{Id, Global, Zone, Selection}
 use Rattle.terms.specs.Lookups.{is_in, is_supplied, IsRising}
 use Rattle.terms.specs.Choice.{Choice, sup_of}
 use Rattle.sysmods.specs.Choices.{by_srel}
-use Rattle.terms.specs.Over.{Leads, Supersedes}
-use Rattle.terms.specs.Candidates.{is_installable, is_open, is_start, is_growing_start, is_mass_chosen}
+use Rattle.terms.specs.Over.{Leads, Reaches}
+use Rattle.terms.specs.Global.{IsGlobal}
 use Rattle.terms.specs.Conditions.{if_reqs}
+use Rattle.terms.specs.Candidates.{is_installable, is_open, is_start, is_growing_start, is_mass_chosen, sups_for}
 use Rattle.terms.specs.Candidates.{needed_ids, open_reasons, Extends, BringsIn, IsClosedPair, AreCandidates}
 use Rattle.terms.proofs.Ids.{is_in-from_Contains, Contains-from_is_in}
 use Rattle.terms.proofs.Leads.{reaches_named, reaches_last}
@@ -29,6 +30,7 @@ use Rattle.select.proofs.Flat.{flat_in, in_flat}
 use Rattle.select.proofs.Opened.{open_parts}
 use Rattle.select.proofs.Needs.{Asks, asks_from, asks_needed, asks_asked, asks_with, asks_more, needed_asked}
 use Rattle.select.proofs.Needs.{reason_asked, needed_for}
+use Rattle.select.proofs.OneVer.{sups_are}
 use Rattle.select.proofs.Listed.{super_listed}
 use Rattle.select.proofs.Brought.{grower_states, asked_brought, IsCalledFor, brought_called}
 
@@ -68,9 +70,17 @@ with_one p q xs d z h = elim (or_cases (p z) (is_in (xs ++ d ∷ []) z && q z) h
         (is_in-from_Contains xs z was) passes))
     by passes (inr same) = inr (same, subst (λ w. IsTrue (q w)) (sym same) passes)
 
-module _ (g : Global) (zone : Zone) (sel : Selection) where
+-- the search has seen these ids and gone through the first n of them
+pub record IsGrowth (g : Global) (zone : Zone) (sel : Selection) (seen : List Id) (n : ℕ) : Type 0 where
+  pub within : n ≤ length seen
+  pub has : HasAsked g zone sel (take n seen) seen
+
+module _ (g : Global) (zone : Zone) (sel : Selection) (form : IsGlobal g) where
   abbrev c : Choice
   c = by_srel g zone.srel
+
+  abbrev sups : Id → List Id
+  sups = sups_for g zone.srel
 
   start_open : (x : Id) → IsTrue (is_start g zone sel x) → IsTrue (is_open g zone sel x)
   start_open x start = (and_parts (is_open g zone sel x) (is_in sel.select x || is_in sel.group x || is_mass_chosen g
@@ -82,34 +92,34 @@ module _ (g : Global) (zone : Zone) (sel : Selection) where
 
   -- it grows in every closed pair
   abbrev AlwaysGrows : Id → Type 0
-  AlwaysGrows x = (cands growing : Id → Bool) → IsClosedPair g c zone sel cands growing → IsTrue (growing x)
+  AlwaysGrows x = (cands growing : Id → Bool) → IsClosedPair g zone sel cands growing → IsTrue (growing x)
 
   -- it is needed by x, or an open reason that x brings in
   abbrev IsWanted : (Id → Bool) → Id → Id → Type 0
   IsWanted cands x z =
-      Contains (needed_ids g c zone cands x) z ⊎ (IsTrue sel.groupextend × Contains (open_reasons g zone x) z)
+      Contains (needed_ids g zone cands x) z ⊎ (IsTrue sel.groupextend × Contains (open_reasons g zone x) z)
 
   -- what one that grows wants in every closed pair is asked for
   wanted_asked : (x z : Id) → AlwaysGrows x
-      → ((cands growing : Id → Bool) → IsClosedPair g c zone sel cands growing → IsWanted cands x z)
+      → ((cands growing : Id → Bool) → IsClosedPair g zone sel cands growing → IsWanted cands x z)
       → IsAsked g zone sel z
   wanted_asked x z grows wants cands growing closed y opened will =
       closed.grown x y (grows cands growing closed) (opened, by (wants cands growing closed) will)
     where
-      by : IsWanted cands x z → WillDo c sel y z
-          → Contains (needed_ids g c zone cands x) y ⊎ (IsTrue sel.groupextend × Extends g c zone cands x y)
-      by (inl needed) (inl same) = inl (subst (Contains (needed_ids g c zone cands x)) (sym same) needed)
+      by : IsWanted cands x z → WillDo g zone sel y z
+          → Contains (needed_ids g zone cands x) y ⊎ (IsTrue sel.groupextend × Extends g zone cands x y)
+      by (inl needed) (inl same) = inl (subst (Contains (needed_ids g zone cands x)) (sym same) needed)
       by (inl needed) (inr (extend, over)) = inr (
         extend,
-        (z, Contains-append_left (needed_ids g c zone cands x) (open_reasons g zone x) z needed, inr over),
+        (z, Contains-append_left (needed_ids g zone cands x) (open_reasons g zone x) z needed, inr over),
       )
       by (inr (extend, reason)) (inl same) = inr (
         extend,
-        (z, Contains-append_right (needed_ids g c zone cands x) (open_reasons g zone x) z reason, inl same),
+        (z, Contains-append_right (needed_ids g zone cands x) (open_reasons g zone x) z reason, inl same),
       )
       by (inr (extend, reason)) (inr (_, over)) = inr (
         extend,
-        (z, Contains-append_right (needed_ids g c zone cands x) (open_reasons g zone x) z reason, inr over),
+        (z, Contains-append_right (needed_ids g zone cands x) (open_reasons g zone x) z reason, inr over),
       )
 
   -- one that supersedes what is asked for is asked for
@@ -122,18 +132,19 @@ module _ (g : Global) (zone : Zone) (sel : Selection) where
       by false e none = absurd (none_in x none)
       by true e there = λ cands growing closed y opened will. asks cands growing closed y opened (inr (e, over y will))
         where
-          names : Contains (sup_of c x) z
-          names = Contains-from_is_in (sup_of c x) z
-              (filter_in (λ y. is_in (sup_of c y) z) (namers_for g.sysmods zone.srel z) x there).1
+          names : Contains (sups x) z
+          names = subst (λ zs. Contains zs z) (sym (sups_are g form zone.srel x)) (Contains-from_is_in (sup_of c x) z
+              (filter_in (λ y. is_in (sup_of c y) z) (namers_for g.sysmods zone.srel z) x there).1)
 
-          over : (y : Id) → WillDo c sel y x → Supersedes c y z
-          over y (inl same) = subst (λ w. Supersedes c w z) (sym same) (reaches_named (sup_of c) x z names)
-          over y (inr (_, higher)) = reaches_last (sup_of c) y x z higher names
+          over : (y : Id) → WillDo g zone sel y x → Reaches sups y z
+          over y (inl same) = subst (λ w. Reaches sups w z) (sym same) (reaches_named sups x z names)
+          over y (inr (_, higher)) = reaches_last sups y x z higher names
 
   -- what supersedes an id directly is among those that are asked for once it is
-  superseder_listed : (y z : Id) → IsTrue sel.groupextend → Contains (sup_of c y) z
+  superseder_listed : (y z : Id) → IsTrue sel.groupextend → Contains (sups y) z
       → Contains (superseders g zone sel z) y
-  superseder_listed y z extend names =
+  superseder_listed y z extend there =
+      let names = subst (λ zs. Contains zs z) (sups_are g form zone.srel y) there in
       subst (λ b. Contains (if b then filter (λ y. is_in (sup_of c y) z) (namers_for g.sysmods zone.srel z) else []) y)
       (sym extend) (in_filter (λ y. is_in (sup_of c y) z) (namers_for g.sysmods zone.srel z) y
       (super_listed g zone.srel y z names) (is_in-from_Contains (sup_of c y) z names))
@@ -153,7 +164,7 @@ module _ (g : Global) (zone : Zone) (sel : Selection) where
         ]
 
     taken_candidate : (x : Id) → IsTrue (taken_up g zone sel seen x) → (cands growing : Id → Bool)
-        → IsClosedPair g c zone sel cands growing → IsTrue (cands x)
+        → IsClosedPair g zone sel cands growing → IsTrue (cands x)
     taken_candidate x h cands growing closed =
         elim (or_cases (is_start g zone sel x) (is_in seen x && is_open g zone sel x) h) [
           | inl start ↦ closed.start x start
@@ -165,12 +176,12 @@ module _ (g : Global) (zone : Zone) (sel : Selection) where
     brought_asked applied x z grows h = by (brought_called g zone sel seen x applied z h)
       where
         by : IsCalledFor g zone sel seen x z → IsAsked g zone sel z
-        by (inl asks) = wanted_asked x z grows (λ cands growing closed. asks_needed g zone sel cands x z
+        by (inl asks) = wanted_asked x z grows (λ cands growing closed. asks_needed g zone sel form cands x z
             (asks_more g zone sel (taken_up g zone sel seen) cands x z
             (λ f taken. taken_candidate f taken cands growing closed) asks))
         by (inr (y, y_grows, is_free, within)) =
-            wanted_asked y z (grown_grows y y_grows) (λ cands growing closed. inl (needed_for g zone sel cands x y z
-            (closed.part x (grows cands growing closed)) is_free within))
+            wanted_asked y z (grown_grows y y_grows) (λ cands growing closed. inl (needed_for g zone sel form cands x y
+            z (closed.part x (grows cands growing closed)) is_free within))
 
     asked_next : AppliedAre zone → (z w : Id) → IsAsked g zone sel z → Contains (next_asked g zone sel seen z) w
         → IsAsked g zone sel w
@@ -205,14 +216,9 @@ module _ (g : Global) (zone : Zone) (sel : Selection) where
   brought_first x z grows brought = subst (λ b. Contains (if b then brought_by g zone sel [] x else []) z)
       (sym (growing_starts x grows).1) brought
 
-  -- the search has seen these ids and gone through the first n of them
-  pub record IsGrowth (seen : List Id) (n : ℕ) : Type 0 where
-    pub within : n ≤ length seen
-    pub has : HasAsked g zone sel (take n seen) seen
-
   pub growth-start : AppliedAre zone → (start seen : List Id)
       → ((x : Id) → Contains start x ↔ IsTrue (is_start g zone sel x))
-      → AddsAll [] (flat_map (asked_first g zone sel) start) seen → IsGrowth seen 0
+      → AddsAll [] (flat_map (asked_first g zone sel) start) seen → IsGrowth g zone sel seen 0
   growth-start applied start seen starts adds = record {
     within = omega arith;
     has = record {
@@ -225,7 +231,7 @@ module _ (g : Global) (zone : Zone) (sel : Selection) where
       asked = λ x z grows asks. adds.has z (in_flat (asked_first g zone sel) start x z
           ((starts x).1 (growing_starts x (first x grows)).0)
           (brought_first x z (first x grows) (asked_brought g zone sel [] x applied z
-          (asks_from g zone sel (taken_up g zone sel []) x z asks))));
+          (asks_from g zone sel form (taken_up g zone sel []) x z asks))));
       over = λ y z extend none names. absurd (none_in z none);
     };
   }
@@ -267,13 +273,13 @@ module _ (g : Global) (zone : Zone) (sel : Selection) where
         → Contains (asked_by g zone sel (taken_up g zone sel done) x) z → Contains new z
     before x z grows asks =
         by (asks_with g zone sel (taken_up g zone sel done) (taken_up g zone sel (take n old)) x z
-        (asks_from g zone sel (taken_up g zone sel done) x z asks))
+        (asks_from g zone sel form (taken_up g zone sel done) x z asks))
       where
         by : Asks g zone sel (taken_up g zone sel (take n old)) x z
             ⊎ ((f : Id) × IsTrue (taken_up g zone sel done f) × (taken_up g zone sel (take n old) f ≡ false)
             × IsTrue (not (is_supplied zone z)) × Contains (if_reqs c (bytes_eq f) x) z) → Contains new z
         by (inl same) = stays z
-            (has.asked x z grows (asks_asked g zone sel (taken_up g zone sel (take n old)) x z same))
+            (has.asked x z grows (asks_asked g zone sel form (taken_up g zone sel (take n old)) x z same))
         by (inr (f, taken, other, is_free, within)) =
             elim (with_one (is_start g zone sel) (is_open g zone sel) (take n old) d f taken) [
               | inl was ↦ absurd (true≢false (sym was ∙ other))
@@ -288,7 +294,7 @@ module _ (g : Global) (zone : Zone) (sel : Selection) where
     itself opened z asks = brought_in opened z (asked_brought g zone sel old d applied z
         (asks_more g zone sel (taken_up g zone sel done) (taken_up g zone sel old) d z
         (λ f. with_more (is_start g zone sel) (is_open g zone sel) done old f (done_seen f))
-        (asks_from g zone sel (taken_up g zone sel done) d z asks)))
+        (asks_from g zone sel form (taken_up g zone sel done) d z asks)))
 
     has_more : HasAsked g zone sel done new
     has_more = record {
@@ -306,7 +312,7 @@ module _ (g : Global) (zone : Zone) (sel : Selection) where
         | inl was ↦ stays y (has.over y z extend was names)
         | inr same ↦ adds.has y (Contains-append_right
             (if is_open g zone sel d then brought_by g zone sel old d else []) (superseders g zone sel d) y
-            (superseder_listed y d extend (subst (Contains (sup_of c y)) (sym same) names)))
+            (superseder_listed y d extend (subst (Contains (sups y)) (sym same) names)))
       ];
     }
 
@@ -317,7 +323,7 @@ module _ (g : Global) (zone : Zone) (sel : Selection) where
     more_done = take-adds old (next_asked g zone sel old d) new (n + 1) adds (omega arith) ∙ done_is
 
   pub growth-next : AppliedAre zone → (old new : List Id) (n : ℕ) (x : Id) → n < length old → x ≡ get_or old n x
-      → AddsAll old (next_asked g zone sel old x) new → IsGrowth old n → IsGrowth new (n + 1)
+      → AddsAll old (next_asked g zone sel old x) new → IsGrowth g zone sel old n → IsGrowth g zone sel new (n + 1)
   growth-next applied old new n x below at adds s = record {
     within = more_within applied old new n x below at adds s.has;
     has = subst (λ xs. HasAsked g zone sel xs new) (sym (more_done applied old new n x below at adds s.has))
@@ -325,7 +331,7 @@ module _ (g : Global) (zone : Zone) (sel : Selection) where
   }
 
   -- having gone through all, it has all
-  pub growth-end : (seen : List Id) (n : ℕ) → length seen ≤ n → IsGrowth seen n → AreAsked g zone sel seen
+  pub growth-end : (seen : List Id) (n : ℕ) → length seen ≤ n → IsGrowth g zone sel seen n → AreAsked g zone sel seen
   growth-end seen n all s = subst (λ xs. HasAsked g zone sel xs seen) (take_all n seen all) s.has
 
   -- The candidates are the start and what is asked for and open.
@@ -377,32 +383,32 @@ module _ (g : Global) (zone : Zone) (sel : Selection) where
     grower_open x h = elim (grower x h) [ inl l ↦ start_open x (growing_starts x l).0 | inr r ↦ (grown_in x r).1 ]
 
     asked_seen : (x z : Id) → IsTrue (grows x) → Contains (asked_by g zone sel (is_in ids) x) z → Contains seen z
-    asked_seen x z h asks = asked.asked x z h (asks_asked g zone sel (taken_up g zone sel seen) x z
+    asked_seen x z h asks = asked.asked x z h (asks_asked g zone sel form (taken_up g zone sel seen) x z
         (asks_more g zone sel (is_in ids) (taken_up g zone sel seen) x z candidate_taken
-        (asks_from g zone sel (is_in ids) x z asks)))
+        (asks_from g zone sel form (is_in ids) x z asks)))
 
-    over_seen : IsTrue sel.groupextend → (y z : Id) (between : List Id) → Leads (sup_of c) y between z
+    over_seen : IsTrue sel.groupextend → (y z : Id) (between : List Id) → Leads sups y between z
         → Contains seen z → Contains seen y
     over_seen extend y z [] names there = asked.over y z extend there names
     over_seen extend y z (w ∷ ws) leads there =
         asked.over y w extend (over_seen extend w z ws leads.1 there) leads.0
 
-    brought_seen : (x y : Id) → IsTrue (grows x) → BringsIn g c zone sel (is_in ids) x y → Contains seen y
+    brought_seen : (x y : Id) → IsTrue (grows x) → BringsIn g zone sel (is_in ids) x y → Contains seen y
     brought_seen x y h (open_y, inl needed) = asked_seen x y h (needed_asked g zone sel (is_in ids) x y needed)
     brought_seen x y h (open_y, inr (extend, (z, named, way))) = by way
       where
         there : Contains seen z
         there = asked_seen x z h
-            (elim (Contains-append_cases (needed_ids g c zone (is_in ids) x) (open_reasons g zone x) z named) [
+            (elim (Contains-append_cases (needed_ids g zone (is_in ids) x) (open_reasons g zone x) z named) [
               | inl needed ↦ needed_asked g zone sel (is_in ids) x z needed
               | inr reason ↦ reason_asked g zone sel (is_in ids) x z extend reason
             ])
 
-        by : (y ≡ z) ⊎ Supersedes c y z → Contains seen y
+        by : (y ≡ z) ⊎ Reaches sups y z → Contains seen y
         by (inl same) = subst (Contains seen) (sym same) there
         by (inr (between, leads)) = over_seen extend y z between leads there
 
-    pub least_pair : IsClosedPair g c zone sel (is_in ids) grows
+    pub least_pair : IsClosedPair g zone sel (is_in ids) grows
     least_pair = record {
       start = λ x h. is_in-from_Contains ids x (from_start x h);
       growing_start = λ x h. or_left (is_growing_start g zone sel x) (is_in seen x && is_open g zone sel x) h;
@@ -415,12 +421,12 @@ module _ (g : Global) (zone : Zone) (sel : Selection) where
     }
 
     grown_candidate : (x : Id) → Contains grown x → (cands growing : Id → Bool)
-        → IsClosedPair g c zone sel cands growing → IsTrue (cands x)
+        → IsClosedPair g zone sel cands growing → IsTrue (cands x)
     grown_candidate x h cands growing closed =
         let parts = grown_in x h in
         closed.part x (asked.sound x parts.0 cands growing closed x parts.1 (inl refl))
 
-    pub candidates-from : IsRising ids → AreCandidates g c zone sel ids
+    pub candidates-from : IsRising ids → AreCandidates g zone sel ids
     candidates-from rising = record {
       rising = rising;
       members = λ x. (

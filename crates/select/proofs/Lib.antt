@@ -4,6 +4,7 @@ pub mod Adds
 pub mod Opened
 pub mod Applied
 pub mod ErrorReasons
+pub mod OneVer
 pub mod Needs
 pub mod Listed
 pub mod Brought

@@ -10,12 +10,14 @@ use Rattle.terms.specs.declared.kinds.HoldKind.TheVariants.{Error}
 use Rattle.terms.specs.Lookups.{at_most_one, is_applied, is_supplied, is_function, applied_ids, holds_of}
 use Rattle.terms.specs.Choice.{Choice, fmid_of, pre_of, req_of, ifs_of}
 use Rattle.sysmods.specs.Choices.{by_srel}
+use Rattle.terms.specs.Global.{IsGlobal}
 use Rattle.terms.specs.Candidates.{needed_ids, open_reasons}
 use Rattle.terms.specs.Conditions.{if_reqs, stated_for, if_needed}
 use Rattle.lemmas.proofs.Members.{none_in, filter_in, in_filter}
 use Rattle.lemmas.proofs.Texts.{same_from, same_itself}
 use Rattle.select.specs.Growing.{asked_by}
 use Rattle.select.proofs.Flat.{flat_in, in_flat}
+use Rattle.select.proofs.OneVer.{needed_are}
 
 -- The requisites of ++IFs whose function passes.
 pub if_in : (c : Choice) (p : Id → Bool) (x z : Id) → Contains (if_reqs c p x) z
@@ -80,81 +82,17 @@ module _ (g : Global) (zone : Zone) (sel : Selection) where
     Stated : IsTrue (free z) → Contains (for_function x) z → Asks cands x z
     Reason : IsTrue sel.groupextend → Contains (open_reasons g zone x) z → Asks cands x z
 
-  pub asks_from : (cands : Id → Bool) (x z : Id) → Contains (asked_by g zone sel cands x) z → Asks cands x z
-  unfolding needed_ids
-  asks_from cands x z h =
-      elim (Contains-append_cases (needed_ids g c zone cands x) (if sel.groupextend then open_reasons g zone x else [])
-      z h) [
-        | inl needed ↦ elim (Contains-append_cases (fmids x) (filter free (all_listed cands x)) z needed) [
-          | inl fmid ↦ Fmid fmid
-          | inr rest ↦ listed_ask (filter_in free (all_listed cands x) z rest)
-        ]
-        | inr reason ↦ by sel.groupextend refl reason
-      ]
-    where
-      by : (b : Bool) → sel.groupextend ≡ b → Contains (if b then open_reasons g zone x else []) z → Asks cands x z
-      by true e there = Reason e there
-      by false e none = absurd (none_in z none)
-
-      listed_ask : Contains (all_listed cands x) z × (free z ≡ true)
-          → Asks cands x z
-      listed_ask (there, is_free) =
-          elim (Contains-append_cases (pre_of c x ++ req_of c x) (if_needed g c zone cands x) z there) [
-            | inl names ↦ Listed is_free names
-            | inr ifs ↦ elim (Contains-append_cases (if_reqs c (with_ifs cands) x) (for_function x) z ifs) [
-              | inl own ↦ ByIf is_free own
-              | inr others ↦ Stated is_free others
-            ]
-          ]
-
-  pub needed_listed : (cands : Id → Bool) (x z : Id) → IsTrue (free z)
-      → Contains (all_listed cands x) z → Contains (needed_ids g c zone cands x) z
-  unfolding needed_ids
-  needed_listed cands x z is_free h =
-      Contains-append_right (fmids x) (filter free (all_listed cands x)) z
-      (in_filter free (all_listed cands x) z h is_free)
-
-  needed_fmid : (cands : Id → Bool) (x z : Id) → Contains (fmids x) z → Contains (needed_ids g c zone cands x) z
-  unfolding needed_ids
-  needed_fmid cands x z h =
-      Contains-append_left (fmids x) (filter free (all_listed cands x)) z h
-
-  needed_if : (cands : Id → Bool) (x z : Id) → IsTrue (free z) → Contains (if_needed g c zone cands x) z
-      → Contains (needed_ids g c zone cands x) z
-  needed_if cands x z is_free h =
-      needed_listed cands x z is_free
-      (Contains-append_right (pre_of c x ++ req_of c x) (if_needed g c zone cands x) z h)
-
-  -- what it asks for it needs, or it is an open reason
-  pub asks_needed : (cands : Id → Bool) (x z : Id) → Asks cands x z
-      → Contains (needed_ids g c zone cands x) z ⊎ (IsTrue sel.groupextend × Contains (open_reasons g zone x) z)
-  asks_needed cands x z (Fmid h) = inl (needed_fmid cands x z h)
-  asks_needed cands x z (Listed is_free h) =
-      inl (needed_listed cands x z is_free (Contains-append_left (pre_of c x ++ req_of c x) (if_needed g c zone cands x)
-      z h))
-  asks_needed cands x z (ByIf is_free h) =
-      inl (needed_if cands x z is_free (Contains-append_left (if_reqs c (with_ifs cands) x) (for_function x) z h))
-  asks_needed cands x z (Stated is_free h) =
-      inl (needed_if cands x z is_free (Contains-append_right (if_reqs c (with_ifs cands) x) (for_function x) z h))
-  asks_needed cands x z (Reason extend h) = inr (extend, h)
-
-  -- and back
-  pub needed_asked : (cands : Id → Bool) (x z : Id) → Contains (needed_ids g c zone cands x) z
+  -- what a growing one asks for has the needed ids, and under GROUPEXTEND the open reasons
+  pub needed_asked : (cands : Id → Bool) (x z : Id) → Contains (needed_ids g zone cands x) z
       → Contains (asked_by g zone sel cands x) z
-  needed_asked cands x z h = Contains-append_left (needed_ids g c zone cands x)
+  needed_asked cands x z h = Contains-append_left (needed_ids g zone cands x)
       (if sel.groupextend then open_reasons g zone x else []) z h
 
   pub reason_asked : (cands : Id → Bool) (x z : Id) → IsTrue sel.groupextend → Contains (open_reasons g zone x) z
       → Contains (asked_by g zone sel cands x) z
-  reason_asked cands x z extend h = Contains-append_right (needed_ids g c zone cands x)
+  reason_asked cands x z extend h = Contains-append_right (needed_ids g zone cands x)
       (if sel.groupextend then open_reasons g zone x else []) z
       (subst (λ b. Contains (if b then open_reasons g zone x else []) z) (sym extend) h)
-
-  pub asks_asked : (cands : Id → Bool) (x z : Id) → Asks cands x z → Contains (asked_by g zone sel cands x) z
-  asks_asked cands x z asks = elim (asks_needed cands x z asks) [
-    | inl needed ↦ needed_asked cands x z needed
-    | inr (extend, reason) ↦ reason_asked cands x z extend reason
-  ]
 
   -- With other candidates it asks for the same, or by an ++IF whose function is a candidate there alone.
   pub asks_with : (cands others : Id → Bool) (x z : Id) → Asks cands x z
@@ -196,12 +134,80 @@ module _ (g : Global) (zone : Zone) (sel : Selection) where
     | inr (f, is, other, _, _) ↦ absurd (true≢false (sym (more f is) ∙ other))
   ]
 
-  -- one that grows needs what its ++IFs for a candidate name
-  pub needed_for : (cands : Id → Bool) (x y z : Id) → IsTrue (cands x) → IsTrue (free z)
-      → Contains (if_reqs c (bytes_eq x) y) z → Contains (needed_ids g c zone cands y) z
-  needed_for cands x y z cand is_free h =
-      let from = if_in c (bytes_eq x) y z h in
-      needed_if cands y z is_free (Contains-append_left (if_reqs c (with_ifs cands) y) (for_function y) z
-      (in_if c (with_ifs cands) y z from.0 from.1
-      (or_right (is_applied zone from.0.function) (cands from.0.function)
-      (subst (λ f. IsTrue (cands f)) (same_from x from.0.function from.2) cand)) from.3))
+  -- Needed ids, by the one ++VER.
+  module _ (form : IsGlobal g) where
+    pub asks_from : (cands : Id → Bool) (x z : Id) → Contains (asked_by g zone sel cands x) z → Asks cands x z
+    asks_from cands x z h =
+        elim (Contains-append_cases (needed_ids g zone cands x) (if sel.groupextend then open_reasons g zone x else [])
+        z h) [
+          | inl needed ↦ elim (Contains-append_cases (fmids x) (filter free (all_listed cands x)) z
+              (subst (λ zs. Contains zs z) (needed_are g zone cands x form) needed)) [
+                | inl fmid ↦ Fmid fmid
+                | inr rest ↦ listed_ask (filter_in free (all_listed cands x) z rest)
+              ]
+          | inr reason ↦ by sel.groupextend refl reason
+        ]
+      where
+        by : (b : Bool) → sel.groupextend ≡ b → Contains (if b then open_reasons g zone x else []) z → Asks cands x z
+        by true e there = Reason e there
+        by false e none = absurd (none_in z none)
+
+        listed_ask : Contains (all_listed cands x) z × (free z ≡ true)
+            → Asks cands x z
+        listed_ask (there, is_free) =
+            elim (Contains-append_cases (pre_of c x ++ req_of c x) (if_needed g c zone cands x) z there) [
+              | inl names ↦ Listed is_free names
+              | inr ifs ↦ elim (Contains-append_cases (if_reqs c (with_ifs cands) x) (for_function x) z ifs) [
+                | inl own ↦ ByIf is_free own
+                | inr others ↦ Stated is_free others
+              ]
+            ]
+
+    needed_from : (cands : Id → Bool) (x z : Id) → Contains (fmids x ++ filter free (all_listed cands x)) z
+        → Contains (needed_ids g zone cands x) z
+    needed_from cands x z h = subst (λ zs. Contains zs z) (sym (needed_are g zone cands x form)) h
+
+    needed_listed : (cands : Id → Bool) (x z : Id) → IsTrue (free z)
+        → Contains (all_listed cands x) z → Contains (needed_ids g zone cands x) z
+    needed_listed cands x z is_free h = needed_from cands x z
+        (Contains-append_right (fmids x) (filter free (all_listed cands x)) z
+        (in_filter free (all_listed cands x) z h is_free))
+
+    needed_fmid : (cands : Id → Bool) (x z : Id) → Contains (fmids x) z → Contains (needed_ids g zone cands x) z
+    needed_fmid cands x z h =
+        needed_from cands x z (Contains-append_left (fmids x) (filter free (all_listed cands x)) z h)
+
+    needed_if : (cands : Id → Bool) (x z : Id) → IsTrue (free z) → Contains (if_needed g c zone cands x) z
+        → Contains (needed_ids g zone cands x) z
+    needed_if cands x z is_free h =
+        needed_listed cands x z is_free
+        (Contains-append_right (pre_of c x ++ req_of c x) (if_needed g c zone cands x) z h)
+
+    -- what it asks for it needs, or it is an open reason
+    pub asks_needed : (cands : Id → Bool) (x z : Id) → Asks cands x z
+        → Contains (needed_ids g zone cands x) z ⊎ (IsTrue sel.groupextend × Contains (open_reasons g zone x) z)
+    asks_needed cands x z (Fmid h) = inl (needed_fmid cands x z h)
+    asks_needed cands x z (Listed is_free h) =
+        inl (needed_listed cands x z is_free (Contains-append_left (pre_of c x ++ req_of c x) (if_needed g c zone cands
+        x) z h))
+    asks_needed cands x z (ByIf is_free h) =
+        inl (needed_if cands x z is_free (Contains-append_left (if_reqs c (with_ifs cands) x) (for_function x) z h))
+    asks_needed cands x z (Stated is_free h) =
+        inl (needed_if cands x z is_free (Contains-append_right (if_reqs c (with_ifs cands) x) (for_function x) z h))
+    asks_needed cands x z (Reason extend h) = inr (extend, h)
+
+    pub asks_asked : (cands : Id → Bool) (x z : Id) → Asks cands x z → Contains (asked_by g zone sel cands x) z
+    asks_asked cands x z asks = elim (asks_needed cands x z asks) [
+      | inl needed ↦ needed_asked cands x z needed
+      | inr (extend, reason) ↦ reason_asked cands x z extend reason
+    ]
+
+    -- one that grows needs what its ++IFs for a candidate name
+    pub needed_for : (cands : Id → Bool) (x y z : Id) → IsTrue (cands x) → IsTrue (free z)
+        → Contains (if_reqs c (bytes_eq x) y) z → Contains (needed_ids g zone cands y) z
+    needed_for cands x y z cand is_free h =
+        let from = if_in c (bytes_eq x) y z h in
+        needed_if cands y z is_free (Contains-append_left (if_reqs c (with_ifs cands) y) (for_function y) z
+        (in_if c (with_ifs cands) y z from.0 from.1
+        (or_right (is_applied zone from.0.function) (cands from.0.function)
+        (subst (λ f. IsTrue (cands f)) (same_from x from.0.function from.2) cand)) from.3))

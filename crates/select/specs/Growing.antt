@@ -6,22 +6,23 @@ use Rattle.std.specs.Str.{bytes_eq}
 use Rattle.terms.specs.declared.kinds.HoldKind.TheVariants.{Error}
 use Rattle.terms.specs.Types.{Id, hold_number, IfReq, Hold, Global, Zone, Selection}
 use Rattle.terms.specs.Lookups.{at_most_one, is_applied, is_supplied, is_function, is_in, holds_of}
-use Rattle.terms.specs.Choice.{Choice, fmid_of, pre_of, req_of, ifs_of, sup_of}
+use Rattle.terms.specs.Choice.{fmid_of, pre_of, req_of, ifs_of, sup_of}
 use Rattle.sysmods.specs.Choices.{by_srel}
-use Rattle.terms.specs.Over.{Supersedes}
-use Rattle.terms.specs.Candidates.{is_open, is_start, is_growing_start, needed_ids, open_reasons, IsClosedPair}
+use Rattle.terms.specs.Over.{Reaches}
+use Rattle.terms.specs.Candidates.{is_open, is_start, is_growing_start, needed_ids, open_reasons, sups_for}
+use Rattle.terms.specs.Candidates.{IsClosedPair}
 use Rattle.terms.specs.Conditions.{if_reqs}
 use Rattle.sysmods_received.specs.Namers.{namers_for, function_namers}
 
 -- y will do for z: it is z, or under GROUPEXTEND supersedes it
-abbrev pub WillDo : Choice → Selection → Id → Id → Type 0
-WillDo c sel y z = (y ≡ z) ⊎ (IsTrue sel.groupextend × Supersedes c y z)
+abbrev pub WillDo : Global → Zone → Selection → Id → Id → Type 0
+WillDo g zone sel y z = (y ≡ z) ⊎ (IsTrue sel.groupextend × Reaches (sups_for g zone.srel) y z)
 
 -- It is asked for: in every closed pair all that is open and will do for it grows.
 abbrev pub IsAsked : Global → Zone → Selection → Id → Type 0
 IsAsked g zone sel z =
-    (cands growing : Id → Bool) → IsClosedPair g (by_srel g zone.srel) zone sel cands growing
-    → (y : Id) → IsTrue (is_open g zone sel y) → WillDo (by_srel g zone.srel) sel y z → IsTrue (growing y)
+    (cands growing : Id → Bool) → IsClosedPair g zone sel cands growing
+    → (y : Id) → IsTrue (is_open g zone sel y) → WillDo g zone sel y z → IsTrue (growing y)
 
 -- a candidate, as far as these ids are asked for: one of the start, or one that is asked for and open
 abbrev pub taken_up : Global → Zone → Selection → List Id → Id → Bool
@@ -34,7 +35,7 @@ has_grown g zone sel seen x = is_growing_start g zone sel x || (is_in seen x && 
 -- what a growing one asks for where these are candidates: its needed ids, under GROUPEXTEND its open reasons too
 abbrev pub asked_by : Global → Zone → Selection → (Id → Bool) → Id → List Id
 asked_by g zone sel cands x =
-    needed_ids g (by_srel g zone.srel) zone cands x ++ (if sel.groupextend then open_reasons g zone x else [])
+    needed_ids g zone cands x ++ (if sel.groupextend then open_reasons g zone x else [])
 
 -- What is seen is asked for. It has all that the growing ones among the start and those done ask for, and under
 -- GROUPEXTEND those that supersede one of those done.
@@ -42,7 +43,7 @@ pub record HasAsked (g : Global) (zone : Zone) (sel : Selection) (done seen : Li
   pub sound : (z : Id) → Contains seen z → IsAsked g zone sel z
   pub asked : (x z : Id) → IsTrue (has_grown g zone sel done x)
       → Contains (asked_by g zone sel (taken_up g zone sel done) x) z → Contains seen z
-  pub over : (y z : Id) → IsTrue sel.groupextend → Contains done z → Contains (sup_of (by_srel g zone.srel) y) z
+  pub over : (y z : Id) → IsTrue sel.groupextend → Contains done z → Contains (sups_for g zone.srel y) z
       → Contains seen y
 
 -- All of them are asked for: what all growing ones ask for, where all that is asked for and open is a candidate.

@@ -1,6 +1,5 @@
 //! The candidates.
 ghost use Rattle.std.specs.Prelude.{◌≡◌, filter, All, IsTrue, IfOk};
-ghost use Rattle.sysmods.specs.Choices.{by_srel};
 ghost use Rattle.terms.specs.Candidates.{AreCandidates, is_installable, is_open};
 
 use crate::growing::asked;
@@ -24,11 +23,12 @@ fn open_among(alloc: Heap, scope: &Scope, ids: &[Id]) -> Result<Vec<Id>, AllocEr
 
 // The start and what it brings in.
 fn start_and_growing(alloc: Heap, scope: &Scope) -> Result<IdList, AllocError>
-    ensures members { IfOk result (λ ids. AreCandidates scope.now.global.now
-        (by_srel scope.now.global.now scope.now.zone.now.srel) scope.now.zone.now scope.now.selection.now ids) }
+    ensures members { IfOk result
+        (λ ids. AreCandidates scope.now.global.now scope.now.zone.now scope.now.selection.now ids) }
     ensures installable { IfOk result (λ ids.
         All (λ x. IsTrue (is_installable scope.now.global.now scope.now.zone.now x)) ids) }
 {
+    scope.known();
     let mut ids = start(alloc, scope)?;
     let asked = asked(alloc, scope, ids.as_slice())?;
     let brought_in = open_among(alloc, scope, asked.as_slice())?;
@@ -45,8 +45,7 @@ pub fn candidates(
     zone: &Zone,
     selection: &Selection,
 ) -> Result<IdList, AllocError>
-    ensures members { IfOk result (λ ids.
-        AreCandidates global.now (by_srel global.now zone.now.srel) zone.now selection.now ids) }
+    ensures members { IfOk result (λ ids. AreCandidates global.now zone.now selection.now ids) }
     ensures installable { IfOk result (λ ids. All (λ x. IsTrue (is_installable global.now zone.now x)) ids) }
 {
     start_and_growing(alloc, &Scope::new(global, zone, selection))

@@ -133,6 +133,7 @@ pub(crate) fn asked(alloc: Heap, scope: &Scope, start: &[Id]) -> Result<IndexSet
     ensures { IfOk result
         (λ seen. AreAsked scope.now.global.now scope.now.zone.now scope.now.selection.now seen.keys) }
 {
+    scope.known();
     scope.zone.known();
     let mut seen = asked_by_start(alloc, scope, start)?;
     let mut i = 0;

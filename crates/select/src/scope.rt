@@ -3,6 +3,7 @@ ghost use Rattle.std.specs.Prelude.{◌≡◌, not, is_some, option_copied};
 ghost use Rattle.terms.specs.Lookups.{is_in, is_nil, delby_of};
 ghost use Rattle.terms.specs.Choice.{fmid_of, sup_of, vers_of};
 ghost use Rattle.sysmods.specs.Choices.{by_srel};
+ghost use Rattle.terms.specs.Global.{IsGlobal};
 ghost use Rattle.terms.specs.Candidates.{is_installable, is_open};
 
 use cntl::Selection;
@@ -30,6 +31,13 @@ impl<'a> Scope<'a> {
             zone,
             selection,
         }
+    }
+
+    /// The global zone is in order.
+    pub(crate) fn known(&self)
+        ensures { IsGlobal self.now.global.now }
+    {
+        prove!(self.global.len() < 65_536);
     }
 
     /// The `++VER` that counts, if one does.
