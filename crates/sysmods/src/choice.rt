@@ -30,6 +30,13 @@ impl<'a> VerChoice<'a> {
         VerChoice { global, srel }
     }
 
+    /// The global zone that it looks into.
+    pub fn global(&self) -> &'a Global
+        ensures { result.now ≡ self.now.global.now }
+    {
+        self.global
+    }
+
     /// The `++VER` that counts, if one does.
     pub fn ver(&self, id: Id) -> Option<&'a Ver>
         ensures { option_copied result ≡ choice self.now id }

@@ -9,6 +9,7 @@ mod less;
 mod orphaned;
 mod taking;
 
+pub use binding::requisites_held;
 pub use deleting::{deletions, view, view_deletions};
 pub use left::{element_left, is_left, supplies_left};
 pub use less::zone_less;
