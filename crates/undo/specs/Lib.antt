@@ -1,0 +1,7 @@
+pub mod Restoring
+pub mod Dependences
+pub mod Elements
+pub mod Tests
+pub mod Pairs
+pub mod Wants
+pub mod Numbered
