@@ -6,3 +6,4 @@ pub mod Needing
 pub mod Wanting
 pub mod Numbering
 pub mod Testing
+pub mod Closing

@@ -1,6 +1,6 @@
 -- What candidates need, by the pairs.
 use Rattle.std.proofs.Common.{◌≡◌, ◌≢◌, ◌∙◌, ◌⊎◌, inl, inr, Bool, true, false, not, List, [], ◌∷◌, ◌++◌, map, filter}
-use Rattle.std.proofs.Common.{refl, sym, ap, ap₂, subst, Contains, IsTrue, get_or}
+use Rattle.std.proofs.Common.{refl, sym, ap, ap₂, subst, Contains, IsTrue, get_or, true≢false}
 use Rattle.std.specs.Prelude.{◌↔◌, ◌&&◌, Any, All, AllPairs, IsFalse}
 use Rattle.std.specs.List.{flat_map}
 use Rattle.std.specs.Str.{bytes_eq}
@@ -190,4 +190,4 @@ module _ (r : Restoring) (ids cands : List Id) (are : cands ≡ restore_candidat
       number _ = false
 
       apart : (p q : Pair) → a_want Elem p ≢ a_want Dep q
-      apart p q same = cc (ap (λ (w : Want). number w.kind) same)
+      apart p q same = absurd (true≢false (ap (λ (w : Want). number w.kind) same))

@@ -5,3 +5,4 @@ pub mod Tests
 pub mod Pairs
 pub mod Wants
 pub mod Numbered
+pub mod Growing

@@ -4,6 +4,7 @@
 
 mod dependences;
 mod elements;
+mod growing;
 mod judging;
 mod numbered;
 mod pairs;
@@ -12,4 +13,5 @@ mod suppliers;
 mod tests;
 mod wanted;
 
+pub use growing::{grouped, selected};
 pub use judging::{Judged, restore_system};
