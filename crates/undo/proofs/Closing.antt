@@ -1,8 +1,7 @@
 -- The list of GROUP grows to the least closed one.
-use Rattle.std.proofs.Common.{◌≡◌, ◌≢◌, ◌∙◌, ◌⊎◌, inl, inr, ◌≤◌, ◌<◌, Bool, true, false, not, List, ◌∷◌, ◌++◌, length, map}
-use Rattle.std.proofs.Common.{refl, sym, ap, subst, arith, Contains, IsTrue, true≢false}
-use Rattle.std.specs.Prelude.{◌↔◌, ◌&&◌, IsFalse, AllPairs}
-use Rattle.std.proofs.lemmas.Bool.{not-true}
+use Rattle.std.proofs.Common.{◌≡◌, ◌≢◌, ◌∙◌, inl, inr, ◌≤◌, Bool, true, false, not, List, ◌∷◌, ◌++◌, length, map}
+use Rattle.std.proofs.Common.{refl, sym, subst, arith, Contains, IsTrue, true≢false}
+use Rattle.std.specs.Prelude.{◌↔◌, ◌&&◌, IsFalse}
 use Rattle.std.proofs.lemmas.List.Elements.{Contains-append_left, Contains-append_right, Contains-append_cases, Contains-get_or}
 use Rattle.std.proofs.lemmas.List.Kept.{AllPairs-cons}
 use Rattle.lemmas.proofs.Apart.{apart-le}
@@ -12,12 +11,12 @@ use Rattle.terms.specs.declared.codes.NeedKind.{NeedKind}
 use Rattle.terms.specs.declared.codes.NeedKind.TheVariants.{Fmid, Pre, Req, Ifreq, HoldError, Orphan, Elem, Dep}
 use Rattle.terms.specs.Types.{Id, RestoreGroup, RestoreSelect}
 use Rattle.terms.specs.Lookups.{IsRising, is_in, is_applied, applied_ids, supplies}
-use Rattle.terms.specs.Restore.{Restoring, NeedsInRestore, NeedsDep, IsClosedList, AreListed, is_supplied_outside}
+use Rattle.terms.specs.Restore.{Restoring, NeedsInRestore, AreListed, is_supplied_outside}
 use Rattle.terms.specs.Restore.{restore_candidates}
 use Rattle.terms.proofs.Ids.{is_in-from_Contains, Contains-from_is_in, in_or_not, apart-from_rising}
 use Rattle.undo.specs.declared.wanted.Want.{Want}
 use Rattle.undo.specs.Wants.{a_want, AreWants}
-use Rattle.undo.specs.Growing.{IsNeeded, IsGrownOnce, IsOnTheWay}
+use Rattle.undo.specs.Growing.{IsGrownOnce, IsOnTheWay}
 
 -- ---- one pass
 
@@ -80,14 +79,17 @@ module _ (r : Restoring) (few many : Id → Bool) (more : (x : Id) → IsTrue (f
 
   pub needs-more : (x : Id) (kind : NeedKind) (y : Id) → NeedsInRestore r few x kind y → NeedsInRestore r many x kind y
   needs-more x Elem y n = n
-  needs-more x Dep y n = (n.0, record {
-    other = n.1.other;
-    applied = n.1.applied;
-    depends = elim n.1.depends [
-      | inl by ↦ inl by
-      | inr by ↦ inr (by.0, by.1, by.2, by.3, (by.4.0, outside-fewer by.1 by.4.1))
-    ];
-  })
+  needs-more x Dep y n = (
+    n.0,
+    record {
+      other = n.1.other;
+      applied = n.1.applied;
+      depends = elim n.1.depends [
+        | inl by ↦ inl by
+        | inr by ↦ inr (by.0, by.1, by.2, by.3, (by.4.0, outside-fewer by.1 by.4.1))
+      ];
+    },
+  )
   needs-more x Fmid y n = absurd n
   needs-more x Pre y n = absurd n
   needs-more x Req y n = absurd n

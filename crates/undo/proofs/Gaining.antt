@@ -1,8 +1,8 @@
 -- The index of elements, as it grows.
 use Rattle.std.proofs.Common.{◌≡◌, ◌∙◌, ◌⊎◌, inl, inr, ℕ, ◌<◌, ◌+◌, Bool, true, false, List, [], ◌∷◌, ◌++◌, length}
-use Rattle.std.proofs.Common.{take, get_or, refl, sym, ap, ap₂, subst, cond, Contains, IsTrue, true≢false, Global, Vec}
+use Rattle.std.proofs.Common.{take, get_or, refl, sym, ap, ap₂, subst, cond, Contains, true≢false, Global, Vec}
 use Rattle.std.proofs.Common.{None, Some, map}
-use Rattle.std.specs.Prelude.{◌↔◌, ◌==◌, ◌&&◌}
+use Rattle.std.specs.Prelude.{◌↔◌, ◌==◌}
 use Rattle.std.specs.Option.{option_map_or}
 use Rattle.std.specs.Ordering.{is_eq}
 use Rattle.std.specs.BTreeMap.{get, UpdatesBy}
@@ -13,7 +13,7 @@ use Rattle.std.proofs.lemmas.List.{take_more, map-append}
 use Rattle.std.proofs.lemmas.List.Elements.{Contains-append_left, Contains-push, Contains-push_cases}
 use Rattle.terms.specs.Types as terms
 use Rattle.terms.specs.Types.{Id, Change, type_number}
-use Rattle.terms.specs.Lookups.{changes_of, element_cmp}
+use Rattle.terms.specs.Lookups.{changes_of}
 use Rattle.terms.proofs.ElementOrder.{cmp-keys, element_cmp_total, element_ties, type_from_number}
 use Rattle.lemmas.proofs.Texts.{same_from}
 use Rattle.undo.specs.Elements.{Key, change_key, key_cmp, Changers, changers_of, Gains, AreChangers}

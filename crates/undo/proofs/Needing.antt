@@ -1,19 +1,19 @@
 -- Who depends on whom, and who shares an element, by the lists of pairs.
-use Rattle.std.proofs.Common.{◌≡◌, ◌≢◌, ◌∙◌, ◌⊎◌, inl, inr, Bool, true, false, not, List, [], ◌∷◌, ◌++◌, length, map, filter}
-use Rattle.std.proofs.Common.{Option, None, Some, refl, sym, ap, subst, cond, Contains, IsTrue, true≢false, is_some}
+use Rattle.std.proofs.Common.{◌≡◌, ◌≢◌, ◌∙◌, ◌⊎◌, inl, inr, Bool, true, false, not, List, [], ◌∷◌, map, filter}
+use Rattle.std.proofs.Common.{Option, None, Some, refl, sym, ap, subst, cond, Contains, IsTrue, true≢false}
 use Rattle.std.specs.Prelude.{◌↔◌, ◌&&◌, ◌||◌, Any, IsFalse}
-use Rattle.std.specs.List.{flat_map, list_any, list_all}
+use Rattle.std.specs.List.{flat_map, list_all}
 use Rattle.std.specs.Str.{bytes_eq}
 use Rattle.std.proofs.lemmas.Bool.{and_parts, not-true}
 use Rattle.std.proofs.lemmas.List.Elements.{Contains-append_left, Contains-append_right, Contains-append_cases}
 use Rattle.std.proofs.lemmas.List.Folds.{Any-from_list_any, list_any-from_Any}
 use Rattle.lemmas.proofs.Members.{here, here_or, there, none_in, in_map, map_in, in_filter, filter_in}
-use Rattle.lemmas.proofs.Texts.{same_from, same_itself, other_text}
+use Rattle.lemmas.proofs.Texts.{same_from, same_itself}
 use Rattle.terms.specs.Types.{Id, Zone}
 use Rattle.terms.specs.Lookups.{IsZone, at_most_one, is_in, is_applied, applied_ids, supby_of, supplies}
 use Rattle.terms.specs.Choice.{fmid_of}
 use Rattle.terms.specs.Needs.{binding_ids}
-use Rattle.terms.specs.Restore.{Restoring, NeedsDep, NeedsElem, is_supplied_outside, restore_candidates}
+use Rattle.terms.specs.Restore.{Restoring, NeedsDep, is_supplied_outside}
 use Rattle.terms.proofs.Ids.{is_in-from_Contains, Contains-from_is_in}
 use Rattle.undo.specs.Dependences.{suppliers, by_requisite, dependences_of}
 use Rattle.undo.proofs.Applied.{applied-are}
@@ -133,8 +133,7 @@ module _ (r : Restoring) (is_zone : IsZone r.zone) (listed : Id → Bool) where
           ↔ (IsTrue (supplies r.zone x z) × IsFalse (is_supplied_outside r listed z))
       by true e = (
         λ h.
-            let m = map_in (λ (v : Id). (v, y)) (suppliers r.zone z) (x, y) h in
-            (
+            let m = map_in (λ (v : Id). (v, y)) (suppliers r.zone z) (x, y) h in (
               (supplier-is r.zone x z).0 (subst (Contains (suppliers r.zone z)) (ap (λ p. p.0) m.2) m.1),
               (listed-outside z).0 e,
             ),

@@ -1,5 +1,5 @@
 -- The order of pairs of ids.
-use Rattle.std.proofs.Common.{◌≡◌, ◌≢◌, ◌∙◌, Bool, true, List, refl, sym, ap, ap₂, IsTrue, true≢false, Contains, filter, get_or}
+use Rattle.std.proofs.Common.{◌≡◌, ◌≢◌, ◌∙◌, Bool, true, List, sym, ap, ap₂, true≢false, Contains, filter, get_or}
 use Rattle.std.specs.Prelude.{◌↔◌, ◌&&◌, AllPairs, IsPermutation}
 use Rattle.std.specs.declared.cmp.Ordering.{Ordering}
 use Rattle.std.specs.Ordering.{is_eq, is_lt, nat_cmp, ordering_then}

@@ -1,13 +1,12 @@
 -- The tests that candidates fail.
-use Rattle.std.proofs.Common.{◌≡◌, ◌∙◌, inl, inr, ℕ, Bool, true, false, List, [], ◌∷◌, length, Option, Some, None, refl}
-use Rattle.std.proofs.Common.{sym, ap, subst, map, filter, not, slice_get, Contains, IsTrue, true≢false, arith}
-use Rattle.std.specs.Prelude.{◌↔◌, ◌≢◌, Any, IsFalse}
+use Rattle.std.proofs.Common.{◌≡◌, ◌∙◌, ℕ, Bool, true, false, List, [], ◌∷◌, length, Option, Some, None, refl}
+use Rattle.std.proofs.Common.{sym, ap, subst, map, filter, not, slice_get, Contains, IsTrue, arith}
+use Rattle.std.specs.Prelude.{◌↔◌, ◌≢◌, IsFalse}
 use Rattle.std.specs.Option.{option_map, option_map_or}
-use Rattle.std.specs.List.{list_any}
 use Rattle.std.proofs.lemmas.Bool.{not-true}
 use Rattle.std.proofs.lemmas.List.{length-map}
 use Rattle.std.proofs.lemmas.List.Folds.{Any-from_list_any, list_any-from_Any}
-use Rattle.std.proofs.lemmas.Option.{slice_get_within, slice_get-map, slice_get-get_or, get_or_from_slice_get}
+use Rattle.std.proofs.lemmas.Option.{slice_get-map, get_or_from_slice_get}
 use Rattle.lemmas.proofs.Members.{filter_in, in_filter, none_in}
 use Rattle.lemmas.proofs.Places.{contains_at}
 use Rattle.terms.specs.declared.codes.Test.{Test}

@@ -1,7 +1,7 @@
 -- What candidates need, by the pairs.
-use Rattle.std.proofs.Common.{◌≡◌, ◌≢◌, ◌∙◌, ◌⊎◌, inl, inr, Bool, true, false, not, List, [], ◌∷◌, ◌++◌, map, filter}
-use Rattle.std.proofs.Common.{refl, sym, ap, ap₂, subst, Contains, IsTrue, get_or, true≢false}
-use Rattle.std.specs.Prelude.{◌↔◌, ◌&&◌, Any, All, AllPairs, IsFalse}
+use Rattle.std.proofs.Common.{◌≡◌, ◌≢◌, inl, inr, Bool, true, false, not, List, ◌++◌, map, filter}
+use Rattle.std.proofs.Common.{refl, sym, ap, subst, Contains, IsTrue, get_or, true≢false}
+use Rattle.std.specs.Prelude.{◌↔◌, All, AllPairs, IsFalse}
 use Rattle.std.specs.List.{flat_map}
 use Rattle.std.specs.Str.{bytes_eq}
 use Rattle.std.proofs.lemmas.Bool.{and_parts, not-true}
@@ -9,12 +9,12 @@ use Rattle.std.proofs.lemmas.List.Elements.{Contains-append_left, Contains-appen
 use Rattle.std.proofs.lemmas.List.Elements.{All-map}
 use Rattle.lemmas.proofs.Members.{in_map, map_in, in_filter, filter_in}
 use Rattle.lemmas.proofs.Pairs.{AllPairs-join, pairs_map}
-use Rattle.lemmas.proofs.Texts.{same_from, same_itself, other_text}
+use Rattle.lemmas.proofs.Texts.{same_itself, other_text}
 use Rattle.terms.specs.declared.codes.NeedKind.{NeedKind}
 use Rattle.terms.specs.declared.codes.NeedKind.TheVariants.{Fmid, Pre, Req, Ifreq, HoldError, Orphan, Elem, Dep}
-use Rattle.terms.specs.Types.{Id, Zone, Change}
+use Rattle.terms.specs.Types.{Id, Change}
 use Rattle.terms.specs.Lookups.{IsZone, is_in, is_applied, is_supplied, applied_ids, changes_of, has_change}
-use Rattle.terms.specs.Restore.{Restoring, NeedsElem, NeedsDep, NeedsInRestore, restore_candidates}
+use Rattle.terms.specs.Restore.{Restoring, NeedsDep, NeedsInRestore, restore_candidates}
 use Rattle.terms.proofs.Ids.{is_in-from_Contains, Contains-from_is_in}
 use Rattle.undo.specs.declared.wanted.Want.{Want}
 use Rattle.undo.specs.Dependences.{dependences_of}

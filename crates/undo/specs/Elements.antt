@@ -1,5 +1,5 @@
 -- Who changes which element.
-use Rattle.std.specs.Prelude.{◌≡◌, ◌↔◌, ◌⊎◌, List, [], Vec, Contains, map}
+use Rattle.std.specs.Prelude.{◌↔◌, ◌⊎◌, List, [], Vec, Contains, map}
 use Rattle.std.specs.declared.alloc.Global.{Global as Heap}
 use Rattle.std.specs.declared.cmp.Ordering.{Ordering}
 use Rattle.std.specs.List.{flat_map}

@@ -48,11 +48,7 @@ fn add_by_requisites(
     Ok(())
 }
 
-fn add_by_function(
-    pairs: &mut Vec<(Id, Id)>,
-    fmid: Option<Id>,
-    by: Id,
-) -> Result<(), AllocError>
+fn add_by_function(pairs: &mut Vec<(Id, Id)>, fmid: Option<Id>, by: Id) -> Result<(), AllocError>
     ensures { OnOk result (pairs.new.items ≡ pairs.old.items ++ map (λ x. (x, by)) (at_most_one fmid)) }
 {
     if let Some(fmid) = fmid {

@@ -7,11 +7,7 @@ use fields::{Id, IdList};
 use std::alloc::{AllocError, Global as Heap};
 
 /// Adds each of these ids with one that it needs.
-pub(crate) fn add_pairs(
-    pairs: &mut Vec<(Id, Id)>,
-    ids: &[Id],
-    needed: Id,
-) -> Result<(), AllocError>
+pub(crate) fn add_pairs(pairs: &mut Vec<(Id, Id)>, ids: &[Id], needed: Id) -> Result<(), AllocError>
     ensures { OnOk result (pairs.new.items ≡ pairs.old.items ++ map (λ x. (x, needed)) ids.now) }
 {
     for id in ids {
@@ -21,11 +17,7 @@ pub(crate) fn add_pairs(
 }
 
 /// Adds each of these ids as one that the SYSMOD needs.
-pub(crate) fn add_needed(
-    pairs: &mut Vec<(Id, Id)>,
-    id: Id,
-    needed: &[Id],
-) -> Result<(), AllocError>
+pub(crate) fn add_needed(pairs: &mut Vec<(Id, Id)>, id: Id, needed: &[Id]) -> Result<(), AllocError>
     ensures { OnOk result (pairs.new.items ≡ pairs.old.items ++ map (λ y. (id, y)) needed.now) }
 {
     for other in needed {
@@ -41,11 +33,7 @@ fn is_own(ids: &IdList, pair: &(Id, Id)) -> bool
     ids.contains(pair.0) && pair.0 != pair.1
 }
 
-fn push_if_own(
-    ids: &IdList,
-    pair: &(Id, Id),
-    found: &mut Vec<(Id, Id)>,
-) -> Result<(), AllocError>
+fn push_if_own(ids: &IdList, pair: &(Id, Id), found: &mut Vec<(Id, Id)>) -> Result<(), AllocError>
     ensures { OnOk result (found.new.items ≡ found.old.items ++ filter (is_own ids.now) (pair.now ∷ [])) }
 {
     if is_own(ids, pair) {
@@ -54,11 +42,7 @@ fn push_if_own(
     Ok(())
 }
 
-fn own_pairs(
-    alloc: Heap,
-    ids: &IdList,
-    pairs: &[(Id, Id)],
-) -> Result<Vec<(Id, Id)>, AllocError>
+fn own_pairs(alloc: Heap, ids: &IdList, pairs: &[(Id, Id)]) -> Result<Vec<(Id, Id)>, AllocError>
     ensures { IfOk result (λ found. found.items ≡ filter (is_own ids.now) pairs.now) }
 {
     let mut found = Vec::new(alloc);

@@ -80,11 +80,7 @@ fn push_if_unaccepted(accepted: &Zone, id: Id, found: &mut Vec<Id>) -> Result<()
 }
 
 /// Those of these ids that the distribution zone does not supply.
-pub(crate) fn unaccepted(
-    alloc: Heap,
-    accepted: &Zone,
-    ids: &[Id],
-) -> Result<Vec<Id>, AllocError>
+pub(crate) fn unaccepted(alloc: Heap, accepted: &Zone, ids: &[Id]) -> Result<Vec<Id>, AllocError>
     ensures { IfOk result (λ found. found.items ≡ filter (λ y. not (is_supplied accepted.now y)) ids.now) }
 {
     let mut found = Vec::new(alloc);

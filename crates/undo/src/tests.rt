@@ -62,7 +62,11 @@ fn row_of(alloc: Heap, scope: &Scope<'_, '_>, id: Id) -> Result<Vec<Test>, Alloc
     let mut tests = Vec::new(alloc);
     add_if(&mut tests, scope.accepted.supplies(id), Test::J10)?;
     add_if(&mut tests, has_delete(scope.vers, id), Test::J11)?;
-    add_if(&mut tests, any_behind(scope, changes_of(scope.vers, id)), Test::J12)?;
+    add_if(
+        &mut tests,
+        any_behind(scope, changes_of(scope.vers, id)),
+        Test::J12,
+    )?;
     Ok(tests)
 }
 

@@ -51,11 +51,7 @@ fn dep_pairs(
     Ok(pairs)
 }
 
-fn add_wants(
-    wants: &mut Vec<Want>,
-    kind: NeedKind,
-    pairs: &[(Id, Id)],
-) -> Result<(), AllocError>
+fn add_wants(wants: &mut Vec<Want>, kind: NeedKind, pairs: &[(Id, Id)]) -> Result<(), AllocError>
     ensures { OnOk result (wants.new.items ≡ wants.old.items ++ map (a_want kind) pairs.now) }
 {
     for pair in pairs {

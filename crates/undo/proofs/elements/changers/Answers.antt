@@ -1,4 +1,4 @@
-use Rattle.std.proofs.Common.{◌≡◌, ◌≤◌, ◌∙◌, Contains, length, map, take_all, subst, arith}
+use Rattle.std.proofs.Common.{◌≡◌, ◌≤◌, Contains, length, map, take_all, subst, arith}
 use Rattle.undo.specs.Elements.{AreChangers, Gains, change_key}
 use Rattle.undo.proofs.Gaining.{changers-next}
 use Rattle.undo.proofs.elements.changers.Goals as goal

@@ -1,4 +1,4 @@
-use Rattle.std.proofs.Common.{◌≡◌, ◌≤◌, length, arith, subst, sym}
+use Rattle.std.proofs.Common.{◌≤◌, length, arith, subst, sym}
 use Rattle.terms.specs.Lookups.{IsRising}
 use Rattle.undo.specs.Restoring.{restoring}
 use Rattle.undo.specs.Growing.{IsOnTheWay}

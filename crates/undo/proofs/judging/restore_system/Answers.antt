@@ -1,11 +1,6 @@
-use Rattle.std.proofs.Common.{◌≡◌, ◌∙◌, List, filter, map, sym, subst}
-use Rattle.std.specs.Prelude.{All, Contains}
-use Rattle.machine.specs.Installing.{all_tests}
-use Rattle.terms.specs.declared.codes.Test.{Test}
+use Rattle.std.proofs.Common.{◌∙◌, map, subst}
 use Rattle.terms.specs.Lookups.{IsRising, is_nil}
 use Rattle.undo.specs.Restoring.{restoring}
-use Rattle.undo.specs.Tests.{fails_test}
-use Rattle.undo.specs.Numbered.{HasDemands}
 use Rattle.undo.proofs.Numbering.{wants-within, same-pairs, restore-problem}
 use Rattle.undo.proofs.Testing.{map-through, are-failed, flags-fit, eligible-is}
 use Rattle.undo.proofs.judging.restore_system.Goals as goal

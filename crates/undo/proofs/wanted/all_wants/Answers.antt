@@ -1,5 +1,5 @@
 use Rattle.std.proofs.Common.{◌∙◌, ◌++◌, ap, map}
-use Rattle.terms.specs.declared.codes.NeedKind.TheVariants.{Elem, Dep}
+use Rattle.terms.specs.declared.codes.NeedKind.TheVariants.{Dep}
 use Rattle.undo.specs.Restoring.{restoring_of}
 use Rattle.undo.specs.Wants.{a_want}
 use Rattle.undo.proofs.Wanting.{are-wants}
