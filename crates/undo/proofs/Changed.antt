@@ -1,5 +1,6 @@
 -- The statements of a SYSMOD, and the elements that it changes.
-use Rattle.std.proofs.Common.{◌≡◌, ◌∙◌, inl, inr, Bool, true, false, List, [], ◌∷◌, Option, None, Some, find, is_some, map}
+use Rattle.std.proofs.Common.{◌≡◌, ◌∙◌, inl, inr, Bool, true, false, List, [], ◌∷◌, Option, None, Some, find}
+use Rattle.std.proofs.Common.{is_some, map}
 use Rattle.std.proofs.Common.{refl, sym, ap, ap₂, subst, cond, arith, eq-eqb, Contains, IsTrue, true≢false}
 use Rattle.std.specs.Prelude.{◌==◌, ◌&&◌}
 use Rattle.std.specs.Str.{bytes_eq}

@@ -2,7 +2,8 @@
 use Rattle.std.proofs.Common.{◌≡◌, ◌≢◌, ◌∙◌, inl, inr, ◌≤◌, Bool, true, false, not, List, ◌∷◌, ◌++◌, length, map}
 use Rattle.std.proofs.Common.{refl, sym, subst, arith, Contains, IsTrue, true≢false}
 use Rattle.std.specs.Prelude.{◌↔◌, ◌&&◌, IsFalse}
-use Rattle.std.proofs.lemmas.List.Elements.{Contains-append_left, Contains-append_right, Contains-append_cases, Contains-get_or}
+use Rattle.std.proofs.lemmas.List.Elements.{Contains-append_left, Contains-append_right, Contains-append_cases}
+use Rattle.std.proofs.lemmas.List.Elements.{Contains-get_or}
 use Rattle.std.proofs.lemmas.List.Kept.{AllPairs-cons}
 use Rattle.lemmas.proofs.Apart.{apart-le}
 use Rattle.lemmas.proofs.Members.{here_or, in_map, map_in, in_filter, filter_in}
@@ -22,7 +23,8 @@ use Rattle.undo.specs.Growing.{IsGrownOnce, IsOnTheWay}
 
 module _ (r : Restoring) (list cands : List Id) (are : cands ≡ restore_candidates r list) (wants : List Want)
     (are_wants : AreWants r list cands wants) where
-  needs-applied : (x : Id) (kind : NeedKind) (y : Id) → NeedsInRestore r (is_in list) x kind y → IsTrue (is_applied r.zone x)
+  needs-applied : (x : Id) (kind : NeedKind) (y : Id) → NeedsInRestore r (is_in list) x kind y
+      → IsTrue (is_applied r.zone x)
   needs-applied x Elem y n = n.0
   needs-applied x Dep y n = n.0
   needs-applied x Fmid y n = absurd n
@@ -128,7 +130,8 @@ module _ (r : Restoring) (ids : List Id) where
       arith,
       short,
       apart-le (y ∷ list) more
-          (AllPairs-cons (λ a b. a ≢ b) y list (λ i d below same. new (subst (Contains list) (sym same) (Contains-get_or list i d below)))
+          (AllPairs-cons (λ a b. a ≢ b) y list (λ i d below same. new (subst (Contains list) (sym same)
+          (Contains-get_or list i d below)))
           (apart-from_rising list rising))
           (λ z h. elim (here_or y list z h) [
             | inl same ↦ subst (Contains more) same there

@@ -29,7 +29,8 @@ key-itself : (a : Key) → is_eq (key_cmp a a) ≡ true
 key-itself a = ap is_eq (cmp-keys a a ∙ tied_itself element_cmp_total a)
 
 -- the list of one element goes on with one SYSMOD
-pub gains-update : (old new : Changers) (k : Key) (f : Id) (w : Vec Id Global) → UpdatesBy key_cmp (key_cmp k) old new (Some w)
+pub gains-update : (old new : Changers) (k : Key) (f : Id) (w : Vec Id Global)
+    → UpdatesBy key_cmp (key_cmp k) old new (Some w)
     → w.items ≡ changers_of old k ++ f ∷ [] → Gains old new (λ z y. (z ≡ k) × (y ≡ f))
 gains-update old new k f w updates goes_on z y = by (is_eq (key_cmp k z)) refl
   where
@@ -62,7 +63,8 @@ gains-update old new k f w updates goes_on z y = by (is_eq (key_cmp k z)) refl
       ]),
     )
 
-pub listed-at : (all : Changers) (k : Key) (v : Vec Id Global) → get key_cmp all k ≡ Some v → changers_of all k ≡ v.items
+pub listed-at : (all : Changers) (k : Key) (v : Vec Id Global) → get key_cmp all k ≡ Some v
+    → changers_of all k ≡ v.items
 listed-at all k v there = ap (λ o. option_map_or (λ v. v.items) o []) there
 
 pub listed-none : (all : Changers) (k : Key) → get key_cmp all k ≡ None → changers_of all k ≡ []

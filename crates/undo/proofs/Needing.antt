@@ -63,8 +63,8 @@ pub supplier-is : (zone : Zone) (x z : Id) → Contains (suppliers zone z) x ↔
 supplier-is zone x z = (from, to)
   where
     from : Contains (suppliers zone z) x → IsTrue (supplies zone x z)
-    from h = elim (Contains-append_cases (filter (is_applied zone) (z ∷ [])) (filter (is_applied zone) (supby_of zone z))
-        x h) [
+    from h = elim (Contains-append_cases (filter (is_applied zone) (z ∷ [])) (filter (is_applied zone)
+        (supby_of zone z)) x h) [
           | inl own ↦
               let f = filter_in (is_applied zone) (z ∷ []) x own in
               elim (here_or z [] x f.0) [
@@ -98,7 +98,10 @@ module _ (r : Restoring) (is_zone : IsZone r.zone) (listed : Id → Bool) where
   -- none outside the list supplies it just where all that supply it are listed
   pub listed-outside : (z : Id) → list_all listed (suppliers r.zone z) ≡ true
       ↔ IsFalse (is_supplied_outside r listed z)
-  listed-outside z = (λ all. not-true (is_supplied_outside r listed z) (turned (is_supplied_outside r listed z) (none all)), to)
+  listed-outside z = (
+    λ all. not-true (is_supplied_outside r listed z) (turned (is_supplied_outside r listed z) (none all)),
+    to,
+  )
     where
       turned : (b : Bool) → (b ≡ true → ⊥) → not b ≡ true
       turned true lacks = absurd (lacks refl)
@@ -191,7 +194,8 @@ module _ (r : Restoring) (is_zone : IsZone r.zone) (listed : Id → Bool) where
       let first : List Pair = map (λ x. (x, y)) (at_most_one (fmid_of r.choice y)) in
       let ids = binding_ids r.choice r.zone (is_applied r.zone) y in
       elim (Contains-append_cases first (flat_map (by_requisite r.zone listed y) ids) p h) [
-        | inl by ↦ let m = map_in (λ (v : Id). (v, y)) (at_most_one (fmid_of r.choice y)) p by in sym (ap (λ p. p.1) m.2)
+        | inl by ↦
+            let m = map_in (λ (v : Id). (v, y)) (at_most_one (fmid_of r.choice y)) p by in sym (ap (λ p. p.1) m.2)
         | inr by ↦ let m = flat_map-in (by_requisite r.zone listed y) ids p by in requisite-by y m.0 p m.2
       ]
 
@@ -205,8 +209,8 @@ module _ (r : Restoring) (is_zone : IsZone r.zone) (listed : Id → Bool) where
         record {
           other = other;
           applied = (applied-are r.zone is_zone y).0 (subst (Contains (applied_ids r.zone)) (sym same) m.1);
-          depends = (dependence-pair x y).0 (subst (λ v. Contains {X = Pair} (dependences_of r listed v) (x, y)) (sym same)
-              m.2);
+          depends = (dependence-pair x y).0 (subst (λ v. Contains {X = Pair} (dependences_of r listed v) (x, y))
+              (sym same) m.2);
         },
     λ n. in-flat_map (dependences_of r listed) (applied_ids r.zone) y (x, y)
         ((applied-are r.zone is_zone y).1 n.applied) ((dependence-pair x y).1 n.depends),

@@ -11,7 +11,8 @@ use Rattle.std.proofs.lemmas.Map.Lookups.{exact_bytes}
 use Rattle.std.specs.Ordering.{nat_cmp}
 use Rattle.std.specs.Cmp.Lexicographic.{slice_cmp}
 use Rattle.terms.specs.Rising.{StandsAt}
-use Rattle.std.proofs.lemmas.Option.{slice_get_within, slice_get-map, slice_get-get_or, get_or_from_slice_get, same_Some}
+use Rattle.std.proofs.lemmas.Option.{slice_get_within, slice_get-map, slice_get-get_or, get_or_from_slice_get}
+use Rattle.std.proofs.lemmas.Option.{same_Some}
 use Rattle.lemmas.proofs.Members.{here_or, none_in}
 use Rattle.lemmas.proofs.Places.{contains_at, found_at}
 use Rattle.terms.specs.declared.codes.NeedKind.{NeedKind}
@@ -150,7 +151,8 @@ module _ (ids : List Id) (flags : List Bool) where
           → (w : Want) × (slice_get wants i ≡ Some w) × IsDemandFor ids w d × (w ≡ a_want need.0 (w.of, need.1))
       is-demand i d need at_d at_need =
           let w = at-place wants i (subst (λ k. i < k) h.lengths (slice_get_within p.demands i d at_d)) in
-          let is : (w.0.kind, w.0.id) ≡ need = same_Some (w.0.kind, w.0.id) need (sym (needed-at i w.0 w.1) ∙ at_need) in
+          let is : (w.0.kind, w.0.id) ≡ need =
+          same_Some (w.0.kind, w.0.id) need (sym (needed-at i w.0 w.1) ∙ at_need) in
           (w.0, w.1, h.demands i w.0 d w.1 at_d, ap (λ n. a_want n.0 (w.0.of, n.1)) is)
 
       -- and each want has its demand
@@ -184,7 +186,8 @@ module _ (ids : List Id) (flags : List Bool) where
               (once i j v less (slice_get_within wants j w at_w))
 
       -- no superseder serves a need of RESTORE
-      alone : (r : Restoring) (listed : Id → Bool) (x : Id) (kind : NeedKind) (z : Id) → NeedsInRestore r listed x kind z
+      alone : (r : Restoring) (listed : Id → Bool) (x : Id) (kind : NeedKind) (z : Id)
+          → NeedsInRestore r listed x kind z
           → takes_superseder kind ≡ false
       alone r listed x Elem z n = refl
       alone r listed x Dep z n = refl
@@ -201,7 +204,8 @@ module _ (ids : List Id) (flags : List Bool) where
       restore-problem r list rising are numbers eligible = record {
         numbers = numbers;
         size = h.size;
-        eligible = λ n x at. subst (λ l. IsTrue (holds l n) ↔ MayBeRestored r list x) (sym h.eligible) (eligible n x at);
+        eligible = λ n x at. subst (λ l. IsTrue (holds l n) ↔ MayBeRestored r list x) (sym h.eligible)
+            (eligible n x at);
         lengths = ap length h.needed_are ∙ length-map wants (λ w. (w.kind, w.id)) ∙ sym h.lengths;
         demands = λ i d need at_d at_need.
             let w = is-demand i d need at_d at_need in

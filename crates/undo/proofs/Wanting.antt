@@ -101,14 +101,19 @@ own-parts : (cands : List Id) (x y : Id) → IsTrue (is_own cands (x, y)) → Co
 own-parts cands x y own =
     let parts = and_parts (is_in cands x) (not (bytes_eq x y)) own in (
       Contains-from_is_in cands x parts.0,
-      λ same. absurd (cc (not-true (bytes_eq x y) parts.1, subst (λ v. bytes_eq x v ≡ true) (sym same) (same_itself x))),
+      λ same. absurd (cc (
+        not-true (bytes_eq x y) parts.1,
+        subst (λ v. bytes_eq x v ≡ true) (sym same)
+            (same_itself x),
+      )),
     )
 
 own-whole : (cands : List Id) (x y : Id) → Contains cands x → y ≢ x → IsTrue (is_own cands (x, y))
 own-whole cands x y there other =
     rw (is_in-from_Contains cands x there, other_text x y (λ same. other (sym same))) refl
 
-module _ (r : Restoring) (ids cands : List Id) (are : cands ≡ restore_candidates r ids) (elem dep own_elem own_dep : List Pair)
+module _ (r : Restoring) (ids cands : List Id) (are : cands ≡ restore_candidates r ids)
+    (elem dep own_elem own_dep : List Pair)
     (have_elem : HaveElem r cands elem) (have_dep : HaveDep r ids cands dep) (of_elem : AreOwn cands elem own_elem)
     (of_dep : AreOwn cands dep own_dep) where
   on : (x : Id) → Contains cands x → IsTrue (is_applied r.zone x)

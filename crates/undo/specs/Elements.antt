@@ -38,7 +38,8 @@ Gains old new More = (k : Key) (y : Id) → Contains (changers_of new k) y ↔ (
 -- they are those of these SYSMODs
 abbrev pub AreChangers : Global → List Id → Changers → Type 0
 AreChangers g ids all =
-    (k : Key) (y : Id) → Contains (changers_of all k) y ↔ (Contains ids y × Contains (map change_key (changes_of g y)) k)
+    (k : Key) (y : Id) → Contains (changers_of all k) y
+    ↔ (Contains ids y × Contains (map change_key (changes_of g y)) k)
 
 -- x with each that changes an element of it
 abbrev pub beside_at : Changers → Id → Change → List (Id × Id)

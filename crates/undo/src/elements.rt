@@ -56,7 +56,8 @@ fn add_each(
     changes: &[ElemChange],
     by: Id,
 ) -> Result<(), AllocError>
-    ensures { OnOk result (Gains changers.old changers.new (λ k y. Contains (map change_key changes.now) k × (y ≡ by))) }
+    ensures { OnOk result (Gains changers.old changers.new (λ k y. Contains (map change_key changes.now) k
+        × (y ≡ by))) }
 {
     for change in changes {
         add_at(alloc, changers, change, by)?;

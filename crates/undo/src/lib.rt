@@ -1,5 +1,8 @@
 //! What RESTORE decides: which tests each candidate fails, what each one needs, and which SYSMODs GROUP leads to.
-//! One pass over the applied SYSMODs notes who changes which element and who depends on whom.
+//! `restore_system` answers the tests and the numbered problem, for any list and any two zones; `grouped` the least
+//! closed list with GROUP's ids. One pass over the applied SYSMODs notes who changes which element and who depends on
+//! whom. Seen in the code alone: each step of `grouped` takes in all that the list needs so far by one such pass, so
+//! that it makes as many passes as the longest chain of needs has steps.
 #![tactic(auto)]
 
 mod dependences;
