@@ -176,7 +176,7 @@ impl Session {
         date: YyDdd,
         kind: ZoneKind,
         install: &Install,
-    ) -> Result<Outcome, StoreError>
+    ) -> Result<Outcome<'static>, StoreError>
         ensures clean { HasCleanDisk (state S.Store store.new) → HasCleanDisk (state S.Store store.old) }
         ensures ended { HasCleanDisk (state S.Store store.new) → (s : State) → IsSessionOf s self.old
             → Keeps S.Store store.old s
