@@ -111,7 +111,7 @@ values-only ws c d e h k = absurd (cc (e))
 -- Pieces are one command at most.
 pub value-only : (pieces : List Piece) (c d : Command) → IsCommand pieces c → IsCommand pieces d → c ≡ d
 value-only pieces c d k l =
-    let o = of_command pieces (command_word c) k.rest d (k.begins, k.known) l in
+    let o = of_command pieces (command_word c) k.rest d k.begins l in
     let same = words-only k.rest k.words o.1.0 k.has_words o.1.1 in
     values-only o.1.0 c d (sym o.0) (subst (λ ws. HasOperands ws c) same k.has_operands) o.1.3
 
@@ -201,13 +201,13 @@ chosen rest ws Report h v = refl
 -- No pieces are both a command and at fault.
 pub fault-no_value : (pieces : List Piece) (c : Command) (code : CnCode) → IsCommand pieces c
     → IsCommandFault pieces code → ⊥
-fault-no_value pieces c Cn1 k f = f (command_word c) k.rest (k.begins, k.known)
+fault-no_value pieces c Cn1 k f = f (command_word c) k.rest k.begins
 fault-no_value pieces c Cn2 k f = f.5 c k
 fault-no_value pieces c Cn3 k f =
-    let s = begins-only pieces f.0 (command_word c) f.1 k.rest f.2 (k.begins, k.known) in
+    let s = begins-only pieces f.0 (command_word c) f.1 k.rest f.2 k.begins in
     true≢false (sym f.3 ∙ ap (λ w. has_double w f.1) s.0 ∙ ap (has_double (command_word c)) s.1 ∙ single pieces c k)
 fault-no_value pieces c Cn4 k f =
-    let s = begins-only pieces f.0 (command_word c) f.1 k.rest f.2 (k.begins, k.known) in
+    let s = begins-only pieces f.0 (command_word c) f.1 k.rest f.2 k.begins in
     true≢false (sym f.4 ∙ ap (λ w. is_unchosen w f.1) s.0 ∙ ap (is_unchosen (command_word c)) s.1
     ∙ chosen k.rest k.words c k.has_words k.has_operands)
 fault-no_value pieces c Cn5 k f = f
