@@ -140,8 +140,10 @@ pub record HasInstall (w : CommandWord) (words : List Word) (i : Install) : Type
 
 -- SELECT or GROUP of RESTORE, and not both
 abbrev pub HasRestoreList : List Word → RestoreList → Type 0
-HasRestoreList words (RestoreSelect ids) = (operand (codes "GROUP") words ≡ None) × HasSome IsId (operand (codes "SELECT") words) ids
-HasRestoreList words (RestoreGroup ids) = (operand (codes "SELECT") words ≡ None) × HasSome IsId (operand (codes "GROUP") words) ids
+HasRestoreList words (RestoreSelect ids) =
+    (operand (codes "GROUP") words ≡ None) × HasSome IsId (operand (codes "SELECT") words) ids
+HasRestoreList words (RestoreGroup ids) =
+    (operand (codes "SELECT") words ≡ None) × HasSome IsId (operand (codes "GROUP") words) ids
 
 -- the command has the values that these operands give it
 abbrev pub HasOperands : List Word → Command → Type 0
