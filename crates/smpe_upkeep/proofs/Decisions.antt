@@ -8,8 +8,7 @@ use Rattle.std.proofs.lemmas.Bool.{and_parts}
 use Rattle.std.proofs.lemmas.List.Elements.{All-contains_itself}
 use Rattle.terms.specs.Types.{Text, Id, Sysmod, Global, Zone, Bypass, Selection}
 use Rattle.terms.specs.Lookups.{is_nil, sysmod_of}
-use Rattle.terms.specs.Choice.{Choice, vers_of}
-use Rattle.sysmods.specs.Choices.{by_srel}
+use Rattle.terms.specs.Choice.{counting, vers_of}
 use Rattle.terms.specs.Over.{IsOver}
 use Rattle.terms.specs.Candidates.{is_installable, is_open, IsCandidate}
 use Rattle.terms.specs.Tests.{Setting, ShareElement, IsEligible}
@@ -22,9 +21,9 @@ use Rattle.smpe_upkeep.proofs.OperandForms.{HasVers, sysmod_forms, ver_forms, by
 use Rattle.smpe_upkeep.proofs.GivenForms.{HasInstallForms}
 
 -- The open ids are a closed pair by themselves, so each candidate is open.
-candidate_open : (g : Global) (c : Choice) (zone : Zone) (sel : Selection) (x : Id) → IsCandidate g c zone sel x
+candidate_open : (g : Global) (zone : Zone) (sel : Selection) (x : Id) → IsCandidate g zone sel x
     → IsTrue (is_open g zone sel x)
-candidate_open g c zone sel x candidate = candidate (is_open g zone sel) (is_open g zone sel) (record {
+candidate_open g zone sel x candidate = candidate (is_open g zone sel) (is_open g zone sel) (record {
   start = λ y starts. (and_parts _ _ starts).0;
   growing_start = λ y starts. (and_parts _ _ (and_parts _ _ starts).0).0;
   part = λ y is. is;
@@ -72,8 +71,8 @@ module _ (g : Global) (sysmods : All HasSysmodForms g.sysmods) (zone : Zone) (fo
     ordered = λ x y of_x of_y. eligible_ordered decided x y (eligible x of_x) (eligible y of_y);
   })
     where
-      vers : HasVers (by_srel g zone.srel)
-      vers = ver_forms g sysmods zone.srel
+      vers : HasVers (counting g zone decides.cands)
+      vers = ver_forms g sysmods zone decides.cands
 
       eligible : (x : Id) → Contains d.kept x → IsEligible decided x
       eligible = kept_eligible decided d.kept (subst (λ s. IsKeptSet s d.kept) decides.setting decides.kept)
@@ -81,7 +80,7 @@ module _ (g : Global) (sysmods : All HasSysmodForms g.sysmods) (zone : Zone) (fo
       kept_form : (x : Id) → Contains d.kept x → IsId x
       kept_form x there =
           let candidate = (decides.candidates.members x).0 (eligible x there).0.0.0 in
-          let opened = candidate_open g (by_srel g zone.srel) zone sel x candidate in
+          let opened = candidate_open g zone sel x candidate in
           installable_form g sysmods zone x (and_parts _ _ opened).0
 
       are_bypassed : (x z : Id) → Contains decides.bypassed (x, z)

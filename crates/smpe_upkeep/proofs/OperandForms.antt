@@ -1,20 +1,21 @@
 -- What received SYSMODs name in their ++VERs and change by their element statements has its forms.
 use Rattle.std.proofs.Common.{◌≡◌, ◌≢◌, inl, inr, Bool, true, false, List, [], Option, Some, None, All, Contains}
-use Rattle.std.proofs.Common.{IfSome, refl, subst, find, filter}
+use Rattle.std.proofs.Common.{IfSome, refl, ◌∙◌, subst, find, filter}
 use Rattle.std.specs.Prelude.{◌++◌, ◌&&◌, ◌||◌, ◌==◌, unwrap_or, if◌then◌else◌}
 use Rattle.std.specs.Option.{option_map_or, option_and_then}
 use Rattle.std.specs.Str.{bytes_eq}
 use Rattle.std.proofs.lemmas.Bool.{and_parts, eqb-true}
 use Rattle.std.proofs.lemmas.List.Elements.{All-contains, Contains-append_cases}
 use Rattle.lemmas.proofs.Members.{none_in, filter_in}
+use Rattle.lemmas.proofs.Places.{contains_at}
 use Rattle.lemmas.proofs.Searches.{All-find, find-gives}
 use Rattle.lemmas.proofs.Texts.{same_from}
 use Rattle.terms.specs.declared.kinds.Kind.{Kind}
 use Rattle.terms.specs.declared.kinds.ElemType.{ElemType}
 use Rattle.terms.specs.Types.{Text, Id, IfReq, Ver, Change, Sysmod, Global, Zone, type_number, kind_number}
 use Rattle.terms.specs.Lookups.{sysmod_of, is_function, change_of, is_in, is_applied, applied_ids}
-use Rattle.terms.specs.Choice.{Choice, fmid_of, pre_of, req_of, sup_of, del_of, ifs_of}
-use Rattle.sysmods.specs.Choices.{by_srel}
+use Rattle.terms.specs.Choice.{Choice, vers_of, fits, or_first, counting, fmid_of, pre_of, req_of, sup_of}
+use Rattle.terms.specs.Choice.{del_of, ifs_of}
 use Rattle.terms.specs.Over.{Supersedes, owner}
 use Rattle.terms.specs.Conditions.{if_reqs, stated_for, if_needed}
 use Rattle.terms.specs.Tests.{Setting, view_of}
@@ -29,6 +30,14 @@ use Rattle.smpe_upkeep.proofs.Lists.{flat_map_in}
 either_in : {X : Type 0} (b : Bool) (xs : List X) (x : X) → Contains (if b then xs else []) x → Contains xs x
 either_in true xs x there = there
 either_in false xs x there = absurd (none_in x there)
+
+-- what is taken of a list is one of it
+counting_one : {X : Type 0} (p : X → Bool) (xs : List X) (x : X) → or_first xs (find p xs) ≡ Some x → Contains xs x
+counting_one p xs x = by (find p xs) refl
+  where
+    by : (o : Option _) → find p xs ≡ o → or_first xs o ≡ Some x → Contains xs x
+    by None found at = contains_at xs 0 x at
+    by (Some y) found at = (find-gives p xs x (found ∙ at)).1
 
 -- The received SYSMODs have their forms.
 module _ (g : Global) (sysmods : All HasSysmodForms g.sysmods) where
@@ -65,19 +74,21 @@ module _ (g : Global) (sysmods : All HasSysmodForms g.sysmods) where
             (s.kind, All-find (HasChangeForms s.kind) test s.changes h (sysmod_forms x s found).1.changes at),
           )
 
-  -- the ++VER for an SREL
-  pub ver_forms : (srel : Text) (x : Id) (v : Ver) → by_srel g srel x ≡ Some v → (kind : Kind) × HasVerForms kind x v
-  ver_forms srel x v = by (sysmod_of g x) refl
+  -- the ++VER that counts, as it is one of those for the zone's SREL
+  pub ver_forms : (zone : Zone) (cands : List Id) (x : Id) (v : Ver) → counting g zone cands x ≡ Some v
+      → (kind : Kind) × HasVerForms kind x v
+  ver_forms zone cands x v at = by (sysmod_of g x) refl (counting_one (fits zone cands) (vers_of g zone.srel x) v at)
     where
       by : (s : Option Sysmod) → sysmod_of g x ≡ s
-          → option_and_then (λ s. find (λ v. bytes_eq v.srel srel) s.vers) s ≡ Some v
+          → Contains (option_map_or (λ s. filter (λ v. bytes_eq v.srel zone.srel) s.vers) s []) v
           → (kind : Kind) × HasVerForms kind x v
-      by None found at = absurd (cc at)
-      by (Some s) found at =
-          let has = sysmod_forms x s found in (
+      by None found there = absurd (none_in v there)
+      by (Some s) found there =
+          let has = sysmod_forms x s found in
+          let among = (filter_in (λ v. bytes_eq v.srel zone.srel) s.vers v there).0 in (
             s.kind,
             subst (λ y. HasVerForms s.kind y v) has.0
-                (All-find (HasVerForms s.kind s.id) (λ v. bytes_eq v.srel srel) s.vers v has.1.vers at),
+                (All-contains (HasVerForms s.kind s.id) s.vers v has.1.vers among),
           )
 
 -- The ++VERs that count have their forms.
