@@ -1,5 +1,6 @@
 -- From the numbers of candidates to their ids: who is kept, and why each other one is not.
-use Rattle.std.proofs.Common.{◌≡◌, inl, inr, ℕ, ◌<◌, Bool, true, false, not, List, [], ◌∷◌, length, map, filter, Some, IsTrue}
+use Rattle.std.proofs.Common.{◌≡◌, inl, inr, ℕ, ◌<◌, Bool, true, false, not, List, [], ◌∷◌, length, map, filter, Some}
+use Rattle.std.proofs.Common.{IsTrue}
 use Rattle.std.proofs.Common.{Contains, refl, sym, ap, ◌∙◌, subst, true≢false, arith, slice_get, slice_index_or, get_or}
 use Rattle.std.proofs.Common.{take_all}
 use Rattle.std.specs.Prelude.{All, AllPairs, Vec, ◌↔◌, ◌==◌}

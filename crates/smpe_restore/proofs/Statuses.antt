@@ -1,5 +1,6 @@
 -- Each id of the list has the status that is found for it.
-use Rattle.std.proofs.Common.{◌≡◌, inl, inr, Bool, true, false, not, List, [], ◌∷◌, Option, Some, None, Contains, refl, sym, ap, ◌∙◌}
+use Rattle.std.proofs.Common.{◌≡◌, inl, inr, Bool, true, false, not, List, [], ◌∷◌, Option, Some, None, Contains, refl}
+use Rattle.std.proofs.Common.{sym, ap, ◌∙◌}
 use Rattle.std.proofs.Common.{subst, true≢false, map}
 use Rattle.std.specs.Prelude.{find, if◌then◌else◌}
 use Rattle.std.specs.Option.{option_map_or}
@@ -76,7 +77,8 @@ module _ (r : Restoring) (ids cands : List Id) (rising : IsRising cands) (p : Pr
           let gives = find-gives (λ (f : Id × Failure). bytes_eq f.0 x) failed f found in
           let same : f.0 ≡ x = same_from f.0 x gives.0 in
           let why = All-contains (λ q. IsFailure cands kept (FailsRestore r) (MayBeRestored r ids)
-          (NeedsInRestore r (is_in ids)) (Serves r.choice) q.0 q.1) (map (λ f. (f.0, failure_view f.1)) failed) (f.0, failure_view f.1)
+          (NeedsInRestore r (is_in ids)) (Serves r.choice) q.0 q.1) (map (λ f. (f.0, failure_view f.1)) failed)
+          (f.0, failure_view f.1)
           is_decided.failures (in_map (λ (f : Id × Failure). (f.0, failure_view f.1)) failed f gives.1) in
           StaysOn (failure_view f.1)
           (subst (λ xs. Contains xs x) problem.cands_are (subst (Contains cands) same (failed_id f gives.1)))
