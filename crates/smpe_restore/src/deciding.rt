@@ -15,13 +15,13 @@ use terms::{NeedKind, Test};
 
 /// The SYSMODs that are taken off, and the lines of the list by id.
 #[derive(Drop)]
-pub struct Restored {
-    pub kept: IdList,
-    pub lines: Vec<Line>,
+pub(crate) struct TakenOff {
+    pub(crate) kept: IdList,
+    pub(crate) lines: Vec<Line>,
 }
 
 /// Decides the ids of the list by the numbered problem of its candidates and the tests that these fail.
-pub fn decide_restore(
+pub(crate) fn decide_restore(
     alloc: Heap,
     global: &Global,
     ids: &IdList,
@@ -29,7 +29,7 @@ pub fn decide_restore(
     system: &System,
     needed: &[(NeedKind, Id)],
     tests: Vec<Vec<Test>>,
-) -> Result<Restored, AllocError>
+) -> Result<TakenOff, AllocError>
     requires size { system.now.size ≡ length cands.now }
     requires needed { length needed.now ≡ length system.now.demands }
     requires tests { length tests.items ≡ length cands.now }
@@ -40,5 +40,5 @@ pub fn decide_restore(
     let Decided { kept, failed } = decide(alloc, cands, system, needed, tests)?;
     let _ = cands.as_slice();
     let lines = lines_of(alloc, global, ids.as_slice(), &kept, failed.as_slice())?;
-    Ok(Restored { kept, lines })
+    Ok(TakenOff { kept, lines })
 }

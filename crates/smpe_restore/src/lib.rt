@@ -1,10 +1,11 @@
-//! RESTORE: who is taken off, why each other candidate failed, and what is printed of each id of the list.
-//! Who is kept are the union of all self-supporting sets, and each other candidate has its failed tests, open needs and
-//! causers; the lines are those of the definition (`AreRestoreLines`). The zone's change is `change::restore`'s.
+//! RESTORE: what becomes of a target zone, and what is printed of each id.
+//! Whatever zone the delta of `restore` makes of the old one is the one that the command leaves by its list; the lines
+//! are those of the ids of the list, by id.
 #![tactic(auto)]
 
 mod deciding;
 mod lines;
 mod places;
+mod restored;
 
-pub use deciding::{Restored, decide_restore};
+pub use restored::{Restored, restore};

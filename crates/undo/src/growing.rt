@@ -37,7 +37,7 @@ fn grown(alloc: Heap, scope: &Scope<'_, '_>, list: &IdList) -> Result<IdList, Al
 }
 
 /// The list of RESTORE with GROUP. Each pass over the zone takes in what the list needs so far.
-pub fn grouped(
+pub(crate) fn grouped(
     alloc: Heap,
     vers: &VerChoice<'_>,
     zone: &Zone,
@@ -62,7 +62,7 @@ pub fn grouped(
 }
 
 /// The list of RESTORE with SELECT.
-pub fn selected(
+pub(crate) fn selected(
     alloc: Heap,
     vers: &VerChoice<'_>,
     zone: &Zone,
