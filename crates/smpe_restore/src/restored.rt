@@ -45,8 +45,15 @@ pub fn restore(
         needed,
         tests,
     } = restore_system(alloc, &vers, zone, accepted, &ids)?;
-    let TakenOff { kept, lines } =
-        decide_restore(alloc, global, &ids, &cands, &system, needed.as_slice(), tests)?;
+    let TakenOff { kept, lines } = decide_restore(
+        alloc,
+        global,
+        &ids,
+        &cands,
+        &system,
+        needed.as_slice(),
+        tests,
+    )?;
     let delta = change::restore(alloc, global, zone, accepted, &kept)?;
     Ok(Restored { delta, lines })
 }
