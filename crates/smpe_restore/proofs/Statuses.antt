@@ -2,6 +2,11 @@
 use Rattle.std.proofs.Common.{◌≡◌, inl, inr, Bool, true, false, not, List, [], ◌∷◌, Option, Some, None, Contains, refl}
 use Rattle.std.proofs.Common.{sym, ap, ◌∙◌}
 use Rattle.std.proofs.Common.{subst, true≢false, map}
+use Rattle.std.proofs.Common.{IsTrue, length, filter, take_all, arith}
+use Rattle.std.specs.Ordering.{nat_cmp}
+use Rattle.std.specs.Cmp.Lexicographic.{slice_cmp}
+use Rattle.std.proofs.lemmas.List.Kept.{AllPairs-filter}
+use Rattle.lemmas.proofs.Pairs.{pairs_unmap}
 use Rattle.std.specs.Prelude.{find, if◌then◌else◌}
 use Rattle.std.specs.Option.{option_map_or}
 use Rattle.std.specs.Str.{bytes_eq}
@@ -12,7 +17,8 @@ use Rattle.lemmas.proofs.Texts.{same_from, same_itself}
 use Rattle.terms.specs.declared.codes.NeedKind.{NeedKind}
 use Rattle.terms.specs.declared.codes.Test.{Test}
 use Rattle.terms.specs.Types.{Id, Global}
-use Rattle.terms.specs.Lookups.{IsRising, is_in}
+use Rattle.terms.specs.Lookups.{IsRising, is_before, is_in}
+use Rattle.terms.specs.Rising.{Rises}
 use Rattle.terms.specs.Needs.{Serves}
 use Rattle.terms.specs.Restore.{Restoring, NeedsInRestore, FailsRestore, MayBeRestored}
 use Rattle.terms.proofs.Ids.{is_in-from_Contains, Contains-from_is_in}
@@ -45,6 +51,16 @@ ids_of : (fs : List (Id × Failure)) → map (λ (q : Id × machine.Failure). q.
     (map (λ f. (f.0, failure_view f.1)) fs) ≡ map (λ q. q.0) fs
 ids_of [] = refl
 ids_of (f ∷ fs) = ap (λ l. f.0 ∷ l) (ids_of fs)
+
+-- those that failed rise by their ids
+pub failed_rises : (cands : List Id) → IsRising cands → (p : Problem) (needed : List (NeedKind × Id))
+    (tests : List (List Test)) (kept : List Id) (failed : List (Id × Failure))
+    → IsDecidedBy cands p needed tests kept failed → Rises (slice_cmp nat_cmp) (λ f. f.0) failed
+failed_rises cands rising p needed tests kept failed by =
+    pairs_unmap (λ f h. IsTrue (is_before f.0 h.0)) (λ x y. IsTrue (is_before x y)) (λ f. f.0) (λ f h low. low) failed
+    (subst IsRising (sym (by.failures.ids_are ∙ ap (filter (λ x. not (is_in kept x)))
+    (take_all (length cands) cands (omega arith))))
+    (AllPairs-filter (λ x y. IsTrue (is_before x y)) (λ x. not (is_in kept x)) cands rising))
 
 module _ (r : Restoring) (ids cands : List Id) (rising : IsRising cands) (p : Problem)
     (needed : List (NeedKind × Id)) (tests : List (List Test)) (problem : IsRestoreProblem r ids cands p needed tests)

@@ -1,6 +1,9 @@
 //! The lines of a RESTORE.
 ghost use Rattle.std.specs.Prelude.{◌≡◌, map, find, IfOk, option_copied};
+ghost use Rattle.std.specs.Ordering.{nat_cmp};
+ghost use Rattle.std.specs.Cmp.Lexicographic.{slice_cmp};
 ghost use Rattle.std.specs.Str.{bytes_eq};
+ghost use Rattle.terms.specs.Rising.{Rises};
 ghost use Rattle.report.specs.Views.{failure_view, line_view, status_view};
 ghost use Rattle.smpe_restore.specs.Lines.{status_in, line_in};
 
@@ -18,6 +21,7 @@ pub(crate) fn lines_of(
     kept: &IdList,
     failed: &[(Id, Failure)],
 ) -> Result<Vec<Line>, AllocError>
+    requires { Rises (slice_cmp nat_cmp) (λ f. f.0) failed.now }
     ensures { IfOk result (λ lines. map line_view lines.items
         ≡ map (line_in global.now kept.now failed.now) ids.now) }
 {
@@ -35,6 +39,7 @@ fn line(
     kept: &IdList,
     failed: &[(Id, Failure)],
 ) -> Result<Line, AllocError>
+    requires { Rises (slice_cmp nat_cmp) (λ f. f.0) failed.now }
     ensures { IfOk result (λ line. line_view line ≡ line_in global.now kept.now failed.now id) }
 {
     let status = status_of(alloc, id, kept, failed)?;
@@ -51,6 +56,7 @@ fn status_of(
     kept: &IdList,
     failed: &[(Id, Failure)],
 ) -> Result<Status, AllocError>
+    requires { Rises (slice_cmp nat_cmp) (λ f. f.0) failed.now }
     ensures { IfOk result (λ status. status_view status ≡ status_in kept.now failed.now id) }
 {
     if kept.contains(id) {
@@ -63,9 +69,13 @@ fn status_of(
 }
 
 fn found(failed: &[(Id, Failure)], id: Id) -> Option<&(Id, Failure)>
+    requires { Rises (slice_cmp nat_cmp) (λ f. f.0) failed.now }
     ensures { option_copied result ≡ find (λ f. bytes_eq f.0 id) failed.now }
 {
-    failed.iter().find(|failed| failed.0 == id)
+    match failed.binary_search_by_key(&id, |failed| failed.0) {
+        Ok(place) => Some(&failed[place]),
+        Err(_) => None,
+    }
 }
 
 fn copied(alloc: Heap, failure: &Failure) -> Result<Failure, AllocError>
