@@ -1,0 +1,4 @@
+pub mod Applied
+pub mod Changed
+pub mod Supplying
+pub mod Listing
