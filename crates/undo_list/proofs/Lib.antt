@@ -1,4 +1,6 @@
 pub mod Applied
 pub mod Changed
 pub mod Supplying
-pub mod Listing
+pub mod ListedBySteps
+pub mod Reached
+pub mod RulesOfSteps

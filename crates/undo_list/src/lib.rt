@@ -3,7 +3,12 @@
 //! requisites.
 #![tactic(auto)]
 
+mod listing;
 mod nodes;
+mod numbered;
+mod numbers;
 mod scope;
 mod steps;
 mod suppliers;
+
+pub use listing::{grouped, selected};

@@ -16,12 +16,13 @@ use Rattle.terms.specs.Types.{Id, Text, Change, RestoreGroup}
 use Rattle.terms.specs.Lookups.{IsZone, at_most_one, is_in, is_applied, is_supplied, applied_ids, changes_of, has_change, supplies}
 use Rattle.terms.specs.Choice.{fmid_of}
 use Rattle.terms.specs.Needs.{binding_ids}
-use Rattle.terms.specs.Restore.{Restoring, NeedsDep, NeedsElem, NeedsInRestore, is_supplied_outside, IsClosedList, IsListed}
+use Rattle.terms.specs.Restore.{Restoring, NeedsDep, NeedsElem, NeedsInRestore, is_supplied_outside, IsClosedList, IsListed, AreListed}
 use Rattle.terms.proofs.Ids.{is_in-from_Contains, Contains-from_is_in}
 use Rattle.undo_list.specs.declared.nodes.Node.{Node}
 use Rattle.undo_list.specs.declared.nodes.Node.TheVariants.{Sysmod, Element}
 use Rattle.undo_list.specs.Steps.{Step, AreClosed, IsReached, all_steps, steps_of, suppliers, is_start, element_at}
 use Rattle.undo_list.specs.Steps.{to_element, from_element, from_function, from_functions, from_suppliers, by_requisite}
+use Rattle.undo_list.specs.ByNumbers.{AreReached}
 use Rattle.undo_list.proofs.Applied.{applied-are}
 use Rattle.undo_list.proofs.Changed.{change-found, change-has}
 use Rattle.undo_list.proofs.Supplying.{in-flat_map, flat_map-in, supplier-is}
@@ -295,3 +296,14 @@ module _ (r : Restoring) (is_zone : IsZone r.zone) (ids : List Id) where
     λ reached listed closed. reached (with_elements listed) (set-closed listed closed),
     λ is set closed. is (λ y. set (Sysmod y)) (list-closed set closed),
   )
+
+-- the list is what the steps reach
+pub listed-from : (r : Restoring) → IsZone r.zone → (ids found : List Id) → AreReached ids (all_steps r) found
+    → AreListed r (RestoreGroup ids) found
+listed-from r is_zone ids found are = record {
+  rising = are.rising;
+  members = λ x. (
+    λ h. (reached-listed r is_zone ids x).0 ((are.members x).0 h),
+    λ h. (are.members x).1 ((reached-listed r is_zone ids x).1 h),
+  );
+}
