@@ -1,7 +1,7 @@
 -- What the steps reach is GROUP's list.
-use Rattle.std.proofs.Common.{◌≡◌, ◌≢◌, ◌∙◌, ◌⊎◌, inl, inr, Bool, true, false, not, List, [], ◌∷◌, ◌++◌, map, filter}
+use Rattle.std.proofs.Common.{◌≡◌, ◌∙◌, inl, inr, Bool, true, false, not, List, [], ◌∷◌, ◌++◌, map, filter}
 use Rattle.std.proofs.Common.{Option, None, Some, refl, sym, ap, ap₂, subst, cond, Contains, IsTrue, true≢false}
-use Rattle.std.specs.Prelude.{◌↔◌, ◌&&◌, ◌||◌, Any, IsFalse}
+use Rattle.std.specs.Prelude.{◌↔◌, ◌&&◌, ◌||◌, IsFalse}
 use Rattle.std.specs.List.{flat_map, list_any}
 use Rattle.std.specs.Str.{bytes_eq}
 use Rattle.std.proofs.lemmas.Bool.{and_parts, and_from, not-true}
@@ -11,8 +11,7 @@ use Rattle.lemmas.proofs.Members.{here, here_or, none_in, in_map, map_in, in_fil
 use Rattle.lemmas.proofs.Texts.{same_or_not}
 use Rattle.terms.specs.declared.codes.NeedKind.{NeedKind}
 use Rattle.terms.specs.declared.codes.NeedKind.TheVariants.{Elem, Dep}
-use Rattle.terms.specs.declared.kinds.ElemType.{ElemType}
-use Rattle.terms.specs.Types.{Id, Text, Change, RestoreGroup}
+use Rattle.terms.specs.Types.{Id, Change, RestoreGroup}
 use Rattle.terms.specs.Lookups.{IsZone, at_most_one, is_in, is_applied, is_supplied, applied_ids, changes_of, has_change, supplies}
 use Rattle.terms.specs.Choice.{fmid_of}
 use Rattle.terms.specs.Needs.{binding_ids}
@@ -128,8 +127,13 @@ module _ (r : Restoring) (is_zone : IsZone r.zone) (ids : List Id) where
           let applied = (and_parts (is_applied r.zone p) (bytes_eq p z || is_in _ p) on).0 in
           let among = (applied-are r.zone is_zone p).1 applied in
           absurd (true≢false (sym (list_any-from_Any (λ q. not (listed q) && supplies r.zone q z)
-          (applied_ids r.zone) (among.0, p, among.1, among.2,
-          and_from (not (listed p)) (supplies r.zone p z) (ap not e) on)) ∙ off))
+          (applied_ids r.zone) (
+            among.0,
+            p,
+            among.1,
+            among.2,
+            and_from (not (listed p)) (supplies r.zone p z) (ap not e) on,
+          )) ∙ off))
 
   module _ (set : Node → Bool) (closed : AreClosed ids (all_steps r) set) where
     abbrev listed : Id → Bool
@@ -158,8 +162,8 @@ module _ (r : Restoring) (is_zone : IsZone r.zone) (ids : List Id) where
           let s = all_of y (suppliers r.zone z) in
           closed.grown s (of-applied y s n.applied (fourth-in y z x (a.0, a.2, a.3) by))
           (λ m h.
-              let p = map_in Sysmod (suppliers r.zone z) m h in
-              subst (λ v. IsTrue (set v)) p.2 (all-listed listed z p.0 a.4.1 p.1)))
+          let p = map_in Sysmod (suppliers r.zone z) m h in
+          subst (λ v. IsTrue (set v)) p.2 (all-listed listed z p.0 a.4.1 p.1)))
     ]
 
     needed : (x y : Id) (kind : NeedKind) → IsTrue (listed x) → NeedsInRestore r listed x kind y → IsTrue (listed y)
@@ -192,9 +196,14 @@ module _ (r : Restoring) (is_zone : IsZone r.zone) (ids : List Id) where
         → Follows set (to_element y h)
     by-first y h applied of all =
         let among = (applied-are r.zone is_zone y).1 applied in
-        list_any-from_Any (λ x. listed x && has_change r.global x h.elem_type h.name) (applied_ids r.zone)
-        (among.0, y, among.1, among.2, and_from (listed y) (has_change r.global y h.elem_type h.name)
-        (all (Sysmod y) (here (Sysmod y) [])) (change-has r.global y h of))
+        list_any-from_Any (λ x. listed x && has_change r.global x h.elem_type h.name) (applied_ids r.zone) (
+          among.0,
+          y,
+          among.1,
+          among.2,
+          and_from (listed y) (has_change r.global y h.elem_type h.name)
+              (all (Sysmod y) (here (Sysmod y) [])) (change-has r.global y h of),
+        )
 
     by-second : (y : Id) (h : Change) → IsTrue (is_applied r.zone y) → IsFalse (is_supplied r.accepted y)
         → Contains (changes_of r.global y) h → Follows set (from_element y h)
@@ -210,12 +219,15 @@ module _ (r : Restoring) (is_zone : IsZone r.zone) (ids : List Id) where
               let k = found.0 in
               let has = subst (λ v. IsTrue (has_change r.global y k.elem_type v)) (sym found.3)
               (subst (λ t. IsTrue (has_change r.global y t h.name)) (sym found.2) (change-has r.global y h of)) in
-              closed.grown x y Elem parts.0 ((applied-are r.zone is_zone x).0 (a.0, a.2, a.3), record {
-                other = other;
-                applied = applied;
-                not_accepted = off;
-                shared = (found.1.0, k, found.1.1, found.1.2, has);
-              }))
+              closed.grown x y Elem parts.0 (
+                (applied-are r.zone is_zone x).0 (a.0, a.2, a.3),
+                record {
+                  other = other;
+                  applied = applied;
+                  not_accepted = off;
+                  shared = (found.1.0, k, found.1.1, found.1.2, has);
+                },
+              ))
         ]
 
     by-third : (y f : Id) → IsTrue (is_applied r.zone y) → IsTrue (is_applied r.zone f) → fmid_of r.choice y ≡ Some f
@@ -224,7 +236,7 @@ module _ (r : Restoring) (is_zone : IsZone r.zone) (ids : List Id) where
         let on = all (Sysmod f) (here (Sysmod f) []) in
         elim (same_or_not y f) [
           | inl same ↦ subst (λ v. IsTrue (listed v)) (sym same) on
-          | inr other ↦ closed.grown f y Dep on (there, record { other = other; applied = applied; depends = inl e; })
+          | inr other ↦ closed.grown f y Dep on (there, record { other = other; applied = applied; depends = inl e })
         ]
 
     none-outside : (z : Id) → ((p : Id) → Contains (suppliers r.zone z) p → IsTrue (listed p))
@@ -248,11 +260,14 @@ module _ (r : Restoring) (is_zone : IsZone r.zone) (ids : List Id) where
         let there = (and_parts (is_applied r.zone p) (bytes_eq p z || is_in _ p) on).0 in
         elim (same_or_not y p) [
           | inl same ↦ subst (λ v. IsTrue (listed v)) (sym same) (each p by)
-          | inr other ↦ closed.grown p y Dep (each p by) (there, record {
+          | inr other ↦ closed.grown p y Dep (each p by) (
+            there,
+            record {
               other = other;
               applied = applied;
               depends = inr (of.0, z, of.1, of.2, (on, none-outside z each));
-            })
+            },
+          )
         ]
 
     followed : (y : Id) (s : Step) → IsTrue (is_applied r.zone y) → Contains (steps_of r y) s → Follows set s

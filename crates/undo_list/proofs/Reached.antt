@@ -1,6 +1,6 @@
 -- What the numbered rules reach is what the steps reach.
-use Rattle.std.proofs.Common.{◌≡◌, ◌∙◌, ◌<◌, inl, inr, ℕ, zero, suc, Bool, true, false, List, [], ◌∷◌, ◌++◌, length, map, get_or}
-use Rattle.std.proofs.Common.{Option, None, Some, refl, sym, ap, ap₂, subst, cond, arith, Contains, IsTrue, true≢false, slice_get}
+use Rattle.std.proofs.Common.{◌≡◌, ◌∙◌, ◌<◌, inl, inr, ℕ, zero, suc, Bool, true, false, List, [], ◌∷◌, length, map, get_or}
+use Rattle.std.proofs.Common.{Some, refl, sym, ap, ap₂, subst, cond, arith, Contains, IsTrue, true≢false, slice_get}
 use Rattle.std.specs.Prelude.{◌↔◌, All}
 use Rattle.std.specs.Option.{option_map_or}
 use Rattle.std.specs.Ordering.{is_lt, is_eq, ordering_then}
@@ -9,23 +9,22 @@ use Rattle.std.proofs.lemmas.Bool.{cases_lt}
 use Rattle.std.proofs.lemmas.Cmp.{tied_itself, nat_cmp_total, nat_list_cmp_total}
 use Rattle.std.proofs.lemmas.List.{get_or_past}
 use Rattle.std.proofs.lemmas.List.Elements.{All-contains, Contains-get_or}
-use Rattle.std.proofs.lemmas.Option.{slice_get_within, slice_get-get_or, slice_get-map, get_or_from_slice_get, same_Some}
+use Rattle.std.proofs.lemmas.Option.{slice_get_within, get_or_from_slice_get, same_Some}
 use Rattle.lemmas.proofs.Members.{here_or, none_in}
 use Rattle.lemmas.proofs.Orderings.{Equal-from_is_eq}
 use Rattle.lemmas.proofs.Places.{found_at}
 use Rattle.terms.specs.Types.{Id, type_number}
-use Rattle.terms.specs.Lookups.{is_in}
 use Rattle.terms.specs.Rising.{Rises}
 use Rattle.terms.proofs.ElementOrder.{cmp-types}
 use Rattle.terms.proofs.Ids.{Contains-from_is_in}
 use Rattle.solve.specs.Problem.{holds}
-use Rattle.solve.specs.Least.{Rule, Growth, IsClosed, IsGrown, IsLeast}
+use Rattle.solve.specs.Least.{Rule, Growth, IsClosed, IsLeast}
 use Rattle.undo_list.specs.declared.nodes.Node.{Node}
 use Rattle.undo_list.specs.declared.nodes.Node.TheVariants.{Sysmod, Element}
 use Rattle.undo_list.specs.contracts.nodes.NodeOrd.TheImpl as node_order
 use Rattle.undo_list.specs.NodeOrder.{exact_nodes}
 use Rattle.undo_list.specs.Steps.{Step, AreClosed, IsReached, is_start}
-use Rattle.undo_list.specs.ByNumbers.{IsNumbered, AreNumbered, IsGrowth, AreFlagged, IsFlagged}
+use Rattle.undo_list.specs.ByNumbers.{IsGrowth, AreFlagged}
 
 -- all of a list, from each that is in it
 pub all-from : {X : Type 0} (P : X → Type 0) (xs : List X) → ((x : X) → Contains xs x → P x) → All P xs
@@ -134,7 +133,7 @@ module _ (table : List Node) (rises : Rises node_order.ghosts.cmp (λ n. n) tabl
           from-number p.0 m p.2 (All-contains (λ y. IsTrue (numbers y)) r.these p.0 all p.1)))
 
       numbers-closed : IsClosed g numbers
-      numbers-closed = record { start = start-numbers; rules = all-from _ g.rules follows; }
+      numbers-closed = record { start = start-numbers; rules = all-from _ g.rules follows }
 
     -- ---- the least set of numbers as one of nodes
 
@@ -165,7 +164,7 @@ module _ (table : List Node) (rises : Rises node_order.ghosts.cmp (λ n. n) tabl
           (least.members i).0 (at-number i m.0 m.2 ∙ all m.0 m.1) set closed)))
 
       nodes-closed : AreClosed ids steps nodes
-      nodes-closed = record { start = nodes-start; grown = nodes-grown; }
+      nodes-closed = record { start = nodes-start; grown = nodes-grown }
 
       pub flagged-reached : (found : List Id) → AreFlagged table flags (length table) found → length flags ≡ length table
           → (x : Id) → Contains found x ↔ IsReached ids steps (Sysmod x)

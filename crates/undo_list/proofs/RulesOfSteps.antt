@@ -1,6 +1,6 @@
 -- Steps and their numbers.
-use Rattle.std.proofs.Common.{◌≡◌, ◌∙◌, ◌<◌, ◌≤◌, ◌+◌, inl, inr, ℕ, Bool, true, false, List, [], ◌∷◌, ◌++◌, length, map, take, get_or}
-use Rattle.std.proofs.Common.{Some, refl, sym, ap, ap₂, subst, cond, arith, Contains, IsTrue, true≢false, slice_get, ltb-true}
+use Rattle.std.proofs.Common.{◌≡◌, ◌∙◌, ◌<◌, ◌+◌, inl, inr, ℕ, Bool, true, false, List, [], ◌∷◌, ◌++◌, length, map, take, get_or}
+use Rattle.std.proofs.Common.{Some, refl, sym, ap, subst, cond, arith, Contains, slice_get}
 use Rattle.std.proofs.Common.{nat_eq, All, IsPermutation, AllPairs}
 use Rattle.std.specs.Prelude.{◌↔◌}
 use Rattle.std.specs.List.{dedup, flat_map}
@@ -12,7 +12,7 @@ use Rattle.std.proofs.lemmas.List.Elements.{Contains-append_left, Contains-appen
 use Rattle.std.proofs.lemmas.List.Kept.{AllPairs-from_increasing, Contains-dedup_nat, Contains-from_dedup}
 use Rattle.std.proofs.lemmas.List.Sorted.{Contains-permutation, IsPermutation-sym}
 use Rattle.std.proofs.lemmas.Map.Keys.{IsStrictlyIncreasing-dedup}
-use Rattle.std.proofs.lemmas.Option.{slice_get_within, slice_get-get_or, same_Some}
+use Rattle.std.proofs.lemmas.Option.{slice_get_within, same_Some}
 use Rattle.lemmas.proofs.Members.{here, here_or, none_in, in_map, map_in}
 use Rattle.terms.specs.Types.{Id}
 use Rattle.terms.specs.Lookups.{IsRising}
@@ -116,9 +116,9 @@ pub flagged-more : (table : List Node) (flags : List Bool) (i : ℕ) (found new 
 flagged-more table flags i found new n at are is x = (
   λ h. elim (Contains-append_cases found (cond (holds flags i) (sysmod_in n) []) x
       (subst (λ l. Contains l x) is h)) [
-    | inl old ↦ (let p = (are x).0 old in (p.0, omega (arith, p.1), p.2))
-    | inr own ↦ (i, omega arith, by-flag (holds flags i) refl own)
-  ],
+        | inl old ↦ (let p = (are x).0 old in (p.0, omega (arith, p.1), p.2))
+        | inr own ↦ (i, omega arith, by-flag (holds flags i) refl own)
+      ],
   λ p. subst (λ l. Contains l x) (sym is) (within p.0 p.1 p.2),
 )
   where

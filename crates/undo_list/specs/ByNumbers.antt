@@ -1,13 +1,13 @@
 -- The steps with numbers in place of SYSMODs and elements.
-use Rattle.std.specs.Prelude.{◌≡◌, ◌↔◌, ◌<◌, ℕ, Bool, List, Some, [], ◌∷◌, ◌++◌, length, map, slice_get, Contains, IsTrue}
+use Rattle.std.specs.Prelude.{◌≡◌, ◌↔◌, ◌<◌, ℕ, Bool, List, Some, [], ◌∷◌, ◌++◌, map, slice_get, Contains, IsTrue}
 use Rattle.terms.specs.Types.{Id}
 use Rattle.terms.specs.Lookups.{IsRising}
 use Rattle.solve.specs.Problem.{holds}
-use Rattle.solve.specs.Least.{Rule, Growth, IsRule}
+use Rattle.solve.specs.Least.{Rule, Growth}
 use Rattle.undo_list.specs.declared.nodes.Node.{Node}
 use Rattle.undo_list.specs.declared.nodes.Node.TheVariants.{Sysmod, Element}
 use Rattle.undo_list.specs.declared.nodes.Step.{Step as RustStep}
-use Rattle.undo_list.specs.Steps.{Step, as_step, as_steps, is_start, IsReached}
+use Rattle.undo_list.specs.Steps.{Step, is_start, IsReached}
 
 -- the numbers are the places of these
 pub record ArePlaces (table these : List Node) (places : List ℕ) : Type 0 where

@@ -1,5 +1,5 @@
 -- The order of SYSMODs and elements: what it does not tell apart is one.
-use Rattle.std.proofs.Common.{◌≡◌, ◌∙◌, Bool, false, true, ap, ap₂, sym, true≢false}
+use Rattle.std.proofs.Common.{◌≡◌, ◌∙◌, true, ap, ap₂, sym, true≢false}
 use Rattle.std.specs.Cmp.{unsigned_ties}
 use Rattle.std.specs.Cmp.Lexicographic.{slice_cmp}
 use Rattle.std.specs.declared.cmp.Ordering.TheVariants.{Equal}

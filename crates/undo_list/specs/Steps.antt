@@ -1,5 +1,5 @@
 -- How GROUP's list grows: by steps between SYSMODs and elements.
-use Rattle.std.specs.Prelude.{Bool, true, false, not, List, [], ◌∷◌, ◌++◌, filter, map, Contains, IsTrue, if◌then◌else◌}
+use Rattle.std.specs.Prelude.{Bool, false, List, [], ◌∷◌, ◌++◌, filter, map, Contains, IsTrue, if◌then◌else◌}
 use Rattle.std.specs.List.{flat_map}
 use Rattle.terms.specs.Types.{Id, Zone, Change}
 use Rattle.terms.specs.Lookups.{at_most_one, is_in, is_nil, is_applied, is_supplied, supby_of, applied_ids, changes_of}

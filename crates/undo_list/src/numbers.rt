@@ -28,11 +28,7 @@ fn number(table: &Rising<Node>, node: Node) -> u32
     place(table, node) as u32
 }
 
-fn numbers(
-    alloc: Heap,
-    table: &Rising<Node>,
-    nodes: &[Node],
-) -> Result<Vec<u32>, AllocError>
+fn numbers(alloc: Heap, table: &Rising<Node>, nodes: &[Node]) -> Result<Vec<u32>, AllocError>
     requires fits { length table.now < 2 ^ 32 }
     requires there { All (λ n. Contains table.now n) nodes.now }
     ensures { IfOk result (λ found. map (slice_get table.now) found.items ≡ map (λ n. Some n) nodes.now) }
@@ -55,11 +51,7 @@ fn unique(mut numbers: Vec<u32>) -> Vec<u32>
 }
 
 /// The step as a rule.
-pub(crate) fn rule_of(
-    alloc: Heap,
-    table: &Rising<Node>,
-    step: &Step,
-) -> Result<Rule, AllocError>
+pub(crate) fn rule_of(alloc: Heap, table: &Rising<Node>, step: &Step) -> Result<Rule, AllocError>
     requires fits { length table.now < 2 ^ 32 }
     requires covers { Covers table.now step.now }
     ensures numbered { IfOk result (λ rule. IsNumbered table.now (as_step step.now) (as_rule rule)) }

@@ -20,5 +20,5 @@ returns-clause-numbered c = record {
 pub returns-clause-valid : goal.returns-clause-valid
 returns-clause-valid c =
     let numbered : IsNumbered c.args.table.now (as_step c.args.step.now)
-    record { these = c.unique.result.items; that = c.number.result; } = returns-clause-numbered c in
+    record { these = c.unique.result.items; that = c.number.result } = returns-clause-numbered c in
     numbered-rule c.args.table.now (as_step c.args.step.now) _ numbered c.unique.ensures.rising
