@@ -1,15 +1,17 @@
 -- The parts of what a command has, and why it has none.
-use Rattle.std.proofs.Common.{◌≡◌, true, List}
-use Rattle.std.specs.Prelude.{codes}
+use Rattle.std.proofs.Common.{◌≡◌, true, List, None, subst}
+use Rattle.std.specs.Prelude.{codes, IsSomeAnd}
 use Rattle.terms.specs.declared.codes.CommandWord.TheVariants as word
-use Rattle.terms.specs.Types.{Text, Install, Command, Reject, Apply, Accept, Report}
+use Rattle.terms.specs.Types.{Text, Install, Command, Reject, Apply, Accept, Restore, Report}
+use Rattle.terms.specs.Types.{RestoreList, RestoreSelect, RestoreGroup}
 use Rattle.terms.specs.Forms.{IsId}
 use Rattle.terms.specs.Words.{Word}
-use Rattle.terms.specs.Operands.{operand, HasFlag}
-use Rattle.terms.specs.CommandForms.{HasSome, HasInstall, HasOperands, command_word}
+use Rattle.terms.specs.Operands.{operand, HasFlag, HasSorted}
+use Rattle.terms.specs.CommandForms.{HasSome, HasInstall, HasRestoreList, HasOperands, command_word}
 
 -- what a command of each word has
-pub of_reject : (ws : List Word) (c : Command) → command_word c ≡ word.Reject → HasOperands ws c → (ids : List Text) × HasSome IsId (operand (codes "SELECT") ws) ids
+pub of_reject : (ws : List Word) (c : Command) → command_word c ≡ word.Reject → HasOperands ws c
+    → (ids : List Text) × HasSome IsId (operand (codes "SELECT") ws) ids
 of_reject ws (Reject ids) e h = (ids, h)
 of_reject ws c e h = absurd (cc (e))
 
@@ -23,7 +25,27 @@ pub of_accept : (ws : List Word) (c : Command) → command_word c ≡ word.Accep
 of_accept ws (Accept i) e h = (i, h)
 of_accept ws c e h = absurd (cc (e))
 
+pub of_restore : (ws : List Word) (c : Command) → command_word c ≡ word.Restore → HasOperands ws c
+    → (list : RestoreList) × HasRestoreList ws list
+of_restore ws (Restore list check) e h = (list, h.0)
+of_restore ws c e h = absurd (cc (e))
+
 pub of_report : (ws : List Word) (c : Command) → command_word c ≡ word.Report → HasOperands ws c
     → HasFlag (operand (codes "ERRSYSMODS") ws) true
 of_report ws Report e h = h
 of_report ws c e h = absurd (cc (e))
+
+module _ (ws : List Word) where
+  none_there : (name : Text) (ids : List Text) → operand name ws ≡ None → HasSome IsId (operand name ws) ids → ⊥
+  none_there name ids none h = subst (λ o. IsSomeAnd o (λ w. HasSorted IsId w ids)) none h.0
+
+  -- Of two lists one is there.
+  pub by_select : operand (codes "GROUP") ws ≡ None → (list : RestoreList) × HasRestoreList ws list
+      → (ids : List Text) × HasSome IsId (operand (codes "SELECT") ws) ids
+  by_select none (RestoreSelect ids, h) = (ids, h.1)
+  by_select none (RestoreGroup ids, h) = absurd (none_there (codes "GROUP") ids none h.1)
+
+  pub by_group : operand (codes "SELECT") ws ≡ None → (list : RestoreList) × HasRestoreList ws list
+      → (ids : List Text) × HasSome IsId (operand (codes "GROUP") ws) ids
+  by_group none (RestoreSelect ids, h) = absurd (none_there (codes "SELECT") ids none h.1)
+  by_group none (RestoreGroup ids, h) = (ids, h.1)

@@ -12,18 +12,17 @@ ghost use Rattle.rec80.specs.Cursors.{text_of};
 ghost use Rattle.rec80.specs.Views.{word_of};
 ghost use Rattle.operands.specs.Left.{LeavesWords};
 ghost use Rattle.operands.specs.Failing.{Excludes};
-ghost use Rattle.cntl_words.specs.Views.{command_word_of};
 ghost use Rattle.cntl.specs.Views.{reasons_in};
 ghost use Rattle.cntl.specs.Singles.{AreSingle};
 
 use crate::bypass::{Bypass, Reasons};
 use crate::values::short_list;
-use cntl_words::{KnownWord, members_of};
+use cntl_words::members_of;
 use fields::{Class, ClassList, Reason, ReasonList};
 use operands::{BadOperand, OperandError, are_members, flag, named_member, operand};
 use rec80::{Text, Word, Words};
 use std::alloc::Global;
-use terms::HoldKind;
+use terms::{CommandWord, HoldKind};
 
 /// Whether the member of that name is there, which has no list.
 fn member_flag(list: &Text<'_>, name: &[u8]) -> Result<bool, BadOperand>
@@ -133,11 +132,11 @@ fn bypassed(alloc: Global, list: &Text<'_>) -> Result<Bypass, OperandError>
 }
 
 /// What the list of BYPASS says, of whose members none is there twice.
-fn bypass_list(alloc: Global, word: KnownWord, list: &Text<'_>) -> Result<Bypass, OperandError>
-    ensures ok { list_any (is_often 2 (runs_from false [] (text_of list.now))) (members_of (command_word_of word))
-        ≡ false → IfOk result (λ b. IsBypassList (command_word_of word) (text_of list.now) b) }
+fn bypass_list(alloc: Global, word: CommandWord, list: &Text<'_>) -> Result<Bypass, OperandError>
+    ensures ok { list_any (is_often 2 (runs_from false [] (text_of list.now))) (members_of word)
+        ≡ false → IfOk result (λ b. IsBypassList word (text_of list.now) b) }
     ensures bad { IfErr result (λ e. Excludes e ((b : terms.Bypass)
-        × IsBypassList (command_word_of word) (text_of list.now) b)) }
+        × IsBypassList word (text_of list.now) b)) }
 {
     if !are_members(members_of(word), list) {
         return Err(OperandError::Bad);
@@ -146,11 +145,11 @@ fn bypass_list(alloc: Global, word: KnownWord, list: &Text<'_>) -> Result<Bypass
 }
 
 /// What BYPASS says, of whose members none is there twice. Where it is absent, nothing is bypassed.
-pub fn bypass(alloc: Global, word: KnownWord, words: &Words<'_>) -> Result<Bypass, OperandError>
-    ensures ok { (ws : List grammar.Word) → LeavesWords words.now ws → AreSingle (command_word_of word) ws
-        → IfOk result (λ b. HasBypass (command_word_of word) (operand (codes "BYPASS") ws) b) }
+pub fn bypass(alloc: Global, word: CommandWord, words: &Words<'_>) -> Result<Bypass, OperandError>
+    ensures ok { (ws : List grammar.Word) → LeavesWords words.now ws → AreSingle word ws
+        → IfOk result (λ b. HasBypass word (operand (codes "BYPASS") ws) b) }
     ensures bad { (ws : List grammar.Word) → LeavesWords words.now ws → IfErr result (λ e. Excludes e
-        ((b : terms.Bypass) × HasBypass (command_word_of word) (operand (codes "BYPASS") ws) b)) }
+        ((b : terms.Bypass) × HasBypass word (operand (codes "BYPASS") ws) b)) }
 {
     let Some(found) = operand(words, b"BYPASS") else {
         return Ok(Bypass::none(alloc));

@@ -69,7 +69,14 @@ impl Model for Install {
     ghost view = { λ a. record { selection = a.selection; bypass = a.bypass; check = a.check } };
 }
 
-/// A command, of those that can be performed as yet.
+/// The SYSMODs that RESTORE is to take off: those of SELECT, or those of GROUP and all that these make it take.
+#[derive(Drop)]
+pub enum RestoreList {
+    Select(IdList),
+    Group(IdList),
+}
+
+/// A command.
 #[derive(Drop)]
 pub enum Command {
     Set(ZoneName),
@@ -77,6 +84,7 @@ pub enum Command {
     Reject(IdList),
     Apply(Install),
     Accept(Install),
+    Restore { list: RestoreList, check: bool },
     /// With TEXT, the texts of elements are listed too.
     List { text: bool },
     /// REPORT ERRSYSMODS.

@@ -3,21 +3,21 @@ ghost use Rattle.std.specs.Prelude.{◌≡◌, true, ℕ, Bool, List, codes, IfO
 ghost use Rattle.terms.specs.Types as terms;
 ghost use Rattle.terms.specs.Words as grammar;
 ghost use Rattle.terms.specs.Operands.{operand, HasFlag};
-ghost use Rattle.terms.specs.CommandForms.{HasReceive, HasSelection, HasInstall, HasOperands, command_word};
+ghost use Rattle.terms.specs.CommandForms.{HasReceive, HasSelection, HasInstall, HasRestoreList, HasOperands};
+ghost use Rattle.terms.specs.CommandForms.{command_word};
 ghost use Rattle.operands.specs.Left.{LeavesWords};
 ghost use Rattle.operands.specs.Failing.{Excludes};
-ghost use Rattle.cntl_words.specs.Views.{command_word_of};
-ghost use Rattle.cntl.specs.Views.{command_of};
+ghost use Rattle.cntl.specs.Views.{restore_list_of, command_of};
 ghost use Rattle.cntl.specs.Singles.{AreSingle};
 
 use crate::bypassed::bypass;
-use crate::command::{Command, Install, ReceiveWhat, Selection};
-use crate::values::{flag_of, id_list, some_ids, source_list, zone};
-use cntl_words::KnownWord;
+use crate::command::{Command, Install, ReceiveWhat, RestoreList, Selection};
+use crate::values::{flag_of, id_list, is_absent, some_ids, source_list, zone};
 use fields::Source;
 use operands::{BadOperand, OperandError, optional};
 use rec80::Words;
 use std::alloc::Global;
+use terms::CommandWord;
 
 fn receive(words: &Words<'_>) -> Result<ReceiveWhat, BadOperand>
     ensures ok { (ws : List grammar.Word) → LeavesWords words.now ws → IfOk result (λ what. HasReceive ws what) }
@@ -76,11 +76,11 @@ fn selection(alloc: Global, words: &Words<'_>) -> Result<Selection, OperandError
     })
 }
 
-fn install(alloc: Global, word: KnownWord, words: &Words<'_>) -> Result<Install, OperandError>
-    ensures ok { (ws : List grammar.Word) → LeavesWords words.now ws → AreSingle (command_word_of word) ws
-        → IfOk result (λ i. HasInstall (command_word_of word) ws i) }
+fn install(alloc: Global, word: CommandWord, words: &Words<'_>) -> Result<Install, OperandError>
+    ensures ok { (ws : List grammar.Word) → LeavesWords words.now ws → AreSingle word ws
+        → IfOk result (λ i. HasInstall word ws i) }
     ensures bad { (ws : List grammar.Word) → LeavesWords words.now ws
-        → IfErr result (λ e. Excludes e ((i : terms.Install) × HasInstall (command_word_of word) ws i)) }
+        → IfErr result (λ e. Excludes e ((i : terms.Install) × HasInstall word ws i)) }
 {
     let check = flag_of(words, b"CHECK")?;
     let selection = selection(alloc, words)?;
@@ -92,30 +92,50 @@ fn install(alloc: Global, word: KnownWord, words: &Words<'_>) -> Result<Install,
     })
 }
 
+/// The ids of SELECT or of GROUP, where not both are there.
+fn restore_list(alloc: Global, words: &Words<'_>) -> Result<RestoreList, OperandError>
+    ensures ok { (ws : List grammar.Word) → LeavesWords words.now ws
+        → IfOk result (λ list. HasRestoreList ws (restore_list_of list)) }
+    ensures bad { (ws : List grammar.Word) → LeavesWords words.now ws
+        → IfErr result (λ e. Excludes e ((list : terms.RestoreList) × HasRestoreList ws list)) }
+{
+    if is_absent(words, b"GROUP") {
+        return Ok(RestoreList::Select(some_ids(alloc, words, b"SELECT")?));
+    }
+    if is_absent(words, b"SELECT") {
+        return Ok(RestoreList::Group(some_ids(alloc, words, b"GROUP")?));
+    }
+    Err(OperandError::Bad)
+}
+
 /// The command of this word and of the operands that are left, which are known ones. No member of BYPASS is there
 /// twice.
 pub fn read_operands(
     alloc: Global,
-    word: KnownWord,
+    word: CommandWord,
     words: &Words<'_>,
 ) -> Result<Command, OperandError>
-    ensures word { IfOk result (λ c. command_word (command_of c) ≡ command_word_of word) }
-    ensures ok { (ws : List grammar.Word) → LeavesWords words.now ws → AreSingle (command_word_of word) ws
+    ensures word { IfOk result (λ c. command_word (command_of c) ≡ word) }
+    ensures ok { (ws : List grammar.Word) → LeavesWords words.now ws → AreSingle word ws
         → IfOk result (λ c. HasOperands ws (command_of c)) }
     ensures bad { (ws : List grammar.Word) → LeavesWords words.now ws
-        → IfErr result (λ e. Excludes e ((c : terms.Command) × ((command_word c ≡ command_word_of word)
+        → IfErr result (λ e. Excludes e ((c : terms.Command) × ((command_word c ≡ word)
         × HasOperands ws c))) }
 {
     match word {
-        KnownWord::Set => Ok(Command::Set(zone(words)?)),
-        KnownWord::Receive => Ok(Command::Receive(receive(words)?)),
-        KnownWord::Reject => Ok(Command::Reject(some_ids(alloc, words, b"SELECT")?)),
-        KnownWord::Apply => Ok(Command::Apply(install(alloc, KnownWord::Apply, words)?)),
-        KnownWord::Accept => Ok(Command::Accept(install(alloc, KnownWord::Accept, words)?)),
-        KnownWord::List => Ok(Command::List {
+        CommandWord::Set => Ok(Command::Set(zone(words)?)),
+        CommandWord::Receive => Ok(Command::Receive(receive(words)?)),
+        CommandWord::Reject => Ok(Command::Reject(some_ids(alloc, words, b"SELECT")?)),
+        CommandWord::Apply => Ok(Command::Apply(install(alloc, CommandWord::Apply, words)?)),
+        CommandWord::Accept => Ok(Command::Accept(install(alloc, CommandWord::Accept, words)?)),
+        CommandWord::Restore => Ok(Command::Restore {
+            list: restore_list(alloc, words)?,
+            check: flag_of(words, b"CHECK")?,
+        }),
+        CommandWord::List => Ok(Command::List {
             text: flag_of(words, b"TEXT")?,
         }),
-        KnownWord::Report => {
+        CommandWord::Report => {
             errsysmods(words)?;
             Ok(Command::Report)
         }

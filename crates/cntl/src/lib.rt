@@ -1,6 +1,6 @@
 //! Command files: their commands, or the first fault.
 //! `read_cntl` answers the commands that the grammar relates the file to, else its first fault with the record; no file
-//! has both. RESTORE is not known yet.
+//! has both.
 #![tactic(auto)]
 
 mod bypass;
@@ -13,6 +13,6 @@ mod read;
 mod values;
 
 pub use bypass::{Bypass, Reasons};
-pub use command::{Command, Install, ReceiveWhat, Selection};
+pub use command::{Command, Install, ReceiveWhat, RestoreList, Selection};
 pub use errors::CntlError;
 pub use file::read_cntl;

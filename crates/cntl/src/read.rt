@@ -5,23 +5,23 @@ ghost use Rattle.terms.specs.Statement.{Piece as AnyPiece};
 ghost use Rattle.terms.specs.CommandForms.{IsCommand};
 ghost use Rattle.terms.specs.Commands.{BeginsWith};
 ghost use Rattle.operands.specs.Left.{LeavesPieces};
-ghost use Rattle.cntl_words.specs.Views.{command_word_of};
 ghost use Rattle.cntl.specs.Views.{command_of};
 ghost use Rattle.cntl.specs.Faults.{FailsCommand};
 
 use crate::command::Command;
 use crate::errors::CommandError;
 use crate::forms::read_operands;
-use cntl_words::{KnownWord, are_operands, has_double, read_known};
+use cntl_words::{are_operands, has_double, is_unchosen};
 use operands::OperandError;
 use rec80::{Piece, Words};
+use spelling::read_word;
 use std::alloc::Global;
-use terms::CnCode;
+use terms::{CnCode, CommandWord};
 
-/// Takes the word that a known command begins with.
-fn take_command_word(left: &mut Words<'_>) -> Option<KnownWord>
+/// Takes the word that a command begins with.
+fn take_command_word(left: &mut Words<'_>) -> Option<CommandWord>
     ensures word { IfSome result (λ w. (pieces : List AnyPiece) → LeavesPieces left.old pieces
-        → (rest : List AnyPiece) × BeginsWith pieces (command_word_of w) rest × LeavesPieces left.new rest) }
+        → (rest : List AnyPiece) × BeginsWith pieces w rest × LeavesPieces left.new rest) }
     ensures none { IfNone result ((pieces : List AnyPiece) → LeavesPieces left.old pieces
         → (w : CommandWord) (rest : List AnyPiece) → BeginsWith pieces w rest → ⊥) }
 {
@@ -29,10 +29,10 @@ fn take_command_word(left: &mut Words<'_>) -> Option<KnownWord>
     let Piece::Word(text) = piece else {
         return None;
     };
-    read_known(text)
+    read_word(text)
 }
 
-/// The command of these words, or the first that applies of Cn1, Cn3 and Cn2. Cn4 is RESTORE's.
+/// The command of these words, or the first that applies of Cn1, Cn3, Cn4 and Cn2.
 pub fn read_command(alloc: Global, words: &Words<'_>) -> Result<Command, CommandError>
     ensures command { (pieces : List AnyPiece) → LeavesPieces words.now pieces
         → IfOk result (λ c. IsCommand pieces (command_of c)) }
@@ -45,6 +45,9 @@ pub fn read_command(alloc: Global, words: &Words<'_>) -> Result<Command, Command
     };
     if has_double(word, &rest) {
         return Err(CommandError::Fault(CnCode::Cn3));
+    }
+    if is_unchosen(word, &rest) {
+        return Err(CommandError::Fault(CnCode::Cn4));
     }
     if !are_operands(word, &rest) {
         return Err(CommandError::Fault(CnCode::Cn2));

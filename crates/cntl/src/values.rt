@@ -1,5 +1,5 @@
 //! The values of single operands.
-ghost use Rattle.std.specs.Prelude.{◌≡◌, ◌≤◌, ℕ, Bool, List, codes, map, IfOk, IfErr, OnErr};
+ghost use Rattle.std.specs.Prelude.{◌≡◌, ◌≤◌, ◌↔◌, ℕ, Bool, None, List, IsTrue, codes, map, IfOk, IfErr, OnErr};
 ghost use Rattle.terms.specs.Forms.{IsId, IsSource, IsZoneName};
 ghost use Rattle.terms.specs.Words as grammar;
 ghost use Rattle.terms.specs.Words.{IsShort};
@@ -25,6 +25,13 @@ pub fn flag_of(words: &Words<'_>, name: &[u8]) -> Result<bool, BadOperand>
         → HasFlag (operand name.now ws) flag → ⊥) }
 {
     flag(&operand(words, name))
+}
+
+/// Whether there is no operand of that name.
+pub fn is_absent(words: &Words<'_>, name: &[u8]) -> bool
+    ensures { (ws : List grammar.Word) → LeavesWords words.now ws → IsTrue result ↔ (operand name.now ws ≡ None) }
+{
+    operand(words, name).is_none()
 }
 
 /// The zone that SET names.

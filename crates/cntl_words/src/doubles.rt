@@ -5,27 +5,26 @@ ghost use Rattle.terms.specs.Statement.{Piece};
 ghost use Rattle.terms.specs.CommandForms.{operands_of, members_of};
 ghost use Rattle.terms.specs.Commands.{words_in, runs_in, list_behind, is_often, has_double};
 ghost use Rattle.operands.specs.Left.{LeavesPieces};
-ghost use Rattle.cntl_words.specs.Views.{command_word_of};
 
-use crate::known_word::KnownWord;
 use crate::runs::any_run_twice;
 use crate::tables::{members_of, operands_of};
 use crate::words::{any_twice, list_behind};
 use rec80::Words;
+use terms::CommandWord;
 
 /// Whether a known operand of the command is there twice.
-fn has_operand_twice(word: KnownWord, words: &Words<'_>) -> bool
+fn has_operand_twice(word: CommandWord, words: &Words<'_>) -> bool
     ensures { (pieces : List Piece) → LeavesPieces words.now pieces
-        → result ≡ list_any (is_often 2 (words_in pieces)) (operands_of (command_word_of word)) }
+        → result ≡ list_any (is_often 2 (words_in pieces)) (operands_of word) }
 {
     any_twice(operands_of(word), words)
 }
 
 /// Whether a member that BYPASS may have is there twice.
-fn has_member_twice(word: KnownWord, words: &Words<'_>) -> bool
+fn has_member_twice(word: CommandWord, words: &Words<'_>) -> bool
     ensures { (pieces : List Piece) → LeavesPieces words.now pieces
         → result ≡ list_any (is_often 2 (runs_in (list_behind (codes "BYPASS") pieces)))
-        (members_of (command_word_of word)) }
+        (members_of word) }
 {
     let Some(list) = list_behind(words, b"BYPASS") else {
         return false;
@@ -34,9 +33,9 @@ fn has_member_twice(word: KnownWord, words: &Words<'_>) -> bool
 }
 
 /// Whether a known operand of the command is there twice, or a member of its BYPASS.
-pub fn has_double(word: KnownWord, words: &Words<'_>) -> bool
+pub fn has_double(word: CommandWord, words: &Words<'_>) -> bool
     ensures { (pieces : List Piece) → LeavesPieces words.now pieces
-        → result ≡ has_double (command_word_of word) pieces }
+        → result ≡ has_double word pieces }
 {
     if has_operand_twice(word, words) {
         return true;

@@ -5,25 +5,24 @@ ghost use Rattle.terms.specs.Words as grammar;
 ghost use Rattle.terms.specs.CommandForms.{operands_of};
 ghost use Rattle.terms.proofs.OperandWords.{AreKnown};
 ghost use Rattle.operands.specs.Left.{LeavesPieces, LeavesWords};
-ghost use Rattle.cntl_words.specs.Views.{command_word_of};
 
-use crate::known_word::KnownWord;
 use crate::tables::operands_of;
 use operands::is_among;
 use rec80::Words;
+use terms::CommandWord;
 
-fn is_operand(word: KnownWord, text: &[u8]) -> bool
-    ensures { result ≡ is_in (operands_of (command_word_of word)) text.now }
+fn is_operand(word: CommandWord, text: &[u8]) -> bool
+    ensures { result ≡ is_in (operands_of word) text.now }
 {
     is_among(operands_of(word), text)
 }
 
 /// Whether words that the command may have as operands are left, and nothing else.
-pub fn are_operands(word: KnownWord, words: &Words<'_>) -> bool
+pub fn are_operands(word: CommandWord, words: &Words<'_>) -> bool
     ensures known { result ≡ true → (pieces : List Piece) → LeavesPieces words.now pieces → (ws : List grammar.Word)
-        × grammar.HasWords pieces ws × AreKnown (command_word_of word) ws }
+        × grammar.HasWords pieces ws × AreKnown word ws }
     ensures unknown { result ≡ false → (ws : List grammar.Word) → LeavesWords words.now ws
-        → AreKnown (command_word_of word) ws → ⊥ }
+        → AreKnown word ws → ⊥ }
 {
     let mut left = *words;
     while let Ok(found) = left.next_word() {

@@ -1,16 +1,16 @@
-//! The words of a command, before their values are read: the word that it begins with, whether its operands are known,
-//! and whether it has an operand or a member of BYPASS twice, whatever else is wrong in it.
+//! The words of a command, before their values are read: whether its operands are known, whether it has an operand or a
+//! member of BYPASS twice, and whether it leaves SELECT or GROUP unchosen, whatever else is wrong in it.
 #![tactic(auto)]
 
 mod at;
 mod doubles;
 mod known;
-mod known_word;
 mod runs;
 mod tables;
+mod unchosen;
 mod words;
 
 pub use doubles::has_double;
 pub use known::are_operands;
-pub use known_word::{KnownWord, read_known};
 pub use tables::members_of;
+pub use unchosen::is_unchosen;

@@ -1,8 +1,7 @@
 ghost use Rattle.std.specs.Prelude.{◌≡◌, map};
 ghost use Rattle.terms.specs.CommandForms.{operands_of, members_of};
-ghost use Rattle.cntl_words.specs.Views.{command_word_of};
 
-use crate::known_word::KnownWord;
+use terms::CommandWord;
 
 /// The operands of APPLY and ACCEPT.
 const INSTALL: &[&[u8]] = &[
@@ -46,30 +45,32 @@ const ACCEPT_MEMBERS: &[&[u8]] = &[
 ];
 
 /// The operands that a command may have.
-pub fn operands_of(word: KnownWord) -> &'static [&'static [u8]]
-    ensures { map (λ name. name.now) result.now ≡ operands_of (command_word_of word) }
+pub fn operands_of(word: CommandWord) -> &'static [&'static [u8]]
+    ensures { map (λ name. name.now) result.now ≡ operands_of word }
 {
     match word {
-        KnownWord::Set => &[b"BDY"],
-        KnownWord::Receive => &[b"SYSMODS", b"HOLDDATA", b"SOURCEID"],
-        KnownWord::Reject => &[b"SELECT"],
-        KnownWord::Apply | KnownWord::Accept => INSTALL,
-        KnownWord::List => &[b"TEXT"],
-        KnownWord::Report => &[b"ERRSYSMODS"],
+        CommandWord::Set => &[b"BDY"],
+        CommandWord::Receive => &[b"SYSMODS", b"HOLDDATA", b"SOURCEID"],
+        CommandWord::Reject => &[b"SELECT"],
+        CommandWord::Apply | CommandWord::Accept => INSTALL,
+        CommandWord::Restore => &[b"SELECT", b"GROUP", b"CHECK"],
+        CommandWord::List => &[b"TEXT"],
+        CommandWord::Report => &[b"ERRSYSMODS"],
     }
 }
 
 /// The members that the BYPASS of a command may have.
-pub fn members_of(word: KnownWord) -> &'static [&'static [u8]]
-    ensures { map (λ name. name.now) result.now ≡ members_of (command_word_of word) }
+pub fn members_of(word: CommandWord) -> &'static [&'static [u8]]
+    ensures { map (λ name. name.now) result.now ≡ members_of word }
 {
     match word {
-        KnownWord::Apply => APPLY_MEMBERS,
-        KnownWord::Accept => ACCEPT_MEMBERS,
-        KnownWord::Set
-        | KnownWord::Receive
-        | KnownWord::Reject
-        | KnownWord::List
-        | KnownWord::Report => &[],
+        CommandWord::Apply => APPLY_MEMBERS,
+        CommandWord::Accept => ACCEPT_MEMBERS,
+        CommandWord::Set
+        | CommandWord::Receive
+        | CommandWord::Reject
+        | CommandWord::Restore
+        | CommandWord::List
+        | CommandWord::Report => &[],
     }
 }

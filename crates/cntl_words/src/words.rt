@@ -37,6 +37,14 @@ fn behind_word<'a>(words: &Words<'a>, name: &[u8]) -> Option<Words<'a>>
     None
 }
 
+/// Whether a word of that name is there.
+pub fn is_there(words: &Words<'_>, name: &[u8]) -> bool
+    ensures { (pieces : List AnyPiece) → LeavesPieces words.now pieces
+        → result ≡ is_often 1 (words_in pieces) name.now }
+{
+    behind_word(words, name).is_some()
+}
+
 fn is_twice(words: &Words<'_>, name: &[u8]) -> bool
     ensures { (pieces : List AnyPiece) → LeavesPieces words.now pieces
         → result ≡ is_often 2 (words_in pieces) name.now }

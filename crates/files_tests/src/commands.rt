@@ -1,7 +1,7 @@
 //! Operands and command files.
 
 use crate::cards::{Spelled, file, record};
-use cntl::{Bypass, CntlError, Command, Install, Reasons, ReceiveWhat, read_cntl};
+use cntl::{Bypass, CntlError, Command, Install, Reasons, ReceiveWhat, RestoreList, read_cntl};
 use operands::{flag, ids, one_member, operand, sources};
 use rec80::{Record, Records, Word};
 use spelling::cn_text;
@@ -190,7 +190,25 @@ const FILES: &[[&str; 3]] = &[
     ["REPORT.", "", "1 Cn2"],
     ["REPORT ERRSYSMODS(A).", "", "1 Cn2"],
     ["REPORT ERRSYSMODS", "ERRSYSMODS.", "1 Cn3"],
-    ["APPLY.", "RESTORE SELECT(UA00001).", "2 Cn1"],
+    [
+        "SET BDY(TGT1).",
+        "RESTORE SELECT(HAA1100,UA00017).",
+        "SET TGT1;RESTORE SELECT(HAA1100 UA00017 );",
+    ],
+    [
+        "RESTORE CHECK GROUP(UA00021).",
+        "",
+        "RESTORE CHECK GROUP(UA00021 );",
+    ],
+    ["APPLY.", "RESTORE SELECT(UA00001) GROUP(UA00002).", "2 Cn4"],
+    ["RESTORE.", "", "1 Cn4"],
+    ["RESTORE CHECK NO.", "", "1 Cn4"],
+    ["RESTORE SELECT GROUP(UA00001).", "", "1 Cn4"],
+    ["RESTORE SELECT(UA0001).", "", "1 Cn2"],
+    ["RESTORE GROUP.", "", "1 Cn2"],
+    ["RESTORE SELECT(UA00001) SELECT(UA00002).", "", "1 Cn3"],
+    ["RESTORE SELECT(UA00001) BYPASS(PRE).", "", "1 Cn2"],
+    ["UNDO SELECT(UA00001).", "", "1 Cn1"],
 ];
 
 fn put_flag(spelled: &mut Spelled, is_there: bool, word: &[u8]) {
@@ -267,6 +285,14 @@ fn put_command(spelled: &mut Spelled, command: &Command) {
         Command::Accept(install) => {
             spelled.put(b"ACCEPT");
             put_install(spelled, install);
+        }
+        Command::Restore { list, check } => {
+            spelled.put(b"RESTORE");
+            put_flag(spelled, *check, b" CHECK");
+            match list {
+                RestoreList::Select(ids) => spelled.put_ids(b" SELECT", ids),
+                RestoreList::Group(ids) => spelled.put_ids(b" GROUP", ids),
+            }
         }
         Command::List { text } => {
             spelled.put(b"LIST");

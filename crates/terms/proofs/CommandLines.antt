@@ -1,5 +1,5 @@
 -- Commands one after the other, and the word that a command begins with.
-use Rattle.std.proofs.Common.{◌≡◌, ℕ, false, IsTrue, List, [], ◌∷◌, ◌++◌, refl, sym, ◌∙◌, ap, subst}
+use Rattle.std.proofs.Common.{◌≡◌, ℕ, false, List, [], ◌∷◌, ◌++◌, refl, sym, ◌∙◌, ap, subst}
 use Rattle.std.specs.Prelude.{codes, if◌then◌else◌}
 use Rattle.std.specs.Str.{bytes_eq}
 use Rattle.terms.specs.declared.codes.CommandWord.{CommandWord}
@@ -10,7 +10,7 @@ use Rattle.terms.specs.Statement.{Piece, TheWord}
 use Rattle.terms.specs.CommandCuts.{TakesCommand}
 use Rattle.terms.specs.Words.{Word, HasWords}
 use Rattle.terms.specs.Operands.{AreOperands}
-use Rattle.terms.specs.CommandForms.{is_known, operands_of, command_word, HasOperands, IsCommand}
+use Rattle.terms.specs.CommandForms.{operands_of, command_word, HasOperands, IsCommand}
 use Rattle.terms.specs.Commands.{has_double, BeginsWith, BeginsWithCommands}
 use Rattle.terms.proofs.OperandWords.{AreKnown, are_operands}
 
@@ -48,7 +48,7 @@ same_rest s t ps qs e = cc (e)
 pub begins-only : (pieces : List Piece) (v w : CommandWord) (rest rest' : List Piece) → BeginsWith pieces v rest
     → BeginsWith pieces w rest' → (v ≡ w) × (rest ≡ rest')
 begins-only pieces v w rest rest' b c =
-    let e : TheWord (word_text v) ∷ rest ≡ TheWord (word_text w) ∷ rest' = sym b.0 ∙ c.0 in (
+    let e : TheWord (word_text v) ∷ rest ≡ TheWord (word_text w) ∷ rest' = sym b ∙ c in (
       word-only v w (same_text (word_text v) (word_text w) rest rest' e),
       same_rest (word_text v) (word_text w) rest rest' e,
     )
@@ -58,7 +58,7 @@ pub of_command : (pieces : List Piece) (w : CommandWord) (rest : List Piece) (c 
     → IsCommand pieces c → (command_word c ≡ w) × ((ws : List Word) × HasWords rest ws × AreKnown w ws
     × HasOperands ws c)
 of_command pieces w rest c b k =
-    let s = begins-only pieces (command_word c) w k.rest rest (k.begins, k.known) b in (
+    let s = begins-only pieces (command_word c) w k.rest rest k.begins b in (
       s.0,
       (
         k.words,
@@ -74,8 +74,7 @@ pub is_command : (pieces : List Piece) (w : CommandWord) (rest : List Piece) (ws
 is_command pieces w rest ws c b has known single e values = record {
   rest = rest;
   words = ws;
-  known = subst (λ v. IsTrue (is_known v)) (sym e) b.1;
-  begins = b.0 ∙ ap (λ v. TheWord (word_text v) ∷ rest) (sym e);
+  begins = b ∙ ap (λ v. TheWord (word_text v) ∷ rest) (sym e);
   has_words = has;
   are_operands = subst (λ v. AreOperands (operands_of v) ws) (sym e) (are_operands w rest ws has known single);
   has_operands = values;

@@ -58,16 +58,23 @@ make x0 x1 x2 x3 x4 x5 x6 x7 x8 x9 = record {
 
 selection-only : (ws : List Word) (s t : Selection) → HasSelection ws s → HasSelection ws t → s ≡ t
 selection-only ws s t h k =
-    let e0 : s.functions ≡ t.functions = flag-only (operand (codes "FUNCTIONS") ws) s.functions t.functions h.functions k.functions in
+    let e0 : s.functions ≡ t.functions =
+    flag-only (operand (codes "FUNCTIONS") ws) s.functions t.functions h.functions k.functions in
     let e1 : s.ptfs ≡ t.ptfs = flag-only (operand (codes "PTFS") ws) s.ptfs t.ptfs h.ptfs k.ptfs in
     let e2 : s.apars ≡ t.apars = flag-only (operand (codes "APARS") ws) s.apars t.apars h.apars k.apars in
-    let e3 : s.usermods ≡ t.usermods = flag-only (operand (codes "USERMODS") ws) s.usermods t.usermods h.usermods k.usermods in
-    let e4 : s.select ≡ t.select = texts-only IsId (operand (codes "SELECT") ws) s.select t.select h.select.0 k.select.0 in
-    let e5 : s.exclude ≡ t.exclude = texts-only IsId (operand (codes "EXCLUDE") ws) s.exclude t.exclude h.exclude.0 k.exclude.0 in
-    let e6 : s.sourceid ≡ t.sourceid = texts-only IsSource (operand (codes "SOURCEID") ws) s.sourceid t.sourceid h.sourceid.0 k.sourceid.0 in
-    let e7 : s.forfmid ≡ t.forfmid = texts-only IsId (operand (codes "FORFMID") ws) s.forfmid t.forfmid h.forfmid.0 k.forfmid.0 in
+    let e3 : s.usermods ≡ t.usermods =
+    flag-only (operand (codes "USERMODS") ws) s.usermods t.usermods h.usermods k.usermods in
+    let e4 : s.select ≡ t.select =
+    texts-only IsId (operand (codes "SELECT") ws) s.select t.select h.select.0 k.select.0 in
+    let e5 : s.exclude ≡ t.exclude =
+    texts-only IsId (operand (codes "EXCLUDE") ws) s.exclude t.exclude h.exclude.0 k.exclude.0 in
+    let e6 : s.sourceid ≡ t.sourceid =
+    texts-only IsSource (operand (codes "SOURCEID") ws) s.sourceid t.sourceid h.sourceid.0 k.sourceid.0 in
+    let e7 : s.forfmid ≡ t.forfmid =
+    texts-only IsId (operand (codes "FORFMID") ws) s.forfmid t.forfmid h.forfmid.0 k.forfmid.0 in
     let e8 : s.group ≡ t.group = texts-only IsId (operand (codes "GROUP") ws) s.group t.group h.group.0 k.group.0 in
-    let e9 : s.groupextend ≡ t.groupextend = flag-only (operand (codes "GROUPEXTEND") ws) s.groupextend t.groupextend h.groupextend k.groupextend in
+    let e9 : s.groupextend ≡ t.groupextend =
+    flag-only (operand (codes "GROUPEXTEND") ws) s.groupextend t.groupextend h.groupextend k.groupextend in
     ap (λ x. make x s.ptfs s.apars s.usermods s.select s.exclude s.sourceid s.forfmid s.group s.groupextend) e0
     ∙ ap (λ x. make t.functions x s.apars s.usermods s.select s.exclude s.sourceid s.forfmid s.group s.groupextend) e1
     ∙ ap (λ x. make t.functions t.ptfs x s.usermods s.select s.exclude s.sourceid s.forfmid s.group s.groupextend) e2
@@ -91,19 +98,24 @@ none_some None ids none h = h.0
 none_some (Some w) ids none h = cc (none)
 
 list-only : (ws : List Word) (a b : RestoreList) → HasRestoreList ws a → HasRestoreList ws b → a ≡ b
-list-only ws (RestoreSelect x) (RestoreSelect y) h k = ap (λ l. RestoreSelect l) (some-only IsId (operand (codes "SELECT") ws) x y h.1.0 k.1.0)
+list-only ws (RestoreSelect x) (RestoreSelect y) h k =
+    ap (λ l. RestoreSelect l) (some-only IsId (operand (codes "SELECT") ws) x y h.1.0 k.1.0)
 list-only ws (RestoreSelect x) (RestoreGroup y) h k = absurd (none_some (operand (codes "GROUP") ws) y h.0 k.1)
 list-only ws (RestoreGroup x) (RestoreSelect y) h k = absurd (none_some (operand (codes "GROUP") ws) x k.0 h.1)
-list-only ws (RestoreGroup x) (RestoreGroup y) h k = ap (λ l. RestoreGroup l) (some-only IsId (operand (codes "GROUP") ws) x y h.1.0 k.1.0)
+list-only ws (RestoreGroup x) (RestoreGroup y) h k =
+    ap (λ l. RestoreGroup l) (some-only IsId (operand (codes "GROUP") ws) x y h.1.0 k.1.0)
 
 values-only : (ws : List Word) (c d : Command) → command_word c ≡ command_word d → HasOperands ws c → HasOperands ws d
     → c ≡ d
 values-only ws (Set x) (Set y) e h k = ap (λ v. Set v) (required-only IsZoneName (operand (codes "BDY") ws) x y h k)
 values-only ws (Receive x) (Receive y) e h k = ap (λ v. Receive v) (receive-only ws x y h k)
-values-only ws (Reject x) (Reject y) e h k = ap (λ v. Reject v) (some-only IsId (operand (codes "SELECT") ws) x y h.0 k.0)
+values-only ws (Reject x) (Reject y) e h k =
+    ap (λ v. Reject v) (some-only IsId (operand (codes "SELECT") ws) x y h.0 k.0)
 values-only ws (Apply x) (Apply y) e h k = ap (λ v. Apply v) (install-only word.Apply ws x y h k)
 values-only ws (Accept x) (Accept y) e h k = ap (λ v. Accept v) (install-only word.Accept ws x y h k)
-values-only ws (Restore x a) (Restore y b) e h k = ap (λ v. Restore v a) (list-only ws x y h.0 k.0) ∙ ap (λ v. Restore y v) (flag-only (operand (codes "CHECK") ws) a b h.1 k.1)
+values-only ws (Restore x a) (Restore y b) e h k =
+    ap (λ v. Restore v a) (list-only ws x y h.0 k.0)
+    ∙ ap (λ v. Restore y v) (flag-only (operand (codes "CHECK") ws) a b h.1 k.1)
 values-only ws (ListZone x) (ListZone y) e h k = ap (λ v. ListZone v) (flag-only (operand (codes "TEXT") ws) x y h k)
 values-only ws Report Report e h k = refl
 values-only ws c d e h k = absurd (cc (e))
@@ -111,7 +123,7 @@ values-only ws c d e h k = absurd (cc (e))
 -- Pieces are one command at most.
 pub value-only : (pieces : List Piece) (c d : Command) → IsCommand pieces c → IsCommand pieces d → c ≡ d
 value-only pieces c d k l =
-    let o = of_command pieces (command_word c) k.rest d (k.begins, k.known) l in
+    let o = of_command pieces (command_word c) k.rest d k.begins l in
     let same = words-only k.rest k.words o.1.0 k.has_words o.1.1 in
     values-only o.1.0 c d (sym o.0) (subst (λ ws. HasOperands ws c) same k.has_operands) o.1.3
 
@@ -177,15 +189,28 @@ single pieces c k =
 chosen_list : (rest : List Piece) (ws : List Word) (list : RestoreList) → HasWords rest ws → HasRestoreList ws list
     → is_unchosen word.Restore rest ≡ false
 chosen_list rest ws (RestoreSelect ids) h r =
-    let is : words_in rest ≡ texts_of ws = ap words_in h ∙ words_of ws in
-    let there' : is_often 1 (words_in rest) (codes "SELECT") ≡ true = often 1 (words_in rest) (codes "SELECT") (omega (arith, present (codes "SELECT") ws (λ w. HasSorted IsId w ids) r.1.0, ap (count (codes "SELECT")) is)) in
-    let none : is_often 1 (words_in rest) (codes "GROUP") ≡ false = seldom 1 (words_in rest) (codes "GROUP") (omega (arith, absent (codes "GROUP") ws r.0, ap (count (codes "GROUP")) is)) in
-    ap (λ b. if b then is_often 1 (words_in rest) (codes "GROUP") else not (is_often 1 (words_in rest) (codes "GROUP"))) there' ∙ none
+    let texts = words_in rest in
+    let is : texts ≡ texts_of ws = ap words_in h ∙ words_of ws in
+    let select : is_often 1 texts (codes "SELECT") ≡ true = often 1 texts (codes "SELECT") (omega (
+      arith,
+      present (codes "SELECT") ws (λ w. HasSorted IsId w ids) r.1.0,
+      ap (count (codes "SELECT")) is,
+    )) in
+    let none : is_often 1 texts (codes "GROUP") ≡ false = seldom 1 texts (codes "GROUP")
+    (omega (arith, absent (codes "GROUP") ws r.0, ap (count (codes "GROUP")) is)) in
+    ap (λ b. if b then is_often 1 texts (codes "GROUP") else not (is_often 1 texts (codes "GROUP"))) select ∙ none
 chosen_list rest ws (RestoreGroup ids) h r =
-    let is : words_in rest ≡ texts_of ws = ap words_in h ∙ words_of ws in
-    let there' : is_often 1 (words_in rest) (codes "GROUP") ≡ true = often 1 (words_in rest) (codes "GROUP") (omega (arith, present (codes "GROUP") ws (λ w. HasSorted IsId w ids) r.1.0, ap (count (codes "GROUP")) is)) in
-    let none : is_often 1 (words_in rest) (codes "SELECT") ≡ false = seldom 1 (words_in rest) (codes "SELECT") (omega (arith, absent (codes "SELECT") ws r.0, ap (count (codes "SELECT")) is)) in
-    ap (λ b. if b then is_often 1 (words_in rest) (codes "GROUP") else not (is_often 1 (words_in rest) (codes "GROUP"))) none ∙ ap not there'
+    let texts = words_in rest in
+    let is : texts ≡ texts_of ws = ap words_in h ∙ words_of ws in
+    let group : is_often 1 texts (codes "GROUP") ≡ true = often 1 texts (codes "GROUP") (omega (
+      arith,
+      present (codes "GROUP") ws (λ w. HasSorted IsId w ids) r.1.0,
+      ap (count (codes "GROUP")) is,
+    )) in
+    let none : is_often 1 texts (codes "SELECT") ≡ false = seldom 1 texts (codes "SELECT")
+    (omega (arith, absent (codes "SELECT") ws r.0, ap (count (codes "SELECT")) is)) in
+    ap (λ b. if b then is_often 1 texts (codes "GROUP") else not (is_often 1 texts (codes "GROUP"))) none
+    ∙ ap not group
 
 chosen : (rest : List Piece) (ws : List Word) (c : Command) → HasWords rest ws → HasOperands ws c
     → is_unchosen (command_word c) rest ≡ false
@@ -201,13 +226,13 @@ chosen rest ws Report h v = refl
 -- No pieces are both a command and at fault.
 pub fault-no_value : (pieces : List Piece) (c : Command) (code : CnCode) → IsCommand pieces c
     → IsCommandFault pieces code → ⊥
-fault-no_value pieces c Cn1 k f = f (command_word c) k.rest (k.begins, k.known)
+fault-no_value pieces c Cn1 k f = f (command_word c) k.rest k.begins
 fault-no_value pieces c Cn2 k f = f.5 c k
 fault-no_value pieces c Cn3 k f =
-    let s = begins-only pieces f.0 (command_word c) f.1 k.rest f.2 (k.begins, k.known) in
+    let s = begins-only pieces f.0 (command_word c) f.1 k.rest f.2 k.begins in
     true≢false (sym f.3 ∙ ap (λ w. has_double w f.1) s.0 ∙ ap (has_double (command_word c)) s.1 ∙ single pieces c k)
 fault-no_value pieces c Cn4 k f =
-    let s = begins-only pieces f.0 (command_word c) f.1 k.rest f.2 (k.begins, k.known) in
+    let s = begins-only pieces f.0 (command_word c) f.1 k.rest f.2 k.begins in
     true≢false (sym f.4 ∙ ap (λ w. is_unchosen w f.1) s.0 ∙ ap (is_unchosen (command_word c)) s.1
     ∙ chosen k.rest k.words c k.has_words k.has_operands)
 fault-no_value pieces c Cn5 k f = f

@@ -1,6 +1,6 @@
 -- The form of each command: its word, its operands and its value (SMP/E Commands: SET, RECEIVE, REJECT, APPLY, ACCEPT,
 -- BYPASS of these two, RESTORE, LIST, REPORT).
-use Rattle.std.specs.Prelude.{◌≡◌, ◌||◌, Bool, true, false, not, List, [], ◌∷◌, Option, Some, None, IsSomeAnd, IsTrue}
+use Rattle.std.specs.Prelude.{◌≡◌, ◌||◌, Bool, true, false, not, List, [], ◌∷◌, Option, Some, None, IsSomeAnd}
 use Rattle.std.specs.Prelude.{codes}
 use Rattle.terms.specs.declared.kinds.HoldKind.{HoldKind}
 use Rattle.terms.specs.declared.kinds.HoldKind.TheVariants.{Error, System, User}
@@ -14,17 +14,6 @@ use Rattle.terms.specs.Spelling.{word_text}
 use Rattle.terms.specs.Forms.{IsId, IsClass, IsReason, IsSource, IsZoneName}
 use Rattle.terms.specs.Words.{IsShort, Word, HasWords, HasMembers}
 use Rattle.terms.specs.Operands.{operand, AreOperands, HasSorted, HasRequired, HasOptional, HasTexts, HasFlag}
-
--- Whether the command can be performed as yet. Another one is no command.
-abbrev pub is_known : CommandWord → Bool
-is_known word.Set = true
-is_known word.Receive = true
-is_known word.Reject = true
-is_known word.Apply = true
-is_known word.Accept = true
-is_known word.List = true
-is_known word.Report = true
-is_known word.Restore = false
 
 -- the operands of APPLY and ACCEPT
 abbrev pub install_operands : List Text
@@ -151,8 +140,10 @@ pub record HasInstall (w : CommandWord) (words : List Word) (i : Install) : Type
 
 -- SELECT or GROUP of RESTORE, and not both
 abbrev pub HasRestoreList : List Word → RestoreList → Type 0
-HasRestoreList words (RestoreSelect ids) = (operand (codes "GROUP") words ≡ None) × HasSome IsId (operand (codes "SELECT") words) ids
-HasRestoreList words (RestoreGroup ids) = (operand (codes "SELECT") words ≡ None) × HasSome IsId (operand (codes "GROUP") words) ids
+HasRestoreList words (RestoreSelect ids) =
+    (operand (codes "GROUP") words ≡ None) × HasSome IsId (operand (codes "SELECT") words) ids
+HasRestoreList words (RestoreGroup ids) =
+    (operand (codes "SELECT") words ≡ None) × HasSome IsId (operand (codes "GROUP") words) ids
 
 -- the command has the values that these operands give it
 abbrev pub HasOperands : List Word → Command → Type 0
@@ -165,11 +156,10 @@ HasOperands words (Restore ids check) = HasRestoreList words ids × HasFlag (ope
 HasOperands words (ListZone text) = HasFlag (operand (codes "TEXT") words) text
 HasOperands words Report = HasFlag (operand (codes "ERRSYSMODS") words) true
 
--- The pieces are a command: the word of a known one, which has no list, and known operands, each at most once.
+-- The pieces are a command: its word, which has no list, and operands that it may have, each at most once.
 pub record IsCommand (pieces : List Piece) (c : Command) : Type 0 where
   pub rest : List Piece
   pub words : List Word
-  pub known : IsTrue (is_known (command_word c))
   pub begins : pieces ≡ TheWord (word_text (command_word c)) ∷ rest
   pub has_words : HasWords rest words
   pub are_operands : AreOperands (operands_of (command_word c)) words

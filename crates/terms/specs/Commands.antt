@@ -1,6 +1,6 @@
 -- The commands of a command file, and its first fault.
 use Rattle.std.specs.Prelude.{◌≡◌, ◌==◌, ◌||◌, ℕ, Bool, true, false, List, [], ◌∷◌, ◌++◌, Option, Some, None, not}
-use Rattle.std.specs.Prelude.{IsTrue, ◌⊎◌, if◌then◌else◌, codes, count_by, nat_le}
+use Rattle.std.specs.Prelude.{◌⊎◌, if◌then◌else◌, codes, count_by, nat_le}
 use Rattle.std.specs.List.{list_any}
 use Rattle.std.specs.Str.{bytes_eq}
 use Rattle.terms.specs.declared.codes.CommandWord.{CommandWord}
@@ -13,7 +13,7 @@ use Rattle.terms.specs.Forms.{is_word_byte}
 use Rattle.terms.specs.Records.{HasRecords, IsRecFault, RecFault, rec_fault_record}
 use Rattle.terms.specs.Statement.{Piece, TheWord, TheList, joined, IsIdle, StFault}
 use Rattle.terms.specs.CommandCuts.{TakesCommand, IsCutFault}
-use Rattle.terms.specs.CommandForms.{is_known, operands_of, members_of, IsCommand}
+use Rattle.terms.specs.CommandForms.{operands_of, members_of, IsCommand}
 
 -- a fault of the command file, with the number of the record where the command begins
 pub record CntlFault : Type 0 where
@@ -77,9 +77,9 @@ is_unchosen word.Restore pieces =
     else not (is_often 1 (words_in pieces) (codes "GROUP"))
 is_unchosen _ pieces = false
 
--- the pieces begin with that command's word, and the command is known
+-- the pieces begin with that command's word
 abbrev pub BeginsWith : List Piece → CommandWord → List Piece → Type 0
-BeginsWith pieces w rest = (pieces ≡ TheWord (word_text w) ∷ rest) × IsTrue (is_known w)
+BeginsWith pieces w rest = pieces ≡ TheWord (word_text w) ∷ rest
 
 -- What is wrong with a command that ends well. The first that applies of Cn1, Cn3, Cn4 and Cn2 is answered.
 abbrev pub IsCommandFault : List Piece → CnCode → Type 0

@@ -8,18 +8,17 @@ use Rattle.terms.specs.Commands.{runs_in, is_often}
 use Rattle.terms.proofs.BypassMembers.{list_of}
 use Rattle.rec80.specs.Cursors.{text_of}
 use Rattle.rec80.specs.Views.{word_of}
-use Rattle.cntl_words.specs.Views.{command_word_of}
 use Rattle.cntl.proofs.Bypassing.{bypass_is}
 use Rattle.cntl.proofs.bypassed.bypass.Goals as goal
 
 pub returns-in_default-clause-ok : goal.returns-in_default-clause-ok
 returns-in_default-clause-ok c = λ ws l single.
     let none = rw c.in_default.is at c.operand.ensures ws l in
-    subst (λ o. HasBypass (command_word_of c.args.word) o c.none.result) none c.none.ensures
+    subst (λ o. HasBypass c.args.word o c.none.result) none c.none.ensures
 
 pub returns-clause-ok : goal.returns-clause-ok
 returns-clause-ok c = λ ws l single.
-    let w = command_word_of c.args.word in
+    let w = c.args.word in
     let is = rw c.in-Some.is at c.operand.ensures ws l in
     let list : (word_of c.in-Some.found).list ≡ Some (text_of c.in-Some-list.list) =
     ap (option_map text_of) c.in-Some-list.is in

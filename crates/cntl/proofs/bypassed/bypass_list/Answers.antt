@@ -2,7 +2,6 @@ use Rattle.std.proofs.Common.{sym, subst}
 use Rattle.std.proofs.lemmas.Result.{IfOk-weaker}
 use Rattle.operands.specs.Left.{AreNamed}
 use Rattle.rec80.specs.Cursors.{text_of}
-use Rattle.cntl_words.specs.Views.{command_word_of}
 use Rattle.cntl.proofs.Bypassing.{bypass_list}
 use Rattle.cntl.proofs.bypassed.bypass_list.Goals as goal
 
@@ -14,6 +13,6 @@ returns-then-not-are_members-clause-bad c = λ b.
 pub returns-clause-ok : goal.returns-clause-ok
 returns-clause-ok c = λ single.
     let k = c.are_members.ensures.named c.if-not-are_members.false in
-    IfOk-weaker c.bypassed.result _ _ (λ b says. bypass_list (command_word_of c.args.word) (text_of c.args.list.now)
+    IfOk-weaker c.bypassed.result _ _ (λ b says. bypass_list c.args.word (text_of c.args.list.now)
     k.0 b k.1 (subst (λ names. AreNamed names k.0) c.members_of.ensures k.2) single says)
     (c.bypassed.ensures.ok k.0 k.1)

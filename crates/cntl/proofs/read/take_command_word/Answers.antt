@@ -12,17 +12,17 @@ pub returns-in_default : goal.returns-in_default
 returns-in_default c = record {
   word = tt;
   none = λ pieces h w rest b. let t = c.in_ok-piece.ensures.piece pieces h
-      in no_word c.in_ok-piece.piece c.in_default.not-Word (word_text w) t.0 rest (sym t.1 ∙ b.0);
+      in no_word c.in_ok-piece.piece c.in_default.not-Word (word_text w) t.0 rest (sym t.1 ∙ b);
 }
 
 pub returns-clause-word : goal.returns-clause-word
 returns-clause-word c =
     let takes = rw c.in-Word.is at c.in_ok-piece.ensures.piece in
-    word_taken c.read_known.result c.in-Word.text.now (left_of c.args.left.now) (left_of c.next_piece.new.self)
-    c.read_known.ensures.found takes
+    word_taken c.read_word.result c.in-Word.text.now (left_of c.args.left.now) (left_of c.next_piece.new.self)
+    c.read_word.ensures.found takes
 
 pub returns-clause-none : goal.returns-clause-none
 returns-clause-none c =
     let takes = rw c.in-Word.is at c.in_ok-piece.ensures.piece in
-    word_unknown c.read_known.result c.in-Word.text.now (left_of c.args.left.now) (left_of c.next_piece.new.self)
-    c.read_known.ensures.none takes
+    word_unknown c.read_word.result c.in-Word.text.now (left_of c.args.left.now) (left_of c.next_piece.new.self)
+    c.read_word.ensures.none takes

@@ -7,18 +7,17 @@ use Rattle.terms.proofs.ExactBypass.{none_single, names_some}
 use Rattle.lemmas.proofs.Each.{All-unmap}
 use Rattle.lemmas.proofs.Searches.{list_any-map}
 use Rattle.rec80.specs.Cursors.{text_of}
-use Rattle.cntl_words.specs.Views.{command_word_of}
 use Rattle.cntl_words.proofs.doubles.has_member_twice.Goals as goal
 
 pub returns-in_default : goal.returns-in_default
 returns-in_default c = λ pieces h.
-    let names = members_of (command_word_of c.args.word) in
+    let names = members_of c.args.word in
     let none = rw c.in_default.is at c.list_behind.ensures pieces h in
     sym (ap (λ l. list_any (is_often 2 (runs_in l)) names) (sym none) ∙ none_single names)
 
 pub returns : goal.returns
 returns c = λ pieces h.
-    let w = command_word_of c.args.word in
+    let w = c.args.word in
     let runs = runs_from false [] (text_of c.in-Some.list) in
     let is = rw c.in-Some.is at c.list_behind.ensures pieces h in
     let some = All-unmap (λ t. 0 < length t) (λ name. name.now) c.members_of.result.now

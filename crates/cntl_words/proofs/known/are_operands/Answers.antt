@@ -9,7 +9,6 @@ use Rattle.terms.specs.Words.{Word, word_pieces}
 use Rattle.terms.proofs.Solids.{words_first, no_words}
 use Rattle.terms.proofs.OperandWords.{taken_more}
 use Rattle.rec80.specs.Views.{word_of}
-use Rattle.cntl_words.specs.Views.{command_word_of}
 use Rattle.cntl_words.proofs.known.are_operands.Goals as goal
 
 pub returns-in_default-found-clause-known : goal.returns-in_default-found-clause-known
@@ -24,9 +23,9 @@ returns-then-not-is_operand-clause-unknown c = λ _ ws l k.
     let word = rw c.in-Some.is at c.in-Ok.ensures.word in
     let t = word i.1.0 i.1.1 in
     let f = words_first i.1.0 (word_of c.in-Some.next) t.0 i.0 t.1 i.1.2 in
-    let first = All-head (λ w. IsTrue (is_in (operands_of (command_word_of c.args.word)) w.word))
+    let first = All-head (λ w. IsTrue (is_in (operands_of c.args.word) w.word))
     (word_of c.in-Some.next) f.0 (All-same (λ w. IsTrue
-    (is_in (operands_of (command_word_of c.args.word)) w.word)) (word_of c.in-Some.next ∷ f.0) i.0 (sym f.1)
+    (is_in (operands_of c.args.word) w.word)) (word_of c.in-Some.next ∷ f.0) i.0 (sym f.1)
     i.2) in
     true≢false (sym first ∙ sym c.is_operand.ensures ∙ c.if-not-is_operand.true)
 
@@ -34,7 +33,7 @@ pub loop-found-preserved : goal.loop-found-preserved
 loop-found-preserved c =
     let word = rw c.in-Some.is at c.in-Ok.ensures.word in
     let w = word_of c.in-Some.next in
-    let K = λ (w : Word). IsTrue (is_in (operands_of (command_word_of c.args.word)) w.word) in
+    let K = λ (w : Word). IsTrue (is_in (operands_of c.args.word) w.word) in
     record {
       known = λ pieces h.
           let i = c.loop-found.invariant.known pieces h in
