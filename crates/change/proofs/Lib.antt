@@ -22,3 +22,7 @@ pub mod FoldEnd
 pub mod Grouped
 pub mod AllElements
 pub mod Removed
+pub mod Turning
+pub mod LessEdits
+pub mod Reverted
+pub mod AfterRestore

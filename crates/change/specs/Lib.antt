@@ -7,3 +7,5 @@ pub mod Folding
 pub mod Grouping
 pub mod Elements
 pub mod Deleting
+pub mod Restoring
+pub mod Turned

@@ -1,18 +1,18 @@
 //! What DELETE takes out of a zone, and which SYSMOD has deleted an id.
-ghost use Rattle.std.specs.Prelude.{◌≡◌, not, IfOk, filter, find};
+ghost use Rattle.std.specs.Prelude.{◌≡◌, IfOk, find};
 ghost use Rattle.terms.specs.Lookups.{is_in, is_supplied, delby_of};
 ghost use Rattle.terms.specs.Choice.{del_of};
-ghost use Rattle.terms.specs.Deleted.{is_deleted, entry_less};
+ghost use Rattle.terms.specs.Deleted.{is_deleted};
 ghost use Rattle.sysmods.specs.Choices.{choice};
-ghost use Rattle.change.specs.Deleting.{AreDeletions, is_cut, is_gone, left, first_meeting, first_naming};
+ghost use Rattle.change.specs.Deleting.{AreDeletions, is_cut, left, first_meeting, first_naming};
 ghost use Rattle.change.specs.Deleting.{is_function_gone, first_deleter, delby_left};
 ghost use Rattle.change.specs.Entries.{old_entry};
 
 use fields::{Id, IdList};
 use std::alloc::{AllocError, Global as Heap};
 use sysmods::VerChoice;
-use zones::{Entry, TryClone, Zone};
-use zones_less::supplies_left;
+use zones::{Entry, Zone};
+use zones_less::{TakesOut, entry_less, supplies_left};
 
 /// Kept SYSMODs, what they name in DELETE by the `++VER`s that count, and the zone that this takes from.
 #[derive(Clone, Copy)]
@@ -29,13 +29,6 @@ impl<'a, 'b> Deleting<'a, 'b> {
         ensures { result ≡ is_cut self.now id }
     {
         self.vers.meets(id, self.dels)
-    }
-
-    /// Whether it is applied and the deletions take it out.
-    fn takes_out(&self, id: Id) -> bool
-        ensures { result ≡ is_gone self.now id }
-    {
-        self.zone.is_applied(id) && self.deletes(id)
     }
 
     /// Whether the id is supplied in what is left.
@@ -91,6 +84,17 @@ impl<'a, 'b> Deleting<'a, 'b> {
     }
 }
 
+impl<'a, 'b> TakesOut for Deleting<'a, 'b> {
+    ghost use Rattle.change.specs.Deleting.{is_gone};
+
+    ghost is_gone = { is_gone };
+
+    // Whether it is applied and the deletions take it out.
+    fn takes_out(&self, id: Id) -> bool {
+        self.zone.is_applied(id) && self.deletes(id)
+    }
+}
+
 /// The entry in what is left, which may have nothing.
 pub(crate) fn left_entry(alloc: Heap, deleting: &Deleting, id: Id) -> Result<Entry, AllocError>
     ensures { IfOk result (λ e. e ≡ old_entry (left deleting.now) id) }
@@ -106,47 +110,6 @@ pub(crate) fn left_entry(alloc: Heap, deleting: &Deleting, id: Id) -> Result<Ent
             waived: IdList::new(alloc),
         }),
     }
-}
-
-// The entry less what is taken out.
-fn entry_less(alloc: Heap, deleting: &Deleting, entry: &Entry) -> Result<Entry, AllocError>
-    ensures { IfOk result (λ less. less ≡ entry_less (is_gone deleting.now) entry.now) }
-{
-    let supby = list_left(alloc, deleting, &entry.supby)?;
-    if deleting.takes_out(entry.id) {
-        Ok(Entry {
-            id: entry.id,
-            applied: None,
-            supby,
-            delby: entry.delby,
-            waived: IdList::new(alloc),
-        })
-    } else {
-        Ok(Entry {
-            id: entry.id,
-            applied: entry.applied,
-            supby,
-            delby: entry.delby,
-            waived: entry.waived.try_clone(alloc)?,
-        })
-    }
-}
-
-fn list_left(alloc: Heap, deleting: &Deleting, ids: &IdList) -> Result<IdList, AllocError>
-    ensures { IfOk result (λ left. left ≡ filter (λ y. not (is_gone deleting.now y)) ids.now) }
-{
-    let left = IdList::from_vec(ids_left(alloc, deleting, ids.as_slice())?);
-    let _ = left.as_slice();
-    Ok(left)
-}
-
-fn ids_left(alloc: Heap, deleting: &Deleting, ids: &[Id]) -> Result<Vec<Id>, AllocError>
-    ensures { IfOk result (λ left. left.items ≡ filter (λ y. not (is_gone deleting.now y)) ids.now) }
-{
-    ids.iter()
-        .filter(|id| !deleting.takes_out(**id))
-        .copied()
-        .collect(alloc)
 }
 
 fn old_delby(zone: &Zone, id: Id) -> Option<Id>

@@ -184,7 +184,8 @@ fn has_same_lists(a: &Entry, b: &Entry) -> bool
     same_ids(&a.supby, &b.supby) && same_ids(&a.waived, &b.waived)
 }
 
-fn same_ids(a: &IdList, b: &IdList) -> bool
+/// Whether the two have the same ids.
+pub(crate) fn same_ids(a: &IdList, b: &IdList) -> bool
     ensures { IsTrue result ↔ (a.now ≡ b.now) }
 {
     a.as_slice() == b.as_slice()

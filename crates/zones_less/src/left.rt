@@ -6,6 +6,7 @@ ghost use Rattle.terms.specs.Deleted.{zone_less};
 ghost use Rattle.sysmods.specs.Choices.{choice};
 ghost use Rattle.zones_less.specs.Gone.{is_gone};
 
+use crate::entry::TakesOut;
 use crate::taking::Taking;
 use fields::{Id, Name};
 use sysmods::VerChoice;

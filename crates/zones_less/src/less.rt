@@ -5,7 +5,8 @@ ghost use Rattle.terms.specs.Deleted.{entries_less, zone_less};
 ghost use Rattle.sysmods.specs.Choices.{choice};
 ghost use Rattle.zones_less.specs.Gone.{is_cut, is_gone};
 
-use crate::taking::{Taking, entry_less};
+use crate::entry::entry_less;
+use crate::taking::Taking;
 use fields::Id;
 use std::alloc::{AllocError, Global as Heap};
 use sysmods::VerChoice;

@@ -1,11 +1,12 @@
 //! A zone less what DELETE operands take out of it, look-ups in it without a copy, and the requisites that a DELETE
-//! orphans; and which `++VER`s count in a zone. All is as the definitions have it. Seen in the code alone: each item
-//! that stays is copied once.
+//! orphans; and which `++VER`s count in a zone. `entry_less` takes SYSMODs out of one entry, whatever test tells them.
+//! All is as the definitions have it. Seen in the code alone: each item that stays is copied once.
 #![tactic(auto)]
 
 mod binding;
 mod choosing;
 mod deleting;
+mod entry;
 mod left;
 mod less;
 mod orphaned;
@@ -13,6 +14,7 @@ mod taking;
 
 pub use choosing::choose;
 pub use deleting::{deletions, view, view_deletions};
+pub use entry::{TakesOut, entry_less};
 pub use left::{element_left, is_left, supplies_left};
 pub use less::zone_less;
 pub use orphaned::orphans;

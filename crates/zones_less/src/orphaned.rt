@@ -7,6 +7,7 @@ ghost use Rattle.zones_less.specs.Gone.{is_gone, loses, binding_of, lost_by};
 
 use crate::binding::binding_ids;
 use crate::deleting::append_deletions;
+use crate::entry::TakesOut;
 use crate::taking::Taking;
 use fields::Id;
 use std::alloc::{AllocError, Global as Heap};

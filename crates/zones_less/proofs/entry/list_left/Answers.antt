@@ -4,12 +4,11 @@ use Rattle.std.proofs.lemmas.List.Kept.{AllPairs-filter}
 use Rattle.terms.specs.Types.{Id}
 use Rattle.terms.specs.Lookups.{IsRising, is_before}
 use Rattle.terms.proofs.ExactOperands.{rising-only}
-use Rattle.change.specs.Deleting.{is_gone}
-use Rattle.change.proofs.deleting.list_left.Goals as goal
+use Rattle.zones_less.proofs.entry.list_left.Goals as goal
 
 pub returns : goal.returns
-returns c =
-    let stays : Id → Bool = λ y. not (is_gone c.args.deleting.now y) in
+returns g c =
+    let stays : Id → Bool = λ y. not (g.T.TakesOut.is_gone c.args.taking.now y) in
     let left : List Id = c.in_ok-ids_left.field-0.items in
     let is : left ≡ filter stays c.args.ids.now = rw (← c.as_slice.ensures.items) c.in_ok-ids_left.ensures in
     let rising : IsRising c.args.ids.now = subst IsRising c.as_slice.ensures.items c.as_slice.ensures.rising in

@@ -1,0 +1,171 @@
+//! Elements that become those of another zone.
+ghost use Rattle.std.specs.Prelude.{◌≡◌, ◌↔◌, ◌++◌, [], IsPermutation, IsTrue, IfOk, IfSome, OnOk, Some, map, option_copied};
+ghost use Rattle.terms.specs.Lookups.{element_key, element_of};
+ghost use Rattle.change.specs.Restoring.{all_changed, changed_keys, EditsElement, PutsBack};
+ghost use Rattle.change.specs.Restoring.{ArePutBack};
+
+use crate::entries::same_ids;
+use fields::{Id, Name};
+use std::alloc::{AllocError, Global as Heap};
+use sysmods::Global;
+use sysmods_records::ElemChange;
+use terms::ElemType;
+use zones::{Element, TryClone, Zone, ZoneDelta};
+
+/// The types and names of the elements that these SYSMODs change, in order. One that several change comes several
+/// times.
+pub(crate) fn changed_elements(
+    alloc: Heap,
+    global: &Global,
+    ids: &[Id],
+) -> Result<Vec<(ElemType, Name)>, AllocError>
+    ensures { IfOk result (λ keys. IsPermutation (all_changed global.now ids.now) keys.items) }
+{
+    let keys = changes_of_all(alloc, global, ids)?;
+    Ok(in_order(keys))
+}
+
+fn in_order(mut keys: Vec<(ElemType, Name)>) -> Vec<(ElemType, Name)>
+    ensures { IsPermutation keys.items result.items }
+{
+    keys.sort_unstable();
+    keys
+}
+
+fn changes_of_all(
+    alloc: Heap,
+    global: &Global,
+    ids: &[Id],
+) -> Result<Vec<(ElemType, Name)>, AllocError>
+    ensures { IfOk result (λ keys. keys.items ≡ all_changed global.now ids.now) }
+{
+    let mut keys = Vec::new(alloc);
+    for id in ids {
+        append_changes_of(global, *id, &mut keys)?;
+    }
+    Ok(keys)
+}
+
+fn append_changes_of(
+    global: &Global,
+    id: Id,
+    keys: &mut Vec<(ElemType, Name)>,
+) -> Result<(), AllocError>
+    ensures { OnOk result (keys.new.items ≡ keys.old.items ++ changed_keys global.now id) }
+{
+    match global.get(id) {
+        Some(sysmod) => append_keys(sysmod.changes.as_slice(), keys),
+        None => Ok(()),
+    }
+}
+
+fn append_keys(changes: &[ElemChange], keys: &mut Vec<(ElemType, Name)>) -> Result<(), AllocError>
+    ensures { OnOk result (keys.new.items ≡ keys.old.items ++ map (λ h. (h.elem_type, h.name)) changes.now) }
+{
+    for change in changes {
+        keys.push((change.elem_type, change.name))?;
+    }
+    Ok(())
+}
+
+/// Each of these elements becomes the one of the other zone, or goes if that has none.
+pub(crate) fn put_back(
+    alloc: Heap,
+    zone: &Zone,
+    accepted: &Zone,
+    keys: &[(ElemType, Name)],
+    delta: &mut ZoneDelta,
+) -> Result<(), AllocError>
+    requires { delta.old.elements ≡ [] }
+    ensures { OnOk result (ArePutBack zone.now accepted.now keys.now delta.old delta.new) }
+{
+    for key in keys {
+        put_back_one(alloc, zone, accepted, key.0, key.1, delta)?;
+    }
+    Ok(())
+}
+
+// An element that is the same in both zones stays.
+fn put_back_one(
+    alloc: Heap,
+    zone: &Zone,
+    accepted: &Zone,
+    elem_type: ElemType,
+    name: Name,
+    delta: &mut ZoneDelta,
+) -> Result<(), AllocError>
+    ensures { OnOk result (PutsBack zone.now accepted.now (elem_type, name) delta.old delta.new) }
+{
+    let wanted = element_at(accepted, elem_type, name);
+    if is_there(zone.element(elem_type, name), wanted) {
+        return Ok(());
+    }
+    put_or_remove(alloc, elem_type, name, wanted, delta)
+}
+
+fn element_at(zone: &Zone, elem_type: ElemType, name: Name) -> Option<&Element>
+    ensures at { option_copied result ≡ element_of zone.now elem_type name }
+    ensures key { IfSome (option_copied result) (λ e. element_key e ≡ (elem_type, name)) }
+{
+    zone.element(elem_type, name)
+}
+
+fn put_or_remove(
+    alloc: Heap,
+    elem_type: ElemType,
+    name: Name,
+    wanted: Option<&Element>,
+    delta: &mut ZoneDelta,
+) -> Result<(), AllocError>
+    requires { IfSome (option_copied wanted) (λ e. element_key e ≡ (elem_type, name)) }
+    ensures { OnOk result (EditsElement (elem_type, name) (option_copied wanted.entry) delta.old delta.new) }
+{
+    match wanted {
+        Some(element) => delta.put_element(element.try_clone(alloc)?),
+        None => delta.remove_element(elem_type, name),
+    }
+}
+
+// Whether the two are one element, or none.
+fn is_there(a: Option<&Element>, b: Option<&Element>) -> bool
+    ensures { IsTrue result ↔ (option_copied a.entry ≡ option_copied b.entry) }
+{
+    match a {
+        Some(element) => is_element(element, b),
+        None => b.is_none(),
+    }
+}
+
+fn is_element(a: &Element, b: Option<&Element>) -> bool
+    ensures { IsTrue result ↔ (Some a.now ≡ option_copied b.entry) }
+{
+    match b {
+        Some(element) => is_same(a, element),
+        None => false,
+    }
+}
+
+fn is_same(a: &Element, b: &Element) -> bool
+    ensures { IsTrue result ↔ (a.now ≡ b.now) }
+{
+    has_same_names(a, b) && has_same_owner(a, b) && has_same_text(a, b)
+}
+
+fn has_same_names(a: &Element, b: &Element) -> bool
+    ensures { IsTrue result ↔ (a.now.elem_type ≡ b.now.elem_type) × (a.now.name ≡ b.now.name)
+        × (a.now.distlib ≡ b.now.distlib) × (a.now.syslib ≡ b.now.syslib) }
+{
+    a.elem_type == b.elem_type && a.name == b.name && a.distlib == b.distlib && a.syslib == b.syslib
+}
+
+fn has_same_owner(a: &Element, b: &Element) -> bool
+    ensures { IsTrue result ↔ (a.now.fmid ≡ b.now.fmid) × (a.now.rmid ≡ b.now.rmid) × (a.now.umids ≡ b.now.umids) }
+{
+    a.fmid == b.fmid && a.rmid == b.rmid && same_ids(&a.umids, &b.umids)
+}
+
+fn has_same_text(a: &Element, b: &Element) -> bool
+    ensures { IsTrue result ↔ (a.now.text ≡ b.now.text) }
+{
+    a.text.as_slice() == b.text.as_slice()
+}
