@@ -1,5 +1,5 @@
--- What an APPLY decides, from what its parts answer: the kept ones may be installed together, and the lines are those
--- of the decision.
+-- What an APPLY or ACCEPT decides, from what its parts answer: the kept ones may be installed together, and the lines
+-- are those of the decision.
 use Rattle.std.proofs.Common.{◌≡◌, ◌≢◌, ◌⊎◌, inl, inr, Bool, true, false, not, List, [], ◌∷◌, ◌++◌, Option, None, Some}
 use Rattle.std.proofs.Common.{IsTrue, filter, map, refl, sym, ap, ◌∙◌, subst, true≢false}
 use Rattle.std.specs.Prelude.{◌↔◌, ◌&&◌, ◌==◌, All, Contains, IsPermutation, is_some, unwrap_or, if◌then◌else◌}
@@ -14,7 +14,7 @@ use Rattle.terms.specs.declared.kinds.ElemType.{ElemType}
 use Rattle.terms.specs.declared.not_chosen.NotChosen.{NotChosen}
 use Rattle.terms.specs.Types.{Text, Id, type_number, Change, Global, Zone, Bypass, Selection}
 use Rattle.terms.specs.Lookups.{IsRising, IsZone, is_in, is_applied, is_supplied}
-use Rattle.sysmods.specs.Choices.{by_srel}
+use Rattle.terms.specs.Choice.{counting}
 use Rattle.terms.specs.Over.{IsOver}
 use Rattle.terms.specs.Global.{IsGlobal}
 use Rattle.terms.specs.Candidates.{AreCandidates, is_installable, not_chosen}
@@ -66,13 +66,13 @@ no_reason g zone sel x why ok is = by (is_in (sel.select ++ sel.group) x) (is_in
     by true true n e = let none = rw (n, e) at is in absurd cc
     by true false n e = let none = rw (n, e, ok) at is in absurd cc
 
-module _ (g : Global) (zone : Zone) (sel : Selection) (bypass : Bypass) (date : Text) (cands kept : List Id)
-    (failed : List (Id × Failure))
-    (are : AreCandidates g (by_srel g zone.srel) zone sel cands)
+module _ (g : Global) (zone : Zone) (related : Option Zone) (sel : Selection) (bypass : Bypass) (date : Text)
+    (cands kept : List Id) (failed : List (Id × Failure))
+    (are : AreCandidates g zone sel cands)
     (ok : All (λ x. IsTrue (is_installable g zone x)) cands)
-    (decided : IsDecided (setting g zone None cands bypass) kept failed) where
+    (decided : IsDecided (setting g zone related cands bypass) kept failed) where
   abbrev s : Setting
-  s = setting g zone None cands bypass
+  s = setting g zone related cands bypass
 
   eligible : (x : Id) → Contains kept x → IsEligible s x
   eligible x h = let stays = (decided.members x).0 h in stays.1.eligible x stays.2
@@ -89,12 +89,12 @@ module _ (g : Global) (zone : Zone) (sel : Selection) (bypass : Bypass) (date : 
   -- with the pairs of a kept id and a bypassed requisite of it
   abbrev pub decision : List (Id × Id) → Decision
   decision bypassed = record {
-    setting = setting g zone None cands bypass;
+    setting = setting g zone related cands bypass;
     survivors = decided.survivors;
     kept = kept;
     installing = record {
       global = g;
-      choice = by_srel g zone.srel;
+      choice = counting g zone cands;
       zone = zone;
       kept = kept;
       bypassed = bypassed;
@@ -113,7 +113,7 @@ module _ (g : Global) (zone : Zone) (sel : Selection) (bypass : Bypass) (date : 
   -- updates is there, or one of them replaces it.
   module _ (is_zone : IsZone zone) (is_global : IsGlobal g) (bypassed : List (Id × Id)) where
     pub kept_order : (x y : Id) → Contains kept x → Contains kept y → x ≢ y → ShareElement g x y
-        → IsOver (by_srel g zone.srel) x y ⊎ IsOver (by_srel g zone.srel) y x
+        → IsOver (counting g zone cands) x y ⊎ IsOver (counting g zone cands) y x
     kept_order = install_over s decided.survivors kept decided.members is_zone is_global refl unapplied
         (decision bypassed).installing (record { global = refl; choice = refl; zone = refl; kept = refl })
 
@@ -123,7 +123,7 @@ module _ (g : Global) (zone : Zone) (sel : Selection) (bypass : Bypass) (date : 
 
   pub decides : (bypassed : List (Id × Id))
       → ((x z : Id) → Contains bypassed (x, z) ↔ (Contains kept x × Contains (bypassed_ids s x) z))
-      → IsDecision g zone None sel bypass date (decision bypassed)
+      → IsDecision g zone related sel bypass date (decision bypassed)
   decides bypassed are_bypassed = record {
     cands = cands;
     candidates = are;
@@ -258,8 +258,8 @@ module _ (g : Global) (zone : Zone) (sel : Selection) (bypass : Bypass) (date : 
     install_lines lines made =
         let same : IsPermutation (map (λ p. p.0) all) (map (λ p. p.0) made.found) =
         IsPermutation-map (λ p. p.0) all made.found made.by_id.same in
-        are_install_lines (decision bypassed) sel made.found lines (rises_by_id all made.found made.by_id.same made.by_id.sorted
-        all_apart) made.lines_are
+        are_install_lines (decision bypassed) sel made.found lines
+        (rises_by_id all made.found made.by_id.same made.by_id.sorted all_apart) made.lines_are
         (λ p h. has_status p (Contains-permutation made.found all p (IsPermutation-sym all made.found made.by_id.same)
         h))
         (λ x st h. Contains-permutation (map (λ p. p.0) all) (map (λ p. p.0) made.found) x same

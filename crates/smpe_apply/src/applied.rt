@@ -1,5 +1,5 @@
-//! The zone's change and the lines of an APPLY.
-ghost use Rattle.std.specs.Prelude.{◌≡◌, None, IfOk, map};
+//! The zone's change and the lines of an APPLY or ACCEPT.
+ghost use Rattle.std.specs.Prelude.{◌≡◌, IfOk, map, option_copied};
 ghost use Rattle.terms.specs.Types.{Zone as AZone};
 ghost use Rattle.terms.specs.Forms.{IsDottedDate};
 ghost use Rattle.zones.specs.Delta.{IsChanged};
@@ -17,26 +17,29 @@ use select::{candidates, not_chosen};
 use std::alloc::{AllocError, Global as Heap};
 use sysmods::Global;
 use zones::{Zone, ZoneDelta};
+use zones_less::choose;
 
-/// What an APPLY changes, and its lines by id.
+/// What an APPLY or ACCEPT changes, and its lines by id.
 #[derive(Drop)]
 pub struct Applied {
     pub delta: ZoneDelta,
     pub lines: Vec<Line>,
 }
 
-/// Installs what is selected into the zone, less what BYPASS leaves out of account. Whether the command checks alone is
-/// its caller's matter.
+/// Installs what is selected into the zone, less what BYPASS leaves out of account: APPLY in a target zone, ACCEPT in a
+/// distribution zone, which looks at the related target zone. Whether the command checks alone is its caller's matter.
 pub fn apply(
     alloc: Heap,
     global: &Global,
     zone: &Zone,
+    related: Option<&Zone>,
     selection: &Selection,
     bypass: &Bypass,
     date: YyDdd,
 ) -> Result<Applied, AllocError>
     ensures installs { IfOk result (λ a. (new : AZone) → IsChanged a.delta zone.now new →
-        InstallsSelected global.now zone.now None selection.now bypass.now date new (map line_view a.lines.items)) }
+        InstallsSelected global.now zone.now (option_copied related.entry) selection.now bypass.now date new
+        (map line_view a.lines.items)) }
     ensures dated { IsDottedDate date }
 {
     prove!(date.as_bytes().len() == 6);
@@ -47,9 +50,10 @@ pub fn apply(
         kept,
         failed,
         bypassed,
-    } = decide(alloc, global, zone, &ids, bypass)?;
-    let effective = taking_effect(alloc, global, zone.srel(), &kept)?;
-    let delta = install(alloc, global, zone, &kept, bypassed.as_slice(), date)?;
+    } = decide(alloc, global, zone, related, &ids, bypass)?;
+    let vers = choose(global, zone, &ids);
+    let effective = taking_effect(alloc, &vers, &kept)?;
+    let delta = install(alloc, &vers, zone, &kept, bypassed.as_slice(), date)?;
     let left_out = not_chosen(alloc, global, zone, selection)?;
     let found = statuses(
         alloc,

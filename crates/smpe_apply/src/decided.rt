@@ -1,5 +1,6 @@
 //! The kept candidates and the failures of the others.
-ghost use Rattle.std.specs.Prelude.{◌≡◌, ◌↔◌, List, Option, None, All, Contains, IsTrue, IfOk, length, map, filter};
+ghost use Rattle.std.specs.Prelude.{◌≡◌, ◌↔◌, List, Option, All, Contains, IsTrue, IfOk, length, map, filter};
+ghost use Rattle.std.specs.Prelude.{option_copied};
 ghost use Rattle.terms.specs.Types.{Id as AnId, Global as AGlobal, Zone as AZone, Bypass as ABypass};
 ghost use Rattle.terms.specs.Lookups.{is_in};
 ghost use Rattle.terms.specs.Candidates.{is_installable};
@@ -82,21 +83,25 @@ pub(crate) fn decide_judged(
     })
 }
 
-/// Decides which candidates of an APPLY in this zone are kept: those of the greatest self-supporting set.
+/// Decides which candidates of an APPLY or ACCEPT in this zone are kept, for ACCEPT with the related target zone: those
+/// of the greatest self-supporting set.
 pub fn decide(
     alloc: Heap,
     global: &Global,
     zone: &Zone,
+    related: Option<&Zone>,
     ids: &IdList,
     bypass: &Bypass,
 ) -> Result<Decided, AllocError>
     requires { All (λ x. IsTrue (is_installable global.now zone.now x)) ids.now }
-    ensures decided { IfOk result (λ d. IsDecided (setting global.now zone.now None ids.now bypass.now) d.kept
+    ensures decided { IfOk result (λ d. IsDecided
+        (setting global.now zone.now (option_copied related.entry) ids.now bypass.now) d.kept
         (map (λ f. (f.0, failure_view f.1)) d.failed.items)) }
     ensures bypassed { IfOk result (λ d. (x z : AnId) → Contains {X = AnId × AnId} d.bypassed.items (x, z)
-        ↔ (Contains d.kept x × Contains (bypassed_ids (setting global.now zone.now None ids.now bypass.now) x) z)) }
+        ↔ (Contains d.kept x × Contains (bypassed_ids
+        (setting global.now zone.now (option_copied related.entry) ids.now bypass.now) x) z)) }
 {
-    let judged = install_system(alloc, global, zone, None, ids, bypass)?;
+    let judged = install_system(alloc, global, zone, related, ids, bypass)?;
     let decided = decide_judged(alloc, ids, judged)?;
     Ok(decided)
 }

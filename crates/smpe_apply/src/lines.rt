@@ -1,4 +1,4 @@
-//! The lines of an APPLY.
+//! The lines of an APPLY or ACCEPT.
 ghost use Rattle.std.specs.Prelude.{◌≡◌, map, IfOk};
 ghost use Rattle.machine.specs.Outcome.{StatusLine};
 ghost use Rattle.machine.specs.Receiving.{place_of};

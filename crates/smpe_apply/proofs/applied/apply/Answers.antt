@@ -1,6 +1,10 @@
-use Rattle.std.proofs.Common.{◌≡◌, map, refl, sym, ap, ◌∙◌, subst}
-use Rattle.sysmods.specs.Choices.{by_srel}
+use Rattle.std.proofs.Common.{◌≡◌, ◌≢◌, ◌⊎◌, Contains, map, refl, sym, ap, ◌∙◌, subst, subst₂}
+use Rattle.std.specs.Prelude.{option_copied}
 use Rattle.zones.specs.Delta.{IsChanged}
+use Rattle.terms.specs.Types.{Id}
+use Rattle.sysmods.specs.Choices.{choice}
+use Rattle.terms.specs.Over.{IsOver}
+use Rattle.terms.specs.Tests.{ShareElement}
 use Rattle.terms.specs.Install.{HasInstalled}
 use Rattle.report.specs.Views.{line_view}
 use Rattle.change.specs.Elements.{HasBases}
@@ -11,30 +15,38 @@ use Rattle.smpe_apply.proofs.applied.apply.Goals as goal
 
 pub install-requires-clause-fresh : goal.install-requires-clause-fresh
 install-requires-clause-fresh c =
-    kept_fresh c.args.global.now c.args.zone.now c.args.selection.now c.args.bypass.now c.args.date
-    c.in_ok-ids.ids c.in_ok-kept.field-0.kept (map why_failed c.in_ok-kept.field-0.failed.items)
+    kept_fresh c.args.global.now c.args.zone.now (option_copied c.args.related) c.args.selection.now c.args.bypass.now
+    c.args.date c.in_ok-ids.ids c.in_ok-kept.field-0.kept (map why_failed c.in_ok-kept.field-0.failed.items)
     c.in_ok-ids.ensures.members c.in_ok-ids.ensures.installable c.in_ok-kept.ensures.decided
 
 pub install-requires-clause-order : goal.install-requires-clause-order
 install-requires-clause-order c =
-    kept_order c.args.global.now c.args.zone.now c.args.selection.now c.args.bypass.now c.args.date c.in_ok-ids.ids
-    c.in_ok-kept.field-0.kept (map why_failed c.in_ok-kept.field-0.failed.items)
+    let kept = c.in_ok-kept.field-0.kept in
+    subst₂ (λ g chosen. (x y : Id) → Contains kept x → Contains kept y → x ≢ y → ShareElement g x y
+    → IsOver chosen x y ⊎ IsOver chosen y x) (sym c.choose-vers.ensures.global) (sym c.choose-vers.ensures.counting)
+    (kept_order c.args.global.now c.args.zone.now (option_copied c.args.related) c.args.selection.now c.args.bypass.now
+    c.args.date c.in_ok-ids.ids kept (map why_failed c.in_ok-kept.field-0.failed.items)
     c.in_ok-ids.ensures.members c.in_ok-ids.ensures.installable c.in_ok-kept.ensures.decided c.known.ensures
-    c.len.ensures.form c.in_ok-kept.field-0.bypassed.items
+    c.len.ensures.form c.in_ok-kept.field-0.bypassed.items)
 
 pub install-requires-clause-base : goal.install-requires-clause-base
 install-requires-clause-base c =
-    subst (λ pairs. HasBases (installation c.args.global.now c.args.zone.now c.in_ok-kept.field-0.kept pairs
-    c.args.date)) (sym c.as_slice.ensures.value)
-    (kept_bases c.args.global.now c.args.zone.now c.args.selection.now c.args.bypass.now c.args.date c.in_ok-ids.ids
-    c.in_ok-kept.field-0.kept (map why_failed c.in_ok-kept.field-0.failed.items)
+    let kept = c.in_ok-kept.field-0.kept in
+    let vers = c.choose-vers.result in
+    subst (λ pairs. HasBases (installation vers.global.now (choice vers) c.args.zone.now kept pairs c.args.date))
+    (sym c.as_slice.ensures.value)
+    (subst₂ (λ g chosen. HasBases (installation g chosen c.args.zone.now kept c.in_ok-kept.field-0.bypassed.items
+    c.args.date)) (sym c.choose-vers.ensures.global) (sym c.choose-vers.ensures.counting)
+    (kept_bases c.args.global.now c.args.zone.now (option_copied c.args.related) c.args.selection.now c.args.bypass.now
+    c.args.date c.in_ok-ids.ids kept (map why_failed c.in_ok-kept.field-0.failed.items)
     c.in_ok-ids.ensures.members c.in_ok-ids.ensures.installable c.in_ok-kept.ensures.decided c.known.ensures
-    c.len.ensures.form c.in_ok-kept.field-0.bypassed.items)
+    c.len.ensures.form c.in_ok-kept.field-0.bypassed.items))
 
 pub returns-clause-installs : goal.returns-clause-installs
 returns-clause-installs c new changed =
     let g = c.args.global.now in
     let zone = c.args.zone.now in
+    let related = option_copied c.args.related in
     let sel = c.args.selection.now in
     let bypass = c.args.bypass.now in
     let kept = c.in_ok-kept.field-0.kept in
@@ -53,16 +65,21 @@ returns-clause-installs c new changed =
     let are = c.in_ok-ids.ensures.members in
     let ok = c.in_ok-ids.ensures.installable in
     let decided = c.in_ok-kept.ensures.decided in
-    let d = decision g zone sel bypass c.args.date c.in_ok-ids.ids kept failed are ok decided bypassed in
-    let in_effect = c.in_ok-effective.ensures d.installing refl (ap (by_srel g) (sym c.srel.ensures)) in
+    let d = decision g zone related sel bypass c.args.date c.in_ok-ids.ids kept failed are ok decided bypassed in
+    let in_effect = c.in_ok-effective.ensures d.installing refl (sym c.choose-vers.ensures.counting) in
+    let installed = c.in_ok-delta.ensures.installs new
+    (subst (λ delta. IsChanged delta zone new) c.delta.view_is changed) in
     record {
       decision = d;
-      decides = decides g zone sel bypass c.args.date c.in_ok-ids.ids kept failed are ok decided bypassed
+      decides = decides g zone related sel bypass c.args.date c.in_ok-ids.ids kept failed are ok decided bypassed
           c.in_ok-kept.ensures.bypassed;
-      lines_are = install_lines g zone sel bypass c.args.date c.in_ok-ids.ids kept failed are ok decided bypassed
-          effective in_effect left_out c.in_ok-left_out.ensures.rising
+      lines_are = install_lines g zone related sel bypass c.args.date c.in_ok-ids.ids kept failed are ok decided
+          bypassed effective in_effect left_out c.in_ok-left_out.ensures.rising
           c.in_ok-left_out.ensures.members (map line_view c.in_ok-lines.field-0.items) lines;
       installs = subst (λ pairs. HasInstalled (record d.installing { bypassed = pairs }) new) c.as_slice.ensures.value
-          (c.in_ok-delta.ensures.installs new
-          (subst (λ delta. IsChanged delta zone new) c.delta.view_is changed));
+          (subst₂ (λ global chosen. HasInstalled (record d.installing {
+            global = global;
+            choice = chosen;
+            bypassed = c.as_slice.result.now;
+          }) new) c.choose-vers.ensures.global c.choose-vers.ensures.counting installed);
     }

@@ -1,0 +1,4 @@
+pub mod Gaining
+pub mod OpenHolds
+pub mod Reporting
+pub mod Walks

@@ -1,0 +1,81 @@
+//! The outcome of REPORT ERRSYSMODS.
+ghost use Rattle.std.specs.Prelude.{◌≡◌, [], IfOk};
+ghost use Rattle.terms.specs.Choice.{counting};
+ghost use Rattle.report_errsysmods.specs.Lines.{AreLinesOf, IsLineOf, IsReportOf};
+ghost use Rattle.report_errsysmods.specs.Resolvers.{AreResolvers};
+
+use crate::open::{OpenError, open_errors};
+use crate::resolvers::{Resolvers, add_all, reasons, resolvers};
+use fields::{Id, IdList, Reason, ZoneName};
+use report::{Header, Line, Outcome};
+use std::alloc::{AllocError, Global as Heap};
+use sysmods::Global;
+use terms::CommandWord;
+use zones::Zone;
+use zones_less::choose;
+
+fn reason_of(id: Id) -> Reason
+    ensures { result ≡ id }
+{
+    Reason::read(id.as_bytes()).unwrap()
+}
+
+fn line_of(alloc: Heap, all: &Resolvers, error: OpenError) -> Result<Line, AllocError>
+    ensures { IfOk result (IsLineOf all.now error) }
+{
+    let ids = resolvers(alloc, all, error.reason)?;
+    Ok(Line::Errsysmod {
+        id: error.id,
+        reason: reason_of(error.reason),
+        resolvers: Vec::from_slice(alloc, ids.as_slice())?,
+    })
+}
+
+fn lines_of(alloc: Heap, all: &Resolvers, errors: &[OpenError]) -> Result<Vec<Line>, AllocError>
+    ensures { IfOk result (λ lines. AreLinesOf all.now errors.now lines.items) }
+{
+    let mut lines = Vec::new(alloc);
+    for error in errors {
+        lines.push(line_of(alloc, all, *error)?)?;
+    }
+    Ok(lines)
+}
+
+// What resolves each reason of them.
+fn gathered(
+    alloc: Heap,
+    global: &Global,
+    zone: &Zone,
+    errors: &[OpenError],
+) -> Result<Resolvers, AllocError>
+    ensures { IfOk result (AreResolvers global.now (counting global.now zone.now []) errors.now) }
+{
+    let cands = IdList::new(alloc);
+    let vers = choose(global, zone, &cands);
+    let mut all = reasons(alloc, errors)?;
+    add_all(alloc, global, &vers, &mut all)?;
+    Ok(all)
+}
+
+/// REPORT ERRSYSMODS of the zone of this name.
+pub fn errsysmods(
+    alloc: Heap,
+    zone_name: ZoneName,
+    global: &Global,
+    zone: &Zone,
+) -> Result<Outcome<'static>, AllocError>
+    ensures { IfOk result (IsReportOf zone_name global.now zone.now) }
+{
+    prove!(global.len() < 65_536);
+    let errors = open_errors(alloc, global, zone)?;
+    let all = gathered(alloc, global, zone, &errors)?;
+    let lines = lines_of(alloc, &all, &errors)?;
+    Ok(Outcome::Ran {
+        header: Header {
+            word: CommandWord::Report,
+            boundary: Some(zone_name),
+            check: false,
+        },
+        lines,
+    })
+}
