@@ -28,7 +28,7 @@ installed_forms i has new installs = record {
   elements = elements_after i has new installs;
 }
 
-named_forms : (zones : List NamedZone) (name : Text) (zone : Zone) → All IsZoneNamed zones
+pub named_forms : (zones : List NamedZone) (name : Text) (zone : Zone) → All IsZoneNamed zones
     → zone_named zones name ≡ Some zone → HasZoneForms zone
 named_forms zones name zone all found = by (find (λ z. bytes_eq z.name name) zones) refl
   where

@@ -13,6 +13,7 @@ pub mod Printable
 pub mod PtfinForms
 pub mod ReceivingForms
 pub mod RejectingForms
+pub mod RestoreForms
 pub mod Stable
 pub mod StatementForms
 pub mod Topmost

@@ -1,4 +1,5 @@
 //! What the machine's steps keep: the forms and invariants of all that is stored. There is no code here.
-//! RECEIVE (`take_forms`), REJECT (`reject_forms`), what is installed (`apply_kept`), new entries and elements
-//! (`zone_kept`) and the definition of a zone (`definition_kept`) lead from an inventory to an inventory.
+//! RECEIVE (`take_forms`), REJECT (`reject_forms`), what is installed (`apply_kept`) and restored (`restore_kept`), new
+//! entries and elements (`zone_kept`) and the definition of a zone (`definition_kept`) lead from an inventory to an
+//! inventory.
 #![tactic(auto)]
