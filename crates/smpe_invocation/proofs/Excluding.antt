@@ -5,12 +5,12 @@ use Rattle.terms.specs.Types.{Text}
 use Rattle.terms.specs.declared.kinds.ZoneKind.{ZoneKind}
 use Rattle.clap.specs.Words.{Row}
 use Rattle.smpe_invocation.specs.Answers.{Excludes}
-use Rattle.smpe_invocation.specs.Values.{HasDate, HasKind, HasRelated, HasRun, HasSrel, HasText, HasValues, HasZone}
-use Rattle.smpe_invocation.specs.Values.{HasZoneName}
+use Rattle.smpe_invocation.specs.Values.{HasDate, HasKind, HasList, HasRelated, HasRun, HasSrel, HasText, HasValues}
+use Rattle.smpe_invocation.specs.Values.{HasZone, HasZoneName}
 use Rattle.smpe_invocation.specs.declared.fault.ArgFault.{ArgFault}
 use Rattle.smpe_invocation.specs.declared.fault.ArgFault.TheVariants.{Memory, Clap, BadOperand}
 use Rattle.smpe_invocation.specs.declared.asked.Invocation.{Invocation}
-use Rattle.smpe_invocation.specs.declared.asked.Invocation.TheVariants.{Zone, Run}
+use Rattle.smpe_invocation.specs.declared.asked.Invocation.TheVariants as asked
 use Rattle.std.specs.String.{string_bytes}
 
 pub excludes_more : (e : ArgFault) (P Q : Type 0) → (Q → P) → Excludes e P → Excludes e Q
@@ -20,46 +20,84 @@ excludes_more BadOperand P Q more h = λ q. h (more q)
 
 module _ (rows : List Row) where
   pub name_in : (i : Invocation) × HasZone rows i → (name : Text) × HasZoneName (codes "name") rows name
-  name_in (Zone db name kind srel related, h) = (name, h.1)
-  name_in (Run db date cntl ptfin hold, h) = absurd h
+  name_in (asked.Zone db name kind srel related, h) = (name, h.1)
+  name_in (asked.Run db date cntl ptfin hold, h) = absurd h
+  name_in (asked.List db zone, h) = absurd h
 
   pub kind_in : (i : Invocation) × HasZone rows i → (kind : ZoneKind) × HasKind rows kind
-  kind_in (Zone db name kind srel related, h) = (kind, h.2)
-  kind_in (Run db date cntl ptfin hold, h) = absurd h
+  kind_in (asked.Zone db name kind srel related, h) = (kind, h.2)
+  kind_in (asked.Run db date cntl ptfin hold, h) = absurd h
+  kind_in (asked.List db zone, h) = absurd h
 
   pub srel_in : (i : Invocation) × HasZone rows i → (srel : Text) × HasSrel rows srel
-  srel_in (Zone db name kind srel related, h) = (srel, h.3)
-  srel_in (Run db date cntl ptfin hold, h) = absurd h
+  srel_in (asked.Zone db name kind srel related, h) = (srel, h.3)
+  srel_in (asked.Run db date cntl ptfin hold, h) = absurd h
+  srel_in (asked.List db zone, h) = absurd h
 
   pub related_in : (i : Invocation) × HasZone rows i → (related : Option Text) × HasRelated rows related
-  related_in (Zone db name kind srel related, h) = (related, h.4)
-  related_in (Run db date cntl ptfin hold, h) = absurd h
+  related_in (asked.Zone db name kind srel related, h) = (related, h.4)
+  related_in (asked.Run db date cntl ptfin hold, h) = absurd h
+  related_in (asked.List db zone, h) = absurd h
 
   pub zone_db_in : (i : Invocation) × HasZone rows i → (text : Text) × HasText (codes "db") rows text
-  zone_db_in (Zone db name kind srel related, h) = (string_bytes db, h.0)
-  zone_db_in (Run db date cntl ptfin hold, h) = absurd h
+  zone_db_in (asked.Zone db name kind srel related, h) = (string_bytes db, h.0)
+  zone_db_in (asked.Run db date cntl ptfin hold, h) = absurd h
+  zone_db_in (asked.List db zone, h) = absurd h
 
   pub date_in : (i : Invocation) × HasRun rows i → (date : Text) × HasDate rows date
-  date_in (Zone db name kind srel related, h) = absurd h
-  date_in (Run db date cntl ptfin hold, h) = (date, h.1)
+  date_in (asked.Zone db name kind srel related, h) = absurd h
+  date_in (asked.Run db date cntl ptfin hold, h) = (date, h.1)
+  date_in (asked.List db zone, h) = absurd h
 
   pub run_db_in : (i : Invocation) × HasRun rows i → (text : Text) × HasText (codes "db") rows text
-  run_db_in (Zone db name kind srel related, h) = absurd h
-  run_db_in (Run db date cntl ptfin hold, h) = (string_bytes db, h.0)
+  run_db_in (asked.Zone db name kind srel related, h) = absurd h
+  run_db_in (asked.Run db date cntl ptfin hold, h) = (string_bytes db, h.0)
+  run_db_in (asked.List db zone, h) = absurd h
 
   pub cntl_in : (i : Invocation) × HasRun rows i → (text : Text) × HasText (codes "cntl") rows text
-  cntl_in (Zone db name kind srel related, h) = absurd h
-  cntl_in (Run db date cntl ptfin hold, h) = (string_bytes cntl, h.2)
+  cntl_in (asked.Zone db name kind srel related, h) = absurd h
+  cntl_in (asked.Run db date cntl ptfin hold, h) = (string_bytes cntl, h.2)
+  cntl_in (asked.List db zone, h) = absurd h
+
+  pub zone_in : (i : Invocation) × HasList rows i → (name : Text) × HasZoneName (codes "zone") rows name
+  zone_in (asked.Zone db name kind srel related, h) = absurd h
+  zone_in (asked.Run db date cntl ptfin hold, h) = absurd h
+  zone_in (asked.List db zone, h) = (zone, h.1)
+
+  pub list_db_in : (i : Invocation) × HasList rows i → (text : Text) × HasText (codes "db") rows text
+  list_db_in (asked.Zone db name kind srel related, h) = absurd h
+  list_db_in (asked.Run db date cntl ptfin hold, h) = absurd h
+  list_db_in (asked.List db zone, h) = (string_bytes db, h.0)
 
   zone_not_run : (name : Text) → name ≡ codes "zone" → name ≡ codes "run" → ⊥
   zone_not_run name a b =
       let bad : ◌≡◌ {A = ℕ} 122 114 = ap (λ (t : Text). slice_index t 0) (sym a ∙ b) in
       absurd (omega arith)
 
-  pub zone_of : (name : Text) → name ≡ codes "zone" → (i : Invocation) × HasValues (name, rows) i → (i : Invocation) × HasZone rows i
-  zone_of name is (i, inl h) = (i, h.1)
-  zone_of name is (i, inr h) = absurd (zone_not_run name is h.0)
+  zone_not_list : (name : Text) → name ≡ codes "zone" → name ≡ codes "list" → ⊥
+  zone_not_list name a b =
+      let bad : ◌≡◌ {A = ℕ} 122 108 = ap (λ (t : Text). slice_index t 0) (sym a ∙ b) in
+      absurd (omega arith)
 
-  pub run_of : (name : Text) → name ≡ codes "run" → (i : Invocation) × HasValues (name, rows) i → (i : Invocation) × HasRun rows i
+  run_not_list : (name : Text) → name ≡ codes "run" → name ≡ codes "list" → ⊥
+  run_not_list name a b =
+      let bad : ◌≡◌ {A = ℕ} 114 108 = ap (λ (t : Text). slice_index t 0) (sym a ∙ b) in
+      absurd (omega arith)
+
+  pub zone_of : (name : Text) → name ≡ codes "zone" → (i : Invocation) × HasValues (name, rows) i
+      → (i : Invocation) × HasZone rows i
+  zone_of name is (i, inl h) = (i, h.1)
+  zone_of name is (i, inr (inl h)) = absurd (zone_not_run name is h.0)
+  zone_of name is (i, inr (inr h)) = absurd (zone_not_list name is h.0)
+
+  pub run_of : (name : Text) → name ≡ codes "run" → (i : Invocation) × HasValues (name, rows) i
+      → (i : Invocation) × HasRun rows i
   run_of name is (i, inl h) = absurd (zone_not_run name h.0 is)
-  run_of name is (i, inr h) = (i, h.1)
+  run_of name is (i, inr (inl h)) = (i, h.1)
+  run_of name is (i, inr (inr h)) = absurd (run_not_list name is h.0)
+
+  pub list_of : (name : Text) → name ≡ codes "list" → (i : Invocation) × HasValues (name, rows) i
+      → (i : Invocation) × HasList rows i
+  list_of name is (i, inl h) = absurd (zone_not_list name h.0 is)
+  list_of name is (i, inr (inl h)) = absurd (run_not_list name h.0 is)
+  list_of name is (i, inr (inr h)) = (i, h.1)

@@ -33,11 +33,15 @@ abbrev pub run_shape : Shape
 run_shape = with_options (codes "run")
     (needed (codes "db") ∷ needed (codes "date") ∷ needed (codes "cntl") ∷ option (codes "ptfin") ∷ option (codes "hold") ∷ [])
 
--- `smpe` with one of the two
+-- `list --db F --zone Z`
+abbrev pub list_shape : Shape
+list_shape = with_options (codes "list") (needed (codes "db") ∷ needed (codes "zone") ∷ [])
+
+-- `smpe` with one of the three
 abbrev pub smpe : ValueParser → App
 smpe kinds = record {
   top = record (new_app (codes "smpe")).top { is_leaf = false; subcommand_required = true; disable_help_subcommand = true };
-  subs = zone_shape kinds ∷ run_shape ∷ [];
+  subs = zone_shape kinds ∷ run_shape ∷ list_shape ∷ [];
 }
 
 abbrev pub IsCommandLine : App → Type 0

@@ -8,7 +8,7 @@ use Rattle.terms.specs.declared.kinds.ZoneKind.{ZoneKind}
 use Rattle.clap.specs.Words.{Row, first_of}
 use Rattle.smpe_invocation.specs.Dates.{HasDateForm, IsCalendarDay, dotted}
 use Rattle.smpe_invocation.specs.declared.asked.Invocation.{Invocation}
-use Rattle.smpe_invocation.specs.declared.asked.Invocation.TheVariants.{Zone, Run}
+use Rattle.smpe_invocation.specs.declared.asked.Invocation.TheVariants as asked
 
 abbrev pub HasText : Text → List Row → Text → Type 0
 HasText id rows text = first_of id rows ≡ Some text
@@ -31,17 +31,22 @@ abbrev pub HasDate : List Row → Text → Type 0
 HasDate rows date = (text : Text) × HasText (codes "date") rows text × HasDateForm text × IsCalendarDay text × (date ≡ dotted text)
 
 abbrev pub HasZone : List Row → Invocation → Type 0
-HasZone rows (Zone db name kind srel related) = HasText (codes "db") rows (string_bytes db)
+HasZone rows (asked.Zone db name kind srel related) = HasText (codes "db") rows (string_bytes db)
     × HasZoneName (codes "name") rows name × HasKind rows kind × HasSrel rows srel × HasRelated rows related
-HasZone rows (Run db date cntl ptfin hold) = ⊥
+HasZone rows _ = ⊥
 
 abbrev pub HasRun : List Row → Invocation → Type 0
-HasRun rows (Zone db name kind srel related) = ⊥
-HasRun rows (Run db date cntl ptfin hold) = HasText (codes "db") rows (string_bytes db)
+HasRun rows (asked.Run db date cntl ptfin hold) = HasText (codes "db") rows (string_bytes db)
     × HasDate rows date × HasText (codes "cntl") rows (string_bytes cntl)
     × (first_of (codes "ptfin") rows ≡ option_map string_bytes ptfin)
     × (first_of (codes "hold") rows ≡ option_map string_bytes hold)
+HasRun rows _ = ⊥
+
+abbrev pub HasList : List Row → Invocation → Type 0
+HasList rows (asked.List db zone) = HasText (codes "db") rows (string_bytes db) × HasZoneName (codes "zone") rows zone
+HasList rows _ = ⊥
 
 -- the subcommand that is called, with its values
 abbrev pub HasValues : Text × List Row → Invocation → Type 0
-HasValues met invocation = ((met.0 ≡ codes "zone") × HasZone met.1 invocation) ⊎ ((met.0 ≡ codes "run") × HasRun met.1 invocation)
+HasValues met invocation = ((met.0 ≡ codes "zone") × HasZone met.1 invocation)
+    ⊎ ((met.0 ≡ codes "run") × HasRun met.1 invocation) ⊎ ((met.0 ≡ codes "list") × HasList met.1 invocation)

@@ -21,4 +21,9 @@ pub enum Invocation {
         ptfin: Option<String>,
         hold: Option<String>,
     },
+    /// List a zone.
+    List {
+        db: String,
+        zone: ZoneName,
+    },
 }

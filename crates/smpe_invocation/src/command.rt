@@ -1,10 +1,10 @@
 //! The command line of `smpe`, as `clap` is told of it.
 ghost use Rattle.std.specs.Prelude.{◌≡◌, false, true, map, IfOk};
-ghost use Rattle.clap.specs.Words.{app_of, rule_of, shape_of};
+ghost use Rattle.clap.specs.Words.{app_of, new_app, rule_of, shape_of};
 ghost use Rattle.clap.specs.declared.builder.command.Command.TheViews.{out-Command as fields_of};
 ghost use Rattle.clap.specs.declared.builder.value_parser.ValueParser.{ValueParser};
 ghost use Rattle.smpe_invocation.specs.CommandLine.{IsCommandLine, IsKindParser, kind_option, needed, option};
-ghost use Rattle.smpe_invocation.specs.CommandLine.{run_shape, zone_shape};
+ghost use Rattle.smpe_invocation.specs.CommandLine.{list_shape, run_shape, zone_shape};
 
 use clap::{Arg, Command};
 use std::alloc::{AllocError, Global};
@@ -15,38 +15,73 @@ static KINDS: [&str; 2] = ["target", "distribution"];
 pub(crate) fn command_line<'a>(alloc: Global) -> Result<Command<'a>, AllocError>
     ensures { IfOk result (λ c. IsCommandLine (app_of c)) }
 {
-    Command::new(alloc, "smpe")
-        .about("Installs service into target and distribution zones")
-        .subcommand_required(true)
-        .disable_help_subcommand(true)
-        .subcommand(zone_command(alloc)?)?
-        .subcommand(run_command(alloc)?)
+    command(
+        alloc,
+        "smpe",
+        "Installs service into target and distribution zones",
+        "Example: smpe run --db smpe.db --date 2024-05-17 --cntl apply.rec",
+    )
+    .subcommand_required(true)
+    .disable_help_subcommand(true)
+    .subcommand(zone_command(alloc)?)?
+    .subcommand(run_command(alloc)?)?
+    .subcommand(list_command(alloc)?)
+}
+
+// A command without options, with a line of what it does and an example.
+fn command<'a>(alloc: Global, name: &'a str, about: &'a str, example: &'a str) -> Command<'a>
+    ensures app { app_of result ≡ new_app name.entry.now }
+    ensures globals { (fields_of result).has_globals ≡ false }
+{
+    Command::new(alloc, name).about(about).after_help(example)
 }
 
 fn zone_command<'a>(alloc: Global) -> Result<Command<'a>, AllocError>
     ensures shape { IfOk result (λ c. (kinds : ValueParser) × IsKindParser kinds × (shape_of c ≡ zone_shape kinds)) }
     ensures globals { IfOk result (λ c. (fields_of c).has_globals ≡ false) }
 {
-    Command::new(alloc, "zone")
-        .about("Defines a zone")
-        .arg(required(alloc, "db", "The database"))?
-        .arg(required(alloc, "name", "The zone's name"))?
-        .arg(kind(alloc))?
-        .arg(required(alloc, "srel", "The zone's SREL"))?
-        .arg(optional(alloc, "related", "The distribution zone of a target zone"))
+    command(
+        alloc,
+        "zone",
+        "Defines a target or distribution zone",
+        "Example: smpe zone --db smpe.db --name DLB1 --kind distribution --srel Z038",
+    )
+    .arg(required(alloc, "db", "The database, which is made if there is none"))?
+    .arg(required(alloc, "name", "The zone's name"))?
+    .arg(kind(alloc))?
+    .arg(required(alloc, "srel", "The zone's SREL"))?
+    .arg(optional(alloc, "related", "The distribution zone of a target zone"))
 }
 
 fn run_command<'a>(alloc: Global) -> Result<Command<'a>, AllocError>
     ensures shape { IfOk result (λ c. shape_of c ≡ run_shape) }
     ensures globals { IfOk result (λ c. (fields_of c).has_globals ≡ false) }
 {
-    Command::new(alloc, "run")
-        .about("Runs a job of commands")
-        .arg(required(alloc, "db", "The database"))?
-        .arg(required(alloc, "date", "The job's date, as YYYY-MM-DD"))?
-        .arg(required(alloc, "cntl", "The file of commands"))?
-        .arg(optional(alloc, "ptfin", "The file of SYSMODs that RECEIVE takes in"))?
-        .arg(optional(alloc, "hold", "The file of holds that RECEIVE takes in"))
+    command(
+        alloc,
+        "run",
+        "Performs the commands of a file, and prints their report",
+        "Example: smpe run --db smpe.db --date 2024-05-17 --cntl receive.rec --ptfin ptf.rec",
+    )
+    .arg(required(alloc, "db", "The database"))?
+    .arg(required(alloc, "date", "The job's date, as YYYY-MM-DD"))?
+    .arg(required(alloc, "cntl", "The file of commands"))?
+    .arg(optional(alloc, "ptfin", "The file of SYSMODs that RECEIVE takes in"))?
+    .arg(optional(alloc, "hold", "The file of holds that RECEIVE takes in"))
+}
+
+fn list_command<'a>(alloc: Global) -> Result<Command<'a>, AllocError>
+    ensures shape { IfOk result (λ c. shape_of c ≡ list_shape) }
+    ensures globals { IfOk result (λ c. (fields_of c).has_globals ≡ false) }
+{
+    command(
+        alloc,
+        "list",
+        "Lists what a zone holds",
+        "Example: smpe list --db smpe.db --zone TGT1",
+    )
+    .arg(required(alloc, "db", "The database"))?
+    .arg(required(alloc, "zone", "The zone, or GLOBAL"))
 }
 
 fn kind<'a>(alloc: Global) -> Arg<'a>

@@ -2,7 +2,7 @@
 ghost use Rattle.std.specs.Prelude.{◌≡◌, ◌⊎◌, map, codes, option_map, IfOk, IfErr};
 ghost use Rattle.clap.specs.Words.{found_of, rows_of};
 ghost use Rattle.smpe_invocation.specs.Answers.{Excludes, IsMet, IsRead, IsRefused};
-ghost use Rattle.smpe_invocation.specs.Values.{HasRun, HasValues, HasZone};
+ghost use Rattle.smpe_invocation.specs.Values.{HasList, HasRun, HasValues, HasZone};
 ghost use Rattle.smpe_invocation.specs.declared.asked.Invocation.{Invocation};
 
 use crate::asked::Invocation;
@@ -34,6 +34,8 @@ fn met(alloc: Global, met: Option<(&str, &ArgMatches<'_>)>) -> Result<Invocation
         zone(alloc, found)
     } else if name == "run" {
         run(alloc, found)
+    } else if name == "list" {
+        list(alloc, found)
     } else {
         Err(ArgFault::BadOperand)
     }
@@ -75,4 +77,14 @@ fn run(alloc: Global, found: &ArgMatches<'_>) -> Result<Invocation, ArgFault>
         ptfin,
         hold,
     })
+}
+
+fn list(alloc: Global, found: &ArgMatches<'_>) -> Result<Invocation, ArgFault>
+    ensures ok { IfOk result (HasList (rows_of (found_of found.now))) }
+    ensures err { IfErr result (λ e. Excludes e ((invocation : Invocation)
+        × HasList (rows_of (found_of found.now)) invocation)) }
+{
+    let zone = zone_name(found, "zone")?;
+    let db = text(alloc, found, "db")?;
+    Ok(Invocation::List { db, zone })
 }

@@ -1,6 +1,7 @@
 mod AllZones
 mod Installed
 mod Leading
+mod Looking
 mod Places
 mod Received
 mod Rejected

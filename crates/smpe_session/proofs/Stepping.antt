@@ -20,7 +20,8 @@ use Rattle.store.specs.Changes.{Makes}
 use Rattle.store.specs.Kept.{kept, Keeps, IsStopped}
 use Rattle.store.specs.View.{Tables, TablesIfOpen, Leaves}
 use Rattle.smpe_session.specs.declared.session.Session.{Session}
-use Rattle.smpe_session.specs.Sessions.{HasBegun, HasPerformed}
+use Rattle.smpe_session.specs.declared.session.Performed.{Performed}
+use Rattle.smpe_session.specs.Sessions.{HasBegun, HasPerformed, HasDone, told}
 use Rattle.smpe_session.specs.Steps.{Unmoved, Unsettled, EndsUnmoved, EndsUnsettled, EndsStaying, HasLoaded}
 use Rattle.smpe_session.specs.Steps.{EndsCommitted, HasRun}
 
@@ -59,6 +60,24 @@ module _ {S : Type 0} (g : Ghosts S) (at : Held S) (s : State) where
     pub performs-short : (r : Result Outcome StoreError) → IsErrAnd r (λ y. y ≡ Memory) → Keeps g at s
         → HasPerformed g at s session date files c r
     performs-short r is keeps = performs-unmoved r Memory is (unmoved-kept keeps)
+
+    -- a command that is no LIST
+    done-told : (r : Result Outcome StoreError) → HasPerformed g at s session date files c r
+        → HasDone g at s session date files c (told r)
+    done-told (Ok outcome) performed = performed
+    done-told (Err error) performed = performed
+
+    pub done-by : (r : Result Outcome StoreError) (told_so : Result Performed StoreError) → told_so ≡ told r
+        → HasPerformed g at s session date files c r → HasDone g at s session date files c told_so
+    done-by r told_so is performed = subst (λ q. HasDone g at s session date files c q) (sym is)
+        (done-told r performed)
+
+    -- want of memory before the store is asked
+    pub done-short : (r : Result Performed StoreError) → IsErrAnd r (λ y. y ≡ Memory) → Keeps g at s
+        → HasDone g at s session date files c r
+    done-short r is keeps = let p = err_from_is_err_and r is
+        in subst (λ q. HasDone g at s session date files c q) (sym (p.1 ∙ ap Err p.2))
+        (stays-unmoved (Perform date files c) (unmoved-kept keeps))
 
     -- what a command that ran part of the way ends with
     staying-by : (e : StoreError) → EndsStaying g at s (Perform date files c) e

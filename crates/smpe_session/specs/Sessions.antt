@@ -4,7 +4,7 @@ use Rattle.std.specs.Str.{bytes_eq}
 use Rattle.indexmap.specs.IndexMap.{get}
 use Rattle.sqlite.specs.Store.{Ghosts}
 use Rattle.sqlite.specs.Held.{Held}
-use Rattle.terms.specs.Types.{Text, Zone, Command}
+use Rattle.terms.specs.Types.{Text, Zone, Command, ListZone}
 use Rattle.machine.specs.State.{State, global_name, zone_named}
 use Rattle.machine.specs.Machine.{Files, Begin, Perform, Performs}
 use Rattle.report.specs.declared.outcome.Outcome.{Outcome}
@@ -13,6 +13,8 @@ use Rattle.store_schema.specs.declared.error.StoreError.{StoreError}
 use Rattle.store_schema.specs.declared.error.StoreError.TheVariants.{Fault, Memory}
 use Rattle.store.specs.Kept.{Keeps, IsStopped}
 use Rattle.smpe_session.specs.declared.session.Session.{Session}
+use Rattle.smpe_session.specs.declared.session.Performed.{Performed}
+use Rattle.smpe_session.specs.declared.session.Performed.TheVariants.{Told, Lists}
 
 -- The session has the state's global zone and boundary, and zones of the state, among them the one that the boundary
 -- names.
@@ -37,3 +39,14 @@ module _ {S : Type 0} (g : Ghosts S) (at : Held S) (s : State) where
   HasPerformed session date files c (Err Fault) = IsStopped g at s (Perform date files c)
   HasPerformed session date files c (Err Memory) = IsStopped g at s (Perform date files c)
   HasPerformed session date files c (Err _) = ⊥
+
+  -- So it is; or it is a LIST, before which and after which the state is the same.
+  abbrev pub HasDone : Session → Text → Files → Command → Result Performed StoreError → Type 0
+  HasDone session date files c (Ok (Told outcome)) = HasPerformed session date files c (Ok outcome)
+  HasDone session date files c (Ok (Lists text)) = (c ≡ ListZone text) × IsSessionOf s session × Keeps g at s
+  HasDone session date files c (Err error) = HasPerformed session date files c (Err error)
+
+-- the outcome, where there is one, is told
+abbrev pub told : Result Outcome StoreError → Result Performed StoreError
+told (Ok outcome) = Ok (Told outcome)
+told (Err error) = Err error

@@ -1,13 +1,15 @@
 //! A job under way: its commands, each performed over the store.
 //! `begin` makes it of the tables. `perform` leads to the machine's state with the machine's outcome, and the tables
-//! stand for that state, also after a crash. After want of memory or a fault of the store they stand for the state
+//! stand for that state, also after a crash; the outcome of a LIST is `list`'s, which copies nothing. After want of memory or a fault of the store they stand for the state
 //! before, and a crash leaves that one or the one that the command leads to. No contract says when these come.
 #![tactic(auto)]
 
 mod boundary;
+mod errsysmods;
 mod files;
 mod install;
 mod lines;
+mod list;
 mod load;
 mod read;
 mod receive;
@@ -17,4 +19,4 @@ mod session;
 mod set;
 
 pub use files::Files;
-pub use session::Session;
+pub use session::{Performed, Session};

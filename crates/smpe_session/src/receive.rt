@@ -97,7 +97,7 @@ impl Session {
         store: &mut Store<S>,
         files: &Files<'_>,
         what: &ReceiveWhat,
-    ) -> Result<Outcome, StoreError>
+    ) -> Result<Outcome<'static>, StoreError>
         ensures clean { HasCleanDisk (state S.Store store.new) → HasCleanDisk (state S.Store store.old) }
         ensures ended { HasCleanDisk (state S.Store store.new) → (s : State) → IsSessionOf s self.old
             → Keeps S.Store store.old s

@@ -84,7 +84,7 @@ impl Session {
         alloc: Heap,
         store: &mut Store<S>,
         ids: &IdList,
-    ) -> Result<Outcome, StoreError>
+    ) -> Result<Outcome<'static>, StoreError>
         ensures clean { HasCleanDisk (state S.Store store.new) → HasCleanDisk (state S.Store store.old) }
         ensures ended { HasCleanDisk (state S.Store store.new) → (s : State) → IsSessionOf s self.old
             → Keeps S.Store store.old s

@@ -1,10 +1,11 @@
 //! What a job has in memory, and how a command goes.
+ghost use Rattle.std.specs.Prelude.{◌≡◌};
 ghost use Rattle.sqlite.specs.Held.{state};
 ghost use Rattle.sqlite.specs.State.{HasCleanDisk};
 ghost use Rattle.machine.specs.State.{State};
 ghost use Rattle.cntl.specs.Views.{command_of};
 ghost use Rattle.store.specs.Kept.{Keeps};
-ghost use Rattle.smpe_session.specs.Sessions.{IsSessionOf, HasBegun, HasPerformed};
+ghost use Rattle.smpe_session.specs.Sessions.{IsSessionOf, HasBegun, HasDone, told};
 
 use crate::files::Files;
 use crate::load::load_global;
@@ -29,6 +30,21 @@ pub struct Session {
     pub(crate) boundary: Option<ZoneName>,
 }
 
+/// What a command comes to.
+#[derive(Drop)]
+pub enum Performed {
+    /// Its outcome.
+    Told(Outcome<'static>),
+    /// It is a LIST: `Session::list` has its outcome.
+    Lists { text: bool },
+}
+
+fn told(ended: Result<Outcome<'static>, StoreError>) -> Result<Performed, StoreError>
+    ensures { result ≡ told ended.entry }
+{
+    Ok(Performed::Told(ended?))
+}
+
 impl Session {
     /// A job begins: the global zone is loaded, and there is no boundary.
     pub fn begin<S: Alter>(alloc: Heap, store: &mut Store<S>) -> Result<Session, StoreError>
@@ -44,7 +60,7 @@ impl Session {
         })
     }
 
-    /// Performs a command, which is committed before its outcome is answered.
+    /// Performs a command, which is committed before it is told of.
     pub fn perform<S: Alter>(
         &mut self,
         alloc: Heap,
@@ -52,19 +68,25 @@ impl Session {
         date: YyDdd,
         files: &Files<'_>,
         command: &Command,
-    ) -> Result<Outcome, StoreError>
+    ) -> Result<Performed, StoreError>
         ensures clean { HasCleanDisk (state S.Store store.new) → HasCleanDisk (state S.Store store.old) }
         ensures ended { HasCleanDisk (state S.Store store.new) → (s : State) → IsSessionOf s self.old
             → Keeps S.Store store.old s
-            → HasPerformed S.Store store.new s self.new date files.now (command_of command.now) result }
+            → HasDone S.Store store.new s self.new date files.now (command_of command.now) result }
     {
         match command {
-            Command::Set(name) => self.set(alloc, store, *name),
-            Command::Receive(what) => self.receive(alloc, store, files, what),
-            Command::Reject(ids) => self.reject(alloc, store, ids),
+            Command::Set(name) => told(self.set(alloc, store, *name)),
+            Command::Receive(what) => told(self.receive(alloc, store, files, what)),
+            Command::Reject(ids) => told(self.reject(alloc, store, ids)),
             Command::Apply(operands) => {
-                self.install(alloc, store, date, ZoneKind::Target, operands)
+                told(self.install(alloc, store, date, ZoneKind::Target, operands))
             }
+            Command::Accept(operands) => {
+                told(self.install(alloc, store, date, ZoneKind::Distribution, operands))
+            }
+            Command::Restore { list, check } => told(self.restore(alloc, store, list, *check)),
+            Command::List { text } => Ok(Performed::Lists { text: *text }),
+            Command::Report => Ok(Performed::Told(self.report(alloc)?)),
         }
     }
 }

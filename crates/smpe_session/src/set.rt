@@ -71,7 +71,7 @@ impl Session {
         alloc: Heap,
         store: &mut Store<S>,
         name: ZoneName,
-    ) -> Result<Outcome, StoreError>
+    ) -> Result<Outcome<'static>, StoreError>
         ensures clean { HasCleanDisk (state S.Store store.new) → HasCleanDisk (state S.Store store.old) }
         ensures ended { HasCleanDisk (state S.Store store.new) → (s : State) → IsSessionOf s self.old
             → Keeps S.Store store.old s

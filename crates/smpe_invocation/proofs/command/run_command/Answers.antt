@@ -1,9 +1,6 @@
-use Rattle.std.proofs.Common.{◌∙◌, ◌∷◌, [], ap, codes}
+use Rattle.std.proofs.Common.{◌∷◌, [], ap, codes}
 use Rattle.std.proofs.lemmas.Result.{IfOk-weaker}
 use Rattle.clap.specs.Words.{App}
-use Rattle.clap.specs.Simple.{app_of_fields}
-use Rattle.clap.specs.declared.builder.command.Command.{Command}
-use Rattle.clap.specs.declared.builder.command.Command.TheOpen.{Command-F}
 use Rattle.smpe_invocation.specs.CommandLine.{needed, option}
 use Rattle.smpe_invocation.proofs.Shapes.{HasOptions, one_more}
 use Rattle.smpe_invocation.proofs.command.run_command.Goals.{After-arg-5}
@@ -11,11 +8,7 @@ use Rattle.smpe_invocation.proofs.command.run_command.Goals as goal
 
 four : (c : After-arg-5) → HasOptions c.in_ok-arg-4.field-0 (codes "run") (needed (codes "db") ∷ needed (codes "date") ∷ needed (codes "cntl") ∷ option (codes "ptfin") ∷ [])
 four c =
-    let none : HasOptions c.about.result (codes "run") [] = (
-      ap app_of_fields c.about.ensures ∙ c.new.ensures.app,
-      ap (λ (f : Command-F Command). f.has_globals) c.about.ensures
-          ∙ c.new.ensures.local,
-    ) in
+    let none : HasOptions c.command.result (codes "run") [] = (c.command.ensures.app, c.command.ensures.globals) in
     let one = one_more _ _ _ _ _ _ none c.in_ok-arg.ensures c.required.ensures.rule c.required.ensures.global in
     let two = one_more _ _ _ _ _ _ one c.in_ok-arg-2.ensures c.required-2.ensures.rule c.required-2.ensures.global in
     let three = one_more _ _ _ _ _ _ two c.in_ok-arg-3.ensures c.required-3.ensures.rule c.required-3.ensures.global in

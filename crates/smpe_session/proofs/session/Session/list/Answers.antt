@@ -1,0 +1,35 @@
+use Rattle.std.proofs.Common.{◌∙◌, sym, subst, ap, true≢false}
+use Rattle.terms.specs.Types.{ListZone}
+use Rattle.machine.specs.Outcome.{Ran, Cm1, list_global, list_zone, header_of}
+use Rattle.machine.specs.Machine.{Performs}
+use Rattle.smpe_session.proofs.Leading.{headed, refused}
+use Rattle.smpe_session.proofs.Looking.{at-global-zone, list-nowhere, list-global, list-zone}
+use Rattle.smpe_session.proofs.session.Session.list.Goals as goal
+
+pub returns-in_default : goal.returns-in_default
+returns-in_default c = λ s is date files.
+    refused date files (ListZone c.args.text) s c.args.self.now.boundary Cm1 is.boundary
+    (list-nowhere s c.args.text (sym is.boundary ∙ c.in_default.is))
+
+pub returns-then-is_global : goal.returns-then-is_global
+returns-then-is_global c = λ s is date files.
+    let performs = list-global s c.args.text date files c.in-Some.name (sym is.boundary ∙ c.in-Some.is)
+    (c.is_global.ensures.0 c.if-is_global.true) in
+    headed date files (ListZone c.args.text) s s c.args.self.now.boundary
+    (λ h. Ran h (list_global c.args.self.now.global)) is.boundary
+    (subst (λ g. Performs date files s (ListZone c.args.text) s
+    (Ran (header_of (ListZone c.args.text) s.boundary) (list_global g))) (sym is.global) performs)
+
+pub returns-in-Some-get : goal.returns-in-Some-get
+returns-in-Some-get c = λ s is date files.
+    headed date files (ListZone c.args.text) s s c.args.self.now.boundary
+    (λ h. Ran h (list_zone c.args.text c.in-Some-get.zone.now)) is.boundary
+    (list-zone s c.args.text date files c.in-Some.name c.in-Some-get.zone.now (sym is.boundary ∙ c.in-Some.is)
+    (λ same. true≢false (sym (c.is_global.ensures.1 same) ∙ c.if-is_global.false))
+    (is.zones c.in-Some.name c.in-Some-get.zone.now (sym c.in-Some-get.ensures.value)))
+
+pub returns-in-None : goal.returns-in-None
+returns-in-None c = λ s is date files.
+    let same = at-global-zone s c.args.self.now c.in-Some.name is (sym is.boundary ∙ c.in-Some.is)
+    (sym c.in-None.ensures.value) in
+    absurd (true≢false (sym (c.is_global.ensures.1 same) ∙ c.if-is_global.false))

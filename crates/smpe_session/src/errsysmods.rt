@@ -1,0 +1,41 @@
+//! REPORT ERRSYSMODS: what in the zone of the boundary is held for error, and what would resolve that.
+ghost use Rattle.std.specs.Prelude.{IfOk};
+ghost use Rattle.terms.specs.Types.{Text, Report};
+ghost use Rattle.machine.specs.State.{State};
+ghost use Rattle.machine.specs.Machine.{Files, Performs};
+ghost use Rattle.store_schema.specs.Inventory.{IsInventory};
+ghost use Rattle.report.specs.Views.{outcome_view};
+ghost use Rattle.store.specs.Kept.{kept};
+ghost use Rattle.smpe_session.specs.Sessions.{IsSessionOf};
+
+use crate::session::Session;
+use report::{Header, Outcome, Refusal};
+use report_errsysmods::errsysmods;
+use std::alloc::{AllocError, Global as Heap};
+use terms::CommandWord;
+
+impl Session {
+    pub(crate) fn report(&self, alloc: Heap) -> Result<Outcome<'static>, AllocError>
+        ensures { IfOk result (λ outcome. (s : State) → IsSessionOf s self.now → IsInventory (kept s)
+            → (date : Text) (files : Files) → Performs date files s Report s (outcome_view outcome)) }
+    {
+        let header = Header {
+            word: CommandWord::Report,
+            boundary: self.boundary,
+            check: false,
+        };
+        let Some(name) = self.boundary else {
+            return Ok(Outcome::Refused {
+                header,
+                refusal: Refusal::NoBoundary,
+            });
+        };
+        match self.zones.get(&name) {
+            Some(zone) => errsysmods(alloc, name, &self.global, zone),
+            None => Ok(Outcome::Refused {
+                header,
+                refusal: Refusal::WrongKind,
+            }),
+        }
+    }
+}
