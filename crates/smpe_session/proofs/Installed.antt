@@ -158,14 +158,14 @@ pub planned : (date : Text) (kind : ZoneKind) (i : Install) (s : State) (at : Se
     → IsSessionOf s at → IsPlace s at kind i name zone → related ≡ related_for kind s.zones name
     → i.selection ≡ sel → i.bypass ≡ bypass → IsPlan at.global zone related sel bypass date delta new lines
     → IsReady date kind i s at name zone delta new lines
-planned date kind i s at name zone related sel bypass delta new lines here place looks selection bypasses plan = record {
+planned date kind i s at name zone related sel bypass delta new lines here place looks chosen bypasses plan = record {
   place = place;
   dated = plan.dated;
   changed = plan.changed;
   printed = plan.printed;
   installs = subst (λ r. InstallsSelected s.global zone r i.selection i.bypass date new plan.printed) looks
       (subst (λ g. InstallsSelected g zone related i.selection i.bypass date new plan.printed) here.global
-      (subst (λ x. InstallsSelected at.global zone related x i.bypass date new plan.printed) (sym selection)
+      (subst (λ x. InstallsSelected at.global zone related x i.bypass date new plan.printed) (sym chosen)
       (subst (λ b. InstallsSelected at.global zone related sel b date new plan.printed) (sym bypasses) plan.installs)));
   lines_are = plan.lines_are;
 }

@@ -41,6 +41,9 @@ find-made p f (x ∷ xs) = by (find-made p f xs) (p (f x)) refl
 abbrev names_it : Text → NamedZone → Bool
 names_it name z = option_map_or (bytes_eq name) z.zone.related false
 
+abbrev names_head : Text → ZoneHead → Bool
+names_head name h = option_map_or (bytes_eq name) h.related false
+
 abbrev target_in : Text → List NamedZone → Option NamedZone
 target_in name zones = find (names_it name) zones
 
@@ -51,7 +54,7 @@ name-is : (name : Text) (zones : List NamedZone) (heads : List ZoneHead) (found 
     → found ≡ option_map (λ z. z.name) (target_in name zones)
 name-is name zones heads found are is =
     is
-    ∙ ap (λ hs. option_map (λ (h : ZoneHead). h.name) (find (λ h. option_map_or (bytes_eq name) h.related false) hs)) are
+    ∙ ap (λ hs. option_map (λ (h : ZoneHead). h.name) (find (names_head name) hs)) are
     ∙ ap (option_map (λ (h : ZoneHead). h.name)) (find-made (λ (h : ZoneHead).
     option_map_or (bytes_eq name) h.related false) head_of zones)
     ∙ by (target_in name zones)
@@ -111,10 +114,13 @@ module _ (s : State) (name : Text) (boundary : s.boundary ≡ Some name) (heads 
       its_own z there = ap (option_map (λ (z : NamedZone). z.zone))
           (find-itself nat_list_cmp_total (λ (z : NamedZone). z.name) bytes_eq texts_ties s.zones z rising there)
 
+      no_global : zone_named s.zones global_name ≡ None
+      no_global = none-global s.zones inventory.zones
+
       held : (zone : Zone) → zone_named s.zones related ≡ Some zone → get bytes_eq at.zones related ≡ Some zone
       held zone there = elim (sought.here (sought.found ∙ or_right (bytes_eq related global_name)
           (is_some (zone_named s.zones related)) (ap is_some there))) [
-            | inl global ↦ absurd (cc (sym there ∙ ap (zone_named s.zones) global ∙ none-global s.zones inventory.zones))
+            | inl global ↦ absurd (cc (sym there ∙ ap (zone_named s.zones) global ∙ no_global))
             | inr some ↦ got (get bytes_eq at.zones related) refl some
           ]
         where

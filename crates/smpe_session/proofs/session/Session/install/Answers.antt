@@ -24,6 +24,7 @@ returns-in_err-delta-in-Ok-clause-ended g c = λ clean s is keeps files.
 pub returns-then-install-clause-ended : goal.returns-then-install-clause-ended
 returns-then-install-clause-ended g c = λ clean s is keeps files.
     let at = c.seek_related.new.self in
+    let kind = c.args.kind in
     let i = c.args.install.now in
     let name = c.in-Ok.place.name in
     let zone = c.in-Ok.place.zone.now in
@@ -33,15 +34,15 @@ returns-then-install-clause-ended g c = λ clean s is keeps files.
     let inventory = kept-inventory g.S.Store c.seek_related.new.store s clean sought.1 in
     let place = c.in-Ok.ensures s i sought.0.session inventory in
     let checks = sym (ap (λ w. w.check) c.install.view_is) in
-    let ready = planned c.args.date c.args.kind i s at name zone _ c.install.inside.selection c.install.inside.bypass
+    let ready = planned c.args.date kind i s at name zone _ c.install.inside.selection c.install.inside.bypass
     p.delta p.zone lines sought.0.session place (c.zone_at.ensures ∙ sought.0.is_related name place.boundary)
     (sym (ap (λ w. w.selection) c.install.view_is)) (sym (ap (λ w. w.bypass) c.install.view_is))
     c.in_ok-delta-in-Ok.ensures in (
       s,
-      install-performs c.args.date c.args.kind i s at name zone p.delta p.zone lines ready files c.install.inside.check s
+      install-performs c.args.date kind i s at name zone p.delta p.zone lines ready files c.install.inside.check s
           (header_view c.header-header.result) checks
           (ap (λ b. if b then s else with_zone s name p.zone) (sym c.if-install.true))
-          (c.header-header.ensures i checks ∙ ap (header_of (install_command c.args.kind i)) is.boundary),
+          (c.header-header.ensures i checks ∙ ap (header_of (install_command kind i)) is.boundary),
       sought.0.session,
       sought.1,
     )
@@ -49,6 +50,7 @@ returns-then-install-clause-ended g c = λ clean s is keeps files.
 pub returns-in_err-replace_zone-in-Ok-clause-ended : goal.returns-in_err-replace_zone-in-Ok-clause-ended
 returns-in_err-replace_zone-in-Ok-clause-ended g c = λ clean s is keeps files.
     let at = c.seek_related.new.self in
+    let kind = c.args.kind in
     let i = c.args.install.now in
     let name = c.in-Ok.place.name in
     let zone = c.in-Ok.place.zone.now in
@@ -59,13 +61,13 @@ returns-in_err-replace_zone-in-Ok-clause-ended g c = λ clean s is keeps files.
     let inventory = kept-inventory g.S.Store c.seek_related.new.store s before sought.1 in
     let place = c.in-Ok.ensures s i sought.0.session inventory in
     let checks = sym (ap (λ w. w.check) c.install.view_is) in
-    let ready = planned c.args.date c.args.kind i s at name zone _ c.install.inside.selection c.install.inside.bypass
+    let ready = planned c.args.date kind i s at name zone _ c.install.inside.selection c.install.inside.bypass
     p.delta p.zone lines sought.0.session place (c.zone_at.ensures ∙ sought.0.is_related name place.boundary)
     (sym (ap (λ w. w.selection) c.install.view_is)) (sym (ap (λ w. w.bypass) c.install.view_is))
     c.in_ok-delta-in-Ok.ensures in
-    let command = install_command c.args.kind i in
+    let command = install_command kind i in
     let t = with_zone s name p.zone in
-    let performs = install-performs c.args.date c.args.kind i s at name zone p.delta p.zone lines ready files
+    let performs = install-performs c.args.date kind i s at name zone p.delta p.zone lines ready files
     c.install.inside.check t (header_view c.header-header.result) checks
     (ap (λ b. if b then s else t) (sym c.if-install.false))
     (c.header-header.ensures i checks ∙ ap (header_of command) is.boundary) in
@@ -74,12 +76,13 @@ returns-in_err-replace_zone-in-Ok-clause-ended g c = λ clean s is keeps files.
     c.from_residual-in_err-replace_zone-in-Ok.ensures.1
     (staying-unsettled g.S.Store c.replace_zone.new.store s c.args.date files command t _ performs
     c.in_err-replace_zone-in-Ok.field-0.0
-    (install-commits c.args.date c.args.kind i s at name zone p.delta p.zone lines ready inventory
+    (install-commits c.args.date kind i s at name zone p.delta p.zone lines ready inventory
     (λ was. c.in_err-replace_zone-in-Ok.ensures.ended s t was sought.1)))
 
 pub returns-in_ok-replace_zone-in-Ok-clause-ended : goal.returns-in_ok-replace_zone-in-Ok-clause-ended
 returns-in_ok-replace_zone-in-Ok-clause-ended g c = λ clean s is keeps files.
     let at = c.seek_related.new.self in
+    let kind = c.args.kind in
     let i = c.args.install.now in
     let name = c.in-Ok.place.name in
     let zone = c.in-Ok.place.zone.now in
@@ -90,18 +93,18 @@ returns-in_ok-replace_zone-in-Ok-clause-ended g c = λ clean s is keeps files.
     let inventory = kept-inventory g.S.Store c.seek_related.new.store s before sought.1 in
     let place = c.in-Ok.ensures s i sought.0.session inventory in
     let checks = sym (ap (λ w. w.check) c.install.view_is) in
-    let ready = planned c.args.date c.args.kind i s at name zone _ c.install.inside.selection c.install.inside.bypass
+    let ready = planned c.args.date kind i s at name zone _ c.install.inside.selection c.install.inside.bypass
     p.delta p.zone lines sought.0.session place (c.zone_at.ensures ∙ sought.0.is_related name place.boundary)
     (sym (ap (λ w. w.selection) c.install.view_is)) (sym (ap (λ w. w.bypass) c.install.view_is))
     c.in_ok-delta-in-Ok.ensures in
     let t = with_zone s name p.zone in (
       t,
-      install-performs c.args.date c.args.kind i s at name zone p.delta p.zone lines ready files c.install.inside.check t
+      install-performs c.args.date kind i s at name zone p.delta p.zone lines ready files c.install.inside.check t
           (header_view c.header-header.result) checks (ap (λ b. if b then s else t) (sym c.if-install.false))
-          (c.header-header.ensures i checks ∙ ap (header_of (install_command c.args.kind i)) is.boundary),
+          (c.header-header.ensures i checks ∙ ap (header_of (install_command kind i)) is.boundary),
       install-session s name zone p.zone inventory place.is_there at _ sought.0.session refl refl
           c.in_ok-replace_zone-in-Ok.ensures.updates,
-      install-commits c.args.date c.args.kind i s at name zone p.delta p.zone lines ready inventory
+      install-commits c.args.date kind i s at name zone p.delta p.zone lines ready inventory
           (λ was. c.in_ok-replace_zone-in-Ok.ensures.ended s t was sought.1),
     )
 
