@@ -1,7 +1,8 @@
 //! A job under way: its commands, each performed over the store.
 //! `begin` makes it of the tables. `perform` leads to the machine's state with the machine's outcome, and the tables
-//! stand for that state, also after a crash; the outcome of a LIST is `list`'s, which copies nothing. After want of memory or a fault of the store they stand for the state
-//! before, and a crash leaves that one or the one that the command leads to. No contract says when these come.
+//! stand for that state, also after a crash; the outcome of a LIST is `list`'s, which copies nothing. After want of
+//! memory or a fault of the store they stand for the state before, and a crash leaves that one or the one that the
+//! command leads to. No contract says when these come.
 #![tactic(auto)]
 
 mod boundary;
@@ -15,6 +16,7 @@ mod read;
 mod receive;
 mod reject;
 mod related;
+mod restore;
 mod session;
 mod set;
 

