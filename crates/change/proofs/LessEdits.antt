@@ -139,13 +139,16 @@ module _ (is_gone : Id → Bool) where
                 ∙ sym (less_wanted ∙ ap (λ b. if b then Some (entry_less is_gone e) else None) held);
             differs = λ same.
                 let both : Some (entry_less is_gone e) ≡ Some e =
-                sym (ap (λ b. edit_put {X = Entry} {K = Id} (if b then Put (entry_less is_gone e) else Remove e.id)) held)
+                sym (ap (λ b. edit_put {X = Entry} {K = Id} (if b then Put (entry_less is_gone e) else Remove e.id))
+                held)
                 ∙ same ∙ found in
                 lost e some (cc both);
           }
           by false unheld = record {
-            at = ap (λ b. edit_key (λ (v : Entry). v.id) (if b then Put (entry_less is_gone e) else Remove e.id)) unheld;
-            puts = ap (λ b. edit_put {X = Entry} {K = Id} (if b then Put (entry_less is_gone e) else Remove e.id)) unheld
+            at = ap (λ b. edit_key (λ (v : Entry). v.id) (if b then Put (entry_less is_gone e) else Remove e.id))
+                unheld;
+            puts = ap (λ b. edit_put {X = Entry} {K = Id} (if b then Put (entry_less is_gone e) else Remove e.id))
+                unheld
                 ∙ sym (less_wanted ∙ ap (λ b. if b then Some (entry_less is_gone e) else None) unheld);
             differs = λ same.
                 let both : None ≡ Some e =

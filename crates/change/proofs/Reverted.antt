@@ -27,7 +27,8 @@ Key = ElemType × Text
 same_key : (a b : Key) → element_eq a b ≡ true → a ≡ b
 same_key a b same =
     let parts = and_parts _ _ same in
-    ap (λ t. (t, a.1)) (type_from_number a.0 b.0 (eqb-true _ _ parts.0)) ∙ ap (λ n. (b.0, n)) (same_from a.1 b.1 parts.1)
+    ap (λ t. (t, a.1)) (type_from_number a.0 b.0 (eqb-true _ _ parts.0))
+    ∙ ap (λ n. (b.0, n)) (same_from a.1 b.1 parts.1)
 
 -- what is found at a key has it
 pub key_found : (zone : Zone) (type : ElemType) (name : Text)
@@ -47,7 +48,8 @@ module _ (zone accepted : Zone) where
   put_back-none start empty = record {
     entries = refl;
     elements = subst (Turned []) (sym empty)
-        (turned-none element_cmp_total element_key element_eq element_ties same_key zone.elements (element_at accepted));
+        (turned-none element_cmp_total element_key element_eq element_ties same_key zone.elements
+        (element_at accepted));
   }
 
   pub put_back-next : (ks : List Key) (k : Key) (start old new : ZoneDelta) → ArePutBack zone accepted ks start old

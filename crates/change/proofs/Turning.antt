@@ -39,7 +39,10 @@ module _ {X K : Type 0} {R : K → K → Ordering} (o : IsTotalOrder R) (key : X
   among = is_key R E key old wanted
 
   pub turned-none : AtOnce [] []
-  turned-none = record { leaves = λ k. refl; differ = All-nil (λ (d : Edit X K). edit_put d ≡ was (edit_key key d) → ⊥) }
+  turned-none = record {
+    leaves = λ k. refl;
+    differ = All-nil (λ (d : Edit X K). edit_put d ≡ was (edit_key key d) → ⊥);
+  }
 
   -- what stands at a key after an edit
   after-edit : (edits : List (Edit X K)) (d : Edit X K) (k : K)

@@ -6,3 +6,4 @@ mod Commanding
 mod Single
 mod Listing
 mod ZoneLines
+mod ListRecords

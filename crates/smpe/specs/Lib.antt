@@ -1,3 +1,4 @@
 pub mod Ending
 pub mod Commands
 pub mod Messages
+pub mod ListJob

@@ -14,7 +14,7 @@ use crate::error::JobError;
 use cntl::{CntlError, Command, read_cntl};
 use fields::YyDdd;
 use report::{Outcome, Sink, write_report};
-use smpe_session::{Files, Session};
+use smpe_session::{Files, Performed, Session};
 use sqlite::Alter;
 use std::alloc::Global as Heap;
 use store::Store;
@@ -36,8 +36,11 @@ fn run_command<S: Alter, W: Sink>(
         (W.taken w.new) result }
     ensures fault { W.has_failed w.old ≡ false → W.has_failed w.new ≡ is_write result }
 {
-    let outcome = session.perform(alloc, store, date, files, command)?;
-    Ok(write_report(&outcome, w)?)
+    let performed = session.perform(alloc, store, date, files, command)?;
+    match performed {
+        Performed::Told(outcome) => Ok(write_report(&outcome, w)?),
+        Performed::Lists { text } => Ok(write_report(&session.list(text), w)?),
+    }
 }
 
 /// Performs commands one after the other, and answers the highest return code.

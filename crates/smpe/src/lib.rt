@@ -8,11 +8,13 @@
 mod error;
 mod job;
 mod jobs;
+mod list_job;
 mod messages;
 
 pub use error::JobError;
 pub use job::run_job;
 pub use jobs::{Answer, Job, run_jobs};
+pub use list_job::list_commands;
 pub use messages::{FAULT_STATUS, Fault, fault_line, zone_line};
 pub use smpe_invocation::{ArgFault, Invocation, invocation};
 pub use smpe_zones::{ZoneError, ZoneFault, define_zone};

@@ -1,5 +1,6 @@
 -- From the numbers of candidates to their ids: who is kept, and why each other one is not.
-use Rattle.std.proofs.Common.{◌≡◌, inl, inr, ℕ, ◌<◌, Bool, true, false, not, List, [], ◌∷◌, length, map, filter, Some, IsTrue}
+use Rattle.std.proofs.Common.{◌≡◌, inl, inr, ℕ, ◌<◌, Bool, true, false, not, List, [], ◌∷◌, length, map, filter, Some}
+use Rattle.std.proofs.Common.{IsTrue}
 use Rattle.std.proofs.Common.{Contains, refl, sym, ap, ◌∙◌, subst, true≢false, arith, slice_get, slice_index_or, get_or}
 use Rattle.std.proofs.Common.{take_all}
 use Rattle.std.specs.Prelude.{All, AllPairs, Vec, ◌↔◌, ◌==◌}
@@ -16,7 +17,7 @@ use Rattle.terms.specs.declared.codes.Test.{Test}
 use Rattle.terms.specs.Types.{Id}
 use Rattle.terms.specs.Kept.{StaysKept}
 use Rattle.terms.specs.Lookups.{IsRising, is_before, is_in}
-use Rattle.solve.specs.Problem.{Demand, Problem, IsDemand, holds, AreKept}
+use Rattle.solve.specs.Problem.{Demand, Problem, IsDemand, holds}
 use Rattle.solve.specs.Numbered.{IsProblemOf}
 use Rattle.solve.specs.Causes as numbered
 use Rattle.terms.specs.Failures.{IsOpenNeed, IsCauser}
@@ -31,10 +32,9 @@ use Rattle.machine.specs.Outcome as machine
 use Rattle.machine.specs.Installing.{all_tests, IsFailure}
 use Rattle.report.specs.declared.outcome.Failure.{Failure}
 use Rattle.report.specs.Views.{failure_view}
-use Rattle.smpe_failures.specs.declared.failures.Findings.{Findings}
 use Rattle.smpe_failures.specs.Decided.{IsDecidedBy, HaveTests, AreDecided}
 use Rattle.smpe_failures.specs.Open.{HaveOpen}
-use Rattle.smpe_failures.specs.Findings.{IsFailureAt, IsFailed, AreFailures}
+use Rattle.smpe_failures.specs.Findings.{IsFailureAt, IsFailed}
 
 -- an id is not before itself
 not-before-itself : (x : Id) → is_before x x ≡ true → ⊥

@@ -1,6 +1,6 @@
 -- Which candidates are kept and why each other one is not, by their numbers and by their ids.
-use Rattle.std.specs.Prelude.{◌≡◌, ◌↔◌, ◌<◌, ℕ, Bool, not, List, Some, All, AllPairs, Contains, IsTrue, length, map, filter}
-use Rattle.std.specs.Prelude.{slice_get}
+use Rattle.std.specs.Prelude.{◌≡◌, ◌↔◌, ◌<◌, ℕ, Bool, not, List, Some, All, AllPairs, Contains, IsTrue, length, map}
+use Rattle.std.specs.Prelude.{filter, slice_get}
 use Rattle.terms.specs.declared.codes.NeedKind.{NeedKind}
 use Rattle.terms.specs.declared.codes.Test.{Test}
 use Rattle.terms.specs.Types.{Id}

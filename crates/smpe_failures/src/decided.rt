@@ -18,8 +18,8 @@ pub struct Decided {
     pub failed: Vec<(Id, Failure)>,
 }
 
-/// Keeps the greatest set of candidates that supports itself. There is a kind and an id for each need of the system, and
-/// for each candidate a list of the tests that it fails.
+/// Keeps the greatest set of candidates that supports itself. There is a kind and an id for each need of the system,
+/// and for each candidate a list of the tests that it fails.
 pub fn decide(
     alloc: Heap,
     ids: &IdList,

@@ -1,7 +1,7 @@
 //! A job over a database file.
 use fields::{Srel, YyDdd, ZoneName};
 use report::Out;
-use smpe::{Answer, Job, JobError, run_jobs};
+use smpe::{Answer, Job, JobError, list_commands, run_jobs};
 use sqlite::{Connection, FileFrom, FileStore, Wary};
 use store::Store;
 use store_schema::StoreError;
@@ -67,4 +67,10 @@ pub(crate) fn commands_run(
         hold,
     }];
     answered(rt, db, &job)
+}
+
+/// Lists a zone. Nothing that it prints or changes has the job's date.
+pub(crate) fn zone_listed(rt: &HostRuntime, db: &str, zone: ZoneName) -> Result<Answer, JobError> {
+    let cntl = list_commands(rt.alloc(), zone)?;
+    commands_run(rt, db, YyDdd::new(2000, 1), cntl.as_slice(), b"", b"")
 }

@@ -1,4 +1,4 @@
-//! `smpe`: defines a zone of a database, or runs a job over it.
+//! `smpe`: defines a zone of a database, runs a job over it, or lists a zone.
 //! It is proved safe. That it hands files and words on as they are is seen in the code, and by its stored run.
 #![tactic(auto)]
 

@@ -1,5 +1,5 @@
 //! What was asked for is done.
-use crate::database::{commands_run, zone_defined};
+use crate::database::{commands_run, zone_defined, zone_listed};
 use crate::files::{read_file, read_given};
 use fields::{YyDdd, ZoneName};
 use report::Out;
@@ -32,6 +32,18 @@ pub(crate) fn status_of<'a>(rt: &HostRuntime, invocation: &'a Invocation) -> Res
             ptfin.as_ref(),
             hold.as_ref(),
         ),
+        Invocation::List { db, zone } => {
+            let answer = zone_listed(rt, db.as_str(), *zone)?;
+            Ok(job_status(&answer))
+        }
+    }
+}
+
+fn job_status(answer: &Answer) -> u8 {
+    match answer {
+        Answer::Code(code) => *code,
+        // A job has a return code.
+        Answer::Defined | Answer::Refused(_) => FAULT_STATUS,
     }
 }
 
@@ -51,16 +63,13 @@ fn run_status<'a>(
     let cntl = read_file(rt, cntl)?;
     let ptfin = read_given(rt, ptfin)?;
     let hold = read_given(rt, hold)?;
-    match commands_run(
+    let answer = commands_run(
         rt,
         db,
         date,
         cntl.as_slice(),
         ptfin.as_slice(),
         hold.as_slice(),
-    )? {
-        Answer::Code(code) => Ok(code),
-        // A job has a return code.
-        Answer::Defined | Answer::Refused(_) => Ok(FAULT_STATUS),
-    }
+    )?;
+    Ok(job_status(&answer))
 }

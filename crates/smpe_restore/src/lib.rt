@@ -3,6 +3,9 @@
 //! are those of the ids of the list, by id.
 #![tactic(auto)]
 
+mod deciding;
+mod lines;
+mod places;
 mod restored;
 
 pub use restored::{Restored, restore};

@@ -6,11 +6,15 @@ ghost use Rattle.machine.specs.Restoring.{RestoresListed};
 ghost use Rattle.cntl.specs.Views.{restore_list_of};
 ghost use Rattle.report.specs.Views.{line_view};
 
+use crate::deciding::{TakenOff, decide_restore};
 use cntl::RestoreList;
+use fields::IdList;
 use report::Line;
 use std::alloc::{AllocError, Global as Heap};
 use sysmods::Global;
+use undo::{Judged, restore_list, restore_system};
 use zones::{Zone, ZoneDelta};
+use zones_less::choose;
 
 /// What a RESTORE changes, and its lines by id.
 #[derive(Drop)]
@@ -32,5 +36,24 @@ pub fn restore(
         → RestoresListed global.now zone.now accepted.now (restore_list_of list.now) new
         (map line_view r.lines.items)) }
 {
-    Err(AllocError)
+    let none = IdList::new(alloc);
+    let vers = choose(global, zone, &none);
+    let ids = restore_list(alloc, &vers, zone, accepted, list)?;
+    let Judged {
+        cands,
+        system,
+        needed,
+        tests,
+    } = restore_system(alloc, &vers, zone, accepted, &ids)?;
+    let TakenOff { kept, lines } = decide_restore(
+        alloc,
+        global,
+        &ids,
+        &cands,
+        &system,
+        needed.as_slice(),
+        tests,
+    )?;
+    let delta = change::restore(alloc, global, zone, accepted, &kept)?;
+    Ok(Restored { delta, lines })
 }

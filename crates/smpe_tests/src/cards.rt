@@ -190,3 +190,49 @@ pub(crate) const REFUSALS: &[Step] = &[
         code: 12,
     },
 ];
+
+/// Another fix that replaces the macro is received.
+pub(crate) const RIVAL_RECEIVED: Step = Step {
+    cntl: &["SET BDY(GLOBAL).", "RECEIVE SYSMODS."],
+    ptfin: &[&[
+        "++PTF(UA00020).",
+        "++VER(Z038) FMID(HAA1100).",
+        "++MAC(M1) DISTLIB(AMACLIB) SYSLIB(MACLIB).",
+        "         MACRO 20                                                       00000010",
+    ]],
+    rest: "",
+    hold: &[],
+    report: "SET GLOBAL\nRC 00\nRECEIVE GLOBAL\nUA00020 PTF      RECEIVED\nRC 00\n",
+    code: 0,
+};
+
+/// The update is applied.
+pub(crate) const UPDATE_INSTALLED: Step = Step {
+    cntl: &["SET BDY(TGT1).", "APPLY SELECT(UA00025)."],
+    ptfin: &[],
+    rest: "",
+    hold: &[],
+    report: "SET TGT1\nRC 00\nAPPLY TGT1\nUA00025 PTF      APPLIED\nRC 00\n",
+    code: 0,
+};
+
+/// The function that deletes the other one is applied.
+pub(crate) const DELETER_INSTALLED: Step = Step {
+    cntl: &["SET BDY(TGT1).", "APPLY SELECT(HCC1200)."],
+    ptfin: &[],
+    rest: "",
+    hold: &[],
+    report: "SET TGT1\nRC 00\nAPPLY TGT1\nHCC1200 FUNCTION APPLIED\nRC 00\n",
+    code: 0,
+};
+
+/// The target zone has the function and its macro.
+pub(crate) const FUNCTION_LISTED: Step = Step {
+    cntl: &["SET BDY(TGT1).", "LIST."],
+    ptfin: &[],
+    rest: "",
+    hold: &[],
+    report: "SET TGT1\nRC 00\nLIST TGT1\nENTRY HAA1100 APPLIED 24.138 SUPBY - DELBY - WAIVED -\n\
+        ELEM MAC   M1       FMID HAA1100 RMID HAA1100 UMID - DISTLIB AMACLIB SYSLIB MACLIB\nRC 00\n",
+    code: 0,
+};

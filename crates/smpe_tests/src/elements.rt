@@ -1,6 +1,6 @@
 //! Jobs over elements of service, as text cards.
 
-use crate::cards::{FUNCTION_INSTALLED, FUNCTION_RECEIVED};
+use crate::cards::{FUNCTION_INSTALLED, FUNCTION_RECEIVED, RIVAL_RECEIVED, UPDATE_INSTALLED};
 use crate::play::Step;
 
 /// Two that replace one macro, neither over the other, fail together.
@@ -93,19 +93,7 @@ pub(crate) const CHAIN: &[Step] = &[
             ELEM MAC   M1       FMID HAA1100 RMID UA00019 UMID - DISTLIB AMACLIB SYSLIB MACLIB\nRC 00\n",
         code: 0,
     },
-    Step {
-        cntl: &["SET BDY(GLOBAL).", "RECEIVE SYSMODS."],
-        ptfin: &[&[
-            "++PTF(UA00020).",
-            "++VER(Z038) FMID(HAA1100).",
-            "++MAC(M1) DISTLIB(AMACLIB) SYSLIB(MACLIB).",
-            "         MACRO 20                                                       00000010",
-        ]],
-        rest: "",
-        hold: &[],
-        report: "SET GLOBAL\nRC 00\nRECEIVE GLOBAL\nUA00020 PTF      RECEIVED\nRC 00\n",
-        code: 0,
-    },
+    RIVAL_RECEIVED,
     Step {
         cntl: &["SET BDY(TGT1).", "APPLY SELECT(UA00020)."],
         ptfin: &[],
@@ -137,14 +125,7 @@ pub(crate) const UPDATE_IN_A_DELETED_RANGE: &[Step] = &[
         report: "SET GLOBAL\nRC 00\nRECEIVE GLOBAL\nUA00025 PTF      RECEIVED\nRC 00\n",
         code: 0,
     },
-    Step {
-        cntl: &["SET BDY(TGT1).", "APPLY SELECT(UA00025)."],
-        ptfin: &[],
-        rest: "",
-        hold: &[],
-        report: "SET TGT1\nRC 00\nAPPLY TGT1\nUA00025 PTF      APPLIED\nRC 00\n",
-        code: 0,
-    },
+    UPDATE_INSTALLED,
     Step {
         cntl: &["SET BDY(TGT1).", "LIST TEXT."],
         ptfin: &[],

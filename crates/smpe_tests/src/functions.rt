@@ -1,7 +1,18 @@
 //! Jobs over functions that delete others, as text cards.
 
-use crate::cards::{FUNCTION_INSTALLED, FUNCTION_RECEIVED};
+use crate::cards::{DELETER_INSTALLED, FUNCTION_INSTALLED, FUNCTION_RECEIVED};
 use crate::play::Step;
+
+/// A function is applied whose service requires service of the other one.
+const REQUIRERS_INSTALLED: Step = Step {
+    cntl: &["SET BDY(TGT1).", "APPLY SELECT(HDD1100,UA00021,UA00023)."],
+    ptfin: &[],
+    rest: "",
+    hold: &[],
+    report: "SET TGT1\nRC 00\nAPPLY TGT1\nHDD1100 FUNCTION APPLIED\nUA00021 PTF      APPLIED\n\
+        UA00023 PTF      APPLIED\nRC 00\n",
+    code: 0,
+};
 
 /// Service for a function that another candidate deletes fails, and the deletion goes on.
 pub(crate) const DELETED_OWNER: &[Step] = &[
@@ -49,15 +60,7 @@ pub(crate) const ORPHANED: &[Step] = &[
             UA00023 PTF      RECEIVED\nHCC1200 FUNCTION RECEIVED\nRC 00\n",
         code: 0,
     },
-    Step {
-        cntl: &["SET BDY(TGT1).", "APPLY SELECT(HDD1100,UA00021,UA00023)."],
-        ptfin: &[],
-        rest: "",
-        hold: &[],
-        report: "SET TGT1\nRC 00\nAPPLY TGT1\nHDD1100 FUNCTION APPLIED\nUA00021 PTF      APPLIED\n\
-            UA00023 PTF      APPLIED\nRC 00\n",
-        code: 0,
-    },
+    REQUIRERS_INSTALLED,
     Step {
         cntl: &["SET BDY(TGT1).", "APPLY SELECT(HCC1200)."],
         ptfin: &[],
@@ -90,23 +93,8 @@ pub(crate) const DELETED: &[Step] = &[
             UA00023 PTF      RECEIVED\nHCC1200 FUNCTION RECEIVED\nRC 00\n",
         code: 0,
     },
-    Step {
-        cntl: &["SET BDY(TGT1).", "APPLY SELECT(HDD1100,UA00021,UA00023)."],
-        ptfin: &[],
-        rest: "",
-        hold: &[],
-        report: "SET TGT1\nRC 00\nAPPLY TGT1\nHDD1100 FUNCTION APPLIED\nUA00021 PTF      APPLIED\n\
-            UA00023 PTF      APPLIED\nRC 00\n",
-        code: 0,
-    },
-    Step {
-        cntl: &["SET BDY(TGT1).", "APPLY SELECT(HCC1200)."],
-        ptfin: &[],
-        rest: "",
-        hold: &[],
-        report: "SET TGT1\nRC 00\nAPPLY TGT1\nHCC1200 FUNCTION APPLIED\nRC 00\n",
-        code: 0,
-    },
+    REQUIRERS_INSTALLED,
+    DELETER_INSTALLED,
     Step {
         cntl: &["SET BDY(TGT1).", "APPLY SELECT(HAA1100)."],
         ptfin: &[],

@@ -1,28 +1,82 @@
 //! Jobs of ACCEPT and RESTORE, as text cards.
 
-use crate::cards::{FUNCTION_INSTALLED, FUNCTION_RECEIVED};
+use crate::cards::{FUNCTION_INSTALLED, FUNCTION_LISTED, FUNCTION_RECEIVED, RIVAL_RECEIVED};
 use crate::play::Step;
+
+/// The function is accepted.
+const FUNCTION_ACCEPTED: Step = Step {
+    cntl: &["SET BDY(DLB1).", "ACCEPT SELECT(HAA1100)."],
+    ptfin: &[],
+    rest: "",
+    hold: &[],
+    report: "SET DLB1\nRC 00\nACCEPT DLB1\nHAA1100 FUNCTION ACCEPTED\nRC 00\n",
+    code: 0,
+};
+
+/// The fix is received.
+const FIX_RECEIVED: Step = Step {
+    cntl: &["SET BDY(GLOBAL).", "RECEIVE SYSMODS."],
+    ptfin: &[&["++PTF(UA00024).", "++VER(Z038) FMID(HAA1100)."]],
+    rest: "",
+    hold: &[],
+    report: "SET GLOBAL\nRC 00\nRECEIVE GLOBAL\nUA00024 PTF      RECEIVED\nRC 00\n",
+    code: 0,
+};
+
+/// A fix that replaces the macro is received.
+const REPLACEMENT_RECEIVED: Step = Step {
+    cntl: &["SET BDY(GLOBAL).", "RECEIVE SYSMODS."],
+    ptfin: &[&[
+        "++PTF(UA00017).",
+        "++VER(Z038) FMID(HAA1100).",
+        "++MAC(M1) DISTLIB(AMACLIB) SYSLIB(MACLIB).",
+        "         MACRO 17                                                       00000010",
+    ]],
+    rest: "",
+    hold: &[],
+    report: "SET GLOBAL\nRC 00\nRECEIVE GLOBAL\nUA00017 PTF      RECEIVED\nRC 00\n",
+    code: 0,
+};
+
+/// It is applied.
+const REPLACEMENT_INSTALLED: Step = Step {
+    cntl: &["SET BDY(TGT1).", "APPLY SELECT(UA00017)."],
+    ptfin: &[],
+    rest: "",
+    hold: &[],
+    report: "SET TGT1\nRC 00\nAPPLY TGT1\nUA00017 PTF      APPLIED\nRC 00\n",
+    code: 0,
+};
+
+/// A fix and one that requires it are received.
+const PAIR_RECEIVED: Step = Step {
+    cntl: &["SET BDY(GLOBAL).", "RECEIVE SYSMODS."],
+    ptfin: &[
+        &["++PTF(UA00021).", "++VER(Z038) FMID(HAA1100)."],
+        &["++PTF(UA00022).", "++VER(Z038) FMID(HAA1100) PRE(UA00021)."],
+    ],
+    rest: "",
+    hold: &[],
+    report: "SET GLOBAL\nRC 00\nRECEIVE GLOBAL\nUA00021 PTF      RECEIVED\nUA00022 PTF      RECEIVED\nRC 00\n",
+    code: 0,
+};
+
+/// Both are applied.
+const PAIR_INSTALLED: Step = Step {
+    cntl: &["SET BDY(TGT1).", "APPLY SELECT(UA00021,UA00022)."],
+    ptfin: &[],
+    rest: "",
+    hold: &[],
+    report: "SET TGT1\nRC 00\nAPPLY TGT1\nUA00021 PTF      APPLIED\nUA00022 PTF      APPLIED\nRC 00\n",
+    code: 0,
+};
 
 /// What is accepted must be applied in the related target zone.
 pub(crate) const ACCEPT_UNAPPLIED: &[Step] = &[
     FUNCTION_RECEIVED,
     FUNCTION_INSTALLED,
-    Step {
-        cntl: &["SET BDY(DLB1).", "ACCEPT SELECT(HAA1100)."],
-        ptfin: &[],
-        rest: "",
-        hold: &[],
-        report: "SET DLB1\nRC 00\nACCEPT DLB1\nHAA1100 FUNCTION ACCEPTED\nRC 00\n",
-        code: 0,
-    },
-    Step {
-        cntl: &["SET BDY(GLOBAL).", "RECEIVE SYSMODS."],
-        ptfin: &[&["++PTF(UA00024).", "++VER(Z038) FMID(HAA1100)."]],
-        rest: "",
-        hold: &[],
-        report: "SET GLOBAL\nRC 00\nRECEIVE GLOBAL\nUA00024 PTF      RECEIVED\nRC 00\n",
-        code: 0,
-    },
+    FUNCTION_ACCEPTED,
+    FIX_RECEIVED,
     Step {
         cntl: &["SET BDY(DLB1).", "ACCEPT SELECT(UA00024)."],
         ptfin: &[],
@@ -37,22 +91,8 @@ pub(crate) const ACCEPT_UNAPPLIED: &[Step] = &[
 pub(crate) const ACCEPT_UNCHECKED: &[Step] = &[
     FUNCTION_RECEIVED,
     FUNCTION_INSTALLED,
-    Step {
-        cntl: &["SET BDY(DLB1).", "ACCEPT SELECT(HAA1100)."],
-        ptfin: &[],
-        rest: "",
-        hold: &[],
-        report: "SET DLB1\nRC 00\nACCEPT DLB1\nHAA1100 FUNCTION ACCEPTED\nRC 00\n",
-        code: 0,
-    },
-    Step {
-        cntl: &["SET BDY(GLOBAL).", "RECEIVE SYSMODS."],
-        ptfin: &[&["++PTF(UA00024).", "++VER(Z038) FMID(HAA1100)."]],
-        rest: "",
-        hold: &[],
-        report: "SET GLOBAL\nRC 00\nRECEIVE GLOBAL\nUA00024 PTF      RECEIVED\nRC 00\n",
-        code: 0,
-    },
+    FUNCTION_ACCEPTED,
+    FIX_RECEIVED,
     Step {
         cntl: &[
             "SET BDY(DLB1).",
@@ -70,27 +110,8 @@ pub(crate) const ACCEPT_UNCHECKED: &[Step] = &[
 pub(crate) const LEVEL_NOT_ACCEPTED: &[Step] = &[
     FUNCTION_RECEIVED,
     FUNCTION_INSTALLED,
-    Step {
-        cntl: &["SET BDY(GLOBAL).", "RECEIVE SYSMODS."],
-        ptfin: &[&[
-            "++PTF(UA00017).",
-            "++VER(Z038) FMID(HAA1100).",
-            "++MAC(M1) DISTLIB(AMACLIB) SYSLIB(MACLIB).",
-            "         MACRO 17                                                       00000010",
-        ]],
-        rest: "",
-        hold: &[],
-        report: "SET GLOBAL\nRC 00\nRECEIVE GLOBAL\nUA00017 PTF      RECEIVED\nRC 00\n",
-        code: 0,
-    },
-    Step {
-        cntl: &["SET BDY(TGT1).", "APPLY SELECT(UA00017)."],
-        ptfin: &[],
-        rest: "",
-        hold: &[],
-        report: "SET TGT1\nRC 00\nAPPLY TGT1\nUA00017 PTF      APPLIED\nRC 00\n",
-        code: 0,
-    },
+    REPLACEMENT_RECEIVED,
+    REPLACEMENT_INSTALLED,
     Step {
         cntl: &["SET BDY(TGT1).", "RESTORE SELECT(UA00017)."],
         ptfin: &[],
@@ -106,27 +127,8 @@ pub(crate) const LEVEL_NOT_ACCEPTED: &[Step] = &[
 pub(crate) const BOTH_RESTORED: &[Step] = &[
     FUNCTION_RECEIVED,
     FUNCTION_INSTALLED,
-    Step {
-        cntl: &["SET BDY(GLOBAL).", "RECEIVE SYSMODS."],
-        ptfin: &[&[
-            "++PTF(UA00017).",
-            "++VER(Z038) FMID(HAA1100).",
-            "++MAC(M1) DISTLIB(AMACLIB) SYSLIB(MACLIB).",
-            "         MACRO 17                                                       00000010",
-        ]],
-        rest: "",
-        hold: &[],
-        report: "SET GLOBAL\nRC 00\nRECEIVE GLOBAL\nUA00017 PTF      RECEIVED\nRC 00\n",
-        code: 0,
-    },
-    Step {
-        cntl: &["SET BDY(TGT1).", "APPLY SELECT(UA00017)."],
-        ptfin: &[],
-        rest: "",
-        hold: &[],
-        report: "SET TGT1\nRC 00\nAPPLY TGT1\nUA00017 PTF      APPLIED\nRC 00\n",
-        code: 0,
-    },
+    REPLACEMENT_RECEIVED,
+    REPLACEMENT_INSTALLED,
     Step {
         cntl: &["SET BDY(TGT1).", "RESTORE SELECT(HAA1100,UA00017)."],
         ptfin: &[],
@@ -149,35 +151,9 @@ pub(crate) const BOTH_RESTORED: &[Step] = &[
 pub(crate) const LEVEL_ACCEPTED: &[Step] = &[
     FUNCTION_RECEIVED,
     FUNCTION_INSTALLED,
-    Step {
-        cntl: &["SET BDY(GLOBAL).", "RECEIVE SYSMODS."],
-        ptfin: &[&[
-            "++PTF(UA00017).",
-            "++VER(Z038) FMID(HAA1100).",
-            "++MAC(M1) DISTLIB(AMACLIB) SYSLIB(MACLIB).",
-            "         MACRO 17                                                       00000010",
-        ]],
-        rest: "",
-        hold: &[],
-        report: "SET GLOBAL\nRC 00\nRECEIVE GLOBAL\nUA00017 PTF      RECEIVED\nRC 00\n",
-        code: 0,
-    },
-    Step {
-        cntl: &["SET BDY(TGT1).", "APPLY SELECT(UA00017)."],
-        ptfin: &[],
-        rest: "",
-        hold: &[],
-        report: "SET TGT1\nRC 00\nAPPLY TGT1\nUA00017 PTF      APPLIED\nRC 00\n",
-        code: 0,
-    },
-    Step {
-        cntl: &["SET BDY(DLB1).", "ACCEPT SELECT(HAA1100)."],
-        ptfin: &[],
-        rest: "",
-        hold: &[],
-        report: "SET DLB1\nRC 00\nACCEPT DLB1\nHAA1100 FUNCTION ACCEPTED\nRC 00\n",
-        code: 0,
-    },
+    REPLACEMENT_RECEIVED,
+    REPLACEMENT_INSTALLED,
+    FUNCTION_ACCEPTED,
     Step {
         cntl: &["SET BDY(TGT1).", "RESTORE SELECT(UA00017)."],
         ptfin: &[],
@@ -203,40 +179,9 @@ pub(crate) const LEVEL_ACCEPTED: &[Step] = &[
 pub(crate) const NOT_APPLIED: &[Step] = &[
     FUNCTION_RECEIVED,
     FUNCTION_INSTALLED,
-    Step {
-        cntl: &["SET BDY(GLOBAL).", "RECEIVE SYSMODS."],
-        ptfin: &[&[
-            "++PTF(UA00017).",
-            "++VER(Z038) FMID(HAA1100).",
-            "++MAC(M1) DISTLIB(AMACLIB) SYSLIB(MACLIB).",
-            "         MACRO 17                                                       00000010",
-        ]],
-        rest: "",
-        hold: &[],
-        report: "SET GLOBAL\nRC 00\nRECEIVE GLOBAL\nUA00017 PTF      RECEIVED\nRC 00\n",
-        code: 0,
-    },
-    Step {
-        cntl: &["SET BDY(TGT1).", "APPLY SELECT(UA00017)."],
-        ptfin: &[],
-        rest: "",
-        hold: &[],
-        report: "SET TGT1\nRC 00\nAPPLY TGT1\nUA00017 PTF      APPLIED\nRC 00\n",
-        code: 0,
-    },
-    Step {
-        cntl: &["SET BDY(GLOBAL).", "RECEIVE SYSMODS."],
-        ptfin: &[&[
-            "++PTF(UA00020).",
-            "++VER(Z038) FMID(HAA1100).",
-            "++MAC(M1) DISTLIB(AMACLIB) SYSLIB(MACLIB).",
-            "         MACRO 20                                                       00000010",
-        ]],
-        rest: "",
-        hold: &[],
-        report: "SET GLOBAL\nRC 00\nRECEIVE GLOBAL\nUA00020 PTF      RECEIVED\nRC 00\n",
-        code: 0,
-    },
+    REPLACEMENT_RECEIVED,
+    REPLACEMENT_INSTALLED,
+    RIVAL_RECEIVED,
     Step {
         cntl: &["SET BDY(TGT1).", "RESTORE GROUP(UA00020)."],
         ptfin: &[],
@@ -262,25 +207,8 @@ pub(crate) const NOT_APPLIED: &[Step] = &[
 pub(crate) const STILL_REQUIRED: &[Step] = &[
     FUNCTION_RECEIVED,
     FUNCTION_INSTALLED,
-    Step {
-        cntl: &["SET BDY(GLOBAL).", "RECEIVE SYSMODS."],
-        ptfin: &[
-            &["++PTF(UA00021).", "++VER(Z038) FMID(HAA1100)."],
-            &["++PTF(UA00022).", "++VER(Z038) FMID(HAA1100) PRE(UA00021)."],
-        ],
-        rest: "",
-        hold: &[],
-        report: "SET GLOBAL\nRC 00\nRECEIVE GLOBAL\nUA00021 PTF      RECEIVED\nUA00022 PTF      RECEIVED\nRC 00\n",
-        code: 0,
-    },
-    Step {
-        cntl: &["SET BDY(TGT1).", "APPLY SELECT(UA00021,UA00022)."],
-        ptfin: &[],
-        rest: "",
-        hold: &[],
-        report: "SET TGT1\nRC 00\nAPPLY TGT1\nUA00021 PTF      APPLIED\nUA00022 PTF      APPLIED\nRC 00\n",
-        code: 0,
-    },
+    PAIR_RECEIVED,
+    PAIR_INSTALLED,
     Step {
         cntl: &["SET BDY(TGT1).", "RESTORE SELECT(UA00021)."],
         ptfin: &[],
@@ -296,25 +224,8 @@ pub(crate) const STILL_REQUIRED: &[Step] = &[
 pub(crate) const GROUP_RESTORED: &[Step] = &[
     FUNCTION_RECEIVED,
     FUNCTION_INSTALLED,
-    Step {
-        cntl: &["SET BDY(GLOBAL).", "RECEIVE SYSMODS."],
-        ptfin: &[
-            &["++PTF(UA00021).", "++VER(Z038) FMID(HAA1100)."],
-            &["++PTF(UA00022).", "++VER(Z038) FMID(HAA1100) PRE(UA00021)."],
-        ],
-        rest: "",
-        hold: &[],
-        report: "SET GLOBAL\nRC 00\nRECEIVE GLOBAL\nUA00021 PTF      RECEIVED\nUA00022 PTF      RECEIVED\nRC 00\n",
-        code: 0,
-    },
-    Step {
-        cntl: &["SET BDY(TGT1).", "APPLY SELECT(UA00021,UA00022)."],
-        ptfin: &[],
-        rest: "",
-        hold: &[],
-        report: "SET TGT1\nRC 00\nAPPLY TGT1\nUA00021 PTF      APPLIED\nUA00022 PTF      APPLIED\nRC 00\n",
-        code: 0,
-    },
+    PAIR_RECEIVED,
+    PAIR_INSTALLED,
     Step {
         cntl: &["SET BDY(TGT1).", "RESTORE GROUP(UA00021)."],
         ptfin: &[],
@@ -323,40 +234,15 @@ pub(crate) const GROUP_RESTORED: &[Step] = &[
         report: "SET TGT1\nRC 00\nRESTORE TGT1\nUA00021 PTF      RESTORED\nUA00022 PTF      RESTORED\nRC 00\n",
         code: 0,
     },
-    Step {
-        cntl: &["SET BDY(TGT1).", "LIST."],
-        ptfin: &[],
-        rest: "",
-        hold: &[],
-        report: "SET TGT1\nRC 00\nLIST TGT1\nENTRY HAA1100 APPLIED 24.138 SUPBY - DELBY - WAIVED -\n\
-            ELEM MAC   M1       FMID HAA1100 RMID HAA1100 UMID - DISTLIB AMACLIB SYSLIB MACLIB\nRC 00\n",
-        code: 0,
-    },
+    FUNCTION_LISTED,
 ];
 
 /// What is accepted can not be restored.
 pub(crate) const ACCEPTED_STAYS: &[Step] = &[
     FUNCTION_RECEIVED,
     FUNCTION_INSTALLED,
-    Step {
-        cntl: &["SET BDY(GLOBAL).", "RECEIVE SYSMODS."],
-        ptfin: &[
-            &["++PTF(UA00021).", "++VER(Z038) FMID(HAA1100)."],
-            &["++PTF(UA00022).", "++VER(Z038) FMID(HAA1100) PRE(UA00021)."],
-        ],
-        rest: "",
-        hold: &[],
-        report: "SET GLOBAL\nRC 00\nRECEIVE GLOBAL\nUA00021 PTF      RECEIVED\nUA00022 PTF      RECEIVED\nRC 00\n",
-        code: 0,
-    },
-    Step {
-        cntl: &["SET BDY(TGT1).", "APPLY SELECT(UA00021,UA00022)."],
-        ptfin: &[],
-        rest: "",
-        hold: &[],
-        report: "SET TGT1\nRC 00\nAPPLY TGT1\nUA00021 PTF      APPLIED\nUA00022 PTF      APPLIED\nRC 00\n",
-        code: 0,
-    },
+    PAIR_RECEIVED,
+    PAIR_INSTALLED,
     Step {
         cntl: &["SET BDY(DLB1).", "ACCEPT SELECT(HAA1100,UA00021)."],
         ptfin: &[],

@@ -1,6 +1,8 @@
 //! Jobs that look at zones by LIST and REPORT, as text cards.
 
-use crate::cards::{FUNCTION_INSTALLED, FUNCTION_RECEIVED};
+use crate::cards::{
+    DELETER_INSTALLED, FUNCTION_INSTALLED, FUNCTION_LISTED, FUNCTION_RECEIVED, UPDATE_INSTALLED,
+};
 use crate::play::Step;
 
 /// Of a broken PTFIN nothing is received.
@@ -44,15 +46,7 @@ pub(crate) const CHECKED: &[Step] = &[
             UA00024 PTF      APPLIED\nRC 00\n",
         code: 0,
     },
-    Step {
-        cntl: &["SET BDY(TGT1).", "LIST."],
-        ptfin: &[],
-        rest: "",
-        hold: &[],
-        report: "SET TGT1\nRC 00\nLIST TGT1\nENTRY HAA1100 APPLIED 24.138 SUPBY - DELBY - WAIVED -\n\
-            ELEM MAC   M1       FMID HAA1100 RMID HAA1100 UMID - DISTLIB AMACLIB SYSLIB MACLIB\nRC 00\n",
-        code: 0,
-    },
+    FUNCTION_LISTED,
 ];
 
 /// An update gives and deletes records.
@@ -75,14 +69,7 @@ pub(crate) const UPDATED: &[Step] = &[
         report: "SET GLOBAL\nRC 00\nRECEIVE GLOBAL\nUA00025 PTF      RECEIVED\nRC 00\n",
         code: 0,
     },
-    Step {
-        cntl: &["SET BDY(TGT1).", "APPLY SELECT(UA00025)."],
-        ptfin: &[],
-        rest: "",
-        hold: &[],
-        report: "SET TGT1\nRC 00\nAPPLY TGT1\nUA00025 PTF      APPLIED\nRC 00\n",
-        code: 0,
-    },
+    UPDATE_INSTALLED,
     Step {
         cntl: &["SET BDY(TGT1).", "LIST TEXT."],
         ptfin: &[],
@@ -139,14 +126,7 @@ pub(crate) const DELETED_WITH_SERVICE: &[Step] = &[
         report: "SET TGT1\nRC 00\nAPPLY TGT1\nUA00053 PTF      APPLIED\nRC 00\n",
         code: 0,
     },
-    Step {
-        cntl: &["SET BDY(TGT1).", "APPLY SELECT(HCC1200)."],
-        ptfin: &[],
-        rest: "",
-        hold: &[],
-        report: "SET TGT1\nRC 00\nAPPLY TGT1\nHCC1200 FUNCTION APPLIED\nRC 00\n",
-        code: 0,
-    },
+    DELETER_INSTALLED,
     Step {
         cntl: &["SET BDY(TGT1).", "LIST."],
         ptfin: &[],

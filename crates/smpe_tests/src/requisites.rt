@@ -3,18 +3,77 @@
 use crate::cards::{FUNCTION_INSTALLED, FUNCTION_RECEIVED};
 use crate::play::Step;
 
+/// A fix with a prerequisite that is not received.
+const WANTING_RECEIVED: Step = Step {
+    cntl: &["SET BDY(GLOBAL).", "RECEIVE SYSMODS."],
+    ptfin: &[&["++PTF(UA00003).", "++VER(Z038) FMID(HAA1100) PRE(UA00002)."]],
+    rest: "",
+    hold: &[],
+    report: "SET GLOBAL\nRC 00\nRECEIVE GLOBAL\nUA00003 PTF      RECEIVED\nRC 00\n",
+    code: 0,
+};
+
+/// Two fixes that require each other are received.
+const MUTUAL_RECEIVED: Step = Step {
+    cntl: &["SET BDY(GLOBAL).", "RECEIVE SYSMODS."],
+    ptfin: &[
+        &["++PTF(UA00003).", "++VER(Z038) FMID(HAA1100) REQ(UA00004)."],
+        &["++PTF(UA00004).", "++VER(Z038) FMID(HAA1100) REQ(UA00003)."],
+    ],
+    rest: "",
+    hold: &[],
+    report: "SET GLOBAL\nRC 00\nRECEIVE GLOBAL\nUA00003 PTF      RECEIVED\nUA00004 PTF      RECEIVED\n\
+        RC 00\n",
+    code: 0,
+};
+
+/// One of them is held.
+const REQUISITE_HOLD_RECEIVED: Step = Step {
+    cntl: &["SET BDY(GLOBAL).", "RECEIVE HOLDDATA."],
+    ptfin: &[],
+    rest: "",
+    hold: &["++HOLD(UA00004) SYSTEM FMID(HAA1100) REASON(ACTION)."],
+    report: "SET GLOBAL\nRC 00\nRECEIVE GLOBAL\nUA00004 SYSTEM   HELD ACTION\nRC 00\n",
+    code: 0,
+};
+
+/// A fix that is held for error, and one that resolves it.
+const ERROR_RECEIVED: Step = Step {
+    cntl: &["SET BDY(GLOBAL).", "RECEIVE SYSMODS HOLDDATA."],
+    ptfin: &[
+        &["++PTF(UA00005).", "++VER(Z038) FMID(HAA1100)."],
+        &["++PTF(UA00006).", "++VER(Z038) FMID(HAA1100) SUP(AA00009)."],
+    ],
+    rest: "",
+    hold: &["++HOLD(UA00005) ERROR FMID(HAA1100) REASON(AA00009)."],
+    report: "SET GLOBAL\nRC 00\nRECEIVE GLOBAL\nUA00005 PTF      RECEIVED\nUA00006 PTF      RECEIVED\n\
+        UA00005 ERROR    HELD AA00009\nRC 00\n",
+    code: 0,
+};
+
+/// A held function, and a fix that requires another one where that function is.
+const CONDITION_RECEIVED: Step = Step {
+    cntl: &["SET BDY(GLOBAL).", "RECEIVE SYSMODS HOLDDATA."],
+    ptfin: &[
+        &["++FUNCTION(HBB1100).", "++VER(Z038)."],
+        &[
+            "++PTF(UA00013).",
+            "++VER(Z038) FMID(HAA1100).",
+            "++IF FMID(HBB1100) THEN REQ(UA00014).",
+        ],
+    ],
+    rest: "",
+    hold: &["++HOLD(HBB1100) USER FMID(HBB1100) REASON(WAIT)."],
+    report: "SET GLOBAL\nRC 00\nRECEIVE GLOBAL\nHBB1100 FUNCTION RECEIVED\nUA00013 PTF      RECEIVED\n\
+        HBB1100 USER     HELD WAIT\nRC 00\n",
+    code: 0,
+};
+
 /// A prerequisite that is not received is open, and names its own candidate as the causer.
 pub(crate) const OPEN_PRE: &[Step] = &[
     FUNCTION_RECEIVED,
     FUNCTION_INSTALLED,
-    Step {
-        cntl: &["SET BDY(GLOBAL).", "RECEIVE SYSMODS."],
-        ptfin: &[&["++PTF(UA00003).", "++VER(Z038) FMID(HAA1100) PRE(UA00002)."]],
-        rest: "",
-        hold: &[],
-        report: "SET GLOBAL\nRC 00\nRECEIVE GLOBAL\nUA00003 PTF      RECEIVED\nRC 00\n",
-        code: 0,
-    },
+    WANTING_RECEIVED,
     Step {
         cntl: &["SET BDY(TGT1).", "APPLY SELECT(UA00003)."],
         ptfin: &[],
@@ -30,14 +89,7 @@ pub(crate) const OPEN_PRE: &[Step] = &[
 pub(crate) const BYPASSED_PRE: &[Step] = &[
     FUNCTION_RECEIVED,
     FUNCTION_INSTALLED,
-    Step {
-        cntl: &["SET BDY(GLOBAL).", "RECEIVE SYSMODS."],
-        ptfin: &[&["++PTF(UA00003).", "++VER(Z038) FMID(HAA1100) PRE(UA00002)."]],
-        rest: "",
-        hold: &[],
-        report: "SET GLOBAL\nRC 00\nRECEIVE GLOBAL\nUA00003 PTF      RECEIVED\nRC 00\n",
-        code: 0,
-    },
+    WANTING_RECEIVED,
     Step {
         cntl: &["SET BDY(TGT1).", "APPLY SELECT(UA00003) BYPASS(PRE)."],
         ptfin: &[],
@@ -62,18 +114,7 @@ pub(crate) const BYPASSED_PRE: &[Step] = &[
 pub(crate) const REQ_BOTH_WAYS: &[Step] = &[
     FUNCTION_RECEIVED,
     FUNCTION_INSTALLED,
-    Step {
-        cntl: &["SET BDY(GLOBAL).", "RECEIVE SYSMODS."],
-        ptfin: &[
-            &["++PTF(UA00003).", "++VER(Z038) FMID(HAA1100) REQ(UA00004)."],
-            &["++PTF(UA00004).", "++VER(Z038) FMID(HAA1100) REQ(UA00003)."],
-        ],
-        rest: "",
-        hold: &[],
-        report: "SET GLOBAL\nRC 00\nRECEIVE GLOBAL\nUA00003 PTF      RECEIVED\nUA00004 PTF      RECEIVED\n\
-            RC 00\n",
-        code: 0,
-    },
+    MUTUAL_RECEIVED,
     Step {
         cntl: &["SET BDY(TGT1).", "APPLY SELECT(UA00003,UA00004)."],
         ptfin: &[],
@@ -88,26 +129,8 @@ pub(crate) const REQ_BOTH_WAYS: &[Step] = &[
 pub(crate) const HELD_REQUISITE: &[Step] = &[
     FUNCTION_RECEIVED,
     FUNCTION_INSTALLED,
-    Step {
-        cntl: &["SET BDY(GLOBAL).", "RECEIVE SYSMODS."],
-        ptfin: &[
-            &["++PTF(UA00003).", "++VER(Z038) FMID(HAA1100) REQ(UA00004)."],
-            &["++PTF(UA00004).", "++VER(Z038) FMID(HAA1100) REQ(UA00003)."],
-        ],
-        rest: "",
-        hold: &[],
-        report: "SET GLOBAL\nRC 00\nRECEIVE GLOBAL\nUA00003 PTF      RECEIVED\nUA00004 PTF      RECEIVED\n\
-            RC 00\n",
-        code: 0,
-    },
-    Step {
-        cntl: &["SET BDY(GLOBAL).", "RECEIVE HOLDDATA."],
-        ptfin: &[],
-        rest: "",
-        hold: &["++HOLD(UA00004) SYSTEM FMID(HAA1100) REASON(ACTION)."],
-        report: "SET GLOBAL\nRC 00\nRECEIVE GLOBAL\nUA00004 SYSTEM   HELD ACTION\nRC 00\n",
-        code: 0,
-    },
+    MUTUAL_RECEIVED,
+    REQUISITE_HOLD_RECEIVED,
     Step {
         cntl: &["SET BDY(TGT1).", "APPLY SELECT(UA00003,UA00004)."],
         ptfin: &[],
@@ -123,26 +146,8 @@ pub(crate) const HELD_REQUISITE: &[Step] = &[
 pub(crate) const BYPASSED_HOLD: &[Step] = &[
     FUNCTION_RECEIVED,
     FUNCTION_INSTALLED,
-    Step {
-        cntl: &["SET BDY(GLOBAL).", "RECEIVE SYSMODS."],
-        ptfin: &[
-            &["++PTF(UA00003).", "++VER(Z038) FMID(HAA1100) REQ(UA00004)."],
-            &["++PTF(UA00004).", "++VER(Z038) FMID(HAA1100) REQ(UA00003)."],
-        ],
-        rest: "",
-        hold: &[],
-        report: "SET GLOBAL\nRC 00\nRECEIVE GLOBAL\nUA00003 PTF      RECEIVED\nUA00004 PTF      RECEIVED\n\
-            RC 00\n",
-        code: 0,
-    },
-    Step {
-        cntl: &["SET BDY(GLOBAL).", "RECEIVE HOLDDATA."],
-        ptfin: &[],
-        rest: "",
-        hold: &["++HOLD(UA00004) SYSTEM FMID(HAA1100) REASON(ACTION)."],
-        report: "SET GLOBAL\nRC 00\nRECEIVE GLOBAL\nUA00004 SYSTEM   HELD ACTION\nRC 00\n",
-        code: 0,
-    },
+    MUTUAL_RECEIVED,
+    REQUISITE_HOLD_RECEIVED,
     Step {
         cntl: &[
             "SET BDY(TGT1).",
@@ -160,18 +165,7 @@ pub(crate) const BYPASSED_HOLD: &[Step] = &[
 pub(crate) const RESOLVED_ERROR: &[Step] = &[
     FUNCTION_RECEIVED,
     FUNCTION_INSTALLED,
-    Step {
-        cntl: &["SET BDY(GLOBAL).", "RECEIVE SYSMODS HOLDDATA."],
-        ptfin: &[
-            &["++PTF(UA00005).", "++VER(Z038) FMID(HAA1100)."],
-            &["++PTF(UA00006).", "++VER(Z038) FMID(HAA1100) SUP(AA00009)."],
-        ],
-        rest: "",
-        hold: &["++HOLD(UA00005) ERROR FMID(HAA1100) REASON(AA00009)."],
-        report: "SET GLOBAL\nRC 00\nRECEIVE GLOBAL\nUA00005 PTF      RECEIVED\nUA00006 PTF      RECEIVED\n\
-            UA00005 ERROR    HELD AA00009\nRC 00\n",
-        code: 0,
-    },
+    ERROR_RECEIVED,
     Step {
         cntl: &["SET BDY(TGT1).", "APPLY SELECT(UA00005,UA00006)."],
         ptfin: &[],
@@ -198,18 +192,7 @@ pub(crate) const RESOLVED_ERROR: &[Step] = &[
 pub(crate) const OPEN_ERROR: &[Step] = &[
     FUNCTION_RECEIVED,
     FUNCTION_INSTALLED,
-    Step {
-        cntl: &["SET BDY(GLOBAL).", "RECEIVE SYSMODS HOLDDATA."],
-        ptfin: &[
-            &["++PTF(UA00005).", "++VER(Z038) FMID(HAA1100)."],
-            &["++PTF(UA00006).", "++VER(Z038) FMID(HAA1100) SUP(AA00009)."],
-        ],
-        rest: "",
-        hold: &["++HOLD(UA00005) ERROR FMID(HAA1100) REASON(AA00009)."],
-        report: "SET GLOBAL\nRC 00\nRECEIVE GLOBAL\nUA00005 PTF      RECEIVED\nUA00006 PTF      RECEIVED\n\
-            UA00005 ERROR    HELD AA00009\nRC 00\n",
-        code: 0,
-    },
+    ERROR_RECEIVED,
     Step {
         cntl: &["SET BDY(TGT1).", "APPLY SELECT(UA00005)."],
         ptfin: &[],
@@ -279,22 +262,7 @@ pub(crate) const SUPERSEDED: &[Step] = &[
 pub(crate) const CONDITIONAL_REQUISITE: &[Step] = &[
     FUNCTION_RECEIVED,
     FUNCTION_INSTALLED,
-    Step {
-        cntl: &["SET BDY(GLOBAL).", "RECEIVE SYSMODS HOLDDATA."],
-        ptfin: &[
-            &["++FUNCTION(HBB1100).", "++VER(Z038)."],
-            &[
-                "++PTF(UA00013).",
-                "++VER(Z038) FMID(HAA1100).",
-                "++IF FMID(HBB1100) THEN REQ(UA00014).",
-            ],
-        ],
-        rest: "",
-        hold: &["++HOLD(HBB1100) USER FMID(HBB1100) REASON(WAIT)."],
-        report: "SET GLOBAL\nRC 00\nRECEIVE GLOBAL\nHBB1100 FUNCTION RECEIVED\nUA00013 PTF      RECEIVED\n\
-            HBB1100 USER     HELD WAIT\nRC 00\n",
-        code: 0,
-    },
+    CONDITION_RECEIVED,
     Step {
         cntl: &["SET BDY(TGT1).", "APPLY SELECT(HBB1100,UA00013)."],
         ptfin: &[],
@@ -310,22 +278,7 @@ pub(crate) const CONDITIONAL_REQUISITE: &[Step] = &[
 pub(crate) const NO_CONDITION: &[Step] = &[
     FUNCTION_RECEIVED,
     FUNCTION_INSTALLED,
-    Step {
-        cntl: &["SET BDY(GLOBAL).", "RECEIVE SYSMODS HOLDDATA."],
-        ptfin: &[
-            &["++FUNCTION(HBB1100).", "++VER(Z038)."],
-            &[
-                "++PTF(UA00013).",
-                "++VER(Z038) FMID(HAA1100).",
-                "++IF FMID(HBB1100) THEN REQ(UA00014).",
-            ],
-        ],
-        rest: "",
-        hold: &["++HOLD(HBB1100) USER FMID(HBB1100) REASON(WAIT)."],
-        report: "SET GLOBAL\nRC 00\nRECEIVE GLOBAL\nHBB1100 FUNCTION RECEIVED\nUA00013 PTF      RECEIVED\n\
-            HBB1100 USER     HELD WAIT\nRC 00\n",
-        code: 0,
-    },
+    CONDITION_RECEIVED,
     Step {
         cntl: &["SET BDY(TGT1).", "APPLY SELECT(UA00013)."],
         ptfin: &[],

@@ -3,22 +3,25 @@
 use crate::cards::{FUNCTION_INSTALLED, FUNCTION_RECEIVED};
 use crate::play::Step;
 
+/// A fix, and one that supersedes its prerequisite.
+const EXTENSION_RECEIVED: Step = Step {
+    cntl: &["SET BDY(GLOBAL).", "RECEIVE SYSMODS."],
+    ptfin: &[
+        &["++PTF(UA00007).", "++VER(Z038) FMID(HAA1100) PRE(UA00008)."],
+        &["++PTF(UA00010).", "++VER(Z038) FMID(HAA1100) SUP(UA00008)."],
+    ],
+    rest: "",
+    hold: &[],
+    report: "SET GLOBAL\nRC 00\nRECEIVE GLOBAL\nUA00007 PTF      RECEIVED\nUA00010 PTF      RECEIVED\n\
+        RC 00\n",
+    code: 0,
+};
+
 /// GROUPEXTEND brings in who supersedes a prerequisite that is missing.
 pub(crate) const EXTENDED: &[Step] = &[
     FUNCTION_RECEIVED,
     FUNCTION_INSTALLED,
-    Step {
-        cntl: &["SET BDY(GLOBAL).", "RECEIVE SYSMODS."],
-        ptfin: &[
-            &["++PTF(UA00007).", "++VER(Z038) FMID(HAA1100) PRE(UA00008)."],
-            &["++PTF(UA00010).", "++VER(Z038) FMID(HAA1100) SUP(UA00008)."],
-        ],
-        rest: "",
-        hold: &[],
-        report: "SET GLOBAL\nRC 00\nRECEIVE GLOBAL\nUA00007 PTF      RECEIVED\nUA00010 PTF      RECEIVED\n\
-            RC 00\n",
-        code: 0,
-    },
+    EXTENSION_RECEIVED,
     Step {
         cntl: &["SET BDY(TGT1).", "APPLY SELECT(UA00007) GROUPEXTEND."],
         ptfin: &[],
@@ -44,18 +47,7 @@ pub(crate) const EXTENDED: &[Step] = &[
 pub(crate) const NOT_EXTENDED: &[Step] = &[
     FUNCTION_RECEIVED,
     FUNCTION_INSTALLED,
-    Step {
-        cntl: &["SET BDY(GLOBAL).", "RECEIVE SYSMODS."],
-        ptfin: &[
-            &["++PTF(UA00007).", "++VER(Z038) FMID(HAA1100) PRE(UA00008)."],
-            &["++PTF(UA00010).", "++VER(Z038) FMID(HAA1100) SUP(UA00008)."],
-        ],
-        rest: "",
-        hold: &[],
-        report: "SET GLOBAL\nRC 00\nRECEIVE GLOBAL\nUA00007 PTF      RECEIVED\nUA00010 PTF      RECEIVED\n\
-            RC 00\n",
-        code: 0,
-    },
+    EXTENSION_RECEIVED,
     Step {
         cntl: &["SET BDY(TGT1).", "APPLY GROUP(UA00007)."],
         ptfin: &[],

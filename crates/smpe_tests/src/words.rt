@@ -32,10 +32,14 @@ const LINES: &[(&str, &str)] = &[
         "smpe run --db F --date 1999-01-01 --cntl C",
         "F 99.001 C - -",
     ),
+    ("smpe list --db F --zone TGT1", "F TGT1"),
+    ("smpe list --zone=GLOBAL --db F", "F GLOBAL"),
     ("smpe", "clap"),
     ("smpe --help", "clap"),
     ("smpe help", "clap"),
-    ("smpe list --db F --zone TGT1", "clap"),
+    ("smpe list --help", "clap"),
+    ("smpe list --db F", "clap"),
+    ("smpe list --db F --zone TGT1 --date 2024-05-17", "clap"),
     ("smpe zone --db F --name DLB1 --kind distribution", "clap"),
     (
         "smpe zone --db F --name DLB1 --kind global --srel Z038",
@@ -66,6 +70,7 @@ const LINES: &[(&str, &str)] = &[
         "smpe zone --db F --name TGT1 --kind target --srel Z038 --related dlb1",
         "bad operand",
     ),
+    ("smpe list --db F --zone tgt1", "bad operand"),
     ("smpe run --db F --date 2024-02-30 --cntl C", "bad operand"),
     ("smpe run --db F --date 1900-02-29 --cntl C", "bad operand"),
     ("smpe run --db F --date 2024-13-01 --cntl C", "bad operand"),
@@ -110,6 +115,10 @@ fn shown(alloc: Global, invocation: &Invocation) -> Result<String, Fail> {
             let ptfin = ptfin.as_ref().map_or("-", |text| text.as_str());
             let hold = hold.as_ref().map_or("-", |text| text.as_str());
             Ok(format!(in alloc; "{db} {date} {cntl} {ptfin} {hold}")?)
+        }
+        Invocation::List { db, zone } => {
+            let zone = std::str::from_utf8(zone.as_bytes())?;
+            Ok(format!(in alloc; "{db} {zone}")?)
         }
     }
 }

@@ -1,5 +1,6 @@
 -- RESTORE keeps the forms of a target zone, so that the changed inventory is one.
-use Rattle.std.proofs.Common.{◌≡◌, Bool, true, false, List, Option, None, Some, All, Contains, get_or, refl, sym, ◌∙◌, ap, subst}
+use Rattle.std.proofs.Common.{◌≡◌, Bool, true, false, List, Option, None, Some, All, Contains, get_or, refl, sym}
+use Rattle.std.proofs.Common.{◌∙◌, ap, subst}
 use Rattle.std.specs.List.{list_any}
 use Rattle.std.specs.Option.{option_and_then}
 use Rattle.std.specs.Ordering.{nat_cmp}

@@ -30,7 +30,7 @@ impl<'a> VerChoice<'a> {
         VerChoice { global, srel }
     }
 
-    /// The global zone.
+    /// The global zone that it looks into.
     pub fn global(&self) -> &'a Global
         ensures { result.now ≡ self.now.global.now }
     {

@@ -1,15 +1,36 @@
 //! The requisites that hold an applied SYSMOD.
 ghost use Rattle.std.specs.Prelude.{◌≡◌, ◌++◌, [], ◌∷◌, not, IfOk, OnOk, filter, if◌then◌else◌};
-ghost use Rattle.terms.specs.Lookups.{is_in};
-ghost use Rattle.terms.specs.Needs.{unwaived};
+ghost use Rattle.terms.specs.Lookups.{is_in, is_applied};
+ghost use Rattle.terms.specs.Needs.{unwaived, binding_ids};
+ghost use Rattle.sysmods.specs.Choices.{choice};
 ghost use Rattle.zones_less.specs.Gone.{stays, by_ifs, binding_of};
 
 use crate::left::is_left;
 use crate::taking::Taking;
 use fields::{Id, IdList};
 use std::alloc::{AllocError, Global as Heap};
+use sysmods::VerChoice;
 use sysmods_records::{IfReq, Ver};
 use zones::Zone;
+
+/// The requisites that hold a SYSMOD applied in the zone: its PRE and REQ and those by ++IF whose function is applied,
+/// less what it waives.
+pub fn requisites_held(
+    alloc: Heap,
+    vers: &VerChoice<'_>,
+    zone: &Zone,
+    id: Id,
+) -> Result<Vec<Id>, AllocError>
+    ensures { IfOk result (λ ids. ids.items ≡ binding_ids (choice vers.now) zone.now (is_applied zone.now) id) }
+{
+    zone.known();
+    let taking = Taking {
+        vers,
+        dels: &[],
+        zone,
+    };
+    binding_ids(alloc, &taking, id)
+}
 
 /// Its PRE and REQ and those by ++IF whose function stays, less what it waives.
 pub(crate) fn binding_ids(alloc: Heap, taking: &Taking, id: Id) -> Result<Vec<Id>, AllocError>

@@ -59,11 +59,7 @@ fn list_left<T: TakesOut>(alloc: Heap, taking: &T, ids: &IdList) -> Result<IdLis
 }
 
 /// The entry without what is taken out.
-pub fn entry_less<T: TakesOut>(
-    alloc: Heap,
-    taking: &T,
-    entry: &Entry,
-) -> Result<Entry, AllocError>
+pub fn entry_less<T: TakesOut>(alloc: Heap, taking: &T, entry: &Entry) -> Result<Entry, AllocError>
     ensures { IfOk result (λ less. less ≡ entry_less (T.is_gone taking.now) entry.now) }
 {
     let supby = list_left(alloc, taking, &entry.supby)?;

@@ -12,6 +12,7 @@ mod less;
 mod orphaned;
 mod taking;
 
+pub use binding::requisites_held;
 pub use choosing::choose;
 pub use deleting::{deletions, view, view_deletions};
 pub use entry::{TakesOut, entry_less};

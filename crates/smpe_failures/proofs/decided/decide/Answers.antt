@@ -1,10 +1,7 @@
-use Rattle.std.proofs.Common.{◌≡◌, ◌<◌, ◌∙◌, length, refl, subst, sym}
+use Rattle.std.proofs.Common.{◌≡◌, ◌<◌, ◌∙◌, length, refl, subst}
 use Rattle.std.specs.Prelude.{All}
-use Rattle.std.proofs.lemmas.List.{length-map}
 use Rattle.terms.specs.Lookups.{IsRising}
 use Rattle.solve.specs.Rows.{row_at}
-use Rattle.smpe_failures.specs.Findings.{AreFailures}
-use Rattle.smpe_failures.specs.Open.{HaveOpen}
 use Rattle.smpe_failures.proofs.CandidateIds.{causers-within}
 use Rattle.smpe_failures.proofs.decided.decide.Goals as goal
 

@@ -1,0 +1,20 @@
+//! The command file of a listing.
+ghost use Rattle.std.specs.Prelude.{◌≡◌, IfOk};
+ghost use Rattle.smpe.specs.ListJob.{list_records};
+
+use fields::ZoneName;
+use std::alloc::{AllocError, Global as Heap};
+
+/// The command file that lists a zone: `SET BDY(zone).` and `LIST.`, a record each.
+pub fn list_commands(alloc: Heap, zone: ZoneName) -> Result<Vec<u8>, AllocError>
+    ensures { IfOk result (λ file. file.items ≡ list_records zone) }
+{
+    let mut file = Vec::new(alloc);
+    file.extend_from_slice(b"SET BDY(")?;
+    file.extend_from_slice(zone.as_bytes())?;
+    file.extend_from_slice(b").")?;
+    file.resize(80, b' ')?;
+    file.extend_from_slice(b"LIST.")?;
+    file.resize(160, b' ')?;
+    Ok(file)
+}

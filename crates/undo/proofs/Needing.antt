@@ -1,0 +1,217 @@
+-- Who depends on whom, and who shares an element, by the lists of pairs.
+use Rattle.std.proofs.Common.{◌≡◌, ◌≢◌, ◌∙◌, ◌⊎◌, inl, inr, Bool, true, false, not, List, [], ◌∷◌, map, filter}
+use Rattle.std.proofs.Common.{Option, None, Some, refl, sym, ap, subst, cond, Contains, IsTrue, true≢false}
+use Rattle.std.specs.Prelude.{◌↔◌, ◌&&◌, ◌||◌, Any, IsFalse}
+use Rattle.std.specs.List.{flat_map, list_all}
+use Rattle.std.specs.Str.{bytes_eq}
+use Rattle.std.proofs.lemmas.Bool.{and_parts, not-true}
+use Rattle.std.proofs.lemmas.List.Elements.{Contains-append_left, Contains-append_right, Contains-append_cases}
+use Rattle.std.proofs.lemmas.List.Folds.{Any-from_list_any, list_any-from_Any}
+use Rattle.lemmas.proofs.Members.{here, here_or, there, none_in, in_map, map_in, in_filter, filter_in}
+use Rattle.lemmas.proofs.Texts.{same_from, same_itself}
+use Rattle.terms.specs.Types.{Id, Zone}
+use Rattle.terms.specs.Lookups.{IsZone, at_most_one, is_in, is_applied, applied_ids, supby_of, supplies}
+use Rattle.terms.specs.Choice.{fmid_of}
+use Rattle.terms.specs.Needs.{binding_ids}
+use Rattle.terms.specs.Restore.{Restoring, NeedsDep, is_supplied_outside}
+use Rattle.terms.proofs.Ids.{is_in-from_Contains, Contains-from_is_in}
+use Rattle.undo.specs.Dependences.{suppliers, by_requisite, dependences_of}
+use Rattle.undo.proofs.Applied.{applied-are}
+
+abbrev Pair : Type 0
+Pair = Id × Id
+
+-- ---- lists of lists
+
+pub in-flat_map : {X Y : Type 0} (f : X → List Y) (xs : List X) (x : X) (y : Y) → Contains xs x → Contains (f x) y
+    → Contains (flat_map f xs) y
+in-flat_map f [] x y h g = absurd (none_in x h)
+in-flat_map f (z ∷ xs) x y h g = elim (here_or z xs x h) [
+  | inl same ↦ Contains-append_left (f z) (flat_map f xs) y (subst (λ v. Contains (f v) y) (sym same) g)
+  | inr later ↦ Contains-append_right (f z) (flat_map f xs) y (in-flat_map f xs x y later g)
+]
+
+pub flat_map-in : {X Y : Type 0} (f : X → List Y) (xs : List X) (y : Y) → Contains (flat_map f xs) y
+    → (x : X) × Contains xs x × Contains (f x) y
+flat_map-in f [] y h = absurd (none_in y h)
+flat_map-in f (z ∷ xs) y h = elim (Contains-append_cases (f z) (flat_map f xs) y h) [
+  | inl front ↦ (z, here z xs, front)
+  | inr back ↦ let m = flat_map-in f xs y back in (m.0, there z xs m.0 m.1, m.2)
+]
+
+pub all-in : {X : Type 0} (p : X → Bool) (xs : List X) → list_all p xs ≡ true → (x : X) → Contains xs x → p x ≡ true
+all-in p [] all x h = absurd (none_in x h)
+all-in p (z ∷ xs) all x h =
+    let parts = and_parts (p z) (list_all p xs) all in
+    elim (here_or z xs x h) [
+      | inl same ↦ subst (λ v. p v ≡ true) same parts.0
+      | inr later ↦ all-in p xs parts.1 x later
+    ]
+
+pub in-all : {X : Type 0} (p : X → Bool) (xs : List X) → ((x : X) → Contains xs x → p x ≡ true) → list_all p xs ≡ true
+in-all p [] each = refl
+in-all p (z ∷ xs) each =
+    rw (each z (here z xs)) (in-all p xs (λ x h. each x (there z xs x h)))
+
+-- ---- who supplies an id
+
+by-or : (a b : Bool) → (a || b) ≡ true → (a ≡ true) ⊎ (b ≡ true)
+by-or true b on = inl refl
+by-or false b on = inr on
+
+pub supplier-is : (zone : Zone) (x z : Id) → Contains (suppliers zone z) x ↔ IsTrue (supplies zone x z)
+supplier-is zone x z = (from, to)
+  where
+    from : Contains (suppliers zone z) x → IsTrue (supplies zone x z)
+    from h = elim (Contains-append_cases (filter (is_applied zone) (z ∷ [])) (filter (is_applied zone)
+        (supby_of zone z)) x h) [
+          | inl own ↦
+              let f = filter_in (is_applied zone) (z ∷ []) x own in
+              elim (here_or z [] x f.0) [
+                | inl same ↦ rw (f.1, subst (λ v. bytes_eq x v ≡ true) (sym same) (same_itself x)) refl
+                | inr later ↦ absurd (none_in x later)
+              ]
+          | inr over ↦
+              let f = filter_in (is_applied zone) (supby_of zone z) x over in
+              rw (f.1) (or-right (bytes_eq x z) (is_in (supby_of zone z) x)
+              (is_in-from_Contains (supby_of zone z) x f.0))
+        ]
+      where
+        or-right : (a b : Bool) → b ≡ true → (a || b) ≡ true
+        or-right true b on = refl
+        or-right false b on = on
+
+    to : IsTrue (supplies zone x z) → Contains (suppliers zone z) x
+    to on =
+        let parts = and_parts (is_applied zone x) (bytes_eq x z || is_in (supby_of zone z) x) on in
+        elim (by-or (bytes_eq x z) (is_in (supby_of zone z) x) parts.1) [
+          | inl same ↦ Contains-append_left (filter (is_applied zone) (z ∷ []))
+              (filter (is_applied zone) (supby_of zone z)) x
+              (in_filter (is_applied zone) (z ∷ []) x
+              (subst (Contains (z ∷ [])) (sym (same_from x z same)) (here z [])) parts.0)
+          | inr over ↦ Contains-append_right (filter (is_applied zone) (z ∷ []))
+              (filter (is_applied zone) (supby_of zone z)) x
+              (in_filter (is_applied zone) (supby_of zone z) x (Contains-from_is_in (supby_of zone z) x over) parts.0)
+        ]
+
+module _ (r : Restoring) (is_zone : IsZone r.zone) (listed : Id → Bool) where
+  -- none outside the list supplies it just where all that supply it are listed
+  pub listed-outside : (z : Id) → list_all listed (suppliers r.zone z) ≡ true
+      ↔ IsFalse (is_supplied_outside r listed z)
+  listed-outside z = (
+    λ all. not-true (is_supplied_outside r listed z) (turned (is_supplied_outside r listed z) (none all)),
+    to,
+  )
+    where
+      turned : (b : Bool) → (b ≡ true → ⊥) → not b ≡ true
+      turned true lacks = absurd (lacks refl)
+      turned false lacks = refl
+
+      none : list_all listed (suppliers r.zone z) ≡ true → is_supplied_outside r listed z ≡ true → ⊥
+      none all on =
+          let a = Any-from_list_any (λ p. not (listed p) && supplies r.zone p z) (applied_ids r.zone) on in
+          let parts = and_parts (not (listed a.1)) (supplies r.zone a.1 z) a.4 in
+          true≢false (sym (all-in listed (suppliers r.zone z) all a.1 ((supplier-is r.zone a.1 z).1 parts.1))
+          ∙ not-true (listed a.1) parts.0)
+
+      to : IsFalse (is_supplied_outside r listed z) → list_all listed (suppliers r.zone z) ≡ true
+      to off = in-all listed (suppliers r.zone z) (λ x h. by x h (listed x) refl)
+        where
+          by : (x : Id) → Contains (suppliers r.zone z) x → (b : Bool) → listed x ≡ b → listed x ≡ true
+          by x h true e = e
+          by x h false e =
+              let on = (supplier-is r.zone x z).0 h in
+              let applied = (and_parts (is_applied r.zone x) (bytes_eq x z || is_in (supby_of r.zone z) x) on).0 in
+              let there = (applied-are r.zone is_zone x).1 applied in
+              absurd (true≢false (sym (list_any-from_Any (λ p. not (listed p) && supplies r.zone p z)
+              (applied_ids r.zone) (there.0, x, there.1, there.2, rw (e, on) refl)) ∙ off))
+
+  -- a pair by a requisite
+  requisite-pair : (x y z : Id) → Contains {X = Pair} (by_requisite r.zone listed y z) (x, y)
+      ↔ (IsTrue (supplies r.zone x z) × IsFalse (is_supplied_outside r listed z))
+  requisite-pair x y z = by (list_all listed (suppliers r.zone z)) refl
+    where
+      by : (b : Bool) → list_all listed (suppliers r.zone z) ≡ b
+          → Contains {X = Pair} (cond b (map (λ x. (x, y)) (suppliers r.zone z)) []) (x, y)
+          ↔ (IsTrue (supplies r.zone x z) × IsFalse (is_supplied_outside r listed z))
+      by true e = (
+        λ h.
+            let m = map_in (λ (v : Id). (v, y)) (suppliers r.zone z) (x, y) h in (
+              (supplier-is r.zone x z).0 (subst (Contains (suppliers r.zone z)) (ap (λ p. p.0) m.2) m.1),
+              (listed-outside z).0 e,
+            ),
+        λ both. in_map (λ (v : Id). (v, y)) (suppliers r.zone z) x ((supplier-is r.zone x z).1 both.0),
+      )
+      by false e = (
+        λ h. absurd (none_in (x, y) h),
+        λ both. absurd (true≢false (sym ((listed-outside z).1 both.1) ∙ e)),
+      )
+
+  -- the second of each pair is who depends
+  requisite-by : (y z : Id) (p : Pair) → Contains (by_requisite r.zone listed y z) p → p.1 ≡ y
+  requisite-by y z p h = by (list_all listed (suppliers r.zone z)) h
+    where
+      by : (b : Bool) → Contains {X = Pair} (cond b (map (λ x. (x, y)) (suppliers r.zone z)) []) p → p.1 ≡ y
+      by true h = let m = map_in (λ (v : Id). (v, y)) (suppliers r.zone z) p h in sym (ap (λ p. p.1) m.2)
+      by false h = absurd (none_in p h)
+
+  fmid-pair : (o : Option Id) (x y : Id) → Contains {X = Pair} (map (λ x. (x, y)) (at_most_one o)) (x, y) ↔ (o ≡ Some x)
+  fmid-pair None x y = (λ h. absurd (none_in (x, y) h), λ e. cc e)
+  fmid-pair (Some f) x y = (
+    λ h. elim (here_or (f, y) [] (x, y) h) [
+      | inl same ↦ ap (λ (p : Pair). Some p.0) same
+      | inr later ↦ absurd (none_in (x, y) later)
+    ],
+    λ e. in_map (λ (v : Id). (v, y)) (f ∷ []) x (subst (Contains (f ∷ [])) (cc e) (here f [])),
+  )
+
+  -- the pairs of one that depends
+  pub dependence-pair : (x y : Id) → Contains {X = Pair} (dependences_of r listed y) (x, y)
+      ↔ ((fmid_of r.choice y ≡ Some x)
+      ⊎ Any (λ z. IsTrue (supplies r.zone x z) × IsFalse (is_supplied_outside r listed z))
+      (binding_ids r.choice r.zone (is_applied r.zone) y))
+  dependence-pair x y =
+      let first : List Pair = map (λ x. (x, y)) (at_most_one (fmid_of r.choice y)) in
+      let ids = binding_ids r.choice r.zone (is_applied r.zone) y in
+      let second = flat_map (by_requisite r.zone listed y) ids in (
+        λ h. elim (Contains-append_cases first second (x, y) h) [
+          | inl by ↦ inl ((fmid-pair (fmid_of r.choice y) x y).0 by)
+          | inr by ↦
+              let m = flat_map-in (by_requisite r.zone listed y) ids (x, y) by in
+              let both = (requisite-pair x y m.0).0 m.2 in
+              inr (m.1.0, m.0, m.1.1, m.1.2, both)
+        ],
+        λ h. elim h [
+          | inl by ↦ Contains-append_left first second (x, y) ((fmid-pair (fmid_of r.choice y) x y).1 by)
+          | inr by ↦ Contains-append_right first second (x, y)
+              (in-flat_map (by_requisite r.zone listed y) ids by.1 (x, y) (by.0, by.2, by.3)
+              ((requisite-pair x y by.1).1 by.4))
+        ],
+      )
+
+  dependence-by : (y : Id) (p : Pair) → Contains (dependences_of r listed y) p → p.1 ≡ y
+  dependence-by y p h =
+      let first : List Pair = map (λ x. (x, y)) (at_most_one (fmid_of r.choice y)) in
+      let ids = binding_ids r.choice r.zone (is_applied r.zone) y in
+      elim (Contains-append_cases first (flat_map (by_requisite r.zone listed y) ids) p h) [
+        | inl by ↦
+            let m = map_in (λ (v : Id). (v, y)) (at_most_one (fmid_of r.choice y)) p by in sym (ap (λ p. p.1) m.2)
+        | inr by ↦ let m = flat_map-in (by_requisite r.zone listed y) ids p by in requisite-by y m.0 p m.2
+      ]
+
+  -- all pairs
+  pub dependences-are : (x y : Id) → y ≢ x
+      → Contains {X = Pair} (flat_map (dependences_of r listed) (applied_ids r.zone)) (x, y) ↔ NeedsDep r listed x y
+  dependences-are x y other = (
+    λ h.
+        let m = flat_map-in (dependences_of r listed) (applied_ids r.zone) (x, y) h in
+        let same : y ≡ m.0 = dependence-by m.0 (x, y) m.2 in
+        record {
+          other = other;
+          applied = (applied-are r.zone is_zone y).0 (subst (Contains (applied_ids r.zone)) (sym same) m.1);
+          depends = (dependence-pair x y).0 (subst (λ v. Contains {X = Pair} (dependences_of r listed v) (x, y))
+              (sym same) m.2);
+        },
+    λ n. in-flat_map (dependences_of r listed) (applied_ids r.zone) y (x, y)
+        ((applied-are r.zone is_zone y).1 n.applied) ((dependence-pair x y).1 n.depends),
+  )

@@ -1,0 +1,27 @@
+-- What each candidate needs.
+use Rattle.std.specs.Prelude.{◌≢◌, ◌↔◌, List, AllPairs, Contains}
+use Rattle.terms.specs.declared.codes.NeedKind.{NeedKind}
+use Rattle.terms.specs.Types.{Id}
+use Rattle.terms.specs.Lookups.{is_in}
+use Rattle.terms.specs.Restore.{Restoring, NeedsElem, NeedsDep, NeedsInRestore}
+use Rattle.undo.specs.declared.wanted.Want.{Want}
+
+-- a candidate needs this id
+abbrev pub a_want : NeedKind → Id × Id → Want
+a_want kind p = record { of = p.0; kind = kind; id = p.1 }
+
+-- the pairs have what candidates share an element with
+abbrev pub HaveElem : Restoring → List Id → List (Id × Id) → Type 0
+HaveElem r cands pairs =
+    (x y : Id) → y ≢ x → Contains {X = Id × Id} pairs (x, y) ↔ (Contains cands x × NeedsElem r x y)
+
+-- and what depends on candidates
+abbrev pub HaveDep : Restoring → List Id → List Id → List (Id × Id) → Type 0
+HaveDep r ids cands pairs =
+    (x y : Id) → y ≢ x → Contains cands x → Contains {X = Id × Id} pairs (x, y) ↔ NeedsDep r (is_in ids) x y
+
+-- the list has the needs of the candidates, each once
+pub record AreWants (r : Restoring) (ids cands : List Id) (wants : List Want) : Type 0 where
+  pub members : (x : Id) (kind : NeedKind) (y : Id)
+      → Contains wants (a_want kind (x, y)) ↔ (Contains cands x × NeedsInRestore r (is_in ids) x kind y)
+  pub once : AllPairs (λ v w. v ≢ w) wants

@@ -1,0 +1,46 @@
+//! Who supplies an id.
+ghost use Rattle.std.specs.Prelude.{◌≡◌, ◌++◌, [], ◌∷◌, filter, IfOk, OnOk};
+ghost use Rattle.std.specs.List.{list_all};
+ghost use Rattle.terms.specs.Lookups.{is_in, is_applied};
+ghost use Rattle.undo.specs.Dependences.{suppliers};
+
+use crate::scope::superseders;
+use fields::{Id, IdList};
+use std::alloc::{AllocError, Global as Heap};
+use zones::Zone;
+
+fn push_if_applied(zone: &Zone, id: Id, found: &mut Vec<Id>) -> Result<(), AllocError>
+    ensures { OnOk result (found.new.items ≡ found.old.items ++ filter (is_applied zone.now) (id ∷ [])) }
+{
+    if zone.is_applied(id) {
+        found.push(id)?;
+    }
+    Ok(())
+}
+
+/// Adds those of these ids that are applied.
+pub(crate) fn push_applied(zone: &Zone, ids: &[Id], found: &mut Vec<Id>) -> Result<(), AllocError>
+    ensures { OnOk result (found.new.items ≡ found.old.items ++ filter (is_applied zone.now) ids.now) }
+{
+    for id in ids {
+        push_if_applied(zone, *id, found)?;
+    }
+    Ok(())
+}
+
+/// The applied SYSMODs that supply the id.
+pub(crate) fn suppliers(alloc: Heap, zone: &Zone, id: Id) -> Result<Vec<Id>, AllocError>
+    ensures { IfOk result (λ found. found.items ≡ suppliers zone.now id) }
+{
+    let mut found = Vec::new(alloc);
+    push_if_applied(zone, id, &mut found)?;
+    push_applied(zone, superseders(zone, id), &mut found)?;
+    Ok(found)
+}
+
+/// Whether the list has all of these.
+pub(crate) fn are_listed(list: &IdList, ids: &[Id]) -> bool
+    ensures { result ≡ list_all (is_in list.now) ids.now }
+{
+    ids.iter().all(|id| list.contains(*id))
+}

@@ -1,0 +1,98 @@
+//! The tests of RESTORE.
+ghost use Rattle.std.specs.Prelude.{◌≡◌, ◌++◌, [], ◌∷◌, not, filter, map, IfOk, OnOk, if◌then◌else◌};
+ghost use Rattle.std.specs.List.{list_any};
+ghost use Rattle.std.specs.Option.{option_map_or};
+ghost use Rattle.terms.specs.Lookups.{is_nil, is_applied, element_of};
+ghost use Rattle.terms.specs.Restore.{are_applied};
+ghost use Rattle.machine.specs.Installing.{all_tests};
+ghost use Rattle.undo.specs.Restoring.{restoring_of};
+ghost use Rattle.undo.specs.Tests.{is_behind, fails_test};
+
+use crate::scope::{Scope, changes_of, has_delete};
+use fields::Id;
+use std::alloc::{AllocError, Global as Heap};
+use sysmods_records::ElemChange;
+use terms::Test;
+use zones::{Element, Zone};
+
+fn any_missing(zone: &Zone, ids: &[Id]) -> bool
+    ensures { result ≡ list_any (λ y. not (is_applied zone.now y)) ids.now }
+{
+    ids.iter().any(|id| !zone.is_applied(*id))
+}
+
+// Whether the zone has the FMID, the RMID and each UMID of the element applied.
+fn are_applied(zone: &Zone, element: &Element) -> bool
+    ensures { result ≡ are_applied zone.now element.now }
+{
+    zone.is_applied(element.fmid)
+        && zone.is_applied(element.rmid)
+        && !any_missing(zone, element.umids.as_slice())
+}
+
+// Whether the distribution zone has the element of the statement under a SYSMOD that the target zone lacks.
+fn is_behind(scope: &Scope<'_, '_>, change: &ElemChange) -> bool
+    ensures { result ≡ is_behind (restoring_of scope.now) change.now }
+{
+    match scope.accepted.element(change.elem_type, change.name) {
+        Some(element) => !are_applied(scope.zone, element),
+        None => false,
+    }
+}
+
+fn any_behind(scope: &Scope<'_, '_>, changes: &[ElemChange]) -> bool
+    ensures { result ≡ list_any (is_behind (restoring_of scope.now)) changes.now }
+{
+    changes.iter().any(|change| is_behind(scope, change))
+}
+
+fn add_if(tests: &mut Vec<Test>, fails: bool, test: Test) -> Result<(), AllocError>
+    ensures { OnOk result (tests.new.items ≡ tests.old.items ++ (if fails then test ∷ [] else [])) }
+{
+    if fails {
+        tests.push(test)?;
+    }
+    Ok(())
+}
+
+// The tests that a candidate fails.
+fn row_of(alloc: Heap, scope: &Scope<'_, '_>, id: Id) -> Result<Vec<Test>, AllocError>
+    ensures { IfOk result (λ row. row.items ≡ filter (fails_test (restoring_of scope.now) id) all_tests) }
+{
+    let mut tests = Vec::new(alloc);
+    add_if(&mut tests, scope.accepted.supplies(id), Test::J10)?;
+    add_if(&mut tests, has_delete(scope.vers, id), Test::J11)?;
+    add_if(
+        &mut tests,
+        any_behind(scope, changes_of(scope.vers, id)),
+        Test::J12,
+    )?;
+    Ok(tests)
+}
+
+/// The tests that each candidate fails.
+pub(crate) fn all_rows(
+    alloc: Heap,
+    scope: &Scope<'_, '_>,
+    ids: &[Id],
+) -> Result<Vec<Vec<Test>>, AllocError>
+    ensures { IfOk result (λ rows. map (λ row. row.items) rows.items
+        ≡ map (λ x. filter (fails_test (restoring_of scope.now) x) all_tests) ids.now) }
+{
+    let mut rows = Vec::new(alloc);
+    for id in ids {
+        rows.push(row_of(alloc, scope, *id)?)?;
+    }
+    Ok(rows)
+}
+
+/// Whether each candidate fails none.
+pub(crate) fn all_eligible(alloc: Heap, rows: &[Vec<Test>]) -> Result<Vec<bool>, AllocError>
+    ensures { IfOk result (λ flags. flags.items ≡ map (λ row. is_nil row.items) rows.now) }
+{
+    let mut flags = Vec::new(alloc);
+    for row in rows {
+        flags.push(row.is_empty())?;
+    }
+    Ok(flags)
+}

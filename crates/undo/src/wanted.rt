@@ -1,0 +1,93 @@
+//! What each candidate needs.
+ghost use Rattle.std.specs.Prelude.{◌≡◌, ◌<◌, ◌++◌, map, length, slice_get, Some, IfOk, OnOk};
+ghost use Rattle.terms.specs.Restore.{restore_candidates};
+ghost use Rattle.undo.specs.Restoring.{restoring_of};
+ghost use Rattle.undo.specs.Wants.{a_want, AreWants, HaveDep, HaveElem};
+
+use crate::dependences::dependences;
+use crate::elements::{all_beside, changers};
+use crate::pairs::all_own;
+use crate::scope::{Scope, applied_ids, unaccepted};
+use fields::{Id, IdList};
+use std::alloc::{AllocError, Global as Heap};
+use terms::NeedKind;
+
+/// A candidate needs this id.
+#[derive(Clone, Copy)]
+pub(crate) struct Want {
+    pub(crate) of: Id,
+    pub(crate) kind: NeedKind,
+    pub(crate) id: Id,
+}
+
+// The candidates with those that share an element with them.
+fn elem_pairs(
+    alloc: Heap,
+    scope: &Scope<'_, '_>,
+    cands: &IdList,
+) -> Result<Vec<(Id, Id)>, AllocError>
+    ensures { IfOk result (λ pairs. HaveElem (restoring_of scope.now) cands.now pairs.items) }
+{
+    scope.zone.known();
+    let applied = applied_ids(alloc, scope.zone)?;
+    let others = unaccepted(alloc, scope.accepted, applied.as_slice())?;
+    let changers = changers(alloc, scope.vers, others.as_slice())?;
+    let pairs = all_beside(alloc, scope.vers, &changers, cands.as_slice())?;
+    Ok(pairs)
+}
+
+// The candidates with those that depend on them.
+fn dep_pairs(
+    alloc: Heap,
+    scope: &Scope<'_, '_>,
+    list: &IdList,
+    cands: &IdList,
+) -> Result<Vec<(Id, Id)>, AllocError>
+    requires { cands.now ≡ restore_candidates (restoring_of scope.now) list.now }
+    ensures { IfOk result (λ pairs. HaveDep (restoring_of scope.now) list.now cands.now pairs.items) }
+{
+    scope.zone.known();
+    let pairs = dependences(alloc, scope, list)?;
+    Ok(pairs)
+}
+
+fn add_wants(wants: &mut Vec<Want>, kind: NeedKind, pairs: &[(Id, Id)]) -> Result<(), AllocError>
+    ensures { OnOk result (wants.new.items ≡ wants.old.items ++ map (a_want kind) pairs.now) }
+{
+    for pair in pairs {
+        wants.push(Want {
+            of: pair.0,
+            kind,
+            id: pair.1,
+        })?;
+    }
+    Ok(())
+}
+
+/// The needs of all candidates.
+pub(crate) fn all_wants(
+    alloc: Heap,
+    scope: &Scope<'_, '_>,
+    list: &IdList,
+    cands: &IdList,
+) -> Result<Vec<Want>, AllocError>
+    requires { cands.now ≡ restore_candidates (restoring_of scope.now) list.now }
+    ensures { IfOk result (λ wants. AreWants (restoring_of scope.now) list.now cands.now wants.items) }
+{
+    let elem = elem_pairs(alloc, scope, cands)?;
+    let dep = dep_pairs(alloc, scope, list, cands)?;
+    let own_elem = all_own(alloc, cands, elem.as_slice())?;
+    let own_dep = all_own(alloc, cands, dep.as_slice())?;
+    let mut wants = Vec::new(alloc);
+    add_wants(&mut wants, NeedKind::Elem, own_elem.as_slice())?;
+    add_wants(&mut wants, NeedKind::Dep, own_dep.as_slice())?;
+    Ok(wants)
+}
+
+/// The need at a place.
+pub(crate) fn want_at(wants: &[Want], place: usize) -> Want
+    requires { place < length wants.now }
+    ensures { slice_get wants.now place ≡ Some result }
+{
+    wants[place]
+}

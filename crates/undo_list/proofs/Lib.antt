@@ -1,0 +1,6 @@
+pub mod Applied
+pub mod Changed
+pub mod Supplying
+pub mod ListedBySteps
+pub mod Reached
+pub mod RulesOfSteps

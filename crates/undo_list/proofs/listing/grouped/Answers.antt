@@ -1,0 +1,17 @@
+use Rattle.std.proofs.Common.{◌∙◌, ap, subst}
+use Rattle.std.proofs.lemmas.Result.{IfOk-weaker}
+use Rattle.terms.specs.Types.{RestoreGroup}
+use Rattle.terms.specs.Restore.{AreListed}
+use Rattle.undo_list.specs.Steps.{restoring, as_steps}
+use Rattle.undo_list.specs.ByNumbers.{AreReached}
+use Rattle.undo_list.proofs.ListedBySteps.{listed-from}
+use Rattle.undo_list.proofs.listing.grouped.Goals as goal
+
+pub returns : goal.returns
+returns c =
+    let r = restoring c.args.vers.now c.args.zone.now c.args.accepted.now in
+    let steps = ap as_steps c.as_slice.ensures.value ∙ c.in_ok-steps.ensures in
+    IfOk-weaker c.reached.result (AreReached c.args.ids.now (as_steps c.as_slice.result.now))
+    (AreListed r (RestoreGroup c.args.ids.now))
+    (λ found h. listed-from r c.known.ensures c.args.ids.now found
+    (subst (λ l. AreReached c.args.ids.now l found) steps h)) c.reached.ensures
