@@ -31,6 +31,7 @@ use Rattle.smpe_upkeep.proofs.InstallForms.{apply_kept}
 use Rattle.smpe_session.specs.declared.session.Session.{Session}
 use Rattle.smpe_session.specs.Sessions.{IsSessionOf}
 use Rattle.smpe_session.specs.Places.{install_command, related_for, IsPlace, IsPlan}
+use Rattle.smpe_session.proofs.Places.{install-at}
 use Rattle.smpe_session.proofs.Seeking.{zones-updated, some-updated}
 
 abbrev named : Text → Zone → NamedZone
@@ -146,7 +147,7 @@ runs-there date files Distribution i s t outcome there = there
 -- what was planned, as the command's own words
 pub record IsReady (date : Text) (kind : ZoneKind) (i : Install) (s : State) (at : Session) (name : Text) (zone : Zone)
     (delta : ZoneDelta) (new : Zone) (lines : List Line) : Type 0 where
-  pub place : IsPlace s at kind i name zone
+  pub place : IsPlace s at kind name zone
   pub dated : IsDottedDate date
   pub changed : IsChanged delta zone new
   pub printed : List Line
@@ -155,7 +156,7 @@ pub record IsReady (date : Text) (kind : ZoneKind) (i : Install) (s : State) (at
 
 pub planned : (date : Text) (kind : ZoneKind) (i : Install) (s : State) (at : Session) (name : Text) (zone : Zone)
     (related : Option Zone) (sel : Selection) (bypass : Bypass) (delta : ZoneDelta) (new : Zone) (lines : List Line)
-    → IsSessionOf s at → IsPlace s at kind i name zone → related ≡ related_for kind s.zones name
+    → IsSessionOf s at → IsPlace s at kind name zone → related ≡ related_for kind s.zones name
     → i.selection ≡ sel → i.bypass ≡ bypass → IsPlan at.global zone related sel bypass date delta new lines
     → IsReady date kind i s at name zone delta new lines
 planned date kind i s at name zone related sel bypass delta new lines here place looks chosen bypasses plan = record {
@@ -177,7 +178,7 @@ module _ (date : Text) (kind : ZoneKind) (i : Install) (s : State) (at : Session
       → t ≡ (if check then s else with_zone s name new) → header ≡ header_of (install_command kind i) s.boundary
       → Performs date files s (install_command kind i) t (Ran header lines)
   install-performs files check t header checks state headed = inr (
-    ready.place.fits,
+    install-at s kind i ∙ ready.place.fits,
     runs-there date files kind i s t (Ran header lines) record {
       name = name;
       at = ready.place.boundary;

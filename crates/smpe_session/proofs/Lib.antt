@@ -6,5 +6,7 @@ mod Places
 mod Received
 mod Rejected
 mod RelatedZone
+mod Restored
 mod Seeking
+mod StateZones
 mod Stepping

@@ -7,12 +7,12 @@ use Rattle.std.specs.Str.{bytes_eq}
 use Rattle.indexmap.specs.IndexMap.{get}
 use Rattle.terms.specs.declared.kinds.ZoneKind.{ZoneKind}
 use Rattle.terms.specs.declared.kinds.ZoneKind.TheVariants.{Target, Distribution}
-use Rattle.terms.specs.Types.{Text, zone_number, Zone, NamedZone, Id, ReceiveWhat, Receive, Reject, Install}
+use Rattle.terms.specs.Types.{Text, zone_number, Zone, NamedZone, Id, ReceiveWhat, Receive, Reject, Install, RestoreList, Restore}
 use Rattle.lemmas.proofs.Texts.{same_from, same_itself}
 use Rattle.lemmas.proofs.Searches.{All-find, find-gives}
 use Rattle.machine.specs.Outcome.{Refusal, Cm1, Cm3}
 use Rattle.store_schema.specs.Inventory.{IsInventory, IsZoneNamed}
-use Rattle.machine.specs.State.{State, global_name, zone_named, at_global, unless_at, misplaced}
+use Rattle.machine.specs.State.{State, global_name, zone_named, at_global, at_kind, unless_at, misplaced}
 use Rattle.store.specs.Kept.{kept}
 use Rattle.smpe_session.specs.declared.session.Session.{Session}
 use Rattle.smpe_session.specs.Sessions.{IsSessionOf}
@@ -56,21 +56,28 @@ abbrev refusal_of_kind : ZoneKind → Option Text → Option Zone → Option Ref
 refusal_of_kind kind boundary zone = if not (is_some boundary) then Some Cm1 else if option_map_or
     (λ z. zone_number z.kind == zone_number kind) zone false then None else Some Cm3
 
-by_kind : (s : State) (kind : ZoneKind) (i : Install) → misplaced s (install_command kind i) ≡ refusal_of_kind kind
-    s.boundary (option_and_then (zone_named s.zones) s.boundary)
+pub install-at : (s : State) (kind : ZoneKind) (i : Install) → misplaced s (install_command kind i)
+    ≡ unless_at (at_kind kind s) s
 unfolding misplaced
-by_kind s Target i = refl
-by_kind s Distribution i = refl
+install-at s Target i = refl
+install-at s Distribution i = refl
 
-pub install-nowhere : (s : State) (kind : ZoneKind) (i : Install) → s.boundary ≡ None
-    → misplaced s (install_command kind i) ≡ Some Cm1
-install-nowhere s kind i at = by_kind s kind i
+pub restore-at : (s : State) (what : RestoreList) (check : Bool) → misplaced s (Restore what check)
+    ≡ unless_at (at_kind Target s) s
+unfolding misplaced
+restore-at s what check = refl
+
+by_kind : (s : State) (kind : ZoneKind) → unless_at (at_kind kind s) s ≡ refusal_of_kind kind s.boundary
+    (option_and_then (zone_named s.zones) s.boundary)
+by_kind s kind = refl
+
+pub kind-nowhere : (s : State) (kind : ZoneKind) → s.boundary ≡ None → unless_at (at_kind kind s) s ≡ Some Cm1
+kind-nowhere s kind at = by_kind s kind
     ∙ ap (λ b. refusal_of_kind kind b (option_and_then (zone_named s.zones) b)) at
 
-at_zone : (s : State) (kind : ZoneKind) (i : Install) (name : Text) (found : Option Zone) → s.boundary ≡ Some name
-    → zone_named s.zones name ≡ found
-    → misplaced s (install_command kind i) ≡ refusal_of_kind kind (Some name) found
-at_zone s kind i name found at there = by_kind s kind i
+at_zone : (s : State) (kind : ZoneKind) (name : Text) (found : Option Zone) → s.boundary ≡ Some name
+    → zone_named s.zones name ≡ found → unless_at (at_kind kind s) s ≡ refusal_of_kind kind (Some name) found
+at_zone s kind name found at there = by_kind s kind
     ∙ ap (λ b. refusal_of_kind kind b (option_and_then (zone_named s.zones) b)) at
     ∙ ap (refusal_of_kind kind (Some name)) there
 
@@ -84,15 +91,15 @@ other_kind Target Distribution other = refl
 other_kind Distribution Target other = refl
 other_kind Distribution Distribution other = absurd (other refl)
 
-pub install-fits : (s : State) (kind : ZoneKind) (i : Install) (name : Text) (zone : Zone) → s.boundary ≡ Some name
-    → zone_named s.zones name ≡ Some zone → zone.kind ≡ kind → misplaced s (install_command kind i) ≡ None
-install-fits s kind i name zone at there is = at_zone s kind i name (Some zone) at there
+pub kind-fits : (s : State) (kind : ZoneKind) (name : Text) (zone : Zone) → s.boundary ≡ Some name
+    → zone_named s.zones name ≡ Some zone → zone.kind ≡ kind → unless_at (at_kind kind s) s ≡ None
+kind-fits s kind name zone at there is = at_zone s kind name (Some zone) at there
     ∙ ap (λ k. if zone_number k == zone_number kind then None else Some Cm3) is
     ∙ ap (λ b. if b then None else Some Cm3) (same_kind kind)
 
-pub install-other : (s : State) (kind : ZoneKind) (i : Install) (name : Text) (zone : Zone) → s.boundary ≡ Some name
-    → zone_named s.zones name ≡ Some zone → zone.kind ≢ kind → misplaced s (install_command kind i) ≡ Some Cm3
-install-other s kind i name zone at there other = at_zone s kind i name (Some zone) at there
+pub kind-other : (s : State) (kind : ZoneKind) (name : Text) (zone : Zone) → s.boundary ≡ Some name
+    → zone_named s.zones name ≡ Some zone → zone.kind ≢ kind → unless_at (at_kind kind s) s ≡ Some Cm3
+kind-other s kind name zone at there other = at_zone s kind name (Some zone) at there
     ∙ ap (λ b. if b then None else Some Cm3) (other_kind zone.kind kind other)
 
 -- no zone of an inventory has the global zone's name
@@ -106,10 +113,10 @@ none-global zones all = by (find (λ z. bytes_eq z.name global_name) zones) refl
         (same_from z.name global_name (find-gives (λ z. bytes_eq z.name global_name) zones z at).0))
 
 -- a boundary that is no zone of the session is the global zone
-pub install-global : (s : State) (at : Session) (kind : ZoneKind) (i : Install) (name : Text) → IsSessionOf s at
+pub kind-global : (s : State) (at : Session) (kind : ZoneKind) (name : Text) → IsSessionOf s at
     → IsInventory (kept s) → s.boundary ≡ Some name → get bytes_eq at.zones name ≡ None
-    → misplaced s (install_command kind i) ≡ Some Cm3
-install-global s at kind i name is inventory named none = at_zone s kind i name None named
+    → unless_at (at_kind kind s) s ≡ Some Cm3
+kind-global s at kind name is inventory named none = at_zone s kind name None named
     (elim (is.current name named) [
       | inl same ↦ ap (zone_named s.zones) same ∙ none-global s.zones inventory.zones
       | inr some ↦ absurd (cc (sym (ap is_some none) ∙ some))

@@ -4,28 +4,20 @@ use Rattle.std.proofs.Common.{refl, sym, ap, subst, inl, inr}
 use Rattle.std.specs.Prelude.{IsSome, is_some, find, option_map}
 use Rattle.std.specs.Option.{option_map_or}
 use Rattle.std.specs.Str.{bytes_eq}
-use Rattle.std.specs.Ordering.{nat_cmp}
-use Rattle.std.specs.Cmp.Lexicographic.{slice_cmp, texts_ties}
-use Rattle.std.proofs.lemmas.Bool.{or_right}
-use Rattle.std.proofs.lemmas.Cmp.{nat_list_cmp_total}
 use Rattle.indexmap.specs.IndexMap.{get}
 use Rattle.terms.specs.declared.kinds.ZoneKind.TheVariants.{Target, Distribution}
 use Rattle.terms.specs.Types.{Text, Zone, NamedZone}
-use Rattle.terms.specs.Lookups.{is_before}
-use Rattle.terms.specs.Rising.{Rises}
-use Rattle.lemmas.proofs.Pairs.{pairs_unmap}
 use Rattle.lemmas.proofs.Searches.{find-gives}
 use Rattle.store_schema.specs.Inventory.{IsInventory}
 use Rattle.store_zone_loads.specs.declared.head.ZoneHead.{ZoneHead}
 use Rattle.store_zone_loads.specs.Found.{head_of}
-use Rattle.machine.specs.State.{State, global_name, zone_named, target_of}
+use Rattle.machine.specs.State.{State, zone_named, target_of}
 use Rattle.store.specs.Kept.{kept}
-use Rattle.smpe_upkeep.proofs.Lists.{find-itself}
 use Rattle.smpe_session.specs.declared.session.Session.{Session}
 use Rattle.smpe_session.specs.Sessions.{IsSessionOf}
 use Rattle.smpe_session.specs.Steps.{IsSought}
 use Rattle.smpe_session.specs.Places.{HasRelated}
-use Rattle.smpe_session.proofs.Places.{none-global}
+use Rattle.smpe_session.proofs.StateZones.{its-own, sought-held}
 
 -- an item found among what is made of items
 find-made : {X Y : Type 0} (p : Y → Bool) (f : X → Y) (xs : List X)
@@ -105,35 +97,12 @@ module _ (s : State) (name : Text) (boundary : s.boundary ≡ Some name) (heads 
         (by (target_in name s.zones) refl (name-is name s.zones heads (Some related) are found));
   }
     where
-      rising : Rises (slice_cmp nat_cmp) (λ (z : NamedZone). z.name) s.zones
-      rising = pairs_unmap (λ (a b : NamedZone). IsTrue (is_before a.name b.name))
-          (λ (x y : Text). IsTrue (is_before x y)) (λ z. z.name) (λ a b lower. lower) s.zones inventory.names
-
-      -- a zone of the state is that of its name
-      its_own : (z : NamedZone) → Contains s.zones z → zone_named s.zones z.name ≡ Some z.zone
-      its_own z there = ap (option_map (λ (z : NamedZone). z.zone))
-          (find-itself nat_list_cmp_total (λ (z : NamedZone). z.name) bytes_eq texts_ties s.zones z rising there)
-
-      no_global : zone_named s.zones global_name ≡ None
-      no_global = none-global s.zones inventory.zones
-
-      held : (zone : Zone) → zone_named s.zones related ≡ Some zone → get bytes_eq at.zones related ≡ Some zone
-      held zone there = elim (sought.here (sought.found ∙ or_right (bytes_eq related global_name)
-          (is_some (zone_named s.zones related)) (ap is_some there))) [
-            | inl global ↦ absurd (cc (sym there ∙ ap (zone_named s.zones) global ∙ no_global))
-            | inr some ↦ got (get bytes_eq at.zones related) refl some
-          ]
-        where
-          got : (o : Option Zone) → get bytes_eq at.zones related ≡ o → IsSome (get bytes_eq at.zones related)
-              → get bytes_eq at.zones related ≡ Some zone
-          got None e some = absurd (cc (sym some ∙ ap is_some e))
-          got (Some z) e some = e ∙ sym (sought.session.zones related z e) ∙ there
-
       by : (z : Option NamedZone) → target_in name s.zones ≡ z → Some related ≡ option_map (λ (z : NamedZone). z.name) z
           → get bytes_eq at.zones related ≡ target_of s.zones name
       by None e is = absurd (cc is)
       by (Some z) e is =
           let same : related ≡ z.name = cc is in
           let there = find-gives (names_it name) s.zones z e in
-          held z.zone (ap (zone_named s.zones) same ∙ its_own z there.1)
+          sought-held s inventory at related answer sought z.zone
+          (ap (zone_named s.zones) same ∙ its-own s inventory z there.1)
           ∙ sym (ap (option_map (λ (z : NamedZone). z.zone)) e)

@@ -1,4 +1,5 @@
 pub mod Places
 pub mod Received
+pub mod Restored
 pub mod Sessions
 pub mod Steps

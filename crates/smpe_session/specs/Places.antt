@@ -1,4 +1,4 @@
--- Where APPLY and ACCEPT run, what they look at, and what they come to before it is committed.
+-- Where APPLY, ACCEPT and RESTORE run, what they look at, and what they come to before it is committed.
 use Rattle.std.specs.Prelude.{◌≡◌, List, Option, None, Some, Result, Ok, Err}
 use Rattle.std.specs.Option.{option_and_then}
 use Rattle.std.specs.Str.{bytes_eq}
@@ -10,7 +10,7 @@ use Rattle.zones.specs.Delta.{ZoneDelta, IsChanged}
 use Rattle.terms.specs.Forms.{IsDottedDate}
 use Rattle.machine.specs.Installing.{InstallsSelected}
 use Rattle.machine.specs.Outcome.{Line, or_nothing}
-use Rattle.machine.specs.State.{State, zone_named, target_of, misplaced}
+use Rattle.machine.specs.State.{State, zone_named, target_of, at_kind, unless_at}
 use Rattle.report.specs.declared.outcome.Refusal.{Refusal}
 use Rattle.report.specs.Views.{refusal_view}
 use Rattle.smpe_session.specs.declared.session.Session.{Session}
@@ -33,18 +33,17 @@ pub record HasRelated (s : State) (at : Session) (kind : ZoneKind) (related : Op
       → option_and_then (get bytes_eq at.zones) related ≡ related_for kind s.zones name
 
 -- The boundary names a zone of the kind, which the session has.
-pub record IsPlace (s : State) (at : Session) (kind : ZoneKind) (i : Install) (name : Text) (zone : Zone) :
-    Type 0 where
+pub record IsPlace (s : State) (at : Session) (kind : ZoneKind) (name : Text) (zone : Zone) : Type 0 where
   pub boundary : s.boundary ≡ Some name
   pub has : get bytes_eq at.zones name ≡ Some zone
   pub is_there : zone_named s.zones name ≡ Some zone
-  pub fits : misplaced s (install_command kind i) ≡ None
+  pub kind_is : zone.kind ≡ kind
+  pub fits : unless_at (at_kind kind s) s ≡ None
 
 -- It is this zone, or else the command is refused.
-abbrev pub HasPlace : State → Session → ZoneKind → Install → {V : Type 0} → (V → Text) → (V → Zone) → Result V Refusal
-    → Type 0
-HasPlace s at kind i name zone (Ok v) = IsPlace s at kind i (name v) (zone v)
-HasPlace s at kind i name zone (Err why) = misplaced s (install_command kind i) ≡ Some (refusal_view why)
+abbrev pub HasPlace : State → Session → ZoneKind → {V : Type 0} → (V → Text) → (V → Zone) → Result V Refusal → Type 0
+HasPlace s at kind name zone (Ok v) = IsPlace s at kind (name v) (zone v)
+HasPlace s at kind name zone (Err why) = unless_at (at_kind kind s) s ≡ Some (refusal_view why)
 
 -- The change, the changed zone and the lines are those of an APPLY or ACCEPT.
 pub record IsPlan (g : Global) (zone : Zone) (related : Option Zone) (sel : Selection) (bypass : Bypass) (date : Text)

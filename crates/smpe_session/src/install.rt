@@ -38,17 +38,17 @@ use zones::{Zone, ZoneDelta};
 
 /// A zone under its name.
 #[derive(Clone, Copy)]
-struct Place<'a> {
-    name: ZoneName,
-    zone: &'a Zone,
+pub(crate) struct Place<'a> {
+    pub name: ZoneName,
+    pub zone: &'a Zone,
 }
 
-/// What an APPLY or ACCEPT comes to before it is committed: the zone's change, the changed zone, and the lines.
+/// What an APPLY, ACCEPT or RESTORE comes to before it is committed: the zone's change, the changed zone, and the lines.
 #[derive(Drop)]
 pub(crate) struct Planned {
-    delta: ZoneDelta,
-    zone: Zone,
-    lines: Vec<Line>,
+    pub delta: ZoneDelta,
+    pub zone: Zone,
+    pub lines: Vec<Line>,
 }
 
 /// The header of the command that installs into a zone of this kind.
@@ -85,7 +85,7 @@ fn plan(
 }
 
 /// Commits the change of a zone of the session, which then has the changed one.
-fn replace_zone<S: Alter>(
+pub(crate) fn replace_zone<S: Alter>(
     store: &mut Store<S>,
     zones: &mut IndexMap<ZoneName, Zone>,
     name: ZoneName,
@@ -105,9 +105,9 @@ fn replace_zone<S: Alter>(
 
 impl Session {
     /// The zone of the boundary, where it is of this kind.
-    fn place(&self, kind: ZoneKind) -> Result<Place<'_>, Refusal>
-        ensures { (s : State) (i : AnInstall) → IsSessionOf s self.now → IsInventory (kept s)
-            → HasPlace s self.now kind i (λ v. v.name) (λ v. v.zone.now) result }
+    pub(crate) fn place(&self, kind: ZoneKind) -> Result<Place<'_>, Refusal>
+        ensures { (s : State) → IsSessionOf s self.now → IsInventory (kept s)
+            → HasPlace s self.now kind (λ v. v.name) (λ v. v.zone.now) result }
     {
         let Some(name) = self.boundary else {
             return Err(Refusal::NoBoundary);
@@ -121,7 +121,7 @@ impl Session {
         Ok(Place { name, zone })
     }
 
-    fn zone_at(&self, name: Option<ZoneName>) -> Option<&Zone>
+    pub(crate) fn zone_at(&self, name: Option<ZoneName>) -> Option<&Zone>
         ensures { option_copied result ≡ option_and_then (get bytes_eq self.now.zones) name }
     {
         match name {

@@ -16,6 +16,7 @@ mod read;
 mod receive;
 mod reject;
 mod related;
+mod restore;
 mod session;
 mod set;
 

@@ -84,6 +84,7 @@ impl Session {
             Command::Accept(operands) => {
                 told(self.install(alloc, store, date, ZoneKind::Distribution, operands))
             }
+            Command::Restore { list, check } => told(self.restore(alloc, store, list, *check)),
             Command::List { text } => Ok(Performed::Lists { text: *text }),
             Command::Report => Ok(Performed::Told(self.report(alloc)?)),
         }

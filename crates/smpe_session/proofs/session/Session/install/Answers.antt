@@ -32,7 +32,7 @@ returns-then-install-clause-ended g c = λ clean s is keeps files.
     let lines = map line_view p.lines.items in
     let sought = c.in_ok-related.ensures.ended clean s is keeps in
     let inventory = kept-inventory g.S.Store c.seek_related.new.store s clean sought.1 in
-    let place = c.in-Ok.ensures s i sought.0.session inventory in
+    let place = c.in-Ok.ensures s sought.0.session inventory in
     let checks = sym (ap (λ w. w.check) c.install.view_is) in
     let ready = planned c.args.date kind i s at name zone _ c.install.inside.selection c.install.inside.bypass
     p.delta p.zone lines sought.0.session place (c.zone_at.ensures ∙ sought.0.is_related name place.boundary)
@@ -59,7 +59,7 @@ returns-in_err-replace_zone-in-Ok-clause-ended g c = λ clean s is keeps files.
     let before = c.replace_zone.ensures.clean clean in
     let sought = c.in_ok-related.ensures.ended before s is keeps in
     let inventory = kept-inventory g.S.Store c.seek_related.new.store s before sought.1 in
-    let place = c.in-Ok.ensures s i sought.0.session inventory in
+    let place = c.in-Ok.ensures s sought.0.session inventory in
     let checks = sym (ap (λ w. w.check) c.install.view_is) in
     let ready = planned c.args.date kind i s at name zone _ c.install.inside.selection c.install.inside.bypass
     p.delta p.zone lines sought.0.session place (c.zone_at.ensures ∙ sought.0.is_related name place.boundary)
@@ -91,7 +91,7 @@ returns-in_ok-replace_zone-in-Ok-clause-ended g c = λ clean s is keeps files.
     let before = c.replace_zone.ensures.clean clean in
     let sought = c.in_ok-related.ensures.ended before s is keeps in
     let inventory = kept-inventory g.S.Store c.seek_related.new.store s before sought.1 in
-    let place = c.in-Ok.ensures s i sought.0.session inventory in
+    let place = c.in-Ok.ensures s sought.0.session inventory in
     let checks = sym (ap (λ w. w.check) c.install.view_is) in
     let ready = planned c.args.date kind i s at name zone _ c.install.inside.selection c.install.inside.bypass
     p.delta p.zone lines sought.0.session place (c.zone_at.ensures ∙ sought.0.is_related name place.boundary)
@@ -117,7 +117,7 @@ returns-in-Err-clause-ended g c = λ clean s is keeps files.
       s,
       install-refused c.args.date files command s (header_view c.header-header.result) (refusal_view c.in-Err.refusal)
           (c.header-header.ensures i (sym (ap (λ w. w.check) c.install.view_is)) ∙ ap (header_of command) is.boundary)
-          (c.in-Err.ensures s i sought.0.session inventory),
+          (install-at s c.args.kind i ∙ c.in-Err.ensures s sought.0.session inventory),
       sought.0.session,
       sought.1,
     )

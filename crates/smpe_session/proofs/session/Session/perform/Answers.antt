@@ -28,6 +28,12 @@ returns-in-Accept-clause-ended g c = λ clean s is keeps. rw c.in-Accept.is
     c.install-in-Accept.result c.told-in-Accept.result c.told-in-Accept.ensures
     (c.install-in-Accept.ensures.ended clean s is keeps c.args.files.now))
 
+pub returns-in-Restore-clause-ended : goal.returns-in-Restore-clause-ended
+returns-in-Restore-clause-ended g c = λ clean s is keeps. rw c.in-Restore.is
+    (done-by g.S.Store c.restore.new.store s c.restore.new.self c.args.date c.args.files.now _ c.restore.result
+    c.told-in-Restore.result c.told-in-Restore.ensures
+    (c.restore.ensures.ended clean s is keeps c.args.date c.args.files.now))
+
 pub returns-in_err-report-in-Report-clause-ended : goal.returns-in_err-report-in-Report-clause-ended
 returns-in_err-report-in-Report-clause-ended g c = λ clean s is keeps.
     done-short g.S.Store c.args.store.now s c.args.self.now c.args.date c.args.files.now

@@ -1,23 +1,23 @@
 use Rattle.std.proofs.Common.{◌≡◌, ◌≢◌, ◌∙◌, rules, sym}
-use Rattle.smpe_session.proofs.Places.{install-nowhere, install-fits, install-other, install-global}
+use Rattle.smpe_session.proofs.Places.{kind-nowhere, kind-fits, kind-other, kind-global}
 use Rattle.smpe_session.proofs.session.Session.place.Goals as goal
 
 pub returns-in_default : goal.returns-in_default
-returns-in_default c = λ s i is inventory. install-nowhere s c.args.kind i (sym is.boundary ∙ c.in_default.is)
+returns-in_default c = λ s is inventory. kind-nowhere s c.args.kind (sym is.boundary ∙ c.in_default.is)
 
 pub returns-in_default-get : goal.returns-in_default-get
-returns-in_default-get c = λ s i is inventory. install-global s c.args.self.now c.args.kind i c.in-Some.name is
+returns-in_default-get c = λ s is inventory. kind-global s c.args.self.now c.args.kind c.in-Some.name is
     inventory (sym is.boundary ∙ c.in-Some.is) (sym c.in_default-get.ensures.value)
 
 pub returns-then-ne : goal.returns-then-ne
-returns-then-ne c = λ s i is inventory.
+returns-then-ne c = λ s is inventory.
     let other : c.kind.result ≢ c.args.kind = search rules in
-    install-other s c.args.kind i c.in-Some.name c.in-Some-get.zone.now (sym is.boundary ∙ c.in-Some.is)
+    kind-other s c.args.kind c.in-Some.name c.in-Some-get.zone.now (sym is.boundary ∙ c.in-Some.is)
     (is.zones c.in-Some.name c.in-Some-get.zone.now (sym c.in-Some-get.ensures.value))
     (λ same. other (c.kind.ensures ∙ same))
 
 pub returns : goal.returns
-returns c = λ s i is inventory.
+returns c = λ s is inventory.
     let same : c.kind.result ≡ c.args.kind = search rules in
     let at = sym is.boundary ∙ c.in-Some.is in
     let there = is.zones c.in-Some.name c.in-Some-get.zone.now (sym c.in-Some-get.ensures.value) in
@@ -25,5 +25,6 @@ returns c = λ s i is inventory.
       boundary = at;
       has = sym c.in-Some-get.ensures.value;
       is_there = there;
-      fits = install-fits s c.args.kind i c.in-Some.name c.in-Some-get.zone.now at there (sym c.kind.ensures ∙ same);
+      kind_is = sym c.kind.ensures ∙ same;
+      fits = kind-fits s c.args.kind c.in-Some.name c.in-Some-get.zone.now at there (sym c.kind.ensures ∙ same);
     }

@@ -1,0 +1,20 @@
+use Rattle.std.proofs.Common.{◌∙◌, sym}
+use Rattle.smpe_session.proofs.Restored.{accepted-none, accepted-some}
+use Rattle.smpe_session.proofs.Stepping.{kept-inventory}
+use Rattle.smpe_session.proofs.session.Session.seek_accepted.Goals as goal
+
+pub returns-in_default-clause-ended : goal.returns-in_default-clause-ended
+returns-in_default-clause-ended g c = λ clean s is keeps.
+    let inventory = kept-inventory g.S.Store c.args.store.now s clean keeps in (
+      accepted-none s inventory c.args.self.now is (sym c.in_default.is ∙ c.related_name.ensures),
+      keeps,
+    )
+
+pub returns-clause-ended : goal.returns-clause-ended
+returns-clause-ended g c = λ clean s is keeps.
+    let inventory = kept-inventory g.S.Store c.args.store.now s (c.seek.ensures.clean clean) keeps in
+    let sought = c.in_ok-seek.ensures.ended clean s is keeps in (
+      accepted-some s inventory c.args.self.now c.seek.new.self c.in-Some.accepted c.in_ok-seek.field-0 is
+          (sym c.in-Some.is ∙ c.related_name.ensures) sought.0,
+      sought.1,
+    )

@@ -1,0 +1,138 @@
+//! RESTORE: SYSMODs go off the target zone of the boundary, back to what its distribution zone holds.
+ghost use Rattle.std.specs.Prelude.{◌≡◌, IfOk, map};
+ghost use Rattle.std.specs.Option.{option_and_then};
+ghost use Rattle.std.specs.Str.{bytes_eq};
+ghost use Rattle.indexmap.specs.IndexMap.{get};
+ghost use Rattle.sqlite.specs.Held.{state};
+ghost use Rattle.sqlite.specs.State.{HasCleanDisk};
+ghost use Rattle.terms.specs.Types.{Text, Restore};
+ghost use Rattle.cntl.specs.Views.{restore_list_of};
+ghost use Rattle.store_schema.specs.Inventory.{IsInventory};
+ghost use Rattle.machine.specs.State.{State};
+ghost use Rattle.machine.specs.Machine.{Files};
+ghost use Rattle.report.specs.Views.{line_view};
+ghost use Rattle.store.specs.Kept.{kept, Keeps};
+ghost use Rattle.smpe_session.specs.Sessions.{IsSessionOf, HasPerformed};
+ghost use Rattle.smpe_session.specs.Steps.{HasLoaded};
+ghost use Rattle.smpe_session.specs.Restored.{HasAccepted, HasTarget, IsRestorePlan};
+
+use crate::install::{Planned, replace_zone};
+use crate::session::Session;
+use cntl::RestoreList;
+use fields::ZoneName;
+use report::{Header, Outcome, Refusal};
+use smpe_restore::{Restored, restore};
+use sqlite::Alter;
+use std::alloc::{AllocError, Global as Heap};
+use store::Store;
+use store_schema::StoreError;
+use sysmods::Global;
+use terms::{CommandWord, ZoneKind};
+use zones::Zone;
+
+/// A target zone under its name, and its distribution zone.
+#[derive(Clone, Copy)]
+struct Target<'a> {
+    name: ZoneName,
+    zone: &'a Zone,
+    accepted: &'a Zone,
+}
+
+fn plan(
+    alloc: Heap,
+    global: &Global,
+    zone: &Zone,
+    accepted: &Zone,
+    list: &RestoreList,
+) -> Result<Planned, AllocError>
+    ensures { IfOk result (λ p. IsRestorePlan global.now zone.now accepted.now (restore_list_of list.now) p.delta p.zone
+        (map line_view p.lines.items)) }
+{
+    let Restored { delta, lines } = restore(alloc, global, zone, accepted, list)?;
+    let zone = delta.apply(alloc, zone)?;
+    Ok(Planned { delta, zone, lines })
+}
+
+impl Session {
+    /// The name to which the zone of the boundary is related.
+    fn related_name(&self) -> Option<ZoneName>
+        ensures { result ≡ option_and_then (λ zone. zone.related)
+            (option_and_then (get bytes_eq self.now.zones) self.now.boundary) }
+    {
+        match self.zone_at(self.boundary) {
+            Some(zone) => zone.related(),
+            None => None,
+        }
+    }
+
+    /// The name of the zone to which that of the boundary is related, if it is to one. It is loaded.
+    fn seek_accepted<S: Alter>(
+        &mut self,
+        store: &mut Store<S>,
+    ) -> Result<Option<ZoneName>, StoreError>
+        ensures clean { HasCleanDisk (state S.Store store.new) → HasCleanDisk (state S.Store store.old) }
+        ensures ended { HasCleanDisk (state S.Store store.new) → (s : State) → IsSessionOf s self.old
+            → Keeps S.Store store.old s
+            → HasLoaded S.Store store.new s (λ accepted. HasAccepted s self.new accepted) result }
+    {
+        let Some(accepted) = self.related_name() else {
+            return Ok(None);
+        };
+        self.seek(store, accepted)?;
+        Ok(Some(accepted))
+    }
+
+    /// The target zone of the boundary, with its distribution zone.
+    fn target(&self, accepted: Option<ZoneName>) -> Result<Target<'_>, Refusal>
+        ensures { (s : State) → HasAccepted s self.now accepted → IsInventory (kept s)
+            → HasTarget s self.now (λ v. v.name) (λ v. v.zone.now) (λ v. v.accepted.now) result }
+    {
+        match self.place(ZoneKind::Target) {
+            Ok(place) => match self.zone_at(accepted) {
+                Some(accepted) => Ok(Target {
+                    name: place.name,
+                    zone: place.zone,
+                    accepted,
+                }),
+                // Each target zone has a distribution zone.
+                None => Err(Refusal::WrongKind),
+            },
+            Err(refusal) => Err(refusal),
+        }
+    }
+
+    pub(crate) fn restore<S: Alter>(
+        &mut self,
+        alloc: Heap,
+        store: &mut Store<S>,
+        list: &RestoreList,
+        check: bool,
+    ) -> Result<Outcome<'static>, StoreError>
+        ensures clean { HasCleanDisk (state S.Store store.new) → HasCleanDisk (state S.Store store.old) }
+        ensures ended { HasCleanDisk (state S.Store store.new) → (s : State) → IsSessionOf s self.old
+            → Keeps S.Store store.old s
+            → (date : Text) (files : Files) → HasPerformed S.Store store.new s self.new date files
+            (Restore (restore_list_of list.now) check) result }
+    {
+        let header = Header {
+            word: CommandWord::Restore,
+            boundary: self.boundary,
+            check,
+        };
+        let accepted = self.seek_accepted(store)?;
+        match self.target(accepted) {
+            Ok(target) => {
+                let name = target.name;
+                let Planned { delta, zone, lines } =
+                    plan(alloc, &self.global, target.zone, target.accepted, list)?;
+                // The changed zone was made all the same: it shows that the lines are those of a RESTORE.
+                if check {
+                    return Ok(Outcome::Ran { header, lines });
+                }
+                replace_zone(store, &mut self.zones, name, delta, zone)?;
+                Ok(Outcome::Ran { header, lines })
+            }
+            Err(refusal) => Ok(Outcome::Refused { header, refusal }),
+        }
+    }
+}
