@@ -6,25 +6,21 @@ use Rattle.std.specs.Option.{option_map_or}
 use Rattle.std.specs.Ordering.{is_eq}
 use Rattle.std.proofs.lemmas.Cmp.{tied_itself}
 use Rattle.terms.specs.declared.kinds.ElemType.{ElemType}
-use Rattle.tables.specs.declared.edits.Edit.{Edit}
 use Rattle.tables.specs.declared.edits.Edit.TheVariants.{Put}
 use Rattle.terms.specs.Types.{Text, Id, Element, Zone}
 use Rattle.terms.specs.Lookups.{has_change, element_cmp, element_key, element_of}
 use Rattle.terms.specs.Rising.{with_item}
-use Rattle.zones.specs.Delta.{ZoneDelta}
 use Rattle.terms.specs.Lookups.{element_eq}
-use Rattle.tables.specs.Edits.{edit_key, edit_put, after_edits}
+use Rattle.tables.specs.Edits.{edit_key, edit_put}
 use Rattle.terms.specs.Install.{Installation, TakesEffect, cleared, HasElementAfter}
 use Rattle.terms.proofs.ElementOrder.{element_cmp_total, element_ties}
 use Rattle.lemmas.proofs.Members.{in_map, map_in}
+use Rattle.change.specs.Differing.{ElementEdit, element_after}
 use Rattle.change.specs.Elements.{AreElementsAfter}
 use Rattle.change.specs.Puts.{with_element, with_elements}
 use Rattle.change.proofs.Grouped.{Key, same_key}
 use Rattle.change.proofs.InTurn.{find-member, in_turn-none, in_turn-some}
 use Rattle.change.proofs.Ordered.{all_in}
-
-abbrev ElementEdit : Type 0
-ElementEdit = Edit Element Key
 
 put : Element → ElementEdit
 put e = Put e
@@ -35,16 +31,10 @@ put_key = edit_key element_key
 abbrev put_all : List ElementEdit → List Element → List ElementEdit
 put_all old es = fold (with_item element_cmp put_key) old (map put es)
 
--- ---- the delta
-
-pub put_entries_stay : (d : ZoneDelta) (es : List Element) → (with_elements d es).entries ≡ d.entries
-put_entries_stay d [] = refl
-put_entries_stay d (e ∷ es) = put_entries_stay (with_element d e) es
-
-put_elements_are : (d : ZoneDelta) (es : List Element) → (with_elements d es).elements ≡ put_all d.elements es
+put_are : (edits : List ElementEdit) (es : List Element) → with_elements edits es ≡ put_all edits es
 unfolding put
-put_elements_are d [] = refl
-put_elements_are d (e ∷ es) = put_elements_are (with_element d e) es
+put_are edits [] = refl
+put_are edits (e ∷ es) = put_are (with_element edits e) es
 
 -- ---- what stands in the new zone
 
@@ -96,17 +86,12 @@ module _ (i : Installation) (zone : Zone) (es : List Element) (after : AreElemen
           absurd (true≢false (sym changes.2
           ∙ ap (λ (k : Key). has_change i.global changes.0 k.0 k.1) key ∙ none changes.0 changes.1))
 
-  module _ (delta start : ZoneDelta) (is : delta ≡ with_elements start es) (starts : start.elements ≡ old)
-      (less : (type : ElemType) (name : Text)
-      → after_edits element_eq element_key old zone.elements (type, name) ≡ element_of (cleared i) type name)
+  module _ (less : (type : ElemType) (name : Text) → element_after old zone (type, name) ≡ element_of (cleared i) type name)
       (new : Zone) (changed : (type : ElemType) (name : Text)
-      → element_of new type name ≡ after_edits element_eq element_key delta.elements zone.elements (type, name)) where
+      → element_of new type name ≡ element_after (with_elements old es) zone (type, name)) where
     at_key : (type : ElemType) (name : Text)
-        → element_of new type name ≡ after_edits element_eq element_key (put_all old es) zone.elements (type, name)
-    at_key type name =
-        let edits = ap (λ d. d.elements) is ∙ put_elements_are start es ∙ ap (λ es'. put_all es' es) starts in
-        changed type name
-        ∙ ap (λ ds. after_edits element_eq element_key ds zone.elements (type, name)) edits
+        → element_of new type name ≡ element_after (put_all old es) zone (type, name)
+    at_key type name = changed type name ∙ ap (λ ds. element_after ds zone (type, name)) (put_are old es)
 
     pub element_changed : (type : ElemType) (name : Text) (x : Id) → TakesEffect i x
         → IsTrue (has_change i.global x type name)

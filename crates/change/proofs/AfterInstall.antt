@@ -5,22 +5,22 @@ use Rattle.std.specs.Option.{option_map_or}
 use Rattle.std.specs.Str.{bytes_eq}
 use Rattle.terms.specs.declared.kinds.ElemType.{ElemType}
 use Rattle.terms.specs.Types.{Text, Id, Element, Zone}
-use Rattle.terms.specs.Lookups.{IsRising, IsZone, entry_of, element_key, element_of}
+use Rattle.terms.specs.Lookups.{IsRising, IsZone, entry_of, element_of}
 use Rattle.terms.specs.Global.{IsGlobal}
 use Rattle.zones.specs.Delta.{ZoneDelta, IsChanged}
-use Rattle.terms.specs.Lookups.{element_eq}
-use Rattle.tables.specs.Edits.{edit_key, edit_put, after_edits}
+use Rattle.tables.specs.Edits.{edit_key, edit_put}
 use Rattle.terms.specs.Install.{Installation, cleared, HasInstalled}
 use Rattle.change.specs.declared.deleting.Deleting.{Deleting}
 use Rattle.change.specs.declared.plan.Plan.{Plan}
 use Rattle.change.specs.Deleting.{AreDeletions, choice_of}
 use Rattle.change.specs.Plans.{installation, IsFresh, IsPlan}
 use Rattle.change.specs.Entries.{entry_after, HasPutEntries}
+use Rattle.change.specs.Differing.{ElementEdit, HasEditedElements, element_after}
 use Rattle.change.specs.Elements.{AreElementsAfter}
 use Rattle.change.specs.Puts.{less_elements, with_elements}
-use Rattle.change.proofs.AfterElements.{put_entries_stay, element_changed, element_unchanged}
+use Rattle.change.proofs.AfterElements.{element_changed, element_unchanged}
 use Rattle.change.proofs.AfterEntries as entries
-use Rattle.change.proofs.Removed.{removed_stay, removed_at}
+use Rattle.change.proofs.Removed.{removed_at}
 
 module _ (d : Deleting) (bypassed : List (Id × Id)) (date : Text) (is_global : IsGlobal d.vers.now.global.now)
     (is_zone : IsZone d.zone.now) (lists : All (λ e. IsRising e.supby × IsRising e.waived) d.zone.now.entries)
@@ -28,24 +28,27 @@ module _ (d : Deleting) (bypassed : List (Id × Id)) (date : Text) (is_global : 
   abbrev i : Installation
   i = installation d.vers.now.global.now (choice_of d) d.zone.now d.kept.now bypassed date
 
-  pub installs : (p : Plan) (start between less delta : ZoneDelta) (es : List Element) → IsPlan i d.dels.now p
-      → start.elements ≡ [] → HasPutEntries d p p.touched start between
-      → less ≡ less_elements d between d.zone.now.elements → AreElementsAfter i es → delta ≡ with_elements less es
+  pub installs : (p : Plan) (start between delta : ZoneDelta) (none less edits : List ElementEdit) (es : List Element)
+      → IsPlan i d.dels.now p → none ≡ [] → HasPutEntries d p p.touched start between
+      → less ≡ less_elements d none d.zone.now.elements → AreElementsAfter i es → edits ≡ with_elements less es
+      → HasEditedElements d.zone.now edits between delta
       → (new : Zone) → IsChanged delta d.zone.now new → HasInstalled i new
-  installs p start between less delta es plan empty put cut after is new changed =
+  installs p start between delta none less edits es plan empty put cut after is done new changed =
       let zone : Zone = d.zone.now in
       let at_entry : (x : Id) → entry_of new x ≡ entry_after between zone x =
       λ x. changed.entries x
       ∙ ap (λ es. option_map_or edit_put (find (λ e. bytes_eq (edit_key (λ e. e.id) e) x) es) (entry_of zone x))
-      (ap (λ d. d.entries) is ∙ put_entries_stay less es ∙ ap (λ d. d.entries) cut
-      ∙ removed_stay d between zone.elements) in
+      done.entries in
       let at_element : (type : ElemType) (name : Text)
-      → after_edits element_eq element_key less.elements zone.elements (type, name)
-      ≡ element_of (cleared i) type name =
-      λ type name. ap (λ (v : ZoneDelta). after_edits element_eq element_key v.elements zone.elements (type, name)) cut
-      ∙ removed_at d is_zone type name between (put.elements ∙ empty)
+      → element_after less zone (type, name) ≡ element_of (cleared i) type name =
+      λ type name. ap (λ v. element_after v zone (type, name)) cut
+      ∙ removed_at d is_zone type name none empty
       ∙ ap (λ z. element_of z type name)
       (sym (entries.cleared_is d bypassed date is_global is_zone lists dels fresh)) in
+      let at_key : (type : ElemType) (name : Text)
+      → element_of new type name ≡ element_after (with_elements less es) zone (type, name) =
+      λ type name. changed.elements type name ∙ done.leaves (type, name)
+      ∙ ap (λ v. element_after v zone (type, name)) is in
       record {
         rest = changed.rest;
         is_zone = changed.is_zone;
@@ -65,6 +68,6 @@ module _ (d : Deleting) (bypassed : List (Id × Id)) (date : Text) (is_global : 
             put new at_entry;
         not_waived = entries.not_waived d bypassed date is_global is_zone lists dels fresh p plan start between
             put new at_entry;
-        changed = element_changed i zone es after less.elements delta less is refl at_element new changed.elements;
-        unchanged = element_unchanged i zone es after less.elements delta less is refl at_element new changed.elements;
+        changed = element_changed i zone es after less at_element new at_key;
+        unchanged = element_unchanged i zone es after less at_element new at_key;
       }

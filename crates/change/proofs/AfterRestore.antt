@@ -12,7 +12,8 @@ use Rattle.terms.proofs.SameLists.{rising_same}
 use Rattle.tables.specs.Edits.{after_edits}
 use Rattle.zones.specs.Delta.{ZoneDelta, IsChanged}
 use Rattle.zones_less.proofs.Entries.{entries_less-rise}
-use Rattle.change.specs.Restoring.{IsRestoringOf, ChangesEntry, ChangesElement, take_off, all_changed, ArePutBack}
+use Rattle.change.specs.Restoring.{IsRestoringOf, take_off, all_changed, ArePutBack}
+use Rattle.change.specs.Differing.{ChangesEntry, EachChanges}
 use Rattle.change.proofs.LessEdits.{all_taken_off, entry_left, elements_stay}
 use Rattle.change.proofs.Reverted.{Key, reverted, unchanged}
 
@@ -29,12 +30,12 @@ module _ (g : Global) (zone accepted : Zone) (kept : List Id) (z : IsZone zone) 
   entries_are : delta.entries ≡ (fold (take_off (is_in kept)) start zone.entries).entries
   entries_are = back.entries ∙ ap (λ (d : ZoneDelta). d.entries) off
 
-  pub entries_differ : All (ChangesEntry zone) delta.entries
-  entries_differ = subst (All (ChangesEntry zone)) (sym entries_are)
-      (all_taken_off (is_in kept) zone z start no_entries).differ
-
-  pub elements_differ : All (ChangesElement zone) delta.elements
-  elements_differ = back.elements.differ
+  pub each_changes : EachChanges zone delta
+  each_changes = record {
+    entries = subst (All (ChangesEntry zone)) (sym entries_are)
+        (all_taken_off (is_in kept) zone z start no_entries).differ;
+    elements = back.elements.differ;
+  }
 
   left_entries : (new : Zone) → IsChanged delta zone new → new.entries ≡ entries_less (is_in kept) zone.entries
   left_entries new is =

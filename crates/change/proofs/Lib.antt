@@ -1,4 +1,5 @@
 pub mod AfterElements
+pub mod ElementEdits
 pub mod AfterEntries
 pub mod AfterInstall
 pub mod ChosenVers

@@ -21,20 +21,13 @@ use Rattle.terms.proofs.Placing.{All-with_item}
 use Rattle.terms.proofs.Ids.{in_or_not}
 use Rattle.change.specs.declared.deleting.Deleting.{Deleting}
 use Rattle.change.specs.declared.plan.Plan.{Plan}
-use Rattle.change.specs.Entries.{IsMadeEntry, PutsEntry, entry_after, if_held, with_entry, without_entry, Differs}
-use Rattle.change.specs.Entries.{HasPutEntries}
+use Rattle.change.specs.Differing.{EntryEdit, ChangesEntry, AddsEntryEdit, with_entry_edit}
+use Rattle.change.specs.Entries.{IsMadeEntry, PutsEntry, HasPutEntries, entry_after, held_edit, if_held}
 use Rattle.change.proofs.Gathered.{in_more}
 use Rattle.change.proofs.InTurn.{find-with_item}
 
-abbrev EntryEdit : Type 0
-EntryEdit = Edit Entry Id
-
 abbrev key_of : EntryEdit → Id
 key_of = edit_key (λ e. e.id)
-
--- the delta with an edit
-abbrev with_edit : ZoneDelta → EntryEdit → ZoneDelta
-with_edit d v = record d { entries = with_item (slice_cmp nat_cmp) key_of d.entries v }
 
 module _ (d : Deleting) (p : Plan) where
   abbrev zone : Zone
@@ -45,12 +38,12 @@ module _ (d : Deleting) (p : Plan) where
     elements = refl;
     put = λ x h. absurd (none_in x h);
     others = λ x out. ap (λ es. option_map_or edit_put (find (λ e. bytes_eq (key_of e) x) es) (entry_of zone x)) empty;
-    differ = subst (All (Differs zone)) (sym empty) (All-nil (Differs zone));
+    differ = subst (All (ChangesEntry zone)) (sym empty) (All-nil (ChangesEntry zone));
   }
 
   -- what stands at an id after an edit
   after_put : (delta : ZoneDelta) (v : EntryEdit) (y : Id) (b : Bool) → bytes_eq (key_of v) y ≡ b
-      → entry_after (with_edit delta v) zone y ≡ cond b (edit_put v) (entry_after delta zone y)
+      → entry_after (with_entry_edit delta v) zone y ≡ cond b (edit_put v) (entry_after delta zone y)
   after_put delta v y b at =
       ap (λ o. option_map_or edit_put o (entry_of zone y))
       (find-with_item nat_list_cmp_total key_of bytes_eq texts_ties delta.entries v y)
@@ -64,8 +57,9 @@ module _ (d : Deleting) (p : Plan) where
 
   module _ (xs : List Id) (k : ℕ) (x : Id) (start old : ZoneDelta) (below : k < length xs) (is : x ≡ get_or xs k x)
       (e : Entry) (made : IsMadeEntry d p x e) (so_far : HasPutEntries d p (take k xs) start old) where
-    stands : IsTrue (is_held e) → entry_of zone x ≡ Some e → HasPutEntries d p (take (k + 1) xs) start old
-    stands held there = record {
+    -- what is left at the id stands there
+    stands : entry_of zone x ≡ if_held e → HasPutEntries d p (take (k + 1) xs) start old
+    stands there = record {
       elements = so_far.elements;
       put = λ y h. elim ((in_more xs k x below is y).0 h) [
         | inl was ↦ so_far.put y was
@@ -73,8 +67,7 @@ module _ (d : Deleting) (p : Plan) where
           | inl was ↦ so_far.put y was
           | inr out ↦ (
             e,
-            so_far.others y out ∙ ap (entry_of zone) (sym same) ∙ there
-                ∙ sym (ap (λ b. if b then Some e else None) held),
+            so_far.others y out ∙ ap (entry_of zone) (sym same) ∙ there,
             subst (λ v. IsMadeEntry d p v e) same made,
           )
         ]
@@ -84,20 +77,20 @@ module _ (d : Deleting) (p : Plan) where
     }
 
     -- an edit at the id that leaves the entry there, if something holds it
-    edited : (v : EntryEdit) → key_of v ≡ x → edit_put v ≡ if_held e → Differs zone v
-        → HasPutEntries d p (take (k + 1) xs) start (with_edit old v)
+    edited : (v : EntryEdit) → key_of v ≡ x → edit_put v ≡ if_held e → ChangesEntry zone v
+        → HasPutEntries d p (take (k + 1) xs) start (with_entry_edit old v)
     edited v key puts differs = record {
       elements = so_far.elements;
       put = λ y h. by_put y ((in_more xs k x below is y).0 h) (bytes_eq (key_of v) y) refl;
       others = λ y out. by_other y out (bytes_eq (key_of v) y) refl;
-      differ = All-with_item (slice_cmp nat_cmp) key_of (Differs zone) old.entries v so_far.differ differs;
+      differ = All-with_item (slice_cmp nat_cmp) key_of (ChangesEntry zone) old.entries v so_far.differ differs;
     }
       where
         at_id : (y : Id) → bytes_eq (key_of v) y ≡ true → x ≡ y
         at_id y hit = sym key ∙ same_from (key_of v) y hit
 
         by_put : (y : Id) → Contains (take k xs) y ⊎ (x ≡ y) → (b : Bool) → bytes_eq (key_of v) y ≡ b
-            → (f : Entry) × (entry_after (with_edit old v) zone y ≡ if_held f) × IsMadeEntry d p y f
+            → (f : Entry) × (entry_after (with_entry_edit old v) zone y ≡ if_held f) × IsMadeEntry d p y f
         by_put y h true hit = (
           e,
           after_put old v y true hit ∙ puts,
@@ -109,30 +102,37 @@ module _ (d : Deleting) (p : Plan) where
             absurd (true≢false (sym (same_itself y) ∙ ap (λ v. bytes_eq v y) (sym (key ∙ same)) ∙ off))
 
         by_other : (y : Id) → (¬ Contains (take (k + 1) xs) y) → (b : Bool) → bytes_eq (key_of v) y ≡ b
-            → entry_after (with_edit old v) zone y ≡ entry_of zone y
+            → entry_after (with_entry_edit old v) zone y ≡ entry_of zone y
         by_other y out true hit = absurd (out ((in_more xs k x below is y).1 (inr (at_id y hit))))
         by_other y out false off =
             after_put old v y false off ∙ so_far.others y (λ was. out ((in_more xs k x below is y).1 (inl was)))
 
-    is_put : IsTrue (is_held e) → entry_of zone x ≢ Some e
-        → HasPutEntries d p (take (k + 1) xs) start (with_entry old e)
-    is_put held new = edited (Put e) made.after.id (sym (ap (λ b. if b then Some e else None) held))
-        (λ there. new (ap (entry_of zone) (sym made.after.id) ∙ there))
+    key_is : key_of (held_edit x e) ≡ x
+    key_is = by (is_held e)
+      where
+        by : (b : Bool) → key_of (if b then Put e else Remove x) ≡ x
+        by true = made.after.id
+        by false = refl
 
-    goes : IsFalse (is_held e) → HasPutEntries d p (take (k + 1) xs) start (without_entry old x)
-    goes unheld = edited (Remove x) refl (sym (ap (λ b. if b then Some e else None) unheld)) tt
+    left_is : edit_put (held_edit x e) ≡ if_held e
+    left_is = by (is_held e)
+      where
+        by : (b : Bool) → edit_put {X = Entry} {K = Id} (if b then Put e else Remove x) ≡ (if b then Some e else None)
+        by true = refl
+        by false = refl
+
+    one_more : (new : ZoneDelta) → AddsEntryEdit zone (held_edit x e) old new
+        → HasPutEntries d p (take (k + 1) xs) start new
+    one_more new adds =
+        elim adds [
+          | inl same ↦ subst (HasPutEntries d p (take (k + 1) xs) start) (sym same.0)
+              (stands (ap (entry_of zone) (sym key_is) ∙ sym same.1 ∙ left_is))
+          | inr edit ↦ subst (HasPutEntries d p (take (k + 1) xs) start) (sym edit.0)
+              (edited (held_edit x e) key_is left_is edit.1)
+        ]
 
   pub put-next : (xs : List Id) (k : ℕ) (x : Id) (start old new : ZoneDelta) → k < length xs → x ≡ get_or xs k x
       → PutsEntry d p x old new → HasPutEntries d p (take k xs) start old
       → HasPutEntries d p (take (k + 1) xs) start new
   put-next xs k x start old new below is puts so_far =
-      elim puts.2 [
-        | inl gone ↦ subst (HasPutEntries d p (take (k + 1) xs) start) (sym gone.0)
-            (goes xs k x start old below is puts.0 puts.1 so_far gone.1)
-        | inr held ↦ elim held [
-          | inl same ↦ subst (HasPutEntries d p (take (k + 1) xs) start) (sym same.0)
-              (stands xs k x start old below is puts.0 puts.1 so_far same.1 same.2)
-          | inr put ↦ subst (HasPutEntries d p (take (k + 1) xs) start) (sym put.0)
-              (is_put xs k x start old below is puts.0 puts.1 so_far put.1 put.2)
-        ]
-      ]
+      one_more xs k x start old below is puts.0 puts.1 so_far new puts.2

@@ -6,14 +6,12 @@ use Rattle.std.specs.Option.{option_map_or}
 use Rattle.std.proofs.lemmas.List.{take_more}
 use Rattle.std.proofs.lemmas.List.Sums.{fold-append}
 use Rattle.terms.specs.declared.kinds.ElemType.{ElemType}
-use Rattle.tables.specs.declared.edits.Edit.{Edit}
 use Rattle.tables.specs.declared.edits.Edit.TheVariants.{Remove}
 use Rattle.terms.specs.Types.{Text, Element}
 use Rattle.terms.specs.Lookups.{IsZone, element_cmp, element_key, element_of}
 use Rattle.terms.specs.Rising.{with_item}
 use Rattle.terms.specs.Deleted.{is_deleted}
 use Rattle.terms.proofs.NothingDeleted.{is_deleted-none}
-use Rattle.zones.specs.Delta.{ZoneDelta}
 use Rattle.terms.specs.Lookups.{element_eq}
 use Rattle.tables.specs.Edits.{edit_key, edit_put, after_edits}
 use Rattle.terms.proofs.ElementOrder.{element_cmp_total, element_ties}
@@ -23,12 +21,10 @@ use Rattle.zones_less.proofs.Filtered.{passing}
 use Rattle.zones_less.proofs.Lookups.{element_of-less}
 use Rattle.change.specs.declared.deleting.Deleting.{Deleting}
 use Rattle.change.specs.Deleting.{choice_of, is_cut, left}
+use Rattle.change.specs.Differing.{ElementEdit}
 use Rattle.change.specs.Puts.{less_element, less_elements}
 use Rattle.change.proofs.Grouped.{Key}
 use Rattle.change.proofs.InTurn.{find-member, in_turn-none, in_turn-some}
-
-abbrev ElementEdit : Type 0
-ElementEdit = Edit Element Key
 
 removal : Element → ElementEdit
 removal e = Remove (element_key e)
@@ -46,45 +42,35 @@ module _ (d : Deleting) where
   abbrev all_removed : List ElementEdit → List Element → List ElementEdit
   all_removed old es = fold (with_item element_cmp put_key) old (removals es)
 
-  pub removed_stay : (delta : ZoneDelta) (es : List Element) → (less_elements d delta es).entries ≡ delta.entries
-  removed_stay delta [] = refl
-  removed_stay delta (e ∷ es) = removed_stay (less_element d delta e) es ∙ by (is_cut d e.fmid) refl
-    where
-      by : (b : Bool) → is_cut d e.fmid ≡ b → (less_element d delta e).entries ≡ delta.entries
-      by true at = rw at refl
-      by false at = rw at refl
-
   -- one element more
-  pub removed_next : (delta : ZoneDelta) (es : List Element) (k : ℕ) (x : Element) → k < length es → x ≡ get_or es k x
-      → less_element d (less_elements d delta (take k es)) x ≡ less_elements d delta (take (k + 1) es)
-  removed_next delta es k x below at =
-      sym (ap (less_elements d delta) (take_more es k x below ∙ ap (λ y. take k es ++ y ∷ []) (sym at))
-      ∙ fold-append (less_element d) delta (take k es) (x ∷ []))
+  pub removed_next : (edits : List ElementEdit) (es : List Element) (k : ℕ) (x : Element) → k < length es → x ≡ get_or es k x
+      → less_element d (less_elements d edits (take k es)) x ≡ less_elements d edits (take (k + 1) es)
+  removed_next edits es k x below at =
+      sym (ap (less_elements d edits) (take_more es k x below ∙ ap (λ y. take k es ++ y ∷ []) (sym at))
+      ∙ fold-append (less_element d) edits (take k es) (x ∷ []))
 
   -- no deletions remove nothing
-  pub removed_none : d.dels.now ≡ [] → (delta : ZoneDelta) (es : List Element) → delta ≡ less_elements d delta es
-  removed_none no_dels delta [] = refl
-  removed_none no_dels delta (e ∷ es) =
-      sym (stays (is_cut d e.fmid) uncut) ∙ removed_none no_dels (less_element d delta e) es
+  pub removed_none : d.dels.now ≡ [] → (edits : List ElementEdit) (es : List Element) → edits ≡ less_elements d edits es
+  removed_none no_dels edits [] = refl
+  removed_none no_dels edits (e ∷ es) =
+      sym (stays (is_cut d e.fmid) uncut) ∙ removed_none no_dels (less_element d edits e) es
     where
       uncut : is_cut d e.fmid ≡ false
       uncut = ap (λ ds. is_deleted d.vers.now.global.now (choice_of d) ds e.fmid) no_dels
           ∙ is_deleted-none d.vers.now.global.now (choice_of d) e.fmid
 
-      stays : (b : Bool) → b ≡ false → (if b then record delta {
-        elements = with_item element_cmp put_key delta.elements (Remove (element_key e));
-      } else delta) ≡ delta
+      stays : (b : Bool) → b ≡ false → (if b then with_item element_cmp put_key edits (Remove (element_key e)) else edits) ≡ edits
       stays true is = absurd (true≢false is)
       stays false is = refl
 
-  removed_are : (delta : ZoneDelta) (es : List Element)
-      → (less_elements d delta es).elements ≡ all_removed delta.elements es
+  removed_are : (edits : List ElementEdit) (es : List Element)
+      → less_elements d edits es ≡ all_removed edits es
   unfolding removal cut
-  removed_are delta [] = refl
-  removed_are delta (e ∷ es) = removed_are (less_element d delta e) es ∙ by (is_cut d e.fmid) refl
+  removed_are edits [] = refl
+  removed_are edits (e ∷ es) = removed_are (less_element d edits e) es ∙ by (is_cut d e.fmid) refl
     where
       by : (b : Bool) → is_cut d e.fmid ≡ b
-          → all_removed (less_element d delta e).elements es ≡ all_removed delta.elements (e ∷ es)
+          → all_removed (less_element d edits e) es ≡ all_removed edits (e ∷ es)
       by true at = rw at refl
       by false at = rw at refl
 
@@ -140,8 +126,8 @@ module _ (d : Deleting) where
         sym m.3 ∙ ap removal (only_one e m.0 at m.1 (ap at_key m.3 ∙ hit)))
         (inr (in_map removal (filter cut elements) e (in_filter cut elements e gives.1 gone)))
 
-    pub removed_at : (start : ZoneDelta) → start.elements ≡ []
-        → after_edits element_eq element_key (less_elements d start elements).elements elements key
+    pub removed_at : (start : List ElementEdit) → start ≡ []
+        → after_edits element_eq element_key (less_elements d start elements) elements key
         ≡ element_of (left d) type name
     unfolding removal
     removed_at start empty =

@@ -14,6 +14,7 @@ use Rattle.tables.specs.Edits.{edit_key, edit_put, after_edits}
 use Rattle.change.specs.declared.deleting.Deleting.{Deleting}
 use Rattle.change.specs.declared.plan.Plan.{Plan}
 use Rattle.change.specs.Deleting.{left, delby_left}
+use Rattle.change.specs.Differing.{EntryEdit, ChangesEntry, AddsEntryEdit}
 use Rattle.change.specs.Pairs.{others_of}
 
 -- whether nothing supplies it after the install
@@ -26,12 +27,6 @@ bare_entry x = record { id = x; applied = None; supby = []; delby = None; waived
 -- the entry as it is, which may have nothing
 abbrev pub old_entry : Zone → Id → Entry
 old_entry zone x = unwrap_or (entry_of zone x) (bare_entry x)
-
-abbrev pub with_entry : ZoneDelta → Entry → ZoneDelta
-with_entry d e = record d { entries = with_item (slice_cmp nat_cmp) (edit_key (λ e. e.id)) d.entries (Put e) }
-
-abbrev pub without_entry : ZoneDelta → Id → ZoneDelta
-without_entry d x = record d { entries = with_item (slice_cmp nat_cmp) (edit_key (λ e. e.id)) d.entries (Remove x) }
 
 -- the bypassed requisites that nothing supplies
 pub record IsWaived (d : Deleting) (p : Plan) (x : Id) (waived : List Id) : Type 0 where
@@ -61,21 +56,17 @@ pub record IsMadeEntry (d : Deleting) (p : Plan) (x : Id) (e : Entry) : Type 0 w
   pub supby : IsRising e.supby
   pub waived : IsRising e.waived
 
--- The entry is put, unless the zone has this very one, and goes if nothing holds it.
+-- the entry is put, or goes if nothing holds it
+abbrev pub held_edit : Id → Entry → EntryEdit
+held_edit x e = if is_held e then Put e else Remove x
+
+-- so, if that changes something
 abbrev pub PutsEntry : Deleting → Plan → Id → ZoneDelta → ZoneDelta → Type 0
-PutsEntry d p x old new =
-    (e : Entry) × IsMadeEntry d p x e
-    × (((new ≡ without_entry old x) × IsFalse (is_held e))
-    ⊎ ((new ≡ old) × IsTrue (is_held e) × (entry_of d.zone.now x ≡ Some e))
-    ⊎ ((new ≡ with_entry old e) × IsTrue (is_held e) × (entry_of d.zone.now x ≢ Some e)))
+PutsEntry d p x old new = (e : Entry) × IsMadeEntry d p x e × AddsEntryEdit d.zone.now (held_edit x e) old new
 
 -- what stands at an id after the edits
 abbrev pub entry_after : ZoneDelta → Zone → Id → Option Entry
 entry_after delta zone x = after_edits bytes_eq (λ e. e.id) delta.entries zone.entries x
-
--- what is put is not what the zone has
-abbrev pub Differs : Zone → Edit Entry Id → Type 0
-Differs zone d = IfSome (edit_put d) (λ e. entry_of zone e.id ≢ Some e)
 
 -- the entry, if something holds it
 abbrev pub if_held : Entry → Option Entry
@@ -87,4 +78,4 @@ pub record HasPutEntries (d : Deleting) (p : Plan) (done : List Id) (old new : Z
   pub put : (x : Id) → Contains done x
       → (e : Entry) × (entry_after new d.zone.now x ≡ if_held e) × IsMadeEntry d p x e
   pub others : (x : Id) → (¬ Contains done x) → entry_after new d.zone.now x ≡ entry_of d.zone.now x
-  pub differ : All (Differs d.zone.now) new.entries
+  pub differ : All (ChangesEntry d.zone.now) new.entries

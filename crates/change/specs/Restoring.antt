@@ -21,13 +21,6 @@ pub record IsRestoringOf (r : Restoring) (g : Global) (zone accepted : Zone) : T
   pub zone_is : r.zone ≡ zone
   pub accepted_is : r.accepted ≡ accepted
 
--- an edit that changes an entry or an element of the zone
-abbrev pub ChangesEntry : Zone → Edit Entry Id → Type 0
-ChangesEntry zone d = edit_put d ≢ entry_of zone (edit_key (λ e. e.id) d)
-
-abbrev pub ChangesElement : Zone → Edit Element (ElemType × Text) → Type 0
-ChangesElement zone d = edit_put d ≢ element_of zone (edit_key element_key d).0 (edit_key element_key d).1
-
 -- whether the entry loses its date or some of its SUPBY when these are gone
 abbrev pub loses : (Id → Bool) → Entry → Bool
 loses is_gone e = (is_gone e.id && is_some e.applied) || list_any is_gone e.supby

@@ -8,6 +8,7 @@ ghost use Rattle.change.specs.Entries.{is_open, old_entry, IsWaived, IsAppliedEn
 ghost use Rattle.change.specs.Entries.{IsMadeEntry, PutsEntry, HasPutEntries};
 
 use crate::deleting::{Deleting, left_entry};
+use crate::differing::{put_entry, remove_entry};
 use crate::pairs::{Group, others};
 use crate::plan::Plan;
 use fields::{Id, IdList};
@@ -26,13 +27,13 @@ pub(crate) fn put_entries(
     ensures { OnOk result (HasPutEntries deleting.now plan.now plan.now.touched delta.old delta.new) }
 {
     for id in plan.touched.as_slice() {
-        put_entry(alloc, deleting, plan, *id, delta)?;
+        put_one(alloc, deleting, plan, *id, delta)?;
     }
     Ok(())
 }
 
 // An entry that stays as it is is not put, and one that nothing holds goes.
-fn put_entry(
+fn put_one(
     alloc: Heap,
     deleting: &Deleting,
     plan: &Plan,
@@ -44,12 +45,9 @@ fn put_entry(
 {
     let entry = made_entry(alloc, deleting, plan, id)?;
     if !entry.is_held() {
-        return delta.remove_entry(id);
+        return remove_entry(deleting.zone, id, delta);
     }
-    if stands(deleting.zone, &entry) {
-        return Ok(());
-    }
-    delta.put_entry(entry)
+    put_entry(deleting.zone, entry, delta)
 }
 
 fn made_entry(alloc: Heap, deleting: &Deleting, plan: &Plan, id: Id) -> Result<Entry, AllocError>
@@ -153,40 +151,4 @@ fn joined(alloc: Heap, ids: &[Id], more: &[Id]) -> Result<IdList, AllocError>
     let rising = IdList::from_vec(all);
     let _ = rising.as_slice();
     Ok(rising)
-}
-
-// Whether the zone has this very entry.
-fn stands(zone: &Zone, entry: &Entry) -> bool
-    ensures { IsTrue result ↔ (entry_of zone.now entry.now.id ≡ Some entry.now) }
-{
-    match zone.entry(entry.id) {
-        Some(old) => is_same(old, entry),
-        None => false,
-    }
-}
-
-fn is_same(a: &Entry, b: &Entry) -> bool
-    ensures { IsTrue result ↔ (a.now ≡ b.now) }
-{
-    has_same_state(a, b) && has_same_lists(a, b)
-}
-
-fn has_same_state(a: &Entry, b: &Entry) -> bool
-    ensures { IsTrue result
-        ↔ (a.now.id ≡ b.now.id) × (a.now.applied ≡ b.now.applied) × (a.now.delby ≡ b.now.delby) }
-{
-    a.id == b.id && a.applied == b.applied && a.delby == b.delby
-}
-
-fn has_same_lists(a: &Entry, b: &Entry) -> bool
-    ensures { IsTrue result ↔ (a.now.supby ≡ b.now.supby) × (a.now.waived ≡ b.now.waived) }
-{
-    same_ids(&a.supby, &b.supby) && same_ids(&a.waived, &b.waived)
-}
-
-/// Whether the two have the same ids.
-pub(crate) fn same_ids(a: &IdList, b: &IdList) -> bool
-    ensures { IsTrue result ↔ (a.now ≡ b.now) }
-{
-    a.as_slice() == b.as_slice()
 }

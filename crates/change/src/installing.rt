@@ -7,18 +7,19 @@ ghost use Rattle.terms.specs.Tests.{ShareElement};
 ghost use Rattle.zones.specs.Delta.{IsChanged};
 ghost use Rattle.terms.specs.Install.{HasInstalled};
 ghost use Rattle.change.specs.Elements.{HasBases};
-ghost use Rattle.change.specs.Entries.{Differs};
+ghost use Rattle.change.specs.Differing.{EachChanges};
 ghost use Rattle.change.specs.Plans.{installation, IsFresh};
 ghost use Rattle.change.specs.Puts.{with_elements, less_element, less_elements};
 
 use crate::deleting::Deleting;
+use crate::differing::{ElementEdit, edit_elements};
 use crate::elements::elements_after;
 use crate::entries::put_entries;
 use crate::plan::planned;
 use fields::{Id, IdList, YyDdd};
 use std::alloc::{AllocError, Global as Heap};
 use sysmods::VerChoice;
-use zones::{Element, Zone, ZoneDelta};
+use zones::{Edit, Element, Table, Zone, ZoneDelta};
 use zones_less::deletions;
 
 /// What the kept SYSMODs put into the zone and take out of it on this date, by the `++VER`s that count. Over orders
@@ -45,7 +46,7 @@ pub fn install(
           bypassed = bypassed.now;
           date = date;
         }) new) }
-    ensures differs { IfOk result (λ delta. All (Differs zone.now) delta.entries) }
+    ensures differs { IfOk result (EachChanges zone.now) }
 {
     prove!(vers.global().len() < 65_536);
     zone.known();
@@ -60,7 +61,8 @@ pub fn install(
     };
     let mut delta = ZoneDelta::new(alloc);
     put_entries(alloc, &deleting, &plan, &mut delta)?;
-    remove_elements(&deleting, &mut delta)?;
+    let mut edits = Table::new(alloc);
+    remove_elements(&deleting, &mut edits)?;
     let elements = elements_after(
         alloc,
         vers,
@@ -68,29 +70,30 @@ pub fn install(
         dels.as_slice(),
         plan.effective.as_slice(),
     )?;
-    put_elements(elements, &mut delta)?;
+    put_elements(elements, &mut edits)?;
+    edit_elements(zone, edits.into_vec(), &mut delta)?;
     Ok(delta)
 }
 
 /// Removes the elements whose owner's chain the deletions meet. Mostly nothing is deleted.
-fn remove_elements(deleting: &Deleting, delta: &mut ZoneDelta) -> Result<(), AllocError>
-    ensures { OnOk result (delta.new ≡ less_elements deleting.now delta.old deleting.now.zone.now.elements) }
+fn remove_elements(deleting: &Deleting, edits: &mut Table<ElementEdit>) -> Result<(), AllocError>
+    ensures { OnOk result (edits.new ≡ less_elements deleting.now edits.old deleting.now.zone.now.elements) }
 {
     if deleting.dels.is_empty() {
         return Ok(());
     }
-    remove_among(deleting, deleting.zone.elements(), delta)
+    remove_among(deleting, deleting.zone.elements(), edits)
 }
 
 fn remove_among(
     deleting: &Deleting,
     elements: &[Element],
-    delta: &mut ZoneDelta,
+    edits: &mut Table<ElementEdit>,
 ) -> Result<(), AllocError>
-    ensures { OnOk result (delta.new ≡ less_elements deleting.now delta.old elements.now) }
+    ensures { OnOk result (edits.new ≡ less_elements deleting.now edits.old elements.now) }
 {
     for element in elements {
-        remove_if_deleted(deleting, element, delta)?;
+        remove_if_deleted(deleting, element, edits)?;
     }
     Ok(())
 }
@@ -98,22 +101,22 @@ fn remove_among(
 fn remove_if_deleted(
     deleting: &Deleting,
     element: &Element,
-    delta: &mut ZoneDelta,
+    edits: &mut Table<ElementEdit>,
 ) -> Result<(), AllocError>
-    ensures { OnOk result (delta.new ≡ less_element deleting.now delta.old element.now) }
+    ensures { OnOk result (edits.new ≡ less_element deleting.now edits.old element.now) }
 {
     if deleting.deletes(element.fmid) {
-        return delta.remove_element(element.elem_type, element.name);
+        return edits.put(Edit::Remove((element.elem_type, element.name)));
     }
     Ok(())
 }
 
 /// Puts these elements.
-fn put_elements(elements: Vec<Element>, delta: &mut ZoneDelta) -> Result<(), AllocError>
-    ensures { OnOk result (delta.new ≡ with_elements delta.old elements.items) }
+fn put_elements(elements: Vec<Element>, edits: &mut Table<ElementEdit>) -> Result<(), AllocError>
+    ensures { OnOk result (edits.new ≡ with_elements edits.old elements.items) }
 {
     for element in elements {
-        delta.put_element(element)?;
+        edits.put(Edit::Put(element))?;
     }
     Ok(())
 }

@@ -9,9 +9,11 @@
 #![tactic(auto)]
 
 mod deleting;
+mod differing;
 mod effective;
 mod elements;
 mod entries;
+mod equal;
 mod folding;
 mod grouping;
 mod installing;

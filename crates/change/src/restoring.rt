@@ -5,7 +5,8 @@ ghost use Rattle.terms.specs.Types.{Zone as AZone};
 ghost use Rattle.terms.specs.Lookups.{is_in, waives_applied};
 ghost use Rattle.terms.specs.Restore.{Restoring, Restores};
 ghost use Rattle.zones.specs.Delta.{IsChanged};
-ghost use Rattle.change.specs.Restoring.{IsRestoringOf, ChangesEntry, ChangesElement, loses, take_off};
+ghost use Rattle.change.specs.Differing.{EachChanges};
+ghost use Rattle.change.specs.Restoring.{IsRestoringOf, loses, take_off};
 
 use crate::reverting::{changed_elements, put_back};
 use fields::{Id, IdList};
@@ -25,8 +26,7 @@ pub fn restore(
 ) -> Result<ZoneDelta, AllocError>
     ensures restores { IfOk result (λ delta. (r : Restoring) → IsRestoringOf r global.now zone.now accepted.now
         → (new : AZone) → IsChanged delta zone.now new → Restores r kept.now new) }
-    ensures entries { IfOk result (λ delta. All (ChangesEntry zone.now) delta.entries) }
-    ensures elements { IfOk result (λ delta. All (ChangesElement zone.now) delta.elements) }
+    ensures differs { IfOk result (EachChanges zone.now) }
 {
     zone.known();
     let mut delta = ZoneDelta::new(alloc);

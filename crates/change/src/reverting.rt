@@ -5,7 +5,7 @@ ghost use Rattle.terms.specs.Lookups.{element_key, element_of};
 ghost use Rattle.change.specs.Restoring.{all_changed, changed_keys, EditsElement, PutsBack};
 ghost use Rattle.change.specs.Restoring.{ArePutBack};
 
-use crate::entries::same_ids;
+use crate::equal::is_same_element;
 use fields::{Id, Name};
 use std::alloc::{AllocError, Global as Heap};
 use sysmods::Global;
@@ -137,36 +137,12 @@ fn is_there(a: Option<&Element>, b: Option<&Element>) -> bool
     }
 }
 
-fn is_element(a: &Element, b: Option<&Element>) -> bool
+/// Whether the element is there, and is the same.
+pub(crate) fn is_element(a: &Element, b: Option<&Element>) -> bool
     ensures { IsTrue result ↔ (Some a.now ≡ option_copied b.entry) }
 {
     match b {
-        Some(element) => is_same(a, element),
+        Some(element) => is_same_element(a, element),
         None => false,
     }
-}
-
-fn is_same(a: &Element, b: &Element) -> bool
-    ensures { IsTrue result ↔ (a.now ≡ b.now) }
-{
-    has_same_names(a, b) && has_same_owner(a, b) && has_same_text(a, b)
-}
-
-fn has_same_names(a: &Element, b: &Element) -> bool
-    ensures { IsTrue result ↔ (a.now.elem_type ≡ b.now.elem_type) × (a.now.name ≡ b.now.name)
-        × (a.now.distlib ≡ b.now.distlib) × (a.now.syslib ≡ b.now.syslib) }
-{
-    a.elem_type == b.elem_type && a.name == b.name && a.distlib == b.distlib && a.syslib == b.syslib
-}
-
-fn has_same_owner(a: &Element, b: &Element) -> bool
-    ensures { IsTrue result ↔ (a.now.fmid ≡ b.now.fmid) × (a.now.rmid ≡ b.now.rmid) × (a.now.umids ≡ b.now.umids) }
-{
-    a.fmid == b.fmid && a.rmid == b.rmid && same_ids(&a.umids, &b.umids)
-}
-
-fn has_same_text(a: &Element, b: &Element) -> bool
-    ensures { IsTrue result ↔ (a.now.text ≡ b.now.text) }
-{
-    a.text.as_slice() == b.text.as_slice()
 }

@@ -10,7 +10,7 @@ loop-id-init c = put-none c.args.deleting.now c.args.plan.now c.args.delta.now c
 pub loop-id-preserved : goal.loop-id-preserved
 loop-id-preserved c =
     put-next c.args.deleting.now c.args.plan.now c.as_slice-id-items.result.now c.loop-id.id-index c.id-item.result
-    c.args.delta.now c.loop-id.delta c.put_entry.new.delta (omega arith) c.id-item.is c.in_ok-put_entry.ensures
+    c.args.delta.now c.loop-id.delta c.put_one.new.delta (omega arith) c.id-item.is c.in_ok-put_one.ensures
     c.loop-id.invariant
 
 pub returns : goal.returns

@@ -7,12 +7,10 @@ use Rattle.terms.specs.Deleted.{deletions, zone_less}
 use Rattle.zones.specs.Delta.{IsChanged}
 use Rattle.terms.specs.Install.{Installation, HasInstalled}
 use Rattle.change.specs.declared.deleting.Deleting.{Deleting}
-use Rattle.change.specs.Entries.{Differs}
+use Rattle.change.specs.Differing.{ChangesEntry, HasEditedElements}
 use Rattle.change.specs.Plans.{installation, IsFresh, IsPlan}
-use Rattle.change.proofs.AfterElements.{put_entries_stay}
 use Rattle.change.proofs.AfterInstall.{installs}
 use Rattle.change.proofs.EffectiveIds.{members_are, effective_ordered, effective_base}
-use Rattle.change.proofs.Removed.{removed_stay}
 use Rattle.change.proofs.installing.install.Goals as goal
 
 pub put_entries-requires-clause-dels : goal.put_entries-requires-clause-dels
@@ -64,34 +62,29 @@ returns-clause-installs c =
     subst (λ ids. IsPlan (i ids) d.dels.now plan) (sym c.as_slice-3.ensures.items)
     (subst (λ ds. IsPlan (i c.args.kept.now) ds plan) (c.as_slice-2.ensures.value ∙ sym c.as_slice-4.ensures.value)
     c.in_ok-plan.ensures) in
-    subst (λ ids. (new : Zone) → IsChanged c.put_elements.new.delta zone new → HasInstalled (i ids) new)
+    subst (λ ids. (new : Zone) → IsChanged c.edit_elements.new.delta zone new → HasInstalled (i ids) new)
     c.as_slice-3.ensures.items
     (installs d c.args.bypassed.now c.args.date (rw c.global.ensures at c.len.ensures.form) c.known.ensures
     c.known_lists.ensures
     (c.as_slice-4.ensures.value ∙ dels)
     (subst (All (IsFresh zone)) (sym c.as_slice-3.ensures.items) c.requires.fresh)
-    plan c.new-delta.result c.put_entries.new.delta c.remove_elements.new.delta c.put_elements.new.delta
-    c.in_ok-elements.elements.items planned c.new-delta.ensures.elements c.in_ok-put_entries.ensures
-    c.in_ok-remove_elements.ensures
+    plan c.new-delta.result c.put_entries.new.delta c.edit_elements.new.delta c.new-edits.result
+    c.remove_elements.new.edits c.put_elements.new.edits c.in_ok-elements.elements.items planned c.new-edits.ensures
+    c.in_ok-put_entries.ensures c.in_ok-remove_elements.ensures
     (c.in_ok-elements.ensures (i d.kept.now) (record {
       global = refl;
       choice = refl;
       cleared_is = ap (λ ds. zone_less g by ds zone) (sym (c.as_slice-5.ensures.value ∙ dels));
       members = members_are (i d.kept.now) d.dels.now plan c.as_slice-6.result.now planned c.as_slice-6.ensures.items;
     }))
-    c.in_ok-put_elements.ensures)
+    c.in_ok-put_elements.ensures
+    (subst (λ es. HasEditedElements zone es c.put_entries.new.delta c.edit_elements.new.delta)
+    c.into_vec.ensures.items c.in_ok-edit_elements.ensures))
 
 pub returns-clause-differs : goal.returns-clause-differs
 returns-clause-differs c =
-    let d : Deleting = record {
-      vers = c.args.vers;
-      zone = c.args.zone;
-      kept = c.as_slice-3.result;
-      dels = c.as_slice-4.result;
-    } in
-    subst (All (Differs c.args.zone.now))
-    (sym (ap (λ d. d.entries) c.in_ok-put_elements.ensures
-    ∙ put_entries_stay c.remove_elements.new.delta c.in_ok-elements.elements.items
-    ∙ ap (λ d. d.entries) c.in_ok-remove_elements.ensures
-    ∙ removed_stay d c.put_entries.new.delta c.args.zone.now.elements))
-    c.in_ok-put_entries.ensures.differ
+    let done = c.in_ok-edit_elements.ensures in
+    record {
+      entries = subst (All (ChangesEntry c.args.zone.now)) (sym done.entries) c.in_ok-put_entries.ensures.differ;
+      elements = done.differ;
+    }

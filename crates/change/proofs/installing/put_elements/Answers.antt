@@ -12,8 +12,8 @@ loop-element-preserved c =
     let steps : into_iter_items at.element-iterator ≡ x ∷ into_iter_items c.next.new.self = c.in-Some.ensures.steps.0 in
     record {
       all = append_assoc at.yielded (x ∷ []) _ ∙ rw (← steps) at.invariant.all;
-      put = c.in_ok-put_element.ensures.ok ∙ ap (λ d. with_element d x) at.invariant.put
-          ∙ sym (fold-append with_element c.args.delta.now at.yielded (x ∷ []));
+      put = c.in_ok-put.ensures.ok ∙ ap (λ d. with_element d x) at.invariant.put
+          ∙ sym (fold-append with_element c.args.edits.now at.yielded (x ∷ []));
       count = let was = at.invariant.count in
           let gone = c.in-Some.ensures.steps.1 in
           let short = ap length steps in
@@ -27,4 +27,4 @@ returns c =
     (sym at.invariant.count ∙ c.in-None.ensures.steps.0) in
     let all = sym (append-nil at.yielded) ∙ rw empty at at.invariant.all
     ∙ c.into_iter-element-iterator.ensures.into_iter_gives.0 in
-    at.invariant.put ∙ ap (with_elements c.args.delta.now) all
+    at.invariant.put ∙ ap (with_elements c.args.edits.now) all

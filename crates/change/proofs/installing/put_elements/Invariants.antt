@@ -7,6 +7,6 @@ use Rattle.change.proofs.installing.put_elements.Given as goal
 abbrev pub invariant-loop-element : goal.invariant-loop-element
 invariant-loop-element l = record {
   all : l.yielded ++ into_iter_items l.element-iterator ≡ into_iter_items l.initial.element-iterator;
-  put : l.delta ≡ with_elements l.initial.delta l.yielded;
+  put : l.edits ≡ with_elements l.initial.edits l.yielded;
   count : into_iter_len l.element-iterator ≡ length (into_iter_items l.element-iterator);
 }

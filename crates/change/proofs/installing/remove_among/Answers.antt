@@ -9,5 +9,5 @@ loop-element-preserved c =
     let at = c.loop-element in
     c.in_ok-remove_if_deleted.ensures
     ∙ ap (λ v. less_element d v c.element-item.result) at.invariant
-    ∙ removed_next d c.args.delta.now c.args.elements.now at.element-index c.element-item.result (omega arith)
+    ∙ removed_next d c.args.edits.now c.args.elements.now at.element-index c.element-item.result (omega arith)
     c.element-item.is

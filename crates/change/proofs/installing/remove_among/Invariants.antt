@@ -4,4 +4,4 @@ use Rattle.change.proofs.installing.remove_among.Given as goal
 
 -- the elements so far are removed as far as they are deleted
 abbrev pub invariant-loop-element : goal.invariant-loop-element
-invariant-loop-element l = l.delta ≡ less_elements l.deleting l.initial.delta (take l.element-index l.elements)
+invariant-loop-element l = l.edits ≡ less_elements l.deleting l.initial.edits (take l.element-index l.elements)

@@ -6,5 +6,5 @@ use Rattle.change.proofs.installing.remove_elements.Goals as goal
 
 pub returns-then-is_empty : goal.returns-then-is_empty
 returns-then-is_empty c =
-    removed_none c.args.deleting.now (nil_from_length _ (eqb-true _ _ (sym c.if-is_empty.ensures))) c.args.delta.now
+    removed_none c.args.deleting.now (nil_from_length _ (eqb-true _ _ (sym c.if-is_empty.ensures))) c.args.edits.now
     c.args.deleting.now.zone.now.elements

@@ -2,7 +2,7 @@ use Rattle.std.proofs.Common.{◌∙◌, IsPermutation, IsTrue, All, ap, sym, su
 use Rattle.std.specs.Prelude.{fold}
 use Rattle.terms.specs.Lookups.{is_in, waives_applied}
 use Rattle.change.specs.Restoring.{all_changed, take_off, ArePutBack}
-use Rattle.change.proofs.AfterRestore.{elements_none, entries_differ, restored}
+use Rattle.change.proofs.AfterRestore.{elements_none, each_changes, restored}
 use Rattle.change.proofs.restoring.restore.Goals as goal
 
 pub take_off-requires : goal.take_off-requires
@@ -26,9 +26,9 @@ returns-clause-restores c =
     (subst (λ keys. ArePutBack c.args.zone.now c.args.accepted.now keys c.take_off.new.delta c.put_back.new.delta)
     c.as_slice-2.ensures.value c.in_ok-put_back.ensures)
 
-pub returns-clause-entries : goal.returns-clause-entries
-returns-clause-entries c =
-    entries_differ c.args.global.now c.args.zone.now c.args.accepted.now c.args.kept.now c.known.ensures
+pub returns-clause-differs : goal.returns-clause-differs
+returns-clause-differs c =
+    each_changes c.args.global.now c.args.zone.now c.args.accepted.now c.args.kept.now c.known.ensures
     c.new-delta.result
     c.take_off.new.delta c.put_back.new.delta c.new-delta.ensures.entries
     (c.in_ok-take_off.ensures

@@ -1,6 +1,6 @@
 use Rattle.std.proofs.Common.{◌∙◌, sym}
 use Rattle.std.proofs.lemmas.Slice.Eq.{slice_eq-Decides, bytes_eq-Decides}
-use Rattle.change.proofs.entries.same_ids.Goals as goal
+use Rattle.change.proofs.equal.same_ids.Goals as goal
 
 pub returns : goal.returns
 returns c =

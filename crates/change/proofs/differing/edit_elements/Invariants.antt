@@ -1,0 +1,13 @@
+use Rattle.std.proofs.Common.{◌≡◌, ◌++◌, length}
+use Rattle.std.specs.Vec.Iter.{into_iter_items, into_iter_len}
+use Rattle.change.proofs.ElementEdits.{AreDone}
+use Rattle.change.proofs.differing.edit_elements.Given as goal
+
+-- the edits so far are done
+abbrev pub invariant-loop-edit : goal.invariant-loop-edit
+invariant-loop-edit l = record {
+  all : l.yielded ++ into_iter_items l.edit-iterator ≡ into_iter_items l.initial.edit-iterator;
+  entries : l.delta.entries ≡ l.initial.delta.entries;
+  done : AreDone l.zone (into_iter_items l.initial.edit-iterator) l.yielded l.delta.elements;
+  count : into_iter_len l.edit-iterator ≡ length (into_iter_items l.edit-iterator);
+}
