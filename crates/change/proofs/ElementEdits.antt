@@ -1,5 +1,5 @@
 -- Of edits of elements that rise by their keys, those that change something leave at each key what all of them leave.
-use Rattle.std.proofs.Common.{◌≡◌, inl, inr, Bool, true, false, List, [], ◌∷◌, ◌++◌, Option, None, refl, sym, ap, ◌∙◌}
+use Rattle.std.proofs.Common.{◌≡◌, inl, inr, Bool, true, false, List, [], ◌∷◌, ◌++◌, refl, sym, ap, ◌∙◌}
 use Rattle.std.proofs.Common.{subst, map}
 use Rattle.std.specs.Prelude.{Contains, find, if◌then◌else◌}
 use Rattle.std.specs.List.{list_any}
@@ -10,7 +10,7 @@ use Rattle.std.proofs.lemmas.List.{map-append}
 use Rattle.lemmas.proofs.Options.{None-from_is_some}
 use Rattle.lemmas.proofs.Searches.{list_any-map}
 use Rattle.tables.specs.Edits.{edit_key, edit_put}
-use Rattle.terms.specs.Types.{Element, Zone}
+use Rattle.terms.specs.Types.{Zone}
 use Rattle.terms.specs.Lookups.{element_cmp, element_eq, element_key, element_of}
 use Rattle.terms.specs.Rising.{Rises}
 use Rattle.terms.proofs.ElementOrder.{element_cmp_total, element_ties}

@@ -64,11 +64,7 @@ pub(crate) fn edit_elements(
     Ok(())
 }
 
-fn edit_element(
-    zone: &Zone,
-    edit: ElementEdit,
-    delta: &mut ZoneDelta,
-) -> Result<(), AllocError>
+fn edit_element(zone: &Zone, edit: ElementEdit, delta: &mut ZoneDelta) -> Result<(), AllocError>
     ensures { OnOk result (AddsElementEdit zone.now edit delta.old delta.new) }
 {
     match edit {
