@@ -33,7 +33,8 @@ module _ (zone : Zone) (all : List ElementEdit) where
 
   pub done-none : (edits : List ElementEdit) → edits ≡ [] → AreDone [] edits
   done-none edits empty = subst (AreDone []) (sym empty)
-      (turned-none element_cmp_total element_key element_eq element_ties same_key zone.elements (element_after all zone))
+      (turned-none element_cmp_total element_key element_eq element_ties same_key zone.elements
+      (element_after all zone))
 
   module _ (rises : Rises element_cmp put_key all) where
     left_is : (d : ElementEdit) → Contains all d → element_after all zone (put_key d) ≡ edit_put d
@@ -58,7 +59,8 @@ module _ (zone : Zone) (all : List ElementEdit) where
     pub done-next : (done : List ElementEdit) (d : ElementEdit) (old new : ZoneDelta) → Contains all d
         → AreDone done old.elements → AddsElementEdit zone d old new → AreDone (done ++ d ∷ []) new.elements
     done-next done d old new there so_far adds =
-        subst (λ ks. AreTurned element_cmp element_eq element_key zone.elements (element_after all zone) ks new.elements)
+        subst
+        (λ ks. AreTurned element_cmp element_eq element_key zone.elements (element_after all zone) ks new.elements)
         (sym (map-append put_key done (d ∷ [])))
         (turned-next element_cmp_total element_key element_eq element_ties same_key zone.elements
         (element_after all zone) (map put_key done) (put_key d) old.elements new.elements so_far

@@ -1,5 +1,5 @@
 //! Elements that become those of another zone.
-ghost use Rattle.std.specs.Prelude.{◌≡◌, ◌↔◌, ◌++◌, [], IsPermutation, IsTrue, IfOk, IfSome, OnOk, Some, map, option_copied};
+ghost use Rattle.std.specs.Prelude.{◌≡◌, ◌++◌, [], IsPermutation, IfOk, IfSome, OnOk, map, option_copied};
 ghost use Rattle.terms.specs.Lookups.{element_key, element_of};
 ghost use Rattle.change.specs.Restoring.{all_changed, changed_keys, EditsElement, PutsBack};
 ghost use Rattle.change.specs.Restoring.{ArePutBack};

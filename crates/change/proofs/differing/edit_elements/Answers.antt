@@ -48,9 +48,9 @@ returns c =
     let at = c.loop-edit in
     let empty : into_iter_items at.edit-iterator ≡ [] = nil_from_length _
     (sym at.invariant.count ∙ c.in-None.ensures.steps.0) in
-    let yielded : at.yielded ≡ into_iter_items c.into_iter-edit-iterator.result = sym (append-nil at.yielded) ∙ rw empty at at.invariant.all in
+    let edits = into_iter_items c.into_iter-edit-iterator.result in
+    let yielded : at.yielded ≡ edits = sym (append-nil at.yielded) ∙ rw empty at at.invariant.all in
     subst (λ es. HasEditedElements c.args.zone.now es c.args.delta.now at.delta)
     c.into_iter-edit-iterator.ensures.into_iter_gives.0
-    (done-all c.args.zone.now (into_iter_items c.into_iter-edit-iterator.result) c.args.delta.now at.delta at.invariant.entries
-    (subst (λ es. AreDone c.args.zone.now (into_iter_items c.into_iter-edit-iterator.result) es at.delta.elements)
-    yielded at.invariant.done))
+    (done-all c.args.zone.now edits c.args.delta.now at.delta at.invariant.entries
+    (subst (λ es. AreDone c.args.zone.now edits es at.delta.elements) yielded at.invariant.done))
