@@ -86,7 +86,8 @@ module _ (i : Installation) (zone : Zone) (es : List Element) (after : AreElemen
           absurd (true≢false (sym changes.2
           ∙ ap (λ (k : Key). has_change i.global changes.0 k.0 k.1) key ∙ none changes.0 changes.1))
 
-  module _ (less : (type : ElemType) (name : Text) → element_after old zone (type, name) ≡ element_of (cleared i) type name)
+  module _ (less : (type : ElemType) (name : Text)
+      → element_after old zone (type, name) ≡ element_of (cleared i) type name)
       (new : Zone) (changed : (type : ElemType) (name : Text)
       → element_of new type name ≡ element_after (with_elements old es) zone (type, name)) where
     at_key : (type : ElemType) (name : Text)

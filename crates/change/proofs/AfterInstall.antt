@@ -1,5 +1,5 @@
 -- Whatever zone the edits make of the old one is the one that the install asks for.
-use Rattle.std.proofs.Common.{◌≡◌, ◌∙◌, List, [], refl, sym, ap, All}
+use Rattle.std.proofs.Common.{◌≡◌, ◌∙◌, List, [], sym, ap, All}
 use Rattle.std.specs.Prelude.{find}
 use Rattle.std.specs.Option.{option_map_or}
 use Rattle.std.specs.Str.{bytes_eq}

@@ -1,5 +1,5 @@
 -- Of edits of elements that rise by their keys, those that change something leave at each key what all of them leave.
-use Rattle.std.proofs.Common.{◌≡◌, inl, inr, Bool, true, false, List, [], ◌∷◌, ◌++◌, Option, None, refl, sym, ap, ◌∙◌}
+use Rattle.std.proofs.Common.{◌≡◌, inl, inr, Bool, true, false, List, [], ◌∷◌, ◌++◌, refl, sym, ap, ◌∙◌}
 use Rattle.std.proofs.Common.{subst, map}
 use Rattle.std.specs.Prelude.{Contains, find, if◌then◌else◌}
 use Rattle.std.specs.List.{list_any}
@@ -10,7 +10,7 @@ use Rattle.std.proofs.lemmas.List.{map-append}
 use Rattle.lemmas.proofs.Options.{None-from_is_some}
 use Rattle.lemmas.proofs.Searches.{list_any-map}
 use Rattle.tables.specs.Edits.{edit_key, edit_put}
-use Rattle.terms.specs.Types.{Element, Zone}
+use Rattle.terms.specs.Types.{Zone}
 use Rattle.terms.specs.Lookups.{element_cmp, element_eq, element_key, element_of}
 use Rattle.terms.specs.Rising.{Rises}
 use Rattle.terms.proofs.ElementOrder.{element_cmp_total, element_ties}
@@ -33,7 +33,8 @@ module _ (zone : Zone) (all : List ElementEdit) where
 
   pub done-none : (edits : List ElementEdit) → edits ≡ [] → AreDone [] edits
   done-none edits empty = subst (AreDone []) (sym empty)
-      (turned-none element_cmp_total element_key element_eq element_ties same_key zone.elements (element_after all zone))
+      (turned-none element_cmp_total element_key element_eq element_ties same_key zone.elements
+      (element_after all zone))
 
   module _ (rises : Rises element_cmp put_key all) where
     left_is : (d : ElementEdit) → Contains all d → element_after all zone (put_key d) ≡ edit_put d
@@ -58,7 +59,8 @@ module _ (zone : Zone) (all : List ElementEdit) where
     pub done-next : (done : List ElementEdit) (d : ElementEdit) (old new : ZoneDelta) → Contains all d
         → AreDone done old.elements → AddsElementEdit zone d old new → AreDone (done ++ d ∷ []) new.elements
     done-next done d old new there so_far adds =
-        subst (λ ks. AreTurned element_cmp element_eq element_key zone.elements (element_after all zone) ks new.elements)
+        subst
+        (λ ks. AreTurned element_cmp element_eq element_key zone.elements (element_after all zone) ks new.elements)
         (sym (map-append put_key done (d ∷ [])))
         (turned-next element_cmp_total element_key element_eq element_ties same_key zone.elements
         (element_after all zone) (map put_key done) (put_key d) old.elements new.elements so_far

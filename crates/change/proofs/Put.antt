@@ -1,7 +1,7 @@
 -- One entry after the other is put.
-use Rattle.std.proofs.Common.{◌≡◌, ◌≢◌, ◌⊎◌, inl, inr, Bool, true, false, ℕ, ◌+◌, ◌<◌, List, [], length, get_or}
-use Rattle.std.proofs.Common.{Some, None, refl, sym, ap, ◌∙◌, subst, cond, true≢false, take, All, IsTrue}
-use Rattle.std.specs.Prelude.{Contains, find, if◌then◌else◌, IsFalse}
+use Rattle.std.proofs.Common.{◌≡◌, ◌⊎◌, inl, inr, Bool, true, false, ℕ, ◌+◌, ◌<◌, List, [], length, get_or}
+use Rattle.std.proofs.Common.{Some, None, refl, sym, ap, ◌∙◌, subst, cond, true≢false, take, All}
+use Rattle.std.specs.Prelude.{Contains, find, if◌then◌else◌}
 use Rattle.std.specs.Option.{option_map_or}
 use Rattle.std.specs.Ordering.{nat_cmp}
 use Rattle.std.specs.Cmp.Lexicographic.{slice_cmp, texts_ties}
@@ -10,11 +10,9 @@ use Rattle.std.proofs.lemmas.Cmp.{nat_list_cmp_total}
 use Rattle.std.proofs.lemmas.List.Elements.{All-nil}
 use Rattle.lemmas.proofs.Members.{none_in}
 use Rattle.lemmas.proofs.Texts.{same_from, same_itself}
-use Rattle.tables.specs.declared.edits.Edit.{Edit}
 use Rattle.tables.specs.declared.edits.Edit.TheVariants.{Put, Remove}
 use Rattle.terms.specs.Types.{Id, Entry, Zone}
 use Rattle.terms.specs.Lookups.{is_held, entry_of}
-use Rattle.terms.specs.Rising.{with_item}
 use Rattle.zones.specs.Delta.{ZoneDelta}
 use Rattle.tables.specs.Edits.{edit_key, edit_put}
 use Rattle.terms.proofs.Placing.{All-with_item}

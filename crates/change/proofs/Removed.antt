@@ -43,7 +43,8 @@ module _ (d : Deleting) where
   all_removed old es = fold (with_item element_cmp put_key) old (removals es)
 
   -- one element more
-  pub removed_next : (edits : List ElementEdit) (es : List Element) (k : ℕ) (x : Element) → k < length es → x ≡ get_or es k x
+  pub removed_next : (edits : List ElementEdit) (es : List Element) (k : ℕ) (x : Element) → k < length es
+      → x ≡ get_or es k x
       → less_element d (less_elements d edits (take k es)) x ≡ less_elements d edits (take (k + 1) es)
   removed_next edits es k x below at =
       sym (ap (less_elements d edits) (take_more es k x below ∙ ap (λ y. take k es ++ y ∷ []) (sym at))
@@ -59,7 +60,8 @@ module _ (d : Deleting) where
       uncut = ap (λ ds. is_deleted d.vers.now.global.now (choice_of d) ds e.fmid) no_dels
           ∙ is_deleted-none d.vers.now.global.now (choice_of d) e.fmid
 
-      stays : (b : Bool) → b ≡ false → (if b then with_item element_cmp put_key edits (Remove (element_key e)) else edits) ≡ edits
+      stays : (b : Bool) → b ≡ false
+          → (if b then with_item element_cmp put_key edits (Remove (element_key e)) else edits) ≡ edits
       stays true is = absurd (true≢false is)
       stays false is = refl
 

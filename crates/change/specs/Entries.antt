@@ -1,16 +1,12 @@
 -- The entries that an install makes.
-use Rattle.std.specs.Prelude.{◌≡◌, ◌≢◌, ◌↔◌, ◌&&◌, ◌++◌, ◌⊎◌, Bool, not, List, [], Option, None, Some, Contains, All}
-use Rattle.std.specs.Prelude.{IsTrue, IsFalse, IfSome, unwrap_or, if◌then◌else◌}
-use Rattle.std.specs.Ordering.{nat_cmp}
-use Rattle.std.specs.Cmp.Lexicographic.{slice_cmp}
+use Rattle.std.specs.Prelude.{◌≡◌, ◌↔◌, ◌&&◌, ◌++◌, Bool, not, List, [], Option, None, Some, Contains, All}
+use Rattle.std.specs.Prelude.{IsTrue, IsFalse, unwrap_or, if◌then◌else◌}
 use Rattle.std.specs.Str.{bytes_eq}
-use Rattle.tables.specs.declared.edits.Edit.{Edit}
 use Rattle.tables.specs.declared.edits.Edit.TheVariants.{Put, Remove}
 use Rattle.terms.specs.Types.{Id, Entry, Zone}
 use Rattle.terms.specs.Lookups.{IsRising, is_in, is_nil, is_supplied, is_held, waives_applied, entry_of}
-use Rattle.terms.specs.Rising.{with_item}
 use Rattle.zones.specs.Delta.{ZoneDelta}
-use Rattle.tables.specs.Edits.{edit_key, edit_put, after_edits}
+use Rattle.tables.specs.Edits.{after_edits}
 use Rattle.change.specs.declared.deleting.Deleting.{Deleting}
 use Rattle.change.specs.declared.plan.Plan.{Plan}
 use Rattle.change.specs.Deleting.{left, delby_left}

@@ -1,5 +1,5 @@
 -- What RESTORE does to entries and elements.
-use Rattle.std.specs.Prelude.{◌≡◌, ◌≢◌, ◌&&◌, ◌||◌, Bool, List, Option, map, is_some, if◌then◌else◌}
+use Rattle.std.specs.Prelude.{◌≡◌, ◌&&◌, ◌||◌, Bool, List, Option, map, is_some, if◌then◌else◌}
 use Rattle.std.specs.List.{list_any, flat_map}
 use Rattle.std.specs.Ordering.{nat_cmp}
 use Rattle.std.specs.Cmp.Lexicographic.{slice_cmp}
@@ -8,7 +8,7 @@ use Rattle.tables.specs.declared.edits.Edit.TheVariants.{Put, Remove}
 use Rattle.tables.specs.Edits.{edit_key, edit_put}
 use Rattle.terms.specs.declared.kinds.ElemType.{ElemType}
 use Rattle.terms.specs.Types.{Text, Id, Global, Entry, Element, Zone}
-use Rattle.terms.specs.Lookups.{is_held, changes_of, entry_of, element_of, element_cmp, element_eq, element_key}
+use Rattle.terms.specs.Lookups.{is_held, changes_of, element_of, element_cmp, element_eq, element_key}
 use Rattle.terms.specs.Rising.{with_item}
 use Rattle.terms.specs.Deleted.{entry_less}
 use Rattle.terms.specs.Restore.{Restoring}

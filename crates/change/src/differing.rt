@@ -6,8 +6,7 @@ ghost use Rattle.tables.specs.Edits.{edit_key};
 ghost use Rattle.tables.specs.declared.edits.Edit.TheVariants.{Put, Remove};
 ghost use Rattle.change.specs.Differing.{AddsEntryEdit, AddsElementEdit, HasEditedElements};
 
-use crate::equal::is_same_entry;
-use crate::reverting::is_element;
+use crate::equal::{is_element, is_same_entry};
 use fields::{Id, Name};
 use std::alloc::AllocError;
 use terms::ElemType;
@@ -22,7 +21,7 @@ pub(crate) fn put_entry(zone: &Zone, entry: Entry, delta: &mut ZoneDelta) -> Res
     requires waived { IsTrue (waives_applied entry) }
     ensures { OnOk result (AddsEntryEdit zone.now (Put entry) delta.old delta.new) }
 {
-    if stands(zone, &entry) {
+    if has_entry(zone, &entry) {
         return Ok(());
     }
     delta.put_entry(entry)
@@ -39,7 +38,7 @@ pub(crate) fn remove_entry(zone: &Zone, id: Id, delta: &mut ZoneDelta) -> Result
 }
 
 // Whether the zone has this very entry.
-fn stands(zone: &Zone, entry: &Entry) -> bool
+fn has_entry(zone: &Zone, entry: &Entry) -> bool
     ensures { IsTrue result ↔ (entry_of zone.now entry.now.id ≡ Some entry.now) }
 {
     match zone.entry(entry.id) {
@@ -64,11 +63,7 @@ pub(crate) fn edit_elements(
     Ok(())
 }
 
-fn edit_element(
-    zone: &Zone,
-    edit: ElementEdit,
-    delta: &mut ZoneDelta,
-) -> Result<(), AllocError>
+fn edit_element(zone: &Zone, edit: ElementEdit, delta: &mut ZoneDelta) -> Result<(), AllocError>
     ensures { OnOk result (AddsElementEdit zone.now edit delta.old delta.new) }
 {
     match edit {

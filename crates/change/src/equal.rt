@@ -1,5 +1,5 @@
 //! Whether two entries or two elements are the same.
-ghost use Rattle.std.specs.Prelude.{◌≡◌, ◌↔◌, IsTrue};
+ghost use Rattle.std.specs.Prelude.{◌≡◌, ◌↔◌, IsTrue, Some, option_copied};
 
 use fields::IdList;
 use zones::{Element, Entry};
@@ -30,8 +30,27 @@ fn same_ids(a: &IdList, b: &IdList) -> bool
     a.as_slice() == b.as_slice()
 }
 
-/// Whether the two are one element.
-pub(crate) fn is_same_element(a: &Element, b: &Element) -> bool
+/// Whether the two are one element, or none.
+pub(crate) fn is_there(a: Option<&Element>, b: Option<&Element>) -> bool
+    ensures { IsTrue result ↔ (option_copied a.entry ≡ option_copied b.entry) }
+{
+    match a {
+        Some(element) => is_element(element, b),
+        None => b.is_none(),
+    }
+}
+
+/// Whether the element is there, and is the same.
+pub(crate) fn is_element(a: &Element, b: Option<&Element>) -> bool
+    ensures { IsTrue result ↔ (Some a.now ≡ option_copied b.entry) }
+{
+    match b {
+        Some(element) => is_same_element(a, element),
+        None => false,
+    }
+}
+
+fn is_same_element(a: &Element, b: &Element) -> bool
     ensures { IsTrue result ↔ (a.now ≡ b.now) }
 {
     has_same_names(a, b) && has_same_owner(a, b) && has_same_text(a, b)

@@ -3,9 +3,9 @@
 //! whatever zone comes of it: for SYSMODs that the zone neither supplies nor has deleted, where over orders those that
 //! change one element, and what they update is there. `taking_effect` tells those that become APPLIED from those that
 //! are SUPERSEDED. That of `restore` makes of a target zone the one that the definition of a restore asks for
-//! (`Restores`), whatever is kept, and each of its edits changes something. Seen in the code alone: an install is one
-//! pass over what is installed, and where something is deleted one over the zone's entries and elements; a restore is
-//! one pass over the entries, and one over what is changed.
+//! (`Restores`), whatever is kept. Each edit of both changes something. Seen in the code alone: an install is one pass
+//! over what is installed, and where something is deleted one over the zone's entries and elements; a restore is one
+//! pass over the entries, and one over what is changed.
 #![tactic(auto)]
 
 mod deleting;

@@ -1,11 +1,10 @@
 //! Elements that become those of another zone.
-ghost use Rattle.std.specs.Prelude.{◌≡◌, ◌↔◌, ◌++◌, [], IsPermutation, IsTrue, IfOk, IfSome, OnOk, Some, map};
-ghost use Rattle.std.specs.Prelude.{option_copied};
+ghost use Rattle.std.specs.Prelude.{◌≡◌, ◌++◌, [], IsPermutation, IfOk, IfSome, OnOk, map, option_copied};
 ghost use Rattle.terms.specs.Lookups.{element_key, element_of};
 ghost use Rattle.change.specs.Restoring.{all_changed, changed_keys, EditsElement, PutsBack};
 ghost use Rattle.change.specs.Restoring.{ArePutBack};
 
-use crate::equal::is_same_element;
+use crate::equal::is_there;
 use fields::{Id, Name};
 use std::alloc::{AllocError, Global as Heap};
 use sysmods::Global;
@@ -124,25 +123,5 @@ fn put_or_remove(
     match wanted {
         Some(element) => delta.put_element(element.try_clone(alloc)?),
         None => delta.remove_element(elem_type, name),
-    }
-}
-
-// Whether the two are one element, or none.
-fn is_there(a: Option<&Element>, b: Option<&Element>) -> bool
-    ensures { IsTrue result ↔ (option_copied a.entry ≡ option_copied b.entry) }
-{
-    match a {
-        Some(element) => is_element(element, b),
-        None => b.is_none(),
-    }
-}
-
-/// Whether the element is there, and is the same.
-pub(crate) fn is_element(a: &Element, b: Option<&Element>) -> bool
-    ensures { IsTrue result ↔ (Some a.now ≡ option_copied b.entry) }
-{
-    match b {
-        Some(element) => is_same_element(a, element),
-        None => false,
     }
 }

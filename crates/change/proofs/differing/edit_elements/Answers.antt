@@ -1,4 +1,4 @@
-use Rattle.std.proofs.Common.{◌≡◌, ◌∷◌, ◌++◌, [], length, refl, sym, ap, subst, ◌∙◌, append_assoc, append-nil, arith}
+use Rattle.std.proofs.Common.{◌≡◌, ◌∷◌, [], length, refl, sym, ap, subst, ◌∙◌, append_assoc, append-nil, arith}
 use Rattle.std.specs.Prelude.{Contains}
 use Rattle.std.specs.Vec.Iter.{into_iter_items}
 use Rattle.std.proofs.lemmas.List.{nil_from_length}
@@ -15,9 +15,9 @@ pub loop-edit-init : goal.loop-edit-init
 loop-edit-init c = record {
   all = refl;
   entries = refl;
-  done = done-none c.args.zone.now (into_iter_items c.loop-edit.initial.edit-iterator) c.args.delta.now.elements
+  done = done-none c.args.zone.now (into_iter_items c.into_iter-edit-iterator.result) c.args.delta.now.elements
       c.requires.empty;
-  count = arith;
+  count = search;
 }
 
 pub loop-edit-preserved : goal.loop-edit-preserved
@@ -25,13 +25,12 @@ loop-edit-preserved c =
     let at = c.loop-edit in
     let x = c.in-Some.edit in
     let steps : into_iter_items at.edit-iterator ≡ x ∷ into_iter_items c.next.new.self = c.in-Some.ensures.steps.0 in
-    let whole = at.yielded ++ into_iter_items at.edit-iterator in
     let all = at.invariant.all in
     record {
       all = append_assoc at.yielded (x ∷ []) _ ∙ rw (← steps) all;
       entries = entries_stay c.args.zone.now x at.delta c.edit_element.new.delta c.in_ok-edit_element.ensures
           ∙ at.invariant.entries;
-      done = done-next c.args.zone.now _
+      done = done-next c.args.zone.now (into_iter_items c.into_iter-edit-iterator.result)
           (subst (Rises element_cmp (edit_key element_key)) (sym c.into_iter-edit-iterator.ensures.into_iter_gives.0)
           c.requires.rising)
           at.yielded x at.delta c.edit_element.new.delta
@@ -49,8 +48,9 @@ returns c =
     let at = c.loop-edit in
     let empty : into_iter_items at.edit-iterator ≡ [] = nil_from_length _
     (sym at.invariant.count ∙ c.in-None.ensures.steps.0) in
-    let yielded = sym (append-nil at.yielded) ∙ rw empty at at.invariant.all in
+    let edits = into_iter_items c.into_iter-edit-iterator.result in
+    let yielded : at.yielded ≡ edits = sym (append-nil at.yielded) ∙ rw empty at at.invariant.all in
     subst (λ es. HasEditedElements c.args.zone.now es c.args.delta.now at.delta)
     c.into_iter-edit-iterator.ensures.into_iter_gives.0
-    (done-all c.args.zone.now _ c.args.delta.now at.delta at.invariant.entries
-    (subst (λ es. AreDone c.args.zone.now _ es at.delta.elements) yielded at.invariant.done))
+    (done-all c.args.zone.now edits c.args.delta.now at.delta at.invariant.entries
+    (subst (λ es. AreDone c.args.zone.now edits es at.delta.elements) yielded at.invariant.done))
