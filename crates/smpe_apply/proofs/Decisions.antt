@@ -169,8 +169,8 @@ module _ (g : Global) (zone : Zone) (related : Option Zone) (sel : Selection) (b
         let back : List (Id × Status) = left_out_statuses left_out in
         let id : Id × Status → Id = λ p. p.0 in
         let a : map id front ≡ kept = ids_of (λ (x : Id). x) (kept_status zone.kind effective) kept ∙ map-id kept in
-        let b : map id middle ≡ failed_ids = ids_of (λ (f : Id × Failure). f.0) (λ f. Failed f.1) failed ∙ decided.are_decided.ids
-        in
+        let b : map id middle ≡ failed_ids =
+        ids_of (λ (f : Id × Failure). f.0) (λ f. Failed f.1) failed ∙ decided.are_decided.ids in
         let c : map id back ≡ left_ids = ids_of (λ (f : Id × NotChosen). f.0) (λ f. not_chosen_status f.1) left_out in
         map-append id (front ++ middle) back
         ∙ ap (λ xs. xs ++ map id back) (map-append id front middle)
@@ -202,7 +202,8 @@ module _ (g : Global) (zone : Zone) (related : Option Zone) (sel : Selection) (b
     has_status p h =
         elim (Contains-append_cases (kept_statuses zone.kind effective kept ++ failed_statuses failed)
         (left_out_statuses left_out) p h) [
-          | inl first ↦ elim (Contains-append_cases (kept_statuses zone.kind effective kept) (failed_statuses failed) p first)
+          | inl first ↦
+              elim (Contains-append_cases (kept_statuses zone.kind effective kept) (failed_statuses failed) p first)
               [ inl k ↦ of_kept k | inr f ↦ of_failed f ]
           | inr out ↦ of_left out
         ]
@@ -240,7 +241,8 @@ module _ (g : Global) (zone : Zone) (related : Option Zone) (sel : Selection) (b
             subst (λ q. HasStatus (decision bypassed) sel q.0 q.1) m.2 (IsNotChosen m.0.1 ((members m.0.0 m.0.1).0 m.1))
 
     -- each id with a status is there
-    listed : (x : Id) {st : Status} → HasStatus (decision bypassed) sel x st → Contains (kept ++ failed_ids ++ left_ids) x
+    listed : (x : Id) {st : Status} → HasStatus (decision bypassed) sel x st
+        → Contains (kept ++ failed_ids ++ left_ids) x
     listed x (IsInstalled i) = Contains-append_left (kept ++ failed_ids) left_ids x
         (Contains-append_left kept failed_ids x i.kept)
     listed x (IsSuperseded k _) = Contains-append_left (kept ++ failed_ids) left_ids x
