@@ -8,12 +8,12 @@ use Rattle.terms.specs.Needs.{bypassed_ids}
 use Rattle.lemmas.proofs.Members.{filter_in, in_filter}
 use Rattle.terms.proofs.Ids.{is_in-from_Contains, Contains-from_is_in}
 use Rattle.machine.specs.Outcome.{Failure}
-use Rattle.machine.specs.Installing.{IsDecided}
+use Rattle.smpe_apply.specs.Decided.{IsDecided}
 
 module _ (s : Setting) (kept : List Id) (failed : List (Id × Failure)) (decided : IsDecided s kept failed) where
   -- what is kept is a candidate
   pub kept-cand : (x : Id) → Contains kept x → Contains s.cands x
-  kept-cand x h = let stays = (decided.members x).0 h in (stays.1.eligible x stays.2).0.0.0
+  kept-cand x h = let stays = (decided.are_decided.members x).0 h in (stays.1.eligible x stays.2).0.0.0
 
   pub bypassed-kept : (pairs : List (Id × Id))
       → ((x z : Id) → Contains pairs (x, z) ↔ (Contains s.cands x × Contains (bypassed_ids s x) z))

@@ -1,18 +1,16 @@
 -- What an APPLY or ACCEPT decides, from what its parts answer: the kept ones may be installed together, and the lines
 -- are those of the decision.
-use Rattle.std.proofs.Common.{◌≡◌, ◌≢◌, ◌⊎◌, inl, inr, Bool, true, false, not, List, [], ◌∷◌, ◌++◌, Option, None, Some}
+use Rattle.std.proofs.Common.{◌≡◌, ◌≢◌, ◌⊎◌, inl, inr, Bool, true, false, not, List, [], ◌∷◌, ◌++◌, Option, Some}
 use Rattle.std.proofs.Common.{IsTrue, filter, map, refl, sym, ap, ◌∙◌, subst, true≢false}
-use Rattle.std.specs.Prelude.{◌↔◌, ◌&&◌, ◌==◌, All, Contains, IsPermutation, is_some, unwrap_or, if◌then◌else◌}
-use Rattle.std.specs.Str.{bytes_eq}
+use Rattle.std.specs.Prelude.{◌↔◌, All, Contains, IsPermutation, if◌then◌else◌}
 use Rattle.std.proofs.lemmas.Bool.{and_parts, not-true}
 use Rattle.std.proofs.lemmas.List.{map-append, map-id}
 use Rattle.std.proofs.lemmas.List.Elements.{All-contains, Contains-get_or, Contains-append_left, Contains-append_right}
 use Rattle.std.proofs.lemmas.List.Elements.{Contains-append_cases}
 use Rattle.std.proofs.lemmas.List.Kept.{AllPairs-filter}
 use Rattle.std.proofs.lemmas.List.Sorted.{IsPermutation-map, IsPermutation-sym, Contains-permutation}
-use Rattle.terms.specs.declared.kinds.ElemType.{ElemType}
 use Rattle.terms.specs.declared.not_chosen.NotChosen.{NotChosen}
-use Rattle.terms.specs.Types.{Text, Id, type_number, Change, Global, Zone, Bypass, Selection}
+use Rattle.terms.specs.Types.{Text, Id, Global, Zone, Bypass, Selection}
 use Rattle.terms.specs.Lookups.{IsRising, IsZone, is_in, is_applied, is_supplied}
 use Rattle.terms.specs.Choice.{counting}
 use Rattle.terms.specs.Over.{IsOver}
@@ -25,10 +23,8 @@ use Rattle.lemmas.proofs.Apart.{AreApart}
 use Rattle.lemmas.proofs.Members.{map_in, in_map, filter_in, in_filter}
 use Rattle.lemmas.proofs.Pairs.{AllPairs-join}
 use Rattle.terms.proofs.Ids.{is_in-from_Contains, Contains-from_is_in, apart-from_rising}
-use Rattle.lemmas.proofs.Texts.{same_or_not}
-use Rattle.lemmas.proofs.Searches.{find-gives}
 use Rattle.machine.specs.Outcome.{Status, Superseded, Failure, Failed, Line}
-use Rattle.machine.specs.Installing.{Decision, IsDecision, IsDecided, IsFailure, HasStatus, IsInstalled, IsSuperseded}
+use Rattle.machine.specs.Installing.{Decision, IsDecision, IsFailure, HasStatus, IsInstalled, IsSuperseded}
 use Rattle.machine.specs.Installing.{IsFailed, IsNotChosen}
 use Rattle.machine.specs.Installing.{AreInstallLines, installed_status, not_chosen_status}
 use Rattle.terms.specs.Install.{TakesEffect}
@@ -36,6 +32,7 @@ use Rattle.change.specs.Elements.{HasBases}
 use Rattle.change.specs.Plans.{IsFresh}
 use Rattle.change.proofs.Installable.{is-fresh}
 use Rattle.change.proofs.KeptTogether.{install_over, changed_base, unsupplied}
+use Rattle.smpe_apply.specs.Decided.{IsDecided}
 use Rattle.smpe_apply.specs.Statuses.{kept_status, kept_statuses, failed_statuses, left_out_statuses}
 use Rattle.smpe_apply.specs.Statuses.{all_statuses, AreById}
 use Rattle.smpe_apply.proofs.ById.{rises_by_id}
@@ -75,7 +72,7 @@ module _ (g : Global) (zone : Zone) (related : Option Zone) (sel : Selection) (b
   s = setting g zone related cands bypass
 
   eligible : (x : Id) → Contains kept x → IsEligible s x
-  eligible x h = let stays = (decided.members x).0 h in stays.1.eligible x stays.2
+  eligible x h = let stays = (decided.are_decided.members x).0 h in stays.1.eligible x stays.2
 
   cand : (x : Id) → Contains kept x → Contains cands x
   cand = kept-cand s kept failed decided
@@ -114,11 +111,11 @@ module _ (g : Global) (zone : Zone) (related : Option Zone) (sel : Selection) (b
   module _ (is_zone : IsZone zone) (is_global : IsGlobal g) (bypassed : List (Id × Id)) where
     pub kept_order : (x y : Id) → Contains kept x → Contains kept y → x ≢ y → ShareElement g x y
         → IsOver (counting g zone cands) x y ⊎ IsOver (counting g zone cands) y x
-    kept_order = install_over s decided.survivors kept decided.members is_zone is_global refl unapplied
+    kept_order = install_over s decided.survivors kept decided.are_decided.members is_zone is_global refl unapplied
         (decision bypassed).installing (record { global = refl; choice = refl; zone = refl; kept = refl })
 
     pub kept_bases : HasBases (decision bypassed).installing
-    kept_bases = changed_base s decided.survivors kept decided.members is_zone is_global refl unapplied
+    kept_bases = changed_base s decided.survivors kept decided.are_decided.members is_zone is_global refl unapplied
         (decision bypassed).installing (record { global = refl; choice = refl; zone = refl; kept = refl })
 
   pub decides : (bypassed : List (Id × Id))
@@ -132,8 +129,8 @@ module _ (g : Global) (zone : Zone) (related : Option Zone) (sel : Selection) (b
     kept = record {
       survivors = decided.survivors;
       are_survivors = decided.are_survivors;
-      rising = decided.rising;
-      members = decided.members;
+      rising = decided.are_decided.rising;
+      members = decided.are_decided.members;
     };
     bypassed = bypassed;
     are_bypassed = are_bypassed;
@@ -172,8 +169,8 @@ module _ (g : Global) (zone : Zone) (related : Option Zone) (sel : Selection) (b
         let back : List (Id × Status) = left_out_statuses left_out in
         let id : Id × Status → Id = λ p. p.0 in
         let a : map id front ≡ kept = ids_of (λ (x : Id). x) (kept_status zone.kind effective) kept ∙ map-id kept in
-        let b : map id middle ≡ failed_ids = ids_of (λ (f : Id × Failure). f.0) (λ f. Failed f.1) failed ∙ decided.ids
-        in
+        let b : map id middle ≡ failed_ids =
+        ids_of (λ (f : Id × Failure). f.0) (λ f. Failed f.1) failed ∙ decided.are_decided.ids in
         let c : map id back ≡ left_ids = ids_of (λ (f : Id × NotChosen). f.0) (λ f. not_chosen_status f.1) left_out in
         map-append id (front ++ middle) back
         ∙ ap (λ xs. xs ++ map id back) (map-append id front middle)
@@ -195,7 +192,7 @@ module _ (g : Global) (zone : Zone) (related : Option Zone) (sel : Selection) (b
     all_apart =
         subst AreApart (sym all_ids)
         (apart_both (kept ++ failed_ids) left_ids
-        (apart_both kept failed_ids (apart-from_rising kept decided.rising)
+        (apart_both kept failed_ids (apart-from_rising kept decided.are_decided.rising)
         (AllPairs-filter (λ a b. a ≢ b) (λ x. not (is_in kept x)) cands (apart-from_rising cands are.rising))
         (λ x k f. not_kept x f k))
         (apart-from_rising left_ids rising) apart_from_left)
@@ -205,7 +202,8 @@ module _ (g : Global) (zone : Zone) (related : Option Zone) (sel : Selection) (b
     has_status p h =
         elim (Contains-append_cases (kept_statuses zone.kind effective kept ++ failed_statuses failed)
         (left_out_statuses left_out) p h) [
-          | inl first ↦ elim (Contains-append_cases (kept_statuses zone.kind effective kept) (failed_statuses failed) p first)
+          | inl first ↦
+              elim (Contains-append_cases (kept_statuses zone.kind effective kept) (failed_statuses failed) p first)
               [ inl k ↦ of_kept k | inr f ↦ of_failed f ]
           | inr out ↦ of_left out
         ]
@@ -230,10 +228,10 @@ module _ (g : Global) (zone : Zone) (related : Option Zone) (sel : Selection) (b
         of_failed : Contains (failed_statuses failed) p → HasStatus (decision bypassed) sel p.0 p.1
         of_failed f =
             let m = map_in (λ (f : Id × Failure). (f.0, Failed f.1)) failed p f in
-            let id : Contains failed_ids m.0.0 = subst (λ xs. Contains xs m.0.0) decided.ids
+            let id : Contains failed_ids m.0.0 = subst (λ xs. Contains xs m.0.0) decided.are_decided.ids
             (in_map (λ (f : Id × Failure). f.0) failed m.0 m.1) in
             let why = All-contains (λ f. IsFailure cands kept (Fails s) (IsEligible s) (Needs s decided.survivors)
-            (Serves s.choice) f.0 f.1) failed m.0 decided.failures m.1 in
+            (Serves s.choice) f.0 f.1) failed m.0 decided.are_decided.failures m.1 in
             subst (λ q. HasStatus (decision bypassed) sel q.0 q.1) m.2 (IsFailed m.0.1
             (filter_in (λ y. not (is_in kept y)) cands m.0.0 id).0 (not_kept m.0.0 id) why)
 
@@ -243,7 +241,8 @@ module _ (g : Global) (zone : Zone) (related : Option Zone) (sel : Selection) (b
             subst (λ q. HasStatus (decision bypassed) sel q.0 q.1) m.2 (IsNotChosen m.0.1 ((members m.0.0 m.0.1).0 m.1))
 
     -- each id with a status is there
-    listed : (x : Id) {st : Status} → HasStatus (decision bypassed) sel x st → Contains (kept ++ failed_ids ++ left_ids) x
+    listed : (x : Id) {st : Status} → HasStatus (decision bypassed) sel x st
+        → Contains (kept ++ failed_ids ++ left_ids) x
     listed x (IsInstalled i) = Contains-append_left (kept ++ failed_ids) left_ids x
         (Contains-append_left kept failed_ids x i.kept)
     listed x (IsSuperseded k _) = Contains-append_left (kept ++ failed_ids) left_ids x

@@ -1,9 +1,5 @@
 pub mod ById
 pub mod Bypassed
-pub mod CandidateIds
-pub mod Choosing
+pub mod Deciding
 pub mod Decisions
-pub mod EachKind
-pub mod Failing
 pub mod InstallLines
-pub mod Opened

@@ -1,3 +1,2 @@
-pub mod Findings
-pub mod Open
+pub mod Decided
 pub mod Statuses

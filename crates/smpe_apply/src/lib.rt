@@ -6,10 +6,7 @@
 
 mod applied;
 mod decided;
-mod failures;
-mod kept;
 mod lines;
-mod needs;
 mod places;
 mod statuses;
 

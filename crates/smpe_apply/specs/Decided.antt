@@ -1,0 +1,13 @@
+-- What APPLY and ACCEPT decide of the candidates of a setting.
+use Rattle.std.specs.Prelude.{List}
+use Rattle.terms.specs.Types.{Id}
+use Rattle.terms.specs.Tests.{Setting, Fails, IsEligible, AreSurvivors}
+use Rattle.terms.specs.Needs.{Needs, Serves}
+use Rattle.machine.specs.Outcome.{Failure}
+use Rattle.smpe_failures.specs.Decided.{AreDecided}
+
+-- which of them are kept, and why each other one is not; what is needed depends on the survivors
+pub record IsDecided (s : Setting) (kept : List Id) (failed : List (Id × Failure)) : Type 0 where
+  pub survivors : List Id
+  pub are_survivors : AreSurvivors s survivors
+  pub are_decided : AreDecided (Fails s) (IsEligible s) (Needs s survivors) (Serves s.choice) s.cands kept failed
