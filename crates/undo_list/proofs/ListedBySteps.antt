@@ -19,7 +19,8 @@ use Rattle.terms.specs.Restore.{Restoring, NeedsDep, NeedsElem, NeedsInRestore, 
 use Rattle.terms.proofs.Ids.{is_in-from_Contains, Contains-from_is_in}
 use Rattle.undo_list.specs.declared.nodes.Node.{Node}
 use Rattle.undo_list.specs.declared.nodes.Node.TheVariants.{Sysmod, Element}
-use Rattle.undo_list.specs.Steps.{Step, AreClosed, IsReached, all_steps, steps_of, suppliers, is_start, element_at}
+use Rattle.undo_list.specs.Restoring.{suppliers}
+use Rattle.undo_list.specs.Steps.{Step, AreClosed, IsReached, all_steps, steps_of, is_start, element_at}
 use Rattle.undo_list.specs.Steps.{to_element, from_element, from_function, from_functions, from_suppliers, by_requisite}
 use Rattle.undo_list.specs.ByNumbers.{AreReached}
 use Rattle.undo_list.proofs.Applied.{applied-are}

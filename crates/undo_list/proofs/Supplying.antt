@@ -11,7 +11,7 @@ use Rattle.lemmas.proofs.Texts.{same_from, same_itself}
 use Rattle.terms.specs.Types.{Id, Zone}
 use Rattle.terms.specs.Lookups.{is_in, is_applied, supby_of, supplies}
 use Rattle.terms.proofs.Ids.{is_in-from_Contains, Contains-from_is_in}
-use Rattle.undo_list.specs.Steps.{suppliers}
+use Rattle.undo_list.specs.Restoring.{suppliers}
 
 pub in-flat_map : {X Y : Type 0} (f : X → List Y) (xs : List X) (x : X) (y : Y) → Contains xs x → Contains (f x) y
     → Contains (flat_map f xs) y
