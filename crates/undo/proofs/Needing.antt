@@ -1,5 +1,5 @@
 -- Who depends on whom, and who shares an element, by the lists of pairs.
-use Rattle.std.proofs.Common.{◌≡◌, ◌≢◌, ◌∙◌, ◌⊎◌, inl, inr, Bool, true, false, not, List, [], ◌∷◌, map, filter}
+use Rattle.std.proofs.Common.{◌≡◌, ◌≢◌, ◌∙◌, ◌⊎◌, inl, inr, Bool, true, false, not, List, [], ◌∷◌, map}
 use Rattle.std.proofs.Common.{Option, None, Some, refl, sym, ap, subst, cond, Contains, IsTrue, true≢false}
 use Rattle.std.specs.Prelude.{◌↔◌, ◌&&◌, ◌||◌, Any, IsFalse}
 use Rattle.std.specs.List.{flat_map, list_all}
@@ -7,14 +7,12 @@ use Rattle.std.specs.Str.{bytes_eq}
 use Rattle.std.proofs.lemmas.Bool.{and_parts, not-true}
 use Rattle.std.proofs.lemmas.List.Elements.{Contains-append_left, Contains-append_right, Contains-append_cases}
 use Rattle.std.proofs.lemmas.List.Folds.{Any-from_list_any, list_any-from_Any}
-use Rattle.lemmas.proofs.Members.{here, here_or, there, none_in, in_map, map_in, in_filter, filter_in}
-use Rattle.lemmas.proofs.Texts.{same_from, same_itself}
-use Rattle.terms.specs.Types.{Id, Zone}
+use Rattle.lemmas.proofs.Members.{here, here_or, there, none_in, in_map, map_in}
+use Rattle.terms.specs.Types.{Id}
 use Rattle.terms.specs.Lookups.{IsZone, at_most_one, is_in, is_applied, applied_ids, supby_of, supplies}
 use Rattle.terms.specs.Choice.{fmid_of}
 use Rattle.terms.specs.Needs.{binding_ids}
 use Rattle.terms.specs.Restore.{Restoring, NeedsDep, is_supplied_outside}
-use Rattle.terms.proofs.Ids.{is_in-from_Contains, Contains-from_is_in}
 use Rattle.undo_list.specs.Restoring.{suppliers}
 use Rattle.undo_list.proofs.Applied.{applied-are}
 use Rattle.undo_list.proofs.Supplying.{in-flat_map, flat_map-in, supplier-is}

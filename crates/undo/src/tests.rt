@@ -12,8 +12,8 @@ ghost use Rattle.undo.specs.Tests.{is_behind, fails_test};
 
 use fields::Id;
 use std::alloc::{AllocError, Global as Heap};
-use sysmods_records::ElemChange;
 use sysmods::VerChoice;
+use sysmods_records::ElemChange;
 use terms::Test;
 use undo_list::{Scope, changes_of};
 use zones::{Element, Zone};
