@@ -12,10 +12,12 @@ use Rattle.lemmas.proofs.Texts.{same_or_not}
 use Rattle.terms.specs.declared.codes.NeedKind.{NeedKind}
 use Rattle.terms.specs.declared.codes.NeedKind.TheVariants.{Elem, Dep}
 use Rattle.terms.specs.Types.{Id, Change, RestoreGroup}
-use Rattle.terms.specs.Lookups.{IsZone, at_most_one, is_in, is_applied, is_supplied, applied_ids, changes_of, has_change, supplies}
+use Rattle.terms.specs.Lookups.{IsZone, at_most_one, is_in, is_applied, is_supplied, applied_ids, changes_of}
+use Rattle.terms.specs.Lookups.{has_change, supplies}
 use Rattle.terms.specs.Choice.{fmid_of}
 use Rattle.terms.specs.Needs.{binding_ids}
-use Rattle.terms.specs.Restore.{Restoring, NeedsDep, NeedsElem, NeedsInRestore, is_supplied_outside, IsClosedList, IsListed, AreListed}
+use Rattle.terms.specs.Restore.{Restoring, NeedsDep, NeedsElem, NeedsInRestore, is_supplied_outside}
+use Rattle.terms.specs.Restore.{IsClosedList, IsListed, AreListed}
 use Rattle.terms.proofs.Ids.{is_in-from_Contains, Contains-from_is_in}
 use Rattle.undo_list.specs.declared.nodes.Node.{Node}
 use Rattle.undo_list.specs.declared.nodes.Node.TheVariants.{Sysmod, Element}

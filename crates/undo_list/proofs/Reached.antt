@@ -1,5 +1,6 @@
 -- What the numbered rules reach is what the steps reach.
-use Rattle.std.proofs.Common.{◌≡◌, ◌∙◌, ◌<◌, inl, inr, ℕ, zero, suc, Bool, true, false, List, [], ◌∷◌, length, map, get_or}
+use Rattle.std.proofs.Common.{◌≡◌, ◌∙◌, ◌<◌, inl, inr, ℕ, zero, suc, Bool, true, false, List, [], ◌∷◌}
+use Rattle.std.proofs.Common.{length, map, get_or}
 use Rattle.std.proofs.Common.{Some, refl, sym, ap, ap₂, subst, cond, arith, Contains, IsTrue, true≢false, slice_get}
 use Rattle.std.specs.Prelude.{◌↔◌, All}
 use Rattle.std.specs.Option.{option_map_or}
@@ -159,15 +160,16 @@ module _ (table : List Node) (rises : Rises node_order.ghosts.cmp (λ n. n) tabl
       nodes-grown s h all =
           let r = is.rules.there s h in
           sym (at-number r.0.that s.that r.2.that) ∙ (least.members r.0.that).1 (λ set closed.
-          All-contains (λ v. All (λ y. IsTrue (set y)) v.these → IsTrue (set v.that)) g.rules r.0 closed.rules r.1 (all-from _ r.0.these (λ i of.
+          All-contains (λ v. All (λ y. IsTrue (set y)) v.these → IsTrue (set v.that)) g.rules r.0 closed.rules r.1
+          (all-from _ r.0.these (λ i of.
           let m = r.2.these.only i of in
           (least.members i).0 (at-number i m.0 m.2 ∙ all m.0 m.1) set closed)))
 
       nodes-closed : AreClosed ids steps nodes
       nodes-closed = record { start = nodes-start; grown = nodes-grown }
 
-      pub flagged-reached : (found : List Id) → AreFlagged table flags (length table) found → length flags ≡ length table
-          → (x : Id) → Contains found x ↔ IsReached ids steps (Sysmod x)
+      pub flagged-reached : (found : List Id) → AreFlagged table flags (length table) found
+          → length flags ≡ length table → (x : Id) → Contains found x ↔ IsReached ids steps (Sysmod x)
       flagged-reached found flagged size x = (
         λ h set closed.
             let p = (flagged x).0 h in

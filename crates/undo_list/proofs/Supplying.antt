@@ -37,8 +37,8 @@ pub supplier-is : (zone : Zone) (x z : Id) → Contains (suppliers zone z) x ↔
 supplier-is zone x z = (from, to)
   where
     from : Contains (suppliers zone z) x → IsTrue (supplies zone x z)
-    from h = elim (Contains-append_cases (filter (is_applied zone) (z ∷ [])) (filter (is_applied zone) (supby_of zone z))
-        x h) [
+    from h = elim (Contains-append_cases (filter (is_applied zone) (z ∷ [])) (filter (is_applied zone)
+        (supby_of zone z)) x h) [
           | inl own ↦
               let f = filter_in (is_applied zone) (z ∷ []) x own in
               elim (here_or z [] x f.0) [

@@ -171,7 +171,8 @@ fn push_steps_of(
     by: Id,
     steps: &mut Vec<Step>,
 ) -> Result<(), AllocError>
-    ensures { OnOk result (as_steps steps.new.items ≡ as_steps steps.old.items ++ steps_of (restoring_of scope.now) by) }
+    ensures { OnOk result (as_steps steps.new.items
+        ≡ as_steps steps.old.items ++ steps_of (restoring_of scope.now) by) }
 {
     let changes = changes_of(scope.vers, by);
     push_to_elements(alloc, by, changes, steps)?;
