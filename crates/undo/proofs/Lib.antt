@@ -1,9 +1,7 @@
 pub mod Gaining
-pub mod Applied
 pub mod PairOrder
 pub mod Changed
 pub mod Needing
 pub mod Wanting
 pub mod Numbering
 pub mod Testing
-pub mod Closing

@@ -1,5 +1,5 @@
 -- Who depends on whom, and who shares an element, by the lists of pairs.
-use Rattle.std.proofs.Common.{◌≡◌, ◌≢◌, ◌∙◌, ◌⊎◌, inl, inr, Bool, true, false, not, List, [], ◌∷◌, map, filter}
+use Rattle.std.proofs.Common.{◌≡◌, ◌≢◌, ◌∙◌, ◌⊎◌, inl, inr, Bool, true, false, not, List, [], ◌∷◌, map}
 use Rattle.std.proofs.Common.{Option, None, Some, refl, sym, ap, subst, cond, Contains, IsTrue, true≢false}
 use Rattle.std.specs.Prelude.{◌↔◌, ◌&&◌, ◌||◌, Any, IsFalse}
 use Rattle.std.specs.List.{flat_map, list_all}
@@ -7,37 +7,21 @@ use Rattle.std.specs.Str.{bytes_eq}
 use Rattle.std.proofs.lemmas.Bool.{and_parts, not-true}
 use Rattle.std.proofs.lemmas.List.Elements.{Contains-append_left, Contains-append_right, Contains-append_cases}
 use Rattle.std.proofs.lemmas.List.Folds.{Any-from_list_any, list_any-from_Any}
-use Rattle.lemmas.proofs.Members.{here, here_or, there, none_in, in_map, map_in, in_filter, filter_in}
-use Rattle.lemmas.proofs.Texts.{same_from, same_itself}
-use Rattle.terms.specs.Types.{Id, Zone}
+use Rattle.lemmas.proofs.Members.{here, here_or, there, none_in, in_map, map_in}
+use Rattle.terms.specs.Types.{Id}
 use Rattle.terms.specs.Lookups.{IsZone, at_most_one, is_in, is_applied, applied_ids, supby_of, supplies}
 use Rattle.terms.specs.Choice.{fmid_of}
 use Rattle.terms.specs.Needs.{binding_ids}
 use Rattle.terms.specs.Restore.{Restoring, NeedsDep, is_supplied_outside}
-use Rattle.terms.proofs.Ids.{is_in-from_Contains, Contains-from_is_in}
-use Rattle.undo.specs.Dependences.{suppliers, by_requisite, dependences_of}
-use Rattle.undo.proofs.Applied.{applied-are}
+use Rattle.undo_list.specs.Restoring.{suppliers}
+use Rattle.undo_list.proofs.Applied.{applied-are}
+use Rattle.undo_list.proofs.Supplying.{in-flat_map, flat_map-in, supplier-is}
+use Rattle.undo.specs.Dependences.{by_requisite, dependences_of}
 
 abbrev Pair : Type 0
 Pair = Id × Id
 
--- ---- lists of lists
-
-pub in-flat_map : {X Y : Type 0} (f : X → List Y) (xs : List X) (x : X) (y : Y) → Contains xs x → Contains (f x) y
-    → Contains (flat_map f xs) y
-in-flat_map f [] x y h g = absurd (none_in x h)
-in-flat_map f (z ∷ xs) x y h g = elim (here_or z xs x h) [
-  | inl same ↦ Contains-append_left (f z) (flat_map f xs) y (subst (λ v. Contains (f v) y) (sym same) g)
-  | inr later ↦ Contains-append_right (f z) (flat_map f xs) y (in-flat_map f xs x y later g)
-]
-
-pub flat_map-in : {X Y : Type 0} (f : X → List Y) (xs : List X) (y : Y) → Contains (flat_map f xs) y
-    → (x : X) × Contains xs x × Contains (f x) y
-flat_map-in f [] y h = absurd (none_in y h)
-flat_map-in f (z ∷ xs) y h = elim (Contains-append_cases (f z) (flat_map f xs) y h) [
-  | inl front ↦ (z, here z xs, front)
-  | inr back ↦ let m = flat_map-in f xs y back in (m.0, there z xs m.0 m.1, m.2)
-]
+-- ---- lists of which all meet a test
 
 pub all-in : {X : Type 0} (p : X → Bool) (xs : List X) → list_all p xs ≡ true → (x : X) → Contains xs x → p x ≡ true
 all-in p [] all x h = absurd (none_in x h)
@@ -53,46 +37,7 @@ in-all p [] each = refl
 in-all p (z ∷ xs) each =
     rw (each z (here z xs)) (in-all p xs (λ x h. each x (there z xs x h)))
 
--- ---- who supplies an id
-
-by-or : (a b : Bool) → (a || b) ≡ true → (a ≡ true) ⊎ (b ≡ true)
-by-or true b on = inl refl
-by-or false b on = inr on
-
-pub supplier-is : (zone : Zone) (x z : Id) → Contains (suppliers zone z) x ↔ IsTrue (supplies zone x z)
-supplier-is zone x z = (from, to)
-  where
-    from : Contains (suppliers zone z) x → IsTrue (supplies zone x z)
-    from h = elim (Contains-append_cases (filter (is_applied zone) (z ∷ [])) (filter (is_applied zone)
-        (supby_of zone z)) x h) [
-          | inl own ↦
-              let f = filter_in (is_applied zone) (z ∷ []) x own in
-              elim (here_or z [] x f.0) [
-                | inl same ↦ rw (f.1, subst (λ v. bytes_eq x v ≡ true) (sym same) (same_itself x)) refl
-                | inr later ↦ absurd (none_in x later)
-              ]
-          | inr over ↦
-              let f = filter_in (is_applied zone) (supby_of zone z) x over in
-              rw (f.1) (or-right (bytes_eq x z) (is_in (supby_of zone z) x)
-              (is_in-from_Contains (supby_of zone z) x f.0))
-        ]
-      where
-        or-right : (a b : Bool) → b ≡ true → (a || b) ≡ true
-        or-right true b on = refl
-        or-right false b on = on
-
-    to : IsTrue (supplies zone x z) → Contains (suppliers zone z) x
-    to on =
-        let parts = and_parts (is_applied zone x) (bytes_eq x z || is_in (supby_of zone z) x) on in
-        elim (by-or (bytes_eq x z) (is_in (supby_of zone z) x) parts.1) [
-          | inl same ↦ Contains-append_left (filter (is_applied zone) (z ∷ []))
-              (filter (is_applied zone) (supby_of zone z)) x
-              (in_filter (is_applied zone) (z ∷ []) x
-              (subst (Contains (z ∷ [])) (sym (same_from x z same)) (here z [])) parts.0)
-          | inr over ↦ Contains-append_right (filter (is_applied zone) (z ∷ []))
-              (filter (is_applied zone) (supby_of zone z)) x
-              (in_filter (is_applied zone) (supby_of zone z) x (Contains-from_is_in (supby_of zone z) x over) parts.0)
-        ]
+-- ---- who depends on whom
 
 module _ (r : Restoring) (is_zone : IsZone r.zone) (listed : Id → Bool) where
   -- none outside the list supplies it just where all that supply it are listed

@@ -21,9 +21,10 @@ use Rattle.undo.specs.Dependences.{dependences_of}
 use Rattle.undo.specs.Elements.{Changers, changers_of, change_key, AreChangers, beside_at, beside}
 use Rattle.undo.specs.Pairs.{is_own, AreOwn}
 use Rattle.undo.specs.Wants.{a_want, HaveElem, HaveDep, AreWants}
-use Rattle.undo.proofs.Applied.{applied-are}
+use Rattle.undo_list.proofs.Applied.{applied-are}
 use Rattle.undo.proofs.Changed.{changes-from, changes-to}
-use Rattle.undo.proofs.Needing.{in-flat_map, flat_map-in, dependences-are}
+use Rattle.undo_list.proofs.Supplying.{in-flat_map, flat_map-in}
+use Rattle.undo.proofs.Needing.{dependences-are}
 
 abbrev Pair : Type 0
 Pair = Id × Id

@@ -1,15 +1,12 @@
 -- Who depends on whom, as lists of pairs.
-use Rattle.std.specs.Prelude.{Bool, List, [], ◌∷◌, ◌++◌, filter, map, if◌then◌else◌}
+use Rattle.std.specs.Prelude.{Bool, List, [], ◌++◌, map, if◌then◌else◌}
 use Rattle.std.specs.List.{flat_map, list_all}
 use Rattle.terms.specs.Types.{Id, Zone}
-use Rattle.terms.specs.Lookups.{at_most_one, is_applied, supby_of}
+use Rattle.terms.specs.Lookups.{at_most_one, is_applied}
 use Rattle.terms.specs.Choice.{fmid_of}
 use Rattle.terms.specs.Needs.{binding_ids}
 use Rattle.terms.specs.Restore.{Restoring}
-
--- the applied SYSMODs that supply the id
-abbrev pub suppliers : Zone → Id → List Id
-suppliers zone z = filter (is_applied zone) (z ∷ []) ++ filter (is_applied zone) (supby_of zone z)
+use Rattle.undo_list.specs.Restoring.{suppliers}
 
 -- each that supplies a requisite of y, with y, if all of them are listed
 abbrev pub by_requisite : Zone → (Id → Bool) → Id → Id → List (Id × Id)

@@ -1,8 +1,6 @@
-pub mod Restoring
 pub mod Dependences
 pub mod Elements
 pub mod Tests
 pub mod Pairs
 pub mod Wants
 pub mod Numbered
-pub mod Growing

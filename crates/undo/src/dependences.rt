@@ -1,17 +1,23 @@
 //! Which applied SYSMODs depend on which: by FMID, and by requisites that only SYSMODs of the list supply.
 ghost use Rattle.std.specs.Prelude.{◌≡◌, ◌++◌, map, IfOk, OnOk};
-ghost use Rattle.std.specs.List.{flat_map};
+ghost use Rattle.std.specs.List.{flat_map, list_all};
 ghost use Rattle.terms.specs.Lookups.{at_most_one, is_in, applied_ids};
-ghost use Rattle.undo.specs.Restoring.{restoring_of};
+ghost use Rattle.undo_list.specs.Restoring.{restoring_of};
 ghost use Rattle.undo.specs.Dependences.{by_requisite, dependences_of};
 
 use crate::pairs::add_pairs;
-use crate::scope::{Scope, applied_ids};
-use crate::suppliers::{are_listed, suppliers};
 use fields::{Id, IdList};
 use std::alloc::{AllocError, Global as Heap};
+use undo_list::{Scope, applied_ids, suppliers};
 use zones::Zone;
 use zones_less::requisites_held;
+
+// Whether the list has all of these.
+fn are_listed(list: &IdList, ids: &[Id]) -> bool
+    ensures { result ≡ list_all (is_in list.now) ids.now }
+{
+    ids.iter().all(|id| list.contains(*id))
+}
 
 // Adds those that supply the requisite, if all are in the list.
 fn add_by_requisite(

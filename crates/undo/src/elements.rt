@@ -4,13 +4,13 @@ ghost use Rattle.std.specs.List.{flat_map};
 ghost use Rattle.undo.specs.Elements.{AreChangers, Gains, beside, beside_at, change_key, changers_of};
 
 use crate::pairs::add_needed;
-use crate::scope::changes_of;
 use fields::{Id, Name};
 use std::alloc::{AllocError, Global as Heap};
 use std::collections::BTreeMap;
 use sysmods::VerChoice;
 use sysmods_records::ElemChange;
 use terms::ElemType;
+use undo_list::changes_of;
 
 /// For each element some SYSMODs that change it.
 pub(crate) type Changers = BTreeMap<(ElemType, Name), Vec<Id>>;

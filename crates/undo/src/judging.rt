@@ -4,12 +4,10 @@ ghost use Rattle.terms.specs.Needs.{Serves};
 ghost use Rattle.terms.specs.Restore.{MayBeRestored, NeedsInRestore, restore_candidates};
 ghost use Rattle.solve.specs.Numbered.{IsProblemOf};
 ghost use Rattle.sysmods.specs.Choices.{choice};
-ghost use Rattle.undo.specs.Restoring.{restoring};
+ghost use Rattle.undo_list.specs.Restoring.{restoring};
 ghost use Rattle.undo.specs.Tests.{AreFailedTests};
 
 use crate::numbered::numbered;
-use crate::scope::Scope;
-use crate::suppliers::push_applied;
 use crate::tests::{all_eligible, all_rows};
 use crate::wanted::all_wants;
 use fields::{Id, IdList};
@@ -17,6 +15,7 @@ use solve::System;
 use std::alloc::{AllocError, Global as Heap};
 use sysmods::VerChoice;
 use terms::{NeedKind, Test};
+use undo_list::{Scope, push_applied};
 use zones::Zone;
 
 /// What is known of the candidates, which are numbered by their places: who they are, who is eligible and needs whom,
@@ -29,8 +28,8 @@ pub struct Judged {
     pub tests: Vec<Vec<Test>>,
 }
 
-/// Those of the list that are applied.
-pub(crate) fn candidates(alloc: Heap, zone: &Zone, ids: &IdList) -> Result<IdList, AllocError>
+// Those of the list that are applied.
+fn candidates(alloc: Heap, zone: &Zone, ids: &IdList) -> Result<IdList, AllocError>
     ensures { IfOk result (λ cands. cands ≡ filter (is_applied zone.now) ids.now) }
 {
     let mut found = Vec::new(alloc);

@@ -3,17 +3,30 @@ ghost use Rattle.std.specs.Prelude.{◌≡◌, ◌++◌, [], ◌∷◌, not, fil
 ghost use Rattle.std.specs.List.{list_any};
 ghost use Rattle.std.specs.Option.{option_map_or};
 ghost use Rattle.terms.specs.Lookups.{is_nil, is_applied, element_of};
+ghost use Rattle.terms.specs.Choice.{del_of};
 ghost use Rattle.terms.specs.Restore.{are_applied};
+ghost use Rattle.sysmods.specs.Choices.{choice};
 ghost use Rattle.machine.specs.Installing.{all_tests};
-ghost use Rattle.undo.specs.Restoring.{restoring_of};
+ghost use Rattle.undo_list.specs.Restoring.{restoring_of};
 ghost use Rattle.undo.specs.Tests.{is_behind, fails_test};
 
-use crate::scope::{Scope, changes_of, has_delete};
 use fields::Id;
 use std::alloc::{AllocError, Global as Heap};
+use sysmods::VerChoice;
 use sysmods_records::ElemChange;
 use terms::Test;
+use undo_list::{Scope, changes_of};
 use zones::{Element, Zone};
+
+// Whether it has DELETE.
+fn has_delete(vers: &VerChoice<'_>, id: Id) -> bool
+    ensures { result ≡ not (is_nil (del_of (choice vers.now) id)) }
+{
+    match vers.ver(id) {
+        Some(ver) => !ver.del.is_empty(),
+        None => false,
+    }
+}
 
 fn any_missing(zone: &Zone, ids: &[Id]) -> bool
     ensures { result ≡ list_any (λ y. not (is_applied zone.now y)) ids.now }

@@ -1,16 +1,16 @@
 //! What each candidate needs.
 ghost use Rattle.std.specs.Prelude.{◌≡◌, ◌<◌, ◌++◌, map, length, slice_get, Some, IfOk, OnOk};
 ghost use Rattle.terms.specs.Restore.{restore_candidates};
-ghost use Rattle.undo.specs.Restoring.{restoring_of};
+ghost use Rattle.undo_list.specs.Restoring.{restoring_of};
 ghost use Rattle.undo.specs.Wants.{a_want, AreWants, HaveDep, HaveElem};
 
 use crate::dependences::dependences;
 use crate::elements::{all_beside, changers};
 use crate::pairs::all_own;
-use crate::scope::{Scope, applied_ids, unaccepted};
 use fields::{Id, IdList};
 use std::alloc::{AllocError, Global as Heap};
 use terms::NeedKind;
+use undo_list::{Scope, applied_ids, unaccepted};
 
 /// A candidate needs this id.
 #[derive(Clone, Copy)]

@@ -12,8 +12,8 @@ use Rattle.lemmas.proofs.Texts.{same_or_not}
 use Rattle.terms.specs.declared.codes.NeedKind.{NeedKind}
 use Rattle.terms.specs.declared.codes.NeedKind.TheVariants.{Elem, Dep}
 use Rattle.terms.specs.Types.{Id, Change, RestoreGroup}
-use Rattle.terms.specs.Lookups.{IsZone, at_most_one, is_in, is_applied, is_supplied, applied_ids}
-use Rattle.terms.specs.Lookups.{changes_of, has_change, supplies}
+use Rattle.terms.specs.Lookups.{IsZone, at_most_one, is_in, is_applied, is_supplied, applied_ids, changes_of}
+use Rattle.terms.specs.Lookups.{has_change, supplies}
 use Rattle.terms.specs.Choice.{fmid_of}
 use Rattle.terms.specs.Needs.{binding_ids}
 use Rattle.terms.specs.Restore.{Restoring, NeedsDep, NeedsElem, NeedsInRestore, is_supplied_outside}
@@ -21,7 +21,8 @@ use Rattle.terms.specs.Restore.{IsClosedList, IsListed, AreListed}
 use Rattle.terms.proofs.Ids.{is_in-from_Contains, Contains-from_is_in}
 use Rattle.undo_list.specs.declared.nodes.Node.{Node}
 use Rattle.undo_list.specs.declared.nodes.Node.TheVariants.{Sysmod, Element}
-use Rattle.undo_list.specs.Steps.{Step, AreClosed, IsReached, all_steps, steps_of, suppliers, is_start, element_at}
+use Rattle.undo_list.specs.Restoring.{suppliers}
+use Rattle.undo_list.specs.Steps.{Step, AreClosed, IsReached, all_steps, steps_of, is_start, element_at}
 use Rattle.undo_list.specs.Steps.{to_element, from_element, from_function, from_functions, from_suppliers, by_requisite}
 use Rattle.undo_list.specs.ByNumbers.{AreReached}
 use Rattle.undo_list.proofs.Applied.{applied-are}

@@ -1,6 +1,6 @@
 -- What the numbered rules reach is what the steps reach.
-use Rattle.std.proofs.Common.{◌≡◌, ◌∙◌, ◌<◌, inl, inr, ℕ, zero, suc, Bool, true, false}
-use Rattle.std.proofs.Common.{List, [], ◌∷◌, length, map, get_or}
+use Rattle.std.proofs.Common.{◌≡◌, ◌∙◌, ◌<◌, inl, inr, ℕ, zero, suc, Bool, true, false, List, [], ◌∷◌}
+use Rattle.std.proofs.Common.{length, map, get_or}
 use Rattle.std.proofs.Common.{Some, refl, sym, ap, ap₂, subst, cond, arith, Contains, IsTrue, true≢false, slice_get}
 use Rattle.std.specs.Prelude.{◌↔◌, All}
 use Rattle.std.specs.Option.{option_map_or}
@@ -169,8 +169,7 @@ module _ (table : List Node) (rises : Rises node_order.ghosts.cmp (λ n. n) tabl
       nodes-closed = record { start = nodes-start; grown = nodes-grown }
 
       pub flagged-reached : (found : List Id) → AreFlagged table flags (length table) found
-          → length flags ≡ length table
-          → (x : Id) → Contains found x ↔ IsReached ids steps (Sysmod x)
+          → length flags ≡ length table → (x : Id) → Contains found x ↔ IsReached ids steps (Sysmod x)
       flagged-reached found flagged size x = (
         λ h set closed.
             let p = (flagged x).0 h in

@@ -1,6 +1,6 @@
 -- Steps and their numbers.
-use Rattle.std.proofs.Common.{◌≡◌, ◌∙◌, ◌<◌, ◌+◌, inl, inr, ℕ, Bool, true, false, List, []}
-use Rattle.std.proofs.Common.{◌∷◌, ◌++◌, length, map, take, get_or}
+use Rattle.std.proofs.Common.{◌≡◌, ◌∙◌, ◌<◌, ◌+◌, inl, inr, ℕ, Bool, true, false, List, [], ◌∷◌, ◌++◌}
+use Rattle.std.proofs.Common.{length, map, take, get_or}
 use Rattle.std.proofs.Common.{Some, refl, sym, ap, subst, cond, arith, Contains, slice_get}
 use Rattle.std.proofs.Common.{nat_eq, All, IsPermutation, AllPairs}
 use Rattle.std.specs.Prelude.{◌↔◌}
@@ -25,9 +25,8 @@ use Rattle.undo_list.specs.declared.nodes.Node.TheVariants.{Sysmod, Element}
 use Rattle.undo_list.specs.declared.nodes.Step.{Step as RustStep}
 use Rattle.undo_list.specs.contracts.nodes.NodeOrd.TheImpl as node_order
 use Rattle.undo_list.specs.Steps.{Step, as_step, as_steps, is_start}
-use Rattle.undo_list.specs.ByNumbers.{ArePlaces, IsNumbered, AreNumbered, IsGrowth, AddsRule}
-use Rattle.undo_list.specs.ByNumbers.{Covers, nodes_in, sysmod_in}
-use Rattle.undo_list.specs.ByNumbers.{AreFlagged, IsFlagged, AreReached}
+use Rattle.undo_list.specs.ByNumbers.{ArePlaces, IsNumbered, AreNumbered, IsGrowth, AddsRule, Covers, nodes_in}
+use Rattle.undo_list.specs.ByNumbers.{sysmod_in, AreFlagged, IsFlagged, AreReached}
 use Rattle.undo_list.proofs.Reached.{all-from, flagged-reached}
 use Rattle.undo_list.proofs.Supplying.{in-flat_map}
 

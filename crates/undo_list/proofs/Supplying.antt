@@ -11,7 +11,7 @@ use Rattle.lemmas.proofs.Texts.{same_from, same_itself}
 use Rattle.terms.specs.Types.{Id, Zone}
 use Rattle.terms.specs.Lookups.{is_in, is_applied, supby_of, supplies}
 use Rattle.terms.proofs.Ids.{is_in-from_Contains, Contains-from_is_in}
-use Rattle.undo_list.specs.Steps.{suppliers}
+use Rattle.undo_list.specs.Restoring.{suppliers}
 
 pub in-flat_map : {X Y : Type 0} (f : X → List Y) (xs : List X) (x : X) (y : Y) → Contains xs x → Contains (f x) y
     → Contains (flat_map f xs) y
@@ -37,8 +37,8 @@ pub supplier-is : (zone : Zone) (x z : Id) → Contains (suppliers zone z) x ↔
 supplier-is zone x z = (from, to)
   where
     from : Contains (suppliers zone z) x → IsTrue (supplies zone x z)
-    from h = elim (Contains-append_cases (filter (is_applied zone) (z ∷ [])) (filter (is_applied zone) (supby_of zone z))
-        x h) [
+    from h = elim (Contains-append_cases (filter (is_applied zone) (z ∷ [])) (filter (is_applied zone)
+        (supby_of zone z)) x h) [
           | inl own ↦
               let f = filter_in (is_applied zone) (z ∷ []) x own in
               elim (here_or z [] x f.0) [

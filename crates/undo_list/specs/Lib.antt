@@ -1,3 +1,4 @@
+pub mod Restoring
 pub mod Steps
 pub mod NodeOrder
 pub mod ByNumbers

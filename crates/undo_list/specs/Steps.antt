@@ -2,24 +2,14 @@
 use Rattle.std.specs.Prelude.{Bool, false, List, [], ◌∷◌, ◌++◌, filter, map, Contains, IsTrue, if◌then◌else◌}
 use Rattle.std.specs.List.{flat_map}
 use Rattle.terms.specs.Types.{Id, Zone, Change}
-use Rattle.terms.specs.Lookups.{at_most_one, is_in, is_nil, is_applied, is_supplied, supby_of, applied_ids, changes_of}
+use Rattle.terms.specs.Lookups.{at_most_one, is_in, is_nil, is_applied, is_supplied, applied_ids, changes_of}
 use Rattle.terms.specs.Choice.{fmid_of}
 use Rattle.terms.specs.Needs.{binding_ids}
 use Rattle.terms.specs.Restore.{Restoring}
-use Rattle.sysmods.specs.declared.choice.VerChoice.{VerChoice}
-use Rattle.sysmods.specs.Choices.{choice}
 use Rattle.undo_list.specs.declared.nodes.Node.{Node}
 use Rattle.undo_list.specs.declared.nodes.Node.TheVariants.{Sysmod, Element}
 use Rattle.undo_list.specs.declared.nodes.Step.{Step as RustStep}
-use Rattle.undo_list.specs.declared.scope.Scope.{Scope}
-
--- the target zone and its distribution zone, with the ++VERs that count
-abbrev pub restoring : VerChoice → Zone → Zone → Restoring
-restoring vers zone accepted =
-    record { global = vers.global.now; choice = choice vers; zone = zone; accepted = accepted }
-
-abbrev pub restoring_of : Scope → Restoring
-restoring_of scope = restoring scope.vers.now scope.zone.now scope.accepted.now
+use Rattle.undo_list.specs.Restoring.{suppliers}
 
 -- once all of these are there, that is
 pub record Step : Type 0 where
@@ -32,10 +22,6 @@ as_step s = record { these = s.these.items; that = s.that }
 
 abbrev pub as_steps : List RustStep → List Step
 as_steps steps = map as_step steps
-
--- the applied SYSMODs that supply the id
-abbrev pub suppliers : Zone → Id → List Id
-suppliers zone z = filter (is_applied zone) (z ∷ []) ++ filter (is_applied zone) (supby_of zone z)
 
 -- the element of a statement
 abbrev pub element_at : Change → Node

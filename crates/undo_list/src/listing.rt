@@ -2,18 +2,20 @@
 ghost use Rattle.std.specs.Prelude.{IfOk};
 ghost use Rattle.terms.specs.Types.{RestoreGroup, RestoreSelect};
 ghost use Rattle.terms.specs.Restore.{AreListed};
-ghost use Rattle.undo_list.specs.Steps.{restoring};
+ghost use Rattle.cntl.specs.Views.{restore_list_of};
+ghost use Rattle.undo_list.specs.Restoring.{restoring};
 
 use crate::numbered::reached;
 use crate::scope::Scope;
 use crate::steps::all_steps;
+use cntl::RestoreList;
 use fields::IdList;
 use std::alloc::{AllocError, Global as Heap};
 use sysmods::VerChoice;
 use zones::Zone;
 
-/// GROUP's list: its ids and all which they need, and what those need.
-pub fn grouped(
+// GROUP's list: its ids and all which they need, and what those need.
+fn grouped(
     alloc: Heap,
     vers: &VerChoice<'_>,
     zone: &Zone,
@@ -32,8 +34,8 @@ pub fn grouped(
     reached(alloc, ids, steps.as_slice())
 }
 
-/// SELECT's list: its ids.
-pub fn selected(
+// SELECT's list: its ids.
+fn selected(
     alloc: Heap,
     vers: &VerChoice<'_>,
     zone: &Zone,
@@ -44,4 +46,20 @@ pub fn selected(
 {
     let _ = ids.as_slice();
     ids.try_clone(alloc)
+}
+
+/// SELECT's ids, or what GROUP's ids lead to, in a target zone with this distribution zone.
+pub fn restore_list(
+    alloc: Heap,
+    vers: &VerChoice<'_>,
+    zone: &Zone,
+    accepted: &Zone,
+    list: &RestoreList,
+) -> Result<IdList, AllocError>
+    ensures { IfOk result (AreListed (restoring vers.now zone.now accepted.now) (restore_list_of list.now)) }
+{
+    match list {
+        RestoreList::Select(ids) => selected(alloc, vers, zone, accepted, ids),
+        RestoreList::Group(ids) => grouped(alloc, vers, zone, accepted, ids),
+    }
 }

@@ -1,6 +1,6 @@
 //! What GROUP's list reaches, by numbers.
-ghost use Rattle.std.specs.Prelude.{◌≡◌, ◌<◌, ◌^◌, ◌++◌, ◌∷◌, [], length, map};
-ghost use Rattle.std.specs.Prelude.{All, Contains, IfOk, OnOk, if◌then◌else◌};
+ghost use Rattle.std.specs.Prelude.{◌≡◌, ◌<◌, ◌^◌, ◌++◌, ◌∷◌, [], length, map, All, Contains, IfOk, OnOk};
+ghost use Rattle.std.specs.Prelude.{if◌then◌else◌};
 ghost use Rattle.std.specs.List.{flat_map};
 ghost use Rattle.undo_list.specs.declared.nodes.Node.TheVariants.{Sysmod};
 ghost use Rattle.undo_list.specs.Steps.{as_step, as_steps, is_start};

@@ -1,6 +1,6 @@
-//! What the list of a RESTORE depends on.
-ghost use Rattle.std.specs.Prelude.{◌≡◌, ◌++◌, [], ◌∷◌, filter, map, is_some, IfOk, OnOk};
-ghost use Rattle.terms.specs.Lookups.{applied_ids, changes_of, supby_of};
+//! What RESTORE looks into.
+ghost use Rattle.std.specs.Prelude.{◌≡◌, ◌++◌, [], ◌∷◌, not, filter, map, is_some, IfOk, OnOk};
+ghost use Rattle.terms.specs.Lookups.{is_supplied, applied_ids, changes_of, supby_of};
 
 use fields::Id;
 use std::alloc::{AllocError, Global as Heap};
@@ -10,14 +10,14 @@ use zones::{Entry, Zone};
 
 /// The `++VER`s that count, the target zone, and its distribution zone.
 #[derive(Clone, Copy)]
-pub(crate) struct Scope<'a, 'b> {
-    pub(crate) vers: &'a VerChoice<'b>,
-    pub(crate) zone: &'a Zone,
-    pub(crate) accepted: &'a Zone,
+pub struct Scope<'a, 'b> {
+    pub vers: &'a VerChoice<'b>,
+    pub zone: &'a Zone,
+    pub accepted: &'a Zone,
 }
 
 /// The element statements of a received SYSMOD.
-pub(crate) fn changes_of<'a>(vers: &VerChoice<'a>, id: Id) -> &'a [ElemChange]
+pub fn changes_of<'a>(vers: &VerChoice<'a>, id: Id) -> &'a [ElemChange]
     ensures { result.now ≡ changes_of vers.now.global.now id }
 {
     match vers.global().get(id) {
@@ -47,12 +47,33 @@ fn push_if_applied(entry: &Entry, found: &mut Vec<Id>) -> Result<(), AllocError>
 }
 
 /// The ids that are applied.
-pub(crate) fn applied_ids(alloc: Heap, zone: &Zone) -> Result<Vec<Id>, AllocError>
+pub fn applied_ids(alloc: Heap, zone: &Zone) -> Result<Vec<Id>, AllocError>
     ensures { IfOk result (λ found. found.items ≡ applied_ids zone.now) }
 {
     let mut found = Vec::new(alloc);
     for entry in zone.entries() {
         push_if_applied(entry, &mut found)?;
+    }
+    Ok(found)
+}
+
+fn push_if_unaccepted(accepted: &Zone, id: Id, found: &mut Vec<Id>) -> Result<(), AllocError>
+    ensures { OnOk result (found.new.items ≡ found.old.items
+        ++ filter (λ y. not (is_supplied accepted.now y)) (id ∷ [])) }
+{
+    if !accepted.supplies(id) {
+        found.push(id)?;
+    }
+    Ok(())
+}
+
+/// Those of these ids that the distribution zone does not supply.
+pub fn unaccepted(alloc: Heap, accepted: &Zone, ids: &[Id]) -> Result<Vec<Id>, AllocError>
+    ensures { IfOk result (λ found. found.items ≡ filter (λ y. not (is_supplied accepted.now y)) ids.now) }
+{
+    let mut found = Vec::new(alloc);
+    for id in ids {
+        push_if_unaccepted(accepted, *id, &mut found)?;
     }
     Ok(found)
 }

@@ -3,11 +3,12 @@ ghost use Rattle.std.specs.Prelude.{◌≡◌, ◌++◌, ◌∷◌, [], map, fil
 ghost use Rattle.std.specs.List.{flat_map};
 ghost use Rattle.terms.specs.Lookups.{at_most_one, is_applied, is_supplied, changes_of};
 ghost use Rattle.undo_list.specs.Steps.{as_steps, all_steps, by_requisite, from_element, from_function, from_suppliers};
-ghost use Rattle.undo_list.specs.Steps.{restoring_of, steps_of, to_element};
+ghost use Rattle.undo_list.specs.Steps.{steps_of, to_element};
+ghost use Rattle.undo_list.specs.Restoring.{restoring_of};
 
 use crate::nodes::{Node, Step, only, push_step, push_sysmods};
 use crate::scope::{Scope, applied_ids, changes_of};
-use crate::suppliers::suppliers;
+use crate::supply::suppliers;
 use fields::Id;
 use std::alloc::{AllocError, Global as Heap};
 use sysmods_records::ElemChange;

@@ -1,6 +1,6 @@
 use Rattle.std.proofs.Common.{◌∙◌, ◌++◌, ap, map}
 use Rattle.terms.specs.declared.codes.NeedKind.TheVariants.{Dep}
-use Rattle.undo.specs.Restoring.{restoring_of}
+use Rattle.undo_list.specs.Restoring.{restoring_of}
 use Rattle.undo.specs.Wants.{a_want}
 use Rattle.undo.proofs.Wanting.{are-wants}
 use Rattle.undo.proofs.wanted.all_wants.Goals as goal

@@ -1,4 +1,4 @@
-use Rattle.undo.specs.Restoring.{restoring_of}
+use Rattle.undo_list.specs.Restoring.{restoring_of}
 use Rattle.undo.proofs.Wanting.{have-elem}
 use Rattle.undo.proofs.wanted.elem_pairs.Goals as goal
 

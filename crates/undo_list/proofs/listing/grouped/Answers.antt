@@ -2,7 +2,8 @@ use Rattle.std.proofs.Common.{◌∙◌, ap, subst}
 use Rattle.std.proofs.lemmas.Result.{IfOk-weaker}
 use Rattle.terms.specs.Types.{RestoreGroup}
 use Rattle.terms.specs.Restore.{AreListed}
-use Rattle.undo_list.specs.Steps.{restoring, as_steps}
+use Rattle.undo_list.specs.Restoring.{restoring}
+use Rattle.undo_list.specs.Steps.{as_steps}
 use Rattle.undo_list.specs.ByNumbers.{AreReached}
 use Rattle.undo_list.proofs.ListedBySteps.{listed-from}
 use Rattle.undo_list.proofs.listing.grouped.Goals as goal

@@ -1,6 +1,7 @@
 use Rattle.std.proofs.Common.{◌≡◌, take}
 use Rattle.std.specs.List.{flat_map}
-use Rattle.undo_list.specs.Steps.{as_steps, restoring_of, steps_of}
+use Rattle.undo_list.specs.Restoring.{restoring_of}
+use Rattle.undo_list.specs.Steps.{as_steps, steps_of}
 use Rattle.undo_list.proofs.steps.all_steps.Given as goal
 
 abbrev pub invariant-loop-id : goal.invariant-loop-id

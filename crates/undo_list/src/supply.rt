@@ -1,7 +1,7 @@
 //! Who supplies an id.
 ghost use Rattle.std.specs.Prelude.{◌≡◌, ◌++◌, [], ◌∷◌, filter, IfOk, OnOk};
 ghost use Rattle.terms.specs.Lookups.{is_applied};
-ghost use Rattle.undo_list.specs.Steps.{suppliers};
+ghost use Rattle.undo_list.specs.Restoring.{suppliers};
 
 use crate::scope::superseders;
 use fields::Id;
@@ -18,7 +18,7 @@ fn push_if_applied(zone: &Zone, id: Id, found: &mut Vec<Id>) -> Result<(), Alloc
 }
 
 /// Adds those of these ids that are applied.
-pub(crate) fn push_applied(zone: &Zone, ids: &[Id], found: &mut Vec<Id>) -> Result<(), AllocError>
+pub fn push_applied(zone: &Zone, ids: &[Id], found: &mut Vec<Id>) -> Result<(), AllocError>
     ensures { OnOk result (found.new.items ≡ found.old.items ++ filter (is_applied zone.now) ids.now) }
 {
     for id in ids {
@@ -28,7 +28,7 @@ pub(crate) fn push_applied(zone: &Zone, ids: &[Id], found: &mut Vec<Id>) -> Resu
 }
 
 /// The applied SYSMODs that supply the id.
-pub(crate) fn suppliers(alloc: Heap, zone: &Zone, id: Id) -> Result<Vec<Id>, AllocError>
+pub fn suppliers(alloc: Heap, zone: &Zone, id: Id) -> Result<Vec<Id>, AllocError>
     ensures { IfOk result (λ found. found.items ≡ suppliers zone.now id) }
 {
     let mut found = Vec::new(alloc);
