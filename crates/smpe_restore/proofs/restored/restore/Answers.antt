@@ -9,7 +9,7 @@ use Rattle.solve.specs.Numbered.{IsProblemOf}
 use Rattle.machine.specs.Outcome.{StatusLine}
 use Rattle.machine.specs.Receiving.{place_of}
 use Rattle.report.specs.Views.{line_view}
-use Rattle.undo.specs.Restoring.{restoring}
+use Rattle.undo_list.specs.Restoring.{restoring}
 use Rattle.undo.proofs.Numbering.{same-pairs}
 use Rattle.smpe_restore.specs.Lines.{IsRestoreProblem}
 use Rattle.smpe_restore.proofs.restored.restore.Goals as goal
