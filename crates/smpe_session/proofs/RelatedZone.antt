@@ -1,12 +1,12 @@
 -- The target zone that is related to a distribution zone, found by its head.
-use Rattle.std.proofs.Common.{◌≡◌, ◌∙◌, Bool, true, false, List, [], ◌∷◌, Option, Some, None, IsTrue, Contains, map}
-use Rattle.std.proofs.Common.{refl, sym, ap, subst, inl, inr}
-use Rattle.std.specs.Prelude.{IsSome, is_some, find, option_map}
+use Rattle.std.proofs.Common.{◌≡◌, ◌∙◌, Bool, true, false, List, [], ◌∷◌, Option, Some, None, map}
+use Rattle.std.proofs.Common.{refl, sym, ap, subst}
+use Rattle.std.specs.Prelude.{find, option_map}
 use Rattle.std.specs.Option.{option_map_or}
 use Rattle.std.specs.Str.{bytes_eq}
 use Rattle.indexmap.specs.IndexMap.{get}
 use Rattle.terms.specs.declared.kinds.ZoneKind.TheVariants.{Target, Distribution}
-use Rattle.terms.specs.Types.{Text, Zone, NamedZone}
+use Rattle.terms.specs.Types.{Text, NamedZone}
 use Rattle.lemmas.proofs.Searches.{find-gives}
 use Rattle.store_schema.specs.Inventory.{IsInventory}
 use Rattle.store_zone_loads.specs.declared.head.ZoneHead.{ZoneHead}

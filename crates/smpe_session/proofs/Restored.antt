@@ -1,11 +1,8 @@
 -- Where RESTORE runs, and what it leads to.
-use Rattle.std.proofs.Common.{◌≡◌, ◌∙◌, Bool, true, false, List, Contains, Option, Some, None, refl, sym, ap, subst, inr}
-use Rattle.std.proofs.Common.{All, inl}
-use Rattle.std.specs.Prelude.{IsSome, is_some, IsErrAnd, Result, Ok, Err, find, option_map, if◌then◌else◌}
+use Rattle.std.proofs.Common.{◌≡◌, ◌∙◌, Bool, List, Option, Some, None, refl, sym, ap, subst, inl, inr}
+use Rattle.std.specs.Prelude.{IsSome, is_some, find, option_map, if◌then◌else◌}
 use Rattle.std.specs.Option.{option_and_then}
 use Rattle.std.specs.Str.{bytes_eq}
-use Rattle.std.proofs.lemmas.List.Elements.{All-contains}
-use Rattle.std.proofs.lemmas.Result.{err_from_is_err_and}
 use Rattle.indexmap.specs.IndexMap.{get}
 use Rattle.terms.specs.declared.kinds.ZoneKind.{ZoneKind}
 use Rattle.terms.specs.declared.kinds.ZoneKind.TheVariants.{Target}
@@ -14,18 +11,17 @@ use Rattle.lemmas.proofs.Searches.{All-find}
 use Rattle.zones.specs.Delta.{ZoneDelta, IsChanged}
 use Rattle.store_zones.specs.Zones.{IsZoneChange}
 use Rattle.store_schema.specs.Inventory.{IsInventory, IsRelated}
-use Rattle.machine.specs.Outcome.{Header, Line, Ran, header_of}
+use Rattle.machine.specs.Outcome.{Line, Ran, header_of}
 use Rattle.machine.specs.Restoring.{RestoresListed}
-use Rattle.machine.specs.State.{State, global_name, zone_named, with_zone}
+use Rattle.machine.specs.State.{State, zone_named, with_zone}
 use Rattle.machine.specs.Machine.{Files, Performs}
-use Rattle.report.specs.declared.outcome.Refusal.{Refusal}
 use Rattle.store.specs.Kept.{kept}
 use Rattle.smpe_upkeep.proofs.RestoreForms.{restore_kept}
 use Rattle.smpe_session.specs.declared.session.Session.{Session}
 use Rattle.smpe_session.specs.Sessions.{IsSessionOf}
 use Rattle.smpe_session.specs.Steps.{IsSought}
 use Rattle.smpe_session.specs.Places.{IsPlace}
-use Rattle.smpe_session.specs.Restored.{HasAccepted, IsTarget, HasTarget, IsRestorePlan}
+use Rattle.smpe_session.specs.Restored.{HasAccepted, IsTarget, IsRestorePlan}
 use Rattle.smpe_session.proofs.Installed.{zone-change}
 use Rattle.smpe_session.proofs.Places.{none-global, restore-at}
 use Rattle.smpe_session.proofs.StateZones.{its-own, sought-held}
@@ -39,8 +35,8 @@ IsName at accepted = accepted ≡ related_in (option_and_then (get bytes_eq at.z
 
 module _ (s : State) (inventory : IsInventory (kept s)) where
   -- it is that of the state's zone
-  name_is : (at : Session) (accepted : Option Text) → IsSessionOf s at → IsName at accepted → (name : Text) (zone : Zone)
-      → s.boundary ≡ Some name → zone_named s.zones name ≡ Some zone → accepted ≡ zone.related
+  name_is : (at : Session) (accepted : Option Text) → IsSessionOf s at → IsName at accepted
+      → (name : Text) (zone : Zone) → s.boundary ≡ Some name → zone_named s.zones name ≡ Some zone → accepted ≡ zone.related
   name_is at accepted is named name zone bound there =
       named ∙ ap (λ b. related_in (option_and_then (get bytes_eq at.zones) b)) (is.boundary ∙ bound)
       ∙ by (get bytes_eq at.zones name) refl
@@ -159,6 +155,7 @@ module _ (s : State) (at : Session) (name : Text) (zone accepted new : Zone) (wh
   pub restore-commits : (delta : ZoneDelta) → IsChanged delta zone new → {Committed : Type 0} → IsInventory (kept s)
       → ((was : Zone) → IsZoneChange name was new (kept s) (kept (with_zone s name new)) → IsChanged delta was new
       → IsInventory (kept (with_zone s name new)) → IsSome (get bytes_eq at.zones name) → Committed) → Committed
-  restore-commits delta changed is commits = commits zone (zone-change (kept s) name zone new is target.is_there) changed
+  restore-commits delta changed is commits = commits zone
+      (zone-change (kept s) name zone new is target.is_there) changed
       (restore_kept (kept s) name zone accepted new what lines is target.is_there target.related restores)
       (subst IsSome (sym target.has) refl)

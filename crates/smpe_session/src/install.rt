@@ -43,7 +43,7 @@ pub(crate) struct Place<'a> {
     pub zone: &'a Zone,
 }
 
-/// What an APPLY, ACCEPT or RESTORE comes to before it is committed: the zone's change, the changed zone, and the lines.
+/// What an APPLY, ACCEPT or RESTORE comes to before it is committed: the zone's change, the changed zone and the lines.
 #[derive(Drop)]
 pub(crate) struct Planned {
     pub delta: ZoneDelta,

@@ -123,8 +123,13 @@ impl Session {
         match self.target(accepted) {
             Ok(target) => {
                 let name = target.name;
-                let Planned { delta, zone, lines } =
-                    plan(alloc, &self.global, target.zone, target.accepted, list)?;
+                let Planned { delta, zone, lines } = plan(
+                    alloc,
+                    &self.global,
+                    target.zone,
+                    target.accepted,
+                    list,
+                )?;
                 // The changed zone was made all the same: it shows that the lines are those of a RESTORE.
                 if check {
                     return Ok(Outcome::Ran { header, lines });

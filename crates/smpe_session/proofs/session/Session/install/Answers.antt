@@ -5,6 +5,7 @@ use Rattle.machine.specs.State.{with_zone}
 use Rattle.report.specs.Views.{line_view, header_view, refusal_view}
 use Rattle.smpe_session.specs.Places.{install_command}
 use Rattle.smpe_session.proofs.Installed.{planned, install-session, install-performs, install-commits, install-refused}
+use Rattle.smpe_session.proofs.Places.{install-at}
 use Rattle.smpe_session.proofs.Stepping.{kept-inventory, performs-unmoved, performs-short, performs-staying}
 use Rattle.smpe_session.proofs.Stepping.{staying-unsettled}
 use Rattle.smpe_session.proofs.session.Session.install.Goals as goal

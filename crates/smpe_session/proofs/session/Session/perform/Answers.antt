@@ -15,7 +15,8 @@ returns-in-Receive-clause-ended g c = λ clean s is keeps. rw c.in-Receive.is
 pub returns-in-Reject-clause-ended : goal.returns-in-Reject-clause-ended
 returns-in-Reject-clause-ended g c = λ clean s is keeps. rw c.in-Reject.is
     (done-by g.S.Store c.reject.new.store s c.reject.new.self c.args.date c.args.files.now _ c.reject.result
-    c.told-in-Reject.result c.told-in-Reject.ensures (c.reject.ensures.ended clean s is keeps c.args.date c.args.files.now))
+    c.told-in-Reject.result c.told-in-Reject.ensures
+    (c.reject.ensures.ended clean s is keeps c.args.date c.args.files.now))
 
 pub returns-in-Apply-clause-ended : goal.returns-in-Apply-clause-ended
 returns-in-Apply-clause-ended g c = λ clean s is keeps. rw c.in-Apply.is
