@@ -1,6 +1,6 @@
 -- What APPLY and ACCEPT make of a zone, and what they print of each id.
 -- (IBM z/OS SMP/E Commands, APPLY and ACCEPT processing. The lines are this project's.)
-use Rattle.std.specs.Prelude.{◌≡◌, ◌↔◌, Bool, List, [], ◌∷◌, Option, Some, IsTrue, Contains, All, not, filter, map}
+use Rattle.std.specs.Prelude.{◌≡◌, ◌↔◌, Bool, List, [], ◌∷◌, Option, Some, IsTrue, Contains, filter, map}
 use Rattle.std.specs.List.{flat_map}
 use Rattle.terms.specs.declared.kinds.ZoneKind.{ZoneKind}
 use Rattle.terms.specs.declared.kinds.ZoneKind.TheVariants.{Target, Distribution}
@@ -11,12 +11,12 @@ use Rattle.terms.specs.declared.codes.NeedKind.TheVariants as need
 use Rattle.terms.specs.declared.not_chosen.NotChosen.{NotChosen}
 use Rattle.terms.specs.declared.not_chosen.NotChosen.TheVariants as out
 use Rattle.terms.specs.Types.{Text, Id, Global, Zone, Bypass, Selection}
-use Rattle.terms.specs.Lookups.{IsRising, is_in}
+use Rattle.terms.specs.Lookups.{IsRising}
 use Rattle.terms.specs.Choice.{counting}
 use Rattle.terms.specs.Tests.{Setting, Fails, IsEligible, AreSurvivors}
 use Rattle.terms.specs.Needs.{Needs, Serves, bypassed_ids}
 use Rattle.terms.specs.Candidates.{AreCandidates, not_chosen}
-use Rattle.terms.specs.Judged.{setting, Stays, IsKeptSet}
+use Rattle.terms.specs.Judged.{setting, IsKeptSet}
 use Rattle.terms.specs.Failures.{IsOpenNeed, IsCauser}
 use Rattle.terms.specs.Install.{Installation, TakesEffect, HasInstalled}
 use Rattle.machine.specs.Outcome.{Status, Already, Applied, Accepted, Superseded, Failed, Failure, Deleted, Missing}
@@ -73,16 +73,6 @@ pub record IsDecision (g : Global) (zone : Zone) (related : Option Zone) (sel : 
     bypassed = bypassed;
     date = date;
   }
-
--- which candidates of a setting are kept, rising, and why each other one is not, in the order of the candidates
-pub record IsDecided (s : Setting) (kept : List Id) (failed : List (Id × Failure)) : Type 0 where
-  pub survivors : List Id
-  pub are_survivors : AreSurvivors s survivors
-  pub rising : IsRising kept
-  pub members : (x : Id) → Contains kept x ↔ Stays s survivors x
-  pub ids : map (λ p. p.0) failed ≡ filter (λ x. not (is_in kept x)) s.cands
-  pub failures : All (λ p. IsFailure s.cands kept (Fails s) (IsEligible s) (Needs s survivors) (Serves s.choice) p.0
-      p.1) failed
 
 -- the status of what is installed
 abbrev pub installed_status : ZoneKind → Status

@@ -8,11 +8,13 @@ mod global_lines;
 mod lines;
 mod outcome;
 mod pieces;
+mod places;
 mod sink;
 mod write;
 mod zone_lines;
 
 pub use outcome::{Failure, Header, Line, OpenNeed, Outcome, Place, Refusal, Status};
 pub use pieces::{put, write_all};
+pub use places::place_of;
 pub use sink::{Out, Sink, WriteFault};
 pub use write::write_report;

@@ -7,7 +7,6 @@
 mod applied;
 mod decided;
 mod lines;
-mod places;
 mod statuses;
 
 pub use applied::{Applied, apply};

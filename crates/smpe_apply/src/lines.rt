@@ -5,9 +5,8 @@ ghost use Rattle.machine.specs.Receiving.{place_of};
 ghost use Rattle.report.specs.Views.{line_view, status_view};
 ghost use Rattle.smpe_apply.specs.Statuses.{said, status_line, IsById, AreById};
 
-use crate::places::place;
 use fields::Id;
-use report::{Line, Status};
+use report::{Line, Status, place_of};
 use std::alloc::{AllocError, Global as Heap};
 use sysmods::Global;
 
@@ -23,7 +22,7 @@ fn line(global: &Global, id: Id, status: Status) -> Line
 {
     Line::Status {
         id,
-        place: place(global, id),
+        place: place_of(global, id),
         status,
     }
 }

@@ -2,16 +2,16 @@
 ghost use Rattle.std.specs.Prelude.{◌≡◌, ◌++◌, IfOk, OnOk, if◌then◌else◌};
 ghost use Rattle.terms.specs.Lookups.{sysmod_of};
 ghost use Rattle.machine.specs.Outcome.{Assigned, Unknown};
-ghost use Rattle.machine.specs.Receiving.{AssignsId, place_of};
+ghost use Rattle.machine.specs.Receiving.{AssignsId};
 ghost use Rattle.machine.specs.Runs.{Runs};
-ghost use Rattle.report.specs.Views.{place_view, status_view};
+ghost use Rattle.report.specs.Views.{status_view};
 ghost use Rattle.smpe_receive.specs.Edits.{head_of, source_edits};
 ghost use Rattle.smpe_receive.specs.Taken.{IsTaken};
 
 use crate::taken::Taken;
 use fields::{Id, Source};
 use mcs::Assign;
-use report::{Line, Place, Status};
+use report::{Line, Status, place_of};
 use std::alloc::{AllocError, Global as Heap};
 use sysmods::{Global, GlobalEdit};
 use sysmods_records::Sysmod;
@@ -43,15 +43,6 @@ fn write_sources(
         edits.push(GlobalEdit::ReplaceSources(head_of(alloc, sysmod)?))?;
     }
     Ok(())
-}
-
-fn place_of(global: &Global, id: Id) -> Place
-    ensures { place_view result ≡ place_of global.now id }
-{
-    match global.get(id) {
-        Some(sysmod) => Place::Kind(sysmod.kind),
-        None => Place::NotReceived,
-    }
 }
 
 fn status_of(source: Source, received: bool) -> Status

@@ -5,16 +5,15 @@ ghost use Rattle.indexmap.specs.IndexMap.{values, IsUnique};
 ghost use Rattle.terms.specs.Types.{NamedZone};
 ghost use Rattle.terms.specs.Lookups.{is_applied};
 ghost use Rattle.machine.specs.Runs.{Runs};
-ghost use Rattle.machine.specs.Receiving.{place_of};
 ghost use Rattle.machine.specs.Rejecting.{RejectsId};
-ghost use Rattle.report.specs.Views.{line_view, place_view};
+ghost use Rattle.report.specs.Views.{line_view};
 ghost use Rattle.sysmods.specs.Edits.{EachFits, after_edits};
 ghost use Rattle.smpe_reject.specs.Rejections.{AppliesAlike, IsAnswered, IsRejected};
 
 use crate::edits::write_rejected;
 use fields::{Id, IdList, ZoneName};
 use indexmap::IndexMap;
-use report::{Line, Place, Status};
+use report::{Line, Status, place_of};
 use std::alloc::{AllocError, Global as Heap};
 use sysmods::{Global, GlobalEdit};
 use terms::IdRefusal;
@@ -32,16 +31,6 @@ fn is_applied(zones: &IndexMap<ZoneName, Zone>, id: Id) -> bool
     ensures { result ≡ list_any (λ zone. is_applied zone id) (values zones.now) }
 {
     zones.values().any(|zone| zone.is_applied(id))
-}
-
-/// The type of a received SYSMOD.
-fn place_of(global: &Global, id: Id) -> Place
-    ensures { place_view result ≡ place_of global.now id }
-{
-    match global.get(id) {
-        Some(sysmod) => Place::Kind(sysmod.kind),
-        None => Place::NotReceived,
-    }
 }
 
 /// Takes a SYSMOD out of the global zone, or refuses it.

@@ -5,7 +5,6 @@
 
 mod deciding;
 mod lines;
-mod places;
 mod restored;
 
 pub use restored::{Restored, restore};

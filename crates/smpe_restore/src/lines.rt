@@ -7,9 +7,8 @@ ghost use Rattle.terms.specs.Rising.{Rises};
 ghost use Rattle.report.specs.Views.{failure_view, line_view, status_view};
 ghost use Rattle.smpe_restore.specs.Lines.{status_in, line_in};
 
-use crate::places::place;
 use fields::{Id, IdList};
-use report::{Failure, Line, Status};
+use report::{Failure, Line, Status, place_of};
 use std::alloc::{AllocError, Global as Heap};
 use sysmods::Global;
 
@@ -45,7 +44,7 @@ fn line(
     let status = status_of(alloc, id, kept, failed)?;
     Ok(Line::Status {
         id,
-        place: place(global, id),
+        place: place_of(global, id),
         status,
     })
 }

@@ -3,12 +3,12 @@ ghost use Rattle.std.specs.Prelude.{◌≡◌};
 ghost use Rattle.machine.specs.Receiving.{place_of};
 ghost use Rattle.report.specs.Views.{place_view};
 
+use crate::outcome::Place;
 use fields::Id;
-use report::Place;
 use sysmods::Global;
 
 /// The type of a received SYSMOD.
-pub(crate) fn place(global: &Global, id: Id) -> Place
+pub fn place_of(global: &Global, id: Id) -> Place
     ensures { place_view result ≡ place_of global.now id }
 {
     match global.get(id) {
