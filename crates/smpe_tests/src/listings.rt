@@ -221,3 +221,109 @@ pub(crate) const TWO_CAUSERS: &[Step] = &[
         code: 8,
     },
 ];
+
+/// A zone with something in each column: a superseded and a deleted entry, a waived requisite, an update, two types of
+/// elements; and the global zone with a source and with a hold of each mark.
+pub(crate) const EVERY_COLUMN: &[Step] = &[
+    FUNCTION_RECEIVED,
+    FUNCTION_INSTALLED,
+    Step {
+        cntl: &["SET BDY(GLOBAL).", "RECEIVE SOURCEID(SRC1)."],
+        ptfin: &[
+            &["++FUNCTION(HCC1200).", "++VER(Z038) DELETE(HDD1100)."],
+            &["++FUNCTION(HDD1100).", "++VER(Z038)."],
+            &[
+                "++PTF(UA00061).",
+                "++VER(Z038) FMID(HAA1100) PRE(UA00062) SUP(AA00001).",
+                "++HOLD(UA00061) SYSTEM FMID(HAA1100) REASON(ACTION).",
+                "++MACUPD(M1).",
+                "./ CHANGE NAME=M1",
+                "         UPDATED                                                        00000015",
+                "++CLIST(C1) DISTLIB(ACLIST) SYSLIB(CLIST).",
+                "PROC 0",
+            ],
+        ],
+        rest: "",
+        hold: &["++HOLD(UA00099) USER FMID(HAA1100) REASON(WAIT)."],
+        report: "SET GLOBAL\nRC 00\nRECEIVE GLOBAL\nHCC1200 FUNCTION RECEIVED\nHDD1100 FUNCTION RECEIVED\n\
+            UA00061 PTF      RECEIVED\nUA00099 USER     HELD WAIT\nRC 00\n",
+        code: 0,
+    },
+    Step {
+        cntl: &[
+            "SET BDY(TGT1).",
+            "APPLY SELECT(HDD1100).",
+            "APPLY SELECT(HCC1200,UA00061) BYPASS(PRE,HOLDSYSTEM).",
+        ],
+        ptfin: &[],
+        rest: "",
+        hold: &[],
+        report: "SET TGT1\nRC 00\nAPPLY TGT1\nHDD1100 FUNCTION APPLIED\nRC 00\nAPPLY TGT1\n\
+            HCC1200 FUNCTION APPLIED\nUA00061 PTF      APPLIED\nRC 00\n",
+        code: 0,
+    },
+    Step {
+        cntl: &["SET BDY(TGT1).", "LIST TEXT.", "SET BDY(GLOBAL).", "LIST."],
+        ptfin: &[],
+        rest: "",
+        hold: &[],
+        report: "SET TGT1\nRC 00\nLIST TGT1\nENTRY AA00001 - SUPBY UA00061 DELBY - WAIVED -\n\
+            ENTRY HAA1100 APPLIED 24.138 SUPBY - DELBY - WAIVED -\n\
+            ENTRY HCC1200 APPLIED 24.138 SUPBY - DELBY - WAIVED -\n\
+            ENTRY HDD1100 - SUPBY - DELBY HCC1200 WAIVED -\n\
+            ENTRY UA00061 APPLIED 24.138 SUPBY - DELBY - WAIVED UA00062\n\
+            ELEM MAC   M1       FMID HAA1100 RMID HAA1100 UMID UA00061 DISTLIB AMACLIB SYSLIB MACLIB\n\
+            \x20          MACRO                                                          00000010\n\
+            \x20          UPDATED                                                        00000015\n\
+            \x20          MEND                                                           00000020\n\
+            ELEM CLIST C1       FMID HAA1100 RMID UA00061 UMID - DISTLIB ACLIST SYSLIB CLIST\n\
+            \x20 PROC 0                                                                          \nRC 00\n\
+            SET GLOBAL\nRC 00\nLIST GLOBAL\nSYSMOD HAA1100 FUNCTION SOURCEID -\n\
+            SYSMOD HCC1200 FUNCTION SOURCEID SRC1\nSYSMOD HDD1100 FUNCTION SOURCEID SRC1\n\
+            SYSMOD UA00061 PTF      SOURCEID SRC1\nHOLD UA00061 SYSTEM ACTION INTERNAL\n\
+            HOLD UA00099 USER   WAIT EXTERNAL\nRC 00\n",
+        code: 0,
+    },
+];
+
+/// What resolves an error may supersede its reason by several steps.
+pub(crate) const RESOLVED_IN_STEPS: &[Step] = &[
+    FUNCTION_RECEIVED,
+    FUNCTION_INSTALLED,
+    Step {
+        cntl: &[
+            "SET BDY(GLOBAL).",
+            "RECEIVE SYSMODS.",
+            "SET BDY(TGT1).",
+            "APPLY SELECT(UA00071).",
+        ],
+        ptfin: &[
+            &["++PTF(UA00071).", "++VER(Z038) FMID(HAA1100)."],
+            &["++PTF(UA00072).", "++VER(Z038) FMID(HAA1100) SUP(AA00071)."],
+            &["++PTF(UA00073).", "++VER(Z038) FMID(HAA1100) SUP(UA00072)."],
+        ],
+        rest: "",
+        hold: &[],
+        report: "SET GLOBAL\nRC 00\nRECEIVE GLOBAL\nUA00071 PTF      RECEIVED\nUA00072 PTF      RECEIVED\n\
+            UA00073 PTF      RECEIVED\nRC 00\nSET TGT1\nRC 00\nAPPLY TGT1\nUA00071 PTF      APPLIED\nRC 00\n",
+        code: 0,
+    },
+    Step {
+        cntl: &[
+            "SET BDY(GLOBAL).",
+            "RECEIVE HOLDDATA.",
+            "SET BDY(TGT1).",
+            "REPORT ERRSYSMODS.",
+        ],
+        ptfin: &[],
+        rest: "",
+        hold: &[
+            "++HOLD(UA00071) ERROR FMID(HAA1100) REASON(AA00070).",
+            "++HOLD(UA00071) ERROR FMID(HAA1100) REASON(AA00071).",
+        ],
+        report: "SET GLOBAL\nRC 00\nRECEIVE GLOBAL\nUA00071 ERROR    HELD AA00070\n\
+            UA00071 ERROR    HELD AA00071\nRC 00\nSET TGT1\nRC 00\nREPORT TGT1\nERRSYSMOD UA00071 AA00070\n\
+            \x20 RESOLVER -\nERRSYSMOD UA00071 AA00071\n  RESOLVER UA00072\n  RESOLVER UA00073\nRC 04\n",
+        code: 4,
+    },
+];
