@@ -12,9 +12,10 @@ use Rattle.lemmas.proofs.Members.{here, none_in, in_map, in_filter, filter_in}
 use Rattle.lemmas.proofs.Places.{contains_at}
 use Rattle.lemmas.proofs.Searches.{find-gives, All-find, All-from_no_list_any}
 use Rattle.lemmas.proofs.Texts.{same_from}
-use Rattle.terms.specs.Types.{Text, Id, Ver, Sysmod, Global, Zone}
+use Rattle.terms.specs.Types.{Text, Id, IfReq, Ver, Sysmod, Global, Zone}
 use Rattle.terms.specs.Lookups.{at_most_one, sysmod_of, is_received, is_function}
-use Rattle.terms.specs.Choice.{Choice, vers_of, fits, or_first, counting, fmid_of, pre_of, sup_of}
+use Rattle.terms.specs.Choice.{Choice, vers_of, fits, or_first, counting, fmid_of, pre_of, sup_of, del_of}
+use Rattle.terms.specs.Choice.{ifs_of}
 use Rattle.sysmods.specs.declared.choice.VerChoice.{VerChoice}
 use Rattle.sysmods.specs.Choices.{choice}
 use Rattle.terms.specs.Over.{Reaches, Supersedes, names}
@@ -65,9 +66,9 @@ module _ (g : Global) (srel : Text) (c : Choice) (are : AreFor g srel c) where
       by (Some s) at among = record { sysmod = s; received = at; among = among }
 
   -- what names anything has a ++VER that does
-  named_by : (list : Ver → List Id) (x z : Id) → Contains (option_map_or list (c x) []) z
+  named_by : {X : Type 0} (list : Ver → List X) (x : Id) (z : X) → Contains (option_map_or list (c x) []) z
       → (v : Ver) × Chosen x v × Contains (list v) z
-  named_by list x z = by (c x) refl
+  named_by {X} list x z = by (c x) refl
     where
       by : (o : Option Ver) → c x ≡ o → Contains (option_map_or list o []) z
           → (v : Ver) × Chosen x v × Contains (list v) z
@@ -133,21 +134,40 @@ module _ (g : Global) (srel : Text) (c : Choice) (are : AreFor g srel c) where
         (filter_in (λ v. bytes_eq v.srel srel) from.sysmod.vers v from.among).0 in
         neither (list_any (is_function g) v.sup) (list_any (is_service g) (named_functions v)) fits
 
-    -- a received FMID is a function
-    pub fmid_function : (x f : Id) → fmid_of c x ≡ Some f → IsTrue (is_received g f)
+    -- What a ++VER names as a function is one, if it is received.
+    function_named : (x f : Id) (v : Ver) → Chosen x v → Contains (named_functions v) f → IsTrue (is_received g f)
         → IsTrue (is_function g f)
-    fmid_function x f at received =
-        let v = (fmid_by x f at).0 in
-        let names : Contains (named_functions v) f =
-        Contains-append_left (v.del ++ at_most_one v.fmid) (map (λ i. i.function) v.ifs) f
-        (Contains-append_right v.del (at_most_one v.fmid) f
-        (subst (λ o. Contains (at_most_one o) f) (sym (fmid_by x f at).2) (here f []))) in
-        by (is_function g f) (sym (ap (λ b. b && not (is_function g f)) received)
-        ∙ fails_test (is_service g) (named_functions v) (chosen_fits x v (fmid_by x f at).1).1 f names)
+    function_named x f v from names received = by (is_function g f) (sym (ap (λ b. b && not (is_function g f)) received)
+        ∙ fails_test (is_service g) (named_functions v) (chosen_fits x v from).1 f names)
       where
         by : (b : Bool) → not b ≡ false → b ≡ true
         by true is = refl
         by false is = absurd (true≢false is)
+
+    -- So are a received FMID, what DELETE names, and the functions of ++IFs.
+    pub fmid_function : (x f : Id) → fmid_of c x ≡ Some f → IsTrue (is_received g f)
+        → IsTrue (is_function g f)
+    fmid_function x f at received =
+        let by = fmid_by x f at in
+        function_named x f by.0 by.1
+        (Contains-append_left (by.0.del ++ at_most_one by.0.fmid) (map (λ i. i.function) by.0.ifs) f
+        (Contains-append_right by.0.del (at_most_one by.0.fmid) f
+        (subst (λ o. Contains (at_most_one o) f) (sym by.2) (here f [])))) received
+
+    pub deleted_function : (x f : Id) → Contains (del_of c x) f → IsTrue (is_received g f) → IsTrue (is_function g f)
+    deleted_function x f deletes received =
+        let by = named_by (λ v. v.del) x f deletes in
+        function_named x f by.0 by.1
+        (Contains-append_left (by.0.del ++ at_most_one by.0.fmid) (map (λ i. i.function) by.0.ifs) f
+        (Contains-append_left by.0.del (at_most_one by.0.fmid) f by.2)) received
+
+    pub if_function : (x : Id) (i : IfReq) → Contains (ifs_of c x) i → IsTrue (is_received g i.function)
+        → IsTrue (is_function g i.function)
+    if_function x i has received =
+        let by = named_by (λ v. v.ifs) x i has in
+        function_named x i.function by.0 by.1
+        (Contains-append_right (by.0.del ++ at_most_one by.0.fmid) (map (λ i. i.function) by.0.ifs) i.function
+        (in_map (λ (i : IfReq). i.function) by.0.ifs i by.2)) received
 
     -- nothing supersedes a received function
     pub function_first : (f : Id) → IsTrue (is_function g f) → (y : Id) → ¬ Supersedes c y f

@@ -91,7 +91,7 @@ module _ (g : Global) (type : ElemType) (name : Text) where
       list_any-map (λ j. element_eq j (type, name)) (λ (h : Change). (h.elem_type, h.name)) (changes_of g x)
       ∙ sym (found-any (λ (h : Change). element_eq (h.elem_type, h.name) (type, name)) (changes_of g x))
 
-  by_some : (xs : List Id)
+  pub by_some : (xs : List Id)
       → list_any (λ j. element_eq j (type, name)) (all_changed g xs) ≡ list_any (λ x. has_change g x type name) xs
   by_some [] = refl
   by_some (x ∷ xs) =

@@ -29,7 +29,8 @@ module _ {S A B : Type 0} (Steps : S → A → S → List B → Type 0) where
 module _ {S A : Type 0} (Steps : S → A → S → List ℕ → Type 0) where
   module _ {C : Type 0} (kept : S → C) where
     -- no act, and nothing printed
-    pub ran-none : (s : S) (Tables Leaves : C → Type 0) (a : Option (List ℕ)) → Stands Tables Leaves (kept s)
+    pub ran-none : (s : S) (Tables : C → Type 0) (Leaves : (C → Type 0) → Type 0) (a : Option (List ℕ))
+        → Stands Tables Leaves (kept s)
         → Ran Steps kept s [] Tables Leaves a a
     ran-none s Tables Leaves a stands = record {
       end = s;
@@ -40,10 +41,11 @@ module _ {S A : Type 0} (Steps : S → A → S → List ℕ → Type 0) where
     }
 
     -- a run, and then one from where it led
-    pub ran-append : (s : S) (xs ys : List A) (Tables Leaves Tables' Leaves' : C → Type 0) (a b c : Option (List ℕ))
+    pub ran-append : (s : S) (xs ys : List A) (Tables Tables' : C → Type 0) (Leaves Leaves' : (C → Type 0) → Type 0)
+        (a b c : Option (List ℕ))
         → (front : Ran Steps kept s xs Tables Leaves a b) → Ran Steps kept front.end ys Tables' Leaves' b c
         → Ran Steps kept s (xs ++ ys) Tables' Leaves' a c
-    ran-append s xs ys Tables Leaves Tables' Leaves' a b c front back = record {
+    ran-append s xs ys Tables Tables' Leaves Leaves' a b c front back = record {
       end = back.end;
       bytes = front.bytes ++ back.bytes;
       runs = runs-append Steps s front.end back.end xs ys front.bytes back.bytes front.runs back.runs;
@@ -52,10 +54,11 @@ module _ {S A : Type 0} (Steps : S → A → S → List ℕ → Type 0) where
     }
 
     -- a run, and then one that stopped
-    pub stopped-after : (s : S) (xs ys : List A) (Tables Leaves Tables' Leaves' : C → Type 0) (a b c : Option (List ℕ))
+    pub stopped-after : (s : S) (xs ys : List A) (Tables Tables' : C → Type 0) (Leaves Leaves' : (C → Type 0) → Type 0)
+        (a b c : Option (List ℕ))
         → (front : Ran Steps kept s xs Tables Leaves a b) → Stopped Steps kept front.end ys Tables' Leaves' b c
         → Stopped Steps kept s (xs ++ ys) Tables' Leaves' a c
-    stopped-after s xs ys Tables Leaves Tables' Leaves' a b c front back = record {
+    stopped-after s xs ys Tables Tables' Leaves Leaves' a b c front back = record {
       done = xs ++ back.done;
       rest = back.rest;
       acts_are = ap (λ zs. xs ++ zs) back.acts_are ∙ sym (append_assoc xs back.done back.rest);
@@ -73,9 +76,10 @@ module _ {S A : Type 0} (Steps : S → A → S → List ℕ → Type 0) where
     after-more s [] more c h = absurd h
     after-more s (next ∷ rest) more c h = h
 
-    pub stopped-more : (s : S) (xs ys : List A) (Tables Leaves : C → Type 0) (a b : Option (List ℕ))
+    pub stopped-more : (s : S) (xs ys : List A) (Tables : C → Type 0) (Leaves : (C → Type 0) → Type 0)
+        → ((P Q : C → Type 0) → ((c : C) → P c → Q c) → Leaves P → Leaves Q) → (a b : Option (List ℕ))
         → Stopped Steps kept s xs Tables Leaves a b → Stopped Steps kept s (xs ++ ys) Tables Leaves a b
-    stopped-more s xs ys Tables Leaves a b stop = record {
+    stopped-more s xs ys Tables Leaves weaken a b stop = record {
       done = stop.done;
       rest = stop.rest ++ ys;
       acts_are = ap (λ zs. zs ++ ys) stop.acts_are ∙ append_assoc stop.done stop.rest ys;
@@ -83,7 +87,7 @@ module _ {S A : Type 0} (Steps : S → A → S → List ℕ → Type 0) where
       bytes = stop.bytes;
       runs = stop.runs;
       now = stop.now;
-      crash = λ c left. weaker c (stop.crash c left);
+      crash = weaken _ _ weaker stop.crash;
       appends = stop.appends;
     }
       where
@@ -93,10 +97,11 @@ module _ {S A : Type 0} (Steps : S → A → S → List ℕ → Type 0) where
         weaker c (inr after) = inr (after-more stop.end stop.rest ys c after)
 
     -- a run, and then one that broke off
-    pub broke-after : (s : S) (xs ys : List A) (Tables Leaves Tables' Leaves' : C → Type 0) (a b c : Option (List ℕ))
+    pub broke-after : (s : S) (xs ys : List A) (Tables Tables' : C → Type 0) (Leaves Leaves' : (C → Type 0) → Type 0)
+        (a b c : Option (List ℕ))
         → (front : Ran Steps kept s xs Tables Leaves a b) → BrokeOff Steps kept front.end ys Tables' Leaves' b c
         → BrokeOff Steps kept s (xs ++ ys) Tables' Leaves' a c
-    broke-after s xs ys Tables Leaves Tables' Leaves' a b c front back = record {
+    broke-after s xs ys Tables Tables' Leaves Leaves' a b c front back = record {
       done = xs ++ back.done;
       last = back.last;
       rest = back.rest;
@@ -115,7 +120,8 @@ module _ {S A : Type 0} (Steps : S → A → S → List ℕ → Type 0) where
           (Appends-trans a b c front.bytes (back.bytes ++ back.piece) front.appends back.appends);
     }
 
-    pub broke-more : (s : S) (xs ys : List A) (Tables Leaves : C → Type 0) (a b : Option (List ℕ))
+    pub broke-more : (s : S) (xs ys : List A) (Tables : C → Type 0) (Leaves : (C → Type 0) → Type 0)
+        (a b : Option (List ℕ))
         → BrokeOff Steps kept s xs Tables Leaves a b → BrokeOff Steps kept s (xs ++ ys) Tables Leaves a b
     broke-more s xs ys Tables Leaves a b broke = record {
       done = broke.done;

@@ -9,14 +9,15 @@ Runs Steps s [] t printed = (t ≡ s) × (printed ≡ [])
 Runs {S} {A} {B} Steps s (a ∷ more) t printed =
     (m : S) × (front back : List B) × Steps s a m front × Runs Steps m more t back × (printed ≡ front ++ back)
 
--- the tables stand for this, and a crash leaves nothing else
-pub record Stands {C : Type 0} (Tables Leaves : C → Type 0) (c : C) : Type 0 where
+-- The tables stand for this, and so does each database that a crash may leave. `Leaves` says of some c that each such
+-- database stands for one of them.
+pub record Stands {C : Type 0} (Tables : C → Type 0) (Leaves : (C → Type 0) → Type 0) (c : C) : Type 0 where
   pub now : Tables c
-  pub crash : (d : C) → Leaves d → d ≡ c
+  pub crash : Leaves (λ d. d ≡ c)
 
 -- All acts ran: the tables stand for what they lead to, and the bytes are theirs.
 pub record Ran {S A C : Type 0} (Steps : S → A → S → List ℕ → Type 0) (kept : S → C) (s : S) (acts : List A)
-    (Tables Leaves : C → Type 0) (old new : Option (List ℕ)) : Type 0 where
+    (Tables : C → Type 0) (Leaves : (C → Type 0) → Type 0) (old new : Option (List ℕ)) : Type 0 where
   pub end : S
   pub bytes : List ℕ
   pub runs : Runs Steps s acts end bytes
@@ -30,7 +31,7 @@ IsAfterNext {S} Steps kept s (next ∷ rest) c = (m : S) × (text : List ℕ) ×
 
 -- The acts of a beginning ran, and the next had no effect and no report. A crash may leave its effect.
 pub record Stopped {S A C : Type 0} (Steps : S → A → S → List ℕ → Type 0) (kept : S → C) (s : S) (acts : List A)
-    (Tables Leaves : C → Type 0) (old new : Option (List ℕ)) : Type 0 where
+    (Tables : C → Type 0) (Leaves : (C → Type 0) → Type 0) (old new : Option (List ℕ)) : Type 0 where
   pub done : List A
   pub rest : List A
   pub acts_are : acts ≡ done ++ rest
@@ -38,12 +39,12 @@ pub record Stopped {S A C : Type 0} (Steps : S → A → S → List ℕ → Type
   pub bytes : List ℕ
   pub runs : Runs Steps s done end bytes
   pub now : Tables (kept end)
-  pub crash : (c : C) → Leaves c → (c ≡ kept end) ⊎ IsAfterNext Steps kept end rest c
+  pub crash : Leaves (λ c. (c ≡ kept end) ⊎ IsAfterNext Steps kept end rest c)
   pub appends : Appends old new bytes
 
 -- The acts up to and with some last one ran, and of its report a beginning went out.
 pub record BrokeOff {S A C : Type 0} (Steps : S → A → S → List ℕ → Type 0) (kept : S → C) (s : S) (acts : List A)
-    (Tables Leaves : C → Type 0) (old new : Option (List ℕ)) : Type 0 where
+    (Tables : C → Type 0) (Leaves : (C → Type 0) → Type 0) (old new : Option (List ℕ)) : Type 0 where
   pub done : List A
   pub last : A
   pub rest : List A

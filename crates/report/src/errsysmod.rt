@@ -3,42 +3,47 @@ ghost use Rattle.std.specs.Prelude.{◌≡◌, ◌∷◌, [], codes};
 ghost use Rattle.std.specs.List.{flat_map};
 ghost use Rattle.machine.specs.Outcome.{ErrsysmodLine};
 ghost use Rattle.machine.specs.Report.{detail_line, resolver_text, line_text};
-ghost use Rattle.report.specs.Sent.{Sent};
+ghost use Rattle.report.specs.Paged.{Paged};
 
-use crate::pieces::put;
+use crate::page::Page;
 use crate::sink::Sink;
 use fields::{Id, Reason};
 
-fn put_each<W: Sink>(resolvers: &[Id], w: &mut W)
-    ensures { Sent W.Sink w.old w.new
+fn put_each<W: Sink>(resolvers: &[Id], page: &mut Page<'_, W>)
+    ensures { Paged W.Sink page.old page.new
         (flat_map (λ id. detail_line (codes "RESOLVER" ∷ id ∷ [])) resolvers.now) }
 {
     for resolver in resolvers {
-        put(b"  RESOLVER ", w);
-        put(resolver.as_bytes(), w);
-        put(b"\n", w);
+        page.put(b"  RESOLVER ");
+        page.put(resolver.as_bytes());
+        page.put(b"\n");
     }
 }
 
 /// `RESOLVER` lines, or the one that says that there is none.
-fn put_resolvers<W: Sink>(resolvers: &[Id], w: &mut W)
-    ensures { Sent W.Sink w.old w.new (resolver_text resolvers.now) }
+fn put_resolvers<W: Sink>(resolvers: &[Id], page: &mut Page<'_, W>)
+    ensures { Paged W.Sink page.old page.new (resolver_text resolvers.now) }
 {
     if resolvers.is_empty() {
-        put(b"  RESOLVER -\n", w);
+        page.put(b"  RESOLVER -\n");
         return;
     }
-    put_each(resolvers, w);
+    put_each(resolvers, page);
 }
 
 /// A held SYSMOD with its reason, and what resolves that.
-pub(crate) fn put_errsysmod<W: Sink>(id: Id, reason: Reason, resolvers: &[Id], w: &mut W)
-    ensures { Sent W.Sink w.old w.new (line_text (ErrsysmodLine id reason resolvers.now)) }
+pub(crate) fn put_errsysmod<W: Sink>(
+    id: Id,
+    reason: Reason,
+    resolvers: &[Id],
+    page: &mut Page<'_, W>,
+)
+    ensures { Paged W.Sink page.old page.new (line_text (ErrsysmodLine id reason resolvers.now)) }
 {
-    put(b"ERRSYSMOD ", w);
-    put(id.as_bytes(), w);
-    put(b" ", w);
-    put(reason.as_bytes(), w);
-    put(b"\n", w);
-    put_resolvers(resolvers, w);
+    page.put(b"ERRSYSMOD ");
+    page.put(id.as_bytes());
+    page.put(b" ");
+    page.put(reason.as_bytes());
+    page.put(b"\n");
+    put_resolvers(resolvers, page);
 }

@@ -3,47 +3,48 @@ ghost use Rattle.std.specs.Prelude.{◌≡◌, ◌∷◌, map};
 ghost use Rattle.std.specs.List.{flat_map};
 ghost use Rattle.machine.specs.Outcome.{SysmodLine, HoldLine, list_global};
 ghost use Rattle.machine.specs.Report.{list_text, mark_text, line_text};
-ghost use Rattle.report.specs.Sent.{Sent};
+ghost use Rattle.report.specs.Paged.{Paged};
 
-use crate::pieces::{put, put_left};
+use crate::page::Page;
+use crate::pieces::put_left;
 use crate::sink::Sink;
 use fields::Source;
 use spelling::{hold_text, kind_text};
 use sysmods::{Global, Hold, Sysmod};
 
 /// Sources joined by commas, each behind one.
-fn put_more_sources<W: Sink>(sources: &[Source], w: &mut W)
-    ensures { Sent W.Sink w.old w.new (flat_map (λ source. 44 ∷ source) sources.now) }
+fn put_more_sources<W: Sink>(sources: &[Source], page: &mut Page<'_, W>)
+    ensures { Paged W.Sink page.old page.new (flat_map (λ source. 44 ∷ source) sources.now) }
 {
     for source in sources {
-        put(b",", w);
-        put(source.as_bytes(), w);
+        page.put(b",");
+        page.put(source.as_bytes());
     }
 }
 
 /// Sources joined by commas, or `-`.
-fn put_sources<W: Sink>(sources: &[Source], w: &mut W)
-    ensures { Sent W.Sink w.old w.new (list_text sources.now) }
+fn put_sources<W: Sink>(sources: &[Source], page: &mut Page<'_, W>)
+    ensures { Paged W.Sink page.old page.new (list_text sources.now) }
 {
     if sources.is_empty() {
-        put(b"-", w);
+        page.put(b"-");
         return;
     }
-    put(sources[0].as_bytes(), w);
-    put_more_sources(&sources[1..], w);
+    page.put(sources[0].as_bytes());
+    put_more_sources(&sources[1..], page);
 }
 
-fn put_sysmod<W: Sink>(sysmod: &Sysmod, w: &mut W)
-    ensures { Sent W.Sink w.old w.new
+fn put_sysmod<W: Sink>(sysmod: &Sysmod, page: &mut Page<'_, W>)
+    ensures { Paged W.Sink page.old page.new
         (line_text (SysmodLine sysmod.now.id sysmod.now.kind sysmod.now.sources)) }
 {
-    put(b"SYSMOD ", w);
-    put(sysmod.id.as_bytes(), w);
-    put(b" ", w);
-    put_left(kind_text(sysmod.kind), 8, w);
-    put(b" SOURCEID ", w);
-    put_sources(sysmod.sources.as_slice(), w);
-    put(b"\n", w);
+    page.put(b"SYSMOD ");
+    page.put(sysmod.id.as_bytes());
+    page.put(b" ");
+    put_left(kind_text(sysmod.kind), 8, page);
+    page.put(b" SOURCEID ");
+    put_sources(sysmod.sources.as_slice(), page);
+    page.put(b"\n");
 }
 
 fn mark_text(internal: bool) -> &'static [u8]
@@ -52,43 +53,43 @@ fn mark_text(internal: bool) -> &'static [u8]
     if internal { b"INTERNAL" } else { b"EXTERNAL" }
 }
 
-fn put_hold<W: Sink>(hold: &Hold, w: &mut W)
-    ensures { Sent W.Sink w.old w.new
+fn put_hold<W: Sink>(hold: &Hold, page: &mut Page<'_, W>)
+    ensures { Paged W.Sink page.old page.new
         (line_text (HoldLine hold.now.id hold.now.kind hold.now.reason hold.now.internal)) }
 {
-    put(b"HOLD ", w);
-    put(hold.id.as_bytes(), w);
-    put(b" ", w);
-    put_left(hold_text(hold.kind), 6, w);
-    put(b" ", w);
-    put(hold.reason.as_bytes(), w);
-    put(b" ", w);
-    put(mark_text(hold.internal), w);
-    put(b"\n", w);
+    page.put(b"HOLD ");
+    page.put(hold.id.as_bytes());
+    page.put(b" ");
+    put_left(hold_text(hold.kind), 6, page);
+    page.put(b" ");
+    page.put(hold.reason.as_bytes());
+    page.put(b" ");
+    page.put(mark_text(hold.internal));
+    page.put(b"\n");
 }
 
-fn put_sysmods<W: Sink>(global: &Global, w: &mut W)
-    ensures { Sent W.Sink w.old w.new
+fn put_sysmods<W: Sink>(global: &Global, page: &mut Page<'_, W>)
+    ensures { Paged W.Sink page.old page.new
         (flat_map line_text (map (λ s. SysmodLine s.id s.kind s.sources) global.now.sysmods)) }
 {
     for sysmod in global.sysmods() {
-        put_sysmod(sysmod, w);
+        put_sysmod(sysmod, page);
     }
 }
 
-fn put_holds<W: Sink>(global: &Global, w: &mut W)
-    ensures { Sent W.Sink w.old w.new
+fn put_holds<W: Sink>(global: &Global, page: &mut Page<'_, W>)
+    ensures { Paged W.Sink page.old page.new
         (flat_map line_text (map (λ h. HoldLine h.id h.kind h.reason h.internal) global.now.holds)) }
 {
     for hold in global.holds() {
-        put_hold(hold, w);
+        put_hold(hold, page);
     }
 }
 
 /// The SYSMODs and the holds of a global zone.
-pub(crate) fn put_global<W: Sink>(global: &Global, w: &mut W)
-    ensures { Sent W.Sink w.old w.new (flat_map line_text (list_global global.now)) }
+pub(crate) fn put_global<W: Sink>(global: &Global, page: &mut Page<'_, W>)
+    ensures { Paged W.Sink page.old page.new (flat_map line_text (list_global global.now)) }
 {
-    put_sysmods(global, w);
-    put_holds(global, w);
+    put_sysmods(global, page);
+    put_holds(global, page);
 }

@@ -1,12 +1,13 @@
 //! Reports, and the sinks that they are written to.
 //! `write_report` hands the sink the outcome's text, or a beginning of it where the sink has failed, and answers the
-//! highest code of the lines. It takes no memory.
+//! highest code of the lines. It takes no memory from the heap: pieces of lines wait on a page of fixed size.
 #![tactic(auto)]
 
 mod errsysmod;
 mod global_lines;
 mod lines;
 mod outcome;
+mod page;
 mod pieces;
 mod places;
 mod sink;

@@ -2,8 +2,10 @@
 ghost use Rattle.std.specs.Prelude.{◌≡◌, ◌<◌, ◌≤◌, ◌∷◌, [], length, decimal, OnErr, is_err};
 ghost use Rattle.std.specs.List.{flat_map};
 ghost use Rattle.machine.specs.Report.{left_in, list_text, detail_line};
+ghost use Rattle.report.specs.Paged.{Paged};
 ghost use Rattle.report.specs.Sent.{Sent};
 
+use crate::page::Page;
 use crate::sink::{Sink, WriteFault};
 use fields::Id;
 use itoa::Buffer;
@@ -24,7 +26,8 @@ pub fn write_all<W: Sink>(piece: &[u8], w: &mut W) -> Result<(), WriteFault>
     Ok(())
 }
 
-/// Writes a piece of a text. Whether it went out is told by the sink's next write, since a sink that has failed takes no more.
+/// Writes a piece of a text. Whether it went out is told by the sink's next write, since a sink that has failed takes no
+/// more.
 pub fn put<W: Sink>(piece: &[u8], w: &mut W)
     ensures { Sent W.Sink w.old w.new piece.now }
 {
@@ -32,40 +35,40 @@ pub fn put<W: Sink>(piece: &[u8], w: &mut W)
 }
 
 /// A text left in so many places, eight at most.
-pub(crate) fn put_left<W: Sink>(text: &[u8], places: usize, w: &mut W)
+pub(crate) fn put_left<W: Sink>(text: &[u8], places: usize, page: &mut Page<'_, W>)
     requires { places ≤ 8 }
-    ensures { Sent W.Sink w.old w.new (left_in places text.now) }
+    ensures { Paged W.Sink page.old page.new (left_in places text.now) }
 {
-    put(text, w);
-    put(&BLANKS[..places.saturating_sub(text.len())], w);
+    page.put(text);
+    page.put(&BLANKS[..places.saturating_sub(text.len())]);
 }
 
 /// A number in decimal.
-pub(crate) fn put_number<W: Sink>(n: usize, w: &mut W)
-    ensures { Sent W.Sink w.old w.new (decimal n) }
+pub(crate) fn put_number<W: Sink>(n: usize, page: &mut Page<'_, W>)
+    ensures { Paged W.Sink page.old page.new (decimal n) }
 {
     let mut buffer = Buffer::new();
-    put(buffer.format(n).as_bytes(), w);
+    page.put(buffer.format(n).as_bytes());
 }
 
 /// Ids joined by commas, each behind one.
-fn put_rest<W: Sink>(ids: &[Id], w: &mut W)
-    ensures { Sent W.Sink w.old w.new (flat_map (λ id. 44 ∷ id) ids.now) }
+fn put_rest<W: Sink>(ids: &[Id], page: &mut Page<'_, W>)
+    ensures { Paged W.Sink page.old page.new (flat_map (λ id. 44 ∷ id) ids.now) }
 {
     for id in ids {
-        put(b",", w);
-        put(id.as_bytes(), w);
+        page.put(b",");
+        page.put(id.as_bytes());
     }
 }
 
 /// Ids joined by commas, or `-`.
-pub(crate) fn put_list<W: Sink>(ids: &[Id], w: &mut W)
-    ensures { Sent W.Sink w.old w.new (list_text ids.now) }
+pub(crate) fn put_list<W: Sink>(ids: &[Id], page: &mut Page<'_, W>)
+    ensures { Paged W.Sink page.old page.new (list_text ids.now) }
 {
     if ids.is_empty() {
-        put(b"-", w);
+        page.put(b"-");
         return;
     }
-    put(ids[0].as_bytes(), w);
-    put_rest(&ids[1..], w);
+    page.put(ids[0].as_bytes());
+    put_rest(&ids[1..], page);
 }

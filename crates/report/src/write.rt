@@ -1,15 +1,17 @@
 //! The text of an outcome.
-ghost use Rattle.std.specs.Prelude.{◌≡◌, ◌<◌, ◌≤◌, map, is_err, IfOk};
+ghost use Rattle.std.specs.Prelude.{◌≡◌, ◌<◌, ◌≤◌, [], map, length, is_err, IfOk};
 ghost use Rattle.std.specs.List.{flat_map};
 ghost use Rattle.machine.specs.Outcome.{status_code, line_code, lines_code, outcome_code, Control};
 ghost use Rattle.machine.specs.Report.{line_text, code_text, text};
+ghost use Rattle.report.specs.Paged.{Paged};
 ghost use Rattle.report.specs.Sent.{Sent};
 ghost use Rattle.report.specs.Views.{status_view, line_view, outcome_view};
 
 use crate::global_lines::put_global;
 use crate::lines::{put_header, put_line, put_refusal};
 use crate::outcome::{Line, Outcome, Status};
-use crate::pieces::{put, put_number, write_all};
+use crate::page::Page;
+use crate::pieces::put_number;
 use crate::sink::{Sink, WriteFault};
 use crate::zone_lines::put_zone;
 use spelling::cn_text;
@@ -38,46 +40,90 @@ fn line_code(line: &Line) -> u8
     }
 }
 
-/// Writes lines, and answers the greatest of their codes, 0 where there are none.
-fn put_lines<W: Sink>(lines: &[Line], w: &mut W) -> u8
-    ensures sends { Sent W.Sink w.old w.new (flat_map line_text (map line_view lines.now)) }
+/// Puts lines on the page, and answers the greatest of their codes, 0 where there are none.
+fn put_lines<W: Sink>(lines: &[Line], page: &mut Page<'_, W>) -> u8
+    ensures paged { Paged W.Sink page.old page.new (flat_map line_text (map line_view lines.now)) }
     ensures code { result ≡ lines_code (map line_view lines.now) }
     ensures most { result ≤ 12 }
 {
     let mut code: u8 = 0;
     for line in lines {
-        put_line(line, w);
+        put_line(line, page);
         code = code.max(line_code(line));
     }
     code
 }
 
-/// Writes the last line of a report, and so learns whether all of it went out.
-fn finish<W: Sink>(code: u8, w: &mut W) -> Result<u8, WriteFault>
+/// Puts the last line of a report on the page.
+fn put_code<W: Sink>(code: u8, page: &mut Page<'_, W>)
     requires { code ≤ 12 }
-    ensures sends { Sent W.Sink w.old w.new (code_text code) }
-    ensures fault { W.has_failed w.new ≡ is_err result }
-    ensures code { IfOk result (λ told. told ≡ code) }
+    ensures paged { Paged W.Sink page.old page.new (code_text code) }
+    ensures some { 0 < length page.new.waiting.items }
 {
-    write_all(
-        &[b'R', b'C', b' ', b'0' + code / 10, b'0' + code % 10, b'\n'],
-        w,
-    )?;
-    Ok(code)
+    page.put(&[b'R', b'C', b' ', b'0' + code / 10, b'0' + code % 10, b'\n']);
 }
 
-/// Writes the one line of a command file that is at fault.
-fn write_control<W: Sink>(number: usize, code: CnCode, w: &mut W) -> Result<u8, WriteFault>
-    ensures sends { Sent W.Sink w.old w.new (text (Control (record { number = number; code = code }))) }
-    ensures fault { W.has_failed w.new ≡ is_err result }
-    ensures code { IfOk result (λ told. told ≡ 12) }
+/// Puts the one line of a command file that is at fault on the page.
+fn put_control<W: Sink>(number: usize, code: CnCode, page: &mut Page<'_, W>)
+    ensures paged { Paged W.Sink page.old page.new (text (Control (record { number = number; code = code }))) }
+    ensures some { 0 < length page.new.waiting.items }
 {
-    put(b"CONTROL RECORD ", w);
-    put_number(number, w);
-    put(b" ", w);
-    put(cn_text(code), w);
-    write_all(b"\n", w)?;
-    Ok(12)
+    page.put(b"CONTROL RECORD ");
+    put_number(number, page);
+    page.put(b" ");
+    page.put(cn_text(code));
+    page.put(b"\n");
+}
+
+/// Puts the text of an outcome on the page, and answers its return code.
+fn put_outcome<W: Sink>(outcome: &Outcome<'_>, page: &mut Page<'_, W>) -> u8
+    ensures paged { Paged W.Sink page.old page.new (text (outcome_view outcome.now)) }
+    ensures some { 0 < length page.new.waiting.items }
+    ensures code { result ≡ outcome_code (outcome_view outcome.now) }
+{
+    match outcome {
+        Outcome::Ran { header, lines } => {
+            put_header(header, page);
+            let code = put_lines(lines, page);
+            put_code(code, page);
+            code
+        }
+        Outcome::ListedGlobal { header, global } => {
+            put_header(header, page);
+            put_global(global, page);
+            put_code(0, page);
+            0
+        }
+        Outcome::Listed { header, zone, text } => {
+            put_header(header, page);
+            put_zone(zone, *text, page);
+            put_code(0, page);
+            0
+        }
+        Outcome::Refused { header, refusal } => {
+            put_header(header, page);
+            put_refusal(refusal, page);
+            put_code(12, page);
+            12
+        }
+        Outcome::Control { number, code } => {
+            put_control(*number, *code, page);
+            12
+        }
+    }
+}
+
+/// Puts the text of an outcome on an empty page, and sends all of it to the sink.
+fn write_page<W: Sink>(outcome: &Outcome<'_>, page: &mut Page<'_, W>) -> Result<u8, WriteFault>
+    requires { page.old.waiting.items ≡ [] }
+    ensures same_reference { page.new.sink.ghost_name ≡ page.old.sink.ghost_name }
+    ensures sends { Sent W.Sink page.old.sink.now page.new.sink.now (text (outcome_view outcome.now)) }
+    ensures fault { W.has_failed page.new.sink.now ≡ is_err result }
+    ensures code { IfOk result (λ code. code ≡ outcome_code (outcome_view outcome.now)) }
+{
+    let code = put_outcome(outcome, page);
+    page.empty()?;
+    Ok(code)
 }
 
 /// Writes the text of an outcome and answers its return code. After a fault a beginning of the text went out.
@@ -86,27 +132,6 @@ pub fn write_report<W: Sink>(outcome: &Outcome<'_>, w: &mut W) -> Result<u8, Wri
     ensures fault { W.has_failed w.new ≡ is_err result }
     ensures code { IfOk result (λ code. code ≡ outcome_code (outcome_view outcome.now)) }
 {
-    match outcome {
-        Outcome::Ran { header, lines } => {
-            put_header(header, w);
-            let code = put_lines(lines, w);
-            finish(code, w)
-        }
-        Outcome::ListedGlobal { header, global } => {
-            put_header(header, w);
-            put_global(global, w);
-            finish(0, w)
-        }
-        Outcome::Listed { header, zone, text } => {
-            put_header(header, w);
-            put_zone(zone, *text, w);
-            finish(0, w)
-        }
-        Outcome::Refused { header, refusal } => {
-            put_header(header, w);
-            put_refusal(refusal, w);
-            finish(12, w)
-        }
-        Outcome::Control { number, code } => write_control(*number, *code, w),
-    }
+    let mut page = Page::new(w);
+    write_page(outcome, &mut page)
 }

@@ -11,6 +11,7 @@ use Rattle.machine.proofs.Joined.{stopped-after, stopped-more, broke-after, brok
 use Rattle.store_schema.specs.declared.error.StoreError.TheVariants as store
 use Rattle.report.specs.Sent.{WrotePart}
 use Rattle.store.specs.Kept.{kept, Keeps, IsStopped}
+use Rattle.store.proofs.Keeping.{leaves-more}
 use Rattle.store.specs.View.{Tables, TablesIfOpen, Leaves}
 use Rattle.smpe.specs.declared.error.JobError.{JobError}
 use Rattle.smpe.specs.declared.error.JobError.TheVariants.{Memory, Store, Write}
@@ -62,23 +63,24 @@ module _ {S : Type 0} (g : Ghosts S) (at : Held S) (s : State) where
     pub early-after : (e : JobError) → Runs Prints s xs t bytes → Keeps g before t → Appends a b bytes
         → EndsEarly g at t ys b c e → EndsEarly g at s (xs ++ ys) a c e
     unfolding run
-    early-after Memory runs keeps appends back = stopped-after Prints kept s xs ys (Tables g before) (Leaves g before)
-        (TablesIfOpen g at) (Leaves g at) a b c (run runs keeps appends) back
+    early-after Memory runs keeps appends back = stopped-after Prints kept s xs ys (Tables g before)
+        (TablesIfOpen g at) (Leaves g before) (Leaves g at) a b c (run runs keeps appends) back
     early-after (Store store.Fault) runs keeps appends back =
-        stopped-after Prints kept s xs ys (Tables g before) (Leaves g before) (TablesIfOpen g at) (Leaves g at) a b c
+        stopped-after Prints kept s xs ys (Tables g before) (TablesIfOpen g at) (Leaves g before) (Leaves g at) a b c
         (run runs keeps appends) back
     early-after (Store store.OtherSchema) runs keeps appends back = back
     early-after (Store store.NoState) runs keeps appends back = back
     early-after (Store store.Memory) runs keeps appends back = back
-    early-after Write runs keeps appends back = broke-after Prints kept s xs ys (Tables g before) (Leaves g before)
-        (Tables g at) (Leaves g at) a b c (run runs keeps appends) back
+    early-after Write runs keeps appends back = broke-after Prints kept s xs ys (Tables g before)
+        (Tables g at) (Leaves g before) (Leaves g at) a b c (run runs keeps appends) back
 
   -- with acts behind that were never begun
   pub early-more : (xs ys : List Act) (a b : Option (List ℕ)) (e : JobError) → EndsEarly g at s xs a b e
       → EndsEarly g at s (xs ++ ys) a b e
-  early-more xs ys a b Memory early = stopped-more Prints kept s xs ys (TablesIfOpen g at) (Leaves g at) a b early
-  early-more xs ys a b (Store store.Fault) early = stopped-more Prints kept s xs ys (TablesIfOpen g at) (Leaves g at) a
-      b early
+  early-more xs ys a b Memory early = stopped-more Prints kept s xs ys (TablesIfOpen g at) (Leaves g at)
+      (leaves-more g at) a b early
+  early-more xs ys a b (Store store.Fault) early = stopped-more Prints kept s xs ys (TablesIfOpen g at)
+      (Leaves g at) (leaves-more g at) a b early
   early-more xs ys a b (Store store.OtherSchema) early = early
   early-more xs ys a b (Store store.NoState) early = early
   early-more xs ys a b (Store store.Memory) early = early
@@ -101,8 +103,8 @@ module _ {S : Type 0} (g : Ghosts S) (at : Held S) (s : State) where
       end = s;
       bytes = [];
       runs = (refl, refl);
-      now = λ clean shown. (keeps.now clean).1;
-      crash = λ c left. inl (keeps.crash c left);
+      now = λ shown. keeps;
+      crash = leaves-more g at _ _ (λ c is. inl is) keeps.crash;
       appends = Appends-nil taken;
     },
   )

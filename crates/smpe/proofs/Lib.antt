@@ -6,4 +6,6 @@ mod Commanding
 mod Single
 mod Listing
 mod ZoneLines
+mod ListFile
 mod ListRecords
+pub mod Closing

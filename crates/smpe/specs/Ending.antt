@@ -1,13 +1,18 @@
 -- How jobs end: the headline of the product.
-use Rattle.std.specs.Prelude.{ℕ, Bool, true, false, List, [], ◌∷◌, Option, Result, Ok, Err}
+use Rattle.std.specs.Prelude.{ℕ, Bool, true, false, List, [], ◌∷◌, Option, Result, Ok, Err, IsTrue}
 use Rattle.std.specs.Io.KnownBytes.{Appends}
 use Rattle.sqlite.specs.Store.{Ghosts}
-use Rattle.sqlite.specs.Held.{Held}
+use Rattle.sqlite.specs.Held.{Held, state}
+use Rattle.sqlite.specs.Schema.{Schema}
+use Rattle.sqlite.specs.Tree.{Trees}
+use Rattle.terms.specs.Closed.{AreClosed}
 use Rattle.machine.specs.State.{State}
 use Rattle.machine.specs.Machine as machine
 use Rattle.machine.specs.Machine.{Act, Prints, RunsJob, RunsJobs, AreFirstActs}
 use Rattle.machine.specs.Runs.{Stopped, BrokeOff}
 use Rattle.store_schema.specs.declared.error.StoreError.TheVariants as store
+use Rattle.store_schema.specs.Inventory.{Inventory}
+use Rattle.store_schema.specs.Stands.{StandsFor}
 use Rattle.store.specs.Kept.{kept, Keeps}
 use Rattle.store.specs.View.{Tables, TablesIfOpen, Leaves}
 use Rattle.smpe_zones.specs.Definitions.{definition, fault_of}
@@ -32,11 +37,19 @@ abbrev pub is_write : {X : Type 0} → Result X JobError → Bool
 is_write (Err Write) = true
 is_write _ = false
 
+-- All zones are closed of each inventory that the tables stand for, and of each that they stand for after a crash.
+pub record StaysClosed {S : Type 0} (g : Ghosts S) (at : Held S) : Type 0 where
+  pub now : (i : Inventory) → IsTrue (state g at).is_open → StandsFor i (state g at).committed
+      → AreClosed i.global i.zones
+  pub crash : (db : Trees) → (state g at).may_leave db → (schema : Schema) (i : Inventory)
+      → StandsFor i (record { schema = schema; trees = db }) → AreClosed i.global i.zones
+
 -- A call found the tables standing for s, and left the store as it is now. The sink had taken `old`, and now has `new`.
 module _ {S : Type 0} (g : Ghosts S) (at : Held S) (s : State) where
   -- The call could not go on to the end of these acts.
   -- For want of memory, or after a fault of the store: some first acts ran and are reported, and the next one had no
-  -- effect and no report. A crash may leave its effect.
+  -- effect and no report. A crash may leave its effect; where the connection is still open, the store keeps what the
+  -- first acts led to, and the caller may go on from there.
   -- After a fault of the sink: some first acts ran, and of the last one's report a beginning went out.
   abbrev pub EndsEarly : List Act → Option (List ℕ) → Option (List ℕ) → JobError → Type 0
   EndsEarly acts old new Memory = Stopped Prints kept s acts (TablesIfOpen g at) (Leaves g at) old new

@@ -7,7 +7,9 @@ ghost use Rattle.machine.specs.Machine.{RunFiles, Code};
 ghost use Rattle.cntl.specs.Views.{command_of};
 ghost use Rattle.smpe_session.specs.Sessions.{IsSessionOf};
 ghost use Rattle.store.specs.Kept.{Keeps};
-ghost use Rattle.smpe.specs.Ending.{EndsJob, is_write};
+ghost use Rattle.smpe.specs.Ending.{EndsJob, StaysClosed, is_write};
+ghost use Rattle.terms.specs.Forms.{IsDottedDate};
+ghost use Rattle.terms.specs.Closed.{AreClosed};
 ghost use Rattle.smpe.specs.Commands.{EndsCommands};
 
 use crate::error::JobError;
@@ -18,6 +20,13 @@ use smpe_session::{Files, Performed, Session};
 use sqlite::Alter;
 use std::alloc::Global as Heap;
 use store::Store;
+
+// That the date has its form, which no other call here would say.
+fn is_known(date: YyDdd)
+    ensures { IsDottedDate date }
+{
+    prove!(date.as_bytes().len() == 6);
+}
 
 /// Performs a command, and reports it once it is committed.
 fn run_command<S: Alter, W: Sink>(
@@ -83,8 +92,11 @@ pub fn run_job<S: Alter, W: Sink>(
     ensures ended { HasCleanDisk (state S.Store store.new) → (s : State) → Keeps S.Store store.old s
         → EndsJob S.Store store.new s (RunFiles date cntl.now (record { ptfin = ptfin.now; holds = hold.now }))
         (W.taken w.old) (W.taken w.new) Code result }
+    ensures closed { HasCleanDisk (state S.Store store.new) → (s : State) → Keeps S.Store store.old s
+        → AreClosed s.global s.zones → StaysClosed S.Store store.new }
     ensures fault { W.has_failed w.old ≡ false → W.has_failed w.new ≡ is_write result }
 {
+    is_known(date);
     let commands = match read_cntl(alloc, cntl) {
         Ok(commands) => commands,
         Err(CntlError::Memory) => return Err(JobError::Memory),

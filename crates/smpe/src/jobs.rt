@@ -6,13 +6,15 @@ ghost use Rattle.machine.specs.State.{State};
 ghost use Rattle.machine.specs.Machine.{NewZone};
 ghost use Rattle.smpe_zones.specs.Definitions.{definition};
 ghost use Rattle.store.specs.Kept.{Keeps};
-ghost use Rattle.smpe.specs.Ending.{EndsJob, EndsJobs, is_write, job_of, answer_of};
+ghost use Rattle.smpe.specs.Ending.{EndsJob, EndsJobs, StaysClosed, is_write, job_of, answer_of};
+ghost use Rattle.terms.specs.Closed.{AreClosed};
 
 use crate::error::JobError;
 use crate::job::run_job;
+use crate::zone::define_zone;
 use fields::{Srel, YyDdd, ZoneName};
 use report::Sink;
-use smpe_zones::{ZoneError, ZoneFault, define_zone};
+use smpe_zones::{ZoneError, ZoneFault};
 use sqlite::Alter;
 use std::alloc::Global as Heap;
 use store::Store;
@@ -55,6 +57,8 @@ fn define<S: Alter>(
     ensures ended { HasCleanDisk (state S.Store store.new) → (s : State) → Keeps S.Store store.old s
         → (taken : Option (List ℕ))
         → EndsJob S.Store store.new s (NewZone (definition name kind srel related)) taken taken answer_of result }
+    ensures closed { HasCleanDisk (state S.Store store.new) → (s : State) → Keeps S.Store store.old s
+        → AreClosed s.global s.zones → StaysClosed S.Store store.new }
     ensures fault { is_write result ≡ false }
 {
     match define_zone(store, name, kind, srel, related) {
@@ -75,6 +79,8 @@ fn run_one<S: Alter, W: Sink>(
     ensures clean { HasCleanDisk (state S.Store store.new) → HasCleanDisk (state S.Store store.old) }
     ensures ended { HasCleanDisk (state S.Store store.new) → (s : State) → Keeps S.Store store.old s
         → EndsJob S.Store store.new s (job_of job.now) (W.taken w.old) (W.taken w.new) answer_of result }
+    ensures closed { HasCleanDisk (state S.Store store.new) → (s : State) → Keeps S.Store store.old s
+        → AreClosed s.global s.zones → StaysClosed S.Store store.new }
     ensures fault { W.has_failed w.old ≡ false → W.has_failed w.new ≡ is_write result }
 {
     match *job {
@@ -107,6 +113,8 @@ pub fn run_jobs<S: Alter, W: Sink>(
     ensures ended { HasCleanDisk (state S.Store store.new) → (s : State) → Keeps S.Store store.old s
         → EndsJobs S.Store store.new s (map job_of jobs.now) (W.taken w.old) (W.taken w.new)
         (λ v. map answer_of v.items) result }
+    ensures closed { HasCleanDisk (state S.Store store.new) → (s : State) → Keeps S.Store store.old s
+        → AreClosed s.global s.zones → StaysClosed S.Store store.new }
     ensures fault { W.has_failed w.old ≡ false → W.has_failed w.new ≡ is_write result }
 {
     let mut answers = Vec::with_capacity(alloc, jobs.len())?;

@@ -1,5 +1,7 @@
 //! The command file of a listing.
-ghost use Rattle.std.specs.Prelude.{◌≡◌, IfOk};
+ghost use Rattle.std.specs.Prelude.{◌≡◌, ◌∷◌, [], false, IfOk};
+ghost use Rattle.terms.specs.Types.{Set, ListZone};
+ghost use Rattle.terms.specs.Commands.{IsCommandFile};
 ghost use Rattle.smpe.specs.ListJob.{list_records};
 
 use fields::ZoneName;
@@ -7,7 +9,8 @@ use std::alloc::{AllocError, Global as Heap};
 
 /// The command file that lists a zone: `SET BDY(zone).` and `LIST.`, a record each.
 pub fn list_commands(alloc: Heap, zone: ZoneName) -> Result<Vec<u8>, AllocError>
-    ensures { IfOk result (λ file. file.items ≡ list_records zone) }
+    ensures records { IfOk result (λ file. file.items ≡ list_records zone) }
+    ensures commands { IfOk result (λ file. IsCommandFile file.items (Set zone ∷ ListZone false ∷ [])) }
 {
     let mut file = Vec::new(alloc);
     file.extend_from_slice(b"SET BDY(")?;

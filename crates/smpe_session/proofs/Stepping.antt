@@ -1,15 +1,18 @@
 -- How loads and commits leave a store that keeps a state.
-use Rattle.std.proofs.Common.{◌≡◌, ◌≢◌, ◌⊎◌, ◌∙◌, List, [], ◌∷◌, refl, sym, ap, subst, inl, inr}
+use Rattle.std.proofs.Common.{◌≡◌, ◌≢◌, ◌⊎◌, ◌∙◌, ℕ, List, [], ◌∷◌, refl, sym, ap, subst, inl, inr}
 use Rattle.std.specs.Prelude.{IfOk, IfErr, IsErrOf, IsErrAnd, OnOk, OnErr, Result, Ok, Err}
 use Rattle.std.proofs.lemmas.Result.{err_from_is_err_and}
 use Rattle.sqlite.specs.Store.{Ghosts}
+use Rattle.sqlite.specs.Tree.{Trees}
 use Rattle.sqlite.specs.Held.{Held, state}
 use Rattle.sqlite.specs.State.{HasCleanDisk}
 use Rattle.store_schema.specs.Inventory.{Inventory, IsInventory}
+use Rattle.store_schema.specs.Stands.{StandsFor}
+use Rattle.store_schema.specs.Tables.{store_schema}
 use Rattle.store_schema.specs.declared.error.StoreError.{StoreError}
 use Rattle.store_schema.specs.declared.error.StoreError.TheVariants.{Fault, OtherSchema, NoState, Memory}
 use Rattle.machine.specs.State.{State}
-use Rattle.machine.specs.Machine.{Files, Act, Begin, Perform, Performs}
+use Rattle.machine.specs.Machine.{Files, Act, Begin, Perform, Performs, Prints}
 use Rattle.machine.specs.Outcome as machine
 use Rattle.machine.specs.Report.{text}
 use Rattle.std.specs.List.{flat_map}
@@ -18,7 +21,8 @@ use Rattle.terms.specs.Types.{Text, Command}
 use Rattle.store.specs.declared.change.Change.{Change}
 use Rattle.store.specs.Changes.{Makes}
 use Rattle.store.specs.Kept.{kept, Keeps, IsStopped}
-use Rattle.store.specs.View.{Tables, TablesIfOpen, Leaves}
+use Rattle.store.proofs.Keeping.{leaves-more}
+use Rattle.store.specs.View.{Tables, TablesIfOpen, MayLeave, Leaves}
 use Rattle.smpe_session.specs.declared.session.Session.{Session}
 use Rattle.smpe_session.specs.declared.session.Performed.{Performed}
 use Rattle.smpe_session.specs.Sessions.{HasBegun, HasPerformed, HasDone, told}
@@ -27,10 +31,10 @@ use Rattle.smpe_session.specs.Steps.{EndsCommitted, HasRun}
 
 module _ {S : Type 0} (g : Ghosts S) (at : Held S) (s : State) where
   pub stays-unmoved : (a : Act) → Unmoved g at s → IsStopped g at s a
-  stays-unmoved a un = record { now = un.now; crash = λ c left. inl (un.crash c left) }
+  stays-unmoved a un = record { now = un.now; crash = leaves-more g at _ _ (λ c is. inl is) un.crash }
 
   pub unmoved-kept : Keeps g at s → Unmoved g at s
-  unmoved-kept keeps = record { now = λ clean shown. (keeps.now clean).1; crash = keeps.crash }
+  unmoved-kept keeps = record { now = λ shown. keeps; crash = keeps.crash }
 
   -- errors at which nothing was committed
   begun-by : (e : StoreError) → EndsUnmoved g at s e → HasBegun g at s (Err e)
@@ -98,11 +102,13 @@ module _ {S : Type 0} (g : Ghosts S) (at : Held S) (s : State) where
     stays-unsettled : Unsettled g at s t → IsStopped g at s (Perform date files c)
     stays-unsettled un = record {
       now = un.now;
-      crash = λ d left. elim (un.crash d left) [
-        | inl same ↦ inl same
-        | inr is ↦ inr (t, flat_map text (outcome ∷ []), (outcome ∷ [], (outcome, performs, refl), refl), is)
-      ];
+      crash = leaves-more g at _ _ among un.crash;
     }
+      where
+        among : (d : Inventory) → (d ≡ kept s) ⊎ (d ≡ kept t) → (d ≡ kept s)
+            ⊎ ((m : State) × (printed : List ℕ) × Prints s (Perform date files c) m printed × (d ≡ kept m))
+        among d (inl same) = inl same
+        among d (inr is) = inr (t, flat_map text (outcome ∷ []), (outcome ∷ [], (outcome, performs, refl), refl), is)
 
     pub staying-unsettled : (e : StoreError) → EndsUnsettled g at s t e → EndsStaying g at s (Perform date files c) e
     staying-unsettled Fault un = stays-unsettled un
@@ -138,12 +144,12 @@ module _ {S : Type 0} (g : Ghosts S) (at : Held S) (s : State) where
 module _ {S : Type 0} (g : Ghosts S) (old new : Held S) (s : State) where
   -- the clauses of each load
   abbrev NoneLost : Type 0
-  NoneLost = (i : Inventory) → Tables g old i → (c : Inventory) → Leaves g new c → Leaves g old c
+  NoneLost = (i : Inventory) → Tables g old i → (db : Trees) → MayLeave g new db → MayLeave g old db
 
   unmoved : ((i : Inventory) → Tables g old i → TablesIfOpen g new i) → NoneLost → Keeps g old s → Unmoved g new s
   unmoved err lost keeps = record {
     now = err (kept s) keeps.now;
-    crash = λ c left. keeps.crash c (lost (kept s) keeps.now c left);
+    crash = λ db left. keeps.crash db (lost (kept s) keeps.now db left);
   }
 
   pub loaded : {X : Type 0} (Found : Inventory → X → Type 0) (result : Result X StoreError)
@@ -156,7 +162,7 @@ module _ {S : Type 0} (g : Ghosts S) (old new : Held S) (s : State) where
       → NoneLost → Keeps g old s → HasLoaded g new s (Found (kept s)) result
   loaded Found (Ok x) clean found none same err which lost keeps = (
     found clean (kept s) keeps.now,
-    record { now = same (kept s) keeps.now; crash = λ c left. keeps.crash c (lost (kept s) keeps.now c left) },
+    record { now = same (kept s) keeps.now; crash = λ db left. keeps.crash db (lost (kept s) keeps.now db left) },
   )
   loaded Found (Err Fault) clean found none same err which lost keeps = unmoved err lost keeps
   loaded Found (Err OtherSchema) clean found none same err which lost keeps = which refl
@@ -166,28 +172,31 @@ module _ {S : Type 0} (g : Ghosts S) (old new : Held S) (s : State) where
   -- the clauses of a commit of what makes t
   module _ (change : Change) (t : State) (keeps : Keeps g old s) (makes : Makes change (kept s) (kept t))
       (is : IsInventory (kept t)) where
-    unsettled : ((i j : Inventory) → Makes change i j → IsInventory j → Tables g old i → (c : Inventory)
-        → Leaves g new c → Leaves g old c ⊎ (j ≡ c)) → TablesIfOpen g new (kept s) → Unsettled g new s t
+    abbrev CommitsOnce : Type 0
+    CommitsOnce =
+        (i j : Inventory) → Makes change i j → IsInventory j → Tables g old i → (db : Trees) → MayLeave g new db
+        → MayLeave g old db ⊎ StandsFor j (record { schema = store_schema; trees = db })
+
+    unsettled : CommitsOnce → TablesIfOpen g new (kept s) → Unsettled g new s t
     unsettled lost err = record {
       now = err;
-      crash = λ c left. elim (lost (kept s) (kept t) makes is keeps.now c left) [
-        | inl before ↦ inl (keeps.crash c before)
-        | inr same ↦ inr (sym same)
+      crash = λ db left. elim (lost (kept s) (kept t) makes is keeps.now db left) [
+        | inl before ↦ leaves-more g old _ _ (λ c is. inl is) keeps.crash db before
+        | inr done ↦ (kept t, inr refl, done)
       ];
     }
 
     pub committed : (result : Result Unit StoreError)
         → OnOk result ((i j : Inventory) → Makes change i j → IsInventory j → Tables g old i → Tables g new j)
-        → OnOk result ((i j : Inventory) → Makes change i j → IsInventory j → Tables g old i → (c : Inventory)
-        → Leaves g new c → j ≡ c)
+        → OnOk result ((i j : Inventory) → Makes change i j → IsInventory j → Tables g old i
+        → Leaves g new (λ c. c ≡ j))
         → OnErr result ((i : Inventory) → Tables g old i → TablesIfOpen g new i)
-        → ((i j : Inventory) → Makes change i j → IsInventory j → Tables g old i → (c : Inventory) → Leaves g new c
-        → Leaves g old c ⊎ (j ≡ c))
+        → CommitsOnce
         → IfErr result (λ e. (e ≡ Fault) ⊎ (e ≡ Memory))
         → EndsCommitted g new s t result
     committed (Ok x) ok durable err lost which = record {
       now = ok (kept s) (kept t) makes is keeps.now;
-      crash = λ c left. sym (durable (kept s) (kept t) makes is keeps.now c left);
+      crash = durable (kept s) (kept t) makes is keeps.now;
     }
     committed (Err Fault) ok durable err lost which = unsettled lost (err (kept s) keeps.now)
     committed (Err OtherSchema) ok durable err lost which = elim which [ inl e ↦ absurd (cc e) | inr e ↦ absurd (cc e) ]

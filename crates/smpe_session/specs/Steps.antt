@@ -8,7 +8,6 @@ use Rattle.terms.specs.Types.{Text, NamedZone, Global, Command}
 use Rattle.machine.specs.Outcome.{Line, Ran, header_of}
 use Rattle.machine.specs.Machine.{Files, Act, Performs}
 use Rattle.machine.specs.State.{State, global_name, zone_named}
-use Rattle.store_schema.specs.Inventory.{Inventory}
 use Rattle.store_schema.specs.declared.error.StoreError.{StoreError}
 use Rattle.store_schema.specs.declared.error.StoreError.TheVariants.{Fault, Memory}
 use Rattle.store.specs.Kept.{kept, Keeps, IsStopped}
@@ -20,12 +19,12 @@ module _ {S : Type 0} (g : Ghosts S) (at : Held S) (s : State) where
   -- Nothing was committed. A fault may have shut the connection.
   pub record Unmoved : Type 0 where
     pub now : TablesIfOpen g at (kept s)
-    pub crash : (c : Inventory) → Leaves g at c → c ≡ kept s
+    pub crash : Leaves g at (λ c. c ≡ kept s)
 
   -- A commit of what makes t had no effect, or a crash may leave its effect.
   pub record Unsettled (t : State) : Type 0 where
     pub now : TablesIfOpen g at (kept s)
-    pub crash : (c : Inventory) → Leaves g at c → (c ≡ kept s) ⊎ (c ≡ kept t)
+    pub crash : Leaves g at (λ c. (c ≡ kept s) ⊎ (c ≡ kept t))
 
   -- No other error comes than want of memory and a fault of the store.
   abbrev pub EndsUnmoved : StoreError → Type 0

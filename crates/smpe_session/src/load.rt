@@ -3,6 +3,7 @@ ghost use Rattle.std.specs.Prelude.{◌≡◌, map};
 ghost use Rattle.sqlite.specs.Held.{state};
 ghost use Rattle.sqlite.specs.State.{HasCleanDisk};
 ghost use Rattle.machine.specs.State.{State, zone_named};
+ghost use Rattle.store_rows.specs.Reads.{OnlyReads};
 ghost use Rattle.store_schema.specs.Inventory.{IsInventory};
 ghost use Rattle.store_zone_loads.specs.Found.{head_of};
 ghost use Rattle.store.specs.Changes.{Makes};
@@ -21,6 +22,7 @@ pub(crate) fn load_global<S: Alter>(store: &mut Store<S>) -> Result<Global, Stor
     ensures clean { HasCleanDisk (state S.Store store.new) → HasCleanDisk (state S.Store store.old) }
     ensures ended { HasCleanDisk (state S.Store store.new) → (s : State) → Keeps S.Store store.old s
         → HasLoaded S.Store store.new s (λ global. global ≡ s.global) result }
+    ensures reads { OnlyReads S.Store StoreError.NoState store.old store.new result }
 {
     store.load_global()
 }
@@ -32,6 +34,7 @@ pub(crate) fn load_zone<S: Alter>(
     ensures clean { HasCleanDisk (state S.Store store.new) → HasCleanDisk (state S.Store store.old) }
     ensures ended { HasCleanDisk (state S.Store store.new) → (s : State) → Keeps S.Store store.old s
         → HasLoaded S.Store store.new s (λ zone. zone ≡ zone_named s.zones name) result }
+    ensures reads { OnlyReads S.Store StoreError.NoState store.old store.new result }
 {
     store.load_zone(name)
 }
@@ -40,6 +43,7 @@ pub(crate) fn load_names<S: Alter>(store: &mut Store<S>) -> Result<Vec<ZoneName>
     ensures clean { HasCleanDisk (state S.Store store.new) → HasCleanDisk (state S.Store store.old) }
     ensures ended { HasCleanDisk (state S.Store store.new) → (s : State) → Keeps S.Store store.old s
         → HasLoaded S.Store store.new s (λ names. names.items ≡ map (λ z. z.name) s.zones) result }
+    ensures reads { OnlyReads S.Store StoreError.NoState store.old store.new result }
 {
     store.zone_names()
 }
@@ -48,6 +52,7 @@ pub(crate) fn load_heads<S: Alter>(store: &mut Store<S>) -> Result<Vec<ZoneHead>
     ensures clean { HasCleanDisk (state S.Store store.new) → HasCleanDisk (state S.Store store.old) }
     ensures ended { HasCleanDisk (state S.Store store.new) → (s : State) → Keeps S.Store store.old s
         → HasLoaded S.Store store.new s (λ heads. heads.items ≡ map head_of s.zones) result }
+    ensures reads { OnlyReads S.Store StoreError.NoState store.old store.new result }
 {
     store.zone_heads()
 }

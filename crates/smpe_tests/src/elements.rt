@@ -1,7 +1,8 @@
 //! Jobs over elements of service, as text cards.
 
-use crate::cards::{FUNCTION_INSTALLED, FUNCTION_RECEIVED, RIVAL_RECEIVED, UPDATE_INSTALLED};
-use crate::play::Step;
+use smpe_play::{
+    FUNCTION_INSTALLED, FUNCTION_RECEIVED, JOB, RIVAL_RECEIVED, Step, UPDATE_INSTALLED,
+};
 
 /// Two that replace one macro, neither over the other, fail together.
 pub(crate) const UNORDERED: &[Step] = &[
@@ -23,20 +24,16 @@ pub(crate) const UNORDERED: &[Step] = &[
                 "         MACRO 16                                                       00000010",
             ],
         ],
-        rest: "",
-        hold: &[],
         report: "SET GLOBAL\nRC 00\nRECEIVE GLOBAL\nUA00015 PTF      RECEIVED\nUA00016 PTF      RECEIVED\n\
             RC 00\n",
-        code: 0,
+        ..JOB
     },
     Step {
         cntl: &["SET BDY(TGT1).", "APPLY SELECT(UA00015,UA00016)."],
-        ptfin: &[],
-        rest: "",
-        hold: &[],
         report: "SET TGT1\nRC 00\nAPPLY TGT1\nUA00015 PTF      FAILED\n  TEST J9\n  CAUSER UA00015\n\
             UA00016 PTF      FAILED\n  TEST J9\n  CAUSER UA00016\nRC 08\n",
         code: 8,
+        ..JOB
     },
 ];
 
@@ -66,41 +63,31 @@ pub(crate) const CHAIN: &[Step] = &[
                 "         MACRO 19                                                       00000010",
             ],
         ],
-        rest: "",
-        hold: &[],
         report: "SET GLOBAL\nRC 00\nRECEIVE GLOBAL\nUA00017 PTF      RECEIVED\nUA00018 PTF      RECEIVED\n\
             UA00019 PTF      RECEIVED\nRC 00\n",
-        code: 0,
+        ..JOB
     },
     Step {
         cntl: &["SET BDY(TGT1).", "APPLY."],
-        ptfin: &[],
-        rest: "",
-        hold: &[],
         report: "SET TGT1\nRC 00\nAPPLY TGT1\nUA00017 PTF      APPLIED\nUA00018 PTF      APPLIED\n\
             UA00019 PTF      APPLIED\nRC 00\n",
-        code: 0,
+        ..JOB
     },
     Step {
         cntl: &["SET BDY(TGT1).", "LIST."],
-        ptfin: &[],
-        rest: "",
-        hold: &[],
         report: "SET TGT1\nRC 00\nLIST TGT1\nENTRY HAA1100 APPLIED 24.138 SUPBY - DELBY - WAIVED -\n\
             ENTRY UA00017 APPLIED 24.138 SUPBY - DELBY - WAIVED -\n\
             ENTRY UA00018 APPLIED 24.138 SUPBY - DELBY - WAIVED -\n\
             ENTRY UA00019 APPLIED 24.138 SUPBY - DELBY - WAIVED -\n\
             ELEM MAC   M1       FMID HAA1100 RMID UA00019 UMID - DISTLIB AMACLIB SYSLIB MACLIB\nRC 00\n",
-        code: 0,
+        ..JOB
     },
     RIVAL_RECEIVED,
     Step {
         cntl: &["SET BDY(TGT1).", "APPLY SELECT(UA00020)."],
-        ptfin: &[],
-        rest: "",
-        hold: &[],
         report: "SET TGT1\nRC 00\nAPPLY TGT1\nUA00020 PTF      FAILED\n  TEST J5\n  CAUSER UA00020\nRC 08\n",
         code: 8,
+        ..JOB
     },
 ];
 
@@ -120,24 +107,19 @@ pub(crate) const UPDATE_IN_A_DELETED_RANGE: &[Step] = &[
             "         NEW TEN                                                        00000010",
             "         NEW TWENTY                                                     00000020",
         ]],
-        rest: "",
-        hold: &[],
         report: "SET GLOBAL\nRC 00\nRECEIVE GLOBAL\nUA00025 PTF      RECEIVED\nRC 00\n",
-        code: 0,
+        ..JOB
     },
     UPDATE_INSTALLED,
     Step {
         cntl: &["SET BDY(TGT1).", "LIST TEXT."],
-        ptfin: &[],
-        rest: "",
-        hold: &[],
         report: "SET TGT1\nRC 00\nLIST TGT1\nENTRY HAA1100 APPLIED 24.138 SUPBY - DELBY - WAIVED -\n\
             ENTRY UA00025 APPLIED 24.138 SUPBY - DELBY - WAIVED -\n\
             ELEM MAC   M1       FMID HAA1100 RMID HAA1100 UMID UA00025 DISTLIB AMACLIB SYSLIB MACLIB\n\
             \x20          NEW FIVE                                                       00000005\n\
             \x20          NEW TEN                                                        00000010\n\
             \x20          NEW TWENTY                                                     00000020\nRC 00\n",
-        code: 0,
+        ..JOB
     },
 ];
 
@@ -154,28 +136,20 @@ pub(crate) const EMPTYING_UPDATE: &[Step] = &[
             "./ CHANGE NAME=M1",
             "./ DELETE SEQ1=00000000,SEQ2=99999999",
         ]],
-        rest: "",
-        hold: &[],
         report: "SET GLOBAL\nRC 00\nRECEIVE GLOBAL\nUA00026 PTF      RECEIVED\nRC 00\n",
-        code: 0,
+        ..JOB
     },
     Step {
         cntl: &["SET BDY(TGT1).", "APPLY SELECT(UA00026)."],
-        ptfin: &[],
-        rest: "",
-        hold: &[],
         report: "SET TGT1\nRC 00\nAPPLY TGT1\nUA00026 PTF      APPLIED\nRC 00\n",
-        code: 0,
+        ..JOB
     },
     Step {
         cntl: &["SET BDY(TGT1).", "LIST TEXT."],
-        ptfin: &[],
-        rest: "",
-        hold: &[],
         report: "SET TGT1\nRC 00\nLIST TGT1\nENTRY HAA1100 APPLIED 24.138 SUPBY - DELBY - WAIVED -\n\
             ENTRY UA00026 APPLIED 24.138 SUPBY - DELBY - WAIVED -\n\
             ELEM MAC   M1       FMID HAA1100 RMID HAA1100 UMID UA00026 DISTLIB AMACLIB SYSLIB MACLIB\nRC 00\n",
-        code: 0,
+        ..JOB
     },
 ];
 
@@ -192,17 +166,13 @@ pub(crate) const NO_BASE: &[Step] = &[
             "./ CHANGE NAME=M9",
             "         NEW LINE                                                       00000010",
         ]],
-        rest: "",
-        hold: &[],
         report: "SET GLOBAL\nRC 00\nRECEIVE GLOBAL\nUA00038 PTF      RECEIVED\nRC 00\n",
-        code: 0,
+        ..JOB
     },
     Step {
         cntl: &["SET BDY(TGT1).", "APPLY SELECT(UA00038)."],
-        ptfin: &[],
-        rest: "",
-        hold: &[],
         report: "SET TGT1\nRC 00\nAPPLY TGT1\nUA00038 PTF      FAILED\n  TEST J6\n  CAUSER UA00038\nRC 08\n",
         code: 8,
+        ..JOB
     },
 ];

@@ -1,16 +1,13 @@
 //! Jobs over requisites, holds, BYPASS and superseded SYSMODs, as text cards.
 
-use crate::cards::{FUNCTION_INSTALLED, FUNCTION_RECEIVED};
-use crate::play::Step;
+use smpe_play::{FUNCTION_INSTALLED, FUNCTION_RECEIVED, JOB, Step};
 
 /// A fix with a prerequisite that is not received.
 const WANTING_RECEIVED: Step = Step {
     cntl: &["SET BDY(GLOBAL).", "RECEIVE SYSMODS."],
     ptfin: &[&["++PTF(UA00003).", "++VER(Z038) FMID(HAA1100) PRE(UA00002)."]],
-    rest: "",
-    hold: &[],
     report: "SET GLOBAL\nRC 00\nRECEIVE GLOBAL\nUA00003 PTF      RECEIVED\nRC 00\n",
-    code: 0,
+    ..JOB
 };
 
 /// Two fixes that require each other are received.
@@ -20,21 +17,17 @@ const MUTUAL_RECEIVED: Step = Step {
         &["++PTF(UA00003).", "++VER(Z038) FMID(HAA1100) REQ(UA00004)."],
         &["++PTF(UA00004).", "++VER(Z038) FMID(HAA1100) REQ(UA00003)."],
     ],
-    rest: "",
-    hold: &[],
     report: "SET GLOBAL\nRC 00\nRECEIVE GLOBAL\nUA00003 PTF      RECEIVED\nUA00004 PTF      RECEIVED\n\
         RC 00\n",
-    code: 0,
+    ..JOB
 };
 
 /// One of them is held.
 const REQUISITE_HOLD_RECEIVED: Step = Step {
     cntl: &["SET BDY(GLOBAL).", "RECEIVE HOLDDATA."],
-    ptfin: &[],
-    rest: "",
     hold: &["++HOLD(UA00004) SYSTEM FMID(HAA1100) REASON(ACTION)."],
     report: "SET GLOBAL\nRC 00\nRECEIVE GLOBAL\nUA00004 SYSTEM   HELD ACTION\nRC 00\n",
-    code: 0,
+    ..JOB
 };
 
 /// A fix that is held for error, and one that resolves it.
@@ -44,11 +37,10 @@ const ERROR_RECEIVED: Step = Step {
         &["++PTF(UA00005).", "++VER(Z038) FMID(HAA1100)."],
         &["++PTF(UA00006).", "++VER(Z038) FMID(HAA1100) SUP(AA00009)."],
     ],
-    rest: "",
     hold: &["++HOLD(UA00005) ERROR FMID(HAA1100) REASON(AA00009)."],
     report: "SET GLOBAL\nRC 00\nRECEIVE GLOBAL\nUA00005 PTF      RECEIVED\nUA00006 PTF      RECEIVED\n\
         UA00005 ERROR    HELD AA00009\nRC 00\n",
-    code: 0,
+    ..JOB
 };
 
 /// A held function, and a fix that requires another one where that function is.
@@ -62,11 +54,10 @@ const CONDITION_RECEIVED: Step = Step {
             "++IF FMID(HBB1100) THEN REQ(UA00014).",
         ],
     ],
-    rest: "",
     hold: &["++HOLD(HBB1100) USER FMID(HBB1100) REASON(WAIT)."],
     report: "SET GLOBAL\nRC 00\nRECEIVE GLOBAL\nHBB1100 FUNCTION RECEIVED\nUA00013 PTF      RECEIVED\n\
         HBB1100 USER     HELD WAIT\nRC 00\n",
-    code: 0,
+    ..JOB
 };
 
 /// A prerequisite that is not received is open, and names its own candidate as the causer.
@@ -76,12 +67,10 @@ pub(crate) const OPEN_PRE: &[Step] = &[
     WANTING_RECEIVED,
     Step {
         cntl: &["SET BDY(TGT1).", "APPLY SELECT(UA00003)."],
-        ptfin: &[],
-        rest: "",
-        hold: &[],
         report: "SET TGT1\nRC 00\nAPPLY TGT1\nUA00003 PTF      FAILED\n  NEED PRE UA00002\n  CAUSER UA00003\n\
             RC 08\n",
         code: 8,
+        ..JOB
     },
 ];
 
@@ -92,21 +81,15 @@ pub(crate) const BYPASSED_PRE: &[Step] = &[
     WANTING_RECEIVED,
     Step {
         cntl: &["SET BDY(TGT1).", "APPLY SELECT(UA00003) BYPASS(PRE)."],
-        ptfin: &[],
-        rest: "",
-        hold: &[],
         report: "SET TGT1\nRC 00\nAPPLY TGT1\nUA00003 PTF      APPLIED\nRC 00\n",
-        code: 0,
+        ..JOB
     },
     Step {
         cntl: &["SET BDY(TGT1).", "LIST."],
-        ptfin: &[],
-        rest: "",
-        hold: &[],
         report: "SET TGT1\nRC 00\nLIST TGT1\nENTRY HAA1100 APPLIED 24.138 SUPBY - DELBY - WAIVED -\n\
             ENTRY UA00003 APPLIED 24.138 SUPBY - DELBY - WAIVED UA00002\n\
             ELEM MAC   M1       FMID HAA1100 RMID HAA1100 UMID - DISTLIB AMACLIB SYSLIB MACLIB\nRC 00\n",
-        code: 0,
+        ..JOB
     },
 ];
 
@@ -117,11 +100,8 @@ pub(crate) const REQ_BOTH_WAYS: &[Step] = &[
     MUTUAL_RECEIVED,
     Step {
         cntl: &["SET BDY(TGT1).", "APPLY SELECT(UA00003,UA00004)."],
-        ptfin: &[],
-        rest: "",
-        hold: &[],
         report: "SET TGT1\nRC 00\nAPPLY TGT1\nUA00003 PTF      APPLIED\nUA00004 PTF      APPLIED\nRC 00\n",
-        code: 0,
+        ..JOB
     },
 ];
 
@@ -133,12 +113,10 @@ pub(crate) const HELD_REQUISITE: &[Step] = &[
     REQUISITE_HOLD_RECEIVED,
     Step {
         cntl: &["SET BDY(TGT1).", "APPLY SELECT(UA00003,UA00004)."],
-        ptfin: &[],
-        rest: "",
-        hold: &[],
         report: "SET TGT1\nRC 00\nAPPLY TGT1\nUA00003 PTF      FAILED\n  NEED REQ UA00004\n  CAUSER UA00004\n\
             UA00004 PTF      FAILED\n  TEST J1\n  NEED REQ UA00003\n  CAUSER UA00004\nRC 08\n",
         code: 8,
+        ..JOB
     },
 ];
 
@@ -153,11 +131,8 @@ pub(crate) const BYPASSED_HOLD: &[Step] = &[
             "SET BDY(TGT1).",
             "APPLY SELECT(UA00003,UA00004) BYPASS(HOLDSYSTEM).",
         ],
-        ptfin: &[],
-        rest: "",
-        hold: &[],
         report: "SET TGT1\nRC 00\nAPPLY TGT1\nUA00003 PTF      APPLIED\nUA00004 PTF      APPLIED\nRC 00\n",
-        code: 0,
+        ..JOB
     },
 ];
 
@@ -168,23 +143,17 @@ pub(crate) const RESOLVED_ERROR: &[Step] = &[
     ERROR_RECEIVED,
     Step {
         cntl: &["SET BDY(TGT1).", "APPLY SELECT(UA00005,UA00006)."],
-        ptfin: &[],
-        rest: "",
-        hold: &[],
         report: "SET TGT1\nRC 00\nAPPLY TGT1\nUA00005 PTF      APPLIED\nUA00006 PTF      APPLIED\nRC 00\n",
-        code: 0,
+        ..JOB
     },
     Step {
         cntl: &["SET BDY(TGT1).", "LIST."],
-        ptfin: &[],
-        rest: "",
-        hold: &[],
         report: "SET TGT1\nRC 00\nLIST TGT1\nENTRY AA00009 - SUPBY UA00006 DELBY - WAIVED -\n\
             ENTRY HAA1100 APPLIED 24.138 SUPBY - DELBY - WAIVED -\n\
             ENTRY UA00005 APPLIED 24.138 SUPBY - DELBY - WAIVED -\n\
             ENTRY UA00006 APPLIED 24.138 SUPBY - DELBY - WAIVED -\n\
             ELEM MAC   M1       FMID HAA1100 RMID HAA1100 UMID - DISTLIB AMACLIB SYSLIB MACLIB\nRC 00\n",
-        code: 0,
+        ..JOB
     },
 ];
 
@@ -195,12 +164,10 @@ pub(crate) const OPEN_ERROR: &[Step] = &[
     ERROR_RECEIVED,
     Step {
         cntl: &["SET BDY(TGT1).", "APPLY SELECT(UA00005)."],
-        ptfin: &[],
-        rest: "",
-        hold: &[],
         report: "SET TGT1\nRC 00\nAPPLY TGT1\nUA00005 PTF      FAILED\n  NEED HOLDERROR AA00009\n  CAUSER UA00005\n\
             RC 08\n",
         code: 8,
+        ..JOB
     },
 ];
 
@@ -214,20 +181,17 @@ pub(crate) const HELD_SUPERSEDER: &[Step] = &[
             &["++PTF(UA00011).", "++VER(Z038) FMID(HAA1100)."],
             &["++PTF(UA00012).", "++VER(Z038) FMID(HAA1100) SUP(UA00011)."],
         ],
-        rest: "",
         hold: &["++HOLD(UA00012) USER FMID(HAA1100) REASON(WAIT)."],
         report: "SET GLOBAL\nRC 00\nRECEIVE GLOBAL\nUA00011 PTF      RECEIVED\nUA00012 PTF      RECEIVED\n\
             UA00012 USER     HELD WAIT\nRC 00\n",
-        code: 0,
+        ..JOB
     },
     Step {
         cntl: &["SET BDY(TGT1).", "APPLY SELECT(UA00011,UA00012)."],
-        ptfin: &[],
-        rest: "",
-        hold: &[],
         report: "SET TGT1\nRC 00\nAPPLY TGT1\nUA00011 PTF      APPLIED\n\
             UA00012 PTF      FAILED\n  TEST J2\n  CAUSER UA00012\nRC 08\n",
         code: 8,
+        ..JOB
     },
 ];
 
@@ -241,20 +205,15 @@ pub(crate) const SUPERSEDED: &[Step] = &[
             &["++PTF(UA00011).", "++VER(Z038) FMID(HAA1100)."],
             &["++PTF(UA00012).", "++VER(Z038) FMID(HAA1100) SUP(UA00011)."],
         ],
-        rest: "",
-        hold: &[],
         report: "SET GLOBAL\nRC 00\nRECEIVE GLOBAL\nUA00011 PTF      RECEIVED\nUA00012 PTF      RECEIVED\n\
             RC 00\n",
-        code: 0,
+        ..JOB
     },
     Step {
         cntl: &["SET BDY(TGT1).", "APPLY SELECT(UA00011,UA00012)."],
-        ptfin: &[],
-        rest: "",
-        hold: &[],
         report: "SET TGT1\nRC 00\nAPPLY TGT1\nUA00011 PTF      SUPERSEDED\nUA00012 PTF      APPLIED\n\
             RC 00\n",
-        code: 0,
+        ..JOB
     },
 ];
 
@@ -265,12 +224,10 @@ pub(crate) const CONDITIONAL_REQUISITE: &[Step] = &[
     CONDITION_RECEIVED,
     Step {
         cntl: &["SET BDY(TGT1).", "APPLY SELECT(HBB1100,UA00013)."],
-        ptfin: &[],
-        rest: "",
-        hold: &[],
         report: "SET TGT1\nRC 00\nAPPLY TGT1\nHBB1100 FUNCTION FAILED\n  TEST J2\n  CAUSER HBB1100\n\
             UA00013 PTF      FAILED\n  NEED IFREQ UA00014\n  CAUSER UA00013\nRC 08\n",
         code: 8,
+        ..JOB
     },
 ];
 
@@ -281,10 +238,7 @@ pub(crate) const NO_CONDITION: &[Step] = &[
     CONDITION_RECEIVED,
     Step {
         cntl: &["SET BDY(TGT1).", "APPLY SELECT(UA00013)."],
-        ptfin: &[],
-        rest: "",
-        hold: &[],
         report: "SET TGT1\nRC 00\nAPPLY TGT1\nUA00013 PTF      APPLIED\nRC 00\n",
-        code: 0,
+        ..JOB
     },
 ];

@@ -1,7 +1,6 @@
 //! Jobs over what an APPLY selects, as text cards.
 
-use crate::cards::{FUNCTION_INSTALLED, FUNCTION_RECEIVED};
-use crate::play::Step;
+use smpe_play::{FUNCTION_INSTALLED, FUNCTION_RECEIVED, JOB, Step};
 
 /// A fix, and one that supersedes its prerequisite.
 const EXTENSION_RECEIVED: Step = Step {
@@ -10,11 +9,9 @@ const EXTENSION_RECEIVED: Step = Step {
         &["++PTF(UA00007).", "++VER(Z038) FMID(HAA1100) PRE(UA00008)."],
         &["++PTF(UA00010).", "++VER(Z038) FMID(HAA1100) SUP(UA00008)."],
     ],
-    rest: "",
-    hold: &[],
     report: "SET GLOBAL\nRC 00\nRECEIVE GLOBAL\nUA00007 PTF      RECEIVED\nUA00010 PTF      RECEIVED\n\
         RC 00\n",
-    code: 0,
+    ..JOB
 };
 
 /// GROUPEXTEND brings in who supersedes a prerequisite that is missing.
@@ -24,22 +21,16 @@ pub(crate) const EXTENDED: &[Step] = &[
     EXTENSION_RECEIVED,
     Step {
         cntl: &["SET BDY(TGT1).", "APPLY SELECT(UA00007) GROUPEXTEND."],
-        ptfin: &[],
-        rest: "",
-        hold: &[],
         report: "SET TGT1\nRC 00\nAPPLY TGT1\nUA00007 PTF      APPLIED\nUA00010 PTF      APPLIED\nRC 00\n",
-        code: 0,
+        ..JOB
     },
     Step {
         cntl: &["SET BDY(TGT1).", "LIST."],
-        ptfin: &[],
-        rest: "",
-        hold: &[],
         report: "SET TGT1\nRC 00\nLIST TGT1\nENTRY HAA1100 APPLIED 24.138 SUPBY - DELBY - WAIVED -\n\
             ENTRY UA00007 APPLIED 24.138 SUPBY - DELBY - WAIVED -\nENTRY UA00008 - SUPBY UA00010 DELBY - WAIVED -\n\
             ENTRY UA00010 APPLIED 24.138 SUPBY - DELBY - WAIVED -\n\
             ELEM MAC   M1       FMID HAA1100 RMID HAA1100 UMID - DISTLIB AMACLIB SYSLIB MACLIB\nRC 00\n",
-        code: 0,
+        ..JOB
     },
 ];
 
@@ -50,12 +41,10 @@ pub(crate) const NOT_EXTENDED: &[Step] = &[
     EXTENSION_RECEIVED,
     Step {
         cntl: &["SET BDY(TGT1).", "APPLY GROUP(UA00007)."],
-        ptfin: &[],
-        rest: "",
-        hold: &[],
         report: "SET TGT1\nRC 00\nAPPLY TGT1\nUA00007 PTF      FAILED\n  NEED PRE UA00008\n  CAUSER UA00007\n\
             RC 08\n",
         code: 8,
+        ..JOB
     },
 ];
 
@@ -70,19 +59,14 @@ pub(crate) const BY_TYPE: &[Step] = &[
             &["++FUNCTION(HBB1100).", "++VER(Z038)."],
             &["++PTF(UA00027).", "++VER(Z038) FMID(HAA1100)."],
         ],
-        rest: "",
-        hold: &[],
         report: "SET GLOBAL\nRC 00\nRECEIVE GLOBAL\nAA00028 APAR     RECEIVED\nHBB1100 FUNCTION RECEIVED\n\
             UA00027 PTF      RECEIVED\nRC 00\n",
-        code: 0,
+        ..JOB
     },
     Step {
         cntl: &["SET BDY(TGT1).", "APPLY SELECT(HBB1100) APARS."],
-        ptfin: &[],
-        rest: "",
-        hold: &[],
         report: "SET TGT1\nRC 00\nAPPLY TGT1\nAA00028 APAR     APPLIED\nHBB1100 FUNCTION APPLIED\nRC 00\n",
-        code: 0,
+        ..JOB
     },
 ];
 
@@ -93,18 +77,14 @@ pub(crate) const EXCLUDED: &[Step] = &[
     Step {
         cntl: &["SET BDY(GLOBAL).", "RECEIVE SYSMODS."],
         ptfin: &[&["++PTF(UA00027).", "++VER(Z038) FMID(HAA1100)."]],
-        rest: "",
-        hold: &[],
         report: "SET GLOBAL\nRC 00\nRECEIVE GLOBAL\nUA00027 PTF      RECEIVED\nRC 00\n",
-        code: 0,
+        ..JOB
     },
     Step {
         cntl: &["SET BDY(TGT1).", "APPLY EXCLUDE(UA00027)."],
-        ptfin: &[],
-        rest: "",
-        hold: &[],
         report: "SET TGT1\nRC 00\nAPPLY TGT1\nNOTHING\nRC 04\n",
         code: 4,
+        ..JOB
     },
 ];
 
@@ -122,19 +102,14 @@ pub(crate) const EXTENDED_TWICE: &[Step] = &[
             ],
             &["++PTF(UA00037).", "++VER(Z038) FMID(HAA1100) SUP(UA00036)."],
         ],
-        rest: "",
-        hold: &[],
         report: "SET GLOBAL\nRC 00\nRECEIVE GLOBAL\nUA00033 PTF      RECEIVED\nUA00035 PTF      RECEIVED\n\
             UA00037 PTF      RECEIVED\nRC 00\n",
-        code: 0,
+        ..JOB
     },
     Step {
         cntl: &["SET BDY(TGT1).", "APPLY SELECT(UA00033) GROUPEXTEND."],
-        ptfin: &[],
-        rest: "",
-        hold: &[],
         report: "SET TGT1\nRC 00\nAPPLY TGT1\nUA00033 PTF      APPLIED\nUA00035 PTF      APPLIED\n\
             UA00037 PTF      APPLIED\nRC 00\n",
-        code: 0,
+        ..JOB
     },
 ];

@@ -21,7 +21,7 @@ use Rattle.smpe_upkeep.proofs.OperandForms.{HasVers, sysmod_forms, ver_forms, by
 use Rattle.smpe_upkeep.proofs.GivenForms.{HasInstallForms}
 
 -- The open ids are a closed pair by themselves, so each candidate is open.
-candidate_open : (g : Global) (zone : Zone) (sel : Selection) (x : Id) → IsCandidate g zone sel x
+pub candidate_open : (g : Global) (zone : Zone) (sel : Selection) (x : Id) → IsCandidate g zone sel x
     → IsTrue (is_open g zone sel x)
 candidate_open g zone sel x candidate = candidate (is_open g zone sel) (is_open g zone sel) (record {
   start = λ y starts. (and_parts _ _ starts).0;

@@ -1,30 +1,27 @@
 -- The elements of a zone after an installation have their forms.
-use Rattle.std.proofs.Common.{◌≡◌, ◌≢◌, inl, inr, ℕ, Bool, true, false, List, Option, Some, None, All, Contains, IsTrue}
-use Rattle.std.proofs.Common.{refl, sym, ◌∙◌, ap, subst, get_or, is_some}
+use Rattle.std.proofs.Common.{◌≡◌, inl, inr, ℕ, Bool, true, false, List, Option, Some, None, All, Contains, IsTrue}
+use Rattle.std.proofs.Common.{refl, sym, ◌∙◌, ap, subst, get_or}
 use Rattle.std.specs.Prelude.{IsFalse, ◌==◌, not}
 use Rattle.std.proofs.lemmas.List.Elements.{All-contains, All-contains_itself}
 use Rattle.std.proofs.lemmas.Option.{same_Some}
 use Rattle.lemmas.proofs.Members.{filter_in}
 use Rattle.lemmas.proofs.Searches.{All-find, find-gives}
-use Rattle.lemmas.proofs.Texts.{same_or_not}
 use Rattle.terms.specs.declared.kinds.Kind.{Kind}
 use Rattle.terms.specs.declared.kinds.ElemType.{ElemType}
 use Rattle.terms.specs.declared.kinds.ElemType.TheVariants.{Mac, Src, Clist, Data, Exec, Parm, Proc}
 use Rattle.terms.specs.Types.{Text, Id, Lines, Action, Replaces, Updates, Change, Element, Zone}
 use Rattle.terms.specs.Lookups.{element_key, change_of, has_change, element_of}
 use Rattle.terms.specs.Lookups.{element_eq}
-use Rattle.terms.specs.Over.{names, IsOver}
-use Rattle.terms.specs.Texts.{number_of, is_control, line_at, given, IsNumbered, Touches}
+use Rattle.terms.specs.Texts.{number_of, is_control, line_at, given, IsNumbered}
 use Rattle.terms.specs.Install.{Installation, TakesEffect, cleared, HasBase, IsUpdater, Decides, HasElementAfter}
 use Rattle.terms.specs.Install.{IsUpdated as IsElementUpdated, HasInstalled}
 use Rattle.terms.specs.Forms.{IsId, IsName}
 use Rattle.terms.proofs.ElementOrder.{element_cmp_total, element_ties}
-use Rattle.terms.proofs.Leads.{reaches_through}
 use Rattle.store_schema.specs.Forms.{AreListed, AreRecords, IsTextOf, IsUpdated, HasActionForms}
 use Rattle.store_schema.specs.Forms.{HasElementForms}
 use Rattle.smpe_upkeep.proofs.Lists.{find-itself, line_at-itself}
 use Rattle.smpe_upkeep.proofs.Stable.{by_either, part_of, IsRecord, stable_record, stable_text, stable_element}
-use Rattle.smpe_upkeep.proofs.Topmost.{topmost}
+use Rattle.smpe_upkeep.proofs.Deciders.{UpdatesAt, decider}
 use Rattle.smpe_upkeep.proofs.LessForms.{none_listed, element_forms}
 use Rattle.smpe_upkeep.proofs.OperandForms.{change_forms, owner_form}
 use Rattle.smpe_upkeep.proofs.GivenForms.{HasInstallForms, cleared_forms, effect_form}
@@ -101,34 +98,6 @@ module _ (i : Installation) (has : HasInstallForms i) where
           let forms = action_forms y updater.updates.0 (Updates update) updater.updates.1 updater.updates.2 in
           (forms.1.1.1, forms.1.1.2)
 
-      -- y updates it at the number n
-      abbrev UpdatesAt : ℕ → Id → Type 0
-      UpdatesAt n y = (update : Lines) × IsUpdater i type name replacer y update × Touches update n
-
-      updates_ordered : (n : ℕ) (x y : Id) → UpdatesAt n x → UpdatesAt n y → x ≢ y
-          → ¬ ((¬ IsOver i.choice x y) × (¬ IsOver i.choice y x))
-      updates_ordered n x y of_x of_y other =
-          has.ordered x y of_x.1.installed.kept of_y.1.installed.kept other
-          (type, name, ap is_some of_x.1.updates.1, ap is_some of_y.1.updates.1)
-
-      -- the updater that decides at a number
-      decider : (n : ℕ) (y : Id) → UpdatesAt n y
-          → ¬ ¬ ((x : Id) × (update : Lines) × Decides i type name replacer n x update)
-      decider n y updates refuted =
-          topmost (UpdatesAt n) (IsOver i.choice) same_or_not (reaches_through (names i.choice)) (updates_ordered n)
-          i.kept y updates.1.installed.kept updates (λ found.
-          let x = found.0 in
-          let top = found.1 in
-          refuted (
-            x,
-            top.is.0,
-            record {
-              updater = top.is.1;
-              touches = top.is.2;
-              over = λ z other updater touches apart. top.over z updater.installed.kept (other, updater, touches) apart;
-            },
-          ))
-
       module _ (base e : Element) (is_base : HasElementForms base)
           (updated : IsElementUpdated i type name replacer base e) where
         umids_after : AreListed IsId e.umids
@@ -146,8 +115,10 @@ module _ (i : Installation) (has : HasInstallForms i) where
         -- a record of the text is its base's, or of the update that decides at its number
         record_after : AreRecords base.text → IsNumbered e.text → (line : List ℕ) → Contains e.text line
             → IsRecord line
-        record_after records numbered line there = by_either {A = (y : Id) × UpdatesAt n y} (stable_record line)
-            (λ some. part_of (λ d. of_update d.0 d.1 d.2) (stable_record line) (decider n some.0 some.1))
+        record_after records numbered line there = by_either {A = (y : Id) × UpdatesAt i type name replacer n y}
+            (stable_record line)
+            (λ some. part_of (λ d. of_update d.0 d.1 d.2) (stable_record line)
+            (decider i type name replacer has.ordered n some.0 some.1))
             (λ none. line_in base.text n line
             (sym (updated.others n (λ y update updater touches. none (y, (update, updater, touches)))) ∙ at) records)
           where

@@ -1,13 +1,12 @@
 -- What is given to an installation has its forms.
-use Rattle.std.proofs.Common.{◌≢◌, All, Contains}
+use Rattle.std.proofs.Common.{All, Contains}
 use Rattle.std.proofs.lemmas.List.Elements.{All-contains}
 use Rattle.terms.specs.Types.{Id}
-use Rattle.terms.specs.Over.{IsOver}
-use Rattle.terms.specs.Tests.{ShareElement}
 use Rattle.terms.specs.Install.{Installation, TakesEffect, cleared}
 use Rattle.terms.specs.Deleted.{deletions}
 use Rattle.terms.specs.Forms.{IsId, IsDottedDate}
 use Rattle.store_schema.specs.Forms.{HasSysmodForms, HasZoneForms}
+use Rattle.smpe_upkeep.proofs.Deciders.{AreOrdered}
 use Rattle.smpe_upkeep.proofs.LessForms.{zone_less_forms}
 use Rattle.smpe_upkeep.proofs.OperandForms.{HasVers}
 
@@ -19,8 +18,7 @@ pub record HasInstallForms (i : Installation) : Type 0 where
   pub kept : All IsId i.kept
   pub bypassed : (x z : Id) → Contains i.bypassed (x, z) → IsId z
   pub date : IsDottedDate i.date
-  pub ordered : (x y : Id) → Contains i.kept x → Contains i.kept y → x ≢ y → ShareElement i.global x y
-      → ¬ ((¬ IsOver i.choice x y) × (¬ IsOver i.choice y x))
+  pub ordered : AreOrdered i
 
 -- the zone less all deletions
 pub cleared_forms : (i : Installation) → HasInstallForms i → HasZoneForms (cleared i)

@@ -1,3 +1,4 @@
+pub mod Deciders
 pub mod Decisions
 pub mod Defined
 pub mod ElementsAfter
@@ -9,6 +10,7 @@ pub mod InstallForms
 pub mod LessForms
 pub mod Lists
 pub mod OperandForms
+pub mod Paired
 pub mod Printable
 pub mod PtfinForms
 pub mod ReceivingForms
@@ -16,5 +18,6 @@ pub mod RejectingForms
 pub mod RestoreForms
 pub mod Stable
 pub mod StatementForms
+pub mod StepForms
 pub mod Topmost
 pub mod ZonesKept

@@ -1,4 +1,5 @@
--- What a statement of a file has in parentheses is printable, since the file's records are.
+-- What a statement of a file has in parentheses is printable, since the file's records are; and its parentheses are
+-- paired.
 use Rattle.std.proofs.Common.{◌≡◌, ◌&&◌, ◌==◌, ℕ, Bool, true, false, List, [], ◌∷◌, ◌++◌, drop, Option, Some, None}
 use Rattle.std.proofs.Common.{refl, sym, subst, arith}
 use Rattle.std.specs.Prelude.{IfSome, slice_index, if◌then◌else◌}
@@ -14,6 +15,8 @@ use Rattle.terms.specs.Words.{Word, list_pieces, word_pieces, HasWords}
 use Rattle.terms.specs.Operands.{operand}
 use Rattle.terms.specs.Statements.{statement_text}
 use Rattle.terms.specs.Ptfin.{IsKnown}
+use Rattle.store_schema.specs.Forms.{IsPaired}
+use Rattle.smpe_upkeep.proofs.Paired.{list_paired}
 use Rattle.lemmas.proofs.Each.{recursion-append, recursion-front, recursion-back}
 use Rattle.lemmas.proofs.Searches.{All-find}
 
@@ -39,9 +42,13 @@ joined_printable (r ∷ rs) each = recursion-append IsPrintable (front r) (follo
 
 -- ---- pieces
 
--- the text of a piece in parentheses is printable
+-- a text that may stand in parentheses
+abbrev pub IsInside : Text → Type 0
+IsInside text = ArePrintable text × IsPaired text
+
+-- the text of a piece in parentheses may stand there
 abbrev pub HasPrintable : Piece → Type 0
-HasPrintable (TheList list) = ArePrintable list
+HasPrintable (TheList list) = IsInside list
 HasPrintable _ = Unit {0}
 
 less_one : (text : Text) → ArePrintable text → ArePrintable (drop 1 text)
@@ -67,8 +74,10 @@ piece_printable text (TheWord word) after takes each = (
       (subst ArePrintable takes.0 each),
 )
 piece_printable text (TheList list) after takes each =
-    let inside : ArePrintable (list ++ 41 ∷ after) = (subst ArePrintable takes.0 each).1 in
-    (recursion-front IsPrintable list (41 ∷ after) inside, (recursion-back IsPrintable list (41 ∷ after) inside).1)
+    let inside : ArePrintable (list ++ 41 ∷ after) = (subst ArePrintable takes.0 each).1 in (
+      (recursion-front IsPrintable list (41 ∷ after) inside, list_paired list after takes.1),
+      (recursion-back IsPrintable list (41 ∷ after) inside).1,
+    )
 piece_printable text Blank after (b, is, blank) each = (tt, (subst ArePrintable is each).1)
 piece_printable text Comment after (inside, is, closes) each =
     (tt, closed_printable inside after closes (subst ArePrintable is each).1.1)
@@ -95,11 +104,11 @@ statement_printable records pieces inline (ps, tail, ends, idle, is) each =
 
 -- ---- operands
 
--- the word's list is printable, where it has one
+-- the word's list may stand in parentheses, where it has one
 abbrev pub HasPrintableList : Word → Type 0
-HasPrintableList w = IfSome w.list ArePrintable
+HasPrintableList w = IfSome w.list IsInside
 
-list_printable : (list : Option Text) → AllByRecursion HasPrintable (list_pieces list) → IfSome list ArePrintable
+list_printable : (list : Option Text) → AllByRecursion HasPrintable (list_pieces list) → IfSome list IsInside
 list_printable None h = tt
 list_printable (Some text) h = h.0
 

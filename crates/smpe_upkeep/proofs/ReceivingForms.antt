@@ -102,7 +102,7 @@ taken_forms g s (Err why) forms is held has refused = has
 
 -- ---- the items of PTFIN
 
-item_forms : (source : Option Text) → IfSome source IsSource → (g new : Global) (item : Item) (lines : List Line)
+pub item_forms : (source : Option Text) → IfSome source IsSource → (g new : Global) (item : Item) (lines : List Line)
     → IsItem item → HasGlobalForms g → TakesItem source g item new lines → HasGlobalForms new
 item_forms source form g new (ASysmod s) lines whole has (answer, receives, new_is, printed) =
     let listed = sources_listed source s form whole.growing.no_sources in

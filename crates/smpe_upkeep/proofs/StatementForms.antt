@@ -25,7 +25,8 @@ use Rattle.terms.specs.Statements as says
 use Rattle.store_schema.specs.Forms.{AreListed, AreOthers, IsComment, HasHoldForms, AreRecords, IsTextOf, SuitsKind}
 use Rattle.store_schema.specs.Forms.{HasIfForms, HasVerForms, HasActionForms, HasChangeForms}
 use Rattle.lemmas.proofs.Each.{recursion-front, recursion-back}
-use Rattle.smpe_upkeep.proofs.Printable.{ArePrintable, HasPrintableList, operand_printable}
+use Rattle.smpe_upkeep.proofs.Printable.{ArePrintable, IsInside, HasPrintableList, operand_printable}
+use Rattle.smpe_upkeep.proofs.Paired.{cut_paired}
 
 -- ---- values
 
@@ -39,7 +40,7 @@ required_form : (form : Text → Type 0) (found : Option Word) (value : Text) �
 required_form form None value h = absurd h
 required_form form (Some w) value h = one_form form w.list value h
 
-optional_form : (form : Text → Type 0) (found : Option Word) (value : Option Text) → HasOptional form found value
+pub optional_form : (form : Text → Type 0) (found : Option Word) (value : Option Text) → HasOptional form found value
     → IfSome value form
 optional_form form None value is = subst (λ v. IfSome v form) (sym is) tt
 optional_form form (Some w) None h = absurd h
@@ -101,18 +102,19 @@ printable_characters text each =
     (λ b is. and_from (nat_le 32 b) (nat_le b 126) (le-leb 32 b is.0) (le-leb b 126 is.1)) text
     (All-from_recursion IsPrintable text each)
 
-cut_form : (text cut : Text) → IsTrimmed text cut → ArePrintable text → length cut ≤ 200 → IsComment cut
+cut_form : (text cut : Text) → IsTrimmed text cut → IsInside text → length cut ≤ 200 → IsComment cut
 cut_form text cut (left, right, is, blank, blank_behind, front, back) each short = record {
   least = first_there cut front;
   most = short;
   characters = printable_characters cut (recursion-back IsPrintable left cut
-      (recursion-front IsPrintable (left ++ cut) right (subst ArePrintable is each)));
+      (recursion-front IsPrintable (left ++ cut) right (subst ArePrintable is each.0)));
   front = front;
   back = back;
+  paired = cut_paired text left cut right is blank blank_behind each.1;
 }
 
 list_comment : (list comment : Option Text) → IsSomeAnd list (λ text. IsSomeAnd comment (λ cut. IsTrimmed text cut))
-    → IfSome list ArePrintable
+    → IfSome list IsInside
     → IfSome comment (λ text. length text ≤ 200) → IfSome comment IsComment
 list_comment None comment has each short = absurd has
 list_comment (Some text) None has each short = tt

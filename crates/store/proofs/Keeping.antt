@@ -1,46 +1,58 @@
 -- What a store keeps, from what its calls say of the tables.
-use Rattle.std.proofs.Common.{◌≡◌, ◌≢◌, ◌⊎◌, ℕ, List, refl, sym, inl, inr}
+use Rattle.std.proofs.Common.{◌≡◌, ◌≢◌, ◌⊎◌, ℕ, List, refl, inl, inr}
 use Rattle.sqlite.specs.Store.{Ghosts}
+use Rattle.sqlite.specs.Tree.{Trees}
 use Rattle.sqlite.specs.Held.{Held, state}
 use Rattle.sqlite.specs.State.{HasCleanDisk}
 use Rattle.machine.specs.State.{State}
 use Rattle.machine.specs.Machine.{Act, Prints}
 use Rattle.store_schema.specs.Inventory.{Inventory, IsInventory}
+use Rattle.store_schema.specs.Stands.{StandsFor}
+use Rattle.store_schema.specs.Tables.{store_schema}
 use Rattle.store_schema.specs.declared.error.StoreError.{StoreError}
 use Rattle.store_schema.specs.declared.error.StoreError.TheVariants.{Fault, OtherSchema, NoState, Memory}
 use Rattle.store.specs.Kept.{kept, Keeps, IsStopped}
-use Rattle.store.specs.View.{Tables, TablesIfOpen, Leaves}
+use Rattle.store.specs.View.{Tables, TablesIfOpen, MayLeave, Leaves}
 
 -- what is kept is an inventory
 pub inventory-kept : {S : Type 0} (g : Ghosts S) (at : Held S) (s : State) → Keeps g at s → HasCleanDisk (state g at)
     → IsInventory (kept s)
 inventory-kept g at s keeps clean = (keeps.now clean).1.inventory
 
+-- what a crash leaves is among more
+pub leaves-more : {S : Type 0} (g : Ghosts S) (at : Held S) (P Q : Inventory → Type 0) → ((c : Inventory) → P c → Q c)
+    → Leaves g at P → Leaves g at Q
+leaves-more g at P Q more leaves db left = let it = leaves db left in (it.0, more it.0 it.1, it.2)
+
 module _ {S : Type 0} (g : Ghosts S) (old new : Held S) (s : State) (keeps : Keeps g old s) where
   -- what was loaded
   pub keeps-loaded : (Tables g old (kept s) → Tables g new (kept s))
-      → ((c : Inventory) → Leaves g new c → Leaves g old c) → Keeps g new s
-  keeps-loaded same crash = record { now = same keeps.now; crash = λ c left. keeps.crash c (crash c left) }
+      → ((db : Trees) → MayLeave g new db → MayLeave g old db) → Keeps g new s
+  keeps-loaded same crash = record { now = same keeps.now; crash = λ db left. keeps.crash db (crash db left) }
 
   -- a load that failed
   pub stays-loaded : (a : Act) → (Tables g old (kept s) → TablesIfOpen g new (kept s))
-      → ((c : Inventory) → Leaves g new c → Leaves g old c) → IsStopped g new s a
-  stays-loaded a err crash = record { now = err keeps.now; crash = λ c left. inl (keeps.crash c (crash c left)) }
+      → ((db : Trees) → MayLeave g new db → MayLeave g old db) → IsStopped g new s a
+  stays-loaded a err crash = record {
+    now = err keeps.now;
+    crash = λ db left. leaves-more g old _ _ (λ c is. inl is) keeps.crash db (crash db left);
+  }
 
   -- a commit, after which the tables stand for t
   pub keeps-committed : (t : State) → (Tables g old (kept s) → Tables g new (kept t))
-      → (Tables g old (kept s) → (c : Inventory) → Leaves g new c → kept t ≡ c) → Keeps g new t
-  keeps-committed t ok durable = record { now = ok keeps.now; crash = λ c left. sym (durable keeps.now c left) }
+      → (Tables g old (kept s) → Leaves g new (λ c. c ≡ kept t)) → Keeps g new t
+  keeps-committed t ok durable = record { now = ok keeps.now; crash = durable keeps.now }
 
   -- a commit that failed, of what the act leads to
   pub stays-uncommitted : (t : State) (a : Act) (text : List ℕ) → Prints s a t text
       → (Tables g old (kept s) → TablesIfOpen g new (kept s))
-      → (Tables g old (kept s) → (c : Inventory) → Leaves g new c → Leaves g old c ⊎ (kept t ≡ c)) → IsStopped g new s a
+      → (Tables g old (kept s) → (db : Trees) → MayLeave g new db
+      → MayLeave g old db ⊎ StandsFor (kept t) (record { schema = store_schema; trees = db })) → IsStopped g new s a
   stays-uncommitted t a text prints err crash = record {
     now = err keeps.now;
-    crash = λ c left. elim (crash keeps.now c left) [
-      | inl before ↦ inl (keeps.crash c before)
-      | inr done ↦ inr (t, text, prints, sym done)
+    crash = λ db left. elim (crash keeps.now db left) [
+      | inl before ↦ leaves-more g old _ _ (λ c is. inl is) keeps.crash db before
+      | inr done ↦ (kept t, inr (t, text, prints, refl), done)
     ];
   }
 

@@ -3,4 +3,5 @@ mod DeltaLemmas
 mod GlobalLemmas
 pub mod Keeping
 mod Parts
+pub mod Reopening
 mod ViewLemmas

@@ -16,8 +16,9 @@ module _ {S : Type 0} (g : Ghosts S) (at : Held S) where
   abbrev pub Keeps : State → Type 0
   Keeps s = Stands (Tables g at) (Leaves g at) (kept s)
 
-  -- An act was begun and had no effect, or a crash may leave its effect. A fault may have shut the connection.
+  -- An act was begun and had no effect, or a crash may leave its effect. A fault may have shut the connection; where it
+  -- has not, the store keeps the state.
   pub record IsStopped (s : State) (a : Act) : Type 0 where
     pub now : TablesIfOpen g at (kept s)
-    pub crash : (c : Inventory) → Leaves g at c → (c ≡ kept s)
-        ⊎ ((m : State) × (text : List ℕ) × Prints s a m text × (c ≡ kept m))
+    pub crash : Leaves g at (λ c. (c ≡ kept s)
+        ⊎ ((m : State) × (text : List ℕ) × Prints s a m text × (c ≡ kept m)))

@@ -1,11 +1,14 @@
 //! What a store's tables hold, read back.
 
 ghost use Rattle.std.specs.Prelude.{◌≡◌, ◌≢◌, map, IfOk, IfErr, IsErrOf, OnOk, OnErr};
+ghost use Rattle.sqlite.specs.Tree.{Trees};
 ghost use Rattle.sqlite.specs.Held.{state};
 ghost use Rattle.sqlite.specs.State.{HasCleanDisk};
+ghost use Rattle.store_rows.specs.Reads.{OnlyReads};
 ghost use Rattle.store_schema.specs.Inventory.{Inventory};
+ghost use Rattle.store_schema.specs.Stands.{StandsFor};
 ghost use Rattle.store_zone_loads.specs.Found.{zone_in, head_of};
-ghost use Rattle.store.specs.View.{Tables, TablesIfOpen, Leaves};
+ghost use Rattle.store.specs.View.{Tables, TablesIfOpen, MayLeave};
 ghost use Rattle.store.specs.Loads.{store_error};
 
 use crate::global_load::load_global;
@@ -36,12 +39,13 @@ impl<S: Alter> Store<S> {
         ensures found { HasCleanDisk (state S.Store self.new) → (i : Inventory) → Tables S.Store self.old i
             → IfOk result (λ global. global ≡ i.global) }
         ensures none { HasCleanDisk (state S.Store self.new) → IsErrOf result StoreError.NoState → (i : Inventory)
-            → ¬ Tables S.Store self.old i }
+            → ¬ StandsFor i (state S.Store self.old).committed }
+        ensures reads { OnlyReads S.Store StoreError.NoState self.old self.new result }
         ensures same { OnOk result ((i : Inventory) → Tables S.Store self.old i → Tables S.Store self.new i) }
         ensures err { OnErr result ((i : Inventory) → Tables S.Store self.old i → TablesIfOpen S.Store self.new i) }
         ensures which { IfErr result (λ e. e ≢ StoreError.OtherSchema) }
-        ensures crash { (i : Inventory) → Tables S.Store self.old i → (c : Inventory) → Leaves S.Store self.new c
-            → Leaves S.Store self.old c }
+        ensures crash { (i : Inventory) → Tables S.Store self.old i → (db : Trees) → MayLeave S.Store self.new db
+            → MayLeave S.Store self.old db }
         ensures clean { HasCleanDisk (state S.Store self.new) → HasCleanDisk (state S.Store self.old) }
     {
         // So what the connection shows is what it last committed.
@@ -57,12 +61,13 @@ impl<S: Alter> Store<S> {
         ensures found { HasCleanDisk (state S.Store self.new) → (i : Inventory) → Tables S.Store self.old i
             → IfOk result (λ zone. zone ≡ zone_in i name) }
         ensures none { HasCleanDisk (state S.Store self.new) → IsErrOf result StoreError.NoState → (i : Inventory)
-            → ¬ Tables S.Store self.old i }
+            → ¬ StandsFor i (state S.Store self.old).committed }
+        ensures reads { OnlyReads S.Store StoreError.NoState self.old self.new result }
         ensures same { OnOk result ((i : Inventory) → Tables S.Store self.old i → Tables S.Store self.new i) }
         ensures err { OnErr result ((i : Inventory) → Tables S.Store self.old i → TablesIfOpen S.Store self.new i) }
         ensures which { IfErr result (λ e. e ≢ StoreError.OtherSchema) }
-        ensures crash { (i : Inventory) → Tables S.Store self.old i → (c : Inventory) → Leaves S.Store self.new c
-            → Leaves S.Store self.old c }
+        ensures crash { (i : Inventory) → Tables S.Store self.old i → (db : Trees) → MayLeave S.Store self.new db
+            → MayLeave S.Store self.old db }
         ensures clean { HasCleanDisk (state S.Store self.new) → HasCleanDisk (state S.Store self.old) }
     {
         // So what the connection shows is what it last committed.
@@ -78,12 +83,13 @@ impl<S: Alter> Store<S> {
         ensures found { HasCleanDisk (state S.Store self.new) → (i : Inventory) → Tables S.Store self.old i
             → IfOk result (λ heads. heads.items ≡ map head_of i.zones) }
         ensures none { HasCleanDisk (state S.Store self.new) → IsErrOf result StoreError.NoState → (i : Inventory)
-            → ¬ Tables S.Store self.old i }
+            → ¬ StandsFor i (state S.Store self.old).committed }
+        ensures reads { OnlyReads S.Store StoreError.NoState self.old self.new result }
         ensures same { OnOk result ((i : Inventory) → Tables S.Store self.old i → Tables S.Store self.new i) }
         ensures err { OnErr result ((i : Inventory) → Tables S.Store self.old i → TablesIfOpen S.Store self.new i) }
         ensures which { IfErr result (λ e. e ≢ StoreError.OtherSchema) }
-        ensures crash { (i : Inventory) → Tables S.Store self.old i → (c : Inventory) → Leaves S.Store self.new c
-            → Leaves S.Store self.old c }
+        ensures crash { (i : Inventory) → Tables S.Store self.old i → (db : Trees) → MayLeave S.Store self.new db
+            → MayLeave S.Store self.old db }
         ensures clean { HasCleanDisk (state S.Store self.new) → HasCleanDisk (state S.Store self.old) }
     {
         // So what the connection shows is what it last committed.
@@ -99,12 +105,13 @@ impl<S: Alter> Store<S> {
         ensures found { HasCleanDisk (state S.Store self.new) → (i : Inventory) → Tables S.Store self.old i
             → IfOk result (λ names. names.items ≡ map (λ z. z.name) i.zones) }
         ensures none { HasCleanDisk (state S.Store self.new) → IsErrOf result StoreError.NoState → (i : Inventory)
-            → ¬ Tables S.Store self.old i }
+            → ¬ StandsFor i (state S.Store self.old).committed }
+        ensures reads { OnlyReads S.Store StoreError.NoState self.old self.new result }
         ensures same { OnOk result ((i : Inventory) → Tables S.Store self.old i → Tables S.Store self.new i) }
         ensures err { OnErr result ((i : Inventory) → Tables S.Store self.old i → TablesIfOpen S.Store self.new i) }
         ensures which { IfErr result (λ e. e ≢ StoreError.OtherSchema) }
-        ensures crash { (i : Inventory) → Tables S.Store self.old i → (c : Inventory) → Leaves S.Store self.new c
-            → Leaves S.Store self.old c }
+        ensures crash { (i : Inventory) → Tables S.Store self.old i → (db : Trees) → MayLeave S.Store self.new db
+            → MayLeave S.Store self.old db }
         ensures clean { HasCleanDisk (state S.Store self.new) → HasCleanDisk (state S.Store self.old) }
     {
         // So what the connection shows is what it last committed.

@@ -1,15 +1,16 @@
 //! A store, from a connection and back.
 
 ghost use Rattle.std.specs.Prelude.{◌≡◌, ◌⊎◌, false, IsTrue, IfOk, IfErr, OnOk, OnErr};
+ghost use Rattle.sqlite.specs.Tree.{Trees};
 ghost use Rattle.sqlite.specs.Held.{state};
 ghost use Rattle.sqlite.specs.State.{HasCleanDisk, IsUnchanged, Survives};
-ghost use Rattle.store_rows.specs.Inside.{IsMade};
 ghost use Rattle.store_schema.specs.Create.{IsBlank};
-ghost use Rattle.store_schema.specs.Inventory.{Inventory, IsInventory, empty_inventory};
+ghost use Rattle.store_schema.specs.Inventory.{Inventory, IsInventory};
 ghost use Rattle.store_schema.specs.Known.{HasOtherNumber, HasNoState, HasOwnTables};
-ghost use Rattle.store_schema.specs.Stands.{StandsFor};
+ghost use Rattle.store_schema.specs.Stands.{StandsFor, IsSetUp};
+ghost use Rattle.store_schema.specs.Tables.{store_schema};
 ghost use Rattle.store.specs.Changes.{Makes};
-ghost use Rattle.store.specs.View.{Tables, TablesIfOpen, IsFound, Leaves};
+ghost use Rattle.store.specs.View.{Tables, TablesIfOpen, IsFound, MayLeave, Leaves, LeavesFound};
 
 use crate::change::Change;
 use crate::write::commit_change;
@@ -51,22 +52,24 @@ impl<S: Alter> Store<S> {
     ) -> Result<Store<S>, (Connection<S>, StoreError)>
         requires { conn.in_transaction ≡ false }
         ensures tables { IfOk result (λ store. (i : Inventory) → IsFound S.Store conn i → Tables S.Store store i) }
-        ensures leaves { IfOk result (λ store. (i : Inventory) → IsFound S.Store conn i → (c : Inventory)
-            → Leaves S.Store store c → i ≡ c) }
+        ensures leaves { IfOk result (λ store. (i : Inventory) → IsFound S.Store conn i
+            → Leaves S.Store store (λ c. c ≡ i)) }
         ensures ours { IfOk result (λ store. HasCleanDisk (state S.Store store)
             → HasOwnTables (state S.Store store).now) }
         ensures same { IfOk result (λ store. HasCleanDisk (state S.Store store) → ¬ IsBlank (state S.Store conn).now
             → IsUnchanged (state S.Store conn) (state S.Store store)) }
         ensures crash { IfOk result (λ store. Survives (state S.Store conn) (state S.Store store)
-            (IsMade S.Store conn IsBlank (StandsFor empty_inventory))) }
+            (IsSetUp (state S.Store conn).now)) }
         ensures other { IfErr result (λ e. HasCleanDisk (state S.Store e.0) → e.1 ≡ StoreError.OtherSchema
             → HasOtherNumber (state S.Store conn)) }
         ensures none { IfErr result (λ e. HasCleanDisk (state S.Store e.0) → e.1 ≡ StoreError.NoState
             → HasNoState (state S.Store conn)) }
         ensures unchanged { IfErr result (λ e. HasCleanDisk (state S.Store e.0) → IsTrue (state S.Store e.0).is_open
             → (state S.Store e.0).committed ≡ (state S.Store conn).committed) }
+        ensures leaves_err { IfErr result (λ e. IsTrue (state S.Store conn).is_open → (i : Inventory)
+            → IsFound S.Store conn i → LeavesFound S.Store e.0 i) }
         ensures crash_err { IfErr result (λ e. Survives (state S.Store conn) (state S.Store e.0)
-            (IsMade S.Store conn IsBlank (StandsFor empty_inventory))) }
+            (IsSetUp (state S.Store conn).now)) }
         ensures mode { IfErr result (λ e. e.0.in_transaction ≡ false) }
     {
         // So what the connection shows is what it last committed.
@@ -82,10 +85,11 @@ impl<S: Alter> Store<S> {
         ensures ok { OnOk result ((i j : Inventory) → Makes change.now i j → IsInventory j → Tables S.Store self.old i
             → Tables S.Store self.new j) }
         ensures durable { OnOk result ((i j : Inventory) → Makes change.now i j → IsInventory j
-            → Tables S.Store self.old i → (c : Inventory) → Leaves S.Store self.new c → j ≡ c) }
+            → Tables S.Store self.old i → Leaves S.Store self.new (λ c. c ≡ j)) }
         ensures err { OnErr result ((i : Inventory) → Tables S.Store self.old i → TablesIfOpen S.Store self.new i) }
         ensures crash { (i j : Inventory) → Makes change.now i j → IsInventory j → Tables S.Store self.old i
-            → (c : Inventory) → Leaves S.Store self.new c → Leaves S.Store self.old c ⊎ (j ≡ c) }
+            → (db : Trees) → MayLeave S.Store self.new db → MayLeave S.Store self.old db
+            ⊎ StandsFor j (record { schema = store_schema; trees = db }) }
         ensures which { IfErr result (λ e. (e ≡ StoreError.Fault) ⊎ (e ≡ StoreError.Memory)) }
         ensures clean { HasCleanDisk (state S.Store self.new) → HasCleanDisk (state S.Store self.old) }
     {

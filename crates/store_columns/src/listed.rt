@@ -19,6 +19,7 @@ use store_rows::{FromRow, ReadError, load};
 pub trait Query {
     ghost use Rattle.std.specs.Prelude.{◌≡◌, ℕ};
     ghost use Rattle.sqlite.specs.Table.{Table};
+    ghost use Rattle.store_rows.specs.Selects.{IsSelect};
     ghost use Rattle.store_rows.specs.Texts.{IsTableOf, ReadsRows};
     ghost use Rattle.store_schema.specs.Tables.{store_schema};
 
@@ -34,6 +35,7 @@ pub trait Query {
     fn text() -> &'static str
         ensures reads { ReadsRows store_schema table width result.now }
         ensures there { IsTableOf store_schema at table }
+        ensures selects { IsSelect result.now }
         ensures exact { (a b : Self.Rows.Item) → Self.Rows.has_form a → Self.Rows.has_form b
             → Self.Rows.row_of a ≡ Self.Rows.row_of b → a ≡ b };
 }
@@ -59,7 +61,7 @@ pub fn load_listed<S: Alter, Q: Query>(
         → HasContents store_schema contents (state S.Store conn.old).now
         → (xs : List Q.Rows.Item) → AllByRecursion Q.Rows.has_form xs
         → ¬ IsPermutation (map Q.Rows.row_of xs) (asked (bound key.now) (contents Q.table.tree)) }
-    ensures reads { OnlyReads S.Store (conn.old.schema ≡ store_schema) conn.old conn.new result }
+    ensures reads { OnlyReads S.Store ReadError.BadRow conn.old conn.new result }
 {
     load::<S, Q::Rows>(alloc, conn, Q::text(), key)
 }

@@ -4,6 +4,7 @@ use Rattle.sqlite.specs.Listing.{understood}
 use Rattle.sqlite_tied.specs.Compute.{everything}
 use Rattle.sqlite_schema.specs.Names.{same_name}
 use Rattle.sqlite_value.specs.Keys.{joined}
+use Rattle.store_rows.specs.Selects.{IsSelect}
 use Rattle.store_rows.specs.Texts.{PutsIn, TakesOut, ReadsRows}
 use Rattle.store_schema.specs.Tables.{store_schema, hold}
 
@@ -46,3 +47,7 @@ reads_holds = record {
   unlisted = refl;
   narrow = omega arith;
 }
+
+pub selects_holds : IsSelect select_holds
+unfolding everything
+selects_holds = refl

@@ -2,7 +2,7 @@
 
 ghost use Rattle.std.specs.Prelude.{◌↔◌, ◌≤◌, ◌&&◌, nat_le, reverse, IsTrue, All};
 ghost use Rattle.terms.specs.Forms.{BeginsDark};
-ghost use Rattle.store_schema.specs.Forms.{IsComment};
+ghost use Rattle.store_schema.specs.Forms.{IsComment, IsPaired};
 
 /// The characters that a comment has at most.
 const LONGEST: usize = 200;
@@ -33,9 +33,35 @@ fn is_printable(text: &[u8]) -> bool
     text.iter().all(|byte| (b' '..=b'~').contains(byte))
 }
 
-/// Whether the text is a comment: printable characters, 200 at most, with no blank at an end.
+/// Whether each parenthesis has its partner, and no pair stands in another.
+fn is_paired(text: &[u8]) -> bool
+    ensures { IsTrue result ↔ IsPaired text.now }
+{
+    let mut inner = false;
+    for byte in text {
+        if *byte == b'(' {
+            if inner {
+                return false;
+            }
+            inner = true;
+        } else if *byte == b')' {
+            if !inner {
+                return false;
+            }
+            inner = false;
+        }
+    }
+    !inner
+}
+
+/// Whether the text is a comment: printable characters, 200 at most, with no blank at an end and with paired
+/// parentheses.
 pub(crate) fn is_comment(text: &[u8]) -> bool
     ensures { IsTrue result ↔ IsComment text.now }
 {
-    text.len() <= LONGEST && begins_dark(text) && ends_dark(text) && is_printable(text)
+    text.len() <= LONGEST
+        && begins_dark(text)
+        && ends_dark(text)
+        && is_printable(text)
+        && is_paired(text)
 }

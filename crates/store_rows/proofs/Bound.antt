@@ -1,5 +1,5 @@
 -- What a put and a removal do, told of rows that are equal to those that were bound.
-use Rattle.std.proofs.Common.{◌≡◌, List, Result, OnOk, sym, subst, subst₂}
+use Rattle.std.proofs.Common.{◌≡◌, sym, subst, subst₂}
 use Rattle.sqlite.specs.Store.{Ghosts}
 use Rattle.sqlite.specs.Held.{Held}
 use Rattle.sqlite.specs.Order.{Row}

@@ -1,17 +1,16 @@
 -- The columns of rows, and what a statement's edit makes of what the tables hold.
-use Rattle.std.proofs.Common.{◌≡◌, ◌≢◌, ◌⊎◌, inl, inr, ℕ, ℤ, zero, suc, ◌+◌, ◌/◌, ◌<◌, ◌≤◌, ◌==◌, length, drop, take}
-use Rattle.std.proofs.Common.{if◌then◌else◌, List, [], ◌∷◌, map, filter, Bool, true, false, not, ◌&&◌, ◌||◌, Some}
-use Rattle.std.proofs.Common.{IsPermutation, arith, refl, sym, ap, ap₂, subst, ◌∙◌, drop-cons, add-one, slice_get}
+use Rattle.std.proofs.Common.{◌≡◌, ◌≢◌, inl, inr, ℕ, ℤ, zero, suc, ◌+◌, ◌<◌, ◌≤◌, ◌==◌, length, drop, take}
+use Rattle.std.proofs.Common.{List, [], ◌∷◌, map, filter, Bool, true, false, not, ◌&&◌, ◌||◌}
+use Rattle.std.proofs.Common.{IsPermutation, arith, refl, sym, ap, subst, ◌∙◌, drop-cons}
 use Rattle.std.specs.List.{AllByRecursion, list_all, range_with_len}
 use Rattle.std.proofs.lemmas.List.{drop_all}
 use Rattle.std.proofs.lemmas.List.Sorted.{IsPermutation-sym, IsPermutation-trans, IsPermutation-cons, IsPermutation-map}
 use Rattle.std.proofs.lemmas.Bool.Decides.{eqb_tells}
 use Rattle.std.proofs.lemmas.Bool.{eqb-true}
-use Rattle.sqlite.specs.declared.types.Value.{Value}
-use Rattle.sqlite.specs.declared.types.Value.TheVariants.{Null, Int}
+use Rattle.sqlite.specs.declared.types.Value.TheVariants.{Null}
 use Rattle.sqlite.specs.Collation.TheVariants.{Binary}
 use Rattle.sqlite.specs.Order.{Row, column}
-use Rattle.sqlite.specs.Term.{Term, holds}
+use Rattle.sqlite.specs.Term.{holds}
 use Rattle.sqlite.specs.Tree.{Trees, rowid, put_row}
 use Rattle.sqlite.specs.View.{is_int}
 use Rattle.sqlite.specs.Edit.{id_in, is_taken, without_all}
@@ -19,8 +18,6 @@ use Rattle.sqlite.specs.Table.{Table}
 use Rattle.sqlite.specs.Schema.{Schema}
 use Rattle.sqlite.specs.Effect.{Database}
 use Rattle.sqlite_schema.specs.Rules.{equal}
-use Rattle.sqlite_schema.specs.declared.schema.Column.{Column}
-use Rattle.sqlite_rules.specs.Calls.{ids_of}
 use Rattle.sqlite_trees.proofs.ListLemmas.{filter-map, IsPermutation-filter}
 use Rattle.sqlite_rules.proofs.ListLemmas.{all_has}
 use Rattle.sqlite.proofs.RunLemmas.{has_got}
@@ -152,5 +149,6 @@ pub permuted : (schema : Schema) (c d : Contents) (db : Database)
     → HasContents schema d db
 permuted schema c d db same h = record {
   schema_is = h.schema_is;
+  sound = h.sound;
   tables = permuted_by schema.tables c d db.trees same h.tables;
 }

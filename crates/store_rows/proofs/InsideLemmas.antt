@@ -6,7 +6,7 @@ use Rattle.sqlite.specs.Held.{Held, state}
 use Rattle.sqlite.specs.State.{State, Survives}
 use Rattle.sqlite.proofs.StateLemmas.{survives_then}
 use Rattle.sqlite.proofs.Callers.{survives_begin}
-use Rattle.store_rows.specs.Inside.{StaysInside, Leads, Turns, HasCommitted, IsMade}
+use Rattle.store_rows.specs.Inside.{StaysInside, Leads, Turns, IsMade}
 
 survives_itself : (s : State) → Survives s s (λ _. ⊥)
 survives_itself s = record {

@@ -12,3 +12,4 @@ pub mod Pieces
 pub mod Bound
 pub mod Unmapped
 pub mod Queries
+pub mod Selects

@@ -1,10 +1,10 @@
 -- A DELETE that sets off actions of foreign keys which find no row.
-use Rattle.std.proofs.Common.{◌≡◌, ◌≢◌, ◌⊎◌, inl, inr, ℕ, zero, suc, ℤ, ◌+◌, ◌≤◌, nat_lt, length, take, find, List, []}
+use Rattle.std.proofs.Common.{◌≡◌, ◌≢◌, ◌⊎◌, inl, inr, ℕ, zero, suc, ℤ, ◌≤◌, nat_lt, length, find, List, []}
 use Rattle.std.proofs.Common.{◌∷◌, ◌++◌, map, filter, Bool, true, false, true≢false, not, ◌&&◌, Option, Some, None}
-use Rattle.std.proofs.Common.{unwrap_or, if◌then◌else◌, Ok, Err, IsPermutation, IfSome, arith, refl, sym, ap, subst}
+use Rattle.std.proofs.Common.{unwrap_or, if◌then◌else◌, Ok, IsPermutation, IfSome, arith, refl, sym, ap, subst}
 use Rattle.std.proofs.Common.{◌∙◌}
-use Rattle.std.specs.List.{AllByRecursion, list_any, list_all, flat_map, filter_map, cons_option, range_with_len}
-use Rattle.std.proofs.lemmas.Bool.{and_parts, cases_Bool}
+use Rattle.std.specs.List.{AllByRecursion, list_any, flat_map, filter_map, cons_option}
+use Rattle.std.proofs.lemmas.Bool.{and_parts}
 use Rattle.sqlite.specs.declared.types.Value.{Value}
 use Rattle.sqlite.specs.declared.types.Value.TheVariants.{Null}
 use Rattle.sqlite.specs.Collation.TheVariants.{Binary}
@@ -13,17 +13,13 @@ use Rattle.sqlite.specs.Tree.{Trees, rowid, has_rowid}
 use Rattle.sqlite.specs.Schema.{Schema}
 use Rattle.sqlite.specs.Table.{Table}
 use Rattle.sqlite.specs.Edit.{Edit, Applies, id_in, row_at, taken_by}
-use Rattle.sqlite.specs.Rowids.TheVariants.{Given}
 use Rattle.sqlite_schema.specs.declared.schema.Keys.{Keys}
-use Rattle.sqlite_schema.specs.declared.schema.Keys.TheVariants.{Enforced}
 use Rattle.sqlite_schema.specs.declared.schema.Reference.{Reference}
 use Rattle.sqlite_schema.specs.Rules.{equal, agree, has_null}
-use Rattle.sqlite_value.specs.declared.keys.Order.{Order}
 use Rattle.sqlite_value.specs.Keys.{first_key}
-use Rattle.sqlite_rules.specs.Calls.{ids_of}
 use Rattle.sqlite_rules.specs.Lists.{Has}
 use Rattle.sqlite_rules.specs.Action.{Work, works, work_for, pairs, loses, is_child_of, AreChildren, ActsOn, Acts}
-use Rattle.sqlite_rules.specs.Action.{Leads, Writes, max_depth, End}
+use Rattle.sqlite_rules.specs.Action.{Leads, Writes, max_depth}
 use Rattle.sqlite_rules.proofs.ListLemmas.{all_has, some_has, some_from, has_left, has_right, has_either, has_found}
 use Rattle.sqlite_rules.proofs.ListLemmas.{has_filtered}
 use Rattle.sqlite_rules.proofs.KeyLemmas.{agree_back, agree_chain, agree_whole}

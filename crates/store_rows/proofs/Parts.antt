@@ -1,10 +1,10 @@
 -- Lists in which one element becomes another, and the rows that they give.
-use Rattle.std.proofs.Common.{◌≡◌, List, [], ◌∷◌, ◌++◌, map, filter, Bool, true, false, IsPermutation, refl, sym, ap}
+use Rattle.std.proofs.Common.{◌≡◌, List, [], ◌∷◌, ◌++◌, map, filter, Bool, IsPermutation, refl, sym, ap}
 use Rattle.std.proofs.Common.{subst, subst₂, ◌∙◌}
 use Rattle.std.specs.List.{AllByRecursion, flat_map}
 use Rattle.std.proofs.lemmas.List.{append_assoc}
 use Rattle.std.proofs.lemmas.List.Elements.{filter-append}
-use Rattle.std.proofs.lemmas.List.Sorted.{IsPermutation-refl, IsPermutation-trans, IsPermutation-append_left}
+use Rattle.std.proofs.lemmas.List.Sorted.{IsPermutation-trans, IsPermutation-append_left}
 use Rattle.std.proofs.lemmas.List.Sorted.{IsPermutation-append_right, IsPermutation-append_comm}
 use Rattle.lemmas.proofs.Each.{recursion-front, recursion-back}
 
@@ -50,7 +50,8 @@ module _ {A B : Type 0} (f : A → List B) (p : B → Bool) where
       subst (IsPermutation (f z ++ flat_map f (before ++ b ∷ after))) (sym all)
       (IsPermutation-trans _ _ _ (IsPermutation-append_right (f z) _ _ later) (moved_front (f z) news rest))
 
-  -- one element becomes another, of which some rows are new and the others are left, and all rows of the other elements are left
+  -- one element becomes another, of which some rows are new and the others are left, and all rows of the other
+  -- elements are left
   pub changed : (before : List A) (a b : A) (after : List A) (news : List B)
       → AllByRecursion (λ x. filter p (f x) ≡ f x) (before ++ after)
       → IsPermutation (f b) (news ++ filter p (f a)) → IsPermutation (flat_map f (before ++ b ∷ after))

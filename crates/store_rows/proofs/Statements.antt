@@ -1,7 +1,7 @@
 -- What one INSERT or DELETE makes of the trees.
-use Rattle.std.proofs.Common.{◌≡◌, ◌⊎◌, inl, inr, ℕ, ◌<◌, ◌≤◌, ◌/◌, length, ◌-◌, ◌+◌, ◌^◌, drop, if◌then◌else◌}
-use Rattle.std.proofs.Common.{MatchBool, filter, pos, negsuc, IsPermutation, List, [], ◌∷◌, ◌++◌, map, slice_get}
-use Rattle.std.proofs.Common.{unwrap_or, Bool, true, false, ◌&&◌, Some, None, Ok, Err, Result, IsTrue, arith, refl, sym}
+use Rattle.std.proofs.Common.{◌≡◌, ◌⊎◌, inl, inr, ℕ, ◌/◌, length, ◌-◌, ◌^◌, drop, if◌then◌else◌}
+use Rattle.std.proofs.Common.{MatchBool, filter, IsPermutation, List, [], ◌∷◌, ◌++◌, map, slice_get}
+use Rattle.std.proofs.Common.{unwrap_or, Bool, true, false, Some, None, Ok, Err, Result, IsTrue, refl, sym}
 use Rattle.std.proofs.Common.{ap, subst, ◌∙◌, append-nil}
 use Rattle.std.proofs.lemmas.Bool.{cases_Bool, and_parts, not-true}
 use Rattle.std.specs.List.{flat_map, list_all}
@@ -10,9 +10,9 @@ use Rattle.sqlite.specs.declared.error.Error.{Error}
 use Rattle.sqlite.specs.declared.error.Error.TheVariants.{SqliteFailure}
 use Rattle.sqlite.specs.declared.error.ErrorCode.TheVariants.{TransactionState}
 use Rattle.sqlite.specs.Order.{Row}
-use Rattle.sqlite.specs.declared.types.Value.TheVariants.{Null, Int}
-use Rattle.sqlite.specs.Query.{Query, Output, output}
-use Rattle.sqlite.specs.Program.{overlay, IsProgramAnswer}
+use Rattle.sqlite.specs.declared.types.Value.TheVariants.{Null}
+use Rattle.sqlite.specs.Query.{Output, output}
+use Rattle.sqlite.specs.Program.{IsProgramAnswer}
 use Rattle.sqlite_value.specs.declared.keys.Key.{Key}
 use Rattle.sqlite_trees.proofs.ListLemmas.{map-map}
 use Rattle.sqlite.specs.Term.{Term, eval_all, holds}

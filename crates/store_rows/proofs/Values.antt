@@ -1,6 +1,6 @@
 -- Values as they are bound, and as columns keep them.
 use Rattle.std.proofs.Common.{◌≡◌, ℕ, ℤ, List, Option, Some, None, refl}
-use Rattle.sqlite.specs.declared.types.Value.TheVariants.{Null, Int, Text}
+use Rattle.sqlite.specs.declared.types.Value.TheVariants.{Int, Text}
 use Rattle.sqlite.specs.Kind.TheVariants as kind
 use Rattle.sqlite.specs.Cast.{cast}
 use Rattle.sqlite.specs.Ops.{unary}

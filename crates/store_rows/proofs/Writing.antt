@@ -1,7 +1,7 @@
 -- What one statement makes of what the tables hold.
-use Rattle.std.proofs.Common.{◌≡◌, ℕ, zero, suc, ◌+◌, ◌/◌, ◌<◌, ◌≤◌, ◌==◌, length, drop, take, List, [], ◌∷◌, ◌++◌, map}
-use Rattle.std.proofs.Common.{filter, Bool, true, false, not, Ok, IsPermutation, arith, refl, sym, ap, ap₂, subst, ◌∙◌}
-use Rattle.std.specs.List.{AllByRecursion, range_with_len, list_all, flat_map, filter_map}
+use Rattle.std.proofs.Common.{◌≡◌, ℕ, suc, ◌+◌, ◌/◌, ◌<◌, ◌≤◌, ◌==◌, length, drop, take, List, [], ◌∷◌, ◌++◌, map}
+use Rattle.std.proofs.Common.{filter, Bool, true, false, Ok, IsPermutation, arith, refl, sym, ap, ap₂, subst, ◌∙◌}
+use Rattle.std.specs.List.{range_with_len, list_all, flat_map, filter_map}
 use Rattle.std.proofs.lemmas.List.{take_all}
 use Rattle.std.proofs.lemmas.List.FromFn.{length-map-range_with_len}
 use Rattle.std.proofs.Math.Nat.{div_self}
@@ -10,7 +10,7 @@ use Rattle.sqlite.specs.declared.types.Value.TheVariants.{Null, Int}
 use Rattle.sqlite.specs.Ops.{unary}
 use Rattle.sqlite.specs.Cast.{cast, cast_all, cast_row}
 use Rattle.sqlite.specs.Kind.TheVariants.{Integer}
-use Rattle.sqlite.specs.Order.{Row, column}
+use Rattle.sqlite.specs.Order.{Row}
 use Rattle.sqlite.specs.Tree.{Trees, rowid, put_row}
 use Rattle.sqlite.specs.Schema.{Schema}
 use Rattle.sqlite.specs.Table.{Table}
@@ -20,7 +20,7 @@ use Rattle.sqlite_schema.specs.declared.schema.Keys.TheVariants.{Enforced}
 use Rattle.sqlite.specs.Edit.{edit_of, with_rowid, next_rowid, taken_by, are_fresh, have_rowids, put_all, edited}
 use Rattle.sqlite.specs.Edit.{without_all}
 use Rattle.sqlite.specs.Rowids.TheVariants.{Chosen, Given}
-use Rattle.sqlite.specs.Effect.{Database, value_rows}
+use Rattle.sqlite.specs.Effect.{value_rows}
 use Rattle.sqlite.specs.Listing.{understood}
 use Rattle.sqlite.specs.Command.TheVariants.{Insert, Update, Delete}
 use Rattle.sqlite.specs.Source.TheVariants.{Values}
@@ -35,7 +35,7 @@ use Rattle.sqlite_rules.specs.Calls.{ids_of}
 use Rattle.sqlite_schema.specs.declared.program.Program.{Program}
 use Rattle.store_rows.specs.Rows.{shown, has_key, without, with_row, in_place, AreRows, Contents, HasContents, HaveNone}
 use Rattle.store_rows.specs.Rows.{in_table}
-use Rattle.store_rows.specs.Texts.{key_tests, scan_by, IsTableOf, SuitColumns, PutsIn, PutsInPlace, TakesOut}
+use Rattle.store_rows.specs.Texts.{key_tests, scan_by, SuitColumns, PutsIn, PutsInPlace, TakesOut}
 use Rattle.store_rows.specs.Texts.{TakesOutParent, IsCascade, works_of_update}
 use Rattle.store_rows.proofs.RowLemmas.{filter_same, ids_shown}
 use Rattle.store_rows.proofs.Statements.{inserts, updates, deletes, puts_one, scans}
@@ -107,6 +107,7 @@ put_in schema at table sql row old new count contents text kept was h =
     (puts table _ _ new_row put.0 refl holds_now) in
     record {
       schema_is = it.2;
+      sound = w.sound;
       tables = each_table table (with_row row) contents old.now.trees new.now.trees
           (rw put.1 done) schema.tables text.there.alone was.tables put.2.tables;
     }
@@ -143,6 +144,7 @@ take_out schema at table width sql key old new count contents text e was h =
     (held_at schema at table contents db text.there was.tables) in
     record {
       schema_is = it.2;
+      sound = w.sound;
       tables = each_table table (without key) contents db new.now.trees (rw done.rows left)
           schema.tables text.there.alone was.tables done.tables;
     }
@@ -176,6 +178,7 @@ take_out_row schema at table children sql k old new count contents text none was
     let left = takes table (contents table.tree) rows (has_key key) (ids_of it.0) found holds_now in
     record {
       schema_is = it.2;
+      sound = w.sound;
       tables = each_table table (without key) contents db new.now.trees (rw done.rows left)
           schema.tables text.there.alone was.tables done.tables;
     }
@@ -297,6 +300,7 @@ put_in_place schema at table width sql row old new count contents text kept was 
     in
     record {
       schema_is = it.2;
+      sound = w.sound;
       tables = each_table table (in_place key row) contents db new.now.trees (rw done.rows now)
           schema.tables text.there.alone was.tables done.tables;
     }

@@ -1,5 +1,6 @@
 pub mod Numbered
 pub mod Reads
 pub mod Rows
+pub mod Selects
 pub mod Inside
 pub mod Texts

@@ -8,7 +8,7 @@ use Rattle.sqlite.specs.Collation.TheVariants.{Binary}
 use Rattle.sqlite.specs.Schema.{Schema}
 use Rattle.sqlite.specs.Table.{Table}
 use Rattle.sqlite_schema.specs.Rules.{equal}
-use Rattle.sqlite.specs.Effect.{Database}
+use Rattle.sqlite.specs.Effect.{Database, IsDatabase}
 use Rattle.store_rows.specs.Numbered.{AreNumbered}
 
 -- the values of a row in the columns of its table, each NULL past the row's end
@@ -30,9 +30,10 @@ pub record AreRows (table : Table) (held rows : List Row) : Type 0 where
 abbrev pub Contents : Type 0
 Contents = ℕ → List Row
 
--- The schema is this one, and each of its tables holds these rows.
+-- The trees list this schema and obey it, and each of its tables holds these rows.
 pub record HasContents (schema : Schema) (contents : Contents) (db : Database) : Type 0 where
   pub schema_is : db.schema ≡ schema
+  pub sound : IsDatabase db
   pub tables : AllByRecursion (λ t. AreRows t (contents t.tree) (db.trees t.tree)) schema.tables
 
 -- the rows of one table become what the function makes of them

@@ -1,5 +1,5 @@
 -- What a statement's text means under a schema, where it writes the rows of one table or reads them.
-use Rattle.std.specs.Prelude.{◌≡◌, ◌≢◌, ◌≤◌, ◌+◌, ◌==◌, ◌||◌, ℕ, zero, suc, Bool, true, false, not, pos, negsuc, List}
+use Rattle.std.specs.Prelude.{◌≡◌, ◌≢◌, ◌≤◌, ◌+◌, ◌==◌, ◌||◌, ℕ, zero, suc, true, false, not, pos, negsuc, List}
 use Rattle.std.specs.Prelude.{[], ◌∷◌, map, length, slice_get, Some, None, IfSome}
 use Rattle.std.specs.List.{AllByRecursion, list_all, flat_map, filter_map, range_with_len}
 use Rattle.sqlite.specs.declared.types.Value.TheVariants.{Null, Int}

@@ -4,14 +4,13 @@ ghost use Rattle.std.specs.Prelude.{◌≡◌, ◌≢◌, List, map, length, IsP
 ghost use Rattle.std.specs.List.{AllByRecursion};
 ghost use Rattle.sqlite.specs.declared.types.Value.{Value as SqlValue};
 ghost use Rattle.sqlite.specs.Held.{state};
-ghost use Rattle.sqlite.specs.Given.{IsPlain};
-ghost use Rattle.sqlite.specs.Listing.{understood};
 ghost use Rattle.sqlite.specs.Schema.{Schema};
 ghost use Rattle.sqlite.specs.State.{HasCleanDisk};
 ghost use Rattle.sqlite.specs.Table.{Table};
 ghost use Rattle.sqlite.specs.Values.{bound};
 ghost use Rattle.store_rows.specs.Reads.{OnlyReads};
 ghost use Rattle.store_rows.specs.Rows.{AreFound};
+ghost use Rattle.store_rows.specs.Selects.{IsSelect};
 ghost use Rattle.store_rows.specs.Texts.{ReadsRows};
 
 use crate::error::ReadError;
@@ -67,7 +66,7 @@ pub fn load<S: Alter, T: FromRow>(
         → (schema : Schema) (table : Table) → ReadsRows schema table (length key.now) sql.now → conn.old.schema ≡ schema
         → (items : List T.Item) → AllByRecursion T.has_form items
         → ¬ AreFound table (bound key.now) (map T.row_of items) ((state S.Store conn.old).now.trees table.tree) }
-    ensures reads { OnlyReads S.Store (IsPlain (understood conn.old.schema sql.now)) conn.old conn.new result }
+    ensures reads { IsSelect sql.now → OnlyReads S.Store ReadError.BadRow conn.old conn.new result }
 {
     let rows = conn.query_all(sql, key)?;
     read_all::<T>(alloc, rows.as_slice())

@@ -4,6 +4,5 @@ pub mod Meta
 pub mod Number
 pub mod OneState
 pub mod Plain
-pub mod Selects
 pub mod Spelled
 pub mod Texts

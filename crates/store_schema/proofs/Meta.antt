@@ -4,7 +4,6 @@ use Rattle.std.proofs.Common.{Some, None, Ok, Err, Result, Contains, IsPermutati
 use Rattle.std.proofs.Common.{if◌then◌else◌, codes, refl, sym, ap, ap₂, subst, ◌∙◌}
 use Rattle.std.proofs.lemmas.List.Sorted.{IsPermutation-sym}
 use Rattle.std.specs.declared.alloc.Global.{Global}
-use Rattle.sqlite_resolve.specs.Compile.{first}
 use Rattle.sqlite.specs.Command.TheVariants.{Select}
 use Rattle.sqlite.specs.declared.error.Error.{Error}
 use Rattle.sqlite.specs.Order.{Row}
@@ -14,7 +13,8 @@ use Rattle.sqlite.specs.State.{State, IsUnchanged, KeepsCommit, Survives, Shown,
 use Rattle.sqlite.proofs.Callers.{IsPlain, command_of, reads_as, one_permutation}
 use Rattle.sqlite_tied.specs.Compute.{everything}
 use Rattle.store_schema.specs.Tables.{meta, store_schema}
-use Rattle.store_schema.specs.Known.{select_meta, GivesOther, IsNumber, HasOtherNumber, HasNoState, HasOwnTables}
+use Rattle.store_schema.specs.Known.{select_meta, select_own, GivesOther, IsNumber, HasOtherNumber, HasNoState}
+use Rattle.store_schema.specs.Known.{HasOwnTables}
 use Rattle.sqlite.specs.Effect.{Database}
 use Rattle.store_schema.specs.Create.{IsBlank}
 use Rattle.store_schema.specs.Inventory.{Inventory}
@@ -27,11 +27,16 @@ use Rattle.store_rows.proofs.RowLemmas.{whole, filter_all, keyed}
 use Rattle.store_rows.proofs.Statements.{scans}
 use Rattle.sqlite_rules.specs.Lists.{Has}
 use Rattle.store_schema.proofs.Number.{one_setting}
-use Rattle.store_schema.proofs.Selects.{reads_select, select_unchanged, select_again, select_keeps, select_survives}
+use Rattle.store_rows.specs.Selects.{IsSelect}
+use Rattle.store_rows.proofs.Selects.{select_unchanged, select_again, select_keeps, select_survives}
 
-meta_selects : reads_select (first select_meta) ≡ true
+meta_selects : IsSelect select_meta
 unfolding everything
 meta_selects = refl
+
+own_selects : IsSelect select_own
+unfolding everything
+own_selects = refl
 
 pub meta_unchanged : (old new : State) (rows : List Row) → Shown select_meta [] old new rows → IsUnchanged old new
 meta_unchanged = select_unchanged select_meta [] meta_selects
@@ -44,6 +49,17 @@ meta_keeps = select_keeps select_meta [] meta_selects
 pub meta_survives : (old new : State) → Survives old new (CommitsShowing select_meta [] old) → Survives old new (λ _. ⊥)
 meta_survives = select_survives select_meta [] meta_selects
 
+pub own_unchanged : (old new : State) (rows : List Row) → Shown select_own [] old new rows → IsUnchanged old new
+own_unchanged = select_unchanged select_own [] own_selects
+
+pub own_keeps : (r : Result (Vec Row Global) Error) (old new : State)
+    → IfOk r (λ rows. Shown select_own [] old new rows.items) → IfErr r (FailsToQuery select_own [] old new)
+    → KeepsCommit old new
+own_keeps = select_keeps select_own [] own_selects
+
+pub own_survives : (old new : State) → Survives old new (CommitsShowing select_own [] old) → Survives old new (λ _. ⊥)
+own_survives = select_survives select_own [] own_selects
+
 -- ---- what its rows say
 
 pub other_number : (old new : State) (rows : List Row) → Shown select_meta [] old new rows → Any GivesOther rows
@@ -55,32 +71,33 @@ other_number old new rows h other = record {
   other = other;
 }
 
-abbrev meta_columns : List Term
-meta_columns = col 1 0 ∷ col 1 1 ∷ col 1 2 ∷ []
+abbrev own_columns : List Term
+own_columns = col 1 0 ∷ col 1 1 ∷ col 1 2 ∷ []
 
-meta_is : command_of (understood store_schema select_meta) ≡ Select (record { lets = []; body = scan_by 0 [] meta_columns [] }) (codes "rowid" ∷ codes "k" ∷ codes "v" ∷ [])
+own_is : command_of (understood store_schema select_own) ≡ Select
+    (record { lets = []; body = scan_by 0 [] own_columns [] }) (codes "rowid" ∷ codes "k" ∷ codes "v" ∷ [])
 unfolding understood everything
-meta_is = refl
+own_is = refl
 
-meta_plain : IsPlain (understood store_schema select_meta)
+own_plain : IsPlain (understood store_schema select_own)
 unfolding understood everything
-meta_plain = (refl, refl)
+own_plain = (refl, refl)
 
-meta_unlisted : reads_listing store_schema select_meta ≡ false
+own_unlisted : reads_listing store_schema select_own ≡ false
 unfolding understood everything
-meta_unlisted = refl
+own_unlisted = refl
 
-meta_rows : (old new : State) (rows : List Row) → old.now.schema ≡ store_schema → Shown select_meta [] old new rows
+own_rows : (old new : State) (rows : List Row) → old.now.schema ≡ store_schema → Shown select_own [] old new rows
     → IsPermutation (map (whole (shown meta)) (old.now.trees 0)) rows
-meta_rows old new rows has h =
-    let read = reads_as select_meta [] old new store_schema has _ meta_is meta_plain meta_unlisted rows h in
-    rw filter_all at (scans 0 [] meta_columns [] old.now.trees [] rows read.answer)
+own_rows old new rows has h =
+    let read = reads_as select_own [] old new store_schema has _ own_is own_plain own_unlisted rows h in
+    rw filter_all at (scans 0 [] own_columns [] old.now.trees [] rows read.answer)
 
-pub own_tables : (old new : State) (rows : List Row) → Shown select_meta [] old new rows → old.now.schema ≡ store_schema
+pub own_tables : (old new : State) (rows : List Row) → Shown select_own [] old new rows → old.now.schema ≡ store_schema
     → IsNumber rows → HasOwnTables old.now
 own_tables old new rows h has one =
     let row = one.0 in
-    let same = rw one.1 at (meta_rows old new rows has h) in
+    let same = rw one.1 at (own_rows old new rows has h) in
     record {
       schema = has;
       number = one_setting (pos 1) one.2.0 (old.now.trees 0)
@@ -107,10 +124,10 @@ is_number rows own found same =
       (_, ap₂ ◌∷◌ keyed one.2),
     )
 
-not_own : (old new : State) (rows : List Row) → Shown select_meta [] old new rows
+pub not_own : (old new : State) (rows : List Row) → Shown select_own [] old new rows
     → (old.now.schema ≡ store_schema → ¬ IsNumber rows) → ¬ HasOwnTables old.now
 not_own old new rows h none own = none own.schema (is_number (old.now.trees 0) own.number rows
-    (meta_rows old new rows own.schema h))
+    (own_rows old new rows own.schema h))
 
 no_state_of : (db : Database) → ¬ IsBlank db → ¬ HasOwnTables db → (i : Inventory) → ¬ IsStateOf i db
 no_state_of db tables none i (inl blank) = tables blank.0
@@ -120,11 +137,14 @@ no_state_of db tables none i (inr stands) = none (record {
 })
 
 pub no_state : (old new : State) (rows : List Row) → Shown select_meta [] old new rows → ¬ IsBlank old.now
-    → (old.now.schema ≡ store_schema → ¬ IsNumber rows) → ¬ Any GivesOther rows → HasNoState old
+    → ¬ HasOwnTables old.now → ¬ Any GivesOther rows → HasNoState old
 no_state old new rows h tables none no_other = record {
-  none = no_state_of old.now tables (not_own old new rows h none);
-  not_own = not_own old new rows h none;
+  none = no_state_of old.now tables none;
+  not_own = none;
   rows = rows;
   shown = select_again select_meta [] meta_selects old new rows h;
   no_other = no_other;
 }
+
+pub not_both : (b : Bool) → IsTrue b → b ≡ false → ⊥
+not_both b holds fails = absurd cc

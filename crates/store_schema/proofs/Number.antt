@@ -120,6 +120,7 @@ makes_number old new was ran =
     record {
       tables = record {
         schema_is = it.2;
+        sound = w.sound;
         tables = (
           rw (put.1, was.empty.0) (one_setting (pos 1) (pos 1) (row ∷ []) refl),
           (

@@ -1,9 +1,7 @@
 -- The rows of a database stand for one inventory at most.
-use Rattle.std.proofs.Common.{◌≡◌, inl, inr, ℕ, List, [], map, IsTrue, AllPairs, false, true≢false, refl, arith, sym}
+use Rattle.std.proofs.Common.{◌≡◌, inl, inr, ℕ, List, [], map, IsTrue, AllPairs, arith, sym}
 use Rattle.std.proofs.Common.{ap, ap₂, subst, ◌∙◌}
 use Rattle.std.specs.List.{flat_map, enumerate_from}
-use Rattle.std.proofs.lemmas.Bool.{or_cases, and_parts}
-use Rattle.std.proofs.lemmas.Slice.Eq.{bytes_eq-Decides}
 use Rattle.std.proofs.lemmas.List.Sorted.{IsPermutation-sym}
 use Rattle.sqlite.specs.Effect.{Database}
 use Rattle.sqlite.specs.Order.{Row}
@@ -16,14 +14,11 @@ use Rattle.store_rows.proofs.RowLemmas.{has_permuted, mapped, unmapped}
 use Rattle.terms.specs.declared.kinds.Kind.{Kind}
 use Rattle.terms.specs.declared.kinds.ElemType.{ElemType}
 use Rattle.terms.specs.declared.kinds.ElemType.TheVariants.{Mac, Src, Clist, Data, Exec, Parm, Proc}
-use Rattle.terms.specs.Types.{Text, Id, Lines, hold_number, type_number, IfReq, Ver, Hold, Action, Replaces, Updates}
+use Rattle.terms.specs.Types.{Text, Id, Lines, type_number, IfReq, Ver, Hold, Action, Replaces, Updates}
 use Rattle.terms.specs.Types.{Change, Sysmod, Entry, Element, Zone, NamedZone}
-use Rattle.std.specs.declared.cmp.Ordering.{Ordering}
 use Rattle.std.specs.Ordering.{is_lt}
-use Rattle.std.specs.Cmp.{IsTotalOrder}
 use Rattle.terms.specs.Lookups.{is_before, element_key, element_cmp}
 use Rattle.terms.specs.Global.{hold_cmp}
-use Rattle.lemmas.proofs.Orderings.{Less-from_is_lt}
 use Rattle.terms.proofs.ElementOrder.{element_cmp_total}
 use Rattle.terms.proofs.GlobalKept.{hold_cmp_total}
 use Rattle.terms.specs.Forms.{IsId}

@@ -1,6 +1,6 @@
 -- The forms of what is kept: of a SYSMOD's fields as its statements have them, and of a zone's entries.
-use Rattle.std.specs.Prelude.{◌≡◌, ◌≢◌, ◌≤◌, ◌<◌, Bool, List, [], ◌∷◌, ◌++◌, length, map, reverse, All, AllPairs}
-use Rattle.std.specs.Prelude.{Contains, IfSome, IsSome, IsTrue, ◌&&◌, ◌||◌, ◌==◌, nat_lt, nat_le}
+use Rattle.std.specs.Prelude.{◌≡◌, ◌≢◌, ◌≤◌, ◌<◌, Bool, false, List, [], ◌∷◌, ◌++◌, length, map, reverse, All, AllPairs}
+use Rattle.std.specs.Prelude.{Contains, Some, IfSome, IsSome, IsTrue, ◌&&◌, ◌||◌, ◌==◌, nat_lt, nat_le}
 use Rattle.terms.specs.declared.kinds.Kind.{Kind}
 use Rattle.terms.specs.declared.kinds.Kind.TheVariants.{Function}
 use Rattle.terms.specs.declared.kinds.ElemType.{ElemType}
@@ -8,8 +8,9 @@ use Rattle.terms.specs.declared.kinds.ElemType.TheVariants.{Mac, Src}
 use Rattle.terms.specs.Types.{Text, Id, Lines, type_number, Ver, IfReq, Hold, Action, Replaces, Updates, Change, Sysmod}
 use Rattle.terms.specs.Types.{Entry, Element, Zone}
 use Rattle.terms.specs.Lookups.{is_before, IsRising}
-use Rattle.terms.specs.Forms.{IsRun, IsId, IsClass, IsReason, IsSource, IsSrel, IsName, IsDate, is_digit, IsDottedDate}
+use Rattle.terms.specs.Forms.{IsId, IsClass, IsReason, IsSource, IsSrel, IsName, IsDate, IsDottedDate}
 use Rattle.terms.specs.Forms.{BeginsDark}
+use Rattle.terms.specs.Statement.{behind_list}
 use Rattle.terms.specs.Texts.{IsNumbered, IsUpdate}
 
 -- ids of this form, rising
@@ -89,6 +90,11 @@ pub record HasSysmodForms (s : Sysmod) : Type 0 where
   pub changes : All (HasChangeForms s.kind) s.changes
   pub elements : AllPairs (λ a b. IsTrue (is_change_before a b)) s.changes
 
+-- Each parenthesis in it has its partner, and no pair stands in another: in parentheses of its own, it ends where the
+-- text does.
+abbrev pub IsPaired : Text → Type 0
+IsPaired text = behind_list false (text ++ 41 ∷ []) ≡ Some []
+
 -- 1 to 200 characters, with no blank at an end
 pub record IsComment (text : Text) : Type 0 where
   pub least : 1 ≤ length text
@@ -96,6 +102,7 @@ pub record IsComment (text : Text) : Type 0 where
   pub characters : All (λ b. IsTrue (nat_le 32 b && nat_le b 126)) text
   pub front : BeginsDark text
   pub back : BeginsDark (reverse text)
+  pub paired : IsPaired text
 
 -- ++HOLD
 pub record HasHoldForms (h : Hold) : Type 0 where

@@ -21,21 +21,30 @@ abbrev pub told : Error → StoreError
 told (SqliteFailure OutOfMemory) = Memory
 told _ = Fault
 
--- the query for all that meta holds, which has a meaning in any schema with such a table
+-- the query for what meta says, which has a meaning under any schema with a table or a view of that name that has these
+-- columns
 abbrev pub select_meta : List ℕ
-select_meta = codes "SELECT rowid, k, v FROM meta"
+select_meta = codes "SELECT k, v FROM meta"
 
--- its row, under any rowid, that gives `schema` this number
+-- its row that gives `schema` this number
 abbrev pub Gives : ℤ → Row → Type 0
-Gives n row = (id : ℤ) × (row ≡ Int id ∷ setting_row n)
+Gives n row = row ≡ setting_row n
 
 -- it gives `schema` a number that is not 1
 abbrev pub GivesOther : Row → Type 0
 GivesOther row = (n : ℤ) × Gives n row × (n ≢ pos 1)
 
+-- the query for all that the store's own meta holds
+abbrev pub select_own : List ℕ
+select_own = codes "SELECT rowid, k, v FROM meta"
+
+-- its row, under any rowid, that gives `schema` this number
+abbrev pub GivesOwn : ℤ → Row → Type 0
+GivesOwn n row = (id : ℤ) × (row ≡ Int id ∷ setting_row n)
+
 -- the rows are one that gives it the number 1
 abbrev pub IsNumber : List Row → Type 0
-IsNumber rows = (row : Row) × (rows ≡ row ∷ []) × Gives (pos 1) row
+IsNumber rows = (row : Row) × (rows ≡ row ∷ []) × GivesOwn (pos 1) row
 
 -- The tables are another schema's: by their own meaning of the query, meta gives `schema` another number.
 pub record HasOtherNumber (at : State) : Type 0 where

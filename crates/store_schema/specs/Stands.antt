@@ -2,6 +2,7 @@
 use Rattle.std.specs.Prelude.{◌≡◌, ◌⊎◌, ◌==◌, List, [], ◌∷◌, map, if◌then◌else◌}
 use Rattle.std.specs.List.{flat_map}
 use Rattle.sqlite.specs.Order.{Row}
+use Rattle.sqlite.specs.Tree.{Trees}
 use Rattle.sqlite.specs.Table.{Table}
 use Rattle.sqlite.specs.Effect.{Database}
 use Rattle.store_rows.specs.Rows.{Contents, HasContents}
@@ -41,6 +42,10 @@ pub record StandsFor (i : Inventory) (db : Database) : Type 0 where
 -- A database without tables is an empty inventory.
 abbrev pub IsStateOf : Inventory → Database → Type 0
 IsStateOf i db = (IsBlank db × (i ≡ empty_inventory)) ⊎ StandsFor i db
+
+-- The database was blank, and these trees are the tables of an empty inventory.
+abbrev pub IsSetUp : Database → Trees → Type 0
+IsSetUp was db = IsBlank was × StandsFor empty_inventory (record { schema = store_schema; trees = db })
 
 -- A database has one state at most.
 abbrev pub HasOneState : Type 0

@@ -2,6 +2,7 @@
 use Rattle.std.proofs.Common.{ℕ, List, codes, refl, arith}
 use Rattle.sqlite.specs.Listing.{understood}
 use Rattle.sqlite_tied.specs.Compute.{everything}
+use Rattle.store_rows.specs.Selects.{IsSelect}
 use Rattle.store_rows.specs.Texts.{IsTableOf, ReadsRows}
 use Rattle.store_schema.specs.Tables.{store_schema, sysmod, ver, ifreq, elem}
 
@@ -31,6 +32,10 @@ reads_heads = record {
   narrow = omega arith;
 }
 
+pub selects_heads : IsSelect select_heads
+unfolding everything
+selects_heads = refl
+
 abbrev pub select_vers : List ℕ
 select_vers = codes "SELECT id, srel, fmid, pre, req, sup, npre, del FROM ver"
 
@@ -45,12 +50,20 @@ reads_vers = record {
   narrow = omega arith;
 }
 
+pub selects_vers : IsSelect select_vers
+unfolding everything
+selects_vers = refl
+
 abbrev pub select_ifs : List ℕ
 select_ifs = codes "SELECT id, srel, n, fmid, req FROM ifreq"
 
 pub reads_ifs : ReadsRows store_schema ifreq 0 select_ifs
 unfolding understood everything
 reads_ifs = record { names = _; order = _; command = refl; plain = (refl, refl); unlisted = refl; narrow = omega arith }
+
+pub selects_ifs : IsSelect select_ifs
+unfolding everything
+selects_ifs = refl
 
 abbrev pub select_elems : List ℕ
 select_elems = codes "SELECT id, type, name, upd, distlib, syslib, text FROM elem"
@@ -65,3 +78,7 @@ reads_elems = record {
   unlisted = refl;
   narrow = omega arith;
 }
+
+pub selects_elems : IsSelect select_elems
+unfolding everything
+selects_elems = refl

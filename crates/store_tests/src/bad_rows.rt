@@ -297,9 +297,11 @@ const ZONES: &[&str] = &[
 const GOOD_COMMENTS: &[&str] = &[
     "UPDATE hold SET comment = replace('XXXXXXXXXXXXXXXXXXXX', 'X', 'XXXXXXXXXX') WHERE kind = 'ERROR'",
     "UPDATE hold SET comment = '~' WHERE kind = 'ERROR'",
+    "UPDATE hold SET comment = '(A) B ()' WHERE kind = 'ERROR'",
 ];
 
-/// Comments too long, empty, with blanks at an end, and with characters that are not printable.
+/// Comments too long, empty, with blanks at an end, with characters that are not printable, and with parentheses that
+/// no statement has in its own.
 const COMMENTS: &[&str] = &[
     "UPDATE hold SET comment = 'X' || replace('XXXXXXXXXXXXXXXXXXXX', 'X', 'XXXXXXXXXX') WHERE kind = 'ERROR'",
     "UPDATE hold SET comment = '' WHERE kind = 'ERROR'",
@@ -309,6 +311,10 @@ const COMMENTS: &[&str] = &[
     "UPDATE hold SET comment = CAST(x'417f42' AS TEXT) WHERE kind = 'ERROR'",
     "UPDATE hold SET comment = CAST(x'c3a9' AS TEXT) WHERE kind = 'ERROR'",
     "UPDATE hold SET comment = CAST(x'ff' AS TEXT) WHERE kind = 'ERROR'",
+    "UPDATE hold SET comment = '(A' WHERE kind = 'ERROR'",
+    "UPDATE hold SET comment = 'A)' WHERE kind = 'ERROR'",
+    "UPDATE hold SET comment = ')A(' WHERE kind = 'ERROR'",
+    "UPDATE hold SET comment = '((A))' WHERE kind = 'ERROR'",
 ];
 
 /// The number of the schema, of which there is to be one, and a table less.

@@ -2,6 +2,7 @@
 use Rattle.std.proofs.Common.{ℕ, List, codes, refl, arith}
 use Rattle.sqlite.specs.Listing.{understood}
 use Rattle.sqlite_tied.specs.Compute.{everything}
+use Rattle.store_rows.specs.Selects.{IsSelect}
 use Rattle.store_rows.specs.Texts.{IsTableOf, ReadsRows}
 use Rattle.store_schema.specs.Tables.{store_schema, zone, entry, zelem}
 
@@ -28,6 +29,10 @@ reads_head = record {
   narrow = omega arith;
 }
 
+pub selects_head : IsSelect select_head
+unfolding everything
+selects_head = refl
+
 abbrev pub select_heads : List ℕ
 select_heads = codes "SELECT name, kind, srel, related FROM zone ORDER BY name"
 
@@ -41,6 +46,10 @@ reads_heads = record {
   unlisted = refl;
   narrow = omega arith;
 }
+
+pub selects_heads : IsSelect select_heads
+unfolding everything
+selects_heads = refl
 
 abbrev pub select_entries : List ℕ
 select_entries = codes "SELECT zone, id, date, supby, delby, waived FROM entry WHERE zone = ?1 ORDER BY id"
@@ -56,6 +65,10 @@ reads_entries = record {
   narrow = omega arith;
 }
 
+pub selects_entries : IsSelect select_entries
+unfolding everything
+selects_entries = refl
+
 abbrev pub select_elements : List ℕ
 select_elements = codes "SELECT zone, type, name, fmid, rmid, umid, distlib, syslib, text FROM zelem WHERE zone = ?1 ORDER BY type, name"
 
@@ -69,3 +82,7 @@ reads_elements = record {
   unlisted = refl;
   narrow = omega arith;
 }
+
+pub selects_elements : IsSelect select_elements
+unfolding everything
+selects_elements = refl

@@ -167,7 +167,7 @@ pub(crate) fn zone_head<S: Alter>(
         → IfOk result (λ head. head ≡ option_map (head_in name.now) (zone_in i name.now)) }
     ensures none { HasCleanDisk (state S.Store conn.new) → IsErrOf result ReadError.BadRow → (i : Inventory)
         → ¬ StandsFor i (state S.Store conn.old).now }
-    ensures reads { OnlyReads S.Store (conn.old.schema ≡ store_schema) conn.old conn.new result }
+    ensures reads { OnlyReads S.Store ReadError.BadRow conn.old conn.new result }
 {
     let heads = load_listed::<S, NamedHeads>(alloc, conn, &[ValueRef::Text(name.as_bytes())])?;
     at_most_one(heads.as_slice())
@@ -184,7 +184,7 @@ pub fn zone_heads<S: Alter>(
     ensures related { IfOk result (λ heads. AreRelated heads.items) }
     ensures none { HasCleanDisk (state S.Store conn.new) → IsErrOf result ReadError.BadRow → (i : Inventory)
         → ¬ StandsFor i (state S.Store conn.old).now }
-    ensures reads { OnlyReads S.Store (conn.old.schema ≡ store_schema) conn.old conn.new result }
+    ensures reads { OnlyReads S.Store ReadError.BadRow conn.old conn.new result }
 {
     let heads = load_listed::<S, AllHeads>(alloc, conn, &[])?;
     let sorted = table_of(heads)?;
@@ -210,7 +210,7 @@ pub fn zone_names<S: Alter>(
         → IfOk result (λ names. names.items ≡ map (λ z. z.name) i.zones) }
     ensures none { HasCleanDisk (state S.Store conn.new) → IsErrOf result ReadError.BadRow → (i : Inventory)
         → ¬ StandsFor i (state S.Store conn.old).now }
-    ensures reads { OnlyReads S.Store (conn.old.schema ≡ store_schema) conn.old conn.new result }
+    ensures reads { OnlyReads S.Store ReadError.BadRow conn.old conn.new result }
 {
     let heads = zone_heads(alloc, conn)?;
     Ok(names_of(alloc, heads.as_slice())?)

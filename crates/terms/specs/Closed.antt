@@ -1,8 +1,8 @@
 -- What holds in each zone after every job, and what no definition of a command says.
-use Rattle.std.specs.Prelude.{◌≡◌, ◌∷◌, All, IfSome, IsSome, IsNone, IsTrue, IsFalse}
-use Rattle.terms.specs.Types.{Id, Global, Element, Zone}
+use Rattle.std.specs.Prelude.{◌≡◌, List, [], ◌∷◌, All, IfSome, IsSome, IsNone, IsTrue, IsFalse}
+use Rattle.terms.specs.Types.{Id, Global, Element, Zone, NamedZone}
 use Rattle.terms.specs.Lookups.{is_function, is_applied, is_supplied, delby_of, applied_ids}
-use Rattle.terms.specs.Choice.{Choice, fmid_of, npre_of}
+use Rattle.terms.specs.Choice.{Choice, counting, fmid_of, npre_of}
 use Rattle.terms.specs.Over.{chain, owner}
 use Rattle.terms.specs.Changes.{has_replacement, has_update}
 use Rattle.terms.specs.Needs.{binding_ids}
@@ -35,3 +35,7 @@ pub record IsClosedZone (g : Global) (c : Choice) (zone : Zone) : Type 0 where
   pub at_peace : All (IsAtPeace g c zone) (applied_ids zone)
   pub supby : All (λ e. All (λ y. IsTrue (is_applied zone y)) e.supby) zone.entries
   pub elements : All (IsOwned g c zone) zone.elements
+
+-- All zones are closed, each by the ++VERs that count in it.
+abbrev pub AreClosed : Global → List NamedZone → Type 0
+AreClosed g zones = All (λ z. IsClosedZone g (counting g z.zone []) z.zone) zones

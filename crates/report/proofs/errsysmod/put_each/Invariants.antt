@@ -2,10 +2,10 @@ use Rattle.std.proofs.Common.{◌∷◌, [], take}
 use Rattle.std.specs.Prelude.{codes}
 use Rattle.std.specs.List.{flat_map}
 use Rattle.machine.specs.Report.{detail_line}
-use Rattle.report.specs.Sent.{Sent}
+use Rattle.report.specs.Paged.{Paged}
 use Rattle.report.proofs.errsysmod.put_each.Given as goal
 
 abbrev pub invariant-loop-resolver : goal.invariant-loop-resolver
 invariant-loop-resolver g l =
-    Sent g.W.Sink l.initial.w l.w
+    Paged g.W.Sink l.initial.page l.page
     (flat_map (λ id. detail_line (codes "RESOLVER" ∷ id ∷ [])) (take l.resolver-index l.resolvers))

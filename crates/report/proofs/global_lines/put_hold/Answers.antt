@@ -1,22 +1,24 @@
 use Rattle.std.proofs.Common.{subst}
 use Rattle.terms.specs.Types.{Hold}
 use Rattle.machine.specs.Outcome.{HoldLine}
-use Rattle.report.specs.Sent.{Sent}
+use Rattle.report.specs.Paged.{Paged}
 use Rattle.machine.specs.Report.{line_text, left_in, mark_text}
 use Rattle.terms.specs.Spelling.{hold_text}
-use Rattle.report.proofs.Sending.{sends-then, sends-as}
+use Rattle.report.proofs.Paging.{paged-then, paged-as}
 use Rattle.report.proofs.Listings.{hold_parts}
 use Rattle.report.proofs.global_lines.put_hold.Goals as goal
 
 pub returns : goal.returns
 returns g c =
-    subst (λ (x : Hold). Sent g.W.Sink c.args.w.now c.put-8.new.w (line_text (HoldLine x.id x.kind x.reason x.internal)))
+    subst (λ (x : Hold). Paged g.W.Sink c.args.page.now c.put-8.new.self
+    (line_text (HoldLine x.id x.kind x.reason x.internal)))
     c.hold.view_is
-    (sends-as _ _ _ _ _ _
+    (paged-as _ _ _ _ _ _
     (rw (c.as_bytes.ensures.same, c.hold_text.ensures, c.as_bytes-2.ensures.same, c.mark_text.ensures)
     (hold_parts c.hold.inside.id (left_in 6 (hold_text c.hold.inside.kind)) c.hold.inside.reason
     (mark_text c.hold.inside.internal)))
-    (sends-then _ _ _ _ _ _ _ _ c.put.ensures (sends-then _ _ _ _ _ _ _ _ c.put-2.ensures
-    (sends-then _ _ _ _ _ _ _ _ c.put-3.ensures (sends-then _ _ _ _ _ _ _ _ c.put_left.ensures
-    (sends-then _ _ _ _ _ _ _ _ c.put-4.ensures (sends-then _ _ _ _ _ _ _ _ c.put-5.ensures
-    (sends-then _ _ _ _ _ _ _ _ c.put-6.ensures (sends-then _ _ _ _ _ _ _ _ c.put-7.ensures c.put-8.ensures)))))))))
+    (paged-then _ _ _ _ _ _ _ _ c.put.ensures.paged (paged-then _ _ _ _ _ _ _ _ c.put-2.ensures.paged
+    (paged-then _ _ _ _ _ _ _ _ c.put-3.ensures.paged (paged-then _ _ _ _ _ _ _ _ c.put_left.ensures
+    (paged-then _ _ _ _ _ _ _ _ c.put-4.ensures.paged (paged-then _ _ _ _ _ _ _ _ c.put-5.ensures.paged
+    (paged-then _ _ _ _ _ _ _ _ c.put-6.ensures.paged (paged-then _ _ _ _ _ _ _ _ c.put-7.ensures.paged
+    c.put-8.ensures.paged)))))))))

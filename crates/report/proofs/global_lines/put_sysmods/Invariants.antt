@@ -7,6 +7,6 @@ use Rattle.report.proofs.global_lines.put_sysmods.Given as goal
 
 abbrev pub invariant-loop-sysmod : goal.invariant-loop-sysmod
 invariant-loop-sysmod g l =
-    UnderWay g.W.Sink l.initial.w l.w
+    UnderWay g.W.Sink l.initial.page l.page
     (flat_map line_text (map (λ s. SysmodLine s.id s.kind s.sources) l.global.sysmods))
     (flat_map line_text (map (λ s. SysmodLine s.id s.kind s.sources) l.sysmod-iterator))

@@ -6,19 +6,19 @@ use Rattle.std.proofs.lemmas.List.Folds.{flat_map-map}
 use Rattle.machine.specs.Outcome.{lines_code, line_code}
 use Rattle.machine.specs.Report.{line_text}
 use Rattle.report.specs.Views.{line_view}
-use Rattle.report.proofs.Sending.{sends-then, sends-as}
+use Rattle.report.proofs.Paging.{paged-then, paged-as}
 use Rattle.report.proofs.Texts.{flat_map-more, codes-more}
 use Rattle.report.proofs.write.put_lines.Goals as goal
 
 pub loop-line-preserved : goal.loop-line-preserved
 loop-line-preserved g c = record {
-  sends =
-      sends-as _ _ _ _ _ _
+  paged =
+      paged-as _ _ _ _ _ _
       (ap (λ x. flat_map (λ x. line_text (line_view x)) (take c.loop-line.line-index c.args.lines.now)
       ++ line_text (line_view x)) c.line-item.is
       ∙ flat_map-more (λ x. line_text (line_view x)) c.args.lines.now c.loop-line.line-index c.line-item.result
       c.loop-line-test.true)
-      (sends-then _ _ _ _ _ _ _ _ c.loop-line.invariant.sends c.put_line.ensures);
+      (paged-then _ _ _ _ _ _ _ _ c.loop-line.invariant.paged c.put_line.ensures);
   code =
       ap (λ k. max k (lines_code (map line_view (drop (c.loop-line.line-index + 1) c.args.lines.now))))
       (c.max-code.ensures ∙ ap (λ k. max c.loop-line.code k)
@@ -28,9 +28,9 @@ loop-line-preserved g c = record {
   most = omega (arith, c.max-code.ensures, c.line_code.ensures.most, c.loop-line.invariant.most);
 }
 
-pub returns-clause-sends : goal.returns-clause-sends
-returns-clause-sends g c =
-    sends-as _ _ _ _ _ _
+pub returns-clause-paged : goal.returns-clause-paged
+returns-clause-paged g c =
+    paged-as _ _ _ _ _ _
     (ap (flat_map (λ x. line_text (line_view x))) (take_all _ c.args.lines.now c.loop-line-test.false)
     ∙ sym (flat_map-map line_text line_view c.args.lines.now))
-    c.loop-line.invariant.sends
+    c.loop-line.invariant.paged

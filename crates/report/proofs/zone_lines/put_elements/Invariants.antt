@@ -2,10 +2,10 @@ use Rattle.std.proofs.Common.{take}
 use Rattle.std.specs.List.{flat_map}
 use Rattle.machine.specs.Outcome.{element_lines}
 use Rattle.machine.specs.Report.{line_text}
-use Rattle.report.specs.Sent.{Sent}
+use Rattle.report.specs.Paged.{Paged}
 use Rattle.report.proofs.zone_lines.put_elements.Given as goal
 
 abbrev pub invariant-loop-element : goal.invariant-loop-element
 invariant-loop-element g l =
-    Sent g.W.Sink l.initial.w l.w
+    Paged g.W.Sink l.initial.page l.page
     (flat_map (λ e. flat_map line_text (element_lines l.fn.text e)) (take l.element-index l.element-items))

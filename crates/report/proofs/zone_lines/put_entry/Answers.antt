@@ -1,21 +1,23 @@
 use Rattle.std.proofs.Common.{subst}
 use Rattle.terms.specs.Types.{Entry}
 use Rattle.machine.specs.Outcome.{EntryLine}
-use Rattle.report.specs.Sent.{Sent}
+use Rattle.report.specs.Paged.{Paged}
 use Rattle.machine.specs.Report.{line_text, list_text, optional_text}
-use Rattle.report.proofs.Sending.{sends-then, sends-as}
+use Rattle.report.proofs.Paging.{paged-then, paged-as}
 use Rattle.report.proofs.Listings.{entry_parts}
 use Rattle.report.proofs.zone_lines.put_entry.Goals as goal
 
 pub returns : goal.returns
 returns g c =
-    subst (λ (x : Entry). Sent g.W.Sink c.args.w.now c.put-8.new.w (line_text (EntryLine c.args.kind x)))
+    subst (λ (x : Entry). Paged g.W.Sink c.args.page.now c.put-8.new.self (line_text (EntryLine c.args.kind x)))
     c.entry.view_is
-    (sends-as _ _ _ _ _ _
+    (paged-as _ _ _ _ _ _
     (rw (c.as_bytes.ensures.same, c.as_slice.ensures.items, c.id_text.ensures, c.as_slice-2.ensures.items)
-    (entry_parts c.args.kind c.entry.inside.applied c.entry.inside.id (list_text c.entry.inside.supby) (optional_text c.entry.inside.delby) (list_text c.entry.inside.waived)))
-    (sends-then _ _ _ _ _ _ _ _ c.put.ensures (sends-then _ _ _ _ _ _ _ _ c.put-2.ensures
-    (sends-then _ _ _ _ _ _ _ _ c.put-3.ensures (sends-then _ _ _ _ _ _ _ _ c.put_applied.ensures
-    (sends-then _ _ _ _ _ _ _ _ c.put-4.ensures (sends-then _ _ _ _ _ _ _ _ c.put_list.ensures
-    (sends-then _ _ _ _ _ _ _ _ c.put-5.ensures (sends-then _ _ _ _ _ _ _ _ c.put-6.ensures
-    (sends-then _ _ _ _ _ _ _ _ c.put-7.ensures (sends-then _ _ _ _ _ _ _ _ c.put_list-2.ensures c.put-8.ensures)))))))))))
+    (entry_parts c.args.kind c.entry.inside.applied c.entry.inside.id (list_text c.entry.inside.supby)
+    (optional_text c.entry.inside.delby) (list_text c.entry.inside.waived)))
+    (paged-then _ _ _ _ _ _ _ _ c.put.ensures.paged (paged-then _ _ _ _ _ _ _ _ c.put-2.ensures.paged
+    (paged-then _ _ _ _ _ _ _ _ c.put-3.ensures.paged (paged-then _ _ _ _ _ _ _ _ c.put_applied.ensures
+    (paged-then _ _ _ _ _ _ _ _ c.put-4.ensures.paged (paged-then _ _ _ _ _ _ _ _ c.put_list.ensures
+    (paged-then _ _ _ _ _ _ _ _ c.put-5.ensures.paged (paged-then _ _ _ _ _ _ _ _ c.put-6.ensures.paged
+    (paged-then _ _ _ _ _ _ _ _ c.put-7.ensures.paged (paged-then _ _ _ _ _ _ _ _ c.put_list-2.ensures
+    c.put-8.ensures.paged)))))))))))

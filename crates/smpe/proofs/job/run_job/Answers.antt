@@ -9,6 +9,7 @@ use Rattle.smpe.specs.Commands.{job_error}
 use Rattle.smpe.proofs.Early.{ends-unbegun}
 use Rattle.smpe.proofs.Reports.{sent-all, sent-part}
 use Rattle.smpe.proofs.Single.{control-same, job-err, faulty-ran, faulty-broke, unbegun, begun}
+use Rattle.smpe.proofs.Closing.{keeps-closed, job-closed}
 use Rattle.smpe.proofs.job.run_job.Goals as goal
 
 pub returns-in-Err-Memory-clause-ended : goal.returns-in-Err-Memory-clause-ended
@@ -66,3 +67,33 @@ returns-clause-ended g c clean s keeps =
     (map command_of c.in-Ok.commands.items) old new
     c.run_commands.result c.in-Ok.ensures.commands loaded.1
     (rw c.deref.ensures.value at (c.run_commands.ensures.ended clean _ loaded.0 loaded.1))
+
+-- ---- closed zones
+
+pub returns-in-Err-Memory-clause-closed : goal.returns-in-Err-Memory-clause-closed
+returns-in-Err-Memory-clause-closed g c clean s keeps closed =
+    keeps-closed g.S.Store c.args.store.now clean s keeps closed
+
+pub returns-in_err-write_report-in-Err-Fault-clause-closed : goal.returns-in_err-write_report-in-Err-Fault-clause-closed
+returns-in_err-write_report-in-Err-Fault-clause-closed g c clean s keeps closed =
+    keeps-closed g.S.Store c.args.store.now clean s keeps closed
+
+pub returns-in-Err-Fault-clause-closed : goal.returns-in-Err-Fault-clause-closed
+returns-in-Err-Fault-clause-closed g c clean s keeps closed =
+    keeps-closed g.S.Store c.args.store.now clean s keeps closed
+
+pub returns-in_err-session-clause-closed : goal.returns-in_err-session-clause-closed
+returns-in_err-session-clause-closed g c clean s keeps closed =
+    let taken = g.W.Sink.taken c.args.w.now in
+    job-closed g.S.Store c.args.store.now c.begin.new.store s (c.begin.ensures.clean clean) clean keeps closed
+    (RunFiles c.args.date c.args.cntl.now (record { ptfin = c.args.ptfin.now; holds = c.args.hold.now })) taken taken
+    Code c.from_residual-in_err-session.result c.is_known.ensures
+    (returns-in_err-session-clause-ended g c clean s keeps)
+
+pub returns-clause-closed : goal.returns-clause-closed
+returns-clause-closed g c clean s keeps closed =
+    job-closed g.S.Store c.args.store.now c.run_commands.new.store s
+    (c.begin.ensures.clean (c.run_commands.ensures.clean clean)) clean keeps closed
+    (RunFiles c.args.date c.args.cntl.now (record { ptfin = c.args.ptfin.now; holds = c.args.hold.now }))
+    (g.W.Sink.taken c.args.w.now) (g.W.Sink.taken c.run_commands.new.w) Code c.run_commands.result c.is_known.ensures
+    (returns-clause-ended g c clean s keeps)

@@ -5,6 +5,7 @@ use Rattle.smpe.specs.Ending.{EndsAmong, EndsJobs, job_of, answer_of}
 use Rattle.smpe.proofs.Early.{ends-unbegun}
 use Rattle.smpe.proofs.Taken.{taken-more, taken-split}
 use Rattle.smpe.proofs.Listing.{jobs-err, jobs-more, jobs-stop}
+use Rattle.smpe.proofs.Closing.{keeps-closed, closed-now}
 use Rattle.smpe.proofs.jobs.run_jobs.Goals as goal
 
 pub returns-in_err-answers-clause-ended : goal.returns-in_err-answers-clause-ended
@@ -54,7 +55,33 @@ loop-job-preserved g c =
           new answers answer
           (c.loop-job.invariant.ran (c.run_one.ensures.clean clean) s keeps)
           (λ t stands. c.in_ok-answer.ensures.ended clean t stands)));
+      closed = λ clean s keeps closed.
+          let was = c.run_one.ensures.clean clean in
+          let ran = c.loop-job.invariant.ran was s keeps in
+          c.run_one.ensures.closed clean ran.0 ran.3
+          (closed-now g.S.Store c.loop-job.store was ran.0 ran.3 (c.loop-job.invariant.closed was s keeps closed));
       count = search rules;
       room = omega (arith, c.push.ensures.capacity, c.loop-job.invariant.room);
       sound = λ none. c.in_ok-answer.ensures.fault (c.loop-job.invariant.sound none);
     }
+
+pub loop-job-init : goal.loop-job-init
+loop-job-init g c = record {
+  clean = search rules;
+  ran = search rules;
+  closed = λ clean s keeps closed. keeps-closed g.S.Store c.args.store.now clean s keeps closed;
+  count = search rules;
+  room = search rules;
+  sound = search rules;
+}
+
+pub returns-in_err-answers-clause-closed : goal.returns-in_err-answers-clause-closed
+returns-in_err-answers-clause-closed g c clean s keeps closed =
+    keeps-closed g.S.Store c.args.store.now clean s keeps closed
+
+pub returns-in_err-answer-clause-closed : goal.returns-in_err-answer-clause-closed
+returns-in_err-answer-clause-closed g c clean s keeps closed =
+    let was = c.run_one.ensures.clean clean in
+    let ran = c.loop-job.invariant.ran was s keeps in
+    c.run_one.ensures.closed clean ran.0 ran.3
+    (closed-now g.S.Store c.loop-job.store was ran.0 ran.3 (c.loop-job.invariant.closed was s keeps closed))

@@ -21,7 +21,8 @@ returns-in_err-heads-clause-ended g c = λ clean s keeps.
     let at = c.in_err-heads.ensures in
     ends-early g.S.Store c.zone_heads.new.self s d c.in_err-heads.field-0.0 c.from_residual.result
     (p.1 ∙ ap (λ e. Err e) p.2)
-    (load-errors c.in_err-heads.field-0.0 at.which (λ e. at.none clean (ap (λ x. Err x) e) (kept s) keeps.now))
+    (load-errors c.in_err-heads.field-0.0 at.which (λ e. at.none clean (ap (λ x. Err x) e) (kept s)
+    (keeps.now (at.clean clean)).1))
     (stays-loaded g.S.Store c.args.store.now c.zone_heads.new.self s keeps (Define d) (at.err (kept s))
     (at.crash (kept s) keeps.now))
 
@@ -46,7 +47,8 @@ returns-in_err-commit-clause-ended g c = λ clean s keeps.
     let before = c.zone_heads.new.self in
     let was = keeps-loaded g.S.Store c.args.store.now before s keeps (at.same (kept s)) (at.crash (kept s) keeps.now) in
     let found = c.as_slice.ensures.value ∙ at.found (c.commit.ensures.clean clean) (kept s) keeps.now in
-    let answers = accepts s d (sym (c.first_fault.ensures.fault ∙ ap (λ heads. first_fault heads d) found) ∙ c.in_default.is)
+    let answers = accepts s d (sym (c.first_fault.ensures.fault ∙ ap (λ heads. first_fault heads d) found) ∙
+    c.in_default.is)
     in
     let t = with_zone s d.name (a_zone d.kind d.srel d.related [] []) in
     let inventory = inventory-kept g.S.Store before s was (c.commit.ensures.clean clean) in
@@ -66,7 +68,8 @@ returns-clause-ended g c = λ clean s keeps.
     let before = c.zone_heads.new.self in
     let was = keeps-loaded g.S.Store c.args.store.now before s keeps (at.same (kept s)) (at.crash (kept s) keeps.now) in
     let found = c.as_slice.ensures.value ∙ at.found (c.commit.ensures.clean clean) (kept s) keeps.now in
-    let answers = accepts s d (sym (c.first_fault.ensures.fault ∙ ap (λ heads. first_fault heads d) found) ∙ c.in_default.is)
+    let answers = accepts s d (sym (c.first_fault.ensures.fault ∙ ap (λ heads. first_fault heads d) found) ∙
+    c.in_default.is)
     in
     let t = with_zone s d.name (a_zone d.kind d.srel d.related [] []) in
     let inventory = inventory-kept g.S.Store before s was (c.commit.ensures.clean clean) in

@@ -5,7 +5,6 @@ use Rattle.sqlite.specs.Values.{bound}
 use Rattle.store_rows.specs.Texts.{ReadsRows}
 use Rattle.store_rows.proofs.ContentsLemmas.{held_at}
 use Rattle.store_rows.proofs.InsideLemmas.{if_ok, if_ok_both}
-use Rattle.store_rows.proofs.Queries.{reads_text}
 use Rattle.store_rows.proofs.Unmapped.{unmapped_permutation}
 use Rattle.store_schema.specs.Tables.{store_schema}
 use Rattle.store_columns.proofs.Found.{found_asked, asked_found}
@@ -46,6 +45,4 @@ returns-clause-none g c clean bad wide contents was xs formed same =
     (asked_found table key (contents table.tree) _ (trees table.tree) are same)
 
 pub returns-clause-reads : goal.returns-clause-reads
-returns-clause-reads g c =
-    reads_text g.S.Store store_schema c.text.result.now c.args.conn.now c.load.new.conn c.load.result
-    c.text.ensures.reads.plain c.load.ensures.reads
+returns-clause-reads g c = c.load.ensures.reads c.text.ensures.selects

@@ -41,6 +41,7 @@ returns-clause-forms g c =
 pub returns-in_err-holds-clause-reads : goal.returns-in_err-holds-clause-reads
 returns-in_err-holds-clause-reads g c =
     reads_err g.S.Store _ c.args.conn.now c.load_listed.new.conn c.load_listed.result _ (search rules)
+    (λ bad. search rules)
     c.load_listed.ensures.reads
 
 pub returns-clause-reads : goal.returns-clause-reads

@@ -1,22 +1,27 @@
-use Rattle.std.proofs.Common.{◌≡◌, IfOk, IfErr, IsErrOf, IsPermutation, map, rules, sym, subst}
+use Rattle.std.proofs.Common.{IsPermutation, map, rules, sym, subst}
 use Rattle.std.proofs.lemmas.List.{length-map}
 use Rattle.std.proofs.lemmas.List.Sorted.{IsPermutation-trans, IsPermutation-sym}
 use Rattle.sqlite.specs.Held.{state}
+use Rattle.sqlite.specs.State.{HasCleanDisk, IsUnchanged}
 use Rattle.sqlite.specs.Values.{bound}
 use Rattle.store_rows.specs.Rows.{AreFound}
 use Rattle.store_rows.proofs.InsideLemmas.{if_ok, on_ok_of}
-use Rattle.store_rows.proofs.ReadLemmas.{found_in, shown_unchanged, shown_keeps, failed_keeps, commits_nothing}
+use Rattle.store_rows.proofs.ReadLemmas.{found_in}
+use Rattle.store_rows.proofs.Selects.{select_unchanged, select_keeps, select_survives}
 use Rattle.store_rows.proofs.reading.load.Goals as goal
 
 pub returns-in_err-rows-clause-reads : goal.returns-in_err-rows-clause-reads
-returns-in_err-rows-clause-reads g c =
+returns-in_err-rows-clause-reads g c is_select =
+    let sql = c.args.sql.now in
+    let key = bound c.args.key.now in
     let old = state g.S.Store c.args.conn.now in
     let new = state g.S.Store c.query_all.new.self in
     record {
-      same = λ clean plain. search rules;
-      kept = λ clean plain. failed_keeps c.args.sql.now (bound c.args.key.now) old new _ plain
-          (c.in_err-rows.ensures.err clean);
-      crash = commits_nothing c.args.sql.now (bound c.args.key.now) old new c.query_all.ensures.survives;
+      same = λ clean. search rules;
+      bad = λ clean bad. absurd (search rules);
+      kept = λ clean. select_keeps sql key is_select c.query_all.result old new (c.query_all.ensures.ok clean)
+          (c.query_all.ensures.err clean);
+      crash = select_survives sql key is_select old new c.query_all.ensures.survives;
       mode = search rules;
     }
 
@@ -43,15 +48,18 @@ returns-clause-none g c clean bad schema table text has items forms found =
     c.read_all.ensures.none bad items forms (rw c.as_slice.ensures.value same)
 
 pub returns-clause-reads : goal.returns-clause-reads
-returns-clause-reads g c =
+returns-clause-reads g c is_select =
+    let sql = c.args.sql.now in
     let key = bound c.args.key.now in
     let old = state g.S.Store c.args.conn.now in
     let new = state g.S.Store c.query_all.new.self in
-    let rows = c.in_ok-rows.rows.items in
+    let same : HasCleanDisk new → IsUnchanged old new = λ clean.
+    select_unchanged sql key is_select old new c.in_ok-rows.rows.items (c.in_ok-rows.ensures.ok clean) in
     record {
-      same = λ clean plain. on_ok_of c.read_all.result (shown_unchanged c.args.sql.now key old new rows plain
-          (c.in_ok-rows.ensures.ok clean));
-      kept = λ clean plain. shown_keeps c.args.sql.now key old new rows plain (c.in_ok-rows.ensures.ok clean);
-      crash = commits_nothing c.args.sql.now key old new c.query_all.ensures.survives;
+      same = λ clean. on_ok_of c.read_all.result (same clean);
+      bad = λ clean _. same clean;
+      kept = λ clean. select_keeps sql key is_select c.query_all.result old new (c.query_all.ensures.ok clean)
+          (c.query_all.ensures.err clean);
+      crash = select_survives sql key is_select old new c.query_all.ensures.survives;
       mode = search rules;
     }

@@ -74,7 +74,7 @@ returns-clause-no_state g c clean bad i stands =
 
 pub returns-in_err-rows-clause-reads : goal.returns-in_err-rows-clause-reads
 returns-in_err-rows-clause-reads g c =
-    reads_err g.S.Store _ c.args.conn.now c.load_rows.new.conn c.load_rows.result _ (search rules)
+    reads_err g.S.Store _ c.args.conn.now c.load_rows.new.conn c.load_rows.result _ (search rules) (λ bad. search rules)
     c.load_rows.ensures.reads
 
 pub returns-clause-reads : goal.returns-clause-reads

@@ -32,6 +32,7 @@ returns-clause-only g c clean contents was xs forms rises same =
 pub returns-in_err-items-clause-reads : goal.returns-in_err-items-clause-reads
 returns-in_err-items-clause-reads g c =
     reads_err g.S.Store _ c.args.conn.now c.load_listed.new.conn c.load_listed.result _ (search rules)
+    (λ bad. search rules)
     c.load_listed.ensures.reads
 
 pub returns-clause-reads : goal.returns-clause-reads

@@ -42,6 +42,7 @@ returns-clause-none g c clean bad i stands =
 pub returns-in_err-rows-clause-reads : goal.returns-in_err-rows-clause-reads
 returns-in_err-rows-clause-reads g c =
     reads_err g.S.Store _ c.args.conn.now c.load_listed.new.conn c.load_listed.result _ (search rules)
+    (λ bad. search rules)
     c.load_listed.ensures.reads
 
 pub returns-clause-reads : goal.returns-clause-reads

@@ -14,6 +14,7 @@ returns-clause-found g c clean i stands =
 pub returns-in_err-heads-clause-reads : goal.returns-in_err-heads-clause-reads
 returns-in_err-heads-clause-reads g c =
     reads_err g.S.Store _ c.args.conn.now c.zone_heads.new.conn c.zone_heads.result _ (search rules)
+    (λ bad. search rules)
     c.zone_heads.ensures.reads
 
 pub returns-in_err-names_of-clause-reads : goal.returns-in_err-names_of-clause-reads

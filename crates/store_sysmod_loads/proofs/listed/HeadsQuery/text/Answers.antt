@@ -1,6 +1,6 @@
-use Rattle.store_sysmod_loads.proofs.Texts.{heads_there, reads_heads}
+use Rattle.store_sysmod_loads.proofs.Texts.{heads_there, reads_heads, selects_heads}
 use Rattle.store_sysmod_loads.proofs.Exact.{exact_head}
 use Rattle.store_sysmod_loads.proofs.listed.HeadsQuery.text.Goals as goal
 
 pub returns : goal.returns
-returns c = record { reads = reads_heads; there = heads_there; exact = exact_head }
+returns c = record { reads = reads_heads; there = heads_there; selects = selects_heads; exact = exact_head }

@@ -1,6 +1,6 @@
-use Rattle.store_sysmod_loads.proofs.Texts.{ifs_there, reads_ifs}
+use Rattle.store_sysmod_loads.proofs.Texts.{ifs_there, reads_ifs, selects_ifs}
 use Rattle.store_sysmod_loads.proofs.Exact.{exact_if}
 use Rattle.store_sysmod_loads.proofs.listed.IfsQuery.text.Goals as goal
 
 pub returns : goal.returns
-returns c = record { reads = reads_ifs; there = ifs_there; exact = exact_if }
+returns c = record { reads = reads_ifs; there = ifs_there; selects = selects_ifs; exact = exact_if }

@@ -1,6 +1,6 @@
-use Rattle.store_zone_loads.proofs.Texts.{has_zone, reads_head}
+use Rattle.store_zone_loads.proofs.Texts.{has_zone, reads_head, selects_head}
 use Rattle.store_zone_loads.proofs.Heads.{exact_head}
 use Rattle.store_zone_loads.proofs.head.NamedHeadsQuery.text.Goals as goal
 
 pub returns : goal.returns
-returns c = record { reads = reads_head; there = has_zone; exact = exact_head }
+returns c = record { reads = reads_head; there = has_zone; selects = selects_head; exact = exact_head }

@@ -1,0 +1,63 @@
+//! The page that a report is put on, before it goes out.
+ghost use Rattle.std.specs.Prelude.{◌≡◌, ◌<◌, ◌≤◌, [], length, is_err};
+ghost use Rattle.report.specs.Paged.{Paged};
+
+use crate::pieces::write_all;
+use crate::sink::{Sink, WriteFault};
+use arrayvec::ArrayVec;
+
+/// A sink, and the bytes that wait to go there.
+#[derive(Drop)]
+pub(crate) struct Page<'a, W> {
+    sink: &'a mut W,
+    waiting: ArrayVec<u8, 8192>,
+}
+
+impl<'a, W: Sink> Page<'a, W> {
+    /// An empty page before a sink.
+    pub(crate) fn new(sink: &'a mut W) -> Page<'a, W>
+        ensures same_reference { result.sink.ghost_name ≡ sink.entry.ghost_name }
+        ensures sink { result.sink.now ≡ sink.old }
+        ensures waiting { result.waiting.items ≡ [] }
+    {
+        Page {
+            sink,
+            waiting: ArrayVec::new(),
+        }
+    }
+
+    /// Puts a piece of a text on the page. Where it has no room left, what waits goes out first.
+    pub(crate) fn put(&mut self, piece: &[u8])
+        ensures paged { Paged W.Sink self.old self.new piece.now }
+        ensures some { 0 < length piece.now → length piece.now ≤ 8192 → 0 < length self.new.waiting.items }
+    {
+        if self.waiting.remaining_capacity() < piece.len() {
+            let _ = self.empty();
+            self.put_first(piece);
+            return;
+        }
+        self.waiting.try_extend_from_slice(piece).unwrap();
+    }
+
+    /// Sends what waits to the sink.
+    pub(crate) fn empty(&mut self) -> Result<(), WriteFault>
+        ensures paged { Paged W.Sink self.old self.new [] }
+        ensures waiting { self.new.waiting.items ≡ [] }
+        ensures fault { 0 < length self.old.waiting.items → W.has_failed self.new.sink.now ≡ is_err result }
+    {
+        let sent = write_all(self.waiting.as_slice(), self.sink);
+        self.waiting.clear();
+        sent
+    }
+
+    // Puts a piece on an empty page, or sends it, where it is longer than a page.
+    fn put_first(&mut self, piece: &[u8])
+        requires { self.old.waiting.items ≡ [] }
+        ensures paged { Paged W.Sink self.old self.new piece.now }
+        ensures some { 0 < length piece.now → length piece.now ≤ 8192 → 0 < length self.new.waiting.items }
+    {
+        if self.waiting.try_extend_from_slice(piece).is_err() {
+            let _ = write_all(piece, self.sink);
+        }
+    }
+}

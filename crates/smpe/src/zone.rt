@@ -1,0 +1,42 @@
+//! The definition of a zone.
+ghost use Rattle.sqlite.specs.Held.{state};
+ghost use Rattle.sqlite.specs.State.{HasCleanDisk};
+ghost use Rattle.terms.specs.Forms.{IsSrel, IsZoneName};
+ghost use Rattle.terms.specs.Closed.{AreClosed};
+ghost use Rattle.machine.specs.State.{State};
+ghost use Rattle.store.specs.Kept.{Keeps};
+ghost use Rattle.smpe_zones.specs.Definitions.{HasDefined, definition};
+ghost use Rattle.smpe.specs.Ending.{StaysClosed};
+
+use fields::{Srel, ZoneName};
+use smpe_zones::ZoneError;
+use sqlite::Alter;
+use store::Store;
+use terms::ZoneKind;
+
+// That the values have their forms, which no other call here would say.
+fn are_known(name: ZoneName, srel: Srel)
+    ensures name { IsZoneName name }
+    ensures srel { IsSrel srel }
+{
+    prove!(name.as_bytes().len() >= 1);
+    prove!(srel.as_bytes().len() == 4);
+}
+
+/// Adds a zone without entries, or tells the first fault that applies.
+pub fn define_zone<S: Alter>(
+    store: &mut Store<S>,
+    name: ZoneName,
+    kind: ZoneKind,
+    srel: Srel,
+    related: Option<ZoneName>,
+) -> Result<(), ZoneError>
+    ensures clean { HasCleanDisk (state S.Store store.new) → HasCleanDisk (state S.Store store.old) }
+    ensures ended { HasCleanDisk (state S.Store store.new) → (s : State) → Keeps S.Store store.old s
+        → HasDefined S.Store store.new s (definition name kind srel related) result }
+    ensures closed { HasCleanDisk (state S.Store store.new) → (s : State) → Keeps S.Store store.old s
+        → AreClosed s.global s.zones → StaysClosed S.Store store.new }
+{
+    are_known(name, srel);
+    smpe_zones::define_zone(store, name, kind, srel, related)
+}

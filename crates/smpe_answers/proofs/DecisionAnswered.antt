@@ -1,0 +1,136 @@
+-- What APPLY and ACCEPT decide is there, and so are the lines of it: that they are not can be refuted.
+use Rattle.std.proofs.Common.{◌≡◌, ◌∙◌, true, not, filter, List, [], Option, None, Some}
+use Rattle.std.proofs.Common.{Contains, IsTrue, refl, sym, ap, subst, true≢false, map, bytes_eq}
+use Rattle.std.specs.Prelude.{◌↔◌}
+use Rattle.std.specs.List.{flat_map}
+use Rattle.std.specs.Option.{option_map_or}
+use Rattle.std.proofs.lemmas.Bool.{and_parts}
+use Rattle.lemmas.proofs.Members.{in_map, map_in}
+use Rattle.lemmas.proofs.Searches.{find-gives}
+use Rattle.lemmas.proofs.Texts.{same_from}
+use Rattle.terms.specs.Types.{Text, Id, Sysmod, Global, Zone, Bypass, Selection}
+use Rattle.terms.specs.Lookups.{is_nil, sysmod_of}
+use Rattle.terms.specs.Choice.{counting, vers_of}
+use Rattle.terms.specs.Candidates.{AreCandidates, IsCandidate, is_installable}
+use Rattle.terms.specs.Tests.{Setting, Survives, AreSurvivors}
+use Rattle.terms.specs.Needs.{bypassed_ids}
+use Rattle.terms.specs.Judged.{setting, Stays, IsKeptSet}
+use Rattle.change.proofs.InTurn.{flat_in, in_flat}
+use Rattle.machine.specs.Installing.{Decision, IsDecision}
+use Rattle.smpe_upkeep.proofs.Decisions.{candidate_open}
+use Rattle.smpe_answers.proofs.Causes.{those_stably}
+
+-- ---- the candidates, the survivors and the kept set
+
+received : Global → List Id
+received g = map (λ s. s.id) g.sysmods
+
+installable_received : (g : Global) (zone : Zone) (x : Id) → IsTrue (is_installable g zone x) → Contains (received g) x
+unfolding received
+installable_received g zone x ok = by (sysmod_of g x) refl
+  where
+    has_ver : not (is_nil (vers_of g zone.srel x)) ≡ true
+    has_ver = (and_parts _ _ (and_parts _ _ ok).0).0
+
+    by : (s : Option Sysmod) → sysmod_of g x ≡ s → Contains (map (λ s. s.id) g.sysmods) x
+    by None at = absurd (true≢false (sym has_ver ∙ ap (λ s.
+        not (is_nil (option_map_or (λ s. filter (λ v. bytes_eq v.srel zone.srel) s.vers) s []))) at))
+    by (Some s) at =
+        let gives = find-gives (λ s. bytes_eq s.id x) g.sysmods s at in
+        subst (Contains (map (λ s. s.id) g.sysmods)) (same_from s.id x gives.0)
+        (in_map (λ s. s.id) g.sysmods s gives.1)
+
+candidates-answered : (g : Global) (zone : Zone) (sel : Selection)
+    → ¬ ¬ ((cands : List Id) × AreCandidates g zone sel cands)
+candidates-answered g zone sel refuted = those_stably (IsCandidate g zone sel) (received g) (λ found. refuted (
+  found.0,
+  record {
+    rising = found.1.rising;
+    members = λ x. (
+      λ is. ((found.1.members x).0 is).1,
+      λ is. (found.1.members x).1 (
+        installable_received g zone x (and_parts _ _ (candidate_open g zone sel x is)).0,
+        is,
+      ),
+    );
+  },
+))
+
+survivors-answered : (s : Setting) → ¬ ¬ ((survivors : List Id) × AreSurvivors s survivors)
+survivors-answered s refuted = those_stably (Survives s) s.cands (λ found. refuted (
+  found.0,
+  record {
+    rising = found.1.rising;
+    members = λ x. (λ is. ((found.1.members x).0 is).1, λ is. (found.1.members x).1 (is.0.0, is));
+  },
+))
+
+kept-answered : (s : Setting) (survivors : List Id) → AreSurvivors s survivors
+    → ¬ ¬ ((kept : List Id) × IsKeptSet s kept)
+kept-answered s survivors are refuted = those_stably (Stays s survivors) s.cands (λ found. refuted (
+  found.0,
+  record {
+    survivors = survivors;
+    are_survivors = are;
+    rising = found.1.rising;
+    members = λ x. (
+      λ is. ((found.1.members x).0 is).1,
+      λ is. (found.1.members x).1 ((is.1.eligible x is.2).0.0.0, is),
+    );
+  },
+))
+
+-- each id of the list with each that the function gives for it
+paired : (Id → List Id) → List Id → List (Id × Id)
+paired f xs = flat_map (λ x. map (λ z. (x, z)) (f x)) xs
+
+in_paired : (f : Id → List Id) (xs : List Id) (x z : Id) → Contains (paired f xs) (x, z)
+    ↔ (Contains xs x × Contains (f x) z)
+unfolding paired
+in_paired f xs x z = (
+  λ is.
+      let from = flat_in (λ x. map (λ z. (x, z)) (f x)) xs (x, z) is in
+      let of = map_in (λ z. (from.0, z)) (f from.0) (x, z) from.2 in
+      let first : from.0 ≡ x = ap (λ (p : Id × Id). p.0) of.2 in
+      let second : of.0 ≡ z = ap (λ (p : Id × Id). p.1) of.2 in (
+        subst (Contains xs) first from.1,
+        subst (λ x. Contains (f x) z) first (subst (Contains (f from.0)) second of.1),
+      ),
+  λ both. in_flat (λ x. map (λ z. (x, z)) (f x)) xs x (x, z) both.0 (in_map (λ z. (x, z)) (f x) z both.1),
+)
+
+-- ---- the decision
+
+pub decision-answered : (g : Global) (zone : Zone) (related : Option Zone) (sel : Selection) (bypass : Bypass)
+    (date : Text) → ¬ ¬ ((d : Decision) × IsDecision g zone related sel bypass date d)
+decision-answered g zone related sel bypass date refuted =
+    candidates-answered g zone sel (λ cands.
+    survivors-answered (setting g zone related cands.0 bypass) (λ survivors.
+    kept-answered (setting g zone related cands.0 bypass) survivors.0 survivors.1 (λ kept.
+    let s : Setting = setting g zone related cands.0 bypass in
+    let pairs : List (Id × Id) = paired (bypassed_ids s) kept.0 in
+    refuted (
+      record {
+        setting = s;
+        survivors = survivors.0;
+        kept = kept.0;
+        installing = record {
+          global = g;
+          choice = counting g zone cands.0;
+          zone = zone;
+          kept = kept.0;
+          bypassed = pairs;
+          date = date;
+        };
+      },
+      record {
+        cands = cands.0;
+        candidates = cands.1;
+        setting = refl;
+        survivors = survivors.1;
+        kept = kept.1;
+        bypassed = pairs;
+        are_bypassed = in_paired (bypassed_ids s) kept.0;
+        installing = refl;
+      },
+    ))))

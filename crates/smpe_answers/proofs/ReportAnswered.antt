@@ -1,0 +1,96 @@
+-- REPORT ERRSYSMODS has an answer: what resolves a reason can be decided, and stands among what is received.
+use Rattle.std.proofs.Common.{◌≡◌, inl, inr, Bool, true, false, not, List, map, filter, Contains, IsTrue, refl}
+use Rattle.std.proofs.Common.{◌++◌, []}
+use Rattle.std.specs.Prelude.{◌↔◌}
+use Rattle.std.specs.List.{flat_map}
+use Rattle.std.proofs.lemmas.List.Kept.{AllPairs-filter}
+use Rattle.std.proofs.lemmas.List.Elements.{Contains-append_left, Contains-append_right}
+use Rattle.lemmas.proofs.Members.{in_filter, filter_in}
+use Rattle.lemmas.proofs.Pairs.{pairs_map}
+use Rattle.lemmas.proofs.Texts.{same_or_not}
+use Rattle.terms.specs.Types.{Id, Sysmod, Entry, Hold, Global, Zone}
+use Rattle.terms.specs.Lookups.{IsRising, is_before, is_nil, at_most_one}
+use Rattle.terms.specs.Choice.{Choice, vers_of, counting, pre_of, sup_of, fmid_of}
+use Rattle.terms.specs.Over.{names, Supersedes}
+use Rattle.terms.specs.Global.{IsGlobal}
+use Rattle.terms.proofs.Leads.{reaches_more}
+use Rattle.change.proofs.ChosenVers.{AreFor, counting_for, names_received, names_no_loop}
+use Rattle.change.proofs.Walks.{reaches_or_not}
+use Rattle.machine.specs.Outcome.{Line, ErrsysmodLine}
+use Rattle.machine.specs.Errsysmods.{open_errors, is_current, Resolves, AreErrsysmods}
+use Rattle.smpe_answers.proofs.RunsAnswered.{Decided, decided-true}
+use Rattle.smpe_answers.proofs.ReceiveAnswered.{vers-received}
+
+told : {P : Type 0} → Decided P → Bool
+told (inl is) = true
+told (inr not) = false
+
+told-so : {P : Type 0} (d : Decided P) → told d ≡ true → P
+unfolding told
+told-so (inl is) at = is
+told-so (inr not) at = absurd (cc at)
+
+so-told : {P : Type 0} (d : Decided P) → P → told d ≡ true
+unfolding told
+so-told (inl is) p = refl
+so-told (inr not) p = absurd (not p)
+
+module _ (g : Global) (zone : Zone) (is_global : IsGlobal g) where
+  c : Choice
+  c = counting g zone []
+
+  are : AreFor g zone.srel c
+  unfolding c
+  are = counting_for g zone []
+
+  ids : List Id
+  ids = map (λ s. s.id) g.sysmods
+
+  sup_named : (x z : Id) → Contains (sup_of c x) z → Contains (names c x) z
+  sup_named x z is = Contains-append_left (pre_of c x ++ sup_of c x) (at_most_one (fmid_of c x)) z
+      (Contains-append_right (pre_of c x) (sup_of c x) z is)
+
+  supersedes_or_not : (x z : Id) → Decided (Supersedes c x z)
+  unfolding ids
+  supersedes_or_not = reaches_or_not (sup_of c) ids
+      (λ x z is. names_received g zone.srel c are x z (sup_named x z is))
+      (λ x loop. names_no_loop g zone.srel c are is_global.no_loop x
+      (reaches_more (sup_of c) (names c) sup_named x x loop))
+
+  resolves_or_not : (reason y : Id) → Decided (Resolves g zone reason y)
+  unfolding c
+  resolves_or_not reason y = elim (decided-true (not (is_nil (vers_of g zone.srel y)))) [
+    | inr none ↦ inr (λ r. none r.fits)
+    | inl some ↦ elim (same_or_not y reason) [
+      | inl same ↦ inl (record { fits = some; reaches = inl same })
+      | inr other ↦ elim (supersedes_or_not y reason) [
+        | inl above ↦ inl (record { fits = some; reaches = inr above })
+        | inr not_above ↦ inr (λ r. elim r.reaches [ inl same ↦ other same | inr above ↦ not_above above ])
+      ]
+    ]
+  ]
+
+  resolvers : Id → List Id
+  resolvers reason = filter (λ y. told (resolves_or_not reason y)) ids
+
+  resolvers_rise : (reason : Id) → IsRising (resolvers reason)
+  unfolding resolvers ids
+  resolvers_rise reason =
+      AllPairs-filter (λ x y. IsTrue (is_before x y)) (λ y. told (resolves_or_not reason y)) ids
+      (pairs_map (λ (a b : Sysmod). IsTrue (is_before a.id b.id)) (λ x y. IsTrue (is_before x y)) (λ s. s.id)
+      (λ a b before. before) g.sysmods is_global.sysmods)
+
+  resolves_is : (reason y : Id) → Contains (resolvers reason) y ↔ Resolves g zone reason y
+  unfolding resolvers ids
+  resolves_is reason y = (
+    λ h. told-so (resolves_or_not reason y) (filter_in (λ y. told (resolves_or_not reason y)) ids y h).1,
+    λ r. in_filter (λ y. told (resolves_or_not reason y)) ids y (vers-received g zone.srel y r.fits)
+        (so-told (resolves_or_not reason y) r),
+  )
+
+  pub errsysmods-some : (lines : List Line) × AreErrsysmods g zone lines
+  errsysmods-some = (
+    flat_map (λ (e : Entry). map (λ (h : Hold). ErrsysmodLine e.id h.reason (resolvers h.reason))
+        (open_errors g zone e)) (filter is_current zone.entries),
+    record { resolvers = resolvers; lines_are = refl; rising = resolvers_rise; all = resolves_is },
+  )

@@ -1,0 +1,18 @@
+//! First and refused jobs, RECEIVE, REJECT, LIST and REPORT, lists of jobs, and the program's words and lines. There is
+//! no code here but tests.
+#![tactic(auto)]
+
+#[cfg(test)]
+mod firsts;
+#[cfg(test)]
+mod listings;
+#[cfg(test)]
+mod lists;
+#[cfg(test)]
+mod messages;
+#[cfg(test)]
+mod receives;
+#[cfg(test)]
+mod tests;
+#[cfg(test)]
+mod words;

@@ -1,0 +1,180 @@
+//! Lists of jobs in one call, and how definitions of zones end.
+
+use fields::{Srel, YyDdd, ZoneName};
+use report::Out;
+use smpe::{Answer, Job, ZoneFault, run_jobs};
+use smpe_play::{FIX, FUNCTION, compare, new_files, opened, records, zone_name};
+use std::alloc::Global;
+use std::test::Fail;
+use terms::ZoneKind;
+
+fn zone<'a>(name: ZoneName, kind: ZoneKind, srel: Srel, related: Option<ZoneName>) -> Job<'a> {
+    Job::Zone {
+        name,
+        kind,
+        srel,
+        related,
+    }
+}
+
+fn srel(text: &[u8]) -> Result<Srel, Fail> {
+    Ok(Srel::read(text).ok_or("no SREL")?)
+}
+
+/// Runs the jobs in one call over new files, and compares what they print and answer.
+fn run(alloc: Global, jobs: &[Job<'_>], report: &str, answers: &[Answer]) -> Result<(), Fail> {
+    let mut store = opened(alloc, new_files(alloc)?)?;
+    let mut bytes: Vec<u8> = Vec::new(alloc);
+    let got = run_jobs(alloc, &mut store, jobs, &mut Out::new(&mut bytes))?;
+    compare(bytes.as_slice(), report)?;
+    let got = format!(in alloc; "{got:?}")?;
+    let wanted = format!(in alloc; "{answers:?}")?;
+    compare(got.as_bytes(), wanted.as_str())
+}
+
+/// Two jobs behind the definitions of three zones.
+fn define_and_run<'a>(
+    alloc: Global,
+    receive: &'a [u8],
+    ptfin: &'a [u8],
+    install: &'a [u8],
+) -> Result<(), Fail> {
+    let date = YyDdd::new(2024, 138);
+    let permanent = zone_name(b"DLB1")?;
+    let running = zone_name(b"TGT1")?;
+    let other = zone_name(b"DLB2")?;
+    let system = srel(b"Z038")?;
+    let other_system = srel(b"C150")?;
+    let jobs = [
+        Job::Zone {
+            name: permanent,
+            kind: ZoneKind::Distribution,
+            srel: system,
+            related: None,
+        },
+        Job::Zone {
+            name: running,
+            kind: ZoneKind::Target,
+            srel: system,
+            related: Some(permanent),
+        },
+        Job::Zone {
+            name: other,
+            kind: ZoneKind::Distribution,
+            srel: other_system,
+            related: None,
+        },
+        Job::Run {
+            date,
+            cntl: receive,
+            ptfin,
+            hold: b"",
+        },
+        Job::Run {
+            date,
+            cntl: install,
+            ptfin: b"",
+            hold: b"",
+        },
+    ];
+    run(
+        alloc,
+        &jobs,
+        "SET GLOBAL\nRC 00\nRECEIVE GLOBAL\nHAA1100 FUNCTION RECEIVED\nUA00024 PTF      RECEIVED\nRC 00\n\
+            SET TGT1\nRC 00\nAPPLY TGT1\nHAA1100 FUNCTION APPLIED\nRC 00\n\
+            SET DLB1\nRC 00\nACCEPT DLB1\nHAA1100 FUNCTION ACCEPTED\nRC 00\n\
+            SET TGT1\nRC 00\nAPPLY TGT1\nUA00024 PTF      APPLIED\nRC 00\n",
+        &[
+            Answer::Defined,
+            Answer::Defined,
+            Answer::Defined,
+            Answer::Code(0),
+            Answer::Code(0),
+        ],
+    )
+}
+
+#[test]
+fn five_jobs_in_one_call(rt: HostRuntime) -> Result<(), Fail> {
+    let alloc = rt.alloc();
+    let receive = records(alloc, &["SET BDY(GLOBAL).", "RECEIVE SYSMODS."])?;
+    let mut ptfin = records(alloc, FUNCTION)?;
+    ptfin.extend_from_slice(records(alloc, FIX)?.as_slice())?;
+    let install = records(
+        alloc,
+        &[
+            "SET BDY(TGT1).",
+            "APPLY SELECT(HAA1100).",
+            "SET BDY(DLB1).",
+            "ACCEPT SELECT(HAA1100).",
+            "SET BDY(TGT1).",
+            "APPLY SELECT(UA00024).",
+        ],
+    )?;
+    let (receive, ptfin, install) = (receive.as_slice(), ptfin.as_slice(), install.as_slice());
+    define_and_run(alloc, receive, ptfin, install)
+}
+
+#[test]
+fn zones_are_refused(rt: HostRuntime) -> Result<(), Fail> {
+    let alloc = rt.alloc();
+    let global = zone_name(b"GLOBAL")?;
+    let permanent = zone_name(b"DLB1")?;
+    let missing = zone_name(b"DLB2")?;
+    let running = zone_name(b"TGT1")?;
+    let second = zone_name(b"TGT2")?;
+    let system = srel(b"Z038")?;
+    let other_system = srel(b"C150")?;
+    let jobs = [
+        zone(permanent, ZoneKind::Distribution, system, None),
+        // The name is there, or is GLOBAL.
+        zone(permanent, ZoneKind::Distribution, system, None),
+        zone(global, ZoneKind::Distribution, system, None),
+        // There is no related zone, it is missing, or none may be.
+        zone(running, ZoneKind::Target, system, None),
+        zone(running, ZoneKind::Target, system, Some(missing)),
+        zone(missing, ZoneKind::Distribution, system, Some(permanent)),
+        // It has another SREL.
+        zone(running, ZoneKind::Target, other_system, Some(permanent)),
+        zone(running, ZoneKind::Target, system, Some(permanent)),
+        // It has its target zone already.
+        zone(second, ZoneKind::Target, system, Some(permanent)),
+    ];
+    run(
+        alloc,
+        &jobs,
+        "",
+        &[
+            Answer::Defined,
+            Answer::Refused(ZoneFault::NameTaken),
+            Answer::Refused(ZoneFault::NameTaken),
+            Answer::Refused(ZoneFault::WrongRelated),
+            Answer::Refused(ZoneFault::WrongRelated),
+            Answer::Refused(ZoneFault::WrongRelated),
+            Answer::Refused(ZoneFault::OtherSrel),
+            Answer::Defined,
+            Answer::Refused(ZoneFault::WrongRelated),
+        ],
+    )
+}
+
+#[test]
+fn the_sixty_fifth_zone_is_refused(rt: HostRuntime) -> Result<(), Fail> {
+    let alloc = rt.alloc();
+    let srel = srel(b"Z038")?;
+    let mut jobs = Vec::with_capacity(alloc, 65)?;
+    for number in 0..65u8 {
+        let job: Job<'static> = Job::Zone {
+            name: zone_name(&[b'D', b'A' + number / 8, b'A' + number % 8])?,
+            kind: ZoneKind::Distribution,
+            srel,
+            related: None,
+        };
+        if jobs.push(job).is_err() {
+            return Err(Fail::from("out of memory"));
+        }
+    }
+    let mut answers = [Answer::Defined; 65];
+    answers[64] = Answer::Refused(ZoneFault::TooMany);
+    run(alloc, jobs.as_slice(), "", &answers)
+}

@@ -1,0 +1,76 @@
+//! The program's own lines.
+
+use fields::ZoneName;
+use report::Out;
+use smpe::{Answer, ArgFault, Fault, JobError, ZoneFault, fault_line, zone_line};
+use smpe_play::compare;
+use std::alloc::Global;
+use std::test::Fail;
+use store_schema::StoreError;
+
+/// How a zone's definition ended, with the status and the line.
+const ZONES: &[(Answer, u8, &str)] = &[
+    (Answer::Defined, 0, "ZONE DLB1 DEFINED\n"),
+    (
+        Answer::Refused(ZoneFault::NameTaken),
+        12,
+        "ZONE REFUSED Zn1\n",
+    ),
+    (
+        Answer::Refused(ZoneFault::TooMany),
+        12,
+        "ZONE REFUSED Zn4\n",
+    ),
+    (Answer::Code(8), 8, ""),
+];
+
+fn told(status: u8, wanted: u8) -> Result<(), Fail> {
+    if status == wanted {
+        return Ok(());
+    }
+    Err(Fail::new(format_args!("got status {status}, wanted {wanted}")))
+}
+
+fn zone_is_told(alloc: Global, answer: &Answer, status: u8, line: &str) -> Result<(), Fail> {
+    let name = ZoneName::read(b"DLB1").ok_or("no name of a zone")?;
+    let mut bytes: Vec<u8> = Vec::new(alloc);
+    told(zone_line(name, answer, &mut Out::new(&mut bytes))?, status)?;
+    compare(bytes.as_slice(), line)
+}
+
+#[test]
+fn zones_have_their_lines(rt: HostRuntime) -> Result<(), Fail> {
+    for (answer, status, line) in ZONES {
+        zone_is_told(rt.alloc(), answer, *status, line)?;
+    }
+    Ok(())
+}
+
+fn fault_is_told(alloc: Global, fault: &Fault<'_>, line: &str) -> Result<(), Fail> {
+    let mut bytes: Vec<u8> = Vec::new(alloc);
+    told(fault_line(fault, &mut Out::new(&mut bytes))?, 16)?;
+    compare(bytes.as_slice(), line)
+}
+
+#[test]
+fn faults_have_their_lines(rt: HostRuntime) -> Result<(), Fail> {
+    let alloc = rt.alloc();
+    for (error, line) in [
+        (JobError::Memory, "smpe: out of memory\n"),
+        (JobError::Store(StoreError::NoState), "smpe: store Sf3\n"),
+        (JobError::Write, "smpe: write\n"),
+    ] {
+        fault_is_told(alloc, &Fault::Job(error), line)?;
+    }
+    fault_is_told(
+        alloc,
+        &Fault::Arg(ArgFault::BadOperand),
+        "smpe: bad operand\n",
+    )?;
+    fault_is_told(
+        alloc,
+        &Fault::CannotRead("cards"),
+        "smpe: cannot read cards\n",
+    )?;
+    Ok(())
+}

@@ -1,0 +1,143 @@
+//! Command lines, and what they ask for.
+
+use smpe::{ArgFault, Invocation, invocation};
+use smpe_play::compare;
+use std::alloc::Global;
+use std::test::Fail;
+
+/// Lines of words, with a blank between two, and what is read: the values that are asked for, `clap` where it refuses
+/// them, or a bad operand.
+const LINES: &[(&str, &str)] = &[
+    (
+        "smpe zone --db F --name DLB1 --kind distribution --srel Z038",
+        "F DLB1 Distribution Z038 -",
+    ),
+    (
+        "smpe zone --srel=Z038 --related DLB1 --kind=target --name TGT1 --db F",
+        "F TGT1 Target Z038 DLB1",
+    ),
+    (
+        "smpe run --db F --date 2024-05-17 --cntl C --ptfin P --hold H",
+        "F 24.138 C P H",
+    ),
+    (
+        "smpe run --db F --date 2024-12-31 --cntl C --hold H",
+        "F 24.366 C - H",
+    ),
+    (
+        "smpe run --db F --date 2000-02-29 --cntl C --ptfin P",
+        "F 00.060 C P -",
+    ),
+    (
+        "smpe run --db F --date 1999-01-01 --cntl C",
+        "F 99.001 C - -",
+    ),
+    ("smpe list --db F --zone TGT1", "F TGT1"),
+    ("smpe list --zone=GLOBAL --db F", "F GLOBAL"),
+    ("smpe", "clap"),
+    ("smpe --help", "clap"),
+    ("smpe help", "clap"),
+    ("smpe list --help", "clap"),
+    ("smpe list --db F", "clap"),
+    ("smpe list --db F --zone TGT1 --date 2024-05-17", "clap"),
+    ("smpe zone --db F --name DLB1 --kind distribution", "clap"),
+    (
+        "smpe zone --db F --name DLB1 --kind global --srel Z038",
+        "clap",
+    ),
+    (
+        "smpe zone --db F --name DLB1 --kind target --srel Z038 --cntl C",
+        "clap",
+    ),
+    (
+        "smpe zone --db F --name DLB1 --name DLB2 --kind target --srel Z038",
+        "clap",
+    ),
+    (
+        "smpe zone --db F --name DLB1 --kind target --srel Z038 more",
+        "clap",
+    ),
+    ("smpe run --db F --date 2024-02-30 --hold H", "clap"),
+    (
+        "smpe zone --db F --name 1DLB --kind distribution --srel Z038",
+        "bad operand",
+    ),
+    (
+        "smpe zone --db F --name DLB1 --kind distribution --srel Z38",
+        "bad operand",
+    ),
+    (
+        "smpe zone --db F --name TGT1 --kind target --srel Z038 --related dlb1",
+        "bad operand",
+    ),
+    ("smpe list --db F --zone tgt1", "bad operand"),
+    ("smpe run --db F --date 2024-02-30 --cntl C", "bad operand"),
+    ("smpe run --db F --date 1900-02-29 --cntl C", "bad operand"),
+    ("smpe run --db F --date 2024-13-01 --cntl C", "bad operand"),
+    ("smpe run --db F --date 2024-05-00 --cntl C", "bad operand"),
+    ("smpe run --db F --date 2024-5-17 --cntl C", "bad operand"),
+    ("smpe run --db F --date 2024/05/17 --cntl C", "bad operand"),
+];
+
+fn words<'a>(alloc: Global, line: &'a str) -> Result<Vec<&'a str>, Fail> {
+    let mut words = Vec::new(alloc);
+    for word in line.split(' ') {
+        words.push(word)?;
+    }
+    Ok(words)
+}
+
+fn shown(alloc: Global, invocation: &Invocation) -> Result<String, Fail> {
+    match invocation {
+        Invocation::Zone {
+            db,
+            name,
+            kind,
+            srel,
+            related,
+        } => {
+            let name = std::str::from_utf8(name.as_bytes())?;
+            let srel = std::str::from_utf8(srel.as_bytes())?;
+            let related = match related {
+                Some(related) => std::str::from_utf8(related.as_bytes())?,
+                None => "-",
+            };
+            Ok(format!(in alloc; "{db} {name} {kind:?} {srel} {related}")?)
+        }
+        Invocation::Run {
+            db,
+            date,
+            cntl,
+            ptfin,
+            hold,
+        } => {
+            let date = std::str::from_utf8(date.as_bytes())?;
+            let ptfin = ptfin.as_ref().map_or("-", |text| text.as_str());
+            let hold = hold.as_ref().map_or("-", |text| text.as_str());
+            Ok(format!(in alloc; "{db} {date} {cntl} {ptfin} {hold}")?)
+        }
+        Invocation::List { db, zone } => {
+            let zone = std::str::from_utf8(zone.as_bytes())?;
+            Ok(format!(in alloc; "{db} {zone}")?)
+        }
+    }
+}
+
+fn read(alloc: Global, line: &str) -> Result<String, Fail> {
+    let words = words(alloc, line)?;
+    match invocation(alloc, words.as_slice()) {
+        Ok(invocation) => shown(alloc, &invocation),
+        Err(ArgFault::Memory) => Ok(String::from_str(alloc, "memory")?),
+        Err(ArgFault::Clap(_)) => Ok(String::from_str(alloc, "clap")?),
+        Err(ArgFault::BadOperand) => Ok(String::from_str(alloc, "bad operand")?),
+    }
+}
+
+#[test]
+fn words_are_read(rt: HostRuntime) -> Result<(), Fail> {
+    for (line, wanted) in LINES {
+        let got = read(rt.alloc(), line)?;
+        compare(got.as_bytes(), wanted)?;
+    }
+    Ok(())
+}

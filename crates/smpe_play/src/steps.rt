@@ -1,0 +1,168 @@
+//! How jobs are played against a store.
+
+use crate::disks::play_reopened;
+use fields::{Srel, YyDdd, ZoneName};
+use report::Out;
+use smpe::{Answer, Job, JobError, run_jobs};
+use sqlite::{Alter, Connection};
+use std::alloc::Global;
+use std::test::Fail;
+use store::Store;
+use terms::ZoneKind;
+
+/// A job as text cards, and what it prints and answers.
+#[derive(Clone, Copy)]
+pub struct Step {
+    pub cntl: &'static [&'static str],
+    pub ptfin: &'static [&'static [&'static str]],
+    /// What stands behind the last record of the PTFIN.
+    pub rest: &'static str,
+    pub hold: &'static [&'static str],
+    pub report: &'static str,
+    pub code: u8,
+}
+
+/// A job without cards, which prints nothing and answers 0.
+pub const JOB: Step = Step {
+    cntl: &[],
+    ptfin: &[],
+    rest: "",
+    hold: &[],
+    report: "",
+    code: 0,
+};
+
+/// A failure with both texts, where the one that was got is not the one that was wanted.
+pub fn compare(got: &[u8], wanted: &str) -> Result<(), Fail> {
+    if got == wanted.as_bytes() {
+        return Ok(());
+    }
+    let got = std::str::from_utf8(got)?;
+    Err(Fail::new(format_args!("got {got}, wanted {wanted}")))
+}
+
+/// Appends text cards as records.
+fn put_records(bytes: &mut Vec<u8>, cards: &[&str]) -> Result<(), Fail> {
+    for card in cards {
+        let mut record = [b' '; 80];
+        for (place, letter) in record.iter_mut().zip(card.as_bytes()) {
+            *place = *letter;
+        }
+        bytes.extend_from_slice(&record)?;
+    }
+    Ok(())
+}
+
+/// Text cards as records.
+pub fn records(alloc: Global, cards: &[&str]) -> Result<Vec<u8>, Fail> {
+    let mut bytes = Vec::new(alloc);
+    put_records(&mut bytes, cards)?;
+    Ok(bytes)
+}
+
+fn ptfin_of(alloc: Global, step: &Step) -> Result<Vec<u8>, Fail> {
+    let mut bytes = Vec::new(alloc);
+    for cards in step.ptfin {
+        put_records(&mut bytes, cards)?;
+    }
+    bytes.extend_from_slice(step.rest.as_bytes())?;
+    Ok(bytes)
+}
+
+/// Runs a step's job on 2024-05-17, and appends what it prints.
+pub fn run_step<S: Alter>(
+    alloc: Global,
+    store: &mut Store<S>,
+    step: &Step,
+    report: &mut Vec<u8>,
+) -> Result<Result<Vec<Answer>, JobError>, Fail> {
+    let cntl = records(alloc, step.cntl)?;
+    let ptfin = ptfin_of(alloc, step)?;
+    let hold = records(alloc, step.hold)?;
+    let job = [Job::Run {
+        date: YyDdd::new(2024, 138),
+        cntl: cntl.as_slice(),
+        ptfin: ptfin.as_slice(),
+        hold: hold.as_slice(),
+    }];
+    Ok(run_jobs(alloc, store, &job, &mut Out::new(report)))
+}
+
+pub fn zone_name(name: &[u8]) -> Result<ZoneName, Fail> {
+    Ok(ZoneName::read(name).ok_or("no name of a zone")?)
+}
+
+/// Defines the two zones of all lists.
+pub(crate) fn define_both<S: Alter>(alloc: Global, store: &mut Store<S>) -> Result<(), Fail> {
+    let permanent = zone_name(b"DLB1")?;
+    let running = zone_name(b"TGT1")?;
+    let srel = Srel::read(b"Z038").ok_or("no SREL")?;
+    let distribution = Job::Zone {
+        name: permanent,
+        kind: ZoneKind::Distribution,
+        srel,
+        related: None,
+    };
+    let target = Job::Zone {
+        name: running,
+        kind: ZoneKind::Target,
+        srel,
+        related: Some(permanent),
+    };
+    let mut report: Vec<u8> = Vec::new(alloc);
+    let answers = run_jobs(
+        alloc,
+        store,
+        &[distribution, target],
+        &mut Out::new(&mut report),
+    )?;
+    match answers.as_slice() {
+        [Answer::Defined, Answer::Defined] => Ok(()),
+        _ => Err(Fail::from("the two zones were not both defined")),
+    }
+}
+
+/// Plays a step, and compares what it prints and answers.
+pub(crate) fn play<S: Alter>(alloc: Global, store: &mut Store<S>, step: &Step) -> Result<(), Fail> {
+    let mut report = Vec::new(alloc);
+    let answers = run_step(alloc, store, step, &mut report)??;
+    compare(report.as_slice(), step.report)?;
+    let [Answer::Code(code)] = answers.as_slice() else {
+        return Err(Fail::from("no return code"));
+    };
+    if *code == step.code {
+        return Ok(());
+    }
+    Err(Fail::new(format_args!("got {code}, wanted {}", step.code)))
+}
+
+/// A store over the connection.
+pub fn opened<S: Alter + Drop>(alloc: Global, conn: Connection<S>) -> Result<Store<S>, Fail> {
+    if !conn.is_autocommit() {
+        return Err(Fail::from("a transaction is under way"));
+    }
+    match Store::open(alloc, conn) {
+        Ok(store) => Ok(store),
+        Err((_conn, error)) => Err(Fail::from(error)),
+    }
+}
+
+/// Plays the steps in memory, one after the other over one store.
+fn play_in_memory(alloc: Global, steps: &[Step]) -> Result<(), Fail> {
+    let mut store = opened(alloc, Connection::open_in_memory(alloc)?)?;
+    define_both(alloc, &mut store)?;
+    for step in steps {
+        play(alloc, &mut store, step)?;
+    }
+    Ok(())
+}
+
+/// Plays each list of steps in memory, and on disks in memory, where the files are closed and opened again before each
+/// step.
+pub fn play_lists(alloc: Global, lists: &[&[Step]]) -> Result<(), Fail> {
+    for steps in lists {
+        play_in_memory(alloc, steps)?;
+        let _conn = play_reopened(alloc, steps)?;
+    }
+    Ok(())
+}
