@@ -17,7 +17,7 @@ use Rattle.judge.specs.Claims.{change_key, a_claim, PassesAt, AreClaims}
 use Rattle.judge.specs.Sharing.{ClashesOnOne, IsAmong, IsClashing}
 use Rattle.judge.specs.Forbidding.{IsForbidding}
 use Rattle.judge.proofs.Collapsed.{change-found, change-has}
-use Rattle.judge.proofs.Lists.{beside-there}
+use Rattle.judge_needs.proofs.Lists.{beside-there}
 
 -- what it claims, it changes, and the other way round
 changes-from : (g : Global) (x : Id) (key : ElemType × Text) → Contains (map change_key (changes_of g x)) key

@@ -20,10 +20,10 @@ use Rattle.lemmas.proofs.Members.{here_or, here, there, none_in}
 use Rattle.lemmas.proofs.Places.{contains_at, found_at}
 use Rattle.judge.specs.declared.own.OwnFaults.{OwnFaults}
 use Rattle.judge.specs.Own.{HasFaults, passes_alone}
-use Rattle.judge.specs.Placed.{Beside}
+use Rattle.judge_needs.specs.Placed.{Beside}
 use Rattle.judge.specs.Deletes.{PassesAloneAt, ArePassing, AreDeletions, with_deleted, IsMarked}
 use Rattle.judge.proofs.Alone.{alone-if}
-use Rattle.judge.proofs.Lists.{beside-there}
+use Rattle.judge_needs.proofs.Lists.{beside-there}
 
 -- what some SYSMODs name in DELETE
 pub deletions-in : (c : Choice) (xs : List Id) (z : Id)

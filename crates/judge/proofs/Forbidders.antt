@@ -23,7 +23,7 @@ use Rattle.lemmas.proofs.Searches.{find-gives}
 use Rattle.lemmas.proofs.Texts.{same_from, same_itself}
 use Rattle.zones_less.proofs.Lookups.{is_applied-less}
 use Rattle.judge.specs.Forbidders.{Forbidders, forbidders_of, Gains, ForbidsBy, AreForbidders, IsForbidden}
-use Rattle.judge.proofs.Growing.{front-more}
+use Rattle.judge_needs.proofs.Growing.{front-more}
 
 abbrev C : Id → Id → Ordering
 C = slice_cmp nat_cmp

@@ -1,17 +1,8 @@
 pub mod Few
 pub mod Collapsed
 pub mod Alone
-pub mod Lists
-pub mod Growing
-pub mod Paired
-pub mod Errors
-pub mod Stating
 pub mod Survivors
 pub mod Needed
-pub mod Rising
-pub mod Wants
-pub mod Standing
-pub mod Demands
 pub mod Claimed
 pub mod Chained
 pub mod Marks

@@ -16,9 +16,9 @@ use Rattle.judge.specs.Own.{passes}
 use Rattle.judge.specs.Claims.{PassesAt}
 use Rattle.judge.specs.Sharing.{Marks, IsClashing}
 use Rattle.judge.specs.Forbidding.{IsEither, IsOfNamed, IsOfOne, IsByNpre, IsByNpreBefore, IsForbidding, AreClashing}
-use Rattle.judge.proofs.Growing.{front-more}
+use Rattle.judge_needs.proofs.Growing.{front-more}
 use Rattle.judge.proofs.Marks.{marks-join, marks-same}
-use Rattle.judge.proofs.Places.{two-places}
+use Rattle.judge_needs.proofs.OwnPlaces.{two-places}
 
 abbrev nowhere : Option ℕ
 nowhere = None

@@ -7,9 +7,9 @@ use Rattle.terms.specs.declared.codes.NeedKind.TheVariants.{Fmid, Pre, Req, Ifre
 use Rattle.terms.specs.Types.{Id, Zone}
 use Rattle.terms.specs.Tests.{Setting}
 use Rattle.terms.specs.Needs.{Needs, asked, orphans, is_bypassed, is_met, zone_left}
-use Rattle.judge.specs.declared.scope.Scope.{Scope}
-use Rattle.judge.specs.Left.{setting_with, setting_of}
-use Rattle.judge.specs.Wanted.{IsOpen}
+use Rattle.judge_needs.specs.declared.scope.Scope.{Scope}
+use Rattle.judge_needs.specs.Left.{setting_with, setting_of}
+use Rattle.judge_needs.specs.Wanted.{IsOpen}
 
 module _ (scope : Scope) (related : Option Zone) where
   abbrev s : Setting

@@ -7,16 +7,14 @@ use Rattle.std.proofs.lemmas.Option.{slice_get_within}
 use Rattle.terms.specs.declared.codes.NeedKind.{NeedKind}
 use Rattle.terms.specs.Types.{Id, Zone}
 use Rattle.terms.specs.Tests.{Setting, AreSurvivors, IsEligible}
-use Rattle.judge.specs.declared.scope.Scope.{Scope}
-use Rattle.judge.specs.Left.{setting_with, setting_of}
+use Rattle.judge_needs.specs.declared.scope.Scope.{Scope}
+use Rattle.judge_needs.specs.Left.{setting_with, setting_of}
 use Rattle.judge.specs.InstallProblem.{IsInstallProblem}
 use Rattle.solve.specs.Problem.{Problem, IsProblem, holds}
 use Rattle.lemmas.proofs.Places.{contains_at, found_at}
-use Rattle.judge.specs.declared.wanted.Want.{Want}
-use Rattle.judge.specs.Wanted.{a_want}
-use Rattle.judge.specs.Serving.{ArePlaces}
-use Rattle.judge.specs.Numbered.{HasProblem}
-use Rattle.judge.proofs.Demands.{is-demand, demand-at, wants-once}
+use Rattle.judge_needs.specs.Wanted.{a_want}
+use Rattle.judge_needs.specs.Numbered.{HasProblem, IsDemandFor}
+use Rattle.judge_needs.proofs.Demands.{is-demand, demand-at, wants-once}
 use Rattle.judge.proofs.Needed.{needs-open}
 
 module _ (scope : Scope) (related : Option Zone) where
@@ -49,7 +47,7 @@ module _ (scope : Scope) (related : Option Zone) where
               (needs-open scope related survivors open_at.x need.0 need.1
                   (contains_at s.cands w.0.of open_at.x open_at.at)).1 open_at.is_open,
             );
-            any = subst (λ (v : Want). ArePlaces s.choice s.cands v.kind v.id d.any) w.3 (w.2.any s.choice has.served);
+            any = (subst (λ v. IsDemandFor s.cands has.pairs v d) w.3 w.2).any s.choice has.served;
           };
       all = λ n x z kind at need.
           let found = found_at has.wants (a_want n kind z) ((has.are_wants.members n kind z).1 (record {

@@ -1,18 +1,14 @@
 -- What the places of the candidates tell: each fails the tests that are marked at its place, and no others.
-use Rattle.std.proofs.Common.{◌≡◌, ◌≢◌, inl, inr, ℕ, zero, suc, ◌<◌, ◌+◌, Bool, true, false, not, List, [], ◌∷◌, length}
+use Rattle.std.proofs.Common.{◌≡◌, ◌≢◌, ℕ, zero, suc, ◌<◌, ◌+◌, Bool, true, false, not, List, [], ◌∷◌, length}
 use Rattle.std.proofs.Common.{Option, None, Some, IsTrue, refl, sym, ap, ap₂, ◌∙◌, subst, true≢false, filter, map}
 use Rattle.std.proofs.Common.{Contains, cond, arith, slice_get, get_or}
 use Rattle.std.specs.Prelude.{◌↔◌, nat_eq}
 use Rattle.std.specs.Option.{option_map, option_map_or}
 use Rattle.std.specs.Str.{bytes_eq}
-use Rattle.std.proofs.lemmas.Bool.{and_parts, eqb-true, cases_order, cases_eq, not-true}
-use Rattle.std.specs.Ordering.{nat_cmp}
-use Rattle.std.specs.Cmp.Lexicographic.{slice_cmp}
-use Rattle.std.proofs.lemmas.Map.Lookups.{exact_bytes}
-use Rattle.terms.specs.Rising.{StandsAt}
+use Rattle.std.proofs.lemmas.Bool.{and_parts, eqb-true, not-true}
 use Rattle.std.proofs.lemmas.Cmp.{nat_eq_equiv}
 use Rattle.std.proofs.lemmas.List.{length-map}
-use Rattle.std.proofs.lemmas.Option.{slice_get_within, slice_get-get_or, slice_get-map, get_or_from_slice_get}
+use Rattle.std.proofs.lemmas.Option.{slice_get_within, slice_get-get_or, slice_get-map}
 use Rattle.std.proofs.lemmas.Option.{same_Some}
 use Rattle.std.proofs.lemmas.List.Elements.{All-contains, filter_passes}
 use Rattle.std.proofs.lemmas.List.Kept.{AllPairs-filter}
@@ -20,65 +16,25 @@ use Rattle.std.proofs.lemmas.Map.Views.{list_any-from_Contains}
 use Rattle.indexmap.proofs.CallerLemmas.{Contains-list_any}
 use Rattle.terms.specs.declared.codes.Test.{Test}
 use Rattle.terms.specs.Types.{Id}
-use Rattle.terms.specs.Lookups.{IsRising, is_before, is_in}
+use Rattle.terms.specs.Lookups.{IsRising, is_before}
 use Rattle.terms.specs.Tests.{Setting, FailsJ8, FailsJ9, Survives, AreSurvivors, IsEligible, Fails}
 use Rattle.terms.specs.Global.{IsGlobal}
 use Rattle.solve.specs.Problem.{holds}
 use Rattle.lemmas.proofs.Pairs.{AllPairs-rest}
 use Rattle.lemmas.proofs.Places.{contains_at, found_at}
 use Rattle.lemmas.proofs.Texts.{same_itself}
-use Rattle.lemmas.proofs.Members.{here_or, here, filter_in, in_filter}
+use Rattle.lemmas.proofs.Members.{filter_in, in_filter}
 use Rattle.machine.specs.Installing.{all_tests}
 use Rattle.judge.specs.declared.own.OwnFaults.{OwnFaults}
 use Rattle.judge.specs.Failed.{AreFailedTests, AreEligible}
-use Rattle.judge.specs.Placed.{Beside}
+use Rattle.judge_needs.specs.Placed.{Beside}
 use Rattle.judge.specs.Own.{HasFaults, passes}
 use Rattle.judge.specs.Forbidding.{AreClashing}
 use Rattle.judge.specs.Rows.{fails_test, is_among, row_of, is_eligible_at}
-use Rattle.judge.specs.Serving.{AreOwnPlaces}
-use Rattle.terms.proofs.Ids.{is_in-from_Contains}
-use Rattle.judge.proofs.Rising.{before-apart}
+use Rattle.judge_needs.proofs.OwnPlaces.{two-places}
 use Rattle.judge.proofs.Clashing.{fails-nine}
-use Rattle.judge.proofs.Lists.{beside-there}
+use Rattle.judge_needs.proofs.Lists.{beside-there}
 use Rattle.judge.proofs.Alone.{off, bytes-differ, survives-if as survives-alone, test-fails as fails-alone}
-
--- ids at two places are two
-places-apart : (ids : List Id) → IsRising ids → (n m : ℕ) (x y : Id) → slice_get ids n ≡ Some x
-    → slice_get ids m ≡ Some y → n < m → x ≢ y
-places-apart ids rising n m x y at_x at_y below =
-    before-apart x y (rw (← get_or_from_slice_get ids n x x at_x, ← get_or_from_slice_get ids m y x at_y)
-    (rising n m x below (slice_get_within ids m y at_y)))
-
-pub two-places : (ids : List Id) → IsRising ids → (n m : ℕ) (x y : Id) → slice_get ids n ≡ Some x
-    → slice_get ids m ≡ Some y → n ≢ m → x ≢ y
-two-places ids rising n m x y at_x at_y other = elim (cases_order n m) [
-  | inl same ↦ absurd (other same)
-  | inr apart ↦ elim apart [
-    | inl less ↦ places-apart ids rising n m x y at_x at_y less
-    | inr more ↦ λ same. places-apart ids rising m n y x at_y at_x more (sym same)
-  ]
-]
-
--- where a function stands among them
-
-pub one-place : (ids : List Id) → IsRising ids → (f x : Id) (i : ℕ) → slice_get ids i ≡ Some x → x ≡ f
-    → AreOwnPlaces ids f (i ∷ [])
-one-place ids rising f x i at is n y at_y = (
-  λ h.
-      let same : i ≡ n = elim (here_or i [] n h) [ inl here ↦ here | inr later ↦ absurd (omega (arith, later.1)) ] in
-      let both : Some x ≡ Some y = sym at ∙ subst (λ k. slice_get ids k ≡ Some y) (sym same) at_y in
-      sym (same_Some x y both) ∙ is,
-  λ e. elim (cases_eq i n) [
-    | inl same ↦ (0, omega arith, same)
-    | inr other ↦ absurd (two-places ids rising i n x y at at_y other (is ∙ sym e))
-  ],
-)
-
-pub no-place : (ids : List Id) (f : Id) → is_in ids f ≡ false → AreOwnPlaces ids f []
-no-place ids f none n y at_y = (
-  λ h. absurd (omega (arith, h.1)),
-  λ e. absurd (true≢false (sym (is_in-from_Contains ids f (subst (Contains ids) e (contains_at ids n y at_y))) ∙ none)),
-)
 
 -- the place of an id and what it fails by itself
 abbrev pub own_of : List Id → List OwnFaults → ℕ → Id → Option (ℕ × OwnFaults)
@@ -223,15 +179,6 @@ module _ (s : Setting) (is_global : IsGlobal s.global) (rising : IsRising s.cand
       survivors = survivors;
       are_survivors = are-survivors;
     }
-
--- what a search finds
-pub stands-at : (ids : List Id) (f : Id) (i : ℕ) → i < length ids → (x : Id)
-    → StandsAt (slice_cmp nat_cmp) (λ y. y) f ids i x
-    → (slice_get ids i ≡ Some x) × (x ≡ f)
-stands-at ids f i below x s = (
-  slice_get-get_or ids i x below ∙ ap (λ v. Some v) (s.at x),
-  exact_bytes x f s.tie,
-)
 
 -- pairs are made of their parts
 pub same-pairs : {X Y : Type 0} (xs : List (X × Y)) → map (λ p. (p.0, p.1)) xs ≡ xs

@@ -1,12 +1,5 @@
 pub mod Failed
-pub mod Placed
 pub mod Own
-pub mod Left
-pub mod Conditions
-pub mod Wanted
-pub mod Serving
-pub mod Numbered
-pub mod Bypassed
 pub mod Claims
 pub mod Sharing
 pub mod Rows

@@ -5,7 +5,7 @@ ghost use Rattle.terms.specs.Deleted.{deletions, is_deleted};
 ghost use Rattle.sysmods.specs.Choices.{choice};
 ghost use Rattle.judge.specs.Own.{passes_alone};
 ghost use Rattle.judge.specs.Deletes.{ArePassing, AreDeletions, with_deleted, IsMarked};
-ghost use Rattle.judge.specs.Placed.{Beside};
+ghost use Rattle.judge_needs.specs.Placed.{Beside};
 
 use crate::own::{OwnFaults, own_at};
 use fields::{Id, IdList};

@@ -5,15 +5,13 @@ ghost use Rattle.terms.specs.Needs.{bypassed_ids};
 ghost use Rattle.terms.specs.Judged.{setting};
 ghost use Rattle.judge.specs.InstallProblem.{IsInstallProblem};
 ghost use Rattle.judge.specs.Failed.{AreFailedTests};
-ghost use Rattle.judge.specs.Left.{global_of, setting_with};
+ghost use Rattle.judge_needs.specs.Left.{global_of, setting_with};
 
-use crate::bypassed::bypassed_pairs;
-use crate::numbered::wants_of;
-use crate::scope::Scope;
 use crate::surviving::survivors;
 use crate::tested::test_all;
 use cntl::Bypass;
 use fields::{Id, IdList};
+use judge_needs::{Scope, bypassed_pairs, wants_of};
 use solve::System;
 use std::alloc::{AllocError, Global as Heap};
 use sysmods::Global;

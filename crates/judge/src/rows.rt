@@ -2,7 +2,7 @@
 ghost use Rattle.std.specs.Prelude.{◌≡◌, ◌<◌, ◌^◌, ◌++◌, [], ◌∷◌, length, filter, not, ◌&&◌, OnOk, IfOk, if◌then◌else◌};
 ghost use Rattle.judge.specs.Own.{passes};
 ghost use Rattle.machine.specs.Installing.{all_tests};
-ghost use Rattle.judge.specs.Placed.{Beside};
+ghost use Rattle.judge_needs.specs.Placed.{Beside};
 ghost use Rattle.judge.specs.Rows.{fails_test, is_among, row_of, is_eligible_at};
 
 use crate::own::{OwnFaults, own_at};

@@ -1,14 +1,14 @@
 //! The tests of all candidates.
 ghost use Rattle.std.specs.Prelude.{◌≡◌, ◌<◌, ◌^◌, All, IsTrue, IfOk, length, map, option_copied};
 ghost use Rattle.terms.specs.Candidates.{is_installable};
-ghost use Rattle.judge.specs.Left.{global_of, setting_with};
+ghost use Rattle.judge_needs.specs.Left.{global_of, setting_with};
 ghost use Rattle.judge.specs.Failed.{AreFailedTests, AreEligible};
 
 use crate::deleted::all_with_deleted;
 use crate::forbidding::clashing_places;
 use crate::own::all_faults;
 use crate::rows::{all_eligible, all_rows};
-use crate::scope::Scope;
+use judge_needs::Scope;
 use std::alloc::{AllocError, Global as Heap};
 use terms::Test;
 use zones::Zone;

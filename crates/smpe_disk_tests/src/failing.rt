@@ -7,7 +7,7 @@ use smpe_play::{
     FIX, FUNCTION_INSTALLED, FUNCTION_RECEIVED, JOB, Step, compare, connected, opened,
     play_reopened, run_step,
 };
-use sqlite::{Alter, Connection, Files, Options};
+use sqlite::{Alter, Connection, FileStore, Files, Options};
 use sqlite_disk::{Crash, Disk, Fuse};
 use std::alloc::Global;
 use std::test::Fail;
@@ -106,13 +106,14 @@ fn listed_again<D: Crash + Drop>(alloc: Global, mut files: Files<D>) -> Result<V
 
 /// How many of the two commands are reported.
 fn reported(report: &[u8]) -> usize {
-    let mut count = 0;
-    for text in REPORTED {
-        if report.starts_with(text.as_bytes()) {
-            count += 1;
-        }
+    let [first, both] = REPORTED;
+    if report.starts_with(both.as_bytes()) {
+        2
+    } else if report.starts_with(first.as_bytes()) {
+        1
+    } else {
+        0
     }
-    count
 }
 
 /// After how many of the two commands the zones are as they were found: at least so many.
@@ -137,15 +138,26 @@ fn found_on<D: Crash + Drop>(alloc: Global, files: Files<D>) -> Result<usize, Fa
     performed(listing.as_slice(), reported(report.as_slice()))
 }
 
-/// The same, where the disks fail at the next of so many calls.
+/// The same, where the connection's disks fail at the next of so many calls.
+fn found_over<D: Crash + Drop>(
+    alloc: Global,
+    conn: Connection<FileStore<D>>,
+    calls: u64,
+) -> Result<usize, Fail> {
+    match conn.close_files() {
+        Ok(Files { log, db }) => {
+            let log = Fuse::new(log, calls);
+            let db = Fuse::new(db, calls);
+            found_on(alloc, Files { log, db })
+        }
+        Err((error, _store)) => Err(Fail::from(error)),
+    }
+}
+
+/// The same over disks on which the function is installed.
 fn found_after(alloc: Global, calls: u64) -> Result<usize, Fail> {
     let conn = play_reopened(alloc, &[FUNCTION_RECEIVED, FUNCTION_INSTALLED])?;
-    let Ok(Files { log, db }) = conn.close_files() else {
-        return Err(Fail::from("close"));
-    };
-    let log = Fuse::new(log, calls);
-    let db = Fuse::new(db, calls);
-    found_on(alloc, Files { log, db })
+    found_over(alloc, conn, calls)
 }
 
 /// Counts of calls after which the disks fail, with how many of the two commands are found then, where that is known.

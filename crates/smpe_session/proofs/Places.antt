@@ -7,8 +7,8 @@ use Rattle.std.specs.Str.{bytes_eq}
 use Rattle.indexmap.specs.IndexMap.{get}
 use Rattle.terms.specs.declared.kinds.ZoneKind.{ZoneKind}
 use Rattle.terms.specs.declared.kinds.ZoneKind.TheVariants.{Target, Distribution}
-use Rattle.terms.specs.Types.{Text, zone_number, Zone, NamedZone, Id, ReceiveWhat, Receive, Reject, Install, RestoreList}
-use Rattle.terms.specs.Types.{Restore}
+use Rattle.terms.specs.Types.{Text, zone_number, Zone, NamedZone, Id, ReceiveWhat, Receive, Reject, Install}
+use Rattle.terms.specs.Types.{Restore, RestoreList}
 use Rattle.lemmas.proofs.Texts.{same_from, same_itself}
 use Rattle.lemmas.proofs.Searches.{All-find, find-gives}
 use Rattle.machine.specs.Outcome.{Refusal, Cm1, Cm3}

@@ -36,7 +36,8 @@ IsName at accepted = accepted ≡ related_in (option_and_then (get bytes_eq at.z
 module _ (s : State) (inventory : IsInventory (kept s)) where
   -- it is that of the state's zone
   name_is : (at : Session) (accepted : Option Text) → IsSessionOf s at → IsName at accepted
-      → (name : Text) (zone : Zone) → s.boundary ≡ Some name → zone_named s.zones name ≡ Some zone → accepted ≡ zone.related
+      → (name : Text) (zone : Zone) → s.boundary ≡ Some name → zone_named s.zones name ≡ Some zone
+      → accepted ≡ zone.related
   name_is at accepted is named name zone bound there =
       named ∙ ap (λ b. related_in (option_and_then (get bytes_eq at.zones) b)) (is.boundary ∙ bound)
       ∙ by (get bytes_eq at.zones name) refl

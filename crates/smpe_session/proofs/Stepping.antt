@@ -19,6 +19,7 @@ use Rattle.std.specs.List.{flat_map}
 use Rattle.report.specs.declared.outcome.Outcome.{Outcome}
 use Rattle.terms.specs.Types.{Text, Command}
 use Rattle.store.specs.declared.change.Change.{Change}
+use Rattle.store.specs.BadRows.{TellsNoState}
 use Rattle.store.specs.Changes.{Makes}
 use Rattle.store.specs.Kept.{kept, Keeps, IsStopped}
 use Rattle.store.proofs.Keeping.{leaves-more}
@@ -140,6 +141,13 @@ module _ {S : Type 0} (g : Ghosts S) (at : Held S) (s : State) where
   -- what the store keeps is an inventory
   pub kept-inventory : HasCleanDisk (state g at) → Keeps g at s → IsInventory (kept s)
   kept-inventory clean keeps = (keeps.now clean).1.inventory
+
+-- no state is told of a command but where it ended so
+pub told-none : {S : Type 0} (g : Ghosts S) (old new : Held S) (r : Result Outcome StoreError)
+    (told_so : Result Performed StoreError) → told_so ≡ told r → TellsNoState g old new r
+    → TellsNoState g old new told_so
+told-none g old new (Ok outcome) told_so is none clean bad = absurd (cc (is, bad))
+told-none g old new (Err e) told_so is none clean bad = none clean (cc (is, bad))
 
 module _ {S : Type 0} (g : Ghosts S) (old new : Held S) (s : State) where
   -- the clauses of each load

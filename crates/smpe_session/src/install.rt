@@ -13,6 +13,7 @@ ghost use Rattle.machine.specs.Outcome.{header_of};
 ghost use Rattle.machine.specs.State.{State};
 ghost use Rattle.machine.specs.Machine.{Files};
 ghost use Rattle.report.specs.Views.{line_view, header_view};
+ghost use Rattle.store.specs.BadRows.{OnlyLoads, TellsNoState};
 ghost use Rattle.store.specs.Kept.{kept, Keeps};
 ghost use Rattle.smpe_session.specs.Sessions.{IsSessionOf, HasPerformed};
 ghost use Rattle.smpe_session.specs.Steps.{EndsCommitted, HasLoaded};
@@ -93,6 +94,7 @@ pub(crate) fn replace_zone<S: Alter>(
     zone: Zone,
 ) -> Result<(), StoreError>
     ensures clean { HasCleanDisk (state S.Store store.new) → HasCleanDisk (state S.Store store.old) }
+    ensures none { TellsNoState S.Store store.old store.new result }
     ensures ended { (s t : State) (was : AZone) → Keeps S.Store store.old s
         → IsZoneChange name was zone (kept s) (kept t) → IsChanged delta was zone
         → IsInventory (kept t) → IsSome (get bytes_eq zones.old name) → EndsCommitted S.Store store.new s t result }
@@ -136,6 +138,8 @@ impl Session {
         store: &mut Store<S>,
     ) -> Result<Option<ZoneName>, StoreError>
         ensures clean { HasCleanDisk (state S.Store store.new) → HasCleanDisk (state S.Store store.old) }
+        ensures loads { OnOk result (OnlyLoads S.Store store.old store.new) }
+        ensures none { TellsNoState S.Store store.old store.new result }
         ensures ended { HasCleanDisk (state S.Store store.new) → (s : State) → IsSessionOf s self.old
             → Keeps S.Store store.old s
             → HasLoaded S.Store store.new s (λ related. HasRelated s self.new ZoneKind.Distribution related) result }
@@ -158,6 +162,8 @@ impl Session {
         kind: ZoneKind,
     ) -> Result<Option<ZoneName>, StoreError>
         ensures clean { HasCleanDisk (state S.Store store.new) → HasCleanDisk (state S.Store store.old) }
+        ensures loads { OnOk result (OnlyLoads S.Store store.old store.new) }
+        ensures none { TellsNoState S.Store store.old store.new result }
         ensures ended { HasCleanDisk (state S.Store store.new) → (s : State) → IsSessionOf s self.old
             → Keeps S.Store store.old s
             → HasLoaded S.Store store.new s (λ related. HasRelated s self.new kind related) result }
@@ -178,6 +184,7 @@ impl Session {
         install: &Install,
     ) -> Result<Outcome<'static>, StoreError>
         ensures clean { HasCleanDisk (state S.Store store.new) → HasCleanDisk (state S.Store store.old) }
+        ensures none { TellsNoState S.Store store.old store.new result }
         ensures ended { HasCleanDisk (state S.Store store.new) → (s : State) → IsSessionOf s self.old
             → Keeps S.Store store.old s
             → (files : Files) → HasPerformed S.Store store.new s self.new date files (install_command kind install.now)

@@ -6,6 +6,7 @@ ghost use Rattle.machine.specs.State.{State, zone_named};
 ghost use Rattle.store_rows.specs.Reads.{OnlyReads};
 ghost use Rattle.store_schema.specs.Inventory.{IsInventory};
 ghost use Rattle.store_zone_loads.specs.Found.{head_of};
+ghost use Rattle.store.specs.BadRows.{TellsNoState};
 ghost use Rattle.store.specs.Changes.{Makes};
 ghost use Rattle.store.specs.Kept.{kept, Keeps};
 ghost use Rattle.smpe_session.specs.Steps.{HasLoaded, EndsCommitted};
@@ -20,6 +21,7 @@ use zones::Zone;
 
 pub(crate) fn load_global<S: Alter>(store: &mut Store<S>) -> Result<Global, StoreError>
     ensures clean { HasCleanDisk (state S.Store store.new) → HasCleanDisk (state S.Store store.old) }
+    ensures none { TellsNoState S.Store store.old store.new result }
     ensures ended { HasCleanDisk (state S.Store store.new) → (s : State) → Keeps S.Store store.old s
         → HasLoaded S.Store store.new s (λ global. global ≡ s.global) result }
     ensures reads { OnlyReads S.Store StoreError.NoState store.old store.new result }
@@ -32,6 +34,7 @@ pub(crate) fn load_zone<S: Alter>(
     name: ZoneName,
 ) -> Result<Option<Zone>, StoreError>
     ensures clean { HasCleanDisk (state S.Store store.new) → HasCleanDisk (state S.Store store.old) }
+    ensures none { TellsNoState S.Store store.old store.new result }
     ensures ended { HasCleanDisk (state S.Store store.new) → (s : State) → Keeps S.Store store.old s
         → HasLoaded S.Store store.new s (λ zone. zone ≡ zone_named s.zones name) result }
     ensures reads { OnlyReads S.Store StoreError.NoState store.old store.new result }
@@ -41,6 +44,7 @@ pub(crate) fn load_zone<S: Alter>(
 
 pub(crate) fn load_names<S: Alter>(store: &mut Store<S>) -> Result<Vec<ZoneName>, StoreError>
     ensures clean { HasCleanDisk (state S.Store store.new) → HasCleanDisk (state S.Store store.old) }
+    ensures none { TellsNoState S.Store store.old store.new result }
     ensures ended { HasCleanDisk (state S.Store store.new) → (s : State) → Keeps S.Store store.old s
         → HasLoaded S.Store store.new s (λ names. names.items ≡ map (λ z. z.name) s.zones) result }
     ensures reads { OnlyReads S.Store StoreError.NoState store.old store.new result }
@@ -50,6 +54,7 @@ pub(crate) fn load_names<S: Alter>(store: &mut Store<S>) -> Result<Vec<ZoneName>
 
 pub(crate) fn load_heads<S: Alter>(store: &mut Store<S>) -> Result<Vec<ZoneHead>, StoreError>
     ensures clean { HasCleanDisk (state S.Store store.new) → HasCleanDisk (state S.Store store.old) }
+    ensures none { TellsNoState S.Store store.old store.new result }
     ensures ended { HasCleanDisk (state S.Store store.new) → (s : State) → Keeps S.Store store.old s
         → HasLoaded S.Store store.new s (λ heads. heads.items ≡ map head_of s.zones) result }
     ensures reads { OnlyReads S.Store StoreError.NoState store.old store.new result }
@@ -63,6 +68,7 @@ pub(crate) fn commit_change<S: Alter>(
     change: &Change,
 ) -> Result<(), StoreError>
     ensures clean { HasCleanDisk (state S.Store store.new) → HasCleanDisk (state S.Store store.old) }
+    ensures none { TellsNoState S.Store store.old store.new result }
     ensures ended { (s t : State) → Keeps S.Store store.old s → Makes change.now (kept s) (kept t)
         → IsInventory (kept t)
         → EndsCommitted S.Store store.new s t result }

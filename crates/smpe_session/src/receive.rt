@@ -12,6 +12,7 @@ ghost use Rattle.mcs.specs.Files.{items};
 ghost use Rattle.mcs_hold.specs.Items.{items as hold_items};
 ghost use Rattle.smpe_receive.specs.External.{IsExternal};
 ghost use Rattle.report.specs.Views.{line_view};
+ghost use Rattle.store.specs.BadRows.{TellsNoState};
 ghost use Rattle.store.specs.Kept.{Keeps};
 ghost use Rattle.smpe_session.specs.Sessions.{IsSessionOf, HasPerformed};
 ghost use Rattle.smpe_session.specs.Steps.{HasRun, LeadsToGlobal};
@@ -53,8 +54,8 @@ fn take_found(
 ) -> Result<Taken, AllocError>
     requires { All IsExternal (hold_items found.holds.items) }
     ensures form { IfSome source IsSource }
-    ensures taken { IfOk result (λ t. AreTaken source (items found.items.items) (hold_items found.holds.items) global.old
-        global.new t.edits.items (map line_view t.lines.items)) }
+    ensures taken { IfOk result (λ t. AreTaken source (items found.items.items) (hold_items found.holds.items)
+        global.old global.new t.edits.items (map line_view t.lines.items)) }
 {
     let Taken {
         mut edits,
@@ -76,6 +77,7 @@ fn take_items<S: Alter>(
 ) -> Result<Vec<Line>, StoreError>
     requires { All IsExternal (hold_items found.holds.items) }
     ensures clean { HasCleanDisk (state S.Store store.new) → HasCleanDisk (state S.Store store.old) }
+    ensures none { TellsNoState S.Store store.old store.new result }
     ensures ended { HasCleanDisk (state S.Store store.new) → (s : State) → s.global ≡ global.old
         → Keeps S.Store store.old s
         → (date : Text) (files : AllFiles) (what : AWhat) → misplaced s (Receive what) ≡ None → what.source ≡ source
@@ -99,6 +101,7 @@ impl Session {
         what: &ReceiveWhat,
     ) -> Result<Outcome<'static>, StoreError>
         ensures clean { HasCleanDisk (state S.Store store.new) → HasCleanDisk (state S.Store store.old) }
+        ensures none { TellsNoState S.Store store.old store.new result }
         ensures ended { HasCleanDisk (state S.Store store.new) → (s : State) → IsSessionOf s self.old
             → Keeps S.Store store.old s
             → (date : Text) → HasPerformed S.Store store.new s self.new date files.now (Receive what.now) result }

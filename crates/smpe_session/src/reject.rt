@@ -1,5 +1,5 @@
 //! REJECT: SYSMODs leave the global zone that no zone has applied.
-ghost use Rattle.std.specs.Prelude.{◌≡◌, None, map};
+ghost use Rattle.std.specs.Prelude.{◌≡◌, None, OnOk, map};
 ghost use Rattle.std.specs.Str.{bytes_eq};
 ghost use Rattle.indexmap.specs.IndexMap.{IsUnique};
 ghost use Rattle.sqlite.specs.Held.{state};
@@ -9,6 +9,7 @@ ghost use Rattle.machine.specs.State.{State, misplaced};
 ghost use Rattle.machine.specs.Machine.{Files, Perform};
 ghost use Rattle.smpe_reject.specs.Rejections.{AppliesAlike};
 ghost use Rattle.report.specs.Views.{line_view};
+ghost use Rattle.store.specs.BadRows.{OnlyLoads, TellsNoState};
 ghost use Rattle.store.specs.Kept.{Keeps};
 ghost use Rattle.smpe_session.specs.Sessions.{IsSessionOf, HasPerformed};
 ghost use Rattle.smpe_session.specs.Steps.{AreSought, HasAllZones, HasLoaded, HasRun, LeadsToGlobal};
@@ -37,6 +38,7 @@ fn reject_ids<S: Alter>(
     ids: &IdList,
 ) -> Result<Vec<Line>, StoreError>
     ensures clean { HasCleanDisk (state S.Store store.new) → HasCleanDisk (state S.Store store.old) }
+    ensures none { TellsNoState S.Store store.old store.new result }
     ensures ended { HasCleanDisk (state S.Store store.new) → (s : State) → s.global ≡ global.old
         → AppliesAlike zones.now s.zones → Keeps S.Store store.old s
         → (date : Text) (files : Files) → misplaced s (Reject ids.now) ≡ None
@@ -57,6 +59,8 @@ impl Session {
         names: &[ZoneName],
     ) -> Result<(), StoreError>
         ensures clean { HasCleanDisk (state S.Store store.new) → HasCleanDisk (state S.Store store.old) }
+        ensures loads { OnOk result (OnlyLoads S.Store store.old store.new) }
+        ensures none { TellsNoState S.Store store.old store.new result }
         ensures ended { HasCleanDisk (state S.Store store.new) → (s : State) → IsSessionOf s self.old
             → Keeps S.Store store.old s
             → HasLoaded S.Store store.new s (λ _. AreSought s self.new names.now) result }
@@ -70,6 +74,8 @@ impl Session {
     /// Loads each zone that it does not have yet.
     fn load_zones<S: Alter>(&mut self, store: &mut Store<S>) -> Result<(), StoreError>
         ensures clean { HasCleanDisk (state S.Store store.new) → HasCleanDisk (state S.Store store.old) }
+        ensures loads { OnOk result (OnlyLoads S.Store store.old store.new) }
+        ensures none { TellsNoState S.Store store.old store.new result }
         ensures ended { HasCleanDisk (state S.Store store.new) → (s : State) → IsSessionOf s self.old
             → Keeps S.Store store.old s
             → HasLoaded S.Store store.new s (λ _. HasAllZones s self.new) result }
@@ -86,6 +92,7 @@ impl Session {
         ids: &IdList,
     ) -> Result<Outcome<'static>, StoreError>
         ensures clean { HasCleanDisk (state S.Store store.new) → HasCleanDisk (state S.Store store.old) }
+        ensures none { TellsNoState S.Store store.old store.new result }
         ensures ended { HasCleanDisk (state S.Store store.new) → (s : State) → IsSessionOf s self.old
             → Keeps S.Store store.old s
             → (date : Text) (files : Files) → HasPerformed S.Store store.new s self.new date files (Reject ids.now)

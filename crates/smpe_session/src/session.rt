@@ -4,6 +4,8 @@ ghost use Rattle.sqlite.specs.Held.{state};
 ghost use Rattle.sqlite.specs.State.{HasCleanDisk};
 ghost use Rattle.machine.specs.State.{State};
 ghost use Rattle.cntl.specs.Views.{command_of};
+ghost use Rattle.store_rows.specs.Reads.{OnlyReads};
+ghost use Rattle.store.specs.BadRows.{TellsNoState};
 ghost use Rattle.store.specs.Kept.{Keeps};
 ghost use Rattle.smpe_session.specs.Sessions.{IsSessionOf, HasBegun, HasDone, told};
 
@@ -49,8 +51,10 @@ impl Session {
     /// A job begins: the global zone is loaded, and there is no boundary.
     pub fn begin<S: Alter>(alloc: Heap, store: &mut Store<S>) -> Result<Session, StoreError>
         ensures clean { HasCleanDisk (state S.Store store.new) → HasCleanDisk (state S.Store store.old) }
+        ensures none { TellsNoState S.Store store.old store.new result }
         ensures ended { HasCleanDisk (state S.Store store.new) → (s : State) → Keeps S.Store store.old s
             → HasBegun S.Store store.new s result }
+        ensures reads { OnlyReads S.Store StoreError.NoState store.old store.new result }
     {
         let global = load_global(store)?;
         Ok(Session {
@@ -70,6 +74,7 @@ impl Session {
         command: &Command,
     ) -> Result<Performed, StoreError>
         ensures clean { HasCleanDisk (state S.Store store.new) → HasCleanDisk (state S.Store store.old) }
+        ensures none { TellsNoState S.Store store.old store.new result }
         ensures ended { HasCleanDisk (state S.Store store.new) → (s : State) → IsSessionOf s self.old
             → Keeps S.Store store.old s
             → HasDone S.Store store.new s self.new date files.now (command_of command.now) result }

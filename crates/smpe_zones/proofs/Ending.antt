@@ -1,13 +1,15 @@
 -- How a definition ends.
-use Rattle.std.proofs.Common.{◌≡◌, ◌⊎◌, Result, Err, inl, inr, sym, subst}
+use Rattle.std.proofs.Common.{◌≡◌, ◌⊎◌, Result, Err, IsErrAnd, inl, inr, refl, sym, subst}
+use Rattle.std.proofs.lemmas.Result.{err_from_is_err_and}
 use Rattle.sqlite.specs.Store.{Ghosts}
 use Rattle.sqlite.specs.Held.{Held}
 use Rattle.machine.specs.State.{State, ZoneDefinition}
 use Rattle.machine.specs.Machine.{Define}
 use Rattle.store_schema.specs.declared.error.StoreError.{StoreError}
-use Rattle.store_schema.specs.declared.error.StoreError.TheVariants.{Fault, Memory}
+use Rattle.store_schema.specs.declared.error.StoreError.TheVariants.{Fault, OtherSchema, NoState, Memory}
 use Rattle.store.specs.Kept.{IsStopped}
 use Rattle.smpe_zones.specs.declared.error.ZoneError.{ZoneError}
+use Rattle.smpe_zones.specs.declared.error.ZoneError.TheVariants.{Store}
 use Rattle.smpe_zones.specs.Definitions.{HasDefined, zone_error}
 
 -- a fault of the store, or want of memory
@@ -19,3 +21,11 @@ ends-early {S = S} {U = U} g at s d e r is which stays = subst (HasDefined g at 
     by : (e ≡ Fault) ⊎ (e ≡ Memory) → HasDefined {S = S} g at s d {U = U} (Err (zone_error e))
     by (inl fault) = subst (λ x. HasDefined {S = S} g at s d {U = U} (Err (zone_error x))) (sym fault) stays
     by (inr memory) = subst (λ x. HasDefined {S = S} g at s d {U = U} (Err (zone_error x))) (sym memory) stays
+
+-- of the store's errors NoState alone is told so
+pub no-state : {U : Type 0} (r : Result U ZoneError) (e : StoreError) → IsErrAnd r (λ y. y ≡ zone_error e)
+    → r ≡ Err (Store NoState) → e ≡ NoState
+no-state r Fault is bad = let p = err_from_is_err_and r is in absurd (cc (p.1, p.2, bad))
+no-state r OtherSchema is bad = let p = err_from_is_err_and r is in absurd (cc (p.1, p.2, bad))
+no-state r NoState is bad = refl
+no-state r Memory is bad = let p = err_from_is_err_and r is in absurd (cc (p.1, p.2, bad))

@@ -1,3 +1,4 @@
+pub mod BadRows
 pub mod Changes
 pub mod Kept
 pub mod Loads

@@ -1,13 +1,13 @@
 //! What a store's tables hold, read back.
 
-ghost use Rattle.std.specs.Prelude.{◌≡◌, ◌≢◌, map, IfOk, IfErr, IsErrOf, OnOk, OnErr};
+ghost use Rattle.std.specs.Prelude.{◌≡◌, ◌≢◌, map, IfOk, IfErr, OnOk, OnErr};
 ghost use Rattle.sqlite.specs.Tree.{Trees};
 ghost use Rattle.sqlite.specs.Held.{state};
 ghost use Rattle.sqlite.specs.State.{HasCleanDisk};
 ghost use Rattle.store_rows.specs.Reads.{OnlyReads};
 ghost use Rattle.store_schema.specs.Inventory.{Inventory};
-ghost use Rattle.store_schema.specs.Stands.{StandsFor};
 ghost use Rattle.store_zone_loads.specs.Found.{zone_in, head_of};
+ghost use Rattle.store.specs.BadRows.{TellsNoState};
 ghost use Rattle.store.specs.View.{Tables, TablesIfOpen, MayLeave};
 ghost use Rattle.store.specs.Loads.{store_error};
 
@@ -38,8 +38,7 @@ impl<S: Alter> Store<S> {
     pub fn load_global(&mut self) -> Result<Global, StoreError>
         ensures found { HasCleanDisk (state S.Store self.new) → (i : Inventory) → Tables S.Store self.old i
             → IfOk result (λ global. global ≡ i.global) }
-        ensures none { HasCleanDisk (state S.Store self.new) → IsErrOf result StoreError.NoState → (i : Inventory)
-            → ¬ StandsFor i (state S.Store self.old).committed }
+        ensures none { TellsNoState S.Store self.old self.new result }
         ensures reads { OnlyReads S.Store StoreError.NoState self.old self.new result }
         ensures same { OnOk result ((i : Inventory) → Tables S.Store self.old i → Tables S.Store self.new i) }
         ensures err { OnErr result ((i : Inventory) → Tables S.Store self.old i → TablesIfOpen S.Store self.new i) }
@@ -60,8 +59,7 @@ impl<S: Alter> Store<S> {
     pub fn load_zone(&mut self, name: ZoneName) -> Result<Option<Zone>, StoreError>
         ensures found { HasCleanDisk (state S.Store self.new) → (i : Inventory) → Tables S.Store self.old i
             → IfOk result (λ zone. zone ≡ zone_in i name) }
-        ensures none { HasCleanDisk (state S.Store self.new) → IsErrOf result StoreError.NoState → (i : Inventory)
-            → ¬ StandsFor i (state S.Store self.old).committed }
+        ensures none { TellsNoState S.Store self.old self.new result }
         ensures reads { OnlyReads S.Store StoreError.NoState self.old self.new result }
         ensures same { OnOk result ((i : Inventory) → Tables S.Store self.old i → Tables S.Store self.new i) }
         ensures err { OnErr result ((i : Inventory) → Tables S.Store self.old i → TablesIfOpen S.Store self.new i) }
@@ -82,8 +80,7 @@ impl<S: Alter> Store<S> {
     pub fn zone_heads(&mut self) -> Result<Vec<ZoneHead>, StoreError>
         ensures found { HasCleanDisk (state S.Store self.new) → (i : Inventory) → Tables S.Store self.old i
             → IfOk result (λ heads. heads.items ≡ map head_of i.zones) }
-        ensures none { HasCleanDisk (state S.Store self.new) → IsErrOf result StoreError.NoState → (i : Inventory)
-            → ¬ StandsFor i (state S.Store self.old).committed }
+        ensures none { TellsNoState S.Store self.old self.new result }
         ensures reads { OnlyReads S.Store StoreError.NoState self.old self.new result }
         ensures same { OnOk result ((i : Inventory) → Tables S.Store self.old i → Tables S.Store self.new i) }
         ensures err { OnErr result ((i : Inventory) → Tables S.Store self.old i → TablesIfOpen S.Store self.new i) }
@@ -104,8 +101,7 @@ impl<S: Alter> Store<S> {
     pub fn zone_names(&mut self) -> Result<Vec<ZoneName>, StoreError>
         ensures found { HasCleanDisk (state S.Store self.new) → (i : Inventory) → Tables S.Store self.old i
             → IfOk result (λ names. names.items ≡ map (λ z. z.name) i.zones) }
-        ensures none { HasCleanDisk (state S.Store self.new) → IsErrOf result StoreError.NoState → (i : Inventory)
-            → ¬ StandsFor i (state S.Store self.old).committed }
+        ensures none { TellsNoState S.Store self.old self.new result }
         ensures reads { OnlyReads S.Store StoreError.NoState self.old self.new result }
         ensures same { OnOk result ((i : Inventory) → Tables S.Store self.old i → Tables S.Store self.new i) }
         ensures err { OnErr result ((i : Inventory) → Tables S.Store self.old i → TablesIfOpen S.Store self.new i) }

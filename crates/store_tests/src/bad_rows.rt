@@ -323,12 +323,24 @@ const META: &[&str] = &[
     "UPDATE meta SET k = 'Schema'",
     "INSERT INTO meta (k, v) VALUES ('other', 1)",
     "DROP TABLE zelem",
+    "DROP TABLE meta; CREATE VIEW meta AS SELECT 'schema' AS k, 1 AS v",
+    "DROP TABLE meta; CREATE TABLE meta (k TEXT, v INTEGER); INSERT INTO meta (k, v) VALUES ('schema', 1)",
+    "DROP TABLE meta; CREATE TABLE meta (w TEXT, v INTEGER, k TEXT); INSERT INTO meta (k, v) VALUES ('schema', 1)",
 ];
 
 /// Another number, whatever the tables are.
 const NUMBERS: &[&str] = &[
     "UPDATE meta SET v = 2",
     "UPDATE meta SET v = 2; DROP TABLE zelem",
+    "DROP TABLE meta; CREATE VIEW meta AS SELECT 'schema' AS k, 2 AS v",
+    "DROP TABLE meta; CREATE TABLE meta (w TEXT, v INTEGER, k TEXT); INSERT INTO meta (k, v) VALUES ('schema', 2)",
+];
+
+/// No number that can be asked for: there is no `meta`, or it has not both columns.
+const NUMBERLESS: &[&str] = &[
+    "DROP TABLE meta",
+    "DROP TABLE meta; CREATE VIEW meta AS SELECT 'schema' AS name, 1 AS v",
+    "DROP TABLE meta; CREATE TABLE meta (name TEXT, number INTEGER)",
 ];
 
 /// What is loaded of a store.
@@ -415,7 +427,7 @@ fn other_rows_are_told(rt: HostRuntime) -> Result<(), Fail> {
         (ZONES, Part::Heads, StoreError::NoState),
         (META, Part::Names, StoreError::NoState),
         (NUMBERS, Part::Names, StoreError::OtherSchema),
-        (&["DROP TABLE meta"], Part::Names, StoreError::Fault),
+        (NUMBERLESS, Part::Names, StoreError::Fault),
     ] {
         assert_eq!(rt; first_other(rt.alloc(), edits, part, Some(told))?, None);
     }

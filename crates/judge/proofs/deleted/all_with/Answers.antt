@@ -2,7 +2,7 @@ use Rattle.std.proofs.Common.{length, refl, arith}
 use Rattle.std.proofs.lemmas.Option.{slice_get_read}
 use Rattle.sysmods.specs.Choices.{choice}
 use Rattle.judge.specs.Deletes.{IsMarked}
-use Rattle.judge.proofs.Lists.{beside-at, beside-through}
+use Rattle.judge_needs.proofs.Lists.{beside-at, beside-through}
 use Rattle.judge.proofs.deleted.all_with.Goals as goal
 
 pub loop-i-preserved : goal.loop-i-preserved

@@ -1,6 +1,6 @@
 use Rattle.std.proofs.Common.{take}
 use Rattle.sysmods.specs.Choices.{choice}
-use Rattle.judge.specs.Placed.{Beside}
+use Rattle.judge_needs.specs.Placed.{Beside}
 use Rattle.judge.specs.Deletes.{IsMarked}
 use Rattle.judge.proofs.deleted.all_with.Given as goal
 

@@ -2,7 +2,7 @@ use Rattle.std.proofs.Common.{◌≤◌, length, arith, subst, sym, true≢false
 use Rattle.sysmods.specs.Choices.{choice}
 use Rattle.judge.specs.Own.{IsLowerAt}
 use Rattle.judge.specs.Views.{seen}
-use Rattle.judge.proofs.Lists.{all-next, all-through}
+use Rattle.judge_needs.proofs.Lists.{all-next, all-through}
 use Rattle.judge.proofs.elements.is_lower_somewhere.Goals as goal
 
 pub loop-change-preserved : goal.loop-change-preserved

@@ -1,7 +1,7 @@
 use Rattle.std.proofs.Common.{◌≤◌, length, arith, subst, sym, true≢false}
 use Rattle.terms.specs.Over.{IsOver}
 use Rattle.sysmods.specs.Choices.{choice}
-use Rattle.judge.proofs.Lists.{all-next, all-through}
+use Rattle.judge_needs.proofs.Lists.{all-next, all-through}
 use Rattle.judge.proofs.elements.is_not_over_one.Goals as goal
 
 pub loop-other-preserved : goal.loop-other-preserved

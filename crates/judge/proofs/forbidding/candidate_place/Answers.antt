@@ -5,7 +5,7 @@ use Rattle.std.specs.Cmp.Lexicographic.{texts_ties}
 use Rattle.std.proofs.lemmas.Cmp.{nat_list_cmp_total}
 use Rattle.terms.proofs.RisingLists.{is_ok-search, found-search}
 use Rattle.judge.proofs.Naming.{only-place, place-none}
-use Rattle.judge.proofs.Places.{stands-at}
+use Rattle.judge_needs.proofs.OwnPlaces.{stands-at}
 use Rattle.judge.proofs.forbidding.candidate_place.Goals as goal
 
 pub returns-in_default : goal.returns-in_default

@@ -1,7 +1,7 @@
 use Rattle.std.proofs.Common.{map}
 use Rattle.std.specs.Prelude.{option_copied}
 use Rattle.terms.specs.Tests.{Setting, AreSurvivors}
-use Rattle.judge.specs.Left.{setting_with}
+use Rattle.judge_needs.specs.Left.{setting_with}
 use Rattle.judge.proofs.Places.{same-pairs}
 use Rattle.judge.proofs.Numbering.{install-problem}
 use Rattle.judge.proofs.Survivors.{survivors-are}

@@ -1,8 +1,8 @@
 use Rattle.std.proofs.Common.{length, ap, arith}
 use Rattle.std.specs.Prelude.{option_copied}
-use Rattle.judge.specs.Left.{setting_with}
+use Rattle.judge_needs.specs.Left.{setting_with}
 use Rattle.judge.specs.Own.{HasFaults}
-use Rattle.judge.proofs.Lists.{beside-next, beside-through}
+use Rattle.judge_needs.proofs.Lists.{beside-next, beside-through}
 use Rattle.judge.proofs.own.all_faults.Goals as goal
 
 pub own_faults-requires : goal.own_faults-requires

@@ -1,9 +1,9 @@
 use Rattle.std.proofs.Common.{take}
 use Rattle.std.specs.Prelude.{option_copied}
-use Rattle.judge.specs.Left.{choice_of, setting_with}
+use Rattle.judge_needs.specs.Left.{choice_of, setting_with}
 use Rattle.judge.specs.Own.{HasFaults}
 use Rattle.judge.specs.Overs.{AreOver}
-use Rattle.judge.specs.Placed.{Beside}
+use Rattle.judge_needs.specs.Placed.{Beside}
 use Rattle.judge.proofs.own.all_faults.Given as goal
 
 abbrev pub invariant-loop-id : goal.invariant-loop-id

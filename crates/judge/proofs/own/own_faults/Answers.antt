@@ -1,6 +1,6 @@
 use Rattle.std.proofs.Common.{◌∙◌, refl}
 use Rattle.std.specs.Prelude.{option_copied}
-use Rattle.judge.specs.Left.{choice_of, global_of, setting_with}
+use Rattle.judge_needs.specs.Left.{choice_of, global_of, setting_with}
 use Rattle.judge.proofs.Faulted.{faults-from}
 use Rattle.judge.proofs.own.own_faults.Goals as goal
 

@@ -1,7 +1,7 @@
 use Rattle.std.proofs.Common.{◌≡◌, ◌∙◌, ◌&&◌, not, ap}
 use Rattle.judge.specs.Own.{passes}
 use Rattle.judge.specs.Rows.{is_eligible_at}
-use Rattle.judge.proofs.Lists.{beside-at}
+use Rattle.judge_needs.proofs.Lists.{beside-at}
 use Rattle.judge.proofs.rows.all_eligible.Goals as goal
 
 pub loop-i-preserved : goal.loop-i-preserved

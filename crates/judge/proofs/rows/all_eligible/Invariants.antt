@@ -1,5 +1,5 @@
 use Rattle.std.proofs.Common.{◌≡◌, take}
-use Rattle.judge.specs.Placed.{Beside}
+use Rattle.judge_needs.specs.Placed.{Beside}
 use Rattle.judge.specs.Rows.{is_eligible_at}
 use Rattle.judge.proofs.rows.all_eligible.Given as goal
 

@@ -1,7 +1,7 @@
 use Rattle.std.proofs.Common.{◌≡◌, ◌∙◌, ap, filter, arith}
 use Rattle.machine.specs.Installing.{all_tests}
 use Rattle.judge.specs.Rows.{row_of, fails_test}
-use Rattle.judge.proofs.Lists.{beside-at, beside-through}
+use Rattle.judge_needs.proofs.Lists.{beside-at, beside-through}
 use Rattle.judge.proofs.rows.all_rows.Goals as goal
 
 pub loop-i-preserved : goal.loop-i-preserved

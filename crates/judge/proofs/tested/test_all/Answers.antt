@@ -2,7 +2,7 @@ use Rattle.std.proofs.Common.{All, arith, subst, sym}
 use Rattle.terms.specs.Candidates.{is_installable}
 use Rattle.std.specs.Prelude.{IsTrue, option_copied}
 use Rattle.terms.specs.Global.{IsGlobal}
-use Rattle.judge.specs.Left.{global_of, setting_with}
+use Rattle.judge_needs.specs.Left.{global_of, setting_with}
 use Rattle.judge.proofs.Few.{few}
 use Rattle.judge.proofs.Deleting.{own-still, eight}
 use Rattle.judge.proofs.Places.{are-failed, are-eligible}

@@ -1,3 +1,4 @@
+use Rattle.store.proofs.NoState.{tells-committed}
 use Rattle.smpe_session.proofs.Stepping.{committed}
 use Rattle.smpe_session.proofs.load.commit_change.Goals as goal
 
@@ -6,3 +7,7 @@ returns-clause-ended g c = λ s t keeps makes is.
     let e = c.commit.ensures in
     committed g.S.Store c.args.store.now c.commit.new.self s c.args.change.now t keeps makes is c.commit.result e.ok
     e.durable e.err e.crash e.which
+
+pub returns-clause-none : goal.returns-clause-none
+returns-clause-none g c =
+    tells-committed g.S.Store c.args.store.now c.commit.new.self c.commit.result c.commit.ensures.which

@@ -8,4 +8,4 @@ returns-clause-ended g c = λ clean s keeps.
     let e = c.zone_heads.ensures in
     loaded g.S.Store c.args.store.now c.zone_heads.new.self s (λ i heads. heads.items ≡ map head_of i.zones)
     c.zone_heads.result clean e.found
-    (λ clean bad i tables. e.none clean bad i (tables (e.clean clean)).1) e.same e.err e.which e.crash keeps
+    (λ clean bad i tables. (e.none clean bad).none i (tables (e.clean clean)).1) e.same e.err e.which e.crash keeps

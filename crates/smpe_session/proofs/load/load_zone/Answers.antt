@@ -8,4 +8,4 @@ returns-clause-ended g c = λ clean s keeps.
     let e = c.load_zone.ensures in
     loaded g.S.Store c.args.store.now c.load_zone.new.self s (λ i zone. zone ≡ zone_in i c.args.name) c.load_zone.result
     clean e.found
-    (λ clean bad i tables. e.none clean bad i (tables (e.clean clean)).1) e.same e.err e.which e.crash keeps
+    (λ clean bad i tables. (e.none clean bad).none i (tables (e.clean clean)).1) e.same e.err e.which e.crash keeps

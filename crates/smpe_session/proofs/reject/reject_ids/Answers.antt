@@ -1,8 +1,9 @@
-use Rattle.std.proofs.Common.{map}
+use Rattle.std.proofs.Common.{Err, map, ap}
 use Rattle.terms.specs.Types.{Reject}
 use Rattle.machine.specs.Outcome.{Ran, header_of}
 use Rattle.machine.specs.Machine.{Perform}
 use Rattle.report.specs.Views.{line_view}
+use Rattle.store.proofs.NoState.{loads-none, tells-after, tells-short}
 use Rattle.smpe_session.specs.Steps.{LeadsToGlobal}
 use Rattle.smpe_session.proofs.Rejected.{rejected}
 use Rattle.smpe_session.proofs.Stepping.{kept-inventory, run-short, run-staying, staying-unsettled}
@@ -40,3 +41,14 @@ returns-clause-ended g c = λ clean s global alike keeps date files at.
     global is at (c.in_ok-edits.ensures.runs s.zones alike) c.in_ok-edits.ensures.fits c.in_ok-edits.ensures.edits in
     let t = record s { global = c.reject.new.global } in
     (t, taken.leads, c.in_ok-commit_change.ensures.ended s t keeps (taken.fits, taken.makes) taken.inventory)
+
+pub returns-in_err-edits-clause-none : goal.returns-in_err-edits-clause-none
+returns-in_err-edits-clause-none g c =
+    tells-short g.S.Store c.args.store.now c.args.store.now c.from_residual.result c.from_residual.ensures.1
+
+pub returns-in_err-commit_change-clause-none : goal.returns-in_err-commit_change-clause-none
+returns-in_err-commit_change-clause-none g c =
+    tells-after g.S.Store c.args.store.now c.args.store.now c.commit_change.new.store
+    c.from_residual-in_err-commit_change.result c.in_err-commit_change.field-0.0
+    (loads-none g.S.Store c.args.store.now) c.from_residual-in_err-commit_change.ensures.1
+    (λ clean is. c.in_err-commit_change.ensures.none clean (ap Err is))

@@ -1,4 +1,4 @@
-use Rattle.std.proofs.Common.{◌∙◌, Err, [], sym, ap}
+use Rattle.std.proofs.Common.{◌∙◌, Err, [], inl, inr, sym, ap}
 use Rattle.std.proofs.lemmas.Result.{err_from_is_err_and}
 use Rattle.terms.specs.Types.{a_zone}
 use Rattle.machine.specs.State.{with_zone}
@@ -9,7 +9,7 @@ use Rattle.store.proofs.Keeping.{inventory-kept}
 use Rattle.smpe_zones.specs.Definitions.{definition}
 use Rattle.smpe_zones.specs.Heads.{first_fault}
 use Rattle.smpe_zones.proofs.Adding.{makes, leads, prints-none}
-use Rattle.smpe_zones.proofs.Ending.{ends-early}
+use Rattle.smpe_zones.proofs.Ending.{ends-early, no-state}
 use Rattle.smpe_zones.proofs.Found.{refuses, accepts}
 use Rattle.smpe_zones.proofs.define.define_zone.Goals as goal
 
@@ -21,7 +21,7 @@ returns-in_err-heads-clause-ended g c = λ clean s keeps.
     let at = c.in_err-heads.ensures in
     ends-early g.S.Store c.zone_heads.new.self s d c.in_err-heads.field-0.0 c.from_residual.result
     (p.1 ∙ ap (λ e. Err e) p.2)
-    (load-errors c.in_err-heads.field-0.0 at.which (λ e. at.none clean (ap (λ x. Err x) e) (kept s)
+    (load-errors c.in_err-heads.field-0.0 at.which (λ e. (at.none clean (ap (λ x. Err x) e)).none (kept s)
     (keeps.now (at.clean clean)).1))
     (stays-loaded g.S.Store c.args.store.now c.zone_heads.new.self s keeps (Define d) (at.err (kept s))
     (at.crash (kept s) keeps.now))
@@ -81,3 +81,16 @@ returns-clause-ended g c = λ clean s keeps.
           (c.in_ok-commit.ensures.ok (kept s) (kept t) is_made is_led)
           (c.in_ok-commit.ensures.durable (kept s) (kept t) is_made is_led),
     )
+
+-- no state was found
+pub returns-in_err-heads-clause-none : goal.returns-in_err-heads-clause-none
+returns-in_err-heads-clause-none g c clean bad =
+    c.in_err-heads.ensures.none clean (ap (λ x. Err x) (no-state c.from_residual.result c.in_err-heads.field-0.0
+    c.from_residual.ensures.1 bad))
+
+-- a commit does not tell so
+pub returns-in_err-commit-clause-none : goal.returns-in_err-commit-clause-none
+returns-in_err-commit-clause-none g c clean bad =
+    let is = no-state c.from_residual-in_err-commit.result c.in_err-commit.field-0.0
+    c.from_residual-in_err-commit.ensures.1 bad in
+    elim c.in_err-commit.ensures.which [ inl fault ↦ absurd (cc (fault, is)) | inr short ↦ absurd (cc (short, is)) ]

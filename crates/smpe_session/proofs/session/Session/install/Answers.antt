@@ -1,8 +1,9 @@
-use Rattle.std.proofs.Common.{◌∙◌, map, sym, ap, refl}
+use Rattle.std.proofs.Common.{◌∙◌, Err, map, sym, ap, refl}
 use Rattle.std.specs.Prelude.{if◌then◌else◌}
 use Rattle.machine.specs.Outcome.{header_of}
 use Rattle.machine.specs.State.{with_zone}
 use Rattle.report.specs.Views.{line_view, header_view, refusal_view}
+use Rattle.store.proofs.NoState.{loads-none, tells-after, tells-short}
 use Rattle.smpe_session.specs.Places.{install_command}
 use Rattle.smpe_session.proofs.Installed.{planned, install-session, install-performs, install-commits, install-refused}
 use Rattle.smpe_session.proofs.Places.{install-at}
@@ -122,3 +123,22 @@ returns-in-Err-clause-ended g c = λ clean s is keeps files.
       sought.0.session,
       sought.1,
     )
+
+pub returns-in_err-related-clause-none : goal.returns-in_err-related-clause-none
+returns-in_err-related-clause-none g c =
+    tells-after g.S.Store c.args.store.now c.args.store.now c.seek_related.new.store c.from_residual.result
+    c.in_err-related.field-0.0
+    (loads-none g.S.Store c.args.store.now) c.from_residual.ensures.1
+    (λ clean is. c.in_err-related.ensures.none clean (ap Err is))
+
+pub returns-in_err-delta-in-Ok-clause-none : goal.returns-in_err-delta-in-Ok-clause-none
+returns-in_err-delta-in-Ok-clause-none g c =
+    tells-short g.S.Store c.args.store.now c.seek_related.new.store c.from_residual-in_err-delta-in-Ok.result
+    c.from_residual-in_err-delta-in-Ok.ensures.1
+
+pub returns-in_err-replace_zone-in-Ok-clause-none : goal.returns-in_err-replace_zone-in-Ok-clause-none
+returns-in_err-replace_zone-in-Ok-clause-none g c =
+    tells-after g.S.Store c.args.store.now c.seek_related.new.store c.replace_zone.new.store
+    c.from_residual-in_err-replace_zone-in-Ok.result c.in_err-replace_zone-in-Ok.field-0.0
+    c.in_ok-related.ensures.loads c.from_residual-in_err-replace_zone-in-Ok.ensures.1
+    (λ clean is. c.in_err-replace_zone-in-Ok.ensures.none clean (ap Err is))

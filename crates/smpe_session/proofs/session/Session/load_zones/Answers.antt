@@ -1,4 +1,5 @@
-use Rattle.std.proofs.Common.{◌∙◌}
+use Rattle.std.proofs.Common.{◌∙◌, Err, ap}
+use Rattle.store.proofs.NoState.{loads-none, loads-read, loads-then, tells-after}
 use Rattle.smpe_session.specs.Steps.{HasAllZones}
 use Rattle.smpe_session.proofs.AllZones.{all-zones}
 use Rattle.smpe_session.proofs.Stepping.{kept-inventory, loaded-err}
@@ -25,3 +26,24 @@ returns-clause-ended g c = λ clean s is keeps.
       all-zones s c.seek_each.new.self c.as_slice.result.now inventory (c.as_slice.ensures.value ∙ named.0) sought.0,
       sought.1,
     )
+
+pub returns-in_err-names-clause-none : goal.returns-in_err-names-clause-none
+returns-in_err-names-clause-none g c =
+    tells-after g.S.Store c.args.store.now c.args.store.now c.load_names.new.store c.from_residual.result
+    c.in_err-names.field-0.0
+    (loads-none g.S.Store c.args.store.now) c.from_residual.ensures.1
+    (λ clean is. c.in_err-names.ensures.none clean (ap Err is))
+
+pub returns-in_err-seek_each-clause-none : goal.returns-in_err-seek_each-clause-none
+returns-in_err-seek_each-clause-none g c =
+    tells-after g.S.Store c.args.store.now c.load_names.new.store c.seek_each.new.store
+    c.from_residual-in_err-seek_each.result c.in_err-seek_each.field-0.0
+    (loads-read g.S.Store c.args.store.now c.load_names.new.store _ c.in_ok-names.ensures.reads)
+    c.from_residual-in_err-seek_each.ensures.1
+    (λ clean is. c.in_err-seek_each.ensures.none clean (ap Err is))
+
+pub returns-clause-loads : goal.returns-clause-loads
+returns-clause-loads g c =
+    loads-then g.S.Store c.args.store.now c.load_names.new.store c.seek_each.new.store
+    (loads-read g.S.Store c.args.store.now c.load_names.new.store _ c.in_ok-names.ensures.reads)
+    c.in_ok-seek_each.ensures.loads

@@ -1,5 +1,6 @@
 use Rattle.cntl.specs.Views.{command_of}
-use Rattle.smpe_session.proofs.Stepping.{kept-inventory, done-by, done-short}
+use Rattle.store.proofs.NoState.{tells-short}
+use Rattle.smpe_session.proofs.Stepping.{kept-inventory, done-by, done-short, told-none}
 use Rattle.smpe_session.proofs.session.Session.perform.Goals as goal
 
 pub returns-in-Set-clause-ended : goal.returns-in-Set-clause-ended
@@ -48,3 +49,42 @@ returns-in_ok-report-in-Report-clause-ended g c = λ clean s is keeps. rw c.in-R
   is,
   keeps,
 )
+
+pub returns-in-Set-clause-none : goal.returns-in-Set-clause-none
+returns-in-Set-clause-none g c =
+    told-none g.S.Store c.args.store.now c.set.new.store c.set.result c.told.result c.told.ensures
+    c.set.ensures.none
+
+pub returns-in-Receive-clause-none : goal.returns-in-Receive-clause-none
+returns-in-Receive-clause-none g c =
+    told-none g.S.Store c.args.store.now c.receive.new.store c.receive.result c.told-in-Receive.result
+    c.told-in-Receive.ensures
+    c.receive.ensures.none
+
+pub returns-in-Reject-clause-none : goal.returns-in-Reject-clause-none
+returns-in-Reject-clause-none g c =
+    told-none g.S.Store c.args.store.now c.reject.new.store c.reject.result c.told-in-Reject.result
+    c.told-in-Reject.ensures
+    c.reject.ensures.none
+
+pub returns-in-Apply-clause-none : goal.returns-in-Apply-clause-none
+returns-in-Apply-clause-none g c =
+    told-none g.S.Store c.args.store.now c.install.new.store c.install.result c.told-in-Apply.result
+    c.told-in-Apply.ensures
+    c.install.ensures.none
+
+pub returns-in-Accept-clause-none : goal.returns-in-Accept-clause-none
+returns-in-Accept-clause-none g c =
+    told-none g.S.Store c.args.store.now c.install-in-Accept.new.store c.install-in-Accept.result
+    c.told-in-Accept.result c.told-in-Accept.ensures
+    c.install-in-Accept.ensures.none
+
+pub returns-in-Restore-clause-none : goal.returns-in-Restore-clause-none
+returns-in-Restore-clause-none g c =
+    told-none g.S.Store c.args.store.now c.restore.new.store c.restore.result c.told-in-Restore.result
+    c.told-in-Restore.ensures
+    c.restore.ensures.none
+
+pub returns-in_err-report-in-Report-clause-none : goal.returns-in_err-report-in-Report-clause-none
+returns-in_err-report-in-Report-clause-none g c =
+    tells-short g.S.Store c.args.store.now c.args.store.now c.from_residual.result c.from_residual.ensures.1

@@ -1,6 +1,7 @@
-use Rattle.std.proofs.Common.{◌∙◌, refl, sym, ap}
+use Rattle.std.proofs.Common.{◌∙◌, Err, refl, sym, ap}
 use Rattle.terms.specs.Types.{Receive}
 use Rattle.mcs_hold.specs.Items.{items as hold_items}
+use Rattle.store.proofs.NoState.{loads-none, tells-after, tells-short}
 use Rattle.smpe_session.proofs.Leading.{led, refused, led-session}
 use Rattle.smpe_session.proofs.Places.{receive-at}
 use Rattle.smpe_session.proofs.Received.{each-external, take-faulty}
@@ -57,3 +58,14 @@ returns-in-Err-clause-ended g c = λ clean s is keeps date. (
   is,
   keeps,
 )
+
+pub returns-in_err-found-clause-none : goal.returns-in_err-found-clause-none
+returns-in_err-found-clause-none g c =
+    tells-short g.S.Store c.args.store.now c.args.store.now c.from_residual.result c.from_residual.ensures.1
+
+pub returns-in_err-lines-in-Ok-clause-none : goal.returns-in_err-lines-in-Ok-clause-none
+returns-in_err-lines-in-Ok-clause-none g c =
+    tells-after g.S.Store c.args.store.now c.args.store.now c.take_items.new.store
+    c.from_residual-in_err-lines-in-Ok.result c.in_err-lines-in-Ok.field-0.0
+    (loads-none g.S.Store c.args.store.now) c.from_residual-in_err-lines-in-Ok.ensures.1
+    (λ clean is. c.in_err-lines-in-Ok.ensures.none clean (ap Err is))

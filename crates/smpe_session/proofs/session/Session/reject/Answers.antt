@@ -1,5 +1,6 @@
-use Rattle.std.proofs.Common.{◌∙◌, refl, sym}
+use Rattle.std.proofs.Common.{◌∙◌, Err, refl, sym, ap}
 use Rattle.terms.specs.Types.{Reject}
+use Rattle.store.proofs.NoState.{loads-none, tells-after}
 use Rattle.smpe_session.proofs.AllZones.{alike}
 use Rattle.smpe_session.proofs.Leading.{led, refused, led-session}
 use Rattle.smpe_session.proofs.Places.{reject-at}
@@ -43,3 +44,17 @@ returns-clause-ended g c = λ clean s is keeps date files.
       led-session s ran.0 c.load_zones.new.self _ had.0.session ran.1.state refl refl,
       ran.2,
     )
+
+pub returns-in_err-load_zones-clause-none : goal.returns-in_err-load_zones-clause-none
+returns-in_err-load_zones-clause-none g c =
+    tells-after g.S.Store c.args.store.now c.args.store.now c.load_zones.new.store c.from_residual.result
+    c.in_err-load_zones.field-0.0
+    (loads-none g.S.Store c.args.store.now) c.from_residual.ensures.1
+    (λ clean is. c.in_err-load_zones.ensures.none clean (ap Err is))
+
+pub returns-in_err-lines-clause-none : goal.returns-in_err-lines-clause-none
+returns-in_err-lines-clause-none g c =
+    tells-after g.S.Store c.args.store.now c.load_zones.new.store c.reject_ids.new.store
+    c.from_residual-in_err-lines.result c.in_err-lines.field-0.0
+    c.in_ok-load_zones.ensures.loads c.from_residual-in_err-lines.ensures.1
+    (λ clean is. c.in_err-lines.ensures.none clean (ap Err is))

@@ -1,10 +1,11 @@
-use Rattle.std.proofs.Common.{◌∙◌, map, sym, ap, refl}
+use Rattle.std.proofs.Common.{◌∙◌, Err, map, sym, ap, refl}
 use Rattle.std.specs.Prelude.{if◌then◌else◌}
 use Rattle.terms.specs.Types.{Restore}
 use Rattle.cntl.specs.Views.{restore_list_of}
 use Rattle.machine.specs.Outcome.{Ran}
 use Rattle.machine.specs.State.{with_zone}
 use Rattle.report.specs.Views.{line_view, refusal_view}
+use Rattle.store.proofs.NoState.{loads-none, tells-after, tells-short}
 use Rattle.smpe_session.proofs.Installed.{install-session}
 use Rattle.smpe_session.proofs.Leading.{headed, refused}
 use Rattle.smpe_session.proofs.Places.{restore-at}
@@ -113,3 +114,22 @@ returns-in-Err-clause-ended g c = λ clean s is keeps date files.
       sought.0.session,
       sought.1,
     )
+
+pub returns-in_err-accepted-clause-none : goal.returns-in_err-accepted-clause-none
+returns-in_err-accepted-clause-none g c =
+    tells-after g.S.Store c.args.store.now c.args.store.now c.seek_accepted.new.store c.from_residual.result
+    c.in_err-accepted.field-0.0
+    (loads-none g.S.Store c.args.store.now) c.from_residual.ensures.1
+    (λ clean is. c.in_err-accepted.ensures.none clean (ap Err is))
+
+pub returns-in_err-delta-in-Ok-clause-none : goal.returns-in_err-delta-in-Ok-clause-none
+returns-in_err-delta-in-Ok-clause-none g c =
+    tells-short g.S.Store c.args.store.now c.seek_accepted.new.store c.from_residual-in_err-delta-in-Ok.result
+    c.from_residual-in_err-delta-in-Ok.ensures.1
+
+pub returns-in_err-replace_zone-in-Ok-clause-none : goal.returns-in_err-replace_zone-in-Ok-clause-none
+returns-in_err-replace_zone-in-Ok-clause-none g c =
+    tells-after g.S.Store c.args.store.now c.seek_accepted.new.store c.replace_zone.new.store
+    c.from_residual-in_err-replace_zone-in-Ok.result c.in_err-replace_zone-in-Ok.field-0.0
+    c.in_ok-accepted.ensures.loads c.from_residual-in_err-replace_zone-in-Ok.ensures.1
+    (λ clean is. c.in_err-replace_zone-in-Ok.ensures.none clean (ap Err is))

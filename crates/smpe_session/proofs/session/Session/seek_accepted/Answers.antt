@@ -1,4 +1,5 @@
-use Rattle.std.proofs.Common.{◌∙◌, sym}
+use Rattle.std.proofs.Common.{◌∙◌, Err, sym, ap}
+use Rattle.store.proofs.NoState.{loads-none, tells-after}
 use Rattle.smpe_session.proofs.Restored.{accepted-none, accepted-some}
 use Rattle.smpe_session.proofs.Stepping.{kept-inventory}
 use Rattle.smpe_session.proofs.session.Session.seek_accepted.Goals as goal
@@ -18,3 +19,13 @@ returns-clause-ended g c = λ clean s is keeps.
           (sym c.in-Some.is ∙ c.related_name.ensures) sought.0,
       sought.1,
     )
+
+pub returns-in_err-seek-clause-none : goal.returns-in_err-seek-clause-none
+returns-in_err-seek-clause-none g c =
+    tells-after g.S.Store c.args.store.now c.args.store.now c.seek.new.store c.from_residual.result
+    c.in_err-seek.field-0.0
+    (loads-none g.S.Store c.args.store.now) c.from_residual.ensures.1
+    (λ clean is. c.in_err-seek.ensures.none clean (ap Err is))
+
+pub returns-in_default-clause-loads : goal.returns-in_default-clause-loads
+returns-in_default-clause-loads g c = loads-none g.S.Store c.args.store.now

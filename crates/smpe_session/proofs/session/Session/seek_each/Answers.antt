@@ -1,3 +1,5 @@
+use Rattle.std.proofs.Common.{Err, ap}
+use Rattle.store.proofs.NoState.{loads-then, tells-after}
 use Rattle.smpe_session.specs.Steps.{AreSought}
 use Rattle.smpe_session.proofs.AllZones.{sought-more}
 use Rattle.smpe_session.proofs.Stepping.{loaded-err}
@@ -6,6 +8,8 @@ use Rattle.smpe_session.proofs.session.Session.seek_each.Goals as goal
 pub loop-name-preserved : goal.loop-name-preserved
 loop-name-preserved g c = record {
   clean = λ clean. c.loop-name.invariant.clean (c.seek.ensures.clean clean);
+  loads = loads-then g.S.Store c.args.store.now c.loop-name.store c.seek.new.store c.loop-name.invariant.loads
+      c.in_ok-seek.ensures.loads;
   sought = λ clean s is keeps.
       let before = c.loop-name.invariant.sought (c.seek.ensures.clean clean) s is keeps in
       let found = c.in_ok-seek.ensures.ended clean s before.0.session before.1 in (
@@ -22,3 +26,13 @@ returns-in_err-seek-clause-ended g c = λ clean s is keeps.
     loaded-err g.S.Store c.seek.new.store s (λ _. AreSought s c.seek.new.self c.args.names.now) c.from_residual.result
     c.in_err-seek.field-0.0 c.from_residual.ensures.1
     (c.in_err-seek.ensures.ended clean s before.0.session before.1)
+
+pub returns-in_err-seek-clause-none : goal.returns-in_err-seek-clause-none
+returns-in_err-seek-clause-none g c =
+    tells-after g.S.Store c.args.store.now c.loop-name.store c.seek.new.store c.from_residual.result
+    c.in_err-seek.field-0.0
+    c.loop-name.invariant.loads c.from_residual.ensures.1
+    (λ clean is. c.in_err-seek.ensures.none clean (ap Err is))
+
+pub returns-clause-loads : goal.returns-clause-loads
+returns-clause-loads g c = c.loop-name.invariant.loads

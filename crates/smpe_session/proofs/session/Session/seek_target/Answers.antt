@@ -1,4 +1,5 @@
-use Rattle.std.proofs.Common.{◌∙◌, sym}
+use Rattle.std.proofs.Common.{◌∙◌, Err, sym, ap}
+use Rattle.store.proofs.NoState.{loads-none, loads-read, loads-then, tells-after}
 use Rattle.smpe_session.proofs.RelatedZone.{related-none, related-some}
 use Rattle.smpe_session.proofs.Stepping.{kept-inventory}
 use Rattle.smpe_session.proofs.session.Session.seek_target.Goals as goal
@@ -22,3 +23,31 @@ returns-clause-ended g c = λ clean s is keeps.
           inventory c.in-Some-target_name.ensures sought.0,
       sought.1,
     )
+
+pub returns-in_err-heads-clause-none : goal.returns-in_err-heads-clause-none
+returns-in_err-heads-clause-none g c =
+    tells-after g.S.Store c.args.store.now c.args.store.now c.load_heads.new.store c.from_residual.result
+    c.in_err-heads.field-0.0
+    (loads-none g.S.Store c.args.store.now) c.from_residual.ensures.1
+    (λ clean is. c.in_err-heads.ensures.none clean (ap Err is))
+
+pub returns-in_err-seek-clause-none : goal.returns-in_err-seek-clause-none
+returns-in_err-seek-clause-none g c =
+    tells-after g.S.Store c.args.store.now c.load_heads.new.store c.seek.new.store
+    c.from_residual-in_err-seek.result c.in_err-seek.field-0.0
+    (loads-read g.S.Store c.args.store.now c.load_heads.new.store _ c.in_ok-heads.ensures.reads)
+    c.from_residual-in_err-seek.ensures.1
+    (λ clean is. c.in_err-seek.ensures.none clean (ap Err is))
+
+pub returns-in_default-clause-loads : goal.returns-in_default-clause-loads
+returns-in_default-clause-loads g c = loads-none g.S.Store c.args.store.now
+
+pub returns-in_default-target_name-clause-loads : goal.returns-in_default-target_name-clause-loads
+returns-in_default-target_name-clause-loads g c =
+    loads-read g.S.Store c.args.store.now c.load_heads.new.store _ c.in_ok-heads.ensures.reads
+
+pub returns-clause-loads : goal.returns-clause-loads
+returns-clause-loads g c =
+    loads-then g.S.Store c.args.store.now c.load_heads.new.store c.seek.new.store
+    (loads-read g.S.Store c.args.store.now c.load_heads.new.store _ c.in_ok-heads.ensures.reads)
+    c.in_ok-seek.ensures.loads

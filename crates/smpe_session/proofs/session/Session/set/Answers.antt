@@ -1,5 +1,6 @@
-use Rattle.std.proofs.Common.{refl, Some}
+use Rattle.std.proofs.Common.{refl, Some, Err, ap}
 use Rattle.terms.specs.Types.{Set}
+use Rattle.store.proofs.NoState.{loads-none, tells-after}
 use Rattle.smpe_session.proofs.Seeking.{set-refused, set-ran, set-session}
 use Rattle.smpe_session.proofs.Stepping.{performs-unmoved}
 use Rattle.smpe_session.proofs.session.Session.set.Goals as goal
@@ -27,3 +28,10 @@ returns-clause-ended g c = λ clean s is keeps date files.
       set-session s c.seek.new.self _ c.args.name c.in_ok-seek.field-0 sought.0 c.if-not-branch.false refl refl refl,
       sought.1,
     )
+
+pub returns-in_err-seek-clause-none : goal.returns-in_err-seek-clause-none
+returns-in_err-seek-clause-none g c =
+    tells-after g.S.Store c.args.store.now c.args.store.now c.seek.new.store c.from_residual.result
+    c.in_err-seek.field-0.0
+    (loads-none g.S.Store c.args.store.now) c.from_residual.ensures.1
+    (λ clean is. c.in_err-seek.ensures.none clean (ap Err is))

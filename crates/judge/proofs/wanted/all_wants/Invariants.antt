@@ -1,7 +1,0 @@
-use Rattle.judge.specs.Left.{setting_of, left_of}
-use Rattle.judge.specs.Wanted.{AreWants, IsOpenAt}
-use Rattle.judge.proofs.wanted.all_wants.Given as goal
-
-abbrev pub invariant-loop-i : goal.invariant-loop-i
-invariant-loop-i l =
-    AreWants (IsOpenAt (setting_of l.left.scope) l.survivors (left_of l.left) l.i) l.wants.items

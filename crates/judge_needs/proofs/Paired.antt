@@ -1,0 +1,100 @@
+-- Pairs of candidates and ids, as they come in.
+use Rattle.std.proofs.Common.{◌≡◌, ◌⊎◌, inl, inr, ℕ, ◌<◌, ◌+◌, List, [], ◌∷◌, ◌++◌, map, take, length, get_or, Contains}
+use Rattle.std.proofs.Common.{sym, ap, subst}
+use Rattle.std.specs.Prelude.{◌↔◌}
+use Rattle.std.proofs.lemmas.List.Elements.{Contains-append_left, Contains-append_right, Contains-append_cases}
+use Rattle.terms.specs.Types.{Id}
+use Rattle.terms.specs.Tests.{Setting}
+use Rattle.terms.specs.Needs.{bypassed_ids}
+use Rattle.lemmas.proofs.Members.{here, here_or, none_in, in_map, map_in}
+use Rattle.judge_needs.specs.Bypassed.{AddsPairs, AreBypassed}
+use Rattle.judge_needs.proofs.Growing.{front-more}
+
+pub pairs-map : (x : Id) (more : List Id) (old new : List (Id × Id)) → new ≡ old ++ map (λ z. (x, z)) more
+    → AddsPairs x more old new
+pairs-map x more old new are y z = (up, down)
+  where
+    up : Contains new (y, z) → Contains old (y, z) ⊎ ((y ≡ x) × Contains more z)
+    up h =
+        elim (Contains-append_cases old (map (λ z. (x, z)) more) (y, z)
+        (subst (λ l. Contains {X = Id × Id} l (y, z)) are h)) [
+          | inl was ↦ inl was
+          | inr added ↦
+              let m = map_in (λ z. (x, z)) more (y, z) added in
+              inr (
+                sym (ap (λ p. p.0) m.2),
+                subst (Contains more) (ap (λ p. p.1) m.2) m.1,
+              )
+        ]
+
+    down : Contains old (y, z) ⊎ ((y ≡ x) × Contains more z) → Contains new (y, z)
+    down (inl was) = subst (λ l. Contains {X = Id × Id} l (y, z)) (sym are)
+        (Contains-append_left old (map (λ z. (x, z)) more) (y, z) was)
+    down (inr added) = subst (λ l. Contains {X = Id × Id} l (y, z)) (sym are)
+        (Contains-append_right old (map (λ z. (x, z)) more) (y, z)
+        (subst (λ w. Contains {X = Id × Id} (map (λ z. (x, z)) more) (w, z)) (sym added.0)
+        (in_map (λ z. (x, z)) more z added.1)))
+
+pub pairs-same : (x : Id) (old : List (Id × Id)) → AddsPairs x [] old old
+pairs-same x old y z = (λ h. inl h, λ h. elim h [ inl was ↦ was | inr added ↦ absurd (none_in z added.1) ])
+
+pub pairs-then : (x : Id) (p q : List Id) (a b c : List (Id × Id)) → AddsPairs x p a b → AddsPairs x q b c
+    → AddsPairs x (p ++ q) a c
+pairs-then x p q a b c first second y z = (up, down)
+  where
+    up : Contains c (y, z) → Contains a (y, z) ⊎ ((y ≡ x) × Contains (p ++ q) z)
+    up h = elim ((second y z).0 h) [
+      | inl in_b ↦ elim ((first y z).0 in_b) [
+        | inl in_a ↦ inl in_a
+        | inr added ↦ inr (added.0, Contains-append_left p q z added.1)
+      ]
+      | inr added ↦ inr (added.0, Contains-append_right p q z added.1)
+    ]
+
+    down : Contains a (y, z) ⊎ ((y ≡ x) × Contains (p ++ q) z) → Contains c (y, z)
+    down (inl in_a) = (second y z).1 (inl ((first y z).1 (inl in_a)))
+    down (inr added) = elim (Contains-append_cases p q z added.1) [
+      | inl in_p ↦ (second y z).1 (inl ((first y z).1 (inr (added.0, in_p))))
+      | inr in_q ↦ (second y z).1 (inr (added.0, in_q))
+    ]
+
+-- the same ids, in another list
+pub pairs-alike : (x : Id) (xs ys : List Id) (old new : List (Id × Id)) → ((z : Id) → Contains xs z ↔ Contains ys z)
+    → AddsPairs x xs old new → AddsPairs x ys old new
+pairs-alike x xs ys old new same adds y z = (
+  λ h. elim ((adds y z).0 h) [ inl was ↦ inl was | inr added ↦ inr (added.0, (same z).0 added.1) ],
+  λ h. (adds y z).1 (elim h [ inl was ↦ inl was | inr added ↦ inr (added.0, (same z).1 added.1) ]),
+)
+
+module _ (s : Setting) where
+  -- the next candidate
+  pub bypassed-next : (xs : List Id) (k : ℕ) (x : Id) (old new : List (Id × Id)) → k < length xs → x ≡ get_or xs k x
+      → AddsPairs x (bypassed_ids s x) old new → AreBypassed s (take k xs) old
+      → AreBypassed s (take (k + 1) xs) new
+  bypassed-next xs k x old new below at adds was =
+      subst (λ l. AreBypassed s l new) (sym (front-more xs k x below at)) (λ y z. (up y z, down y z))
+    where
+      up : (y z : Id) → Contains new (y, z)
+          → Contains (take k xs ++ x ∷ []) y × Contains (bypassed_ids s y) z
+      up y z h = elim ((adds y z).0 h) [
+        | inl before ↦
+            let both = (was y z).0 before in
+            (Contains-append_left (take k xs) (x ∷ []) y both.0, both.1)
+        | inr added ↦ (
+          Contains-append_right (take k xs) (x ∷ []) y (subst (Contains (x ∷ [])) (sym added.0) (here x [])),
+          subst (λ w. Contains (bypassed_ids s w) z) (sym added.0) added.1,
+        )
+      ]
+
+      down : (y z : Id) → Contains (take k xs ++ x ∷ []) y × Contains (bypassed_ids s y) z
+          → Contains new (y, z)
+      down y z h = elim (Contains-append_cases (take k xs) (x ∷ []) y h.0) [
+        | inl before ↦ (adds y z).1 (inl ((was y z).1 (before, h.1)))
+        | inr last ↦ elim (here_or x [] y last) [
+          | inl same ↦ (adds y z).1 (inr (
+            sym same,
+            subst (λ w. Contains (bypassed_ids s w) z) (sym same) h.1,
+          ))
+          | inr none ↦ absurd (none_in y none)
+        ]
+      ]

@@ -1,0 +1,270 @@
+-- The needs of candidates, each once, as they come in.
+use Rattle.std.proofs.Common.{◌≡◌, ◌≢◌, ◌⊎◌, inl, inr, ℕ, zero, suc, ◌<◌, ◌+◌, Bool, true, List, [], ◌++◌}
+use Rattle.std.proofs.Common.{Some, IsTrue, refl, sym, ap, append-nil, ◌∙◌, subst, filter, map, Contains, arith}
+use Rattle.std.proofs.Common.{slice_get}
+use Rattle.std.specs.Prelude.{All, ◌↔◌, get_or}
+use Rattle.std.proofs.lemmas.Bool.{cases_eq}
+use Rattle.std.proofs.lemmas.Option.{same_Some}
+use Rattle.std.proofs.lemmas.List.{append_assoc}
+use Rattle.std.proofs.lemmas.List.Elements.{Contains-append_left, Contains-append_right, Contains-append_cases}
+use Rattle.std.proofs.lemmas.List.Elements.{Contains-get_or}
+use Rattle.std.proofs.lemmas.List.Kept.{AllPairs-filter}
+use Rattle.terms.specs.declared.codes.NeedKind.{NeedKind}
+use Rattle.terms.specs.declared.codes.NeedKind.TheVariants.{Fmid, Pre, Req, Ifreq, HoldError, Orphan, Elem, Dep}
+use Rattle.terms.specs.Types.{Id, Zone, Bypass}
+use Rattle.terms.specs.Lookups.{IsRising, is_before}
+use Rattle.terms.specs.Tests.{Setting}
+use Rattle.terms.specs.Needs.{asked}
+use Rattle.lemmas.proofs.Members.{map_in, in_map, filter_in, in_filter, none_in}
+use Rattle.lemmas.proofs.Pairs.{AllPairs-join, pairs_map}
+use Rattle.judge_needs.specs.declared.wanted.Want.{Want}
+use Rattle.judge_needs.specs.Wanted.{a_want, is_open, IsOpen, AreWants, AddsPart, IsOfKind, IsOpenAt}
+use Rattle.judge_needs.proofs.Rising.{before-apart}
+
+pub join : (D E : ℕ → NeedKind → Id → Type 0) (xs ys : List Want) → AreWants D xs → AreWants E ys
+    → ((n : ℕ) (kind : NeedKind) (z : Id) → D n kind z → ¬ E n kind z)
+    → AreWants (λ n kind z. D n kind z ⊎ E n kind z) (xs ++ ys)
+join D E xs ys v w apart = record {
+  members = λ n kind z. (
+    λ h. elim (Contains-append_cases xs ys (a_want n kind z) h) [
+      | inl front ↦ inl ((v.members n kind z).0 front)
+      | inr back ↦ inr ((w.members n kind z).0 back)
+    ],
+    λ h. elim h [
+      | inl d ↦ Contains-append_left xs ys (a_want n kind z) ((v.members n kind z).1 d)
+      | inr e ↦ Contains-append_right xs ys (a_want n kind z) ((w.members n kind z).1 e)
+    ],
+  );
+  once = AllPairs-join (λ v w. v ≢ w) xs ys v.once w.once (λ i a below j b within.
+      differ (get_or xs i a) (get_or ys j b) (Contains-get_or xs i a below) (Contains-get_or ys j b within));
+}
+  where
+    differ : (a b : Want) → Contains xs a → Contains ys b → a ≢ b
+    differ a b in_xs in_ys same = apart a.of a.kind a.id ((v.members a.of a.kind a.id).0 in_xs)
+        ((w.members a.of a.kind a.id).0 (subst (Contains ys) (sym same) in_ys))
+
+pub alike : (D E : ℕ → NeedKind → Id → Type 0) (xs : List Want)
+    → ((n : ℕ) (kind : NeedKind) (z : Id) → D n kind z ↔ E n kind z) → AreWants D xs → AreWants E xs
+alike D E xs both w = record {
+  members = λ n kind z. (
+    λ h. (both n kind z).0 ((w.members n kind z).0 h),
+    λ e. (w.members n kind z).1 ((both n kind z).1 e),
+  );
+  once = w.once;
+}
+
+-- needs of one kind
+module _ (zone : Zone) (b : Bypass) (kind : NeedKind) where
+  abbrev is_left : Id → Bool
+  is_left = is_open zone b kind
+
+  pub of-kind : (of : ℕ) (asked : List Id) (old new : List Want) → IsRising asked
+      → new ≡ old ++ map (a_want of kind) (filter (is_open zone b kind) asked)
+      → AddsPart of (IsOfKind zone b kind asked) old new
+  of-kind of asked old new rising are = record {
+    more = map (a_want of kind) (filter is_left asked);
+    are = are;
+    wants = record {
+      members = λ n k z. (
+        λ h.
+            let m = map_in (a_want of kind) (filter is_left asked) (a_want n k z) h in
+            let f = filter_in is_left asked m.0 m.1 in
+            let same : m.0 ≡ z = ap (λ (w : Want). w.id) m.2 in (
+              sym (ap (λ (w : Want). w.of) m.2),
+              (
+                sym (ap (λ (w : Want). w.kind) m.2),
+                subst (Contains asked) same f.0,
+                subst (λ y. is_left y ≡ true) same f.1,
+              ),
+            ),
+        λ h.
+            subst (λ m. Contains (map (a_want of kind) (filter is_left asked)) (a_want m k z)) (sym h.0)
+            (subst (λ j. Contains (map (a_want of kind) (filter is_left asked)) (a_want of j z)) (sym h.1.0)
+            (in_map (a_want of kind) (filter is_left asked) z (in_filter is_left asked z h.1.1 h.1.2))),
+      );
+      once = pairs_map (λ x y. IsTrue (is_before x y)) (λ v w. v ≢ w) (a_want of kind)
+          (λ x y below same. before-apart x y below (ap (λ (w : Want). w.id) same)) (filter is_left asked)
+          (AllPairs-filter (λ x y. IsTrue (is_before x y)) is_left asked rising);
+    };
+  }
+
+-- two parts, one behind the other
+pub both-parts : (of : ℕ) (P Q : NeedKind → Id → Type 0) (a b c : List Want) → AddsPart of P a b → AddsPart of Q b c
+    → ((kind : NeedKind) (z : Id) → P kind z → ¬ Q kind z)
+    → AddsPart of (λ kind z. P kind z ⊎ Q kind z) a c
+both-parts of P Q a b c p q apart = record {
+  more = p.more ++ q.more;
+  are = q.are ∙ ap (λ l. l ++ q.more) p.are ∙ append_assoc a p.more q.more;
+  wants = alike _ _ (p.more ++ q.more) (λ n kind z. (
+    λ h. elim h [ inl l ↦ (l.0, inl l.1) | inr r ↦ (r.0, inr r.1) ],
+    λ h. elim h.1 [ inl l ↦ inl (h.0, l) | inr r ↦ inr (h.0, r) ],
+  ))
+      (join (λ n kind z. (n ≡ of) × P kind z) (λ n kind z. (n ≡ of) × Q kind z) p.more q.more p.wants q.wants
+      (λ n kind z l r. apart kind z l.1 r.1));
+}
+
+pub same-part : (of : ℕ) (P Q : NeedKind → Id → Type 0) (a b : List Want)
+    → ((kind : NeedKind) (z : Id) → P kind z ↔ Q kind z) → AddsPart of P a b → AddsPart of Q a b
+same-part of P Q a b both p = record {
+  more = p.more;
+  are = p.are;
+  wants = alike _ _ p.more (λ n kind z. (
+    λ h. (h.0, (both kind z).0 h.1),
+    λ h. (h.0, (both kind z).1 h.1),
+  )) p.wants;
+}
+
+-- the kinds by number
+rank : NeedKind → ℕ
+rank Fmid = 0
+rank Pre = 1
+rank Req = 2
+rank Ifreq = 3
+rank HoldError = 4
+rank Orphan = 5
+rank Elem = 6
+rank Dep = 7
+
+ranked : ℕ → NeedKind
+ranked zero = Fmid
+ranked (suc zero) = Pre
+ranked (suc (suc zero)) = Req
+ranked (suc (suc (suc zero))) = Ifreq
+ranked (suc (suc (suc (suc zero)))) = HoldError
+ranked (suc (suc (suc (suc (suc zero))))) = Orphan
+ranked (suc (suc (suc (suc (suc (suc zero)))))) = Elem
+ranked _ = Dep
+
+ranked-rank : (kind : NeedKind) → ranked (rank kind) ≡ kind
+unfolding rank ranked
+ranked-rank Fmid = refl
+ranked-rank Pre = refl
+ranked-rank Req = refl
+ranked-rank Ifreq = refl
+ranked-rank HoldError = refl
+ranked-rank Orphan = refl
+ranked-rank Elem = refl
+ranked-rank Dep = refl
+
+same-rank : (j k : NeedKind) → rank j ≡ rank k → j ≡ k
+same-rank j k e = sym (ranked-rank j) ∙ ap ranked e ∙ ranked-rank k
+
+-- the needs of a candidate, kind by kind
+module _ (s : Setting) (survivors : List Id) (left : Zone) (of : ℕ) (x : Id) where
+  abbrev Of : NeedKind → NeedKind → Id → Type 0
+  Of kind = IsOfKind left s.bypass kind (asked s survivors x kind)
+
+  -- those of the kinds in front of a number
+  abbrev UpTo : ℕ → NeedKind → Id → Type 0
+  UpTo n kind z = (rank kind < n) × IsOpen s survivors left x kind z
+
+  no-kind : (l : List Want) → AddsPart of (UpTo 0) l l
+  no-kind l = record {
+    more = [];
+    are = sym (append-nil l);
+    wants = record {
+      members = λ n kind z. (λ h. absurd (none_in (a_want n kind z) h), λ h. absurd (omega (arith, h.1.0)));
+      once = λ i j d less below. absurd (omega (arith, below));
+    };
+  }
+
+  next-kind : (kind : NeedKind) (a b c : List Want) → AddsPart of (UpTo (rank kind)) a b → AddsPart of (Of kind) b c
+      → AddsPart of (UpTo (rank kind + 1)) a c
+  next-kind kind a b c front next =
+      same-part of (λ k z. UpTo (rank kind) k z ⊎ Of kind k z) (UpTo (rank kind + 1)) a c (λ k z. (up k z, down k z))
+      (both-parts of (UpTo (rank kind)) (Of kind) a b c front next (λ k z h o. omega (arith, h.0, ap rank o.0)))
+    where
+      up : (k : NeedKind) (z : Id) → UpTo (rank kind) k z ⊎ Of kind k z → UpTo (rank kind + 1) k z
+      up k z (inl h) = (omega (arith, h.0), h.1)
+      up k z (inr o) = (
+        omega (arith, ap rank o.0),
+        subst (λ j. IsOpen s survivors left x j z) (sym o.0) (o.1, o.2),
+      )
+
+      down : (k : NeedKind) (z : Id) → UpTo (rank kind + 1) k z → UpTo (rank kind) k z ⊎ Of kind k z
+      down k z h = elim (cases_eq (rank k) (rank kind)) [
+        | inl this ↦
+            let same : k ≡ kind = same-rank k kind this in
+            let of_kind = subst (λ j. IsOpen s survivors left x j z) same h.1 in
+            inr (same, of_kind.0, of_kind.1)
+        | inr other ↦ inl (omega (arith, h.0, other), h.1)
+      ]
+
+  asked-below : (kind : NeedKind) (z : Id) → IsOpen s survivors left x kind z → rank kind < 6
+  unfolding rank
+  asked-below Fmid z h = omega arith
+  asked-below Pre z h = omega arith
+  asked-below Req z h = omega arith
+  asked-below Ifreq z h = omega arith
+  asked-below HoldError z h = omega arith
+  asked-below Orphan z h = omega arith
+  asked-below Elem z h = absurd (none_in z h.0)
+  asked-below Dep z h = absurd (none_in z h.0)
+
+  pub all-parts : (l0 l1 l2 l3 l4 l5 l6 : List Want) → AddsPart of (Of Fmid) l0 l1 → AddsPart of (Of Pre) l1 l2
+      → AddsPart of (Of Req) l2 l3 → AddsPart of (Of Ifreq) l3 l4 → AddsPart of (Of HoldError) l4 l5
+      → AddsPart of (Of Orphan) l5 l6 → AddsPart of (IsOpen s survivors left x) l0 l6
+  unfolding rank
+  all-parts l0 l1 l2 l3 l4 l5 l6 fmid pre req ifreq hold orphan =
+      same-part of (UpTo 6) (IsOpen s survivors left x) l0 l6
+      (λ kind z. (λ h. h.1, λ h. (asked-below kind z h, h)))
+      (next-kind Orphan l0 l5 l6
+      (next-kind HoldError l0 l4 l5
+      (next-kind Ifreq l0 l3 l4
+      (next-kind Req l0 l2 l3
+      (next-kind Pre l0 l1 l2
+      (next-kind Fmid l0 l0 l1 (no-kind l0) fmid) pre) req) ifreq) hold) orphan)
+
+module _ (s : Setting) (survivors : List Id) (left : Zone) where
+  -- the next candidate
+  pub wants-next : (k : ℕ) (x : Id) (old new : List Want) → slice_get s.cands k ≡ Some x
+      → AddsPart k (IsOpen s survivors left x) old new
+      → AreWants (IsOpenAt s survivors left k) old → AreWants (IsOpenAt s survivors left (k + 1)) new
+  wants-next k x old new at p w =
+      subst (AreWants (IsOpenAt s survivors left (k + 1))) (sym p.are)
+      (alike _ _ (old ++ p.more) (λ n kind z. (up n kind z, down n kind z))
+      (join (IsOpenAt s survivors left k) (λ n kind z. (n ≡ k) × IsOpen s survivors left x kind z) old p.more w p.wants
+      (λ n kind z l r. omega (arith, l.below, r.0))))
+    where
+      up : (n : ℕ) (kind : NeedKind) (z : Id)
+          → IsOpenAt s survivors left k n kind z ⊎ ((n ≡ k) × IsOpen s survivors left x kind z)
+          → IsOpenAt s survivors left (k + 1) n kind z
+      up n kind z (inl l) = record { below = omega (arith, l.below); x = l.x; at = l.at; is_open = l.is_open }
+      up n kind z (inr r) = record {
+        below = omega (arith, r.0);
+        x = x;
+        at = subst (λ m. slice_get s.cands m ≡ Some x) (sym r.0) at;
+        is_open = r.1;
+      }
+
+      down : (n : ℕ) (kind : NeedKind) (z : Id) → IsOpenAt s survivors left (k + 1) n kind z
+          → IsOpenAt s survivors left k n kind z ⊎ ((n ≡ k) × IsOpen s survivors left x kind z)
+      down n kind z h = elim (cases_eq n k) [
+        | inl this ↦
+            let same : h.x ≡ x = same_Some h.x x (sym h.at ∙ subst (λ m. slice_get s.cands m ≡ Some x) (sym this) at) in
+            inr (this, subst (λ y. IsOpen s survivors left y kind z) same h.is_open)
+        | inr other ↦ inl (record { below = omega (arith, h.below, other); x = h.x; at = h.at; is_open = h.is_open })
+      ]
+
+  pub wants-none : AreWants (IsOpenAt s survivors left 0) []
+  wants-none = record {
+    members = λ n kind z. (λ h. absurd (none_in (a_want n kind z) h), λ h. absurd (omega (arith, h.below)));
+    once = λ i j d less below. absurd (omega (arith, below));
+  }
+
+  -- each is of a candidate
+  pub wants-within : (end : ℕ) (wants : List Want) → AreWants (IsOpenAt s survivors left end) wants
+      → All (λ w. w.of < end) wants
+  wants-within end wants w = λ k d below.
+      let v : Want = get_or wants k d in
+      ((w.members v.of v.kind v.id).0 (Contains-get_or wants k d below)).below
+
+-- the same ids, in another list
+pub same-asked : (zone : Zone) (b : Bypass) (kind : NeedKind) (of : ℕ) (xs ys : List Id) (old new : List Want)
+    → ((z : Id) → Contains xs z ↔ Contains ys z) → AddsPart of (IsOfKind zone b kind xs) old new
+    → AddsPart of (IsOfKind zone b kind ys) old new
+same-asked zone b kind of xs ys old new same part =
+    same-part of (IsOfKind zone b kind xs) (IsOfKind zone b kind ys) old new (λ k z. (
+      λ h. (h.0, (same z).0 h.1, h.2),
+      λ h. (h.0, (same z).1 h.1, h.2),
+    )) part

@@ -1,0 +1,7 @@
+use Rattle.std.proofs.Common.{take}
+use Rattle.judge_needs.specs.Bypassed.{AreBypassed}
+use Rattle.judge_needs.specs.Left.{setting_of}
+use Rattle.judge_needs.proofs.bypassed.bypassed_pairs.Given as goal
+
+abbrev pub invariant-loop-id : goal.invariant-loop-id
+invariant-loop-id l = AreBypassed (setting_of l.scope) (take l.id-index l.id-items) l.pairs.items

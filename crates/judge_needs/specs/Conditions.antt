@@ -1,0 +1,41 @@
+-- The requisites by ++IF, as lists and as an index of what applied SYSMODs state.
+use Rattle.std.specs.Prelude.{◌≡◌, ◌||◌, ◌++◌, Bool, List, [], Vec, map}
+use Rattle.std.specs.declared.alloc.Global.{Global}
+use Rattle.std.specs.List.{flat_map}
+use Rattle.std.specs.Option.{option_map_or}
+use Rattle.std.specs.Ordering.{nat_cmp}
+use Rattle.std.specs.Cmp.Lexicographic.{slice_cmp}
+use Rattle.std.specs.Str.{bytes_eq}
+use Rattle.std.specs.BTreeMap.{BTreeMap, get}
+use Rattle.terms.specs.Types.{Id, Zone}
+use Rattle.terms.specs.Lookups.{is_in, is_applied, applied_ids}
+use Rattle.terms.specs.Choice.{Choice}
+use Rattle.terms.specs.Conditions.{if_reqs}
+use Rattle.judge_needs.specs.declared.stated.Requisite.{Requisite}
+
+-- whether the function is applied or a candidate
+abbrev pub is_there : Zone → List Id → Id → Bool
+is_there zone ids f = is_applied zone f || is_in ids f
+
+-- the requisite, stated by this SYSMOD
+abbrev pub a_requisite : Id → Id → Requisite
+a_requisite by z = record { by = by; id = z }
+
+-- for each function the requisites that are stated for it
+abbrev pub Lists : Type 0
+Lists = BTreeMap Id (Vec Requisite Global)
+
+abbrev pub listed : Lists → Id → List Requisite
+listed lists f = option_map_or (λ v. v.items) (get (slice_cmp nat_cmp) lists f) []
+
+-- each function gets some more
+abbrev pub Adds : Lists → Lists → (Id → List Requisite) → Type 0
+Adds old new more = (f : Id) → listed new f ≡ listed old f ++ more f
+
+-- what the SYSMOD states for the function
+abbrev pub stated_by : Choice → Id → Id → List Requisite
+stated_by c f y = map (a_requisite y) (if_reqs c (bytes_eq f) y)
+
+-- they are what applied SYSMODs state
+abbrev pub AreStated : Choice → Zone → Lists → Type 0
+AreStated c zone lists = (f : Id) → listed lists f ≡ flat_map (stated_by c f) (applied_ids zone)

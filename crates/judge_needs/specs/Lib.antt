@@ -1,0 +1,7 @@
+pub mod Placed
+pub mod Left
+pub mod Conditions
+pub mod Wanted
+pub mod Serving
+pub mod Numbered
+pub mod Bypassed

@@ -1,0 +1,89 @@
+//! The bypassed requisites of the candidates.
+ghost use Rattle.std.specs.Prelude.{◌≡◌, ◌++◌, [], map, OnOk, IfOk, if◌then◌else◌};
+ghost use Rattle.terms.specs.declared.codes.NeedKind.TheVariants.{Ifreq};
+ghost use Rattle.terms.specs.Needs.{asked, bypassed_ids};
+ghost use Rattle.judge_needs.specs.Conditions.{AreStated};
+ghost use Rattle.judge_needs.specs.Left.{choice_of, setting_of};
+ghost use Rattle.judge_needs.specs.Bypassed.{AddsPairs, AreBypassed};
+
+use crate::conditions::if_needed;
+use crate::scope::Scope;
+use crate::stated::{Stated, all_stated};
+use fields::Id;
+use std::alloc::{AllocError, Global as Heap};
+use terms::NeedKind;
+
+fn add_pairs(pairs: &mut Vec<(Id, Id)>, id: Id, requisites: &[Id]) -> Result<(), AllocError>
+    ensures { OnOk result (pairs.new.items ≡ pairs.old.items ++ map (λ z. (id, z)) requisites.now) }
+{
+    for requisite in requisites {
+        pairs.push((id, *requisite))?;
+    }
+    Ok(())
+}
+
+fn add_if(
+    pairs: &mut Vec<(Id, Id)>,
+    is_bypassed: bool,
+    id: Id,
+    requisites: &[Id],
+) -> Result<(), AllocError>
+    ensures { OnOk result (AddsPairs id (if is_bypassed then requisites.now else []) pairs.old.items
+        pairs.new.items) }
+{
+    if is_bypassed {
+        add_pairs(pairs, id, requisites)?;
+    }
+    Ok(())
+}
+
+// Adds those by `++IF`.
+fn add_ifreq(
+    alloc: Heap,
+    scope: &Scope<'_, '_>,
+    stated: &Stated,
+    id: Id,
+    pairs: &mut Vec<(Id, Id)>,
+) -> Result<(), AllocError>
+    requires { AreStated (choice_of scope.now) scope.now.zone.now stated.now }
+    ensures { OnOk result (AddsPairs id (if scope.now.bypass.now.ifreq then asked (setting_of scope.now) [] id Ifreq
+        else []) pairs.old.items pairs.new.items) }
+{
+    if scope.is_bypassed(NeedKind::Ifreq) {
+        let requisites = if_needed(alloc, scope, stated, id)?;
+        add_pairs(pairs, id, requisites.as_slice())?;
+    }
+    Ok(())
+}
+
+// Adds those of one candidate.
+fn add_bypassed(
+    alloc: Heap,
+    scope: &Scope<'_, '_>,
+    stated: &Stated,
+    id: Id,
+    pairs: &mut Vec<(Id, Id)>,
+) -> Result<(), AllocError>
+    requires { AreStated (choice_of scope.now) scope.now.zone.now stated.now }
+    ensures { OnOk result (AddsPairs id (bypassed_ids (setting_of scope.now) id) pairs.old.items pairs.new.items) }
+{
+    add_if(pairs, scope.is_bypassed(NeedKind::Pre), id, scope.pre(id))?;
+    add_if(pairs, scope.is_bypassed(NeedKind::Req), id, scope.req(id))?;
+    add_ifreq(alloc, scope, stated, id, pairs)?;
+    Ok(())
+}
+
+/// Each candidate with each of its PRE, REQ and IFREQ that BYPASS covers.
+pub fn bypassed_pairs(alloc: Heap, scope: &Scope<'_, '_>) -> Result<Vec<(Id, Id)>, AllocError>
+    ensures { IfOk result (λ pairs. AreBypassed (setting_of scope.now) scope.now.ids.now pairs.items) }
+{
+    if !scope.bypasses_requisites() {
+        return Ok(Vec::new(alloc));
+    }
+    let stated = all_stated(alloc, scope)?;
+    let mut pairs = Vec::new(alloc);
+    for id in scope.ids.as_slice() {
+        add_bypassed(alloc, scope, &stated, *id, &mut pairs)?;
+    }
+    Ok(pairs)
+}

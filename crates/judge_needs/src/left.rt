@@ -1,0 +1,52 @@
+//! What deletions leave of the zone.
+ghost use Rattle.std.specs.Prelude.{◌≡◌, ◌||◌};
+ghost use Rattle.terms.specs.Needs.{is_met};
+ghost use Rattle.terms.specs.Lookups.{is_applied};
+ghost use Rattle.judge_needs.specs.Conditions.{is_there};
+ghost use Rattle.judge_needs.specs.Left.{left_of};
+ghost use Rattle.judge_needs.specs.Wanted.{is_open};
+
+use crate::scope::Scope;
+use fields::Id;
+use terms::NeedKind;
+use zones_less::{is_left, supplies_left};
+
+/// The zone less these deletions.
+#[derive(Clone, Copy)]
+pub(crate) struct Left<'a, 'b> {
+    pub(crate) scope: Scope<'a, 'b>,
+    pub(crate) dels: &'a [Id],
+}
+
+impl<'a, 'b> Left<'a, 'b> {
+    /// Whether the SYSMOD is still applied.
+    pub(crate) fn has(&self, id: Id) -> bool
+        ensures { result ≡ is_applied (left_of self.now) id }
+    {
+        is_left(self.scope.vers, self.dels, self.scope.zone, id)
+    }
+
+    /// Whether the function is still applied, or a candidate.
+    pub(crate) fn has_function(&self, id: Id) -> bool
+        ensures { result ≡ is_there (left_of self.now) self.now.scope.ids.now id }
+    {
+        self.has(id) || self.scope.ids.contains(id)
+    }
+
+    // Whether it meets a need: as an FMID only what is applied does.
+    fn meets(&self, kind: NeedKind, id: Id) -> bool
+        ensures { result ≡ is_met (left_of self.now) kind id }
+    {
+        match kind {
+            NeedKind::Fmid => self.has(id),
+            _ => supplies_left(self.scope.vers, self.dels, self.scope.zone, id),
+        }
+    }
+
+    /// Whether neither BYPASS nor what is left meets a need.
+    pub(crate) fn is_open(&self, kind: NeedKind, id: Id) -> bool
+        ensures { result ≡ is_open (left_of self.now) self.now.scope.bypass.now kind id }
+    {
+        !self.scope.is_bypassed(kind) && !self.meets(kind, id)
+    }
+}

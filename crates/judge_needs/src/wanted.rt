@@ -1,0 +1,167 @@
+//! What each candidate needs: its function, what it names in PRE and REQ, the requisites by `++IF`, the reasons of
+//! ERROR holds on it, and what its DELETE orphans, as far as neither BYPASS nor what is left of the zone meets that.
+ghost use Rattle.std.specs.Prelude.{◌≡◌, ◌↔◌, ◌<◌, ◌^◌, ◌++◌, [], filter, map, length, slice_get, Some, Contains};
+ghost use Rattle.std.specs.Prelude.{OnOk, IfOk, if◌then◌else◌};
+ghost use Rattle.terms.specs.Types.{Id as AnId};
+ghost use Rattle.terms.specs.Lookups.{IsRising, at_most_one, is_in};
+ghost use Rattle.terms.specs.Needs.{orphans};
+ghost use Rattle.judge_needs.specs.Conditions.{AreStated};
+ghost use Rattle.judge_needs.specs.Left.{choice_of, setting_of, left_of};
+ghost use Rattle.judge_needs.specs.Wanted.{a_want, is_open, IsOpen, IsOpenAt, IsOfKind, AreWants, AddsPart};
+
+use crate::conditions::if_needed;
+use crate::left::Left;
+use crate::reasons::open_reasons;
+use crate::scope::Scope;
+use crate::stated::{Stated, all_stated};
+use fields::{Id, IdList};
+use std::alloc::{AllocError, Global as Heap};
+use terms::NeedKind;
+use zones_less::orphans;
+
+/// A candidate, by its place, needs this id.
+#[derive(Clone, Copy)]
+pub(crate) struct Want {
+    pub(crate) of: u32,
+    pub(crate) kind: NeedKind,
+    pub(crate) id: Id,
+}
+
+// The ids that neither BYPASS nor what is left of the zone meets.
+fn unmet(
+    alloc: Heap,
+    left: &Left<'_, '_>,
+    kind: NeedKind,
+    ids: &[Id],
+) -> Result<Vec<Id>, AllocError>
+    ensures { IfOk result (λ found. found.items
+        ≡ filter (is_open (left_of left.now) left.now.scope.bypass.now kind) ids.now) }
+{
+    ids.iter()
+        .filter(|id| left.is_open(kind, **id))
+        .copied()
+        .collect(alloc)
+}
+
+fn add_each(wants: &mut Vec<Want>, of: u32, kind: NeedKind, ids: &[Id]) -> Result<(), AllocError>
+    ensures { OnOk result (wants.new.items ≡ wants.old.items ++ map (a_want of kind) ids.now) }
+{
+    for id in ids {
+        wants.push(Want { of, kind, id: *id })?;
+    }
+    Ok(())
+}
+
+// Adds what a candidate asks for and is not met.
+fn add_asked(
+    alloc: Heap,
+    left: &Left<'_, '_>,
+    of: u32,
+    kind: NeedKind,
+    asked: &[Id],
+    wants: &mut Vec<Want>,
+) -> Result<(), AllocError>
+    requires { IsRising asked.now }
+    ensures { OnOk result (AddsPart of (IsOfKind (left_of left.now) left.now.scope.bypass.now kind asked.now)
+        wants.old.items wants.new.items) }
+{
+    let found = unmet(alloc, left, kind, asked)?;
+    add_each(wants, of, kind, found.as_slice())?;
+    Ok(())
+}
+
+// Adds the need for its function.
+fn add_function(
+    alloc: Heap,
+    left: &Left<'_, '_>,
+    of: u32,
+    fmid: Option<Id>,
+    wants: &mut Vec<Want>,
+) -> Result<(), AllocError>
+    ensures { OnOk result (AddsPart of (IsOfKind (left_of left.now) left.now.scope.bypass.now NeedKind.Fmid
+        (at_most_one fmid)) wants.old.items wants.new.items) }
+{
+    match fmid {
+        Some(fmid) => add_asked(alloc, left, of, NeedKind::Fmid, &[fmid], wants),
+        None => add_asked(alloc, left, of, NeedKind::Fmid, &[], wants),
+    }
+}
+
+// What its DELETE orphans, if it is a survivor.
+fn orphaned(
+    alloc: Heap,
+    scope: &Scope<'_, '_>,
+    survivors: &IdList,
+    id: Id,
+) -> Result<IdList, AllocError>
+    ensures { IfOk result (λ ids. (z : AnId) → Contains ids z
+        ↔ Contains (if is_in survivors.now id then orphans (setting_of scope.now) id else []) z) }
+{
+    if survivors.contains(id) {
+        let ids = orphans(alloc, scope.vers, scope.zone, id)?;
+        return Ok(IdList::from_vec(ids));
+    }
+    Ok(IdList::new(alloc))
+}
+
+// Adds the needs of one candidate.
+fn add_open(
+    alloc: Heap,
+    left: &Left<'_, '_>,
+    survivors: &IdList,
+    stated: &Stated,
+    of: u32,
+    id: Id,
+    wants: &mut Vec<Want>,
+) -> Result<(), AllocError>
+    requires { AreStated (choice_of left.now.scope) left.now.scope.zone.now stated.now }
+    ensures { OnOk result (AddsPart of (IsOpen (setting_of left.now.scope) survivors.now (left_of left.now) id)
+        wants.old.items wants.new.items) }
+{
+    let scope = &left.scope;
+    add_function(alloc, left, of, scope.fmid(id), wants)?;
+    add_asked(alloc, left, of, NeedKind::Pre, scope.pre(id), wants)?;
+    add_asked(alloc, left, of, NeedKind::Req, scope.req(id), wants)?;
+    let by_ifs = if_needed(alloc, scope, stated, id)?;
+    add_asked(alloc, left, of, NeedKind::Ifreq, by_ifs.as_slice(), wants)?;
+    let reasons = open_reasons(alloc, scope, id)?;
+    add_asked(
+        alloc,
+        left,
+        of,
+        NeedKind::HoldError,
+        reasons.as_slice(),
+        wants,
+    )?;
+    let lost = orphaned(alloc, scope, survivors, id)?;
+    add_asked(alloc, left, of, NeedKind::Orphan, lost.as_slice(), wants)?;
+    Ok(())
+}
+
+/// The needs of all candidates, where these survive and these are the deletions.
+pub(crate) fn all_wants(
+    alloc: Heap,
+    left: &Left<'_, '_>,
+    survivors: &IdList,
+) -> Result<Vec<Want>, AllocError>
+    requires { length left.now.scope.ids.now < 2 ^ 32 }
+    ensures { IfOk result (λ wants. AreWants (IsOpenAt (setting_of left.now.scope) survivors.now (left_of left.now)
+        (length left.now.scope.ids.now)) wants.items) }
+{
+    let stated = all_stated(alloc, &left.scope)?;
+    let ids = left.scope.ids;
+    let mut wants = Vec::new(alloc);
+    for i in 0..ids.len() {
+        let id = ids.as_slice()[i];
+        add_open(alloc, left, survivors, &stated, i as u32, id, &mut wants)?;
+    }
+    Ok(wants)
+}
+
+/// The need at a place.
+pub(crate) fn want_at(wants: &[Want], place: usize) -> Want
+    requires { place < length wants.now }
+    ensures { slice_get wants.now place ≡ Some result }
+{
+    wants[place]
+}

@@ -1,0 +1,21 @@
+use Rattle.std.proofs.Common.{inr, subst}
+use Rattle.store.specs.Kept.{kept}
+use Rattle.smpe_command.proofs.database.define_over.Goals as goal
+
+pub returns : goal.returns
+returns g c =
+    let found = c.in_ok-store.ensures.ok in
+    inr (
+      c.define_zone-defined.result,
+      record {
+        conn = found.conn;
+        opened = c.opened.new.host;
+        opens = found.opens;
+        store = c.define_zone-defined.new.store;
+        ends = λ clean s is. c.define_zone-defined.ensures.ended clean s (found.stands (kept s) is);
+        closed = λ clean s is closed. c.define_zone-defined.ensures.closed clean s (found.stands (kept s) is) closed;
+        closes = subst (λ conn. g.H.Host.closes c.opened.new.host conn c.close-2.new.self) c.close.ensures.same
+            c.close-2.ensures;
+      },
+      c.answer.ensures,
+    )

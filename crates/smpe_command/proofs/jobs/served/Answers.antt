@@ -1,0 +1,41 @@
+use Rattle.std.proofs.Common.{[], ◌∷◌, Some, option_map, sym, subst}
+use Rattle.std.specs.String.{string_bytes}
+use Rattle.smpe_zones.specs.Definitions.{definition}
+use Rattle.smpe_command.specs.Serving.{Serves, ServesList, ServesRun, ServesZone}
+use Rattle.smpe_command.proofs.jobs.served.Goals as goal
+
+pub returns-in-Zone : goal.returns-in-Zone
+returns-in-Zone g c =
+    let w = c.in-Zone in
+    subst (λ asked. Serves g.H.Host g.H.Disk.Store g.O.Sink c.args.host.now asked c.args.out.now c.told.result
+    c.zone.new.host c.zone.new.out) (sym w.is) (
+      c.zone.result,
+      subst (λ db. ServesZone g.H.Host g.H.Disk.Store g.O.Sink c.args.host.now db c.args.out.now
+          (definition w.name w.kind w.srel w.related) c.zone.result c.zone.new.host c.zone.new.out)
+          c.as_str.ensures.value
+          c.zone.ensures,
+      c.told.ensures,
+    )
+
+pub returns-in-Run : goal.returns-in-Run
+returns-in-Run g c =
+    let w = c.in-Run in
+    let rest = option_map string_bytes w.ptfin ∷ option_map string_bytes w.hold ∷ [] in
+    subst (λ asked. Serves g.H.Host g.H.Disk.Store g.O.Sink c.args.host.now asked c.args.out.now c.run.result
+    c.run.new.host c.run.new.out) (sym w.is)
+    (subst (λ db. ServesRun g.H.Host g.H.Disk.Store g.O.Sink c.args.host.now db c.args.out.now w.date
+    (Some (string_bytes w.cntl) ∷ rest) c.run.result c.run.new.host c.run.new.out) c.as_str-in-Run.ensures.value
+    (subst (λ cntl. ServesRun g.H.Host g.H.Disk.Store g.O.Sink c.args.host.now c.as_str-in-Run.result.now
+    c.args.out.now w.date (Some cntl ∷ rest) c.run.result c.run.new.host c.run.new.out)
+    c.as_str-in-Run-2.ensures.value c.run.ensures))
+
+pub returns-in-List : goal.returns-in-List
+returns-in-List g c =
+    let w = c.in-List in
+    subst (λ asked. Serves g.H.Host g.H.Disk.Store g.O.Sink c.args.host.now asked c.args.out.now c.told-in-List.result
+    c.list.new.host c.list.new.out) (sym w.is) (
+      c.list.result,
+      subst (λ db. ServesList g.H.Host g.H.Disk.Store g.O.Sink c.args.host.now db c.args.out.now w.zone c.list.result
+          c.list.new.host c.list.new.out) c.as_str-in-List.ensures.value c.list.ensures,
+      c.told-in-List.ensures,
+    )

@@ -1,0 +1,39 @@
+-- The program: which status it answers, and what goes to which stream.
+use Rattle.std.specs.Prelude.{◌≡◌, ◌⊎◌, ℕ, List, Result, Ok, Err}
+use Rattle.sqlite.specs.Store.{Ghosts}
+use Rattle.report.specs.declared.sink.Sink.{Ghosts as SinkGhosts}
+use Rattle.report.specs.Sent.{Sent}
+use Rattle.smpe_invocation.specs.declared.asked.Invocation.{Invocation}
+use Rattle.smpe_invocation.specs.declared.fault.ArgFault.{ArgFault}
+use Rattle.smpe_invocation.specs.declared.fault.ArgFault.TheVariants.{Clap}
+use Rattle.smpe.specs.declared.messages.Fault.{Fault}
+use Rattle.smpe.specs.declared.messages.Fault.TheVariants.{Arg}
+use Rattle.smpe.specs.Messages.{fault_status, fault_text}
+use Rattle.smpe_command.specs.declared.host.Host.{Ghosts as HostGhosts}
+use Rattle.smpe_command.specs.Asking.{IsAsked, IsUnasked}
+use Rattle.smpe_command.specs.Serving.{Serves}
+
+-- the text of an error of `clap` is shown, and nothing is for another fault
+abbrev pub Shows : {H D : Type 0} → HostGhosts H D → H → Fault → H → Type 0
+Shows host h (Arg (Clap error)) after = host.shows h error after
+Shows host h _ after = after ≡ h
+
+module _ {H D E : Type 0} (host : HostGhosts H D) (stderr : SinkGhosts E) where
+  -- A fault is told on standard error, and the status is 16, whether or not its line goes out.
+  abbrev pub Tells : H → E → Fault → ℕ → H → E → Type 0
+  Tells h err fault status after err' =
+      Shows host h fault after × Sent stderr err err' (fault_text fault) × (status ≡ fault_status)
+
+  -- nothing is told of what ended well
+  abbrev pub Ends : H → E → Result ℕ Fault → ℕ → H → E → Type 0
+  Ends h err (Ok code) status after err' = (status ≡ code) × (after ≡ h) × (err' ≡ err)
+  Ends h err (Err fault) status after err' = Tells h err fault status after err'
+
+module _ {H D O E : Type 0} (host : HostGhosts H D) (g : Ghosts D) (stdout : SinkGhosts O) (stderr : SinkGhosts E) where
+  -- What the words ask for is done, and told if it failed; or the fault of the words is told, and nothing is done.
+  abbrev pub Answers : List (List ℕ) → H → O → E → ℕ → H → O → E → Type 0
+  Answers words h out err status after out' err' =
+      ((asked : Invocation) × IsAsked words asked × (m : H) × (r : Result ℕ Fault)
+      × Serves host g stdout h asked out r m out' × Ends host stderr m err r status after err')
+      ⊎ ((fault : ArgFault) × IsUnasked words fault × Tells host stderr h err (Arg fault) status after err'
+      × (out' ≡ out))

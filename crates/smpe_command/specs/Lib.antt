@@ -1,0 +1,5 @@
+pub mod Asking
+pub mod Reading
+pub mod Database
+pub mod Serving
+pub mod Answering

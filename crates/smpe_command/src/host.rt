@@ -1,0 +1,50 @@
+//! What the program asks of its surroundings.
+ghost use Rattle.std.specs.Prelude.{◌≡◌, ℕ, List, false, IfOk, IfErr};
+ghost use Rattle.std.specs.declared.io.Error.{Error as ReadError};
+ghost use Rattle.sqlite.specs.declared.error.Error.{Error};
+ghost use Rattle.sqlite.specs.Held.{Held};
+ghost use Rattle.clap.specs.declared.error.Error.{Error as WordsError};
+
+use sqlite::{Alter, Connection};
+use std::io;
+
+/// The surroundings of the program. Each ghost member relates them before a call, what was asked and answered, and them
+/// after it.
+pub trait Host {
+    /// Where a database is kept.
+    type Disk: Alter + Drop;
+
+    /// The file of this name was read, and has these bytes.
+    ghost gives: { Self → List ℕ → List ℕ → Self → Type 0 };
+
+    /// The file of this name was not read, for this error.
+    ghost withholds: { Self → List ℕ → ReadError → Self → Type 0 };
+
+    /// The database of this name was opened, or made, and this is the connection to it.
+    ghost opens: { Self → List ℕ → Held Self.Disk → Self → Type 0 };
+
+    /// The database of this name was not opened, for this error.
+    ghost refuses: { Self → List ℕ → Error → Self → Type 0 };
+
+    /// The connection was closed.
+    ghost closes: { Self → Held Self.Disk → Self → Type 0 };
+
+    /// The text of `clap`'s error was shown on standard error.
+    ghost shows: { Self → WordsError → Self → Type 0 };
+
+    /// Reads a file whole.
+    fn read(&mut self, name: &str) -> io::Result<Vec<u8>>
+        ensures ok { IfOk result (λ bytes. gives self.old name.now bytes.items self.new) }
+        ensures err { IfErr result (λ error. withholds self.old name.now error self.new) };
+
+    fn open(&mut self, name: &str) -> Result<Connection<Self::Disk>, sqlite::Error>
+        ensures ok { IfOk result (λ conn. opens self.old name.now conn self.new) }
+        ensures err { IfErr result (λ error. refuses self.old name.now error self.new) }
+        ensures mode { IfOk result (λ conn. conn.in_transaction ≡ false) };
+
+    fn close(&mut self, conn: Connection<Self::Disk>)
+        ensures { closes self.old conn self.new };
+
+    fn show(&mut self, error: &clap::Error)
+        ensures { shows self.old error.now self.new };
+}

@@ -1,0 +1,71 @@
+//! The program but for its input and output.
+ghost use Rattle.std.specs.Prelude.{◌≡◌, map, IfOk, IfErr};
+ghost use Rattle.smpe_invocation.specs.declared.fault.ArgFault.TheVariants.{Memory};
+ghost use Rattle.smpe.specs.declared.messages.Fault.TheVariants.{Arg};
+ghost use Rattle.smpe_command.specs.Answering.{Answers, Shows, Tells};
+
+use crate::host::Host;
+use crate::jobs::served;
+use crate::words::asked;
+use report::Sink;
+use smpe::{ArgFault, FAULT_STATUS, Fault, fault_line};
+use std::alloc::{AllocError, Global};
+
+/// Does what the words ask for, of which the first is the program's name, and answers the status. Want of memory for
+/// the words themselves is a fault of the words.
+pub fn command<H: Host, O: Sink, E: Sink>(
+    alloc: Global,
+    host: &mut H,
+    words: &Result<Vec<Vec<u8>>, AllocError>,
+    out: &mut O,
+    err: &mut E,
+) -> u8
+    ensures words { IfOk words.now (λ all. Answers H.Host H.Disk.Store O.Sink E.Sink
+        (map (λ word. word.items) all.items) host.old out.old err.old result host.new out.new err.new) }
+    ensures none { IfErr words.now (λ error. Tells H.Host E.Sink host.old err.old (Arg Memory) result host.new err.new
+        × (out.new ≡ out.old)) }
+{
+    match words {
+        Ok(words) => answered(alloc, host, words.as_slice(), out, err),
+        Err(_) => told(host, &Fault::Arg(ArgFault::Memory), err),
+    }
+}
+
+fn answered<H: Host, O: Sink, E: Sink>(
+    alloc: Global,
+    host: &mut H,
+    words: &[Vec<u8>],
+    out: &mut O,
+    err: &mut E,
+) -> u8
+    ensures { Answers H.Host H.Disk.Store O.Sink E.Sink (map (λ word. word.items) words.now) host.old out.old err.old
+        result host.new out.new err.new }
+{
+    match asked(alloc, words) {
+        Ok(asked) => match served(alloc, host, &asked, out) {
+            Ok(status) => status,
+            Err(fault) => told(host, &fault, err),
+        },
+        Err(fault) => told(host, &Fault::Arg(fault), err),
+    }
+}
+
+// Tells a fault on standard error, and answers its status, also where nothing can be written there.
+fn told<H: Host, E: Sink>(host: &mut H, fault: &Fault<'_>, err: &mut E) -> u8
+    ensures { Tells H.Host E.Sink host.old err.old fault.now result host.new err.new }
+{
+    show(host, fault);
+    fault_line(fault, err).unwrap_or(FAULT_STATUS)
+}
+
+fn show<H: Host>(host: &mut H, fault: &Fault<'_>)
+    ensures { Shows H.Host host.old fault.now host.new }
+{
+    match fault {
+        Fault::Arg(ArgFault::Clap(error)) => host.show(error),
+        Fault::Arg(ArgFault::Memory) => {}
+        Fault::Arg(ArgFault::BadOperand) => {}
+        Fault::Job(_) => {}
+        Fault::CannotRead(_) => {}
+    }
+}

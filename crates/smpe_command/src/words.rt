@@ -1,0 +1,69 @@
+//! What the words of the command line ask for.
+ghost use Rattle.std.specs.Prelude.{◌≡◌, ◌↔◌, IsTrue, All, map, IfOk, IfErr};
+ghost use Rattle.std.specs.Str.{IsUtf8};
+ghost use Rattle.std.specs.String.{string_bytes};
+ghost use Rattle.smpe_invocation.specs.Answers.{IsRead, IsRefused};
+ghost use Rattle.smpe_command.specs.Asking.{IsAsked, IsUnasked, shown};
+
+use smpe::{ArgFault, Invocation, invocation};
+use std::alloc::{AllocError, Global};
+
+/// What is asked for. A word that is not UTF-8 is a bad operand, where `clap` takes the words.
+pub(crate) fn asked(alloc: Global, words: &[Vec<u8>]) -> Result<Invocation, ArgFault>
+    ensures ok { IfOk result (IsAsked (map (λ word. word.items) words.now)) }
+    ensures err { IfErr result (IsUnasked (map (λ word. word.items) words.now)) }
+{
+    let texts = texts(alloc, words)?;
+    let asked = read(alloc, texts.as_slice())?;
+    if are_text(words) {
+        Ok(asked)
+    } else {
+        drop(asked);
+        Err(ArgFault::BadOperand)
+    }
+}
+
+fn read(alloc: Global, texts: &[String]) -> Result<Invocation, ArgFault>
+    ensures ok { IfOk result (IsRead (map string_bytes texts.now)) }
+    ensures err { IfErr result (IsRefused (map string_bytes texts.now)) }
+{
+    let words = views(alloc, texts)?;
+    invocation(alloc, words.as_slice())
+}
+
+fn views<'a>(alloc: Global, texts: &'a [String]) -> Result<Vec<&'a str>, AllocError>
+    ensures { IfOk result (λ views. map (λ view. view.now) views.items ≡ map string_bytes texts.entry.now) }
+{
+    let mut views: Vec<&'a str> = Vec::new(alloc);
+    for text in texts {
+        views.push(text.as_str())?;
+    }
+    Ok(views)
+}
+
+fn texts(alloc: Global, words: &[Vec<u8>]) -> Result<Vec<String>, AllocError>
+    ensures { IfOk result (λ texts. map string_bytes texts.items ≡ shown (map (λ word. word.items) words.now)) }
+{
+    let mut texts = Vec::new(alloc);
+    for word in words {
+        texts.push(String::from_utf8_lossy(alloc, word.as_slice())?)?;
+    }
+    Ok(texts)
+}
+
+fn are_text(words: &[Vec<u8>]) -> bool
+    ensures { IsTrue result ↔ All (λ word. IsUtf8 word.items) words.now }
+{
+    for word in words {
+        if !is_text(word.as_slice()) {
+            return false;
+        }
+    }
+    true
+}
+
+fn is_text(word: &[u8]) -> bool
+    ensures { IsTrue result ↔ IsUtf8 word.now }
+{
+    str::from_utf8(word).is_ok()
+}
