@@ -53,7 +53,8 @@ pub permuted_any : {X : Type 0} (P : X → Type 0) (xs ys : List X) → IsPermut
 permuted_any P xs ys same any =
     let m = in_any P xs any in any_in P ys m.0 (Contains-permutation xs ys m.0 same m.1) m.2
 
-pub permuted_changers : (i : Installation) (g : Global) (c : Choice) (type : ElemType) (name : Text) (o : Option Element)
+pub permuted_changers : (i : Installation) (g : Global) (c : Choice) (type : ElemType) (name : Text)
+    (o : Option Element)
     (xs ys : List Id) → IsPermutation xs ys → AreChangers i g c type name o xs → AreChangers i g c type name o ys
 permuted_changers i g c type name o xs ys same are = record {
   global = are.global;

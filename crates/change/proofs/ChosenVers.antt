@@ -8,7 +8,7 @@ use Rattle.std.specs.Str.{bytes_eq}
 use Rattle.std.proofs.lemmas.List.Elements.{Contains-append_left, Contains-append_right}
 use Rattle.std.proofs.lemmas.List.Elements.{All-contains}
 use Rattle.lemmas.proofs.Booleans.{neither}
-use Rattle.lemmas.proofs.Members.{here, none_in, in_map, in_filter, filter_in}
+use Rattle.lemmas.proofs.Members.{here, none_in, in_map, in_filter, filter_in, in_flat}
 use Rattle.lemmas.proofs.Places.{contains_at}
 use Rattle.lemmas.proofs.Searches.{find-gives, All-find, All-from_no_list_any}
 use Rattle.lemmas.proofs.Texts.{same_from}
@@ -21,7 +21,6 @@ use Rattle.sysmods.specs.Choices.{choice}
 use Rattle.terms.specs.Over.{Reaches, Supersedes, names}
 use Rattle.terms.specs.Global.{named, names_for, HasLoop, is_service, named_functions, fits_roles, RolesFit}
 use Rattle.terms.proofs.Leads.{reaches_more, last_step}
-use Rattle.change.proofs.InTurn.{in_flat}
 
 -- an item of a list of which none passes the test
 fails_test : {X : Type 0} (p : X → Bool) (xs : List X) → list_any p xs ≡ false → (x : X) → Contains xs x → p x ≡ false

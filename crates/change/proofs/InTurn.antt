@@ -2,36 +2,15 @@
 use Rattle.std.proofs.Common.{◌≡◌, ◌⊎◌, inl, inr, Bool, true, false, List, [], ◌∷◌, refl, sym, ap, ◌∙◌, subst, cond}
 use Rattle.std.proofs.Common.{true≢false}
 use Rattle.std.specs.Prelude.{Contains, find, fold, Some}
-use Rattle.std.specs.List.{flat_map}
 use Rattle.std.specs.declared.cmp.Ordering.{Ordering}
 use Rattle.std.specs.Ordering.{is_eq}
 use Rattle.std.specs.Cmp.{IsTotalOrder}
-use Rattle.std.proofs.lemmas.List.Elements.{Contains-append_left, Contains-append_right, Contains-append_cases}
 use Rattle.lemmas.proofs.Orderings.{Equal-from_is_eq}
 use Rattle.tables.specs.declared.edits.Edit.TheVariants.{Put}
 use Rattle.terms.specs.Rising.{Rises, with_item}
 use Rattle.terms.proofs.RisingLists.{find-there, Splits-around}
 use Rattle.tables.proofs.Editing.{find-after_edit}
 use Rattle.lemmas.proofs.Members.{here, there, here_or, none_in, parts}
-
--- what lists of lists contain
-pub flat_in : {X Y : Type 0} (f : X → List Y) (xs : List X) (y : Y) → Contains (flat_map f xs) y
-    → (x : X) × Contains xs x × Contains (f x) y
-flat_in f [] y h = absurd (none_in y h)
-flat_in f (x ∷ xs) y h =
-    elim (Contains-append_cases (f x) (flat_map f xs) y h) [
-      | inl first ↦ (x, here x xs, first)
-      | inr later ↦ let m = flat_in f xs y later in (m.0, there x xs m.0 m.1, m.2)
-    ]
-
-pub in_flat : {X Y : Type 0} (f : X → List Y) (xs : List X) (x : X) (y : Y) → Contains xs x → Contains (f x) y
-    → Contains (flat_map f xs) y
-in_flat f [] x y h k = absurd (none_in x h)
-in_flat f (z ∷ xs) x y h k =
-    elim (here_or z xs x h) [
-      | inl same ↦ Contains-append_left (f z) (flat_map f xs) y (subst (λ v. Contains (f v) y) (sym same) k)
-      | inr later ↦ Contains-append_right (f z) (flat_map f xs) y (in_flat f xs x y later k)
-    ]
 
 module _ {X K : Type 0} {R : K → K → Ordering} (o : IsTotalOrder R) (key : X → K) (E : K → K → Bool)
     (ties : (a b : K) → E a b ≡ is_eq (R a b)) where

@@ -24,11 +24,11 @@ use Rattle.terms.specs.Needs.{Needs}
 use Rattle.terms.specs.Judged.{Stays}
 use Rattle.terms.specs.Install.{Installation, TakesEffect, cleared}
 use Rattle.terms.proofs.Ids.{Contains-from_is_in}
+use Rattle.terms.proofs.Walks.{reaches_or_not}
 use Rattle.change.specs.Elements.{HasBases}
 use Rattle.change.proofs.ChosenVers.{AreFor, counting_for, names_received, names_no_loop, fmid_function}
 use Rattle.change.proofs.ChosenVers.{function_first}
 use Rattle.change.proofs.FmidChains.{deleted_by_owner}
-use Rattle.change.proofs.Walks.{reaches_or_not}
 use Rattle.change.proofs.LessLookups.{deleted_by_one, element_stays, element_was, applied_was}
 
 -- an update changes the element

@@ -5,7 +5,7 @@ use Rattle.std.specs.Prelude.{◌&&◌, ◌||◌, is_some, slice_get, unwrap_or,
 use Rattle.std.specs.Option.{option_map, option_map_or, option_and_then}
 use Rattle.std.specs.Str.{bytes_eq}
 use Rattle.std.proofs.lemmas.List.Elements.{Contains-append_left, Contains-append_right}
-use Rattle.lemmas.proofs.Members.{in_map, none_in}
+use Rattle.lemmas.proofs.Members.{in_map, none_in, in_flat}
 use Rattle.lemmas.proofs.Searches.{find-gives, All-find}
 use Rattle.lemmas.proofs.Texts.{same_from}
 use Rattle.terms.specs.Types.{Text, Id, Entry, Global, Zone}
@@ -23,7 +23,6 @@ use Rattle.change.specs.Deleting.{AreDeletions, choice_of, is_gone, left, is_fun
 use Rattle.change.specs.Deleting.{first_deleter, delby_left, at_stake}
 use Rattle.change.specs.Entries.{bare_entry, old_entry, if_held}
 use Rattle.change.specs.Plans.{installation}
-use Rattle.change.proofs.InTurn.{in_flat}
 
 -- ---- what is left of an entry
 

@@ -7,7 +7,7 @@ use Rattle.std.specs.Cmp.Lexicographic.{texts_ties}
 use Rattle.std.specs.Str.{bytes_eq}
 use Rattle.std.proofs.lemmas.Cmp.{nat_list_cmp_total}
 use Rattle.std.proofs.lemmas.List.Folds.{Any-from_list_any, list_any-from_Any}
-use Rattle.lemmas.proofs.Members.{here_or, none_in, map_in, in_filter, filter_in}
+use Rattle.lemmas.proofs.Members.{here_or, none_in, map_in, in_filter, filter_in, flat_in}
 use Rattle.lemmas.proofs.Searches.{find-gives}
 use Rattle.terms.specs.declared.kinds.ElemType.{ElemType}
 use Rattle.terms.specs.Types.{Text, Id, type_number, Global, Entry, Element, Zone}
@@ -16,7 +16,7 @@ use Rattle.terms.specs.Choice.{Choice, del_of}
 use Rattle.terms.specs.Over.{chain}
 use Rattle.terms.specs.Deleted.{deletions, is_deleted, is_taken_out, entry_less, entries_less, zone_less}
 use Rattle.terms.proofs.Ids.{is_in-from_Contains, Contains-from_is_in}
-use Rattle.change.proofs.InTurn.{flat_in, find-member}
+use Rattle.change.proofs.InTurn.{find-member}
 
 -- a list with an item that passes the test has a first one
 pub find-some : {X : Type 0} (p : X → Bool) (xs : List X) (x : X) → Contains xs x → p x ≡ true → IsSome (find p xs)

@@ -10,7 +10,6 @@ pub mod InTurn
 pub mod Installable
 pub mod KeptTogether
 pub mod LessLookups
-pub mod Walks
 pub mod Made
 pub mod Planned
 pub mod Put

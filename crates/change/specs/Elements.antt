@@ -10,7 +10,8 @@ use Rattle.terms.specs.Deleted.{zone_less}
 use Rattle.terms.specs.Install.{Installation, TakesEffect, cleared, HasElementAfter}
 
 -- an install of which these SYSMODs take effect on the zone less these deletions
-pub record IsInstallOf (i : Installation) (g : Global) (c : Choice) (zone : Zone) (deletions effective : List Id) : Type 0
+pub record IsInstallOf (i : Installation) (g : Global) (c : Choice) (zone : Zone)
+    (deletions effective : List Id) : Type 0
   where
     pub global : i.global ≡ g
     pub choice : i.choice ≡ c

@@ -30,10 +30,10 @@ use Rattle.terms.proofs.RisingLists.{find-there, Splits-around}
 use Rattle.lemmas.proofs.Members.{here, none_in, filter_in, in_filter, parts}
 use Rattle.lemmas.proofs.Searches.{All-find}
 use Rattle.lemmas.proofs.Texts.{same_from, same_itself}
+use Rattle.terms.proofs.ChangedElements.{change-there, change-found, change-has}
 use Rattle.judge.specs.declared.own.OwnFaults.{OwnFaults}
 use Rattle.judge.specs.Own.{is_foreign_at, is_bare_at, HasFaults, passes_alone, passes}
 use Rattle.judge.specs.Rows.{fails_test}
-use Rattle.judge.proofs.Collapsed.{change-there, change-found, change-has}
 
 pub off : (b : Bool) → ¬ IsTrue b → not b ≡ true
 off true lacks = absurd (lacks refl)

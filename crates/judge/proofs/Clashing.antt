@@ -10,13 +10,13 @@ use Rattle.terms.specs.Types.{Text, Id, Global}
 use Rattle.terms.specs.Lookups.{changes_of, has_change}
 use Rattle.terms.specs.Choice.{Choice, npre_of}
 use Rattle.terms.specs.Tests.{Setting, Survives, Clash, FailsJ9}
+use Rattle.terms.proofs.ChangedElements.{change-found, change-has}
 use Rattle.judge.specs.declared.own.OwnFaults.{OwnFaults}
 use Rattle.judge.specs.declared.claims.Claim.{Claim}
 use Rattle.judge.specs.Own.{passes}
 use Rattle.judge.specs.Claims.{change_key, a_claim, PassesAt, AreClaims}
 use Rattle.judge.specs.Sharing.{ClashesOnOne, IsAmong, IsClashing}
 use Rattle.judge.specs.Forbidding.{IsForbidding}
-use Rattle.judge.proofs.Collapsed.{change-found, change-has}
 use Rattle.judge_needs.proofs.Lists.{beside-there}
 
 -- what it claims, it changes, and the other way round

@@ -21,9 +21,9 @@ use Rattle.terms.specs.Choice.{Choice, npre_of}
 use Rattle.terms.specs.Deleted.{is_deleted, zone_less}
 use Rattle.lemmas.proofs.Searches.{find-gives}
 use Rattle.lemmas.proofs.Texts.{same_from, same_itself}
+use Rattle.lemmas.proofs.Lists.{front-more}
 use Rattle.zones_less.proofs.Lookups.{is_applied-less}
 use Rattle.judge.specs.Forbidders.{Forbidders, forbidders_of, Gains, ForbidsBy, AreForbidders, IsForbidden}
-use Rattle.judge_needs.proofs.Growing.{front-more}
 
 abbrev C : Id → Id → Ordering
 C = slice_cmp nat_cmp

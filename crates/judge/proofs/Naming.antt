@@ -11,12 +11,12 @@ use Rattle.terms.specs.Lookups.{IsRising, is_in}
 use Rattle.terms.specs.Choice.{Choice, npre_of}
 use Rattle.terms.proofs.Ids.{is_in-from_Contains}
 use Rattle.lemmas.proofs.Places.{contains_at}
+use Rattle.lemmas.proofs.Lists.{front-more}
 use Rattle.judge.specs.declared.own.OwnFaults.{OwnFaults}
 use Rattle.judge.specs.Own.{passes}
 use Rattle.judge.specs.Claims.{PassesAt}
 use Rattle.judge.specs.Sharing.{Marks, IsClashing}
 use Rattle.judge.specs.Forbidding.{IsEither, IsOfNamed, IsOfOne, IsByNpre, IsByNpreBefore, IsForbidding, AreClashing}
-use Rattle.judge_needs.proofs.Growing.{front-more}
 use Rattle.judge.proofs.Marks.{marks-join, marks-same}
 use Rattle.judge_needs.proofs.OwnPlaces.{two-places}
 

@@ -179,8 +179,3 @@ module _ (s : Setting) (is_global : IsGlobal s.global) (rising : IsRising s.cand
       survivors = survivors;
       are_survivors = are-survivors;
     }
-
--- pairs are made of their parts
-pub same-pairs : {X Y : Type 0} (xs : List (X × Y)) → map (λ p. (p.0, p.1)) xs ≡ xs
-same-pairs [] = refl
-same-pairs (x ∷ xs) = ap (λ l. x ∷ l) (same-pairs xs)

@@ -1,11 +1,12 @@
 -- The demands of a problem stand beside the needs.
-use Rattle.std.proofs.Common.{◌≡◌, ◌≢◌, inl, inr, ℕ, zero, suc, ◌<◌, ◌+◌, Bool, List, [], ◌∷◌, ◌++◌, length, Some, refl}
-use Rattle.std.proofs.Common.{sym, ap, ◌∙◌, subst, map, arith, slice_get}
+use Rattle.std.proofs.Common.{◌≡◌, ◌≢◌, inl, inr, ℕ, ◌<◌, ◌+◌, Bool, List, [], ◌∷◌, ◌++◌, Some, refl}
+use Rattle.std.proofs.Common.{sym, ap, ◌∙◌, subst, map, slice_get}
 use Rattle.std.specs.Prelude.{AllPairs, take}
 use Rattle.std.specs.Option.{option_map}
 use Rattle.std.proofs.lemmas.Bool.{cases_order}
 use Rattle.std.proofs.lemmas.List.{map-append, take_more}
 use Rattle.std.proofs.lemmas.Option.{slice_get_within, slice_get-map, get_or_from_slice_get, same_Some}
+use Rattle.lemmas.proofs.Places.{at-place}
 use Rattle.terms.specs.declared.codes.NeedKind.{NeedKind}
 use Rattle.terms.specs.Types.{Id}
 use Rattle.solve.specs.Problem.{Demand, Problem}
@@ -13,12 +14,6 @@ use Rattle.judge_needs.specs.declared.wanted.Want.{Want}
 use Rattle.judge_needs.specs.Wanted.{a_want}
 use Rattle.judge_needs.specs.Numbered.{IsDemandFor, HasDemands, AddsDemand}
 use Rattle.judge_needs.proofs.Lists.{beside-at}
-
--- what stands at a place of a list as long as another
-at-place : {X : Type 0} (xs : List X) (n : ℕ) → n < length xs → (x : X) × (slice_get xs n ≡ Some x)
-at-place [] n below = absurd (omega (arith, below))
-at-place (x ∷ xs) zero below = (x, refl)
-at-place (x ∷ xs) (suc n) below = at-place xs n (omega (arith, below))
 
 adds-over : (old new : Problem) (d : Demand) → new ≡ record old { demands = old.demands ++ d ∷ [] }
     → (new.size ≡ old.size) × (new.eligible ≡ old.eligible) × (new.demands ≡ old.demands ++ d ∷ [])

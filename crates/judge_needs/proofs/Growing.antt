@@ -12,11 +12,12 @@ use Rattle.std.specs.Ordering.{is_eq, nat_cmp}
 use Rattle.std.specs.Cmp.Lexicographic.{slice_cmp}
 use Rattle.std.specs.BTreeMap.{get, UpdatesBy}
 use Rattle.std.proofs.lemmas.Map.Text.{is_eq-slice_cmp}
-use Rattle.std.proofs.lemmas.List.{take_more, map-append}
+use Rattle.std.proofs.lemmas.List.{map-append}
 use Rattle.std.proofs.lemmas.List.Concat.{flat_map-append}
 use Rattle.terms.specs.Types.{Id, IfReq, Entry}
 use Rattle.terms.specs.Choice.{Choice}
 use Rattle.lemmas.proofs.Texts.{same_from, same_itself}
+use Rattle.lemmas.proofs.Lists.{front-more}
 use Rattle.judge_needs.specs.declared.stated.Requisite.{Requisite}
 use Rattle.judge_needs.specs.Conditions.{Lists, a_requisite, listed, stated_by, Adds}
 
@@ -44,11 +45,6 @@ filter-append {X} p (x ∷ xs) ys =
         ≡ cond b (x ∷ filter p xs) (filter p xs) ++ filter p ys
     by true = refl
     by false = refl
-
--- the items of a list's front and the next
-pub front-more : {X : Type 0} (xs : List X) (k : ℕ) (x : X) → k < length xs → x ≡ get_or xs k x
-    → take (k + 1) xs ≡ take k xs ++ x ∷ []
-front-more xs k x below at = take_more xs k x below ∙ ap (λ v. take k xs ++ v ∷ []) (sym at)
 
 pub conditions-more : (p : Id → Bool) (conditions : List IfReq) (k : ℕ) (i : IfReq) → k < length conditions
     → i ≡ get_or conditions k i

@@ -1,10 +1,11 @@
 -- Lists that grow by one, beside lists that a loop goes over.
-use Rattle.std.proofs.Common.{◌≡◌, ◌⊎◌, inl, inr, ℕ, zero, suc, ◌<◌, ◌≤◌, ◌+◌, List, [], ◌∷◌, ◌++◌, length}
+use Rattle.std.proofs.Common.{◌≡◌, inl, inr, ℕ, zero, suc, ◌<◌, ◌≤◌, ◌+◌, List, [], ◌∷◌, ◌++◌, length}
 use Rattle.std.proofs.Common.{length-append, Some, refl, sym, ap, ◌∙◌, subst, arith, slice_get}
 use Rattle.std.specs.Prelude.{All, get_or, take}
 use Rattle.std.proofs.lemmas.List.{take_more, take_all, length-take-le}
 use Rattle.std.proofs.lemmas.List.Elements.{All-push}
 use Rattle.std.proofs.lemmas.Option.{slice_get_within, get_or_from_slice_get}
+use Rattle.lemmas.proofs.Places.{push-cases, at-place}
 use Rattle.judge_needs.specs.Placed.{Beside}
 
 -- one more at the end of a list
@@ -17,14 +18,6 @@ push-old (z ∷ zs) y (suc i) x e = push-old zs y i x e
 pub push-last : {X : Type 0} (xs : List X) (y : X) → slice_get (xs ++ y ∷ []) (length xs) ≡ Some y
 push-last [] y = refl
 push-last (z ∷ zs) y = push-last zs y
-
-pub push-cases : {X : Type 0} (xs : List X) (y : X) (i : ℕ) (x : X) → slice_get (xs ++ y ∷ []) i ≡ Some x
-    → (slice_get xs i ≡ Some x) ⊎ ((i ≡ length xs) × (y ≡ x))
-push-cases [] y zero x e = inr (refl, cc e)
-push-cases [] y (suc i) x e = absurd (cc e)
-push-cases (z ∷ zs) y zero x e = inl e
-push-cases (z ∷ zs) y (suc i) x e = elim (push-cases zs y i x e)
-    [ inl old ↦ inl old | inr last ↦ inr (ap suc last.0, last.1) ]
 
 pub beside-more : {X Y : Type 0} (R : ℕ → X → Y → Type 0) (xs : List X) (ys : List Y) (x : X) (y : Y) → Beside R xs ys
     → R (length xs) x y → Beside R (xs ++ x ∷ []) (ys ++ y ∷ [])
@@ -46,12 +39,7 @@ beside-more R xs ys x y b r = record {
 -- what stands beside an item
 pub beside-there : {X Y : Type 0} (xs : List X) (ys : List Y) → length ys ≡ length xs → (n : ℕ) (x : X)
     → slice_get xs n ≡ Some x → (y : Y) × (slice_get ys n ≡ Some y)
-beside-there {X} {Y} xs ys same n x at = by ys n (subst (λ k. n < k) (sym same) (slice_get_within xs n x at))
-  where
-    by : (all : List Y) (n : ℕ) → n < length all → (y : Y) × (slice_get all n ≡ Some y)
-    by [] n below = absurd (omega (arith, below))
-    by (y ∷ more) zero below = (y, refl)
-    by (y ∷ more) (suc n) below = by more n (omega (arith, below))
+beside-there xs ys same n x at = at-place ys n (subst (λ k. n < k) (sym same) (slice_get_within xs n x at))
 
 -- the next of a list, as a loop goes over it
 pub beside-next : {X Y : Type 0} (R : ℕ → X → Y → Type 0) (xs : List X) (ys new : List Y) (i : ℕ) (x : X) (y : Y)

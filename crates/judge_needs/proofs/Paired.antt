@@ -7,8 +7,8 @@ use Rattle.terms.specs.Types.{Id}
 use Rattle.terms.specs.Tests.{Setting}
 use Rattle.terms.specs.Needs.{bypassed_ids}
 use Rattle.lemmas.proofs.Members.{here, here_or, none_in, in_map, map_in}
+use Rattle.lemmas.proofs.Lists.{front-more}
 use Rattle.judge_needs.specs.Bypassed.{AddsPairs, AreBypassed}
-use Rattle.judge_needs.proofs.Growing.{front-more}
 
 pub pairs-map : (x : Id) (more : List Id) (old new : List (Id × Id)) → new ≡ old ++ map (λ z. (x, z)) more
     → AddsPairs x more old new

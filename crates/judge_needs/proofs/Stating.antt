@@ -1,44 +1,23 @@
 -- What SYSMODs that deletions leave state for functions.
-use Rattle.std.proofs.Common.{◌≡◌, Bool, true, false, List, [], ◌∷◌, ◌++◌, filter, map, find, cond, is_some}
-use Rattle.std.proofs.Common.{Option, None, Some, IsTrue, Contains, refl, sym, ap, ◌∙◌, subst, inl, inr}
+use Rattle.std.proofs.Common.{◌≡◌, Bool, true, false, List, [], ◌∷◌, ◌++◌, filter, map, cond, is_some}
+use Rattle.std.proofs.Common.{Option, None, Some, Contains, refl, sym, ap, ◌∙◌}
 use Rattle.std.specs.Prelude.{◌&&◌, not, if◌then◌else◌}
 use Rattle.std.specs.List.{flat_map}
 use Rattle.std.specs.Option.{option_map_or}
-use Rattle.std.specs.Ordering.{is_lt, nat_cmp}
-use Rattle.std.specs.Cmp.Lexicographic.{slice_cmp}
 use Rattle.std.specs.Str.{bytes_eq}
 use Rattle.std.proofs.lemmas.List.{map-append}
-use Rattle.lemmas.proofs.Members.{none_in, here, here_or, there}
-use Rattle.lemmas.proofs.Orderings.{Less-from_is_lt}
-use Rattle.lemmas.proofs.Pairs.{AllPairs-first, AllPairs-rest}
-use Rattle.lemmas.proofs.Texts.{same_itself, other_from_less}
-use Rattle.terms.specs.Rising.{Rises}
+use Rattle.lemmas.proofs.Members.{here, there}
 use Rattle.terms.specs.Types.{Text, Id, Global, Entry, Zone}
 use Rattle.terms.specs.Lookups.{is_held, is_applied, applied_ids, IsZone}
 use Rattle.terms.specs.Choice.{Choice}
 use Rattle.terms.specs.Deleted.{is_deleted, is_taken_out, entry_less, zone_less}
 use Rattle.terms.specs.Conditions.{if_reqs, stated_for}
+use Rattle.terms.proofs.Applied.{found_itself}
 use Rattle.zones_less.proofs.Flats.{filter-weaker}
 use Rattle.zones_less.proofs.Lookups.{is_applied-less}
 use Rattle.judge_needs.specs.declared.stated.Requisite.{Requisite}
 use Rattle.judge_needs.specs.Conditions.{a_requisite, stated_by}
 use Rattle.judge_needs.proofs.Growing.{filter-append}
-
--- an entry is found at its own id
-found_itself : (es : List Entry) → Rises (slice_cmp nat_cmp) (λ e. e.id) es → (e : Entry) → Contains es e
-    → find (λ v. bytes_eq v.id e.id) es ≡ Some e
-found_itself [] rising e h = absurd (none_in e h)
-found_itself (v ∷ es) rising e h = elim (here_or v es e h) [
-  | inl same ↦ subst (λ (w : Entry). find (λ u. bytes_eq u.id w.id) (v ∷ es) ≡ Some w) same (rw (same_itself v.id) refl)
-  | inr later ↦ (
-      let less = subst (λ (w : Entry). IsTrue (is_lt (slice_cmp nat_cmp v.id w.id))) later.2
-      (AllPairs-first Below v es rising later.0 e later.1) in
-      rw (other_from_less v.id e.id (Less-from_is_lt (slice_cmp nat_cmp v.id e.id) less))
-      (found_itself es (AllPairs-rest Below v es rising) e later))
-]
-  where
-    Below : Entry → Entry → Type 0
-    Below a b = IsTrue (is_lt (slice_cmp nat_cmp a.id b.id))
 
 dated-left : (gone : Bool) (date : Option Text) → is_some (if gone then None else date) ≡ (is_some date && not gone)
 dated-left true None = refl

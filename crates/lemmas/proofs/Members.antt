@@ -1,6 +1,7 @@
 -- What stands in a list.
 use Rattle.std.proofs.Common.{List, ◌∷◌, refl, arith, suc, ◌≡◌, zero, inl, inr, ◌⊎◌, [], ◌++◌, ap, ◌≢◌, map, subst}
 use Rattle.std.proofs.Common.{Bool, true, false, filter, Contains, sym, ◌∙◌, true≢false}
+use Rattle.std.specs.List.{flat_map}
 use Rattle.std.proofs.lemmas.List.Elements.{Contains-append_left, Contains-append_right, Contains-append_cases}
 use Rattle.std.proofs.lemmas.List.Elements.{All-filter, Contains-get_or, filter_passes}
 
@@ -83,3 +84,20 @@ filter_in {X} p xs x at = (
 
 pub in_middle : {X : Type 0} (before : List X) (x : X) (after : List X) → Contains (before ++ x ∷ after) x
 in_middle before x after = Contains-append_right before (x ∷ after) x (here x after)
+
+-- what the lists of all items hold together
+pub flat_in : {X Y : Type 0} (f : X → List Y) (xs : List X) (y : Y) → Contains (flat_map f xs) y
+    → (x : X) × Contains xs x × Contains (f x) y
+flat_in f [] y h = absurd (none_in y h)
+flat_in f (x ∷ xs) y h = elim (Contains-append_cases (f x) (flat_map f xs) y h) [
+  | inl first ↦ (x, here x xs, first)
+  | inr rest ↦ let more = flat_in f xs y rest in (more.0, there x xs more.0 more.1, more.2)
+]
+
+pub in_flat : {X Y : Type 0} (f : X → List Y) (xs : List X) (x : X) (y : Y) → Contains xs x → Contains (f x) y
+    → Contains (flat_map f xs) y
+in_flat f [] x y h within = absurd (none_in x h)
+in_flat f (z ∷ xs) x y h within = elim (here_or z xs x h) [
+  | inl same ↦ Contains-append_left (f z) (flat_map f xs) y (subst (λ w. Contains (f w) y) (sym same) within)
+  | inr rest ↦ Contains-append_right (f z) (flat_map f xs) y (in_flat f xs x y rest within)
+]

@@ -1,5 +1,5 @@
 -- What stands at a place of a list.
-use Rattle.std.proofs.Common.{◌∙◌, ap, subst}
+use Rattle.std.proofs.Common.{◌∙◌, ◌⊎◌, ◌<◌, ◌++◌, ap, subst, refl, inl, inr, zero, suc, [], ◌∷◌, length, arith}
 use Rattle.std.specs.Prelude.{◌≡◌, ℕ, List, Some, Contains, slice_get, Any, All}
 use Rattle.std.proofs.lemmas.Option.{slice_get_within, get_or_from_slice_get, slice_get-get_or}
 
@@ -19,3 +19,18 @@ any_found P xs a = (a.0, a.1, slice_get-get_or xs a.0 a.1 a.2 ∙ ap (λ v. Some
 -- what holds of all elements holds of the one that is found
 pub All-found : {X : Type 0} (P : X → Type 0) (xs : List X) (i : ℕ) (x : X) → All P xs → slice_get xs i ≡ Some x → P x
 All-found P xs i x all e = subst P (get_or_from_slice_get xs i x x e) (all i x (slice_get_within xs i x e))
+
+-- what stands at a place of a list as long as another
+pub at-place : {X : Type 0} (xs : List X) (n : ℕ) → n < length xs → (x : X) × (slice_get xs n ≡ Some x)
+at-place [] n below = absurd (omega (arith, below))
+at-place (x ∷ xs) zero below = (x, refl)
+at-place (x ∷ xs) (suc n) below = at-place xs n (omega (arith, below))
+
+-- a place of a list with one more
+pub push-cases : {X : Type 0} (xs : List X) (y : X) (i : ℕ) (x : X) → slice_get (xs ++ y ∷ []) i ≡ Some x
+    → (slice_get xs i ≡ Some x) ⊎ ((i ≡ length xs) × (y ≡ x))
+push-cases [] y zero x e = inr (refl, cc e)
+push-cases [] y (suc i) x e = absurd (cc e)
+push-cases (z ∷ zs) y zero x e = inl e
+push-cases (z ∷ zs) y (suc i) x e = elim (push-cases zs y i x e)
+    [ inl old ↦ inl old | inr last ↦ inr (ap suc last.0, last.1) ]

@@ -107,7 +107,8 @@ applied_words Distribution (Some date) = codes "ACCEPTED" ∷ date ∷ []
 abbrev pub entry_text : ZoneKind → Entry → Text
 entry_text kind e =
     words_line (codes "ENTRY" ∷ e.id ∷ applied_words kind e.applied
-    ++ codes "SUPBY" ∷ list_text e.supby ∷ codes "DELBY" ∷ optional_text e.delby ∷ codes "WAIVED" ∷ list_text e.waived ∷ [])
+    ++ codes "SUPBY" ∷ list_text e.supby ∷ codes "DELBY" ∷ optional_text e.delby
+    ∷ codes "WAIVED" ∷ list_text e.waived ∷ [])
 
 abbrev pub element_text : ElementRow → Text
 element_text e =

@@ -20,29 +20,41 @@ use Rattle.mcs.specs.Said.{IsSaid, IsSaidError}
 use Rattle.mcs.proofs.Saying.{if_excludes}
 
 -- the words of an ++IF are FMID, THEN and REQ
-pub words_are : (s : Sysmod) (own : Option Text) (ws : List Word) (i : IfReq) (rest : List Piece) → HasWords rest ws → (h : IsIfOf s own ws i) → HasWords rest (h.fmid ∷ plain (codes "THEN") ∷ h.req ∷ [])
+pub words_are : (s : Sysmod) (own : Option Text) (ws : List Word) (i : IfReq) (rest : List Piece) → HasWords rest ws
+    → (h : IsIfOf s own ws i) → HasWords rest (h.fmid ∷ plain (codes "THEN") ∷ h.req ∷ [])
 words_are s own ws i rest words h = subst (HasWords rest) h.are_operands words
 
 -- so they are those that were read
-pub lists_are : (s : Sysmod) (own : Option Text) (ws : List Word) (i : IfReq) (rest : List Piece) (fmid req : Word) → HasWords rest ws → (h : IsIfOf s own ws i) → HasWords rest (fmid ∷ plain (codes "THEN") ∷ req ∷ []) → (h.fmid ≡ fmid) × (h.req ≡ req)
+pub lists_are : (s : Sysmod) (own : Option Text) (ws : List Word) (i : IfReq) (rest : List Piece) (fmid req : Word)
+    → HasWords rest ws → (h : IsIfOf s own ws i) → HasWords rest (fmid ∷ plain (codes "THEN") ∷ req ∷ [])
+    → (h.fmid ≡ fmid) × (h.req ≡ req)
 lists_are s own ws i rest fmid req words h read =
-    let same = words-only rest (h.fmid ∷ plain (codes "THEN") ∷ h.req ∷ []) (fmid ∷ plain (codes "THEN") ∷ req ∷ []) (words_are s own ws i rest words h) read in
+    let same = words-only rest (h.fmid ∷ plain (codes "THEN") ∷ h.req ∷ []) (fmid ∷ plain (codes "THEN") ∷ req ∷ [])
+    (words_are s own ws i rest words h) read in
     (cc (same), cc (same))
 
-pub function_of : (s : Sysmod) (own : Option Text) (ws : List Word) (i : IfReq) (rest : List Piece) (fmid req : Word) → HasWords rest ws → IsIfOf s own ws i → HasWords rest (fmid ∷ plain (codes "THEN") ∷ req ∷ []) → HasOne IsId fmid i.function
+pub function_of : (s : Sysmod) (own : Option Text) (ws : List Word) (i : IfReq) (rest : List Piece) (fmid req : Word)
+    → HasWords rest ws → IsIfOf s own ws i → HasWords rest (fmid ∷ plain (codes "THEN") ∷ req ∷ [])
+    → HasOne IsId fmid i.function
 function_of s own ws i rest fmid req words h read = subst (λ w. HasOne IsId w i.function)
     (lists_are s own ws i rest fmid req words h read).0 h.function
 
-pub ids_of : (s : Sysmod) (own : Option Text) (ws : List Word) (i : IfReq) (rest : List Piece) (fmid req : Word) → HasWords rest ws → IsIfOf s own ws i → HasWords rest (fmid ∷ plain (codes "THEN") ∷ req ∷ []) → HasSorted IsId req i.req
+pub ids_of : (s : Sysmod) (own : Option Text) (ws : List Word) (i : IfReq) (rest : List Piece) (fmid req : Word)
+    → HasWords rest ws → IsIfOf s own ws i → HasWords rest (fmid ∷ plain (codes "THEN") ∷ req ∷ [])
+    → HasSorted IsId req i.req
 ids_of s own ws i rest fmid req words h read = subst (λ w. HasSorted IsId w i.req)
     (lists_are s own ws i rest fmid req words h read).1 h.ids
 
 -- the list is determined
-pub ids_are : (s : Sysmod) (own : Option Text) (ws : List Word) (i : IfReq) (rest : List Piece) (fmid req : Word) (ids : List Id) → HasWords rest ws → IsIfOf s own ws i → HasWords rest (fmid ∷ plain (codes "THEN") ∷ req ∷ []) → HasSorted IsId req ids → i.req ≡ ids
+pub ids_are : (s : Sysmod) (own : Option Text) (ws : List Word) (i : IfReq) (rest : List Piece) (fmid req : Word)
+    (ids : List Id) → HasWords rest ws → IsIfOf s own ws i → HasWords rest (fmid ∷ plain (codes "THEN") ∷ req ∷ [])
+    → HasSorted IsId req ids → i.req ≡ ids
 ids_are s own ws i rest fmid req ids words h read sorted = has_sorted-only IsId req i.req ids
     (ids_of s own ws i rest fmid req words h read) sorted
 
-pub if_is : (s : Sysmod) (own : Option Text) (rest : List Piece) (fmid req : Word) (i : IfReq) → own ≡ None → fmid.word ≡ codes "FMID" → req.word ≡ codes "REQ" → HasWords rest (fmid ∷ plain (codes "THEN") ∷ req ∷ []) → HasOne IsId fmid i.function → HasSorted IsId req i.req → (Contains i.req s.id → ⊥)
+pub if_is : (s : Sysmod) (own : Option Text) (rest : List Piece) (fmid req : Word) (i : IfReq) → own ≡ None
+    → fmid.word ≡ codes "FMID" → req.word ≡ codes "REQ" → HasWords rest (fmid ∷ plain (codes "THEN") ∷ req ∷ [])
+    → HasOne IsId fmid i.function → HasSorted IsId req i.req → (Contains i.req s.id → ⊥)
     → (ws : List Word) × HasWords rest ws × IsIfOf s own ws i
 if_is s own rest fmid req i no_list fmid_word req_word words function ids others = (
   fmid ∷ plain (codes "THEN") ∷ req ∷ [],

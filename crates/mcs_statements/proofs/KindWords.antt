@@ -97,9 +97,13 @@ from_own User = refl
 pub kind_found : (ws : List Word) (error system user : Bool) (kind : HoldKind) → HasFlags ws error system user
     → HasKind ws kind → kind_from error system user ≡ Some kind
 kind_found ws error system user kind f h =
-    let a : error ≡ is_kind kind Error = flag-only (operand (codes "ERROR") ws) error (is_kind kind Error) f.error_flag (kind_flag ws kind Error h) in
-    let b : system ≡ is_kind kind System = flag-only (operand (codes "SYSTEM") ws) system (is_kind kind System) f.system_flag (kind_flag ws kind System h) in
-    let c : user ≡ is_kind kind User = flag-only (operand (codes "USER") ws) user (is_kind kind User) f.user_flag (kind_flag ws kind User h) in
+    let a : error ≡ is_kind kind Error =
+    flag-only (operand (codes "ERROR") ws) error (is_kind kind Error) f.error_flag (kind_flag ws kind Error h) in
+    let b : system ≡ is_kind kind System =
+    flag-only (operand (codes "SYSTEM") ws) system (is_kind kind System) f.system_flag
+    (kind_flag ws kind System h) in
+    let c : user ≡ is_kind kind User =
+    flag-only (operand (codes "USER") ws) user (is_kind kind User) f.user_flag (kind_flag ws kind User h) in
     ap (λ x. kind_from x system user) a ∙ ap (λ x. kind_from (is_kind kind Error) x user) b
     ∙ ap (λ x. kind_from (is_kind kind Error) (is_kind kind System) x) c ∙ from_own kind
 

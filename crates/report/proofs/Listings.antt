@@ -80,7 +80,8 @@ entry_parts Distribution (Some date) id supby delby waived =
 -- the words of an element
 pub element_parts : (type name fmid rmid umids distlib syslib : List ℕ)
     → codes "ELEM " ++ (type ++ (32 ∷ (name ++ (codes " FMID " ++ (fmid ++ (codes " RMID " ++ (rmid
-    ++ (codes " UMID " ++ (umids ++ (codes " DISTLIB " ++ (distlib ++ (codes " SYSLIB " ++ (syslib ++ 10 ∷ [])))))))))))))
+    ++ (codes " UMID " ++
+    (umids ++ (codes " DISTLIB " ++ (distlib ++ (codes " SYSLIB " ++ (syslib ++ 10 ∷ [])))))))))))))
     ≡ words_line (codes "ELEM" ∷ type ∷ name ∷ codes "FMID" ∷ fmid ∷ codes "RMID" ∷ rmid ∷ codes "UMID" ∷ umids
     ∷ codes "DISTLIB" ∷ distlib ∷ codes "SYSLIB" ∷ syslib ∷ [])
 element_parts type name fmid rmid umids distlib syslib =
@@ -119,7 +120,8 @@ element-code false e = refl
 -- LIST has the code 0
 pub list_global-code : (g : Global) → lines_code (list_global g) ≡ 0
 list_global-code g =
-    codes-append (map (λ s. SysmodLine s.id s.kind s.sources) g.sysmods) (map (λ h. HoldLine h.id h.kind h.reason h.internal) g.holds)
+    codes-append (map (λ s. SysmodLine s.id s.kind s.sources) g.sysmods)
+    (map (λ h. HoldLine h.id h.kind h.reason h.internal) g.holds)
     (codes-of (λ s. SysmodLine s.id s.kind s.sources) g.sysmods (λ s. refl))
     (codes-of (λ h. HoldLine h.id h.kind h.reason h.internal) g.holds (λ h. refl))
 

@@ -34,7 +34,8 @@ pub header_parts : (word boundary : List ℕ) (check : Bool)
     → word ++ (32 ∷ (boundary ++ ((if check then codes " CHECK" else []) ++ 10 ∷ [])))
     ≡ words_line (word ∷ boundary ∷ (if check then codes "CHECK" ∷ [] else []))
 header_parts word boundary true =
-    ap (λ t. word ++ (32 ∷ t)) (words_line-more boundary (codes "CHECK") []) ∙ words_line-more word boundary (codes "CHECK" ∷ [])
+    ap (λ t. word ++ (32 ∷ t)) (words_line-more boundary (codes "CHECK") [])
+    ∙ words_line-more word boundary (codes "CHECK" ∷ [])
 header_parts word boundary false = words_line-more word boundary []
 
 -- the words of a fault
@@ -49,7 +50,8 @@ fault_parts word number code =
     ∙ words_line-more (codes "REFUSED") word (codes "RECORD" ∷ number ∷ code ∷ [])
 
 -- the words of a need
-pub need_parts : (kind id : List ℕ) → codes "  NEED " ++ (kind ++ (32 ∷ (id ++ 10 ∷ []))) ≡ detail_line (codes "NEED" ∷ kind ∷ id ∷ [])
+pub need_parts : (kind id : List ℕ)
+    → codes "  NEED " ++ (kind ++ (32 ∷ (id ++ 10 ∷ []))) ≡ detail_line (codes "NEED" ∷ kind ∷ id ∷ [])
 need_parts kind id = ap (λ t. codes "  NEED " ++ t) (words_line-more kind id [])
 
 -- the words of a status line
@@ -66,7 +68,9 @@ status_parts id place status detail =
         ∙ words_line-more x y ys
 
 -- the words of the fault of a command file
-pub control_parts : (number code : List ℕ) → codes "CONTROL RECORD " ++ (number ++ (32 ∷ (code ++ 10 ∷ []))) ≡ words_line (codes "CONTROL" ∷ codes "RECORD" ∷ number ∷ code ∷ [])
+pub control_parts : (number code : List ℕ)
+    → codes "CONTROL RECORD "
+    ++ (number ++ (32 ∷ (code ++ 10 ∷ []))) ≡ words_line (codes "CONTROL" ∷ codes "RECORD" ∷ number ∷ code ∷ [])
 control_parts number code =
     ap (λ t. codes "CONTROL RECORD " ++ t) (words_line-more number code [])
     ∙ ap (λ t. codes "CONTROL " ++ t) (words_line-more (codes "RECORD") number (code ∷ []))

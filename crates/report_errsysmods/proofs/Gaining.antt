@@ -9,7 +9,6 @@ use Rattle.std.specs.declared.cmp.Ordering.{Ordering}
 use Rattle.std.specs.Cmp.Lexicographic.{slice_cmp}
 use Rattle.std.specs.BTreeMap.{get, UpdatesBy}
 use Rattle.std.specs.Str.{bytes_eq}
-use Rattle.std.proofs.lemmas.List.{take_more}
 use Rattle.std.proofs.lemmas.Map.Text.{is_eq-slice_cmp}
 use Rattle.std.proofs.lemmas.List.Elements.{Contains-append_left, Contains-push, Contains-push_cases}
 use Rattle.terms.specs.Types as terms
@@ -18,6 +17,7 @@ use Rattle.terms.specs.Choice.{Choice}
 use Rattle.terms.specs.Over.{Supersedes}
 use Rattle.lemmas.proofs.Members.{none_in}
 use Rattle.lemmas.proofs.Texts.{same_from, same_itself}
+use Rattle.lemmas.proofs.Lists.{front-more}
 use Rattle.report_errsysmods.specs.declared.open.OpenError.{OpenError}
 use Rattle.report_errsysmods.specs.Resolvers.{Resolvers, resolvers_of, is_asked, HasReasons, Gains, ResolvesBy}
 use Rattle.report_errsysmods.specs.Resolvers.{AreResolvers}
@@ -28,11 +28,6 @@ C = slice_cmp nat_cmp
 not_there : {A : Type 0} (k z : Id) → is_eq (C k z) ≡ false → z ≡ k → A
 not_there k z e same = absurd (true≢false (sym (is_eq-slice_cmp k z
     ∙ subst (λ v. bytes_eq k v ≡ true) (sym same) (same_itself k)) ∙ e))
-
--- one more item of a list that a loop goes over
-pub front-more : {X : Type 0} (xs : List X) (k : ℕ) (x : X) → k < length xs → x ≡ get_or xs k x
-    → take (k + 1) xs ≡ take k xs ++ x ∷ []
-front-more xs k x below at = take_more xs k x below ∙ ap (λ v. take k xs ++ v ∷ []) (sym at)
 
 -- a reason more
 pub reasons-next : (errors : List OpenError) (i : ℕ) (o : OpenError) (old new : Resolvers) (w : Vec Id Global)
@@ -100,7 +95,8 @@ gains-update old new k f was w there updates goes_on = record {
           ]),
         )
     has z y false e =
-        let is : resolvers_of new z ≡ resolvers_of old z = ap (λ v. option_map_or (λ v. v.items) v []) (now z false e) in (
+        let is : resolvers_of new z ≡ resolvers_of old z =
+        ap (λ v. option_map_or (λ v. v.items) v []) (now z false e) in (
           λ h. inl (subst (λ l. Contains l y) is h),
           λ h. subst (λ l. Contains l y) (sym is) (elim h [
             | inl before ↦ before
@@ -226,7 +222,8 @@ adding-last c old new ids rest a rest_is =
     subst (λ l. Gains old new (λ z y. Contains l y × ResolvesBy c y z))
     (sym (a.ids_are ∙ ap (λ l. a.done ++ l) rest_is ∙ append-nil a.done)) a.gains
 
-pub gathered-all : (g : terms.Global) (c : Choice) (errors : List OpenError) (old new : Resolvers) → HasReasons errors old
+pub gathered-all : (g : terms.Global) (c : Choice) (errors : List OpenError) (old new : Resolvers)
+    → HasReasons errors old
     → Gains old new (λ z y. Contains (map (λ s. s.id) g.sysmods) y × ResolvesBy c y z) → AreResolvers g c errors new
 gathered-all g c errors old new has gains o is y = (
   λ h. elim ((gains.has o.reason y).0 h) [

@@ -1,4 +1,3 @@
 pub mod Gaining
 pub mod OpenHolds
 pub mod Reporting
-pub mod Walks

@@ -1,4 +1,5 @@
--- The lines of REPORT ERRSYSMODS are those of the definition: what resolves a reason can be told, since walks are short.
+-- The lines of REPORT ERRSYSMODS are those of the definition: what resolves a reason can be told, since walks are
+-- short.
 use Rattle.std.proofs.Common.{◌≡◌, ◌∙◌, ◌⊎◌, inl, inr, Bool, true, false, not, List, [], ◌∷◌, ◌++◌, map, filter}
 use Rattle.std.proofs.Common.{Option, None, Some, find, Contains, IsTrue, refl, sym, ap, subst, true≢false}
 use Rattle.std.proofs.lemmas.List.{map-append}
@@ -8,7 +9,7 @@ use Rattle.std.specs.Option.{option_map_or}
 use Rattle.std.specs.Str.{bytes_eq}
 use Rattle.std.proofs.lemmas.List.Elements.{Contains-append_left, Contains-append_right}
 use Rattle.std.proofs.lemmas.List.Kept.{AllPairs-filter}
-use Rattle.lemmas.proofs.Members.{here, here_or, none_in, in_map, in_filter, filter_in}
+use Rattle.lemmas.proofs.Members.{here, none_in, in_map, in_filter, filter_in, in_flat}
 use Rattle.lemmas.proofs.Pairs.{pairs_map}
 use Rattle.lemmas.proofs.Searches.{find-gives}
 use Rattle.lemmas.proofs.Texts.{same_from, same_or_not}
@@ -18,6 +19,7 @@ use Rattle.terms.specs.Choice.{Choice, vers_of, fits, or_first, counting, sup_of
 use Rattle.terms.specs.Over.{Reaches}
 use Rattle.terms.specs.Global.{IsGlobal, named, names_for}
 use Rattle.terms.proofs.Leads.{reaches_more}
+use Rattle.terms.proofs.Walks.{reaches_or_not}
 use Rattle.machine.specs.Outcome as machine
 use Rattle.machine.specs.Errsysmods.{AreErrsysmods, Resolves, is_current, open_errors}
 use Rattle.report.specs.Views.{line_view}
@@ -26,20 +28,10 @@ use Rattle.report_errsysmods.specs.declared.open.OpenError.{OpenError}
 use Rattle.report_errsysmods.specs.Open.{an_open, open_on}
 use Rattle.report_errsysmods.specs.Resolvers.{Resolvers, AreResolvers, ResolvesBy}
 use Rattle.report_errsysmods.specs.Lines.{AreLinesOf}
-use Rattle.report_errsysmods.proofs.Walks.{reaches_or_not}
 
 map-map : {X Y Z : Type 0} (f : Y → Z) (h : X → Y) (xs : List X) → map f (map h xs) ≡ map (λ x. f (h x)) xs
 map-map f h [] = refl
 map-map f h (x ∷ xs) = ap (λ l. f (h x) ∷ l) (map-map f h xs)
-
-in_flat : {X Y : Type 0} (f : X → List Y) (xs : List X) (x : X) (y : Y) → Contains xs x → Contains (f x) y
-    → Contains (flat_map f xs) y
-in_flat f [] x y h k = absurd (none_in x h)
-in_flat f (z ∷ xs) x y h k =
-    elim (here_or z xs x h) [
-      | inl same ↦ Contains-append_left (f z) (flat_map f xs) y (subst (λ v. Contains (f v) y) (sym same) k)
-      | inr later ↦ Contains-append_right (f z) (flat_map f xs) y (in_flat f xs x y later k)
-    ]
 
 -- one is found, or else the first is taken
 first_in : (p : Ver → Bool) (vs : List Ver) (v : Ver) → or_first vs (find p vs) ≡ Some v → Contains vs v
@@ -93,7 +85,8 @@ module _ (g : Global) (zone : Zone) (is_global : IsGlobal g) where
   sup_among : (x z : Id) → Contains (sup_of c x) z → Contains (names_for g zone.srel x) z
   sup_among x z is =
       let from = sup_by x z is in
-      in_flat named (vers_of g zone.srel x) from.0 z from.1 (Contains-append_left (from.0.pre ++ from.0.sup) (at_most_one from.0.fmid) z
+      in_flat named (vers_of g zone.srel x) from.0 z from.1
+      (Contains-append_left (from.0.pre ++ from.0.sup) (at_most_one from.0.fmid) z
       (Contains-append_right from.0.pre from.0.sup z from.2))
 
   no_loop : (x : Id) → ¬ Reaches (sup_of c) x x
@@ -169,7 +162,8 @@ module _ (g : Global) (zone : Zone) (is_global : IsGlobal g) where
   printed_on (e ∷ es) =
       map-append printed (open_on g zone e.id) (flat_map (λ e. open_on g zone e.id) es)
       ∙ ap (λ l. map printed (open_on g zone e.id) ++ l) (printed_on es)
-      ∙ ap (λ l. l ++ flat_map (λ e. map (λ h. machine.ErrsysmodLine e.id h.reason (resolvers h.reason)) (open_errors g zone e)) es)
+      ∙ ap (λ l. l ++ flat_map (λ e. map (λ h. machine.ErrsysmodLine e.id h.reason (resolvers h.reason))
+      (open_errors g zone e)) es)
       (map-map printed (λ h. an_open e.id h.reason) (open_errors g zone e))
 
   pub are_errsysmods : (errors : List OpenError) (all : Resolvers) (lines : List Line)

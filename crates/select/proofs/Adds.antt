@@ -26,9 +26,11 @@ adds-append old mid new xs ys first second = record {
 
 -- what the next of a list stands for comes in
 pub adds-flat : (f : Id → List Id) (old xs seen new : List Id) (i : ℕ) (x : Id) → i < length xs → x ≡ get_or xs i x
-    → AddsAll seen (f x) new → AddsAll old (flat_map f (take i xs)) seen → AddsAll old (flat_map f (take (i + 1) xs)) new
+    → AddsAll seen (f x) new → AddsAll old (flat_map f (take i xs)) seen
+    → AddsAll old (flat_map f (take (i + 1) xs)) new
 adds-flat f old xs seen new i x below at more adds =
-    subst (λ named. AddsAll old named new) (sym next) (adds-append old seen new (flat_map f (take i xs)) (f x) adds more)
+    subst (λ named. AddsAll old named new) (sym next)
+    (adds-append old seen new (flat_map f (take i xs)) (f x) adds more)
   where
     next : flat_map f (take (i + 1) xs) ≡ flat_map f (take i xs) ++ f x
     next =

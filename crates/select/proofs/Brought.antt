@@ -11,12 +11,11 @@ use Rattle.terms.specs.Lookups.{at_most_one, is_applied, is_supplied, is_functio
 use Rattle.terms.specs.Choice.{Choice, fmid_of, pre_of, req_of, ifs_of}
 use Rattle.sysmods.specs.Choices.{by_srel}
 use Rattle.terms.specs.Conditions.{if_reqs, stated_for}
-use Rattle.lemmas.proofs.Members.{none_in, filter_in, in_filter}
+use Rattle.lemmas.proofs.Members.{none_in, filter_in, in_filter, flat_in, in_flat}
+use Rattle.terms.proofs.Applied.{AppliedAre}
 use Rattle.sysmods_received.specs.Namers.{function_namers}
 use Rattle.select.specs.Growing.{taken_up, has_grown, reqs_if, is_there, counts_for, stated, reasons}
 use Rattle.select.specs.Growing.{own_requisites, brought_by}
-use Rattle.select.proofs.Flat.{flat_in, in_flat}
-use Rattle.select.proofs.Applied.{AppliedAre}
 use Rattle.select.proofs.Needs.{Asks, Fmid, Listed, ByIf, Stated, Reason}
 use Rattle.select.proofs.Listed.{stating_listed}
 

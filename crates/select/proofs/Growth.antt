@@ -19,14 +19,13 @@ use Rattle.terms.specs.Candidates.{is_installable, is_open, is_start, is_growing
 use Rattle.terms.specs.Candidates.{needed_ids, open_reasons, Extends, BringsIn, IsClosedPair, AreCandidates}
 use Rattle.terms.proofs.Ids.{is_in-from_Contains, Contains-from_is_in}
 use Rattle.terms.proofs.Leads.{reaches_named, reaches_last}
-use Rattle.lemmas.proofs.Members.{none_in, here, filter_in, in_filter}
+use Rattle.lemmas.proofs.Members.{none_in, here, filter_in, in_filter, flat_in, in_flat}
+use Rattle.terms.proofs.Applied.{AppliedAre}
 use Rattle.sysmods_paths.specs.Seen.{AddsAll}
 use Rattle.sysmods_paths.proofs.Growth.{adds-keeps, adds-cases, take-adds}
 use Rattle.sysmods_received.specs.Namers.{namers_for}
 use Rattle.select.specs.Growing.{WillDo, IsAsked, taken_up, has_grown, asked_by, HasAsked, AreAsked, brought_by}
 use Rattle.select.specs.Growing.{superseders, next_asked, asked_first}
-use Rattle.select.proofs.Applied.{AppliedAre}
-use Rattle.select.proofs.Flat.{flat_in, in_flat}
 use Rattle.select.proofs.Opened.{open_parts}
 use Rattle.select.proofs.Needs.{Asks, asks_from, asks_needed, asks_asked, asks_with, asks_more, needed_asked}
 use Rattle.select.proofs.Needs.{reason_asked, needed_for}

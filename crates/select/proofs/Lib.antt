@@ -1,8 +1,6 @@
 pub mod Kept
-pub mod Flat
 pub mod Adds
 pub mod Opened
-pub mod Applied
 pub mod ErrorReasons
 pub mod OneVer
 pub mod Needs

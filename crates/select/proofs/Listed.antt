@@ -14,13 +14,12 @@ use Rattle.terms.specs.Choice.{ifs_of, sup_of}
 use Rattle.sysmods.specs.Choices.{by_srel}
 use Rattle.terms.specs.Global.{named, named_functions, names_for}
 use Rattle.terms.specs.Conditions.{if_reqs}
-use Rattle.lemmas.proofs.Members.{none_in, here_or, in_map, in_filter}
+use Rattle.lemmas.proofs.Members.{none_in, here_or, in_map, in_filter, in_flat}
 use Rattle.lemmas.proofs.Searches.{find-gives}
 use Rattle.lemmas.proofs.Texts.{same_from}
 use Rattle.sysmods_received.specs.Held.{zone_of}
 use Rattle.sysmods_received.specs.Namers.{namers_for, names_as_function, function_namers}
 use Rattle.terms.proofs.Ids.{is_in-from_Contains}
-use Rattle.select.proofs.Flat.{in_flat}
 use Rattle.select.proofs.Needs.{if_in}
 
 -- What names anything in a ++VER that counts is received.

@@ -13,10 +13,9 @@ use Rattle.sysmods.specs.Choices.{by_srel}
 use Rattle.terms.specs.Global.{IsGlobal}
 use Rattle.terms.specs.Candidates.{needed_ids, open_reasons}
 use Rattle.terms.specs.Conditions.{if_reqs, stated_for, if_needed}
-use Rattle.lemmas.proofs.Members.{none_in, filter_in, in_filter}
+use Rattle.lemmas.proofs.Members.{none_in, filter_in, in_filter, flat_in, in_flat}
 use Rattle.lemmas.proofs.Texts.{same_from, same_itself}
 use Rattle.select.specs.Growing.{asked_by}
-use Rattle.select.proofs.Flat.{flat_in, in_flat}
 use Rattle.select.proofs.OneVer.{needed_are}
 
 -- The requisites of ++IFs whose function passes.

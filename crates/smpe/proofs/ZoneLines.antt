@@ -4,10 +4,13 @@ use Rattle.std.specs.Prelude.{codes}
 use Rattle.machine.specs.Report.{words_line}
 use Rattle.report.proofs.Texts.{words_line-more}
 
-pub defined_parts : (name : List ℕ) → codes "ZONE " ++ (name ++ (codes " DEFINED" ++ 10 ∷ [])) ≡ words_line (codes "ZONE" ∷ name ∷ codes "DEFINED" ∷ [])
-defined_parts name = ap (λ t. codes "ZONE " ++ t) (words_line-more name (codes "DEFINED") []) ∙ words_line-more (codes "ZONE") name (codes "DEFINED" ∷ [])
+pub defined_parts : (name : List ℕ)
+    → codes "ZONE " ++ (name ++ (codes " DEFINED" ++ 10 ∷ [])) ≡ words_line (codes "ZONE" ∷ name ∷ codes "DEFINED" ∷ [])
+defined_parts name = ap (λ t. codes "ZONE " ++ t) (words_line-more name (codes "DEFINED") [])
+    ∙ words_line-more (codes "ZONE") name (codes "DEFINED" ∷ [])
 
-pub refused_parts : (code : List ℕ) → codes "ZONE REFUSED " ++ (code ++ 10 ∷ []) ≡ words_line (codes "ZONE" ∷ codes "REFUSED" ∷ code ∷ [])
+pub refused_parts : (code : List ℕ)
+    → codes "ZONE REFUSED " ++ (code ++ 10 ∷ []) ≡ words_line (codes "ZONE" ∷ codes "REFUSED" ∷ code ∷ [])
 refused_parts code =
     ap (λ t. codes "ZONE " ++ t) (words_line-more (codes "REFUSED") code [])
     ∙ words_line-more (codes "ZONE") (codes "REFUSED") (code ∷ [])

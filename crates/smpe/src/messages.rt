@@ -48,7 +48,8 @@ fn write_refused<W: Sink>(fault: ZoneFault, w: &mut W) -> Result<u8, WriteFault>
     Ok(12)
 }
 
-/// Writes the line of a defined or refused zone, and answers the program's status: of a job its return code, which has no line here.
+/// Writes the line of a defined or refused zone, and answers the program's status: of a job its return code, which has
+/// no line here.
 pub fn zone_line<W: Sink>(name: ZoneName, answer: &Answer, w: &mut W) -> Result<u8, WriteFault>
     ensures sends { Sent W.Sink w.old w.new (zone_text name (answer_of answer.now)) }
     ensures fault { W.has_failed w.old ≡ false → W.has_failed w.new ≡ is_err result }

@@ -5,7 +5,7 @@ use Rattle.std.specs.Prelude.{◌↔◌}
 use Rattle.std.specs.List.{flat_map}
 use Rattle.std.specs.Option.{option_map_or}
 use Rattle.std.proofs.lemmas.Bool.{and_parts}
-use Rattle.lemmas.proofs.Members.{in_map, map_in}
+use Rattle.lemmas.proofs.Members.{in_map, map_in, flat_in, in_flat}
 use Rattle.lemmas.proofs.Searches.{find-gives}
 use Rattle.lemmas.proofs.Texts.{same_from}
 use Rattle.terms.specs.Types.{Text, Id, Sysmod, Global, Zone, Bypass, Selection}
@@ -15,7 +15,6 @@ use Rattle.terms.specs.Candidates.{AreCandidates, IsCandidate, is_installable}
 use Rattle.terms.specs.Tests.{Setting, Survives, AreSurvivors}
 use Rattle.terms.specs.Needs.{bypassed_ids}
 use Rattle.terms.specs.Judged.{setting, Stays, IsKeptSet}
-use Rattle.change.proofs.InTurn.{flat_in, in_flat}
 use Rattle.machine.specs.Installing.{Decision, IsDecision}
 use Rattle.smpe_upkeep.proofs.Decisions.{candidate_open}
 use Rattle.smpe_answers.proofs.Causes.{those_stably}

@@ -12,9 +12,9 @@ use Rattle.terms.specs.Global.{IsGlobal}
 use Rattle.terms.specs.Tests.{ShareElement}
 use Rattle.terms.specs.Install.{Installation, TakesEffect}
 use Rattle.terms.proofs.Ids.{in_or_not}
+use Rattle.terms.proofs.Walks.{reaches_or_not}
 use Rattle.change.specs.Elements.{HasBases}
 use Rattle.change.proofs.ChosenVers.{AreFor, names_received, never_itself}
-use Rattle.change.proofs.Walks.{reaches_or_not}
 use Rattle.store_schema.specs.Forms.{HasSysmodForms, HasZoneForms}
 use Rattle.smpe_answers.proofs.Finitely.{is_so, so_exactly}
 use Rattle.smpe_answers.proofs.RunsAnswered.{Decided, decided-some}

@@ -6,7 +6,7 @@ use Rattle.std.specs.List.{flat_map}
 use Rattle.std.specs.Option.{option_map_or, option_and_then}
 use Rattle.std.specs.Str.{bytes_eq}
 use Rattle.std.proofs.lemmas.Bool.{and_parts, or_cases}
-use Rattle.lemmas.proofs.Members.{here, there, none_in, in_map, filter_in}
+use Rattle.lemmas.proofs.Members.{here, there, none_in, in_map, filter_in, in_flat}
 use Rattle.lemmas.proofs.Places.{contains_at}
 use Rattle.lemmas.proofs.Searches.{find-gives}
 use Rattle.lemmas.proofs.Texts.{same_from}
@@ -19,7 +19,6 @@ use Rattle.terms.specs.Deleted.{deletions, is_deleted, is_taken_out}
 use Rattle.terms.specs.Install.{Installation, cleared, deleters, delby_after}
 use Rattle.terms.proofs.Ids.{Contains-from_is_in}
 use Rattle.terms.proofs.Leads.{last_step}
-use Rattle.change.proofs.InTurn.{in_flat}
 use Rattle.change.proofs.Leaving.{left-none}
 use Rattle.smpe_answers.proofs.Effective.{IsSoundInstall, received, superseder_received, effective, in_effective}
 use Rattle.smpe_answers.proofs.Effective.{superseders, in_superseders}

@@ -17,7 +17,7 @@ use Rattle.terms.specs.Global.{named, names_for, HasLoop, fits_roles, RolesFit, 
 use Rattle.terms.specs.Global.{with_sysmod, ReceiveFault, Rc1, Rc2, Rc3, Rc4, HasFault, received, Receives}
 use Rattle.terms.proofs.Leads.{reaches_named, reaches_first, reaches_more}
 use Rattle.terms.proofs.Loops.{names-others, LeadsBack, no_loop-from_search}
-use Rattle.change.proofs.Walks.{reaches_or_not}
+use Rattle.terms.proofs.Walks.{reaches_or_not}
 use Rattle.machine.specs.Outcome.{OfKind, OfHold, Assigned, Unknown, StatusLine}
 use Rattle.machine.specs.Receiving.{global_after, place_of, receive_status, sourced, hold_status, release_status}
 use Rattle.machine.specs.Receiving.{AssignsId, TakesItem, TakesHoldItem}

@@ -14,8 +14,8 @@ use Rattle.terms.specs.Choice.{Choice, vers_of, counting, pre_of, sup_of, fmid_o
 use Rattle.terms.specs.Over.{names, Supersedes}
 use Rattle.terms.specs.Global.{IsGlobal}
 use Rattle.terms.proofs.Leads.{reaches_more}
+use Rattle.terms.proofs.Walks.{reaches_or_not}
 use Rattle.change.proofs.ChosenVers.{AreFor, counting_for, names_received, names_no_loop}
-use Rattle.change.proofs.Walks.{reaches_or_not}
 use Rattle.machine.specs.Outcome.{Line, ErrsysmodLine}
 use Rattle.machine.specs.Errsysmods.{open_errors, is_current, Resolves, AreErrsysmods}
 use Rattle.smpe_answers.proofs.RunsAnswered.{Decided, decided-true}

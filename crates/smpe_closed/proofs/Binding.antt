@@ -2,13 +2,12 @@
 use Rattle.std.proofs.Common.{◌≡◌, ◌⊎◌, Bool, true, false, not, List, ◌++◌, Contains, filter, inl, inr}
 use Rattle.std.proofs.lemmas.Bool.{not-true, not_from_false}
 use Rattle.std.proofs.lemmas.List.Elements.{Contains-append_left, Contains-append_right, Contains-append_cases}
-use Rattle.lemmas.proofs.Members.{in_filter, filter_in}
+use Rattle.lemmas.proofs.Members.{in_filter, filter_in, flat_in, in_flat}
 use Rattle.terms.specs.Types.{Id, IfReq, Zone}
 use Rattle.terms.specs.Lookups.{is_in, waived_of}
 use Rattle.terms.specs.Choice.{Choice, pre_of, req_of, ifs_of}
 use Rattle.terms.specs.Conditions.{reqs_where}
 use Rattle.terms.specs.Needs.{unwaived, binding_ifs, binding_ids}
-use Rattle.change.proofs.InTurn.{flat_in, in_flat}
 
 -- An ++IF of w whose function is there requires z, and the function does not waive it.
 pub record BindsIf (c : Choice) (zone : Zone) (is_there : Id → Bool) (w z : Id) (i : IfReq) : Type 0 where

@@ -7,7 +7,7 @@ use Rattle.std.specs.Option.{option_map_or}
 use Rattle.std.specs.Str.{bytes_eq}
 use Rattle.std.proofs.lemmas.Bool.{or_parts}
 use Rattle.std.proofs.lemmas.List.Elements.{All-contains}
-use Rattle.lemmas.proofs.Members.{here_or, none_in, filter_in}
+use Rattle.lemmas.proofs.Members.{here_or, none_in, filter_in, flat_in, in_flat}
 use Rattle.terms.specs.declared.kinds.ElemType.{ElemType}
 use Rattle.lemmas.proofs.Searches.{All-find}
 use Rattle.terms.specs.Types.{Text, Id, Entry, Element}
@@ -21,7 +21,6 @@ use Rattle.terms.specs.Closed.{IsSupported}
 use Rattle.terms.proofs.Ids.{Contains-from_is_in}
 use Rattle.change.proofs.ChosenVers.{names_received, names_no_loop}
 use Rattle.change.proofs.FmidChains.{chain_of}
-use Rattle.change.proofs.InTurn.{flat_in, in_flat}
 use Rattle.change.proofs.KeptTogether.{kept_fmid}
 use Rattle.smpe_closed.proofs.AppliedIds.{in_applied_ids}
 use Rattle.smpe_closed.proofs.Supplied.{fewer_applied, fewer_supplied, fewer_element}

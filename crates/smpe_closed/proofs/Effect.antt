@@ -12,9 +12,9 @@ use Rattle.terms.specs.Tests.{Setting}
 use Rattle.terms.specs.Install.{Installation, TakesEffect, cleared, HasInstalled}
 use Rattle.terms.proofs.Ids.{in_or_not}
 use Rattle.terms.proofs.Leads.{reaches_through}
+use Rattle.terms.proofs.Walks.{reaches_or_not}
 use Rattle.change.proofs.ChosenVers.{names_received, never_itself, fmid_function, function_first}
 use Rattle.sysmods.proofs.Counting.{counted}
-use Rattle.change.proofs.Walks.{reaches_or_not}
 use Rattle.smpe_closed.proofs.Supplied.{applied_dated, supplied_or, supplied_applied, supplied_by}
 use Rattle.smpe_closed.proofs.Given.{Keeps, installing, kept_candidate, candidate_ver}
 use Rattle.smpe_closed.proofs.AlikeSysmods.{chosen_received}

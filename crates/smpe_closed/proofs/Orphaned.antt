@@ -5,7 +5,7 @@ use Rattle.std.specs.Prelude.{◌&&◌, ◌||◌, if◌then◌else◌}
 use Rattle.std.specs.Str.{bytes_eq}
 use Rattle.std.proofs.lemmas.Bool.{and_from, and_right, or_left, or_right}
 use Rattle.std.proofs.lemmas.List.Elements.{All-contains}
-use Rattle.lemmas.proofs.Members.{in_filter}
+use Rattle.lemmas.proofs.Members.{in_filter, in_flat}
 use Rattle.lemmas.proofs.Texts.{same_itself}
 use Rattle.terms.specs.declared.codes.NeedKind.TheVariants.{Orphan}
 use Rattle.terms.specs.Types.{Text, Id, Zone}
@@ -17,7 +17,6 @@ use Rattle.terms.specs.Needs.{binding_ids, is_lost, orphans, asked}
 use Rattle.terms.specs.Install.{HasInstalled}
 use Rattle.terms.proofs.Ids.{is_in-from_Contains}
 use Rattle.zones_less.proofs.Flats.{passes_some}
-use Rattle.change.proofs.InTurn.{in_flat}
 use Rattle.change.proofs.LessLookups.{deleted_by_one}
 use Rattle.smpe_closed.proofs.AppliedIds.{in_applied_ids}
 use Rattle.smpe_closed.proofs.Supplied.{supplied_or, supplied_applied, supplied_by}

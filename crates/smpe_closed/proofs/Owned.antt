@@ -7,7 +7,7 @@ use Rattle.std.specs.Str.{bytes_eq}
 use Rattle.std.proofs.lemmas.Bool.{cases_Bool, false_from_ne_true, or_from, and_parts, eqb-true}
 use Rattle.std.proofs.lemmas.List.Elements.{All-contains, All-contains_itself, All-cons, All-nil, All-head, All-tail}
 use Rattle.std.proofs.lemmas.Option.{same_Some}
-use Rattle.lemmas.proofs.Members.{here, there, here_or, none_in}
+use Rattle.lemmas.proofs.Members.{here, there, here_or, none_in, flat_in}
 use Rattle.lemmas.proofs.Searches.{All-find}
 use Rattle.lemmas.proofs.Texts.{same_or_not, same_from}
 use Rattle.terms.specs.declared.kinds.ElemType.{ElemType}
@@ -29,7 +29,6 @@ use Rattle.terms.proofs.ElementOrder.{element_cmp_total, element_ties, type_from
 use Rattle.terms.proofs.Ids.{Contains-from_is_in}
 use Rattle.machine.specs.Installing.{Decision}
 use Rattle.change.proofs.ChosenVers.{fmid_function, deleted_function}
-use Rattle.change.proofs.InTurn.{flat_in}
 use Rattle.change.proofs.KeptTogether.{kept_owner, update_changes}
 use Rattle.change.proofs.LessLookups.{element_was}
 use Rattle.smpe_upkeep.proofs.Lists.{find-itself}

@@ -10,7 +10,7 @@ use Rattle.std.proofs.lemmas.Bool.{and_parts, and_from, or_left, or_right, eqb-t
 use Rattle.std.proofs.lemmas.List.Elements.{All-contains, All-contains_itself, All-weaker}
 use Rattle.std.proofs.lemmas.List.Elements.{Contains-append_left, Contains-append_right, Contains-append_cases}
 use Rattle.std.proofs.lemmas.List.Folds.{Any-from_list_any}
-use Rattle.lemmas.proofs.Members.{here, there, here_or, none_in, in_filter, filter_in, map_in}
+use Rattle.lemmas.proofs.Members.{here, there, here_or, none_in, in_filter, filter_in, map_in, in_flat}
 use Rattle.lemmas.proofs.Searches.{All-from_no_list_any, find-gives}
 use Rattle.lemmas.proofs.Texts.{same_from, same_itself}
 use Rattle.terms.specs.declared.kinds.ElemType.{ElemType}
@@ -33,7 +33,6 @@ use Rattle.terms.proofs.Ids.{is_in-from_Contains, Contains-from_is_in}
 use Rattle.terms.proofs.ElementOrder.{element_cmp_total, element_ties}
 use Rattle.sysmods.specs.Choices.{by_srel}
 use Rattle.sysmods.proofs.Counting.{counted}
-use Rattle.change.proofs.InTurn.{in_flat}
 use Rattle.machine.specs.Outcome.{Line}
 use Rattle.machine.specs.Restoring.{RestoresListed}
 use Rattle.smpe_upkeep.proofs.Lists.{find-itself, flat_map_in}

@@ -6,6 +6,7 @@ use Rattle.std.specs.Str.{bytes_eq}
 use Rattle.std.proofs.lemmas.Bool.{or_left, or_right}
 use Rattle.std.proofs.lemmas.List.Elements.{Contains-append_left, Contains-append_right, Contains-get_or}
 use Rattle.lemmas.proofs.Texts.{same_itself}
+use Rattle.lemmas.proofs.Members.{in_flat}
 use Rattle.terms.specs.Types.{Text, Id, IfReq, Global, Zone, Bypass, Selection}
 use Rattle.terms.specs.Lookups.{is_in, is_function, is_applied, is_supplied, waived_of, applied_ids}
 use Rattle.terms.specs.Choice.{counting, fmid_of, pre_of, req_of, ifs_of}
@@ -18,7 +19,6 @@ use Rattle.terms.specs.Closed.{IsSupported}
 use Rattle.terms.proofs.Ids.{is_in-from_Contains}
 use Rattle.machine.specs.Installing.{Decision}
 use Rattle.change.proofs.ChosenVers.{if_function}
-use Rattle.change.proofs.InTurn.{in_flat}
 use Rattle.smpe_closed.proofs.AppliedIds.{in_applied_ids, applied_in_ids}
 use Rattle.smpe_closed.proofs.Supplied.{left_applied, waived_left}
 use Rattle.smpe_closed.proofs.Installs.{IsInstall}

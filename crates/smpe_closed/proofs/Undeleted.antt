@@ -3,7 +3,7 @@ use Rattle.std.proofs.Common.{◌≡◌, ◌∙◌, Bool, true, false, List, Som
 use Rattle.std.proofs.Common.{refl, sym, subst, true≢false}
 use Rattle.std.specs.Prelude.{◌+◌, length}
 use Rattle.std.proofs.lemmas.Bool.{false_from_ne_true}
-use Rattle.lemmas.proofs.Members.{here}
+use Rattle.lemmas.proofs.Members.{here, in_flat}
 use Rattle.terms.specs.Types.{Text, Id, Zone}
 use Rattle.terms.specs.Lookups.{is_applied}
 use Rattle.terms.specs.Choice.{fmid_of, del_of}
@@ -13,7 +13,6 @@ use Rattle.terms.specs.Tests.{Setting}
 use Rattle.terms.specs.Install.{HasInstalled}
 use Rattle.change.proofs.ChosenVers.{names_received, names_no_loop}
 use Rattle.change.proofs.FmidChains.{chain_of}
-use Rattle.change.proofs.InTurn.{in_flat}
 use Rattle.change.proofs.KeptTogether.{kept_fmid}
 use Rattle.change.proofs.LessLookups.{deleted_by_one}
 use Rattle.smpe_closed.proofs.Supplied.{left_applied, applied_left, deleted_more}

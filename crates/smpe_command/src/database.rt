@@ -36,7 +36,7 @@ pub(crate) fn run_over<H: Host, O: Sink>(
         files.hold.as_slice(),
         out,
     );
-    host.close(store.close());
+    host.close(&mut Some(store.close()));
     code
 }
 
@@ -54,7 +54,7 @@ pub(crate) fn define_over<H: Host>(
 {
     let mut store = opened(alloc, host, db)?;
     let defined = define_zone(&mut store, name, kind, srel, related);
-    host.close(store.close());
+    host.close(&mut Some(store.close()));
     answer(defined)
 }
 

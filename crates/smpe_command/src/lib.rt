@@ -1,8 +1,8 @@
 //! What the program makes of its command line.
 //! `command` reads the words, then the files, opens the database and runs the one job, writes what there is to write,
 //! and answers the status. Its contract says all of this of any surroundings (`Host`): which bytes become which
-//! argument, which answer becomes which status, which stream takes which line, and which fault is told first. Nothing is
-//! said of `clap`'s texts, nor of when want of memory or a fault of the database comes.
+//! argument, which answer becomes which status, which stream takes which line, and which fault is told first. Nothing
+//! is said of `clap`'s texts, nor of when want of memory or a fault of the database comes.
 #![tactic(auto)]
 
 mod database;

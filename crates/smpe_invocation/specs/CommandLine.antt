@@ -14,7 +14,8 @@ needed id = record (option id) { required = true }
 
 -- it takes a kind of zones, as it is spelled
 abbrev pub IsKindParser : ValueParser → Type 0
-IsKindParser kinds = (names : _) × (kinds ≡ Names names) × (map (λ name. name.now) names.now ≡ codes "target" ∷ codes "distribution" ∷ [])
+IsKindParser kinds = (names : _) × (kinds ≡ Names names)
+    × (map (λ name. name.now) names.now ≡ codes "target" ∷ codes "distribution" ∷ [])
 
 abbrev pub kind_option : ValueParser → Rule
 kind_option kinds = record (needed (codes "kind")) { parser = Some kinds }
@@ -26,12 +27,14 @@ with_options name rules = record (new_app name).top { rules = rules }
 -- `zone --db F --name Z --kind target|distribution --srel S [--related Z]`
 abbrev pub zone_shape : ValueParser → Shape
 zone_shape kinds = with_options (codes "zone")
-    (needed (codes "db") ∷ needed (codes "name") ∷ kind_option kinds ∷ needed (codes "srel") ∷ option (codes "related") ∷ [])
+    (needed (codes "db") ∷ needed (codes "name") ∷ kind_option kinds ∷ needed (codes "srel") ∷ option (codes "related")
+    ∷ [])
 
 -- `run --db F --date YYYY-MM-DD --cntl F [--ptfin F] [--hold F]`
 abbrev pub run_shape : Shape
 run_shape = with_options (codes "run")
-    (needed (codes "db") ∷ needed (codes "date") ∷ needed (codes "cntl") ∷ option (codes "ptfin") ∷ option (codes "hold") ∷ [])
+    (needed (codes "db") ∷ needed (codes "date") ∷ needed (codes "cntl") ∷ option (codes "ptfin")
+    ∷ option (codes "hold") ∷ [])
 
 -- `list --db F --zone Z`
 abbrev pub list_shape : Shape
@@ -40,7 +43,11 @@ list_shape = with_options (codes "list") (needed (codes "db") ∷ needed (codes 
 -- `smpe` with one of the three
 abbrev pub smpe : ValueParser → App
 smpe kinds = record {
-  top = record (new_app (codes "smpe")).top { is_leaf = false; subcommand_required = true; disable_help_subcommand = true };
+  top = record (new_app (codes "smpe")).top {
+    is_leaf = false;
+    subcommand_required = true;
+    disable_help_subcommand = true;
+  };
   subs = zone_shape kinds ∷ run_shape ∷ list_shape ∷ [];
 }
 

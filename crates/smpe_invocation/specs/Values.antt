@@ -28,7 +28,8 @@ HasRelated rows related = (first_of (codes "related") rows ≡ related) × IfSom
 
 -- the text is a day of the calendar, and this is that day as `yy.ddd`
 abbrev pub HasDate : List Row → Text → Type 0
-HasDate rows date = (text : Text) × HasText (codes "date") rows text × HasDateForm text × IsCalendarDay text × (date ≡ dotted text)
+HasDate rows date = (text : Text) × HasText (codes "date") rows text × HasDateForm text × IsCalendarDay text
+    × (date ≡ dotted text)
 
 abbrev pub HasZone : List Row → Invocation → Type 0
 HasZone rows (asked.Zone db name kind srel related) = HasText (codes "db") rows (string_bytes db)

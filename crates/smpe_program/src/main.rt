@@ -1,32 +1,20 @@
 //! `smpe`: defines a zone of a database, runs a job over it, or lists a zone.
-//! It is proved safe. That it hands files and words on as they are is seen in the code, and by its stored run.
+//! What it does is `smpe_command::command`; here is the input and output that it asks for, which is proved safe.
 #![tactic(auto)]
 
-mod database;
-mod files;
-mod status;
+mod host;
 mod words;
 
+use host::System;
 use report::Out;
-use smpe::{ArgFault, FAULT_STATUS, Fault, fault_line};
-use status::status_of;
+use smpe_command::command;
 use std::process::ExitCode;
-use words::asked;
+use words::words;
 
 fn main(rt: HostRuntime) -> ExitCode {
-    ExitCode::from(match asked(&rt) {
-        Ok(invocation) => match status_of(&rt, &invocation) {
-            Ok(status) => status,
-            Err(fault) => told(&rt, &fault),
-        },
-        Err(error) => told(&rt, &Fault::Arg(error)),
-    })
-}
-
-// Tells a fault on standard error, and answers its status, also where nothing can be written there.
-fn told(rt: &HostRuntime, fault: &Fault<'_>) -> u8 {
-    if let Fault::Arg(ArgFault::Clap(error)) = fault {
-        let _ = rt.eprint(error);
-    }
-    fault_line(fault, &mut Out::new(rt.stderr())).unwrap_or(FAULT_STATUS)
+    let words = words(&rt);
+    let mut host = System { rt: &rt };
+    let mut out = Out::new(rt.stdout());
+    let mut err = Out::new(rt.stderr());
+    ExitCode::from(command(rt.alloc(), &mut host, &words, &mut out, &mut err))
 }

@@ -230,7 +230,8 @@ target_related zones Distribution None right = refl
 target_related zones Distribution (Some name) right = absurd (cc right)
 
 -- the empty zone is good by itself
-empty_named : (zones : List NamedZone) (d : ZoneDefinition) → IsZoneName d.name → IsSrel d.srel → d.name ≢ codes "GLOBAL" → IsTrue (has_right_related zones d.kind d.related)
+empty_named : (zones : List NamedZone) (d : ZoneDefinition) → IsZoneName d.name → IsSrel d.srel
+    → d.name ≢ codes "GLOBAL" → IsTrue (has_right_related zones d.kind d.related)
     → IsZoneNamed (record { name = d.name; zone = a_zone d.kind d.srel d.related [] [] })
 empty_named zones d name srel not_global right = record {
   name = name;

@@ -47,7 +47,8 @@ pub leads-add : (p : Problem) (kept : List Bool) (seen : List Demand) (d : Deman
 leads-add p kept seen d old new failed unmet added so_far x y = (
   λ c. elim (Contains-append_cases (row_at old y) (replicate (times y d.any) d.of) x
       (subst (λ row. Contains row x) (added y) c)) [
-        | inl before ↦ let led = (so_far x y).0 before in (led.0, Any-append_left (LeadsBy kept x y) seen (d ∷ []) led.1)
+        | inl before ↦ let led = (so_far x y).0 before in
+            (led.0, Any-append_left (LeadsBy kept x y) seen (d ∷ []) led.1)
         | inr here ↦
             let is = Contains-replicate (times y d.any) d.of x here in (
               subst (HasFailed p kept) (sym is.1) failed,

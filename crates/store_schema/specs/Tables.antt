@@ -78,43 +78,53 @@ sysmod = table_of (codes "sysmod") 2
 -- their ++VERs
 abbrev pub ver : Table
 ver = table_of (codes "ver") 4
-    (filled (codes "id") Text ∷ filled (codes "srel") Text ∷ optional (codes "fmid") Text ∷ filled (codes "pre") Text ∷ filled (codes "req") Text ∷ filled (codes "sup") Text ∷ filled (codes "npre") Text ∷ filled (codes "del") Text ∷ [])
+    (filled (codes "id") Text ∷ filled (codes "srel") Text ∷ optional (codes "fmid") Text ∷ filled (codes "pre") Text
+    ∷ filled (codes "req") Text ∷ filled (codes "sup") Text ∷ filled (codes "npre") Text
+    ∷ filled (codes "del") Text ∷ [])
     (1 ∷ 2 ∷ []) (refers_to (codes "sysmod") (codes "id") Cascade ∷ [])
 
 -- the ++IFs of a ++VER, which count from 1
 abbrev pub ifreq : Table
 ifreq = table_of (codes "ifreq") 6
-    (filled (codes "id") Text ∷ filled (codes "srel") Text ∷ filled (codes "n") Integer ∷ filled (codes "fmid") Text ∷ filled (codes "req") Text ∷ [])
+    (filled (codes "id") Text ∷ filled (codes "srel") Text ∷ filled (codes "n") Integer ∷ filled (codes "fmid") Text
+    ∷ filled (codes "req") Text ∷ [])
     (1 ∷ 2 ∷ 3 ∷ []) (refers_to (codes "sysmod") (codes "id") Cascade ∷ [])
 
 -- holds, whose SYSMOD need not be received
 abbrev pub hold : Table
 hold = table_of (codes "hold") 8
-    (filled (codes "id") Text ∷ filled (codes "kind") Text ∷ filled (codes "reason") Text ∷ filled (codes "fmid") Text ∷ optional (codes "class") Text ∷ optional (codes "date") Text ∷ optional (codes "comment") Text ∷ filled (codes "internal") Integer ∷ [])
+    (filled (codes "id") Text ∷ filled (codes "kind") Text ∷ filled (codes "reason") Text ∷ filled (codes "fmid") Text
+    ∷ optional (codes "class") Text ∷ optional (codes "date") Text ∷ optional (codes "comment") Text
+    ∷ filled (codes "internal") Integer ∷ [])
     (1 ∷ 2 ∷ 3 ∷ []) ([])
 
 -- the element statements of SYSMODs
 abbrev pub elem : Table
 elem = table_of (codes "elem") 10
-    (filled (codes "id") Text ∷ filled (codes "type") Text ∷ filled (codes "name") Text ∷ filled (codes "upd") Integer ∷ optional (codes "distlib") Text ∷ optional (codes "syslib") Text ∷ filled (codes "text") Blob ∷ [])
+    (filled (codes "id") Text ∷ filled (codes "type") Text ∷ filled (codes "name") Text ∷ filled (codes "upd") Integer
+    ∷ optional (codes "distlib") Text ∷ optional (codes "syslib") Text ∷ filled (codes "text") Blob ∷ [])
     (1 ∷ 2 ∷ 3 ∷ []) (refers_to (codes "sysmod") (codes "id") Cascade ∷ [])
 
 -- target and distribution zones
 abbrev pub zone : Table
 zone = table_of (codes "zone") 12
-    (filled (codes "name") Text ∷ filled (codes "kind") Text ∷ filled (codes "srel") Text ∷ optional (codes "related") Text ∷ [])
+    (filled (codes "name") Text ∷ filled (codes "kind") Text ∷ filled (codes "srel") Text
+    ∷ optional (codes "related") Text ∷ [])
     (1 ∷ []) ([])
 
 -- the SYSMOD entries of zones
 abbrev pub entry : Table
 entry = table_of (codes "entry") 14
-    (filled (codes "zone") Text ∷ filled (codes "id") Text ∷ optional (codes "date") Text ∷ filled (codes "supby") Text ∷ optional (codes "delby") Text ∷ filled (codes "waived") Text ∷ [])
+    (filled (codes "zone") Text ∷ filled (codes "id") Text ∷ optional (codes "date") Text ∷ filled (codes "supby") Text
+    ∷ optional (codes "delby") Text ∷ filled (codes "waived") Text ∷ [])
     (1 ∷ 2 ∷ []) (refers_to (codes "zone") (codes "name") NoAction ∷ [])
 
 -- the element entries of zones
 abbrev pub zelem : Table
 zelem = table_of (codes "zelem") 16
-    (filled (codes "zone") Text ∷ filled (codes "type") Text ∷ filled (codes "name") Text ∷ filled (codes "fmid") Text ∷ filled (codes "rmid") Text ∷ filled (codes "umid") Text ∷ filled (codes "distlib") Text ∷ filled (codes "syslib") Text ∷ filled (codes "text") Blob ∷ [])
+    (filled (codes "zone") Text ∷ filled (codes "type") Text ∷ filled (codes "name") Text ∷ filled (codes "fmid") Text
+    ∷ filled (codes "rmid") Text ∷ filled (codes "umid") Text ∷ filled (codes "distlib") Text
+    ∷ filled (codes "syslib") Text ∷ filled (codes "text") Blob ∷ [])
     (1 ∷ 2 ∷ 3 ∷ []) (refers_to (codes "zone") (codes "name") NoAction ∷ [])
 
 -- the index that its PRIMARY KEY makes

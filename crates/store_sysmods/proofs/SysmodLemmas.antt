@@ -83,7 +83,8 @@ module _ (i : Inventory) (s : Sysmod) where
       subst (λ l. IsPermutation l (sysmod_row s ∷ map sysmod_row all)) (flat_map_single sysmod_row new)
       (subst (λ l. IsPermutation (flat_map own_row new) (sysmod_row s ∷ l)) (flat_map_single sysmod_row all)
       (rows_between own_row none)) in
-      permuted store_schema (with_sysmod_rows s (rows_of i)) (rows_of (record i { global = with_sysmod i.global s })) db (
+      permuted store_schema (with_sysmod_rows s (rows_of i))
+      (rows_of (record i { global = with_sysmod i.global s })) db (
         IsPermutation-refl _,
         (
           own,
@@ -93,7 +94,13 @@ module _ (i : Inventory) (s : Sysmod) where
               rows_between ifreqs_of none,
               (
                 IsPermutation-refl _,
-                (rows_between elems_of none, (IsPermutation-refl _, (IsPermutation-refl _, (IsPermutation-refl _, tt)))),
+                (
+                  rows_between elems_of none,
+                  (
+                    IsPermutation-refl _,
+                    (IsPermutation-refl _, (IsPermutation-refl _, tt)),
+                  ),
+                ),
               ),
             ),
           ),

@@ -79,7 +79,8 @@ module _ (next : Id → List Id) (x : Id) where
   search-end seen n all s z reached = all_reached next (Contains seen) x s.first (going-end next _ _ seen n all s) z
       reached
 
--- Two searches, one from x and one from z against the direction: one that has gone through all tells whether x leads to z.
+-- Two searches, one from x and one from z against the direction: one that has gone through all tells whether x leads
+-- to z.
 module _ (next back : Id → List Id) (turned : IsTurned next back) (x z : Id) (ahead behind : List Id) (n m : ℕ)
     (from_x : IsSearch next x ahead n) (from_z : IsSearch back z behind m) where
   -- where they have met, it does

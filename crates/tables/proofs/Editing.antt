@@ -23,7 +23,8 @@ use Rattle.tables.specs.declared.edits.Edit.TheVariants.{Put, Remove}
 use Rattle.terms.specs.Rising.{Rises, before, behind, with_item, without_key, Splits}
 use Rattle.tables.specs.Edits.{edit_key, edit_put, after_edit, edited, after_edits}
 use Rattle.terms.proofs.RisingLists.{find-there, find-apart}
-use Rattle.terms.proofs.Placing.{Splits-cut, Splits-tied, Rises-with_item, Rises-without_key, with_item-agree, without_key-agree}
+use Rattle.terms.proofs.Placing.{Splits-cut, Splits-tied, Rises-with_item, Rises-without_key}
+use Rattle.terms.proofs.Placing.{with_item-agree, without_key-agree}
 use Rattle.lemmas.proofs.Pairs.{AllPairs-first, AllPairs-rest, AllPairs-between}
 
 -- Some edits are done: `new` has the items that no later edit is about, and `rest` those that one may be about.

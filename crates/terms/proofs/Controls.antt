@@ -102,7 +102,8 @@ starts_end [] h = tt
 starts_end (b ∷ bs) h = ap not (eq-eqb b 32 (All-head (λ c. c ≡ 32) b bs h))
 
 -- a control record, cut
-pub cuts_from : (word operand line text : Text) → (c : IsControl word operand line) → front line ≡ codes "./" ++ text → IsCuts text c.gap word c.gap2 operand c.rest []
+pub cuts_from : (word operand line text : Text) → (c : IsControl word operand line) → front line ≡ codes "./" ++ text
+    → IsCuts text c.gap word c.gap2 operand c.rest []
 cuts_from word operand line text c e = record {
   text_is = append_cancel_left (codes "./") _ _ (sym e ∙ c.text ∙ simp (append_assoc, append-nil));
   gap_blank = blanks_from c.gap c.gaps.0.1;
@@ -118,7 +119,9 @@ cuts_from word operand line text c e = record {
 }
 
 -- a record that is cut so is a control record
-pub control_from : (line text gap word gap2 operand rest : Text) → front line ≡ codes "./" ++ text → IsCuts text gap word gap2 operand rest [] → gap ≢ [] → word ≢ [] → gap2 ≢ [] → operand ≢ [] → IsControl word operand line
+pub control_from : (line text gap word gap2 operand rest : Text) → front line ≡ codes "./" ++ text
+    → IsCuts text gap word gap2 operand rest [] → gap ≢ [] → word ≢ [] → gap2 ≢ [] → operand ≢ []
+    → IsControl word operand line
 control_from line text gap word gap2 operand rest e c g w h o = record {
   gap = gap;
   gap2 = gap2;
@@ -129,7 +132,8 @@ control_from line text gap word gap2 operand rest e c g w h o = record {
 }
 
 -- the text behind `./`
-behind : (word operand line : Text) → (c : IsControl word operand line) → (text : Text) × (front line ≡ codes "./" ++ text)
+behind : (word operand line : Text) → (c : IsControl word operand line)
+    → (text : Text) × (front line ≡ codes "./" ++ text)
 behind word operand line c = (c.gap ++ (word ++ (c.gap2 ++ (operand ++ c.rest))), c.text ∙ simp append_assoc)
 
 -- The record determines its word and its operand.
@@ -164,7 +168,8 @@ pub same_range : (operand : Text) (low high low' high' : ℕ) → IsRange operan
     → (low ≡ low') × (high ≡ high')
 same_range operand low high low' high' r s =
     let e = sym r.operand_is ∙ s.operand_is in
-    let f : codes "SEQ1=" ++ (r.from ++ (codes ",SEQ2=" ++ r.to)) ≡ codes "SEQ1=" ++ (s.from ++ (codes ",SEQ2=" ++ s.to)) = simp append_assoc at e in
+    let f : codes "SEQ1=" ++ (r.from ++ (codes ",SEQ2=" ++ r.to)) ≡ codes "SEQ1="
+    ++ (s.from ++ (codes ",SEQ2=" ++ s.to)) = simp append_assoc at e in
     let tails = append_cancel_left (codes "SEQ1=") _ _ f in
     let from : r.from ≡ s.from = sym (take_at r.from _ 8 r.numbers.0.0) ∙ ap (take 8) tails
     ∙ take_at s.from _ 8 s.numbers.0.0 in

@@ -341,7 +341,8 @@ none-above x (y ∷ ys, (at, rest)) = none_in y at
 
 only-function : (x : Id) → x ≢ haa → (y : Id) → names (counting unordered base []) y ≡ haa ∷ [] → led_to y x → ⊥
 only-function x other y is ([], at) =
-    elim (here_or haa [] x (subst (λ xs. Contains xs x) is at)) [ inl same ↦ other (sym same) | inr none ↦ none_in x none ]
+    elim (here_or haa [] x (subst (λ xs. Contains xs x) is at))
+    [ inl same ↦ other (sym same) | inr none ↦ none_in x none ]
 only-function x other y is (z ∷ zs, (at, rest)) =
     elim (here_or haa [] z (subst (λ xs. Contains xs z) is at)) [
       | inl same ↦ none-above x (zs, subst (λ w. Leads (names (counting unordered base [])) w zs x) (sym same) rest)
@@ -352,7 +353,10 @@ only-function x other y is (z ∷ zs, (at, rest)) =
 clashes : Clash (setting unordered base None [] no_bypass) ua15 ua16
 clashes = inr (inr (
   (Mac, macro, refl, refl),
-  inr (only-function ua16 (λ same. absurd (cc same)) ua15 refl, only-function ua15 (λ same. absurd (cc same)) ua16 refl),
+  inr (
+    only-function ua16 (λ same. absurd (cc same)) ua15 refl,
+    only-function ua15 (λ same. absurd (cc same)) ua16 refl,
+  ),
 ))
 
 -- With HCC1200 service for HAA1100 is deleted; where something applied supersedes it, its entry stays.

@@ -6,6 +6,9 @@ pub mod GlobalRoles
 pub mod Ids
 pub mod Nil
 pub mod Leads
+pub mod Walks
+pub mod Applied
+pub mod ChangedElements
 pub mod Loops
 pub mod Rising
 pub mod RisingLists

@@ -24,7 +24,8 @@ module _ {X K : Type 0} {R : K → K → Ordering} (o : IsTotalOrder R) (key : X
   }
 
   -- and by a key that ties with it
-  pub Splits-tied : (k l : K) (front back : List X) → R k l ≡ Equal → Splits R key k front back → Splits R key l front back
+  pub Splits-tied : (k l : K) (front back : List X) → R k l ≡ Equal → Splits R key k front back
+      → Splits R key l front back
   Splits-tied k l front back e s = record {
     low = λ i d h. sym (alike_right o k l (key (get_or front i d)) e) ∙ s.low i d h;
     high = λ i d h. sym (o.congr k l (key (get_or back i d)) e) ∙ s.high i d h;

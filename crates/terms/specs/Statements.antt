@@ -57,7 +57,8 @@ ver_operands = codes "FMID" ∷ codes "PRE" ∷ codes "REQ" ∷ codes "SUP" ∷ 
 abbrev pub SuitsKind : Kind → List Word → Type 0
 SuitsKind Function operands = Unit {0}
 SuitsKind _ operands =
-    IsSome (operand (codes "FMID") operands) × (operand (codes "NPRE") operands ≡ None) × (operand (codes "DELETE") operands ≡ None)
+    IsSome (operand (codes "FMID") operands) × (operand (codes "NPRE") operands ≡ None)
+    × (operand (codes "DELETE") operands ≡ None)
 
 -- all lists of a ++VER
 abbrev pub lists_of : Ver → List (List Id)

@@ -67,7 +67,8 @@ pub record AreParts (g w h o t word operand : List ℕ) : Type 0 where
   pub word_is : w ≡ word
   pub operand_is : o ≡ operand
 
-pub parts_from : (line t g w h o r end : List ℕ) → front line ≡ codes "./" ++ t → IsCuts t g w h o r end → (word operand : List ℕ) → IsControl word operand line → AreParts g w h o end word operand
+pub parts_from : (line t g w h o r end : List ℕ) → front line ≡ codes "./" ++ t → IsCuts t g w h o r end
+    → (word operand : List ℕ) → IsControl word operand line → AreParts g w h o end word operand
 parts_from line t g w h o r end e cuts word operand c =
     let same = same_cuts t g w h o r end _ _ _ _ _ _ cuts (cuts_from word operand line t c e) in
     record {
@@ -88,25 +89,31 @@ some_from [] b is no' e = cc
 some_from (x ∷ text) b is no' e = absurd (cc e)
 
 -- a range, from the parts of its operand
-pub range_from : (operand text tail to : List ℕ) (low high : ℕ) → operand ≡ codes "SEQ1=" ++ text → tail ≡ drop 8 text → tail ≡ codes ",SEQ2=" ++ to → IsNumber (take 8 text) → IsNumber to → low ≡ digits_value 10 (take 8 text) → high ≡ digits_value 10 to → low ≤ high → IsRange operand low high
+pub range_from : (operand text tail to : List ℕ) (low high : ℕ) → operand ≡ codes "SEQ1=" ++ text → tail ≡ drop 8 text
+    → tail ≡ codes ",SEQ2=" ++ to → IsNumber (take 8 text) → IsNumber to → low ≡ digits_value 10 (take 8 text)
+    → high ≡ digits_value 10 to → low ≤ high → IsRange operand low high
 range_from operand text tail to low high o t e from upto l h order = record {
   from = take 8 text;
   to = to;
   numbers = (from, upto);
-  operand_is = o ∙ ap (λ x. codes "SEQ1=" ++ x) (sym (take-append-drop 8 text) ∙ ap (λ x. take 8 text ++ x) (sym t ∙ e)) ∙ simp append_assoc;
+  operand_is = o ∙ ap (λ x. codes "SEQ1=" ++ x)
+      (sym (take-append-drop 8 text) ∙ ap (λ x. take 8 text ++ x) (sym t ∙ e)) ∙ simp append_assoc;
   low_is = l;
   high_is = h;
   order = order;
 }
 
 -- the operand of a range behind `SEQ1=`
-pub range_parts : (operand text : List ℕ) (low high : ℕ) → (r : IsRange operand low high) → operand ≡ codes "SEQ1=" ++ text → (take 8 text ≡ r.from) × (drop 8 text ≡ codes ",SEQ2=" ++ r.to)
+pub range_parts : (operand text : List ℕ) (low high : ℕ) → (r : IsRange operand low high)
+    → operand ≡ codes "SEQ1=" ++ text → (take 8 text ≡ r.from) × (drop 8 text ≡ codes ",SEQ2=" ++ r.to)
 range_parts operand text low high r e =
-    let f : codes "SEQ1=" ++ text ≡ codes "SEQ1=" ++ (r.from ++ (codes ",SEQ2=" ++ r.to)) = sym e ∙ r.operand_is ∙ simp append_assoc in
+    let f : codes "SEQ1=" ++ text ≡ codes "SEQ1=" ++ (r.from ++ (codes ",SEQ2=" ++ r.to)) =
+    sym e ∙ r.operand_is ∙ simp append_assoc in
     let text_is = append_cancel_left (codes "SEQ1=") _ _ f in
     (ap (take 8) text_is ∙ take_at r.from _ 8 r.numbers.0.0, ap (drop 8) text_is ∙ drop_at r.from _ 8 r.numbers.0.0)
 
 -- what follows `,SEQ2=` is its upper number
-pub range_end : (operand text tail to : List ℕ) (low high : ℕ) → (r : IsRange operand low high) → operand ≡ codes "SEQ1=" ++ text → tail ≡ drop 8 text → tail ≡ codes ",SEQ2=" ++ to → to ≡ r.to
+pub range_end : (operand text tail to : List ℕ) (low high : ℕ) → (r : IsRange operand low high)
+    → operand ≡ codes "SEQ1=" ++ text → tail ≡ drop 8 text → tail ≡ codes ",SEQ2=" ++ to → to ≡ r.to
 range_end operand text tail to low high r e t f =
     append_cancel_left (codes ",SEQ2=") _ _ (sym f ∙ t ∙ (range_parts operand text low high r e).1)

@@ -4,7 +4,7 @@ use Rattle.lemmas.proofs.Members.{in_map, map_in}
 use Rattle.terms.specs.declared.kinds.ElemType.{ElemType}
 use Rattle.terms.specs.Types.{Text, Id, Global}
 use Rattle.terms.specs.Lookups.{changes_of, has_change}
-use Rattle.undo_list.proofs.Changed.{change-found, change-has}
+use Rattle.terms.proofs.ChangedElements.{change-found, change-has}
 use Rattle.undo.specs.Elements.{change_key, Key}
 
 pub changes-from : (g : Global) (x : Id) (key : Key) → Contains (map change_key (changes_of g x)) key

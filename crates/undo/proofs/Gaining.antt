@@ -9,13 +9,14 @@ use Rattle.std.specs.BTreeMap.{get, UpdatesBy}
 use Rattle.std.specs.Str.{bytes_eq}
 use Rattle.std.proofs.lemmas.Bool.{and_parts, eqb-true}
 use Rattle.std.proofs.lemmas.Cmp.{tied_itself}
-use Rattle.std.proofs.lemmas.List.{take_more, map-append}
+use Rattle.std.proofs.lemmas.List.{map-append}
 use Rattle.std.proofs.lemmas.List.Elements.{Contains-append_left, Contains-push, Contains-push_cases}
 use Rattle.terms.specs.Types as terms
 use Rattle.terms.specs.Types.{Id, Change, type_number}
 use Rattle.terms.specs.Lookups.{changes_of}
 use Rattle.terms.proofs.ElementOrder.{cmp-keys, element_cmp_total, element_ties, type_from_number}
 use Rattle.lemmas.proofs.Texts.{same_from}
+use Rattle.lemmas.proofs.Lists.{front-more}
 use Rattle.undo.specs.Elements.{Key, change_key, key_cmp, Changers, changers_of, Gains, AreChangers}
 
 tied-keys : (a b : Key) → is_eq (key_cmp a b) ≡ true → a ≡ b
@@ -82,10 +83,6 @@ gains-join old middle new P Q R first second both z y = (
     | inr r ↦ elim ((both z y).0 r) [ inl p ↦ inl ((first z y).1 (inr p)) | inr q ↦ inr q ]
   ]),
 )
-
-front-more : {X : Type 0} (xs : List X) (k : ℕ) (x : X) → k < length xs → x ≡ get_or xs k x
-    → take (k + 1) xs ≡ take k xs ++ x ∷ []
-front-more xs k x below at = take_more xs k x below ∙ ap (λ v. take k xs ++ v ∷ []) (sym at)
 
 -- one more of the statements of a SYSMOD
 pub gains-next : (old middle new : Changers) (changes : List Change) (i : ℕ) (h : Change) (f : Id) → i < length changes

@@ -7,15 +7,15 @@ use Rattle.std.specs.Str.{bytes_eq}
 use Rattle.std.proofs.lemmas.Bool.{and_parts, not-true}
 use Rattle.std.proofs.lemmas.List.Elements.{Contains-append_left, Contains-append_right, Contains-append_cases}
 use Rattle.std.proofs.lemmas.List.Folds.{Any-from_list_any, list_any-from_Any}
-use Rattle.lemmas.proofs.Members.{here, here_or, there, none_in, in_map, map_in}
+use Rattle.lemmas.proofs.Members.{here, here_or, there, none_in, in_map, map_in, in_flat, flat_in}
 use Rattle.terms.specs.Types.{Id}
 use Rattle.terms.specs.Lookups.{IsZone, at_most_one, is_in, is_applied, applied_ids, supby_of, supplies}
 use Rattle.terms.specs.Choice.{fmid_of}
 use Rattle.terms.specs.Needs.{binding_ids}
 use Rattle.terms.specs.Restore.{Restoring, NeedsDep, is_supplied_outside}
+use Rattle.terms.proofs.Applied.{applied-are}
 use Rattle.undo_list.specs.Restoring.{suppliers}
-use Rattle.undo_list.proofs.Applied.{applied-are}
-use Rattle.undo_list.proofs.Supplying.{in-flat_map, flat_map-in, supplier-is}
+use Rattle.undo_list.proofs.Supplying.{supplier-is}
 use Rattle.undo.specs.Dependences.{by_requisite, dependences_of}
 
 abbrev Pair : Type 0
@@ -122,14 +122,14 @@ module _ (r : Restoring) (is_zone : IsZone r.zone) (listed : Id → Bool) where
         λ h. elim (Contains-append_cases first second (x, y) h) [
           | inl by ↦ inl ((fmid-pair (fmid_of r.choice y) x y).0 by)
           | inr by ↦
-              let m = flat_map-in (by_requisite r.zone listed y) ids (x, y) by in
+              let m = flat_in (by_requisite r.zone listed y) ids (x, y) by in
               let both = (requisite-pair x y m.0).0 m.2 in
               inr (m.1.0, m.0, m.1.1, m.1.2, both)
         ],
         λ h. elim h [
           | inl by ↦ Contains-append_left first second (x, y) ((fmid-pair (fmid_of r.choice y) x y).1 by)
           | inr by ↦ Contains-append_right first second (x, y)
-              (in-flat_map (by_requisite r.zone listed y) ids by.1 (x, y) (by.0, by.2, by.3)
+              (in_flat (by_requisite r.zone listed y) ids by.1 (x, y) (by.0, by.2, by.3)
               ((requisite-pair x y by.1).1 by.4))
         ],
       )
@@ -141,7 +141,7 @@ module _ (r : Restoring) (is_zone : IsZone r.zone) (listed : Id → Bool) where
       elim (Contains-append_cases first (flat_map (by_requisite r.zone listed y) ids) p h) [
         | inl by ↦
             let m = map_in (λ (v : Id). (v, y)) (at_most_one (fmid_of r.choice y)) p by in sym (ap (λ p. p.1) m.2)
-        | inr by ↦ let m = flat_map-in (by_requisite r.zone listed y) ids p by in requisite-by y m.0 p m.2
+        | inr by ↦ let m = flat_in (by_requisite r.zone listed y) ids p by in requisite-by y m.0 p m.2
       ]
 
   -- all pairs
@@ -149,7 +149,7 @@ module _ (r : Restoring) (is_zone : IsZone r.zone) (listed : Id → Bool) where
       → Contains {X = Pair} (flat_map (dependences_of r listed) (applied_ids r.zone)) (x, y) ↔ NeedsDep r listed x y
   dependences-are x y other = (
     λ h.
-        let m = flat_map-in (dependences_of r listed) (applied_ids r.zone) (x, y) h in
+        let m = flat_in (dependences_of r listed) (applied_ids r.zone) (x, y) h in
         let same : y ≡ m.0 = dependence-by m.0 (x, y) m.2 in
         record {
           other = other;
@@ -157,6 +157,6 @@ module _ (r : Restoring) (is_zone : IsZone r.zone) (listed : Id → Bool) where
           depends = (dependence-pair x y).0 (subst (λ v. Contains {X = Pair} (dependences_of r listed v) (x, y))
               (sym same) m.2);
         },
-    λ n. in-flat_map (dependences_of r listed) (applied_ids r.zone) y (x, y)
+    λ n. in_flat (dependences_of r listed) (applied_ids r.zone) y (x, y)
         ((applied-are r.zone is_zone y).1 n.applied) ((dependence-pair x y).1 n.depends),
   )

@@ -1,6 +1,6 @@
 -- The demands of a problem stand beside the needs, and so it is the problem of RESTORE.
-use Rattle.std.proofs.Common.{◌≡◌, ◌≢◌, inl, inr, ℕ, zero, suc, ◌<◌, ◌+◌, ◌⊎◌, Bool, false, List, [], ◌∷◌, ◌++◌}
-use Rattle.std.proofs.Common.{length, Some, refl, sym, ap, ◌∙◌, subst, map, arith, slice_get, Contains, IsTrue}
+use Rattle.std.proofs.Common.{◌≡◌, ◌≢◌, inl, inr, ℕ, ◌<◌, ◌+◌, Bool, false, List, [], ◌∷◌, ◌++◌}
+use Rattle.std.proofs.Common.{length, Some, refl, sym, ap, ◌∙◌, subst, arith, slice_get, Contains, IsTrue}
 use Rattle.std.proofs.Common.{true≢false, length-append, get_or}
 use Rattle.std.specs.Prelude.{◌↔◌, All, AllPairs, take}
 use Rattle.std.specs.Option.{option_map}
@@ -14,7 +14,7 @@ use Rattle.terms.specs.Rising.{StandsAt}
 use Rattle.std.proofs.lemmas.Option.{slice_get_within, slice_get-map, slice_get-get_or, get_or_from_slice_get}
 use Rattle.std.proofs.lemmas.Option.{same_Some}
 use Rattle.lemmas.proofs.Members.{here_or, none_in}
-use Rattle.lemmas.proofs.Places.{contains_at, found_at}
+use Rattle.lemmas.proofs.Places.{contains_at, found_at, at-place, push-cases}
 use Rattle.terms.specs.declared.codes.NeedKind.{NeedKind}
 use Rattle.terms.specs.declared.codes.NeedKind.TheVariants.{Fmid, Pre, Req, Ifreq, HoldError, Orphan, Elem, Dep}
 use Rattle.terms.specs.Types.{Id}
@@ -27,20 +27,6 @@ use Rattle.solve.specs.Numbered.{IsProblemOf}
 use Rattle.undo.specs.declared.wanted.Want.{Want}
 use Rattle.undo.specs.Numbered.{AreOwnPlaces, IsDemandFor, HasDemands, AddsDemand}
 use Rattle.undo.specs.Wants.{a_want, AreWants}
-
--- what stands at a place of a list as long as another
-at-place : {X : Type 0} (xs : List X) (n : ℕ) → n < length xs → (x : X) × (slice_get xs n ≡ Some x)
-at-place [] n below = absurd (omega (arith, below))
-at-place (x ∷ xs) zero below = (x, refl)
-at-place (x ∷ xs) (suc n) below = at-place xs n (omega (arith, below))
-
-push-cases : {X : Type 0} (xs : List X) (y : X) (i : ℕ) (x : X) → slice_get (xs ++ y ∷ []) i ≡ Some x
-    → (slice_get xs i ≡ Some x) ⊎ ((i ≡ length xs) × (y ≡ x))
-push-cases [] y zero x e = inr (refl, cc e)
-push-cases [] y (suc i) x e = absurd (cc e)
-push-cases (z ∷ zs) y zero x e = inl e
-push-cases (z ∷ zs) y (suc i) x e = elim (push-cases zs y i x e)
-    [ inl old ↦ inl old | inr last ↦ inr (ap suc last.0, last.1) ]
 
 -- ---- places
 
@@ -89,11 +75,6 @@ pub wants-within : (r : Restoring) (list ids : List Id) (wants : List Want) → 
 wants-within r list ids wants are k d below =
     let w = get_or wants k d in
     ((are.members w.of w.kind w.id).0 (Contains-get_or wants k d below)).0
-
--- pairs are made of their parts
-pub same-pairs : {X Y : Type 0} (xs : List (X × Y)) → map (λ p. (p.0, p.1)) xs ≡ xs
-same-pairs [] = refl
-same-pairs (x ∷ xs) = ap (λ l. x ∷ l) (same-pairs xs)
 
 -- ---- demands
 

@@ -7,7 +7,7 @@ use Rattle.std.specs.Str.{bytes_eq}
 use Rattle.std.proofs.lemmas.Bool.{and_parts, not-true}
 use Rattle.std.proofs.lemmas.List.Elements.{Contains-append_left, Contains-append_right, Contains-append_cases}
 use Rattle.std.proofs.lemmas.List.Elements.{All-map}
-use Rattle.lemmas.proofs.Members.{in_map, map_in, in_filter, filter_in}
+use Rattle.lemmas.proofs.Members.{in_map, map_in, in_filter, filter_in, in_flat, flat_in}
 use Rattle.lemmas.proofs.Pairs.{AllPairs-join, pairs_map}
 use Rattle.lemmas.proofs.Texts.{same_itself, other_text}
 use Rattle.terms.specs.declared.codes.NeedKind.{NeedKind}
@@ -16,14 +16,13 @@ use Rattle.terms.specs.Types.{Id, Change}
 use Rattle.terms.specs.Lookups.{IsZone, is_in, is_applied, is_supplied, applied_ids, changes_of, has_change}
 use Rattle.terms.specs.Restore.{Restoring, NeedsDep, NeedsInRestore, restore_candidates}
 use Rattle.terms.proofs.Ids.{is_in-from_Contains, Contains-from_is_in}
+use Rattle.terms.proofs.Applied.{applied-are}
 use Rattle.undo.specs.declared.wanted.Want.{Want}
 use Rattle.undo.specs.Dependences.{dependences_of}
 use Rattle.undo.specs.Elements.{Changers, changers_of, change_key, AreChangers, beside_at, beside}
 use Rattle.undo.specs.Pairs.{is_own, AreOwn}
 use Rattle.undo.specs.Wants.{a_want, HaveElem, HaveDep, AreWants}
-use Rattle.undo_list.proofs.Applied.{applied-are}
 use Rattle.undo.proofs.Changed.{changes-from, changes-to}
-use Rattle.undo_list.proofs.Supplying.{in-flat_map, flat_map-in}
 use Rattle.undo.proofs.Needing.{dependences-are}
 
 abbrev Pair : Type 0
@@ -61,7 +60,7 @@ module _ (r : Restoring) (is_zone : IsZone r.zone) (others : List Id)
 
   beside-by : (x : Id) (p : Pair) → Contains (beside r.global all x) p → p.0 ≡ x
   beside-by x p there =
-      let m = flat_map-in (beside_at all x) (changes_of r.global x) p there in
+      let m = flat_in (beside_at all x) (changes_of r.global x) p there in
       let v = map_in (λ (v : Id). (x, v)) (changers_of all (change_key m.0)) p m.2 in
       sym (ap (λ q. q.0) v.2)
 
@@ -69,10 +68,10 @@ module _ (r : Restoring) (is_zone : IsZone r.zone) (others : List Id)
       → HaveElem r cands pairs
   have-elem cands pairs made x y other = (
     λ there.
-        let m = flat_map-in (beside r.global all) cands (x, y) (subst (λ l. Contains {X = Pair} l (x, y)) made there) in
+        let m = flat_in (beside r.global all) cands (x, y) (subst (λ l. Contains {X = Pair} l (x, y)) made there) in
         let same : x ≡ m.0 = beside-by m.0 (x, y) m.2 in
         let own = subst (λ v. Contains {X = Pair} (beside r.global all v) (x, y)) (sym same) m.2 in
-        let h = flat_map-in (beside_at all x) (changes_of r.global x) (x, y) own in
+        let h = flat_in (beside_at all x) (changes_of r.global x) (x, y) own in
         let is = (beside-at-is x y h.0).0 h.2 in (
           subst (Contains cands) (sym same) m.1,
           record {
@@ -84,8 +83,8 @@ module _ (r : Restoring) (is_zone : IsZone r.zone) (others : List Id)
         ),
     λ both.
         let n = both.1 in
-        subst (λ l. Contains {X = Pair} l (x, y)) (sym made) (in-flat_map (beside r.global all) cands x (x, y) both.0
-        (in-flat_map (beside_at all x) (changes_of r.global x) n.shared.1 (x, y)
+        subst (λ l. Contains {X = Pair} l (x, y)) (sym made) (in_flat (beside r.global all) cands x (x, y) both.0
+        (in_flat (beside_at all x) (changes_of r.global x) n.shared.1 (x, y)
         (n.shared.0, n.shared.2, n.shared.3)
         ((beside-at-is x y n.shared.1).1 (n.applied, n.not_accepted, n.shared.4)))),
   )

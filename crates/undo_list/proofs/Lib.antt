@@ -1,5 +1,3 @@
-pub mod Applied
-pub mod Changed
 pub mod Supplying
 pub mod ListedBySteps
 pub mod Reached

@@ -7,7 +7,7 @@ use Rattle.std.specs.Str.{bytes_eq}
 use Rattle.std.proofs.lemmas.Bool.{and_parts, and_from, not-true}
 use Rattle.std.proofs.lemmas.List.Elements.{Contains-append_left, Contains-append_right, Contains-append_cases}
 use Rattle.std.proofs.lemmas.List.Folds.{Any-from_list_any, list_any-from_Any}
-use Rattle.lemmas.proofs.Members.{here, here_or, none_in, in_map, map_in, in_filter, filter_in}
+use Rattle.lemmas.proofs.Members.{here, here_or, none_in, in_map, map_in, in_filter, filter_in, in_flat, flat_in}
 use Rattle.lemmas.proofs.Texts.{same_or_not}
 use Rattle.terms.specs.declared.codes.NeedKind.{NeedKind}
 use Rattle.terms.specs.declared.codes.NeedKind.TheVariants.{Elem, Dep}
@@ -19,15 +19,15 @@ use Rattle.terms.specs.Needs.{binding_ids}
 use Rattle.terms.specs.Restore.{Restoring, NeedsDep, NeedsElem, NeedsInRestore, is_supplied_outside}
 use Rattle.terms.specs.Restore.{IsClosedList, IsListed, AreListed}
 use Rattle.terms.proofs.Ids.{is_in-from_Contains, Contains-from_is_in}
+use Rattle.terms.proofs.Applied.{applied-are}
+use Rattle.terms.proofs.ChangedElements.{change-found, change-has}
 use Rattle.undo_list.specs.declared.nodes.Node.{Node}
 use Rattle.undo_list.specs.declared.nodes.Node.TheVariants.{Sysmod, Element}
 use Rattle.undo_list.specs.Restoring.{suppliers}
 use Rattle.undo_list.specs.Steps.{Step, AreClosed, IsReached, all_steps, steps_of, is_start, element_at}
 use Rattle.undo_list.specs.Steps.{to_element, from_element, from_function, from_functions, from_suppliers, by_requisite}
 use Rattle.undo_list.specs.ByNumbers.{AreReached}
-use Rattle.undo_list.proofs.Applied.{applied-are}
-use Rattle.undo_list.proofs.Changed.{change-found, change-has}
-use Rattle.undo_list.proofs.Supplying.{in-flat_map, flat_map-in, supplier-is}
+use Rattle.undo_list.proofs.Supplying.{supplier-is}
 
 -- what one step asks of a set
 abbrev Follows : (Node → Bool) → Step → Type 0
@@ -80,7 +80,7 @@ module _ (r : Restoring) (is_zone : IsZone r.zone) (ids : List Id) where
 
   of-applied : (y : Id) (s : Step) → IsTrue (is_applied r.zone y) → Contains (steps_of r y) s → Contains (all_steps r) s
   of-applied y s applied h =
-      in-flat_map (steps_of r) (applied_ids r.zone) y s ((applied-are r.zone is_zone y).1 applied) h
+      in_flat (steps_of r) (applied_ids r.zone) y s ((applied-are r.zone is_zone y).1 applied) h
 
   first-in : (y : Id) (h : Change) → Contains (changes_of r.global y) h → Contains (steps_of r y) (to_element y h)
   first-in y h of =
@@ -113,7 +113,7 @@ module _ (r : Restoring) (is_zone : IsZone r.zone) (ids : List Id) where
   fourth-in y z x of by =
       let s = all_of y (suppliers r.zone z) in
       Contains-append_right (firsts y ++ seconds y ++ thirds y) (fourths y) s
-      (in-flat_map (by_requisite r.zone y) (binding_ids r.choice r.zone (is_applied r.zone) y) z s of
+      (in_flat (by_requisite r.zone y) (binding_ids r.choice r.zone (is_applied r.zone) y) z s of
       (suppliers-step y (suppliers r.zone z) x by))
 
   -- ---- the SYSMODs of a closed set are a closed list
@@ -276,7 +276,7 @@ module _ (r : Restoring) (is_zone : IsZone r.zone) (ids : List Id) where
     followed : (y : Id) (s : Step) → IsTrue (is_applied r.zone y) → Contains (steps_of r y) s → Follows set s
     followed y s applied h = elim (Contains-append_cases (firsts y ++ seconds y ++ thirds y) (fourths y) s h) [
       | inr four ↦ (
-          let m = flat_map-in (by_requisite r.zone y) (binding_ids r.choice r.zone (is_applied r.zone) y) s four in
+          let m = flat_in (by_requisite r.zone y) (binding_ids r.choice r.zone (is_applied r.zone) y) s four in
           let p = step-suppliers y (suppliers r.zone m.0) s m.2 in
           subst (Follows set) p.2 (by-fourth y m.0 p.0 applied m.1 p.1))
       | inl rest ↦ elim (Contains-append_cases (firsts y ++ seconds y) (thirds y) s rest) [
@@ -304,7 +304,7 @@ module _ (r : Restoring) (is_zone : IsZone r.zone) (ids : List Id) where
     set-closed = record {
       start = started;
       grown = λ s h.
-          let m = flat_map-in (steps_of r) (applied_ids r.zone) s h in
+          let m = flat_in (steps_of r) (applied_ids r.zone) s h in
           followed m.0 s ((applied-are r.zone is_zone m.0).0 m.1) m.2;
     }
 

@@ -14,7 +14,7 @@ use Rattle.std.proofs.lemmas.List.Kept.{AllPairs-from_increasing, Contains-dedup
 use Rattle.std.proofs.lemmas.List.Sorted.{Contains-permutation, IsPermutation-sym}
 use Rattle.std.proofs.lemmas.Map.Keys.{IsStrictlyIncreasing-dedup}
 use Rattle.std.proofs.lemmas.Option.{slice_get_within, same_Some}
-use Rattle.lemmas.proofs.Members.{here, here_or, none_in, in_map, map_in}
+use Rattle.lemmas.proofs.Members.{here, here_or, none_in, in_map, map_in, in_flat}
 use Rattle.terms.specs.Types.{Id}
 use Rattle.terms.specs.Lookups.{IsRising}
 use Rattle.terms.specs.Rising.{Rises}
@@ -28,7 +28,6 @@ use Rattle.undo_list.specs.Steps.{Step, as_step, as_steps, is_start}
 use Rattle.undo_list.specs.ByNumbers.{ArePlaces, IsNumbered, AreNumbered, IsGrowth, AddsRule, Covers, nodes_in}
 use Rattle.undo_list.specs.ByNumbers.{sysmod_in, AreFlagged, IsFlagged, AreReached}
 use Rattle.undo_list.proofs.Reached.{all-from, flagged-reached}
-use Rattle.undo_list.proofs.Supplying.{in-flat_map}
 
 -- ---- sorted numbers without doubles
 
@@ -155,7 +154,7 @@ pub covers-in : (table nodes : List Node) (ids : List Id) (steps : List RustStep
 covers-in table nodes ids steps is same = all-from (Covers table) steps (λ s h.
     let in_table : (n : Node) → Contains (nodes_in s) n → Contains table n =
     λ n of. (same n).1 (subst (λ l. Contains l n) (sym is)
-    (Contains-append_right (map Sysmod ids) (flat_map nodes_in steps) n (in-flat_map nodes_in steps s n h of))) in
+    (Contains-append_right (map Sysmod ids) (flat_map nodes_in steps) n (in_flat nodes_in steps s n h of))) in
     record {
       these = λ n of. in_table n (Contains-append_left s.these.items (s.that ∷ []) n of);
       that = in_table s.that (Contains-append_right s.these.items (s.that ∷ []) s.that (here s.that []));

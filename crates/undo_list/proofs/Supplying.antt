@@ -1,33 +1,16 @@
 -- Who supplies an id, and lists of lists.
-use Rattle.std.proofs.Common.{◌≡◌, ◌⊎◌, inl, inr, Bool, true, false, List, [], ◌∷◌, filter}
+use Rattle.std.proofs.Common.{◌≡◌, ◌⊎◌, inl, inr, Bool, true, false, [], ◌∷◌, filter}
 use Rattle.std.proofs.Common.{refl, sym, subst, Contains, IsTrue}
 use Rattle.std.specs.Prelude.{◌↔◌, ◌||◌}
-use Rattle.std.specs.List.{flat_map}
 use Rattle.std.specs.Str.{bytes_eq}
 use Rattle.std.proofs.lemmas.Bool.{and_parts}
 use Rattle.std.proofs.lemmas.List.Elements.{Contains-append_left, Contains-append_right, Contains-append_cases}
-use Rattle.lemmas.proofs.Members.{here, here_or, there, none_in, in_filter, filter_in}
+use Rattle.lemmas.proofs.Members.{here, here_or, none_in, in_filter, filter_in}
 use Rattle.lemmas.proofs.Texts.{same_from, same_itself}
 use Rattle.terms.specs.Types.{Id, Zone}
 use Rattle.terms.specs.Lookups.{is_in, is_applied, supby_of, supplies}
 use Rattle.terms.proofs.Ids.{is_in-from_Contains, Contains-from_is_in}
 use Rattle.undo_list.specs.Restoring.{suppliers}
-
-pub in-flat_map : {X Y : Type 0} (f : X → List Y) (xs : List X) (x : X) (y : Y) → Contains xs x → Contains (f x) y
-    → Contains (flat_map f xs) y
-in-flat_map f [] x y h g = absurd (none_in x h)
-in-flat_map f (z ∷ xs) x y h g = elim (here_or z xs x h) [
-  | inl same ↦ Contains-append_left (f z) (flat_map f xs) y (subst (λ v. Contains (f v) y) (sym same) g)
-  | inr later ↦ Contains-append_right (f z) (flat_map f xs) y (in-flat_map f xs x y later g)
-]
-
-pub flat_map-in : {X Y : Type 0} (f : X → List Y) (xs : List X) (y : Y) → Contains (flat_map f xs) y
-    → (x : X) × Contains xs x × Contains (f x) y
-flat_map-in f [] y h = absurd (none_in y h)
-flat_map-in f (z ∷ xs) y h = elim (Contains-append_cases (f z) (flat_map f xs) y h) [
-  | inl front ↦ (z, here z xs, front)
-  | inr back ↦ let m = flat_map-in f xs y back in (m.0, there z xs m.0 m.1, m.2)
-]
 
 by-or : (a b : Bool) → (a || b) ≡ true → (a ≡ true) ⊎ (b ≡ true)
 by-or true b on = inl refl

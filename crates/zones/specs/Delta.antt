@@ -7,7 +7,8 @@ use Rattle.tables.specs.declared.edits.Edit.{Edit}
 use Rattle.tables.specs.Edits.{edit_key, edit_put, after_edits}
 use Rattle.terms.specs.declared.kinds.ElemType.{ElemType}
 use Rattle.terms.specs.Types.{Text, Id, Entry, Element, Zone}
-use Rattle.terms.specs.Lookups.{IsZone, entry_of, element_of, element_cmp, element_key, element_eq, is_held, waives_applied}
+use Rattle.terms.specs.Lookups.{IsZone, entry_of, element_of, element_cmp, element_key, element_eq}
+use Rattle.terms.specs.Lookups.{is_held, waives_applied}
 use Rattle.terms.specs.Rising.{Rises}
 
 -- entries and elements that are put and removed

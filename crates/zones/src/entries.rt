@@ -25,7 +25,13 @@ impl Model for Entry {
 
     ghost Value = { SysmodEntry };
 
-    ghost view = { λ e. record { id = e.id; applied = e.applied; supby = e.supby; delby = e.delby; waived = e.waived } };
+    ghost view = { λ e. record {
+      id = e.id;
+      applied = e.applied;
+      supby = e.supby;
+      delby = e.delby;
+      waived = e.waived;
+    } };
 }
 
 impl Entry {

@@ -22,7 +22,8 @@ loop-id-preserved c =
     record {
       same = subst (IsPermutation (take (k + 1) ids)) inserted (permuted_more ids k x xs p below c.id-item.is same);
       order = subst (AllPairs (λ y z. over z y)) inserted
-          (ordered_more (choice c.args.vers.now) ids k x xs p c.requires below c.id-item.is same c.loop-id.invariant.order
+          (ordered_more (choice c.args.vers.now) ids k x xs p c.requires below c.id-item.is same
+          c.loop-id.invariant.order
           (subst (λ l. p ≤ length l) listed placed.within)
           (subst (λ l. 0 < p → over x (get_or l (p - 1) x)) listed placed.front)
           (subst (λ l. All (λ y. ¬ over x y) (drop p l)) listed placed.back));

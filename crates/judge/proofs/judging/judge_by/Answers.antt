@@ -1,8 +1,8 @@
 use Rattle.std.proofs.Common.{map}
 use Rattle.std.specs.Prelude.{option_copied}
+use Rattle.lemmas.proofs.Lists.{same-pairs}
 use Rattle.terms.specs.Tests.{Setting, AreSurvivors}
 use Rattle.judge_needs.specs.Left.{setting_with}
-use Rattle.judge.proofs.Places.{same-pairs}
 use Rattle.judge.proofs.Numbering.{install-problem}
 use Rattle.judge.proofs.Survivors.{survivors-are}
 use Rattle.judge.proofs.judging.judge_by.Goals as goal

@@ -55,7 +55,9 @@ returns-clause-some c = λ pieces h.
     let o = c.in-Some-take_named-2.ensures.some u.0 u.2 in
     let v = o.1 in
     let end = (c.is_ended.ensures v.0 v.2).0 c.if-not-is_ended.false in
-    let then : word_of c.in-Some-take_named.then ≡ plain (codes "THEN") = plain_is (codes "THEN") (word_of c.in-Some-take_named.then) q.0 (no_list c.in-Some-take_named.then.list text_of (sym c.is_some.ensures ∙ c.if-is_some.false)) in
+    let then : word_of c.in-Some-take_named.then ≡ plain (codes "THEN") =
+    plain_is (codes "THEN") (word_of c.in-Some-take_named.then) q.0
+    (no_list c.in-Some-take_named.then.list text_of (sym c.is_some.ensures ∙ c.if-is_some.false)) in
     let all = three pieces t.0 u.0 v.0 (word_of c.in-Some.fmid) (word_of c.in-Some-take_named.then)
     (word_of c.in-Some-take_named-2.req) t.1 u.1 v.1 end in (
       subst (λ (x : Word). HasWords pieces (word_of c.in-Some.fmid ∷ x ∷ word_of c.in-Some-take_named-2.req ∷ [])) then

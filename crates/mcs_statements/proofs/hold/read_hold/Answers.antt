@@ -37,8 +37,14 @@ returns-in-Err-clause-bad c = λ rest h printable.
     let One : Type 0 = (comment : Option Text) × HasComment (operand (codes "COMMENT") y.0) comment in
     let All : Type 0 = (ws : List Word) × (hold : Hold) × HasWords rest ws
     × IsHoldOf (own_list c.args.known.now) ws hold in
-    let pick : All → One = λ x. (x.1.comment, subst (λ l. HasComment (operand (codes "COMMENT") l) x.1.comment) (words-only rest x.0 y.0 x.2 y.1) x.3.comment) in
-    excludes_more c.in-Err.error One All pick (c.in-Err.ensures.bad y.0 (rest, h, y.1) (operand_printable rest y.0 (codes "COMMENT") printable y.1))
+    let pick : All → One =
+    λ x. (
+      x.1.comment,
+      subst (λ l. HasComment (operand (codes "COMMENT") l) x.1.comment)
+          (words-only rest x.0 y.0 x.2 y.1) x.3.comment,
+    ) in
+    excludes_more c.in-Err.error One All pick
+    (c.in-Err.ensures.bad y.0 (rest, h, y.1) (operand_printable rest y.0 (codes "COMMENT") printable y.1))
 
 pub returns-clause-ok : goal.returns-clause-ok
 returns-clause-ok c = λ rest h.
@@ -54,7 +60,8 @@ returns-clause-ok c = λ rest h.
         fmid = k.fmid;
         reason = k.reason;
         class = optional_text IsClass (operand (codes "CLASS") y.0) c.in-Ok.class (c.in-Ok.ensures.ok y.0 left);
-        date = optional_text IsDate (operand (codes "DATE") y.0) c.in-Ok-optional.date (c.in-Ok-optional.ensures.ok y.0 left);
+        date = optional_text IsDate (operand (codes "DATE") y.0) c.in-Ok-optional.date
+            (c.in-Ok-optional.ensures.ok y.0 left);
         comment = c.in-Ok-optional_comment.ensures.ok y.0 left;
       },
     )

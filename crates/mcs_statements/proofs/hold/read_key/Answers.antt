@@ -6,7 +6,9 @@ use Rattle.mcs_statements.proofs.hold.read_key.Goals as goal
 
 pub returns-in_default-required_reason-clause-none : goal.returns-in_default-required_reason-clause-none
 returns-in_default-required_reason-clause-none c = λ ws h r k.
-    c.in_default-required_reason.ensures.none ws h r.reason (reason_of (own_list c.args.known.now) ws (operand (codes "REASON") ws) c.in-Some-kind_word.kind r (c.in-Some-kind_word.ensures.some ws h) k.kind k.reason)
+    c.in_default-required_reason.ensures.none ws h r.reason
+    (reason_of (own_list c.args.known.now) ws (operand (codes "REASON") ws) c.in-Some-kind_word.kind r
+    (c.in-Some-kind_word.ensures.some ws h) k.kind k.reason)
 
 pub returns-clause-some : goal.returns-clause-some
 returns-clause-some c = λ ws h. record {

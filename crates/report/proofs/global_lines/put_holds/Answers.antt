@@ -14,7 +14,8 @@ loop-hold-init g c =
 pub loop-hold-preserved : goal.loop-hold-preserved
 loop-hold-preserved g c =
     under-way-more _ _ _ _ _ _ _ _ _ _ c.loop-hold.invariant
-    (ap (λ l. flat_map line_text (map (λ h. HoldLine h.id h.kind h.reason h.internal) l)) c.in-Some.ensures.steps) c.put_hold.ensures
+    (ap (λ l. flat_map line_text
+    (map (λ h. HoldLine h.id h.kind h.reason h.internal) l)) c.in-Some.ensures.steps) c.put_hold.ensures
 
 pub returns : goal.returns
 returns g c =

@@ -14,7 +14,8 @@ loop-sysmod-init g c =
 pub loop-sysmod-preserved : goal.loop-sysmod-preserved
 loop-sysmod-preserved g c =
     under-way-more _ _ _ _ _ _ _ _ _ _ c.loop-sysmod.invariant
-    (ap (λ l. flat_map line_text (map (λ s. SysmodLine s.id s.kind s.sources) l)) c.in-Some.ensures.steps) c.put_sysmod.ensures
+    (ap (λ l. flat_map line_text
+    (map (λ s. SysmodLine s.id s.kind s.sources) l)) c.in-Some.ensures.steps) c.put_sysmod.ensures
 
 pub returns : goal.returns
 returns g c =

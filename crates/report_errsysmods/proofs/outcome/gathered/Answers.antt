@@ -10,5 +10,6 @@ returns c =
     let g = c.args.global.now in
     subst (λ v. AreResolvers g v c.args.errors.now c.add_all.new.all)
     (c.choose-vers.ensures.counting ∙ ap (counting g c.args.zone.now) c.new-cands.ensures)
-    (gathered-all g (choice c.choose-vers.result) c.args.errors.now c.in_ok-all.all c.add_all.new.all c.in_ok-all.ensures
+    (gathered-all g (choice c.choose-vers.result) c.args.errors.now c.in_ok-all.all c.add_all.new.all
+    c.in_ok-all.ensures
     c.in_ok-add_all.ensures)

@@ -1,10 +1,10 @@
 use Rattle.std.proofs.Common.{◌<◌, ◌∙◌, [], ◌∷◌, ◌++◌, ap, map, sym, subst, Contains, take, length, arith}
 use Rattle.std.proofs.lemmas.List.{map-append}
 use Rattle.std.proofs.lemmas.List.Elements.{Contains-get_or}
+use Rattle.lemmas.proofs.Lists.{front-more}
 use Rattle.machine.specs.Outcome as machine
 use Rattle.report.specs.Views.{line_view}
 use Rattle.report_errsysmods.specs.declared.open.OpenError.{OpenError}
-use Rattle.report_errsysmods.proofs.Gaining.{front-more}
 use Rattle.report_errsysmods.proofs.outcome.lines_of.Goals as goal
 
 pub loop-error-preserved : goal.loop-error-preserved

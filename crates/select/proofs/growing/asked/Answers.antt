@@ -1,5 +1,5 @@
 use Rattle.std.proofs.Common.{arith}
-use Rattle.select.proofs.Applied.{applied-are}
+use Rattle.terms.proofs.Applied.{applied-are}
 use Rattle.select.proofs.Growth.{growth-start, growth-next, growth-end}
 use Rattle.select.proofs.growing.asked.Goals as goal
 

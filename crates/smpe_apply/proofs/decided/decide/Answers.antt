@@ -1,11 +1,11 @@
 use Rattle.std.proofs.Common.{◌∙◌, List, ap, filter, map, subst}
 use Rattle.std.specs.Prelude.{option_copied}
+use Rattle.lemmas.proofs.Lists.{same-pairs}
 use Rattle.terms.specs.declared.codes.Test.{Test}
 use Rattle.terms.specs.Types.{Id}
 use Rattle.terms.specs.Lookups.{IsRising, is_in}
 use Rattle.terms.specs.Judged.{setting}
 use Rattle.judge.specs.InstallProblem.{IsInstallProblem}
-use Rattle.judge.proofs.Places.{same-pairs}
 use Rattle.smpe_failures.specs.Decided.{IsDecidedBy}
 use Rattle.smpe_apply.specs.Statuses.{why_failed}
 use Rattle.smpe_apply.proofs.Bypassed.{bypassed-kept}

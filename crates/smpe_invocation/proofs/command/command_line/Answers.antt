@@ -8,7 +8,14 @@ use Rattle.smpe_invocation.proofs.command.command_line.Goals as goal
 
 pub returns : goal.returns
 returns c =
-    let start : app_of c.disable_help_subcommand.result ≡ record { top = record (new_app (codes "smpe")).top { subcommand_required = true; disable_help_subcommand = true }; subs = [] } =
+    let start : app_of c.disable_help_subcommand.result
+    ≡ record {
+      top = record (new_app (codes "smpe")).top {
+        subcommand_required = true;
+        disable_help_subcommand = true;
+      };
+      subs = [];
+    } =
     ap app_of_fields c.disable_help_subcommand.ensures
     ∙ ap (λ (f : Command-F Command). app_of_fields (record f { disable_help_subcommand = true }))
     c.subcommand_required.ensures

@@ -6,7 +6,9 @@ use Rattle.smpe_invocation.proofs.Shapes.{HasOptions, one_more}
 use Rattle.smpe_invocation.proofs.command.run_command.Goals.{After-arg-5}
 use Rattle.smpe_invocation.proofs.command.run_command.Goals as goal
 
-four : (c : After-arg-5) → HasOptions c.in_ok-arg-4.field-0 (codes "run") (needed (codes "db") ∷ needed (codes "date") ∷ needed (codes "cntl") ∷ option (codes "ptfin") ∷ [])
+four : (c : After-arg-5)
+    → HasOptions c.in_ok-arg-4.field-0 (codes "run")
+    (needed (codes "db") ∷ needed (codes "date") ∷ needed (codes "cntl") ∷ option (codes "ptfin") ∷ [])
 four c =
     let none : HasOptions c.command.result (codes "run") [] = (c.command.ensures.app, c.command.ensures.globals) in
     let one = one_more _ _ _ _ _ _ none c.in_ok-arg.ensures c.required.ensures.rule c.required.ensures.global in

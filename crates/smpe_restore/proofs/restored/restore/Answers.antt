@@ -1,5 +1,6 @@
 use Rattle.std.specs.Prelude.{◌≡◌, map, refl}
 use Rattle.std.proofs.Common.{◌∙◌, sym, ap, ap₂, subst}
+use Rattle.lemmas.proofs.Lists.{same-pairs}
 use Rattle.terms.specs.Types.{Id, Global}
 use Rattle.terms.specs.Choice.{Choice, counting}
 use Rattle.terms.specs.Lookups.{is_in}
@@ -10,7 +11,6 @@ use Rattle.machine.specs.Outcome.{StatusLine}
 use Rattle.machine.specs.Receiving.{place_of}
 use Rattle.report.specs.Views.{line_view}
 use Rattle.undo_list.specs.Restoring.{restoring}
-use Rattle.undo.proofs.Numbering.{same-pairs}
 use Rattle.smpe_restore.specs.Lines.{IsRestoreProblem}
 use Rattle.smpe_restore.proofs.restored.restore.Goals as goal
 
@@ -24,7 +24,8 @@ returns c = λ new changed.
     let tested = c.in_ok-cands.ensures.tests in
     let lines = c.in_ok-kept.ensures r global (record {
       cands_are = c.in_ok-cands.ensures.cands;
-      problem = subst (λ needed. IsProblemOf (MayBeRestored r c.in_ok-ids.ids) (NeedsInRestore r (is_in c.in_ok-ids.ids))
+      problem = subst (λ needed. IsProblemOf (MayBeRestored r c.in_ok-ids.ids)
+          (NeedsInRestore r (is_in c.in_ok-ids.ids))
           (Serves r.choice) c.in_ok-cands.field-0.cands c.in_ok-cands.field-0.system needed)
           (sym (c.as_slice.ensures.value ∙ sym (same-pairs c.in_ok-cands.field-0.needed.items)))
           c.in_ok-cands.ensures.problem;
@@ -37,7 +38,12 @@ returns c = λ new changed.
     }) in
     record {
       setting = r;
-      setting_is = ap₂ (λ (h : Global) (by : Choice). record { global = h; choice = by; zone = zone; accepted = accepted })
+      setting_is = ap₂ (λ (h : Global) (by : Choice). record {
+        global = h;
+        choice = by;
+        zone = zone;
+        accepted = accepted;
+      })
           global (c.choose-vers.ensures.counting ∙ ap (counting g zone) c.new-none.ensures);
       ids = _;
       listed = c.in_ok-ids.ensures;

@@ -15,6 +15,7 @@ returns-then-ne-clause-none c name h =
 
 pub returns-clause-none : goal.returns-clause-none
 returns-clause-none c =
-    none_then c.behind.result ((rest : List ℕ) → c.in_ok-word.operand.now ≢ codes "NAME=" ++ rest) ((name : List ℕ) → ¬ IsChange name c.args.line.now)
+    none_then c.behind.result ((rest : List ℕ) → c.in_ok-word.operand.now ≢ codes "NAME=" ++ rest)
+    ((name : List ℕ) → ¬ IsChange name c.args.line.now)
     c.behind.ensures.none (λ none name h. none name (same_control _ _ _ _ c.args.line.now c.in_ok-word.ensures.some
     h).1)

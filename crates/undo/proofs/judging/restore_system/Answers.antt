@@ -1,7 +1,8 @@
 use Rattle.std.proofs.Common.{◌∙◌, map, subst}
+use Rattle.lemmas.proofs.Lists.{same-pairs}
 use Rattle.terms.specs.Lookups.{IsRising, is_nil}
 use Rattle.undo_list.specs.Restoring.{restoring}
-use Rattle.undo.proofs.Numbering.{wants-within, same-pairs, restore-problem}
+use Rattle.undo.proofs.Numbering.{wants-within, restore-problem}
 use Rattle.undo.proofs.Testing.{map-through, are-failed, flags-fit, eligible-is}
 use Rattle.undo.proofs.judging.restore_system.Goals as goal
 

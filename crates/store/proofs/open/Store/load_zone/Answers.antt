@@ -8,6 +8,7 @@ returns-clause-err g c =
     elim c.match-load_zone.branch [
       | in-Ok w ↦ rw w.result-is tt
       | in-Err w ↦
-          rw w.result-is (load_failed g.S.Store _ c.self.inside.conn c.args.self.now now c.load_zone.result c.self.view_is
+          rw w.result-is (load_failed g.S.Store _ c.self.inside.conn c.args.self.now now c.load_zone.result
+          c.self.view_is
           (g.met.S.Store.settled now.store) c.load_zone.ensures.reads)
     ]

@@ -28,7 +28,8 @@ invariant_of-self-in-None c =
 
 pub returns-in-Some-clause-answer : goal.returns-in-Some-clause-answer
 returns-in-Some-clause-answer c =
-    let refused = subst (IsRefusal (zone_of c.self.inside.sysmods) c.args.sysmod) c.in-Some.is c.in_ok-fault.ensures in (
+    let refused =
+    subst (IsRefusal (zone_of c.self.inside.sysmods) c.args.sysmod) c.in-Some.is c.in_ok-fault.ensures in (
       subst (λ g. RefusedBy g c.args.sysmod (fault_of c.in-Some.fault)) c.self.view_is
           (same_fault c.self.inside.sysmods c.self.inside.holds c.args.sysmod c.in-Some.fault refused),
       refl,

@@ -15,7 +15,7 @@ use Rattle.lemmas.proofs.Pairs.{AllPairs-first, AllPairs-rest}
 use Rattle.lemmas.proofs.Orderings.{Less-from_is_lt}
 
 -- an entry is found at its own id
-found_itself : (es : List Entry) → Rises (slice_cmp nat_cmp) (λ e. e.id) es → (e : Entry) → Contains es e
+pub found_itself : (es : List Entry) → Rises (slice_cmp nat_cmp) (λ e. e.id) es → (e : Entry) → Contains es e
     → find (λ v. bytes_eq v.id e.id) es ≡ Some e
 found_itself [] rising e h = absurd (none_in e h)
 found_itself (v ∷ es) rising e h = elim (here_or v es e h) [
