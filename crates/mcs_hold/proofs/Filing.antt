@@ -1,6 +1,6 @@
 -- Items, one by one.
-use Rattle.std.proofs.Common.{◌≡◌, ℕ, List, [], ◌∷◌, ◌++◌, refl, sym, ap, subst, inr, Result, Ok, Err, ◌<◌, length}
-use Rattle.std.proofs.Common.{arith, length-append, inl}
+use Rattle.std.proofs.Common.{◌≡◌, ℕ, List, [], ◌∷◌, ◌++◌, refl, sym, ap, subst, inr, Result, Ok, Err}
+use Rattle.std.proofs.Common.{inl}
 use Rattle.std.specs.Prelude.{All, IfOk, IfErr}
 use Rattle.terms.specs.declared.codes.McCode.{McCode}
 use Rattle.terms.specs.Types as terms

@@ -1,5 +1,5 @@
 -- A command, from the place behind the gaps before it.
-use Rattle.std.proofs.Common.{◌≡◌, ◌≤◌, ◌<◌, ◌+◌, ◌-◌, ℕ, List, [], ◌∷◌, ◌++◌, length, refl, sym, ap, subst, arith}
+use Rattle.std.proofs.Common.{◌≡◌, ◌≤◌, ◌+◌, ◌-◌, ℕ, List, [], ◌∷◌, ◌++◌, length, refl, ap, subst, arith}
 use Rattle.std.proofs.Common.{length-append}
 use Rattle.terms.specs.Types.{Text}
 use Rattle.terms.specs.Statement.{Piece, HasPieces, followed, joined, solid, HasSolid, IsIdle, IsPlace, Ends, BreaksOff}

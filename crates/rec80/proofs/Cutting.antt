@@ -1,16 +1,16 @@
 -- A word cut from a line.
 use Rattle.std.specs.Prelude.{slice_index, IsTrue}
-use Rattle.std.proofs.Common.{◌≡◌, ◌<◌, ◌≤◌, ◌+◌, ℕ, Bool, true, false, List, [], ◌∷◌, ◌++◌, length, take, drop, refl}
+use Rattle.std.proofs.Common.{◌≡◌, ◌<◌, ◌≤◌, ◌+◌, ℕ, true, List, [], ◌∷◌, ◌++◌, length, take, drop, refl}
 use Rattle.std.proofs.Common.{sym, ◌∙◌, ap, subst, append_assoc, arith, cond}
 use Rattle.std.specs.List.{All, prefix_len}
-use Rattle.std.proofs.lemmas.Bool.{true≢false, false≢true}
+use Rattle.std.proofs.lemmas.Bool.{false≢true}
 use Rattle.std.proofs.lemmas.List.{take-append-drop, length-take-le}
 use Rattle.terms.specs.Types.{Text}
 use Rattle.terms.specs.Forms.{is_word_byte}
-use Rattle.terms.specs.Statement.{followed, TakesPiece, TheWord, IsWord, BeginsNoWord}
+use Rattle.terms.specs.Statement.{followed, TakesPiece, TheWord, BeginsNoWord}
 use Rattle.rec80.proofs.Cuts.{BeginsOutside, front_passes, back_fails, prefix_within}
 use Rattle.rec80.specs.declared.cursor.Cursor.{Cursor}
-use Rattle.rec80.specs.Cursors.{IsIn, IsAhead}
+use Rattle.rec80.specs.Cursors.{IsAhead}
 
 no_word_behind : (line : Text) (later : List (List ℕ)) → BeginsOutside is_word_byte line
     → BeginsNoWord (line ++ followed later)

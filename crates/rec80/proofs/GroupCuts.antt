@@ -1,10 +1,10 @@
 -- A statement's records, cut from those of a file.
 use Rattle.std.proofs.Common.{◌≡◌, ◌<◌, ◌+◌, ℕ, Bool, true, false, not, List, [], ◌∷◌, ◌++◌, length, take, drop, refl}
 use Rattle.std.proofs.Common.{sym, ◌∙◌, ap, subst, arith, suc}
-use Rattle.std.specs.List.{All, prefix_len}
+use Rattle.std.specs.List.{prefix_len}
 use Rattle.std.proofs.lemmas.List.{take-append-drop}
 use Rattle.std.proofs.lemmas.List.Elements.{All-weaker}
-use Rattle.std.proofs.lemmas.Bool.{not-true, not-false, not_from_true, not_from_false}
+use Rattle.std.proofs.lemmas.Bool.{not-true, not-false}
 use Rattle.terms.specs.Groups.{begins_statement, starts_outside, IsGroup}
 use Rattle.rec80.proofs.Cuts.{BeginsOutside, front_passes, back_fails}
 

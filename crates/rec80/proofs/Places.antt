@@ -1,9 +1,9 @@
 -- Cursors on their way through records.
-use Rattle.std.proofs.Common.{◌≡◌, ◌+◌, ℕ, List, [], ◌∷◌, ◌++◌, length, refl, sym, ◌∙◌, ap, append_assoc, arith}
+use Rattle.std.proofs.Common.{◌≡◌, ℕ, List, [], ◌∷◌, ◌++◌, refl, sym, ◌∙◌, ap, append_assoc}
 use Rattle.terms.specs.Records.{front}
 use Rattle.terms.specs.Statement.{IsPlace}
 use Rattle.rec80.specs.declared.cursor.Cursor.{Cursor}
-use Rattle.rec80.specs.Cursors.{IsIn, IsAhead}
+use Rattle.rec80.specs.Cursors.{IsAhead}
 
 next_place : (records before : List (List ℕ)) (line line' : List ℕ) (b : ℕ) (later : List (List ℕ)) → line ≡ b ∷ line'
     → IsPlace records before line later → IsPlace records before line' later

@@ -1,9 +1,9 @@
 -- Words and pieces, read one by one.
-use Rattle.std.proofs.Common.{◌≡◌, ℕ, Bool, true, false, List, [], ◌∷◌, ◌++◌, Option, Some, None, refl, sym, ◌∙◌, ap}
+use Rattle.std.proofs.Common.{◌≡◌, true, List, [], ◌∷◌, Some, None, refl, ◌∙◌, ap}
 use Rattle.terms.specs.Types.{Text}
-use Rattle.terms.specs.Statement.{Piece, TheWord, TheList, TakesPiece, HasPieces, is_solid, solid, HasSolid}
-use Rattle.terms.specs.Words.{Word, TakesWord, BeginsNoWords}
-use Rattle.terms.proofs.Pieces.{IsStop, stop_nil, stop_period, stop_comment, stop_pairs, first_piece}
+use Rattle.terms.specs.Statement.{Piece, TheWord, TheList, TakesPiece, is_solid, HasSolid}
+use Rattle.terms.specs.Words.{TakesWord, BeginsNoWords}
+use Rattle.terms.proofs.Pieces.{IsStop, stop_comment, stop_pairs, first_piece}
 use Rattle.terms.proofs.Solids.{solid_behind, solid_first, solid_end, solid_no_list}
 use Rattle.rec80.specs.declared.piece.Piece.{Piece as Read}
 use Rattle.rec80.specs.declared.piece.Piece.TheVariants.{Word as ReadWord, List as ReadList, Stray as ReadStray}

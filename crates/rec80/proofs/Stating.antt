@@ -1,8 +1,8 @@
 -- A whole statement, from the place where its records begin.
-use Rattle.std.proofs.Common.{◌≡◌, ℕ, List, [], ◌∷◌, ◌++◌, refl, sym, subst}
+use Rattle.std.proofs.Common.{◌≡◌, ℕ, List, [], ◌∷◌, ◌++◌, refl, subst}
 use Rattle.terms.specs.Types.{Text}
 use Rattle.terms.specs.Statement.{Piece, HasPieces, followed, joined, solid, HasSolid, IsIdle, Ends, IsStatement}
-use Rattle.terms.specs.Statement.{IsStFault, BreaksOff}
+use Rattle.terms.specs.Statement.{IsStFault}
 use Rattle.terms.proofs.Exact.{fault-no_statement}
 use Rattle.rec80.specs.declared.cursor.Cursor.{Cursor}
 use Rattle.rec80.specs.declared.errors.StmtError.{StmtError}

@@ -1,11 +1,11 @@
 -- Ways over pieces, one step more.
-use Rattle.std.proofs.Common.{◌≡◌, ◌≤◌, ◌<◌, ℕ, Bool, true, false, List, [], ◌∷◌, ◌++◌, length, refl, sym, ◌∙◌, ap}
+use Rattle.std.proofs.Common.{◌≡◌, ◌≤◌, ◌<◌, ℕ, List, [], ◌∷◌, ◌++◌, length, refl, ap}
 use Rattle.std.proofs.Common.{subst, arith}
 use Rattle.std.specs.Prelude.{slice_index}
 use Rattle.std.proofs.lemmas.Bool.{false≢true}
 use Rattle.terms.specs.Records.{front}
 use Rattle.terms.specs.Types.{Text}
-use Rattle.terms.specs.Statement.{Piece, Blank, TakesPiece, HasPieces, is_solid, solid, followed, IsPlace, IsIdle}
+use Rattle.terms.specs.Statement.{Piece, Blank, TakesPiece, HasPieces, followed, IsIdle}
 use Rattle.terms.specs.CommandCuts.{BeginsNoGap}
 use Rattle.terms.proofs.Lengths.{piece_shorter, pieces_shorter}
 use Rattle.terms.proofs.Pieces.{pieces-append, idle_ends}

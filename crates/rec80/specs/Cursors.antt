@@ -1,5 +1,5 @@
 -- Places in records, and the texts from there on.
-use Rattle.std.specs.Prelude.{◌≡◌, ℕ, List, ◌∷◌, ◌++◌, take, length}
+use Rattle.std.specs.Prelude.{ℕ, List, ◌++◌, take}
 use Rattle.terms.specs.Statement.{followed, IsPlace}
 use Rattle.rec80.specs.declared.cursor.Cursor.{Cursor}
 use Rattle.rec80.specs.declared.text.Text.{Text}

@@ -1,6 +1,5 @@
 -- Ways over the pieces of a text: over gaps, to where no piece begins, and over a whole statement.
 use Rattle.std.specs.Prelude.{◌≡◌, ℕ, List, [], ◌∷◌, ◌++◌}
-use Rattle.terms.specs.Records.{front}
 use Rattle.terms.specs.Statement.{Piece, HasPieces, solid, followed, IsPlace, IsIdle, OpensComment, BreaksPairs}
 use Rattle.terms.specs.Statement.{StFault, St1, St2, St3, St4}
 use Rattle.terms.specs.CommandCuts.{BeginsNoGap}

@@ -1,5 +1,5 @@
 -- How a job ends, its zones are closed where they were.
-use Rattle.std.proofs.Common.{◌≡◌, ◌⊎◌, inl, inr, ℕ, List, [], ◌∷◌, ◌++◌, Option, Result, Ok, Err, IsTrue, refl, sym}
+use Rattle.std.proofs.Common.{◌≡◌, ◌⊎◌, inl, inr, ℕ, List, [], ◌∷◌, Option, Result, Ok, Err, IsTrue, refl, sym}
 use Rattle.std.proofs.Common.{◌∙◌, ap, subst}
 use Rattle.std.specs.List.{AllByRecursion}
 use Rattle.sqlite.specs.Store.{Ghosts}
@@ -7,7 +7,6 @@ use Rattle.sqlite.specs.Held.{Held, state}
 use Rattle.sqlite.specs.State.{HasCleanDisk}
 use Rattle.sqlite.specs.Schema.{Schema}
 use Rattle.sqlite.specs.Tree.{Trees}
-use Rattle.sqlite.specs.Effect.{Database}
 use Rattle.lemmas.proofs.Each.{recursion-front, recursion-back}
 use Rattle.terms.specs.Closed.{AreClosed}
 use Rattle.terms.specs.Forms.{IsZoneName, IsSrel}
@@ -16,7 +15,7 @@ use Rattle.machine.specs.Machine as machine
 use Rattle.machine.specs.Machine.{Act, Define, Prints, Job, state_after}
 use Rattle.machine.specs.Runs.{IsAfterNext, Stopped, BrokeOff}
 use Rattle.store_schema.specs.declared.error.StoreError.TheVariants as store
-use Rattle.store_schema.specs.Inventory.{Inventory, IsInventory}
+use Rattle.store_schema.specs.Inventory.{Inventory}
 use Rattle.store_schema.specs.Stands.{StandsFor}
 use Rattle.store_schema.specs.Tables.{store_schema}
 use Rattle.store_schema.proofs.OneState.{one_state}
@@ -31,7 +30,7 @@ use Rattle.smpe_zones.specs.declared.error.ZoneError.TheVariants as zone
 use Rattle.smpe_zones.specs.Definitions.{HasDefined}
 use Rattle.smpe.specs.declared.error.JobError.{JobError}
 use Rattle.smpe.specs.declared.error.JobError.TheVariants.{Memory, Store, Write}
-use Rattle.smpe.specs.Ending.{StaysClosed, EndsEarly, EndsAmong, EndsJob}
+use Rattle.smpe.specs.Ending.{StaysClosed, EndsEarly, EndsJob}
 
 -- what the definition of a zone prints
 prints-none : (s t : State) (d : ZoneDefinition) → define_zone s d ≡ Ok t → Prints s (Define d) t []

@@ -42,7 +42,7 @@ pub trait Host {
         ensures err { IfErr result (λ error. refuses self.old name.now error self.new) }
         ensures mode { IfOk result (λ conn. conn.in_transaction ≡ false) };
 
-    /// Closes the connection, which is taken out (the checker has no form for one by value here).
+    /// Closes the connection, which is taken out of the option.
     fn close(&mut self, conn: &mut Option<Connection<Self::Disk>>)
         ensures { IfSome conn.old (λ conn. closes self.old conn self.new) };
 

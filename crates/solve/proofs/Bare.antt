@@ -1,18 +1,16 @@
 -- Needs that no candidate serves, by tests.
-use Rattle.std.proofs.Common.{◌≡◌, ◌<◌, ◌+◌, ℕ, Bool, true, false, List, [], length, map, take, get_or, set, refl, sym}
-use Rattle.std.proofs.Common.{◌∙◌, subst, ap, eq-eqb, arith, inl, inr}
+use Rattle.std.proofs.Common.{◌≡◌, ℕ, Bool, true, List, [], length, map, sym}
+use Rattle.std.proofs.Common.{subst, ap, eq-eqb}
 use borrow.Author.Tests.{eqb-true}
 use Rattle.std.proofs.lemmas.List.{nil_from_length}
-use Rattle.std.proofs.lemmas.Bool.{and_parts, and_from, cases_eq, cases_Bool}
-use Rattle.std.specs.Prelude.{◌&&◌, ◌||◌, ◌==◌, IsTrue, ◌↔◌}
+use Rattle.std.proofs.lemmas.Bool.{and_parts, and_from}
+use Rattle.std.specs.Prelude.{◌&&◌, ◌==◌, ◌↔◌}
 use Rattle.std.specs.List.{Any, list_any}
-use Rattle.std.proofs.lemmas.List.Folds.{Any-from_list_any, list_any-from_Any, list_any_more}
-use Rattle.solve.specs.Problem.{Demand, holds}
+use Rattle.std.proofs.lemmas.List.Folds.{Any-from_list_any, list_any-from_Any}
+use Rattle.solve.specs.Problem.{Demand}
 use Rattle.solve.specs.declared.system.Need.{Need}
 use Rattle.solve.specs.Need.{demand}
 use Rattle.solve.proofs.Maps.{Any-map, Any-unmap}
-use Rattle.solve.proofs.Times.{or_false, eqb-other}
-use Rattle.solve.proofs.Marked.{holds-same, holds-other}
 
 abbrev pub is_bare : ℕ → Need → Bool
 is_bare x n = (n.of == x) && (length n.any.items == 0)

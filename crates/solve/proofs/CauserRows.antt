@@ -8,13 +8,13 @@ use Rattle.std.proofs.lemmas.List.{append-nil}
 use Rattle.std.proofs.lemmas.List.Elements.{Contains-push_cases, Contains-push, Contains-append_left, Contains-get_or}
 use Rattle.std.proofs.lemmas.List.Elements.{All-contains}
 use Rattle.std.proofs.lemmas.List.Quantifiers.{all_pairs_push}
-use Rattle.std.proofs.lemmas.List.Folds.{Any-from_list_any, list_any_at}
+use Rattle.std.proofs.lemmas.List.Folds.{Any-from_list_any}
 use Rattle.std.proofs.lemmas.Bool.{cases_eq, cases_Bool, and_parts, and_from, ltb-true, lt-ltb}
 use Rattle.solve.proofs.Passing.{clash}
 use Rattle.lemmas.proofs.Searches.{All-from_no_list_any}
 use Rattle.solve.proofs.Times.{times-from_Contains, Contains-from_times, Contains-from_is_in, is_in-from_Contains}
 use Rattle.solve.specs.Problem.{Problem, Demand, IsDemand, IsProblem, holds, IsSelfSupporting, IsGreatest}
-use Rattle.solve.specs.Causes.{HasFailed, LeadsTo, LeadsThrough, LeadsOn, IsRoot, IsCauser}
+use Rattle.solve.specs.Causes.{HasFailed, LeadsTo, LeadsOn, IsRoot, IsCauser}
 use Rattle.solve.specs.Rows.{row_at, times}
 use Rattle.solve.specs.Marks.{is_in}
 

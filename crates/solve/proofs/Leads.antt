@@ -1,16 +1,15 @@
 -- Rows of what leads to each candidate, over the demands seen so far.
-use Rattle.std.proofs.Common.{◌≡◌, ◌<◌, ◌+◌, ℕ, Bool, true, false, List, [], ◌∷◌, ◌++◌, length, map, take, get_or}
-use Rattle.std.proofs.Common.{replicate, refl, sym, ◌∙◌, subst, ap, arith, inl, inr}
-use Rattle.std.specs.Prelude.{Vec, IsTrue, ◌↔◌}
+use Rattle.std.proofs.Common.{◌≡◌, ◌<◌, ℕ, Bool, false, List, [], ◌∷◌, ◌++◌, length, get_or}
+use Rattle.std.proofs.Common.{replicate, sym, subst, arith, inl, inr}
+use Rattle.std.specs.Prelude.{Vec, ◌↔◌}
 use Rattle.std.specs.declared.alloc.Global.{Global}
 use Rattle.std.specs.List.{All, Any, Contains}
-use Rattle.std.proofs.lemmas.List.{take_all, map_more}
 use Rattle.std.proofs.lemmas.List.Elements.{Contains-append_left, Contains-append_right, Contains-append_cases}
 use Rattle.std.proofs.lemmas.List.Elements.{Contains-get_or}
 use Rattle.std.proofs.lemmas.List.Quantifiers.{Any-push}
 use Rattle.lemmas.proofs.Each.{Any-push_cases, Any-append_left}
 use Rattle.solve.specs.Problem.{Problem, Demand, holds}
-use Rattle.solve.specs.Causes.{HasFailed, LeadsBy, LeadsTo}
+use Rattle.solve.specs.Causes.{HasFailed, LeadsBy}
 use Rattle.solve.specs.Rows.{row_at, times}
 use Rattle.solve.specs.Marks.{AreLeads}
 use Rattle.solve.proofs.Times.{Contains-replicate, replicate-Contains, Contains-from_times, times-from_Contains}

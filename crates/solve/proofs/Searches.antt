@@ -1,5 +1,5 @@
 -- The steps of a search that counts, over plain lists.
-use Rattle.std.proofs.Common.{◌≡◌, ◌<◌, ◌≤◌, ◌+◌, ◌-◌, ℕ, zero, suc, Bool, true, false, List, [], ◌∷◌, ◌++◌, length}
+use Rattle.std.proofs.Common.{◌≡◌, ◌<◌, ◌≤◌, ◌+◌, ◌-◌, ℕ, Bool, true, false, List, [], ◌∷◌, ◌++◌, length}
 use Rattle.std.proofs.Common.{map, get_or, set, refl, sym, ◌∙◌, subst, ap, arith, inl, inr, eq-eqb, zero-add, mul-one}
 use Rattle.std.proofs.Common.{mul-zero, ◌*◌, ◌^◌, take, replicate}
 use Rattle.std.specs.Prelude.{IsTrue, ◌==◌, ◌&&◌, not, ◌⊎◌, Vec, count_by, sum}
@@ -13,9 +13,9 @@ use Rattle.std.proofs.lemmas.List.Folds.{Any-from_list_any, sum_by-replicate}
 use Rattle.std.proofs.lemmas.List.Sums.{sum_by-set, sum_by-cons, sum-map, get_or-le-sum_by, count_by-le-length}
 use Rattle.std.proofs.lemmas.List.Sums.{sum_by-le-sum_by, sum_by-le, sum_by-take-le, sum_by_push, sum_by-append}
 use Rattle.std.proofs.lemmas.Bool.{cases_Bool, cases_eq, cases_lt}
-use Rattle.solve.specs.Problem.{Problem, Demand, IsDemand, IsProblem, IsSelfSupporting, AreKept, holds, strikes_of}
+use Rattle.solve.specs.Problem.{Problem, Demand, IsProblem, AreKept, holds, strikes_of}
 use Rattle.solve.specs.Problem.{pairs_of}
-use Rattle.solve.specs.Parts.{HasEvery, IsWithin, IsServed, count_of}
+use Rattle.solve.specs.Parts.{IsWithin}
 use Rattle.solve.specs.declared.system.Need.{Need}
 use Rattle.solve.specs.Need.{demand}
 use Rattle.solve.specs.Rows.{row_at, times, one_if}

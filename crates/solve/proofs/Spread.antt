@@ -1,6 +1,6 @@
 -- A search backwards from y, over plain lists.
-use Rattle.std.proofs.Common.{◌≡◌, ◌<◌, ◌≤◌, ◌+◌, ◌-◌, min, ℕ, Bool, true, false, cond, List, [], ◌∷◌, ◌++◌, length}
-use Rattle.std.proofs.Common.{take, get_or, set, refl, sym, ◌∙◌, subst, ap, arith, inl, inr}
+use Rattle.std.proofs.Common.{◌≡◌, ◌<◌, ◌≤◌, ◌+◌, ℕ, Bool, true, false, List, [], ◌∷◌, length}
+use Rattle.std.proofs.Common.{take, get_or, set, sym, ◌∙◌, subst, ap, arith, inl, inr}
 use Rattle.std.specs.Prelude.{IsTrue, Vec, ◌↔◌, ◌||◌}
 use Rattle.std.specs.declared.alloc.Global.{Global}
 use Rattle.std.specs.List.{All, Contains}
@@ -10,7 +10,7 @@ use Rattle.std.proofs.lemmas.Bool.{cases_eq, or_right, or_cases}
 use Rattle.solve.specs.Problem.{Problem, holds}
 use Rattle.solve.specs.Causes.{LeadsTo, LeadsThrough, LeadsOn}
 use Rattle.solve.specs.Parts.{count_of}
-use Rattle.solve.specs.Rows.{row_at, times, one_if}
+use Rattle.solve.specs.Rows.{row_at, one_if}
 use Rattle.solve.specs.Marks.{AreLeads, AreClear, IsListOf, IsMarked, is_in}
 use Rattle.solve.proofs.Times.{times-push_same, times-push_other, Contains-from_is_in, is_in-from_Contains}
 use Rattle.solve.proofs.Marked.{holds-same, holds-other, count-mark, count-clear, below-marked, listed-marked}

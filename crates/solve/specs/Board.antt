@@ -1,5 +1,5 @@
 -- A search for the greatest set that counts, for each demand, its living members.
-use Rattle.std.specs.Prelude.{◌≡◌, ◌<◌, ◌≤◌, ◌+◌, ℕ, Bool, false, List, [], map, length, All, IsTrue, Vec, count_by}
+use Rattle.std.specs.Prelude.{◌≡◌, ◌<◌, ◌≤◌, ◌+◌, ℕ, Bool, false, List, [], length, All, Vec, count_by}
 use Rattle.std.specs.Prelude.{sum}
 use Rattle.std.specs.List.{slice_index_or, sum_by}
 use Rattle.std.specs.declared.alloc.Global.{Global}

@@ -1,8 +1,8 @@
-use Rattle.std.specs.Prelude.{◌≡◌, ◌↔◌, ◌||◌, ◌+◌, ◌==◌, ℕ, Bool, false, List, All, Contains, IsTrue, Vec, length, take}
+use Rattle.std.specs.Prelude.{◌≡◌, ◌↔◌, ◌||◌, ◌+◌, ◌==◌, ℕ, Bool, false, List, Contains, Vec, length, take}
 use Rattle.std.specs.List.{list_any}
 use Rattle.std.specs.declared.alloc.Global.{Global}
 use Rattle.solve.specs.Problem.{Problem, holds}
-use Rattle.solve.specs.Causes.{LeadsTo, LeadsOn}
+use Rattle.solve.specs.Causes.{LeadsTo}
 use Rattle.solve.specs.Parts.{count_of}
 use Rattle.solve.specs.Rows.{row_at, times, one_if}
 

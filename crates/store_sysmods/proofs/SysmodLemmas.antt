@@ -15,7 +15,6 @@ use Rattle.sqlite.specs.declared.types.Value.TheVariants.{Text}
 use Rattle.sqlite.specs.Effect.{Database}
 use Rattle.sqlite.specs.Order.{Row}
 use Rattle.sqlite_rules.specs.Lists.{Has}
-use Rattle.terms.specs.Types as terms
 use Rattle.terms.specs.Types.{Id, Sysmod}
 use Rattle.terms.specs.Spelling.{kind_text}
 use Rattle.terms.specs.Global.{with_sysmod}

@@ -5,7 +5,7 @@ use Rattle.sqlite.specs.Order.{Row}
 use Rattle.sqlite.specs.Store.{Ghosts}
 use Rattle.sqlite.specs.Held.{Held}
 use Rattle.sqlite.specs.Table.{Table}
-use Rattle.terms.specs.Types.{Text, Id, Sysmod, Global}
+use Rattle.terms.specs.Types.{Id, Sysmod, Global}
 use Rattle.terms.specs.Global.{with_sysmod}
 use Rattle.terms.specs.Lookups.{is_received}
 use Rattle.sysmods_records.specs.Edited.{with_sources, less_sysmod}

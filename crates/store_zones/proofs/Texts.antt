@@ -1,10 +1,10 @@
 -- What the texts mean.
-use Rattle.std.proofs.Common.{ℕ, List, [], codes, refl, arith}
+use Rattle.std.proofs.Common.{ℕ, List, codes, refl, arith}
 use Rattle.sqlite.specs.Listing.{understood}
 use Rattle.sqlite_tied.specs.Compute.{everything}
 use Rattle.sqlite_schema.specs.Names.{same_name}
 use Rattle.sqlite_value.specs.Keys.{joined}
-use Rattle.store_rows.specs.Texts.{PutsIn, TakesOut, ReadsRows}
+use Rattle.store_rows.specs.Texts.{PutsIn, TakesOut}
 use Rattle.store_schema.specs.Tables.{store_schema, zone, entry, zelem}
 
 abbrev pub insert_entry : List ℕ

@@ -1,5 +1,5 @@
 -- What the tables hold when a zone's entries or elements change.
-use Rattle.std.proofs.Common.{◌≡◌, ◌≢◌, List, [], ◌∷◌, ◌++◌, map, filter, Bool, not, ◌&&◌, IsPermutation, refl, sym, ap}
+use Rattle.std.proofs.Common.{◌≡◌, ◌≢◌, List, [], ◌∷◌, ◌++◌, map, filter, Bool, not, ◌&&◌, IsPermutation, sym, ap}
 use Rattle.std.proofs.Common.{ap₂, subst, subst₂, ◌∙◌}
 use Rattle.std.specs.List.{AllByRecursion, flat_map}
 use Rattle.std.specs.Str.{bytes_eq}
@@ -24,7 +24,7 @@ use Rattle.store_schema.specs.Stands.{rows_of}
 use Rattle.store_schema.specs.Tables.{store_schema, entry, zelem, zone as zone_table}
 use Rattle.store_schema.proofs.Spelled.{types_alike}
 use Rattle.store_zones.specs.Keys.{entry_key, element_key}
-use Rattle.store_zones.specs.Zones.{IsZoneChange, entries_but, is_element, elements_but, HasPutEntry, HasRemovedEntry}
+use Rattle.store_zones.specs.Zones.{IsZoneChange, is_element, HasPutEntry, HasRemovedEntry}
 use Rattle.store_zones.specs.Zones.{HasPutElement, HasRemovedElement}
 
 -- ---- keys

@@ -1,6 +1,6 @@
 -- The ++VER that counts is the one for the zone's SREL: a SYSMOD has no second one for it.
 use Rattle.std.proofs.Common.{◌≡◌, Bool, true, false, List, [], ◌∷◌, filter, find, All, get_or, refl, sym, ap, ◌∙◌}
-use Rattle.std.proofs.Common.{subst, Option, None, Some, true≢false}
+use Rattle.std.proofs.Common.{Option, None, Some, true≢false}
 use Rattle.std.specs.Option.{option_map_or, option_and_then}
 use Rattle.std.specs.Ordering.{is_lt, nat_cmp}
 use Rattle.std.specs.Cmp.Lexicographic.{slice_cmp}

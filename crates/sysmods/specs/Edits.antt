@@ -1,6 +1,6 @@
 -- What edits make of the global zone.
 use Rattle.std.specs.Prelude.{◌≡◌, ◌<◌, ℕ, false, List, All, fold, length, get_or, take}
-use Rattle.terms.specs.Types.{Id, Hold, Global}
+use Rattle.terms.specs.Types.{Hold, Global}
 use Rattle.terms.specs.Global.{hold_cmp, with_sysmod, without_hold}
 use Rattle.terms.specs.Lookups.{is_received}
 use Rattle.terms.specs.Rising.{with_item}

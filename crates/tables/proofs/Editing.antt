@@ -9,9 +9,9 @@ use Rattle.std.specs.Ordering.{is_lt, is_eq, ordering_reverse}
 use Rattle.std.specs.Cmp.{IsTotalOrder}
 use Rattle.std.proofs.lemmas.Cmp.{alike_right}
 use Rattle.std.proofs.lemmas.Bool.{false≢true}
-use Rattle.std.proofs.lemmas.List.Elements.{All-head, All-tail, All-cons, All-append, All-filter, filter_passes}
-use Rattle.std.proofs.lemmas.List.Elements.{filter-append, filter_agree}
-use Rattle.std.proofs.lemmas.List.Kept.{AllPairs-filter, AllPairs-cons}
+use Rattle.std.proofs.lemmas.List.Elements.{All-head, All-tail, All-cons, All-append, All-filter}
+use Rattle.std.proofs.lemmas.List.Elements.{filter-append}
+use Rattle.std.proofs.lemmas.List.Kept.{AllPairs-filter}
 use Rattle.std.proofs.lemmas.List.{append-nil, take_all, get_or-drop, get_or_default}
 use Rattle.std.proofs.lemmas.List.Sums.{fold_more}
 use Rattle.std.proofs.Math.Seq.{drop-cons}
@@ -20,12 +20,12 @@ use Rattle.lemmas.proofs.Searches.{find-filter_all, find-filter_none, find-secon
 use Rattle.lemmas.proofs.Searches.{find-over}
 use Rattle.tables.specs.declared.edits.Edit.{Edit}
 use Rattle.tables.specs.declared.edits.Edit.TheVariants.{Put, Remove}
-use Rattle.terms.specs.Rising.{Rises, before, behind, with_item, without_key, Splits}
+use Rattle.terms.specs.Rising.{Rises, before, behind, with_item, without_key}
 use Rattle.tables.specs.Edits.{edit_key, edit_put, after_edit, edited, after_edits}
 use Rattle.terms.proofs.RisingLists.{find-there, find-apart}
 use Rattle.terms.proofs.Placing.{Splits-cut, Splits-tied, Rises-with_item, Rises-without_key}
 use Rattle.terms.proofs.Placing.{with_item-agree, without_key-agree}
-use Rattle.lemmas.proofs.Pairs.{AllPairs-first, AllPairs-rest, AllPairs-between}
+use Rattle.lemmas.proofs.Pairs.{AllPairs-first, AllPairs-rest}
 
 -- Some edits are done: `new` has the items that no later edit is about, and `rest` those that one may be about.
 pub record IsEditing {X K : Type 0} (R : K → K → Ordering) (key : X → K) (items : List X) (edits : List (Edit X K))

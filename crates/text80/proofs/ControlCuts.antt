@@ -1,17 +1,16 @@
 -- Control records, cut into their parts.
-use Rattle.std.proofs.Common.{◌≡◌, ◌≢◌, ◌<◌, ◌≤◌, ◌==◌, ℕ, Bool, true, false, not, List, [], ◌∷◌, ◌++◌, length, take}
-use Rattle.std.proofs.Common.{drop, codes, refl, sym, ◌∙◌, ap, subst, arith, append_assoc, Option, None, Some}
+use Rattle.std.proofs.Common.{◌≡◌, ◌≢◌, ◌≤◌, ◌==◌, ℕ, Bool, true, false, not, List, [], ◌∷◌, ◌++◌, length, take}
+use Rattle.std.proofs.Common.{drop, codes, sym, ◌∙◌, ap, subst, append_assoc, Option, None, Some}
 use Rattle.std.proofs.Common.{MatchOption, IfSome, IfNone, Bor}
 use Rattle.std.specs.Str.{bytes_eq}
 use Rattle.std.proofs.lemmas.Slice.Eq.{bytes_eq-Decides}
 use Rattle.std.specs.Str.Parse.{digits_value}
 use Rattle.std.proofs.lemmas.Bool.{eqb-true}
-use Rattle.std.proofs.lemmas.List.{append_cancel_left, take_at, drop_at, take-append-drop, length-append}
+use Rattle.std.proofs.lemmas.List.{append_cancel_left, take_at, drop_at, take-append-drop}
 use Rattle.std.proofs.lemmas.List.{nil_from_length}
 use Rattle.terms.specs.Records.{front}
 use Rattle.terms.specs.Texts.{IsControl, IsNumber, IsRange}
-use Rattle.terms.proofs.Controls.{is_blank, is_solid, StartsOutside, IsCuts, SameParts, same_cuts, cuts_from}
-use Rattle.terms.proofs.Controls.{control_from}
+use Rattle.terms.proofs.Controls.{is_blank, is_solid, StartsOutside, IsCuts, same_cuts, cuts_from}
 use Rattle.text80.specs.Cuts.{IsCut}
 
 -- what `strip_prefix` says, for each variant

@@ -1,12 +1,12 @@
 -- The merge of two lists of numbered records, and what it has at each number.
-use Rattle.std.proofs.Common.{◌≡◌, ◌<◌, ◌≤◌, ◌+◌, ◌⊎◌, ℕ, suc, Bool, true, false, List, [], ◌∷◌, ◌++◌, length, take}
-use Rattle.std.proofs.Common.{drop, get_or, refl, sym, ◌∙◌, ap, subst, arith, inl, inr, Option, None, Some, add-one}
-use Rattle.std.specs.Prelude.{IsTrue, IsSome, is_some}
+use Rattle.std.proofs.Common.{◌≡◌, ◌<◌, ◌+◌, ℕ, Bool, true, false, List, [], ◌∷◌}
+use Rattle.std.proofs.Common.{refl, sym, ◌∙◌, ap, subst, arith, inl, inr, Option, None, Some}
+use Rattle.std.specs.Prelude.{IsSome}
 use Rattle.std.specs.List.{All}
 use Rattle.std.proofs.lemmas.Bool.{cases_eq, true≢false, false_from_ne_true}
-use Rattle.std.proofs.lemmas.List.Elements.{All-nil, All-cons, All-head, All-tail}
+use Rattle.std.proofs.lemmas.List.Elements.{All-cons, All-head, All-tail}
 use Rattle.terms.specs.Types.{Lines}
-use Rattle.terms.specs.Texts.{IsNumberedLine, number_of, IsNumbered, line_at, given, Deletes, Touches, IsMerge}
+use Rattle.terms.specs.Texts.{IsNumberedLine, number_of, IsNumbered, line_at, given, IsMerge}
 use Rattle.terms.proofs.Texts.{Rises, Rises-numbered, Rises-lower, increasing_from_Rises, line_at-head, line_at-tail}
 use Rattle.terms.proofs.Texts.{line_at-below}
 use Rattle.text80.specs.declared.control.Range.{Range}

@@ -1,19 +1,17 @@
 -- Reading records whose numbers rise, and the first fault.
-use Rattle.std.proofs.Common.{◌≡◌, ◌<◌, ◌≤◌, ◌+◌, ◌⊎◌, ℕ, suc, List, [], ◌∷◌, ◌++◌, length, take, drop, map, get_or}
-use Rattle.std.proofs.Common.{refl, sym, ◌∙◌, ap, subst, arith, inl, inr}
+use Rattle.std.proofs.Common.{◌≡◌, ◌<◌, ◌≤◌, ◌+◌, ℕ, suc, List, [], ◌∷◌, ◌++◌, length, take, drop, get_or}
+use Rattle.std.proofs.Common.{sym, ◌∙◌, ap, subst, arith, inl, inr}
 use Rattle.std.specs.List.{All, Any}
-use Rattle.std.proofs.lemmas.Bool.{cases_lt}
 use Rattle.std.proofs.lemmas.List.{take-append-drop, drop_more, length-take-le, take_more}
 use Rattle.std.proofs.lemmas.List.Elements.{All-push, All-weaker}
 use Rattle.std.proofs.lemmas.List.Quantifiers.{Any-push}
 use Rattle.terms.specs.declared.text_faults.TextCode.{TextCode}
-use Rattle.terms.specs.declared.text_faults.TextCode.TheVariants.{Tx1, Tx2}
+use Rattle.terms.specs.declared.text_faults.TextCode.TheVariants.{Tx2}
 use Rattle.terms.specs.declared.text_faults.TextFault.{TextFault}
 use Rattle.terms.specs.Types.{Lines}
-use Rattle.terms.specs.Texts.{IsNumberedLine, number_of, IsNumbered, BreaksOrder, HasNumberedFault, IsFirstFault}
+use Rattle.terms.specs.Texts.{IsNumberedLine, number_of, IsNumbered, BreaksOrder, HasNumberedFault}
 use Rattle.terms.specs.Texts.{IsNumberedFault}
 use Rattle.terms.proofs.Texts.{Rises, Rises-numbered, increasing_from_Rises}
-use Rattle.lemmas.proofs.Each.{any_here, any_later}
 use Rattle.text80.specs.Rising.{IsNumberFault}
 
 -- These records are a numbered text, and the next number has to be `least` or higher.

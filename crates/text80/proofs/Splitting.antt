@@ -1,10 +1,10 @@
 -- Splitting the records behind a CHANGE record into what they give and what they delete.
 use Rattle.std.proofs.Common.{◌≡◌, ◌<◌, ◌≤◌, ◌+◌, ℕ, Bool, true, false, not, List, [], ◌∷◌, ◌++◌, length, take, drop}
 use Rattle.std.proofs.Common.{get_or, sym, ◌∙◌, ap, subst, arith, inl, inr}
-use Rattle.std.specs.Prelude.{IsTrue, nat_le, ◌&&◌, ◌||◌}
+use Rattle.std.specs.Prelude.{IsTrue, nat_le, ◌&&◌}
 use Rattle.std.specs.List.{All, list_any}
 use Rattle.std.specs.List.Sorted.{IsPermutation, IsNonDecreasingBy}
-use Rattle.std.proofs.lemmas.Bool.{cases_Bool, both_ways, and_parts, and_from, or_cases, or_left, or_right, leb-true}
+use Rattle.std.proofs.lemmas.Bool.{both_ways, and_parts, and_from, or_cases, or_left, or_right, leb-true}
 use Rattle.std.proofs.lemmas.Bool.{le-leb}
 use Rattle.std.proofs.lemmas.List.{append-nil, take_more, length-take-le, take_all}
 use Rattle.std.proofs.lemmas.List.Elements.{All-push, filter-append}
@@ -12,11 +12,11 @@ use Rattle.std.proofs.lemmas.List.Folds.{list_any-append}
 use Rattle.std.proofs.lemmas.List.Quantifiers.{Any-push}
 use Rattle.std.proofs.lemmas.List.Sorted.{list_any-IsPermutation}
 use Rattle.terms.specs.declared.text_faults.TextCode.{TextCode}
-use Rattle.terms.specs.declared.text_faults.TextCode.TheVariants.{Tx1, Tx5, Tx6}
+use Rattle.terms.specs.declared.text_faults.TextCode.TheVariants.{Tx5, Tx6}
 use Rattle.terms.specs.declared.text_faults.TextFault.{TextFault}
 use Rattle.terms.specs.Types.{Text, Lines}
 use Rattle.terms.specs.Texts.{IsNumbered, IsNumberedLine, number_of, is_control, IsDelete, IsSomeDelete, given, Deletes}
-use Rattle.terms.specs.Texts.{FollowChange, IsChange, IsUpdate, BreaksOrder, HasRestFault, IsFirstFault}
+use Rattle.terms.specs.Texts.{FollowChange, IsUpdate, BreaksOrder, HasRestFault, IsFirstFault}
 use Rattle.terms.proofs.Controls.{begins_control, same_delete}
 use Rattle.terms.proofs.Updates.{given-control, given-other, deletes-change}
 use Rattle.lemmas.proofs.Each.{any_later, Any-append_left, Any-push_cases}

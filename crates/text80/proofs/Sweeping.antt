@@ -1,13 +1,13 @@
 -- Going over sorted ranges and old records in order.
-use Rattle.std.proofs.Common.{◌≡◌, ◌<◌, ◌≤◌, ◌+◌, ◌⊎◌, ℕ, suc, zero, Bool, true, false, List, [], ◌∷◌, ◌++◌, length}
-use Rattle.std.proofs.Common.{take, drop, get_or, max, refl, sym, ◌∙◌, ap, subst, arith, inl, inr, IfSome, IfNone}
+use Rattle.std.proofs.Common.{◌≡◌, ◌<◌, ◌≤◌, ◌+◌, ℕ, Bool, true, false, List, [], ◌∷◌, ◌++◌, length}
+use Rattle.std.proofs.Common.{drop, get_or, max, refl, sym, ◌∙◌, ap, subst, arith, inl, inr, IfSome, IfNone}
 use Rattle.std.proofs.Common.{Option, None, Some, Bor, slice_get}
 use Rattle.std.specs.Prelude.{nat_le, nat_lt, ◌&&◌, ◌||◌}
-use Rattle.std.specs.List.{All, list_any}
+use Rattle.std.specs.List.{All}
 use Rattle.std.specs.List.Sorted.{IsNonDecreasingBy}
-use Rattle.std.proofs.lemmas.Bool.{cases_lt, cases_Bool, lt-ltb, le-ltb, le-leb, lt-leb, and_left}
-use Rattle.std.proofs.lemmas.List.{drop_more, drop_all, append-nil, append_assoc}
-use Rattle.std.proofs.lemmas.List.Elements.{All-tail, All-head, All-drop}
+use Rattle.std.proofs.lemmas.Bool.{cases_lt, lt-ltb, le-ltb, le-leb, lt-leb, and_left}
+use Rattle.std.proofs.lemmas.List.{drop_more, drop_all, append_assoc}
+use Rattle.std.proofs.lemmas.List.Elements.{All-tail, All-head}
 use Rattle.std.proofs.lemmas.List.Folds.{list_any_none}
 use Rattle.std.proofs.lemmas.List.Sorted.{IsNonDecreasingBy-drop}
 use Rattle.lemmas.proofs.Booleans.{or_false}

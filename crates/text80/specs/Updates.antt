@@ -1,7 +1,6 @@
 use Rattle.std.specs.Prelude.{◌≡◌, ℕ, List, ◌∷◌}
 use Rattle.std.specs.List.Sorted.{IsNonDecreasingBy}
 use Rattle.terms.specs.Types.{Text, Lines}
-use Rattle.terms.specs.declared.text_faults.TextFault.{TextFault}
 use Rattle.terms.specs.Texts.{IsChange, given, FollowChange, IsUpdate, HasRestFault, IsFirstFault, IsUpdateFault}
 use Rattle.text80.specs.declared.control.Range.{Range}
 use Rattle.text80.specs.declared.error.TextError.{TextError}

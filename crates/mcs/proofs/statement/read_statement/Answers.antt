@@ -1,5 +1,3 @@
-use Rattle.std.proofs.Common.{◌≢◌}
-use Rattle.terms.specs.declared.statement_words.StatementWord.TheVariants as word
 use Rattle.mcs_statements.specs.KnownWords.{own_list}
 use Rattle.mcs_statements.proofs.Printables.{known_printable}
 use Rattle.mcs.specs.Files.{begun_in}

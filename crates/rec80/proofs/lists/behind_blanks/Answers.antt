@@ -1,4 +1,3 @@
-use Rattle.std.proofs.Common.{◌≡◌}
 use Rattle.rec80.specs.Cursors.{text_of}
 use Rattle.rec80.proofs.Listing.{skips_blank}
 use Rattle.rec80.proofs.lists.behind_blanks.Goals as goal

@@ -1,6 +1,5 @@
-use Rattle.std.proofs.Common.{option_map}
 use Rattle.rec80.specs.Cursors.{text_of}
-use Rattle.rec80.proofs.Listing.{none_begins, none_runs, none_closes, takes_next}
+use Rattle.rec80.proofs.Listing.{none_begins, none_runs, none_closes}
 use Rattle.rec80.proofs.lists.member_in.Goals as goal
 
 pub returns-in_default-clause-none : goal.returns-in_default-clause-none

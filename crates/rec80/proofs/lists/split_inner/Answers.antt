@@ -1,4 +1,4 @@
-use Rattle.std.proofs.Common.{◌≡◌, ◌<◌, ◌+◌, ◌*◌, ◌^◌, length, take, arith, ap, length-append}
+use Rattle.std.proofs.Common.{◌<◌, ◌*◌, ◌^◌, length, take, arith, ap, length-append}
 use Rattle.std.proofs.lemmas.List.{length-take}
 use Rattle.terms.specs.Statement.{followed}
 use Rattle.terms.proofs.Closings.{length-followed}

@@ -1,4 +1,4 @@
-use Rattle.std.proofs.Common.{◌≡◌, ◌∷◌, inl, sym, ap, ◌∙◌}
+use Rattle.std.proofs.Common.{◌∷◌, inl, sym, ap, ◌∙◌}
 use Rattle.terms.proofs.Gaps.{opens_comment, takes_stray}
 use Rattle.rec80.specs.Cursors.{rest_of}
 use Rattle.rec80.proofs.piece.solid_piece.Goals as goal

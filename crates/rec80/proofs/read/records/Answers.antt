@@ -1,4 +1,4 @@
-use Rattle.std.proofs.Common.{◌≡◌, ◌<◌, ◌≤◌, ◌%◌, ◌/◌, ◌*◌, ◌+◌, arith, rules, length}
+use Rattle.std.proofs.Common.{◌%◌, ◌/◌, ◌+◌, arith, rules, length}
 use Rattle.std.proofs.lemmas.List.Elements.{All-more}
 use Rattle.terms.specs.Records.{IsPrintable, Rec1, Rec2}
 use Rattle.terms.proofs.ExactFiles.{rec_fault-no_records}

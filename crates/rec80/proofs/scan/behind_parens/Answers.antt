@@ -1,4 +1,4 @@
-use Rattle.std.proofs.Common.{◌≡◌, ◌<◌, ◌+◌, ◌++◌, ◌∷◌, ◌*◌, ◌^◌, length, length-append, arith, ap, ◌∙◌, sym, rules}
+use Rattle.std.proofs.Common.{◌<◌, ◌++◌, ◌∷◌, ◌*◌, ◌^◌, length, length-append, arith, ap, ◌∙◌, sym}
 use Rattle.terms.specs.Statement.{followed}
 use Rattle.terms.proofs.Closings.{length-followed, list_text}
 use Rattle.rec80.specs.Cursors.{rest_of}

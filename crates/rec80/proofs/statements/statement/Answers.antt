@@ -1,5 +1,4 @@
 use Rattle.std.proofs.lemmas.Result.{err_from_is_err_and}
-use Rattle.rec80.specs.Cursors.{rest_of}
 use Rattle.rec80.proofs.Stating.{is_statement, is_fault, no_statement}
 use Rattle.rec80.proofs.statements.statement.Goals as goal
 

@@ -1,5 +1,3 @@
-use Rattle.terms.specs.Statement.{Piece}
-use Rattle.rec80.specs.Walks.{EndsFrom}
 use Rattle.rec80.proofs.Ending.{period_some, ends_from}
 use Rattle.rec80.proofs.walk.inline_behind.Goals as goal
 

@@ -1,4 +1,4 @@
-use Rattle.std.proofs.Common.{◌≡◌, ◌++◌, [], subst, sym, append-nil}
+use Rattle.std.proofs.Common.{subst, append-nil}
 use Rattle.rec80.specs.Cursors.{rest_of}
 use Rattle.rec80.specs.Walks.{SkipsGaps}
 use Rattle.rec80.proofs.Walking.{idle_text, idle_after}

@@ -1,17 +1,16 @@
 use Rattle.std.specs.Prelude.{◌≡◌, map, refl}
 use Rattle.std.proofs.Common.{◌∙◌, sym, ap, ap₂, subst}
 use Rattle.lemmas.proofs.Lists.{same-pairs}
-use Rattle.terms.specs.Types.{Id, Global}
+use Rattle.terms.specs.Types.{Global}
 use Rattle.terms.specs.Choice.{Choice, counting}
 use Rattle.terms.specs.Lookups.{is_in}
 use Rattle.terms.specs.Needs.{Serves}
-use Rattle.terms.specs.Restore.{Restoring, NeedsInRestore, MayBeRestored}
+use Rattle.terms.specs.Restore.{NeedsInRestore, MayBeRestored}
 use Rattle.solve.specs.Numbered.{IsProblemOf}
 use Rattle.machine.specs.Outcome.{StatusLine}
 use Rattle.machine.specs.Receiving.{place_of}
 use Rattle.report.specs.Views.{line_view}
 use Rattle.undo_list.specs.Restoring.{restoring}
-use Rattle.smpe_restore.specs.Lines.{IsRestoreProblem}
 use Rattle.smpe_restore.proofs.restored.restore.Goals as goal
 
 pub returns : goal.returns

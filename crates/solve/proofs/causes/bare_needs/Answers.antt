@@ -1,4 +1,4 @@
-use Rattle.std.proofs.Common.{◌≡◌, ◌≤◌, ◌∙◌, sym, ap, subst, length, take_all, arith}
+use Rattle.std.proofs.Common.{◌≤◌, ◌∙◌, sym, ap, length, take_all, arith}
 use Rattle.std.specs.List.{list_any}
 use Rattle.solve.proofs.Bare.{is_bare, bare_exact}
 use Rattle.solve.proofs.causes.bare_needs.Goals as goal

@@ -1,4 +1,4 @@
-use Rattle.std.proofs.Common.{◌≡◌, ◌++◌, ◌∙◌, List, ℕ, Bool, rules, arith, length, take, drop, sym}
+use Rattle.std.proofs.Common.{◌≡◌, ◌++◌, arith, length, take, drop}
 use Rattle.std.proofs.lemmas.Grind.{common_steps}
 use Rattle.solve.proofs.Greatest.{greatest_from_kept}
 use Rattle.solve.specs.Marks.{AreLeads}

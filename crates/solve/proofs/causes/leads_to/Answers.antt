@@ -1,14 +1,11 @@
 use Rattle.std.proofs.Common.{◌≡◌, ◌≤◌, ◌<◌, ◌+◌, ◌++◌, ◌∷◌, [], List, ◌∙◌, sym, ap, subst, take, drop, length, map}
 use Rattle.std.proofs.Common.{take_all, arith}
-use Rattle.std.specs.Prelude.{Vec}
-use Rattle.std.specs.declared.alloc.Global.{Global}
-use Rattle.std.proofs.Common.{ℕ}
 use Rattle.std.proofs.lemmas.List.{map_more}
 use Rattle.std.proofs.lemmas.Grind.{common_steps}
 use Rattle.solve.specs.Problem.{Demand, holds}
 use Rattle.solve.specs.Need.{demand}
 use Rattle.solve.proofs.Passing.{clash}
-use Rattle.solve.proofs.Leads.{AreLeadsBy, leads-none, leads-skip, leads-add}
+use Rattle.solve.proofs.Leads.{AreLeadsBy, leads-skip, leads-add}
 use Rattle.solve.proofs.causes.leads_to.Goals as goal
 use Rattle.solve.proofs.causes.leads_to.Goals.{then-not-kept-need+then-not-serves+in_ok-add_under, else-not-kept-need}
 use Rattle.solve.proofs.causes.leads_to.Goals.{else-not-kept-need-via-then-not-kept-need+else-not-serves}

@@ -1,6 +1,5 @@
-use Rattle.std.proofs.Common.{◌≡◌, List, Bool, ap, map, subst, sym, ◌∙◌}
-use Rattle.std.specs.Prelude.{not, Vec}
-use Rattle.std.specs.declared.alloc.Global.{Global}
+use Rattle.std.proofs.Common.{◌≡◌, ap, map, subst, sym, ◌∙◌}
+use Rattle.std.specs.Prelude.{not}
 use Rattle.std.proofs.lemmas.Result.{IfOk-weaker}
 use Rattle.solve.specs.Least.{IsLeast, growth_of}
 use Rattle.solve.proofs.LeastSets.{least_from_kept}

@@ -1,4 +1,4 @@
-use Rattle.std.proofs.Common.{◌≡◌, ◌<◌, ◌++◌, ◌∷◌, [], ◌∙◌, ap, get_or, length, arith, refl}
+use Rattle.std.proofs.Common.{◌<◌, get_or, length, arith, refl}
 use Rattle.solve.proofs.Added.{added-more}
 use Rattle.solve.proofs.rows.add_under.Goals as goal
 

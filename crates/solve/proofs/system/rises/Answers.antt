@@ -1,5 +1,4 @@
-use Rattle.std.proofs.Common.{take, take_all, length, arith, refl, subst, ◌≤◌, ◌<◌}
-use Rattle.std.proofs.lemmas.List.{get_or_default}
+use Rattle.std.proofs.Common.{take_all, length, arith, refl, subst, ◌≤◌}
 use Rattle.terms.proofs.Rising.{Rises, rises-one, rises-more}
 use Rattle.solve.proofs.system.rises.Goals as goal
 

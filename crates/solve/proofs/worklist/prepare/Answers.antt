@@ -1,8 +1,7 @@
-use Rattle.std.proofs.Common.{◌≡◌, ◌<◌, ◌≤◌, ◌+◌, ◌*◌, ◌^◌, ◌++◌, ◌∷◌, [], List, ℕ, length, map, take, drop, get_or}
-use Rattle.std.proofs.Common.{take_all, sym, subst, ◌∙◌, ap, arith, rules}
+use Rattle.std.proofs.Common.{◌≡◌, ◌<◌, ◌≤◌, ◌^◌, ◌++◌, length, map, take, drop}
+use Rattle.std.proofs.Common.{take_all, sym, ◌∙◌, ap, arith, rules}
 use Rattle.std.proofs.lemmas.List.{length-map}
 use Rattle.std.proofs.lemmas.Grind.{common_steps}
-use Rattle.solve.specs.Problem.{Demand, pairs_of}
 use Rattle.solve.specs.Need.{demand}
 use Rattle.solve.specs.Board.{eligible_in}
 use Rattle.solve.proofs.Searches.{pairs-more, pairs-few, start-room, living-more, served-next, search-start}

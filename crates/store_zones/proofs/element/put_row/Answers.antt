@@ -1,4 +1,4 @@
-use Rattle.std.proofs.Common.{◌≡◌, [], ◌∷◌, OnOk, subst, sym, ap, ◌∙◌}
+use Rattle.std.proofs.Common.{◌≡◌, OnOk, subst, sym, ap, ◌∙◌}
 use Rattle.std.specs.List.{join_with_byte, concat}
 use Rattle.store_rows.specs.Inside.{Turns}
 use Rattle.store_rows.specs.Rows.{HasContents, with_put}

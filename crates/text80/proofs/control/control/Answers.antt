@@ -1,5 +1,5 @@
-use Rattle.std.proofs.Common.{◌≡◌, List, ℕ, take, codes, sym, ◌∙◌, ap, subst}
-use Rattle.text80.proofs.ControlCuts.{joined, AreParts, parts_from, empty_from, some_from}
+use Rattle.std.proofs.Common.{take, sym, ◌∙◌, ap, subst}
+use Rattle.text80.proofs.ControlCuts.{joined, parts_from, empty_from, some_from}
 use Rattle.terms.proofs.Controls.{IsCuts, control_from}
 use Rattle.text80.proofs.control.control.Goals as goal
 use Rattle.text80.proofs.control.control.Goals.{then-is_empty-via-then-is_empty}

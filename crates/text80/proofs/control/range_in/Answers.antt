@@ -1,4 +1,4 @@
-use Rattle.std.proofs.Common.{◌≡◌, ◌++◌, List, ℕ, take, drop, codes, sym, ◌∙◌, ap, subst, arith}
+use Rattle.std.proofs.Common.{◌≡◌, sym, ◌∙◌, ap, subst, arith}
 use Rattle.std.specs.Str.Parse.{digits_value}
 use Rattle.terms.specs.Texts.{IsNumber}
 use Rattle.text80.proofs.ControlCuts.{range_from, range_parts, range_end}

@@ -1,6 +1,5 @@
-use Rattle.std.proofs.Common.{◌≡◌, ◌++◌, length, take, sym, ◌∙◌, ap, subst}
+use Rattle.std.proofs.Common.{◌≡◌, length, take, sym, ◌∙◌, ap}
 use Rattle.std.proofs.lemmas.List.{take_more}
-use Rattle.terms.specs.Texts.{HasLines}
 use Rattle.terms.proofs.Texts.{lines_more}
 use Rattle.text80.proofs.line.bytes_of.Goals as goal
 

@@ -1,4 +1,4 @@
-use Rattle.std.proofs.Common.{◌<◌, ◌-◌, arith, get_or}
+use Rattle.std.proofs.Common.{◌-◌, arith, get_or}
 use Rattle.std.specs.Char.{IsAsciiDigit}
 use Rattle.std.proofs.lemmas.List.Elements.{All-more}
 use Rattle.text80.proofs.Numbers.{digits_more, room, bound_more}

@@ -1,8 +1,8 @@
-use Rattle.std.proofs.Common.{◌≡◌, ◌<◌, ◌≤◌, ◌++◌, ◌∷◌, [], sym, ◌∙◌, ap, subst}
+use Rattle.std.proofs.Common.{◌<◌, ◌≤◌, sym, ◌∙◌, subst}
 use Rattle.std.specs.List.{All}
 use Rattle.terms.specs.Texts.{IsNumberedLine, IsNumbered}
 use Rattle.text80.proofs.Merges.{merge_from, merge_numbered}
-use Rattle.text80.proofs.Sweeping.{IsMerging, merging_none, all_behind, swept_at_line, given_at, kept_at, gone_at}
+use Rattle.text80.proofs.Sweeping.{merging_none, all_behind, swept_at_line, given_at, kept_at, gone_at}
 use Rattle.text80.proofs.Sweeping.{merged_all, first_known, nowhere_known}
 use Rattle.text80.proofs.merging.merge.Goals as goal
 use Rattle.text80.proofs.merging.merge.Goals.{in-Some+in_ok-push-in-Some, in-None, in-None-2+in_ok-push-in-None-2}

@@ -1,4 +1,4 @@
-use Rattle.std.proofs.Common.{ℕ, [], drop, subst}
+use Rattle.std.proofs.Common.{subst}
 use Rattle.std.proofs.lemmas.List.{drop_all}
 use Rattle.text80.specs.Merging.{IsSwept}
 use Rattle.text80.proofs.Sweeping.{swept_at}

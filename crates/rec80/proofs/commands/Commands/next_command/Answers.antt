@@ -1,4 +1,4 @@
-use Rattle.std.proofs.Common.{◌≡◌, ◌≤◌, ◌<◌, ◌+◌, length, arith}
+use Rattle.std.proofs.Common.{arith}
 use Rattle.rec80.proofs.Commanding.{StandsBehind, in_records, later_within, takes_command, cut_fault}
 use Rattle.rec80.proofs.commands.Commands.next_command.Goals as goal
 

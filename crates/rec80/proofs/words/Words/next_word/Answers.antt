@@ -1,4 +1,4 @@
-use Rattle.std.proofs.Common.{◌≡◌, ◌<◌, ◌≤◌, length, arith, List, refl, subst}
+use Rattle.std.proofs.Common.{arith, List, refl, subst}
 use Rattle.terms.specs.Statement.{TakesPiece, TheWord, TheList, HasSolid}
 use Rattle.terms.specs.Statement as grammar
 use Rattle.terms.specs.Words.{BeginsNoWords}

@@ -1,4 +1,4 @@
-use Rattle.std.proofs.Common.{◌∙◌, sym, subst, ap, true≢false}
+use Rattle.std.proofs.Common.{◌∙◌, sym, subst, true≢false}
 use Rattle.terms.specs.Types.{ListZone}
 use Rattle.machine.specs.Outcome.{Ran, Cm1, list_global, list_zone, header_of}
 use Rattle.machine.specs.Machine.{Performs}

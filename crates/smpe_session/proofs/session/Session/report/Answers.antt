@@ -1,7 +1,6 @@
-use Rattle.std.proofs.Common.{◌∙◌, Some, false, sym, subst, ap}
+use Rattle.std.proofs.Common.{◌∙◌, Some, sym, subst}
 use Rattle.std.proofs.lemmas.Result.{IfOk-weaker}
 use Rattle.terms.specs.Types.{Report}
-use Rattle.terms.specs.declared.codes.CommandWord.TheVariants as word
 use Rattle.machine.specs.Outcome.{Ran, Cm1, Cm3}
 use Rattle.machine.specs.Errsysmods.{AreErrsysmods}
 use Rattle.machine.specs.Machine.{Performs}

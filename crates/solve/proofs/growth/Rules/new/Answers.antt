@@ -1,6 +1,5 @@
-use Rattle.std.proofs.Common.{◌≡◌, List, Bool, [], ◌∙◌, ap, map}
-use Rattle.std.specs.Prelude.{not}
-use Rattle.solve.specs.Least.{Rule, Growth}
+use Rattle.std.proofs.Common.{List, Bool, [], ap}
+use Rattle.solve.specs.Least.{Growth}
 use Rattle.lemmas.proofs.Booleans.{turned_twice}
 use Rattle.solve.proofs.growth.Rules.new.Goals as goal
 

@@ -1,4 +1,3 @@
-use Rattle.std.specs.List.{All}
 use Rattle.solve.specs.Problem.{IsDemand}
 use Rattle.lemmas.proofs.Each.{All-unmap}
 use Rattle.solve.specs.Need.{demand}

@@ -1,8 +1,8 @@
-use Rattle.std.proofs.Common.{◌≡◌, ◌<◌, ◌≤◌, ℕ, length, get_or, map, sym, ◌∙◌, ap, subst, arith}
+use Rattle.std.proofs.Common.{◌≡◌, ◌<◌, length, get_or, sym, ◌∙◌, ap, subst, arith}
 use Rattle.std.proofs.lemmas.List.{get_or_default, length-map}
 use Rattle.solve.specs.Need.{demand}
 use Rattle.solve.specs.Board.{demand_at, IsDrop}
-use Rattle.solve.proofs.Searches.{settle-drop, settle-pass, settled-all, demand_at-read}
+use Rattle.solve.proofs.Searches.{settle-drop, settle-pass, demand_at-read}
 use Rattle.solve.proofs.worklist.Board.drop_unserved.Goals as goal
 use Rattle.solve.proofs.worklist.Board.drop_unserved.Goals.{then-index-eq0, else-index-eq0}
 

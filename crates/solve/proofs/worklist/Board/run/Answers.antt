@@ -1,6 +1,5 @@
-use Rattle.std.proofs.Common.{◌≡◌, ◌<◌, ◌≤◌, ◌++◌, ◌∷◌, [], List, ℕ, length, sym, subst, ◌∙◌, ap, arith}
+use Rattle.std.proofs.Common.{◌<◌, [], List, ℕ, length, subst, arith}
 use Rattle.std.specs.List.{All}
-use Rattle.solve.specs.Rows.{row_at}
 use Rattle.solve.specs.Board.{IsSearch}
 use Rattle.solve.proofs.Added.{row_at-read}
 use Rattle.solve.proofs.Searches.{search-take, last-small, served-small, eligible-le-pairs}

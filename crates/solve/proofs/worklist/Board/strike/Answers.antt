@@ -1,6 +1,5 @@
-use Rattle.std.proofs.Common.{◌≡◌, ◌<◌, ◌≤◌, ◌-◌, ℕ, length, get_or, map, sym, ◌∙◌, ap, subst, arith}
+use Rattle.std.proofs.Common.{◌≡◌, ◌<◌, ◌-◌, length, get_or, sym, ◌∙◌, ap, subst, arith}
 use Rattle.std.proofs.lemmas.List.{get_or_default, length-map}
-use Rattle.solve.specs.Problem.{Demand}
 use Rattle.solve.specs.Need.{demand}
 use Rattle.solve.specs.Board.{demand_at, IsDrop}
 use Rattle.solve.proofs.Searches.{due-living, strike-drop, strike-pass, demand_at-read}

@@ -1,5 +1,4 @@
-use Rattle.std.proofs.Common.{◌≡◌, [], List, ℕ, sym, subst, ◌∙◌, ap, arith}
-use Rattle.solve.specs.Problem.{AreKept, strikes_of}
+use Rattle.std.proofs.Common.{[], List, ℕ, subst, arith}
 use Rattle.solve.specs.Board.{IsSearch}
 use Rattle.solve.proofs.Searches.{search_kept, search_strikes, eligible-le-pairs}
 use Rattle.solve.proofs.worklist.Worklist.count.Goals as goal

@@ -1,5 +1,4 @@
-use Rattle.std.proofs.Common.{◌≡◌, ◌++◌, refl, subst}
-use Rattle.terms.specs.Texts.{IsNumberedFault}
+use Rattle.std.proofs.Common.{refl}
 use Rattle.text80.proofs.Reading.{read_at, numbered_fault}
 use Rattle.text80.proofs.numbered.Numbered.read.Goals as goal
 

@@ -1,5 +1,5 @@
-use Rattle.std.proofs.Common.{◌≡◌, sym, ◌∙◌, ap, subst}
-use Rattle.text80.specs.Updates.{IsSound, StandsBefore}
+use Rattle.std.proofs.Common.{subst}
+use Rattle.text80.specs.Updates.{StandsBefore}
 use Rattle.text80.proofs.Splitting.{sound_from}
 use Rattle.text80.proofs.update.Update.read.Goals as goal
 
