@@ -22,6 +22,7 @@ use Rattle.store.specs.declared.change.Change.{Change}
 use Rattle.store.specs.BadRows.{TellsNoState}
 use Rattle.store.specs.Changes.{Makes}
 use Rattle.store.specs.Kept.{kept, Keeps, IsStopped}
+use Rattle.store.specs.Loads.{Loads}
 use Rattle.store.proofs.Keeping.{leaves-more}
 use Rattle.store.specs.View.{Tables, TablesIfOpen, MayLeave, Leaves}
 use Rattle.smpe_session.specs.declared.session.Session.{Session}
@@ -150,32 +151,30 @@ told-none g old new (Ok outcome) told_so is none clean bad = absurd (cc (is, bad
 told-none g old new (Err e) told_so is none clean bad = none clean (cc (is, bad))
 
 module _ {S : Type 0} (g : Ghosts S) (old new : Held S) (s : State) where
-  -- the clauses of each load
-  abbrev NoneLost : Type 0
-  NoneLost = (i : Inventory) → Tables g old i → (db : Trees) → MayLeave g new db → MayLeave g old db
-
-  unmoved : ((i : Inventory) → Tables g old i → TablesIfOpen g new i) → NoneLost → Keeps g old s → Unmoved g new s
-  unmoved err lost keeps = record {
-    now = err (kept s) keeps.now;
-    crash = λ db left. keeps.crash db (lost (kept s) keeps.now db left);
-  }
-
+  -- what a load leaves
   pub loaded : {X : Type 0} (Found : Inventory → X → Type 0) (result : Result X StoreError)
-      → HasCleanDisk (state g new)
-      → (HasCleanDisk (state g new) → (i : Inventory) → Tables g old i → IfOk result (Found i))
-      → (HasCleanDisk (state g new) → IsErrOf result NoState → (i : Inventory) → ¬ Tables g old i)
-      → OnOk result ((i : Inventory) → Tables g old i → Tables g new i)
-      → OnErr result ((i : Inventory) → Tables g old i → TablesIfOpen g new i)
-      → IfErr result (λ e. e ≢ OtherSchema)
-      → NoneLost → Keeps g old s → HasLoaded g new s (Found (kept s)) result
-  loaded Found (Ok x) clean found none same err which lost keeps = (
-    found clean (kept s) keeps.now,
-    record { now = same (kept s) keeps.now; crash = λ db left. keeps.crash db (lost (kept s) keeps.now db left) },
-  )
-  loaded Found (Err Fault) clean found none same err which lost keeps = unmoved err lost keeps
-  loaded Found (Err OtherSchema) clean found none same err which lost keeps = which refl
-  loaded Found (Err NoState) clean found none same err which lost keeps = none clean refl (kept s) keeps.now
-  loaded Found (Err Memory) clean found none same err which lost keeps = unmoved err lost keeps
+      → HasCleanDisk (state g new) → Loads g old new Found result → Keeps g old s
+      → HasLoaded g new s (Found (kept s)) result
+  loaded {X = X} Found result clean loads keeps = by result loads
+    where
+      unmoved : (r : Result X StoreError) → Loads g old new Found r → TablesIfOpen g new (kept s) → Unmoved g new s
+      unmoved r loads now = record {
+        now = now;
+        crash = λ db left. keeps.crash db (loads.crash (kept s) keeps.now db left);
+      }
+
+      by : (r : Result X StoreError) → Loads g old new Found r → HasLoaded g new s (Found (kept s)) r
+      by (Ok x) loads = (
+        loads.found clean (kept s) keeps.now,
+        record {
+          now = loads.same (kept s) keeps.now;
+          crash = λ db left. keeps.crash db (loads.crash (kept s) keeps.now db left);
+        },
+      )
+      by (Err Fault) loads = unmoved _ loads (loads.err (kept s) keeps.now)
+      by (Err OtherSchema) loads = loads.which refl
+      by (Err NoState) loads = (loads.none clean refl).none (kept s) (keeps.now (loads.clean clean)).1
+      by (Err Memory) loads = unmoved _ loads (loads.err (kept s) keeps.now)
 
   -- the clauses of a commit of what makes t
   module _ (change : Change) (t : State) (keeps : Keeps g old s) (makes : Makes change (kept s) (kept t))

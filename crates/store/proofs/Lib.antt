@@ -2,6 +2,7 @@ mod Committing
 mod DeltaLemmas
 mod GlobalLemmas
 pub mod Keeping
+mod Loading
 pub mod NoState
 mod Parts
 pub mod Reopening

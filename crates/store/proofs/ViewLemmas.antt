@@ -6,7 +6,6 @@ use Rattle.sqlite.specs.Schema.{Schema}
 use Rattle.sqlite.specs.Effect.{IsDatabase}
 use Rattle.sqlite.specs.Held.{Held, state}
 use Rattle.sqlite.specs.State.{HasCleanDisk, Survives, IsLive}
-use Rattle.store_rows.specs.Reads.{OnlyReads}
 use Rattle.store_schema.specs.Create.{IsBlank}
 use Rattle.store_schema.specs.Inventory.{Inventory, IsInventory, empty_inventory}
 use Rattle.store_schema.specs.Stands.{StandsFor, IsStateOf, IsSetUp}
@@ -48,13 +47,6 @@ module _ {S : Type 0} (g : Ghosts S) (at : Held S) (settled : Settled g at) (i :
     now = λ clean. (is_open, stands clean is_open);
     crash = leaves_committed is_open (λ clean. stands clean is_open);
   }
-
--- A load that failed committed nothing.
-pub load_failed : {S X E : Type 0} (g : Ghosts S) (bad_row : E) (conn old new : Held S) (r : Result X E) → conn ≡ old
-    → Settled g new → OnlyReads g bad_row conn new r → (i : Inventory) → Tables g old i → TablesIfOpen g new i
-load_failed g bad_row conn old new r same settled reads i tables = still_open g new settled i (λ clean is_open.
-    let was = subst (λ h. Tables g h i) (sym same) tables (omega (arith, reads.crash.clean, clean)) in
-    subst (StandsFor i) (sym ((reads.kept clean).committed is_open)) was.1)
 
 -- At the exit of a commit a crash leaves what it left before, or the changed inventory.
 module _ {S : Type 0} (g : Ghosts S) (conn old new : Held S) (change : Change) (same : conn ≡ old)

@@ -1,15 +1,8 @@
 //! What a store's tables hold, read back.
 
-ghost use Rattle.std.specs.Prelude.{◌≡◌, ◌≢◌, map, IfOk, IfErr, OnOk, OnErr};
-ghost use Rattle.sqlite.specs.Tree.{Trees};
-ghost use Rattle.sqlite.specs.Held.{state};
-ghost use Rattle.sqlite.specs.State.{HasCleanDisk};
-ghost use Rattle.store_rows.specs.Reads.{OnlyReads};
-ghost use Rattle.store_schema.specs.Inventory.{Inventory};
+ghost use Rattle.std.specs.Prelude.{◌≡◌, map};
 ghost use Rattle.store_zone_loads.specs.Found.{zone_in, head_of};
-ghost use Rattle.store.specs.BadRows.{TellsNoState};
-ghost use Rattle.store.specs.View.{Tables, TablesIfOpen, MayLeave};
-ghost use Rattle.store.specs.Loads.{store_error};
+ghost use Rattle.store.specs.Loads.{Loads, store_error, told};
 
 use crate::global_load::load_global;
 use crate::open::Store;
@@ -23,8 +16,7 @@ use zones::Zone;
 
 /// How an error of reading is told: rows that stand for nothing stand for no state.
 fn store_error(error: ReadError) -> StoreError
-    ensures value { result ≡ store_error error }
-    ensures which { result ≢ StoreError.OtherSchema }
+    ensures { result ≡ store_error error }
 {
     match error {
         ReadError::Memory => StoreError::Memory,
@@ -33,88 +25,49 @@ fn store_error(error: ReadError) -> StoreError
     }
 }
 
+fn told<T>(read: Result<T, ReadError>) -> Result<T, StoreError>
+    ensures { result ≡ told read }
+{
+    match read {
+        Ok(value) => Ok(value),
+        Err(error) => Err(store_error(error)),
+    }
+}
+
 impl<S: Alter> Store<S> {
     /// The global zone.
     pub fn load_global(&mut self) -> Result<Global, StoreError>
-        ensures found { HasCleanDisk (state S.Store self.new) → (i : Inventory) → Tables S.Store self.old i
-            → IfOk result (λ global. global ≡ i.global) }
-        ensures none { TellsNoState S.Store self.old self.new result }
-        ensures reads { OnlyReads S.Store StoreError.NoState self.old self.new result }
-        ensures same { OnOk result ((i : Inventory) → Tables S.Store self.old i → Tables S.Store self.new i) }
-        ensures err { OnErr result ((i : Inventory) → Tables S.Store self.old i → TablesIfOpen S.Store self.new i) }
-        ensures which { IfErr result (λ e. e ≢ StoreError.OtherSchema) }
-        ensures crash { (i : Inventory) → Tables S.Store self.old i → (db : Trees) → MayLeave S.Store self.new db
-            → MayLeave S.Store self.old db }
-        ensures clean { HasCleanDisk (state S.Store self.new) → HasCleanDisk (state S.Store self.old) }
+        ensures { Loads S.Store self.old self.new (λ i global. global ≡ i.global) result }
     {
         // So what the connection shows is what it last committed.
         prove!(self.conn.is_autocommit());
-        match load_global(self.alloc, &mut self.conn) {
-            Ok(global) => Ok(global),
-            Err(error) => Err(store_error(error)),
-        }
+        told(load_global(self.alloc, &mut self.conn))
     }
 
     /// The zone of this name, if there is one.
     pub fn load_zone(&mut self, name: ZoneName) -> Result<Option<Zone>, StoreError>
-        ensures found { HasCleanDisk (state S.Store self.new) → (i : Inventory) → Tables S.Store self.old i
-            → IfOk result (λ zone. zone ≡ zone_in i name) }
-        ensures none { TellsNoState S.Store self.old self.new result }
-        ensures reads { OnlyReads S.Store StoreError.NoState self.old self.new result }
-        ensures same { OnOk result ((i : Inventory) → Tables S.Store self.old i → Tables S.Store self.new i) }
-        ensures err { OnErr result ((i : Inventory) → Tables S.Store self.old i → TablesIfOpen S.Store self.new i) }
-        ensures which { IfErr result (λ e. e ≢ StoreError.OtherSchema) }
-        ensures crash { (i : Inventory) → Tables S.Store self.old i → (db : Trees) → MayLeave S.Store self.new db
-            → MayLeave S.Store self.old db }
-        ensures clean { HasCleanDisk (state S.Store self.new) → HasCleanDisk (state S.Store self.old) }
+        ensures { Loads S.Store self.old self.new (λ i zone. zone ≡ zone_in i name) result }
     {
         // So what the connection shows is what it last committed.
         prove!(self.conn.is_autocommit());
-        match store_zone_loads::load_zone(self.alloc, &mut self.conn, name) {
-            Ok(zone) => Ok(zone),
-            Err(error) => Err(store_error(error)),
-        }
+        told(store_zone_loads::load_zone(self.alloc, &mut self.conn, name))
     }
 
     /// All zones without their entries and elements, rising by name.
     pub fn zone_heads(&mut self) -> Result<Vec<ZoneHead>, StoreError>
-        ensures found { HasCleanDisk (state S.Store self.new) → (i : Inventory) → Tables S.Store self.old i
-            → IfOk result (λ heads. heads.items ≡ map head_of i.zones) }
-        ensures none { TellsNoState S.Store self.old self.new result }
-        ensures reads { OnlyReads S.Store StoreError.NoState self.old self.new result }
-        ensures same { OnOk result ((i : Inventory) → Tables S.Store self.old i → Tables S.Store self.new i) }
-        ensures err { OnErr result ((i : Inventory) → Tables S.Store self.old i → TablesIfOpen S.Store self.new i) }
-        ensures which { IfErr result (λ e. e ≢ StoreError.OtherSchema) }
-        ensures crash { (i : Inventory) → Tables S.Store self.old i → (db : Trees) → MayLeave S.Store self.new db
-            → MayLeave S.Store self.old db }
-        ensures clean { HasCleanDisk (state S.Store self.new) → HasCleanDisk (state S.Store self.old) }
+        ensures { Loads S.Store self.old self.new (λ i heads. heads.items ≡ map head_of i.zones) result }
     {
         // So what the connection shows is what it last committed.
         prove!(self.conn.is_autocommit());
-        match store_zone_loads::zone_heads(self.alloc, &mut self.conn) {
-            Ok(heads) => Ok(heads),
-            Err(error) => Err(store_error(error)),
-        }
+        told(store_zone_loads::zone_heads(self.alloc, &mut self.conn))
     }
 
     /// The names of all zones, rising.
     pub fn zone_names(&mut self) -> Result<Vec<ZoneName>, StoreError>
-        ensures found { HasCleanDisk (state S.Store self.new) → (i : Inventory) → Tables S.Store self.old i
-            → IfOk result (λ names. names.items ≡ map (λ z. z.name) i.zones) }
-        ensures none { TellsNoState S.Store self.old self.new result }
-        ensures reads { OnlyReads S.Store StoreError.NoState self.old self.new result }
-        ensures same { OnOk result ((i : Inventory) → Tables S.Store self.old i → Tables S.Store self.new i) }
-        ensures err { OnErr result ((i : Inventory) → Tables S.Store self.old i → TablesIfOpen S.Store self.new i) }
-        ensures which { IfErr result (λ e. e ≢ StoreError.OtherSchema) }
-        ensures crash { (i : Inventory) → Tables S.Store self.old i → (db : Trees) → MayLeave S.Store self.new db
-            → MayLeave S.Store self.old db }
-        ensures clean { HasCleanDisk (state S.Store self.new) → HasCleanDisk (state S.Store self.old) }
+        ensures { Loads S.Store self.old self.new (λ i names. names.items ≡ map (λ z. z.name) i.zones) result }
     {
         // So what the connection shows is what it last committed.
         prove!(self.conn.is_autocommit());
-        match store_zone_loads::zone_names(self.alloc, &mut self.conn) {
-            Ok(names) => Ok(names),
-            Err(error) => Err(store_error(error)),
-        }
+        told(store_zone_loads::zone_names(self.alloc, &mut self.conn))
     }
 }

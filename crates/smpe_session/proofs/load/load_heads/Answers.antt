@@ -4,8 +4,6 @@ use Rattle.smpe_session.proofs.Stepping.{loaded}
 use Rattle.smpe_session.proofs.load.load_heads.Goals as goal
 
 pub returns-clause-ended : goal.returns-clause-ended
-returns-clause-ended g c = λ clean s keeps.
-    let e = c.zone_heads.ensures in
-    loaded g.S.Store c.args.store.now c.zone_heads.new.self s (λ i heads. heads.items ≡ map head_of i.zones)
-    c.zone_heads.result clean e.found
-    (λ clean bad i tables. (e.none clean bad).none i (tables (e.clean clean)).1) e.same e.err e.which e.crash keeps
+returns-clause-ended g c clean s keeps =
+    loaded g.S.Store c.args.store.now c.zone_heads.new.self s (λ i heads. heads.items ≡ map head_of i.zones) c.zone_heads.result
+    clean c.zone_heads.ensures keeps

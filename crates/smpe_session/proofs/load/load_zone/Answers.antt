@@ -4,8 +4,6 @@ use Rattle.smpe_session.proofs.Stepping.{loaded}
 use Rattle.smpe_session.proofs.load.load_zone.Goals as goal
 
 pub returns-clause-ended : goal.returns-clause-ended
-returns-clause-ended g c = λ clean s keeps.
-    let e = c.load_zone.ensures in
+returns-clause-ended g c clean s keeps =
     loaded g.S.Store c.args.store.now c.load_zone.new.self s (λ i zone. zone ≡ zone_in i c.args.name) c.load_zone.result
-    clean e.found
-    (λ clean bad i tables. (e.none clean bad).none i (tables (e.clean clean)).1) e.same e.err e.which e.crash keeps
+    clean c.load_zone.ensures keeps

@@ -1,14 +1,10 @@
-use Rattle.store.proofs.ViewLemmas.{load_failed}
-use Rattle.store.proofs.open.Store.load_global.Goals.{in-Ok, in-Err}
+use Rattle.std.proofs.Common.{◌≡◌, refl}
+use Rattle.store.proofs.Loading.{loads-by}
 use Rattle.store.proofs.open.Store.load_global.Goals as goal
 
-pub returns-clause-err : goal.returns-clause-err
-returns-clause-err g c =
+pub returns : goal.returns
+returns g c =
     let now = c.load_global.new.conn in
-    elim c.match-load_global.branch [
-      | in-Ok w ↦ rw w.result-is tt
-      | in-Err w ↦
-          rw w.result-is (load_failed g.S.Store _ c.self.inside.conn c.args.self.now now c.load_global.result
-          c.self.view_is
-          (g.met.S.Store.settled now.store) c.load_global.ensures.reads)
-    ]
+    loads-by g.S.Store (λ i global. global ≡ i.global) c.self.inside.conn c.args.self.now now c.self.view_is
+    (c.if-prove.ensures.settled refl) (g.met.S.Store.settled now.store) c.load_global.result c.load_global.ensures.reads
+    c.load_global.ensures.found c.load_global.ensures.none c.told.result c.told.ensures

@@ -1,14 +1,11 @@
-use Rattle.store.proofs.ViewLemmas.{load_failed}
-use Rattle.store.proofs.open.Store.load_zone.Goals.{in-Ok, in-Err}
+use Rattle.std.proofs.Common.{◌≡◌, refl}
+use Rattle.store_zone_loads.specs.Found.{zone_in}
+use Rattle.store.proofs.Loading.{loads-by}
 use Rattle.store.proofs.open.Store.load_zone.Goals as goal
 
-pub returns-clause-err : goal.returns-clause-err
-returns-clause-err g c =
+pub returns : goal.returns
+returns g c =
     let now = c.load_zone.new.conn in
-    elim c.match-load_zone.branch [
-      | in-Ok w ↦ rw w.result-is tt
-      | in-Err w ↦
-          rw w.result-is (load_failed g.S.Store _ c.self.inside.conn c.args.self.now now c.load_zone.result
-          c.self.view_is
-          (g.met.S.Store.settled now.store) c.load_zone.ensures.reads)
-    ]
+    loads-by g.S.Store (λ i zone. zone ≡ zone_in i c.args.name) c.self.inside.conn c.args.self.now now c.self.view_is
+    (c.if-prove.ensures.settled refl) (g.met.S.Store.settled now.store) c.load_zone.result c.load_zone.ensures.reads
+    c.load_zone.ensures.found c.load_zone.ensures.none c.told.result c.told.ensures

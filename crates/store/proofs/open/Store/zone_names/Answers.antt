@@ -1,14 +1,10 @@
-use Rattle.store.proofs.ViewLemmas.{load_failed}
-use Rattle.store.proofs.open.Store.zone_names.Goals.{in-Ok, in-Err}
+use Rattle.std.proofs.Common.{◌≡◌, map, refl}
+use Rattle.store.proofs.Loading.{loads-by}
 use Rattle.store.proofs.open.Store.zone_names.Goals as goal
 
-pub returns-clause-err : goal.returns-clause-err
-returns-clause-err g c =
+pub returns : goal.returns
+returns g c =
     let now = c.zone_names.new.conn in
-    elim c.match-zone_names.branch [
-      | in-Ok w ↦ rw w.result-is tt
-      | in-Err w ↦
-          rw w.result-is (load_failed g.S.Store _ c.self.inside.conn c.args.self.now now c.zone_names.result
-          c.self.view_is
-          (g.met.S.Store.settled now.store) c.zone_names.ensures.reads)
-    ]
+    loads-by g.S.Store (λ i names. names.items ≡ map (λ z. z.name) i.zones) c.self.inside.conn c.args.self.now now c.self.view_is
+    (c.if-prove.ensures.settled refl) (g.met.S.Store.settled now.store) c.zone_names.result c.zone_names.ensures.reads
+    c.zone_names.ensures.found c.zone_names.ensures.none c.told.result c.told.ensures
