@@ -1,5 +1,5 @@
 //! The files of a job.
-ghost use Rattle.std.specs.Prelude.{◌≡◌, [], ◌∷◌, IfOk, IfErr, Some, Ok, Err, option_map};
+ghost use Rattle.std.specs.Prelude.{[], ◌∷◌, IfOk, IfErr, Some, Ok, Err, option_map};
 ghost use Rattle.std.specs.String.{string_bytes};
 ghost use Rattle.smpe_command.specs.Reading.{Reads, ReadsAll};
 

@@ -5,7 +5,7 @@ ghost use Rattle.std.specs.Str.{bytes_eq};
 ghost use Rattle.indexmap.specs.IndexMap.{get, Updates};
 ghost use Rattle.sqlite.specs.Held.{state};
 ghost use Rattle.sqlite.specs.State.{HasCleanDisk};
-ghost use Rattle.terms.specs.Types.{Text, Install as AnInstall, Zone as AZone};
+ghost use Rattle.terms.specs.Types.{Install as AnInstall, Zone as AZone};
 ghost use Rattle.zones.specs.Delta.{IsChanged};
 ghost use Rattle.store_zones.specs.Zones.{IsZoneChange};
 ghost use Rattle.store_schema.specs.Inventory.{IsInventory};

@@ -1,5 +1,5 @@
 //! SET: the boundary is another zone.
-ghost use Rattle.std.specs.Prelude.{◌≡◌, IsTrue, is_some, IsSome, OnOk, OnErr, None, Some};
+ghost use Rattle.std.specs.Prelude.{◌≡◌, is_some, IsSome, OnOk, OnErr, None, Some};
 ghost use Rattle.std.specs.Str.{bytes_eq};
 ghost use Rattle.indexmap.specs.IndexMap.{get, Updates};
 ghost use Rattle.sqlite.specs.Held.{state};

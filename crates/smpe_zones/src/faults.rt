@@ -2,7 +2,6 @@
 ghost use Rattle.std.specs.Prelude.{◌≡◌, ◌==◌, option_copied, is_some};
 ghost use Rattle.std.specs.List.{list_any};
 ghost use Rattle.terms.specs.Forms.{IsSrel, IsZoneName};
-ghost use Rattle.terms.specs.Types.{zone_number};
 ghost use Rattle.smpe_zones.specs.Definitions.{definition};
 ghost use Rattle.smpe_zones.specs.Heads.{named, names_it, is_distribution, is_free, has_right_related, has_srel};
 ghost use Rattle.smpe_zones.specs.Heads.{has_same_srel, is_taken, first_fault};

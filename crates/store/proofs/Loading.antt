@@ -1,5 +1,5 @@
 -- A load, from what its queries read.
-use Rattle.std.proofs.Common.{◌≡◌, ◌⊎◌, Result, Ok, Err, IfOk, IsTrue, arith, refl, sym, subst, inl, inr}
+use Rattle.std.proofs.Common.{◌≡◌, Result, Ok, Err, IfOk, IsTrue, arith, refl, sym, subst, inl, inr}
 use Rattle.std.specs.Prelude.{IsErrOf}
 use Rattle.sqlite.specs.Store.{Ghosts}
 use Rattle.sqlite.specs.Tree.{Trees}

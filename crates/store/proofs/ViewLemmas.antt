@@ -1,5 +1,5 @@
 -- What follows for a store's callers.
-use Rattle.std.proofs.Common.{◌≡◌, ◌⊎◌, Result, inl, inr, refl, IsTrue, arith, sym, ap, subst}
+use Rattle.std.proofs.Common.{◌≡◌, ◌⊎◌, inl, inr, refl, IsTrue, arith, sym, ap, subst}
 use Rattle.sqlite.specs.Store.{Ghosts}
 use Rattle.sqlite.specs.Tree.{Trees}
 use Rattle.sqlite.specs.Schema.{Schema}
