@@ -4,7 +4,7 @@ use Rattle.std.specs.Str.{bytes_eq}
 use Rattle.indexmap.specs.IndexMap.{get}
 use Rattle.sqlite.specs.Store.{Ghosts}
 use Rattle.sqlite.specs.Held.{Held}
-use Rattle.terms.specs.Types.{Text, Zone, Command, ListZone}
+use Rattle.terms.specs.Types.{Text, Zone, Command, ListZone, Report}
 use Rattle.machine.specs.State.{State, global_name, zone_named}
 use Rattle.machine.specs.Machine.{Files, Begin, Perform, Performs}
 use Rattle.report.specs.declared.outcome.Outcome.{Outcome}
@@ -45,6 +45,12 @@ module _ {S : Type 0} (g : Ghosts S) (at : Held S) (s : State) where
   HasDone session date files c (Ok (Told outcome)) = HasPerformed session date files c (Ok outcome)
   HasDone session date files c (Ok (Lists text)) = (c ≡ ListZone text) × IsSessionOf s session × Keeps g at s
   HasDone session date files c (Err error) = HasPerformed session date files c (Err error)
+
+-- LIST and REPORT look at what the session has.
+abbrev pub LooksOnly : Command → Type 0
+LooksOnly (ListZone text) = Unit {0}
+LooksOnly Report = Unit {0}
+LooksOnly _ = ⊥
 
 -- the outcome, where there is one, is told
 abbrev pub told : Result Outcome StoreError → Result Performed StoreError

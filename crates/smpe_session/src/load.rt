@@ -5,6 +5,7 @@ ghost use Rattle.sqlite.specs.State.{HasCleanDisk};
 ghost use Rattle.machine.specs.State.{State, zone_named};
 ghost use Rattle.store_rows.specs.Reads.{OnlyReads};
 ghost use Rattle.store_schema.specs.Inventory.{IsInventory};
+ghost use Rattle.store_schema.specs.Tables.{store_schema};
 ghost use Rattle.store_zone_loads.specs.Found.{head_of};
 ghost use Rattle.store.specs.BadRows.{TellsNoState};
 ghost use Rattle.store.specs.Changes.{Makes};
@@ -24,7 +25,7 @@ pub(crate) fn load_global<S: Alter>(store: &mut Store<S>) -> Result<Global, Stor
     ensures none { TellsNoState S.Store store.old store.new result }
     ensures ended { HasCleanDisk (state S.Store store.new) → (s : State) → Keeps S.Store store.old s
         → HasLoaded S.Store store.new s (λ global. global ≡ s.global) result }
-    ensures reads { OnlyReads S.Store StoreError.NoState store.old store.new result }
+    ensures reads { OnlyReads S.Store store_schema StoreError.NoState StoreError.Fault store.old store.new result }
 {
     store.load_global()
 }
@@ -37,7 +38,7 @@ pub(crate) fn load_zone<S: Alter>(
     ensures none { TellsNoState S.Store store.old store.new result }
     ensures ended { HasCleanDisk (state S.Store store.new) → (s : State) → Keeps S.Store store.old s
         → HasLoaded S.Store store.new s (λ zone. zone ≡ zone_named s.zones name) result }
-    ensures reads { OnlyReads S.Store StoreError.NoState store.old store.new result }
+    ensures reads { OnlyReads S.Store store_schema StoreError.NoState StoreError.Fault store.old store.new result }
 {
     store.load_zone(name)
 }
@@ -47,7 +48,7 @@ pub(crate) fn load_names<S: Alter>(store: &mut Store<S>) -> Result<Vec<ZoneName>
     ensures none { TellsNoState S.Store store.old store.new result }
     ensures ended { HasCleanDisk (state S.Store store.new) → (s : State) → Keeps S.Store store.old s
         → HasLoaded S.Store store.new s (λ names. names.items ≡ map (λ z. z.name) s.zones) result }
-    ensures reads { OnlyReads S.Store StoreError.NoState store.old store.new result }
+    ensures reads { OnlyReads S.Store store_schema StoreError.NoState StoreError.Fault store.old store.new result }
 {
     store.zone_names()
 }
@@ -57,7 +58,7 @@ pub(crate) fn load_heads<S: Alter>(store: &mut Store<S>) -> Result<Vec<ZoneHead>
     ensures none { TellsNoState S.Store store.old store.new result }
     ensures ended { HasCleanDisk (state S.Store store.new) → (s : State) → Keeps S.Store store.old s
         → HasLoaded S.Store store.new s (λ heads. heads.items ≡ map head_of s.zones) result }
-    ensures reads { OnlyReads S.Store StoreError.NoState store.old store.new result }
+    ensures reads { OnlyReads S.Store store_schema StoreError.NoState StoreError.Fault store.old store.new result }
 {
     store.zone_heads()
 }

@@ -1,13 +1,14 @@
 //! What a job has in memory, and how a command goes.
-ghost use Rattle.std.specs.Prelude.{◌≡◌};
+ghost use Rattle.std.specs.Prelude.{◌≡◌, IsErrOf};
 ghost use Rattle.sqlite.specs.Held.{state};
 ghost use Rattle.sqlite.specs.State.{HasCleanDisk};
 ghost use Rattle.machine.specs.State.{State};
 ghost use Rattle.cntl.specs.Views.{command_of};
 ghost use Rattle.store_rows.specs.Reads.{OnlyReads};
+ghost use Rattle.store_schema.specs.Tables.{store_schema};
 ghost use Rattle.store.specs.BadRows.{TellsNoState};
 ghost use Rattle.store.specs.Kept.{Keeps};
-ghost use Rattle.smpe_session.specs.Sessions.{IsSessionOf, HasBegun, HasDone, told};
+ghost use Rattle.smpe_session.specs.Sessions.{IsSessionOf, HasBegun, HasDone, LooksOnly, told};
 
 use crate::files::Files;
 use crate::load::load_global;
@@ -54,7 +55,7 @@ impl Session {
         ensures none { TellsNoState S.Store store.old store.new result }
         ensures ended { HasCleanDisk (state S.Store store.new) → (s : State) → Keeps S.Store store.old s
             → HasBegun S.Store store.new s result }
-        ensures reads { OnlyReads S.Store StoreError.NoState store.old store.new result }
+        ensures reads { OnlyReads S.Store store_schema StoreError.NoState StoreError.Fault store.old store.new result }
     {
         let global = load_global(store)?;
         Ok(Session {
@@ -78,6 +79,8 @@ impl Session {
         ensures ended { HasCleanDisk (state S.Store store.new) → (s : State) → IsSessionOf s self.old
             → Keeps S.Store store.old s
             → HasDone S.Store store.new s self.new date files.now (command_of command.now) result }
+        ensures looks { LooksOnly (command_of command.now) → (store.new ≡ store.old)
+            × ¬ IsErrOf result StoreError.Fault }
     {
         match command {
             Command::Set(name) => told(self.set(alloc, store, *name)),

@@ -1,6 +1,6 @@
 -- A load, from what its queries read.
-use Rattle.std.proofs.Common.{◌≡◌, Result, Ok, Err, IfOk, IsTrue, arith, refl, sym, subst, inl, inr}
-use Rattle.std.specs.Prelude.{IsErrOf}
+use Rattle.std.proofs.Common.{◌≡◌, ◌≢◌, Result, Ok, Err, IfOk, OnOk, IsTrue, arith, refl, sym, subst, inl, inr}
+use Rattle.std.specs.Prelude.{IsErrOf, IfErr, OnErr}
 use Rattle.sqlite.specs.Store.{Ghosts}
 use Rattle.sqlite.specs.Tree.{Trees}
 use Rattle.sqlite.specs.Held.{Held, state}
@@ -9,8 +9,10 @@ use Rattle.store_rows.specs.declared.error.ReadError.{ReadError}
 use Rattle.store_rows.specs.declared.error.ReadError.TheVariants as read
 use Rattle.store_rows.specs.Reads.{OnlyReads}
 use Rattle.store_schema.specs.declared.error.StoreError.{StoreError}
+use Rattle.store_schema.specs.declared.error.StoreError.TheVariants.{Fault, OtherSchema, NoState}
 use Rattle.store_schema.specs.Inventory.{Inventory}
 use Rattle.store_schema.specs.Stands.{StandsFor}
+use Rattle.store_schema.specs.Tables.{store_schema}
 use Rattle.store.specs.BadRows.{FoundNoState}
 use Rattle.store.specs.Loads.{Loads, told}
 use Rattle.store.specs.View.{Tables, TablesIfOpen, MayLeave}
@@ -32,22 +34,30 @@ IsOutside g at = IsTrue (state g at).is_open → (state g at).now ≡ (state g a
 
 module _ {S X : Type 0} (g : Ghosts S) (Found : Inventory → X → Type 0) (old new : Held S)
     (outside : IsOutside g old) (settled : Settled g new) where
-  was-clean : (r : Result X ReadError) → OnlyReads g read.BadRow old new r → HasCleanDisk (state g new)
-      → HasCleanDisk (state g old)
+  was-clean : (r : Result X ReadError) → OnlyReads g store_schema read.BadRow read.Fault old new r
+      → HasCleanDisk (state g new) → HasCleanDisk (state g old)
   was-clean r reads clean = omega (arith, reads.crash.clean, clean)
 
-  lost : (r : Result X ReadError) → OnlyReads g read.BadRow old new r → (db : Trees) → MayLeave g new db
-      → MayLeave g old db
+  lost : (r : Result X ReadError) → OnlyReads g store_schema read.BadRow read.Fault old new r → (db : Trees)
+      → MayLeave g new db → MayLeave g old db
   lost r reads db left = elim (reads.crash.crash left.0 db left.1) [
     | inl before ↦ (was-clean r reads left.0, before)
     | inr none ↦ absurd none
   ]
 
   -- A load that failed committed nothing.
-  failed : (r : Result X ReadError) → OnlyReads g read.BadRow old new r → (i : Inventory) → Tables g old i
-      → TablesIfOpen g new i
+  failed : (r : Result X ReadError) → OnlyReads g store_schema read.BadRow read.Fault old new r → (i : Inventory)
+      → Tables g old i → TablesIfOpen g new i
   failed r reads i tables = still_open g new settled i (λ clean is_open.
       subst (StandsFor i) (sym ((reads.kept clean).committed is_open)) (tables (was-clean r reads clean)).1)
+
+  -- One that answered left the tables as they were.
+  stays : (r : Result X ReadError) → OnlyReads g store_schema read.BadRow read.Fault old new r
+      → OnOk r ((i : Inventory) → Tables g old i → Tables g new i)
+  stays (Ok x) reads = λ i tables clean.
+      let it = reads.same clean in
+      (it.0.is_open, subst (StandsFor i) (sym it.0.committed_is) (tables (was-clean _ reads clean)).1)
+  stays (Err e) reads = tt
 
   bad-row : IsUnchanged (state g old) (state g new) → Survives (state g old) (state g new) (λ _. ⊥)
       → ((i : Inventory) → ¬ StandsFor i (state g old).now) → FoundNoState g old new
@@ -61,80 +71,64 @@ module _ {S X : Type 0} (g : Ghosts S) (Found : Inventory → X → Type 0) (old
     none = λ i stands. none i (subst (StandsFor i) (sym (outside unchanged.0.was_open)) stands);
   }
 
-  by : (r : Result X ReadError) → OnlyReads g read.BadRow old new r → HasFound g Found old new r
+  -- ---- how the result is told
+
+  told-ok : (r : Result X ReadError) (P : Type 0) → OnOk r P → OnOk (told r) P
+  told-ok (Ok x) P h = h
+  told-ok (Err e) P h = tt
+
+  told-if : (r : Result X ReadError) (P : X → Type 0) → IfOk r P → IfOk (told r) P
+  told-if (Ok x) P h = h
+  told-if (Err e) P h = tt
+
+  told-err : (r : Result X ReadError) (P : Type 0) → P → OnErr (told r) P
+  told-err (Ok x) P h = tt
+  told-err (Err e) P h = h
+
+  told-bad : (r : Result X ReadError) → IsErrOf (told r) NoState → IsErrOf r read.BadRow
+  told-bad (Ok x) bad = absurd (cc bad)
+  told-bad (Err read.BadRow) bad = refl
+  told-bad (Err read.Memory) bad = absurd (cc bad)
+  told-bad (Err read.Fault) bad = absurd (cc bad)
+
+  told-fault : (r : Result X ReadError) → IsErrOf (told r) Fault → IsErrOf r read.Fault
+  told-fault (Ok x) failed = absurd (cc failed)
+  told-fault (Err read.BadRow) failed = absurd (cc failed)
+  told-fault (Err read.Memory) failed = absurd (cc failed)
+  told-fault (Err read.Fault) failed = refl
+
+  told-which : (r : Result X ReadError) → IfErr (told r) (λ e. e ≢ OtherSchema)
+  told-which (Ok x) = tt
+  told-which (Err read.BadRow) = λ is. absurd (cc is)
+  told-which (Err read.Memory) = λ is. absurd (cc is)
+  told-which (Err read.Fault) = λ is. absurd (cc is)
+
+  by : (r : Result X ReadError) → OnlyReads g store_schema read.BadRow read.Fault old new r → HasFound g Found old new r
       → HasFoundNone g old new r → Loads g old new Found (told r)
-  by (Ok x) reads found none = record {
+  by r reads found none = record {
     found = λ clean i tables.
-        let was = tables (was-clean _ reads clean) in
-        found clean i (subst (StandsFor i) (sym (outside was.0)) was.1);
-    none = λ clean bad. absurd (cc bad);
+        let was = tables (was-clean r reads clean) in
+        told-if r (Found i) (found clean i (subst (StandsFor i) (sym (outside was.0)) was.1));
+    none = λ clean bad. bad-row (reads.bad clean (told-bad r bad)) reads.crash (none clean (told-bad r bad));
     reads = record {
-      same = reads.same;
-      bad = λ clean bad. absurd (cc bad);
+      same = λ clean. told-ok r _ (reads.same clean);
+      bad = λ clean bad. reads.bad clean (told-bad r bad);
+      cause = λ clean failed. reads.cause clean (told-fault r failed);
       kept = reads.kept;
       crash = reads.crash;
       mode = reads.mode;
     };
-    same = λ i tables clean.
-        let it = reads.same clean in
-        (it.0.is_open, subst (StandsFor i) (sym it.0.committed_is) (tables (was-clean _ reads clean)).1);
-    err = tt;
-    which = tt;
-    crash = λ i tables. lost _ reads;
-    clean = was-clean _ reads;
-  }
-  by (Err read.BadRow) reads found none = record {
-    found = λ clean i tables. tt;
-    none = λ clean bad. bad-row (reads.bad clean refl) reads.crash (none clean refl);
-    reads = record {
-      same = λ clean. tt;
-      bad = λ clean bad. reads.bad clean refl;
-      kept = reads.kept;
-      crash = reads.crash;
-      mode = reads.mode;
-    };
-    same = tt;
-    err = failed _ reads;
-    which = λ is. absurd (cc is);
-    crash = λ i tables. lost _ reads;
-    clean = was-clean _ reads;
-  }
-  by (Err read.Memory) reads found none = record {
-    found = λ clean i tables. tt;
-    none = λ clean bad. absurd (cc bad);
-    reads = record {
-      same = λ clean. tt;
-      bad = λ clean bad. absurd (cc bad);
-      kept = reads.kept;
-      crash = reads.crash;
-      mode = reads.mode;
-    };
-    same = tt;
-    err = failed _ reads;
-    which = λ is. absurd (cc is);
-    crash = λ i tables. lost _ reads;
-    clean = was-clean _ reads;
-  }
-  by (Err read.Fault) reads found none = record {
-    found = λ clean i tables. tt;
-    none = λ clean bad. absurd (cc bad);
-    reads = record {
-      same = λ clean. tt;
-      bad = λ clean bad. absurd (cc bad);
-      kept = reads.kept;
-      crash = reads.crash;
-      mode = reads.mode;
-    };
-    same = tt;
-    err = failed _ reads;
-    which = λ is. absurd (cc is);
-    crash = λ i tables. lost _ reads;
-    clean = was-clean _ reads;
+    same = told-ok r _ (stays r reads);
+    err = told-err r _ (failed r reads);
+    which = told-which r;
+    crash = λ i tables. lost r reads;
+    clean = was-clean r reads;
   }
 
 -- a load of a store, whose connection it reads
 pub loads-by : {S X : Type 0} (g : Ghosts S) (Found : Inventory → X → Type 0) (conn old new : Held S) → conn ≡ old
-    → IsOutside g conn → Settled g new → (r : Result X ReadError) → OnlyReads g read.BadRow conn new r
+    → IsOutside g conn → Settled g new → (r : Result X ReadError)
+    → OnlyReads g store_schema read.BadRow read.Fault conn new r
     → HasFound g Found conn new r → HasFoundNone g conn new r → (result : Result X StoreError) → result ≡ told r
     → Loads g old new Found result
 loads-by {S = S} {X = X} g Found conn old new same outside settled r reads found none result is =

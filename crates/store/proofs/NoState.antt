@@ -11,6 +11,7 @@ use Rattle.store_rows.proofs.Queries.{unchanged_then}
 use Rattle.store_schema.specs.declared.error.StoreError.{StoreError}
 use Rattle.store_schema.specs.declared.error.StoreError.TheVariants.{Fault, NoState, Memory}
 use Rattle.store_schema.specs.Stands.{StandsFor}
+use Rattle.store_schema.specs.Tables.{store_schema}
 use Rattle.store.specs.BadRows.{OnlyLoads, FoundNoState, TellsNoState}
 
 module _ {S : Type 0} (g : Ghosts S) where
@@ -44,7 +45,7 @@ module _ {S : Type 0} (g : Ghosts S) where
       }
 
   -- a load that answered
-  pub loads-read : {X : Type 0} (old new : Held S) (x : X) → OnlyReads g NoState old new (Ok x)
+  pub loads-read : {X : Type 0} (old new : Held S) (x : X) → OnlyReads g store_schema NoState Fault old new (Ok x)
       → OnlyLoads g old new
   loads-read old new x reads = record {
     was_open = λ clean is_open. (reads.same clean).0.was_open;

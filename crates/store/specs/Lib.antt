@@ -1,4 +1,5 @@
 pub mod BadRows
+pub mod Calls
 pub mod Changes
 pub mod Kept
 pub mod Loads

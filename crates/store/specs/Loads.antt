@@ -10,6 +10,7 @@ use Rattle.store_rows.specs.Reads.{OnlyReads}
 use Rattle.store_schema.specs.declared.error.StoreError.{StoreError}
 use Rattle.store_schema.specs.declared.error.StoreError.TheVariants.{Fault, OtherSchema, NoState, Memory}
 use Rattle.store_schema.specs.Inventory.{Inventory}
+use Rattle.store_schema.specs.Tables.{store_schema}
 use Rattle.store.specs.BadRows.{TellsNoState}
 use Rattle.store.specs.View.{Tables, TablesIfOpen, MayLeave}
 
@@ -24,13 +25,13 @@ told (Ok x) = Ok x
 told (Err e) = Err (store_error e)
 
 -- What is answered is so of the inventory that the tables stand for. They go on to stand for it, after an error where
--- the connection is still open, and a crash leaves nothing that it could not have left before. No state is told of only
--- where there is none, and then nothing has changed, nor after an answer.
+-- the connection is still open, and a crash leaves nothing that it could not have left before. An answer changes
+-- nothing, nor does the error that tells of no state: it comes only where there is none. A fault has a cause.
 pub record Loads {S X : Type 0} (g : Ghosts S) (old new : Held S) (Found : Inventory → X → Type 0)
     (result : Result X StoreError) : Type 0 where
   pub found : HasCleanDisk (state g new) → (i : Inventory) → Tables g old i → IfOk result (Found i)
   pub none : TellsNoState g old new result
-  pub reads : OnlyReads g NoState old new result
+  pub reads : OnlyReads g store_schema NoState Fault old new result
   pub same : OnOk result ((i : Inventory) → Tables g old i → Tables g new i)
   pub err : OnErr result ((i : Inventory) → Tables g old i → TablesIfOpen g new i)
   pub which : IfErr result (λ e. e ≢ OtherSchema)

@@ -1,7 +1,10 @@
 //! What a delta puts and removes, written in a transaction that is open.
 
 ghost use Rattle.std.specs.Prelude.{◌≡◌, ◌∷◌, [], OnOk};
+ghost use Rattle.std.specs.List.{flat_map};
+ghost use Rattle.store_rows.specs.Calls.{RunsInside};
 ghost use Rattle.store_rows.specs.Inside.{StaysInside};
+ghost use Rattle.store.specs.Calls.{entry_calls, element_calls, delta_calls};
 ghost use Rattle.store_zones.specs.Zones.{ChangesZone};
 ghost use Rattle.store.specs.Writes.{HasEditedEntries, HasEditedElements, HasEdited};
 
@@ -21,6 +24,7 @@ fn edit_entry<S: Alter>(
 ) -> Result<(), Error>
     ensures same_reference { tx.new.conn.ghost_name ≡ tx.old.conn.ghost_name }
     ensures inside { StaysInside S.Store tx.old.conn.now tx.new.conn.now }
+    ensures calls { RunsInside S.Store (entry_calls zone edit.now) tx.old.conn.now tx.new.conn.now result }
     ensures ok { OnOk result (ChangesZone S.Store tx.old.conn.now tx.new.conn.now zone
         (HasEditedEntries (edit.now ∷ []))) }
 {
@@ -38,6 +42,7 @@ fn edit_element<S: Alter>(
 ) -> Result<(), Error>
     ensures same_reference { tx.new.conn.ghost_name ≡ tx.old.conn.ghost_name }
     ensures inside { StaysInside S.Store tx.old.conn.now tx.new.conn.now }
+    ensures calls { RunsInside S.Store (element_calls zone edit.now) tx.old.conn.now tx.new.conn.now result }
     ensures ok { OnOk result (ChangesZone S.Store tx.old.conn.now tx.new.conn.now zone
         (HasEditedElements (edit.now ∷ []))) }
 {
@@ -55,6 +60,8 @@ fn edit_entries<S: Alter>(
 ) -> Result<(), Error>
     ensures same_reference { tx.new.conn.ghost_name ≡ tx.old.conn.ghost_name }
     ensures inside { StaysInside S.Store tx.old.conn.now tx.new.conn.now }
+    ensures calls { RunsInside S.Store (flat_map (entry_calls zone) edits.now) tx.old.conn.now tx.new.conn.now
+        result }
     ensures ok { OnOk result (ChangesZone S.Store tx.old.conn.now tx.new.conn.now zone (HasEditedEntries edits.now)) }
 {
     for edit in edits {
@@ -71,6 +78,8 @@ fn edit_elements<S: Alter>(
 ) -> Result<(), Error>
     ensures same_reference { tx.new.conn.ghost_name ≡ tx.old.conn.ghost_name }
     ensures inside { StaysInside S.Store tx.old.conn.now tx.new.conn.now }
+    ensures calls { RunsInside S.Store (flat_map (element_calls zone) edits.now) tx.old.conn.now tx.new.conn.now
+        result }
     ensures ok { OnOk result (ChangesZone S.Store tx.old.conn.now tx.new.conn.now zone (HasEditedElements edits.now)) }
 {
     for edit in edits {
@@ -88,6 +97,7 @@ pub(crate) fn write_delta<S: Alter>(
 ) -> Result<(), Error>
     ensures same_reference { tx.new.conn.ghost_name ≡ tx.old.conn.ghost_name }
     ensures inside { StaysInside S.Store tx.old.conn.now tx.new.conn.now }
+    ensures calls { RunsInside S.Store (delta_calls zone delta.now) tx.old.conn.now tx.new.conn.now result }
     ensures ok { OnOk result (ChangesZone S.Store tx.old.conn.now tx.new.conn.now zone (HasEdited delta.now)) }
 {
     edit_entries(alloc, tx, zone, delta.entries())?;

@@ -8,6 +8,7 @@ ghost use Rattle.terms.specs.Types.{a_global};
 ghost use Rattle.terms.specs.Global.{IsGlobal};
 ghost use Rattle.store_schema.specs.Inventory.{Inventory};
 ghost use Rattle.store_schema.specs.Stands.{StandsFor};
+ghost use Rattle.store_schema.specs.Tables.{store_schema};
 
 use sqlite::{Alter, Connection};
 use std::alloc::Global as Heap;
@@ -29,7 +30,7 @@ fn load_lists<S: Alter>(alloc: Heap, conn: &mut Connection<S>) -> Result<Lists, 
         → IfOk result (λ lists. a_global lists.sysmods.items lists.holds.items ≡ i.global) }
     ensures none { HasCleanDisk (state S.Store conn.new) → IsErrOf result ReadError.BadRow → (i : Inventory)
         → ¬ StandsFor i (state S.Store conn.old).now }
-    ensures reads { OnlyReads S.Store ReadError.BadRow conn.old conn.new result }
+    ensures reads { OnlyReads S.Store store_schema ReadError.BadRow ReadError.Fault conn.old conn.new result }
 {
     let sysmods = load_sysmods(alloc, conn)?;
     let holds = load_holds(alloc, conn)?;
@@ -40,6 +41,7 @@ fn load_lists<S: Alter>(alloc: Heap, conn: &mut Connection<S>) -> Result<Lists, 
 fn joined(alloc: Heap, lists: Lists) -> Result<Global, ReadError>
     ensures same { IfOk result (λ global. global ≡ a_global lists.sysmods.items lists.holds.items) }
     ensures none { IsErrOf result ReadError.BadRow → ¬ IsGlobal (a_global lists.sysmods.items lists.holds.items) }
+    ensures fault { IsErrOf result ReadError.Fault → ⊥ }
 {
     match Global::from_parts(alloc, lists.sysmods, lists.holds)? {
         Some(global) => Ok(global),
@@ -56,7 +58,7 @@ pub(crate) fn load_global<S: Alter>(
         → IfOk result (λ global. global ≡ i.global) }
     ensures none { HasCleanDisk (state S.Store conn.new) → IsErrOf result ReadError.BadRow → (i : Inventory)
         → ¬ StandsFor i (state S.Store conn.old).now }
-    ensures reads { OnlyReads S.Store ReadError.BadRow conn.old conn.new result }
+    ensures reads { OnlyReads S.Store store_schema ReadError.BadRow ReadError.Fault conn.old conn.new result }
 {
     let lists = load_lists(alloc, conn)?;
     joined(alloc, lists)

@@ -1,6 +1,6 @@
 //! A store, from a connection and back.
 
-ghost use Rattle.std.specs.Prelude.{◌≡◌, ◌⊎◌, false, IsTrue, IfOk, IfErr, OnOk, OnErr};
+ghost use Rattle.std.specs.Prelude.{◌≡◌, ◌⊎◌, false, IsTrue, IfOk, IfErr, OnOk, OnErr, IsErrOf};
 ghost use Rattle.sqlite.specs.Tree.{Trees};
 ghost use Rattle.sqlite.specs.Held.{state};
 ghost use Rattle.sqlite.specs.State.{HasCleanDisk, IsUnchanged, Survives};
@@ -9,6 +9,7 @@ ghost use Rattle.store_schema.specs.Inventory.{Inventory, IsInventory};
 ghost use Rattle.store_schema.specs.Known.{HasOtherNumber, HasNoState, HasOwnTables};
 ghost use Rattle.store_schema.specs.Stands.{StandsFor, IsSetUp};
 ghost use Rattle.store_schema.specs.Tables.{store_schema};
+ghost use Rattle.store.specs.Calls.{FailsToWrite};
 ghost use Rattle.store.specs.Changes.{Makes};
 ghost use Rattle.store.specs.View.{Tables, TablesIfOpen, IsFound, MayLeave, Leaves, LeavesFound};
 
@@ -91,6 +92,8 @@ impl<S: Alter> Store<S> {
             → (db : Trees) → MayLeave S.Store self.new db → MayLeave S.Store self.old db
             ⊎ StandsFor j (record { schema = store_schema; trees = db }) }
         ensures which { IfErr result (λ e. (e ≡ StoreError.Fault) ⊎ (e ≡ StoreError.Memory)) }
+        ensures cause { HasCleanDisk (state S.Store self.new) → IsErrOf result StoreError.Fault
+            → FailsToWrite S.Store change.now self.old self.new }
         ensures clean { HasCleanDisk (state S.Store self.new) → HasCleanDisk (state S.Store self.old) }
     {
         commit_change(self.alloc, &mut self.conn, change)?;

@@ -1,9 +1,13 @@
 //! A change in one transaction.
 
-ghost use Rattle.std.specs.Prelude.{◌≡◌, false, OnOk, OnErr};
+ghost use Rattle.std.specs.Prelude.{◌≡◌, ◌⊎◌, false, OnOk, OnErr, IfErr};
+ghost use Rattle.sqlite.specs.declared.error.Error.TheVariants.{SqliteFailure};
+ghost use Rattle.sqlite.specs.declared.error.ErrorCode.TheVariants.{OutOfMemory};
 ghost use Rattle.sqlite.specs.Held.{state};
 ghost use Rattle.sqlite.specs.State.{HasCleanDisk, KeepsCommit, Survives};
+ghost use Rattle.store_rows.specs.Calls.{RunsInside};
 ghost use Rattle.store_rows.specs.Inside.{StaysInside};
+ghost use Rattle.store.specs.Calls.{calls_of, FailsToWrite};
 ghost use Rattle.store.specs.Writes.{Writes, CommitsChange, IsChangeOutcome};
 
 use crate::change::Change;
@@ -16,6 +20,7 @@ use store_zones::insert_zone;
 fn write<S: Alter>(alloc: Global, tx: &mut Transaction<'_, S>, change: &Change) -> Result<(), Error>
     ensures same_reference { tx.new.conn.ghost_name ≡ tx.old.conn.ghost_name }
     ensures inside { StaysInside S.Store tx.old.conn.now tx.new.conn.now }
+    ensures calls { RunsInside S.Store (calls_of change.now) tx.old.conn.now tx.new.conn.now result }
     ensures ok { OnOk result (Writes S.Store tx.old.conn.now change.now tx.new.conn.now) }
 {
     match change {
@@ -41,6 +46,8 @@ pub(crate) fn commit_change<S: Alter>(
         (CommitsChange S.Store conn.old change.now conn.new) }
     ensures kept { HasCleanDisk (state S.Store conn.new) → OnErr result
         (KeepsCommit (state S.Store conn.old) (state S.Store conn.new)) }
+    ensures cause { HasCleanDisk (state S.Store conn.new) → IfErr result (λ e. (e ≡ SqliteFailure OutOfMemory)
+        ⊎ FailsToWrite S.Store change.now conn.old conn.new) }
     ensures crash { Survives (state S.Store conn.old) (state S.Store conn.new)
         (IsChangeOutcome S.Store conn.old change.now) }
     ensures mode { conn.new.in_transaction ≡ false }

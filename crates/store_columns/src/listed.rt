@@ -7,6 +7,7 @@ ghost use Rattle.sqlite.specs.State.{HasCleanDisk};
 ghost use Rattle.sqlite.specs.Values.{bound};
 ghost use Rattle.store_rows.specs.Reads.{OnlyReads};
 ghost use Rattle.store_rows.specs.Rows.{Contents, HasContents};
+ghost use Rattle.store_rows.specs.Texts.{AreTexts};
 ghost use Rattle.store_schema.specs.Tables.{store_schema};
 ghost use Rattle.store_columns.specs.Asked.{asked};
 
@@ -61,7 +62,8 @@ pub fn load_listed<S: Alter, Q: Query>(
         → HasContents store_schema contents (state S.Store conn.old).now
         → (xs : List Q.Rows.Item) → AllByRecursion Q.Rows.has_form xs
         → ¬ IsPermutation (map Q.Rows.row_of xs) (asked (bound key.now) (contents Q.table.tree)) }
-    ensures reads { OnlyReads S.Store ReadError.BadRow conn.old conn.new result }
+    ensures reads { length key.now ≡ Q.width → AreTexts (bound key.now)
+        → OnlyReads S.Store store_schema ReadError.BadRow ReadError.Fault conn.old conn.new result }
 {
     load::<S, Q::Rows>(alloc, conn, Q::text(), key)
 }

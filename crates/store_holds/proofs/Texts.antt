@@ -5,11 +5,10 @@ use Rattle.sqlite_tied.specs.Compute.{everything}
 use Rattle.sqlite_schema.specs.Names.{same_name}
 use Rattle.sqlite_value.specs.Keys.{joined}
 use Rattle.store_rows.specs.Selects.{IsSelect}
-use Rattle.store_rows.specs.Texts.{PutsIn, TakesOut, ReadsRows}
+use Rattle.store_rows.specs.Texts.{PutsIn, TakesOut, ReadsRows, Suits}
 use Rattle.store_schema.specs.Tables.{store_schema, hold}
-
-abbrev pub insert_hold : List ℕ
-insert_hold = codes "INSERT INTO hold (id, kind, reason, fmid, class, date, comment, internal) VALUES (?1, ?2, ?3, ?4, ?5, ?6, ?7, ?8)"
+use Rattle.store_holds.specs.Calls.{insert_hold, delete_hold}
+use Rattle.store_rows.proofs.Typed.{none_typed}
 
 pub puts_hold : PutsIn store_schema 4 hold insert_hold
 unfolding understood everything
@@ -20,9 +19,6 @@ puts_hold = record {
   uncounted = refl;
   timeless = refl;
 }
-
-abbrev pub delete_hold : List ℕ
-delete_hold = codes "DELETE FROM hold WHERE id = ?1 AND kind = ?2 AND reason = ?3"
 
 pub takes_hold : TakesOut store_schema 4 hold 3 delete_hold
 unfolding understood everything same_name joined
@@ -45,6 +41,9 @@ reads_holds = record {
   command = refl;
   plain = (refl, refl);
   unlisted = refl;
+  whole = omega arith;
+  given = refl;
+  typed = none_typed (Suits store_schema select_holds) refl;
   narrow = omega arith;
 }
 

@@ -5,10 +5,12 @@ ghost use Rattle.std.specs.String.{string_bytes};
 ghost use Rattle.sqlite.specs.Values.{or_null};
 ghost use Rattle.sqlite.specs.declared.types.Value.TheVariants.{Text};
 ghost use Rattle.sqlite_value.specs.Value.{owned};
+ghost use Rattle.store_rows.specs.Calls.{RunsInside};
 ghost use Rattle.store_rows.specs.Inside.{StaysInside, Turns};
 ghost use Rattle.store_rows.specs.Rows.{HasContents, in_table, without, with_put};
 ghost use Rattle.store_schema.specs.Rows.{hold_row, flag as flag_of};
 ghost use Rattle.store_schema.specs.Tables.{hold as hold_table, store_schema};
+ghost use Rattle.store_holds.specs.Calls.{put_hold_calls, remove_hold_calls};
 ghost use Rattle.store_holds.specs.Keys.{hold_key, key_row};
 
 use fields::{Class, HoldDate, Id, Reason};
@@ -64,6 +66,7 @@ pub fn remove_hold<S: Alter>(
 ) -> Result<(), Error>
     ensures same_reference { tx.new.conn.ghost_name ≡ tx.old.conn.ghost_name }
     ensures inside { StaysInside S.Store tx.old.conn.now tx.new.conn.now }
+    ensures calls { RunsInside S.Store (remove_hold_calls id kind reason) tx.old.conn.now tx.new.conn.now result }
     ensures ok { OnOk result (Turns S.Store tx.old.conn.now tx.new.conn.now (HasContents store_schema)
         (in_table hold_table (without (key_row id kind reason)))) }
 {
@@ -83,6 +86,7 @@ pub fn remove_hold<S: Alter>(
 pub fn put_hold<S: Alter>(tx: &mut Transaction<'_, S>, hold: &Hold) -> Result<(), Error>
     ensures same_reference { tx.new.conn.ghost_name ≡ tx.old.conn.ghost_name }
     ensures inside { StaysInside S.Store tx.old.conn.now tx.new.conn.now }
+    ensures calls { RunsInside S.Store (put_hold_calls hold.now) tx.old.conn.now tx.new.conn.now result }
     ensures ok { OnOk result (Turns S.Store tx.old.conn.now tx.new.conn.now (HasContents store_schema)
         (with_put hold_table (hold_key hold.now) (hold_row hold.now))) }
 {

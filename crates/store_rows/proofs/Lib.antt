@@ -13,3 +13,6 @@ pub mod Bound
 pub mod Unmapped
 pub mod Queries
 pub mod Selects
+pub mod Causes
+pub mod CallLemmas
+pub mod Typed

@@ -4,3 +4,5 @@ pub mod Rows
 pub mod Selects
 pub mod Inside
 pub mod Texts
+pub mod Told
+pub mod Calls

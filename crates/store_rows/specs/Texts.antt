@@ -1,8 +1,8 @@
 -- What a statement's text means under a schema, where it writes the rows of one table or reads them.
-use Rattle.std.specs.Prelude.{◌≡◌, ◌≢◌, ◌≤◌, ◌+◌, ◌==◌, ◌||◌, ℕ, zero, suc, true, false, not, pos, negsuc, List}
-use Rattle.std.specs.Prelude.{[], ◌∷◌, map, length, slice_get, Some, None, IfSome}
+use Rattle.std.specs.Prelude.{◌≡◌, ◌≢◌, ◌≤◌, ◌+◌, ◌==◌, ◌||◌, ℕ, zero, suc, Bool, true, false, not, pos, negsuc, List}
+use Rattle.std.specs.Prelude.{[], ◌∷◌, map, length, slice_get, Some, None, IfSome, Result, Ok, Err}
 use Rattle.std.specs.List.{AllByRecursion, list_all, flat_map, filter_map, range_with_len}
-use Rattle.sqlite.specs.declared.types.Value.TheVariants.{Null, Int}
+use Rattle.sqlite.specs.declared.types.Value.TheVariants.{Null, Int, Text}
 use Rattle.sqlite.specs.Order.{Row}
 use Rattle.sqlite.specs.Collation.TheVariants.{Binary}
 use Rattle.sqlite_sql.specs.declared.ops.CompareOp.TheVariants.{Eq}
@@ -16,7 +16,12 @@ use Rattle.sqlite.specs.Table.{Table}
 use Rattle.sqlite_schema.specs.declared.schema.Column.{Column}
 use Rattle.sqlite_schema.specs.declared.schema.Keys.TheVariants.{Enforced}
 use Rattle.sqlite.specs.Source.TheVariants.{Values}
+use Rattle.sqlite.specs.Command.{Command}
 use Rattle.sqlite.specs.Command.TheVariants.{Select, Insert, Update, Delete}
+use Rattle.sqlite_schema.specs.Program.{lets_of}
+use Rattle.sqlite_typing.specs.Types.{accepts_program}
+use Rattle.sqlite_resolve.specs.declared.compiled.Compiled.{Compiled}
+use Rattle.sqlite_resolve.specs.declared.error.CompileError.{CompileError}
 use Rattle.sqlite.specs.Listing.{understood, reads_listing}
 use Rattle.sqlite.specs.Given.{IsPlain}
 use Rattle.sqlite.proofs.Callers.{command_of}
@@ -119,7 +124,28 @@ pub record TakesOutParent (schema : Schema) (at : ℕ) (table : Table) (children
       (λ ref. IfSome (work_for schema Enforced 0 table.tree olds [] child ref) (IsCascade children olds))
       child.references) schema.tables
 
--- SELECT of all columns of the rows whose first columns are so many parameters, in any order
+-- how much of the text a statement takes, and how many parameters
+abbrev pub tail_of : Result Compiled CompileError → ℕ
+tail_of (Ok c) = c.tail
+tail_of (Err e) = 0
+
+abbrev pub places_of : Result Compiled CompileError → ℕ
+places_of (Ok c) = length c.names
+places_of (Err e) = 0
+
+-- the values are texts
+abbrev pub AreTexts : Row → Type 0
+AreTexts = AllByRecursion (λ v. (t : List ℕ) × (v ≡ Text t))
+
+-- the query is of a type with these parameters
+abbrev pub is_typed : Schema → Row → Command → Bool
+is_typed schema params (Select q names) = accepts_program schema (lets_of q) q.body params
+is_typed schema params _ = false
+
+abbrev pub Suits : Schema → List ℕ → Row → Type 0
+Suits schema sql params = is_typed schema params (command_of (understood schema sql)) ≡ true
+
+-- SELECT of all columns of the rows whose first columns are so many parameters, in any order. It suits texts.
 pub record ReadsRows (schema : Schema) (table : Table) (width : ℕ) (sql : List ℕ) : Type 0 where
   pub names : List (List ℕ)
   pub order : List (Term × Key)
@@ -130,4 +156,7 @@ pub record ReadsRows (schema : Schema) (table : Table) (width : ℕ) (sql : List
   }) names
   pub plain : IsPlain (understood schema sql)
   pub unlisted : reads_listing schema sql ≡ false
+  pub whole : length sql ≤ tail_of (understood schema sql)
+  pub given : places_of (understood schema sql) ≡ width
+  pub typed : (key : Row) → AreTexts key → length key ≡ width → Suits schema sql key
   pub narrow : width ≤ length table.columns

@@ -28,11 +28,10 @@ impl From<AllocError> for ReadError {
 }
 
 impl From<sqlite::Error> for ReadError {
-    ghost use Rattle.std.specs.Prelude.{◌≢◌};
-    ghost use Rattle.store_rows.specs.declared.error.ReadError.TheVariants.{BadRow};
+    ghost use Rattle.std.specs.Prelude.{◌≡◌};
+    ghost use Rattle.store_rows.specs.Told.{read_error};
 
-    // The database blames no row.
-    ghost from_gives = { λ _ e. e ≢ BadRow };
+    ghost from_gives = { λ error e. e ≡ read_error error };
 
     fn from(error: sqlite::Error) -> ReadError {
         match error {

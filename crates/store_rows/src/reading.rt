@@ -11,7 +11,7 @@ ghost use Rattle.sqlite.specs.Values.{bound};
 ghost use Rattle.store_rows.specs.Reads.{OnlyReads};
 ghost use Rattle.store_rows.specs.Rows.{AreFound};
 ghost use Rattle.store_rows.specs.Selects.{IsSelect};
-ghost use Rattle.store_rows.specs.Texts.{ReadsRows};
+ghost use Rattle.store_rows.specs.Texts.{ReadsRows, AreTexts};
 
 use crate::error::ReadError;
 use sqlite::{Alter, Connection, Row};
@@ -30,7 +30,8 @@ pub trait FromRow {
 
     fn read(alloc: Global, row: &Row) -> Result<Self::Item, ReadError>
         ensures read { IfOk result (λ item. (row.now ≡ row_of item) × has_form item) }
-        ensures none { IsErrOf result ReadError.BadRow → (item : Self.Item) → has_form item → row.now ≢ row_of item };
+        ensures none { IsErrOf result ReadError.BadRow → (item : Self.Item) → has_form item → row.now ≢ row_of item }
+        ensures fault { IsErrOf result ReadError.Fault → ⊥ };
 }
 
 /// What the rows stand for, in their order.
@@ -39,6 +40,7 @@ fn read_all<T: FromRow>(alloc: Global, rows: &[Row]) -> Result<Vec<T::Item>, Rea
         × AllByRecursion T.has_form items.items) }
     ensures none { IsErrOf result ReadError.BadRow → (items : List T.Item) → AllByRecursion T.has_form items
         → ¬ IsPermutation (map T.row_of items) rows.now }
+    ensures fault { IsErrOf result ReadError.Fault → ⊥ }
 {
     let mut items = Vec::new(alloc);
     for row in rows {
@@ -66,7 +68,9 @@ pub fn load<S: Alter, T: FromRow>(
         → (schema : Schema) (table : Table) → ReadsRows schema table (length key.now) sql.now → conn.old.schema ≡ schema
         → (items : List T.Item) → AllByRecursion T.has_form items
         → ¬ AreFound table (bound key.now) (map T.row_of items) ((state S.Store conn.old).now.trees table.tree) }
-    ensures reads { IsSelect sql.now → OnlyReads S.Store ReadError.BadRow conn.old conn.new result }
+    ensures reads { IsSelect sql.now → (schema : Schema) (table : Table)
+        → ReadsRows schema table (length key.now) sql.now → AreTexts (bound key.now)
+        → OnlyReads S.Store schema ReadError.BadRow ReadError.Fault conn.old conn.new result }
 {
     let rows = conn.query_all(sql, key)?;
     read_all::<T>(alloc, rows.as_slice())

@@ -1,11 +1,12 @@
 //! The statements that write rows, each in a transaction that is open.
 
-ghost use Rattle.std.specs.Prelude.{◌≡◌, ℕ, List, length, take, OnOk};
+ghost use Rattle.std.specs.Prelude.{◌≡◌, ◌∷◌, [], ℕ, List, length, take, OnOk};
 ghost use Rattle.sqlite.specs.Held.{state};
 ghost use Rattle.sqlite.specs.State.{HasCleanDisk};
 ghost use Rattle.sqlite.specs.Values.{bound};
 ghost use Rattle.sqlite.specs.Schema.{Schema};
 ghost use Rattle.sqlite.specs.Table.{Table};
+ghost use Rattle.store_rows.specs.Calls.{RunsInside};
 ghost use Rattle.store_rows.specs.Inside.{StaysInside, Turns};
 ghost use Rattle.store_rows.specs.Rows.{Contents, HasContents, HaveNone, in_table, with_row, with_put, in_place};
 ghost use Rattle.store_rows.specs.Rows.{without};
@@ -22,6 +23,7 @@ pub fn insert<S: Alter>(
 ) -> Result<(), Error>
     ensures same_reference { tx.new.conn.ghost_name ≡ tx.old.conn.ghost_name }
     ensures inside { StaysInside S.Store tx.old.conn.now tx.new.conn.now }
+    ensures calls { RunsInside S.Store ((sql.now, bound row.now) ∷ []) tx.old.conn.now tx.new.conn.now result }
     ensures ok { OnOk result ((schema : Schema) (at : ℕ) (table : Table) → PutsIn schema at table sql.now
         → SuitColumns table.columns (bound row.now)
         → Turns S.Store tx.old.conn.now tx.new.conn.now (HasContents schema)
@@ -39,6 +41,7 @@ pub fn remove<S: Alter>(
 ) -> Result<(), Error>
     ensures same_reference { tx.new.conn.ghost_name ≡ tx.old.conn.ghost_name }
     ensures inside { StaysInside S.Store tx.old.conn.now tx.new.conn.now }
+    ensures calls { RunsInside S.Store ((sql.now, bound key.now) ∷ []) tx.old.conn.now tx.new.conn.now result }
     ensures ok { OnOk result ((schema : Schema) (at : ℕ) (table : Table)
         → TakesOut schema at table (length key.now) sql.now
         → Turns S.Store tx.old.conn.now tx.new.conn.now (HasContents schema)
@@ -59,6 +62,8 @@ pub fn put<S: Alter>(
 ) -> Result<(), Error>
     ensures same_reference { tx.new.conn.ghost_name ≡ tx.old.conn.ghost_name }
     ensures inside { StaysInside S.Store tx.old.conn.now tx.new.conn.now }
+    ensures calls { RunsInside S.Store ((removes.now, bound key.now)
+        ∷ (inserts.now, bound row.now) ∷ []) tx.old.conn.now tx.new.conn.now result }
     ensures ok { OnOk result ((schema : Schema) (at : ℕ) (table : Table)
         → TakesOut schema at table (length key.now) removes.now → PutsIn schema at table inserts.now
         → SuitColumns table.columns (bound row.now)
@@ -79,6 +84,7 @@ pub fn replace<S: Alter>(
 ) -> Result<(), Error>
     ensures same_reference { tx.new.conn.ghost_name ≡ tx.old.conn.ghost_name }
     ensures inside { StaysInside S.Store tx.old.conn.now tx.new.conn.now }
+    ensures calls { RunsInside S.Store ((sql.now, bound columns.now) ∷ []) tx.old.conn.now tx.new.conn.now result }
     ensures ok { OnOk result ((schema : Schema) (at : ℕ) (table : Table) (width : ℕ)
         → PutsInPlace schema at table width sql.now → SuitColumns table.columns (bound columns.now)
         → Turns S.Store tx.old.conn.now tx.new.conn.now (HasContents schema)
@@ -97,6 +103,7 @@ pub fn remove_parent<S: Alter>(
 ) -> Result<(), Error>
     ensures same_reference { tx.new.conn.ghost_name ≡ tx.old.conn.ghost_name }
     ensures inside { StaysInside S.Store tx.old.conn.now tx.new.conn.now }
+    ensures calls { RunsInside S.Store ((sql.now, bound parent.now) ∷ []) tx.old.conn.now tx.new.conn.now result }
     ensures ok { OnOk result ((schema : Schema) (at : ℕ) (table : Table) (children : List Table)
         → TakesOutParent schema at table children sql.now → length parent.now ≡ 1
         → HasCleanDisk (state S.Store tx.new.conn.now) → (contents : Contents)

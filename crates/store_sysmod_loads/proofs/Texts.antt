@@ -1,9 +1,11 @@
 -- What the texts mean.
 use Rattle.std.proofs.Common.{ℕ, List, codes, refl, arith}
 use Rattle.sqlite.specs.Listing.{understood}
+use Rattle.std.proofs.Math.Dec.{lit≤}
 use Rattle.sqlite_tied.specs.Compute.{everything}
 use Rattle.store_rows.specs.Selects.{IsSelect}
-use Rattle.store_rows.specs.Texts.{IsTableOf, ReadsRows}
+use Rattle.store_rows.proofs.Typed.{none_typed}
+use Rattle.store_rows.specs.Texts.{Suits, IsTableOf, ReadsRows}
 use Rattle.store_schema.specs.Tables.{store_schema, sysmod, ver, ifreq, elem}
 
 pub heads_there : IsTableOf store_schema 1 sysmod
@@ -29,6 +31,9 @@ reads_heads = record {
   command = refl;
   plain = (refl, refl);
   unlisted = refl;
+  whole = lit≤ tt;
+  given = refl;
+  typed = none_typed (Suits store_schema select_heads) refl;
   narrow = omega arith;
 }
 
@@ -47,6 +52,9 @@ reads_vers = record {
   command = refl;
   plain = (refl, refl);
   unlisted = refl;
+  whole = lit≤ tt;
+  given = refl;
+  typed = none_typed (Suits store_schema select_vers) refl;
   narrow = omega arith;
 }
 
@@ -59,7 +67,17 @@ select_ifs = codes "SELECT id, srel, n, fmid, req FROM ifreq"
 
 pub reads_ifs : ReadsRows store_schema ifreq 0 select_ifs
 unfolding understood everything
-reads_ifs = record { names = _; order = _; command = refl; plain = (refl, refl); unlisted = refl; narrow = omega arith }
+reads_ifs = record {
+  names = _;
+  order = _;
+  command = refl;
+  plain = (refl, refl);
+  unlisted = refl;
+  whole = lit≤ tt;
+  given = refl;
+  typed = none_typed (Suits store_schema select_ifs) refl;
+  narrow = omega arith;
+}
 
 pub selects_ifs : IsSelect select_ifs
 unfolding everything
@@ -76,6 +94,9 @@ reads_elems = record {
   command = refl;
   plain = (refl, refl);
   unlisted = refl;
+  whole = lit≤ tt;
+  given = refl;
+  typed = none_typed (Suits store_schema select_elems) refl;
   narrow = omega arith;
 }
 

@@ -60,6 +60,7 @@ fn built(
 ) -> Result<Sysmod, ReadError>
     ensures some { IfOk result (λ s. (s ≡ sysmod_from head vers.items changes.items) × IsBuilt s) }
     ensures none { IsErrOf result ReadError.BadRow → ¬ IsBuilt (sysmod_from head vers.items changes.items) }
+    ensures fault { IsErrOf result ReadError.Fault → ⊥ }
 {
     if vers.is_empty() {
         return Err(ReadError::BadRow);
@@ -103,6 +104,7 @@ fn take_sysmod(
         → (other ≡ s) × (vs ≡ vers.new.items) × (is ≡ ifs.new.items) × (es ≡ elems.new.items)) }
     ensures none { IsErrOf result ReadError.BadRow → (other : SysmodTerm) (vs : List VerLine) (is : List IfLine)
         (es : List ElemLine) → ¬ IsTaken head other vers.old.items ifs.old.items elems.old.items vs is es }
+    ensures fault { IsErrOf result ReadError.Fault → ⊥ }
 {
     let found = take_vers(alloc, vers, ifs, head.id)?;
     let changes = take_changes(alloc, elems, head.id)?;
@@ -131,6 +133,7 @@ pub(crate) fn assemble(
         → AreTaken heads.items others vers.items ifs.items elems.items → others ≡ ss.items) }
     ensures none { IsErrOf result ReadError.BadRow → (others : List SysmodTerm)
         → ¬ AreTaken heads.items others vers.items ifs.items elems.items }
+    ensures fault { IsErrOf result ReadError.Fault → ⊥ }
 {
     let mut sysmods = Vec::new(alloc);
     while let Some(head) = next_of(&mut heads) {

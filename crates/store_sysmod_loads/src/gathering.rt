@@ -94,6 +94,7 @@ pub(crate) fn take_ifs(
         → HasIfs id srel 1 rows.old.items others rest → (others ≡ ifs.items) × (rest ≡ rows.new.items)) }
     ensures none { IsErrOf result ReadError.BadRow → (others : List terms.IfReq) (rest : List IfLine)
         → ¬ HasIfs id srel 1 rows.old.items others rest }
+    ensures fault { IsErrOf result ReadError.Fault → ⊥ }
 {
     let mut ifs = Vec::new(alloc);
     while let Some(row) = pop_of(rows, (id, srel)) {
@@ -130,6 +131,7 @@ fn filled(alloc: Global, ifs: &mut VecDeque<IfRow>, id: Id, row: VerRow) -> Resu
         → HasIfs id row.ver.srel 1 ifs.old.items others rest → (others ≡ ver.ifs) × (rest ≡ ifs.new.items)) }
     ensures none { IsErrOf result ReadError.BadRow → (others : List terms.IfReq) (rest : List IfLine)
         → ¬ HasIfs id row.ver.srel 1 ifs.old.items others rest }
+    ensures fault { IsErrOf result ReadError.Fault → ⊥ }
 {
     let srel = row.ver.key();
     let found = take_ifs(alloc, ifs, id, srel)?;
@@ -152,6 +154,7 @@ pub(crate) fn take_vers(
         → (others ≡ vers.items) × (rest ≡ rows.new.items) × (more ≡ ifs.new.items)) }
     ensures none { IsErrOf result ReadError.BadRow → (others : List terms.Ver) (rest : List VerLine)
         (more : List IfLine) → ¬ HasVers id rows.old.items ifs.old.items others rest more }
+    ensures fault { IsErrOf result ReadError.Fault → ⊥ }
 {
     let mut vers = Vec::new(alloc);
     while let Some(row) = pop_of(rows, id) {

@@ -34,7 +34,7 @@ pub fn load_sysmods<S: Alter>(
         → (sysmods : List SysmodTerm) → AreFormed sysmods → ¬ AreRowsOf sysmods contents }
     ensures no_state { HasCleanDisk (state S.Store conn.new) → IsErrOf result ReadError.BadRow → (i : Inventory)
         → ¬ StandsFor i (state S.Store conn.old).now }
-    ensures reads { OnlyReads S.Store ReadError.BadRow conn.old conn.new result }
+    ensures reads { OnlyReads S.Store store_schema ReadError.BadRow ReadError.Fault conn.old conn.new result }
 {
     let rows = load_rows(alloc, conn)?;
     gathered(alloc, rows)

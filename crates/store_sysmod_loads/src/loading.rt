@@ -56,7 +56,7 @@ pub(crate) fn load_sorted<S: Alter, T: Listed>(
         → HasContents store_schema contents (state S.Store conn.old).now
         → (xs : List T.Rows.Item) → AllByRecursion T.Rows.has_form xs → ¬ IsPermutation (map T.Rows.row_of xs)
         (contents T.table.tree) }
-    ensures reads { OnlyReads S.Store ReadError.BadRow conn.old conn.new result }
+    ensures reads { OnlyReads S.Store store_schema ReadError.BadRow ReadError.Fault conn.old conn.new result }
 {
     let items = load_listed::<S, T>(alloc, conn, &[])?;
     Ok(sorted::<T>(items))

@@ -46,7 +46,7 @@ pub(crate) fn load_rows<S: Alter>(
     ensures none { HasCleanDisk (state S.Store conn.new) → IsErrOf result ReadError.BadRow → (contents : Contents)
         → HasContents store_schema contents (state S.Store conn.old).now
         → (sysmods : List SysmodTerm) → AreFormed sysmods → ¬ AreRowsOf sysmods contents }
-    ensures reads { OnlyReads S.Store ReadError.BadRow conn.old conn.new result }
+    ensures reads { OnlyReads S.Store store_schema ReadError.BadRow ReadError.Fault conn.old conn.new result }
 {
     let heads = load_sorted::<S, Heads>(alloc, conn)?;
     let vers = load_sorted::<S, Vers>(alloc, conn)?;
@@ -68,6 +68,7 @@ pub(crate) fn gathered(alloc: Global, rows: FlatRows) -> Result<Vec<Sysmod>, Rea
         → others ≡ sysmods.items) }
     ensures none { IsErrOf result ReadError.BadRow → (others : List SysmodTerm) → AreFormed others
         → ¬ HasRows rows others }
+    ensures fault { IsErrOf result ReadError.Fault → ⊥ }
 {
     if !are_rising(rows.heads.as_slice()) {
         return Err(ReadError::BadRow);

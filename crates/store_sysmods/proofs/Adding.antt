@@ -39,6 +39,14 @@ both true xs ys rows = subst (IsPermutation ((xs ++ ys) ++ rows)) (append_assoc 
     (IsPermutation-append_left rows (xs ++ ys) (ys ++ xs) (IsPermutation-append_comm xs ys))
 both false xs ys rows = IsPermutation-refl rows
 
+-- the rows of one item more
+pub more_rows : {X : Type 0} (f : X → List Row) (items : List X) (i : ℕ) (item : X) → i < length items
+    → item ≡ get_or items i item → flat_map f (take (i + 1) items) ≡ flat_map f (take i items) ++ f item
+more_rows f items i item within is =
+    ap (flat_map f) (take_more items i item within ∙ ap (λ x. take i items ++ x ∷ []) (sym is))
+    ∙ flat_map-append f (take i items) (item ∷ [])
+    ∙ ap (λ rows. flat_map f (take i items) ++ rows) (append-nil (f item))
+
 module _ {S : Type 0} (g : Ghosts S) (table : Table) where
   pub adds_none : (old : Held S) → Adds g old old table []
   adds_none old clean c was = reordered c (in_table table (with_rows []) c) (state g old).now
@@ -64,13 +72,6 @@ module _ {S : Type 0} (g : Ghosts S) (table : Table) where
   adds_more f items i item a b c within is q one two =
       adds_as a c _ _ (sym (more_rows f items i item within is))
       (adds_then a b c (flat_map f (take i items)) (f item) q one two)
-    where
-      more_rows : {X : Type 0} (f : X → List Row) (items : List X) (i : ℕ) (item : X) → i < length items
-          → item ≡ get_or items i item → flat_map f (take (i + 1) items) ≡ flat_map f (take i items) ++ f item
-      more_rows f items i item within is =
-          ap (flat_map f) (take_more items i item within ∙ ap (λ x. take i items ++ x ∷ []) (sym is))
-          ∙ flat_map-append f (take i items) (item ∷ [])
-          ∙ ap (λ rows. flat_map f (take i items) ++ rows) (append-nil (f item))
 
 -- an item of an enumeration that counts from 1
 pub numbered_item : {X : Type 0} (xs : List X) (i : ℕ) (x : X) → i < length xs → x ≡ get_or xs i x

@@ -1,5 +1,5 @@
 -- What the texts mean.
-use Rattle.std.proofs.Common.{ℕ, List, [], ◌∷◌, codes, inl, inr, refl, arith}
+use Rattle.std.proofs.Common.{List, [], ◌∷◌, inl, inr, refl, arith}
 use Rattle.sqlite.specs.Listing.{understood}
 use Rattle.sqlite_tied.specs.Compute.{everything}
 use Rattle.sqlite_schema.specs.Names.{same_name}
@@ -8,9 +8,8 @@ use Rattle.sqlite.specs.Table.{Table}
 use Rattle.store_rows.specs.Texts.{PutsIn, PutsInPlace, TakesOut, TakesOutParent, IsCascade}
 use Rattle.store_rows.proofs.Parents.{if_set_off}
 use Rattle.store_schema.specs.Tables.{store_schema, sysmod, ver, ifreq, elem}
-
-abbrev pub insert_ver : List ℕ
-insert_ver = codes "INSERT INTO ver (id, srel, fmid, pre, req, sup, npre, del) VALUES (?1, ?2, ?3, ?4, ?5, ?6, ?7, ?8)"
+use Rattle.store_sysmods.specs.Calls.{insert_ver, insert_ifreq, insert_elem, insert_sysmod, replace_sysmod}
+use Rattle.store_sysmods.specs.Calls.{delete_vers, delete_ifreqs, delete_elems, delete_sysmod}
 
 pub puts_ver : PutsIn store_schema 2 ver insert_ver
 unfolding understood everything
@@ -22,9 +21,6 @@ puts_ver = record {
   timeless = refl;
 }
 
-abbrev pub insert_ifreq : List ℕ
-insert_ifreq = codes "INSERT INTO ifreq (id, srel, n, fmid, req) VALUES (?1, ?2, ?3, ?4, ?5)"
-
 pub puts_ifreq : PutsIn store_schema 3 ifreq insert_ifreq
 unfolding understood everything
 puts_ifreq = record {
@@ -34,9 +30,6 @@ puts_ifreq = record {
   uncounted = refl;
   timeless = refl;
 }
-
-abbrev pub insert_elem : List ℕ
-insert_elem = codes "INSERT INTO elem (id, type, name, upd, distlib, syslib, text) VALUES (?1, ?2, ?3, ?4, ?5, ?6, ?7)"
 
 pub puts_elem : PutsIn store_schema 5 elem insert_elem
 unfolding understood everything
@@ -48,9 +41,6 @@ puts_elem = record {
   timeless = refl;
 }
 
-abbrev pub insert_sysmod : List ℕ
-insert_sysmod = codes "INSERT INTO sysmod (id, kind, sources) VALUES (?1, ?2, ?3)"
-
 pub puts_sysmod : PutsIn store_schema 1 sysmod insert_sysmod
 unfolding understood everything
 puts_sysmod = record {
@@ -60,9 +50,6 @@ puts_sysmod = record {
   uncounted = refl;
   timeless = refl;
 }
-
-abbrev pub delete_vers : List ℕ
-delete_vers = codes "DELETE FROM ver WHERE id = ?1"
 
 pub takes_vers : TakesOut store_schema 2 ver 1 delete_vers
 unfolding understood everything same_name joined
@@ -74,9 +61,6 @@ takes_vers = record {
   free = λ olds. refl;
 }
 
-abbrev pub delete_ifreqs : List ℕ
-delete_ifreqs = codes "DELETE FROM ifreq WHERE id = ?1"
-
 pub takes_ifreqs : TakesOut store_schema 3 ifreq 1 delete_ifreqs
 unfolding understood everything same_name joined
 takes_ifreqs = record {
@@ -86,9 +70,6 @@ takes_ifreqs = record {
   narrow = omega arith;
   free = λ olds. refl;
 }
-
-abbrev pub delete_elems : List ℕ
-delete_elems = codes "DELETE FROM elem WHERE id = ?1"
 
 pub takes_elems : TakesOut store_schema 5 elem 1 delete_elems
 unfolding understood everything same_name joined
@@ -100,9 +81,6 @@ takes_elems = record {
   free = λ olds. refl;
 }
 
-abbrev pub replace_sysmod : List ℕ
-replace_sysmod = codes "UPDATE sysmod SET id = ?1, kind = ?2, sources = ?3 WHERE id = ?1"
-
 pub replaces_sysmod : PutsInPlace store_schema 1 sysmod 1 replace_sysmod
 unfolding understood everything same_name joined
 replaces_sysmod = record {
@@ -112,9 +90,6 @@ replaces_sysmod = record {
   narrow = omega arith;
   free = λ olds news. refl;
 }
-
-abbrev pub delete_sysmod : List ℕ
-delete_sysmod = codes "DELETE FROM sysmod WHERE id = ?1"
 
 abbrev pub sysmod_children : List Table
 sysmod_children = ver ∷ ifreq ∷ elem ∷ []

@@ -1,3 +1,4 @@
 pub mod Actions
+pub mod Calls
 pub mod Lists
 pub mod Sysmods

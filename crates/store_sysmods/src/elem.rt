@@ -6,10 +6,12 @@ ghost use Rattle.sqlite.specs.Values.{or_null};
 ghost use Rattle.sqlite.specs.declared.types.Value.TheVariants.{Int, Text};
 ghost use Rattle.sqlite_value.specs.Value.{owned};
 ghost use Rattle.sysmods_records.specs.Views.{action_of};
+ghost use Rattle.store_rows.specs.Calls.{RunsInside};
 ghost use Rattle.store_rows.specs.Inside.{StaysInside};
 ghost use Rattle.store_schema.specs.Rows.{elem_row, flag};
 ghost use Rattle.store_schema.specs.Tables.{elem as elem_table};
 ghost use Rattle.store_sysmods.specs.Actions.{is_update, distlib_of, syslib_of, lines_of as lines_in};
+ghost use Rattle.store_sysmods.specs.Calls.{puts, insert_elem as into_elem};
 ghost use Rattle.store_sysmods.specs.Sysmods.{Adds};
 
 use fields::Id;
@@ -68,6 +70,8 @@ fn insert_row<'a, S: Alter>(
     requires { text.now ≡ concat (lines_in change.now.action) }
     ensures same_reference { tx.new.conn.ghost_name ≡ tx.old.conn.ghost_name }
     ensures inside { StaysInside S.Store tx.old.conn.now tx.new.conn.now }
+    ensures calls { RunsInside S.Store (puts into_elem (elem_row id.now change.now ∷ []))
+        tx.old.conn.now tx.new.conn.now result }
     ensures ok { OnOk result (Adds S.Store tx.old.conn.now tx.new.conn.now elem_table
         (elem_row id.now change.now ∷ [])) }
 {
@@ -93,6 +97,8 @@ fn insert_change<S: Alter>(
 ) -> Result<(), Error>
     ensures same_reference { tx.new.conn.ghost_name ≡ tx.old.conn.ghost_name }
     ensures inside { StaysInside S.Store tx.old.conn.now tx.new.conn.now }
+    ensures calls { RunsInside S.Store (puts into_elem (elem_row id.now change.now ∷ []))
+        tx.old.conn.now tx.new.conn.now result }
     ensures ok { OnOk result (Adds S.Store tx.old.conn.now tx.new.conn.now elem_table
         (elem_row id.now change.now ∷ [])) }
 {
@@ -109,6 +115,8 @@ pub(crate) fn insert_changes<S: Alter>(
 ) -> Result<(), Error>
     ensures same_reference { tx.new.conn.ghost_name ≡ tx.old.conn.ghost_name }
     ensures inside { StaysInside S.Store tx.old.conn.now tx.new.conn.now }
+    ensures calls { RunsInside S.Store (puts into_elem (map (elem_row id.now) changes.now))
+        tx.old.conn.now tx.new.conn.now result }
     ensures ok { OnOk result (Adds S.Store tx.old.conn.now tx.new.conn.now elem_table
         (map (elem_row id.now) changes.now)) }
 {

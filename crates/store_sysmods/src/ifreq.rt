@@ -2,9 +2,11 @@
 
 ghost use Rattle.std.specs.Prelude.{◌≡◌, ◌≤◌, ◌<◌, ◌^◌, [], ◌∷◌, map, OnOk};
 ghost use Rattle.std.specs.List.{enumerate_from, flat_map, join_with_byte};
+ghost use Rattle.store_rows.specs.Calls.{RunsInside};
 ghost use Rattle.store_rows.specs.Inside.{StaysInside};
 ghost use Rattle.store_schema.specs.Rows.{ifreq_row};
 ghost use Rattle.store_schema.specs.Tables.{ifreq as ifreq_table};
+ghost use Rattle.store_sysmods.specs.Calls.{puts, insert_ifreq as into_ifreq};
 ghost use Rattle.store_sysmods.specs.Sysmods.{Adds};
 
 use fields::{Id, Srel};
@@ -28,6 +30,8 @@ fn insert_row<'a, S: Alter>(
     requires req { req.now ≡ join_with_byte 44 ifreq.now.req }
     ensures same_reference { tx.new.conn.ghost_name ≡ tx.old.conn.ghost_name }
     ensures inside { StaysInside S.Store tx.old.conn.now tx.new.conn.now }
+    ensures calls { RunsInside S.Store (puts into_ifreq (ifreq_row id.now srel.now (number, ifreq.now) ∷ []))
+        tx.old.conn.now tx.new.conn.now result }
     ensures ok { OnOk result (Adds S.Store tx.old.conn.now tx.new.conn.now ifreq_table
         (ifreq_row id.now srel.now (number, ifreq.now) ∷ [])) }
 {
@@ -54,6 +58,8 @@ fn insert_if<S: Alter>(
     requires { number < 2 ^ 63 }
     ensures same_reference { tx.new.conn.ghost_name ≡ tx.old.conn.ghost_name }
     ensures inside { StaysInside S.Store tx.old.conn.now tx.new.conn.now }
+    ensures calls { RunsInside S.Store (puts into_ifreq (ifreq_row id.now srel.now (number, ifreq.now) ∷ []))
+        tx.old.conn.now tx.new.conn.now result }
     ensures ok { OnOk result (Adds S.Store tx.old.conn.now tx.new.conn.now ifreq_table
         (ifreq_row id.now srel.now (number, ifreq.now) ∷ [])) }
 {
@@ -71,6 +77,8 @@ fn insert_ifs<S: Alter>(
 ) -> Result<(), Error>
     ensures same_reference { tx.new.conn.ghost_name ≡ tx.old.conn.ghost_name }
     ensures inside { StaysInside S.Store tx.old.conn.now tx.new.conn.now }
+    ensures calls { RunsInside S.Store (puts into_ifreq (map (ifreq_row id.now srel.now) (enumerate_from 1 ifs.now)))
+        tx.old.conn.now tx.new.conn.now result }
     ensures ok { OnOk result (Adds S.Store tx.old.conn.now tx.new.conn.now ifreq_table
         (map (ifreq_row id.now srel.now) (enumerate_from 1 ifs.now))) }
 {
@@ -89,6 +97,9 @@ pub(crate) fn insert_all_ifs<S: Alter>(
 ) -> Result<(), Error>
     ensures same_reference { tx.new.conn.ghost_name ≡ tx.old.conn.ghost_name }
     ensures inside { StaysInside S.Store tx.old.conn.now tx.new.conn.now }
+    ensures calls { RunsInside S.Store (puts into_ifreq
+        (flat_map (λ v. map (ifreq_row id.now v.srel) (enumerate_from 1 v.ifs)) vers.now))
+        tx.old.conn.now tx.new.conn.now result }
     ensures ok { OnOk result (Adds S.Store tx.old.conn.now tx.new.conn.now ifreq_table
         (flat_map (λ v. map (ifreq_row id.now v.srel) (enumerate_from 1 v.ifs)) vers.now)) }
 {

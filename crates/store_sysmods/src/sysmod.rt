@@ -2,10 +2,13 @@
 
 ghost use Rattle.std.specs.Prelude.{◌≡◌, [], ◌∷◌, OnOk};
 ghost use Rattle.std.specs.List.{join_with_byte};
+ghost use Rattle.store_rows.specs.Calls.{RunsInside};
 ghost use Rattle.store_rows.specs.Inside.{StaysInside, Turns};
 ghost use Rattle.store_rows.specs.Rows.{HasContents, in_table, in_place};
 ghost use Rattle.store_schema.specs.Rows.{sysmod_row};
 ghost use Rattle.store_schema.specs.Tables.{sysmod as sysmod_table, store_schema};
+ghost use Rattle.store_sysmods.specs.Calls.{puts, insert_sysmod as into_sysmod, insert_sysmod_calls};
+ghost use Rattle.store_sysmods.specs.Calls.{remove_sysmod_calls, replace_sources_calls};
 ghost use Rattle.store_sysmods.specs.Sysmods.{Adds, AddsSysmod, ReplacesSources, RemovesSysmod, sysmod_key};
 ghost use Rattle.store_sysmods.specs.Sysmods.{with_sysmod_rows, without_sysmod_rows};
 
@@ -30,6 +33,8 @@ fn insert_row<'a, S: Alter>(
     requires { sources.now ≡ join_with_byte 44 sysmod.now.sources }
     ensures same_reference { tx.new.conn.ghost_name ≡ tx.old.conn.ghost_name }
     ensures inside { StaysInside S.Store tx.old.conn.now tx.new.conn.now }
+    ensures calls { RunsInside S.Store (puts into_sysmod (sysmod_row sysmod.now ∷ []))
+        tx.old.conn.now tx.new.conn.now result }
     ensures ok { OnOk result (Adds S.Store tx.old.conn.now tx.new.conn.now sysmod_table (sysmod_row sysmod.now ∷ [])) }
 {
     let id = ValueRef::Text(sysmod.id.as_bytes());
@@ -51,6 +56,7 @@ pub fn insert_sysmod<S: Alter>(
 ) -> Result<(), Error>
     ensures same_reference { tx.new.conn.ghost_name ≡ tx.old.conn.ghost_name }
     ensures inside { StaysInside S.Store tx.old.conn.now tx.new.conn.now }
+    ensures calls { RunsInside S.Store (insert_sysmod_calls sysmod.now) tx.old.conn.now tx.new.conn.now result }
     ensures ok { OnOk result (Turns S.Store tx.old.conn.now tx.new.conn.now (HasContents store_schema)
         (with_sysmod_rows sysmod.now)) }
     ensures stands { OnOk result (AddsSysmod S.Store tx.old.conn.now tx.new.conn.now sysmod.now) }
@@ -71,6 +77,7 @@ fn replace_row<'a, S: Alter>(
     requires { sources.now ≡ join_with_byte 44 sysmod.now.sources }
     ensures same_reference { tx.new.conn.ghost_name ≡ tx.old.conn.ghost_name }
     ensures inside { StaysInside S.Store tx.old.conn.now tx.new.conn.now }
+    ensures calls { RunsInside S.Store (replace_sources_calls sysmod.now) tx.old.conn.now tx.new.conn.now result }
     ensures ok { OnOk result (Turns S.Store tx.old.conn.now tx.new.conn.now (HasContents store_schema)
         (in_table sysmod_table (in_place (sysmod_key sysmod.now.id) (sysmod_row sysmod.now)))) }
 {
@@ -92,6 +99,7 @@ pub fn replace_sources<S: Alter>(
 ) -> Result<(), Error>
     ensures same_reference { tx.new.conn.ghost_name ≡ tx.old.conn.ghost_name }
     ensures inside { StaysInside S.Store tx.old.conn.now tx.new.conn.now }
+    ensures calls { RunsInside S.Store (replace_sources_calls sysmod.now) tx.old.conn.now tx.new.conn.now result }
     ensures ok { OnOk result (Turns S.Store tx.old.conn.now tx.new.conn.now (HasContents store_schema)
         (in_table sysmod_table (in_place (sysmod_key sysmod.now.id) (sysmod_row sysmod.now)))) }
     ensures stands { OnOk result (ReplacesSources S.Store tx.old.conn.now tx.new.conn.now sysmod.now) }
@@ -104,6 +112,7 @@ pub fn replace_sources<S: Alter>(
 pub fn remove_sysmod<S: Alter>(tx: &mut Transaction<'_, S>, id: Id) -> Result<(), Error>
     ensures same_reference { tx.new.conn.ghost_name ≡ tx.old.conn.ghost_name }
     ensures inside { StaysInside S.Store tx.old.conn.now tx.new.conn.now }
+    ensures calls { RunsInside S.Store (remove_sysmod_calls id) tx.old.conn.now tx.new.conn.now result }
     ensures ok { OnOk result (Turns S.Store tx.old.conn.now tx.new.conn.now (HasContents store_schema)
         (without_sysmod_rows id)) }
     ensures stands { OnOk result (RemovesSysmod S.Store tx.old.conn.now tx.new.conn.now id) }

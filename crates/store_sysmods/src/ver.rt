@@ -1,9 +1,11 @@
 //! The table of `++VER`s.
 
 ghost use Rattle.std.specs.Prelude.{◌≡◌, [], ◌∷◌, map, IfOk, OnOk};
+ghost use Rattle.store_rows.specs.Calls.{RunsInside};
 ghost use Rattle.store_rows.specs.Inside.{StaysInside};
 ghost use Rattle.store_schema.specs.Rows.{ver_row};
 ghost use Rattle.store_schema.specs.Tables.{ver as ver_table};
+ghost use Rattle.store_sysmods.specs.Calls.{puts, insert_ver as into_ver};
 ghost use Rattle.store_sysmods.specs.Lists.{AreLists};
 ghost use Rattle.store_sysmods.specs.Sysmods.{Adds};
 
@@ -47,6 +49,8 @@ fn insert_row<S: Alter>(
     requires { AreLists lists.now ver.now }
     ensures same_reference { tx.new.conn.ghost_name ≡ tx.old.conn.ghost_name }
     ensures inside { StaysInside S.Store tx.old.conn.now tx.new.conn.now }
+    ensures calls { RunsInside S.Store (puts into_ver (ver_row id.now ver.now ∷ []))
+        tx.old.conn.now tx.new.conn.now result }
     ensures ok { OnOk result (Adds S.Store tx.old.conn.now tx.new.conn.now ver_table (ver_row id.now ver.now ∷ [])) }
 {
     let id = ValueRef::Text(id.as_bytes());
@@ -72,6 +76,8 @@ fn insert_ver<S: Alter>(
 ) -> Result<(), Error>
     ensures same_reference { tx.new.conn.ghost_name ≡ tx.old.conn.ghost_name }
     ensures inside { StaysInside S.Store tx.old.conn.now tx.new.conn.now }
+    ensures calls { RunsInside S.Store (puts into_ver (ver_row id.now ver.now ∷ []))
+        tx.old.conn.now tx.new.conn.now result }
     ensures ok { OnOk result (Adds S.Store tx.old.conn.now tx.new.conn.now ver_table (ver_row id.now ver.now ∷ [])) }
 {
     let lists = lists_of(alloc, ver)?;
@@ -87,6 +93,8 @@ pub(crate) fn insert_vers<S: Alter>(
 ) -> Result<(), Error>
     ensures same_reference { tx.new.conn.ghost_name ≡ tx.old.conn.ghost_name }
     ensures inside { StaysInside S.Store tx.old.conn.now tx.new.conn.now }
+    ensures calls { RunsInside S.Store (puts into_ver (map (ver_row id.now) vers.now))
+        tx.old.conn.now tx.new.conn.now result }
     ensures ok { OnOk result (Adds S.Store tx.old.conn.now tx.new.conn.now ver_table (map (ver_row id.now) vers.now)) }
 {
     for ver in vers {

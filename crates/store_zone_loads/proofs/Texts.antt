@@ -1,9 +1,11 @@
 -- What the texts mean.
 use Rattle.std.proofs.Common.{ℕ, List, codes, refl, arith}
 use Rattle.sqlite.specs.Listing.{understood}
+use Rattle.std.proofs.Math.Dec.{lit≤}
 use Rattle.sqlite_tied.specs.Compute.{everything}
 use Rattle.store_rows.specs.Selects.{IsSelect}
-use Rattle.store_rows.specs.Texts.{IsTableOf, ReadsRows}
+use Rattle.store_rows.proofs.Typed.{none_typed, one_typed}
+use Rattle.store_rows.specs.Texts.{Suits, IsTableOf, ReadsRows}
 use Rattle.store_schema.specs.Tables.{store_schema, zone, entry, zelem}
 
 pub has_zone : IsTableOf store_schema 6 zone
@@ -26,6 +28,9 @@ reads_head = record {
   command = refl;
   plain = (refl, refl);
   unlisted = refl;
+  whole = lit≤ tt;
+  given = refl;
+  typed = one_typed (Suits store_schema select_head) (λ t. refl);
   narrow = omega arith;
 }
 
@@ -44,6 +49,9 @@ reads_heads = record {
   command = refl;
   plain = (refl, refl);
   unlisted = refl;
+  whole = lit≤ tt;
+  given = refl;
+  typed = none_typed (Suits store_schema select_heads) refl;
   narrow = omega arith;
 }
 
@@ -62,6 +70,9 @@ reads_entries = record {
   command = refl;
   plain = (refl, refl);
   unlisted = refl;
+  whole = lit≤ tt;
+  given = refl;
+  typed = one_typed (Suits store_schema select_entries) (λ t. refl);
   narrow = omega arith;
 }
 
@@ -80,6 +91,9 @@ reads_elements = record {
   command = refl;
   plain = (refl, refl);
   unlisted = refl;
+  whole = lit≤ tt;
+  given = refl;
+  typed = one_typed (Suits store_schema select_elements) (λ t. refl);
   narrow = omega arith;
 }
 

@@ -108,7 +108,7 @@ pub(crate) fn load_elements<S: Alter>(
         → IfOk result (λ elements. elements ≡ elements_in i name.now) }
     ensures none { HasCleanDisk (state S.Store conn.new) → IsErrOf result ReadError.BadRow → (i : Inventory)
         → ¬ StandsFor i (state S.Store conn.old).now }
-    ensures reads { OnlyReads S.Store ReadError.BadRow conn.old conn.new result }
+    ensures reads { OnlyReads S.Store store_schema ReadError.BadRow ReadError.Fault conn.old conn.new result }
 {
     let rows = load_listed::<S, Elements>(alloc, conn, &[ValueRef::Text(name.as_bytes())])?;
     zone_table(alloc, rows)

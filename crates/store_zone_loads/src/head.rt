@@ -149,6 +149,7 @@ impl Query for NamedHeads {
 fn at_most_one(heads: &[ZoneHead]) -> Result<Option<ZoneHead>, ReadError>
     ensures one { IfOk result (λ head. heads.now ≡ option_to_list head) }
     ensures more { OnErr result ((head : Option ZoneHead) → heads.now ≢ option_to_list head) }
+    ensures fault { IsErrOf result ReadError.Fault → ⊥ }
 {
     match heads {
         [] => Ok(None),
@@ -167,7 +168,7 @@ pub(crate) fn zone_head<S: Alter>(
         → IfOk result (λ head. head ≡ option_map (head_in name.now) (zone_in i name.now)) }
     ensures none { HasCleanDisk (state S.Store conn.new) → IsErrOf result ReadError.BadRow → (i : Inventory)
         → ¬ StandsFor i (state S.Store conn.old).now }
-    ensures reads { OnlyReads S.Store ReadError.BadRow conn.old conn.new result }
+    ensures reads { OnlyReads S.Store store_schema ReadError.BadRow ReadError.Fault conn.old conn.new result }
 {
     let heads = load_listed::<S, NamedHeads>(alloc, conn, &[ValueRef::Text(name.as_bytes())])?;
     at_most_one(heads.as_slice())
@@ -184,7 +185,7 @@ pub fn zone_heads<S: Alter>(
     ensures related { IfOk result (λ heads. AreRelated heads.items) }
     ensures none { HasCleanDisk (state S.Store conn.new) → IsErrOf result ReadError.BadRow → (i : Inventory)
         → ¬ StandsFor i (state S.Store conn.old).now }
-    ensures reads { OnlyReads S.Store ReadError.BadRow conn.old conn.new result }
+    ensures reads { OnlyReads S.Store store_schema ReadError.BadRow ReadError.Fault conn.old conn.new result }
 {
     let heads = load_listed::<S, AllHeads>(alloc, conn, &[])?;
     let sorted = table_of(heads)?;
@@ -210,7 +211,7 @@ pub fn zone_names<S: Alter>(
         → IfOk result (λ names. names.items ≡ map (λ z. z.name) i.zones) }
     ensures none { HasCleanDisk (state S.Store conn.new) → IsErrOf result ReadError.BadRow → (i : Inventory)
         → ¬ StandsFor i (state S.Store conn.old).now }
-    ensures reads { OnlyReads S.Store ReadError.BadRow conn.old conn.new result }
+    ensures reads { OnlyReads S.Store store_schema ReadError.BadRow ReadError.Fault conn.old conn.new result }
 {
     let heads = zone_heads(alloc, conn)?;
     Ok(names_of(alloc, heads.as_slice())?)

@@ -70,6 +70,7 @@ pub(crate) fn only_related(heads: Vec<ZoneHead>) -> Result<Vec<ZoneHead>, ReadEr
     ensures same { IfOk result (λ same. same.items ≡ heads.items) }
     ensures related { IfOk result (λ same. AreRelated same.items) }
     ensures none { IsErrOf result ReadError.BadRow → ¬ AreRelated heads.items }
+    ensures fault { IsErrOf result ReadError.Fault → ⊥ }
 {
     if !are_related(heads.as_slice()) {
         return Err(ReadError::BadRow);

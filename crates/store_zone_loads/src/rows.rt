@@ -31,6 +31,7 @@ pub(crate) fn table_of<T: Keyed + Drop>(items: Vec<T>) -> Result<Table<T>, ReadE
         → table ≡ xs) }
     ensures none { IsErrOf result ReadError.BadRow → (xs : List T) → IsPermutation items.items xs
         → ¬ Rises T.Key.cmp T.key_of xs }
+    ensures fault { IsErrOf result ReadError.Fault → ⊥ }
 {
     match Table::from_vec(items) {
         Some(table) => Ok(table),
@@ -47,6 +48,7 @@ pub(crate) fn zone_table<T: Keyed + Drop>(
         → Rises T.Key.cmp T.key_of xs → table ≡ xs) }
     ensures none { IsErrOf result ReadError.BadRow → (xs : List T)
         → IsPermutation (map (λ row. row.item) rows.items) xs → ¬ Rises T.Key.cmp T.key_of xs }
+    ensures fault { IsErrOf result ReadError.Fault → ⊥ }
 {
     table_of(without_zone(alloc, rows)?)
 }

@@ -23,6 +23,7 @@ use zones::{Element, Entry, Table, Zone};
 fn join(head: ZoneHead, entries: Table<Entry>, elements: Table<Element>) -> Result<Zone, ReadError>
     ensures same { IfOk result (λ zone. zone ≡ a_zone head.kind head.srel head.related entries elements) }
     ensures none { IsErrOf result ReadError.BadRow → ¬ MayStand head.kind head.related entries }
+    ensures fault { IsErrOf result ReadError.Fault → ⊥ }
 {
     match Zone::from_tables(head.kind, head.srel, head.related, entries, elements) {
         Some(zone) => Ok(zone),
@@ -42,7 +43,7 @@ fn load_rest<S: Alter>(
     ensures none { HasCleanDisk (state S.Store conn.new) → IsErrOf result ReadError.BadRow → (i : Inventory)
         → Some head ≡ option_map (head_in head.name) (zone_in i head.name)
         → ¬ StandsFor i (state S.Store conn.old).now }
-    ensures reads { OnlyReads S.Store ReadError.BadRow conn.old conn.new result }
+    ensures reads { OnlyReads S.Store store_schema ReadError.BadRow ReadError.Fault conn.old conn.new result }
 {
     let entries = load_entries(alloc, conn, &head.name)?;
     let elements = load_elements(alloc, conn, &head.name)?;
@@ -59,7 +60,7 @@ pub fn load_zone<S: Alter>(
         → IfOk result (λ zone. zone ≡ zone_in i name) }
     ensures none { HasCleanDisk (state S.Store conn.new) → IsErrOf result ReadError.BadRow → (i : Inventory)
         → ¬ StandsFor i (state S.Store conn.old).now }
-    ensures reads { OnlyReads S.Store ReadError.BadRow conn.old conn.new result }
+    ensures reads { OnlyReads S.Store store_schema ReadError.BadRow ReadError.Fault conn.old conn.new result }
 {
     let Some(head) = zone_head(alloc, conn, &name)? else {
         return Ok(None);

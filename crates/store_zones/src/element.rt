@@ -3,10 +3,12 @@
 ghost use Rattle.std.specs.Prelude.{◌≡◌, OnOk};
 ghost use Rattle.std.specs.List.{join_with_byte};
 ghost use Rattle.terms.specs.Texts.{HasLines};
+ghost use Rattle.store_rows.specs.Calls.{RunsInside};
 ghost use Rattle.store_rows.specs.Inside.{StaysInside, Turns};
 ghost use Rattle.store_rows.specs.Rows.{HasContents, in_table, without, with_put};
 ghost use Rattle.store_schema.specs.Rows.{zelem_row};
 ghost use Rattle.store_schema.specs.Tables.{zelem, store_schema};
+ghost use Rattle.store_zones.specs.Calls.{put_element_calls, remove_element_calls};
 ghost use Rattle.store_zones.specs.Keys.{element_key};
 ghost use Rattle.store_zones.specs.Zones.{ChangesZone, HasPutElement, HasRemovedElement};
 
@@ -30,6 +32,7 @@ pub fn put_element<S: Alter>(
 ) -> Result<(), Error>
     ensures same_reference { tx.new.conn.ghost_name ≡ tx.old.conn.ghost_name }
     ensures inside { StaysInside S.Store tx.old.conn.now tx.new.conn.now }
+    ensures calls { RunsInside S.Store (put_element_calls zone element.now) tx.old.conn.now tx.new.conn.now result }
     ensures ok { OnOk result (Turns S.Store tx.old.conn.now tx.new.conn.now (HasContents store_schema)
         (with_put zelem (element_key zone element.now.elem_type element.now.name) (zelem_row zone element.now))) }
     ensures stands { OnOk result (ChangesZone S.Store tx.old.conn.now tx.new.conn.now zone
@@ -52,6 +55,7 @@ fn put_row<S: Alter>(
     requires text { HasLines text.now element.now.text }
     ensures same_reference { tx.new.conn.ghost_name ≡ tx.old.conn.ghost_name }
     ensures inside { StaysInside S.Store tx.old.conn.now tx.new.conn.now }
+    ensures calls { RunsInside S.Store (put_element_calls zone.now element.now) tx.old.conn.now tx.new.conn.now result }
     ensures ok { OnOk result (Turns S.Store tx.old.conn.now tx.new.conn.now (HasContents store_schema)
         (with_put zelem (element_key zone.now element.now.elem_type element.now.name)
         (zelem_row zone.now element.now))) }
@@ -85,6 +89,8 @@ pub fn remove_element<S: Alter>(
 ) -> Result<(), Error>
     ensures same_reference { tx.new.conn.ghost_name ≡ tx.old.conn.ghost_name }
     ensures inside { StaysInside S.Store tx.old.conn.now tx.new.conn.now }
+    ensures calls { RunsInside S.Store (remove_element_calls zone elem_type name)
+        tx.old.conn.now tx.new.conn.now result }
     ensures ok { OnOk result (Turns S.Store tx.old.conn.now tx.new.conn.now (HasContents store_schema)
         (in_table zelem (without (element_key zone elem_type name)))) }
     ensures stands { OnOk result (ChangesZone S.Store tx.old.conn.now tx.new.conn.now zone

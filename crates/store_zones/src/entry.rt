@@ -2,10 +2,12 @@
 
 ghost use Rattle.std.specs.Prelude.{◌≡◌, OnOk};
 ghost use Rattle.std.specs.List.{join_with_byte};
+ghost use Rattle.store_rows.specs.Calls.{RunsInside};
 ghost use Rattle.store_rows.specs.Inside.{StaysInside, Turns};
 ghost use Rattle.store_rows.specs.Rows.{HasContents, in_table, without, with_put};
 ghost use Rattle.store_schema.specs.Rows.{entry_row};
 ghost use Rattle.store_schema.specs.Tables.{entry as entry_table, store_schema};
+ghost use Rattle.store_zones.specs.Calls.{put_entry_calls, remove_entry_calls};
 ghost use Rattle.store_zones.specs.Keys.{entry_key};
 ghost use Rattle.store_zones.specs.Zones.{ChangesZone, HasPutEntry, HasRemovedEntry};
 
@@ -27,6 +29,7 @@ pub fn put_entry<S: Alter>(
 ) -> Result<(), Error>
     ensures same_reference { tx.new.conn.ghost_name ≡ tx.old.conn.ghost_name }
     ensures inside { StaysInside S.Store tx.old.conn.now tx.new.conn.now }
+    ensures calls { RunsInside S.Store (put_entry_calls zone entry.now) tx.old.conn.now tx.new.conn.now result }
     ensures ok { OnOk result (Turns S.Store tx.old.conn.now tx.new.conn.now (HasContents store_schema)
         (with_put entry_table (entry_key zone entry.now.id) (entry_row zone entry.now))) }
     ensures stands { OnOk result (ChangesZone S.Store tx.old.conn.now tx.new.conn.now zone (HasPutEntry entry.now)) }
@@ -48,6 +51,7 @@ fn put_row<S: Alter>(
     requires waived { waived.now ≡ join_with_byte 44 entry.now.waived }
     ensures same_reference { tx.new.conn.ghost_name ≡ tx.old.conn.ghost_name }
     ensures inside { StaysInside S.Store tx.old.conn.now tx.new.conn.now }
+    ensures calls { RunsInside S.Store (put_entry_calls zone.now entry.now) tx.old.conn.now tx.new.conn.now result }
     ensures ok { OnOk result (Turns S.Store tx.old.conn.now tx.new.conn.now (HasContents store_schema)
         (with_put entry_table (entry_key zone.now entry.now.id) (entry_row zone.now entry.now))) }
 {
@@ -74,6 +78,7 @@ pub fn remove_entry<S: Alter>(
 ) -> Result<(), Error>
     ensures same_reference { tx.new.conn.ghost_name ≡ tx.old.conn.ghost_name }
     ensures inside { StaysInside S.Store tx.old.conn.now tx.new.conn.now }
+    ensures calls { RunsInside S.Store (remove_entry_calls zone id) tx.old.conn.now tx.new.conn.now result }
     ensures ok { OnOk result (Turns S.Store tx.old.conn.now tx.new.conn.now (HasContents store_schema)
         (in_table entry_table (without (entry_key zone id)))) }
     ensures stands { OnOk result (ChangesZone S.Store tx.old.conn.now tx.new.conn.now zone (HasRemovedEntry id)) }

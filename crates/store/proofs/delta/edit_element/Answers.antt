@@ -21,3 +21,6 @@ returns-in-Remove-clause-ok g c =
     (HasEditedElements (Remove (c.in-Remove.elem_type, c.in-Remove.name) ∷ []))
     (element_removed c.in-Remove.elem_type c.in-Remove.name))
     c.remove_element.ensures.stands)
+
+pub returns-in-Put-clause-calls : goal.returns-in-Put-clause-calls
+returns-in-Put-clause-calls g c clean inside = rw c.in-Put.is (c.put_element.ensures.calls clean inside)

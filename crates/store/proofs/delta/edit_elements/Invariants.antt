@@ -1,5 +1,8 @@
-use Rattle.std.proofs.Common.{◌≡◌, take}
+use Rattle.std.proofs.Common.{Ok, ◌≡◌, take}
+use Rattle.std.specs.List.{flat_map}
+use Rattle.store_rows.specs.Calls.{RunsInside}
 use Rattle.store_rows.specs.Inside.{StaysInside}
+use Rattle.store.specs.Calls.{element_calls}
 use Rattle.store_zones.specs.Zones.{ChangesZone}
 use Rattle.store.specs.Writes.{HasEditedElements}
 use Rattle.store.proofs.delta.edit_elements.Given as goal
@@ -8,5 +11,7 @@ abbrev pub invariant-loop-edit : goal.invariant-loop-edit
 invariant-loop-edit g l = record {
   same_reference : l.tx.conn.ghost_name ≡ l.fn.tx.conn.ghost_name;
   inside : StaysInside g.S.Store l.fn.tx.conn.now l.tx.conn.now;
+  calls : RunsInside g.S.Store (flat_map (element_calls l.zone) (take l.edit-index l.edits)) l.fn.tx.conn.now
+      l.tx.conn.now {X = Unit {0}} (Ok tt);
   changes : ChangesZone g.S.Store l.fn.tx.conn.now l.tx.conn.now l.zone (HasEditedElements (take l.edit-index l.edits));
 }

@@ -21,3 +21,6 @@ returns-in-ReplaceSources-clause-ok g c = rw c.in-ReplaceSources.is c.replace_so
 
 pub returns-in-RemoveSysmod-clause-ok : goal.returns-in-RemoveSysmod-clause-ok
 returns-in-RemoveSysmod-clause-ok g c = rw c.in-RemoveSysmod.is c.remove_sysmod.ensures.stands
+
+pub returns-in-PutHold-clause-calls : goal.returns-in-PutHold-clause-calls
+returns-in-PutHold-clause-calls g c clean inside = rw c.in-PutHold.is (c.put_hold.ensures.calls clean inside)

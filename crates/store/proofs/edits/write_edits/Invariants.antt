@@ -1,5 +1,8 @@
-use Rattle.std.proofs.Common.{◌≡◌, take}
+use Rattle.std.proofs.Common.{Ok, ◌≡◌, take}
+use Rattle.std.specs.List.{flat_map}
+use Rattle.store_rows.specs.Calls.{RunsInside}
 use Rattle.store_rows.specs.Inside.{StaysInside}
+use Rattle.store.specs.Calls.{edit_calls}
 use Rattle.store_sysmods.specs.Sysmods.{ChangesGlobal}
 use Rattle.sysmods.specs.Edits.{EachFits, after_edits}
 use Rattle.store.proofs.edits.write_edits.Given as goal
@@ -8,6 +11,8 @@ abbrev pub invariant-loop-edit : goal.invariant-loop-edit
 invariant-loop-edit g l = record {
   same_reference : l.tx.conn.ghost_name ≡ l.fn.tx.conn.ghost_name;
   inside : StaysInside g.S.Store l.fn.tx.conn.now l.tx.conn.now;
+  calls : RunsInside g.S.Store (flat_map edit_calls (take l.edit-index l.edits)) l.fn.tx.conn.now l.tx.conn.now
+      {X = Unit {0}} (Ok tt);
   changes : ChangesGlobal g.S.Store l.fn.tx.conn.now l.tx.conn.now (EachFits l.edits)
       (after_edits (take l.edit-index l.edits));
 }

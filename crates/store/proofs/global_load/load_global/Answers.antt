@@ -4,11 +4,11 @@ use Rattle.store.proofs.global_load.load_global.Goals as goal
 
 pub returns-in_err-lists-clause-reads : goal.returns-in_err-lists-clause-reads
 returns-in_err-lists-clause-reads g c =
-    reads_err g.S.Store _ c.args.conn.now c.load_lists.new.conn c.load_lists.result _ (search rules)
-    (λ bad. search rules)
+    reads_err g.S.Store _ _ _ c.args.conn.now c.load_lists.new.conn c.load_lists.result _ (search rules)
+    (λ bad. search rules) (λ failed. search rules)
     c.load_lists.ensures.reads
 
 pub returns-clause-reads : goal.returns-clause-reads
 returns-clause-reads g c =
-    reads_more g.S.Store _ c.args.conn.now c.load_lists.new.conn c.load_lists.result c.in_ok-lists.lists _
-    c.in_ok-lists.was c.load_lists.ensures.reads
+    reads_more g.S.Store _ _ _ c.args.conn.now c.load_lists.new.conn c.load_lists.result c.in_ok-lists.lists _
+    c.in_ok-lists.was c.joined.ensures.fault c.load_lists.ensures.reads

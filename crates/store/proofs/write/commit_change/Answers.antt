@@ -1,9 +1,12 @@
-use Rattle.std.proofs.Common.{◌≡◌, OnOk, rules, refl, subst}
+use Rattle.std.proofs.Common.{◌≡◌, ◌⊎◌, OnOk, IfErr, rules, refl, subst}
+use Rattle.sqlite.specs.declared.error.Error.TheVariants.{SqliteFailure}
+use Rattle.sqlite.specs.declared.error.ErrorCode.TheVariants.{OutOfMemory}
 use Rattle.sqlite.specs.Held.{state}
 use Rattle.sqlite.specs.State.{HasCleanDisk, Survives}
 use Rattle.store_rows.proofs.InsideLemmas.{on_ok}
+use Rattle.store.specs.Calls.{FailsToWrite}
 use Rattle.store.specs.Writes.{CommitsChange, IsChangeOutcome}
-use Rattle.store.proofs.Committing.{crashed, committed}
+use Rattle.store.proofs.Committing.{crashed, committed, if_err, handed_on, failed_to_write, failed_to_commit}
 use Rattle.store.proofs.write.commit_change.Goals as goal
 
 pub returns-clause-made : goal.returns-clause-made
@@ -36,3 +39,37 @@ returns-clause-crash g c =
     let same : last_now ≡ c.conn-2-1.given.0 = search rules in
     subst (λ h. Survives (state s old) (state s h) (IsChangeOutcome s old change)) same
     (crashed s old last last_now change (c.if-prove.ensures.settled refl) inside written c.commit.ensures.survives)
+
+pub returns-in_err-write-clause-cause : goal.returns-in_err-write-clause-cause
+returns-in_err-write-clause-cause g c =
+    let s = g.S.Store in
+    let old = c.args.conn.now in
+    let last = c.write.new.tx.conn.now in
+    let last_now = c.drop-tx.new.self.0 in
+    let change = c.args.change.now in
+    let begun = c.transaction-tx.ensures.begun in
+    let runs = rw begun at c.write.ensures.calls in
+    let same : last_now ≡ c.conn-1.given.0 = search rules in
+    subst (λ h. HasCleanDisk (state s h) → IfErr c.from_residual.result
+    (λ e. (e ≡ SqliteFailure OutOfMemory) ⊎ FailsToWrite s change old h)) same
+    (λ clean. handed_on c.from_residual.result _ _ c.from_residual.ensures.1
+    (failed_to_write s old last last_now change c.write.result _ c.drop-tx.ensures.survives c.in_err-write.was clean
+    runs))
+
+pub returns-clause-cause : goal.returns-clause-cause
+returns-clause-cause g c =
+    let s = g.S.Store in
+    let old = c.args.conn.now in
+    let last = c.write.new.tx.conn.now in
+    let last_now = c.commit.new.self.0 in
+    let change = c.args.change.now in
+    let begun = c.transaction-tx.ensures.begun in
+    let inside = rw begun at c.write.ensures.inside in
+    let runs = rw begun at c.write.ensures.calls in
+    let same : last_now ≡ c.conn-2-1.given.0 = search rules in
+    subst (λ h. HasCleanDisk (state s h) → IfErr c.commit.result
+    (λ e. (e ≡ SqliteFailure OutOfMemory) ⊎ FailsToWrite s change old h)) same
+    (λ clean. if_err c.commit.result _ _
+    (λ e. failed_to_commit s old last last_now change c.write.result (tt {0}) e inside c.commit.ensures.survives
+    c.in_ok-write.was clean runs)
+    (c.commit.ensures.err clean))

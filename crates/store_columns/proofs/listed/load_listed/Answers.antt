@@ -45,4 +45,7 @@ returns-clause-none g c clean bad wide contents was xs formed same =
     (asked_found table key (contents table.tree) _ (trees table.tree) are same)
 
 pub returns-clause-reads : goal.returns-clause-reads
-returns-clause-reads g c = c.load.ensures.reads c.text.ensures.selects
+returns-clause-reads g c wide =
+    let table = g.Q.Query.table in
+    let reads = subst (λ (n : ℕ). ReadsRows store_schema table n c.text.result.now) (sym wide) c.text.ensures.reads in
+    c.load.ensures.reads c.text.ensures.selects store_schema table reads

@@ -2,11 +2,12 @@ use Rattle.std.proofs.Common.{IsErrOf, refl, rules}
 use Rattle.std.proofs.lemmas.List.Sorted.{IsPermutation-sym, IsPermutation-trans, IsPermutation-map}
 use Rattle.sqlite_rules.proofs.ListLemmas.{all_has, all_from}
 use Rattle.store_rows.proofs.Queries.{reads_err, reads_more}
-use Rattle.store_rows.specs.declared.error.ReadError.TheVariants.{BadRow}
+use Rattle.store_rows.specs.declared.error.ReadError.TheVariants.{BadRow, Fault}
 use Rattle.store_rows.proofs.RowLemmas.{has_permuted}
 use Rattle.store_schema.specs.Forms.{HasHoldForms}
 use Rattle.store_schema.specs.Rows.{hold_row}
 use Rattle.store_schema.specs.Stands.{rows_of}
+use Rattle.store_schema.specs.Tables.{store_schema}
 use Rattle.store_holds.proofs.HoldLists.{holds_formed, holds_rows}
 use Rattle.store_holds.proofs.reading.load_holds.Goals as goal
 
@@ -40,11 +41,10 @@ returns-clause-forms g c =
 
 pub returns-in_err-holds-clause-reads : goal.returns-in_err-holds-clause-reads
 returns-in_err-holds-clause-reads g c =
-    reads_err g.S.Store _ c.args.conn.now c.load_listed.new.conn c.load_listed.result _ (search rules)
-    (λ bad. search rules)
-    c.load_listed.ensures.reads
+    reads_err g.S.Store store_schema BadRow Fault c.args.conn.now c.load_listed.new.conn c.load_listed.result _
+    (search rules) (λ bad. search rules) (λ failed. search rules) (c.load_listed.ensures.reads refl tt)
 
 pub returns-clause-reads : goal.returns-clause-reads
 returns-clause-reads g c =
-    reads_more g.S.Store _ c.args.conn.now c.load_listed.new.conn c.load_listed.result c.in_ok-holds.holds _
-    c.in_ok-holds.was c.load_listed.ensures.reads
+    reads_more g.S.Store store_schema BadRow Fault c.args.conn.now c.load_listed.new.conn c.load_listed.result
+    c.in_ok-holds.holds _ c.in_ok-holds.was (search rules) (c.load_listed.ensures.reads refl tt)

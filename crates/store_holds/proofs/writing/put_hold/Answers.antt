@@ -1,12 +1,14 @@
 use Rattle.std.proofs.Common.{OnOk, subst}
 use Rattle.std.specs.Prelude.{option_map}
 use Rattle.std.specs.String.{string_bytes}
+use Rattle.store_rows.specs.Calls.{RunsInside}
 use Rattle.store_rows.specs.Inside.{Turns}
 use Rattle.store_rows.specs.Rows.{HasContents, with_put}
 use Rattle.store_rows.proofs.InsideLemmas.{on_ok}
 use Rattle.store_rows.proofs.Values.{bound_optional}
 use Rattle.store_schema.specs.Rows.{hold_row}
 use Rattle.store_schema.specs.Tables.{store_schema, hold}
+use Rattle.store_holds.specs.Calls.{put_hold_calls}
 use Rattle.store_holds.specs.Keys.{hold_key}
 use Rattle.sysmods_records.specs.contracts.hold.Hold.{the_view}
 use Rattle.store_holds.proofs.HoldLemmas.{kept_hold}
@@ -32,3 +34,22 @@ returns-clause-ok g c =
     subst (λ h. OnOk c.put.result (Turns g.S.Store c.args.tx.now.conn.now c.put.new.tx.conn.now
     (HasContents store_schema) (with_put hold (hold_key h) (hold_row h)))) c.hold.view_is
     (on_ok c.put.result _ _ (λ ran. ran store_schema 4 hold takes_hold puts_hold (kept_hold (the_view fields))) put)
+
+pub returns-clause-calls : goal.returns-clause-calls
+returns-clause-calls g c =
+    let fields = c.hold.inside in
+    let put = rw (
+      c.as_bytes.ensures.same,
+      c.hold_text.ensures,
+      c.as_bytes-2.ensures.same,
+      c.as_bytes-3.ensures.same,
+      c.class_value-class.ensures,
+      bound_optional fields.class,
+      c.date_value-date.ensures,
+      bound_optional fields.date,
+      c.comment_value-comment.ensures,
+      bound_optional (option_map string_bytes fields.comment),
+      c.flag_value-internal.ensures,
+    ) at c.put.ensures.calls in
+    subst (λ h. RunsInside g.S.Store (put_hold_calls h) c.args.tx.now.conn.now c.put.new.tx.conn.now c.put.result)
+    c.hold.view_is put

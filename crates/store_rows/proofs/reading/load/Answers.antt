@@ -6,12 +6,13 @@ use Rattle.sqlite.specs.State.{HasCleanDisk, IsUnchanged}
 use Rattle.sqlite.specs.Values.{bound}
 use Rattle.store_rows.specs.Rows.{AreFound}
 use Rattle.store_rows.proofs.InsideLemmas.{if_ok, on_ok_of}
+use Rattle.store_rows.proofs.Causes.{not_short, failed_by}
 use Rattle.store_rows.proofs.ReadLemmas.{found_in}
 use Rattle.store_rows.proofs.Selects.{select_unchanged, select_keeps, select_survives}
 use Rattle.store_rows.proofs.reading.load.Goals as goal
 
 pub returns-in_err-rows-clause-reads : goal.returns-in_err-rows-clause-reads
-returns-in_err-rows-clause-reads g c is_select =
+returns-in_err-rows-clause-reads g c is_select schema table text texts =
     let sql = c.args.sql.now in
     let key = bound c.args.key.now in
     let old = state g.S.Store c.args.conn.now in
@@ -19,6 +20,9 @@ returns-in_err-rows-clause-reads g c is_select =
     record {
       same = λ clean. search rules;
       bad = λ clean bad. absurd (search rules);
+      cause = λ clean failed has.
+          failed_by schema table _ sql text key texts (sym (length-map c.args.key.now _)) old new has _
+          (not_short c.from_residual.result _ c.from_residual.ensures.1 failed) (c.in_err-rows.ensures.err clean);
       kept = λ clean. select_keeps sql key is_select c.query_all.result old new (c.query_all.ensures.ok clean)
           (c.query_all.ensures.err clean);
       crash = select_survives sql key is_select old new c.query_all.ensures.survives;
@@ -48,7 +52,7 @@ returns-clause-none g c clean bad schema table text has items forms found =
     c.read_all.ensures.none bad items forms (rw c.as_slice.ensures.value same)
 
 pub returns-clause-reads : goal.returns-clause-reads
-returns-clause-reads g c is_select =
+returns-clause-reads g c is_select schema table text texts =
     let sql = c.args.sql.now in
     let key = bound c.args.key.now in
     let old = state g.S.Store c.args.conn.now in
@@ -58,6 +62,7 @@ returns-clause-reads g c is_select =
     record {
       same = λ clean. on_ok_of c.read_all.result (same clean);
       bad = λ clean _. same clean;
+      cause = λ clean failed has. absurd (c.read_all.ensures.fault failed);
       kept = λ clean. select_keeps sql key is_select c.query_all.result old new (c.query_all.ensures.ok clean)
           (c.query_all.ensures.err clean);
       crash = select_survives sql key is_select old new c.query_all.ensures.survives;

@@ -1,7 +1,9 @@
+use Rattle.std.proofs.Common.{Ok}
 use Rattle.sqlite.specs.Held.{state}
 use Rattle.sqlite.specs.Values.{bound}
 use Rattle.store_rows.proofs.Statements.{ran_inside}
 use Rattle.store_rows.proofs.Writing.{put_in_place}
+use Rattle.store_rows.proofs.CallLemmas.{one_call, follows_ok, follows_err}
 use Rattle.store_rows.proofs.statement.replace.Goals as goal
 
 pub returns-clause-ok : goal.returns-clause-ok
@@ -13,3 +15,15 @@ returns-clause-ok g c schema at table width text kept clean contents was =
     c.execute.ensures.ended c.execute.ensures.runs clean count c.in_ok-execute.was in
     put_in_place schema at table width c.args.sql.now (bound c.args.columns.now) (state g.S.Store old)
     (state g.S.Store new) count contents text kept was ran
+
+pub returns-clause-calls : goal.returns-clause-calls
+returns-clause-calls g c =
+    one_call g.S.Store c.args.tx.now.conn.now c.execute.new.self.conn.now c.args.sql.now (bound c.args.columns.now)
+    c.execute.result (Ok (tt {0})) c.execute.ensures.runs
+    (follows_ok c.execute.result _ (tt {0}) c.in_ok-execute.was)
+
+pub returns-in_err-execute-clause-calls : goal.returns-in_err-execute-clause-calls
+returns-in_err-execute-clause-calls g c =
+    one_call g.S.Store c.args.tx.now.conn.now c.execute.new.self.conn.now c.args.sql.now (bound c.args.columns.now)
+    c.execute.result c.from_residual.result c.execute.ensures.runs
+    (follows_err c.execute.result _ _ c.in_err-execute.was c.from_residual.ensures.1)

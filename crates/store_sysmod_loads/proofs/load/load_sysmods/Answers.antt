@@ -74,10 +74,12 @@ returns-clause-no_state g c clean bad i stands =
 
 pub returns-in_err-rows-clause-reads : goal.returns-in_err-rows-clause-reads
 returns-in_err-rows-clause-reads g c =
-    reads_err g.S.Store _ c.args.conn.now c.load_rows.new.conn c.load_rows.result _ (search rules) (λ bad. search rules)
+    reads_err g.S.Store _ _ _ c.args.conn.now c.load_rows.new.conn c.load_rows.result _ (search rules)
+    (λ bad. search rules) (λ failed. search rules)
     c.load_rows.ensures.reads
 
 pub returns-clause-reads : goal.returns-clause-reads
 returns-clause-reads g c =
-    reads_more g.S.Store _ c.args.conn.now c.load_rows.new.conn c.load_rows.result c.in_ok-rows.rows _ c.in_ok-rows.was
+    reads_more g.S.Store _ _ _ c.args.conn.now c.load_rows.new.conn c.load_rows.result c.in_ok-rows.rows _
+    c.in_ok-rows.was c.gathered.ensures.fault
     c.load_rows.ensures.reads

@@ -31,11 +31,12 @@ returns-clause-only g c clean contents was xs forms rises same =
 
 pub returns-in_err-items-clause-reads : goal.returns-in_err-items-clause-reads
 returns-in_err-items-clause-reads g c =
-    reads_err g.S.Store _ c.args.conn.now c.load_listed.new.conn c.load_listed.result _ (search rules)
-    (λ bad. search rules)
-    c.load_listed.ensures.reads
+    reads_err g.S.Store _ _ _ c.args.conn.now c.load_listed.new.conn c.load_listed.result _ (search rules)
+    (λ bad. search rules) (λ failed. search rules)
+    (c.load_listed.ensures.reads (sym g.met.T.Listed.whole) tt)
 
 pub returns-clause-reads : goal.returns-clause-reads
 returns-clause-reads g c =
-    reads_more g.S.Store _ c.args.conn.now c.load_listed.new.conn c.load_listed.result c.in_ok-items.items _
-    c.in_ok-items.was c.load_listed.ensures.reads
+    reads_more g.S.Store _ _ _ c.args.conn.now c.load_listed.new.conn c.load_listed.result c.in_ok-items.items _
+    c.in_ok-items.was (λ failed. search rules)
+    (c.load_listed.ensures.reads (sym g.met.T.Listed.whole) tt)

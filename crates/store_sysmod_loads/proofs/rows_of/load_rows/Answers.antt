@@ -113,56 +113,56 @@ returns-clause-only g c clean contents was ss formed rows =
 
 pub returns-in_err-heads-clause-reads : goal.returns-in_err-heads-clause-reads
 returns-in_err-heads-clause-reads g c =
-    reads_err g.S.Store _ c.args.conn.now c.load_sorted.new.conn c.load_sorted.result _ (search rules)
-    (λ bad. search rules)
+    reads_err g.S.Store _ _ _ c.args.conn.now c.load_sorted.new.conn c.load_sorted.result _ (search rules)
+    (λ bad. search rules) (λ failed. search rules)
     c.load_sorted.ensures.reads
 
 pub returns-in_err-vers-clause-reads : goal.returns-in_err-vers-clause-reads
 returns-in_err-vers-clause-reads g c =
     let one = c.load_sorted.ensures.reads in
-    reads_then g.S.Store _ c.args.conn.now c.load_sorted.new.conn c.load_sorted-2.new.conn
+    reads_then g.S.Store _ _ _ c.args.conn.now c.load_sorted.new.conn c.load_sorted-2.new.conn
     c.load_sorted.result c.in_ok-heads.heads _ c.in_ok-heads.was one
-    (reads_err g.S.Store _ c.load_sorted.new.conn c.load_sorted-2.new.conn c.load_sorted-2.result _ (search rules)
-    (λ bad. search rules)
+    (reads_err g.S.Store _ _ _ c.load_sorted.new.conn c.load_sorted-2.new.conn c.load_sorted-2.result _ (search rules)
+    (λ bad. search rules) (λ failed. search rules)
     c.load_sorted-2.ensures.reads)
 
 pub returns-in_err-ifs-clause-reads : goal.returns-in_err-ifs-clause-reads
 returns-in_err-ifs-clause-reads g c =
     let one = c.load_sorted.ensures.reads in
-    let two = reads_then g.S.Store _ c.args.conn.now c.load_sorted.new.conn c.load_sorted-2.new.conn
+    let two = reads_then g.S.Store _ _ _ c.args.conn.now c.load_sorted.new.conn c.load_sorted-2.new.conn
     c.load_sorted.result c.in_ok-heads.heads c.load_sorted-2.result c.in_ok-heads.was one
     c.load_sorted-2.ensures.reads in
-    reads_then g.S.Store _ c.args.conn.now c.load_sorted-2.new.conn c.load_sorted-3.new.conn
+    reads_then g.S.Store _ _ _ c.args.conn.now c.load_sorted-2.new.conn c.load_sorted-3.new.conn
     c.load_sorted-2.result c.in_ok-vers.vers _ c.in_ok-vers.was two
-    (reads_err g.S.Store _ c.load_sorted-2.new.conn c.load_sorted-3.new.conn c.load_sorted-3.result _ (search rules)
-    (λ bad. search rules)
+    (reads_err g.S.Store _ _ _ c.load_sorted-2.new.conn c.load_sorted-3.new.conn c.load_sorted-3.result _ (search rules)
+    (λ bad. search rules) (λ failed. search rules)
     c.load_sorted-3.ensures.reads)
 
 pub returns-in_err-elems-clause-reads : goal.returns-in_err-elems-clause-reads
 returns-in_err-elems-clause-reads g c =
     let one = c.load_sorted.ensures.reads in
-    let two = reads_then g.S.Store _ c.args.conn.now c.load_sorted.new.conn c.load_sorted-2.new.conn
+    let two = reads_then g.S.Store _ _ _ c.args.conn.now c.load_sorted.new.conn c.load_sorted-2.new.conn
     c.load_sorted.result c.in_ok-heads.heads c.load_sorted-2.result c.in_ok-heads.was one
     c.load_sorted-2.ensures.reads in
-    let three = reads_then g.S.Store _ c.args.conn.now c.load_sorted-2.new.conn c.load_sorted-3.new.conn
+    let three = reads_then g.S.Store _ _ _ c.args.conn.now c.load_sorted-2.new.conn c.load_sorted-3.new.conn
     c.load_sorted-2.result c.in_ok-vers.vers c.load_sorted-3.result c.in_ok-vers.was two
     c.load_sorted-3.ensures.reads in
-    reads_then g.S.Store _ c.args.conn.now c.load_sorted-3.new.conn c.load_sorted-4.new.conn
+    reads_then g.S.Store _ _ _ c.args.conn.now c.load_sorted-3.new.conn c.load_sorted-4.new.conn
     c.load_sorted-3.result c.in_ok-ifs.ifs _ c.in_ok-ifs.was three
-    (reads_err g.S.Store _ c.load_sorted-3.new.conn c.load_sorted-4.new.conn c.load_sorted-4.result _ (search rules)
-    (λ bad. search rules)
+    (reads_err g.S.Store _ _ _ c.load_sorted-3.new.conn c.load_sorted-4.new.conn c.load_sorted-4.result _ (search rules)
+    (λ bad. search rules) (λ failed. search rules)
     c.load_sorted-4.ensures.reads)
 
 pub returns-clause-reads : goal.returns-clause-reads
 returns-clause-reads g c =
     let one = c.load_sorted.ensures.reads in
-    let two = reads_then g.S.Store _ c.args.conn.now c.load_sorted.new.conn c.load_sorted-2.new.conn
+    let two = reads_then g.S.Store _ _ _ c.args.conn.now c.load_sorted.new.conn c.load_sorted-2.new.conn
     c.load_sorted.result c.in_ok-heads.heads c.load_sorted-2.result c.in_ok-heads.was one
     c.load_sorted-2.ensures.reads in
-    let three = reads_then g.S.Store _ c.args.conn.now c.load_sorted-2.new.conn c.load_sorted-3.new.conn
+    let three = reads_then g.S.Store _ _ _ c.args.conn.now c.load_sorted-2.new.conn c.load_sorted-3.new.conn
     c.load_sorted-2.result c.in_ok-vers.vers c.load_sorted-3.result c.in_ok-vers.was two
     c.load_sorted-3.ensures.reads in
-    reads_then g.S.Store _ c.args.conn.now c.load_sorted-3.new.conn c.load_sorted-4.new.conn
+    reads_then g.S.Store _ _ _ c.args.conn.now c.load_sorted-3.new.conn c.load_sorted-4.new.conn
     c.load_sorted-3.result c.in_ok-ifs.ifs _ c.in_ok-ifs.was three
-    (reads_more g.S.Store _ c.load_sorted-3.new.conn c.load_sorted-4.new.conn c.load_sorted-4.result
-    c.in_ok-elems.elems _ c.in_ok-elems.was c.load_sorted-4.ensures.reads)
+    (reads_more g.S.Store _ _ _ c.load_sorted-3.new.conn c.load_sorted-4.new.conn c.load_sorted-4.result
+    c.in_ok-elems.elems _ c.in_ok-elems.was (λ failed. search rules) c.load_sorted-4.ensures.reads)

@@ -1,8 +1,10 @@
-use Rattle.std.proofs.Common.{◌≡◌, [], ◌∷◌, take}
+use Rattle.std.proofs.Common.{◌≡◌, Ok, [], ◌∷◌, take}
 use Rattle.std.specs.List.{flat_map, enumerate_from}
+use Rattle.store_rows.specs.Calls.{RunsInside}
 use Rattle.store_rows.specs.Inside.{StaysInside}
 use Rattle.store_schema.specs.Rows.{ifreq_row}
 use Rattle.store_schema.specs.Tables.{ifreq as ifreq_table}
+use Rattle.store_sysmods.specs.Calls.{puts, insert_ifreq}
 use Rattle.store_sysmods.specs.Sysmods.{Adds}
 use Rattle.store_sysmods.proofs.ifreq.insert_ifs.Given as goal
 
@@ -12,4 +14,7 @@ invariant-loop-index g l = record {
   inside : StaysInside g.S.Store l.fn.tx.conn.now l.tx.conn.now;
   adds : Adds g.S.Store l.fn.tx.conn.now l.tx.conn.now ifreq_table
       (flat_map (λ i. ifreq_row l.id l.srel i ∷ []) (take l.index (enumerate_from 1 l.ifs)));
+  calls : RunsInside g.S.Store (puts insert_ifreq
+      (flat_map (λ i. ifreq_row l.id l.srel i ∷ []) (take l.index (enumerate_from 1 l.ifs))))
+      l.fn.tx.conn.now l.tx.conn.now {X = Unit} (Ok (tt {0}));
 }

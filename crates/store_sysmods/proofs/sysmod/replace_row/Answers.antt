@@ -9,6 +9,8 @@ use Rattle.store_schema.specs.Rows.{sysmod_row}
 use Rattle.store_schema.specs.Tables.{store_schema, sysmod}
 use Rattle.store_sysmods.proofs.Texts.{replaces_sysmod}
 use Rattle.store_sysmods.proofs.RowForms.{kept_sysmod, sysmod_bound}
+use Rattle.store_sysmods.specs.Calls.{replace_sysmod}
+use Rattle.store_sysmods.proofs.Calling.{runs_key}
 use Rattle.store_sysmods.proofs.sysmod.replace_row.Goals as goal
 
 pub returns-clause-ok : goal.returns-clause-ok
@@ -23,3 +25,14 @@ returns-clause-ok g c =
     (in_table sysmod (in_place (take 1 r) r))) row
     (ran store_schema 1 sysmod 1 replaces_sysmod (kept_as sysmod (sysmod_row s) _ row (kept_sysmod s))))
     c.replace.ensures.ok
+
+pub returns-clause-calls : goal.returns-clause-calls
+returns-clause-calls g c =
+    let s = c.args.sysmod.now in
+    let view = c.sysmod.view_is in
+    let row = sysmod_bound c.as_bytes.result.now c.kind_text.result.now c.args.sources.now s
+    (c.as_bytes.ensures.same ∙ ap (λ (t : Sysmod). t.id) view)
+    (c.kind_text.ensures ∙ ap (λ (t : Sysmod). kind_text t.kind) view) c.requires in
+    runs_key g.S.Store replace_sysmod (sysmod_row s) _ c.args.tx.now.conn.now c.replace.new.tx.conn.now
+    c.replace.result row
+    c.replace.ensures.calls

@@ -38,11 +38,12 @@ returns-clause-none g c clean bad i stands =
 
 pub returns-in_err-rows-clause-reads : goal.returns-in_err-rows-clause-reads
 returns-in_err-rows-clause-reads g c =
-    reads_err g.S.Store _ c.args.conn.now c.load_listed.new.conn c.load_listed.result _ (search rules)
-    (λ bad. search rules)
-    c.load_listed.ensures.reads
+    reads_err g.S.Store _ _ _ c.args.conn.now c.load_listed.new.conn c.load_listed.result _ (search rules)
+    (λ bad. search rules) (λ failed. search rules)
+    (c.load_listed.ensures.reads refl ((_, refl), tt))
 
 pub returns-clause-reads : goal.returns-clause-reads
 returns-clause-reads g c =
-    reads_more g.S.Store _ c.args.conn.now c.load_listed.new.conn c.load_listed.result c.in_ok-rows.rows _
-    c.in_ok-rows.was c.load_listed.ensures.reads
+    reads_more g.S.Store _ _ _ c.args.conn.now c.load_listed.new.conn c.load_listed.result c.in_ok-rows.rows _
+    c.in_ok-rows.was c.zone_table.ensures.fault
+    (c.load_listed.ensures.reads refl ((_, refl), tt))

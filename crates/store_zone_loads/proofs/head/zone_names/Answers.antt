@@ -13,16 +13,16 @@ returns-clause-found g c clean i stands =
 
 pub returns-in_err-heads-clause-reads : goal.returns-in_err-heads-clause-reads
 returns-in_err-heads-clause-reads g c =
-    reads_err g.S.Store _ c.args.conn.now c.zone_heads.new.conn c.zone_heads.result _ (search rules)
-    (λ bad. search rules)
+    reads_err g.S.Store _ _ _ c.args.conn.now c.zone_heads.new.conn c.zone_heads.result _ (search rules)
+    (λ bad. search rules) (λ failed. search rules)
     c.zone_heads.ensures.reads
 
 pub returns-in_err-names_of-clause-reads : goal.returns-in_err-names_of-clause-reads
 returns-in_err-names_of-clause-reads g c =
-    reads_more g.S.Store _ c.args.conn.now c.zone_heads.new.conn c.zone_heads.result c.in_ok-heads.heads _
-    c.in_ok-heads.was c.zone_heads.ensures.reads
+    reads_more g.S.Store _ _ _ c.args.conn.now c.zone_heads.new.conn c.zone_heads.result c.in_ok-heads.heads _
+    c.in_ok-heads.was (λ failed. search rules) c.zone_heads.ensures.reads
 
 pub returns-clause-reads : goal.returns-clause-reads
 returns-clause-reads g c =
-    reads_more g.S.Store _ c.args.conn.now c.zone_heads.new.conn c.zone_heads.result c.in_ok-heads.heads _
-    c.in_ok-heads.was c.zone_heads.ensures.reads
+    reads_more g.S.Store _ _ _ c.args.conn.now c.zone_heads.new.conn c.zone_heads.result c.in_ok-heads.heads _
+    c.in_ok-heads.was (λ failed. search rules) c.zone_heads.ensures.reads

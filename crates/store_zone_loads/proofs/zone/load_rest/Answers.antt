@@ -23,21 +23,21 @@ returns-clause-none g c clean bad i is stands =
 
 pub returns-in_err-entries-clause-reads : goal.returns-in_err-entries-clause-reads
 returns-in_err-entries-clause-reads g c =
-    reads_err g.S.Store _ c.args.conn.now c.load_entries.new.conn c.load_entries.result _ (search rules)
-    (λ bad. search rules)
+    reads_err g.S.Store _ _ _ c.args.conn.now c.load_entries.new.conn c.load_entries.result _ (search rules)
+    (λ bad. search rules) (λ failed. search rules)
     c.load_entries.ensures.reads
 
 pub returns-in_err-elements-clause-reads : goal.returns-in_err-elements-clause-reads
 returns-in_err-elements-clause-reads g c =
-    reads_then g.S.Store _ c.args.conn.now c.load_entries.new.conn c.load_elements.new.conn
+    reads_then g.S.Store _ _ _ c.args.conn.now c.load_entries.new.conn c.load_elements.new.conn
     c.load_entries.result c.in_ok-entries.entries _ c.in_ok-entries.was c.load_entries.ensures.reads
-    (reads_err g.S.Store _ c.load_entries.new.conn c.load_elements.new.conn c.load_elements.result _ (search rules)
-    (λ bad. search rules)
+    (reads_err g.S.Store _ _ _ c.load_entries.new.conn c.load_elements.new.conn c.load_elements.result _ (search rules)
+    (λ bad. search rules) (λ failed. search rules)
     c.load_elements.ensures.reads)
 
 pub returns-clause-reads : goal.returns-clause-reads
 returns-clause-reads g c =
-    reads_then g.S.Store _ c.args.conn.now c.load_entries.new.conn c.load_elements.new.conn
+    reads_then g.S.Store _ _ _ c.args.conn.now c.load_entries.new.conn c.load_elements.new.conn
     c.load_entries.result c.in_ok-entries.entries _ c.in_ok-entries.was c.load_entries.ensures.reads
-    (reads_more g.S.Store _ c.load_entries.new.conn c.load_elements.new.conn c.load_elements.result
-    c.in_ok-elements.elements _ c.in_ok-elements.was c.load_elements.ensures.reads)
+    (reads_more g.S.Store _ _ _ c.load_entries.new.conn c.load_elements.new.conn c.load_elements.result
+    c.in_ok-elements.elements _ c.in_ok-elements.was c.join.ensures.fault c.load_elements.ensures.reads)

@@ -1,6 +1,9 @@
+use Rattle.std.proofs.Common.{[], ◌∷◌, subst}
+use Rattle.store_rows.specs.Calls.{RunsInside}
 use Rattle.store_rows.proofs.InsideLemmas.{on_ok}
 use Rattle.store_schema.specs.Stands.{rows_of}
 use Rattle.store_schema.specs.Tables.{store_schema, zelem}
+use Rattle.store_zones.specs.Calls.{delete_element}
 use Rattle.store_zones.specs.Keys.{element_key}
 use Rattle.store_zones.proofs.Texts.{takes_element}
 use Rattle.store_zones.proofs.RowForms.{element_key_bound}
@@ -22,3 +25,10 @@ returns-clause-stands g c =
     on_ok c.remove.result _ _ (λ turned i j was is change removed clean held.
     element_removed i j c.args.zone was is change c.args.elem_type c.args.name _ removed
     (turned clean (rows_of i) held)) (returns-clause-ok g c)
+
+pub returns-clause-calls : goal.returns-clause-calls
+returns-clause-calls g c =
+    subst (λ key. RunsInside g.S.Store ((delete_element, key) ∷ []) c.args.tx.now.conn.now c.remove.new.tx.conn.now
+    c.remove.result)
+    (element_key_bound _ _ _ c.args.zone c.args.name c.args.elem_type c.as_bytes.ensures.same c.type_text.ensures
+    c.as_bytes-2.ensures.same) c.remove.ensures.calls

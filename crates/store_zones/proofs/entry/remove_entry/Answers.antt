@@ -1,8 +1,10 @@
-use Rattle.std.proofs.Common.{[], ◌∷◌, ap₂}
+use Rattle.std.proofs.Common.{[], ◌∷◌, ap₂, subst}
 use Rattle.sqlite.specs.declared.types.Value.TheVariants.{Text}
+use Rattle.store_rows.specs.Calls.{RunsInside}
 use Rattle.store_rows.proofs.InsideLemmas.{on_ok}
 use Rattle.store_schema.specs.Stands.{rows_of}
 use Rattle.store_schema.specs.Tables.{store_schema, entry}
+use Rattle.store_zones.specs.Calls.{delete_entry}
 use Rattle.store_zones.specs.Keys.{entry_key}
 use Rattle.store_zones.proofs.Texts.{takes_entry}
 use Rattle.store_rows.proofs.Bound.{as_removed}
@@ -22,3 +24,10 @@ returns-clause-stands g c =
     on_ok c.remove.result _ _ (λ turned i j was is change removed clean held.
     entry_removed i j c.args.zone was is change c.args.id _ removed (turned clean (rows_of i) held))
     (returns-clause-ok g c)
+
+pub returns-clause-calls : goal.returns-clause-calls
+returns-clause-calls g c =
+    subst (λ key. RunsInside g.S.Store ((delete_entry, key) ∷ []) c.args.tx.now.conn.now c.remove.new.tx.conn.now
+    c.remove.result)
+    (ap₂ (λ zone id. Text zone ∷ Text id ∷ []) c.as_bytes.ensures.same c.as_bytes-2.ensures.same)
+    c.remove.ensures.calls

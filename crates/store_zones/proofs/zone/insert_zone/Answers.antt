@@ -1,8 +1,10 @@
-use Rattle.std.proofs.Common.{◌++◌, refl}
+use Rattle.std.proofs.Common.{[], ◌∷◌, ◌++◌, refl, subst}
+use Rattle.store_rows.specs.Calls.{RunsInside}
 use Rattle.store_rows.proofs.InsideLemmas.{on_ok}
 use Rattle.store_schema.specs.Rows.{zone_row}
 use Rattle.store_schema.specs.Stands.{rows_of}
 use Rattle.store_schema.specs.Tables.{store_schema, zone}
+use Rattle.store_zones.specs.Calls.{insert_zone}
 use Rattle.store_zones.specs.Zones.{empty_zone}
 use Rattle.store_zones.proofs.Texts.{puts_zone}
 use Rattle.store_zones.proofs.RowForms.{kept_zone, zone_bound}
@@ -27,3 +29,12 @@ returns-clause-stands g c =
     on_ok c.insert.result _ _ (λ turned global before after clean held.
     zone_added global made before after _ refl refl (turned clean
     (rows_of (record { global = global; zones = before ++ after })) held)) (returns-clause-ok g c)
+
+pub returns-clause-calls : goal.returns-clause-calls
+returns-clause-calls g c =
+    let made = empty_zone c.args.name c.args.kind c.args.srel c.args.related in
+    let is = zone_bound c.as_bytes.result.now c.zone_kind_text.result.now c.as_bytes-2.result.now
+    c.name_value-related.result made c.as_bytes.ensures.same c.zone_kind_text.ensures c.as_bytes-2.ensures.same
+    c.name_value-related.ensures in
+    subst (λ row. RunsInside g.S.Store ((insert_zone, row) ∷ []) c.args.tx.now.conn.now c.insert.new.tx.conn.now
+    c.insert.result) is c.insert.ensures.calls

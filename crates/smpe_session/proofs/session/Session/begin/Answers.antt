@@ -18,11 +18,11 @@ returns-in_err-global-clause-none g c =
 
 pub returns-in_err-global-clause-reads : goal.returns-in_err-global-clause-reads
 returns-in_err-global-clause-reads g c =
-    reads_err g.S.Store _ c.args.store.now c.load_global.new.store c.load_global.result _ (search rules)
-    (λ bad. search rules)
+    reads_err g.S.Store _ _ _ c.args.store.now c.load_global.new.store c.load_global.result _ (search rules)
+    (λ bad. search rules) (λ failed. search rules)
     c.load_global.ensures.reads
 
 pub returns-clause-reads : goal.returns-clause-reads
 returns-clause-reads g c =
-    reads_more g.S.Store _ c.args.store.now c.load_global.new.store c.load_global.result c.in_ok-global.global _
-    c.in_ok-global.was c.load_global.ensures.reads
+    reads_more g.S.Store _ _ _ c.args.store.now c.load_global.new.store c.load_global.result c.in_ok-global.global _
+    c.in_ok-global.was (λ failed. search rules) c.load_global.ensures.reads

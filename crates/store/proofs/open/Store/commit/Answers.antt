@@ -1,3 +1,8 @@
+use Rattle.std.proofs.Common.{◌≡◌, ◌⊎◌, IfErr, subst}
+use Rattle.sqlite.specs.declared.error.Error.TheVariants.{SqliteFailure}
+use Rattle.sqlite.specs.declared.error.ErrorCode.TheVariants.{OutOfMemory}
+use Rattle.store.specs.Calls.{FailsToWrite}
+use Rattle.store.proofs.Committing.{told_failed}
 use Rattle.store.proofs.ViewLemmas.{leaves_either, leaves_changed}
 use Rattle.store.proofs.open.Store.commit.Goals as goal
 
@@ -16,3 +21,13 @@ pub returns-clause-crash : goal.returns-clause-crash
 returns-clause-crash g c =
     leaves_either g.S.Store c.self.inside.conn c.args.self.now c.commit_change.new.conn c.args.change.now c.self.view_is
     c.commit_change.ensures.crash
+
+pub returns-in_err-commit_change-clause-cause : goal.returns-in_err-commit_change-clause-cause
+returns-in_err-commit_change-clause-cause g c clean =
+    let s = g.S.Store in
+    let change = c.args.change.now in
+    let now = c.commit_change.new.conn in
+    told_failed c.commit_change.result c.from_residual.result _ (FailsToWrite s change c.args.self.now now)
+    c.in_err-commit_change.was c.from_residual.ensures.1
+    (subst (λ old. IfErr c.commit_change.result (λ e. (e ≡ SqliteFailure OutOfMemory) ⊎ FailsToWrite s change old now))
+    c.self.view_is (c.commit_change.ensures.cause clean))

@@ -1,0 +1,55 @@
+-- The statements that write a change, and why its commit fails.
+use Rattle.std.specs.Prelude.{◌≡◌, ◌⊎◌, true, List, ◌++◌}
+use Rattle.std.specs.List.{flat_map}
+use Rattle.sqlite.specs.Store.{Ghosts}
+use Rattle.sqlite.specs.declared.error.Error.{Error}
+use Rattle.sqlite.specs.Held.{Held, state}
+use Rattle.tables.specs.declared.edits.Edit.{Edit}
+use Rattle.tables.specs.declared.edits.Edit.TheVariants.{Put, Remove}
+use Rattle.terms.specs.declared.kinds.ElemType.{ElemType}
+use Rattle.terms.specs.Types.{Text, Id, Entry, Element}
+use Rattle.sysmods.specs.declared.edit.GlobalEdit.{GlobalEdit}
+use Rattle.sysmods.specs.declared.edit.GlobalEdit.TheVariants.{PutHold, RemoveHold, InsertSysmod, ReplaceSources}
+use Rattle.sysmods.specs.declared.edit.GlobalEdit.TheVariants.{RemoveSysmod}
+use Rattle.zones.specs.Delta.{ZoneDelta}
+use Rattle.store_rows.specs.Calls.{Call, Refused}
+use Rattle.store_rows.specs.Reads.{HasFailed}
+use Rattle.store_holds.specs.Calls.{put_hold_calls, remove_hold_calls}
+use Rattle.store_sysmods.specs.Calls.{insert_sysmod_calls, replace_sources_calls, remove_sysmod_calls}
+use Rattle.store_zones.specs.Calls.{zone_calls, put_entry_calls, remove_entry_calls}
+use Rattle.store_zones.specs.Calls.{put_element_calls, remove_element_calls}
+use Rattle.store_zones.specs.Zones.{empty_zone}
+use Rattle.store.specs.declared.change.Change.{Change}
+use Rattle.store.specs.declared.change.Change.TheVariants.{NewZone, Zone, Global}
+
+abbrev pub entry_calls : Text → Edit Entry Id → List Call
+entry_calls zone (Put entry) = put_entry_calls zone entry
+entry_calls zone (Remove id) = remove_entry_calls zone id
+
+abbrev pub element_calls : Text → Edit Element (ElemType × Text) → List Call
+element_calls zone (Put element) = put_element_calls zone element
+element_calls zone (Remove key) = remove_element_calls zone key.0 key.1
+
+abbrev pub edit_calls : GlobalEdit → List Call
+edit_calls (PutHold hold) = put_hold_calls hold
+edit_calls (RemoveHold id kind reason) = remove_hold_calls id kind reason
+edit_calls (InsertSysmod sysmod) = insert_sysmod_calls sysmod
+edit_calls (ReplaceSources sysmod) = replace_sources_calls sysmod
+edit_calls (RemoveSysmod id) = remove_sysmod_calls id
+
+-- the entries first, and then the elements
+abbrev pub delta_calls : Text → ZoneDelta → List Call
+delta_calls zone delta = flat_map (entry_calls zone) delta.entries ++ flat_map (element_calls zone) delta.elements
+
+-- one after the other, as they run
+abbrev pub calls_of : Change → List Call
+calls_of (NewZone name kind srel related) = zone_calls (empty_zone name kind srel related)
+calls_of (Zone name delta) = delta_calls name delta
+calls_of (Global edits) = flat_map edit_calls edits.items
+
+-- the disk failed or refused, the connection had been shut, or the database refused one of the statements
+abbrev pub FailsToWrite : {S : Type 0} → Ghosts S → Change → Held S → Held S → Type 0
+FailsToWrite {S} g change old new =
+    HasFailed (state g old) (state g new)
+    ⊎ ((last : Held S) × (error : Error)
+    × Refused g (calls_of change) (record old { in_transaction = true }) last error)

@@ -1,0 +1,43 @@
+-- Statements that run one after the other in a transaction, and why one fails.
+use Rattle.std.specs.Prelude.{◌≡◌, ◌⊎◌, ℕ, IsTrue, List, [], ◌∷◌, ◌++◌, Result, Ok, Err}
+use Rattle.sqlite.specs.Store.{Ghosts}
+use Rattle.sqlite.specs.Order.{Row}
+use Rattle.sqlite.specs.declared.error.Error.{Error}
+use Rattle.sqlite.specs.declared.error.Error.TheVariants.{SqliteFailure}
+use Rattle.sqlite.specs.declared.error.ErrorCode.TheVariants.{OutOfMemory, TooBig}
+use Rattle.sqlite.specs.Held.{Held, state}
+use Rattle.sqlite.specs.State.{HasCleanDisk, IsUnchanged, Executes, ExecutesInside}
+use Rattle.store_rows.specs.Reads.{HasFailed}
+
+-- a statement: its text and its parameters
+abbrev pub Call : Type 0
+Call = List ℕ × Row
+
+module _ {S : Type 0} (g : Ghosts S) where
+  -- each of them ran, the first of them first
+  abbrev pub Ran : List Call → Held S → Held S → Type 0
+  Ran [] old new = new ≡ old
+  Ran (call ∷ more) old new =
+      (mid : Held S) × (count : ℕ) × Executes call.0 call.1 (state g old) (state g mid) (Ok count) × Ran more mid new
+
+  -- Those before one of them ran, and the database refused that one, or has no room for its row.
+  pub record Refused (calls : List Call) (old new : Held S) (error : Error) : Type 0 where
+    pub before : List Call
+    pub call : Call
+    pub after : List Call
+    pub are : calls ≡ before ++ call ∷ after
+    pub at : Held S
+    pub ran : Ran before old at
+    pub refused : ExecutesInside 0 call.0 call.1 (state g at) (state g new) (Err error)
+    pub left : IsUnchanged (state g at) (state g new) ⊎ (error ≡ SqliteFailure TooBig)
+
+  -- They ran; or memory was short, the database failed, or refused one of them.
+  abbrev pub RunsThrough : List Call → Held S → Held S → {X : Type 0} → Result X Error → Type 0
+  RunsThrough calls old new (Ok x) = Ran calls old new × IsTrue new.in_transaction
+  RunsThrough calls old new (Err e) =
+      (e ≡ SqliteFailure OutOfMemory) ⊎ (HasFailed (state g old) (state g new) ⊎ Refused calls old new e)
+
+  -- so it is in a transaction
+  abbrev pub RunsInside : List Call → Held S → Held S → {X : Type 0} → Result X Error → Type 0
+  RunsInside calls old new result =
+      HasCleanDisk (state g new) → IsTrue old.in_transaction → RunsThrough calls old new result
