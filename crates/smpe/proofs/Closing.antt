@@ -19,7 +19,8 @@ use Rattle.store_schema.specs.Inventory.{Inventory}
 use Rattle.store_schema.specs.Stands.{StandsFor}
 use Rattle.store_schema.specs.Tables.{store_schema}
 use Rattle.store_schema.proofs.OneState.{one_state}
-use Rattle.store.specs.Kept.{kept, Keeps, IsStopped}
+use Rattle.store.specs.Causes.{LeavesFaulted}
+use Rattle.store.specs.Kept.{kept, Keeps, IsAround, IsStopped}
 use Rattle.store.specs.View.{Tables, TablesIfOpen, Leaves}
 use Rattle.store.proofs.Keeping.{inventory-kept, leaves-more}
 use Rattle.smpe_upkeep.proofs.StepForms.{HasActForms, HasJobForms}
@@ -74,9 +75,10 @@ module _ {S : Type 0} (g : Ghosts S) (at : Held S) (clean : HasCleanDisk (state 
     after-next (next ∷ rest) t c forms of_t (m, text, prints, same) =
         subst HasClosedZones (sym same) (printed_keeps t next m text forms.0 prints of_t).closed
 
-    stopped : (acts : List Act) (a b : Option (List ℕ)) → AllByRecursion HasActForms acts
-        → Stopped Prints kept s acts (TablesIfOpen g at) (Leaves g at) a b → StaysClosed g at
-    stopped acts a b forms stop =
+    stopped : (Left : (Inventory → Type 0) → Type 0) → ((Among : Inventory → Type 0) → Left Among → Leaves g at Among)
+        → (acts : List Act) (a b : Option (List ℕ)) → AllByRecursion HasActForms acts
+        → Stopped Prints kept s acts (TablesIfOpen g at) Left a b → StaysClosed g at
+    stopped Left leaves acts a b forms stop =
         let all = subst (AllByRecursion HasActForms) stop.acts_are forms in
         let end = prints_keep stop.done s stop.end stop.bytes
         (recursion-front HasActForms stop.done stop.rest all) stop.runs is in
@@ -85,7 +87,7 @@ module _ {S : Type 0} (g : Ghosts S) (at : Held S) (clean : HasCleanDisk (state 
         (λ c either. elim either [
           | inl same ↦ subst HasClosedZones (sym same) end.closed
           | inr after ↦ after-next stop.rest stop.end c (recursion-back HasActForms stop.done stop.rest all) end after
-        ]) stop.crash)
+        ]) (leaves _ stop.crash))
 
     broke : (acts : List Act) (a b : Option (List ℕ)) → AllByRecursion HasActForms acts
         → BrokeOff Prints kept s acts (Tables g at) (Leaves g at) a b → StaysClosed g at
@@ -99,8 +101,9 @@ module _ {S : Type 0} (g : Ghosts S) (at : Held S) (clean : HasCleanDisk (state 
 
     early : (acts : List Act) (a b : Option (List ℕ)) (e : JobError) → AllByRecursion HasActForms acts
         → EndsEarly g at s acts a b e → StaysClosed g at
-    early acts a b Memory forms ends = stopped acts a b forms ends
-    early acts a b (Store store.Fault) forms ends = stopped acts a b forms ends
+    early acts a b Memory forms ends = stopped (Leaves g at) (λ Among left. left) acts a b forms ends
+    early acts a b (Store store.Fault) forms ends = stopped (LeavesFaulted g at) (λ Among left. left.0) acts a b forms
+        ends
     early acts a b (Store store.OtherSchema) forms ends = absurd ends
     early acts a b (Store store.NoState) forms ends = absurd ends
     early acts a b (Store store.Memory) forms ends = absurd ends
@@ -116,11 +119,9 @@ module _ {S : Type 0} (g : Ghosts S) (at : Held S) (clean : HasCleanDisk (state 
     -- an act that was begun and had no effect
     halted : (a : Act) → HasActForms a → IsStopped g at s a → StaysClosed g at
     halted a form stop = stays s (λ open_now. ((stop.now open_now).now clean).1) is.closed
-        (leaves-more g at (λ c. (c ≡ kept s)
-        ⊎ ((m : State) × (text : List ℕ) × Prints s a m text × (c ≡ kept m))) HasClosedZones by stop.crash)
+        (leaves-more g at (IsAround s a) HasClosedZones by stop.crash)
       where
-        by : (c : Inventory) → (c ≡ kept s) ⊎ ((m : State) × (text : List ℕ) × Prints s a m text × (c ≡ kept m))
-            → HasClosedZones c
+        by : (c : Inventory) → IsAround s a c → HasClosedZones c
         by c (inl same) = subst HasClosedZones (sym same) is.closed
         by c (inr (m, text, prints, same)) =
             subst HasClosedZones (sym same) (printed_keeps s a m text form prints is).closed
@@ -131,7 +132,7 @@ module _ {S : Type 0} (g : Ghosts S) (at : Held S) (clean : HasCleanDisk (state 
         keeps-closed t keeps
         (printed_keeps s (Define d) t [] form (prints-none s t d answers) is).closed
     zone-ended d (Err (zone.Refused why)) form ended = keeps-closed s ended.1 is.closed
-    zone-ended d (Err (zone.Store store.Fault)) form ended = halted (Define d) form ended
+    zone-ended d (Err (zone.Store store.Fault)) form ended = halted (Define d) form ended.stopped
     zone-ended d (Err (zone.Store store.OtherSchema)) form ended = absurd ended
     zone-ended d (Err (zone.Store store.NoState)) form ended = absurd ended
     zone-ended d (Err (zone.Store store.Memory)) form ended = absurd ended

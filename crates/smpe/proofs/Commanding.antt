@@ -27,7 +27,7 @@ use Rattle.smpe.specs.declared.error.JobError.{JobError}
 use Rattle.smpe.specs.declared.error.JobError.TheVariants.{Write}
 use Rattle.smpe.specs.Ending.{EndsEarly}
 use Rattle.smpe.specs.Commands.{EndsCommands, job_error}
-use Rattle.smpe.proofs.Early.{stopped-first, broke-first, early-after, early-more}
+use Rattle.smpe.proofs.Early.{stopped-first, faulted-first, broke-first, early-after, early-more}
 use Rattle.smpe.proofs.Printing.{runs-printed}
 
 codes-append : (xs ys : List Outcome) → job_code (xs ++ ys) ≡ max (job_code xs) (job_code ys)
@@ -49,7 +49,7 @@ module _ {S : Type 0} (g : Ghosts S) (date : Text) (files : Files) where
       (e : StoreError)
       → HasPerformed g at s session date files c (Err e) → EndsEarly g at s (Perform date files c ∷ []) taken taken
       (job_error e)
-  unperformed at s session c taken store.Fault stays = stopped-first g at s (Perform date files c) [] taken stays
+  unperformed at s session c taken store.Fault faulted = faulted-first g at s (Perform date files c) [] taken faulted
   unperformed at s session c taken store.Memory stays = stopped-first g at s (Perform date files c) [] taken stays
   unperformed at s session c taken store.OtherSchema impossible = absurd impossible
   unperformed at s session c taken store.NoState impossible = absurd impossible

@@ -10,8 +10,9 @@ use Rattle.machine.specs.Runs.{Runs, Ran, Stopped, BrokeOff}
 use Rattle.machine.proofs.Joined.{stopped-after, stopped-more, broke-after, broke-more}
 use Rattle.store_schema.specs.declared.error.StoreError.TheVariants as store
 use Rattle.report.specs.Sent.{WrotePart}
-use Rattle.store.specs.Kept.{kept, Keeps, IsStopped}
-use Rattle.store.proofs.Keeping.{leaves-more}
+use Rattle.store.specs.Causes.{LeavesFaulted}
+use Rattle.store.specs.Kept.{kept, Keeps, IsStopped, IsFaulted}
+use Rattle.store.proofs.Keeping.{leaves-more, faulted-more}
 use Rattle.store.specs.View.{Tables, TablesIfOpen, Leaves}
 use Rattle.smpe.specs.declared.error.JobError.{JobError}
 use Rattle.smpe.specs.declared.error.JobError.TheVariants.{Memory, Store, Write}
@@ -30,6 +31,21 @@ module _ {S : Type 0} (g : Ghosts S) (at : Held S) (s : State) where
     runs = (refl, refl);
     now = stays.now;
     crash = stays.crash;
+    appends = Appends-nil taken;
+  }
+
+  -- for a fault
+  pub faulted-first : (a : Act) (more : List Act) (taken : Option (List ℕ)) → IsFaulted g at s a
+      → Stopped Prints kept s (a ∷ more) (TablesIfOpen g at) (LeavesFaulted g at) taken taken
+  faulted-first a more taken faulted = record {
+    done = [];
+    rest = a ∷ more;
+    acts_are = refl;
+    end = s;
+    bytes = [];
+    runs = (refl, refl);
+    now = faulted.stopped.now;
+    crash = (faulted.stopped.crash, faulted.cause);
     appends = Appends-nil taken;
   }
 
@@ -66,8 +82,8 @@ module _ {S : Type 0} (g : Ghosts S) (at : Held S) (s : State) where
     early-after Memory runs keeps appends back = stopped-after Prints kept s xs ys (Tables g before)
         (TablesIfOpen g at) (Leaves g before) (Leaves g at) a b c (run runs keeps appends) back
     early-after (Store store.Fault) runs keeps appends back =
-        stopped-after Prints kept s xs ys (Tables g before) (TablesIfOpen g at) (Leaves g before) (Leaves g at) a b c
-        (run runs keeps appends) back
+        stopped-after Prints kept s xs ys (Tables g before) (TablesIfOpen g at) (Leaves g before) (LeavesFaulted g at) a
+        b c (run runs keeps appends) back
     early-after (Store store.OtherSchema) runs keeps appends back = back
     early-after (Store store.NoState) runs keeps appends back = back
     early-after (Store store.Memory) runs keeps appends back = back
@@ -80,7 +96,7 @@ module _ {S : Type 0} (g : Ghosts S) (at : Held S) (s : State) where
   early-more xs ys a b Memory early = stopped-more Prints kept s xs ys (TablesIfOpen g at) (Leaves g at)
       (leaves-more g at) a b early
   early-more xs ys a b (Store store.Fault) early = stopped-more Prints kept s xs ys (TablesIfOpen g at)
-      (Leaves g at) (leaves-more g at) a b early
+      (LeavesFaulted g at) (faulted-more g at) a b early
   early-more xs ys a b (Store store.OtherSchema) early = early
   early-more xs ys a b (Store store.NoState) early = early
   early-more xs ys a b (Store store.Memory) early = early

@@ -33,7 +33,7 @@ use Rattle.smpe.specs.declared.error.JobError.{JobError}
 use Rattle.smpe.specs.declared.error.JobError.TheVariants.{Memory, Write}
 use Rattle.smpe.specs.Ending.{EndsEarly, EndsAmong, EndsJob}
 use Rattle.smpe.specs.Commands.{EndsCommands, job_error}
-use Rattle.smpe.proofs.Early.{stopped-first, early-after}
+use Rattle.smpe.proofs.Early.{stopped-first, faulted-first, early-after}
 
 -- the acts of the only job
 one-job : (job : Job) (acts : List Act) → HasActs job acts → AreFirstActs (job ∷ []) acts
@@ -124,7 +124,7 @@ module _ {S : Type 0} (g : Ghosts S) (at : Held S) (s : State) where
       where
         by_error : (e : StoreError) → HasBegun g at s (Err e)
             → EndsEarly g at s (Begin ∷ map (Perform date files) cs) taken taken (job_error e)
-        by_error store.Fault stays = stopped-first g at s Begin (map (Perform date files) cs) taken stays
+        by_error store.Fault faulted = faulted-first g at s Begin (map (Perform date files) cs) taken faulted
         by_error store.Memory stays = stopped-first g at s Begin (map (Perform date files) cs) taken stays
         by_error store.OtherSchema impossible = absurd impossible
         by_error store.NoState impossible = absurd impossible
@@ -196,17 +196,13 @@ module _ {S : Type 0} (g : Ghosts S) (at : Held S) (s : State) where
           Appends-nil taken,
         )
 
-    unbegun-definition : IsStopped g at s (Define d) → (acts : List Act) × AreFirstActs (NewZone d ∷ []) acts
-        × Stopped Prints kept s acts (TablesIfOpen g at) (Leaves g at) taken taken
-    unbegun-definition stays = (
-      Define d ∷ [],
-      one-job (NewZone d) (Define d ∷ []) refl,
-      stopped-first g at s (Define d) [] taken stays,
-    )
+    unbegun-definition : (e : JobError) → EndsEarly g at s (Define d ∷ []) taken taken e
+        → EndsAmong g at s (NewZone d ∷ []) taken taken e
+    unbegun-definition e early = (Define d ∷ [], one-job (NewZone d) (Define d ∷ []) refl, early)
 
     pub define-memory : (e : ZoneError) → e ≡ zone_error.Memory → Fails e
         → EndsAmong g at s (NewZone d ∷ []) taken taken Memory
-    define-memory e told fails = unbegun-definition (subst Fails told fails)
+    define-memory e told fails = unbegun-definition Memory (stopped-first g at s (Define d) [] taken (subst Fails told fails))
 
     pub define-fault : (fault : StoreError) (e : ZoneError) (result : JobError) → e ≡ zone_error.Store fault
         → result ≡ job_error fault → Fails e → EndsAmong g at s (NewZone d ∷ []) taken taken result
@@ -215,7 +211,8 @@ module _ {S : Type 0} (g : Ghosts S) (at : Held S) (s : State) where
       where
         by_fault : (fault : StoreError) → Fails (zone_error.Store fault)
             → EndsAmong g at s (NewZone d ∷ []) taken taken (job_error fault)
-        by_fault store.Fault stays = unbegun-definition stays
+        by_fault store.Fault faulted = unbegun-definition (job_error store.Fault)
+            (faulted-first g at s (Define d) [] taken faulted)
         by_fault store.Memory impossible = absurd impossible
         by_fault store.OtherSchema impossible = absurd impossible
         by_fault store.NoState impossible = absurd impossible

@@ -2,7 +2,8 @@
 //! The headline is `run_jobs`: the bytes handed to the sink, the answers, and what the tables stand for are the
 //! machine's, or after an error those of some first commands; and whatever a crash leaves has in it each command that
 //! was reported. Zones that were closed stay so, also after an error and a crash (`closed`). The program's lines and
-//! its exit status are `zone_line` and `fault_line`. No contract says when an error comes.
+//! its exit status are `zone_line` and `fault_line`. A fault of the database has a cause; no contract says when want of
+//! memory comes.
 #![tactic(auto)]
 
 mod error;

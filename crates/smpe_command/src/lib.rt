@@ -2,7 +2,7 @@
 //! `command` reads the words, then the files, opens the database and runs the one job, writes what there is to write,
 //! and answers the status. Its contract says all of this of any surroundings (`Host`): which bytes become which
 //! argument, which answer becomes which status, which stream takes which line, and which fault is told first. Nothing
-//! is said of `clap`'s texts, nor of when want of memory or a fault of the database comes.
+//! is said of `clap`'s texts, nor of when memory is wanting or a database that was opened is not made the store's.
 #![tactic(auto)]
 
 mod database;

@@ -1,6 +1,6 @@
 -- How loads and commits leave a store that keeps a state.
 use Rattle.std.proofs.Common.{◌≡◌, ◌⊎◌, ◌∙◌, ℕ, List, [], ◌∷◌, refl, sym, ap, subst, inl, inr}
-use Rattle.std.specs.Prelude.{IfErr, IsErrAnd, OnOk, OnErr, Result, Ok, Err}
+use Rattle.std.specs.Prelude.{IfErr, IsErrAnd, IsErrOf, OnOk, OnErr, Result, Ok, Err}
 use Rattle.std.proofs.lemmas.Result.{err_from_is_err_and}
 use Rattle.sqlite.specs.Store.{Ghosts}
 use Rattle.sqlite.specs.Tree.{Trees}
@@ -21,9 +21,10 @@ use Rattle.terms.specs.Types.{Text, Command}
 use Rattle.store.specs.declared.change.Change.{Change}
 use Rattle.store.specs.BadRows.{TellsNoState}
 use Rattle.store.specs.Changes.{Makes}
-use Rattle.store.specs.Kept.{kept, Keeps, IsStopped}
+use Rattle.store.specs.Causes.{HasCause}
+use Rattle.store.specs.Kept.{kept, Keeps, IsAround, IsStopped, IsFaulted}
 use Rattle.store.specs.Loads.{Loads}
-use Rattle.store.proofs.Keeping.{leaves-more}
+use Rattle.store.proofs.Keeping.{leaves-more, cause-more}
 use Rattle.store.specs.View.{Tables, TablesIfOpen, MayLeave, Leaves}
 use Rattle.smpe_session.specs.declared.session.Session.{Session}
 use Rattle.smpe_session.specs.declared.session.Performed.{Performed}
@@ -35,12 +36,18 @@ module _ {S : Type 0} (g : Ghosts S) (at : Held S) (s : State) where
   pub stays-unmoved : (a : Act) → Unmoved g at s → IsStopped g at s a
   stays-unmoved a un = record { now = un.now; crash = leaves-more g at _ _ (λ c is. inl is) un.crash }
 
+  faults-unmoved : (a : Act) → EndsUnmoved g at s Fault → IsFaulted g at s a
+  faults-unmoved a (un, cause) = record {
+    stopped = stays-unmoved a un;
+    cause = cause-more g at _ _ (λ c is. inl is) cause;
+  }
+
   pub unmoved-kept : Keeps g at s → Unmoved g at s
   unmoved-kept keeps = record { now = λ shown. keeps; crash = keeps.crash }
 
   -- errors at which nothing was committed
   begun-by : (e : StoreError) → EndsUnmoved g at s e → HasBegun g at s (Err e)
-  begun-by Fault un = stays-unmoved Begin un
+  begun-by Fault un = faults-unmoved Begin un
   begun-by OtherSchema un = un
   begun-by NoState un = un
   begun-by Memory un = stays-unmoved Begin un
@@ -52,7 +59,7 @@ module _ {S : Type 0} (g : Ghosts S) (at : Held S) (s : State) where
 
   module _ (session : Session) (date : Text) (files : Files) (c : Command) where
     performs-by : (e : StoreError) → EndsUnmoved g at s e → HasPerformed g at s session date files c (Err e)
-    performs-by Fault un = stays-unmoved (Perform date files c) un
+    performs-by Fault un = faults-unmoved (Perform date files c) un
     performs-by OtherSchema un = un
     performs-by NoState un = un
     performs-by Memory un = stays-unmoved (Perform date files c) un
@@ -101,19 +108,18 @@ module _ {S : Type 0} (g : Ghosts S) (at : Held S) (s : State) where
   -- where the commit of what a command leads to failed
   module _ (date : Text) (files : Files) (c : Command) (t : State) (outcome : machine.Outcome)
       (performs : Performs date files s c t outcome) where
+    around : (d : Inventory) → (d ≡ kept s) ⊎ (d ≡ kept t) → IsAround s (Perform date files c) d
+    around d (inl same) = inl same
+    around d (inr is) = inr (t, flat_map text (outcome ∷ []), (outcome ∷ [], (outcome, performs, refl), refl), is)
+
     stays-unsettled : Unsettled g at s t → IsStopped g at s (Perform date files c)
-    stays-unsettled un = record {
-      now = un.now;
-      crash = leaves-more g at _ _ among un.crash;
-    }
-      where
-        among : (d : Inventory) → (d ≡ kept s) ⊎ (d ≡ kept t) → (d ≡ kept s)
-            ⊎ ((m : State) × (printed : List ℕ) × Prints s (Perform date files c) m printed × (d ≡ kept m))
-        among d (inl same) = inl same
-        among d (inr is) = inr (t, flat_map text (outcome ∷ []), (outcome ∷ [], (outcome, performs, refl), refl), is)
+    stays-unsettled un = record { now = un.now; crash = leaves-more g at _ _ around un.crash }
 
     pub staying-unsettled : (e : StoreError) → EndsUnsettled g at s t e → EndsStaying g at s (Perform date files c) e
-    staying-unsettled Fault un = stays-unsettled un
+    staying-unsettled Fault (un, cause) = record {
+      stopped = stays-unsettled un;
+      cause = cause-more g at _ _ around cause;
+    }
     staying-unsettled OtherSchema un = un
     staying-unsettled NoState un = un
     staying-unsettled Memory un = stays-unsettled un
@@ -171,7 +177,10 @@ module _ {S : Type 0} (g : Ghosts S) (old new : Held S) (s : State) where
           crash = λ db left. keeps.crash db (loads.crash (kept s) keeps.now db left);
         },
       )
-      by (Err Fault) loads = unmoved _ loads (loads.err (kept s) keeps.now)
+      by (Err Fault) loads = (
+        unmoved _ loads (loads.err (kept s) keeps.now),
+        loads.cause clean refl (kept s) keeps.now,
+      )
       by (Err OtherSchema) loads = loads.which refl
       by (Err NoState) loads = (loads.none clean refl).none (kept s) (keeps.now (loads.clean clean)).1
       by (Err Memory) loads = unmoved _ loads (loads.err (kept s) keeps.now)
@@ -200,12 +209,19 @@ module _ {S : Type 0} (g : Ghosts S) (old new : Held S) (s : State) where
         → OnErr result ((i : Inventory) → Tables g old i → TablesIfOpen g new i)
         → CommitsOnce
         → IfErr result (λ e. (e ≡ Fault) ⊎ (e ≡ Memory))
+        → (IsErrOf result Fault → HasCause g new (λ c. (c ≡ kept s) ⊎ (c ≡ kept t)))
         → EndsCommitted g new s t result
-    committed (Ok x) ok durable err lost which = record {
+    committed (Ok x) ok durable err lost which cause = record {
       now = ok (kept s) (kept t) makes is keeps.now;
       crash = durable (kept s) (kept t) makes is keeps.now;
     }
-    committed (Err Fault) ok durable err lost which = unsettled lost (err (kept s) keeps.now)
-    committed (Err OtherSchema) ok durable err lost which = elim which [ inl e ↦ absurd (cc e) | inr e ↦ absurd (cc e) ]
-    committed (Err NoState) ok durable err lost which = elim which [ inl e ↦ absurd (cc e) | inr e ↦ absurd (cc e) ]
-    committed (Err Memory) ok durable err lost which = unsettled lost (err (kept s) keeps.now)
+    committed (Err Fault) ok durable err lost which cause = (unsettled lost (err (kept s) keeps.now), cause refl)
+    committed (Err OtherSchema) ok durable err lost which cause = elim which [
+      | inl e ↦ absurd (cc e)
+      | inr e ↦ absurd (cc e)
+    ]
+    committed (Err NoState) ok durable err lost which cause = elim which [
+      | inl e ↦ absurd (cc e)
+      | inr e ↦ absurd (cc e)
+    ]
+    committed (Err Memory) ok durable err lost which cause = unsettled lost (err (kept s) keeps.now)

@@ -95,7 +95,7 @@ pub(crate) fn replace_zone<S: Alter>(
 ) -> Result<(), StoreError>
     ensures clean { HasCleanDisk (state S.Store store.new) → HasCleanDisk (state S.Store store.old) }
     ensures none { TellsNoState S.Store store.old store.new result }
-    ensures ended { (s t : State) (was : AZone) → Keeps S.Store store.old s
+    ensures ended { HasCleanDisk (state S.Store store.new) → (s t : State) (was : AZone) → Keeps S.Store store.old s
         → IsZoneChange name was zone (kept s) (kept t) → IsChanged delta was zone
         → IsInventory (kept t) → IsSome (get bytes_eq zones.old name) → EndsCommitted S.Store store.new s t result }
     ensures updates { OnOk result (Updates bytes_eq zones.old zones.new name (Some zone)) }

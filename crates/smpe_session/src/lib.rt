@@ -2,8 +2,8 @@
 //! `begin` makes it of the tables. `perform` leads to the machine's state with the machine's outcome, and the tables
 //! stand for that state, also after a crash; the outcome of a LIST is `list`'s, which copies nothing. After want of
 //! memory or a fault of the store they stand for the state before, and a crash leaves that one or the one that the
-//! command leads to. No contract says when these come. Over tables that stand for no state, a call that answers
-//! `NoState` has changed nothing; what was committed before it stays.
+//! command leads to. A fault has a cause; no contract says when want of memory comes. Over tables that stand for no
+//! state, a call that answers `NoState` has changed nothing; what was committed before it stays.
 #![tactic(auto)]
 
 mod boundary;

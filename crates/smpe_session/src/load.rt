@@ -70,9 +70,8 @@ pub(crate) fn commit_change<S: Alter>(
 ) -> Result<(), StoreError>
     ensures clean { HasCleanDisk (state S.Store store.new) → HasCleanDisk (state S.Store store.old) }
     ensures none { TellsNoState S.Store store.old store.new result }
-    ensures ended { (s t : State) → Keeps S.Store store.old s → Makes change.now (kept s) (kept t)
-        → IsInventory (kept t)
-        → EndsCommitted S.Store store.new s t result }
+    ensures ended { HasCleanDisk (state S.Store store.new) → (s t : State) → Keeps S.Store store.old s
+        → Makes change.now (kept s) (kept t) → IsInventory (kept t) → EndsCommitted S.Store store.new s t result }
 {
     store.commit(change)
 }

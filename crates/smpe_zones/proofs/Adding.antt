@@ -1,12 +1,12 @@
 -- A zone that is defined is added.
-use Rattle.std.proofs.Common.{◌≡◌, [], Ok, refl, sym, ap}
+use Rattle.std.proofs.Common.{◌≡◌, ◌⊎◌, [], Ok, refl, sym, ap, inl, inr}
 use Rattle.terms.specs.Forms.{IsZoneName, IsSrel}
 use Rattle.machine.specs.State.{State, ZoneDefinition, define_zone}
 use Rattle.machine.specs.Machine.{Define, state_after, Prints}
-use Rattle.store_schema.specs.Inventory.{IsInventory}
+use Rattle.store_schema.specs.Inventory.{Inventory, IsInventory}
 use Rattle.store.specs.declared.change.Change.TheVariants.{NewZone}
 use Rattle.store.specs.Changes.{Makes}
-use Rattle.store.specs.Kept.{kept}
+use Rattle.store.specs.Kept.{kept, IsAround}
 use Rattle.smpe_upkeep.proofs.Defined.{definition_kept, placed}
 
 module _ (s t : State) (d : ZoneDefinition) (is : define_zone s d ≡ Ok t) (inventory : IsInventory (kept s)) where
@@ -20,3 +20,9 @@ module _ (s t : State) (d : ZoneDefinition) (is : define_zone s d ≡ Ok t) (inv
 
 pub prints-none : (s t : State) (d : ZoneDefinition) → define_zone s d ≡ Ok t → Prints s (Define d) t []
 prints-none s t d is = ([], (sym (ap (state_after s) is), refl), refl)
+
+-- the state without the zone, or the one with it
+pub around-defined : (s t : State) (d : ZoneDefinition) → define_zone s d ≡ Ok t → (c : Inventory)
+    → (c ≡ kept s) ⊎ (c ≡ kept t) → IsAround s (Define d) c
+around-defined s t d is c (inl same) = inl same
+around-defined s t d is c (inr same) = inr (t, [], prints-none s t d is, same)

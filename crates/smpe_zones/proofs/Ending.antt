@@ -7,7 +7,8 @@ use Rattle.machine.specs.State.{State, ZoneDefinition}
 use Rattle.machine.specs.Machine.{Define}
 use Rattle.store_schema.specs.declared.error.StoreError.{StoreError}
 use Rattle.store_schema.specs.declared.error.StoreError.TheVariants.{Fault, OtherSchema, NoState, Memory}
-use Rattle.store.specs.Kept.{IsStopped}
+use Rattle.store.specs.Causes.{HasCause}
+use Rattle.store.specs.Kept.{IsAround, IsStopped}
 use Rattle.smpe_zones.specs.declared.error.ZoneError.{ZoneError}
 use Rattle.smpe_zones.specs.declared.error.ZoneError.TheVariants.{Store}
 use Rattle.smpe_zones.specs.Definitions.{HasDefined, zone_error}
@@ -15,11 +16,13 @@ use Rattle.smpe_zones.specs.Definitions.{HasDefined, zone_error}
 -- a fault of the store, or want of memory
 pub ends-early : {S U : Type 0} (g : Ghosts S) (at : Held S) (s : State) (d : ZoneDefinition) (e : StoreError)
     (r : Result U ZoneError) → r ≡ Err (zone_error e)
-    → (e ≡ Fault) ⊎ (e ≡ Memory) → IsStopped g at s (Define d) → HasDefined g at s d r
-ends-early {S = S} {U = U} g at s d e r is which stays = subst (HasDefined g at s d) (sym is) (by which)
+    → (e ≡ Fault) ⊎ (e ≡ Memory) → IsStopped g at s (Define d)
+    → (e ≡ Fault → HasCause g at (IsAround s (Define d))) → HasDefined g at s d r
+ends-early {S = S} {U = U} g at s d e r is which stays cause = subst (HasDefined g at s d) (sym is) (by which)
   where
     by : (e ≡ Fault) ⊎ (e ≡ Memory) → HasDefined {S = S} g at s d {U = U} (Err (zone_error e))
-    by (inl fault) = subst (λ x. HasDefined {S = S} g at s d {U = U} (Err (zone_error x))) (sym fault) stays
+    by (inl fault) = subst (λ x. HasDefined {S = S} g at s d {U = U} (Err (zone_error x))) (sym fault)
+        (record { stopped = stays; cause = cause fault })
     by (inr memory) = subst (λ x. HasDefined {S = S} g at s d {U = U} (Err (zone_error x))) (sym memory) stays
 
 -- of the store's errors NoState alone is told so

@@ -11,6 +11,7 @@ use Rattle.store_schema.specs.Stands.{StandsFor}
 use Rattle.store_schema.specs.Tables.{store_schema}
 use Rattle.store_schema.specs.declared.error.StoreError.{StoreError}
 use Rattle.store_schema.specs.declared.error.StoreError.TheVariants.{Fault, OtherSchema, NoState, Memory}
+use Rattle.store.specs.Causes.{HasCause, LeavesFaulted}
 use Rattle.store.specs.Kept.{kept, Keeps, IsStopped}
 use Rattle.store.specs.View.{Tables, TablesIfOpen, MayLeave, Leaves}
 
@@ -23,6 +24,26 @@ inventory-kept g at s keeps clean = (keeps.now clean).1.inventory
 pub leaves-more : {S : Type 0} (g : Ghosts S) (at : Held S) (P Q : Inventory → Type 0) → ((c : Inventory) → P c → Q c)
     → Leaves g at P → Leaves g at Q
 leaves-more g at P Q more leaves db left = let it = leaves db left in (it.0, more it.0 it.1, it.2)
+
+-- and so a cause
+pub cause-more : {S : Type 0} (g : Ghosts S) (at : Held S) (P Q : Inventory → Type 0) → ((c : Inventory) → P c → Q c)
+    → HasCause g at P → HasCause g at Q
+cause-more g at P Q more cause = record {
+  before = cause.before;
+  limit = cause.limit;
+  is_open = cause.is_open;
+  inventory = cause.inventory;
+  is_among = more cause.inventory cause.is_among;
+  stands = cause.stands;
+  why = elim cause.why [
+    | inl fails ↦ inl fails
+    | inr (change, next, among, makes, fails) ↦ inr (change, next, more next among, makes, fails)
+  ];
+}
+
+pub faulted-more : {S : Type 0} (g : Ghosts S) (at : Held S) (P Q : Inventory → Type 0)
+    → ((c : Inventory) → P c → Q c) → LeavesFaulted g at P → LeavesFaulted g at Q
+faulted-more g at P Q more faulted = (leaves-more g at P Q more faulted.0, cause-more g at P Q more faulted.1)
 
 module _ {S : Type 0} (g : Ghosts S) (old new : Held S) (s : State) (keeps : Keeps g old s) where
   -- what was loaded

@@ -1,5 +1,5 @@
 -- A load, from what its queries read.
-use Rattle.std.proofs.Common.{◌≡◌, ◌≢◌, Result, Ok, Err, IfOk, OnOk, IsTrue, arith, refl, sym, subst, inl, inr}
+use Rattle.std.proofs.Common.{◌≡◌, ◌≢◌, Result, Ok, Err, IfOk, OnOk, arith, refl, sym, subst, inl, inr}
 use Rattle.std.specs.Prelude.{IsErrOf, IfErr, OnErr}
 use Rattle.sqlite.specs.Store.{Ghosts}
 use Rattle.sqlite.specs.Tree.{Trees}
@@ -16,7 +16,7 @@ use Rattle.store_schema.specs.Tables.{store_schema}
 use Rattle.store.specs.BadRows.{FoundNoState}
 use Rattle.store.specs.Loads.{Loads, told}
 use Rattle.store.specs.View.{Tables, TablesIfOpen, MayLeave}
-use Rattle.store.proofs.ViewLemmas.{Settled, still_open}
+use Rattle.store.proofs.ViewLemmas.{Settled, IsOutside, still_open}
 
 -- what the queries of a load say
 abbrev pub HasFound : {S X : Type 0} → Ghosts S → (Inventory → X → Type 0) → Held S → Held S → Result X ReadError
@@ -27,10 +27,6 @@ HasFound g Found old new r =
 abbrev pub HasFoundNone : {S X : Type 0} → Ghosts S → Held S → Held S → Result X ReadError → Type 0
 HasFoundNone g old new r =
     HasCleanDisk (state g new) → IsErrOf r read.BadRow → (i : Inventory) → ¬ StandsFor i (state g old).now
-
--- so what the connection shows is what it last committed
-abbrev pub IsOutside : {S : Type 0} → Ghosts S → Held S → Type 0
-IsOutside g at = IsTrue (state g at).is_open → (state g at).now ≡ (state g at).committed
 
 module _ {S X : Type 0} (g : Ghosts S) (Found : Inventory → X → Type 0) (old new : Held S)
     (outside : IsOutside g old) (settled : Settled g new) where
@@ -118,6 +114,18 @@ module _ {S X : Type 0} (g : Ghosts S) (Found : Inventory → X → Type 0) (old
       crash = reads.crash;
       mode = reads.mode;
     };
+    cause = λ clean failed i tables.
+        let was = tables (was-clean r reads clean) in
+        let stands = subst (StandsFor i) (sym (outside was.0)) was.1 in
+        record {
+          before = old;
+          limit = sym reads.crash.limit;
+          is_open = was.0;
+          inventory = i;
+          is_among = refl;
+          stands = stands;
+          why = inl (reads.cause clean (told-fault r failed) stands.tables.schema_is);
+        };
     same = told-ok r _ (stays r reads);
     err = told-err r _ (failed r reads);
     which = told-which r;

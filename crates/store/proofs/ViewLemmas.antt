@@ -12,6 +12,8 @@ use Rattle.store_schema.specs.Stands.{StandsFor, IsStateOf, IsSetUp}
 use Rattle.store_schema.specs.Tables.{store_schema}
 use Rattle.store_schema.proofs.OneState.{one_state}
 use Rattle.store.specs.declared.change.Change.{Change}
+use Rattle.store.specs.Calls.{FailsToWrite}
+use Rattle.store.specs.Causes.{HasCause}
 use Rattle.store.specs.Changes.{Makes}
 use Rattle.store.specs.View.{Tables, TablesIfOpen, IsFound, MayLeave, Leaves, LeavesFound}
 use Rattle.store.specs.Writes.{CommitsChange, IsChangeOutcome}
@@ -26,6 +28,10 @@ own_schema i schema db stands =
 abbrev pub Settled : {S : Type 0} → Ghosts S → Held S → Type 0
 Settled g at =
     (db : Trees) → IsTrue (state g at).is_open → (state g at).may_leave db → db ≡ (state g at).committed.trees
+
+-- what the connection shows is what it last committed
+abbrev pub IsOutside : {S : Type 0} → Ghosts S → Held S → Type 0
+IsOutside g at = IsTrue (state g at).is_open → (state g at).now ≡ (state g at).committed
 
 module _ {S : Type 0} (g : Ghosts S) (at : Held S) (settled : Settled g at) (i : Inventory) where
   -- A crash of an open connection leaves what was last committed.
@@ -63,6 +69,21 @@ module _ {S : Type 0} (g : Ghosts S) (conn old new : Held S) (change : Change) (
         | inl before ↦ inl (clean, before)
         | inr done ↦ inr (own_schema j done.0 db (done.1 i j makes inventory was.0 was.1))
       ]
+
+  -- the cause of a fault, among both
+  pub faulted_among : IsOutside g conn → HasCleanDisk (state g new) → FailsToWrite g change old new
+      → (i j : Inventory) → Makes change i j → Tables g old i → HasCause g new (λ c. (c ≡ i) ⊎ (c ≡ j))
+  faulted_among outside clean fails i j makes tables =
+      let was = tables (omega (arith, from_old.clean, clean)) in
+      record {
+        before = old;
+        limit = sym from_old.limit;
+        is_open = was.0;
+        inventory = i;
+        is_among = inl refl;
+        stands = subst (StandsFor i) (sym (subst (IsOutside g) same outside was.0)) was.1;
+        why = inr (change, j, inr refl, makes, fails);
+      }
 
   -- and once it has returned, the changed inventory alone
   pub leaves_changed : Settled g new → (HasCleanDisk (state g new) → CommitsChange g conn change new)

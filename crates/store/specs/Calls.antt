@@ -1,5 +1,5 @@
 -- The statements that write a change, and why its commit fails.
-use Rattle.std.specs.Prelude.{◌≡◌, ◌⊎◌, true, List, ◌++◌}
+use Rattle.std.specs.Prelude.{◌⊎◌, true, List, ◌++◌}
 use Rattle.std.specs.List.{flat_map}
 use Rattle.sqlite.specs.Store.{Ghosts}
 use Rattle.sqlite.specs.declared.error.Error.{Error}

@@ -6,10 +6,15 @@ use Rattle.store_schema.specs.Inventory.{Inventory}
 use Rattle.machine.specs.State.{State}
 use Rattle.machine.specs.Machine.{Act, Prints}
 use Rattle.machine.specs.Runs.{Stands}
+use Rattle.store.specs.Causes.{HasCause}
 use Rattle.store.specs.View.{Tables, TablesIfOpen, Leaves}
 
 abbrev pub kept : State → Inventory
 kept s = record { global = s.global; zones = s.zones }
+
+-- what is kept of the state, or of one to which the act leads
+abbrev pub IsAround : State → Act → Inventory → Type 0
+IsAround s a c = (c ≡ kept s) ⊎ ((m : State) × (text : List ℕ) × Prints s a m text × (c ≡ kept m))
 
 module _ {S : Type 0} (g : Ghosts S) (at : Held S) where
   -- The tables stand for the state, and a crash leaves it.
@@ -20,5 +25,9 @@ module _ {S : Type 0} (g : Ghosts S) (at : Held S) where
   -- has not, the store keeps the state.
   pub record IsStopped (s : State) (a : Act) : Type 0 where
     pub now : TablesIfOpen g at (kept s)
-    pub crash : Leaves g at (λ c. (c ≡ kept s)
-        ⊎ ((m : State) × (text : List ℕ) × Prints s a m text × (c ≡ kept m)))
+    pub crash : Leaves g at (IsAround s a)
+
+  -- So an act ends that meets a fault, and there is a cause for it.
+  pub record IsFaulted (s : State) (a : Act) : Type 0 where
+    pub stopped : IsStopped s a
+    pub cause : HasCause g at (IsAround s a)

@@ -1,5 +1,6 @@
 pub mod BadRows
 pub mod Calls
+pub mod Causes
 pub mod Changes
 pub mod Kept
 pub mod Loads

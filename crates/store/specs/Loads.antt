@@ -1,5 +1,5 @@
 -- How loads end.
-use Rattle.std.specs.Prelude.{◌≢◌, Result, Ok, Err, IfOk, IfErr, OnOk, OnErr}
+use Rattle.std.specs.Prelude.{◌≡◌, ◌≢◌, Result, Ok, Err, IfOk, IfErr, IsErrOf, OnOk, OnErr}
 use Rattle.sqlite.specs.Store.{Ghosts}
 use Rattle.sqlite.specs.Tree.{Trees}
 use Rattle.sqlite.specs.Held.{Held, state}
@@ -12,6 +12,7 @@ use Rattle.store_schema.specs.declared.error.StoreError.TheVariants.{Fault, Othe
 use Rattle.store_schema.specs.Inventory.{Inventory}
 use Rattle.store_schema.specs.Tables.{store_schema}
 use Rattle.store.specs.BadRows.{TellsNoState}
+use Rattle.store.specs.Causes.{HasCause}
 use Rattle.store.specs.View.{Tables, TablesIfOpen, MayLeave}
 
 -- rows that stand for nothing stand for no state
@@ -32,6 +33,8 @@ pub record Loads {S X : Type 0} (g : Ghosts S) (old new : Held S) (Found : Inven
   pub found : HasCleanDisk (state g new) → (i : Inventory) → Tables g old i → IfOk result (Found i)
   pub none : TellsNoState g old new result
   pub reads : OnlyReads g store_schema NoState Fault old new result
+  pub cause : HasCleanDisk (state g new) → IsErrOf result Fault → (i : Inventory) → Tables g old i
+      → HasCause g new (λ c. c ≡ i)
   pub same : OnOk result ((i : Inventory) → Tables g old i → Tables g new i)
   pub err : OnErr result ((i : Inventory) → Tables g old i → TablesIfOpen g new i)
   pub which : IfErr result (λ e. e ≢ OtherSchema)

@@ -10,6 +10,7 @@ ghost use Rattle.store_schema.specs.Known.{HasOtherNumber, HasNoState, HasOwnTab
 ghost use Rattle.store_schema.specs.Stands.{StandsFor, IsSetUp};
 ghost use Rattle.store_schema.specs.Tables.{store_schema};
 ghost use Rattle.store.specs.Calls.{FailsToWrite};
+ghost use Rattle.store.specs.Causes.{HasCause};
 ghost use Rattle.store.specs.Changes.{Makes};
 ghost use Rattle.store.specs.View.{Tables, TablesIfOpen, IsFound, MayLeave, Leaves, LeavesFound};
 
@@ -94,8 +95,13 @@ impl<S: Alter> Store<S> {
         ensures which { IfErr result (λ e. (e ≡ StoreError.Fault) ⊎ (e ≡ StoreError.Memory)) }
         ensures cause { HasCleanDisk (state S.Store self.new) → IsErrOf result StoreError.Fault
             → FailsToWrite S.Store change.now self.old self.new }
+        ensures among { HasCleanDisk (state S.Store self.new) → IsErrOf result StoreError.Fault
+            → (i j : Inventory) → Makes change.now i j → Tables S.Store self.old i
+            → HasCause S.Store self.new (λ c. (c ≡ i) ⊎ (c ≡ j)) }
         ensures clean { HasCleanDisk (state S.Store self.new) → HasCleanDisk (state S.Store self.old) }
     {
+        // So what the connection shows is what it last committed.
+        prove!(self.conn.is_autocommit());
         commit_change(self.alloc, &mut self.conn, change)?;
         Ok(())
     }

@@ -101,6 +101,7 @@ module _ {S : Type 0} (g : Ghosts S) where
         after = [];
         are = refl;
         at = old;
+        limit = refl;
         ran = refl;
         refused = h;
         left = left;
@@ -132,14 +133,15 @@ module _ {S : Type 0} (g : Ghosts S) where
   ran_then [] ys a b c same two = subst (λ h. Ran g ys h c) same two
   ran_then (x ∷ xs) ys a b c one two = (one.0, one.1, one.2, ran_then xs ys one.0 b c one.3 two)
 
-  refused_then : (xs ys : List Call) (a b c : Held S) (e : Error) → Ran g xs a b → Refused g ys b c e
-      → Refused g (xs ++ ys) a c e
-  refused_then xs ys a b c e one two = record {
+  refused_then : (xs ys : List Call) (a b c : Held S) (e : Error) → Ran g xs a b
+      → (state g b).step_limit ≡ (state g a).step_limit → Refused g ys b c e → Refused g (xs ++ ys) a c e
+  refused_then xs ys a b c e one limit two = record {
     before = xs ++ two.before;
     call = two.call;
     after = two.after;
     are = ap (λ l. xs ++ l) two.are ∙ sym (append_assoc xs two.before (two.call ∷ two.after));
     at = two.at;
+    limit = two.limit ∙ limit;
     ran = ran_then xs two.before a b two.at one two.ran;
     refused = two.refused;
     left = two.left;
@@ -152,6 +154,7 @@ module _ {S : Type 0} (g : Ghosts S) where
     after = h.after ++ ys;
     are = ap (λ l. l ++ ys) h.are ∙ append_assoc h.before (h.call ∷ h.after) ys;
     at = h.at;
+    limit = h.limit;
     ran = h.ran;
     refused = h.refused;
     left = h.left;
@@ -171,7 +174,7 @@ module _ {S : Type 0} (g : Ghosts S) where
         | inl short ↦ inl short
         | inr (inl failed) ↦ inr (inl (failed_then (state g a) (state g b) (state g c) one.survives two.survives clean
             failed))
-        | inr (inr refused) ↦ inr (inr (refused_then xs ys a b c e it.0 refused))
+        | inr (inr refused) ↦ inr (inr (refused_then xs ys a b c e it.0 one.survives.limit refused))
       ]
   runs_then xs ys a b c (Err w) x r one two is first more clean inside = absurd cc
 

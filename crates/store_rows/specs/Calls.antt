@@ -20,13 +20,15 @@ module _ {S : Type 0} (g : Ghosts S) where
   Ran (call ∷ more) old new =
       (mid : Held S) × (count : ℕ) × Executes call.0 call.1 (state g old) (state g mid) (Ok count) × Ran more mid new
 
-  -- Those before one of them ran, and the database refused that one, or has no room for its row.
+  -- Those before one of them ran, under the same limit on steps, and the database refused that one, or has no room for
+  -- its row.
   pub record Refused (calls : List Call) (old new : Held S) (error : Error) : Type 0 where
     pub before : List Call
     pub call : Call
     pub after : List Call
     pub are : calls ≡ before ++ call ∷ after
     pub at : Held S
+    pub limit : (state g at).step_limit ≡ (state g old).step_limit
     pub ran : Ran before old at
     pub refused : ExecutesInside 0 call.0 call.1 (state g at) (state g new) (Err error)
     pub left : IsUnchanged (state g at) (state g new) ⊎ (error ≡ SqliteFailure TooBig)

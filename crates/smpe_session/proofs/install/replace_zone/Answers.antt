@@ -4,14 +4,14 @@ use Rattle.smpe_session.proofs.Stepping.{committed-err}
 use Rattle.smpe_session.proofs.install.replace_zone.Goals as goal
 
 pub returns-in_err-commit_change-clause-ended : goal.returns-in_err-commit_change-clause-ended
-returns-in_err-commit_change-clause-ended g c = λ s t was keeps change changed is some.
+returns-in_err-commit_change-clause-ended g c = λ clean s t was keeps change changed is some.
     committed-err g.S.Store c.commit_change.new.store s t c.from_residual.result c.in_err-commit_change.field-0.0
     c.from_residual.ensures.1
-    (c.in_err-commit_change.ensures.ended s t keeps (was, c.args.zone, change, changed) is)
+    (c.in_err-commit_change.ensures.ended clean s t keeps (was, c.args.zone, change, changed) is)
 
 pub returns-clause-ended : goal.returns-clause-ended
-returns-clause-ended g c = λ s t was keeps change changed is some.
-    c.in_ok-commit_change.ensures.ended s t keeps (was, c.args.zone, change, changed) is
+returns-clause-ended g c = λ clean s t was keeps change changed is some.
+    c.in_ok-commit_change.ensures.ended clean s t keeps (was, c.args.zone, change, changed) is
 
 pub returns-in_err-commit_change-clause-none : goal.returns-in_err-commit_change-clause-none
 returns-in_err-commit_change-clause-none g c =

@@ -41,7 +41,7 @@ returns-in_err-commit_change-clause-ended g c = λ clean s global keeps date fil
     (staying-unsettled g.S.Store c.commit_change.new.store s date files (Receive what) t
     (Ran (header_of (Receive what) s.boundary) (map line_view c.in_ok-lines.lines.items)) taken.leads.performs
     c.in_err-commit_change.field-0.0
-    (c.in_err-commit_change.ensures.ended s t keeps (taken.fits, taken.makes) taken.inventory))
+    (c.in_err-commit_change.ensures.ended clean s t keeps (taken.fits, taken.makes) taken.inventory))
 
 pub returns-clause-ended : goal.returns-clause-ended
 returns-clause-ended g c = λ clean s global keeps date files what at sources reads reads_holds.
@@ -53,7 +53,7 @@ returns-clause-ended g c = λ clean s global keeps date files what at sources re
     global is at sources c.take_found.ensures.form reads reads_holds c.in_ok-edits.ensures.taken
     c.in_ok-lines.ensures in
     let t = record s { global = c.take_found.new.global } in
-    (t, taken.leads, c.in_ok-commit_change.ensures.ended s t keeps (taken.fits, taken.makes) taken.inventory)
+    (t, taken.leads, c.in_ok-commit_change.ensures.ended clean s t keeps (taken.fits, taken.makes) taken.inventory)
 
 pub returns-in_err-edits-clause-none : goal.returns-in_err-edits-clause-none
 returns-in_err-edits-clause-none g c =

@@ -30,7 +30,7 @@ returns-in_err-commit_change-clause-ended g c = λ clean s global alike keeps da
     (staying-unsettled g.S.Store c.commit_change.new.store s date files (Reject ids) t
     (Ran (header_of (Reject ids) s.boundary) (map line_view c.in_ok-edits.field-0.lines.items)) taken.leads.performs
     c.in_err-commit_change.field-0.0
-    (c.in_err-commit_change.ensures.ended s t keeps (taken.fits, taken.makes) taken.inventory))
+    (c.in_err-commit_change.ensures.ended clean s t keeps (taken.fits, taken.makes) taken.inventory))
 
 pub returns-clause-ended : goal.returns-clause-ended
 returns-clause-ended g c = λ clean s global alike keeps date files at.
@@ -40,7 +40,7 @@ returns-clause-ended g c = λ clean s global alike keeps date files at.
     (map line_view c.in_ok-edits.field-0.lines.items)
     global is at (c.in_ok-edits.ensures.runs s.zones alike) c.in_ok-edits.ensures.fits c.in_ok-edits.ensures.edits in
     let t = record s { global = c.reject.new.global } in
-    (t, taken.leads, c.in_ok-commit_change.ensures.ended s t keeps (taken.fits, taken.makes) taken.inventory)
+    (t, taken.leads, c.in_ok-commit_change.ensures.ended clean s t keeps (taken.fits, taken.makes) taken.inventory)
 
 pub returns-in_err-edits-clause-none : goal.returns-in_err-edits-clause-none
 returns-in_err-edits-clause-none g c =

@@ -5,10 +5,10 @@ use Rattle.machine.specs.State.{with_zone}
 use Rattle.machine.specs.Machine.{Define}
 use Rattle.store.specs.Kept.{kept}
 use Rattle.store.proofs.Keeping.{keeps-loaded, stays-loaded, keeps-committed, stays-uncommitted, load-errors}
-use Rattle.store.proofs.Keeping.{inventory-kept}
+use Rattle.store.proofs.Keeping.{inventory-kept, cause-more}
 use Rattle.smpe_zones.specs.Definitions.{definition}
 use Rattle.smpe_zones.specs.Heads.{first_fault}
-use Rattle.smpe_zones.proofs.Adding.{makes, leads, prints-none}
+use Rattle.smpe_zones.proofs.Adding.{makes, leads, prints-none, around-defined}
 use Rattle.smpe_zones.proofs.Ending.{ends-early, no-state}
 use Rattle.smpe_zones.proofs.Found.{refuses, accepts}
 use Rattle.smpe_zones.proofs.define.define_zone.Goals as goal
@@ -25,6 +25,8 @@ returns-in_err-heads-clause-ended g c = λ clean s keeps.
     (keeps.now (at.clean clean)).1))
     (stays-loaded g.S.Store c.args.store.now c.zone_heads.new.self s keeps (Define d) (at.err (kept s))
     (at.crash (kept s) keeps.now))
+    (λ failed. cause-more g.S.Store c.zone_heads.new.self _ _ (λ c is. inl is)
+    (at.cause clean (ap (λ x. Err x) failed) (kept s) keeps.now))
 
 -- the definition is refused
 pub returns-in-Some-clause-ended : goal.returns-in-Some-clause-ended
@@ -59,6 +61,8 @@ returns-in_err-commit-clause-ended g c = λ clean s keeps.
     c.in_err-commit.ensures.which
     (stays-uncommitted g.S.Store before c.commit.new.self s was t (Define d) [] (prints-none s t d answers)
     (c.in_err-commit.ensures.err (kept s)) (c.commit.ensures.crash (kept s) (kept t) is_made is_led))
+    (λ failed. cause-more g.S.Store c.commit.new.self _ _ (around-defined s t d answers)
+    (c.in_err-commit.ensures.among clean (ap (λ x. Err x) failed) (kept s) (kept t) is_made was.now))
 
 -- the zone is added
 pub returns-clause-ended : goal.returns-clause-ended

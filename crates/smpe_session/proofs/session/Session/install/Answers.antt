@@ -79,7 +79,7 @@ returns-in_err-replace_zone-in-Ok-clause-ended g c = λ clean s is keeps files.
     (staying-unsettled g.S.Store c.replace_zone.new.store s c.args.date files command t _ performs
     c.in_err-replace_zone-in-Ok.field-0.0
     (install-commits c.args.date kind i s at name zone p.delta p.zone lines ready inventory
-    (λ was. c.in_err-replace_zone-in-Ok.ensures.ended s t was sought.1)))
+    (λ was. c.in_err-replace_zone-in-Ok.ensures.ended clean s t was sought.1)))
 
 pub returns-in_ok-replace_zone-in-Ok-clause-ended : goal.returns-in_ok-replace_zone-in-Ok-clause-ended
 returns-in_ok-replace_zone-in-Ok-clause-ended g c = λ clean s is keeps files.
@@ -107,7 +107,7 @@ returns-in_ok-replace_zone-in-Ok-clause-ended g c = λ clean s is keeps files.
       install-session s name zone p.zone inventory place.is_there at _ sought.0.session refl refl
           c.in_ok-replace_zone-in-Ok.ensures.updates,
       install-commits c.args.date kind i s at name zone p.delta p.zone lines ready inventory
-          (λ was. c.in_ok-replace_zone-in-Ok.ensures.ended s t was sought.1),
+          (λ was. c.in_ok-replace_zone-in-Ok.ensures.ended clean s t was sought.1),
     )
 
 pub returns-in-Err-clause-ended : goal.returns-in-Err-clause-ended

@@ -74,7 +74,7 @@ returns-in_err-replace_zone-in-Ok-clause-ended g c = λ clean s is keeps date fi
     c.in_err-replace_zone-in-Ok.field-0.0
     (restore-commits s at name zone accepted p.zone what lines target restores p.delta
     c.in_ok-delta-in-Ok.ensures.changed inventory
-    (λ was. c.in_err-replace_zone-in-Ok.ensures.ended s t was sought.1)))
+    (λ was. c.in_err-replace_zone-in-Ok.ensures.ended clean s t was sought.1)))
 
 pub returns-in_ok-replace_zone-in-Ok-clause-ended : goal.returns-in_ok-replace_zone-in-Ok-clause-ended
 returns-in_ok-replace_zone-in-Ok-clause-ended g c = λ clean s is keeps date files.
@@ -100,7 +100,7 @@ returns-in_ok-replace_zone-in-Ok-clause-ended g c = λ clean s is keeps date fil
           c.in_ok-replace_zone-in-Ok.ensures.updates,
       restore-commits s at name zone accepted p.zone what lines target restores p.delta
           c.in_ok-delta-in-Ok.ensures.changed inventory
-          (λ was. c.in_ok-replace_zone-in-Ok.ensures.ended s t was sought.1),
+          (λ was. c.in_ok-replace_zone-in-Ok.ensures.ended clean s t was sought.1),
     )
 
 pub returns-in-Err-clause-ended : goal.returns-in-Err-clause-ended

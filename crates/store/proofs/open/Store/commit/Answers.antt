@@ -1,9 +1,9 @@
-use Rattle.std.proofs.Common.{◌≡◌, ◌⊎◌, IfErr, subst}
+use Rattle.std.proofs.Common.{◌≡◌, ◌⊎◌, IfErr, refl, subst}
 use Rattle.sqlite.specs.declared.error.Error.TheVariants.{SqliteFailure}
 use Rattle.sqlite.specs.declared.error.ErrorCode.TheVariants.{OutOfMemory}
 use Rattle.store.specs.Calls.{FailsToWrite}
 use Rattle.store.proofs.Committing.{told_failed}
-use Rattle.store.proofs.ViewLemmas.{leaves_either, leaves_changed}
+use Rattle.store.proofs.ViewLemmas.{leaves_either, leaves_changed, faulted_among}
 use Rattle.store.proofs.open.Store.commit.Goals as goal
 
 pub returns-in_err-commit_change-clause-crash : goal.returns-in_err-commit_change-clause-crash
@@ -31,3 +31,9 @@ returns-in_err-commit_change-clause-cause g c clean =
     c.in_err-commit_change.was c.from_residual.ensures.1
     (subst (λ old. IfErr c.commit_change.result (λ e. (e ≡ SqliteFailure OutOfMemory) ⊎ FailsToWrite s change old now))
     c.self.view_is (c.commit_change.ensures.cause clean))
+
+pub returns-in_err-commit_change-clause-among : goal.returns-in_err-commit_change-clause-among
+returns-in_err-commit_change-clause-among g c clean failed =
+    faulted_among g.S.Store c.self.inside.conn c.args.self.now c.commit_change.new.conn c.args.change.now c.self.view_is
+    c.commit_change.ensures.crash (c.if-prove.ensures.settled refl) clean
+    (returns-in_err-commit_change-clause-cause g c clean failed)
