@@ -17,12 +17,10 @@ use Rattle.machine.specs.Report.{text}
 use Rattle.machine.specs.Machine as machine
 use Rattle.machine.specs.Machine.{Files, Act, Begin, Perform, Faulty, Define, Prints, Job, RunFiles, NewZone, HasActs}
 use Rattle.machine.specs.Machine.{AreFirstActs, RunsJob, Code, state_after, defined}
-use Rattle.machine.specs.Runs.{Stopped}
 use Rattle.store_schema.specs.declared.error.StoreError.{StoreError}
 use Rattle.store_schema.specs.declared.error.StoreError.TheVariants as store
 use Rattle.report.specs.Sent.{WrotePart}
-use Rattle.store.specs.Kept.{kept, Keeps, IsStopped}
-use Rattle.store.specs.View.{TablesIfOpen, Leaves}
+use Rattle.store.specs.Kept.{Keeps}
 use Rattle.smpe_session.specs.declared.session.Session.{Session}
 use Rattle.smpe_session.specs.Sessions.{HasBegun}
 use Rattle.smpe_zones.specs.declared.error.ZoneFault.{ZoneFault}

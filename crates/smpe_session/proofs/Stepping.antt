@@ -1,5 +1,5 @@
 -- How loads and commits leave a store that keeps a state.
-use Rattle.std.proofs.Common.{◌≡◌, ◌⊎◌, ◌∙◌, ℕ, List, [], ◌∷◌, refl, sym, ap, subst, inl, inr}
+use Rattle.std.proofs.Common.{◌≡◌, ◌⊎◌, ◌∙◌, List, [], ◌∷◌, refl, sym, ap, subst, inl, inr}
 use Rattle.std.specs.Prelude.{IfErr, IsErrAnd, IsErrOf, OnOk, OnErr, Result, Ok, Err}
 use Rattle.std.proofs.lemmas.Result.{err_from_is_err_and}
 use Rattle.sqlite.specs.Store.{Ghosts}
@@ -12,7 +12,7 @@ use Rattle.store_schema.specs.Tables.{store_schema}
 use Rattle.store_schema.specs.declared.error.StoreError.{StoreError}
 use Rattle.store_schema.specs.declared.error.StoreError.TheVariants.{Fault, OtherSchema, NoState, Memory}
 use Rattle.machine.specs.State.{State}
-use Rattle.machine.specs.Machine.{Files, Act, Begin, Perform, Performs, Prints}
+use Rattle.machine.specs.Machine.{Files, Act, Begin, Perform, Performs}
 use Rattle.machine.specs.Outcome as machine
 use Rattle.machine.specs.Report.{text}
 use Rattle.std.specs.List.{flat_map}
