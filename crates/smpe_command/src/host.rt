@@ -1,5 +1,5 @@
 //! What the program asks of its surroundings.
-ghost use Rattle.std.specs.Prelude.{◌≡◌, ℕ, List, false, IfSome, IfOk, IfErr};
+ghost use Rattle.std.specs.Prelude.{◌≡◌, ℕ, List, None, false, IfSome, IfOk, IfErr};
 ghost use Rattle.std.specs.declared.io.Error.{Error as ReadError};
 ghost use Rattle.sqlite.specs.declared.error.Error.{Error};
 ghost use Rattle.sqlite.specs.Held.{Held};
@@ -42,9 +42,10 @@ pub trait Host {
         ensures err { IfErr result (λ error. refuses self.old name.now error self.new) }
         ensures mode { IfOk result (λ conn. conn.in_transaction ≡ false) };
 
-    /// Closes the connection, which is taken out of the option.
+    /// Closes the connection and takes it out of the option.
     fn close(&mut self, conn: &mut Option<Connection<Self::Disk>>)
-        ensures { IfSome conn.old (λ conn. closes self.old conn self.new) };
+        ensures closed { IfSome conn.old (λ conn. closes self.old conn self.new) }
+        ensures taken { conn.new ≡ None };
 
     fn show(&mut self, error: &clap::Error)
         ensures { shows self.old error.now self.new };

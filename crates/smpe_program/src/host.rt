@@ -1,4 +1,9 @@
 //! The input and output of the system that the program runs on.
+ghost use Rattle.std.specs.Prelude.{IsTrue};
+ghost use Rattle.sqlite.specs.Files.{file_state, IsOpened};
+ghost use Rattle.sqlite.specs.Held.{IsNew};
+ghost use Rattle.sqlite.specs.Opening.{is_open_error};
+ghost use Rattle.sqlite.specs.State.{HasCleanDisk};
 
 use clap::Error as WordsError;
 use smpe_command::Host;
@@ -11,7 +16,8 @@ pub(crate) struct System<'a> {
     pub(crate) rt: &'a HostRuntime,
 }
 
-// Nothing is said of the system: each relation holds of all.
+// Of a database, what `sqlite` promises where it opens one. No more is said of the system: the other relations hold of
+// all.
 impl Host for System<'_> {
     type Disk = FileStore<FileFrom<Wary>>;
 
@@ -19,9 +25,9 @@ impl Host for System<'_> {
 
     ghost withholds = { λ _ _ _ _. Unit {0} };
 
-    ghost opens = { λ _ _ _ _. Unit {0} };
+    ghost opens = { λ _ _ conn _. IsNew conn × (HasCleanDisk (file_state conn) → IsOpened conn) };
 
-    ghost refuses = { λ _ _ _ _. Unit {0} };
+    ghost refuses = { λ _ _ why _. IsTrue (is_open_error why) };
 
     ghost closes = { λ _ _ _. Unit {0} };
 

@@ -15,7 +15,7 @@ returns g c =
         ends = λ clean s is. c.define_zone-defined.ensures.ended clean s (found.stands (kept s) is);
         closed = λ clean s is closed. c.define_zone-defined.ensures.closed clean s (found.stands (kept s) is) closed;
         closes = subst (λ conn. g.H.Host.closes c.opened.new.host conn c.close-2.new.self) c.close.ensures.same
-            c.close-2.ensures;
+            c.close-2.ensures.closed;
       },
       c.answer.ensures,
     )

@@ -28,5 +28,5 @@ returns g c =
           (c.run_job-code.ensures.ended clean s (found.stands (kept s) is))));
       closed = λ clean s is closed. c.run_job-code.ensures.closed clean s (found.stands (kept s) is) closed;
       closes = subst (λ conn. g.H.Host.closes c.opened.new.host conn c.close-2.new.self) c.close.ensures.same
-          c.close-2.ensures;
+          c.close-2.ensures.closed;
     })
