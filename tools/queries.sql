@@ -19,12 +19,6 @@ WITH listed (id, srel, operand, function, list) AS (
 SELECT listed.id, srel, operand, function, value AS names
 FROM listed, json_each('["' || replace(list, ',', '","') || '"]');
 
--- What supplies an id, for an SREL: the received SYSMOD of that id, and each that names it in SUP.
-CREATE TEMP VIEW suppliers AS
-SELECT id AS wanted, srel, id AS supplier FROM ver
-UNION
-SELECT names, srel, id FROM states WHERE operand = 'SUP';
-
 -- How an id stands in each zone that knows of it: APPLIED (ACCEPTED in a distribution zone), SUPERSEDED or DELETED.
 CREATE TEMP VIEW standing AS
 SELECT zone.name AS zone, entry.id,
@@ -32,6 +26,15 @@ SELECT zone.name AS zone, entry.id,
     WHEN supby <> '' THEN 'SUPERSEDED' ELSE 'DELETED' END AS stands,
   date, supby, delby, waived
 FROM zone JOIN entry ON entry.zone = zone.name;
+
+-- What would supply an id to a zone: the received SYSMOD of that id, and each that names it in SUP, by their ++VERs for
+-- the zone's SREL, and how they stand there. (An FMID is supplied by the function of that id alone.)
+CREATE TEMP VIEW suppliers AS
+SELECT zone.name AS zone, wanted, supplier, stands
+FROM zone JOIN (
+  SELECT id AS wanted, srel, id AS supplier FROM ver
+  UNION SELECT names, srel, id FROM states WHERE operand = 'SUP') AS named ON named.srel = zone.srel
+LEFT JOIN standing ON standing.zone = zone.name AND standing.id = supplier;
 
 -- Who needs whom in a zone: FMID, PRE, REQ and IFREQ of the received SYSMODs that have a ++VER for its SREL, an IFREQ
 -- only where its function is applied there. `stands` and `needed_stands` say how the two ids stand in the zone; `state`
