@@ -2,6 +2,7 @@ pub mod BadRows
 pub mod Calls
 pub mod Causes
 pub mod Changes
+pub mod Commits
 pub mod Kept
 pub mod Loads
 pub mod View
