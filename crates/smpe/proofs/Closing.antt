@@ -20,9 +20,9 @@ use Rattle.store_schema.specs.Stands.{StandsFor}
 use Rattle.store_schema.specs.Tables.{store_schema}
 use Rattle.store_schema.proofs.OneState.{one_state}
 use Rattle.store.specs.Causes.{LeavesFaulted}
-use Rattle.store.specs.Kept.{kept, Keeps, IsAround, IsStopped}
+use Rattle.smpe_zones.specs.Kept.{kept, Keeps, IsAround, IsStopped}
 use Rattle.store.specs.View.{Tables, TablesIfOpen, Leaves}
-use Rattle.store.proofs.Keeping.{inventory-kept, leaves-more}
+use Rattle.smpe_zones.proofs.Keeping.{inventory-kept, leaves-more}
 use Rattle.smpe_upkeep.proofs.StepForms.{HasActForms, HasJobForms}
 use Rattle.smpe_closed.proofs.StepKeeps.{IsClosedState}
 use Rattle.smpe_closed.proofs.JobsKeep.{first_formed, printed_keeps, prints_keep, job_keeps}

@@ -20,7 +20,7 @@ use Rattle.machine.proofs.Joined.{runs-append, runs-one}
 use Rattle.store_schema.specs.declared.error.StoreError.{StoreError}
 use Rattle.store_schema.specs.declared.error.StoreError.TheVariants as store
 use Rattle.report.specs.Sent.{WrotePart}
-use Rattle.store.specs.Kept.{Keeps}
+use Rattle.smpe_zones.specs.Kept.{Keeps}
 use Rattle.smpe_session.specs.declared.session.Session.{Session}
 use Rattle.smpe_session.specs.Sessions.{IsSessionOf, HasPerformed}
 use Rattle.smpe.specs.declared.error.JobError.{JobError}

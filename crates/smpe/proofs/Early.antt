@@ -11,8 +11,8 @@ use Rattle.machine.proofs.Joined.{stopped-after, stopped-more, broke-after, brok
 use Rattle.store_schema.specs.declared.error.StoreError.TheVariants as store
 use Rattle.report.specs.Sent.{WrotePart}
 use Rattle.store.specs.Causes.{LeavesFaulted}
-use Rattle.store.specs.Kept.{kept, Keeps, IsStopped, IsFaulted}
-use Rattle.store.proofs.Keeping.{leaves-more, faulted-more}
+use Rattle.smpe_zones.specs.Kept.{kept, Keeps, IsStopped, IsFaulted}
+use Rattle.smpe_zones.proofs.Keeping.{leaves-more, faulted-more}
 use Rattle.store.specs.View.{Tables, TablesIfOpen, Leaves}
 use Rattle.smpe.specs.declared.error.JobError.{JobError}
 use Rattle.smpe.specs.declared.error.JobError.TheVariants.{Memory, Store, Write}

@@ -10,7 +10,7 @@ use Rattle.machine.specs.State.{State}
 use Rattle.machine.specs.Machine.{Act, Prints, Job, Answer, AreFirstActs, RunsJob, RunsJobs}
 use Rattle.machine.specs.Runs.{Runs}
 use Rattle.machine.proofs.Joined.{runs-append}
-use Rattle.store.specs.Kept.{Keeps}
+use Rattle.smpe_zones.specs.Kept.{Keeps}
 use Rattle.smpe.specs.declared.error.JobError.{JobError}
 use Rattle.smpe.specs.Ending.{EndsAmong, EndsJob, EndsJobs}
 use Rattle.smpe.proofs.Early.{early-after}

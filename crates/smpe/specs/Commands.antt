@@ -12,7 +12,7 @@ use Rattle.machine.specs.Machine.{Files, Perform, Steps}
 use Rattle.machine.specs.Runs.{Runs}
 use Rattle.store_schema.specs.declared.error.StoreError.{StoreError}
 use Rattle.store_schema.specs.declared.error.StoreError.TheVariants as store
-use Rattle.store.specs.Kept.{Keeps}
+use Rattle.smpe_zones.specs.Kept.{Keeps}
 use Rattle.smpe_session.specs.declared.session.Session.{Session}
 use Rattle.smpe_session.specs.Sessions.{IsSessionOf}
 use Rattle.smpe.specs.declared.error.JobError.{JobError}

@@ -14,7 +14,7 @@ use Rattle.store_schema.specs.declared.error.StoreError.TheVariants as store
 use Rattle.store_schema.specs.Inventory.{Inventory}
 use Rattle.store_schema.specs.Stands.{StandsFor}
 use Rattle.store.specs.Causes.{LeavesFaulted}
-use Rattle.store.specs.Kept.{kept, Keeps}
+use Rattle.smpe_zones.specs.Kept.{kept, Keeps}
 use Rattle.store.specs.View.{Tables, TablesIfOpen, Leaves}
 use Rattle.smpe_zones.specs.Definitions.{definition, fault_of}
 use Rattle.smpe.specs.declared.error.JobError.{JobError}

@@ -6,7 +6,7 @@ ghost use Rattle.machine.specs.State.{State};
 ghost use Rattle.machine.specs.Machine.{RunFiles, Code};
 ghost use Rattle.cntl.specs.Views.{command_of};
 ghost use Rattle.smpe_session.specs.Sessions.{IsSessionOf};
-ghost use Rattle.store.specs.Kept.{Keeps};
+ghost use Rattle.smpe_zones.specs.Kept.{Keeps};
 ghost use Rattle.smpe.specs.Ending.{EndsJob, StaysClosed, is_write};
 ghost use Rattle.terms.specs.Forms.{IsDottedDate};
 ghost use Rattle.terms.specs.Closed.{AreClosed};

@@ -5,7 +5,7 @@ ghost use Rattle.sqlite.specs.State.{HasCleanDisk};
 ghost use Rattle.machine.specs.State.{State};
 ghost use Rattle.machine.specs.Machine.{NewZone};
 ghost use Rattle.smpe_zones.specs.Definitions.{definition};
-ghost use Rattle.store.specs.Kept.{Keeps};
+ghost use Rattle.smpe_zones.specs.Kept.{Keeps};
 ghost use Rattle.smpe.specs.Ending.{EndsJob, EndsJobs, StaysClosed, is_write, job_of, answer_of};
 ghost use Rattle.terms.specs.Closed.{AreClosed};
 

@@ -4,7 +4,7 @@ ghost use Rattle.sqlite.specs.State.{HasCleanDisk};
 ghost use Rattle.terms.specs.Forms.{IsSrel, IsZoneName};
 ghost use Rattle.terms.specs.Closed.{AreClosed};
 ghost use Rattle.machine.specs.State.{State};
-ghost use Rattle.store.specs.Kept.{Keeps};
+ghost use Rattle.smpe_zones.specs.Kept.{Keeps};
 ghost use Rattle.smpe_zones.specs.Definitions.{HasDefined, definition};
 ghost use Rattle.smpe.specs.Ending.{StaysClosed};
 

@@ -14,7 +14,7 @@ use Rattle.store_schema.specs.declared.error.StoreError.{StoreError}
 use Rattle.store_schema.specs.declared.error.StoreError.TheVariants.{OtherSchema, NoState}
 use Rattle.store_schema.specs.Inventory.{Inventory}
 use Rattle.store_schema.specs.Known.{HasOtherNumber, HasNoState, told}
-use Rattle.store.specs.Kept.{kept}
+use Rattle.smpe_zones.specs.Kept.{kept}
 use Rattle.store.specs.View.{Tables, Leaves, IsFound}
 use Rattle.smpe_zones.specs.declared.error.ZoneError.{ZoneError}
 use Rattle.smpe_zones.specs.declared.error.ZoneError.TheVariants as zone

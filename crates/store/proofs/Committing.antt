@@ -122,6 +122,11 @@ told_failed r (Err z) e P is tells h failed = elim (rw is at h) [
   | inr cause ↦ cause
 ]
 
+-- what is so after an error
+pub kept_failed : {A E : Type 0} (r : Result A E) (e : E) {P : Type 0} → IsErrOf r e → OnErr r P → P
+kept_failed (Ok a) e failed h = absurd (cc failed)
+kept_failed (Err z) e failed h = h
+
 -- the statements failed, and what they wrote is undone
 pub failed_to_write : {S : Type 0} (g : Ghosts S) (old last done : Held S) (change : Change)
     (r : Result Unit Error) (e : Error) {P : Trees → Type 0} → Survives (state g last) (state g done) P → r ≡ Err e

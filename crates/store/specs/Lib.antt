@@ -3,7 +3,6 @@ pub mod Calls
 pub mod Causes
 pub mod Changes
 pub mod Commits
-pub mod Kept
 pub mod Loads
 pub mod View
 pub mod Writes

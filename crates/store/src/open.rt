@@ -99,7 +99,7 @@ impl<S: Alter> Store<S> {
             → FailsToWrite S.Store change.now self.old self.new }
         ensures among { HasCleanDisk (state S.Store self.new) → IsErrOf result StoreError.Fault
             → (i j : Inventory) → Makes change.now i j → Tables S.Store self.old i
-            → HasCause S.Store self.new (λ c. (c ≡ i) ⊎ (c ≡ j)) }
+            → HasCause S.Store self.old self.new (λ c. (c ≡ i) ⊎ (c ≡ j)) }
         ensures clean { HasCleanDisk (state S.Store self.new) → HasCleanDisk (state S.Store self.old) }
     {
         // So what the connection shows is what it last committed.

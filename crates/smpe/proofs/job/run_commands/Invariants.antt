@@ -4,7 +4,7 @@ use Rattle.sqlite.specs.State.{HasCleanDisk}
 use Rattle.machine.specs.State.{State}
 use Rattle.cntl.specs.Views.{command_of}
 use Rattle.smpe_session.specs.Sessions.{IsSessionOf}
-use Rattle.store.specs.Kept.{Keeps}
+use Rattle.smpe_zones.specs.Kept.{Keeps}
 use Rattle.smpe.specs.Commands.{EndsCommands}
 use Rattle.smpe.proofs.job.run_commands.Given as goal
 

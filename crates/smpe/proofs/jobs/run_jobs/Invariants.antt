@@ -4,7 +4,7 @@ use Rattle.sqlite.specs.Held.{state}
 use Rattle.sqlite.specs.State.{HasCleanDisk}
 use Rattle.machine.specs.State.{State}
 use Rattle.terms.specs.Closed.{AreClosed}
-use Rattle.store.specs.Kept.{Keeps}
+use Rattle.smpe_zones.specs.Kept.{Keeps}
 use Rattle.smpe.specs.Ending.{EndsJobs, StaysClosed, job_of, answer_of}
 use Rattle.smpe.proofs.jobs.run_jobs.Given as goal
 

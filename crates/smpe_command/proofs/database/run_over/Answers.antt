@@ -1,6 +1,6 @@
 use Rattle.std.proofs.Common.{ℕ, List, inr, subst}
 use Rattle.machine.specs.Machine.{RunFiles, Code}
-use Rattle.store.specs.Kept.{kept}
+use Rattle.smpe_zones.specs.Kept.{kept}
 use Rattle.smpe.specs.Ending.{EndsJob}
 use Rattle.smpe_command.proofs.database.run_over.Goals as goal
 
