@@ -1,5 +1,5 @@
 -- What the next open of a database finds behind jobs that ended early.
-use Rattle.std.specs.Prelude.{◌≡◌, ℕ, IsTrue, List, Option}
+use Rattle.std.specs.Prelude.{ℕ, IsTrue, List, Option}
 use Rattle.sqlite.specs.Store.{Ghosts}
 use Rattle.sqlite.specs.Held.{Held, state}
 use Rattle.sqlite.specs.State.{IsLive}
