@@ -20,9 +20,9 @@ use Rattle.store_schema.specs.Stands.{StandsFor}
 use Rattle.store_schema.specs.Tables.{store_schema}
 use Rattle.store_schema.proofs.OneState.{one_state}
 use Rattle.store.specs.Causes.{LeavesFaulted}
-use Rattle.store.specs.Kept.{kept, Keeps, IsAround, IsStopped}
+use Rattle.smpe_zones.specs.Kept.{kept, Keeps, IsAround, IsStopped}
 use Rattle.store.specs.View.{Tables, TablesIfOpen, Leaves}
-use Rattle.store.proofs.Keeping.{inventory-kept, leaves-more}
+use Rattle.smpe_zones.proofs.Keeping.{inventory-kept, leaves-more}
 use Rattle.smpe_upkeep.proofs.StepForms.{HasActForms, HasJobForms}
 use Rattle.smpe_closed.proofs.StepKeeps.{IsClosedState}
 use Rattle.smpe_closed.proofs.JobsKeep.{first_formed, printed_keeps, prints_keep, job_keeps}
@@ -82,7 +82,7 @@ module _ {S : Type 0} (g : Ghosts S) (at : Held S) (clean : HasCleanDisk (state 
         let all = subst (AllByRecursion HasActForms) stop.acts_are forms in
         let end = prints_keep stop.done s stop.end stop.bytes
         (recursion-front HasActForms stop.done stop.rest all) stop.runs is in
-        stays stop.end (λ open_now. ((stop.now open_now).now clean).1) end.closed
+        stays stop.end (λ open_now. ((stop.now open_now).0 clean).1) end.closed
         (leaves-more g at (λ c. (c ≡ kept stop.end) ⊎ IsAfterNext Prints kept stop.end stop.rest c) HasClosedZones
         (λ c either. elim either [
           | inl same ↦ subst HasClosedZones (sym same) end.closed
@@ -99,26 +99,26 @@ module _ {S : Type 0} (g : Ghosts S) (at : Held S) (clean : HasCleanDisk (state 
         (printed_keeps off.before off.last off.end off.text
         (recursion-back HasActForms off.done (off.last ∷ off.rest) all).0 off.step before).closed
 
-    early : (acts : List Act) (a b : Option (List ℕ)) (e : JobError) → AllByRecursion HasActForms acts
-        → EndsEarly g at s acts a b e → StaysClosed g at
-    early acts a b Memory forms ends = stopped (Leaves g at) (λ Among left. left) acts a b forms ends
-    early acts a b (Store store.Fault) forms ends = stopped (LeavesFaulted g at) (λ Among left. left.0) acts a b forms
-        ends
-    early acts a b (Store store.OtherSchema) forms ends = absurd ends
-    early acts a b (Store store.NoState) forms ends = absurd ends
-    early acts a b (Store store.Memory) forms ends = absurd ends
-    early acts a b Write forms ends = broke acts a b forms ends
+    early : (began : Held S) (acts : List Act) (a b : Option (List ℕ)) (e : JobError)
+        → AllByRecursion HasActForms acts → EndsEarly g began at s acts a b e → StaysClosed g at
+    early began acts a b Memory forms ends = stopped (Leaves g at) (λ Among left. left) acts a b forms ends
+    early began acts a b (Store store.Fault) forms ends =
+        stopped (LeavesFaulted g began at) (λ Among left. left.0) acts a b forms ends
+    early began acts a b (Store store.OtherSchema) forms ends = absurd ends
+    early began acts a b (Store store.NoState) forms ends = absurd ends
+    early began acts a b (Store store.Memory) forms ends = absurd ends
+    early began acts a b Write forms ends = broke acts a b forms ends
 
-    job-ended : {V : Type 0} (job : Job) (a b : Option (List ℕ)) (answer : V → machine.Answer) (r : Result V JobError)
-        → HasJobForms job → EndsJob g at s job a b answer r → StaysClosed g at
-    job-ended job a b answer (Ok v) form (t, bytes, ran, keeps, appends) =
+    job-ended : {V : Type 0} (began : Held S) (job : Job) (a b : Option (List ℕ)) (answer : V → machine.Answer)
+        (r : Result V JobError) → HasJobForms job → EndsJob g began at s job a b answer r → StaysClosed g at
+    job-ended began job a b answer (Ok v) form (t, bytes, ran, keeps, appends) =
         keeps-closed t keeps (job_keeps s job t bytes (answer v) form ran is).closed
-    job-ended job a b answer (Err e) form (acts, are, ends) =
-        early acts a b e (first_formed (job ∷ []) acts (form, tt) are) ends
+    job-ended began job a b answer (Err e) form (acts, are, ends) =
+        early began acts a b e (first_formed (job ∷ []) acts (form, tt) are) ends
 
     -- an act that was begun and had no effect
     halted : (a : Act) → HasActForms a → IsStopped g at s a → StaysClosed g at
-    halted a form stop = stays s (λ open_now. ((stop.now open_now).now clean).1) is.closed
+    halted a form stop = stays s (λ open_now. ((stop.now open_now).0 clean).1) is.closed
         (leaves-more g at (IsAround s a) HasClosedZones by stop.crash)
       where
         by : (c : Inventory) → IsAround s a c → HasClosedZones c
@@ -126,17 +126,17 @@ module _ {S : Type 0} (g : Ghosts S) (at : Held S) (clean : HasCleanDisk (state 
         by c (inr (m, text, prints, same)) =
             subst HasClosedZones (sym same) (printed_keeps s a m text form prints is).closed
 
-    zone-ended : {U : Type 0} (d : ZoneDefinition) (r : Result U ZoneError) → HasActForms (Define d)
-        → HasDefined g at s d r → StaysClosed g at
-    zone-ended d (Ok done) form (t, answers, keeps) =
+    zone-ended : {U : Type 0} (began : Held S) (d : ZoneDefinition) (r : Result U ZoneError) → HasActForms (Define d)
+        → HasDefined g began at s d r → StaysClosed g at
+    zone-ended began d (Ok done) form (t, answers, keeps) =
         keeps-closed t keeps
         (printed_keeps s (Define d) t [] form (prints-none s t d answers) is).closed
-    zone-ended d (Err (zone.Refused why)) form ended = keeps-closed s ended.1 is.closed
-    zone-ended d (Err (zone.Store store.Fault)) form ended = halted (Define d) form ended.stopped
-    zone-ended d (Err (zone.Store store.OtherSchema)) form ended = absurd ended
-    zone-ended d (Err (zone.Store store.NoState)) form ended = absurd ended
-    zone-ended d (Err (zone.Store store.Memory)) form ended = absurd ended
-    zone-ended d (Err zone.Memory) form ended = halted (Define d) form ended
+    zone-ended began d (Err (zone.Refused why)) form ended = keeps-closed s ended.1 is.closed
+    zone-ended began d (Err (zone.Store store.Fault)) form ended = halted (Define d) form ended.stopped
+    zone-ended began d (Err (zone.Store store.OtherSchema)) form ended = absurd ended
+    zone-ended began d (Err (zone.Store store.NoState)) form ended = absurd ended
+    zone-ended began d (Err (zone.Store store.Memory)) form ended = absurd ended
+    zone-ended began d (Err zone.Memory) form ended = halted (Define d) form ended
 
 module _ {S : Type 0} (g : Ghosts S) (old at : Held S) (s : State) (was : HasCleanDisk (state g old))
     (clean : HasCleanDisk (state g at)) (keeps : Keeps g old s) (closed : AreClosed s.global s.zones) where
@@ -145,10 +145,10 @@ module _ {S : Type 0} (g : Ghosts S) (old at : Held S) (s : State) (was : HasCle
 
   -- A job whose values have their forms.
   pub job-closed : {V : Type 0} (job : Job) (a b : Option (List ℕ)) (answer : V → machine.Answer)
-      (r : Result V JobError) → HasJobForms job → EndsJob g at s job a b answer r → StaysClosed g at
-  job-closed job a b answer r form ends = job-ended g at clean s found job a b answer r form ends
+      (r : Result V JobError) → HasJobForms job → EndsJob g old at s job a b answer r → StaysClosed g at
+  job-closed job a b answer r form ends = job-ended g at clean s found old job a b answer r form ends
 
   -- The definition of such a zone.
   pub definition-closed : {U : Type 0} (d : ZoneDefinition) (r : Result U ZoneError) → IsZoneName d.name
-      → IsSrel d.srel → HasDefined g at s d r → StaysClosed g at
-  definition-closed d r name srel ends = zone-ended g at clean s found d r (name, srel) ends
+      → IsSrel d.srel → HasDefined g old at s d r → StaysClosed g at
+  definition-closed d r name srel ends = zone-ended g at clean s found old d r (name, srel) ends

@@ -19,8 +19,9 @@ use Rattle.machine.specs.Runs.{Runs}
 use Rattle.machine.proofs.Joined.{runs-append, runs-one}
 use Rattle.store_schema.specs.declared.error.StoreError.{StoreError}
 use Rattle.store_schema.specs.declared.error.StoreError.TheVariants as store
+use Rattle.store.specs.Causes.{IsLater}
 use Rattle.report.specs.Sent.{WrotePart}
-use Rattle.store.specs.Kept.{Keeps}
+use Rattle.smpe_zones.specs.Kept.{Keeps}
 use Rattle.smpe_session.specs.declared.session.Session.{Session}
 use Rattle.smpe_session.specs.Sessions.{IsSessionOf, HasPerformed}
 use Rattle.smpe.specs.declared.error.JobError.{JobError}
@@ -36,39 +37,42 @@ codes-append (x ∷ xs) ys = let e = codes-append xs ys in omega arith
 
 module _ {S : Type 0} (g : Ghosts S) (date : Text) (files : Files) where
   -- the exit of a `?`
-  pub commands-err : (at : Held S) (s : State) (session : Session) (cs : List Command) (a b : Option (List ℕ))
+  pub commands-err : (began at : Held S) (s : State) (session : Session) (cs : List Command) (a b : Option (List ℕ))
       (r : Result ℕ JobError) (e : JobError)
-      → IsErrAnd r (λ y. y ≡ e) → EndsEarly g at s (map (Perform date files) cs) a b e
-      → EndsCommands g at s session date files cs a b r
-  commands-err at s session cs a b r e failed early =
+      → IsErrAnd r (λ y. y ≡ e) → EndsEarly g began at s (map (Perform date files) cs) a b e
+      → EndsCommands g began at s session date files cs a b r
+  commands-err began at s session cs a b r e failed early =
       let p = err_from_is_err_and r failed in
-      subst (EndsCommands g at s session date files cs a b) (sym (p.1 ∙ ap (λ y. Err y) p.2)) early
+      subst (EndsCommands g began at s session date files cs a b) (sym (p.1 ∙ ap (λ y. Err y) p.2)) early
 
   -- a command was not performed
-  pub unperformed : (at : Held S) (s : State) (session : Session) (c : Command) (taken : Option (List ℕ))
+  pub unperformed : (began at : Held S) (s : State) (session : Session) (c : Command) (taken : Option (List ℕ))
       (e : StoreError)
-      → HasPerformed g at s session date files c (Err e) → EndsEarly g at s (Perform date files c ∷ []) taken taken
+      → HasPerformed g began at s session date files c (Err e)
+      → EndsEarly g began at s (Perform date files c ∷ []) taken taken
       (job_error e)
-  unperformed at s session c taken store.Fault faulted = faulted-first g at s (Perform date files c) [] taken faulted
-  unperformed at s session c taken store.Memory stays = stopped-first g at s (Perform date files c) [] taken stays
-  unperformed at s session c taken store.OtherSchema impossible = absurd impossible
-  unperformed at s session c taken store.NoState impossible = absurd impossible
+  unperformed began at s session c taken store.Fault faulted = faulted-first g began at s (Perform date files c) []
+      taken faulted
+  unperformed began at s session c taken store.Memory stays = stopped-first g began at s (Perform date files c) []
+      taken stays
+  unperformed began at s session c taken store.OtherSchema impossible = absurd impossible
+  unperformed began at s session c taken store.NoState impossible = absurd impossible
 
   -- it was, and its report broke off
-  pub unreported : (at : Held S) (s t : State) (c : Command) (outcome : Outcome) (old new : Option (List ℕ))
+  pub unreported : (began at : Held S) (s t : State) (c : Command) (outcome : Outcome) (old new : Option (List ℕ))
       → Performs date files s c t outcome → Keeps g at t → WrotePart old new (text outcome)
-      → EndsEarly g at s (Perform date files c ∷ []) old new Write
-  unreported at s t c outcome old new performs keeps part =
-      broke-first g at s (Perform date files c) t (text outcome) old new
+      → EndsEarly g began at s (Perform date files c ∷ []) old new Write
+  unreported began at s t c outcome old new performs keeps part =
+      broke-first g began at s (Perform date files c) t (text outcome) old new
       (outcome ∷ [], (outcome, performs, refl), sym (append-nil (text outcome))) keeps part
 
   -- it was, and was reported
-  pub reported : (at : Held S) (s t : State) (session : Session) (c : Command) (outcome : Outcome)
+  pub reported : (began at : Held S) (s t : State) (session : Session) (c : Command) (outcome : Outcome)
       (old new : Option (List ℕ)) (code : ℕ)
       → Performs date files s c t outcome → IsSessionOf t session → Keeps g at t → Appends old new (text outcome)
       → code ≡ outcome_code outcome
-      → EndsCommands g at s session date files (c ∷ []) old new (Ok code)
-  reported at s t session c outcome old new code performs is keeps appends told = (
+      → EndsCommands g began at s session date files (c ∷ []) old new (Ok code)
+  reported began at s t session c outcome old new code performs is keeps appends told = (
     t,
     outcome ∷ [],
     runs-one Steps s t (Perform date files c) (outcome ∷ []) (outcome, performs, refl),
@@ -79,22 +83,25 @@ module _ {S : Type 0} (g : Ghosts S) (date : Text) (files : Files) where
   )
 
   -- no command yet
-  pub commands-none : (at : Held S) (s : State) (session : Session) (taken : Option (List ℕ)) → IsSessionOf s session
-      → Keeps g at s → EndsCommands g at s session date files [] taken taken (Ok 0)
-  commands-none at s session taken is keeps = (s, [], (refl, refl), is, keeps, Appends-nil taken, refl)
+  pub commands-none : (began at : Held S) (s : State) (session : Session) (taken : Option (List ℕ))
+      → IsSessionOf s session
+      → Keeps g at s → EndsCommands g began at s session date files [] taken taken (Ok 0)
+  commands-none began at s session taken is keeps = (s, [], (refl, refl), is, keeps, Appends-nil taken, refl)
 
-  module _ (s : State) (before at : Held S) (session session' : Session) (xs ys : List Command)
+  module _ (s : State) (began before at : Held S) (session session' : Session) (xs ys : List Command)
       (a b c : Option (List ℕ)) (code : ℕ) where
     abbrev GoesOn : Result ℕ JobError → Type 0
-    GoesOn r = (t : State) → IsSessionOf t session → Keeps g before t → EndsCommands g at t session' date files ys b c r
+    GoesOn r = (t : State) → IsSessionOf t session → Keeps g before t
+        → EndsCommands g before at t session' date files ys b c r
 
     -- commands, and then others
-    pub commands-more : (next : ℕ) → EndsCommands g before s session date files xs a b (Ok code) → GoesOn (Ok next)
-        → EndsCommands g at s session' date files (xs ++ ys) a c (Ok (max code next))
+    pub commands-more : (next : ℕ) → EndsCommands g began before s session date files xs a b (Ok code)
+        → GoesOn (Ok next)
+        → EndsCommands g began at s session' date files (xs ++ ys) a c (Ok (max code next))
     commands-more next (t, front, runs, is, keeps, appends, told) goes_on = joined (goes_on t is keeps)
       where
-        joined : EndsCommands g at t session' date files ys b c (Ok next)
-            → EndsCommands g at s session' date files (xs ++ ys) a c (Ok (max code next))
+        joined : EndsCommands g before at t session' date files ys b c (Ok next)
+            → EndsCommands g began at s session' date files (xs ++ ys) a c (Ok (max code next))
         joined (u, back, runs', is', keeps', appends', told') = (
           u,
           front ++ back,
@@ -109,18 +116,19 @@ module _ {S : Type 0} (g : Ghosts S) (date : Text) (files : Files) where
         )
 
     -- commands, and then some that ended early
-    pub commands-stop : (e : JobError) → EndsCommands g before s session date files xs a b (Ok code) → GoesOn (Err e)
-        → EndsEarly g at s (map (Perform date files) (xs ++ ys)) a c e
-    commands-stop e (t, front, runs, is, keeps, appends, told) goes_on =
-        subst (λ acts. EndsEarly g at s acts a c e) (sym (map-append (Perform date files) xs ys))
-        (early-after g at s before t (map (Perform date files) xs) (map (Perform date files) ys) (flat_map text front) a
-        b c e
+    pub commands-stop : (e : JobError) → IsLater g began before
+        → EndsCommands g began before s session date files xs a b (Ok code) → GoesOn (Err e)
+        → EndsEarly g began at s (map (Perform date files) (xs ++ ys)) a c e
+    commands-stop e later (t, front, runs, is, keeps, appends, told) goes_on =
+        subst (λ acts. EndsEarly g began at s acts a c e) (sym (map-append (Perform date files) xs ys))
+        (early-after g began at s before t (map (Perform date files) xs) (map (Perform date files) ys)
+        (flat_map text front) a b c e later
         (runs-printed s t (map (Perform date files) xs) front runs) keeps appends (goes_on t is keeps))
 
   -- with commands behind that were never begun
-  pub commands-early : (at : Held S) (s : State) (xs ys : List Command) (a b : Option (List ℕ)) (e : JobError)
-      → EndsEarly g at s (map (Perform date files) xs) a b e
-      → EndsEarly g at s (map (Perform date files) (xs ++ ys)) a b e
-  commands-early at s xs ys a b e early =
-      subst (λ acts. EndsEarly g at s acts a b e) (sym (map-append (Perform date files) xs ys))
-      (early-more g at s (map (Perform date files) xs) (map (Perform date files) ys) a b e early)
+  pub commands-early : (began at : Held S) (s : State) (xs ys : List Command) (a b : Option (List ℕ)) (e : JobError)
+      → EndsEarly g began at s (map (Perform date files) xs) a b e
+      → EndsEarly g began at s (map (Perform date files) (xs ++ ys)) a b e
+  commands-early began at s xs ys a b e early =
+      subst (λ acts. EndsEarly g began at s acts a b e) (sym (map-append (Perform date files) xs ys))
+      (early-more g began at s (map (Perform date files) xs) (map (Perform date files) ys) a b e early)

@@ -1,24 +1,42 @@
 -- Calls that could not go on, one after another.
-use Rattle.std.proofs.Common.{ℕ, List, [], ◌∷◌, ◌++◌, Option, refl, inl}
+use Rattle.std.proofs.Common.{ℕ, List, [], ◌∷◌, ◌++◌, Option, Result, Ok, Err, refl, inl}
 use Rattle.std.specs.Io.KnownBytes.{Appends}
 use Rattle.std.proofs.KnownBytes.{Appends-nil}
 use Rattle.sqlite.specs.Store.{Ghosts}
 use Rattle.sqlite.specs.Held.{Held}
 use Rattle.machine.specs.State.{State}
-use Rattle.machine.specs.Machine.{Job, Act, Prints, AreFirstActs}
+use Rattle.machine.specs.Machine.{Job, Answer, Act, Prints, AreFirstActs}
 use Rattle.machine.specs.Runs.{Runs, Ran, Stopped, BrokeOff}
 use Rattle.machine.proofs.Joined.{stopped-after, stopped-more, broke-after, broke-more}
 use Rattle.store_schema.specs.declared.error.StoreError.TheVariants as store
 use Rattle.report.specs.Sent.{WrotePart}
-use Rattle.store.specs.Causes.{LeavesFaulted}
-use Rattle.store.specs.Kept.{kept, Keeps, IsStopped, IsFaulted}
-use Rattle.store.proofs.Keeping.{leaves-more, faulted-more}
+use Rattle.store_schema.specs.Inventory.{Inventory}
+use Rattle.store.specs.Causes.{IsLater, LeavesFaulted}
+use Rattle.smpe_zones.specs.Kept.{kept, Keeps, IsStopped, IsFaulted}
+use Rattle.smpe_zones.proofs.Keeping.{leaves-more, faulted-more, faulted-since}
 use Rattle.store.specs.View.{Tables, TablesIfOpen, Leaves}
 use Rattle.smpe.specs.declared.error.JobError.{JobError}
 use Rattle.smpe.specs.declared.error.JobError.TheVariants.{Memory, Store, Write}
-use Rattle.smpe.specs.Ending.{EndsEarly, EndsAmong}
+use Rattle.smpe.specs.Ending.{EndsEarly, EndsAmong, EndsJob}
 
-module _ {S : Type 0} (g : Ghosts S) (at : Held S) (s : State) where
+-- What is said of what a crash leaves, said weaker.
+stopped-as : (s : State) (acts : List Act) (Tables : Inventory → Type 0)
+    (Leaves Leaves' : (Inventory → Type 0) → Type 0) (a b : Option (List ℕ))
+    → ((Among : Inventory → Type 0) → Leaves Among → Leaves' Among)
+    → Stopped Prints kept s acts Tables Leaves a b → Stopped Prints kept s acts Tables Leaves' a b
+stopped-as s acts Tables Leaves Leaves' a b weaker stop = record {
+  done = stop.done;
+  rest = stop.rest;
+  acts_are = stop.acts_are;
+  end = stop.end;
+  bytes = stop.bytes;
+  runs = stop.runs;
+  now = stop.now;
+  crash = weaker _ stop.crash;
+  appends = stop.appends;
+}
+
+module _ {S : Type 0} (g : Ghosts S) (began at : Held S) (s : State) where
   -- the first of these acts had no effect
   pub stopped-first : (a : Act) (more : List Act) (taken : Option (List ℕ)) → IsStopped g at s a
       → Stopped Prints kept s (a ∷ more) (TablesIfOpen g at) (Leaves g at) taken taken
@@ -35,8 +53,8 @@ module _ {S : Type 0} (g : Ghosts S) (at : Held S) (s : State) where
   }
 
   -- for a fault
-  pub faulted-first : (a : Act) (more : List Act) (taken : Option (List ℕ)) → IsFaulted g at s a
-      → Stopped Prints kept s (a ∷ more) (TablesIfOpen g at) (LeavesFaulted g at) taken taken
+  pub faulted-first : (a : Act) (more : List Act) (taken : Option (List ℕ)) → IsFaulted g began at s a
+      → Stopped Prints kept s (a ∷ more) (TablesIfOpen g at) (LeavesFaulted g began at) taken taken
   faulted-first a more taken faulted = record {
     done = [];
     rest = a ∷ more;
@@ -76,27 +94,29 @@ module _ {S : Type 0} (g : Ghosts S) (at : Held S) (s : State) where
         → Ran Prints kept s xs (Tables g before) (Leaves g before) a b
     run runs keeps appends = record { end = t; bytes = bytes; runs = runs; stands = keeps; appends = appends }
 
-    pub early-after : (e : JobError) → Runs Prints s xs t bytes → Keeps g before t → Appends a b bytes
-        → EndsEarly g at t ys b c e → EndsEarly g at s (xs ++ ys) a c e
+    pub early-after : (e : JobError) → IsLater g began before → Runs Prints s xs t bytes → Keeps g before t
+        → Appends a b bytes → EndsEarly g before at t ys b c e → EndsEarly g began at s (xs ++ ys) a c e
     unfolding run
-    early-after Memory runs keeps appends back = stopped-after Prints kept s xs ys (Tables g before)
+    early-after Memory later runs keeps appends back = stopped-after Prints kept s xs ys (Tables g before)
         (TablesIfOpen g at) (Leaves g before) (Leaves g at) a b c (run runs keeps appends) back
-    early-after (Store store.Fault) runs keeps appends back =
-        stopped-after Prints kept s xs ys (Tables g before) (TablesIfOpen g at) (Leaves g before) (LeavesFaulted g at) a
-        b c (run runs keeps appends) back
-    early-after (Store store.OtherSchema) runs keeps appends back = back
-    early-after (Store store.NoState) runs keeps appends back = back
-    early-after (Store store.Memory) runs keeps appends back = back
-    early-after Write runs keeps appends back = broke-after Prints kept s xs ys (Tables g before)
+    early-after (Store store.Fault) later runs keeps appends back =
+        stopped-as s (xs ++ ys) (TablesIfOpen g at) (LeavesFaulted g before at) (LeavesFaulted g began at) a c
+        (faulted-since g began before at later)
+        (stopped-after Prints kept s xs ys (Tables g before) (TablesIfOpen g at) (Leaves g before)
+        (LeavesFaulted g before at) a b c (run runs keeps appends) back)
+    early-after (Store store.OtherSchema) later runs keeps appends back = back
+    early-after (Store store.NoState) later runs keeps appends back = back
+    early-after (Store store.Memory) later runs keeps appends back = back
+    early-after Write later runs keeps appends back = broke-after Prints kept s xs ys (Tables g before)
         (Tables g at) (Leaves g before) (Leaves g at) a b c (run runs keeps appends) back
 
   -- with acts behind that were never begun
-  pub early-more : (xs ys : List Act) (a b : Option (List ℕ)) (e : JobError) → EndsEarly g at s xs a b e
-      → EndsEarly g at s (xs ++ ys) a b e
+  pub early-more : (xs ys : List Act) (a b : Option (List ℕ)) (e : JobError) → EndsEarly g began at s xs a b e
+      → EndsEarly g began at s (xs ++ ys) a b e
   early-more xs ys a b Memory early = stopped-more Prints kept s xs ys (TablesIfOpen g at) (Leaves g at)
       (leaves-more g at) a b early
   early-more xs ys a b (Store store.Fault) early = stopped-more Prints kept s xs ys (TablesIfOpen g at)
-      (LeavesFaulted g at) (faulted-more g at) a b early
+      (LeavesFaulted g began at) (faulted-more g began at) a b early
   early-more xs ys a b (Store store.OtherSchema) early = early
   early-more xs ys a b (Store store.NoState) early = early
   early-more xs ys a b (Store store.Memory) early = early
@@ -108,7 +128,7 @@ module _ {S : Type 0} (g : Ghosts S) (at : Held S) (s : State) where
 
   -- want of memory before the first act
   pub ends-unbegun : (jobs : List Job) (taken : Option (List ℕ)) → Keeps g at s
-      → EndsAmong g at s jobs taken taken Memory
+      → EndsAmong g began at s jobs taken taken Memory
   ends-unbegun jobs taken keeps = (
     [],
     none_begun jobs,
@@ -119,8 +139,25 @@ module _ {S : Type 0} (g : Ghosts S) (at : Held S) (s : State) where
       end = s;
       bytes = [];
       runs = (refl, refl);
-      now = λ shown. keeps;
+      now = λ shown. (keeps.now, keeps.crash);
       crash = leaves-more g at _ _ (λ c is. inl is) keeps.crash;
       appends = Appends-nil taken;
     },
   )
+
+-- the same of a call that began earlier
+module _ {S : Type 0} (g : Ghosts S) (began mid at : Held S) (s : State) (later : IsLater g began mid) where
+  early-since : (acts : List Act) (a b : Option (List ℕ)) (e : JobError) → EndsEarly g mid at s acts a b e
+      → EndsEarly g began at s acts a b e
+  early-since acts a b Memory early = early
+  early-since acts a b (Store store.Fault) early = stopped-as s acts (TablesIfOpen g at) (LeavesFaulted g mid at)
+      (LeavesFaulted g began at) a b (faulted-since g began mid at later) early
+  early-since acts a b (Store store.OtherSchema) early = early
+  early-since acts a b (Store store.NoState) early = early
+  early-since acts a b (Store store.Memory) early = early
+  early-since acts a b Write early = early
+
+  pub job-since : {V : Type 0} (job : Job) (a b : Option (List ℕ)) (answer : V → Answer) (r : Result V JobError)
+      → EndsJob g mid at s job a b answer r → EndsJob g began at s job a b answer r
+  job-since job a b answer (Ok v) ended = ended
+  job-since job a b answer (Err e) (acts, first, early) = (acts, first, early-since acts a b e early)

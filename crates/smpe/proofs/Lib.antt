@@ -1,5 +1,5 @@
 mod Reports
-mod Early
+pub mod Early
 mod Printing
 mod Taken
 mod Commanding
@@ -9,3 +9,4 @@ mod ZoneLines
 mod ListFile
 mod ListRecords
 pub mod Closing
+mod Found

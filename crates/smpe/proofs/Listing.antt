@@ -10,7 +10,8 @@ use Rattle.machine.specs.State.{State}
 use Rattle.machine.specs.Machine.{Act, Prints, Job, Answer, AreFirstActs, RunsJob, RunsJobs}
 use Rattle.machine.specs.Runs.{Runs}
 use Rattle.machine.proofs.Joined.{runs-append}
-use Rattle.store.specs.Kept.{Keeps}
+use Rattle.store.specs.Causes.{IsLater}
+use Rattle.smpe_zones.specs.Kept.{Keeps}
 use Rattle.smpe.specs.declared.error.JobError.{JobError}
 use Rattle.smpe.specs.Ending.{EndsAmong, EndsJob, EndsJobs}
 use Rattle.smpe.proofs.Early.{early-after}
@@ -67,28 +68,28 @@ acts-of-jobs s t (job ∷ jobs) more bytes answers back (m, front, later, answer
       inr (ran.acts, behind.0 ++ back, ran.has_acts, behind.2, append_assoc ran.acts behind.0 back),
     )
 
-module _ {S : Type 0} (g : Ghosts S) (s : State) where
+module _ {S : Type 0} (g : Ghosts S) (s : State) (began : Held S) where
   pub jobs-none : (at : Held S) (taken : Option (List ℕ)) → Keeps g at s
-      → EndsJobs g at s [] taken taken (λ answers. answers) (Ok [])
+      → EndsJobs g began at s [] taken taken (λ answers. answers) (Ok [])
   jobs-none at taken keeps = (s, [], (refl, refl, refl), keeps, Appends-nil taken)
 
   -- the exit of a `?`
   pub jobs-err : {V : Type 0} (at : Held S) (jobs : List Job) (a b : Option (List ℕ)) (answers : V → List Answer)
       (r : Result V JobError) (e : JobError)
-      → IsErrAnd r (λ y. y ≡ e) → EndsAmong g at s jobs a b e → EndsJobs g at s jobs a b answers r
+      → IsErrAnd r (λ y. y ≡ e) → EndsAmong g began at s jobs a b e → EndsJobs g began at s jobs a b answers r
   jobs-err at jobs a b answers r e failed ends =
       let p = err_from_is_err_and r failed in
-      subst (EndsJobs g at s jobs a b answers) (sym (p.1 ∙ ap (λ y. Err y) p.2)) ends
+      subst (EndsJobs g began at s jobs a b answers) (sym (p.1 ∙ ap (λ y. Err y) p.2)) ends
 
   module _ (before at : Held S) (jobs : List Job) (job : Job) (a b c : Option (List ℕ)) (answers : List Answer) where
     -- jobs, and then one more
-    pub jobs-more : (answer : Answer) → EndsJobs g before s jobs a b (λ told. told) (Ok answers)
-        → ((t : State) → Keeps g before t → EndsJob g at t job b c (λ told. told) (Ok answer))
-        → EndsJobs g at s (jobs ++ job ∷ []) a c (λ told. told) (Ok (answers ++ answer ∷ []))
+    pub jobs-more : (answer : Answer) → EndsJobs g began before s jobs a b (λ told. told) (Ok answers)
+        → ((t : State) → Keeps g before t → EndsJob g before at t job b c (λ told. told) (Ok answer))
+        → EndsJobs g began at s (jobs ++ job ∷ []) a c (λ told. told) (Ok (answers ++ answer ∷ []))
     jobs-more answer (t, front, ran, keeps, appends) goes_on = joined (goes_on t keeps)
       where
-        joined : EndsJob g at t job b c (λ told. told) (Ok answer)
-            → EndsJobs g at s (jobs ++ job ∷ []) a c (λ told. told) (Ok (answers ++ answer ∷ []))
+        joined : EndsJob g before at t job b c (λ told. told) (Ok answer)
+            → EndsJobs g began at s (jobs ++ job ∷ []) a c (λ told. told) (Ok (answers ++ answer ∷ []))
         joined (u, back, run, stands, appends') = (
           u,
           front ++ back,
@@ -98,15 +99,16 @@ module _ {S : Type 0} (g : Ghosts S) (s : State) where
         )
 
     -- jobs, and then one that ended early, with others behind that were never begun
-    pub jobs-stop : (more : List Job) (e : JobError) → EndsJobs g before s jobs a b (λ told. told) (Ok answers)
-        → ((t : State) → Keeps g before t → EndsAmong g at t (job ∷ []) b c e)
-        → EndsAmong g at s ((jobs ++ job ∷ []) ++ more) a c e
-    jobs-stop more e (t, front, ran, keeps, appends) goes_on = joined (goes_on t keeps)
+    pub jobs-stop : (more : List Job) (e : JobError) → IsLater g began before
+        → EndsJobs g began before s jobs a b (λ told. told) (Ok answers)
+        → ((t : State) → Keeps g before t → EndsAmong g before at t (job ∷ []) b c e)
+        → EndsAmong g began at s ((jobs ++ job ∷ []) ++ more) a c e
+    jobs-stop more e later (t, front, ran, keeps, appends) goes_on = joined (goes_on t keeps)
       where
-        joined : EndsAmong g at t (job ∷ []) b c e → EndsAmong g at s ((jobs ++ job ∷ []) ++ more) a c e
+        joined : EndsAmong g before at t (job ∷ []) b c e → EndsAmong g began at s ((jobs ++ job ∷ []) ++ more) a c e
         joined (back, first, early) =
             let all = acts-of-jobs s t jobs (job ∷ []) front answers back ran first in (
               all.0 ++ back,
               first-more (jobs ++ job ∷ []) more (all.0 ++ back) all.2,
-              early-after g at s before t all.0 back front a b c e all.1 keeps appends early,
+              early-after g began at s before t all.0 back front a b c e later all.1 keeps appends early,
             )

@@ -20,7 +20,8 @@ use Rattle.machine.specs.Machine.{AreFirstActs, RunsJob, Code, state_after, defi
 use Rattle.store_schema.specs.declared.error.StoreError.{StoreError}
 use Rattle.store_schema.specs.declared.error.StoreError.TheVariants as store
 use Rattle.report.specs.Sent.{WrotePart}
-use Rattle.store.specs.Kept.{Keeps}
+use Rattle.store.specs.Causes.{IsLater}
+use Rattle.smpe_zones.specs.Kept.{Keeps}
 use Rattle.smpe_session.specs.declared.session.Session.{Session}
 use Rattle.smpe_session.specs.Sessions.{HasBegun}
 use Rattle.smpe_zones.specs.declared.error.ZoneFault.{ZoneFault}
@@ -48,20 +49,20 @@ pub control-same : {n m : ℕ} {a b : CnCode} → n ≡ m → a ≡ b → text (
 control-same {n} {m} {a} {b} numbers codes = ap (λ k. text (Control (record { number = k; code = a }))) numbers
     ∙ ap (λ k. text (Control (record { number = m; code = k }))) codes
 
-module _ {S : Type 0} (g : Ghosts S) (at : Held S) (s : State) where
+module _ {S : Type 0} (g : Ghosts S) (began at : Held S) (s : State) where
   -- the exit of a `?`
   pub job-err : {V : Type 0} (job : Job) (a b : Option (List ℕ)) (answer : V → machine.Answer) (r : Result V JobError)
       (e : JobError)
-      → IsErrAnd r (λ y. y ≡ e) → EndsAmong g at s (job ∷ []) a b e → EndsJob g at s job a b answer r
+      → IsErrAnd r (λ y. y ≡ e) → EndsAmong g began at s (job ∷ []) a b e → EndsJob g began at s job a b answer r
   job-err job a b answer r e failed ends =
       let p = err_from_is_err_and r failed in
-      subst (EndsJob g at s job a b answer) (sym (p.1 ∙ ap (λ y. Err y) p.2)) ends
+      subst (EndsJob g began at s job a b answer) (sym (p.1 ∙ ap (λ y. Err y) p.2)) ends
 
   module _ (date : Text) (cntl : List ℕ) (files : Files) where
     -- the command file is at fault, and that is reported
     pub faulty-ran : (fault : CntlFault) (old new : Option (List ℕ)) (code : ℕ) → IsCommandFileFault cntl fault
         → Keeps g at s → Appends old new (text (Control (control fault))) → code ≡ 12
-        → EndsJob g at s (RunFiles date cntl files) old new Code (Ok code)
+        → EndsJob g began at s (RunFiles date cntl files) old new Code (Ok code)
     faulty-ran fault old new code is keeps appends told = (
       unset s,
       flat_map text (Control (control fault) ∷ []),
@@ -87,7 +88,7 @@ module _ {S : Type 0} (g : Ghosts S) (at : Held S) (s : State) where
     -- the report of that broke off
     pub faulty-broke : (fault : CntlFault) (old new : Option (List ℕ)) → IsCommandFileFault cntl fault → Keeps g at s
         → WrotePart old new (text (Control (control fault)))
-        → EndsAmong g at s (RunFiles date cntl files ∷ []) old new Write
+        → EndsAmong g began at s (RunFiles date cntl files ∷ []) old new Write
     faulty-broke fault old new is keeps part = (
       Begin ∷ Faulty (control fault) ∷ [],
       one-job (RunFiles date cntl files) (Begin ∷ Faulty (control fault) ∷ []) (inr (fault, is, refl)),
@@ -112,7 +113,8 @@ module _ {S : Type 0} (g : Ghosts S) (at : Held S) (s : State) where
 
     -- the job could not begin
     pub unbegun : (cs : List Command) (taken : Option (List ℕ)) (e : StoreError) → IsCommandFile cntl cs
-        → HasBegun g at s (Err e) → EndsAmong g at s (RunFiles date cntl files ∷ []) taken taken (job_error e)
+        → HasBegun g began at s (Err e)
+        → EndsAmong g began at s (RunFiles date cntl files ∷ []) taken taken (job_error e)
     unbegun cs taken e is begun = (
       Begin ∷ map (Perform date files) cs,
       one-job (RunFiles date cntl files) (Begin ∷ map (Perform date files) cs)
@@ -120,19 +122,19 @@ module _ {S : Type 0} (g : Ghosts S) (at : Held S) (s : State) where
       by_error e begun,
     )
       where
-        by_error : (e : StoreError) → HasBegun g at s (Err e)
-            → EndsEarly g at s (Begin ∷ map (Perform date files) cs) taken taken (job_error e)
-        by_error store.Fault faulted = faulted-first g at s Begin (map (Perform date files) cs) taken faulted
-        by_error store.Memory stays = stopped-first g at s Begin (map (Perform date files) cs) taken stays
+        by_error : (e : StoreError) → HasBegun g began at s (Err e)
+            → EndsEarly g began at s (Begin ∷ map (Perform date files) cs) taken taken (job_error e)
+        by_error store.Fault faulted = faulted-first g began at s Begin (map (Perform date files) cs) taken faulted
+        by_error store.Memory stays = stopped-first g began at s Begin (map (Perform date files) cs) taken stays
         by_error store.OtherSchema impossible = absurd impossible
         by_error store.NoState impossible = absurd impossible
 
     -- it began, and its commands ended so
     pub begun : (before : Held S) (session : Session) (cs : List Command) (old new : Option (List ℕ))
-        (r : Result ℕ JobError) → IsCommandFile cntl cs → Keeps g before s
-        → EndsCommands g at (unset s) session date files cs old new r
-        → EndsJob g at s (RunFiles date cntl files) old new Code r
-    begun before session cs old new (Ok code) is keeps (t, outcomes, runs, of, stands, appends, told) = (
+        (r : Result ℕ JobError) → IsLater g began before → IsCommandFile cntl cs → Keeps g before s
+        → EndsCommands g before at (unset s) session date files cs old new r
+        → EndsJob g began at s (RunFiles date cntl files) old new Code r
+    begun before session cs old new (Ok code) later is keeps (t, outcomes, runs, of, stands, appends, told) = (
       t,
       flat_map text outcomes,
       record {
@@ -146,10 +148,10 @@ module _ {S : Type 0} (g : Ghosts S) (at : Held S) (s : State) where
       stands,
       appends,
     )
-    begun before session cs old new (Err e) is keeps early = (
+    begun before session cs old new (Err e) later is keeps early = (
       Begin ∷ map (Perform date files) cs,
       one-job (RunFiles date cntl files) (Begin ∷ map (Perform date files) cs) (inl (cs, is, refl)),
-      early-after g at s before (unset s) (Begin ∷ []) (map (Perform date files) cs) [] old old new e
+      early-after g began at s before (unset s) (Begin ∷ []) (map (Perform date files) cs) [] old old new e later
           (unset s, [], [], ([], (refl, refl), refl), (refl, refl), refl) keeps (Appends-nil old) early,
     )
 
@@ -166,7 +168,7 @@ module _ {S : Type 0} (g : Ghosts S) (at : Held S) (s : State) where
     }
 
     pub define-done : (t : State) → define_zone s d ≡ Ok t → Keeps g at t
-        → EndsJob g at s (NewZone d) taken taken (λ answer. answer) (Ok machine.Defined)
+        → EndsJob g began at s (NewZone d) taken taken (λ answer. answer) (Ok machine.Defined)
     define-done t is keeps = (
       t,
       [],
@@ -177,13 +179,13 @@ module _ {S : Type 0} (g : Ghosts S) (at : Held S) (s : State) where
 
     -- an error that is this one
     abbrev Fails : ZoneError → Type 0
-    Fails e = HasDefined g at s d {U = ℕ} (Err e)
+    Fails e = HasDefined g began at s d {U = ℕ} (Err e)
 
     pub define-refused : (why : ZoneFault) (e : ZoneError) → e ≡ zone_error.Refused why → Fails e
-        → EndsJob g at s (NewZone d) taken taken (λ answer. answer) (Ok (machine.NotDefined (fault_of why)))
+        → EndsJob g began at s (NewZone d) taken taken (λ answer. answer) (Ok (machine.NotDefined (fault_of why)))
     define-refused why e told fails = by_fault (subst Fails told fails)
       where
-        by_fault : Fails (zone_error.Refused why) → EndsJob g at s (NewZone d) taken taken (λ answer. answer)
+        by_fault : Fails (zone_error.Refused why) → EndsJob g began at s (NewZone d) taken taken (λ answer. answer)
             (Ok (machine.NotDefined (fault_of why)))
         by_fault (is, keeps) = (
           s,
@@ -194,23 +196,25 @@ module _ {S : Type 0} (g : Ghosts S) (at : Held S) (s : State) where
           Appends-nil taken,
         )
 
-    unbegun-definition : (e : JobError) → EndsEarly g at s (Define d ∷ []) taken taken e
-        → EndsAmong g at s (NewZone d ∷ []) taken taken e
+    unbegun-definition : (e : JobError) → EndsEarly g began at s (Define d ∷ []) taken taken e
+        → EndsAmong g began at s (NewZone d ∷ []) taken taken e
     unbegun-definition e early = (Define d ∷ [], one-job (NewZone d) (Define d ∷ []) refl, early)
 
     pub define-memory : (e : ZoneError) → e ≡ zone_error.Memory → Fails e
-        → EndsAmong g at s (NewZone d ∷ []) taken taken Memory
-    define-memory e told fails = unbegun-definition Memory (stopped-first g at s (Define d) [] taken (subst Fails told fails))
+        → EndsAmong g began at s (NewZone d ∷ []) taken taken Memory
+    define-memory e told fails =
+        unbegun-definition Memory (stopped-first g began at s (Define d) [] taken (subst Fails told fails))
 
     pub define-fault : (fault : StoreError) (e : ZoneError) (result : JobError) → e ≡ zone_error.Store fault
-        → result ≡ job_error fault → Fails e → EndsAmong g at s (NewZone d ∷ []) taken taken result
-    define-fault fault e result told becomes fails = subst (EndsAmong g at s (NewZone d ∷ []) taken taken) (sym becomes)
+        → result ≡ job_error fault → Fails e → EndsAmong g began at s (NewZone d ∷ []) taken taken result
+    define-fault fault e result told becomes fails =
+        subst (EndsAmong g began at s (NewZone d ∷ []) taken taken) (sym becomes)
         (by_fault fault (subst Fails told fails))
       where
         by_fault : (fault : StoreError) → Fails (zone_error.Store fault)
-            → EndsAmong g at s (NewZone d ∷ []) taken taken (job_error fault)
+            → EndsAmong g began at s (NewZone d ∷ []) taken taken (job_error fault)
         by_fault store.Fault faulted = unbegun-definition (job_error store.Fault)
-            (faulted-first g at s (Define d) [] taken faulted)
+            (faulted-first g began at s (Define d) [] taken faulted)
         by_fault store.Memory impossible = absurd impossible
         by_fault store.OtherSchema impossible = absurd impossible
         by_fault store.NoState impossible = absurd impossible

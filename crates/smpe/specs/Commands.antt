@@ -12,7 +12,7 @@ use Rattle.machine.specs.Machine.{Files, Perform, Steps}
 use Rattle.machine.specs.Runs.{Runs}
 use Rattle.store_schema.specs.declared.error.StoreError.{StoreError}
 use Rattle.store_schema.specs.declared.error.StoreError.TheVariants as store
-use Rattle.store.specs.Kept.{Keeps}
+use Rattle.smpe_zones.specs.Kept.{Keeps}
 use Rattle.smpe_session.specs.declared.session.Session.{Session}
 use Rattle.smpe_session.specs.Sessions.{IsSessionOf}
 use Rattle.smpe.specs.declared.error.JobError.{JobError}
@@ -27,10 +27,10 @@ job_error store.OtherSchema = Store store.OtherSchema
 job_error store.NoState = Store store.NoState
 
 -- The commands ran from s, with this as their greatest code, and the session is the job's at what they led to.
-abbrev pub EndsCommands : {S : Type 0} → Ghosts S → Held S → State → Session → Text → Files → List Command
+abbrev pub EndsCommands : {S : Type 0} → Ghosts S → Held S → Held S → State → Session → Text → Files → List Command
     → Option (List ℕ) → Option (List ℕ) → Result ℕ JobError → Type 0
-EndsCommands g at s session date files commands old new (Ok code) =
+EndsCommands g began at s session date files commands old new (Ok code) =
     (t : State) × (outcomes : List Outcome) × Runs Steps s (map (Perform date files) commands) t outcomes
     × IsSessionOf t session × Keeps g at t × Appends old new (flat_map text outcomes) × (code ≡ job_code outcomes)
-EndsCommands g at s session date files commands old new (Err error) =
-    EndsEarly g at s (map (Perform date files) commands) old new error
+EndsCommands g began at s session date files commands old new (Err error) =
+    EndsEarly g began at s (map (Perform date files) commands) old new error

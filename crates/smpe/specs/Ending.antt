@@ -14,7 +14,7 @@ use Rattle.store_schema.specs.declared.error.StoreError.TheVariants as store
 use Rattle.store_schema.specs.Inventory.{Inventory}
 use Rattle.store_schema.specs.Stands.{StandsFor}
 use Rattle.store.specs.Causes.{LeavesFaulted}
-use Rattle.store.specs.Kept.{kept, Keeps}
+use Rattle.smpe_zones.specs.Kept.{kept, Keeps}
 use Rattle.store.specs.View.{Tables, TablesIfOpen, Leaves}
 use Rattle.smpe_zones.specs.Definitions.{definition, fault_of}
 use Rattle.smpe.specs.declared.error.JobError.{JobError}
@@ -45,17 +45,18 @@ pub record StaysClosed {S : Type 0} (g : Ghosts S) (at : Held S) : Type 0 where
   pub crash : (db : Trees) → (state g at).may_leave db → (schema : Schema) (i : Inventory)
       → StandsFor i (record { schema = schema; trees = db }) → AreClosed i.global i.zones
 
--- A call found the tables standing for s, and left the store as it is now. The sink had taken `old`, and now has `new`.
-module _ {S : Type 0} (g : Ghosts S) (at : Held S) (s : State) where
+-- A call began at the store `began`, found the tables standing for s, and left the store as it is now. The sink had
+-- taken `old`, and now has `new`.
+module _ {S : Type 0} (g : Ghosts S) (began at : Held S) (s : State) where
   -- The call could not go on to the end of these acts.
   -- For want of memory, or after a fault of the store: some first acts ran and are reported, and the next one had no
   -- effect and no report. A crash may leave its effect; where the connection is still open, the store keeps what the
-  -- first acts led to, and the caller may go on from there. A fault has a cause, in that next act.
+  -- first acts led to, and the caller may go on from there. A fault has a cause in this call, in that next act.
   -- After a fault of the sink: some first acts ran, and of the last one's report a beginning went out.
   abbrev pub EndsEarly : List Act → Option (List ℕ) → Option (List ℕ) → JobError → Type 0
   EndsEarly acts old new Memory = Stopped Prints kept s acts (TablesIfOpen g at) (Leaves g at) old new
   EndsEarly acts old new (Store store.Fault) =
-      Stopped Prints kept s acts (TablesIfOpen g at) (LeavesFaulted g at) old new
+      Stopped Prints kept s acts (TablesIfOpen g at) (LeavesFaulted g began at) old new
   EndsEarly acts old new (Store _) = ⊥
   EndsEarly acts old new Write = BrokeOff Prints kept s acts (Tables g at) (Leaves g at) old new
 

@@ -2,7 +2,7 @@
 
 use report::WriteFault;
 use std::alloc::AllocError;
-use store_schema::StoreError;
+use store::StoreError;
 use thiserror::Error;
 
 /// Why a job did not come to its end.

@@ -1,12 +1,12 @@
 //! One job.
-ghost use Rattle.std.specs.Prelude.{◌≡◌, ◌∷◌, [], false, map};
+ghost use Rattle.std.specs.Prelude.{◌≡◌, ◌≤◌, ◌∷◌, [], false, map};
 ghost use Rattle.sqlite.specs.Held.{state};
 ghost use Rattle.sqlite.specs.State.{HasCleanDisk};
 ghost use Rattle.machine.specs.State.{State};
 ghost use Rattle.machine.specs.Machine.{RunFiles, Code};
 ghost use Rattle.cntl.specs.Views.{command_of};
 ghost use Rattle.smpe_session.specs.Sessions.{IsSessionOf};
-ghost use Rattle.store.specs.Kept.{Keeps};
+ghost use Rattle.smpe_zones.specs.Kept.{Keeps};
 ghost use Rattle.smpe.specs.Ending.{EndsJob, StaysClosed, is_write};
 ghost use Rattle.terms.specs.Forms.{IsDottedDate};
 ghost use Rattle.terms.specs.Closed.{AreClosed};
@@ -39,9 +39,12 @@ fn run_command<S: Alter, W: Sink>(
     w: &mut W,
 ) -> Result<u8, JobError>
     ensures clean { HasCleanDisk (state S.Store store.new) → HasCleanDisk (state S.Store store.old) }
+    ensures faults { (state S.Store store.old).faults ≤ (state S.Store store.new).faults }
+    ensures limit { store.new.step_limit ≡ store.old.step_limit }
     ensures ended { HasCleanDisk (state S.Store store.new) → (s : State) → IsSessionOf s session.old
         → Keeps S.Store store.old s
-        → EndsCommands S.Store store.new s session.new date files.now (command_of command.now ∷ []) (W.taken w.old)
+        → EndsCommands S.Store store.old store.new s session.new date files.now (command_of command.now ∷ []) (W.taken
+        w.old)
         (W.taken w.new) result }
     ensures fault { W.has_failed w.old ≡ false → W.has_failed w.new ≡ is_write result }
 {
@@ -63,9 +66,12 @@ fn run_commands<S: Alter, W: Sink>(
     w: &mut W,
 ) -> Result<u8, JobError>
     ensures clean { HasCleanDisk (state S.Store store.new) → HasCleanDisk (state S.Store store.old) }
+    ensures faults { (state S.Store store.old).faults ≤ (state S.Store store.new).faults }
+    ensures limit { store.new.step_limit ≡ store.old.step_limit }
     ensures ended { HasCleanDisk (state S.Store store.new) → (s : State) → IsSessionOf s session.old
         → Keeps S.Store store.old s
-        → EndsCommands S.Store store.new s session.new date files.now (map command_of commands.now) (W.taken w.old)
+        → EndsCommands S.Store store.old store.new s session.new date files.now (map command_of commands.now) (W.taken
+        w.old)
         (W.taken w.new) result }
     ensures fault { W.has_failed w.old ≡ false → W.has_failed w.new ≡ is_write result }
 {
@@ -89,8 +95,13 @@ pub fn run_job<S: Alter, W: Sink>(
     w: &mut W,
 ) -> Result<u8, JobError>
     ensures clean { HasCleanDisk (state S.Store store.new) → HasCleanDisk (state S.Store store.old) }
+    ensures faults { (state S.Store store.old).faults ≤ (state S.Store store.new).faults }
+    ensures limit { store.new.step_limit ≡ store.old.step_limit }
     ensures ended { HasCleanDisk (state S.Store store.new) → (s : State) → Keeps S.Store store.old s
-        → EndsJob S.Store store.new s (RunFiles date cntl.now (record { ptfin = ptfin.now; holds = hold.now }))
+        → EndsJob S.Store store.old store.new s (RunFiles date cntl.now (record {
+          ptfin = ptfin.now;
+          holds = hold.now;
+        }))
         (W.taken w.old) (W.taken w.new) Code result }
     ensures closed { HasCleanDisk (state S.Store store.new) → (s : State) → Keeps S.Store store.old s
         → AreClosed s.global s.zones → StaysClosed S.Store store.new }

@@ -1,11 +1,11 @@
 //! A list of jobs.
-ghost use Rattle.std.specs.Prelude.{◌≡◌, ℕ, List, Option, false, map};
+ghost use Rattle.std.specs.Prelude.{◌≡◌, ◌≤◌, ℕ, List, Option, false, map};
 ghost use Rattle.sqlite.specs.Held.{state};
 ghost use Rattle.sqlite.specs.State.{HasCleanDisk};
 ghost use Rattle.machine.specs.State.{State};
 ghost use Rattle.machine.specs.Machine.{NewZone};
 ghost use Rattle.smpe_zones.specs.Definitions.{definition};
-ghost use Rattle.store.specs.Kept.{Keeps};
+ghost use Rattle.smpe_zones.specs.Kept.{Keeps};
 ghost use Rattle.smpe.specs.Ending.{EndsJob, EndsJobs, StaysClosed, is_write, job_of, answer_of};
 ghost use Rattle.terms.specs.Closed.{AreClosed};
 
@@ -54,9 +54,12 @@ fn define<S: Alter>(
     related: Option<ZoneName>,
 ) -> Result<Answer, JobError>
     ensures clean { HasCleanDisk (state S.Store store.new) → HasCleanDisk (state S.Store store.old) }
+    ensures faults { (state S.Store store.old).faults ≤ (state S.Store store.new).faults }
+    ensures limit { store.new.step_limit ≡ store.old.step_limit }
     ensures ended { HasCleanDisk (state S.Store store.new) → (s : State) → Keeps S.Store store.old s
         → (taken : Option (List ℕ))
-        → EndsJob S.Store store.new s (NewZone (definition name kind srel related)) taken taken answer_of result }
+        → EndsJob S.Store store.old store.new s (NewZone (definition name kind srel related)) taken taken answer_of
+        result }
     ensures closed { HasCleanDisk (state S.Store store.new) → (s : State) → Keeps S.Store store.old s
         → AreClosed s.global s.zones → StaysClosed S.Store store.new }
     ensures fault { is_write result ≡ false }
@@ -77,8 +80,10 @@ fn run_one<S: Alter, W: Sink>(
     w: &mut W,
 ) -> Result<Answer, JobError>
     ensures clean { HasCleanDisk (state S.Store store.new) → HasCleanDisk (state S.Store store.old) }
+    ensures faults { (state S.Store store.old).faults ≤ (state S.Store store.new).faults }
+    ensures limit { store.new.step_limit ≡ store.old.step_limit }
     ensures ended { HasCleanDisk (state S.Store store.new) → (s : State) → Keeps S.Store store.old s
-        → EndsJob S.Store store.new s (job_of job.now) (W.taken w.old) (W.taken w.new) answer_of result }
+        → EndsJob S.Store store.old store.new s (job_of job.now) (W.taken w.old) (W.taken w.new) answer_of result }
     ensures closed { HasCleanDisk (state S.Store store.new) → (s : State) → Keeps S.Store store.old s
         → AreClosed s.global s.zones → StaysClosed S.Store store.new }
     ensures fault { W.has_failed w.old ≡ false → W.has_failed w.new ≡ is_write result }
@@ -110,8 +115,10 @@ pub fn run_jobs<S: Alter, W: Sink>(
     w: &mut W,
 ) -> Result<Vec<Answer>, JobError>
     ensures clean { HasCleanDisk (state S.Store store.new) → HasCleanDisk (state S.Store store.old) }
+    ensures faults { (state S.Store store.old).faults ≤ (state S.Store store.new).faults }
+    ensures limit { store.new.step_limit ≡ store.old.step_limit }
     ensures ended { HasCleanDisk (state S.Store store.new) → (s : State) → Keeps S.Store store.old s
-        → EndsJobs S.Store store.new s (map job_of jobs.now) (W.taken w.old) (W.taken w.new)
+        → EndsJobs S.Store store.old store.new s (map job_of jobs.now) (W.taken w.old) (W.taken w.new)
         (λ v. map answer_of v.items) result }
     ensures closed { HasCleanDisk (state S.Store store.new) → (s : State) → Keeps S.Store store.old s
         → AreClosed s.global s.zones → StaysClosed S.Store store.new }

@@ -2,13 +2,14 @@
 //! The headline is `run_jobs`: the bytes handed to the sink, the answers, and what the tables stand for are the
 //! machine's, or after an error those of some first commands; and whatever a crash leaves has in it each command that
 //! was reported. Zones that were closed stay so, also after an error and a crash (`closed`). The program's lines and
-//! its exit status are `zone_line` and `fault_line`. A fault of the database has a cause; no contract says when want of
-//! memory comes.
+//! its exit status are `zone_line` and `fault_line`. A fault of the database has a cause in the call that answers it;
+//! no contract says when want of memory comes. What the next open finds after an error is a law, `next_open_finds`.
 #![tactic(auto)]
 
 mod error;
 mod job;
 mod jobs;
+mod law;
 mod list_job;
 mod messages;
 mod zone;
@@ -16,6 +17,7 @@ mod zone;
 pub use error::JobError;
 pub use job::run_job;
 pub use jobs::{Answer, Job, run_jobs};
+pub use law::next_open_finds;
 pub use list_job::list_commands;
 pub use messages::{FAULT_STATUS, Fault, fault_line, zone_line};
 pub use smpe_invocation::{ArgFault, Invocation, invocation};

@@ -13,7 +13,7 @@ use fields::ZoneName;
 use report::{Sink, WriteFault, put, write_all};
 use smpe_invocation::ArgFault;
 use smpe_zones::ZoneFault;
-use store_schema::StoreError;
+use store::StoreError;
 
 fn zone_fault_text(fault: ZoneFault) -> &'static [u8]
     ensures { result.now ≡ zone_fault_text (fault_of fault) }

@@ -1,10 +1,11 @@
 //! The definition of a zone.
+ghost use Rattle.std.specs.Prelude.{◌≡◌, ◌≤◌};
 ghost use Rattle.sqlite.specs.Held.{state};
 ghost use Rattle.sqlite.specs.State.{HasCleanDisk};
 ghost use Rattle.terms.specs.Forms.{IsSrel, IsZoneName};
 ghost use Rattle.terms.specs.Closed.{AreClosed};
 ghost use Rattle.machine.specs.State.{State};
-ghost use Rattle.store.specs.Kept.{Keeps};
+ghost use Rattle.smpe_zones.specs.Kept.{Keeps};
 ghost use Rattle.smpe_zones.specs.Definitions.{HasDefined, definition};
 ghost use Rattle.smpe.specs.Ending.{StaysClosed};
 
@@ -32,8 +33,10 @@ pub fn define_zone<S: Alter>(
     related: Option<ZoneName>,
 ) -> Result<(), ZoneError>
     ensures clean { HasCleanDisk (state S.Store store.new) → HasCleanDisk (state S.Store store.old) }
+    ensures faults { (state S.Store store.old).faults ≤ (state S.Store store.new).faults }
+    ensures limit { store.new.step_limit ≡ store.old.step_limit }
     ensures ended { HasCleanDisk (state S.Store store.new) → (s : State) → Keeps S.Store store.old s
-        → HasDefined S.Store store.new s (definition name kind srel related) result }
+        → HasDefined S.Store store.old store.new s (definition name kind srel related) result }
     ensures closed { HasCleanDisk (state S.Store store.new) → (s : State) → Keeps S.Store store.old s
         → AreClosed s.global s.zones → StaysClosed S.Store store.new }
 {

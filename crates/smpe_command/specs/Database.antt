@@ -14,7 +14,8 @@ use Rattle.store_schema.specs.declared.error.StoreError.{StoreError}
 use Rattle.store_schema.specs.declared.error.StoreError.TheVariants.{OtherSchema, NoState}
 use Rattle.store_schema.specs.Inventory.{Inventory}
 use Rattle.store_schema.specs.Known.{HasOtherNumber, HasNoState, told}
-use Rattle.store.specs.Kept.{kept}
+use Rattle.smpe_zones.specs.Kept.{kept}
+use Rattle.store.specs.Causes.{IsLater}
 use Rattle.store.specs.View.{Tables, Leaves, IsFound}
 use Rattle.smpe_zones.specs.declared.error.ZoneError.{ZoneError}
 use Rattle.smpe_zones.specs.declared.error.ZoneError.TheVariants as zone
@@ -53,15 +54,16 @@ module _ {H D : Type 0} (host : HostGhosts H D) (g : Ghosts D) where
     pub conn : Held D
     pub opens : host.opens h db conn after
     pub stands : (i : Inventory) → IsFound g conn i → Stands (Tables g store) (Leaves g store) i
+    pub later : IsLater g conn store
 
   -- The database of this name was opened, a job ended so over each state that it was found to stand for, and it was
-  -- closed. Zones that were closed stay so.
-  pub record Works (h : H) (db : Text) (Ends : Held D → State → Type 0) (after : H) : Type 0 where
+  -- closed. The cause of a fault is since then. Zones that were closed stay so.
+  pub record Works (h : H) (db : Text) (Ends : Held D → Held D → State → Type 0) (after : H) : Type 0 where
     pub conn : Held D
     pub opened : H
     pub opens : host.opens h db conn opened
     pub store : Held D
-    pub ends : HasCleanDisk (state g store) → (s : State) → IsFound g conn (kept s) → Ends store s
+    pub ends : HasCleanDisk (state g store) → (s : State) → IsFound g conn (kept s) → Ends conn store s
     pub closed : HasCleanDisk (state g store) → (s : State) → IsFound g conn (kept s) → AreClosed s.global s.zones
         → StaysClosed g store
     pub closes : host.closes opened store after
@@ -71,11 +73,12 @@ module _ {H D : Type 0} (host : HostGhosts H D) (g : Ghosts D) where
   RunsOver sink h db job out r after out' =
       ((why : StoreError) × FailsToOpen h db why after × (r ≡ Err (job_error why)) × (out' ≡ out))
       ⊎ Works h db
-      (λ store s. EndsJob g store s job (sink.taken out) (sink.taken out') machine.Code r) after
+      (λ conn store s. EndsJob g conn store s job (sink.taken out) (sink.taken out') machine.Code r) after
 
   -- a zone was defined so, or the database was not opened
   abbrev pub DefinesOver : H → Text → ZoneDefinition → Result Answer JobError → H → Type 0
   DefinesOver h db d r after =
       ((why : StoreError) × FailsToOpen h db why after × (r ≡ Err (job_error why)))
-      ⊎ ((defined : Result (Unit {0}) ZoneError) × Works h db (λ store s. HasDefined g store s d defined) after
+      ⊎ ((defined : Result (Unit {0}) ZoneError) × Works h db (λ conn store s. HasDefined g conn store s d defined)
+      after
       × (r ≡ answer_to defined))

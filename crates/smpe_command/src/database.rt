@@ -10,8 +10,7 @@ use fields::{Srel, YyDdd, ZoneName};
 use report::Sink;
 use smpe::{Answer, JobError, ZoneError, define_zone, run_job};
 use std::alloc::Global;
-use store::Store;
-use store_schema::StoreError;
+use store::{Store, StoreError};
 use terms::ZoneKind;
 
 /// Runs the commands of a command file.

@@ -15,7 +15,7 @@ use Rattle.store_schema.specs.Inventory.{IsInventory}
 use Rattle.machine.specs.State.{State, global_name, zone_named}
 use Rattle.smpe_reject.specs.Rejections.{AppliesAlike}
 use Rattle.smpe_reject.proofs.Zones.{applies-alike}
-use Rattle.store.specs.Kept.{kept}
+use Rattle.smpe_zones.specs.Kept.{kept}
 use Rattle.smpe_session.specs.declared.session.Session.{Session}
 use Rattle.smpe_session.specs.Steps.{is_known, IsSought, AreSought, HasAllZones}
 use Rattle.smpe_session.proofs.Places.{none-global}

@@ -25,7 +25,7 @@ use Rattle.machine.specs.Installing.{InstallsSelected}
 use Rattle.machine.specs.Outcome.{Header, Line, Refusal, Outcome, Ran, Refused, header_of, or_nothing}
 use Rattle.machine.specs.State.{State, zone_named, with_zone, misplaced}
 use Rattle.machine.specs.Machine.{Files, InstallsThere, RunsThere, Performs}
-use Rattle.store.specs.Kept.{kept}
+use Rattle.smpe_zones.specs.Kept.{kept}
 use Rattle.smpe_upkeep.proofs.ZonesKept.{stands_among}
 use Rattle.smpe_upkeep.proofs.InstallForms.{apply_kept}
 use Rattle.smpe_session.specs.declared.session.Session.{Session}

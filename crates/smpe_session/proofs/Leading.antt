@@ -10,7 +10,7 @@ use Rattle.machine.specs.State.{State, global_name, misplaced}
 use Rattle.machine.specs.Machine.{Files, Performs}
 use Rattle.sysmods.specs.declared.edit.GlobalEdit.{GlobalEdit}
 use Rattle.sysmods.specs.Edits.{EachFits, after_edits}
-use Rattle.store.specs.Kept.{kept}
+use Rattle.smpe_zones.specs.Kept.{kept}
 use Rattle.smpe_session.specs.declared.session.Session.{Session}
 use Rattle.smpe_session.specs.Sessions.{IsSessionOf}
 use Rattle.smpe_session.specs.Steps.{LeadsToGlobal}

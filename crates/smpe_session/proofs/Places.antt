@@ -14,7 +14,7 @@ use Rattle.lemmas.proofs.Searches.{All-find, find-gives}
 use Rattle.machine.specs.Outcome.{Refusal, Cm1, Cm3}
 use Rattle.store_schema.specs.Inventory.{IsInventory, IsZoneNamed}
 use Rattle.machine.specs.State.{State, global_name, zone_named, at_global, at_kind, unless_at, misplaced}
-use Rattle.store.specs.Kept.{kept}
+use Rattle.smpe_zones.specs.Kept.{kept}
 use Rattle.smpe_session.specs.declared.session.Session.{Session}
 use Rattle.smpe_session.specs.Sessions.{IsSessionOf}
 use Rattle.smpe_session.specs.Places.{install_command}

@@ -13,7 +13,7 @@ use Rattle.terms.specs.Rising.{Rises}
 use Rattle.lemmas.proofs.Pairs.{pairs_unmap}
 use Rattle.store_schema.specs.Inventory.{IsInventory}
 use Rattle.machine.specs.State.{State, global_name, zone_named}
-use Rattle.store.specs.Kept.{kept}
+use Rattle.smpe_zones.specs.Kept.{kept}
 use Rattle.smpe_upkeep.proofs.Lists.{find-itself}
 use Rattle.smpe_session.specs.declared.session.Session.{Session}
 use Rattle.smpe_session.specs.Steps.{IsSought}

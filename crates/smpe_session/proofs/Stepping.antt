@@ -21,10 +21,10 @@ use Rattle.terms.specs.Types.{Text, Command}
 use Rattle.store.specs.declared.change.Change.{Change}
 use Rattle.store.specs.BadRows.{TellsNoState}
 use Rattle.store.specs.Changes.{Makes}
-use Rattle.store.specs.Causes.{HasCause}
-use Rattle.store.specs.Kept.{kept, Keeps, IsAround, IsStopped, IsFaulted}
+use Rattle.store.specs.Causes.{IsLater, HasCause}
+use Rattle.smpe_zones.specs.Kept.{kept, Keeps, IsAround, IsStopped, IsFaulted}
 use Rattle.store.specs.Loads.{Loads}
-use Rattle.store.proofs.Keeping.{leaves-more, cause-more}
+use Rattle.smpe_zones.proofs.Keeping.{leaves-more, cause-more, cause-since}
 use Rattle.store.specs.View.{Tables, TablesIfOpen, MayLeave, Leaves}
 use Rattle.smpe_session.specs.declared.session.Session.{Session}
 use Rattle.smpe_session.specs.declared.session.Performed.{Performed}
@@ -36,74 +36,81 @@ module _ {S : Type 0} (g : Ghosts S) (at : Held S) (s : State) where
   pub stays-unmoved : (a : Act) → Unmoved g at s → IsStopped g at s a
   stays-unmoved a un = record { now = un.now; crash = leaves-more g at _ _ (λ c is. inl is) un.crash }
 
-  faults-unmoved : (a : Act) → EndsUnmoved g at s Fault → IsFaulted g at s a
+  pub unmoved-kept : Keeps g at s → Unmoved g at s
+  unmoved-kept keeps = record { now = λ shown. (keeps.now, keeps.crash); crash = keeps.crash }
+
+  -- what the store keeps is an inventory
+  pub kept-inventory : HasCleanDisk (state g at) → Keeps g at s → IsInventory (kept s)
+  kept-inventory clean keeps = (keeps.now clean).1.inventory
+
+-- a call that began at `old`
+module _ {S : Type 0} (g : Ghosts S) (old at : Held S) (s : State) where
+  faults-unmoved : (a : Act) → EndsUnmoved g old at s Fault → IsFaulted g old at s a
   faults-unmoved a (un, cause) = record {
-    stopped = stays-unmoved a un;
-    cause = cause-more g at _ _ (λ c is. inl is) cause;
+    stopped = stays-unmoved g at s a un;
+    cause = cause-more g old at _ _ (λ c is. inl is) cause;
   }
 
-  pub unmoved-kept : Keeps g at s → Unmoved g at s
-  unmoved-kept keeps = record { now = λ shown. keeps; crash = keeps.crash }
-
   -- errors at which nothing was committed
-  begun-by : (e : StoreError) → EndsUnmoved g at s e → HasBegun g at s (Err e)
+  begun-by : (e : StoreError) → EndsUnmoved g old at s e → HasBegun g old at s (Err e)
   begun-by Fault un = faults-unmoved Begin un
   begun-by OtherSchema un = un
   begun-by NoState un = un
-  begun-by Memory un = stays-unmoved Begin un
+  begun-by Memory un = stays-unmoved g at s Begin un
 
-  pub begun-unmoved : (r : Result Session StoreError) (e : StoreError) → IsErrAnd r (λ y. y ≡ e) → EndsUnmoved g at s e
-      → HasBegun g at s r
+  pub begun-unmoved : (r : Result Session StoreError) (e : StoreError) → IsErrAnd r (λ y. y ≡ e)
+      → EndsUnmoved g old at s e
+      → HasBegun g old at s r
   begun-unmoved r e is un = let p = err_from_is_err_and r is
-      in subst (λ q. HasBegun g at s q) (sym (p.1 ∙ ap Err p.2)) (begun-by e un)
+      in subst (λ q. HasBegun g old at s q) (sym (p.1 ∙ ap Err p.2)) (begun-by e un)
 
   module _ (session : Session) (date : Text) (files : Files) (c : Command) where
-    performs-by : (e : StoreError) → EndsUnmoved g at s e → HasPerformed g at s session date files c (Err e)
+    performs-by : (e : StoreError) → EndsUnmoved g old at s e → HasPerformed g old at s session date files c (Err e)
     performs-by Fault un = faults-unmoved (Perform date files c) un
     performs-by OtherSchema un = un
     performs-by NoState un = un
-    performs-by Memory un = stays-unmoved (Perform date files c) un
+    performs-by Memory un = stays-unmoved g at s (Perform date files c) un
 
     pub performs-unmoved : (r : Result Outcome StoreError) (e : StoreError) → IsErrAnd r (λ y. y ≡ e)
-        → EndsUnmoved g at s e → HasPerformed g at s session date files c r
+        → EndsUnmoved g old at s e → HasPerformed g old at s session date files c r
     performs-unmoved r e is un = let p = err_from_is_err_and r is
-        in subst (λ q. HasPerformed g at s session date files c q) (sym (p.1 ∙ ap Err p.2)) (performs-by e un)
+        in subst (λ q. HasPerformed g old at s session date files c q) (sym (p.1 ∙ ap Err p.2)) (performs-by e un)
 
     -- want of memory before the store is asked
     pub performs-short : (r : Result Outcome StoreError) → IsErrAnd r (λ y. y ≡ Memory) → Keeps g at s
-        → HasPerformed g at s session date files c r
-    performs-short r is keeps = performs-unmoved r Memory is (unmoved-kept keeps)
+        → HasPerformed g old at s session date files c r
+    performs-short r is keeps = performs-unmoved r Memory is (unmoved-kept g at s keeps)
 
     -- a command that is no LIST
-    done-told : (r : Result Outcome StoreError) → HasPerformed g at s session date files c r
-        → HasDone g at s session date files c (told r)
+    done-told : (r : Result Outcome StoreError) → HasPerformed g old at s session date files c r
+        → HasDone g old at s session date files c (told r)
     done-told (Ok outcome) performed = performed
     done-told (Err error) performed = performed
 
     pub done-by : (r : Result Outcome StoreError) (told_so : Result Performed StoreError) → told_so ≡ told r
-        → HasPerformed g at s session date files c r → HasDone g at s session date files c told_so
-    done-by r told_so is performed = subst (λ q. HasDone g at s session date files c q) (sym is)
+        → HasPerformed g old at s session date files c r → HasDone g old at s session date files c told_so
+    done-by r told_so is performed = subst (λ q. HasDone g old at s session date files c q) (sym is)
         (done-told r performed)
 
     -- want of memory before the store is asked
     pub done-short : (r : Result Performed StoreError) → IsErrAnd r (λ y. y ≡ Memory) → Keeps g at s
-        → HasDone g at s session date files c r
+        → HasDone g old at s session date files c r
     done-short r is keeps = let p = err_from_is_err_and r is
-        in subst (λ q. HasDone g at s session date files c q) (sym (p.1 ∙ ap Err p.2))
-        (stays-unmoved (Perform date files c) (unmoved-kept keeps))
+        in subst (λ q. HasDone g old at s session date files c q) (sym (p.1 ∙ ap Err p.2))
+        (stays-unmoved g at s (Perform date files c) (unmoved-kept g at s keeps))
 
     -- what a command that ran part of the way ends with
-    staying-by : (e : StoreError) → EndsStaying g at s (Perform date files c) e
-        → HasPerformed g at s session date files c (Err e)
+    staying-by : (e : StoreError) → EndsStaying g old at s (Perform date files c) e
+        → HasPerformed g old at s session date files c (Err e)
     staying-by Fault stays = stays
     staying-by OtherSchema stays = stays
     staying-by NoState stays = stays
     staying-by Memory stays = stays
 
     pub performs-staying : (r : Result Outcome StoreError) (e : StoreError) → IsErrAnd r (λ y. y ≡ e)
-        → EndsStaying g at s (Perform date files c) e → HasPerformed g at s session date files c r
+        → EndsStaying g old at s (Perform date files c) e → HasPerformed g old at s session date files c r
     performs-staying r e is stays = let p = err_from_is_err_and r is
-        in subst (λ q. HasPerformed g at s session date files c q) (sym (p.1 ∙ ap Err p.2)) (staying-by e stays)
+        in subst (λ q. HasPerformed g old at s session date files c q) (sym (p.1 ∙ ap Err p.2)) (staying-by e stays)
 
   -- where the commit of what a command leads to failed
   module _ (date : Text) (files : Files) (c : Command) (t : State) (outcome : machine.Outcome)
@@ -115,39 +122,53 @@ module _ {S : Type 0} (g : Ghosts S) (at : Held S) (s : State) where
     stays-unsettled : Unsettled g at s t → IsStopped g at s (Perform date files c)
     stays-unsettled un = record { now = un.now; crash = leaves-more g at _ _ around un.crash }
 
-    pub staying-unsettled : (e : StoreError) → EndsUnsettled g at s t e → EndsStaying g at s (Perform date files c) e
+    pub staying-unsettled : (e : StoreError) → EndsUnsettled g old at s t e
+        → EndsStaying g old at s (Perform date files c) e
     staying-unsettled Fault (un, cause) = record {
       stopped = stays-unsettled un;
-      cause = cause-more g at _ _ around cause;
+      cause = cause-more g old at _ _ around cause;
     }
     staying-unsettled OtherSchema un = un
     staying-unsettled NoState un = un
     staying-unsettled Memory un = stays-unsettled un
 
   module _ (a : Act) (LeadsTo : State → List machine.Line → Type 0) {V : Type 0} (lines : V → List machine.Line) where
-    pub run-staying : (r : Result V StoreError) (e : StoreError) → IsErrAnd r (λ y. y ≡ e) → EndsStaying g at s a e
-        → HasRun g at s a LeadsTo lines r
+    pub run-staying : (r : Result V StoreError) (e : StoreError) → IsErrAnd r (λ y. y ≡ e) → EndsStaying g old at s a e
+        → HasRun g old at s a LeadsTo lines r
     run-staying r e is stays = let p = err_from_is_err_and r is
-        in subst (λ q. HasRun g at s a LeadsTo lines q) (sym (p.1 ∙ ap Err p.2)) stays
+        in subst (λ q. HasRun g old at s a LeadsTo lines q) (sym (p.1 ∙ ap Err p.2)) stays
 
     -- want of memory before the store is asked
     pub run-short : (r : Result V StoreError) → IsErrAnd r (λ y. y ≡ Memory) → Keeps g at s
-        → HasRun g at s a LeadsTo lines r
-    run-short r is keeps = run-staying r Memory is (stays-unmoved a (unmoved-kept keeps))
+        → HasRun g old at s a LeadsTo lines r
+    run-short r is keeps = run-staying r Memory is (stays-unmoved g at s a (unmoved-kept g at s keeps))
 
   pub loaded-err : {X : Type 0} (Found : X → Type 0) (r : Result X StoreError) (e : StoreError)
-      → IsErrAnd r (λ y. y ≡ e) → EndsUnmoved g at s e → HasLoaded g at s Found r
+      → IsErrAnd r (λ y. y ≡ e) → EndsUnmoved g old at s e → HasLoaded g old at s Found r
   loaded-err Found r e is un = let p = err_from_is_err_and r is
-      in subst (λ q. HasLoaded g at s Found q) (sym (p.1 ∙ ap Err p.2)) un
+      in subst (λ q. HasLoaded g old at s Found q) (sym (p.1 ∙ ap Err p.2)) un
 
   pub committed-err : (t : State) (r : Result Unit StoreError) (e : StoreError) → IsErrAnd r (λ y. y ≡ e)
-      → EndsUnsettled g at s t e → EndsCommitted g at s t r
+      → EndsUnsettled g old at s t e → EndsCommitted g old at s t r
   committed-err t r e is un = let p = err_from_is_err_and r is
-      in subst (λ q. EndsCommitted g at s t q) (sym (p.1 ∙ ap Err p.2)) un
+      in subst (λ q. EndsCommitted g old at s t q) (sym (p.1 ∙ ap Err p.2)) un
 
-  -- what the store keeps is an inventory
-  pub kept-inventory : HasCleanDisk (state g at) → Keeps g at s → IsInventory (kept s)
-  kept-inventory clean keeps = (keeps.now clean).1.inventory
+-- a call that is behind others of one that began at `old`
+module _ {S : Type 0} (g : Ghosts S) (old mid at : Held S) (s : State) (later : IsLater g old mid) where
+  pub unmoved-since : (e : StoreError) → EndsUnmoved g mid at s e → EndsUnmoved g old at s e
+  unmoved-since Fault (un, cause) = (un, cause-since g old mid at later _ cause)
+  unmoved-since OtherSchema un = un
+  unmoved-since NoState un = un
+  unmoved-since Memory un = un
+
+  pub staying-since : (a : Act) (e : StoreError) → EndsStaying g mid at s a e → EndsStaying g old at s a e
+  staying-since a Fault faulted = record {
+    stopped = faulted.stopped;
+    cause = cause-since g old mid at later _ faulted.cause;
+  }
+  staying-since a OtherSchema stays = stays
+  staying-since a NoState stays = stays
+  staying-since a Memory stays = stays
 
 -- no state is told of a command but where it ended so
 pub told-none : {S : Type 0} (g : Ghosts S) (old new : Held S) (r : Result Outcome StoreError)
@@ -160,7 +181,7 @@ module _ {S : Type 0} (g : Ghosts S) (old new : Held S) (s : State) where
   -- what a load leaves
   pub loaded : {X : Type 0} (Found : Inventory → X → Type 0) (result : Result X StoreError)
       → HasCleanDisk (state g new) → Loads g old new Found result → Keeps g old s
-      → HasLoaded g new s (Found (kept s)) result
+      → HasLoaded g old new s (Found (kept s)) result
   loaded {X = X} Found result clean loads keeps = by result loads
     where
       unmoved : (r : Result X StoreError) → Loads g old new Found r → TablesIfOpen g new (kept s) → Unmoved g new s
@@ -169,7 +190,7 @@ module _ {S : Type 0} (g : Ghosts S) (old new : Held S) (s : State) where
         crash = λ db left. keeps.crash db (loads.crash (kept s) keeps.now db left);
       }
 
-      by : (r : Result X StoreError) → Loads g old new Found r → HasLoaded g new s (Found (kept s)) r
+      by : (r : Result X StoreError) → Loads g old new Found r → HasLoaded g old new s (Found (kept s)) r
       by (Ok x) loads = (
         loads.found clean (kept s) keeps.now,
         record {
@@ -209,8 +230,8 @@ module _ {S : Type 0} (g : Ghosts S) (old new : Held S) (s : State) where
         → OnErr result ((i : Inventory) → Tables g old i → TablesIfOpen g new i)
         → CommitsOnce
         → IfErr result (λ e. (e ≡ Fault) ⊎ (e ≡ Memory))
-        → (IsErrOf result Fault → HasCause g new (λ c. (c ≡ kept s) ⊎ (c ≡ kept t)))
-        → EndsCommitted g new s t result
+        → (IsErrOf result Fault → HasCause g old new (λ c. (c ≡ kept s) ⊎ (c ≡ kept t)))
+        → EndsCommitted g old new s t result
     committed (Ok x) ok durable err lost which cause = record {
       now = ok (kept s) (kept t) makes is keeps.now;
       crash = durable (kept s) (kept t) makes is keeps.now;

@@ -11,7 +11,7 @@ use Rattle.report.specs.declared.outcome.Outcome.{Outcome}
 use Rattle.report.specs.Views.{outcome_view}
 use Rattle.store_schema.specs.declared.error.StoreError.{StoreError}
 use Rattle.store_schema.specs.declared.error.StoreError.TheVariants.{Fault, Memory}
-use Rattle.store.specs.Kept.{Keeps, IsStopped, IsFaulted}
+use Rattle.smpe_zones.specs.Kept.{Keeps, IsStopped, IsFaulted}
 use Rattle.smpe_session.specs.declared.session.Session.{Session}
 use Rattle.smpe_session.specs.declared.session.Performed.{Performed}
 use Rattle.smpe_session.specs.declared.session.Performed.TheVariants.{Told, Lists}
@@ -24,11 +24,12 @@ pub record IsSessionOf (s : State) (at : Session) : Type 0 where
   pub zones : (name : Text) (zone : Zone) → get bytes_eq at.zones name ≡ Some zone → zone_named s.zones name ≡ Some zone
   pub current : (name : Text) → s.boundary ≡ Some name → (name ≡ global_name) ⊎ IsSome (get bytes_eq at.zones name)
 
-module _ {S : Type 0} (g : Ghosts S) (at : Held S) (s : State) where
+-- A call began at `old`, and has ended.
+module _ {S : Type 0} (g : Ghosts S) (old at : Held S) (s : State) where
   -- The job has begun. No other error comes than want of memory and a fault of the store, which has a cause.
   abbrev pub HasBegun : Result Session StoreError → Type 0
   HasBegun (Ok session) = IsSessionOf (record s { boundary = None }) session × Keeps g at s
-  HasBegun (Err Fault) = IsFaulted g at s Begin
+  HasBegun (Err Fault) = IsFaulted g old at s Begin
   HasBegun (Err Memory) = IsStopped g at s Begin
   HasBegun (Err _) = ⊥
 
@@ -36,7 +37,7 @@ module _ {S : Type 0} (g : Ghosts S) (at : Held S) (s : State) where
   abbrev pub HasPerformed : Session → Text → Files → Command → Result Outcome StoreError → Type 0
   HasPerformed session date files c (Ok outcome) =
       (t : State) × Performs date files s c t (outcome_view outcome) × IsSessionOf t session × Keeps g at t
-  HasPerformed session date files c (Err Fault) = IsFaulted g at s (Perform date files c)
+  HasPerformed session date files c (Err Fault) = IsFaulted g old at s (Perform date files c)
   HasPerformed session date files c (Err Memory) = IsStopped g at s (Perform date files c)
   HasPerformed session date files c (Err _) = ⊥
 

@@ -11,7 +11,7 @@ use Rattle.machine.specs.State.{State, global_name, zone_named}
 use Rattle.store_schema.specs.declared.error.StoreError.{StoreError}
 use Rattle.store_schema.specs.declared.error.StoreError.TheVariants.{Fault, Memory}
 use Rattle.store.specs.Causes.{HasCause}
-use Rattle.store.specs.Kept.{kept, Keeps, IsStopped, IsFaulted}
+use Rattle.smpe_zones.specs.Kept.{kept, Keeps, IsStopped, IsFaulted}
 use Rattle.store.specs.View.{TablesIfOpen, Leaves}
 use Rattle.smpe_session.specs.declared.session.Session.{Session}
 use Rattle.smpe_session.specs.Sessions.{IsSessionOf}
@@ -27,15 +27,17 @@ module _ {S : Type 0} (g : Ghosts S) (at : Held S) (s : State) where
     pub now : TablesIfOpen g at (kept s)
     pub crash : Leaves g at (λ c. (c ≡ kept s) ⊎ (c ≡ kept t))
 
+-- the same of a call that began at `old`
+module _ {S : Type 0} (g : Ghosts S) (old at : Held S) (s : State) where
   -- No other error comes than want of memory and a fault of the store, which has a cause.
   abbrev pub EndsUnmoved : StoreError → Type 0
-  EndsUnmoved Fault = Unmoved × HasCause g at (λ c. c ≡ kept s)
-  EndsUnmoved Memory = Unmoved
+  EndsUnmoved Fault = Unmoved g at s × HasCause g old at (λ c. c ≡ kept s)
+  EndsUnmoved Memory = Unmoved g at s
   EndsUnmoved _ = ⊥
 
   abbrev pub EndsUnsettled : State → StoreError → Type 0
-  EndsUnsettled t Fault = Unsettled t × HasCause g at (λ c. (c ≡ kept s) ⊎ (c ≡ kept t))
-  EndsUnsettled t Memory = Unsettled t
+  EndsUnsettled t Fault = Unsettled g at s t × HasCause g old at (λ c. (c ≡ kept s) ⊎ (c ≡ kept t))
+  EndsUnsettled t Memory = Unsettled g at s t
   EndsUnsettled t _ = ⊥
 
   -- What is found is so, and the store is as it was.
@@ -70,9 +72,9 @@ pub record HasAllZones (s : State) (at : Session) : Type 0 where
   pub zones : (name : Text) → get bytes_eq at.zones name ≡ zone_named s.zones name
 
 -- How a command ends that runs where it may, before its outcome is made of its lines.
-module _ {S : Type 0} (g : Ghosts S) (at : Held S) (s : State) (a : Act) where
+module _ {S : Type 0} (g : Ghosts S) (old at : Held S) (s : State) (a : Act) where
   abbrev pub EndsStaying : StoreError → Type 0
-  EndsStaying Fault = IsFaulted g at s a
+  EndsStaying Fault = IsFaulted g old at s a
   EndsStaying Memory = IsStopped g at s a
   EndsStaying _ = ⊥
 

@@ -1,5 +1,5 @@
 //! APPLY and ACCEPT: what is selected comes into the zone of the boundary.
-ghost use Rattle.std.specs.Prelude.{◌≡◌, Some, IfOk, OnOk, IsSome, map, option_copied};
+ghost use Rattle.std.specs.Prelude.{◌≡◌, ◌≤◌, Some, IfOk, OnOk, IsSome, map, option_copied};
 ghost use Rattle.std.specs.Option.{option_and_then};
 ghost use Rattle.std.specs.Str.{bytes_eq};
 ghost use Rattle.indexmap.specs.IndexMap.{get, Updates};
@@ -14,7 +14,7 @@ ghost use Rattle.machine.specs.State.{State};
 ghost use Rattle.machine.specs.Machine.{Files};
 ghost use Rattle.report.specs.Views.{line_view, header_view};
 ghost use Rattle.store.specs.BadRows.{OnlyLoads, TellsNoState};
-ghost use Rattle.store.specs.Kept.{kept, Keeps};
+ghost use Rattle.smpe_zones.specs.Kept.{kept, Keeps};
 ghost use Rattle.smpe_session.specs.Sessions.{IsSessionOf, HasPerformed};
 ghost use Rattle.smpe_session.specs.Steps.{EndsCommitted, HasLoaded};
 ghost use Rattle.smpe_session.specs.Places.{install_command, HasRelated, HasPlace, IsPlan};
@@ -31,8 +31,7 @@ use report::{Header, Line, Outcome, Refusal};
 use smpe_apply::{Applied, apply};
 use sqlite::Alter;
 use std::alloc::{AllocError, Global as Heap};
-use store::{Change, Store};
-use store_schema::StoreError;
+use store::{Change, Store, StoreError};
 use sysmods::Global;
 use terms::{CommandWord, ZoneKind};
 use zones::{Zone, ZoneDelta};
@@ -94,10 +93,13 @@ pub(crate) fn replace_zone<S: Alter>(
     zone: Zone,
 ) -> Result<(), StoreError>
     ensures clean { HasCleanDisk (state S.Store store.new) → HasCleanDisk (state S.Store store.old) }
+    ensures faults { (state S.Store store.old).faults ≤ (state S.Store store.new).faults }
+    ensures limit { store.new.step_limit ≡ store.old.step_limit }
     ensures none { TellsNoState S.Store store.old store.new result }
     ensures ended { HasCleanDisk (state S.Store store.new) → (s t : State) (was : AZone) → Keeps S.Store store.old s
         → IsZoneChange name was zone (kept s) (kept t) → IsChanged delta was zone
-        → IsInventory (kept t) → IsSome (get bytes_eq zones.old name) → EndsCommitted S.Store store.new s t result }
+        → IsInventory (kept t) → IsSome (get bytes_eq zones.old name)
+        → EndsCommitted S.Store store.old store.new s t result }
     ensures updates { OnOk result (Updates bytes_eq zones.old zones.new name (Some zone)) }
 {
     commit_change(store, &Change::Zone(name, delta))?;
@@ -138,11 +140,14 @@ impl Session {
         store: &mut Store<S>,
     ) -> Result<Option<ZoneName>, StoreError>
         ensures clean { HasCleanDisk (state S.Store store.new) → HasCleanDisk (state S.Store store.old) }
+        ensures faults { (state S.Store store.old).faults ≤ (state S.Store store.new).faults }
+        ensures limit { store.new.step_limit ≡ store.old.step_limit }
         ensures loads { OnOk result (OnlyLoads S.Store store.old store.new) }
         ensures none { TellsNoState S.Store store.old store.new result }
         ensures ended { HasCleanDisk (state S.Store store.new) → (s : State) → IsSessionOf s self.old
             → Keeps S.Store store.old s
-            → HasLoaded S.Store store.new s (λ related. HasRelated s self.new ZoneKind.Distribution related) result }
+            → HasLoaded S.Store store.old store.new s (λ related. HasRelated s self.new ZoneKind.Distribution related)
+            result }
     {
         let Some(name) = self.boundary else {
             return Ok(None);
@@ -162,11 +167,13 @@ impl Session {
         kind: ZoneKind,
     ) -> Result<Option<ZoneName>, StoreError>
         ensures clean { HasCleanDisk (state S.Store store.new) → HasCleanDisk (state S.Store store.old) }
+        ensures faults { (state S.Store store.old).faults ≤ (state S.Store store.new).faults }
+        ensures limit { store.new.step_limit ≡ store.old.step_limit }
         ensures loads { OnOk result (OnlyLoads S.Store store.old store.new) }
         ensures none { TellsNoState S.Store store.old store.new result }
         ensures ended { HasCleanDisk (state S.Store store.new) → (s : State) → IsSessionOf s self.old
             → Keeps S.Store store.old s
-            → HasLoaded S.Store store.new s (λ related. HasRelated s self.new kind related) result }
+            → HasLoaded S.Store store.old store.new s (λ related. HasRelated s self.new kind related) result }
     {
         match kind {
             ZoneKind::Target => Ok(None),
@@ -184,10 +191,13 @@ impl Session {
         install: &Install,
     ) -> Result<Outcome<'static>, StoreError>
         ensures clean { HasCleanDisk (state S.Store store.new) → HasCleanDisk (state S.Store store.old) }
+        ensures faults { (state S.Store store.old).faults ≤ (state S.Store store.new).faults }
+        ensures limit { store.new.step_limit ≡ store.old.step_limit }
         ensures none { TellsNoState S.Store store.old store.new result }
         ensures ended { HasCleanDisk (state S.Store store.new) → (s : State) → IsSessionOf s self.old
             → Keeps S.Store store.old s
-            → (files : Files) → HasPerformed S.Store store.new s self.new date files (install_command kind install.now)
+            → (files : Files)
+            → HasPerformed S.Store store.old store.new s self.new date files (install_command kind install.now)
             result }
     {
         let header = header(kind, self.boundary, install.check);

@@ -1,5 +1,5 @@
 //! What a command asks of the store, as steps between states.
-ghost use Rattle.std.specs.Prelude.{◌≡◌, map};
+ghost use Rattle.std.specs.Prelude.{◌≡◌, ◌≤◌, map};
 ghost use Rattle.sqlite.specs.Held.{state};
 ghost use Rattle.sqlite.specs.State.{HasCleanDisk};
 ghost use Rattle.machine.specs.State.{State, zone_named};
@@ -9,22 +9,22 @@ ghost use Rattle.store_schema.specs.Tables.{store_schema};
 ghost use Rattle.store_zone_loads.specs.Found.{head_of};
 ghost use Rattle.store.specs.BadRows.{TellsNoState};
 ghost use Rattle.store.specs.Changes.{Makes};
-ghost use Rattle.store.specs.Kept.{kept, Keeps};
+ghost use Rattle.smpe_zones.specs.Kept.{kept, Keeps};
 ghost use Rattle.smpe_session.specs.Steps.{HasLoaded, EndsCommitted};
 
 use fields::ZoneName;
 use sqlite::Alter;
-use store::{Change, Store};
-use store_schema::StoreError;
-use store_zone_loads::ZoneHead;
+use store::{Change, Store, StoreError, ZoneHead};
 use sysmods::Global;
 use zones::Zone;
 
 pub(crate) fn load_global<S: Alter>(store: &mut Store<S>) -> Result<Global, StoreError>
     ensures clean { HasCleanDisk (state S.Store store.new) → HasCleanDisk (state S.Store store.old) }
+    ensures faults { (state S.Store store.old).faults ≤ (state S.Store store.new).faults }
+    ensures limit { store.new.step_limit ≡ store.old.step_limit }
     ensures none { TellsNoState S.Store store.old store.new result }
     ensures ended { HasCleanDisk (state S.Store store.new) → (s : State) → Keeps S.Store store.old s
-        → HasLoaded S.Store store.new s (λ global. global ≡ s.global) result }
+        → HasLoaded S.Store store.old store.new s (λ global. global ≡ s.global) result }
     ensures reads { OnlyReads S.Store store_schema StoreError.NoState StoreError.Fault store.old store.new result }
 {
     store.load_global()
@@ -35,9 +35,11 @@ pub(crate) fn load_zone<S: Alter>(
     name: ZoneName,
 ) -> Result<Option<Zone>, StoreError>
     ensures clean { HasCleanDisk (state S.Store store.new) → HasCleanDisk (state S.Store store.old) }
+    ensures faults { (state S.Store store.old).faults ≤ (state S.Store store.new).faults }
+    ensures limit { store.new.step_limit ≡ store.old.step_limit }
     ensures none { TellsNoState S.Store store.old store.new result }
     ensures ended { HasCleanDisk (state S.Store store.new) → (s : State) → Keeps S.Store store.old s
-        → HasLoaded S.Store store.new s (λ zone. zone ≡ zone_named s.zones name) result }
+        → HasLoaded S.Store store.old store.new s (λ zone. zone ≡ zone_named s.zones name) result }
     ensures reads { OnlyReads S.Store store_schema StoreError.NoState StoreError.Fault store.old store.new result }
 {
     store.load_zone(name)
@@ -45,9 +47,11 @@ pub(crate) fn load_zone<S: Alter>(
 
 pub(crate) fn load_names<S: Alter>(store: &mut Store<S>) -> Result<Vec<ZoneName>, StoreError>
     ensures clean { HasCleanDisk (state S.Store store.new) → HasCleanDisk (state S.Store store.old) }
+    ensures faults { (state S.Store store.old).faults ≤ (state S.Store store.new).faults }
+    ensures limit { store.new.step_limit ≡ store.old.step_limit }
     ensures none { TellsNoState S.Store store.old store.new result }
     ensures ended { HasCleanDisk (state S.Store store.new) → (s : State) → Keeps S.Store store.old s
-        → HasLoaded S.Store store.new s (λ names. names.items ≡ map (λ z. z.name) s.zones) result }
+        → HasLoaded S.Store store.old store.new s (λ names. names.items ≡ map (λ z. z.name) s.zones) result }
     ensures reads { OnlyReads S.Store store_schema StoreError.NoState StoreError.Fault store.old store.new result }
 {
     store.zone_names()
@@ -55,9 +59,11 @@ pub(crate) fn load_names<S: Alter>(store: &mut Store<S>) -> Result<Vec<ZoneName>
 
 pub(crate) fn load_heads<S: Alter>(store: &mut Store<S>) -> Result<Vec<ZoneHead>, StoreError>
     ensures clean { HasCleanDisk (state S.Store store.new) → HasCleanDisk (state S.Store store.old) }
+    ensures faults { (state S.Store store.old).faults ≤ (state S.Store store.new).faults }
+    ensures limit { store.new.step_limit ≡ store.old.step_limit }
     ensures none { TellsNoState S.Store store.old store.new result }
     ensures ended { HasCleanDisk (state S.Store store.new) → (s : State) → Keeps S.Store store.old s
-        → HasLoaded S.Store store.new s (λ heads. heads.items ≡ map head_of s.zones) result }
+        → HasLoaded S.Store store.old store.new s (λ heads. heads.items ≡ map head_of s.zones) result }
     ensures reads { OnlyReads S.Store store_schema StoreError.NoState StoreError.Fault store.old store.new result }
 {
     store.zone_heads()
@@ -69,9 +75,12 @@ pub(crate) fn commit_change<S: Alter>(
     change: &Change,
 ) -> Result<(), StoreError>
     ensures clean { HasCleanDisk (state S.Store store.new) → HasCleanDisk (state S.Store store.old) }
+    ensures faults { (state S.Store store.old).faults ≤ (state S.Store store.new).faults }
+    ensures limit { store.new.step_limit ≡ store.old.step_limit }
     ensures none { TellsNoState S.Store store.old store.new result }
     ensures ended { HasCleanDisk (state S.Store store.new) → (s t : State) → Keeps S.Store store.old s
-        → Makes change.now (kept s) (kept t) → IsInventory (kept t) → EndsCommitted S.Store store.new s t result }
+        → Makes change.now (kept s) (kept t) → IsInventory (kept t)
+        → EndsCommitted S.Store store.old store.new s t result }
 {
     store.commit(change)
 }

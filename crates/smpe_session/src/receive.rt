@@ -1,5 +1,5 @@
 //! RECEIVE: the items of PTFIN and of the hold file come into the global zone.
-ghost use Rattle.std.specs.Prelude.{◌≡◌, ◌++◌, All, None, IfOk, IfSome, OnOk, map};
+ghost use Rattle.std.specs.Prelude.{◌≡◌, ◌≤◌, ◌++◌, All, None, IfOk, IfSome, OnOk, map};
 ghost use Rattle.sqlite.specs.Held.{state};
 ghost use Rattle.sqlite.specs.State.{HasCleanDisk};
 ghost use Rattle.terms.specs.Types.{Text, ReceiveWhat as AWhat, Receive};
@@ -13,7 +13,7 @@ ghost use Rattle.mcs_hold.specs.Items.{items as hold_items};
 ghost use Rattle.smpe_receive.specs.External.{IsExternal};
 ghost use Rattle.report.specs.Views.{line_view};
 ghost use Rattle.store.specs.BadRows.{TellsNoState};
-ghost use Rattle.store.specs.Kept.{Keeps};
+ghost use Rattle.smpe_zones.specs.Kept.{Keeps};
 ghost use Rattle.smpe_session.specs.Sessions.{IsSessionOf, HasPerformed};
 ghost use Rattle.smpe_session.specs.Steps.{HasRun, LeadsToGlobal};
 ghost use Rattle.smpe_session.specs.Received.{AreTaken};
@@ -30,8 +30,7 @@ use report::{Header, Line, Outcome};
 use smpe_receive::{Taken, receive, receive_holds};
 use sqlite::Alter;
 use std::alloc::{AllocError, Global as Heap};
-use store::{Change, Store};
-use store_schema::StoreError;
+use store::{Change, Store, StoreError};
 use sysmods::Global;
 use terms::CommandWord;
 
@@ -77,13 +76,15 @@ fn take_items<S: Alter>(
 ) -> Result<Vec<Line>, StoreError>
     requires { All IsExternal (hold_items found.holds.items) }
     ensures clean { HasCleanDisk (state S.Store store.new) → HasCleanDisk (state S.Store store.old) }
+    ensures faults { (state S.Store store.old).faults ≤ (state S.Store store.new).faults }
+    ensures limit { store.new.step_limit ≡ store.old.step_limit }
     ensures none { TellsNoState S.Store store.old store.new result }
     ensures ended { HasCleanDisk (state S.Store store.new) → (s : State) → s.global ≡ global.old
         → Keeps S.Store store.old s
         → (date : Text) (files : AllFiles) (what : AWhat) → misplaced s (Receive what) ≡ None → what.source ≡ source
         → HasItems IsPtfin what.sysmods files.ptfin (items found.items.items)
         → HasItems IsHoldFile what.holddata files.holds (hold_items found.holds.items)
-        → HasRun S.Store store.new s (Perform date files (Receive what))
+        → HasRun S.Store store.old store.new s (Perform date files (Receive what))
         (LeadsToGlobal date files (Receive what) s global.new) (λ v. map line_view v.items) result }
 {
     let Taken { edits, lines } = take_found(alloc, global, found, source)?;
@@ -101,10 +102,13 @@ impl Session {
         what: &ReceiveWhat,
     ) -> Result<Outcome<'static>, StoreError>
         ensures clean { HasCleanDisk (state S.Store store.new) → HasCleanDisk (state S.Store store.old) }
+        ensures faults { (state S.Store store.old).faults ≤ (state S.Store store.new).faults }
+        ensures limit { store.new.step_limit ≡ store.old.step_limit }
         ensures none { TellsNoState S.Store store.old store.new result }
         ensures ended { HasCleanDisk (state S.Store store.new) → (s : State) → IsSessionOf s self.old
             → Keeps S.Store store.old s
-            → (date : Text) → HasPerformed S.Store store.new s self.new date files.now (Receive what.now) result }
+            → (date : Text)
+            → HasPerformed S.Store store.old store.new s self.new date files.now (Receive what.now) result }
     {
         let header = Header {
             word: CommandWord::Receive,

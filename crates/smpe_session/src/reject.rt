@@ -1,5 +1,5 @@
 //! REJECT: SYSMODs leave the global zone that no zone has applied.
-ghost use Rattle.std.specs.Prelude.{◌≡◌, None, OnOk, map};
+ghost use Rattle.std.specs.Prelude.{◌≡◌, ◌≤◌, None, OnOk, map};
 ghost use Rattle.std.specs.Str.{bytes_eq};
 ghost use Rattle.indexmap.specs.IndexMap.{IsUnique};
 ghost use Rattle.sqlite.specs.Held.{state};
@@ -10,7 +10,7 @@ ghost use Rattle.machine.specs.Machine.{Files, Perform};
 ghost use Rattle.smpe_reject.specs.Rejections.{AppliesAlike};
 ghost use Rattle.report.specs.Views.{line_view};
 ghost use Rattle.store.specs.BadRows.{OnlyLoads, TellsNoState};
-ghost use Rattle.store.specs.Kept.{Keeps};
+ghost use Rattle.smpe_zones.specs.Kept.{Keeps};
 ghost use Rattle.smpe_session.specs.Sessions.{IsSessionOf, HasPerformed};
 ghost use Rattle.smpe_session.specs.Steps.{AreSought, HasAllZones, HasLoaded, HasRun, LeadsToGlobal};
 
@@ -23,8 +23,7 @@ use report::{Header, Line, Outcome};
 use smpe_reject::{Rejected, reject};
 use sqlite::Alter;
 use std::alloc::Global as Heap;
-use store::{Change, Store};
-use store_schema::StoreError;
+use store::{Change, Store, StoreError};
 use sysmods::Global;
 use terms::CommandWord;
 use zones::Zone;
@@ -38,11 +37,13 @@ fn reject_ids<S: Alter>(
     ids: &IdList,
 ) -> Result<Vec<Line>, StoreError>
     ensures clean { HasCleanDisk (state S.Store store.new) → HasCleanDisk (state S.Store store.old) }
+    ensures faults { (state S.Store store.old).faults ≤ (state S.Store store.new).faults }
+    ensures limit { store.new.step_limit ≡ store.old.step_limit }
     ensures none { TellsNoState S.Store store.old store.new result }
     ensures ended { HasCleanDisk (state S.Store store.new) → (s : State) → s.global ≡ global.old
         → AppliesAlike zones.now s.zones → Keeps S.Store store.old s
         → (date : Text) (files : Files) → misplaced s (Reject ids.now) ≡ None
-        → HasRun S.Store store.new s (Perform date files (Reject ids.now))
+        → HasRun S.Store store.old store.new s (Perform date files (Reject ids.now))
         (LeadsToGlobal date files (Reject ids.now) s global.new) (λ v. map line_view v.items) result }
     ensures names { IsUnique bytes_eq zones.now }
 {
@@ -59,11 +60,13 @@ impl Session {
         names: &[ZoneName],
     ) -> Result<(), StoreError>
         ensures clean { HasCleanDisk (state S.Store store.new) → HasCleanDisk (state S.Store store.old) }
+        ensures faults { (state S.Store store.old).faults ≤ (state S.Store store.new).faults }
+        ensures limit { store.new.step_limit ≡ store.old.step_limit }
         ensures loads { OnOk result (OnlyLoads S.Store store.old store.new) }
         ensures none { TellsNoState S.Store store.old store.new result }
         ensures ended { HasCleanDisk (state S.Store store.new) → (s : State) → IsSessionOf s self.old
             → Keeps S.Store store.old s
-            → HasLoaded S.Store store.new s (λ _. AreSought s self.new names.now) result }
+            → HasLoaded S.Store store.old store.new s (λ _. AreSought s self.new names.now) result }
     {
         for name in names {
             self.seek(store, *name)?;
@@ -74,11 +77,13 @@ impl Session {
     /// Loads each zone that it does not have yet.
     fn load_zones<S: Alter>(&mut self, store: &mut Store<S>) -> Result<(), StoreError>
         ensures clean { HasCleanDisk (state S.Store store.new) → HasCleanDisk (state S.Store store.old) }
+        ensures faults { (state S.Store store.old).faults ≤ (state S.Store store.new).faults }
+        ensures limit { store.new.step_limit ≡ store.old.step_limit }
         ensures loads { OnOk result (OnlyLoads S.Store store.old store.new) }
         ensures none { TellsNoState S.Store store.old store.new result }
         ensures ended { HasCleanDisk (state S.Store store.new) → (s : State) → IsSessionOf s self.old
             → Keeps S.Store store.old s
-            → HasLoaded S.Store store.new s (λ _. HasAllZones s self.new) result }
+            → HasLoaded S.Store store.old store.new s (λ _. HasAllZones s self.new) result }
     {
         let names = load_names(store)?;
         self.seek_each(store, names.as_slice())?;
@@ -92,10 +97,13 @@ impl Session {
         ids: &IdList,
     ) -> Result<Outcome<'static>, StoreError>
         ensures clean { HasCleanDisk (state S.Store store.new) → HasCleanDisk (state S.Store store.old) }
+        ensures faults { (state S.Store store.old).faults ≤ (state S.Store store.new).faults }
+        ensures limit { store.new.step_limit ≡ store.old.step_limit }
         ensures none { TellsNoState S.Store store.old store.new result }
         ensures ended { HasCleanDisk (state S.Store store.new) → (s : State) → IsSessionOf s self.old
             → Keeps S.Store store.old s
-            → (date : Text) (files : Files) → HasPerformed S.Store store.new s self.new date files (Reject ids.now)
+            → (date : Text) (files : Files)
+            → HasPerformed S.Store store.old store.new s self.new date files (Reject ids.now)
             result }
     {
         let header = Header {

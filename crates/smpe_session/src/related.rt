@@ -4,7 +4,7 @@ ghost use Rattle.std.specs.Option.{option_map_or};
 ghost use Rattle.std.specs.Str.{bytes_eq};
 
 use fields::ZoneName;
-use store_zone_loads::ZoneHead;
+use store::ZoneHead;
 
 /// The name of the first zone that names this one as its related zone.
 pub(crate) fn target_name(heads: &[ZoneHead], name: ZoneName) -> Option<ZoneName>

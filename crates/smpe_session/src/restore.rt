@@ -1,5 +1,5 @@
 //! RESTORE: SYSMODs go off the target zone of the boundary, back to what its distribution zone holds.
-ghost use Rattle.std.specs.Prelude.{◌≡◌, IfOk, OnOk, map};
+ghost use Rattle.std.specs.Prelude.{◌≡◌, ◌≤◌, IfOk, OnOk, map};
 ghost use Rattle.std.specs.Option.{option_and_then};
 ghost use Rattle.std.specs.Str.{bytes_eq};
 ghost use Rattle.indexmap.specs.IndexMap.{get};
@@ -12,7 +12,7 @@ ghost use Rattle.machine.specs.State.{State};
 ghost use Rattle.machine.specs.Machine.{Files};
 ghost use Rattle.report.specs.Views.{line_view};
 ghost use Rattle.store.specs.BadRows.{OnlyLoads, TellsNoState};
-ghost use Rattle.store.specs.Kept.{kept, Keeps};
+ghost use Rattle.smpe_zones.specs.Kept.{kept, Keeps};
 ghost use Rattle.smpe_session.specs.Sessions.{IsSessionOf, HasPerformed};
 ghost use Rattle.smpe_session.specs.Steps.{HasLoaded};
 ghost use Rattle.smpe_session.specs.Restored.{HasAccepted, HasTarget, IsRestorePlan};
@@ -25,8 +25,7 @@ use report::{Header, Outcome, Refusal};
 use smpe_restore::{Restored, restore};
 use sqlite::Alter;
 use std::alloc::{AllocError, Global as Heap};
-use store::Store;
-use store_schema::StoreError;
+use store::{Store, StoreError};
 use sysmods::Global;
 use terms::{CommandWord, ZoneKind};
 use zones::Zone;
@@ -72,11 +71,13 @@ impl Session {
         store: &mut Store<S>,
     ) -> Result<Option<ZoneName>, StoreError>
         ensures clean { HasCleanDisk (state S.Store store.new) → HasCleanDisk (state S.Store store.old) }
+        ensures faults { (state S.Store store.old).faults ≤ (state S.Store store.new).faults }
+        ensures limit { store.new.step_limit ≡ store.old.step_limit }
         ensures loads { OnOk result (OnlyLoads S.Store store.old store.new) }
         ensures none { TellsNoState S.Store store.old store.new result }
         ensures ended { HasCleanDisk (state S.Store store.new) → (s : State) → IsSessionOf s self.old
             → Keeps S.Store store.old s
-            → HasLoaded S.Store store.new s (λ accepted. HasAccepted s self.new accepted) result }
+            → HasLoaded S.Store store.old store.new s (λ accepted. HasAccepted s self.new accepted) result }
     {
         let Some(accepted) = self.related_name() else {
             return Ok(None);
@@ -112,10 +113,12 @@ impl Session {
         check: bool,
     ) -> Result<Outcome<'static>, StoreError>
         ensures clean { HasCleanDisk (state S.Store store.new) → HasCleanDisk (state S.Store store.old) }
+        ensures faults { (state S.Store store.old).faults ≤ (state S.Store store.new).faults }
+        ensures limit { store.new.step_limit ≡ store.old.step_limit }
         ensures none { TellsNoState S.Store store.old store.new result }
         ensures ended { HasCleanDisk (state S.Store store.new) → (s : State) → IsSessionOf s self.old
             → Keeps S.Store store.old s
-            → (date : Text) (files : Files) → HasPerformed S.Store store.new s self.new date files
+            → (date : Text) (files : Files) → HasPerformed S.Store store.old store.new s self.new date files
             (Restore (restore_list_of list.now) check) result }
     {
         let header = Header {

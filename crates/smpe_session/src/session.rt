@@ -1,5 +1,5 @@
 //! What a job has in memory, and how a command goes.
-ghost use Rattle.std.specs.Prelude.{◌≡◌, IsErrOf};
+ghost use Rattle.std.specs.Prelude.{◌≡◌, ◌≤◌, IsErrOf};
 ghost use Rattle.sqlite.specs.Held.{state};
 ghost use Rattle.sqlite.specs.State.{HasCleanDisk};
 ghost use Rattle.machine.specs.State.{State};
@@ -7,7 +7,7 @@ ghost use Rattle.cntl.specs.Views.{command_of};
 ghost use Rattle.store_rows.specs.Reads.{OnlyReads};
 ghost use Rattle.store_schema.specs.Tables.{store_schema};
 ghost use Rattle.store.specs.BadRows.{TellsNoState};
-ghost use Rattle.store.specs.Kept.{Keeps};
+ghost use Rattle.smpe_zones.specs.Kept.{Keeps};
 ghost use Rattle.smpe_session.specs.Sessions.{IsSessionOf, HasBegun, HasDone, LooksOnly, told};
 
 use crate::files::Files;
@@ -18,8 +18,7 @@ use indexmap::IndexMap;
 use report::Outcome;
 use sqlite::Alter;
 use std::alloc::Global as Heap;
-use store::Store;
-use store_schema::StoreError;
+use store::{Store, StoreError};
 use sysmods::Global;
 use terms::ZoneKind;
 use zones::Zone;
@@ -52,9 +51,11 @@ impl Session {
     /// A job begins: the global zone is loaded, and there is no boundary.
     pub fn begin<S: Alter>(alloc: Heap, store: &mut Store<S>) -> Result<Session, StoreError>
         ensures clean { HasCleanDisk (state S.Store store.new) → HasCleanDisk (state S.Store store.old) }
+        ensures faults { (state S.Store store.old).faults ≤ (state S.Store store.new).faults }
+        ensures limit { store.new.step_limit ≡ store.old.step_limit }
         ensures none { TellsNoState S.Store store.old store.new result }
         ensures ended { HasCleanDisk (state S.Store store.new) → (s : State) → Keeps S.Store store.old s
-            → HasBegun S.Store store.new s result }
+            → HasBegun S.Store store.old store.new s result }
         ensures reads { OnlyReads S.Store store_schema StoreError.NoState StoreError.Fault store.old store.new result }
     {
         let global = load_global(store)?;
@@ -75,10 +76,12 @@ impl Session {
         command: &Command,
     ) -> Result<Performed, StoreError>
         ensures clean { HasCleanDisk (state S.Store store.new) → HasCleanDisk (state S.Store store.old) }
+        ensures faults { (state S.Store store.old).faults ≤ (state S.Store store.new).faults }
+        ensures limit { store.new.step_limit ≡ store.old.step_limit }
         ensures none { TellsNoState S.Store store.old store.new result }
         ensures ended { HasCleanDisk (state S.Store store.new) → (s : State) → IsSessionOf s self.old
             → Keeps S.Store store.old s
-            → HasDone S.Store store.new s self.new date files.now (command_of command.now) result }
+            → HasDone S.Store store.old store.new s self.new date files.now (command_of command.now) result }
         ensures looks { LooksOnly (command_of command.now) → (store.new ≡ store.old)
             × ¬ IsErrOf result StoreError.Fault }
     {

@@ -1,5 +1,5 @@
 //! SET: the boundary is another zone.
-ghost use Rattle.std.specs.Prelude.{◌≡◌, is_some, IsSome, OnOk, OnErr, None, Some};
+ghost use Rattle.std.specs.Prelude.{◌≡◌, ◌≤◌, is_some, IsSome, OnOk, OnErr, None, Some};
 ghost use Rattle.std.specs.Str.{bytes_eq};
 ghost use Rattle.indexmap.specs.IndexMap.{get, Updates};
 ghost use Rattle.sqlite.specs.Held.{state};
@@ -8,7 +8,7 @@ ghost use Rattle.terms.specs.Types.{Text, Set};
 ghost use Rattle.machine.specs.State.{State};
 ghost use Rattle.machine.specs.Machine.{Files};
 ghost use Rattle.store.specs.BadRows.{OnlyLoads, TellsNoState};
-ghost use Rattle.store.specs.Kept.{Keeps};
+ghost use Rattle.smpe_zones.specs.Kept.{Keeps};
 ghost use Rattle.smpe_session.specs.Sessions.{IsSessionOf, HasPerformed};
 ghost use Rattle.smpe_session.specs.Steps.{HasLoaded, IsSought};
 
@@ -19,8 +19,7 @@ use indexmap::IndexMap;
 use report::{Header, Outcome, Refusal};
 use sqlite::Alter;
 use std::alloc::{AllocError, Global as Heap};
-use store::Store;
-use store_schema::StoreError;
+use store::{Store, StoreError};
 use terms::CommandWord;
 use zones::Zone;
 
@@ -51,11 +50,13 @@ impl Session {
         name: ZoneName,
     ) -> Result<bool, StoreError>
         ensures clean { HasCleanDisk (state S.Store store.new) → HasCleanDisk (state S.Store store.old) }
+        ensures faults { (state S.Store store.old).faults ≤ (state S.Store store.new).faults }
+        ensures limit { store.new.step_limit ≡ store.old.step_limit }
         ensures loads { OnOk result (OnlyLoads S.Store store.old store.new) }
         ensures none { TellsNoState S.Store store.old store.new result }
         ensures ended { HasCleanDisk (state S.Store store.new) → (s : State) → IsSessionOf s self.old
             → Keeps S.Store store.old s
-            → HasLoaded S.Store store.new s (IsSought s self.new name) result }
+            → HasLoaded S.Store store.old store.new s (IsSought s self.new name) result }
         ensures stay { OnOk result ((q : Text) → IsSome (get bytes_eq self.old.zones q)
             → IsSome (get bytes_eq self.new.zones q)) }
     {
@@ -76,10 +77,13 @@ impl Session {
         name: ZoneName,
     ) -> Result<Outcome<'static>, StoreError>
         ensures clean { HasCleanDisk (state S.Store store.new) → HasCleanDisk (state S.Store store.old) }
+        ensures faults { (state S.Store store.old).faults ≤ (state S.Store store.new).faults }
+        ensures limit { store.new.step_limit ≡ store.old.step_limit }
         ensures none { TellsNoState S.Store store.old store.new result }
         ensures ended { HasCleanDisk (state S.Store store.new) → (s : State) → IsSessionOf s self.old
             → Keeps S.Store store.old s
-            → (date : Text) (files : Files) → HasPerformed S.Store store.new s self.new date files (Set name) result }
+            → (date : Text) (files : Files)
+            → HasPerformed S.Store store.old store.new s self.new date files (Set name) result }
     {
         let header = Header {
             word: CommandWord::Set,

@@ -6,7 +6,7 @@ use Rattle.machine.specs.Machine.{Define, state_after, Prints}
 use Rattle.store_schema.specs.Inventory.{Inventory, IsInventory}
 use Rattle.store.specs.declared.change.Change.TheVariants.{NewZone}
 use Rattle.store.specs.Changes.{Makes}
-use Rattle.store.specs.Kept.{kept, IsAround}
+use Rattle.smpe_zones.specs.Kept.{kept, IsAround}
 use Rattle.smpe_upkeep.proofs.Defined.{definition_kept, placed}
 
 module _ (s t : State) (d : ZoneDefinition) (is : define_zone s d ≡ Ok t) (inventory : IsInventory (kept s)) where

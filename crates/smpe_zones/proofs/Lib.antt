@@ -1,4 +1,5 @@
 mod Adding
-mod Ending
+pub mod Ending
 mod Found
+pub mod Keeping
 mod Lookups

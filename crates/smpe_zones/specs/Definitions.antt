@@ -9,7 +9,7 @@ use Rattle.machine.specs.State.{State, ZoneDefinition, define_zone}
 use Rattle.machine.specs.Machine.{Define}
 use Rattle.store_schema.specs.declared.error.StoreError.{StoreError}
 use Rattle.store_schema.specs.declared.error.StoreError.TheVariants as store
-use Rattle.store.specs.Kept.{Keeps, IsStopped, IsFaulted}
+use Rattle.smpe_zones.specs.Kept.{Keeps, IsStopped, IsFaulted}
 use Rattle.smpe_zones.specs.declared.error.ZoneFault.{ZoneFault}
 use Rattle.smpe_zones.specs.declared.error.ZoneFault.TheVariants.{NameTaken, WrongRelated, OtherSrel, TooMany}
 use Rattle.smpe_zones.specs.declared.error.ZoneError.{ZoneError}
@@ -24,13 +24,13 @@ fault_of WrongRelated = state.Zn2
 fault_of OtherSrel = state.Zn3
 fault_of TooMany = state.Zn4
 
--- The zone is defined, or refused for the first fault. No other error comes than want of memory and a fault of the
--- store, which has a cause.
-module _ {S : Type 0} (g : Ghosts S) (at : Held S) (s : State) (d : ZoneDefinition) where
+-- The call began at `old`. The zone is defined, or refused for the first fault. No other error comes than want of
+-- memory and a fault of the store, which has a cause.
+module _ {S : Type 0} (g : Ghosts S) (old at : Held S) (s : State) (d : ZoneDefinition) where
   abbrev pub HasDefined : {U : Type 0} → Result U ZoneError → Type 0
   HasDefined (Ok done) = (t : State) × (define_zone s d ≡ Ok t) × Keeps g at t
   HasDefined (Err (Refused why)) = (define_zone s d ≡ Err (fault_of why)) × Keeps g at s
-  HasDefined (Err (Store store.Fault)) = IsFaulted g at s (Define d)
+  HasDefined (Err (Store store.Fault)) = IsFaulted g old at s (Define d)
   HasDefined (Err (Store _)) = ⊥
   HasDefined (Err Memory) = IsStopped g at s (Define d)
 

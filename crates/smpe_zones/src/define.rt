@@ -1,11 +1,11 @@
 //! A zone is defined in the store.
-ghost use Rattle.std.specs.Prelude.{IsErrOf};
+ghost use Rattle.std.specs.Prelude.{◌≡◌, ◌≤◌, IsErrOf};
 ghost use Rattle.sqlite.specs.Held.{state};
 ghost use Rattle.sqlite.specs.State.{HasCleanDisk};
 ghost use Rattle.machine.specs.State.{State};
 ghost use Rattle.store_schema.specs.declared.error.StoreError.{StoreError};
 ghost use Rattle.store.specs.BadRows.{FoundNoState};
-ghost use Rattle.store.specs.Kept.{Keeps};
+ghost use Rattle.smpe_zones.specs.Kept.{Keeps};
 ghost use Rattle.smpe_zones.specs.Definitions.{HasDefined, definition};
 
 use crate::error::ZoneError;
@@ -25,8 +25,10 @@ pub fn define_zone<S: Alter>(
     related: Option<ZoneName>,
 ) -> Result<(), ZoneError>
     ensures clean { HasCleanDisk (state S.Store store.new) → HasCleanDisk (state S.Store store.old) }
+    ensures faults { (state S.Store store.old).faults ≤ (state S.Store store.new).faults }
+    ensures limit { store.new.step_limit ≡ store.old.step_limit }
     ensures ended { HasCleanDisk (state S.Store store.new) → (s : State) → Keeps S.Store store.old s
-        → HasDefined S.Store store.new s (definition name kind srel related) result }
+        → HasDefined S.Store store.old store.new s (definition name kind srel related) result }
     ensures none { HasCleanDisk (state S.Store store.new) → IsErrOf result (ZoneError.Store StoreError.NoState)
         → FoundNoState S.Store store.old store.new }
 {

@@ -1,6 +1,6 @@
 //! Why a zone is not defined.
 
-use store_schema::StoreError;
+use store::StoreError;
 use thiserror::Error;
 
 /// The refusals, in the order in which they are looked for.

@@ -8,7 +8,7 @@ ghost use Rattle.smpe_zones.specs.Heads.{has_same_srel, is_taken, first_fault};
 
 use crate::error::ZoneFault;
 use fields::{Srel, ZoneName};
-use store_zone_loads::ZoneHead;
+use store::ZoneHead;
 use terms::ZoneKind;
 
 // More zones than these can't be defined.

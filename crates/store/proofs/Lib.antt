@@ -1,7 +1,6 @@
 mod Committing
 mod DeltaLemmas
 mod GlobalLemmas
-pub mod Keeping
 mod Loading
 pub mod NoState
 mod Parts

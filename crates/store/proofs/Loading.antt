@@ -118,13 +118,18 @@ module _ {S X : Type 0} (g : Ghosts S) (Found : Inventory → X → Type 0) (old
         let was = tables (was-clean r reads clean) in
         let stands = subst (StandsFor i) (sym (outside was.0)) was.1 in
         record {
-          before = old;
-          limit = sym reads.crash.limit;
+          moment = old;
+          since = (omega arith, refl);
           is_open = was.0;
           inventory = i;
           is_among = refl;
           stands = stands;
-          why = inl (reads.cause clean (told-fault r failed) stands.tables.schema_is);
+          kept = reads.kept clean;
+          why = elim (reads.cause clean (told-fault r failed) stands.tables.schema_is) [
+            | inl (inl more) ↦ inl more
+            | inl (inr shut) ↦ absurd (let is_open = was.0 in cc)
+            | inr limited ↦ inr (inl limited)
+          ];
         };
     same = told-ok r _ (stays r reads);
     err = told-err r _ (failed r reads);

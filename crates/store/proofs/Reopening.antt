@@ -1,7 +1,7 @@
 -- A database tells its schema by its own list, so what is opened again is what was kept.
 use Rattle.std.proofs.Common.{◌≡◌, ◌∙◌, ◌+◌, ℕ, List, [], ◌∷◌, true, false, Some, None, Ok, inl, inr, refl, sym, ap}
 use Rattle.std.proofs.Common.{ap₂, subst, arith, length}
-use Rattle.std.specs.Prelude.{filter, slice_get, pos}
+use Rattle.std.specs.Prelude.{IsTrue, filter, slice_get, pos}
 use Rattle.std.specs.List.{AllByRecursion, AllZip}
 use Rattle.std.proofs.lemmas.Option.{slice_get_cases}
 use Rattle.sqlite.specs.Store.{Ghosts}
@@ -24,7 +24,7 @@ use Rattle.sqlite_trees.specs.Objects.{catalog_tree}
 use Rattle.store_schema.specs.Inventory.{Inventory}
 use Rattle.store_schema.specs.Stands.{StandsFor}
 use Rattle.store_schema.specs.Tables.{all_tables, store_schema}
-use Rattle.store.specs.View.{Tables, IsFound}
+use Rattle.store.specs.View.{Tables, IsFound, MayLeave, Leaves}
 
 -- two lists, each item of which goes with the item of a third at its place
 one_zip : {X Y : Type 0} (R : X → Y → Type 0) → ((x : X) (a b : Y) → R x a → R x b → a ≡ b) → (xs : List X)
@@ -135,6 +135,19 @@ lists-own schema db own other =
     ap (λ ts. record schema { tables = ts }) tables
     ∙ (ap (λ is. record store_schema { indexes = is; views = schema.views }) indexes
     ∙ ap (λ vs. record store_schema { views = vs }) views)
+
+-- A connection that shows what a crash of the store may leave finds one of the inventories that a crash may leave. By
+-- sqlite's `next_run` an open shows that, of files that hold what a crash left.
+pub found-left : {S T : Type 0} (g : Ghosts S) (h : Ghosts T) (old : Held S) (new : Held T)
+    (Among : Inventory → Type 0) → Leaves g old Among → IsLive (state h new)
+    → MayLeave g old (state h new).committed.trees → IsTrue (state h new).is_open
+    → (c : Inventory) × Among c × StandsFor c (state h new).committed
+found-left g h old new Among leaves live left is_open =
+    let db = (state h new).committed.trees in
+    let it = leaves db left in
+    let own : (state h new).committed.schema ≡ store_schema =
+    lists-own (state h new).committed.schema db it.2.tables.sound (live is_open).1 in
+    (it.0, it.1, subst (λ (s : Schema). StandsFor it.0 (record { schema = s; trees = db })) (sym own) it.2)
 
 -- A connection that shows what the store last committed finds its inventory. By sqlite's `finds_again` an open of the
 -- files that a close gave back shows that.

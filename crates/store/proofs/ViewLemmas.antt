@@ -5,7 +5,7 @@ use Rattle.sqlite.specs.Tree.{Trees}
 use Rattle.sqlite.specs.Schema.{Schema}
 use Rattle.sqlite.specs.Effect.{IsDatabase}
 use Rattle.sqlite.specs.Held.{Held, state}
-use Rattle.sqlite.specs.State.{HasCleanDisk, Survives, IsLive}
+use Rattle.sqlite.specs.State.{HasCleanDisk, KeepsCommit, Survives, IsLive}
 use Rattle.store_schema.specs.Create.{IsBlank}
 use Rattle.store_schema.specs.Inventory.{Inventory, IsInventory, empty_inventory}
 use Rattle.store_schema.specs.Stands.{StandsFor, IsStateOf, IsSetUp}
@@ -49,10 +49,10 @@ module _ {S : Type 0} (g : Ghosts S) (at : Held S) (settled : Settled g at) (i :
   -- so where a fault has not shut it, it keeps what the tables stand for
   pub still_open : (HasCleanDisk (state g at) → IsTrue (state g at).is_open → StandsFor i (state g at).committed)
       → TablesIfOpen g at i
-  still_open stands is_open = record {
-    now = λ clean. (is_open, stands clean is_open);
-    crash = leaves_committed is_open (λ clean. stands clean is_open);
-  }
+  still_open stands is_open = (
+    λ clean. (is_open, stands clean is_open),
+    leaves_committed is_open (λ clean. stands clean is_open),
+  )
 
 -- At the exit of a commit a crash leaves what it left before, or the changed inventory.
 module _ {S : Type 0} (g : Ghosts S) (conn old new : Held S) (change : Change) (same : conn ≡ old)
@@ -71,18 +71,24 @@ module _ {S : Type 0} (g : Ghosts S) (conn old new : Held S) (change : Change) (
       ]
 
   -- the cause of a fault, among both
-  pub faulted_among : IsOutside g conn → HasCleanDisk (state g new) → FailsToWrite g change old new
-      → (i j : Inventory) → Makes change i j → Tables g old i → HasCause g new (λ c. (c ≡ i) ⊎ (c ≡ j))
-  faulted_among outside clean fails i j makes tables =
+  pub faulted_among : IsOutside g conn → HasCleanDisk (state g new) → KeepsCommit (state g old) (state g new)
+      → FailsToWrite g change old new
+      → (i j : Inventory) → Makes change i j → Tables g old i → HasCause g old new (λ c. (c ≡ i) ⊎ (c ≡ j))
+  faulted_among outside clean kept fails i j makes tables =
       let was = tables (omega (arith, from_old.clean, clean)) in
       record {
-        before = old;
-        limit = sym from_old.limit;
+        moment = old;
+        since = (omega arith, refl);
         is_open = was.0;
         inventory = i;
         is_among = inl refl;
         stands = subst (StandsFor i) (sym (subst (IsOutside g) same outside was.0)) was.1;
-        why = inr (change, j, inr refl, makes, fails);
+        kept = kept;
+        why = elim fails [
+          | inl (inl failed) ↦ inl failed
+          | inl (inr shut) ↦ absurd (let is_open = was.0 in cc)
+          | inr refused ↦ inr (inr (change, j, inr refl, makes, refused))
+        ];
       }
 
   -- and once it has returned, the changed inventory alone

@@ -47,9 +47,11 @@ calls_of (NewZone name kind srel related) = zone_calls (empty_zone name kind sre
 calls_of (Zone name delta) = delta_calls name delta
 calls_of (Global edits) = flat_map edit_calls edits.items
 
+-- the database refused one of the statements
+abbrev pub IsRefused : {S : Type 0} → Ghosts S → Change → Held S → Type 0
+IsRefused {S} g change old =
+    (last : Held S) × (error : Error) × Refused g (calls_of change) (record old { in_transaction = true }) last error
+
 -- the disk failed or refused, the connection had been shut, or the database refused one of the statements
 abbrev pub FailsToWrite : {S : Type 0} → Ghosts S → Change → Held S → Held S → Type 0
-FailsToWrite {S} g change old new =
-    HasFailed (state g old) (state g new)
-    ⊎ ((last : Held S) × (error : Error)
-    × Refused g (calls_of change) (record old { in_transaction = true }) last error)
+FailsToWrite g change old new = HasFailed (state g old) (state g new) ⊎ IsRefused g change old

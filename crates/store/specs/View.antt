@@ -1,5 +1,5 @@
 -- What callers see of a store: the inventory that its tables stand for, and what a crash leaves.
-use Rattle.std.specs.Prelude.{IsTrue}
+use Rattle.std.specs.Prelude.{◌≡◌, IsTrue}
 use Rattle.sqlite.specs.Store.{Ghosts}
 use Rattle.sqlite.specs.Schema.{Schema}
 use Rattle.sqlite.specs.Tree.{Trees}
@@ -9,7 +9,6 @@ use Rattle.sqlite.specs.State.{HasCleanDisk}
 use Rattle.store_schema.specs.Inventory.{Inventory}
 use Rattle.store_schema.specs.Stands.{StandsFor, IsStateOf}
 use Rattle.store_schema.specs.Tables.{store_schema}
-use Rattle.machine.specs.Runs.{Stands}
 
 module _ {S : Type 0} (g : Ghosts S) (at : Held S) where
   -- The connection is open, and its tables stand for the inventory. It claims nothing where the disk has returned other
@@ -40,4 +39,4 @@ module _ {S : Type 0} (g : Ghosts S) (at : Held S) where
 
   -- A fault may have shut the connection. Where it has not, the tables stand for the inventory, and a crash leaves it.
   abbrev pub TablesIfOpen : Inventory → Type 0
-  TablesIfOpen i = IsTrue (state g at).is_open → Stands Tables Leaves i
+  TablesIfOpen i = IsTrue (state g at).is_open → Tables i × Leaves (λ c. c ≡ i)

@@ -1,8 +1,9 @@
 //! The store: a connection whose tables stand for an inventory, and changes of it, each in one
 //! transaction.
 //! After `commit` the tables stand for the changed inventory, and a crash leaves that one; after an error they stand
-//! for the one before, and a crash leaves one of the two. What is loaded is the inventory's. A `Fault` has a cause: the
-//! disk failed, or for a commit the database refused one of its statements. No contract says when `Memory` comes.
+//! for the one before, and a crash leaves one of the two. Also where the tables stand for no inventory, a commit makes
+//! its statements and nothing else, or nothing. What is loaded is the inventory's. A `Fault` has a cause in its call:
+//! the disk failed, or for a commit the database refused one of its statements. No contract says when `Memory` comes.
 #![tactic(auto)]
 
 mod change;
@@ -15,4 +16,6 @@ mod write;
 
 pub use change::Change;
 pub use open::Store;
+pub use store_schema::StoreError;
+pub use store_zone_loads::ZoneHead;
 pub use sysmods::GlobalEdit;

@@ -9,9 +9,10 @@ ghost use Rattle.store_schema.specs.Inventory.{Inventory, IsInventory};
 ghost use Rattle.store_schema.specs.Known.{HasOtherNumber, HasNoState, HasOwnTables};
 ghost use Rattle.store_schema.specs.Stands.{StandsFor, IsSetUp};
 ghost use Rattle.store_schema.specs.Tables.{store_schema};
-ghost use Rattle.store.specs.Calls.{FailsToWrite};
+ghost use Rattle.store.specs.Calls.{calls_of, FailsToWrite};
 ghost use Rattle.store.specs.Causes.{HasCause};
 ghost use Rattle.store.specs.Changes.{Makes};
+ghost use Rattle.store.specs.Commits.{OnlyCommits};
 ghost use Rattle.store.specs.View.{Tables, TablesIfOpen, IsFound, MayLeave, Leaves, LeavesFound};
 
 use crate::change::Change;
@@ -84,6 +85,7 @@ impl<S: Alter> Store<S> {
 
     /// Makes the change in one transaction. It writes the rows that change, and loads none.
     pub fn commit(&mut self, change: &Change) -> Result<(), StoreError>
+        ensures only { OnlyCommits S.Store (calls_of change.now) self.old self.new result }
         ensures ok { OnOk result ((i j : Inventory) → Makes change.now i j → IsInventory j → Tables S.Store self.old i
             → Tables S.Store self.new j) }
         ensures durable { OnOk result ((i j : Inventory) → Makes change.now i j → IsInventory j
@@ -97,7 +99,7 @@ impl<S: Alter> Store<S> {
             → FailsToWrite S.Store change.now self.old self.new }
         ensures among { HasCleanDisk (state S.Store self.new) → IsErrOf result StoreError.Fault
             → (i j : Inventory) → Makes change.now i j → Tables S.Store self.old i
-            → HasCause S.Store self.new (λ c. (c ≡ i) ⊎ (c ≡ j)) }
+            → HasCause S.Store self.old self.new (λ c. (c ≡ i) ⊎ (c ≡ j)) }
         ensures clean { HasCleanDisk (state S.Store self.new) → HasCleanDisk (state S.Store self.old) }
     {
         // So what the connection shows is what it last committed.

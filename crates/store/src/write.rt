@@ -1,13 +1,14 @@
 //! A change in one transaction.
 
-ghost use Rattle.std.specs.Prelude.{◌≡◌, ◌⊎◌, false, OnOk, OnErr, IfErr};
+ghost use Rattle.std.specs.Prelude.{◌≡◌, ◌⊎◌, false, OnOk, IfErr};
 ghost use Rattle.sqlite.specs.declared.error.Error.TheVariants.{SqliteFailure};
 ghost use Rattle.sqlite.specs.declared.error.ErrorCode.TheVariants.{OutOfMemory};
 ghost use Rattle.sqlite.specs.Held.{state};
-ghost use Rattle.sqlite.specs.State.{HasCleanDisk, KeepsCommit, Survives};
+ghost use Rattle.sqlite.specs.State.{HasCleanDisk, Survives};
 ghost use Rattle.store_rows.specs.Calls.{RunsInside};
 ghost use Rattle.store_rows.specs.Inside.{StaysInside};
 ghost use Rattle.store.specs.Calls.{calls_of, FailsToWrite};
+ghost use Rattle.store.specs.Commits.{OnlyCommits};
 ghost use Rattle.store.specs.Writes.{Writes, CommitsChange, IsChangeOutcome};
 
 use crate::change::Change;
@@ -44,8 +45,7 @@ pub(crate) fn commit_change<S: Alter>(
     requires { conn.old.in_transaction ≡ false }
     ensures made { HasCleanDisk (state S.Store conn.new) → OnOk result
         (CommitsChange S.Store conn.old change.now conn.new) }
-    ensures kept { HasCleanDisk (state S.Store conn.new) → OnErr result
-        (KeepsCommit (state S.Store conn.old) (state S.Store conn.new)) }
+    ensures only { OnlyCommits S.Store (calls_of change.now) conn.old conn.new result }
     ensures cause { HasCleanDisk (state S.Store conn.new) → IfErr result (λ e. (e ≡ SqliteFailure OutOfMemory)
         ⊎ FailsToWrite S.Store change.now conn.old conn.new) }
     ensures crash { Survives (state S.Store conn.old) (state S.Store conn.new)

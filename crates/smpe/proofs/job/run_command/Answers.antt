@@ -14,9 +14,11 @@ returns-in_err-performed-clause-ended g c clean s is keeps =
     let session = c.perform.new.self in
     let command = command_of c.args.command.now in
     let taken = g.W.Sink.taken c.args.w.now in
-    commands-err g.S.Store c.args.date c.args.files.now at s session (command ∷ []) taken taken c.from_residual.result
+    commands-err g.S.Store c.args.date c.args.files.now c.args.store.now at s session (command ∷ []) taken taken
+    c.from_residual.result
     (job_error c.in_err-performed.field-0.0) c.from_residual.ensures.1
-    (unperformed g.S.Store c.args.date c.args.files.now at s session command taken c.in_err-performed.field-0.0
+    (unperformed g.S.Store c.args.date c.args.files.now c.args.store.now at s session command taken
+    c.in_err-performed.field-0.0
     (c.in_err-performed.ensures.ended clean s is keeps))
 
 pub returns-in_err-write_report-in-Told-clause-ended : goal.returns-in_err-write_report-in-Told-clause-ended
@@ -27,16 +29,17 @@ returns-in_err-write_report-in-Told-clause-ended g c clean s is keeps =
     let old = g.W.Sink.taken c.args.w.now in
     let new = g.W.Sink.taken c.write_report.new.w in
     let p = rw c.in-Told.is at (c.in_ok-performed.ensures.ended clean s is keeps) in
-    commands-err g.S.Store c.args.date c.args.files.now at s session (command ∷ []) old new
+    commands-err g.S.Store c.args.date c.args.files.now c.args.store.now at s session (command ∷ []) old new
     c.from_residual-in_err-write_report-in-Told.result Write c.from_residual-in_err-write_report-in-Told.ensures.1
-    (unreported g.S.Store c.args.date c.args.files.now at s p.0 command (outcome_view c.in-Told.outcome) old new
+    (unreported g.S.Store c.args.date c.args.files.now c.args.store.now at s p.0 command
+    (outcome_view c.in-Told.outcome) old new
     p.1 p.3
     (sent-part _ _ _ _ _ c.in_err-write_report-in-Told.ensures.sends c.in_err-write_report-in-Told.ensures.fault))
 
 pub returns-in_ok-write_report-in-Told-clause-ended : goal.returns-in_ok-write_report-in-Told-clause-ended
 returns-in_ok-write_report-in-Told-clause-ended g c clean s is keeps =
     let p = rw c.in-Told.is at (c.in_ok-performed.ensures.ended clean s is keeps) in
-    reported g.S.Store c.args.date c.args.files.now c.perform.new.store s p.0 c.perform.new.self
+    reported g.S.Store c.args.date c.args.files.now c.args.store.now c.perform.new.store s p.0 c.perform.new.self
     (command_of c.args.command.now) (outcome_view c.in-Told.outcome)
     (g.W.Sink.taken c.args.w.now) (g.W.Sink.taken c.write_report.new.w) _ p.1 p.2 p.3
     (sent-all _ _ _ _ _ c.in_ok-write_report-in-Told.ensures.sends c.in_ok-write_report-in-Told.ensures.fault)
@@ -52,9 +55,10 @@ returns-in_err-write_report-in-Lists-clause-ended g c clean s is keeps =
     let p = rw c.in-Lists.is at (c.in_ok-performed.ensures.ended clean s is keeps) in
     let performs = subst (λ d. Performs c.args.date c.args.files.now s d s (outcome_view c.list.result)) (sym p.0)
     (c.list.ensures s p.1 c.args.date c.args.files.now) in
-    commands-err g.S.Store c.args.date c.args.files.now at s session (command ∷ []) old new
+    commands-err g.S.Store c.args.date c.args.files.now c.args.store.now at s session (command ∷ []) old new
     c.from_residual-in_err-write_report-in-Lists.result Write c.from_residual-in_err-write_report-in-Lists.ensures.1
-    (unreported g.S.Store c.args.date c.args.files.now at s s command (outcome_view c.list.result) old new
+    (unreported g.S.Store c.args.date c.args.files.now c.args.store.now at s s command
+    (outcome_view c.list.result) old new
     performs p.2
     (sent-part _ _ _ _ _ c.in_err-write_report-in-Lists.ensures.sends c.in_err-write_report-in-Lists.ensures.fault))
 
@@ -63,7 +67,7 @@ returns-in_ok-write_report-in-Lists-clause-ended g c clean s is keeps =
     let p = rw c.in-Lists.is at (c.in_ok-performed.ensures.ended clean s is keeps) in
     let performs = subst (λ d. Performs c.args.date c.args.files.now s d s (outcome_view c.list.result)) (sym p.0)
     (c.list.ensures s p.1 c.args.date c.args.files.now) in
-    reported g.S.Store c.args.date c.args.files.now c.perform.new.store s s c.perform.new.self
+    reported g.S.Store c.args.date c.args.files.now c.args.store.now c.perform.new.store s s c.perform.new.self
     (command_of c.args.command.now) (outcome_view c.list.result)
     (g.W.Sink.taken c.args.w.now) (g.W.Sink.taken c.write_report-in-Lists.new.w) _ performs p.1 p.2
     (sent-all _ _ _ _ _ c.in_ok-write_report-in-Lists.ensures.sends c.in_ok-write_report-in-Lists.ensures.fault)

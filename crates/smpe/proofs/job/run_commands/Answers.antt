@@ -1,4 +1,4 @@
-use Rattle.std.proofs.Common.{◌∷◌, [], ◌+◌, map, take, drop, ◌++◌, sym, subst, max, Ok}
+use Rattle.std.proofs.Common.{◌∷◌, [], ◌+◌, ◌∙◌, map, take, drop, ◌++◌, sym, subst, max, Ok, arith}
 use Rattle.cntl.specs.Views.{command_of}
 use Rattle.smpe.specs.Ending.{EndsEarly}
 use Rattle.machine.specs.Machine.{Perform}
@@ -10,16 +10,20 @@ use Rattle.smpe.proofs.job.run_commands.Goals as goal
 pub loop-command-preserved : goal.loop-command-preserved
 loop-command-preserved g c = record {
   clean = λ clean. c.loop-command.invariant.clean (c.run_command.ensures.clean clean);
+  faults = omega (arith, c.loop-command.invariant.faults, c.run_command.ensures.faults);
+  limit = c.run_command.ensures.limit ∙ c.loop-command.invariant.limit;
   ran = λ clean s is keeps.
       let done = map command_of (take c.loop-command.command-index c.args.commands.now) in
       let old = g.W.Sink.taken c.args.w.now in
       let new = g.W.Sink.taken c.run_command.new.w in
       let code = c.max-code.ensures in
-      rw code (subst (λ cs. EndsCommands g.S.Store c.run_command.new.store s c.run_command.new.session c.args.date
+      rw code (subst (λ cs. EndsCommands g.S.Store c.args.store.now c.run_command.new.store s c.run_command.new.session
+      c.args.date
       c.args.files.now cs old new (Ok (max c.loop-command.code c.in_ok-next.next)))
       (sym (taken-more command_of c.args.commands.now c.loop-command.command-index c.command-item.result
       c.loop-command-test.true c.command-item.is))
-      (commands-more g.S.Store c.args.date c.args.files.now s c.loop-command.store c.run_command.new.store
+      (commands-more g.S.Store c.args.date c.args.files.now s c.args.store.now c.loop-command.store
+      c.run_command.new.store
       c.loop-command.session c.run_command.new.session
       done (command_of c.command-item.result ∷ []) old (g.W.Sink.taken c.loop-command.w) new c.loop-command.code
       c.in_ok-next.next
@@ -36,15 +40,19 @@ returns-in_err-next-clause-ended g c clean s is keeps =
     let new = g.W.Sink.taken c.run_command.new.w in
     let at = c.run_command.new.store in
     let error = c.in_err-next.field-0.0 in
-    commands-err g.S.Store c.args.date c.args.files.now at s c.run_command.new.session
+    commands-err g.S.Store c.args.date c.args.files.now c.args.store.now at s c.run_command.new.session
     (map command_of c.args.commands.now) old new c.from_residual.result error c.from_residual.ensures.1
-    (subst (λ cs. EndsEarly g.S.Store at s (map (Perform c.args.date c.args.files.now) cs) old new error)
+    (subst (λ cs. EndsEarly g.S.Store c.args.store.now at s (map (Perform c.args.date c.args.files.now) cs) old new
+    error)
     (sym (taken-split command_of c.args.commands.now c.loop-command.command-index c.command-item.result
     c.loop-command-test.true c.command-item.is))
-    (commands-early g.S.Store c.args.date c.args.files.now at s (done ++ command_of c.command-item.result ∷ []) rest old
+    (commands-early g.S.Store c.args.date c.args.files.now c.args.store.now at s (done ++ command_of
+    c.command-item.result ∷ []) rest old
     new error
-    (commands-stop g.S.Store c.args.date c.args.files.now s c.loop-command.store at c.loop-command.session
+    (commands-stop g.S.Store c.args.date c.args.files.now s c.args.store.now c.loop-command.store at
+    c.loop-command.session
     c.run_command.new.session
     done (command_of c.command-item.result ∷ []) old (g.W.Sink.taken c.loop-command.w) new c.loop-command.code error
+    (c.loop-command.invariant.faults, c.loop-command.invariant.limit)
     (c.loop-command.invariant.ran (c.run_command.ensures.clean clean) s is keeps)
     (λ t session stands. c.in_err-next.ensures.ended clean t session stands))))

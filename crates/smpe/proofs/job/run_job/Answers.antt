@@ -14,17 +14,17 @@ use Rattle.smpe.proofs.job.run_job.Goals as goal
 
 pub returns-in-Err-Memory-clause-ended : goal.returns-in-Err-Memory-clause-ended
 returns-in-Err-Memory-clause-ended g c clean s keeps =
-    ends-unbegun g.S.Store c.args.store.now s (RunFiles c.args.date c.args.cntl.now
+    ends-unbegun g.S.Store c.args.store.now c.args.store.now s (RunFiles c.args.date c.args.cntl.now
     (record { ptfin = c.args.ptfin.now; holds = c.args.hold.now }) ∷ []) (g.W.Sink.taken c.args.w.now) keeps
 
 pub returns-in_err-write_report-in-Err-Fault-clause-ended : goal.returns-in_err-write_report-in-Err-Fault-clause-ended
 returns-in_err-write_report-in-Err-Fault-clause-ended g c clean s keeps =
     let old = g.W.Sink.taken c.args.w.now in
     let new = g.W.Sink.taken c.write_report.new.w in
-    job-err g.S.Store c.args.store.now s (RunFiles c.args.date c.args.cntl.now
+    job-err g.S.Store c.args.store.now c.args.store.now s (RunFiles c.args.date c.args.cntl.now
     (record { ptfin = c.args.ptfin.now; holds = c.args.hold.now })) old new Code c.from_residual.result Write
     c.from_residual.ensures.1
-    (faulty-broke g.S.Store c.args.store.now s c.args.date c.args.cntl.now
+    (faulty-broke g.S.Store c.args.store.now c.args.store.now s c.args.date c.args.cntl.now
     (record { ptfin = c.args.ptfin.now; holds = c.args.hold.now })
     (record { number = c.in-Err-Fault.number; code = c.in-Err-Fault.code }) old new
     (subst (FailsFile c.args.cntl.now) c.in-Err-Fault.field-0-is c.in-Err-Fault.ensures.fault) keeps
@@ -36,7 +36,7 @@ pub returns-in-Err-Fault-clause-ended : goal.returns-in-Err-Fault-clause-ended
 returns-in-Err-Fault-clause-ended g c clean s keeps =
     let old = g.W.Sink.taken c.args.w.now in
     let new = g.W.Sink.taken c.write_report.new.w in
-    faulty-ran g.S.Store c.args.store.now s c.args.date c.args.cntl.now
+    faulty-ran g.S.Store c.args.store.now c.args.store.now s c.args.date c.args.cntl.now
     (record { ptfin = c.args.ptfin.now; holds = c.args.hold.now })
     (record { number = c.in-Err-Fault.number; code = c.in-Err-Fault.code }) old new
     c.in_ok-write_report-in-Err-Fault.field-0 (subst (FailsFile c.args.cntl.now) c.in-Err-Fault.field-0-is
@@ -48,11 +48,11 @@ returns-in-Err-Fault-clause-ended g c clean s keeps =
 pub returns-in_err-session-clause-ended : goal.returns-in_err-session-clause-ended
 returns-in_err-session-clause-ended g c clean s keeps =
     let taken = g.W.Sink.taken c.args.w.now in
-    job-err g.S.Store c.begin.new.store s (RunFiles c.args.date c.args.cntl.now
+    job-err g.S.Store c.args.store.now c.begin.new.store s (RunFiles c.args.date c.args.cntl.now
     (record { ptfin = c.args.ptfin.now; holds = c.args.hold.now })) taken taken Code
     c.from_residual-in_err-session.result (job_error c.in_err-session.field-0.0)
     c.from_residual-in_err-session.ensures.1
-    (unbegun g.S.Store c.begin.new.store s c.args.date c.args.cntl.now
+    (unbegun g.S.Store c.args.store.now c.begin.new.store s c.args.date c.args.cntl.now
     (record { ptfin = c.args.ptfin.now; holds = c.args.hold.now }) (map command_of c.in-Ok.commands.items) taken
     c.in_err-session.field-0.0
     c.in-Ok.ensures.commands (c.in_err-session.ensures.ended clean s keeps))
@@ -62,10 +62,10 @@ returns-clause-ended g c clean s keeps =
     let loaded = c.in_ok-session.ensures.ended (c.run_commands.ensures.clean clean) s keeps in
     let old = g.W.Sink.taken c.args.w.now in
     let new = g.W.Sink.taken c.run_commands.new.w in
-    begun g.S.Store c.run_commands.new.store s c.args.date c.args.cntl.now
+    begun g.S.Store c.args.store.now c.run_commands.new.store s c.args.date c.args.cntl.now
     (record { ptfin = c.args.ptfin.now; holds = c.args.hold.now }) c.begin.new.store c.run_commands.new.session
     (map command_of c.in-Ok.commands.items) old new
-    c.run_commands.result c.in-Ok.ensures.commands loaded.1
+    c.run_commands.result (c.begin.ensures.faults, c.begin.ensures.limit) c.in-Ok.ensures.commands loaded.1
     (rw c.deref.ensures.value at (c.run_commands.ensures.ended clean _ loaded.0 loaded.1))
 
 -- ---- closed zones

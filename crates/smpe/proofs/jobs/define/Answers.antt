@@ -5,23 +5,27 @@ use Rattle.smpe.proofs.jobs.define.Goals as goal
 pub returns-in-Ok-clause-ended : goal.returns-in-Ok-clause-ended
 returns-in-Ok-clause-ended g c clean s keeps taken =
     let p = c.in-Ok.ensures.ended clean s keeps in
-    define-done g.S.Store c.define_zone.new.store s (definition c.args.name c.args.kind c.args.srel c.args.related)
+    define-done g.S.Store c.args.store.now c.define_zone.new.store s (definition c.args.name c.args.kind c.args.srel
+    c.args.related)
     taken p.0 p.1 p.2
 
 pub returns-in-Err-Refused-clause-ended : goal.returns-in-Err-Refused-clause-ended
 returns-in-Err-Refused-clause-ended g c clean s keeps taken =
-    define-refused g.S.Store c.define_zone.new.store s (definition c.args.name c.args.kind c.args.srel c.args.related)
+    define-refused g.S.Store c.args.store.now c.define_zone.new.store s (definition c.args.name c.args.kind c.args.srel
+    c.args.related)
     taken c.in-Err-Refused.why c.in-Err-Refused.field-0 c.in-Err-Refused.field-0-is
     (c.in-Err-Refused.ensures.ended clean s keeps)
 
 pub returns-in-Err-Store-clause-ended : goal.returns-in-Err-Store-clause-ended
 returns-in-Err-Store-clause-ended g c clean s keeps taken =
-    define-fault g.S.Store c.define_zone.new.store s (definition c.args.name c.args.kind c.args.srel c.args.related)
+    define-fault g.S.Store c.args.store.now c.define_zone.new.store s (definition c.args.name c.args.kind c.args.srel
+    c.args.related)
     taken c.in-Err-Store.error c.in-Err-Store.field-0 c.from.result
     c.in-Err-Store.field-0-is c.from.ensures (c.in-Err-Store.ensures.ended clean s keeps)
 
 pub returns-in-Err-Memory-clause-ended : goal.returns-in-Err-Memory-clause-ended
 returns-in-Err-Memory-clause-ended g c clean s keeps taken =
-    define-memory g.S.Store c.define_zone.new.store s (definition c.args.name c.args.kind c.args.srel c.args.related)
+    define-memory g.S.Store c.args.store.now c.define_zone.new.store s (definition c.args.name c.args.kind c.args.srel
+    c.args.related)
     taken c.in-Err-Memory.field-0 c.in-Err-Memory.field-0-is
     (c.in-Err-Memory.ensures.ended clean s keeps)

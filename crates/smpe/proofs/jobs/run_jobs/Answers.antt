@@ -1,4 +1,4 @@
-use Rattle.std.proofs.Common.{◌∷◌, [], ◌++◌, ◌+◌, map, take, drop, Ok, sym, ap, ◌∙◌, subst, arith, rules}
+use Rattle.std.proofs.Common.{◌∷◌, [], ◌++◌, ◌+◌, map, take, drop, Ok, refl, sym, ap, ◌∙◌, subst, arith, rules}
 use Rattle.std.proofs.lemmas.List.{map-append}
 use Rattle.smpe.specs.declared.error.JobError.TheVariants.{Memory}
 use Rattle.smpe.specs.Ending.{EndsAmong, EndsJobs, job_of, answer_of}
@@ -11,9 +11,10 @@ use Rattle.smpe.proofs.jobs.run_jobs.Goals as goal
 pub returns-in_err-answers-clause-ended : goal.returns-in_err-answers-clause-ended
 returns-in_err-answers-clause-ended g c clean s keeps =
     let taken = g.W.Sink.taken c.args.w.now in
-    jobs-err g.S.Store s c.args.store.now (map job_of c.args.jobs.now) taken taken (λ v. map answer_of v.items)
+    jobs-err g.S.Store s c.args.store.now c.args.store.now (map job_of c.args.jobs.now) taken taken (λ v. map answer_of
+    v.items)
     c.from_residual.result Memory c.from_residual.ensures.1
-    (ends-unbegun g.S.Store c.args.store.now s (map job_of c.args.jobs.now) taken keeps)
+    (ends-unbegun g.S.Store c.args.store.now c.args.store.now s (map job_of c.args.jobs.now) taken keeps)
 
 pub returns-in_err-answer-clause-ended : goal.returns-in_err-answer-clause-ended
 returns-in_err-answer-clause-ended g c clean s keeps =
@@ -23,12 +24,14 @@ returns-in_err-answer-clause-ended g c clean s keeps =
     let old = g.W.Sink.taken c.args.w.now in
     let new = g.W.Sink.taken c.run_one.new.w in
     let error = c.in_err-answer.field-0.0 in
-    jobs-err g.S.Store s at (map job_of c.args.jobs.now) old new (λ v. map answer_of v.items)
+    jobs-err g.S.Store s c.args.store.now at (map job_of c.args.jobs.now) old new (λ v. map answer_of v.items)
     c.from_residual-in_err-answer.result error c.from_residual-in_err-answer.ensures.1
-    (subst (λ jobs. EndsAmong g.S.Store at s jobs old new error)
+    (subst (λ jobs. EndsAmong g.S.Store c.args.store.now at s jobs old new error)
     (sym (taken-split job_of c.args.jobs.now c.loop-job.job-index c.job-item.result c.loop-job-test.true c.job-item.is))
-    (jobs-stop g.S.Store s c.loop-job.store at done (job_of c.job-item.result) old (g.W.Sink.taken c.loop-job.w) new
+    (jobs-stop g.S.Store s c.args.store.now c.loop-job.store at done (job_of c.job-item.result) old (g.W.Sink.taken
+    c.loop-job.w) new
     (map answer_of c.loop-job.answers.items) rest error
+    (c.loop-job.invariant.faults, c.loop-job.invariant.limit)
     (c.loop-job.invariant.ran (c.run_one.ensures.clean clean) s keeps)
     (λ t stands. c.in_err-answer.ensures.ended clean t stands)))
 
@@ -38,6 +41,8 @@ loop-job-preserved g c =
     let counted = rw c.unwrap.ensures at c.push.ensures.len in
     record {
       clean = λ clean. c.loop-job.invariant.clean (c.run_one.ensures.clean clean);
+      faults = omega (arith, c.loop-job.invariant.faults, c.run_one.ensures.faults);
+      limit = c.run_one.ensures.limit ∙ c.loop-job.invariant.limit;
       ran = λ clean s keeps.
           let done = map job_of (take c.loop-job.job-index c.args.jobs.now) in
           let at = c.run_one.new.store in
@@ -45,13 +50,16 @@ loop-job-preserved g c =
           let new = g.W.Sink.taken c.run_one.new.w in
           let answers = map answer_of c.loop-job.answers.items in
           let answer = answer_of c.in_ok-answer.answer in
-          subst (λ told. EndsJobs g.S.Store at s (map job_of (take (c.loop-job.job-index + 1) c.args.jobs.now)) old new
+          subst (λ told. EndsJobs g.S.Store c.args.store.now at s (map job_of (take (c.loop-job.job-index + 1)
+          c.args.jobs.now)) old new
           (λ all. all) (Ok told))
           (sym (ap (map answer_of) pushed ∙ map-append answer_of c.loop-job.answers.items (c.in_ok-answer.answer ∷ [])))
-          (subst (λ jobs. EndsJobs g.S.Store at s jobs old new (λ all. all) (Ok (answers ++ answer ∷ [])))
+          (subst (λ jobs. EndsJobs g.S.Store c.args.store.now at s jobs old new (λ all. all) (Ok (answers ++ answer ∷
+          [])))
           (sym (taken-more job_of c.args.jobs.now c.loop-job.job-index c.job-item.result c.loop-job-test.true
           c.job-item.is))
-          (jobs-more g.S.Store s c.loop-job.store at done (job_of c.job-item.result) old (g.W.Sink.taken c.loop-job.w)
+          (jobs-more g.S.Store s c.args.store.now c.loop-job.store at done (job_of c.job-item.result) old
+          (g.W.Sink.taken c.loop-job.w)
           new answers answer
           (c.loop-job.invariant.ran (c.run_one.ensures.clean clean) s keeps)
           (λ t stands. c.in_ok-answer.ensures.ended clean t stands)));
@@ -68,6 +76,8 @@ loop-job-preserved g c =
 pub loop-job-init : goal.loop-job-init
 loop-job-init g c = record {
   clean = search rules;
+  faults = omega arith;
+  limit = refl;
   ran = search rules;
   closed = λ clean s keeps closed. keeps-closed g.S.Store c.args.store.now clean s keeps closed;
   count = search rules;

@@ -9,13 +9,14 @@ returns-in_err-code-in-Run-clause-ended g c clean s keeps =
     let old = g.W.Sink.taken c.args.w.now in
     let new = g.W.Sink.taken c.run_job.new.w in
     let error = c.in_err-code-in-Run.field-0.0 in
-    job-err g.S.Store at s (job_of c.args.job.now) old new answer_of c.from_residual.result error
+    job-err g.S.Store c.args.store.now at s (job_of c.args.job.now) old new answer_of c.from_residual.result error
     c.from_residual.ensures.1
-    (subst (λ job. EndsAmong g.S.Store at s (job_of job ∷ []) old new error) (sym c.in-Run.is)
+    (subst (λ job. EndsAmong g.S.Store c.args.store.now at s (job_of job ∷ []) old new error) (sym c.in-Run.is)
     (c.in_err-code-in-Run.ensures.ended clean s keeps))
 
 pub returns-in-Zone-clause-ended : goal.returns-in-Zone-clause-ended
 returns-in-Zone-clause-ended g c clean s keeps =
     let taken = g.W.Sink.taken c.args.w.now in
-    subst (λ job. EndsJob g.S.Store c.define.new.store s (job_of job) taken taken answer_of c.define.result)
+    subst (λ job. EndsJob g.S.Store c.args.store.now c.define.new.store s (job_of job) taken taken answer_of
+    c.define.result)
     (sym c.in-Zone.is) (c.define.ensures.ended clean s keeps taken)

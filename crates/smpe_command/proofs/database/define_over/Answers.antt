@@ -1,5 +1,6 @@
 use Rattle.std.proofs.Common.{inr, subst}
-use Rattle.store.specs.Kept.{kept}
+use Rattle.smpe_zones.specs.Kept.{kept}
+use Rattle.smpe_zones.proofs.Ending.{defined-since}
 use Rattle.smpe_command.proofs.database.define_over.Goals as goal
 
 pub returns : goal.returns
@@ -12,7 +13,10 @@ returns g c =
         opened = c.opened.new.host;
         opens = found.opens;
         store = c.define_zone-defined.new.store;
-        ends = λ clean s is. c.define_zone-defined.ensures.ended clean s (found.stands (kept s) is);
+        ends = λ clean s is.
+            defined-since g.H.Disk.Store found.conn c.in_ok-store.store c.define_zone-defined.new.store s found.later _
+            _
+            (c.define_zone-defined.ensures.ended clean s (found.stands (kept s) is));
         closed = λ clean s is closed. c.define_zone-defined.ensures.closed clean s (found.stands (kept s) is) closed;
         closes = subst (λ conn. g.H.Host.closes c.opened.new.host conn c.close-2.new.self) c.close.ensures.same
             c.close-2.ensures.closed;

@@ -6,6 +6,7 @@ returns-in-Ok-open-clause-ok g c = record {
   conn = c.in-Ok.conn;
   opens = c.in-Ok.ensures.ok;
   stands = λ i found. record { now = c.in-Ok-open.ensures.tables i found; crash = c.in-Ok-open.ensures.leaves i found };
+  later = (c.in-Ok-open.ensures.crash.counts, c.in-Ok-open.ensures.crash.limit);
 }
 
 pub returns-clause-err : goal.returns-clause-err

@@ -5,7 +5,8 @@ use Rattle.smpe_session.proofs.install.replace_zone.Goals as goal
 
 pub returns-in_err-commit_change-clause-ended : goal.returns-in_err-commit_change-clause-ended
 returns-in_err-commit_change-clause-ended g c = λ clean s t was keeps change changed is some.
-    committed-err g.S.Store c.commit_change.new.store s t c.from_residual.result c.in_err-commit_change.field-0.0
+    committed-err g.S.Store c.args.store.now c.commit_change.new.store s t c.from_residual.result
+    c.in_err-commit_change.field-0.0
     c.from_residual.ensures.1
     (c.in_err-commit_change.ensures.ended clean s t keeps (was, c.args.zone, change, changed) is)
 

@@ -1,4 +1,4 @@
-use Rattle.store.specs.Kept.{kept}
+use Rattle.smpe_zones.specs.Kept.{kept}
 use Rattle.store.proofs.NoState.{tells-committed}
 use Rattle.smpe_session.proofs.Stepping.{committed}
 use Rattle.smpe_session.proofs.load.commit_change.Goals as goal
@@ -13,3 +13,9 @@ returns-clause-ended g c = λ clean s t keeps makes is.
 pub returns-clause-none : goal.returns-clause-none
 returns-clause-none g c =
     tells-committed g.S.Store c.args.store.now c.commit.new.self c.commit.result c.commit.ensures.which
+
+pub returns-clause-faults : goal.returns-clause-faults
+returns-clause-faults g c = c.commit.ensures.only.crash.counts
+
+pub returns-clause-limit : goal.returns-clause-limit
+returns-clause-limit g c = c.commit.ensures.only.crash.limit

@@ -13,13 +13,13 @@ use Rattle.smpe_session.proofs.receive.take_items.Goals as goal
 
 pub returns-in_err-edits-clause-ended : goal.returns-in_err-edits-clause-ended
 returns-in_err-edits-clause-ended g c = λ clean s global keeps date files what at sources reads reads_holds.
-    run-short g.S.Store c.args.store.now s (Perform date files (Receive what))
+    run-short g.S.Store c.args.store.now c.args.store.now s (Perform date files (Receive what))
     (LeadsToGlobal date files (Receive what) s c.take_found.new.global) (λ v. map line_view v.items)
     c.from_residual.result c.from_residual.ensures.1 keeps
 
 pub returns-in_err-lines-clause-ended : goal.returns-in_err-lines-clause-ended
 returns-in_err-lines-clause-ended g c = λ clean s global keeps date files what at sources reads reads_holds.
-    run-short g.S.Store c.args.store.now s (Perform date files (Receive what))
+    run-short g.S.Store c.args.store.now c.args.store.now s (Perform date files (Receive what))
     (LeadsToGlobal date files (Receive what) s c.take_found.new.global) (λ v. map line_view v.items)
     c.from_residual-in_err-lines.result c.from_residual-in_err-lines.ensures.1 keeps
 
@@ -34,11 +34,11 @@ returns-in_err-commit_change-clause-ended g c = λ clean s global keeps date fil
     global is at sources c.take_found.ensures.form reads reads_holds c.in_ok-edits.ensures.taken
     c.in_ok-lines.ensures in
     let t = record s { global = c.take_found.new.global } in
-    run-staying g.S.Store c.commit_change.new.store s (Perform date files (Receive what))
+    run-staying g.S.Store c.args.store.now c.commit_change.new.store s (Perform date files (Receive what))
     (LeadsToGlobal date files (Receive what) s c.take_found.new.global) (λ v. map line_view v.items)
     c.from_residual-in_err-commit_change.result c.in_err-commit_change.field-0.0
     c.from_residual-in_err-commit_change.ensures.1
-    (staying-unsettled g.S.Store c.commit_change.new.store s date files (Receive what) t
+    (staying-unsettled g.S.Store c.args.store.now c.commit_change.new.store s date files (Receive what) t
     (Ran (header_of (Receive what) s.boundary) (map line_view c.in_ok-lines.lines.items)) taken.leads.performs
     c.in_err-commit_change.field-0.0
     (c.in_err-commit_change.ensures.ended clean s t keeps (taken.fits, taken.makes) taken.inventory))

@@ -11,7 +11,7 @@ use Rattle.smpe_session.proofs.reject.reject_ids.Goals as goal
 
 pub returns-in_err-edits-clause-ended : goal.returns-in_err-edits-clause-ended
 returns-in_err-edits-clause-ended g c = λ clean s global alike keeps date files at.
-    run-short g.S.Store c.args.store.now s (Perform date files (Reject c.args.ids.now))
+    run-short g.S.Store c.args.store.now c.args.store.now s (Perform date files (Reject c.args.ids.now))
     (LeadsToGlobal date files (Reject c.args.ids.now) s c.reject.new.global) (λ v. map line_view v.items)
     c.from_residual.result c.from_residual.ensures.1 keeps
 
@@ -23,11 +23,11 @@ returns-in_err-commit_change-clause-ended g c = λ clean s global alike keeps da
     (map line_view c.in_ok-edits.field-0.lines.items)
     global is at (c.in_ok-edits.ensures.runs s.zones alike) c.in_ok-edits.ensures.fits c.in_ok-edits.ensures.edits in
     let t = record s { global = c.reject.new.global } in
-    run-staying g.S.Store c.commit_change.new.store s (Perform date files (Reject ids))
+    run-staying g.S.Store c.args.store.now c.commit_change.new.store s (Perform date files (Reject ids))
     (LeadsToGlobal date files (Reject ids) s c.reject.new.global) (λ v. map line_view v.items)
     c.from_residual-in_err-commit_change.result c.in_err-commit_change.field-0.0
     c.from_residual-in_err-commit_change.ensures.1
-    (staying-unsettled g.S.Store c.commit_change.new.store s date files (Reject ids) t
+    (staying-unsettled g.S.Store c.args.store.now c.commit_change.new.store s date files (Reject ids) t
     (Ran (header_of (Reject ids) s.boundary) (map line_view c.in_ok-edits.field-0.lines.items)) taken.leads.performs
     c.in_err-commit_change.field-0.0
     (c.in_err-commit_change.ensures.ended clean s t keeps (taken.fits, taken.makes) taken.inventory))

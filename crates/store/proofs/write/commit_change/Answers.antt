@@ -4,9 +4,11 @@ use Rattle.sqlite.specs.declared.error.ErrorCode.TheVariants.{OutOfMemory}
 use Rattle.sqlite.specs.Held.{state}
 use Rattle.sqlite.specs.State.{HasCleanDisk, Survives}
 use Rattle.store_rows.proofs.InsideLemmas.{on_ok}
-use Rattle.store.specs.Calls.{FailsToWrite}
+use Rattle.store.specs.Calls.{calls_of, FailsToWrite}
+use Rattle.store.specs.Commits.{OnlyCommits}
 use Rattle.store.specs.Writes.{CommitsChange, IsChangeOutcome}
 use Rattle.store.proofs.Committing.{crashed, committed, if_err, handed_on, failed_to_write, failed_to_commit}
+use Rattle.store.proofs.Committing.{only-undone, only-committed}
 use Rattle.store.proofs.write.commit_change.Goals as goal
 
 pub returns-clause-made : goal.returns-clause-made
@@ -73,3 +75,32 @@ returns-clause-cause g c =
     (λ e. failed_to_commit s old last last_now change c.write.result (tt {0}) e inside c.commit.ensures.survives
     c.in_ok-write.was clean runs)
     (c.commit.ensures.err clean))
+
+pub returns-in_err-write-clause-only : goal.returns-in_err-write-clause-only
+returns-in_err-write-clause-only g c =
+    let s = g.S.Store in
+    let old = c.args.conn.now in
+    let last_now = c.drop-tx.new.self.0 in
+    let calls = calls_of c.args.change.now in
+    let begun = c.transaction-tx.ensures.begun in
+    let inside = rw begun at c.write.ensures.inside in
+    let same : last_now ≡ c.conn-1.given.0 = search rules in
+    subst (λ h. OnlyCommits s calls old h c.from_residual.result) same
+    (only-undone s calls old last_now c.write.new.tx.conn.now inside c.from_residual.result _ c.from_residual.ensures.1
+    (λ clean. c.drop-tx.ensures.undone clean) c.drop-tx.ensures.survives)
+
+pub returns-clause-only : goal.returns-clause-only
+returns-clause-only g c =
+    let s = g.S.Store in
+    let old = c.args.conn.now in
+    let last_now = c.commit.new.self.0 in
+    let calls = calls_of c.args.change.now in
+    let begun = c.transaction-tx.ensures.begun in
+    let inside = rw begun at c.write.ensures.inside in
+    let runs = rw begun at c.write.ensures.calls in
+    let same : last_now ≡ c.conn-2-1.given.0 = search rules in
+    subst (λ h. OnlyCommits s calls old h c.commit.result) same
+    (only-committed s calls old last_now c.write.new.tx.conn.now inside c.write.result (tt {0}) c.commit.result
+    c.in_ok-write.was runs c.commit.ensures.survives
+    (λ clean. on_ok c.commit.result _ _ (λ it. it.1) (c.commit.ensures.ok clean))
+    (λ clean. if_err c.commit.result _ _ (λ e fails. fails) (c.commit.ensures.err clean)))

@@ -2,24 +2,25 @@ use Rattle.std.proofs.Common.{◌∙◌, Err, map, sym, ap, refl}
 use Rattle.std.specs.Prelude.{if◌then◌else◌}
 use Rattle.machine.specs.Outcome.{header_of}
 use Rattle.machine.specs.State.{with_zone}
+use Rattle.machine.specs.Machine.{Perform}
 use Rattle.report.specs.Views.{line_view, header_view, refusal_view}
 use Rattle.store.proofs.NoState.{loads-none, tells-after, tells-short}
 use Rattle.smpe_session.specs.Places.{install_command}
 use Rattle.smpe_session.proofs.Installed.{planned, install-session, install-performs, install-commits, install-refused}
 use Rattle.smpe_session.proofs.Places.{install-at}
 use Rattle.smpe_session.proofs.Stepping.{kept-inventory, performs-unmoved, performs-short, performs-staying}
-use Rattle.smpe_session.proofs.Stepping.{staying-unsettled}
+use Rattle.smpe_session.proofs.Stepping.{staying-unsettled, staying-since}
 use Rattle.smpe_session.proofs.session.Session.install.Goals as goal
 
 pub returns-in_err-related-clause-ended : goal.returns-in_err-related-clause-ended
 returns-in_err-related-clause-ended g c = λ clean s is keeps files.
-    performs-unmoved g.S.Store c.seek_related.new.store s c.seek_related.new.self c.args.date files
+    performs-unmoved g.S.Store c.args.store.now c.seek_related.new.store s c.seek_related.new.self c.args.date files
     (install_command c.args.kind c.args.install.now) c.from_residual.result c.in_err-related.field-0.0
     c.from_residual.ensures.1 (c.in_err-related.ensures.ended clean s is keeps)
 
 pub returns-in_err-delta-in-Ok-clause-ended : goal.returns-in_err-delta-in-Ok-clause-ended
 returns-in_err-delta-in-Ok-clause-ended g c = λ clean s is keeps files.
-    performs-short g.S.Store c.seek_related.new.store s c.seek_related.new.self c.args.date files
+    performs-short g.S.Store c.args.store.now c.seek_related.new.store s c.seek_related.new.self c.args.date files
     (install_command c.args.kind c.args.install.now) c.from_residual-in_err-delta-in-Ok.result
     c.from_residual-in_err-delta-in-Ok.ensures.1 (c.in_ok-related.ensures.ended clean s is keeps).1
 
@@ -73,13 +74,17 @@ returns-in_err-replace_zone-in-Ok-clause-ended g c = λ clean s is keeps files.
     c.install.inside.check t (header_view c.header-header.result) checks
     (ap (λ b. if b then s else t) (sym c.if-install.false))
     (c.header-header.ensures i checks ∙ ap (header_of command) is.boundary) in
-    performs-staying g.S.Store c.replace_zone.new.store s _ c.args.date files command
+    performs-staying g.S.Store c.args.store.now c.replace_zone.new.store s _ c.args.date files command
     c.from_residual-in_err-replace_zone-in-Ok.result c.in_err-replace_zone-in-Ok.field-0.0
     c.from_residual-in_err-replace_zone-in-Ok.ensures.1
-    (staying-unsettled g.S.Store c.replace_zone.new.store s c.args.date files command t _ performs
+    (staying-since g.S.Store c.args.store.now c.seek_related.new.store c.replace_zone.new.store s
+    (c.seek_related.ensures.faults, c.seek_related.ensures.limit) (Perform c.args.date files command)
+    c.in_err-replace_zone-in-Ok.field-0.0
+    (staying-unsettled g.S.Store c.seek_related.new.store c.replace_zone.new.store s c.args.date files command t _
+    performs
     c.in_err-replace_zone-in-Ok.field-0.0
     (install-commits c.args.date kind i s at name zone p.delta p.zone lines ready inventory
-    (λ was. c.in_err-replace_zone-in-Ok.ensures.ended clean s t was sought.1)))
+    (λ was. c.in_err-replace_zone-in-Ok.ensures.ended clean s t was sought.1))))
 
 pub returns-in_ok-replace_zone-in-Ok-clause-ended : goal.returns-in_ok-replace_zone-in-Ok-clause-ended
 returns-in_ok-replace_zone-in-Ok-clause-ended g c = λ clean s is keeps files.

@@ -2,21 +2,24 @@ use Rattle.std.proofs.Common.{◌∙◌, Err, ap}
 use Rattle.store.proofs.NoState.{loads-none, loads-read, loads-then, tells-after}
 use Rattle.smpe_session.specs.Steps.{HasAllZones}
 use Rattle.smpe_session.proofs.AllZones.{all-zones}
-use Rattle.smpe_session.proofs.Stepping.{kept-inventory, loaded-err}
+use Rattle.smpe_session.proofs.Stepping.{kept-inventory, loaded-err, unmoved-since}
 use Rattle.smpe_session.proofs.session.Session.load_zones.Goals as goal
 
 pub returns-in_err-names-clause-ended : goal.returns-in_err-names-clause-ended
 returns-in_err-names-clause-ended g c = λ clean s is keeps.
-    loaded-err g.S.Store c.load_names.new.store s (λ _. HasAllZones s c.args.self.now) c.from_residual.result
+    loaded-err g.S.Store c.args.store.now c.load_names.new.store s (λ _. HasAllZones s c.args.self.now)
+    c.from_residual.result
     c.in_err-names.field-0.0 c.from_residual.ensures.1
     (c.in_err-names.ensures.ended clean s keeps)
 
 pub returns-in_err-seek_each-clause-ended : goal.returns-in_err-seek_each-clause-ended
 returns-in_err-seek_each-clause-ended g c = λ clean s is keeps.
     let named = c.in_ok-names.ensures.ended (c.seek_each.ensures.clean clean) s keeps in
-    loaded-err g.S.Store c.seek_each.new.store s (λ _. HasAllZones s c.seek_each.new.self)
+    loaded-err g.S.Store c.args.store.now c.seek_each.new.store s (λ _. HasAllZones s c.seek_each.new.self)
     c.from_residual-in_err-seek_each.result c.in_err-seek_each.field-0.0 c.from_residual-in_err-seek_each.ensures.1
-    (c.in_err-seek_each.ensures.ended clean s is named.1)
+    (unmoved-since g.S.Store c.args.store.now c.load_names.new.store c.seek_each.new.store s
+    (c.load_names.ensures.faults, c.load_names.ensures.limit) c.in_err-seek_each.field-0.0
+    (c.in_err-seek_each.ensures.ended clean s is named.1))
 
 pub returns-clause-ended : goal.returns-clause-ended
 returns-clause-ended g c = λ clean s is keeps.

@@ -5,40 +5,46 @@ use Rattle.smpe_session.proofs.session.Session.perform.Goals as goal
 
 pub returns-in-Set-clause-ended : goal.returns-in-Set-clause-ended
 returns-in-Set-clause-ended g c = λ clean s is keeps. rw c.in-Set.is
-    (done-by g.S.Store c.set.new.store s c.set.new.self c.args.date c.args.files.now _ c.set.result c.told.result
+    (done-by g.S.Store c.args.store.now c.set.new.store s c.set.new.self c.args.date c.args.files.now _ c.set.result
+    c.told.result
     c.told.ensures (c.set.ensures.ended clean s is keeps c.args.date c.args.files.now))
 
 pub returns-in-Receive-clause-ended : goal.returns-in-Receive-clause-ended
 returns-in-Receive-clause-ended g c = λ clean s is keeps. rw c.in-Receive.is
-    (done-by g.S.Store c.receive.new.store s c.receive.new.self c.args.date c.args.files.now _ c.receive.result
+    (done-by g.S.Store c.args.store.now c.receive.new.store s c.receive.new.self c.args.date c.args.files.now _
+    c.receive.result
     c.told-in-Receive.result c.told-in-Receive.ensures (c.receive.ensures.ended clean s is keeps c.args.date))
 
 pub returns-in-Reject-clause-ended : goal.returns-in-Reject-clause-ended
 returns-in-Reject-clause-ended g c = λ clean s is keeps. rw c.in-Reject.is
-    (done-by g.S.Store c.reject.new.store s c.reject.new.self c.args.date c.args.files.now _ c.reject.result
+    (done-by g.S.Store c.args.store.now c.reject.new.store s c.reject.new.self c.args.date c.args.files.now _
+    c.reject.result
     c.told-in-Reject.result c.told-in-Reject.ensures
     (c.reject.ensures.ended clean s is keeps c.args.date c.args.files.now))
 
 pub returns-in-Apply-clause-ended : goal.returns-in-Apply-clause-ended
 returns-in-Apply-clause-ended g c = λ clean s is keeps. rw c.in-Apply.is
-    (done-by g.S.Store c.install.new.store s c.install.new.self c.args.date c.args.files.now _ c.install.result
+    (done-by g.S.Store c.args.store.now c.install.new.store s c.install.new.self c.args.date c.args.files.now _
+    c.install.result
     c.told-in-Apply.result c.told-in-Apply.ensures (c.install.ensures.ended clean s is keeps c.args.files.now))
 
 pub returns-in-Accept-clause-ended : goal.returns-in-Accept-clause-ended
 returns-in-Accept-clause-ended g c = λ clean s is keeps. rw c.in-Accept.is
-    (done-by g.S.Store c.install-in-Accept.new.store s c.install-in-Accept.new.self c.args.date c.args.files.now _
+    (done-by g.S.Store c.args.store.now c.install-in-Accept.new.store s c.install-in-Accept.new.self c.args.date
+    c.args.files.now _
     c.install-in-Accept.result c.told-in-Accept.result c.told-in-Accept.ensures
     (c.install-in-Accept.ensures.ended clean s is keeps c.args.files.now))
 
 pub returns-in-Restore-clause-ended : goal.returns-in-Restore-clause-ended
 returns-in-Restore-clause-ended g c = λ clean s is keeps. rw c.in-Restore.is
-    (done-by g.S.Store c.restore.new.store s c.restore.new.self c.args.date c.args.files.now _ c.restore.result
+    (done-by g.S.Store c.args.store.now c.restore.new.store s c.restore.new.self c.args.date c.args.files.now _
+    c.restore.result
     c.told-in-Restore.result c.told-in-Restore.ensures
     (c.restore.ensures.ended clean s is keeps c.args.date c.args.files.now))
 
 pub returns-in_err-report-in-Report-clause-ended : goal.returns-in_err-report-in-Report-clause-ended
 returns-in_err-report-in-Report-clause-ended g c = λ clean s is keeps.
-    done-short g.S.Store c.args.store.now s c.args.self.now c.args.date c.args.files.now
+    done-short g.S.Store c.args.store.now c.args.store.now s c.args.self.now c.args.date c.args.files.now
     (command_of c.args.command.now) c.from_residual.result c.from_residual.ensures.1 keeps
 
 pub returns-in_ok-report-in-Report-clause-ended : goal.returns-in_ok-report-in-Report-clause-ended

@@ -23,13 +23,15 @@ take_items-requires g c = each-external c.args.what.now.holddata c.args.files.no
 
 pub returns-in_err-found-clause-ended : goal.returns-in_err-found-clause-ended
 returns-in_err-found-clause-ended g c = λ clean s is keeps date.
-    performs-short g.S.Store c.args.store.now s c.args.self.now date c.args.files.now (Receive c.args.what.now)
+    performs-short g.S.Store c.args.store.now c.args.store.now s c.args.self.now date c.args.files.now (Receive
+    c.args.what.now)
     c.from_residual.result c.from_residual.ensures.1 keeps
 
 pub returns-in_err-lines-in-Ok-clause-ended : goal.returns-in_err-lines-in-Ok-clause-ended
 returns-in_err-lines-in-Ok-clause-ended g c = λ clean s is keeps date.
     let found = rw c.in-Ok.is at c.in_ok-found.ensures in
-    performs-staying g.S.Store c.take_items.new.store s _ date c.args.files.now (Receive c.args.what.now)
+    performs-staying g.S.Store c.args.store.now c.take_items.new.store s _ date c.args.files.now (Receive
+    c.args.what.now)
     c.from_residual-in_err-lines-in-Ok.result c.in_err-lines-in-Ok.field-0.0
     c.from_residual-in_err-lines-in-Ok.ensures.1
     (c.in_err-lines-in-Ok.ensures.ended clean s (sym is.global) keeps date c.args.files.now c.args.what.now

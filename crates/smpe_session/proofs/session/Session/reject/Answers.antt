@@ -1,10 +1,11 @@
 use Rattle.std.proofs.Common.{◌∙◌, Err, refl, sym, ap}
 use Rattle.terms.specs.Types.{Reject}
+use Rattle.machine.specs.Machine.{Perform}
 use Rattle.store.proofs.NoState.{loads-none, tells-after}
 use Rattle.smpe_session.proofs.AllZones.{alike}
 use Rattle.smpe_session.proofs.Leading.{led, refused, led-session}
 use Rattle.smpe_session.proofs.Places.{reject-at}
-use Rattle.smpe_session.proofs.Stepping.{kept-inventory, performs-unmoved, performs-staying}
+use Rattle.smpe_session.proofs.Stepping.{kept-inventory, performs-unmoved, performs-staying, staying-since}
 use Rattle.smpe_session.proofs.session.Session.reject.Goals as goal
 
 pub returns-in-Some-clause-ended : goal.returns-in-Some-clause-ended
@@ -18,18 +19,22 @@ returns-in-Some-clause-ended g c = λ clean s is keeps date files. (
 
 pub returns-in_err-load_zones-clause-ended : goal.returns-in_err-load_zones-clause-ended
 returns-in_err-load_zones-clause-ended g c = λ clean s is keeps date files.
-    performs-unmoved g.S.Store c.load_zones.new.store s _ date files (Reject c.args.ids.now) c.from_residual.result
+    performs-unmoved g.S.Store c.args.store.now c.load_zones.new.store s _ date files (Reject c.args.ids.now)
+    c.from_residual.result
     c.in_err-load_zones.field-0.0 c.from_residual.ensures.1 (c.in_err-load_zones.ensures.ended clean s is keeps)
 
 pub returns-in_err-lines-clause-ended : goal.returns-in_err-lines-clause-ended
 returns-in_err-lines-clause-ended g c = λ clean s is keeps date files.
     let had = c.in_ok-load_zones.ensures.ended (c.reject_ids.ensures.clean clean) s is keeps in
     let inventory = kept-inventory g.S.Store c.load_zones.new.store s (c.reject_ids.ensures.clean clean) had.1 in
-    performs-staying g.S.Store c.reject_ids.new.store s _ date files (Reject c.args.ids.now)
+    performs-staying g.S.Store c.args.store.now c.reject_ids.new.store s _ date files (Reject c.args.ids.now)
     c.from_residual-in_err-lines.result c.in_err-lines.field-0.0 c.from_residual-in_err-lines.ensures.1
+    (staying-since g.S.Store c.args.store.now c.load_zones.new.store c.reject_ids.new.store s
+    (c.load_zones.ensures.faults, c.load_zones.ensures.limit) (Perform date files (Reject c.args.ids.now))
+    c.in_err-lines.field-0.0
     (c.in_err-lines.ensures.ended clean s (sym had.0.session.global)
     (alike s c.load_zones.new.self inventory c.reject_ids.ensures.names had.0) had.1 date files
-    (sym (c.in_default.ensures s (sym is.boundary) ∙ reject-at s c.args.ids.now)))
+    (sym (c.in_default.ensures s (sym is.boundary) ∙ reject-at s c.args.ids.now))))
 
 pub returns-clause-ended : goal.returns-clause-ended
 returns-clause-ended g c = λ clean s is keeps date files.

@@ -4,6 +4,7 @@ use Rattle.terms.specs.Types.{Restore}
 use Rattle.cntl.specs.Views.{restore_list_of}
 use Rattle.machine.specs.Outcome.{Ran}
 use Rattle.machine.specs.State.{with_zone}
+use Rattle.machine.specs.Machine.{Perform}
 use Rattle.report.specs.Views.{line_view, refusal_view}
 use Rattle.store.proofs.NoState.{loads-none, tells-after, tells-short}
 use Rattle.smpe_session.proofs.Installed.{install-session}
@@ -11,18 +12,18 @@ use Rattle.smpe_session.proofs.Leading.{headed, refused}
 use Rattle.smpe_session.proofs.Places.{restore-at}
 use Rattle.smpe_session.proofs.Restored.{restores-there, restore-performs, restore-commits}
 use Rattle.smpe_session.proofs.Stepping.{kept-inventory, performs-unmoved, performs-short, performs-staying}
-use Rattle.smpe_session.proofs.Stepping.{staying-unsettled}
+use Rattle.smpe_session.proofs.Stepping.{staying-unsettled, staying-since}
 use Rattle.smpe_session.proofs.session.Session.restore.Goals as goal
 
 pub returns-in_err-accepted-clause-ended : goal.returns-in_err-accepted-clause-ended
 returns-in_err-accepted-clause-ended g c = λ clean s is keeps date files.
-    performs-unmoved g.S.Store c.seek_accepted.new.store s c.seek_accepted.new.self date files
+    performs-unmoved g.S.Store c.args.store.now c.seek_accepted.new.store s c.seek_accepted.new.self date files
     (Restore (restore_list_of c.args.list.now) c.args.check) c.from_residual.result c.in_err-accepted.field-0.0
     c.from_residual.ensures.1 (c.in_err-accepted.ensures.ended clean s is keeps)
 
 pub returns-in_err-delta-in-Ok-clause-ended : goal.returns-in_err-delta-in-Ok-clause-ended
 returns-in_err-delta-in-Ok-clause-ended g c = λ clean s is keeps date files.
-    performs-short g.S.Store c.seek_accepted.new.store s c.seek_accepted.new.self date files
+    performs-short g.S.Store c.args.store.now c.seek_accepted.new.store s c.seek_accepted.new.self date files
     (Restore (restore_list_of c.args.list.now) c.args.check) c.from_residual-in_err-delta-in-Ok.result
     c.from_residual-in_err-delta-in-Ok.ensures.1 (c.in_ok-accepted.ensures.ended clean s is keeps).1
 
@@ -67,14 +68,17 @@ returns-in_err-replace_zone-in-Ok-clause-ended g c = λ clean s is keeps date fi
     let t = with_zone s name p.zone in
     let performs = restore-performs s at name zone accepted p.zone what lines target restores date files c.args.check t
     (ap (λ b. if b then s else t) (sym c.if-check.false)) in
-    performs-staying g.S.Store c.replace_zone.new.store s _ date files command
+    performs-staying g.S.Store c.args.store.now c.replace_zone.new.store s _ date files command
     c.from_residual-in_err-replace_zone-in-Ok.result c.in_err-replace_zone-in-Ok.field-0.0
     c.from_residual-in_err-replace_zone-in-Ok.ensures.1
-    (staying-unsettled g.S.Store c.replace_zone.new.store s date files command t _ performs
+    (staying-since g.S.Store c.args.store.now c.seek_accepted.new.store c.replace_zone.new.store s
+    (c.seek_accepted.ensures.faults, c.seek_accepted.ensures.limit) (Perform date files command)
+    c.in_err-replace_zone-in-Ok.field-0.0
+    (staying-unsettled g.S.Store c.seek_accepted.new.store c.replace_zone.new.store s date files command t _ performs
     c.in_err-replace_zone-in-Ok.field-0.0
     (restore-commits s at name zone accepted p.zone what lines target restores p.delta
     c.in_ok-delta-in-Ok.ensures.changed inventory
-    (λ was. c.in_err-replace_zone-in-Ok.ensures.ended clean s t was sought.1)))
+    (λ was. c.in_err-replace_zone-in-Ok.ensures.ended clean s t was sought.1))))
 
 pub returns-in_ok-replace_zone-in-Ok-clause-ended : goal.returns-in_ok-replace_zone-in-Ok-clause-ended
 returns-in_ok-replace_zone-in-Ok-clause-ended g c = λ clean s is keeps date files.

@@ -1,7 +1,9 @@
 use Rattle.std.proofs.Common.{◌∙◌, Err, sym, ap}
 use Rattle.store.proofs.NoState.{loads-none, loads-read, loads-then, tells-after}
 use Rattle.smpe_session.proofs.RelatedZone.{related-none, related-some}
-use Rattle.smpe_session.proofs.Stepping.{kept-inventory}
+use Rattle.terms.specs.declared.kinds.ZoneKind.TheVariants.{Distribution}
+use Rattle.smpe_session.specs.Places.{HasRelated}
+use Rattle.smpe_session.proofs.Stepping.{kept-inventory, loaded-err, unmoved-since}
 use Rattle.smpe_session.proofs.session.Session.seek_target.Goals as goal
 
 pub returns-in_default-target_name-clause-ended : goal.returns-in_default-target_name-clause-ended
@@ -11,6 +13,16 @@ returns-in_default-target_name-clause-ended g c = λ clean s is keeps.
           (c.as_slice.ensures.value ∙ loaded.0) c.args.self.now is c.in_default-target_name.ensures,
       loaded.1,
     )
+
+pub returns-in_err-seek-clause-ended : goal.returns-in_err-seek-clause-ended
+returns-in_err-seek-clause-ended g c = λ clean s is keeps.
+    let loaded = c.in_ok-heads.ensures.ended (c.seek.ensures.clean clean) s keeps in
+    loaded-err g.S.Store c.args.store.now c.seek.new.store s (λ related. HasRelated s c.seek.new.self Distribution
+    related)
+    c.from_residual-in_err-seek.result c.in_err-seek.field-0.0 c.from_residual-in_err-seek.ensures.1
+    (unmoved-since g.S.Store c.args.store.now c.load_heads.new.store c.seek.new.store s
+    (c.load_heads.ensures.faults, c.load_heads.ensures.limit) c.in_err-seek.field-0.0
+    (c.in_err-seek.ensures.ended clean s is loaded.1))
 
 pub returns-clause-ended : goal.returns-clause-ended
 returns-clause-ended g c = λ clean s is keeps.

@@ -7,7 +7,8 @@ use Rattle.smpe_session.proofs.session.Session.set.Goals as goal
 
 pub returns-in_err-seek-clause-ended : goal.returns-in_err-seek-clause-ended
 returns-in_err-seek-clause-ended g c = λ clean s is keeps date files.
-    performs-unmoved g.S.Store c.seek.new.store s c.seek.new.self date files (Set c.args.name) c.from_residual.result
+    performs-unmoved g.S.Store c.args.store.now c.seek.new.store s c.seek.new.self date files (Set c.args.name)
+    c.from_residual.result
     c.in_err-seek.field-0.0 c.from_residual.ensures.1 (c.in_err-seek.ensures.ended clean s is keeps)
 
 pub returns-then-not-branch-clause-ended : goal.returns-then-not-branch-clause-ended

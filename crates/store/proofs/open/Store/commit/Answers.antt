@@ -1,8 +1,9 @@
 use Rattle.std.proofs.Common.{◌≡◌, ◌⊎◌, IfErr, refl, subst}
 use Rattle.sqlite.specs.declared.error.Error.TheVariants.{SqliteFailure}
 use Rattle.sqlite.specs.declared.error.ErrorCode.TheVariants.{OutOfMemory}
-use Rattle.store.specs.Calls.{FailsToWrite}
-use Rattle.store.proofs.Committing.{told_failed}
+use Rattle.store.specs.Calls.{calls_of, FailsToWrite}
+use Rattle.store.specs.Commits.{OnlyCommits}
+use Rattle.store.proofs.Committing.{told_failed, only-answered, only-failed, kept_failed}
 use Rattle.store.proofs.ViewLemmas.{leaves_either, leaves_changed, faulted_among}
 use Rattle.store.proofs.open.Store.commit.Goals as goal
 
@@ -32,8 +33,26 @@ returns-in_err-commit_change-clause-cause g c clean =
     (subst (λ old. IfErr c.commit_change.result (λ e. (e ≡ SqliteFailure OutOfMemory) ⊎ FailsToWrite s change old now))
     c.self.view_is (c.commit_change.ensures.cause clean))
 
+pub returns-in_err-commit_change-clause-only : goal.returns-in_err-commit_change-clause-only
+returns-in_err-commit_change-clause-only g c =
+    let s = g.S.Store in
+    let calls = calls_of c.args.change.now in
+    let now = c.commit_change.new.conn in
+    only-failed s calls c.args.self.now now c.commit_change.result _ c.from_residual.result _
+    c.in_err-commit_change.was c.from_residual.ensures.1
+    (subst (λ old. OnlyCommits s calls old now c.commit_change.result) c.self.view_is c.commit_change.ensures.only)
+
 pub returns-in_err-commit_change-clause-among : goal.returns-in_err-commit_change-clause-among
 returns-in_err-commit_change-clause-among g c clean failed =
     faulted_among g.S.Store c.self.inside.conn c.args.self.now c.commit_change.new.conn c.args.change.now c.self.view_is
     c.commit_change.ensures.crash (c.if-prove.ensures.settled refl) clean
+    (kept_failed c.from_residual.result _ failed ((returns-in_err-commit_change-clause-only g c).kept clean))
     (returns-in_err-commit_change-clause-cause g c clean failed)
+
+pub returns-clause-only : goal.returns-clause-only
+returns-clause-only g c =
+    let s = g.S.Store in
+    let calls = calls_of c.args.change.now in
+    let now = c.commit_change.new.conn in
+    only-answered s calls c.args.self.now now c.commit_change.result (tt {0}) (tt {0}) c.in_ok-commit_change.was
+    (subst (λ old. OnlyCommits s calls old now c.commit_change.result) c.self.view_is c.commit_change.ensures.only)

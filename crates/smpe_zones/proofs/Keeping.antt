@@ -1,5 +1,5 @@
 -- What a store keeps, from what its calls say of the tables.
-use Rattle.std.proofs.Common.{◌≡◌, ◌≢◌, ◌⊎◌, ℕ, List, refl, inl, inr}
+use Rattle.std.proofs.Common.{◌≡◌, ◌≢◌, ◌⊎◌, ◌∙◌, ℕ, List, IsSome, arith, refl, subst, inl, inr}
 use Rattle.sqlite.specs.Store.{Ghosts}
 use Rattle.sqlite.specs.Tree.{Trees}
 use Rattle.sqlite.specs.Held.{Held, state}
@@ -11,8 +11,8 @@ use Rattle.store_schema.specs.Stands.{StandsFor}
 use Rattle.store_schema.specs.Tables.{store_schema}
 use Rattle.store_schema.specs.declared.error.StoreError.{StoreError}
 use Rattle.store_schema.specs.declared.error.StoreError.TheVariants.{Fault, OtherSchema, NoState, Memory}
-use Rattle.store.specs.Causes.{HasCause, LeavesFaulted}
-use Rattle.store.specs.Kept.{kept, Keeps, IsStopped}
+use Rattle.store.specs.Causes.{IsLater, HasCause, LeavesFaulted}
+use Rattle.smpe_zones.specs.Kept.{kept, Keeps, IsStopped}
 use Rattle.store.specs.View.{Tables, TablesIfOpen, MayLeave, Leaves}
 
 -- what is kept is an inventory
@@ -26,24 +26,51 @@ pub leaves-more : {S : Type 0} (g : Ghosts S) (at : Held S) (P Q : Inventory →
 leaves-more g at P Q more leaves db left = let it = leaves db left in (it.0, more it.0 it.1, it.2)
 
 -- and so a cause
-pub cause-more : {S : Type 0} (g : Ghosts S) (at : Held S) (P Q : Inventory → Type 0) → ((c : Inventory) → P c → Q c)
-    → HasCause g at P → HasCause g at Q
-cause-more g at P Q more cause = record {
-  before = cause.before;
-  limit = cause.limit;
+pub cause-more : {S : Type 0} (g : Ghosts S) (old at : Held S) (P Q : Inventory → Type 0)
+    → ((c : Inventory) → P c → Q c) → HasCause g old at P → HasCause g old at Q
+cause-more g old at P Q more cause = record {
+  moment = cause.moment;
+  since = cause.since;
   is_open = cause.is_open;
   inventory = cause.inventory;
   is_among = more cause.inventory cause.is_among;
   stands = cause.stands;
+  kept = cause.kept;
   why = elim cause.why [
-    | inl fails ↦ inl fails
-    | inr (change, next, among, makes, fails) ↦ inr (change, next, more next among, makes, fails)
+    | inl failed ↦ inl failed
+    | inr (inl limited) ↦ inr (inl limited)
+    | inr (inr (change, next, among, makes, refused)) ↦ inr (inr (change, next, more next among, makes, refused))
   ];
 }
 
-pub faulted-more : {S : Type 0} (g : Ghosts S) (at : Held S) (P Q : Inventory → Type 0)
-    → ((c : Inventory) → P c → Q c) → LeavesFaulted g at P → LeavesFaulted g at Q
-faulted-more g at P Q more faulted = (leaves-more g at P Q more faulted.0, cause-more g at P Q more faulted.1)
+pub faulted-more : {S : Type 0} (g : Ghosts S) (old at : Held S) (P Q : Inventory → Type 0)
+    → ((c : Inventory) → P c → Q c) → LeavesFaulted g old at P → LeavesFaulted g old at Q
+faulted-more g old at P Q more faulted = (
+  leaves-more g at P Q more faulted.0,
+  cause-more g old at P Q more faulted.1,
+)
+
+-- a cause since a later moment
+pub cause-since : {S : Type 0} (g : Ghosts S) (old mid at : Held S) → IsLater g old mid → (P : Inventory → Type 0)
+    → HasCause g mid at P → HasCause g old at P
+cause-since g old mid at later P cause = record {
+  moment = cause.moment;
+  since = (omega (arith, later.0, cause.since.0), cause.since.1 ∙ later.1);
+  is_open = cause.is_open;
+  inventory = cause.inventory;
+  is_among = cause.is_among;
+  stands = cause.stands;
+  kept = cause.kept;
+  why = elim cause.why [
+    | inl failed ↦ inl failed
+    | inr (inl limited) ↦ inr (inl (subst IsSome later.1 limited))
+    | inr (inr refused) ↦ inr (inr refused)
+  ];
+}
+
+pub faulted-since : {S : Type 0} (g : Ghosts S) (old mid at : Held S) → IsLater g old mid → (P : Inventory → Type 0)
+    → LeavesFaulted g mid at P → LeavesFaulted g old at P
+faulted-since g old mid at later P faulted = (faulted.0, cause-since g old mid at later P faulted.1)
 
 module _ {S : Type 0} (g : Ghosts S) (old new : Held S) (s : State) (keeps : Keeps g old s) where
   -- what was loaded

@@ -27,7 +27,7 @@ module _ {S : Type 0} (g : Ghosts S) (at : Held S) where
     pub now : TablesIfOpen g at (kept s)
     pub crash : Leaves g at (IsAround s a)
 
-  -- So an act ends that meets a fault, and there is a cause for it.
-  pub record IsFaulted (s : State) (a : Act) : Type 0 where
-    pub stopped : IsStopped s a
-    pub cause : HasCause g at (IsAround s a)
+-- So an act of a call that began at `old` ends when it meets a fault, and there is a cause for it since then.
+pub record IsFaulted {S : Type 0} (g : Ghosts S) (old at : Held S) (s : State) (a : Act) : Type 0 where
+  pub stopped : IsStopped g at s a
+  pub cause : HasCause g old at (IsAround s a)
