@@ -1,5 +1,5 @@
 //! RESTORE: SYSMODs go off the target zone of the boundary, back to what its distribution zone holds.
-ghost use Rattle.std.specs.Prelude.{◌≡◌, IfOk, OnOk, map};
+ghost use Rattle.std.specs.Prelude.{◌≡◌, IfOk, IsTrue, OnOk, map};
 ghost use Rattle.std.specs.Option.{option_and_then};
 ghost use Rattle.std.specs.Str.{bytes_eq};
 ghost use Rattle.indexmap.specs.IndexMap.{get};
@@ -112,6 +112,7 @@ impl Session {
         check: bool,
     ) -> Result<Outcome<'static>, StoreError>
         ensures clean { HasCleanDisk (state S.Store store.new) → HasCleanDisk (state S.Store store.old) }
+        ensures loads { IsTrue check → OnOk result (OnlyLoads S.Store store.old store.new) }
         ensures none { TellsNoState S.Store store.old store.new result }
         ensures ended { HasCleanDisk (state S.Store store.new) → (s : State) → IsSessionOf s self.old
             → Keeps S.Store store.old s
