@@ -2,3 +2,4 @@ pub mod Ending
 pub mod Commands
 pub mod Messages
 pub mod ListJob
+pub mod Course

@@ -3,7 +3,8 @@
 //! machine's, or after an error those of some first commands; and whatever a crash leaves has in it each command that
 //! was reported. Zones that were closed stay so, also after an error and a crash (`closed`). The program's lines and
 //! its exit status are `zone_line` and `fault_line`. A fault of the database has a cause; no contract says when want of
-//! memory comes.
+//! memory comes. Whatever the tables are (`course`), the answer that they stand for no state has changed nothing since
+//! the last command that was reported.
 #![tactic(auto)]
 
 mod error;

@@ -1,9 +1,12 @@
 //! The definition of a zone.
+ghost use Rattle.std.specs.Prelude.{IsErrOf};
 ghost use Rattle.sqlite.specs.Held.{state};
 ghost use Rattle.sqlite.specs.State.{HasCleanDisk};
 ghost use Rattle.terms.specs.Forms.{IsSrel, IsZoneName};
 ghost use Rattle.terms.specs.Closed.{AreClosed};
 ghost use Rattle.machine.specs.State.{State};
+ghost use Rattle.store_schema.specs.declared.error.StoreError.{StoreError};
+ghost use Rattle.store.specs.BadRows.{FoundNoState};
 ghost use Rattle.store.specs.Kept.{Keeps};
 ghost use Rattle.smpe_zones.specs.Definitions.{HasDefined, definition};
 ghost use Rattle.smpe.specs.Ending.{StaysClosed};
@@ -34,6 +37,8 @@ pub fn define_zone<S: Alter>(
     ensures clean { HasCleanDisk (state S.Store store.new) → HasCleanDisk (state S.Store store.old) }
     ensures ended { HasCleanDisk (state S.Store store.new) → (s : State) → Keeps S.Store store.old s
         → HasDefined S.Store store.new s (definition name kind srel related) result }
+    ensures none { HasCleanDisk (state S.Store store.new) → IsErrOf result (ZoneError.Store StoreError.NoState)
+        → FoundNoState S.Store store.old store.new }
     ensures closed { HasCleanDisk (state S.Store store.new) → (s : State) → Keeps S.Store store.old s
         → AreClosed s.global s.zones → StaysClosed S.Store store.new }
 {
