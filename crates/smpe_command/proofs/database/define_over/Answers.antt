@@ -8,12 +8,13 @@ returns g c =
     inr (
       c.define_zone-defined.result,
       record {
-        conn = found.conn;
+        begun = c.in_ok-store.store;
         opened = c.opened.new.host;
-        opens = found.opens;
+        opens = found;
         store = c.define_zone-defined.new.store;
         ends = λ clean s is. c.define_zone-defined.ensures.ended clean s (found.stands (kept s) is);
         closed = λ clean s is closed. c.define_zone-defined.ensures.closed clean s (found.stands (kept s) is) closed;
+        goes = c.define_zone-defined.ensures.none;
         closes = subst (λ conn. g.H.Host.closes c.opened.new.host conn c.close-2.new.self) c.close.ensures.same
             c.close-2.ensures.closed;
       },
