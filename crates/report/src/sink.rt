@@ -31,6 +31,12 @@ pub trait Sink {
 
 /// A sink over any writer. It knows of its bytes what the writer says of them; an error, or a write that takes 0 bytes,
 /// is a failure.
+//
+// What no contract says: that a failure was the writer's. Of a write, `Write` of std tells only the bytes that the
+// writer holds, where it tells them at all (`contents`; standard output and standard error do not): nothing relates a
+// writer before and after a write that failed. Where the bytes are told, a piece that was taken is no failure here
+// (`none`), and after a failure the writer is left alone (`still`); but a sink that fails without asking its writer
+// would meet the contract.
 #[derive(Drop)]
 pub struct Out<W> {
     writer: W,
@@ -54,7 +60,17 @@ impl<W: Write> Sink for Out<W> {
 
     ghost has_failed = { λ o. o.failed };
 
-    fn write(&mut self, piece: &[u8]) -> Result<usize, WriteFault> {
+    fn write(&mut self, piece: &[u8]) -> Result<usize, WriteFault>
+        requires { 0 < length piece.now }
+        ensures some { IfOk result (λ n. 0 < n) }
+        ensures within { IfOk result (λ n. n ≤ length piece.now) }
+        ensures bytes { IfOk result (λ n. Appends (W.contents self.old.writer) (W.contents self.new.writer)
+            (take n piece.now)) }
+        ensures none { OnErr result (Keeps (W.contents self.old.writer) (W.contents self.new.writer)) }
+        ensures before { OnOk result (self.old.failed ≡ false) }
+        ensures after { self.new.failed ≡ is_err result }
+        ensures still { self.old.failed ≡ true → self.new ≡ self.old }
+    {
         if self.failed {
             return Err(WriteFault);
         }

@@ -3,6 +3,7 @@ pub mod Early
 mod Printing
 mod Taken
 mod Commanding
+mod Coursing
 mod Single
 mod Listing
 mod ZoneLines

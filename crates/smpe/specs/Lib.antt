@@ -3,3 +3,4 @@ pub mod Commands
 pub mod Messages
 pub mod ListJob
 pub mod Reopened
+pub mod Course

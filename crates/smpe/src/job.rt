@@ -3,7 +3,7 @@ ghost use Rattle.std.specs.Prelude.{◌≡◌, ◌≤◌, ◌∷◌, [], false, 
 ghost use Rattle.sqlite.specs.Held.{state};
 ghost use Rattle.sqlite.specs.State.{HasCleanDisk};
 ghost use Rattle.machine.specs.State.{State};
-ghost use Rattle.machine.specs.Machine.{RunFiles, Code};
+ghost use Rattle.machine.specs.Machine.{RunFiles, Code, Perform};
 ghost use Rattle.cntl.specs.Views.{command_of};
 ghost use Rattle.smpe_session.specs.Sessions.{IsSessionOf};
 ghost use Rattle.smpe_zones.specs.Kept.{Keeps};
@@ -11,6 +11,7 @@ ghost use Rattle.smpe.specs.Ending.{EndsJob, StaysClosed, is_write};
 ghost use Rattle.terms.specs.Forms.{IsDottedDate};
 ghost use Rattle.terms.specs.Closed.{AreClosed};
 ghost use Rattle.smpe.specs.Commands.{EndsCommands};
+ghost use Rattle.smpe.specs.Course.{Goes, JobGoes};
 
 use crate::error::JobError;
 use cntl::{CntlError, Command, read_cntl};
@@ -46,6 +47,8 @@ fn run_command<S: Alter, W: Sink>(
         → EndsCommands S.Store store.old store.new s session.new date files.now (command_of command.now ∷ []) (W.taken
         w.old)
         (W.taken w.new) result }
+    ensures course { Goes S.Store store.old store.new (Perform date files.now (command_of command.now) ∷ [])
+        (W.taken w.old) (W.taken w.new) result }
     ensures fault { W.has_failed w.old ≡ false → W.has_failed w.new ≡ is_write result }
 {
     let performed = session.perform(alloc, store, date, files, command)?;
@@ -73,6 +76,8 @@ fn run_commands<S: Alter, W: Sink>(
         → EndsCommands S.Store store.old store.new s session.new date files.now (map command_of commands.now) (W.taken
         w.old)
         (W.taken w.new) result }
+    ensures course { Goes S.Store store.old store.new (map (Perform date files.now) (map command_of commands.now))
+        (W.taken w.old) (W.taken w.new) result }
     ensures fault { W.has_failed w.old ≡ false → W.has_failed w.new ≡ is_write result }
 {
     let mut code: u8 = 0;
@@ -103,6 +108,8 @@ pub fn run_job<S: Alter, W: Sink>(
           holds = hold.now;
         }))
         (W.taken w.old) (W.taken w.new) Code result }
+    ensures course { JobGoes S.Store store.old store.new (RunFiles date cntl.now
+        (record { ptfin = ptfin.now; holds = hold.now })) (W.taken w.old) (W.taken w.new) result }
     ensures closed { HasCleanDisk (state S.Store store.new) → (s : State) → Keeps S.Store store.old s
         → AreClosed s.global s.zones → StaysClosed S.Store store.new }
     ensures fault { W.has_failed w.old ≡ false → W.has_failed w.new ≡ is_write result }

@@ -6,6 +6,7 @@ ghost use Rattle.machine.specs.State.{State};
 ghost use Rattle.machine.specs.Machine.{NewZone};
 ghost use Rattle.smpe_zones.specs.Definitions.{definition};
 ghost use Rattle.smpe_zones.specs.Kept.{Keeps};
+ghost use Rattle.smpe.specs.Course.{JobGoes, JobsGo};
 ghost use Rattle.smpe.specs.Ending.{EndsJob, EndsJobs, StaysClosed, is_write, job_of, answer_of};
 ghost use Rattle.terms.specs.Closed.{AreClosed};
 
@@ -60,6 +61,8 @@ fn define<S: Alter>(
         → (taken : Option (List ℕ))
         → EndsJob S.Store store.old store.new s (NewZone (definition name kind srel related)) taken taken answer_of
         result }
+    ensures course { (taken : Option (List ℕ)) → JobGoes S.Store store.old store.new
+        (NewZone (definition name kind srel related)) taken taken result }
     ensures closed { HasCleanDisk (state S.Store store.new) → (s : State) → Keeps S.Store store.old s
         → AreClosed s.global s.zones → StaysClosed S.Store store.new }
     ensures fault { is_write result ≡ false }
@@ -84,6 +87,7 @@ fn run_one<S: Alter, W: Sink>(
     ensures limit { store.new.step_limit ≡ store.old.step_limit }
     ensures ended { HasCleanDisk (state S.Store store.new) → (s : State) → Keeps S.Store store.old s
         → EndsJob S.Store store.old store.new s (job_of job.now) (W.taken w.old) (W.taken w.new) answer_of result }
+    ensures course { JobGoes S.Store store.old store.new (job_of job.now) (W.taken w.old) (W.taken w.new) result }
     ensures closed { HasCleanDisk (state S.Store store.new) → (s : State) → Keeps S.Store store.old s
         → AreClosed s.global s.zones → StaysClosed S.Store store.new }
     ensures fault { W.has_failed w.old ≡ false → W.has_failed w.new ≡ is_write result }
@@ -120,6 +124,7 @@ pub fn run_jobs<S: Alter, W: Sink>(
     ensures ended { HasCleanDisk (state S.Store store.new) → (s : State) → Keeps S.Store store.old s
         → EndsJobs S.Store store.old store.new s (map job_of jobs.now) (W.taken w.old) (W.taken w.new)
         (λ v. map answer_of v.items) result }
+    ensures course { JobsGo S.Store store.old store.new (map job_of jobs.now) (W.taken w.old) (W.taken w.new) result }
     ensures closed { HasCleanDisk (state S.Store store.new) → (s : State) → Keeps S.Store store.old s
         → AreClosed s.global s.zones → StaysClosed S.Store store.new }
     ensures fault { W.has_failed w.old ≡ false → W.has_failed w.new ≡ is_write result }

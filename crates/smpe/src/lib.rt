@@ -4,6 +4,8 @@
 //! was reported. Zones that were closed stay so, also after an error and a crash (`closed`). The program's lines and
 //! its exit status are `zone_line` and `fault_line`. A fault of the database has a cause in the call that answers it;
 //! no contract says when want of memory comes. What the next open finds after an error is a law, `next_open_finds`.
+//! Whatever the tables are (`course`), the answer that they stand for no state has changed nothing since the last
+//! command that was reported.
 #![tactic(auto)]
 
 mod error;

@@ -1,11 +1,13 @@
 //! The definition of a zone.
-ghost use Rattle.std.specs.Prelude.{◌≡◌, ◌≤◌};
+ghost use Rattle.std.specs.Prelude.{◌≡◌, ◌≤◌, IsErrOf};
 ghost use Rattle.sqlite.specs.Held.{state};
 ghost use Rattle.sqlite.specs.State.{HasCleanDisk};
 ghost use Rattle.terms.specs.Forms.{IsSrel, IsZoneName};
 ghost use Rattle.terms.specs.Closed.{AreClosed};
 ghost use Rattle.machine.specs.State.{State};
 ghost use Rattle.smpe_zones.specs.Kept.{Keeps};
+ghost use Rattle.store_schema.specs.declared.error.StoreError.{StoreError};
+ghost use Rattle.store.specs.BadRows.{FoundNoState};
 ghost use Rattle.smpe_zones.specs.Definitions.{HasDefined, definition};
 ghost use Rattle.smpe.specs.Ending.{StaysClosed};
 
@@ -37,6 +39,8 @@ pub fn define_zone<S: Alter>(
     ensures limit { store.new.step_limit ≡ store.old.step_limit }
     ensures ended { HasCleanDisk (state S.Store store.new) → (s : State) → Keeps S.Store store.old s
         → HasDefined S.Store store.old store.new s (definition name kind srel related) result }
+    ensures none { HasCleanDisk (state S.Store store.new) → IsErrOf result (ZoneError.Store StoreError.NoState)
+        → FoundNoState S.Store store.old store.new }
     ensures closed { HasCleanDisk (state S.Store store.new) → (s : State) → Keeps S.Store store.old s
         → AreClosed s.global s.zones → StaysClosed S.Store store.new }
 {

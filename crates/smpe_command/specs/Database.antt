@@ -1,9 +1,9 @@
 -- A job over the database of a name.
-use Rattle.std.specs.Prelude.{◌≡◌, ◌⊎◌, ℕ, IsTrue, Result, Ok, Err}
+use Rattle.std.specs.Prelude.{◌≡◌, ◌⊎◌, ℕ, false, IsTrue, Result, Ok, Err}
 use Rattle.sqlite.specs.declared.error.Error.{Error}
 use Rattle.sqlite.specs.Store.{Ghosts}
 use Rattle.sqlite.specs.Held.{Held, state}
-use Rattle.sqlite.specs.State.{HasCleanDisk}
+use Rattle.sqlite.specs.State.{HasCleanDisk, IsUnchanged, Survives}
 use Rattle.terms.specs.Types.{Text}
 use Rattle.terms.specs.Closed.{AreClosed}
 use Rattle.machine.specs.State.{State, ZoneDefinition}
@@ -12,11 +12,13 @@ use Rattle.machine.specs.Runs.{Stands}
 use Rattle.report.specs.declared.sink.Sink.{Ghosts as SinkGhosts}
 use Rattle.store_schema.specs.declared.error.StoreError.{StoreError}
 use Rattle.store_schema.specs.declared.error.StoreError.TheVariants.{OtherSchema, NoState}
+use Rattle.store_schema.specs.Create.{IsBlank}
 use Rattle.store_schema.specs.Inventory.{Inventory}
-use Rattle.store_schema.specs.Known.{HasOtherNumber, HasNoState, told}
+use Rattle.store_schema.specs.Known.{HasOtherNumber, HasNoState, HasOwnTables, told}
+use Rattle.store_schema.specs.Stands.{IsSetUp}
 use Rattle.smpe_zones.specs.Kept.{kept}
-use Rattle.store.specs.Causes.{IsLater}
-use Rattle.store.specs.View.{Tables, Leaves, IsFound}
+use Rattle.store.specs.BadRows.{FoundNoState}
+use Rattle.store.specs.View.{Tables, Leaves, LeavesFound, IsFound}
 use Rattle.smpe_zones.specs.declared.error.ZoneError.{ZoneError}
 use Rattle.smpe_zones.specs.declared.error.ZoneError.TheVariants as zone
 use Rattle.smpe_zones.specs.Definitions.{HasDefined}
@@ -25,6 +27,7 @@ use Rattle.smpe.specs.declared.error.JobError.TheVariants.{Memory}
 use Rattle.smpe.specs.declared.jobs.Answer.{Answer}
 use Rattle.smpe.specs.declared.jobs.Answer.TheVariants.{Defined, Refused}
 use Rattle.smpe.specs.Commands.{job_error}
+use Rattle.smpe.specs.Course.{JobGoes}
 use Rattle.smpe.specs.Ending.{EndsJob, StaysClosed}
 use Rattle.smpe_command.specs.declared.host.Host.{Ghosts as HostGhosts}
 
@@ -35,37 +38,54 @@ answer_to (Err (zone.Refused why)) = Ok (Refused why)
 answer_to (Err (zone.Store why)) = Err (job_error why)
 answer_to (Err zone.Memory) = Err Memory
 
+-- an answer that no state is there has changed nothing
+abbrev pub TellsNone : {D U : Type 0} → Ghosts D → Held D → Held D → Result U ZoneError → Type 0
+TellsNone g begun store defined =
+    HasCleanDisk (state g store) → defined ≡ Err (zone.Store NoState) → FoundNoState g begun store
+
 module _ {H D : Type 0} (host : HostGhosts H D) (g : Ghosts D) where
-  -- The database could not be made the store's, for this reason. It keeps what it had.
-  pub record Unready (conn : Held D) (why : StoreError) : Type 0 where
+  -- The database could not be made the store's, for this reason, and was closed. So it was left: what was last
+  -- committed is there as before, and a crash leaves that, or the tables that were made in a database that had none.
+  pub record Unready (opened : H) (conn : Held D) (why : StoreError) (after : H) : Type 0 where
     pub left : Held D
     pub other : HasCleanDisk (state g left) → why ≡ OtherSchema → HasOtherNumber (state g conn)
     pub none : HasCleanDisk (state g left) → why ≡ NoState → HasNoState (state g conn)
     pub same : HasCleanDisk (state g left) → IsTrue (state g left).is_open
         → (state g left).committed ≡ (state g conn).committed
+    pub found : IsTrue (state g conn).is_open → (i : Inventory) → IsFound g conn i → LeavesFound g left i
+    pub crash : Survives (state g conn) (state g left) (IsSetUp (state g conn).now)
+    pub mode : left.in_transaction ≡ false
+    pub closes : host.closes opened left after
 
-  -- no store is made of the database of this name, for this reason
+  -- No store is made of the database of this name, for this reason: it was not opened, or was opened and closed.
   abbrev pub FailsToOpen : H → Text → StoreError → H → Type 0
   FailsToOpen h db why after = ((error : Error) × host.refuses h db error after × (why ≡ told error))
-      ⊎ ((conn : Held D) × host.opens h db conn after × Unready conn why)
+      ⊎ ((conn : Held D) × (opened : H) × host.opens h db conn opened × Unready opened conn why after)
 
-  -- The database of this name was opened. The store's tables, made where there were none, stand for what was found.
+  -- The database of this name was opened. The store's tables, made where there were none, stand for what was found. A
+  -- database that was not blank is as it was, whatever its tables are.
   pub record Opens (h : H) (db : Text) (store : Held D) (after : H) : Type 0 where
     pub conn : Held D
     pub opens : host.opens h db conn after
     pub stands : (i : Inventory) → IsFound g conn i → Stands (Tables g store) (Leaves g store) i
-    pub later : IsLater g conn store
+    pub ours : HasCleanDisk (state g store) → HasOwnTables (state g store).now
+    pub same : HasCleanDisk (state g store) → ¬ IsBlank (state g conn).now
+        → IsUnchanged (state g conn) (state g store)
+    pub crash : Survives (state g conn) (state g store) (IsSetUp (state g conn).now)
 
   -- The database of this name was opened, a job ended so over each state that it was found to stand for, and it was
-  -- closed. The cause of a fault is since then. Zones that were closed stay so.
-  pub record Works (h : H) (db : Text) (Ends : Held D → Held D → State → Type 0) (after : H) : Type 0 where
-    pub conn : Held D
+  -- closed. The cause of a fault is since the opening. Zones that were closed stay so. Whatever the tables are, the job
+  -- went so from the store that was opened.
+  pub record Works (h : H) (db : Text) (Ends : Held D → Held D → State → Type 0) (Goes : Held D → Held D → Type 0)
+      (after : H) : Type 0 where
+    pub begun : Held D
     pub opened : H
-    pub opens : host.opens h db conn opened
+    pub opens : Opens h db begun opened
     pub store : Held D
-    pub ends : HasCleanDisk (state g store) → (s : State) → IsFound g conn (kept s) → Ends conn store s
-    pub closed : HasCleanDisk (state g store) → (s : State) → IsFound g conn (kept s) → AreClosed s.global s.zones
-        → StaysClosed g store
+    pub ends : HasCleanDisk (state g store) → (s : State) → IsFound g opens.conn (kept s) → Ends opens.conn store s
+    pub closed : HasCleanDisk (state g store) → (s : State) → IsFound g opens.conn (kept s)
+        → AreClosed s.global s.zones → StaysClosed g store
+    pub goes : Goes begun store
     pub closes : host.closes opened store after
 
   -- commands were run so, or the database was not opened
@@ -73,12 +93,14 @@ module _ {H D : Type 0} (host : HostGhosts H D) (g : Ghosts D) where
   RunsOver sink h db job out r after out' =
       ((why : StoreError) × FailsToOpen h db why after × (r ≡ Err (job_error why)) × (out' ≡ out))
       ⊎ Works h db
-      (λ conn store s. EndsJob g conn store s job (sink.taken out) (sink.taken out') machine.Code r) after
+      (λ conn store s. EndsJob g conn store s job (sink.taken out) (sink.taken out') machine.Code r)
+      (λ begun store. JobGoes g begun store job (sink.taken out) (sink.taken out') r) after
 
   -- a zone was defined so, or the database was not opened
   abbrev pub DefinesOver : H → Text → ZoneDefinition → Result Answer JobError → H → Type 0
   DefinesOver h db d r after =
       ((why : StoreError) × FailsToOpen h db why after × (r ≡ Err (job_error why)))
-      ⊎ ((defined : Result (Unit {0}) ZoneError) × Works h db (λ conn store s. HasDefined g conn store s d defined)
-      after
+      ⊎ ((defined : Result (Unit {0}) ZoneError)
+      × Works h db (λ conn store s. HasDefined g conn store s d defined)
+      (λ begun store. TellsNone g begun store defined) after
       × (r ≡ answer_to defined))

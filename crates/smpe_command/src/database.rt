@@ -1,4 +1,4 @@
-//! A job over the database of a name, which is closed behind it.
+//! A job over the database of a name, which is closed behind it, also where it is refused.
 ghost use Rattle.std.specs.Prelude.{◌≡◌, IfOk, IfErr};
 ghost use Rattle.machine.specs.Machine.{RunFiles};
 ghost use Rattle.smpe_zones.specs.Definitions.{definition};
@@ -68,7 +68,7 @@ fn answer(defined: Result<(), ZoneError>) -> Result<Answer, JobError>
     }
 }
 
-// Opens the database, or makes it.
+// Opens the database, or makes it. One that is refused is closed.
 fn opened<H: Host>(alloc: Global, host: &mut H, db: &str) -> Result<Store<H::Disk>, StoreError>
     ensures ok { IfOk result (λ store. Opens H.Host H.Disk.Store host.old db.now store host.new) }
     ensures err { IfErr result (λ why. FailsToOpen H.Host H.Disk.Store host.old db.now why host.new) }
@@ -79,6 +79,9 @@ fn opened<H: Host>(alloc: Global, host: &mut H, db: &str) -> Result<Store<H::Dis
     };
     match Store::open(alloc, conn) {
         Ok(store) => Ok(store),
-        Err((_, error)) => Err(error),
+        Err((conn, error)) => {
+            host.close(&mut Some(conn));
+            Err(error)
+        }
     }
 }

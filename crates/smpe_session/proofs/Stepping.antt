@@ -19,7 +19,7 @@ use Rattle.std.specs.List.{flat_map}
 use Rattle.report.specs.declared.outcome.Outcome.{Outcome}
 use Rattle.terms.specs.Types.{Text, Command}
 use Rattle.store.specs.declared.change.Change.{Change}
-use Rattle.store.specs.BadRows.{TellsNoState}
+use Rattle.store.specs.BadRows.{OnlyLoads, TellsNoState}
 use Rattle.store.specs.Changes.{Makes}
 use Rattle.store.specs.Causes.{IsLater, HasCause}
 use Rattle.smpe_zones.specs.Kept.{kept, Keeps, IsAround, IsStopped, IsFaulted}
@@ -176,6 +176,13 @@ pub told-none : {S : Type 0} (g : Ghosts S) (old new : Held S) (r : Result Outco
     → TellsNoState g old new told_so
 told-none g old new (Ok outcome) told_so is none clean bad = absurd (cc (is, bad))
 told-none g old new (Err e) told_so is none clean bad = none clean (cc (is, bad))
+
+-- nor loads alone, but where it was so
+pub told-loads : {S : Type 0} (g : Ghosts S) (old new : Held S) (r : Result Outcome StoreError)
+    (told_so : Result Performed StoreError) → told_so ≡ told r → OnOk r (OnlyLoads g old new)
+    → OnOk told_so (OnlyLoads g old new)
+told-loads g old new (Ok outcome) told_so is loads = subst (λ q. OnOk q (OnlyLoads g old new)) (sym is) loads
+told-loads g old new (Err e) told_so is loads = subst (λ q. OnOk q (OnlyLoads g old new)) (sym is) loads
 
 module _ {S : Type 0} (g : Ghosts S) (old new : Held S) (s : State) where
   -- what a load leaves

@@ -3,3 +3,4 @@ pub mod Received
 pub mod Restored
 pub mod Sessions
 pub mod Steps
+pub mod Writing

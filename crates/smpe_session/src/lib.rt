@@ -3,7 +3,8 @@
 //! stand for that state, also after a crash; the outcome of a LIST is `list`'s, which copies nothing. After want of
 //! memory or a fault of the store they stand for the state before, and a crash leaves that one or the one that the
 //! command leads to. A fault has a cause; no contract says when want of memory comes. Over tables that stand for no
-//! state, a call that answers `NoState` has changed nothing; what was committed before it stays.
+//! state, a call that answers `NoState` has changed nothing; what was committed before it stays. SET, LIST, REPORT and
+//! a command with CHECK write nothing, whatever the tables are.
 #![tactic(auto)]
 
 mod boundary;

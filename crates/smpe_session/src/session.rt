@@ -1,14 +1,15 @@
 //! What a job has in memory, and how a command goes.
-ghost use Rattle.std.specs.Prelude.{◌≡◌, ◌≤◌, IsErrOf};
+ghost use Rattle.std.specs.Prelude.{◌≡◌, ◌≤◌, IsErrOf, OnOk};
 ghost use Rattle.sqlite.specs.Held.{state};
 ghost use Rattle.sqlite.specs.State.{HasCleanDisk};
 ghost use Rattle.machine.specs.State.{State};
 ghost use Rattle.cntl.specs.Views.{command_of};
 ghost use Rattle.store_rows.specs.Reads.{OnlyReads};
 ghost use Rattle.store_schema.specs.Tables.{store_schema};
-ghost use Rattle.store.specs.BadRows.{TellsNoState};
+ghost use Rattle.store.specs.BadRows.{OnlyLoads, TellsNoState};
 ghost use Rattle.smpe_zones.specs.Kept.{Keeps};
 ghost use Rattle.smpe_session.specs.Sessions.{IsSessionOf, HasBegun, HasDone, LooksOnly, told};
+ghost use Rattle.smpe_session.specs.Writing.{WritesNothing};
 
 use crate::files::Files;
 use crate::load::load_global;
@@ -23,8 +24,9 @@ use sysmods::Global;
 use terms::ZoneKind;
 use zones::Zone;
 
-/// What a job has in memory of what the tables hold: the global zone and the zones that its SETs have named. And its
-/// boundary.
+/// What a job has in memory of what the tables hold: the global zone, and the zones that its commands have looked at so
+/// far. Those are what a SET has named, what an ACCEPT or RESTORE has looked at besides the zone of the boundary, and
+/// after a REJECT all. And its boundary.
 #[derive(Drop)]
 pub struct Session {
     pub(crate) global: Global,
@@ -78,6 +80,7 @@ impl Session {
         ensures clean { HasCleanDisk (state S.Store store.new) → HasCleanDisk (state S.Store store.old) }
         ensures faults { (state S.Store store.old).faults ≤ (state S.Store store.new).faults }
         ensures limit { store.new.step_limit ≡ store.old.step_limit }
+        ensures loads { WritesNothing (command_of command.now) → OnOk result (OnlyLoads S.Store store.old store.new) }
         ensures none { TellsNoState S.Store store.old store.new result }
         ensures ended { HasCleanDisk (state S.Store store.new) → (s : State) → IsSessionOf s self.old
             → Keeps S.Store store.old s

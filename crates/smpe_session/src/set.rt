@@ -79,6 +79,7 @@ impl Session {
         ensures clean { HasCleanDisk (state S.Store store.new) → HasCleanDisk (state S.Store store.old) }
         ensures faults { (state S.Store store.old).faults ≤ (state S.Store store.new).faults }
         ensures limit { store.new.step_limit ≡ store.old.step_limit }
+        ensures loads { OnOk result (OnlyLoads S.Store store.old store.new) }
         ensures none { TellsNoState S.Store store.old store.new result }
         ensures ended { HasCleanDisk (state S.Store store.new) → (s : State) → IsSessionOf s self.old
             → Keeps S.Store store.old s

@@ -1,11 +1,13 @@
-use Rattle.std.proofs.Common.{[], ◌∷◌, sym, subst}
-use Rattle.machine.specs.Machine.{Performs}
+use Rattle.std.proofs.Common.{[], ◌∷◌, Err, refl, sym, ap, subst}
+use Rattle.machine.specs.Machine.{Perform, Performs}
 use Rattle.cntl.specs.Views.{command_of}
 use Rattle.report.specs.Views.{outcome_view}
 use Rattle.smpe.specs.declared.error.JobError.TheVariants.{Write}
 use Rattle.smpe.specs.Commands.{job_error}
+use Rattle.smpe.specs.Course.{FoundNone}
 use Rattle.smpe.proofs.Reports.{sent-all, sent-part}
 use Rattle.smpe.proofs.Commanding.{commands-err, unperformed, unreported, reported}
+use Rattle.smpe.proofs.Coursing.{none-told, tells-none, passed-one, found-first, goes-err}
 use Rattle.smpe.proofs.job.run_command.Goals as goal
 
 pub returns-in_err-performed-clause-ended : goal.returns-in_err-performed-clause-ended
@@ -72,3 +74,46 @@ returns-in_ok-write_report-in-Lists-clause-ended g c clean s is keeps =
     (g.W.Sink.taken c.args.w.now) (g.W.Sink.taken c.write_report-in-Lists.new.w) _ performs p.1 p.2
     (sent-all _ _ _ _ _ c.in_ok-write_report-in-Lists.ensures.sends c.in_ok-write_report-in-Lists.ensures.fault)
     c.in_ok-write_report-in-Lists.ensures.code
+
+-- ---- whatever the tables are
+
+pub returns-in_err-performed-clause-course : goal.returns-in_err-performed-clause-course
+returns-in_err-performed-clause-course g c =
+    let act = Perform c.args.date c.args.files.now (command_of c.args.command.now) in
+    let taken = g.W.Sink.taken c.args.w.now in
+    let e = c.in_err-performed.field-0.0 in
+    goes-err g.S.Store c.args.store.now c.perform.new.store (act ∷ []) taken taken c.from_residual.result
+    (job_error e) c.from_residual.ensures.1
+    (tells-none g.S.Store c.perform.new.store (FoundNone g.S.Store c.args.store.now c.perform.new.store (act ∷ []) taken
+    taken) (job_error e) (λ is clean. found-first g.S.Store c.args.store.now c.perform.new.store act [] taken
+    (c.in_err-performed.ensures.none clean (ap Err (none-told e is)))))
+
+pub returns-in_err-write_report-in-Told-clause-course : goal.returns-in_err-write_report-in-Told-clause-course
+returns-in_err-write_report-in-Told-clause-course g c =
+    goes-err g.S.Store c.args.store.now c.perform.new.store
+    (Perform c.args.date c.args.files.now (command_of c.args.command.now) ∷ []) (g.W.Sink.taken c.args.w.now)
+    (g.W.Sink.taken c.write_report.new.w) c.from_residual-in_err-write_report-in-Told.result Write
+    c.from_residual-in_err-write_report-in-Told.ensures.1 tt
+
+pub returns-in_ok-write_report-in-Told-clause-course : goal.returns-in_ok-write_report-in-Told-clause-course
+returns-in_ok-write_report-in-Told-clause-course g c =
+    let outcome = outcome_view c.in-Told.outcome in
+    passed-one g.S.Store c.args.store.now c.perform.new.store
+    (Perform c.args.date c.args.files.now (command_of c.args.command.now)) outcome (g.W.Sink.taken c.args.w.now)
+    (g.W.Sink.taken c.write_report.new.w) (c.in_ok-performed.ensures.loads, (outcome, refl))
+    (sent-all _ _ _ _ _ c.in_ok-write_report-in-Told.ensures.sends c.in_ok-write_report-in-Told.ensures.fault)
+
+pub returns-in_err-write_report-in-Lists-clause-course : goal.returns-in_err-write_report-in-Lists-clause-course
+returns-in_err-write_report-in-Lists-clause-course g c =
+    goes-err g.S.Store c.args.store.now c.perform.new.store
+    (Perform c.args.date c.args.files.now (command_of c.args.command.now) ∷ []) (g.W.Sink.taken c.args.w.now)
+    (g.W.Sink.taken c.write_report-in-Lists.new.w) c.from_residual-in_err-write_report-in-Lists.result Write
+    c.from_residual-in_err-write_report-in-Lists.ensures.1 tt
+
+pub returns-in_ok-write_report-in-Lists-clause-course : goal.returns-in_ok-write_report-in-Lists-clause-course
+returns-in_ok-write_report-in-Lists-clause-course g c =
+    let outcome = outcome_view c.list.result in
+    passed-one g.S.Store c.args.store.now c.perform.new.store
+    (Perform c.args.date c.args.files.now (command_of c.args.command.now)) outcome (g.W.Sink.taken c.args.w.now)
+    (g.W.Sink.taken c.write_report-in-Lists.new.w) (c.in_ok-performed.ensures.loads, (outcome, refl))
+    (sent-all _ _ _ _ _ c.in_ok-write_report-in-Lists.ensures.sends c.in_ok-write_report-in-Lists.ensures.fault)

@@ -1,10 +1,13 @@
 use Rattle.std.proofs.Common.{◌∷◌, [], ◌+◌, ◌∙◌, map, take, drop, ◌++◌, sym, subst, max, Ok, arith}
+use Rattle.std.proofs.lemmas.List.{take_all}
 use Rattle.cntl.specs.Views.{command_of}
 use Rattle.smpe.specs.Ending.{EndsEarly}
 use Rattle.machine.specs.Machine.{Perform}
 use Rattle.smpe.specs.Commands.{EndsCommands}
+use Rattle.smpe.specs.Course.{Passed, FoundNone, TellsNone}
 use Rattle.smpe.proofs.Taken.{taken-more, taken-split}
 use Rattle.smpe.proofs.Commanding.{commands-err, commands-more, commands-stop, commands-early}
+use Rattle.smpe.proofs.Coursing.{commands-passed, commands-tell, goes-err}
 use Rattle.smpe.proofs.job.run_commands.Goals as goal
 
 pub loop-command-preserved : goal.loop-command-preserved
@@ -29,6 +32,17 @@ loop-command-preserved g c = record {
       c.in_ok-next.next
       (c.loop-command.invariant.ran (c.run_command.ensures.clean clean) s is keeps)
       (λ t at stands. c.in_ok-next.ensures.ended clean t at stands)));
+  course =
+      let done = map command_of (take c.loop-command.command-index c.args.commands.now) in
+      let perform = Perform c.args.date c.args.files.now in
+      let old = g.W.Sink.taken c.args.w.now in
+      let new = g.W.Sink.taken c.run_command.new.w in
+      subst (λ cs. Passed g.S.Store c.args.store.now c.run_command.new.store (map perform cs) old new)
+      (sym (taken-more command_of c.args.commands.now c.loop-command.command-index c.command-item.result
+      c.loop-command-test.true c.command-item.is))
+      (commands-passed g.S.Store c.args.date c.args.files.now c.args.store.now c.loop-command.store
+      c.run_command.new.store done (command_of c.command-item.result ∷ []) old (g.W.Sink.taken c.loop-command.w) new
+      c.loop-command.invariant.course c.in_ok-next.ensures.course);
   sound = λ none. c.in_ok-next.ensures.fault (c.loop-command.invariant.sound none);
 }
 
@@ -56,3 +70,29 @@ returns-in_err-next-clause-ended g c clean s is keeps =
     (c.loop-command.invariant.faults, c.loop-command.invariant.limit)
     (c.loop-command.invariant.ran (c.run_command.ensures.clean clean) s is keeps)
     (λ t session stands. c.in_err-next.ensures.ended clean t session stands))))
+
+pub returns-in_err-next-clause-course : goal.returns-in_err-next-clause-course
+returns-in_err-next-clause-course g c =
+    let done = map command_of (take c.loop-command.command-index c.args.commands.now) in
+    let rest = map command_of (drop (c.loop-command.command-index + 1) c.args.commands.now) in
+    let next = command_of c.command-item.result ∷ [] in
+    let perform = Perform c.args.date c.args.files.now in
+    let old = g.W.Sink.taken c.args.w.now in
+    let new = g.W.Sink.taken c.run_command.new.w in
+    let at = c.run_command.new.store in
+    let error = c.in_err-next.field-0.0 in
+    goes-err g.S.Store c.args.store.now at (map perform (map command_of c.args.commands.now)) old new
+    c.from_residual.result error c.from_residual.ensures.1
+    (subst (λ cs. TellsNone g.S.Store at error (FoundNone g.S.Store c.args.store.now at (map perform cs) old new))
+    (sym (taken-split command_of c.args.commands.now c.loop-command.command-index c.command-item.result
+    c.loop-command-test.true c.command-item.is))
+    (commands-tell g.S.Store c.args.date c.args.files.now c.args.store.now c.loop-command.store at done next old
+    (g.W.Sink.taken c.loop-command.w) new c.loop-command.invariant.course rest error c.in_err-next.ensures.course))
+
+pub returns-clause-course : goal.returns-clause-course
+returns-clause-course g c =
+    subst (λ cs. Passed g.S.Store c.args.store.now c.loop-command.store
+    (map (Perform c.args.date c.args.files.now) (map command_of cs)) (g.W.Sink.taken c.args.w.now)
+    (g.W.Sink.taken c.loop-command.w))
+    (take_all c.loop-command.command-index c.args.commands.now (omega (arith, c.loop-command-test.false)))
+    c.loop-command.invariant.course

@@ -1,15 +1,17 @@
-use Rattle.std.proofs.Common.{◌∷◌, map, [], subst}
+use Rattle.std.proofs.Common.{◌∷◌, map, [], Err, ap, subst}
 use Rattle.std.specs.Io.KnownBytes.{Appends}
 use Rattle.report.specs.Sent.{WrotePart}
 use Rattle.cntl.specs.Views.{command_of}
 use Rattle.cntl.specs.Faults.{FailsFile}
-use Rattle.machine.specs.Machine.{RunFiles, Code}
+use Rattle.machine.specs.Machine.{RunFiles, Code, Files}
+use Rattle.store.proofs.NoState.{loads-read}
 use Rattle.smpe.specs.declared.error.JobError.TheVariants.{Write}
 use Rattle.smpe.specs.Commands.{job_error}
 use Rattle.smpe.proofs.Early.{ends-unbegun}
 use Rattle.smpe.proofs.Reports.{sent-all, sent-part}
 use Rattle.smpe.proofs.Single.{control-same, job-err, faulty-ran, faulty-broke, unbegun, begun}
 use Rattle.smpe.proofs.Closing.{keeps-closed, job-closed}
+use Rattle.smpe.proofs.Coursing.{none-told, tells-none, JobFound, job-goes-err, begin-found, faulty-goes, begun-goes}
 use Rattle.smpe.proofs.job.run_job.Goals as goal
 
 pub returns-in-Err-Memory-clause-ended : goal.returns-in-Err-Memory-clause-ended
@@ -97,3 +99,43 @@ returns-clause-closed g c clean s keeps closed =
     (RunFiles c.args.date c.args.cntl.now (record { ptfin = c.args.ptfin.now; holds = c.args.hold.now }))
     (g.W.Sink.taken c.args.w.now) (g.W.Sink.taken c.run_commands.new.w) Code c.run_commands.result c.is_known.ensures
     (returns-clause-ended g c clean s keeps)
+
+-- ---- whatever the tables are
+
+pub returns-in_err-write_report-in-Err-Fault-clause-course : goal.returns-in_err-write_report-in-Err-Fault-clause-course
+returns-in_err-write_report-in-Err-Fault-clause-course g c =
+    job-goes-err g.S.Store c.args.store.now c.args.store.now (RunFiles c.args.date c.args.cntl.now
+    (record { ptfin = c.args.ptfin.now; holds = c.args.hold.now })) (g.W.Sink.taken c.args.w.now)
+    (g.W.Sink.taken c.write_report.new.w) c.from_residual.result Write c.from_residual.ensures.1 tt
+
+pub returns-in-Err-Fault-clause-course : goal.returns-in-Err-Fault-clause-course
+returns-in-Err-Fault-clause-course g c =
+    let old = g.W.Sink.taken c.args.w.now in
+    let new = g.W.Sink.taken c.write_report.new.w in
+    faulty-goes g.S.Store c.args.date c.args.cntl.now (record { ptfin = c.args.ptfin.now; holds = c.args.hold.now })
+    c.args.store.now (record { number = c.in-Err-Fault.number; code = c.in-Err-Fault.code }) old new
+    (subst (FailsFile c.args.cntl.now) c.in-Err-Fault.field-0-is c.in-Err-Fault.ensures.fault)
+    (subst (Appends old new) (control-same c.in-Err-Fault.number-is c.in-Err-Fault.code-is)
+    (sent-all _ _ _ _ _ c.in_ok-write_report-in-Err-Fault.ensures.sends
+    c.in_ok-write_report-in-Err-Fault.ensures.fault))
+
+pub returns-in_err-session-clause-course : goal.returns-in_err-session-clause-course
+returns-in_err-session-clause-course g c =
+    let files : Files = record { ptfin = c.args.ptfin.now; holds = c.args.hold.now } in
+    let taken = g.W.Sink.taken c.args.w.now in
+    let job = RunFiles c.args.date c.args.cntl.now files in
+    let e = c.in_err-session.field-0.0 in
+    job-goes-err g.S.Store c.args.store.now c.begin.new.store job taken taken
+    c.from_residual-in_err-session.result (job_error e) c.from_residual-in_err-session.ensures.1
+    (tells-none g.S.Store c.begin.new.store (JobFound g.S.Store c.args.store.now c.begin.new.store job taken taken)
+    (job_error e) (λ is clean. begin-found g.S.Store c.args.date c.args.cntl.now files c.args.store.now
+    c.begin.new.store (map command_of c.in-Ok.commands.items) taken c.in-Ok.ensures.commands
+    (c.in_err-session.ensures.none clean (ap Err (none-told e is)))))
+
+pub returns-clause-course : goal.returns-clause-course
+returns-clause-course g c =
+    begun-goes g.S.Store c.args.date c.args.cntl.now (record { ptfin = c.args.ptfin.now; holds = c.args.hold.now })
+    c.args.store.now c.begin.new.store c.run_commands.new.store (map command_of c.in-Ok.commands.items)
+    (g.W.Sink.taken c.args.w.now) (g.W.Sink.taken c.run_commands.new.w) c.run_commands.result c.in-Ok.ensures.commands
+    (loads-read g.S.Store c.args.store.now c.begin.new.store _ c.in_ok-session.ensures.reads)
+    (rw c.deref.ensures.value at c.run_commands.ensures.course)

@@ -1,5 +1,8 @@
+use Rattle.std.proofs.Common.{Err, ◌∙◌, ap}
+use Rattle.smpe_zones.specs.declared.error.ZoneError.TheVariants.{Store}
 use Rattle.smpe_zones.specs.Definitions.{definition}
 use Rattle.smpe.proofs.Single.{define-done, define-refused, define-memory, define-fault}
+use Rattle.smpe.proofs.Coursing.{define-goes, define-none}
 use Rattle.smpe.proofs.jobs.define.Goals as goal
 
 pub returns-in-Ok-clause-ended : goal.returns-in-Ok-clause-ended
@@ -29,3 +32,19 @@ returns-in-Err-Memory-clause-ended g c clean s keeps taken =
     c.args.related)
     taken c.in-Err-Memory.field-0 c.in-Err-Memory.field-0-is
     (c.in-Err-Memory.ensures.ended clean s keeps)
+
+pub returns-in-Ok-clause-course : goal.returns-in-Ok-clause-course
+returns-in-Ok-clause-course g c taken =
+    define-goes g.S.Store c.args.store.now c.define_zone.new.store
+    (definition c.args.name c.args.kind c.args.srel c.args.related) taken
+
+pub returns-in-Err-Refused-clause-course : goal.returns-in-Err-Refused-clause-course
+returns-in-Err-Refused-clause-course g c taken =
+    define-goes g.S.Store c.args.store.now c.define_zone.new.store
+    (definition c.args.name c.args.kind c.args.srel c.args.related) taken
+
+pub returns-in-Err-Store-clause-course : goal.returns-in-Err-Store-clause-course
+returns-in-Err-Store-clause-course g c taken =
+    define-none g.S.Store c.args.store.now c.define_zone.new.store
+    (definition c.args.name c.args.kind c.args.srel c.args.related) taken c.in-Err-Store.error c.from.result
+    c.from.ensures (λ is clean. c.in-Err-Store.ensures.none clean (ap Err (c.in-Err-Store.field-0-is ∙ ap Store is)))

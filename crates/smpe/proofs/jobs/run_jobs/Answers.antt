@@ -1,11 +1,13 @@
 use Rattle.std.proofs.Common.{◌∷◌, [], ◌++◌, ◌+◌, map, take, drop, Ok, refl, sym, ap, ◌∙◌, subst, arith, rules}
-use Rattle.std.proofs.lemmas.List.{map-append}
+use Rattle.std.proofs.lemmas.List.{map-append, take_all}
 use Rattle.smpe.specs.declared.error.JobError.TheVariants.{Memory}
+use Rattle.smpe.specs.Course.{TellsNone}
 use Rattle.smpe.specs.Ending.{EndsAmong, EndsJobs, job_of, answer_of}
 use Rattle.smpe.proofs.Early.{ends-unbegun}
 use Rattle.smpe.proofs.Taken.{taken-more, taken-split}
 use Rattle.smpe.proofs.Listing.{jobs-err, jobs-more, jobs-stop}
 use Rattle.smpe.proofs.Closing.{keeps-closed, closed-now}
+use Rattle.smpe.proofs.Coursing.{JobsWent, JobsFound, passed-none, went-more, jobs-tell, jobs-go-err}
 use Rattle.smpe.proofs.jobs.run_jobs.Goals as goal
 
 pub returns-in_err-answers-clause-ended : goal.returns-in_err-answers-clause-ended
@@ -63,6 +65,15 @@ loop-job-preserved g c =
           new answers answer
           (c.loop-job.invariant.ran (c.run_one.ensures.clean clean) s keeps)
           (λ t stands. c.in_ok-answer.ensures.ended clean t stands)));
+      course =
+          let done = map job_of (take c.loop-job.job-index c.args.jobs.now) in
+          let old = g.W.Sink.taken c.args.w.now in
+          let new = g.W.Sink.taken c.run_one.new.w in
+          subst (λ jobs. JobsWent g.S.Store c.args.store.now c.run_one.new.store jobs old new)
+          (sym (taken-more job_of c.args.jobs.now c.loop-job.job-index c.job-item.result c.loop-job-test.true
+          c.job-item.is))
+          (went-more g.S.Store c.args.store.now c.loop-job.store c.run_one.new.store done (job_of c.job-item.result) old
+          (g.W.Sink.taken c.loop-job.w) new c.loop-job.invariant.course c.in_ok-answer.ensures.course);
       closed = λ clean s keeps closed.
           let was = c.run_one.ensures.clean clean in
           let ran = c.loop-job.invariant.ran was s keeps in
@@ -79,6 +90,7 @@ loop-job-init g c = record {
   faults = omega arith;
   limit = refl;
   ran = search rules;
+  course = ([], refl, passed-none g.S.Store c.args.store.now (g.W.Sink.taken c.args.w.now));
   closed = λ clean s keeps closed. keeps-closed g.S.Store c.args.store.now clean s keeps closed;
   count = search rules;
   room = search rules;
@@ -95,3 +107,32 @@ returns-in_err-answer-clause-closed g c clean s keeps closed =
     let ran = c.loop-job.invariant.ran was s keeps in
     c.run_one.ensures.closed clean ran.0 ran.3
     (closed-now g.S.Store c.loop-job.store was ran.0 ran.3 (c.loop-job.invariant.closed was s keeps closed))
+
+pub returns-in_err-answers-clause-course : goal.returns-in_err-answers-clause-course
+returns-in_err-answers-clause-course g c =
+    let taken = g.W.Sink.taken c.args.w.now in
+    jobs-go-err g.S.Store c.args.store.now c.args.store.now (map job_of c.args.jobs.now) taken taken
+    c.from_residual.result Memory c.from_residual.ensures.1 tt
+
+pub returns-in_err-answer-clause-course : goal.returns-in_err-answer-clause-course
+returns-in_err-answer-clause-course g c =
+    let done = map job_of (take c.loop-job.job-index c.args.jobs.now) in
+    let rest = map job_of (drop (c.loop-job.job-index + 1) c.args.jobs.now) in
+    let at = c.run_one.new.store in
+    let old = g.W.Sink.taken c.args.w.now in
+    let mid = g.W.Sink.taken c.loop-job.w in
+    let new = g.W.Sink.taken c.run_one.new.w in
+    let job = job_of c.job-item.result in
+    let error = c.in_err-answer.field-0.0 in
+    jobs-go-err g.S.Store c.args.store.now at (map job_of c.args.jobs.now) old new
+    c.from_residual-in_err-answer.result error c.from_residual-in_err-answer.ensures.1
+    (subst (λ jobs. TellsNone g.S.Store at error (JobsFound g.S.Store c.args.store.now at jobs old new))
+    (sym (taken-split job_of c.args.jobs.now c.loop-job.job-index c.job-item.result c.loop-job-test.true c.job-item.is))
+    (jobs-tell g.S.Store c.args.store.now c.loop-job.store at done job old mid new c.loop-job.invariant.course rest
+    error c.in_err-answer.ensures.course))
+
+pub returns-clause-course : goal.returns-clause-course
+returns-clause-course g c =
+    subst (λ jobs. JobsWent g.S.Store c.args.store.now c.loop-job.store (map job_of jobs) (g.W.Sink.taken c.args.w.now)
+    (g.W.Sink.taken c.loop-job.w))
+    (take_all c.loop-job.job-index c.args.jobs.now (omega (arith, c.loop-job-test.false))) c.loop-job.invariant.course

@@ -6,6 +6,7 @@ use Rattle.machine.specs.State.{State}
 use Rattle.terms.specs.Closed.{AreClosed}
 use Rattle.smpe_zones.specs.Kept.{Keeps}
 use Rattle.smpe.specs.Ending.{EndsJobs, StaysClosed, job_of, answer_of}
+use Rattle.smpe.proofs.Coursing.{JobsWent}
 use Rattle.smpe.proofs.jobs.run_jobs.Given as goal
 
 abbrev pub invariant-loop-job : goal.invariant-loop-job
@@ -17,6 +18,8 @@ invariant-loop-job g l = record {
       EndsJobs g.S.Store l.fn.store l.store s (map job_of (take l.job-index l.jobs)) (g.W.Sink.taken l.fn.w)
       (g.W.Sink.taken l.w)
       (λ told. told) (Ok (map answer_of l.answers.items));
+  course : JobsWent g.S.Store l.fn.store l.store (map job_of (take l.job-index l.jobs)) (g.W.Sink.taken l.fn.w)
+      (g.W.Sink.taken l.w);
   closed : HasCleanDisk (state g.S.Store l.store) → (s : State) → Keeps g.S.Store l.fn.store s
       → AreClosed s.global s.zones → StaysClosed g.S.Store l.store;
   count : length l.answers.items ≡ l.job-index;

@@ -1,6 +1,8 @@
 use Rattle.std.proofs.Common.{◌∷◌, [], sym, subst}
+use Rattle.smpe.specs.Course.{JobGoes, TellsNone}
 use Rattle.smpe.specs.Ending.{EndsAmong, EndsJob, job_of, answer_of}
 use Rattle.smpe.proofs.Single.{job-err}
+use Rattle.smpe.proofs.Coursing.{JobFound, job-goes-err}
 use Rattle.smpe.proofs.jobs.run_one.Goals as goal
 
 pub returns-in_err-code-in-Run-clause-ended : goal.returns-in_err-code-in-Run-clause-ended
@@ -20,3 +22,27 @@ returns-in-Zone-clause-ended g c clean s keeps =
     subst (λ job. EndsJob g.S.Store c.args.store.now c.define.new.store s (job_of job) taken taken answer_of
     c.define.result)
     (sym c.in-Zone.is) (c.define.ensures.ended clean s keeps taken)
+
+pub returns-in_err-code-in-Run-clause-course : goal.returns-in_err-code-in-Run-clause-course
+returns-in_err-code-in-Run-clause-course g c =
+    let old = g.W.Sink.taken c.args.w.now in
+    let new = g.W.Sink.taken c.run_job.new.w in
+    let error = c.in_err-code-in-Run.field-0.0 in
+    let at = c.run_job.new.store in
+    job-goes-err g.S.Store c.args.store.now at (job_of c.args.job.now) old new c.from_residual.result error
+    c.from_residual.ensures.1
+    (subst (λ job. TellsNone g.S.Store at error (JobFound g.S.Store c.args.store.now at (job_of job) old new))
+    (sym c.in-Run.is) c.in_err-code-in-Run.ensures.course)
+
+pub returns-in_ok-code-in-Run-clause-ended : goal.returns-in_ok-code-in-Run-clause-ended
+returns-in_ok-code-in-Run-clause-ended g c clean s keeps =
+    rw c.in-Run.is (c.in_ok-code-in-Run.ensures.ended clean s keeps)
+
+pub returns-in_ok-code-in-Run-clause-course : goal.returns-in_ok-code-in-Run-clause-course
+returns-in_ok-code-in-Run-clause-course g c = rw c.in-Run.is c.in_ok-code-in-Run.ensures.course
+
+pub returns-in-Zone-clause-course : goal.returns-in-Zone-clause-course
+returns-in-Zone-clause-course g c =
+    let taken = g.W.Sink.taken c.args.w.now in
+    subst (λ job. JobGoes g.S.Store c.args.store.now c.define.new.store (job_of job) taken taken c.define.result)
+    (sym c.in-Zone.is) (c.define.ensures.course taken)

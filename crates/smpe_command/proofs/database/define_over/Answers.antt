@@ -9,15 +9,17 @@ returns g c =
     inr (
       c.define_zone-defined.result,
       record {
-        conn = found.conn;
+        begun = c.in_ok-store.store;
         opened = c.opened.new.host;
-        opens = found.opens;
+        opens = found;
         store = c.define_zone-defined.new.store;
         ends = λ clean s is.
-            defined-since g.H.Disk.Store found.conn c.in_ok-store.store c.define_zone-defined.new.store s found.later _
+            defined-since g.H.Disk.Store found.conn c.in_ok-store.store c.define_zone-defined.new.store s
+            (found.crash.counts, found.crash.limit) _
             _
             (c.define_zone-defined.ensures.ended clean s (found.stands (kept s) is));
         closed = λ clean s is closed. c.define_zone-defined.ensures.closed clean s (found.stands (kept s) is) closed;
+        goes = c.define_zone-defined.ensures.none;
         closes = subst (λ conn. g.H.Host.closes c.opened.new.host conn c.close-2.new.self) c.close.ensures.same
             c.close-2.ensures.closed;
       },

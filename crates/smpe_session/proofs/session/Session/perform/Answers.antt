@@ -1,6 +1,6 @@
 use Rattle.cntl.specs.Views.{command_of}
-use Rattle.store.proofs.NoState.{tells-short}
-use Rattle.smpe_session.proofs.Stepping.{kept-inventory, done-by, done-short, told-none}
+use Rattle.store.proofs.NoState.{loads-none, tells-short}
+use Rattle.smpe_session.proofs.Stepping.{kept-inventory, done-by, done-short, told-loads, told-none}
 use Rattle.smpe_session.proofs.session.Session.perform.Goals as goal
 
 pub returns-in-Set-clause-ended : goal.returns-in-Set-clause-ended
@@ -94,3 +94,36 @@ returns-in-Restore-clause-none g c =
 pub returns-in_err-report-in-Report-clause-none : goal.returns-in_err-report-in-Report-clause-none
 returns-in_err-report-in-Report-clause-none g c =
     tells-short g.S.Store c.args.store.now c.args.store.now c.from_residual.result c.from_residual.ensures.1
+
+-- ---- commands that write nothing
+
+pub returns-in-Set-clause-loads : goal.returns-in-Set-clause-loads
+returns-in-Set-clause-loads g c writes =
+    told-loads g.S.Store c.args.store.now c.set.new.store c.set.result c.told.result c.told.ensures c.set.ensures.loads
+
+pub returns-in-Receive-clause-loads : goal.returns-in-Receive-clause-loads
+returns-in-Receive-clause-loads g c writes = absurd (rw c.in-Receive.is at writes)
+
+pub returns-in-Reject-clause-loads : goal.returns-in-Reject-clause-loads
+returns-in-Reject-clause-loads g c writes = absurd (rw c.in-Reject.is at writes)
+
+pub returns-in-Apply-clause-loads : goal.returns-in-Apply-clause-loads
+returns-in-Apply-clause-loads g c writes =
+    told-loads g.S.Store c.args.store.now c.install.new.store c.install.result c.told-in-Apply.result
+    c.told-in-Apply.ensures (c.install.ensures.loads (rw c.in-Apply.is at writes))
+
+pub returns-in-Accept-clause-loads : goal.returns-in-Accept-clause-loads
+returns-in-Accept-clause-loads g c writes =
+    told-loads g.S.Store c.args.store.now c.install-in-Accept.new.store c.install-in-Accept.result c.told-in-Accept.result
+    c.told-in-Accept.ensures (c.install-in-Accept.ensures.loads (rw c.in-Accept.is at writes))
+
+pub returns-in-Restore-clause-loads : goal.returns-in-Restore-clause-loads
+returns-in-Restore-clause-loads g c writes =
+    told-loads g.S.Store c.args.store.now c.restore.new.store c.restore.result c.told-in-Restore.result
+    c.told-in-Restore.ensures (c.restore.ensures.loads (rw c.in-Restore.is at writes))
+
+pub returns-in-List-clause-loads : goal.returns-in-List-clause-loads
+returns-in-List-clause-loads g c writes = loads-none g.S.Store c.args.store.now
+
+pub returns-in_ok-report-in-Report-clause-loads : goal.returns-in_ok-report-in-Report-clause-loads
+returns-in_ok-report-in-Report-clause-loads g c writes = loads-none g.S.Store c.args.store.now
