@@ -7,7 +7,8 @@
  * WHAT is what is counted, AT which one goes wrong (from 1), LASTS 1 where all after it go wrong too.
  *
  *   memory  a request for memory. HOW is `refused`.
- *   calls   a call that reads, writes, syncs, opens, closes, cuts, locks, looks up or removes a file.
+ *   calls   a call that reads, writes, syncs, opens, closes, cuts, locks, looks up or removes a file, sets its mode or
+ *           owner, or asks for a random number.
  *           HOW is `EIO` or `ENOSPC` (the call fails), `one` (it moves one byte), `killed` (the process ends there),
  *           or `torn` (half of the bytes are written, and then the process ends).
  *   output  a byte of standard output. AT bytes are taken, and then each write fails; HOW is `ENOSPC` or `EPIPE`.
@@ -18,7 +19,8 @@
  *   FAULT_LOG=F     At the end F is given the number of requests for memory, a blank, and a letter for each call.
  *   FAULT_SECONDS=N The process is ended by SIGALRM after so many seconds.
  *
- * The letters: r read, w write, W write to standard output, s sync, o open, c close, t cut, l lock, f look up, u remove.
+ * The letters: r read, w write, W write to standard output, s sync, o open, c close, t cut, l lock, f look up, u remove,
+ * m mode or owner, e random number.
  */
 #define _GNU_SOURCE
 #include <errno.h>
@@ -330,6 +332,19 @@ int fcntl64(int fd, int command, ...)
     void *with = va_arg(rest, void *);
     va_end(rest);
     return controlling(fd, command, with);
+}
+
+int fchmod(int fd, mode_t mode) { return fails('m') ? -1 : (int)syscall(SYS_fchmod, fd, mode); }
+
+int fchown(int fd, uid_t owner, gid_t group) { return fails('m') ? -1 : (int)syscall(SYS_fchown, fd, owner, group); }
+
+/* The same number each time, so that two runs with one fault leave the same bytes. */
+int getentropy(void *bytes, size_t size)
+{
+    if (fails('e'))
+        return -1;
+    memset(bytes, 0x5A, size);
+    return 0;
 }
 
 int unlink(const char *name) { return fails('u') ? -1 : (int)syscall(SYS_unlink, name); }
