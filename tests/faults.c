@@ -19,8 +19,8 @@
  *   FAULT_LOG=F     At the end F is given the number of requests for memory, a blank, and a letter for each call.
  *   FAULT_SECONDS=N The process is ended by SIGALRM after so many seconds.
  *
- * The letters: r read, w write, W write to standard output, s sync, o open, c close, t cut, l lock, f look up, u remove,
- * m mode or owner, e random number.
+ * The letters: r read, w write, W write to standard output, s sync, o open, c close, t cut, l lock, f look up,
+ * u remove, m mode or owner, e random number.
  */
 #define _GNU_SOURCE
 #include <errno.h>
