@@ -41,3 +41,4 @@ pub mod StepAnswered
 pub mod StepAnswers
 pub mod Wanted
 pub mod ZoneAnswered
+pub mod Greatest

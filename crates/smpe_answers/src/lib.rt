@@ -10,4 +10,6 @@
 //! decision (`InstallRuns`, `ZoneAnswered`): its entries (`MadeEntries`, `EntriesAnswered`), and its elements
 //! (`ElementAnswered`), each by the SYSMODs that change it, in the order of over (`InOver`), with the merge of texts
 //! (`Merged`).
+//!
+//! And what is kept is the greatest set that supports itself, for installs and for RESTORE (`Greatest`).
 #![tactic(auto)]

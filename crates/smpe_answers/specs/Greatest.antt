@@ -1,0 +1,12 @@
+-- The greatest set that supports itself.
+use Rattle.std.specs.Prelude.{Bool, IsTrue}
+use Rattle.terms.specs.declared.codes.NeedKind.{NeedKind}
+use Rattle.terms.specs.Types.{Id}
+use Rattle.terms.specs.Kept.{SupportsItself}
+
+module _ (Eligible : Id → Type 0) (Wants : Id → NeedKind → Id → Type 0) (ServedBy : NeedKind → Id → Id → Type 0) where
+  -- The set supports itself, and has each member of each other set that does.
+  pub record IsGreatestSet (set : Id → Bool) : Type 0 where
+    pub supports : SupportsItself Eligible Wants ServedBy set
+    pub greatest : (other : Id → Bool) → SupportsItself Eligible Wants ServedBy other → (x : Id) → IsTrue (other x)
+        → IsTrue (set x)
