@@ -11,6 +11,8 @@ mod fields_read;
 #[cfg(test)]
 mod holds;
 #[cfg(test)]
+mod prefixes;
+#[cfg(test)]
 mod ptfin;
 #[cfg(test)]
 mod records_read;

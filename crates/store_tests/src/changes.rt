@@ -1,6 +1,6 @@
 //! Removals, sources in place of others, and what a commit leaves alone.
-use crate::known::{committed, doubled, filled, lines, opened, zone_name};
-use crate::round_trip::delta_to;
+use crate::known::{committed, doubled, filled, lines, opened, run, zone_name};
+use crate::round_trip::{all_lines, delta_to};
 use fields::{Id, IdList, Name, Reason, Source, YyDdd};
 use sqlite::{Alter, Connection};
 use std::alloc::Global;
@@ -149,5 +149,60 @@ fn other_rows_stay(rt: HostRuntime) -> Result<(), Fail> {
         lines(alloc, &mut conn, CHANGED)?.as_str(),
         "DLB1 U100500 24.139\n"
     );
+    Ok(())
+}
+
+/// Edits of a row in each table, after which the rows stand for no state.
+const BAD: &[&str] = &[
+    "UPDATE sysmod SET kind = 'ptf' WHERE id = 'UAA0001'",
+    "UPDATE ver SET pre = 'LLL0001' WHERE id = 'UAA0001' AND srel = 'Z038'",
+    "DELETE FROM ver WHERE id = 'AAA0003'",
+    "UPDATE ifreq SET n = 3 WHERE n = 2",
+    "UPDATE elem SET type = 'mac' WHERE id = 'HAA1100' AND type = 'MAC'",
+    "UPDATE hold SET date = '24000' WHERE kind = 'ERROR'",
+    "UPDATE zone SET kind = 'dlib' WHERE name = 'TGT1'",
+    "UPDATE entry SET date = '' WHERE zone = 'TGT1' AND id = 'HAA1100'",
+    "UPDATE zelem SET fmid = '' WHERE zone = 'TGT1' AND name = 'MAC1'",
+];
+
+/// What the removals and the new sources do to the rows.
+const WRITTEN: &[&str] = &[
+    "DELETE FROM entry WHERE zone = 'TGT1' AND id = 'UAA0001'",
+    "DELETE FROM zelem WHERE zone = 'TGT1' AND type = 'MAC' AND name = 'MAC2'",
+    "UPDATE sysmod SET sources = 'PUT2402' WHERE id = 'AAA0003'",
+];
+
+fn commit_two<S: Alter>(alloc: Global, store: &mut Store<S>) -> Result<(), Fail> {
+    committed(store.commit(&removals(alloc)?))?;
+    committed(store.commit(&new_sources(alloc)?))
+}
+
+/// All rows once one is bad and both are committed.
+fn rows_committed(alloc: Global, bad: &str) -> Result<String, Fail> {
+    let mut conn = filled(alloc, Connection::open_in_memory(alloc)?)?;
+    run(&mut conn, bad, &[])?;
+    let mut store = opened(alloc, conn)?;
+    commit_two(alloc, &mut store)?;
+    all_lines(alloc, &mut store.close())
+}
+
+/// All rows once one is bad and these statements are run.
+fn rows_written(alloc: Global, bad: &str) -> Result<String, Fail> {
+    let mut conn = filled(alloc, Connection::open_in_memory(alloc)?)?;
+    run(&mut conn, bad, &[])?;
+    for sql in WRITTEN {
+        run(&mut conn, sql, &[])?;
+    }
+    all_lines(alloc, &mut conn)
+}
+
+#[test]
+fn bad_rows_and_all_others_stay(rt: HostRuntime) -> Result<(), Fail> {
+    let alloc = rt.alloc();
+    for bad in BAD {
+        let got = rows_committed(alloc, bad)?;
+        let wanted = rows_written(alloc, bad)?;
+        assert_eq!(rt; (*bad, got.as_str()), (*bad, wanted.as_str()));
+    }
     Ok(())
 }

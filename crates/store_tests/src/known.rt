@@ -102,7 +102,12 @@ pub(crate) fn joined(alloc: Global, records: &[(&str, &str)]) -> Result<Vec<u8>,
     Ok(bytes)
 }
 
-fn run<S: Alter>(conn: &mut Connection<S>, sql: &str, values: &[ValueRef<'_>]) -> Result<(), Fail> {
+/// Runs a statement that must change some row.
+pub(crate) fn run<S: Alter>(
+    conn: &mut Connection<S>,
+    sql: &str,
+    values: &[ValueRef<'_>],
+) -> Result<(), Fail> {
     if conn.execute(sql, values)? == 0 {
         return Err(Fail::from(sql));
     }

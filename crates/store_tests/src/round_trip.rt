@@ -23,7 +23,7 @@ const TABLES: [&str; 8] = [
 ];
 
 /// All rows of all tables.
-fn all_lines<S: Alter>(alloc: Heap, conn: &mut Connection<S>) -> Result<String, Fail> {
+pub(crate) fn all_lines<S: Alter>(alloc: Heap, conn: &mut Connection<S>) -> Result<String, Fail> {
     let mut all = String::new(alloc);
     for sql in TABLES {
         all.push_str(lines(alloc, conn, sql)?.as_str())?;

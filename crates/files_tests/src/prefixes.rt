@@ -1,0 +1,84 @@
+//! Files cut at each byte: what is left is read, or has the fault that the cut makes.
+
+use crate::cards::file;
+use cntl::{CntlError, read_cntl};
+use mcs::{McsError, read_ptfin};
+use std::alloc::Global;
+use std::test::Fail;
+use terms::{CnCode, McCode};
+
+/// A PTF, in two records.
+const PTFIN: &[&str] = &["++PTF(UA00024).", "++VER(Z038) FMID(HAA1100)."];
+
+/// Eight commands, a record each.
+const CNTL: &[&str] = &[
+    "SET BDY(GLOBAL).",
+    "RECEIVE SYSMODS.",
+    "SET BDY(TGT1).",
+    "APPLY SELECT(UA00024) CHECK.",
+    "APPLY SELECT(UA00024).",
+    "APPLY SELECT(UA00024).",
+    "SET BDY(GLOBAL).",
+    "RECEIVE SYSMODS.",
+];
+
+/// Of a PTFIN that is cut behind so many whole records and so many bytes of the next: how many items it has, or its
+/// fault. A cut record is no record; a header needs a statement behind it.
+fn ptfin_wanted(whole: usize, more: usize) -> Result<usize, (usize, McCode)> {
+    match (whole, more) {
+        (0, 0) => Ok(0),
+        (1, 0) => Err((1, McCode::Mc4)),
+        (_, 0) => Ok(1),
+        _ => Err((whole.saturating_add(1), McCode::Mc1)),
+    }
+}
+
+fn ptfin_got(alloc: Global, bytes: &[u8]) -> Result<usize, (usize, McCode)> {
+    match read_ptfin(alloc, bytes) {
+        Ok(items) => Ok(items.len()),
+        Err(McsError::Fault { number, code }) => Err((number, code)),
+        Err(McsError::Memory) => Ok(999),
+    }
+}
+
+/// The same of the command file, in which each whole record is a command.
+fn cntl_wanted(whole: usize, more: usize) -> Result<usize, (usize, CnCode)> {
+    if more == 0 {
+        return Ok(whole);
+    }
+    Err((whole.saturating_add(1), CnCode::Cn5))
+}
+
+fn cntl_got(alloc: Global, bytes: &[u8]) -> Result<usize, (usize, CnCode)> {
+    match read_cntl(alloc, bytes) {
+        Ok(commands) => Ok(commands.len()),
+        Err(CntlError::Fault { number, code }) => Err((number, code)),
+        Err(CntlError::Memory) => Ok(999),
+    }
+}
+
+#[test]
+fn ptfin_cut_at_each_byte(rt: HostRuntime) -> Result<(), Fail> {
+    let bytes = file(rt.alloc(), PTFIN)?;
+    for n in 0..=bytes.len() {
+        let got = ptfin_got(rt.alloc(), &bytes[..n]);
+        let wanted = ptfin_wanted(n / 80, n % 80);
+        if got != wanted {
+            return Err(Fail::new(format_args!("{n} bytes: got {got:?}, wanted {wanted:?}")));
+        }
+    }
+    Ok(())
+}
+
+#[test]
+fn commands_cut_at_each_byte(rt: HostRuntime) -> Result<(), Fail> {
+    let bytes = file(rt.alloc(), CNTL)?;
+    for n in 0..=bytes.len() {
+        let got = cntl_got(rt.alloc(), &bytes[..n]);
+        let wanted = cntl_wanted(n / 80, n % 80);
+        if got != wanted {
+            return Err(Fail::new(format_args!("{n} bytes: got {got:?}, wanted {wanted:?}")));
+        }
+    }
+    Ok(())
+}
