@@ -11,4 +11,7 @@ pub use cards::{
     RECEIVE, RIVAL_RECEIVED, UPDATE_INSTALLED,
 };
 pub use disks::{connected, new_files, play_reopened};
-pub use steps::{JOB, Step, compare, opened, play_lists, records, run_step, zone_name};
+pub use steps::{
+    JOB, Step, compare, define_both, opened, play, play_each, play_lists, play_over, records,
+    run_step, zone_name,
+};

@@ -1,6 +1,6 @@
 //! How jobs are played against a store.
 
-use crate::disks::play_reopened;
+use crate::disks::{new_files, play_reopened};
 use fields::{Srel, YyDdd, ZoneName};
 use report::Out;
 use smpe::{Answer, Job, JobError, run_jobs};
@@ -93,7 +93,7 @@ pub fn zone_name(name: &[u8]) -> Result<ZoneName, Fail> {
 }
 
 /// Defines the two zones of all lists.
-pub(crate) fn define_both<S: Alter>(alloc: Global, store: &mut Store<S>) -> Result<(), Fail> {
+pub fn define_both<S: Alter>(alloc: Global, store: &mut Store<S>) -> Result<(), Fail> {
     let permanent = zone_name(b"DLB1")?;
     let running = zone_name(b"TGT1")?;
     let srel = Srel::read(b"Z038").ok_or("no SREL")?;
@@ -123,7 +123,7 @@ pub(crate) fn define_both<S: Alter>(alloc: Global, store: &mut Store<S>) -> Resu
 }
 
 /// Plays a step, and compares what it prints and answers.
-pub(crate) fn play<S: Alter>(alloc: Global, store: &mut Store<S>, step: &Step) -> Result<(), Fail> {
+pub fn play<S: Alter>(alloc: Global, store: &mut Store<S>, step: &Step) -> Result<(), Fail> {
     let mut report = Vec::new(alloc);
     let answers = run_step(alloc, store, step, &mut report)??;
     compare(report.as_slice(), step.report)?;
@@ -147,9 +147,13 @@ pub fn opened<S: Alter + Drop>(alloc: Global, conn: Connection<S>) -> Result<Sto
     }
 }
 
-/// Plays the steps in memory, one after the other over one store.
-fn play_in_memory(alloc: Global, steps: &[Step]) -> Result<(), Fail> {
-    let mut store = opened(alloc, Connection::open_in_memory(alloc)?)?;
+/// Plays the steps over a new database, one after the other over one store.
+pub fn play_over<S: Alter + Drop>(
+    alloc: Global,
+    conn: Connection<S>,
+    steps: &[Step],
+) -> Result<(), Fail> {
+    let mut store = opened(alloc, conn)?;
     define_both(alloc, &mut store)?;
     for step in steps {
         play(alloc, &mut store, step)?;
@@ -157,11 +161,39 @@ fn play_in_memory(alloc: Global, steps: &[Step]) -> Result<(), Fail> {
     Ok(())
 }
 
-/// Plays each list of steps in memory, and on disks in memory, where the files are closed and opened again before each
-/// step.
+/// Plays a step over a store that is opened for it.
+fn play_anew<S: Alter + Drop>(
+    alloc: Global,
+    conn: Connection<S>,
+    step: &Step,
+) -> Result<Connection<S>, Fail> {
+    let mut store = opened(alloc, conn)?;
+    play(alloc, &mut store, step)?;
+    Ok(store.close())
+}
+
+/// Plays the steps over a new database, each over a store that is opened for it.
+pub fn play_each<S: Alter + Drop>(
+    alloc: Global,
+    conn: Connection<S>,
+    steps: &[Step],
+) -> Result<(), Fail> {
+    let mut store = opened(alloc, conn)?;
+    define_both(alloc, &mut store)?;
+    let mut conn = store.close();
+    for step in steps {
+        conn = play_anew(alloc, conn, step)?;
+    }
+    Ok(())
+}
+
+/// Plays each list of steps in memory and on disks in memory: over one store, and over one for each step, for which the
+/// files are closed and opened again.
 pub fn play_lists(alloc: Global, lists: &[&[Step]]) -> Result<(), Fail> {
     for steps in lists {
-        play_in_memory(alloc, steps)?;
+        play_over(alloc, Connection::open_in_memory(alloc)?, steps)?;
+        play_each(alloc, Connection::open_in_memory(alloc)?, steps)?;
+        play_over(alloc, new_files(alloc)?, steps)?;
         let _conn = play_reopened(alloc, steps)?;
     }
     Ok(())

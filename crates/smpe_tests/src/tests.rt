@@ -3,6 +3,7 @@
 
 use crate::elements::{CHAIN, EMPTYING_UPDATE, NO_BASE, UNORDERED, UPDATE_IN_A_DELETED_RANGE};
 use crate::functions::{DELETED, DELETED_OWNER, ORPHANED};
+use crate::hostile::{NO_WORD, OPEN_COMMENT, THIRD_LEVEL, UNPRINTABLE};
 use crate::levels::{
     ACCEPT_UNAPPLIED, ACCEPT_UNCHECKED, ACCEPTED_STAYS, BOTH_RESTORED, EMPTIED, GROUP_RESTORED,
     LEVEL_ACCEPTED, LEVEL_NOT_ACCEPTED, NOT_APPLIED, STILL_REQUIRED,
@@ -54,6 +55,13 @@ const RESTORES: &[&[Step]] = &[
 ];
 
 const DEPENDENTS: &[&[Step]] = &[STILL_REQUIRED, GROUP_RESTORED, ACCEPTED_STAYS];
+
+const HOSTILE: &[&[Step]] = &[UNPRINTABLE, NO_WORD, OPEN_COMMENT, THIRD_LEVEL];
+
+#[test]
+fn hostile_files(rt: HostRuntime) -> Result<(), Fail> {
+    play_lists(rt.alloc(), HOSTILE)
+}
 
 #[test]
 fn requisites(rt: HostRuntime) -> Result<(), Fail> {
