@@ -6,20 +6,20 @@ use Rattle.std.specs.Option.{option_map_or}
 use Rattle.std.specs.Ordering.{is_eq}
 use Rattle.std.proofs.lemmas.Cmp.{tied_itself}
 use Rattle.terms.specs.declared.kinds.ElemType.{ElemType}
-use Rattle.tables.specs.declared.edits.Edit.TheVariants.{Put}
+use Rattle.sorted.specs.declared.edits.Edit.TheVariants.{Put}
 use Rattle.terms.specs.Types.{Text, Id, Element, Zone}
 use Rattle.terms.specs.Lookups.{has_change, element_cmp, element_key, element_of}
 use Rattle.terms.specs.Rising.{with_item}
 use Rattle.terms.specs.Lookups.{element_eq}
-use Rattle.tables.specs.Edits.{edit_key, edit_put}
+use Rattle.sorted.specs.Edits.{edit_key, edit_put}
 use Rattle.terms.specs.Install.{Installation, TakesEffect, cleared, HasElementAfter}
 use Rattle.terms.proofs.ElementOrder.{element_cmp_total, element_ties}
 use Rattle.lemmas.proofs.Members.{in_map, map_in}
-use Rattle.change.specs.Differing.{ElementEdit, element_after}
+use Rattle.zones.specs.Differing.{ElementEdit, element_after}
 use Rattle.change.specs.Elements.{AreElementsAfter}
 use Rattle.change.specs.Puts.{with_element, with_elements}
 use Rattle.change.proofs.Grouped.{Key, same_key}
-use Rattle.change.proofs.InTurn.{find-member, in_turn-none, in_turn-some}
+use Rattle.sorted.proofs.InTurn.{find_member, in_turn_none, in_turn_some}
 use Rattle.change.proofs.Ordered.{all_in}
 
 put : Element → ElementEdit
@@ -48,7 +48,7 @@ module _ (i : Installation) (zone : Zone) (es : List Element) (after : AreElemen
       → find (λ d. element_eq (put_key d) k) (put_all old es) ≡ Some (put e)
   unfolding put
   found e k is key =
-      in_turn-some element_cmp_total put_key element_eq element_ties (map put es) old k (put e) hit only
+      in_turn_some element_cmp_total put_key element_eq element_ties (map put es) old k (put e) hit only
       (inr (in_map put es e is))
     where
       hit : element_eq (element_key e) k ≡ true
@@ -59,8 +59,8 @@ module _ (i : Installation) (zone : Zone) (es : List Element) (after : AreElemen
           let m = map_in put es d there in
           let again : element_eq (element_key m.0) k ≡ true = ap (λ o. element_eq (put_key o) k) m.2 ∙ at in
           let both : Some m.0 ≡ Some e =
-          sym (find-member element_cmp_total element_key element_eq element_ties es m.0 k after.rising m.1 again)
-          ∙ find-member element_cmp_total element_key element_eq element_ties es e k after.rising is hit in
+          sym (find_member element_cmp_total element_key element_eq element_ties es m.0 k after.rising m.1 again)
+          ∙ find_member element_cmp_total element_key element_eq element_ties es e k after.rising is hit in
           let one : m.0 ≡ e = cc both in
           sym m.2 ∙ ap put one
 
@@ -71,7 +71,7 @@ module _ (i : Installation) (zone : Zone) (es : List Element) (after : AreElemen
       ≡ find (λ d. element_eq (put_key d) (type, name)) old
   unfolding put
   not_found type name none =
-      in_turn-none element_cmp_total put_key element_eq element_ties (map put es) old (type, name)
+      in_turn_none element_cmp_total put_key element_eq element_ties (map put es) old (type, name)
       (λ d there. by d there (element_eq (put_key d) (type, name)) refl)
     where
       by : (d : ElementEdit) → Contains (map put es) d → (b : Bool) → element_eq (put_key d) (type, name) ≡ b

@@ -7,18 +7,18 @@ use Rattle.std.specs.Str.{bytes_eq}
 use Rattle.std.proofs.lemmas.Bool.{and_parts, not-true, false_from_ne_true}
 use Rattle.std.proofs.lemmas.List.Elements.{Contains-append_left, Contains-append_right, Contains-append_cases}
 use Rattle.lemmas.proofs.Members.{here, none_in}
-use Rattle.lemmas.proofs.Searches.{All-find}
+use Rattle.lemmas.proofs.Searches.{All_find}
 use Rattle.lemmas.proofs.Texts.{same_or_not}
-use Rattle.terms.specs.Types.{Text, Id, Entry, Zone}
-use Rattle.terms.specs.Lookups.{IsRising, IsZone, is_nil, is_in, is_held, waives_applied, entry_of, applied_of}
+use Rattle.terms.specs.Types.{Text, Id, Entry, Zone, Applied, an_applied}
+use Rattle.terms.specs.Lookups.{IsRising, IsZone, is_nil, is_in, has_content, waives_applied, entry_of, applied_of}
 use Rattle.terms.specs.Lookups.{supby_of, delby_of, waived_of, is_applied, is_supplied}
 use Rattle.terms.specs.Choice.{Choice}
 use Rattle.terms.specs.Over.{Supersedes}
 use Rattle.terms.specs.Global.{IsGlobal}
 use Rattle.zones.specs.Delta.{ZoneDelta}
 use Rattle.terms.specs.Deleted.{zone_less}
-use Rattle.terms.specs.Install.{Installation, TakesEffect, cleared, delby_after}
-use Rattle.terms.proofs.Ids.{is_in-from_Contains, Contains-from_is_in, in_or_not}
+use Rattle.terms.specs.Install.{Installation, TakesEffect, applied_with, cleared, delby_after}
+use Rattle.terms.proofs.Ids.{is_in_from_Contains, Contains_from_is_in, in_or_not}
 use Rattle.change.specs.declared.deleting.Deleting.{Deleting}
 use Rattle.change.specs.declared.plan.Plan.{Plan}
 use Rattle.change.specs.Deleting.{AreDeletions, choice_of, left, at_stake}
@@ -28,7 +28,7 @@ use Rattle.change.specs.Entries.{is_open, bare_entry, old_entry, if_held, entry_
 use Rattle.change.specs.Entries.{IsMadeEntry, HasPutEntries}
 use Rattle.change.proofs.ChosenVers.{looked_up, never_itself}
 use Rattle.change.proofs.Installable.{no_entry}
-use Rattle.change.proofs.Leaving.{left-none, old_held, delby_is, entry_stays, delby_stays}
+use Rattle.change.proofs.Leaving.{left_none, old_held, delby_is, entry_stays, delby_stays}
 use Rattle.change.proofs.Made.{old_id, old_waives}
 
 none_rise : IsRising []
@@ -36,11 +36,11 @@ none_rise = λ i j d less below. absurd (omega (arith, below))
 
 -- ---- fields of an entry that may be there, as the look-ups of a zone read them
 
-abbrev date_in : Option Entry → Option Text
-date_in = option_and_then (λ e. e.applied)
+abbrev applied_in : Option Entry → Option Applied
+applied_in = option_and_then (λ e. e.applied)
 
-abbrev applied_in : Option Entry → Bool
-applied_in o = option_map_or (λ e. is_some e.applied) o false
+abbrev is_applied_in : Option Entry → Bool
+is_applied_in o = option_map_or (λ e. is_some e.applied) o false
 
 abbrev delby_in : Option Entry → Option Id
 delby_in = option_and_then (λ e. e.delby)
@@ -54,15 +54,15 @@ waived_in o = option_map_or (λ e. e.waived) o []
 -- ---- an entry that nothing holds reads as none
 
 module _ (e : Entry) (waives : IsTrue (waives_applied e)) where
-  no_date : (a : Option Text) → e.applied ≡ a → is_held e ≡ false → a ≡ None
+  no_date : (a : Option Applied) → e.applied ≡ a → has_content e ≡ false → a ≡ None
   no_date None at unheld = refl
   no_date (Some t) at unheld =
       absurd (true≢false (ap (λ a. is_some a || not (is_nil e.supby) || is_some e.delby) (sym at) ∙ unheld))
 
-  undated : is_held e ≡ false → e.applied ≡ None
+  undated : has_content e ≡ false → e.applied ≡ None
   undated unheld = no_date e.applied refl unheld
 
-  unsuperseded : is_held e ≡ false → e.supby ≡ []
+  unsuperseded : has_content e ≡ false → e.supby ≡ []
   unsuperseded unheld = by e.supby refl
     where
       by : (ys : List Id) → e.supby ≡ ys → ys ≡ []
@@ -70,7 +70,7 @@ module _ (e : Entry) (waives : IsTrue (waives_applied e)) where
       by (y ∷ ys) at = absurd (true≢false (sym (ap (λ a. is_some a || not (is_nil (y ∷ ys)) || is_some e.delby)
           (undated unheld)) ∙ ap (λ ys. is_some e.applied || not (is_nil ys) || is_some e.delby) (sym at) ∙ unheld))
 
-  undeleted : is_held e ≡ false → e.delby ≡ None
+  undeleted : has_content e ≡ false → e.delby ≡ None
   undeleted unheld = by e.delby refl
     where
       by : (o : Option Id) → e.delby ≡ o → o ≡ None
@@ -82,7 +82,7 @@ module _ (e : Entry) (waives : IsTrue (waives_applied e)) where
           or_last true = refl
           or_last false = refl
 
-  unwaiving : is_held e ≡ false → e.waived ≡ []
+  unwaiving : has_content e ≡ false → e.waived ≡ []
   unwaiving unheld = by e.waived refl
     where
       by : (zs : List Id) → e.waived ≡ zs → zs ≡ []
@@ -90,11 +90,11 @@ module _ (e : Entry) (waives : IsTrue (waives_applied e)) where
       by (z ∷ zs) at = absurd (true≢false (sym waives
           ∙ ap (λ zs. is_some e.applied || is_nil zs) at ∙ ap (λ a. is_some a || is_nil (z ∷ zs)) (undated unheld)))
 
-  read : {X : Type 0} (field : Option Entry → X) → (is_held e ≡ false → field None ≡ field (Some e))
+  read : {X : Type 0} (field : Option Entry → X) → (has_content e ≡ false → field None ≡ field (Some e))
       → field (if_held e) ≡ field (Some e)
-  read field none = by (is_held e) refl
+  read field none = by (has_content e) refl
     where
-      by : (b : Bool) → is_held e ≡ b → field (if b then Some e else None) ≡ field (Some e)
+      by : (b : Bool) → has_content e ≡ b → field (if b then Some e else None) ≡ field (Some e)
       by true held = refl
       by false unheld = none unheld
 
@@ -115,7 +115,7 @@ module _ (d : Deleting) (bypassed : List (Id × Id)) (date : Text) (is_global : 
 
   -- what takes effect has no entry in what is left
   none_left : (x : Id) → TakesEffect i x → entry_of (left d) x ≡ None
-  none_left x t = left-none d.vers.now.global.now choice d.dels.now zone is_zone x
+  none_left x t = left_none d.vers.now.global.now choice d.dels.now zone is_zone x
       (no_entry zone x (subst (IsFresh zone) t.kept.2 (fresh t.kept.0 x t.kept.1)) is_zone)
 
   itself : (x : Id) → ¬ Supersedes choice x x
@@ -134,7 +134,7 @@ module _ (d : Deleting) (bypassed : List (Id × Id)) (date : Text) (is_global : 
       by : (o : Option Entry) → entry_of zone x ≡ o
           → IsRising (unwrap_or o (bare_entry x)).supby × IsRising (unwrap_or o (bare_entry x)).waived
       by None at = (none_rise, none_rise)
-      by (Some e) at = All-find (λ e. IsRising e.supby × IsRising e.waived) (λ e. bytes_eq e.id x) zone.entries e lists
+      by (Some e) at = All_find (λ e. IsRising e.supby × IsRising e.waived) (λ e. bytes_eq e.id x) zone.entries e lists
           at
 
   old_reads : {X : Type 0} (field : Option Entry → X) (x : Id) → field (Some (bare_entry x)) ≡ field None
@@ -163,7 +163,7 @@ module _ (d : Deleting) (bypassed : List (Id × Id)) (date : Text) (is_global : 
       untouched = record {
         after = record {
           id = old_id (left d) x;
-          applied = λ takes. absurd (out (plan.touched x (inl (inl (Contains-from_is_in p.effective x takes)))));
+          applied = λ takes. absurd (out (plan.touched x (inl (inl (Contains_from_is_in p.effective x takes)))));
           other = λ not_it. record {
             rest = ap {A = Option Id} {B = Entry} (λ k. record (old_entry (left d) x) { delby = k })
                 (sym (delby_stays d dels is_zone x apart));
@@ -200,8 +200,8 @@ module _ (d : Deleting) (bypassed : List (Id × Id)) (date : Text) (is_global : 
     waives x = (whole x).2.after.waives
 
     date_reads : (x : Id) → applied_of new x ≡ (made x).applied
-    date_reads x = ap date_in (whole x).1
-        ∙ read (made x) (waives x) date_in (λ unheld. sym (undated (made x) (waives x) unheld))
+    date_reads x = ap applied_in (whole x).1
+        ∙ read (made x) (waives x) applied_in (λ unheld. sym (undated (made x) (waives x) unheld))
 
     supby_reads : (x : Id) → supby_of new x ≡ (made x).supby
     supby_reads x = ap supby_in (whole x).1
@@ -216,15 +216,15 @@ module _ (d : Deleting) (bypassed : List (Id × Id)) (date : Text) (is_global : 
         ∙ read (made x) (waives x) waived_in (λ unheld. sym (unwaiving (made x) (waives x) unheld))
 
     applied_reads : (x : Id) → is_applied new x ≡ is_some (made x).applied
-    applied_reads x = ap applied_in (whole x).1
-        ∙ read (made x) (waives x) applied_in (λ unheld. sym (ap is_some (undated (made x) (waives x) unheld)))
+    applied_reads x = ap is_applied_in (whole x).1
+        ∙ read (made x) (waives x) is_applied_in (λ unheld. sym (ap is_some (undated (made x) (waives x) unheld)))
 
     effect : (x : Id) → TakesEffect i x → IsAppliedEntry d p x (made x)
-    effect x t = (whole x).2.after.applied (is_in-from_Contains p.effective x ((plan.effective x).1 t))
+    effect x t = (whole x).2.after.applied (is_in_from_Contains p.effective x ((plan.effective x).1 t))
 
     other : (x : Id) → (¬ TakesEffect i x) → IsOtherEntry d p x (made x)
     other x out = (whole x).2.after.other (false_from_ne_true (is_in p.effective x)
-        (λ h. out ((plan.effective x).0 (Contains-from_is_in p.effective x h))))
+        (λ h. out ((plan.effective x).0 (Contains_from_is_in p.effective x h))))
 
     takes_or_not : (x : Id) → TakesEffect i x ⊎ (¬ TakesEffect i x)
     takes_or_not x =
@@ -233,12 +233,12 @@ module _ (d : Deleting) (bypassed : List (Id × Id)) (date : Text) (is_global : 
           | inr out ↦ inr (λ t. out ((plan.effective x).1 t))
         ]
 
-    pub applied : (x : Id) → TakesEffect i x → applied_of new x ≡ Some date
-    applied x t = date_reads x ∙ ap (λ v. v.applied) (effect x t).rest ∙ ap (λ v. Some v) plan.date
+    pub applied : (x : Id) → TakesEffect i x → applied_of new x ≡ Some (applied_with i x)
+    applied x t = date_reads x ∙ ap (λ v. v.applied) (effect x t).rest ∙ ap (λ v. Some (an_applied v 1)) plan.date
 
     pub not_applied : (x : Id) → (¬ TakesEffect i x) → applied_of new x ≡ applied_of (cleared i) x
     not_applied x out =
-        date_reads x ∙ ap (λ v. v.applied) (other x out).rest ∙ old_reads date_in x refl
+        date_reads x ∙ ap (λ v. v.applied) (other x out).rest ∙ old_reads applied_in x refl
         ∙ ap (λ z. applied_of z x) (sym cleared_is)
 
     pub not_waived : (x : Id) → (¬ TakesEffect i x) → waived_of new x ≡ waived_of (cleared i) x
@@ -318,14 +318,14 @@ module _ (d : Deleting) (bypassed : List (Id × Id)) (date : Text) (is_global : 
 
     left_applied : (z : Id) → (¬ TakesEffect i z) → is_applied new z ≡ is_applied (left d) z
     left_applied z out =
-        applied_reads z ∙ ap (λ v. is_some v.applied) (other z out).rest ∙ old_reads applied_in z refl
+        applied_reads z ∙ ap (λ v. is_some v.applied) (other z out).rest ∙ old_reads is_applied_in z refl
 
     open_stays : (z : Id) → IsTrue (is_open d p z) → IsFalse (is_supplied new z)
     open_stays z h =
         let both = and_parts (not (is_in p.effective z) && is_nil (others_of p.superseders z))
         (not (is_supplied (left d) z)) h in
         let first = and_parts (not (is_in p.effective z)) (is_nil (others_of p.superseders z)) both.0 in
-        let free : ¬ TakesEffect i z = λ t. true≢false (sym (is_in-from_Contains p.effective z ((plan.effective z).1 t))
+        let free : ¬ TakesEffect i z = λ t. true≢false (sym (is_in_from_Contains p.effective z ((plan.effective z).1 t))
         ∙ not-true (is_in p.effective z) first.0) in
         let none = parted (left d) z (not-true (is_supplied (left d) z) both.1) in
         unsupplied new z (left_applied z free ∙ none.0) (empty (supby_of new z) (λ y there.
@@ -348,7 +348,7 @@ module _ (d : Deleting) (bypassed : List (Id × Id)) (date : Text) (is_global : 
         λ y there. none_in y (subst (λ ys. Contains ys y) parts.1 there) in
         let out : is_in p.effective z ≡ false =
         false_from_ne_true (is_in p.effective z) (λ h. free ((plan.effective z).0
-        (Contains-from_is_in p.effective z h))) in
+        (Contains_from_is_in p.effective z h))) in
         let alone : others_of p.superseders z ≡ [] =
         empty (others_of p.superseders z) (λ y there. nobody y ((supby_left z y).1
         (inr ((plan.superseders z y).0 there)))) in

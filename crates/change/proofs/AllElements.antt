@@ -10,7 +10,7 @@ use Rattle.std.proofs.lemmas.List.Kept.{AllPairs-filter}
 use Rattle.std.proofs.lemmas.List.Sorted.{Contains-permutation, IsPermutation-sym}
 use Rattle.lemmas.proofs.Members.{here, in_filter, filter_in, in_map, map_in}
 use Rattle.lemmas.proofs.Pairs.{pairs_map, pairs_unmap}
-use Rattle.lemmas.proofs.Searches.{find-gives}
+use Rattle.lemmas.proofs.Searches.{find_gives}
 use Rattle.terms.specs.declared.kinds.ElemType.{ElemType}
 use Rattle.terms.specs.Types.{Text, Id, Global, Element, Zone}
 use Rattle.terms.specs.Lookups.{element_cmp, element_key, has_change, element_of}
@@ -31,7 +31,7 @@ use Rattle.change.proofs.Ordered.{all_in}
 module _ (zone : Zone) (type : ElemType) (name : Text) where
   found_key : (e : Element) → element_of zone type name ≡ Some e → (e.elem_type ≡ type) × (e.name ≡ name)
   found_key e at =
-      let found = find-gives (λ d. element_eq (element_key d) (type, name)) zone.elements e at in
+      let found = find_gives (λ d. element_eq (element_key d) (type, name)) zone.elements e at in
       let same = same_key (element_key e) (type, name) found.0 in
       (ap (λ k. k.0) same, ap (λ k. k.1) same)
 

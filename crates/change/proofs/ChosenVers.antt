@@ -10,7 +10,7 @@ use Rattle.std.proofs.lemmas.List.Elements.{All-contains}
 use Rattle.lemmas.proofs.Booleans.{neither}
 use Rattle.lemmas.proofs.Members.{here, none_in, in_map, in_filter, filter_in, in_flat}
 use Rattle.lemmas.proofs.Places.{contains_at}
-use Rattle.lemmas.proofs.Searches.{find-gives, All-find, All-from_no_list_any}
+use Rattle.lemmas.proofs.Searches.{find_gives, All_find, All_from_no_list_any}
 use Rattle.lemmas.proofs.Texts.{same_from}
 use Rattle.terms.specs.Types.{Text, Id, IfReq, Ver, Sysmod, Global, Zone}
 use Rattle.terms.specs.Lookups.{at_most_one, sysmod_of, is_received, is_function}
@@ -24,7 +24,7 @@ use Rattle.terms.proofs.Leads.{reaches_more, last_step}
 
 -- an item of a list of which none passes the test
 fails_test : {X : Type 0} (p : X → Bool) (xs : List X) → list_any p xs ≡ false → (x : X) → Contains xs x → p x ≡ false
-fails_test p xs none x is = All-contains (λ x. p x ≡ false) xs x (All-from_no_list_any p xs none) is
+fails_test p xs none x is = All-contains (λ x. p x ≡ false) xs x (All_from_no_list_any p xs none) is
 
 -- The ++VERs that count are among those for one SREL.
 abbrev pub AreFor : Global → Text → Choice → Type 0
@@ -32,14 +32,7 @@ AreFor g srel c = (x : Id) (v : Ver) → c x ≡ Some v → Contains (vers_of g 
 
 -- those that a value looks up are
 pub looked_up : (vers : VerChoice) → AreFor vers.global.now vers.srel (choice vers)
-looked_up vers x v = by (sysmod_of vers.global.now x)
-  where
-    by : (o : Option Sysmod) → option_and_then (λ s. find (λ v. bytes_eq v.srel vers.srel) s.vers) o ≡ Some v
-        → Contains (option_map_or (λ s. filter (λ v. bytes_eq v.srel vers.srel) s.vers) o []) v
-    by None found = absurd (cc found)
-    by (Some s) found =
-        let gives = find-gives (λ v. bytes_eq v.srel vers.srel) s.vers v found in
-        in_filter (λ v. bytes_eq v.srel vers.srel) s.vers v gives.1 gives.0
+looked_up vers x v found = contains_at (vers_of vers.global.now vers.srel x) 0 v found
 
 -- and those that count in a zone
 pub counting_for : (g : Global) (zone : Zone) (cands : List Id) → AreFor g zone.srel (counting g zone cands)
@@ -47,7 +40,7 @@ counting_for g zone cands x v = by (vers_of g zone.srel x) (find (fits zone cand
   where
     by : (vs : List Ver) (o : Option Ver) → find (fits zone cands) vs ≡ o → or_first vs o ≡ Some v → Contains vs v
     by vs None found at = contains_at vs 0 v at
-    by vs (Some w) found at = (find-gives (fits zone cands) vs v (found ∙ at)).1
+    by vs (Some w) found at = (find_gives (fits zone cands) vs v (found ∙ at)).1
 
 module _ (g : Global) (srel : Text) (c : Choice) (are : AreFor g srel c) where
   -- the ++VER that counts is one of a received SYSMOD
@@ -96,7 +89,7 @@ module _ (g : Global) (srel : Text) (c : Choice) (are : AreFor g srel c) where
   pub names_received : (x z : Id) → Contains (names c x) z → Contains (map (λ s. s.id) g.sysmods) x
   names_received x z is =
       let from = (names_by x z is).1 in
-      let gives = find-gives (λ s. bytes_eq s.id x) g.sysmods from.sysmod from.received in
+      let gives = find_gives (λ s. bytes_eq s.id x) g.sysmods from.sysmod from.received in
       subst (Contains (map (λ s. s.id) g.sysmods)) (same_from from.sysmod.id x gives.0)
       (in_map (λ s. s.id) g.sysmods from.sysmod gives.1)
 
@@ -127,7 +120,7 @@ module _ (g : Global) (srel : Text) (c : Choice) (are : AreFor g srel c) where
     chosen_fits : (x : Id) (v : Ver) → Chosen x v
         → (list_any (is_function g) v.sup ≡ false) × (list_any (is_service g) (named_functions v) ≡ false)
     chosen_fits x v from =
-        let each = All-find (λ s. All (λ v. IsTrue (fits_roles g v)) s.vers) (λ s. bytes_eq s.id x) g.sysmods
+        let each = All_find (λ s. All (λ v. IsTrue (fits_roles g v)) s.vers) (λ s. bytes_eq s.id x) g.sysmods
         from.sysmod roles from.received in
         let fits = All-contains (λ v. IsTrue (fits_roles g v)) from.sysmod.vers v each
         (filter_in (λ v. bytes_eq v.srel srel) from.sysmod.vers v from.among).0 in

@@ -10,7 +10,7 @@ use Rattle.terms.specs.Changes.{has_replacement}
 use Rattle.terms.specs.Over.{IsOver}
 use Rattle.terms.specs.Tests.{ShareElement}
 use Rattle.terms.specs.Install.{Installation, TakesEffect, cleared}
-use Rattle.terms.proofs.Ids.{apart-from_rising}
+use Rattle.terms.proofs.Ids.{apart_from_rising}
 use Rattle.change.specs.Elements.{HasBases}
 use Rattle.change.specs.declared.plan.Plan.{Plan}
 use Rattle.change.specs.Plans.{IsPlan}
@@ -30,7 +30,7 @@ module _ (i : Installation) (effective : List Id) (members : (x : Id) → Contai
       ordered (get_or effective j d) (get_or effective k d)
       ((members (get_or effective j d)).0 (Contains-get_or effective j d (omega (arith, before, below)))).kept
       ((members (get_or effective k d)).0 (Contains-get_or effective k d below)).kept
-      (apart-from_rising effective rising j k d before below) share
+      (apart_from_rising effective rising j k d before below) share
 
   -- an element that one of them changes is there after the deletions, or one of them replaces it
   pub effective_base : HasBases i

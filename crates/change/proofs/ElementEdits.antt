@@ -7,20 +7,21 @@ use Rattle.std.specs.Option.{option_map_or}
 use Rattle.std.specs.Ordering.{is_eq}
 use Rattle.std.proofs.lemmas.Cmp.{tied_itself}
 use Rattle.std.proofs.lemmas.List.{map-append}
-use Rattle.lemmas.proofs.Options.{None-from_is_some}
-use Rattle.lemmas.proofs.Searches.{list_any-map}
-use Rattle.tables.specs.Edits.{edit_key, edit_put}
+use Rattle.lemmas.proofs.Options.{None_from_is_some}
+use Rattle.lemmas.proofs.Searches.{list_any_map}
+use Rattle.sorted.specs.Edits.{edit_key, edit_put}
 use Rattle.terms.specs.Types.{Zone}
 use Rattle.terms.specs.Lookups.{element_cmp, element_eq, element_key, element_of}
 use Rattle.terms.specs.Rising.{Rises}
 use Rattle.terms.proofs.ElementOrder.{element_cmp_total, element_ties}
 use Rattle.zones.specs.Delta.{ZoneDelta}
-use Rattle.change.specs.Differing.{ElementEdit, AddsElementEdit, HasEditedElements, element_after}
-use Rattle.change.specs.Turned.{TurnsAt, AreTurned}
+use Rattle.zones.specs.Differing.{ElementEdit, AddsElementEdit, HasEditedElements, element_after}
+use Rattle.sorted.specs.Turned.{TurnsAt, AreTurned}
 use Rattle.change.proofs.Grouped.{Key, same_key}
-use Rattle.change.proofs.InTurn.{find-member}
-use Rattle.change.proofs.LessEdits.{found-any}
-use Rattle.change.proofs.Turning.{turned-none, turned-next}
+use Rattle.sorted.proofs.InTurn.{find_member}
+use Rattle.zones_views.proofs.Filtered.{any_filter}
+use Rattle.terms.proofs.Nil.{is_some_find}
+use Rattle.sorted.proofs.Turning.{turned_none, turned_next}
 
 abbrev put_key : ElementEdit → Key
 put_key = edit_key element_key
@@ -31,16 +32,16 @@ module _ (zone : Zone) (all : List ElementEdit) where
   AreDone done edits =
       AreTurned element_cmp element_eq element_key zone.elements (element_after all zone) (map put_key done) edits
 
-  pub done-none : (edits : List ElementEdit) → edits ≡ [] → AreDone [] edits
-  done-none edits empty = subst (AreDone []) (sym empty)
-      (turned-none element_cmp_total element_key element_eq element_ties same_key zone.elements
+  pub done_none : (edits : List ElementEdit) → edits ≡ [] → AreDone [] edits
+  done_none edits empty = subst (AreDone []) (sym empty)
+      (turned_none element_cmp_total element_key element_eq element_ties same_key zone.elements
       (element_after all zone))
 
   module _ (rises : Rises element_cmp put_key all) where
     left_is : (d : ElementEdit) → Contains all d → element_after all zone (put_key d) ≡ edit_put d
     left_is d there =
         ap (λ o. option_map_or edit_put o (element_of zone (put_key d).0 (put_key d).1))
-        (find-member element_cmp_total put_key element_eq element_ties all d (put_key d) rises there
+        (find_member element_cmp_total put_key element_eq element_ties all d (put_key d) rises there
         (element_ties (put_key d) (put_key d) ∙ ap is_eq (tied_itself element_cmp_total (put_key d))))
 
     turns : (d : ElementEdit) (old new : ZoneDelta) → Contains all d → AddsElementEdit zone d old new
@@ -56,13 +57,13 @@ module _ (zone : Zone) (all : List ElementEdit) where
           )
         ]
 
-    pub done-next : (done : List ElementEdit) (d : ElementEdit) (old new : ZoneDelta) → Contains all d
+    pub done_next : (done : List ElementEdit) (d : ElementEdit) (old new : ZoneDelta) → Contains all d
         → AreDone done old.elements → AddsElementEdit zone d old new → AreDone (done ++ d ∷ []) new.elements
-    done-next done d old new there so_far adds =
+    done_next done d old new there so_far adds =
         subst
         (λ ks. AreTurned element_cmp element_eq element_key zone.elements (element_after all zone) ks new.elements)
         (sym (map-append put_key done (d ∷ [])))
-        (turned-next element_cmp_total element_key element_eq element_ties same_key zone.elements
+        (turned_next element_cmp_total element_key element_eq element_ties same_key zone.elements
         (element_after all zone) (map put_key done) (put_key d) old.elements new.elements so_far
         (turns d old new there adds))
 
@@ -75,13 +76,13 @@ module _ (zone : Zone) (all : List ElementEdit) where
       by true among = refl
       by false out =
           sym (ap (λ o. option_map_or edit_put o (element_of zone k.0 k.1))
-          (None-from_is_some (find (λ d. element_eq (put_key d) k) all)
-          (found-any (λ d. element_eq (put_key d) k) all
-          ∙ sym (list_any-map (λ j. element_eq j k) put_key all) ∙ out)))
+          (None_from_is_some (find (λ d. element_eq (put_key d) k) all)
+          ((is_some_find (λ d. element_eq (put_key d) k) all ∙ sym (any_filter (λ d. element_eq (put_key d) k) all))
+          ∙ sym (list_any_map (λ j. element_eq j k) put_key all) ∙ out)))
 
-  pub done-all : (old new : ZoneDelta) → new.entries ≡ old.entries → AreDone all new.elements
+  pub done_all : (old new : ZoneDelta) → new.entries ≡ old.entries → AreDone all new.elements
       → HasEditedElements zone all old new
-  done-all old new entries done = record {
+  done_all old new entries done = record {
     entries = entries;
     leaves = leaves new.elements done;
     differ = done.differ;

@@ -7,7 +7,7 @@ use Rattle.std.proofs.lemmas.Bool.{or_right}
 use Rattle.std.proofs.lemmas.List.{length-map}
 use Rattle.std.proofs.lemmas.List.Elements.{Contains-get_or, Contains-append_right}
 use Rattle.std.proofs.lemmas.List.Kept.{AllPairs-cons}
-use Rattle.lemmas.proofs.Apart.{AreApart, apart-le}
+use Rattle.lemmas.proofs.Apart.{AreApart, apart_le}
 use Rattle.lemmas.proofs.Members.{here, here_or, none_in}
 use Rattle.terms.specs.Types.{Id, Global}
 use Rattle.terms.specs.Lookups.{at_most_one, is_in, meets, is_function}
@@ -96,7 +96,7 @@ module _ (c : Choice) where
 
     chain_full : (n : ℕ) (o : Option Id) → length (chain_from (suc n) c o) ≡ suc n → n ≤ length ids
     chain_full n o full =
-        let within = apart-le (chain_from n c o) ids (chain_apart n o)
+        let within = apart_le (chain_from n c o) ids (chain_apart n o)
         (λ y at. let next = chain_names n o y full at in named y next.0 (fmid_named c y next.0 next.1)) in
         omega (arith, within, chain_front n o full)
 

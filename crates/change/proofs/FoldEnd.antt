@@ -5,7 +5,7 @@ use Rattle.std.specs.Prelude.{◌↔◌, is_some, IsFalse, IfSome, Any}
 use Rattle.std.specs.Option.{IsSome, option_map_or}
 use Rattle.std.proofs.lemmas.List.Elements.{Contains-append_right, Contains-append_cases}
 use Rattle.lemmas.proofs.Members.{there, here_or, none_in, in_middle}
-use Rattle.lemmas.proofs.Pairs.{AllPairs-parts}
+use Rattle.lemmas.proofs.Pairs.{AllPairs_parts}
 use Rattle.terms.specs.declared.kinds.ElemType.{ElemType}
 use Rattle.terms.specs.Types.{Text, Id, Lines, Change, Global, Element}
 use Rattle.terms.specs.Lookups.{IsRising, change_of, has_change, element_of}
@@ -85,7 +85,7 @@ module _ (i : Installation) (type : ElemType) (name : Text) where
         r = f.replacer
 
         sides : All (λ y. IsOver i.choice f.replacer y) f.front × All (λ y. IsOver i.choice y f.replacer) f.back
-        sides = AllPairs-parts (λ x y. IsOver i.choice y x) f.front f.back f.replacer
+        sides = AllPairs_parts (λ x y. IsOver i.choice y x) f.front f.back f.replacer
             (subst (AllPairs (λ x y. IsOver i.choice y x)) f.parts order)
 
         within : (y : Id) → Contains (f.front ++ f.replacer ∷ f.back) y → Contains xs y

@@ -19,8 +19,8 @@ use Rattle.terms.specs.Types.{Text, Id, Lines, type_number, Change, Sysmod, Glob
 use Rattle.terms.specs.Lookups.{IsRising, sysmod_of, change_of, changes_of, has_change}
 use Rattle.terms.specs.Rising.{before, behind, with_item}
 use Rattle.terms.specs.Texts.{IsMerge}
-use Rattle.lemmas.proofs.Searches.{find-passes}
-use Rattle.sysmods.proofs.First.{find-position, find-no_position}
+use Rattle.lemmas.proofs.Searches.{find_passes}
+use Rattle.sysmods.proofs.First.{find_position, find_no_position}
 use Rattle.terms.proofs.ElementOrder.{type_from_number}
 use Rattle.change.specs.Folding.{is_for, IsUpdateOf}
 
@@ -86,9 +86,9 @@ update_made x update was old e same rest rising umids merged =
     })
 
 -- the statement that is found is for the element
-pub is_for-parts : (type : ElemType) (name : Text) (h : Change) → IsTrue (is_for type name h)
+pub is_for_parts : (type : ElemType) (name : Text) (h : Change) → IsTrue (is_for type name h)
     → (h.elem_type ≡ type) × (h.name ≡ name)
-is_for-parts type name h is =
+is_for_parts type name h is =
     let both = and_parts (type_number h.elem_type == type_number type) (bytes_eq h.name name) is in
     (type_from_number h.elem_type type (eqb-true _ _ both.0), same_from h.name name both.1)
 
@@ -105,7 +105,7 @@ change_received g x type name has = by (sysmod_of g x) has
 -- the statement that is found has the type and the name
 pub change_key : (g : Global) (x : Id) (type : ElemType) (name : Text) (h : Change) → change_of g x type name ≡ Some h
     → (h.elem_type ≡ type) × (h.name ≡ name)
-change_key g x type name h at = is_for-parts type name h (find-passes (is_for type name) (changes_of g x) h at)
+change_key g x type name h at = is_for_parts type name h (find_passes (is_for type name) (changes_of g x) h at)
 
 -- a statement is looked for among those of the SYSMOD
 change_in : (g : Global) (x : Id) (type : ElemType) (name : Text) (s : Sysmod) (changes : List Change)
@@ -121,12 +121,12 @@ pub statement_place : (g : Global) (x : Id) (type : ElemType) (name : Text) (s :
 statement_place g x type name s changes (Some k) at is place has = refl
 statement_place g x type name s changes None at is place has =
     absurd (true≢false (sym has ∙ ap is_some (change_in g x type name s changes at is
-    ∙ find-no_position (is_for type name) changes (sym place))))
+    ∙ find_no_position (is_for type name) changes (sym place))))
 
 -- and stands at that place
 pub statement_at : (g : Global) (x : Id) (type : ElemType) (name : Text) (s : Sysmod) (changes : List Change) (k : ℕ)
     (h : Change) → sysmod_of g x ≡ Some s → changes ≡ s.changes → position (is_for type name) changes ≡ Some k
     → h ≡ get_or changes k h → change_of g x type name ≡ Some h
 statement_at g x type name s changes k h at is place there =
-    change_in g x type name s changes at is ∙ find-position (is_for type name) changes k h place
+    change_in g x type name s changes at is ∙ find_position (is_for type name) changes k h place
     ∙ ap (λ v. Some v) (sym there)

@@ -20,7 +20,7 @@ use Rattle.terms.specs.Rising.{with_item, before, behind}
 use Rattle.change.specs.declared.pairs.Group.{Group}
 use Rattle.change.specs.Pairs.{others_of, AddsPair, AreGrouped}
 use Rattle.change.specs.Superseded.{AddsSuperseded, AreSuperseded}
-use Rattle.change.proofs.InTurn.{find-with_item}
+use Rattle.sorted.proofs.InTurn.{find_with_item}
 
 abbrev Has : List (Id × Id) → Id → Id → Type 0
 Has pairs a b = Contains {X = Id × Id} pairs (a, b)
@@ -46,9 +46,9 @@ in_more xs k x below is y =
     (sym (take_more xs k x below ∙ ap (λ v. take k xs ++ v ∷ []) (sym is))) (in_push (take k xs) x y)
 
 -- ids with one more at its place
-pub in-with_item : (xs : List Id) (z y : Id) → Contains (with_item (slice_cmp nat_cmp) (λ x. x) xs z) y
+pub in_with_item : (xs : List Id) (z y : Id) → Contains (with_item (slice_cmp nat_cmp) (λ x. x) xs z) y
     ↔ (Contains xs y ⊎ (z ≡ y))
-in-with_item xs z y = (
+in_with_item xs z y = (
   λ h. elim (Contains-append_cases (low ++ z ∷ []) high y h) [
     | inl front ↦ elim ((in_push low z y).0 front) [
       | inl old ↦ inl (filter_in (λ x. is_lt (slice_cmp nat_cmp x z)) xs y old).0
@@ -77,11 +77,11 @@ in-with_item xs z y = (
         (in_filter (λ x. is_lt (slice_cmp nat_cmp z x)) xs y old
         (ap is_lt (nat_list_cmp_total.antisymm z y ∙ ap ordering_reverse e)))
 
-pub adds-pair : (groups new : List Group) (x z : Id) (added : List Id)
+pub adds_pair : (groups new : List Group) (x z : Id) (added : List Id)
     → added ≡ with_item (slice_cmp nat_cmp) (λ v. v) (others_of groups x) z
     → new ≡ with_item (slice_cmp nat_cmp) (λ g. g.id) groups (record { id = x; others = added })
     → AddsPair x z groups new
-adds-pair groups new x z added has is y w = by (bytes_eq x y) refl
+adds_pair groups new x z added has is y w = by (bytes_eq x y) refl
   where
     group : Group
     group = record { id = x; others = added }
@@ -90,7 +90,7 @@ adds-pair groups new x z added has is y w = by (bytes_eq x y) refl
         → others_of new y ≡ option_map_or (λ g. g.others) (cond b (Some group) (find (λ g. bytes_eq g.id y) groups)) []
     at b e = ap (λ gs. others_of gs y) is
         ∙ ap (λ o. option_map_or (λ g. g.others) o [])
-        (find-with_item nat_list_cmp_total (λ (g : Group). g.id) bytes_eq texts_ties groups group y)
+        (find_with_item nat_list_cmp_total (λ (g : Group). g.id) bytes_eq texts_ties groups group y)
         ∙ ap (λ c. option_map_or (λ g. g.others) (cond c (Some group) (find (λ g. bytes_eq g.id y) groups)) []) e
 
     by : (b : Bool) → bytes_eq x y ≡ b
@@ -99,7 +99,7 @@ adds-pair groups new x z added has is y w = by (bytes_eq x y) refl
         let same : x ≡ y = same_from x y e in
         let all : others_of new y ≡ with_item (slice_cmp nat_cmp) (λ v. v) (others_of groups y) z = at true e ∙ has
         ∙ ap (λ v. with_item (slice_cmp nat_cmp) (λ v. v) (others_of groups v) z) same in
-        let within = in-with_item (others_of groups y) z w in (
+        let within = in_with_item (others_of groups y) z w in (
           λ h. elim (within.0 (subst (λ ys. Contains ys w) all h)) [
             | inl old ↦ inl old
             | inr other ↦ inr (sym same, sym other)
@@ -117,10 +117,10 @@ adds-pair groups new x z added has is y w = by (bytes_eq x y) refl
       ],
     )
 
-pub grouped-next : (pairs : List (Id × Id)) (k : ℕ) (p : Id × Id) (old new : List Group) → k < length pairs
+pub grouped_next : (pairs : List (Id × Id)) (k : ℕ) (p : Id × Id) (old new : List Group) → k < length pairs
     → p ≡ get_or pairs k p → AddsPair p.0 p.1 old new → AreGrouped (take k pairs) old
     → AreGrouped (take (k + 1) pairs) new
-grouped-next pairs k p old new below is adds are x z = (
+grouped_next pairs k p old new below is adds are x z = (
   λ h. (in_more pairs k p below is (x, z)).1 (elim ((adds x z).0 h) [
     | inl was ↦ inl ((are x z).0 was)
     | inr last ↦ inr (ap₂ (λ a b. (a, b)) (sym last.0) (sym last.1))
@@ -131,12 +131,12 @@ grouped-next pairs k p old new below is adds are x z = (
   ]),
 )
 
-pub grouped-none : AreGrouped [] []
-grouped-none x z = (λ h. absurd (none_in z h), λ h. absurd (none_in {X = Id × Id} (x, z) h))
+pub grouped_none : AreGrouped [] []
+grouped_none x z = (λ h. absurd (none_in z h), λ h. absurd (none_in {X = Id × Id} (x, z) h))
 
-pub adds-superseded : (c : Choice) (x : Id) (sup : List Id) (old new : List (Id × Id))
+pub adds_superseded : (c : Choice) (x : Id) (sup : List Id) (old new : List (Id × Id))
     → ((z : Id) → Contains sup z ↔ Supersedes c x z) → new ≡ old ++ map (λ z. (z, x)) sup → AddsSuperseded c x old new
-adds-superseded c x sup old new supersedes are z y = (
+adds_superseded c x sup old new supersedes are z y = (
   λ h. elim (Contains-append_cases old (map (λ z. (z, x)) sup) (z, y) (subst (λ l. Has l z y) are h)) [
     | inl was ↦ inl was
     | inr back ↦
@@ -151,10 +151,10 @@ adds-superseded c x sup old new supersedes are z y = (
   ]),
 )
 
-pub superseded-next : (c : Choice) (xs : List Id) (k : ℕ) (x : Id) (old new : List (Id × Id)) → k < length xs
+pub superseded_next : (c : Choice) (xs : List Id) (k : ℕ) (x : Id) (old new : List (Id × Id)) → k < length xs
     → x ≡ get_or xs k x → AddsSuperseded c x old new → AreSuperseded c (take k xs) old
     → AreSuperseded c (take (k + 1) xs) new
-superseded-next c xs k x old new below is adds are z y = (
+superseded_next c xs k x old new below is adds are z y = (
   λ h. elim ((adds z y).0 h) [
     | inl was ↦ let w = (are z y).0 was in ((in_more xs k x below is y).1 (inl w.0), w.1)
     | inr last ↦ (
@@ -168,11 +168,11 @@ superseded-next c xs k x old new below is adds are z y = (
   ]),
 )
 
-pub superseded-none : (c : Choice) → AreSuperseded c [] []
-superseded-none c z y = (λ h. absurd (none_in {X = Id × Id} (z, y) h), λ h. absurd (none_in y h.0))
+pub superseded_none : (c : Choice) → AreSuperseded c [] []
+superseded_none c z y = (λ h. absurd (none_in {X = Id × Id} (z, y) h), λ h. absurd (none_in y h.0))
 
 -- the same pairs in another order
-pub superseded-same : (c : Choice) (xs : List Id) (old new : List (Id × Id))
+pub superseded_same : (c : Choice) (xs : List Id) (old new : List (Id × Id))
     → ((z y : Id) → Has new z y ↔ Has old z y) → AreSuperseded c xs old → AreSuperseded c xs new
-superseded-same c xs old new same are z y =
+superseded_same c xs old new same are z y =
     (λ h. (are z y).0 ((same z y).0 h), λ h. (same z y).1 ((are z y).1 h))

@@ -9,22 +9,22 @@ use Rattle.std.proofs.lemmas.Bool.{and_parts, eqb-true}
 use Rattle.std.proofs.lemmas.Cmp.{tied_itself}
 use Rattle.std.proofs.lemmas.List.Elements.{All-nil, Contains-get_or}
 use Rattle.lemmas.proofs.Members.{none_in, in_filter}
-use Rattle.lemmas.proofs.Orderings.{Less-from_is_lt}
-use Rattle.lemmas.proofs.Pairs.{AllPairs-first, AllPairs-rest}
-use Rattle.lemmas.proofs.Searches.{find-over, find-gives, All-find}
+use Rattle.lemmas.proofs.Orderings.{Less_from_is_lt}
+use Rattle.lemmas.proofs.Pairs.{AllPairs_first, AllPairs_rest}
+use Rattle.lemmas.proofs.Searches.{find_over, find_gives, All_find}
 use Rattle.lemmas.proofs.Texts.{same_from}
 use Rattle.terms.specs.declared.kinds.ElemType.{ElemType}
-use Rattle.tables.specs.declared.edits.Edit.TheVariants.{Put}
+use Rattle.sorted.specs.declared.edits.Edit.TheVariants.{Put}
 use Rattle.terms.specs.Types.{Text, Id, type_number, Change, Sysmod, Global}
 use Rattle.terms.specs.Lookups.{element_cmp, sysmod_of, changes_of, has_change}
 use Rattle.terms.specs.Rising.{Rises}
 use Rattle.terms.specs.Lookups.{element_eq}
 use Rattle.terms.specs.Global.{IsGlobal, IsSysmod}
-use Rattle.terms.proofs.Placing.{Rises-with_item, All-with_item}
-use Rattle.tables.proofs.Editing.{find-after_edit}
+use Rattle.terms.proofs.Placing.{Rises_with_item, All_with_item}
+use Rattle.sorted.proofs.Editing.{find_after_edit}
 use Rattle.terms.proofs.ElementOrder.{element_cmp_total, element_ties, type_from_number}
 use Rattle.change.specs.Grouping.{ChangedElement, changed_key, AreByElement, changers_in, with_changer, with_changes}
-use Rattle.change.proofs.InTurn.{find-member}
+use Rattle.sorted.proofs.InTurn.{find_member}
 
 abbrev pub Key : Type 0
 Key = ElemType × Text
@@ -47,7 +47,7 @@ one_more : (x : Id) (es : List ChangedElement) (h : Change) (k : Key)
     → changers_in (with_changer x es h) k ≡ changers_in es k ++ one_if (element_eq (change_key h) k) x
 one_more x es h k =
     ap (λ o. option_map_or (λ e. e.changers) o [])
-    (find-after_edit element_cmp_total changed_key element_eq element_ties es (Put (record {
+    (find_after_edit element_cmp_total changed_key element_eq element_ties es (Put (record {
       elem_type = h.elem_type;
       name = h.name;
       changers = changers_in es (h.elem_type, h.name) ++ x ∷ [];
@@ -69,7 +69,7 @@ none_behind : (h : Change) (hs : List Change) (k : Key) → All (λ o. IsTrue (i
     → All (λ o. element_eq (change_key o) k ≡ false) hs
 none_behind h hs k rises at j d below =
     let o = get_or hs j d in
-    let less = Less-from_is_lt (element_cmp (change_key h) (change_key o)) (rises j d below) in
+    let less = Less_from_is_lt (element_cmp (change_key h) (change_key o)) (rises j d below) in
     ap (element_eq (change_key o)) (sym (same_key (change_key h) k at))
     ∙ element_ties (change_key o) (change_key h)
     ∙ ap is_eq (element_cmp_total.antisymm (change_key o) (change_key h) ∙ ap ordering_reverse less)
@@ -80,7 +80,7 @@ each_more : (x : Id) (es : List ChangedElement) (hs : List Change) (k : Key) →
     ≡ changers_in es k ++ one_if (is_some (find (λ h. element_eq (change_key h) k) hs)) x
 each_more x es [] k rises = sym (append-nil (changers_in es k))
 each_more x es (h ∷ hs) k rises =
-    each_more x (with_changer x es h) hs k (AllPairs-rest (λ a b. IsTrue (is_lt (element_cmp (change_key a)
+    each_more x (with_changer x es h) hs k (AllPairs_rest (λ a b. IsTrue (is_lt (element_cmp (change_key a)
     (change_key b)))) h hs rises)
     ∙ ap (λ l. l ++ one_if (is_some (find (λ o. element_eq (change_key o) k) hs)) x) (one_more x es h k)
     ∙ append_assoc (changers_in es k) (one_if (element_eq (change_key h) k) x)
@@ -93,7 +93,7 @@ each_more x es (h ∷ hs) k rises =
     by true e =
         ap (λ (o : Option Change). x ∷ one_if (is_some o) x)
         (ap (find (λ o. element_eq (change_key o) k)) (sym (append-nil hs))
-        ∙ find-over (λ o. element_eq (change_key o) k) hs [] (none_behind h hs k (AllPairs-first (λ a b. IsTrue
+        ∙ find_over (λ o. element_eq (change_key o) k) hs [] (none_behind h hs k (AllPairs_first (λ a b. IsTrue
         (is_lt (element_cmp (change_key a) (change_key b)))) h hs rises) e))
     by false e = refl
 
@@ -103,7 +103,7 @@ changes_rise g x is = by (sysmod_of g x) refl
   where
     by : (o : Option Sysmod) → sysmod_of g x ≡ o → Rises element_cmp change_key (option_map_or (λ s. s.changes) o [])
     by None at = λ i j d less below. absurd (omega (arith, below))
-    by (Some s) at = (All-find IsSysmod (λ t. bytes_eq t.id x) g.sysmods s is.formed at).changes
+    by (Some s) at = (All_find IsSysmod (λ t. bytes_eq t.id x) g.sysmods s is.formed at).changes
 
 -- by SYSMODs one after the other
 all_more : (g : Global) (es : List ChangedElement) (ids : List Id) (k : Key) → IsGlobal g
@@ -138,8 +138,8 @@ good_each x es (h ∷ hs) good =
       changers = changers_in es (h.elem_type, h.name) ++ x ∷ [];
     } in
     good_each x (with_changer x es h) hs (record {
-      rising = Rises-with_item element_cmp_total changed_key es e good.rising;
-      some = All-with_item element_cmp changed_key (λ d. d.changers ≢ []) es e good.some
+      rising = Rises_with_item element_cmp_total changed_key es e good.rising;
+      some = All_with_item element_cmp changed_key (λ d. d.changers ≢ []) es e good.some
           (not_nil (changers_in es (h.elem_type, h.name)) x);
     })
 
@@ -153,7 +153,7 @@ by_element g ids is = record {
   changers = λ j d below.
       let e = get_or es j d in
       sym (ap (λ o. option_map_or (λ v. v.changers) o [])
-      (find-member element_cmp_total changed_key element_eq element_ties es e (changed_key e) good.rising
+      (find_member element_cmp_total changed_key element_eq element_ties es e (changed_key e) good.rising
       (Contains-get_or es j d below) (itself (changed_key e))))
       ∙ all_more g [] ids (changed_key e) is;
   some = good.some;
@@ -184,5 +184,5 @@ by_element g ids is = record {
             → (e : ChangedElement) × Contains (fold (with_changes g) [] ids) e × (changed_key e ≡ (type, name))
         by None at h = absurd (none_in x h)
         by (Some e) at h =
-            let f = find-gives (λ d. element_eq (changed_key d) (type, name)) (fold (with_changes g) [] ids) e at in
+            let f = find_gives (λ d. element_eq (changed_key d) (type, name)) (fold (with_changes g) [] ids) e at in
             (e, f.1, same_key (changed_key e) (type, name) f.0)

@@ -23,7 +23,7 @@ use Rattle.terms.specs.Tests.{PassesAlone, IsEligible}
 use Rattle.terms.specs.Needs.{Needs}
 use Rattle.terms.specs.Judged.{Stays}
 use Rattle.terms.specs.Install.{Installation, TakesEffect, cleared}
-use Rattle.terms.proofs.Ids.{Contains-from_is_in}
+use Rattle.terms.proofs.Ids.{Contains_from_is_in}
 use Rattle.terms.proofs.Walks.{reaches_or_not}
 use Rattle.change.specs.Elements.{HasBases}
 use Rattle.change.proofs.ChosenVers.{AreFor, counting_for, names_received, names_no_loop, fmid_function}
@@ -182,7 +182,7 @@ module _ (s : Setting) (survivors kept : List Id) (members : (x : Id) → Contai
         comes None at has = absurd (true≢false (sym has))
         comes (Some f) at has =
             let both = and_parts (is_in s.cands f) (has_replacement s.global f type name) has in
-            let base = kept_fmid is_zone x f is at (not_applied f (Contains-from_is_in s.cands f both.0)) in
+            let base = kept_fmid is_zone x f is at (not_applied f (Contains_from_is_in s.cands f both.0)) in
             (f, at, base, both.1)
 
         own : (e : Element) → element_of (view_of s x) type name ≡ Some e → e.fmid ≡ owner_of s x

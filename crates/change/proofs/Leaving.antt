@@ -6,18 +6,18 @@ use Rattle.std.specs.Option.{option_map, option_map_or, option_and_then}
 use Rattle.std.specs.Str.{bytes_eq}
 use Rattle.std.proofs.lemmas.List.Elements.{Contains-append_left, Contains-append_right}
 use Rattle.lemmas.proofs.Members.{in_map, none_in, in_flat}
-use Rattle.lemmas.proofs.Searches.{find-gives, All-find}
+use Rattle.lemmas.proofs.Searches.{find_gives, All_find}
 use Rattle.lemmas.proofs.Texts.{same_from}
-use Rattle.terms.specs.Types.{Text, Id, Entry, Global, Zone}
-use Rattle.terms.specs.Lookups.{IsZone, is_nil, is_held, waives_applied, is_in, is_function, entry_of, delby_of}
+use Rattle.terms.specs.Types.{Text, Id, Entry, Global, Zone, Applied}
+use Rattle.terms.specs.Lookups.{IsZone, is_nil, has_content, waives_applied, is_in, is_function, entry_of, delby_of}
 use Rattle.terms.specs.Choice.{Choice, del_of}
 use Rattle.terms.specs.Deleted.{deletions, is_deleted, is_taken_out, entry_less, zone_less}
 use Rattle.terms.specs.Install.{delby_after}
-use Rattle.terms.proofs.Ids.{Contains-from_is_in}
-use Rattle.terms.proofs.NothingDeleted.{is_taken_out-none, zone_less-none}
-use Rattle.zones_less.proofs.Filtered.{passing}
-use Rattle.zones_less.proofs.Entries.{entry_less-waives}
-use Rattle.zones_less.proofs.Lookups.{entry_of-less}
+use Rattle.terms.proofs.Ids.{Contains_from_is_in}
+use Rattle.terms.proofs.NothingDeleted.{is_taken_out_none, zone_less_none}
+use Rattle.zones_views.proofs.Filtered.{passing}
+use Rattle.zones_views.proofs.Entries.{entry_less_waives}
+use Rattle.zones_views.proofs.Lookups.{entry_of_less}
 use Rattle.change.specs.declared.deleting.Deleting.{Deleting}
 use Rattle.change.specs.Deleting.{AreDeletions, choice_of, is_gone, left, is_function_gone, first_naming, first_meeting}
 use Rattle.change.specs.Deleting.{first_deleter, delby_left, at_stake}
@@ -26,16 +26,16 @@ use Rattle.change.specs.Plans.{installation}
 
 -- ---- what is left of an entry
 
-abbrev entry_with : Id → Option Text → List Id → Option Id → List Id → Entry
+abbrev entry_with : Id → Option Applied → List Id → Option Id → List Id → Entry
 entry_with x date supby delby waived =
     record { id = x; applied = date; supby = supby; delby = delby; waived = waived }
 
 -- an entry that nothing holds is bare
-bare : (e : Entry) (x : Id) → e.id ≡ x → is_held e ≡ false → IsTrue (waives_applied e) → e ≡ bare_entry x
+bare : (e : Entry) (x : Id) → e.id ≡ x → has_content e ≡ false → IsTrue (waives_applied e) → e ≡ bare_entry x
 bare e x same unheld waives =
     ap {A = Id} {B = Entry} (λ v. record e { id = v }) same ∙ by e.applied e.supby e.delby e.waived unheld waives
   where
-    by : (date : Option Text) (supby : List Id) (delby : Option Id) (waived : List Id)
+    by : (date : Option Applied) (supby : List Id) (delby : Option Id) (waived : List Id)
         → (is_some date || not (is_nil supby) || is_some delby) ≡ false → (is_some date || is_nil waived) ≡ true
         → entry_with x date supby delby waived ≡ bare_entry x
     by None [] None [] unheld waives = refl
@@ -51,25 +51,25 @@ module _ (g : Global) (c : Choice) (dels : List Id) (zone : Zone) (is_zone : IsZ
   abbrev less : Zone
   less = zone_less g c dels zone
 
-  pub left-none : (x : Id) → entry_of zone x ≡ None → entry_of less x ≡ None
-  left-none x at =
-      entry_of-less g c dels zone is_zone x ∙ ap (λ o. passing is_held (option_map (entry_less gone) o)) at
+  pub left_none : (x : Id) → entry_of zone x ≡ None → entry_of less x ≡ None
+  left_none x at =
+      entry_of_less g c dels zone is_zone x ∙ ap (λ o. passing has_content (option_map (entry_less gone) o)) at
 
-  pub left-some : (x : Id) (e : Entry) → entry_of zone x ≡ Some e → entry_less gone e ≡ old_entry less x
-  left-some x e at = by (is_held (entry_less gone e)) refl
+  pub left_some : (x : Id) (e : Entry) → entry_of zone x ≡ Some e → entry_less gone e ≡ old_entry less x
+  left_some x e at = by (has_content (entry_less gone e)) refl
     where
-      found : entry_of less x ≡ passing is_held (Some (entry_less gone e))
+      found : entry_of less x ≡ passing has_content (Some (entry_less gone e))
       found =
-          entry_of-less g c dels zone is_zone x ∙ ap (λ o. passing is_held (option_map (entry_less gone) o)) at
+          entry_of_less g c dels zone is_zone x ∙ ap (λ o. passing has_content (option_map (entry_less gone) o)) at
 
       id : (entry_less gone e).id ≡ x
-      id = same_from e.id x (find-gives (λ v. bytes_eq v.id x) zone.entries e at).0
+      id = same_from e.id x (find_gives (λ v. bytes_eq v.id x) zone.entries e at).0
 
       waives : IsTrue (waives_applied (entry_less gone e))
-      waives = entry_less-waives gone e
-          (All-find (λ e. IsTrue (waives_applied e)) (λ v. bytes_eq v.id x) zone.entries e is_zone.waived at)
+      waives = entry_less_waives gone e
+          (All_find (λ e. IsTrue (waives_applied e)) (λ v. bytes_eq v.id x) zone.entries e is_zone.waived at)
 
-      by : (b : Bool) → is_held (entry_less gone e) ≡ b → entry_less gone e ≡ old_entry less x
+      by : (b : Bool) → has_content (entry_less gone e) ≡ b → entry_less gone e ≡ old_entry less x
       by true held =
           sym (ap (λ o. unwrap_or o (bare_entry x)) (found
           ∙ ap (λ b. if b then Some (entry_less gone e) else None) held))
@@ -85,7 +85,7 @@ old_held zone is_zone x = by (entry_of zone x) refl
     by : (o : Option Entry) → entry_of zone x ≡ o → o ≡ if_held (unwrap_or o (bare_entry x))
     by None at = refl
     by (Some e) at = sym (ap (λ b. if b then Some e else None)
-        (All-find (λ e. IsTrue (is_held e)) (λ v. bytes_eq v.id x) zone.entries e is_zone.held at))
+        (All_find (λ e. IsTrue (has_content e)) (λ v. bytes_eq v.id x) zone.entries e is_zone.held at))
 
 -- ---- who has deleted an id
 
@@ -97,8 +97,8 @@ named_by_none c kept x out = by (find (λ k. is_in (del_of c k) x) kept) refl
     by : (o : Option Id) → find (λ k. is_in (del_of c k) x) kept ≡ o → o ≡ None
     by None at = refl
     by (Some k) at =
-        let gives = find-gives (λ k. is_in (del_of c k) x) kept k at in
-        absurd (out (in_flat (del_of c) kept k x gives.1 (Contains-from_is_in (del_of c k) x gives.0)))
+        let gives = find_gives (λ k. is_in (del_of c k) x) kept k at in
+        absurd (out (in_flat (del_of c) kept k x gives.1 (Contains_from_is_in (del_of c k) x gives.0)))
 
 first_of : {X : Type 0} (p : X → Bool) (xs : List X) → find p xs ≡ slice_get (filter p xs) 0
 first_of p [] = refl
@@ -156,7 +156,7 @@ module _ (d : Deleting) (dels : AreDeletions d) where
         by : (o : Option Entry) → entry_of d.zone.now x ≡ o → o ≡ None
         by None at = refl
         by (Some e) at =
-            let gives = find-gives (λ v. bytes_eq v.id x) d.zone.now.entries e at in
+            let gives = find_gives (λ v. bytes_eq v.id x) d.zone.now.entries e at in
             absurd (free (Contains-append_right ds (map (λ e. e.id) d.zone.now.entries) x
             (subst (Contains (map (λ e. e.id) d.zone.now.entries)) (same_from e.id x gives.0)
             (in_map (λ (e : Entry). e.id) d.zone.now.entries e gives.1))))
@@ -168,9 +168,9 @@ module _ (d : Deleting) (dels : AreDeletions d) where
         by [] none = record {
           not_named = λ h. none_in x (subst (λ ds. Contains ds x) none h);
           not_gone = ap (λ ds. is_taken_out d.vers.now.global.now (choice_of d) ds d.zone.now x) none
-              ∙ is_taken_out-none d.vers.now.global.now (choice_of d) d.zone.now x;
+              ∙ is_taken_out_none d.vers.now.global.now (choice_of d) d.zone.now x;
           same = ap (λ ds. entry_of (zone_less d.vers.now.global.now (choice_of d) ds d.zone.now) x) none
-              ∙ ap (λ z. entry_of z x) (zone_less-none d.vers.now.global.now (choice_of d) d.zone.now is_zone.held);
+              ∙ ap (λ z. entry_of z x) (zone_less_none d.vers.now.global.now (choice_of d) d.zone.now is_zone.held);
         }
         by (y ∷ ys) some =
             let free : ¬ Contains ((y ∷ ys) ++ map (λ e. e.id) d.zone.now.entries) x =
@@ -181,7 +181,7 @@ module _ (d : Deleting) (dels : AreDeletions d) where
                   (subst (λ ds. Contains ds x) some h));
               not_gone = ap (λ o. option_map_or (λ (e : Entry). is_some e.applied) o false
                   && is_deleted d.vers.now.global.now (choice_of d) d.dels.now x) none;
-              same = left-none d.vers.now.global.now (choice_of d) d.dels.now d.zone.now is_zone x none ∙ sym none;
+              same = left_none d.vers.now.global.now (choice_of d) d.dels.now d.zone.now is_zone x none ∙ sym none;
             }
 
     pub entry_stays : entry_of (left d) x ≡ entry_of d.zone.now x

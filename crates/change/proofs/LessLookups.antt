@@ -8,20 +8,20 @@ use Rattle.std.specs.Str.{bytes_eq}
 use Rattle.std.proofs.lemmas.Cmp.{nat_list_cmp_total}
 use Rattle.std.proofs.lemmas.List.Folds.{Any-from_list_any, list_any-from_Any}
 use Rattle.lemmas.proofs.Members.{here_or, none_in, map_in, in_filter, filter_in, flat_in}
-use Rattle.lemmas.proofs.Searches.{find-gives}
+use Rattle.lemmas.proofs.Searches.{find_gives}
 use Rattle.terms.specs.declared.kinds.ElemType.{ElemType}
 use Rattle.terms.specs.Types.{Text, Id, type_number, Global, Entry, Element, Zone}
-use Rattle.terms.specs.Lookups.{is_held, is_in, IsZone, entry_of, element_of, is_applied}
+use Rattle.terms.specs.Lookups.{has_content, is_in, IsZone, entry_of, element_of, is_applied}
 use Rattle.terms.specs.Choice.{Choice, del_of}
 use Rattle.terms.specs.Over.{chain}
 use Rattle.terms.specs.Deleted.{deletions, is_deleted, is_taken_out, entry_less, entries_less, zone_less}
-use Rattle.terms.proofs.Ids.{is_in-from_Contains, Contains-from_is_in}
-use Rattle.change.proofs.InTurn.{find-member}
+use Rattle.terms.proofs.Ids.{is_in_from_Contains, Contains_from_is_in}
+use Rattle.sorted.proofs.InTurn.{find_member}
 
 -- a list with an item that passes the test has a first one
-pub find-some : {X : Type 0} (p : X → Bool) (xs : List X) (x : X) → Contains xs x → p x ≡ true → IsSome (find p xs)
-find-some p [] x is passes = absurd (none_in x is)
-find-some {X} p (y ∷ ys) x is passes = by (find-some p ys x) (p y) refl
+pub find_some : {X : Type 0} (p : X → Bool) (xs : List X) (x : X) → Contains xs x → p x ≡ true → IsSome (find p xs)
+find_some p [] x is passes = absurd (none_in x is)
+find_some {X} p (y ∷ ys) x is passes = by (find_some p ys x) (p y) refl
   where
     by : (Contains ys x → p x ≡ true → IsSome (find p ys)) → (b : Bool) → p y ≡ b → IsSome (find p (y ∷ ys))
     by again true e = rw e refl
@@ -36,11 +36,11 @@ module _ (g : Global) (c : Choice) where
       → (k : Id) × Contains ks k × (is_deleted g c (del_of c k) x ≡ true)
   deleted_by_one ks x deleted =
       let any = Any-from_list_any (λ y. is_in (deletions c ks) y) (chain g c x) deleted in
-      let from = flat_in (del_of c) ks any.1 (Contains-from_is_in (deletions c ks) any.1 any.4) in (
+      let from = flat_in (del_of c) ks any.1 (Contains_from_is_in (deletions c ks) any.1 any.4) in (
         from.0,
         from.1,
         list_any-from_Any (λ y. is_in (del_of c from.0) y) (chain g c x)
-            (any.0, any.1, any.2, any.3, is_in-from_Contains (del_of c from.0) any.1 from.2),
+            (any.0, any.1, any.2, any.3, is_in_from_Contains (del_of c from.0) any.1 from.2),
       )
 
   module _ (dels : List Id) (zone : Zone) where
@@ -50,7 +50,7 @@ module _ (g : Global) (c : Choice) where
         → is_deleted g c dels e.fmid ≡ false → IsSome (element_of (zone_less g c dels zone) type name)
     unfolding zone_less
     element_stays type name e is at stays =
-        find-some (λ e. (type_number e.elem_type == type_number type) && bytes_eq e.name name)
+        find_some (λ e. (type_number e.elem_type == type_number type) && bytes_eq e.name name)
         (filter (λ e. not (is_deleted g c dels e.fmid)) zone.elements) e
         (in_filter (λ e. not (is_deleted g c dels e.fmid)) zone.elements e is (ap not stays)) at
 
@@ -60,7 +60,7 @@ module _ (g : Global) (c : Choice) where
         → Contains zone.elements e × (((type_number e.elem_type == type_number type) && bytes_eq e.name name) ≡ true)
     unfolding zone_less
     element_was type name e found =
-        let gives = find-gives (λ e. (type_number e.elem_type == type_number type) && bytes_eq e.name name)
+        let gives = find_gives (λ e. (type_number e.elem_type == type_number type) && bytes_eq e.name name)
         (filter (λ e. not (is_deleted g c dels e.fmid)) zone.elements) e found in
         ((filter_in (λ e. not (is_deleted g c dels e.fmid)) zone.elements e gives.1).0, gives.0)
 
@@ -85,13 +85,13 @@ module _ (g : Global) (c : Choice) where
             → option_map_or (λ e. is_some e.applied) o false ≡ false
         by None at = refl
         by (Some e) at =
-            let gives = find-gives (λ e. bytes_eq e.id x) less e at in
-            let among = filter_in is_held (map (entry_less is_gone) zone.entries) e gives.1 in
+            let gives = find_gives (λ e. bytes_eq e.id x) less e at in
+            let among = filter_in has_content (map (entry_less is_gone) zone.entries) e gives.1 in
             let from = map_in (entry_less is_gone) zone.entries e among.0 in
             let was : Entry = from.0 in
             let id : bytes_eq was.id x ≡ true = subst (λ e. bytes_eq e.id x ≡ true) (sym from.2) gives.0 in
             let found : entry_of zone x ≡ Some was =
-            find-member nat_list_cmp_total (λ (e : Entry). e.id) bytes_eq texts_ties zone.entries was x is_zone.entries
+            find_member nat_list_cmp_total (λ (e : Entry). e.id) bytes_eq texts_ties zone.entries was x is_zone.entries
             from.1 id in
             let none : is_some was.applied ≡ false =
             sym (ap (λ o. option_map_or (λ (e : Entry). is_some e.applied) o false) found)

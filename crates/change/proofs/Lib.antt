@@ -6,7 +6,6 @@ pub mod ChosenVers
 pub mod EffectiveIds
 pub mod FmidChains
 pub mod Gathered
-pub mod InTurn
 pub mod Installable
 pub mod KeptTogether
 pub mod LessLookups
@@ -22,7 +21,3 @@ pub mod FoldEnd
 pub mod Grouped
 pub mod AllElements
 pub mod Removed
-pub mod Turning
-pub mod LessEdits
-pub mod Reverted
-pub mod AfterRestore

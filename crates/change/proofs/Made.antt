@@ -4,22 +4,22 @@ use Rattle.std.proofs.Common.{sym, ap, ap₂, ◌∙◌, subst, true≢false, Is
 use Rattle.std.specs.Prelude.{◌↔◌, ◌||◌, Contains, filter, is_some, unwrap_or}
 use Rattle.std.specs.Str.{bytes_eq}
 use Rattle.lemmas.proofs.Members.{in_filter, filter_in}
-use Rattle.lemmas.proofs.Searches.{find-gives, All-find}
+use Rattle.lemmas.proofs.Searches.{find_gives, All_find}
 use Rattle.lemmas.proofs.Texts.{same_from}
 use Rattle.terms.specs.Types.{Id, Entry, Zone}
 use Rattle.terms.specs.Lookups.{IsRising, IsZone, is_nil, is_in, waives_applied, entry_of}
 use Rattle.terms.specs.Deleted.{zone_less}
-use Rattle.zones_less.proofs.Entries.{entries_less-waive}
+use Rattle.zones_views.proofs.Entries.{entries_less_waive}
 use Rattle.change.specs.declared.deleting.Deleting.{Deleting}
 use Rattle.change.specs.declared.plan.Plan.{Plan}
 use Rattle.change.specs.Deleting.{is_gone, left, delby_left}
 use Rattle.change.specs.Pairs.{others_of}
 use Rattle.change.specs.Entries.{is_open, bare_entry, old_entry, IsWaived, IsAppliedEntry, IsOtherEntry, IsEntryAfter}
 
-pub waived-from : (d : Deleting) (p : Plan) (x : Id) (others left waived : List Id)
+pub waived_from : (d : Deleting) (p : Plan) (x : Id) (others left waived : List Id)
     → left ≡ filter (is_open d p) others → others ≡ others_of p.bypassed x
     → ((z : Id) → Contains waived z ↔ Contains left z) → IsRising waived → IsWaived d p x waived
-waived-from d p x others left waived filtered are same rising = record {
+waived_from d p x others left waived filtered are same rising = record {
   rising = rising;
   members = λ z. (
     λ h. filter_in (is_open d p) (others_of p.bypassed x) z
@@ -29,11 +29,11 @@ waived-from d p x others left waived filtered are same rising = record {
   );
 }
 
-pub other-from : (d : Deleting) (p : Plan) (x : Id) (old : Entry) (more supby : List Id) (delby : Option Id)
+pub other_from : (d : Deleting) (p : Plan) (x : Id) (old : Entry) (more supby : List Id) (delby : Option Id)
     → old ≡ old_entry (left d) x → more ≡ others_of p.superseders x
     → ((y : Id) → Contains supby y ↔ Contains (old.supby ++ more) y) → delby ≡ delby_left d x
     → IsOtherEntry d p x (record old { supby = supby; delby = delby })
-other-from d p x old more supby delby is are same deleted = record {
+other_from d p x old more supby delby is are same deleted = record {
   rest = ap₂ {A = Entry} {B = Option Id} {C = Entry} (λ e k. record e { supby = supby; delby = k }) is deleted;
   supby = λ y. subst (λ ys. Contains supby y ↔ Contains ys y) (ap₂ (λ e l. e.supby ++ l) is are) (same y);
 }
@@ -43,7 +43,7 @@ old_id zone x = by (entry_of zone x) refl
   where
     by : (o : Option Entry) → entry_of zone x ≡ o → (unwrap_or o (bare_entry x)).id ≡ x
     by None at = refl
-    by (Some e) at = same_from e.id x (find-gives (λ v. bytes_eq v.id x) zone.entries e at).0
+    by (Some e) at = same_from e.id x (find_gives (λ v. bytes_eq v.id x) zone.entries e at).0
 
 pub old_waives : (d : Deleting) → IsZone d.zone.now → (x : Id) → IsTrue (waives_applied (old_entry (left d) x))
 unfolding zone_less
@@ -51,26 +51,26 @@ old_waives d is_zone x = by (entry_of (left d) x) refl
   where
     by : (o : Option Entry) → entry_of (left d) x ≡ o → IsTrue (waives_applied (unwrap_or o (bare_entry x)))
     by None at = refl
-    by (Some e) at = All-find (λ e. IsTrue (waives_applied e)) (λ v. bytes_eq v.id x) (left d).entries e
-        (entries_less-waive (is_gone d) d.zone.now.entries is_zone.waived) at
+    by (Some e) at = All_find (λ e. IsTrue (waives_applied e)) (λ v. bytes_eq v.id x) (left d).entries e
+        (entries_less_waive (is_gone d) d.zone.now.entries is_zone.waived) at
 
 module _ (d : Deleting) (p : Plan) (x : Id) (e : Entry) where
-  pub after-applied : is_in p.effective x ≡ true → IsAppliedEntry d p x e → IsEntryAfter d p x e
-  after-applied takes made = record {
+  pub after_applied : is_in p.effective x ≡ true → IsAppliedEntry d p x e → IsEntryAfter d p x e
+  after_applied takes made = record {
     id = ap (λ v. v.id) made.rest;
     applied = λ h. made;
     other = λ not_it. absurd (true≢false (sym takes ∙ not_it));
     waives = ap (λ v. is_some v.applied || is_nil v.waived) made.rest;
   }
 
-  pub waives-other : IsZone d.zone.now → IsOtherEntry d p x e → IsTrue (waives_applied e)
-  waives-other is_zone made =
+  pub waives_other : IsZone d.zone.now → IsOtherEntry d p x e → IsTrue (waives_applied e)
+  waives_other is_zone made =
       ap (λ v. is_some v.applied || is_nil v.waived) made.rest ∙ old_waives d is_zone x
 
-  pub after-other : IsZone d.zone.now → is_in p.effective x ≡ false → IsOtherEntry d p x e → IsEntryAfter d p x e
-  after-other is_zone not_it made = record {
+  pub after_other : IsZone d.zone.now → is_in p.effective x ≡ false → IsOtherEntry d p x e → IsEntryAfter d p x e
+  after_other is_zone not_it made = record {
     id = ap (λ v. v.id) made.rest ∙ old_id (left d) x;
     applied = λ takes. absurd (true≢false (sym takes ∙ not_it));
     other = λ h. made;
-    waives = waives-other is_zone made;
+    waives = waives_other is_zone made;
   }

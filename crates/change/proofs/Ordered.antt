@@ -9,7 +9,7 @@ use Rattle.std.proofs.lemmas.List.{take-append-drop, take_more, get_or-take, len
 use Rattle.std.proofs.lemmas.List.Elements.{Contains-append_right, Contains-get_or, All-cons}
 use Rattle.std.proofs.lemmas.List.Sorted.{Contains-permutation, IsPermutation-sym, IsPermutation-insert}
 use Rattle.std.proofs.lemmas.List.Sorted.{IsPermutation-push_more}
-use Rattle.lemmas.proofs.Pairs.{AllPairs-between, AllPairs-parts}
+use Rattle.lemmas.proofs.Pairs.{AllPairs_between, AllPairs_parts}
 use Rattle.terms.specs.Types.{Id}
 use Rattle.terms.specs.Choice.{Choice}
 use Rattle.terms.specs.Over.{IsOver, names}
@@ -24,7 +24,7 @@ pub newest : {X : Type 0} (R : X → X → Type 0) (xs : List X) (k : ℕ) (x : 
 newest R xs k x pairs below is y m =
     let split : xs ≡ take k xs ++ get_or xs k x ∷ drop (suc k) xs =
     sym (take-append-drop k xs) ∙ ap (λ ys. take k xs ++ ys) (drop-cons xs k x below) in
-    let sides = AllPairs-parts R (take k xs) (drop (suc k) xs) (get_or xs k x) (subst (AllPairs R) split pairs) in
+    let sides = AllPairs_parts R (take k xs) (drop (suc k) xs) (get_or xs k x) (subst (AllPairs R) split pairs) in
     subst (R y) (sym is) (all_in (λ z. R z (get_or xs k x)) (take k xs) y sides.0 m)
 
 -- what all behind a place have and the item before it has
@@ -72,7 +72,7 @@ module _ (c : Choice) where
       → (0 < p → IsOver c x (get_or xs (p - 1) x)) → All (λ y. ¬ IsOver c x y) (drop p xs)
       → AllPairs (λ y z. IsOver c z y) (insert xs p x)
   ordered_more ids k x xs p comparable below is same order within last none =
-      AllPairs-between (λ y z. IsOver c z y) (take p xs) (drop p xs) x
+      AllPairs_between (λ y z. IsOver c z y) (take p xs) (drop p xs) x
       (subst (AllPairs (λ y z. IsOver c z y)) (sym (take-append-drop p xs)) order)
       (over_front xs p x order within last)
       (over_back xs p x (λ y m. newest (λ v w. IsOver c v w ⊎ IsOver c w v) ids k x comparable below is y

@@ -15,7 +15,7 @@ use Rattle.change.specs.Plans.{installation, IsPlan}
 abbrev first : Id × Id → Id
 first p = p.0
 
-pub is-plan : (g : Global) (c : Choice) (zone : Zone) (kept : List Id) (bypassed : List (Id × Id)) (date : Text)
+pub is_plan : (g : Global) (c : Choice) (zone : Zone) (kept : List Id) (bypassed : List (Id × Id)) (date : Text)
     (dels effective touched : List Id) (pairs : List (Id × Id)) (superseders by_id : List Group)
     → ((i : Installation) → i.kept ≡ kept → i.choice ≡ c
     → (x : Id) → Contains effective x ↔ TakesEffect i x)
@@ -29,7 +29,7 @@ pub is-plan : (g : Global) (c : Choice) (zone : Zone) (kept : List Id) (bypassed
       touched = touched;
       date = date;
     })
-is-plan g c zone kept bypassed date dels effective touched pairs superseders by_id takes are all gathered waived =
+is_plan g c zone kept bypassed date dels effective touched pairs superseders by_id takes are all gathered waived =
     record {
       effective = takes (installation g c zone kept bypassed date) refl refl;
       superseders = λ x y. (

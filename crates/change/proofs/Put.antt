@@ -10,19 +10,19 @@ use Rattle.std.proofs.lemmas.Cmp.{nat_list_cmp_total}
 use Rattle.std.proofs.lemmas.List.Elements.{All-nil}
 use Rattle.lemmas.proofs.Members.{none_in}
 use Rattle.lemmas.proofs.Texts.{same_from, same_itself}
-use Rattle.tables.specs.declared.edits.Edit.TheVariants.{Put, Remove}
+use Rattle.sorted.specs.declared.edits.Edit.TheVariants.{Put, Remove}
 use Rattle.terms.specs.Types.{Id, Entry, Zone}
-use Rattle.terms.specs.Lookups.{is_held, entry_of}
+use Rattle.terms.specs.Lookups.{has_content, entry_of}
 use Rattle.zones.specs.Delta.{ZoneDelta}
-use Rattle.tables.specs.Edits.{edit_key, edit_put}
-use Rattle.terms.proofs.Placing.{All-with_item}
+use Rattle.sorted.specs.Edits.{edit_key, edit_put}
+use Rattle.terms.proofs.Placing.{All_with_item}
 use Rattle.terms.proofs.Ids.{in_or_not}
 use Rattle.change.specs.declared.deleting.Deleting.{Deleting}
 use Rattle.change.specs.declared.plan.Plan.{Plan}
-use Rattle.change.specs.Differing.{EntryEdit, ChangesEntry, AddsEntryEdit, with_entry_edit}
+use Rattle.zones.specs.Differing.{EntryEdit, ChangesEntry, AddsEntryEdit, with_entry_edit}
 use Rattle.change.specs.Entries.{IsMadeEntry, PutsEntry, HasPutEntries, entry_after, held_edit, if_held}
 use Rattle.change.proofs.Gathered.{in_more}
-use Rattle.change.proofs.InTurn.{find-with_item}
+use Rattle.sorted.proofs.InTurn.{find_with_item}
 
 abbrev key_of : EntryEdit → Id
 key_of = edit_key (λ e. e.id)
@@ -31,8 +31,8 @@ module _ (d : Deleting) (p : Plan) where
   abbrev zone : Zone
   zone = d.zone.now
 
-  pub put-none : (delta : ZoneDelta) → delta.entries ≡ [] → HasPutEntries d p [] delta delta
-  put-none delta empty = record {
+  pub put_none : (delta : ZoneDelta) → delta.entries ≡ [] → HasPutEntries d p [] delta delta
+  put_none delta empty = record {
     elements = refl;
     put = λ x h. absurd (none_in x h);
     others = λ x out. ap (λ es. option_map_or edit_put (find (λ e. bytes_eq (key_of e) x) es) (entry_of zone x)) empty;
@@ -44,7 +44,7 @@ module _ (d : Deleting) (p : Plan) where
       → entry_after (with_entry_edit delta v) zone y ≡ cond b (edit_put v) (entry_after delta zone y)
   after_put delta v y b at =
       ap (λ o. option_map_or edit_put o (entry_of zone y))
-      (find-with_item nat_list_cmp_total key_of bytes_eq texts_ties delta.entries v y)
+      (find_with_item nat_list_cmp_total key_of bytes_eq texts_ties delta.entries v y)
       ∙ by (bytes_eq (key_of v) y) at
     where
       by : (c : Bool) → c ≡ b
@@ -81,7 +81,7 @@ module _ (d : Deleting) (p : Plan) where
       elements = so_far.elements;
       put = λ y h. by_put y ((in_more xs k x below is y).0 h) (bytes_eq (key_of v) y) refl;
       others = λ y out. by_other y out (bytes_eq (key_of v) y) refl;
-      differ = All-with_item (slice_cmp nat_cmp) key_of (ChangesEntry zone) old.entries v so_far.differ differs;
+      differ = All_with_item (slice_cmp nat_cmp) key_of (ChangesEntry zone) old.entries v so_far.differ differs;
     }
       where
         at_id : (y : Id) → bytes_eq (key_of v) y ≡ true → x ≡ y
@@ -106,14 +106,14 @@ module _ (d : Deleting) (p : Plan) where
             after_put old v y false off ∙ so_far.others y (λ was. out ((in_more xs k x below is y).1 (inl was)))
 
     key_is : key_of (held_edit x e) ≡ x
-    key_is = by (is_held e)
+    key_is = by (has_content e)
       where
         by : (b : Bool) → key_of (if b then Put e else Remove x) ≡ x
         by true = made.after.id
         by false = refl
 
     left_is : edit_put (held_edit x e) ≡ if_held e
-    left_is = by (is_held e)
+    left_is = by (has_content e)
       where
         by : (b : Bool) → edit_put {X = Entry} {K = Id} (if b then Put e else Remove x) ≡ (if b then Some e else None)
         by true = refl
@@ -129,8 +129,8 @@ module _ (d : Deleting) (p : Plan) where
               (edited (held_edit x e) key_is left_is edit.1)
         ]
 
-  pub put-next : (xs : List Id) (k : ℕ) (x : Id) (start old new : ZoneDelta) → k < length xs → x ≡ get_or xs k x
+  pub put_next : (xs : List Id) (k : ℕ) (x : Id) (start old new : ZoneDelta) → k < length xs → x ≡ get_or xs k x
       → PutsEntry d p x old new → HasPutEntries d p (take k xs) start old
       → HasPutEntries d p (take (k + 1) xs) start new
-  put-next xs k x start old new below is puts so_far =
+  put_next xs k x start old new below is puts so_far =
       one_more xs k x start old below is puts.0 puts.1 so_far new puts.2

@@ -6,25 +6,25 @@ use Rattle.std.specs.Option.{option_map_or}
 use Rattle.std.proofs.lemmas.List.{take_more}
 use Rattle.std.proofs.lemmas.List.Sums.{fold-append}
 use Rattle.terms.specs.declared.kinds.ElemType.{ElemType}
-use Rattle.tables.specs.declared.edits.Edit.TheVariants.{Remove}
+use Rattle.sorted.specs.declared.edits.Edit.TheVariants.{Remove}
 use Rattle.terms.specs.Types.{Text, Element}
 use Rattle.terms.specs.Lookups.{IsZone, element_cmp, element_key, element_of}
 use Rattle.terms.specs.Rising.{with_item}
 use Rattle.terms.specs.Deleted.{is_deleted}
-use Rattle.terms.proofs.NothingDeleted.{is_deleted-none}
+use Rattle.terms.proofs.NothingDeleted.{is_deleted_none}
 use Rattle.terms.specs.Lookups.{element_eq}
-use Rattle.tables.specs.Edits.{edit_key, edit_put, after_edits}
+use Rattle.sorted.specs.Edits.{edit_key, edit_put, after_edits}
 use Rattle.terms.proofs.ElementOrder.{element_cmp_total, element_ties}
 use Rattle.lemmas.proofs.Members.{in_map, map_in, in_filter, filter_in}
-use Rattle.lemmas.proofs.Searches.{find-gives}
-use Rattle.zones_less.proofs.Filtered.{passing}
-use Rattle.zones_less.proofs.Lookups.{element_of-less}
+use Rattle.lemmas.proofs.Searches.{find_gives}
+use Rattle.zones_views.proofs.Filtered.{passing}
+use Rattle.zones_views.proofs.Lookups.{element_of_less}
 use Rattle.change.specs.declared.deleting.Deleting.{Deleting}
 use Rattle.change.specs.Deleting.{choice_of, is_cut, left}
-use Rattle.change.specs.Differing.{ElementEdit}
+use Rattle.zones.specs.Differing.{ElementEdit}
 use Rattle.change.specs.Puts.{less_element, less_elements}
 use Rattle.change.proofs.Grouped.{Key}
-use Rattle.change.proofs.InTurn.{find-member, in_turn-none, in_turn-some}
+use Rattle.sorted.proofs.InTurn.{find_member, in_turn_none, in_turn_some}
 
 removal : Element → ElementEdit
 removal e = Remove (element_key e)
@@ -58,7 +58,7 @@ module _ (d : Deleting) where
     where
       uncut : is_cut d e.fmid ≡ false
       uncut = ap (λ ds. is_deleted d.vers.now.global.now (choice_of d) ds e.fmid) no_dels
-          ∙ is_deleted-none d.vers.now.global.now (choice_of d) e.fmid
+          ∙ is_deleted_none d.vers.now.global.now (choice_of d) e.fmid
 
       stays : (b : Bool) → b ≡ false
           → (if b then with_item element_cmp put_key edits (Remove (element_key e)) else edits) ≡ edits
@@ -91,7 +91,7 @@ module _ (d : Deleting) where
         → element_eq (element_key m) key ≡ true → m ≡ e
     only_one e m at there hit =
         let both : Some m ≡ Some e =
-        sym (find-member element_cmp_total element_key element_eq element_ties elements m key is_zone.elements there
+        sym (find_member element_cmp_total element_key element_eq element_ties elements m key is_zone.elements there
         hit) ∙ at in
         cc both
 
@@ -108,7 +108,7 @@ module _ (d : Deleting) where
         → find at_key (all_removed [] elements) ≡ None
     unfolding removal
     no_removal none =
-        in_turn-none element_cmp_total put_key element_eq element_ties (removals elements) [] key
+        in_turn_none element_cmp_total put_key element_eq element_ties (removals elements) [] key
         (λ r there. by r there (at_key r) refl)
       where
         by : (r : ElementEdit) → Contains (removals elements) r → (b : Bool) → at_key r ≡ b → b ≡ false
@@ -121,8 +121,8 @@ module _ (d : Deleting) where
         → find at_key (all_removed [] elements) ≡ Some (removal e)
     unfolding removal cut
     one_removal e at gone =
-        let gives = find-gives (λ m. element_eq (element_key m) key) elements e at in
-        in_turn-some element_cmp_total put_key element_eq element_ties (removals elements) [] key (removal e)
+        let gives = find_gives (λ m. element_eq (element_key m) key) elements e at in
+        in_turn_some element_cmp_total put_key element_eq element_ties (removals elements) [] key (removal e)
         gives.0
         (λ r there hit. let m = from_element r there in
         sym m.3 ∙ ap removal (only_one e m.0 at m.1 (ap at_key m.3 ∙ hit)))
@@ -140,7 +140,7 @@ module _ (d : Deleting) where
         left_is : (o : Option Element) → element_of d.zone.now type name ≡ o
             → element_of (left d) type name ≡ passing (λ e. not (is_cut d e.fmid)) o
         left_is o at =
-            element_of-less d.vers.now.global.now (choice_of d) d.dels.now d.zone.now is_zone type name
+            element_of_less d.vers.now.global.now (choice_of d) d.dels.now d.zone.now is_zone type name
             ∙ ap (passing (λ e. not (is_cut d e.fmid))) at
 
         stands : find at_key (all_removed [] elements) ≡ None
@@ -167,7 +167,7 @@ module _ (d : Deleting) where
             missing : (m : Element) → Contains elements m → element_eq (element_key m) key ≡ true → ⊥
             missing m there hit =
                 let both : Some m ≡ None =
-                sym (find-member element_cmp_total element_key element_eq element_ties elements m key is_zone.elements
+                sym (find_member element_cmp_total element_key element_eq element_ties elements m key is_zone.elements
                 there hit) ∙ at in
                 cc both
         by (Some e) at = by_cut e at (is_cut d e.fmid) refl

@@ -10,7 +10,7 @@ use Rattle.terms.specs.Lookups.{is_in}
 use Rattle.terms.specs.Choice.{Choice}
 use Rattle.terms.specs.Over.{Supersedes}
 use Rattle.terms.specs.Install.{Installation, TakesEffect}
-use Rattle.terms.proofs.Ids.{is_in-from_Contains, Contains-from_is_in}
+use Rattle.terms.proofs.Ids.{is_in_from_Contains, Contains_from_is_in}
 use Rattle.change.specs.Superseded.{AreSuperseded}
 
 pub takes_effect : (c : Choice) (kept : List Id) (pairs : List (Id × Id)) (superseded left result : List Id)
@@ -26,7 +26,7 @@ takes_effect c kept pairs superseded left result never_itself are firsts filtere
       let f = filter_in (λ x. not (is_in superseded x)) kept x (subst (λ xs. Contains xs x) filtered ((same x).0 h)) in
       record {
         kept = subst (λ xs. Contains xs x) (sym i_kept) f.0;
-        first = λ y there other over. true≢false (sym (is_in-from_Contains superseded x (overridden y
+        first = λ y there other over. true≢false (sym (is_in_from_Contains superseded x (overridden y
             (subst (λ xs. Contains xs y) i_kept there) (subst (λ d. Supersedes d y x) i_choice over)))
             ∙ not-true (is_in superseded x) f.1);
       },
@@ -40,7 +40,7 @@ takes_effect c kept pairs superseded left result never_itself are firsts filtere
     free : TakesEffect i x → (b : Bool) → is_in superseded x ≡ b → not b ≡ true
     free t false e = refl
     free t true e =
-        let m = map_in (λ (p : Id × Id). p.0) pairs x ((firsts x).0 (Contains-from_is_in superseded x e)) in
+        let m = map_in (λ (p : Id × Id). p.0) pairs x ((firsts x).0 (Contains_from_is_in superseded x e)) in
         let by = (are x m.0.1).0 (subst (λ v. Contains {X = Id × Id} pairs (v, m.0.1)) m.2 m.1) in
         elim (same_or_not m.0.1 x) [
           | inl itself ↦ absurd (never_itself x (subst (λ v. Supersedes c v x) itself by.1))

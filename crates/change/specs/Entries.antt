@@ -2,15 +2,15 @@
 use Rattle.std.specs.Prelude.{◌≡◌, ◌↔◌, ◌&&◌, ◌++◌, Bool, not, List, [], Option, None, Some, Contains, All}
 use Rattle.std.specs.Prelude.{IsTrue, IsFalse, unwrap_or, if◌then◌else◌}
 use Rattle.std.specs.Str.{bytes_eq}
-use Rattle.tables.specs.declared.edits.Edit.TheVariants.{Put, Remove}
-use Rattle.terms.specs.Types.{Id, Entry, Zone}
-use Rattle.terms.specs.Lookups.{IsRising, is_in, is_nil, is_supplied, is_held, waives_applied, entry_of}
+use Rattle.sorted.specs.declared.edits.Edit.TheVariants.{Put, Remove}
+use Rattle.terms.specs.Types.{Id, Entry, Zone, an_applied}
+use Rattle.terms.specs.Lookups.{IsRising, is_in, is_nil, is_supplied, has_content, waives_applied, entry_of}
 use Rattle.zones.specs.Delta.{ZoneDelta}
-use Rattle.tables.specs.Edits.{after_edits}
+use Rattle.sorted.specs.Edits.{after_edits}
 use Rattle.change.specs.declared.deleting.Deleting.{Deleting}
 use Rattle.change.specs.declared.plan.Plan.{Plan}
 use Rattle.change.specs.Deleting.{left, delby_left}
-use Rattle.change.specs.Differing.{EntryEdit, ChangesEntry, AddsEntryEdit}
+use Rattle.zones.specs.Differing.{EntryEdit, ChangesEntry, AddsEntryEdit}
 use Rattle.change.specs.Pairs.{others_of}
 
 -- whether nothing supplies it after the install
@@ -31,7 +31,7 @@ pub record IsWaived (d : Deleting) (p : Plan) (x : Id) (waived : List Id) : Type
 
 -- the entry of a SYSMOD that takes effect
 pub record IsAppliedEntry (d : Deleting) (p : Plan) (x : Id) (e : Entry) : Type 0 where
-  pub rest : e ≡ record (bare_entry x) { applied = Some p.date; delby = delby_left d x; waived = e.waived }
+  pub rest : e ≡ record (bare_entry x) { applied = Some (an_applied p.date 1); delby = delby_left d x; waived = e.waived }
   pub waived : IsWaived d p x e.waived
 
 -- the entry of any other id: what is left of it, with more in SUPBY
@@ -54,7 +54,7 @@ pub record IsMadeEntry (d : Deleting) (p : Plan) (x : Id) (e : Entry) : Type 0 w
 
 -- the entry is put, or goes if nothing holds it
 abbrev pub held_edit : Id → Entry → EntryEdit
-held_edit x e = if is_held e then Put e else Remove x
+held_edit x e = if has_content e then Put e else Remove x
 
 -- so, if that changes something
 abbrev pub PutsEntry : Deleting → Plan → Id → ZoneDelta → ZoneDelta → Type 0
@@ -66,7 +66,7 @@ entry_after delta zone x = after_edits bytes_eq (λ e. e.id) delta.entries zone.
 
 -- the entry, if something holds it
 abbrev pub if_held : Entry → Option Entry
-if_held e = if is_held e then Some e else None
+if_held e = if has_content e then Some e else None
 
 -- The entries of some ids are put, and no others.
 pub record HasPutEntries (d : Deleting) (p : Plan) (done : List Id) (old new : ZoneDelta) : Type 0 where

@@ -7,6 +7,3 @@ pub mod Folding
 pub mod Grouping
 pub mod Elements
 pub mod Deleting
-pub mod Differing
-pub mod Restoring
-pub mod Turned

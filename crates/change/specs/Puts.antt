@@ -1,13 +1,13 @@
 -- Edits of elements: some are removed, and some are put.
 use Rattle.std.specs.Prelude.{List, fold, if◌then◌else◌}
-use Rattle.tables.specs.declared.edits.Edit.TheVariants.{Put, Remove}
+use Rattle.sorted.specs.declared.edits.Edit.TheVariants.{Put, Remove}
 use Rattle.terms.specs.Types.{Element}
 use Rattle.terms.specs.Lookups.{element_cmp, element_key}
 use Rattle.terms.specs.Rising.{with_item}
-use Rattle.tables.specs.Edits.{edit_key}
+use Rattle.sorted.specs.Edits.{edit_key}
 use Rattle.change.specs.declared.deleting.Deleting.{Deleting}
 use Rattle.change.specs.Deleting.{is_cut}
-use Rattle.change.specs.Differing.{ElementEdit}
+use Rattle.zones.specs.Differing.{ElementEdit}
 
 -- the edits with an element put
 abbrev pub with_element : List ElementEdit → Element → List ElementEdit

@@ -9,10 +9,10 @@ ghost use Rattle.change.specs.Deleting.{is_function_gone, first_deleter, delby_l
 ghost use Rattle.change.specs.Entries.{old_entry};
 
 use fields::{Id, IdList};
-use std::alloc::{AllocError, Global as Heap};
+use std::alloc::{AllocError, Global};
 use sysmods::VerChoice;
 use zones::{Entry, Zone};
-use zones_less::{TakesOut, entry_less, supplies_left};
+use zones_views::{TakesOut, entry_less, supplies_left};
 
 /// Kept SYSMODs, what they name in DELETE by the `++VER`s that count, and the zone that this takes from.
 #[derive(Clone, Copy)]
@@ -96,10 +96,10 @@ impl<'a, 'b> TakesOut for Deleting<'a, 'b> {
 }
 
 /// The entry in what is left, which may have nothing.
-pub(crate) fn left_entry(alloc: Heap, deleting: &Deleting, id: Id) -> Result<Entry, AllocError>
+pub(crate) fn left_entry(alloc: Global, deleting: &Deleting, id: Id) -> Result<Entry, AllocError>
     ensures { IfOk result (λ e. e ≡ old_entry (left deleting.now) id) }
 {
-    deleting.zone.known();
+    deleting.zone.attest();
     match deleting.zone.entry(id) {
         Some(entry) => entry_less(alloc, deleting, entry),
         None => Ok(Entry {

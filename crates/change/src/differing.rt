@@ -1,23 +1,22 @@
 //! Edits come into a delta where they change something.
 ghost use Rattle.std.specs.Prelude.{◌≡◌, ◌↔◌, [], Some, IsTrue, OnOk};
-ghost use Rattle.terms.specs.Lookups.{element_cmp, element_key, element_of, entry_of, is_held, waives_applied};
+ghost use Rattle.terms.specs.Lookups.{element_cmp, element_key, element_of, entry_of, has_content, waives_applied};
 ghost use Rattle.terms.specs.Rising.{Rises};
-ghost use Rattle.tables.specs.Edits.{edit_key};
-ghost use Rattle.tables.specs.declared.edits.Edit.TheVariants.{Put, Remove};
-ghost use Rattle.change.specs.Differing.{AddsEntryEdit, AddsElementEdit, HasEditedElements};
+ghost use Rattle.sorted.specs.Edits.{edit_key};
+ghost use Rattle.sorted.specs.declared.edits.Edit.TheVariants.{Put, Remove};
+ghost use Rattle.zones.specs.Differing.{AddsEntryEdit, AddsElementEdit, HasEditedElements};
 
-use crate::equal::{is_element, is_same_entry};
 use fields::{Id, Name};
 use std::alloc::AllocError;
 use terms::ElemType;
-use zones::{Edit, Element, Entry, Zone, ZoneDelta};
+use zones::{Edit, Element, Entry, Zone, ZoneDelta, is_element, is_same_entry};
 
 /// What is put or removed of elements.
 pub(crate) type ElementEdit = Edit<Element, (ElemType, Name)>;
 
 /// Puts the entry, unless the zone has this very one.
 pub(crate) fn put_entry(zone: &Zone, entry: Entry, delta: &mut ZoneDelta) -> Result<(), AllocError>
-    requires held { IsTrue (is_held entry) }
+    requires held { IsTrue (has_content entry) }
     requires waived { IsTrue (waives_applied entry) }
     ensures { OnOk result (AddsEntryEdit zone.now (Put entry) delta.old delta.new) }
 {

@@ -1,19 +1,22 @@
 //! Which kept SYSMODs take effect, and what they supersede.
-ghost use Rattle.std.specs.Prelude.{◌≡◌, ◌↔◌, ◌++◌, not, Contains, IsTrue, IfOk, OnOk, filter, map};
+ghost use Rattle.std.specs.Prelude.{◌≡◌, ◌↔◌, ◌++◌, not, Contains, IfOk, OnOk, filter, map};
 ghost use Rattle.terms.specs.Types.{Id as AnId};
 ghost use Rattle.terms.specs.Lookups.{is_in};
-ghost use Rattle.terms.specs.Over.{Supersedes};
 ghost use Rattle.terms.specs.Install.{Installation, TakesEffect};
 ghost use Rattle.sysmods.specs.Choices.{choice};
 ghost use Rattle.change.specs.Superseded.{AddsSuperseded, AreSuperseded};
 
 use crate::pairs::firsts;
 use fields::{Id, IdList};
-use std::alloc::{AllocError, Global as Heap};
+use std::alloc::{AllocError, Global};
 use sysmods::VerChoice;
 
 /// The kept SYSMODs that no other kept one supersedes. The others of them become SUPERSEDED.
-pub fn taking_effect(alloc: Heap, vers: &VerChoice<'_>, kept: &IdList) -> Result<IdList, AllocError>
+pub fn taking_effect(
+    alloc: Global,
+    vers: &VerChoice<'_>,
+    kept: &IdList,
+) -> Result<IdList, AllocError>
     ensures { IfOk result (λ ids. (i : Installation) → i.kept ≡ kept.now → i.choice ≡ choice vers.now
         → (x : AnId) → Contains ids x ↔ TakesEffect i x) }
 {
@@ -24,7 +27,7 @@ pub fn taking_effect(alloc: Heap, vers: &VerChoice<'_>, kept: &IdList) -> Result
     Ok(IdList::from_vec(effective))
 }
 
-fn without(alloc: Heap, ids: &[Id], out: &IdList) -> Result<Vec<Id>, AllocError>
+fn without(alloc: Global, ids: &[Id], out: &IdList) -> Result<Vec<Id>, AllocError>
     ensures { IfOk result (λ left. left.items ≡ filter (λ x. not (is_in out.now x)) ids.now) }
 {
     ids.iter()
@@ -35,7 +38,7 @@ fn without(alloc: Heap, ids: &[Id], out: &IdList) -> Result<Vec<Id>, AllocError>
 
 /// What these supersede, each with the one that does.
 pub(crate) fn superseded_pairs(
-    alloc: Heap,
+    alloc: Global,
     vers: &VerChoice<'_>,
     ids: &[Id],
 ) -> Result<Vec<(Id, Id)>, AllocError>
@@ -49,7 +52,7 @@ pub(crate) fn superseded_pairs(
 }
 
 fn add_superseded(
-    alloc: Heap,
+    alloc: Global,
     vers: &VerChoice<'_>,
     id: Id,
     pairs: &mut Vec<(Id, Id)>,

@@ -16,16 +16,16 @@ use crate::folding::element_after;
 use crate::grouping::{Changed, changes_by_element};
 use crate::ordering::in_order;
 use fields::{Id, Name};
-use std::alloc::{AllocError, Global as Heap};
+use std::alloc::{AllocError, Global};
 use sysmods::VerChoice;
 use terms::ElemType;
 use zones::{Element, Zone};
-use zones_less::element_left;
+use zones_views::element_left;
 
 /// The elements that these SYSMODs change, rising by type and name, as they are when all of them have taken effect on
 /// the zone less the deletions. Over orders those that change one element, and what they update is there.
 pub(crate) fn elements_after(
-    alloc: Heap,
+    alloc: Global,
     vers: &VerChoice<'_>,
     zone: &Zone,
     deletions: &[Id],
@@ -53,7 +53,7 @@ pub(crate) fn elements_after(
 
 /// The element after the SYSMODs that change it.
 fn changed_element(
-    alloc: Heap,
+    alloc: Global,
     vers: &VerChoice<'_>,
     zone: &Zone,
     deletions: &[Id],
@@ -87,7 +87,7 @@ fn changed_element(
 
 /// The element after these SYSMODs, in the order that over gives them.
 fn after_all(
-    alloc: Heap,
+    alloc: Global,
     vers: &VerChoice<'_>,
     base: Option<&Element>,
     elem_type: ElemType,

@@ -1,10 +1,10 @@
 //! The entries that an install makes.
-ghost use Rattle.std.specs.Prelude.{◌≡◌, ◌↔◌, ◌++◌, [], Some, Contains, IsTrue, IfOk, OnOk, filter, not};
+ghost use Rattle.std.specs.Prelude.{◌≡◌, ◌↔◌, ◌++◌, [], Some, Contains, IfOk, OnOk, filter, not};
 ghost use Rattle.terms.specs.Types.{Id as AnId};
-ghost use Rattle.terms.specs.Lookups.{IsRising, is_nil, entry_of};
+ghost use Rattle.terms.specs.Lookups.{IsRising, is_nil};
 ghost use Rattle.change.specs.Deleting.{AreDeletions, left};
 ghost use Rattle.change.specs.Pairs.{others_of};
-ghost use Rattle.change.specs.Entries.{is_open, old_entry, IsWaived, IsAppliedEntry, IsOtherEntry, IsEntryAfter};
+ghost use Rattle.change.specs.Entries.{is_open, IsWaived, IsAppliedEntry, IsOtherEntry, IsEntryAfter};
 ghost use Rattle.change.specs.Entries.{IsMadeEntry, PutsEntry, HasPutEntries};
 
 use crate::deleting::{Deleting, left_entry};
@@ -12,12 +12,12 @@ use crate::differing::{put_entry, remove_entry};
 use crate::pairs::{Group, others};
 use crate::plan::Plan;
 use fields::{Id, IdList};
-use std::alloc::{AllocError, Global as Heap};
-use zones::{Entry, Table, Zone, ZoneDelta};
+use std::alloc::{AllocError, Global};
+use zones::{Applied, Entry, Table, Zone, ZoneDelta};
 
 /// Puts the entries that change.
 pub(crate) fn put_entries(
-    alloc: Heap,
+    alloc: Global,
     deleting: &Deleting,
     plan: &Plan,
     delta: &mut ZoneDelta,
@@ -34,7 +34,7 @@ pub(crate) fn put_entries(
 
 // An entry that stays as it is is not put, and one that nothing holds goes.
 fn put_one(
-    alloc: Heap,
+    alloc: Global,
     deleting: &Deleting,
     plan: &Plan,
     id: Id,
@@ -44,26 +44,26 @@ fn put_one(
     ensures { OnOk result (PutsEntry deleting.now plan.now id delta.old delta.new) }
 {
     let entry = made_entry(alloc, deleting, plan, id)?;
-    if !entry.is_held() {
+    if !entry.has_content() {
         return remove_entry(deleting.zone, id, delta);
     }
     put_entry(deleting.zone, entry, delta)
 }
 
-fn made_entry(alloc: Heap, deleting: &Deleting, plan: &Plan, id: Id) -> Result<Entry, AllocError>
+fn made_entry(alloc: Global, deleting: &Deleting, plan: &Plan, id: Id) -> Result<Entry, AllocError>
     requires { AreDeletions deleting.now }
     ensures { IfOk result (IsMadeEntry deleting.now plan.now id) }
 {
     let entry = entry_after(alloc, deleting, plan, id)?;
-    entry.known();
+    entry.attest();
     Ok(entry)
 }
 
-fn entry_after(alloc: Heap, deleting: &Deleting, plan: &Plan, id: Id) -> Result<Entry, AllocError>
+fn entry_after(alloc: Global, deleting: &Deleting, plan: &Plan, id: Id) -> Result<Entry, AllocError>
     requires { AreDeletions deleting.now }
     ensures { IfOk result (IsEntryAfter deleting.now plan.now id) }
 {
-    deleting.zone.known();
+    deleting.zone.attest();
     if plan.effective.contains(id) {
         return applied_entry(alloc, deleting, plan, id);
     }
@@ -71,13 +71,18 @@ fn entry_after(alloc: Heap, deleting: &Deleting, plan: &Plan, id: Id) -> Result<
 }
 
 // The entry of a SYSMOD that takes effect.
-fn applied_entry(alloc: Heap, deleting: &Deleting, plan: &Plan, id: Id) -> Result<Entry, AllocError>
+fn applied_entry(
+    alloc: Global,
+    deleting: &Deleting,
+    plan: &Plan,
+    id: Id,
+) -> Result<Entry, AllocError>
     requires { AreDeletions deleting.now }
     ensures { IfOk result (IsAppliedEntry deleting.now plan.now id) }
 {
     Ok(Entry {
         id,
-        applied: Some(plan.date),
+        applied: Some(Applied::on(plan.date)),
         supby: IdList::new(alloc),
         delby: deleting.delby(id),
         waived: waived(alloc, deleting, plan, id)?,
@@ -85,7 +90,7 @@ fn applied_entry(alloc: Heap, deleting: &Deleting, plan: &Plan, id: Id) -> Resul
 }
 
 // The bypassed requisites that nothing supplies.
-fn waived(alloc: Heap, deleting: &Deleting, plan: &Plan, id: Id) -> Result<IdList, AllocError>
+fn waived(alloc: Global, deleting: &Deleting, plan: &Plan, id: Id) -> Result<IdList, AllocError>
     ensures { IfOk result (IsWaived deleting.now plan.now id) }
 {
     let bypassed = others(alloc, &plan.bypassed, id)?;
@@ -96,7 +101,7 @@ fn waived(alloc: Heap, deleting: &Deleting, plan: &Plan, id: Id) -> Result<IdLis
 }
 
 fn open_among(
-    alloc: Heap,
+    alloc: Global,
     deleting: &Deleting,
     plan: &Plan,
     ids: &[Id],
@@ -127,7 +132,7 @@ fn has_none(groups: &Table<Group>, id: Id) -> bool
 }
 
 // The entry of any other id: what is left of it, with more in SUPBY.
-fn other_entry(alloc: Heap, deleting: &Deleting, plan: &Plan, id: Id) -> Result<Entry, AllocError>
+fn other_entry(alloc: Global, deleting: &Deleting, plan: &Plan, id: Id) -> Result<Entry, AllocError>
     requires { AreDeletions deleting.now }
     ensures { IfOk result (IsOtherEntry deleting.now plan.now id) }
 {
@@ -142,7 +147,7 @@ fn other_entry(alloc: Heap, deleting: &Deleting, plan: &Plan, id: Id) -> Result<
     })
 }
 
-fn joined(alloc: Heap, ids: &[Id], more: &[Id]) -> Result<IdList, AllocError>
+fn joined(alloc: Global, ids: &[Id], more: &[Id]) -> Result<IdList, AllocError>
     ensures members { IfOk result (λ all. (x : AnId) → Contains all x ↔ Contains (ids.now ++ more.now) x) }
     ensures rising { IfOk result IsRising }
 {

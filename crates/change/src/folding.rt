@@ -6,13 +6,13 @@ ghost use Rattle.sysmods.specs.Choices.{choice};
 ghost use Rattle.terms.specs.Changes.{has_replacement};
 ghost use Rattle.terms.specs.Install.{Installation, HasElementAfter};
 ghost use Rattle.terms.specs.Lookups.{IsRising, change_of, has_change};
-ghost use Rattle.terms.specs.Over.{IsOver, owner as owner_of};
+ghost use Rattle.terms.specs.Over.{IsOver};
 ghost use Rattle.terms.specs.Texts.{IsMerge, IsNumbered, IsUpdate};
 ghost use Rattle.change.specs.Folding.{AreChangers, IsMadeBy, IsStep, IsUpdateOf, is_for};
 
 use fields::{Id, IdList, Name};
-use std::alloc::{AllocError, Global as Heap};
-use sysmods::{Global, VerChoice};
+use std::alloc::{AllocError, Global};
+use sysmods::{GlobalZone, VerChoice};
 use sysmods_records::{Action, ElemChange};
 use terms::ElemType;
 use text80::{Line, Numbered, TextError, Update, merge};
@@ -21,7 +21,7 @@ use zones::{Element, TryClone};
 /// The element after all these SYSMODs, which change it and of which each later one is over each earlier one. The zone
 /// has it already, as `base`, or one of them replaces it.
 pub(crate) fn element_after(
-    alloc: Heap,
+    alloc: Global,
     vers: &VerChoice<'_>,
     base: Option<&Element>,
     elem_type: ElemType,
@@ -47,7 +47,7 @@ pub(crate) fn element_after(
 }
 
 /// A copy of the zone's element, if it has one.
-fn copy_of(alloc: Heap, base: Option<&Element>) -> Result<Option<Element>, AllocError>
+fn copy_of(alloc: Global, base: Option<&Element>) -> Result<Option<Element>, AllocError>
     ensures same { IfOk result (λ copy. copy ≡ option_copied base.entry) }
     ensures rising { IfSome (option_copied base.entry) (λ e. IsRising e.umids) }
 {
@@ -62,7 +62,7 @@ fn copy_of(alloc: Heap, base: Option<&Element>) -> Result<Option<Element>, Alloc
 
 /// The element after one SYSMOD that changes it.
 fn after_one(
-    alloc: Heap,
+    alloc: Global,
     vers: &VerChoice<'_>,
     old: Option<Element>,
     elem_type: ElemType,
@@ -85,7 +85,7 @@ fn after_one(
 }
 
 /// The SYSMOD's statement for the element.
-fn change_of(global: &Global, id: Id, elem_type: ElemType, name: Name) -> &ElemChange
+fn change_of(global: &GlobalZone, id: Id, elem_type: ElemType, name: Name) -> &ElemChange
     requires { IsTrue (has_change global.now id elem_type name) }
     ensures change { change_of global.now id elem_type name ≡ Some result.now }
     ensures elem_type { result.now.elem_type ≡ elem_type }
@@ -106,7 +106,7 @@ fn find_change(changes: &[ElemChange], elem_type: ElemType, name: Name) -> Optio
 
 /// The element after one statement that changes it.
 fn changed(
-    alloc: Heap,
+    alloc: Global,
     owner: Id,
     id: Id,
     change: &ElemChange,
@@ -142,7 +142,7 @@ fn changed(
 
 /// The element after an update by the SYSMOD.
 fn updated(
-    alloc: Heap,
+    alloc: Global,
     id: Id,
     name: Name,
     lines: &[Line],
@@ -176,7 +176,12 @@ fn updated(
 }
 
 /// The text with the update made.
-fn merged(alloc: Heap, name: Name, text: Vec<Line>, lines: &[Line]) -> Result<Vec<Line>, AllocError>
+fn merged(
+    alloc: Global,
+    name: Name,
+    text: Vec<Line>,
+    lines: &[Line],
+) -> Result<Vec<Line>, AllocError>
     requires numbered { IsNumbered text.items }
     requires update { IsUpdate name lines.now }
     ensures { IfOk result (λ new. IsMerge text.items lines.now new.items) }
@@ -187,7 +192,7 @@ fn merged(alloc: Heap, name: Name, text: Vec<Line>, lines: &[Line]) -> Result<Ve
 }
 
 /// The records, which are an update of the element of this name.
-fn update_of(alloc: Heap, name: Name, lines: &[Line]) -> Result<Update, AllocError>
+fn update_of(alloc: Global, name: Name, lines: &[Line]) -> Result<Update, AllocError>
     requires { IsUpdate name lines.now }
     ensures { IfOk result (λ update. update ≡ lines.now) }
 {

@@ -3,9 +3,9 @@ ghost use Rattle.std.specs.Prelude.{◌≡◌, ◌++◌, [], ◌∷◌, IfOk, On
 ghost use Rattle.change.specs.Grouping.{AreByElement, changers_in, with_changer, with_changes};
 
 use fields::{Id, Name};
-use std::alloc::{AllocError, Global as Heap};
+use std::alloc::{AllocError, Global};
 use std::marker::Model;
-use sysmods::Global;
+use sysmods::GlobalZone;
 use sysmods_records::ElemChange;
 use terms::ElemType;
 use zones::{Keyed, Table};
@@ -38,8 +38,8 @@ impl Keyed for Changed {
 
 /// The elements that these SYSMODs change, each with those of them that change it, in their order.
 pub(crate) fn changes_by_element(
-    alloc: Heap,
-    global: &Global,
+    alloc: Global,
+    global: &GlobalZone,
     ids: &[Id],
 ) -> Result<Table<Changed>, AllocError>
     ensures { IfOk result (AreByElement global.now ids.now) }
@@ -54,9 +54,9 @@ pub(crate) fn changes_by_element(
 
 /// Adds the SYSMOD to each element that it changes.
 fn add_changes(
-    alloc: Heap,
+    alloc: Global,
     table: &mut Table<Changed>,
-    global: &Global,
+    global: &GlobalZone,
     id: Id,
 ) -> Result<(), AllocError>
     ensures { OnOk result (table.new ≡ with_changes global.now table.old id) }
@@ -68,7 +68,7 @@ fn add_changes(
 }
 
 fn add_each(
-    alloc: Heap,
+    alloc: Global,
     table: &mut Table<Changed>,
     id: Id,
     changes: &[ElemChange],
@@ -83,7 +83,7 @@ fn add_each(
 
 /// Adds the SYSMOD to the element of the statement.
 fn add_one(
-    alloc: Heap,
+    alloc: Global,
     table: &mut Table<Changed>,
     id: Id,
     change: &ElemChange,
@@ -101,7 +101,7 @@ fn add_one(
 
 /// The SYSMODs that stand there for the element, and this one.
 fn changers_with(
-    alloc: Heap,
+    alloc: Global,
     table: &Table<Changed>,
     element: (ElemType, Name),
     id: Id,

@@ -7,7 +7,7 @@ ghost use Rattle.terms.specs.Tests.{ShareElement};
 ghost use Rattle.zones.specs.Delta.{IsChanged};
 ghost use Rattle.terms.specs.Install.{HasInstalled};
 ghost use Rattle.change.specs.Elements.{HasBases};
-ghost use Rattle.change.specs.Differing.{EachChanges};
+ghost use Rattle.zones.specs.Differing.{EachChanges};
 ghost use Rattle.change.specs.Plans.{installation, IsFresh};
 ghost use Rattle.change.specs.Puts.{with_elements, less_element, less_elements};
 
@@ -17,16 +17,16 @@ use crate::elements::elements_after;
 use crate::entries::put_entries;
 use crate::plan::planned;
 use fields::{Id, IdList, YyDdd};
-use std::alloc::{AllocError, Global as Heap};
+use std::alloc::{AllocError, Global};
 use sysmods::VerChoice;
 use zones::{Edit, Element, Table, Zone, ZoneDelta};
-use zones_less::deletions;
+use zones_views::deletions;
 
 /// What the kept SYSMODs put into the zone and take out of it on this date, by the `++VER`s that count. Over orders
 /// those that change one element, and what they update is there. `bypassed` has pairs of a SYSMOD and a bypassed
 /// requisite of it.
 pub fn install(
-    alloc: Heap,
+    alloc: Global,
     vers: &VerChoice<'_>,
     zone: &Zone,
     kept: &IdList,
@@ -49,7 +49,7 @@ pub fn install(
     ensures differs { IfOk result (EachChanges zone.now) }
 {
     prove!(vers.global().len() < 65_536);
-    zone.known();
+    zone.attest();
     zone.known_lists();
     let dels = deletions(alloc, vers, kept.as_slice())?;
     let plan = planned(alloc, vers, zone, kept, dels.as_slice(), bypassed, date)?;

@@ -1,11 +1,9 @@
-//! How an APPLY or a RESTORE changes its zone.
+//! How an APPLY or ACCEPT changes its zone.
 //! The delta of `install` makes of the old zone the one that the definition of an install asks for (`HasInstalled`),
 //! whatever zone comes of it: for SYSMODs that the zone neither supplies nor has deleted, where over orders those that
 //! change one element, and what they update is there. `taking_effect` tells those that become APPLIED from those that
-//! are SUPERSEDED. That of `restore` makes of a target zone the one that the definition of a restore asks for
-//! (`Restores`), whatever is kept. Each edit of both changes something. Seen in the code alone: an install is one pass
-//! over what is installed, and where something is deleted one over the zone's entries and elements; a restore is one
-//! pass over the entries, and one over what is changed.
+//! are SUPERSEDED. Each edit changes something. Seen in the code alone: an install is one pass over what is installed,
+//! and where something is deleted one over the zone's entries and elements.
 #![tactic(auto)]
 
 mod deleting;
@@ -13,16 +11,12 @@ mod differing;
 mod effective;
 mod elements;
 mod entries;
-mod equal;
 mod folding;
 mod grouping;
 mod installing;
 mod ordering;
 mod pairs;
 mod plan;
-mod restoring;
-mod reverting;
 
 pub use effective::taking_effect;
 pub use installing::install;
-pub use restoring::restore;

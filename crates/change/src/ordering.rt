@@ -4,12 +4,16 @@ ghost use Rattle.sysmods.specs.Choices.{choice};
 ghost use Rattle.terms.specs.Over.{IsOver};
 
 use fields::Id;
-use std::alloc::{AllocError, Global as Heap};
+use std::alloc::{AllocError, Global};
 use sysmods::VerChoice;
 
 /// The ids, of which over orders each two, so that each later one is over each earlier one. An id that is over all
 /// before it costs one search.
-pub(crate) fn in_order(alloc: Heap, vers: &VerChoice<'_>, ids: &[Id]) -> Result<Vec<Id>, AllocError>
+pub(crate) fn in_order(
+    alloc: Global,
+    vers: &VerChoice<'_>,
+    ids: &[Id],
+) -> Result<Vec<Id>, AllocError>
     requires { AllPairs (λ x y. IsOver (choice vers.now) x y ⊎ IsOver (choice vers.now) y x) ids.now }
     ensures same { IfOk result (λ ordered. IsPermutation ids.now ordered.items) }
     ensures order { IfOk result (λ ordered. AllPairs (λ x y. IsOver (choice vers.now) y x) ordered.items) }
@@ -23,7 +27,12 @@ pub(crate) fn in_order(alloc: Heap, vers: &VerChoice<'_>, ids: &[Id]) -> Result<
 }
 
 /// The place of an id among others: behind the last one that it is over.
-fn place_of(alloc: Heap, vers: &VerChoice<'_>, ordered: &[Id], id: Id) -> Result<usize, AllocError>
+fn place_of(
+    alloc: Global,
+    vers: &VerChoice<'_>,
+    ordered: &[Id],
+    id: Id,
+) -> Result<usize, AllocError>
     ensures within { IfOk result (λ place. place ≤ length ordered.now) }
     ensures front { IfOk result
         (λ place. 0 < place → IsOver (choice vers.now) id (get_or ordered.now (place - 1) id)) }

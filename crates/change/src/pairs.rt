@@ -4,7 +4,7 @@ ghost use Rattle.terms.specs.Types.{Id as AnId};
 ghost use Rattle.change.specs.Pairs.{others_of, AddsPair, AreGrouped};
 
 use fields::{Id, IdList};
-use std::alloc::{AllocError, Global as Heap};
+use std::alloc::{AllocError, Global};
 use zones::{Keyed, Table};
 
 /// An id, and the others that it is paired with.
@@ -25,7 +25,7 @@ impl Keyed for Group {
 }
 
 /// The pairs by their first ids. It takes the least time where these rise.
-pub(crate) fn grouped(alloc: Heap, pairs: &[(Id, Id)]) -> Result<Table<Group>, AllocError>
+pub(crate) fn grouped(alloc: Global, pairs: &[(Id, Id)]) -> Result<Table<Group>, AllocError>
     ensures { IfOk result (AreGrouped pairs.now) }
 {
     let mut groups = Table::new(alloc);
@@ -35,7 +35,7 @@ pub(crate) fn grouped(alloc: Heap, pairs: &[(Id, Id)]) -> Result<Table<Group>, A
     Ok(groups)
 }
 
-fn add_pair(alloc: Heap, groups: &mut Table<Group>, id: Id, other: Id) -> Result<(), AllocError>
+fn add_pair(alloc: Global, groups: &mut Table<Group>, id: Id, other: Id) -> Result<(), AllocError>
     ensures { OnOk result (AddsPair id other groups.old groups.new) }
 {
     let mut others = others(alloc, groups, id)?;
@@ -44,7 +44,7 @@ fn add_pair(alloc: Heap, groups: &mut Table<Group>, id: Id, other: Id) -> Result
 }
 
 /// The others of an id.
-pub(crate) fn others(alloc: Heap, groups: &Table<Group>, id: Id) -> Result<IdList, AllocError>
+pub(crate) fn others(alloc: Global, groups: &Table<Group>, id: Id) -> Result<IdList, AllocError>
     ensures { IfOk result (λ others. others ≡ others_of groups.now id) }
 {
     match groups.get(id) {
@@ -63,7 +63,7 @@ pub(crate) fn sorted(mut pairs: Vec<(Id, Id)>) -> Vec<(Id, Id)>
 }
 
 /// The first ids.
-pub(crate) fn firsts(alloc: Heap, pairs: &[(Id, Id)]) -> Result<Vec<Id>, AllocError>
+pub(crate) fn firsts(alloc: Global, pairs: &[(Id, Id)]) -> Result<Vec<Id>, AllocError>
     ensures { IfOk result (λ ids. ids.items ≡ map (λ p. p.0) pairs.now) }
 {
     let mut ids = Vec::new(alloc);

@@ -8,7 +8,7 @@ ghost use Rattle.change.specs.Plans.{IsPlan, installation};
 use crate::effective::{superseded_pairs, taking_effect};
 use crate::pairs::{Group, firsts, grouped, sorted};
 use fields::{Id, IdList, YyDdd};
-use std::alloc::{AllocError, Global as Heap};
+use std::alloc::{AllocError, Global};
 use sysmods::VerChoice;
 use zones::{Entry, Table, Zone};
 
@@ -24,7 +24,7 @@ pub(crate) struct Plan {
 
 /// The plan of an install.
 pub(crate) fn planned(
-    alloc: Heap,
+    alloc: Global,
     vers: &VerChoice<'_>,
     zone: &Zone,
     kept: &IdList,
@@ -50,7 +50,7 @@ pub(crate) fn planned(
 
 // Those that take effect, what they supersede, and those at stake.
 fn touched(
-    alloc: Heap,
+    alloc: Global,
     effective: &[Id],
     pairs: &[(Id, Id)],
     at_stake: &[Id],
@@ -65,7 +65,7 @@ fn touched(
 }
 
 // The ids whose entries deletions may change. Mostly nothing is deleted.
-fn at_stake(alloc: Heap, zone: &Zone, dels: &[Id]) -> Result<Vec<Id>, AllocError>
+fn at_stake(alloc: Global, zone: &Zone, dels: &[Id]) -> Result<Vec<Id>, AllocError>
     ensures { IfOk result (λ ids. ids.items ≡ at_stake zone.now dels.now) }
 {
     let mut ids = Vec::new(alloc);

@@ -3,7 +3,7 @@ use Rattle.std.proofs.Common.{◌≡◌, ℕ, List, refl}
 use Rattle.std.specs.Prelude.{Result, Ok, Err, IfOk, IfErr, OnOk}
 use Rattle.terms.specs.Types as terms
 use Rattle.terms.specs.Commands.{CntlFault, IsCommandFile, IsCommandFileFault}
-use Rattle.terms.proofs.ExactCommandFiles.{fault-no_file}
+use Rattle.terms.proofs.ExactCommandFiles.{fault_no_file}
 use Rattle.cntl.specs.declared.errors.CntlError.{CntlError}
 use Rattle.cntl.specs.declared.errors.CntlError.TheVariants.{Memory, Fault}
 use Rattle.cntl.specs.Faults.{FailsFile}
@@ -13,9 +13,9 @@ pub good_file : {T : Type 0} (bytes : List ℕ) (r : Result T CntlError) → IfE
 good_file bytes (Ok x) fails cs is = tt
 good_file bytes (Err Memory) fails cs is = refl
 good_file bytes (Err (Fault number code)) fails cs is = absurd
-    (fault-no_file bytes cs (record { number = number; code = code }) is fails)
+    (fault_no_file bytes cs (record { number = number; code = code }) is fails)
 
 pub faulty_file : {T : Type 0} (bytes : List ℕ) (r : Result T CntlError) (view : T → List terms.Command)
     → IfOk r (λ x. IsCommandFile bytes (view x)) → (fault : CntlFault) → IsCommandFileFault bytes fault → OnOk r ⊥
-faulty_file bytes (Ok x) view is fault f = fault-no_file bytes (view x) fault is f
+faulty_file bytes (Ok x) view is fault f = fault_no_file bytes (view x) fault is f
 faulty_file bytes (Err e) view is fault f = tt

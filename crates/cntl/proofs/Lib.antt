@@ -3,3 +3,4 @@ pub mod Formed
 pub mod Worded
 pub mod Exact
 pub mod Bypassing
+pub mod Walking

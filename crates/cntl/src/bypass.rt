@@ -1,5 +1,5 @@
 //! What APPLY and ACCEPT leave out of account.
-ghost use Rattle.std.specs.Prelude.{◌≡◌, false, []};
+ghost use Rattle.std.specs.Prelude.{◌≡◌, false};
 ghost use Rattle.terms.specs.CommandForms.{no_bypass};
 
 use fields::{ClassList, ReasonList};

@@ -16,8 +16,8 @@ ghost use Rattle.cntl.specs.Views.{reasons_in};
 ghost use Rattle.cntl.specs.Singles.{AreSingle};
 
 use crate::bypass::{Bypass, Reasons};
+use crate::tables::members_of;
 use crate::values::short_list;
-use cntl_words::members_of;
 use fields::{Class, ClassList, Reason, ReasonList};
 use operands::{BadOperand, OperandError, are_members, flag, named_member, operand};
 use rec80::{Text, Word, Words};

@@ -1,3 +1,4 @@
+//! The values of the commands: what each one asks for.
 use crate::bypass::Bypass;
 use fields::{IdList, Source, SourceList, ZoneName};
 use std::marker::Model;

@@ -1,3 +1,4 @@
+//! Why a command, or a command file, is not read.
 use std::alloc::{AllocError, AllocFailed};
 use terms::CnCode;
 use thiserror::Error;

@@ -1,5 +1,5 @@
 //! The operands of each command.
-ghost use Rattle.std.specs.Prelude.{◌≡◌, true, ℕ, Bool, List, codes, IfOk, IfErr, OnErr};
+ghost use Rattle.std.specs.Prelude.{◌≡◌, true, List, codes, IfOk, IfErr, OnErr};
 ghost use Rattle.terms.specs.Types as terms;
 ghost use Rattle.terms.specs.Words as grammar;
 ghost use Rattle.terms.specs.Operands.{operand, HasFlag};

@@ -3,13 +3,19 @@
 //! has both.
 #![tactic(auto)]
 
+mod at;
 mod bypass;
 mod bypassed;
 mod command;
+mod doubles;
 mod errors;
 mod file;
 mod forms;
+mod operand_words;
 mod read;
+mod runs;
+mod tables;
+mod unchosen;
 mod values;
 
 pub use bypass::{Bypass, Reasons};

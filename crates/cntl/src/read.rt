@@ -1,5 +1,5 @@
 //! One command.
-ghost use Rattle.std.specs.Prelude.{◌≡◌, ◌∷◌, List, IfOk, IfErr, IfSome, IfNone};
+ghost use Rattle.std.specs.Prelude.{List, IfOk, IfErr, IfSome, IfNone};
 ghost use Rattle.terms.specs.declared.codes.CommandWord.{CommandWord};
 ghost use Rattle.terms.specs.Statement.{Piece as AnyPiece};
 ghost use Rattle.terms.specs.CommandForms.{IsCommand};
@@ -9,12 +9,14 @@ ghost use Rattle.cntl.specs.Views.{command_of};
 ghost use Rattle.cntl.specs.Faults.{FailsCommand};
 
 use crate::command::Command;
+use crate::doubles::has_double;
 use crate::errors::CommandError;
 use crate::forms::read_operands;
-use cntl_words::{are_operands, has_double, is_unchosen};
+use crate::operand_words::are_operands;
+use crate::unchosen::is_unchosen;
+use fields::spelling::read_word;
 use operands::OperandError;
 use rec80::{Piece, Words};
-use spelling::read_word;
 use std::alloc::Global;
 use terms::{CnCode, CommandWord};
 

@@ -1,5 +1,5 @@
 //! The values of single operands.
-ghost use Rattle.std.specs.Prelude.{◌≡◌, ◌≤◌, ◌↔◌, ℕ, Bool, None, List, IsTrue, codes, map, IfOk, IfErr, OnErr};
+ghost use Rattle.std.specs.Prelude.{◌≡◌, ◌↔◌, ℕ, Bool, None, List, IsTrue, codes, map, IfOk, IfErr, OnErr};
 ghost use Rattle.terms.specs.Forms.{IsId, IsSource, IsZoneName};
 ghost use Rattle.terms.specs.Words as grammar;
 ghost use Rattle.terms.specs.Words.{IsShort};

@@ -5,9 +5,9 @@ use Rattle.std.proofs.Math.Seq.{take-append_seam}
 use Rattle.std.proofs.lemmas.List.{drop-replicate, length-replicate}
 use Rattle.fields.specs.Padded.{IsPadded, padded}
 
-pub IsPadded-copied : (n : ℕ) (text : List ℕ) → length text ≤ n
+pub IsPadded_copied : (n : ℕ) (text : List ℕ) → length text ≤ n
     → IsPadded n (text ++ drop (length text) (replicate n 0)) (length text)
-IsPadded-copied n text fits =
+IsPadded_copied n text fits =
     rw (drop-replicate {X = ℕ} (length text) n 0) record {
       size = omega (
         arith,

@@ -14,8 +14,8 @@ pub record IsPadded (n : ℕ) (bytes : List ℕ) (len : ℕ) : Type 0 where
   pub zeros : bytes ≡ padded n (take len bytes)
 
 -- the bytes are found again from the text
-pub padded-take : (n len : ℕ) (bytes : List ℕ) → IsPadded n bytes len → padded n (take len bytes) ≡ bytes
-padded-take n len bytes h = sym h.zeros
+pub padded_take : (n len : ℕ) (bytes : List ℕ) → IsPadded n bytes len → padded n (take len bytes) ≡ bytes
+padded_take n len bytes h = sym h.zeros
 
-pub length-text : (n len : ℕ) (bytes : List ℕ) → IsPadded n bytes len → length (take len bytes) ≡ len
-length-text n len bytes h = length-take-le len bytes (omega (arith, h.size, h.fits))
+pub length_text : (n len : ℕ) (bytes : List ℕ) → IsPadded n bytes len → length (take len bytes) ≡ len
+length_text n len bytes h = length-take-le len bytes (omega (arith, h.size, h.fits))

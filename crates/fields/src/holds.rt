@@ -1,6 +1,6 @@
 //! What a hold is made of.
 ghost use Rattle.std.specs.Prelude.{◌≡◌, ◌↔◌, IsSome, IfSome, IsTrue};
-ghost use Rattle.terms.specs.Forms.{IsClass, IsId, IsDate, is_digit, IsRun};
+ghost use Rattle.terms.specs.Forms.{IsClass, IsId, IsDate};
 
 use crate::forms::{are_digits, is_day, is_run};
 use crate::ids::Id;

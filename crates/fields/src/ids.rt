@@ -58,7 +58,7 @@ impl Id {
 /// A source id, by which SYSMODs are chosen. A contract sees it as its bytes.
 #[derive(Clone, Copy, Debug, PartialEq, Eq, PartialOrd, Ord, Hash)]
 pub struct Source {
-    text: Short<8>,
+    text: Short<64>,
 }
 
 impl Model for Source {
@@ -86,7 +86,7 @@ impl Source {
         ensures form { IsSome result ↔ IsSource text.now }
         ensures same { IfSome result (λ read. read ≡ text.now) }
     {
-        if !is_run(text, 1, 8) {
+        if !is_run(text, 1, 64) {
             return None;
         }
         Some(Source {

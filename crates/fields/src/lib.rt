@@ -10,6 +10,7 @@ mod ids;
 mod lists;
 mod names;
 mod padded;
+pub mod spelling;
 
 pub use dates::YyDdd;
 pub use holds::{HoldDate, Reason};

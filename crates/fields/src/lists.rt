@@ -1,6 +1,6 @@
 //! Lists that rise by their bytes, none twice, as statements and tables have them.
 ghost use Rattle.std.specs.Prelude.{◌≡◌, ◌↔◌, ◌++◌, [], ◌∷◌, length, not, IsTrue, All, Contains, IfOk, OnOk, OnErr};
-ghost use Rattle.std.specs.Prelude.{filter, if◌then◌else◌};
+ghost use Rattle.std.specs.Prelude.{if◌then◌else◌};
 ghost use Rattle.std.specs.List.{list_any};
 ghost use Rattle.std.specs.Ordering.{is_lt};
 ghost use Rattle.std.specs.Slice.Iter.{iter_rest};

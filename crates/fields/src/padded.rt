@@ -1,5 +1,5 @@
 //! A text of a few bytes that lies in its value, with equality and order by its bytes.
-ghost use Rattle.std.specs.Prelude.{◌≡◌, ◌<◌, ◌≤◌, ◌^◌, length, Some, nat_eq, List, ℕ, refl};
+ghost use Rattle.std.specs.Prelude.{◌≡◌, ◌<◌, ◌≤◌, ◌^◌, length, Some, List, ℕ, refl};
 ghost use Rattle.std.specs.Hash as fed;
 ghost use Rattle.std.specs.Ordering.{nat_cmp};
 ghost use Rattle.std.specs.Cmp.Lexicographic.{slice_cmp, nat_list_eq_equiv, nat_list_cmp_total, texts_ties, texts_po};
@@ -25,7 +25,7 @@ impl<const N: usize> Model for Short<N> {
 
     ghost Value = { List ℕ };
 
-    ghost use Rattle.fields.specs.Padded.{padded, IsPadded, padded-take, length-text};
+    ghost use Rattle.fields.specs.Padded.{padded, IsPadded, padded_take, length_text};
 
     ghost view = { λ s. take s.len s.bytes };
 
@@ -33,7 +33,7 @@ impl<const N: usize> Model for Short<N> {
 
     ghost inverse = { λ text. record { bytes = padded N text; len = length text } };
 
-    ghost inverse_ok = { λ a h. Prim.rw (padded-take N a.len a.bytes h, length-text N a.len a.bytes h) refl };
+    ghost inverse_ok = { λ a h. Prim.rw (padded_take N a.len a.bytes h, length_text N a.len a.bytes h) refl };
 }
 
 impl<const N: usize> Short<N> {

@@ -9,6 +9,6 @@ module _ (zone : Zone) (related : Option Zone) (ids : List Id) (b : Bypass) wher
   abbrev pub setting_by : Global → Choice → Setting
   setting_by g c = record { global = g; choice = c; zone = zone; related = related; cands = ids; bypass = b }
 
-  pub same-setting : (g h : Global) (c : Choice) → h ≡ g → c ≡ counting g zone ids
+  pub same_setting : (g h : Global) (c : Choice) → h ≡ g → c ≡ counting g zone ids
       → setting_by h c ≡ setting g zone related ids b
-  same-setting g h c global chosen = ap₂ setting_by global chosen
+  same_setting g h c global chosen = ap₂ setting_by global chosen

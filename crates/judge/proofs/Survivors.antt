@@ -14,8 +14,8 @@ use Rattle.terms.specs.declared.codes.Test.TheVariants.{J1, J2, J3, J4, J5, J6, 
 use Rattle.terms.specs.Types.{Id}
 use Rattle.terms.specs.Lookups.{IsRising}
 use Rattle.terms.specs.Tests.{Setting, AreSurvivors, Survives, FailsAlone, Fails}
-use Rattle.machine.specs.Installing.{all_tests}
-use Rattle.judge.specs.Failed.{AreFailedTests}
+use Rattle.terms.specs.Failures.{all_tests}
+use Rattle.judge_faults.specs.Failed.{AreFailedTests}
 use Rattle.judge.specs.Surviving.{is_clash, SurvivesIn}
 
 module _ (ids : List Id) (rows : List (List Test)) where
@@ -52,11 +52,11 @@ module _ (ids : List Id) (rows : List (List Test)) where
   ]
 
   -- the next candidate
-  pub survivors-next : (k : ℕ) (y : Id) (row : List Test) (old new : List Id) → slice_get ids k ≡ Some y
+  pub survivors_next : (k : ℕ) (y : Id) (row : List Test) (old new : List Id) → slice_get ids k ≡ Some y
       → slice_get rows k ≡ Some row → new ≡ old ++ cond (list_all is_clash row) (y ∷ []) []
       → ((x : Id) → Contains old x ↔ SurvivesIn ids rows k x)
       → (x : Id) → Contains new x ↔ SurvivesIn ids rows (k + 1) x
-  survivors-next k y row old new at row_at is was x = by (list_all is_clash row) refl
+  survivors_next k y row old new at row_at is was x = by (list_all is_clash row) refl
     where
       by : (b : Bool) → list_all is_clash row ≡ b → Contains new x ↔ SurvivesIn ids rows (k + 1) x
       by true on =
@@ -89,21 +89,21 @@ module _ (ids : List Id) (rows : List (List Test)) where
             ]),
           )
 
-  pub survivors-none : (x : Id) → Contains [] x ↔ SurvivesIn ids rows 0 x
-  survivors-none x = (λ h. absurd (none_in x h), λ h. absurd (omega (arith, h.below)))
+  pub survivors_none : (x : Id) → Contains [] x ↔ SurvivesIn ids rows 0 x
+  survivors_none x = (λ h. absurd (none_in x h), λ h. absurd (omega (arith, h.below)))
 
-all-member : {X : Type 0} (p : X → Bool) (xs : List X) (x : X) → list_all p xs ≡ true → Contains xs x → p x ≡ true
-all-member p [] x all h = absurd (none_in x h)
-all-member p (y ∷ ys) x all h =
+all_member : {X : Type 0} (p : X → Bool) (xs : List X) (x : X) → list_all p xs ≡ true → Contains xs x → p x ≡ true
+all_member p [] x all h = absurd (none_in x h)
+all_member p (y ∷ ys) x all h =
     let both = and_parts (p y) (list_all p ys) all in
     elim (here_or y ys x h) [
       | inl same ↦ subst (λ v. p v ≡ true) same both.0
-      | inr rest ↦ all-member p ys x both.1 rest
+      | inr rest ↦ all_member p ys x both.1 rest
     ]
 
-all-of : {X : Type 0} (p : X → Bool) (xs : List X) → ((x : X) → Contains xs x → p x ≡ true) → list_all p xs ≡ true
-all-of p [] each = refl
-all-of p (x ∷ xs) each = rw (each x (here x xs)) (all-of p xs (λ y h. each y (there x xs y h)))
+all_of : {X : Type 0} (p : X → Bool) (xs : List X) → ((x : X) → Contains xs x → p x ≡ true) → list_all p xs ≡ true
+all_of p [] each = refl
+all_of p (x ∷ xs) each = rw (each x (here x xs)) (all_of p xs (λ y h. each y (there x xs y h)))
 
 -- each test is one of all
 among : (t : Test) → Contains all_tests t
@@ -129,7 +129,7 @@ module _ (s : Setting) (rows : List (List Test)) (failed : AreFailedTests s rows
       row = same_Some h.row (filter (failed.fails x) all_tests) (sym h.row_at ∙ failed.rows_are h.place x h.at)
 
       off : (t : Test) → is_clash t ≡ false → ¬ Fails s x t
-      off t other fails = true≢false (sym (all-member is_clash (filter (failed.fails x) all_tests) t
+      off t other fails = true≢false (sym (all_member is_clash (filter (failed.fails x) all_tests) t
           (subst (λ r. list_all is_clash r ≡ true) row h.only_clashes)
           (in_filter (failed.fails x) all_tests t (among t) ((failed.failed h.place x h.at t).1 fails))) ∙ other)
 
@@ -156,7 +156,7 @@ module _ (s : Setting) (rows : List (List Test)) (failed : AreFailedTests s rows
         at = at.1;
         row = filter (failed.fails x) all_tests;
         row_at = failed.rows_are at.0 x at.1;
-        only_clashes = all-of is_clash (filter (failed.fails x) all_tests) (λ t there.
+        only_clashes = all_of is_clash (filter (failed.fails x) all_tests) (λ t there.
             only t ((failed.failed at.0 x at.1 t).0 (filter_in (failed.fails x) all_tests t there).1));
       }
     where
@@ -174,9 +174,9 @@ module _ (s : Setting) (rows : List (List Test)) (failed : AreFailedTests s rows
       only J11 f = absurd f
       only J12 f = absurd f
 
-  pub survivors-are : (xs : List Id) → IsRising xs
+  pub survivors_are : (xs : List Id) → IsRising xs
       → ((x : Id) → Contains xs x ↔ SurvivesIn s.cands rows (length s.cands) x) → AreSurvivors s xs
-  survivors-are xs rising members = record {
+  survivors_are xs rising members = record {
     rising = rising;
     members = λ x. (λ h. surviving x ((members x).0 h), λ h. (members x).1 (survives x h));
   }

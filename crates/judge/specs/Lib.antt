@@ -1,12 +1,2 @@
-pub mod Failed
-pub mod Own
-pub mod Claims
-pub mod Sharing
-pub mod Rows
 pub mod Surviving
-pub mod Overs
-pub mod Views
-pub mod Forbidders
-pub mod Deletes
-pub mod Forbidding
 pub mod InstallProblem

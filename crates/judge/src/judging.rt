@@ -1,23 +1,24 @@
-ghost use Rattle.std.specs.Prelude.{◌≡◌, ◌↔◌, All, Contains, IsTrue, IfOk, map, option_copied};
+//! The candidates of an APPLY or ACCEPT, judged: their tests, their numbered needs, and what BYPASS covers.
+ghost use Rattle.std.specs.Prelude.{◌↔◌, All, Contains, IsTrue, IfOk, map, option_copied};
 ghost use Rattle.terms.specs.Types.{Id as AnId};
 ghost use Rattle.terms.specs.Candidates.{is_installable};
 ghost use Rattle.terms.specs.Needs.{bypassed_ids};
 ghost use Rattle.terms.specs.Judged.{setting};
 ghost use Rattle.judge.specs.InstallProblem.{IsInstallProblem};
-ghost use Rattle.judge.specs.Failed.{AreFailedTests};
-ghost use Rattle.judge_needs.specs.Left.{global_of, setting_with};
+ghost use Rattle.judge_faults.specs.Failed.{AreFailedTests};
+ghost use Rattle.zones_views.specs.Scopes.{global_of, setting_with};
 
 use crate::surviving::survivors;
-use crate::tested::test_all;
 use cntl::Bypass;
 use fields::{Id, IdList};
-use judge_needs::{Scope, bypassed_pairs, wants_of};
+use judge_faults::test_all;
+use judge_needs::{bypassed_pairs, wants_of};
 use solve::System;
-use std::alloc::{AllocError, Global as Heap};
-use sysmods::Global;
+use std::alloc::{AllocError, Global};
+use sysmods::GlobalZone;
 use terms::{NeedKind, Test};
 use zones::Zone;
-use zones_less::choose;
+use zones_views::{Scope, choose};
 
 /// What is known of the candidates, which are numbered by their places: who is eligible and needs whom, the kind and
 /// the id of each need, for each candidate the tests that it fails, and each candidate with each of its PRE, REQ and
@@ -32,8 +33,8 @@ pub struct Judged {
 
 /// Judges the candidates of an APPLY or ACCEPT in this zone, for ACCEPT with the related target zone.
 pub fn install_system(
-    alloc: Heap,
-    global: &Global,
+    alloc: Global,
+    global: &GlobalZone,
     zone: &Zone,
     related: Option<&Zone>,
     ids: &IdList,
@@ -62,7 +63,7 @@ pub fn install_system(
 
 // Judges them by the `++VER`s of the scope.
 fn judge_by(
-    alloc: Heap,
+    alloc: Global,
     scope: &Scope<'_, '_>,
     related: Option<&Zone>,
 ) -> Result<Judged, AllocError>

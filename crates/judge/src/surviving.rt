@@ -7,7 +7,7 @@ ghost use Rattle.terms.specs.Lookups.{IsRising};
 ghost use Rattle.judge.specs.Surviving.{is_clash, SurvivesIn};
 
 use fields::{Id, IdList};
-use std::alloc::{AllocError, Global as Heap};
+use std::alloc::{AllocError, Global};
 use terms::Test;
 
 fn is_clash(test: Test) -> bool
@@ -41,7 +41,11 @@ fn add_if_surviving(found: &mut Vec<Id>, id: Id, failed: &[Test]) -> Result<(), 
 }
 
 /// The survivors among the candidates that fail these tests.
-pub(crate) fn survivors(alloc: Heap, ids: &IdList, rows: &[Vec<Test>]) -> Result<IdList, AllocError>
+pub(crate) fn survivors(
+    alloc: Global,
+    ids: &IdList,
+    rows: &[Vec<Test>],
+) -> Result<IdList, AllocError>
     requires { length rows.now ≡ length ids.now }
     ensures rising { IfOk result (λ survivors. IsRising survivors) }
     ensures members { IfOk result (λ survivors. (x : AnId) → Contains survivors x

@@ -9,7 +9,7 @@ use Rattle.terms.specs.Types.{Id, Global, hold_number}
 use Rattle.terms.specs.Lookups.{holds_of}
 use Rattle.terms.proofs.GlobalKept.{kind_from}
 
-pub all-errors : (g : Global) (x : Id) → All (λ h. h.kind ≡ Error) (holds_of g Error x)
-all-errors g x i d below =
+pub all_errors : (g : Global) (x : Id) → All (λ h. h.kind ≡ Error) (holds_of g Error x)
+all_errors g x i d below =
     let passes = filter_passes (λ h. bytes_eq h.id x && (hold_number h.kind == hold_number Error)) g.holds i d below in
     kind_from _ Error (and_parts _ _ passes).1

@@ -17,7 +17,7 @@ use Rattle.std.proofs.lemmas.List.Concat.{flat_map-append}
 use Rattle.terms.specs.Types.{Id, IfReq, Entry}
 use Rattle.terms.specs.Choice.{Choice}
 use Rattle.lemmas.proofs.Texts.{same_from, same_itself}
-use Rattle.lemmas.proofs.Lists.{front-more}
+use Rattle.lemmas.proofs.Lists.{front_more}
 use Rattle.judge_needs.specs.declared.stated.Requisite.{Requisite}
 use Rattle.judge_needs.specs.Conditions.{Lists, a_requisite, listed, stated_by, Adds}
 
@@ -28,9 +28,9 @@ grown base old part next new whole was is both =
     is ∙ ap (λ l. l ++ next) was ∙ append_assoc base part next ∙ ap (λ l. base ++ l) (sym both)
 
 -- one more item of a filtered list
-pub filter-one : {X Y : Type 0} (p : X → Bool) (f : X → List Y) (x : X)
+pub filter_one : {X Y : Type 0} (p : X → Bool) (f : X → List Y) (x : X)
     → flat_map f (filter p (x ∷ [])) ≡ cond (p x) (f x) []
-filter-one {X} {Y} p f x = by (p x) refl
+filter_one {X} {Y} p f x = by (p x) refl
   where
     by : (b : Bool) → p x ≡ b → flat_map f (filter p (x ∷ [])) ≡ cond (p x) (f x) []
     by true e = ap (λ b. flat_map f (cond b (x ∷ []) [])) e ∙ append-nil (f x) ∙ ap (λ b. cond b (f x) []) (sym e)
@@ -46,27 +46,27 @@ filter-append {X} p (x ∷ xs) ys =
     by true = refl
     by false = refl
 
-pub conditions-more : (p : Id → Bool) (conditions : List IfReq) (k : ℕ) (i : IfReq) → k < length conditions
+pub conditions_more : (p : Id → Bool) (conditions : List IfReq) (k : ℕ) (i : IfReq) → k < length conditions
     → i ≡ get_or conditions k i
     → flat_map (λ i. i.req) (filter (λ i. p i.function) (take (k + 1) conditions))
     ≡ flat_map (λ i. i.req) (filter (λ i. p i.function) (take k conditions)) ++ cond (p i.function) i.req []
-conditions-more p conditions k i below at =
-    ap (λ l. flat_map (λ i. i.req) (filter (λ i. p i.function) l)) (front-more conditions k i below at)
+conditions_more p conditions k i below at =
+    ap (λ l. flat_map (λ i. i.req) (filter (λ i. p i.function) l)) (front_more conditions k i below at)
     ∙ ap (flat_map (λ i. i.req)) (filter-append (λ i. p i.function) (take k conditions) (i ∷ []))
     ∙ flat_map-append (λ i. i.req) (filter (λ i. p i.function) (take k conditions))
     (filter (λ i. p i.function) (i ∷ []))
     ∙ ap (λ l. flat_map (λ i. i.req) (filter (λ i. p i.function) (take k conditions)) ++ l)
-    (filter-one (λ i. p i.function) (λ i. i.req) i)
+    (filter_one (λ i. p i.function) (λ i. i.req) i)
 
 -- the same, with who states them
-pub requisites-more : (by : Id) (p : Id → Bool) (conditions : List IfReq) (k : ℕ) (i : IfReq) → k < length conditions
+pub requisites_more : (by : Id) (p : Id → Bool) (conditions : List IfReq) (k : ℕ) (i : IfReq) → k < length conditions
     → i ≡ get_or conditions k i
     → map (a_requisite by) (flat_map (λ i. i.req) (filter (λ i. p i.function) (take (k + 1) conditions)))
     ≡ map (a_requisite by) (flat_map (λ i. i.req) (filter (λ i. p i.function) (take k conditions)))
     ++ cond (p i.function) (map (a_requisite by) i.req) []
-requisites-more by p conditions k i below at =
+requisites_more by p conditions k i below at =
     let front = flat_map (λ i. i.req) (filter (λ i. p i.function) (take k conditions)) in
-    ap (map (a_requisite by)) (conditions-more p conditions k i below at)
+    ap (map (a_requisite by)) (conditions_more p conditions k i below at)
     ∙ map-append (a_requisite by) front (cond (p i.function) i.req [])
     ∙ ap (λ l. map (a_requisite by) front ++ l) (one (p i.function))
   where
@@ -75,16 +75,16 @@ requisites-more by p conditions k i below at =
     one false = refl
 
 -- what one more entry states, if it is of an applied SYSMOD
-pub stated-more : (c : Choice) (f : Id) (entries : List Entry) (k : ℕ) (e : Entry) → k < length entries
+pub stated_more : (c : Choice) (f : Id) (entries : List Entry) (k : ℕ) (e : Entry) → k < length entries
     → e ≡ get_or entries k e
     → flat_map (stated_by c f) (map (λ e. e.id) (filter (λ e. is_some e.applied) (take (k + 1) entries)))
     ≡ flat_map (stated_by c f) (map (λ e. e.id) (filter (λ e. is_some e.applied) (take k entries)))
     ++ cond (is_some e.applied) (stated_by c f e.id) []
-stated-more c f entries k e below at =
+stated_more c f entries k e below at =
     let front = filter (λ e. is_some e.applied) (take k entries) in
     let one = filter (λ e. is_some e.applied) (e ∷ []) in
     ap (λ l. flat_map (stated_by c f) (map (λ e. e.id) (filter (λ e. is_some e.applied) l)))
-    (front-more entries k e below at)
+    (front_more entries k e below at)
     ∙ ap (λ l. flat_map (stated_by c f) (map (λ e. e.id) l))
     (filter-append (λ e. is_some e.applied) (take k entries) (e ∷ []))
     ∙ ap (λ l. flat_map (stated_by c f) l) (map-append (λ e. e.id) front one)
@@ -104,16 +104,16 @@ stated-more c f entries k e below at =
 abbrev C : Id → Id → Ordering
 C = slice_cmp nat_cmp
 
-off-from : (b : Bool) → (b ≡ true → ⊥) → b ≡ false
-off-from true lacks = absurd (lacks refl)
-off-from false lacks = refl
+off_from : (b : Bool) → (b ≡ true → ⊥) → b ≡ false
+off_from true lacks = absurd (lacks refl)
+off_from false lacks = refl
 
 -- the list of one function is put in place of the one that it goes on
-pub adds-update : (old new : Lists) (k : Id) (w : Vec Requisite Global) (req : List Requisite)
+pub adds_update : (old new : Lists) (k : Id) (w : Vec Requisite Global) (req : List Requisite)
     → UpdatesBy C (C k) old new (Some w)
     → w.items ≡ listed old k ++ req
     → Adds old new (λ f. cond (bytes_eq f k) req [])
-adds-update old new k w req updates goes_on f = by (is_eq (C k f)) refl
+adds_update old new k w req updates goes_on f = by (is_eq (C k f)) refl
   where
     now : (b : Bool) → is_eq (C k f) ≡ b
         → listed new f ≡ option_map_or (λ v. v.items) (cond b (Some w) (get C old f)) []
@@ -126,21 +126,21 @@ adds-update old new k w req updates goes_on f = by (is_eq (C k f)) refl
         ∙ ap (λ b. listed old f ++ cond b req []) (sym (subst (λ x. bytes_eq f x ≡ true) (sym same) (same_itself f)))
     by false e =
         let here : f ≡ k → bytes_eq k f ≡ true = λ is. subst (λ x. bytes_eq k x ≡ true) (sym is) (same_itself k) in
-        let other : bytes_eq f k ≡ false = off-from (bytes_eq f k) (λ same. true≢false
+        let other : bytes_eq f k ≡ false = off_from (bytes_eq f k) (λ same. true≢false
         (sym (is_eq-slice_cmp k f ∙ here (same_from f k same)) ∙ e)) in
         now false e ∙ sym (append-nil (listed old f)) ∙ ap (λ b. listed old f ++ cond b req []) (sym other)
 
-pub listed-at : (lists : Lists) (k : Id) (v : Vec Requisite Global) → get C lists k ≡ Some v → listed lists k ≡ v.items
-listed-at lists k v there = ap (λ o. option_map_or (λ v. v.items) o []) there
+pub listed_at : (lists : Lists) (k : Id) (v : Vec Requisite Global) → get C lists k ≡ Some v → listed lists k ≡ v.items
+listed_at lists k v there = ap (λ o. option_map_or (λ v. v.items) o []) there
 
-pub listed-none : (lists : Lists) (k : Id) → get C lists k ≡ None → listed lists k ≡ []
-listed-none lists k there = ap (λ o. option_map_or (λ v. v.items) o []) there
+pub listed_none : (lists : Lists) (k : Id) → get C lists k ≡ None → listed lists k ≡ []
+listed_none lists k there = ap (λ o. option_map_or (λ v. v.items) o []) there
 
 -- what a loop over a list keeps of it, where the next item is taken from the front
-pub kept-next : {X Y : Type 0} (p : X → Bool) (f : X → Y) (x : X) (all rest : List X) (old new base : List Y)
+pub kept_next : {X Y : Type 0} (p : X → Bool) (f : X → Y) (x : X) (all rest : List X) (old new base : List Y)
     → all ≡ x ∷ rest → new ≡ old ++ cond (p x) (f x ∷ []) [] → old ++ map f (filter p all) ≡ base
     → new ++ map f (filter p rest) ≡ base
-kept-next {X} {Y} p f x all rest old new base first next was =
+kept_next {X} {Y} p f x all rest old new base first next was =
     ap (λ l. l ++ map f (filter p rest)) next ∙ append_assoc old (cond (p x) (f x ∷ []) []) (map f (filter p rest))
     ∙ ap (λ l. old ++ l) (by (p x)) ∙ ap (λ l. old ++ map f (filter p l)) (sym first) ∙ was
   where

@@ -1,9 +1,7 @@
-pub mod Lists
 pub mod Growing
 pub mod Paired
 pub mod Errors
 pub mod Stating
-pub mod Rising
 pub mod OwnPlaces
 pub mod Wants
 pub mod Standing

@@ -7,12 +7,12 @@ use Rattle.terms.specs.Types.{Id}
 use Rattle.terms.specs.Tests.{Setting}
 use Rattle.terms.specs.Needs.{bypassed_ids}
 use Rattle.lemmas.proofs.Members.{here, here_or, none_in, in_map, map_in}
-use Rattle.lemmas.proofs.Lists.{front-more}
+use Rattle.lemmas.proofs.Lists.{front_more}
 use Rattle.judge_needs.specs.Bypassed.{AddsPairs, AreBypassed}
 
-pub pairs-map : (x : Id) (more : List Id) (old new : List (Id × Id)) → new ≡ old ++ map (λ z. (x, z)) more
+pub pairs_map : (x : Id) (more : List Id) (old new : List (Id × Id)) → new ≡ old ++ map (λ z. (x, z)) more
     → AddsPairs x more old new
-pairs-map x more old new are y z = (up, down)
+pairs_map x more old new are y z = (up, down)
   where
     up : Contains new (y, z) → Contains old (y, z) ⊎ ((y ≡ x) × Contains more z)
     up h =
@@ -35,12 +35,12 @@ pairs-map x more old new are y z = (up, down)
         (subst (λ w. Contains {X = Id × Id} (map (λ z. (x, z)) more) (w, z)) (sym added.0)
         (in_map (λ z. (x, z)) more z added.1)))
 
-pub pairs-same : (x : Id) (old : List (Id × Id)) → AddsPairs x [] old old
-pairs-same x old y z = (λ h. inl h, λ h. elim h [ inl was ↦ was | inr added ↦ absurd (none_in z added.1) ])
+pub pairs_same : (x : Id) (old : List (Id × Id)) → AddsPairs x [] old old
+pairs_same x old y z = (λ h. inl h, λ h. elim h [ inl was ↦ was | inr added ↦ absurd (none_in z added.1) ])
 
-pub pairs-then : (x : Id) (p q : List Id) (a b c : List (Id × Id)) → AddsPairs x p a b → AddsPairs x q b c
+pub pairs_then : (x : Id) (p q : List Id) (a b c : List (Id × Id)) → AddsPairs x p a b → AddsPairs x q b c
     → AddsPairs x (p ++ q) a c
-pairs-then x p q a b c first second y z = (up, down)
+pairs_then x p q a b c first second y z = (up, down)
   where
     up : Contains c (y, z) → Contains a (y, z) ⊎ ((y ≡ x) × Contains (p ++ q) z)
     up h = elim ((second y z).0 h) [
@@ -59,20 +59,20 @@ pairs-then x p q a b c first second y z = (up, down)
     ]
 
 -- the same ids, in another list
-pub pairs-alike : (x : Id) (xs ys : List Id) (old new : List (Id × Id)) → ((z : Id) → Contains xs z ↔ Contains ys z)
+pub pairs_alike : (x : Id) (xs ys : List Id) (old new : List (Id × Id)) → ((z : Id) → Contains xs z ↔ Contains ys z)
     → AddsPairs x xs old new → AddsPairs x ys old new
-pairs-alike x xs ys old new same adds y z = (
+pairs_alike x xs ys old new same adds y z = (
   λ h. elim ((adds y z).0 h) [ inl was ↦ inl was | inr added ↦ inr (added.0, (same z).0 added.1) ],
   λ h. (adds y z).1 (elim h [ inl was ↦ inl was | inr added ↦ inr (added.0, (same z).1 added.1) ]),
 )
 
 module _ (s : Setting) where
   -- the next candidate
-  pub bypassed-next : (xs : List Id) (k : ℕ) (x : Id) (old new : List (Id × Id)) → k < length xs → x ≡ get_or xs k x
+  pub bypassed_next : (xs : List Id) (k : ℕ) (x : Id) (old new : List (Id × Id)) → k < length xs → x ≡ get_or xs k x
       → AddsPairs x (bypassed_ids s x) old new → AreBypassed s (take k xs) old
       → AreBypassed s (take (k + 1) xs) new
-  bypassed-next xs k x old new below at adds was =
-      subst (λ l. AreBypassed s l new) (sym (front-more xs k x below at)) (λ y z. (up y z, down y z))
+  bypassed_next xs k x old new below at adds was =
+      subst (λ l. AreBypassed s l new) (sym (front_more xs k x below at)) (λ y z. (up y z, down y z))
     where
       up : (y z : Id) → Contains new (y, z)
           → Contains (take k xs ++ x ∷ []) y × Contains (bypassed_ids s y) z

@@ -16,10 +16,10 @@ use Rattle.terms.specs.Lookups.{IsRising, is_before}
 use Rattle.terms.specs.Tests.{Setting}
 use Rattle.terms.specs.Needs.{asked}
 use Rattle.lemmas.proofs.Members.{map_in, in_map, filter_in, in_filter, none_in}
-use Rattle.lemmas.proofs.Pairs.{AllPairs-join, pairs_map}
+use Rattle.lemmas.proofs.Pairs.{AllPairs_join, pairs_map}
 use Rattle.judge_needs.specs.declared.wanted.Want.{Want}
 use Rattle.judge_needs.specs.Wanted.{a_want, is_open, IsOpen, AreWants, AddsPart, IsOfKind, IsOpenAt}
-use Rattle.judge_needs.proofs.Rising.{before-apart}
+use Rattle.terms.proofs.IdPlaces.{before_apart}
 
 pub join : (D E : ℕ → NeedKind → Id → Type 0) (xs ys : List Want) → AreWants D xs → AreWants E ys
     → ((n : ℕ) (kind : NeedKind) (z : Id) → D n kind z → ¬ E n kind z)
@@ -35,7 +35,7 @@ join D E xs ys v w apart = record {
       | inr e ↦ Contains-append_right xs ys (a_want n kind z) ((w.members n kind z).1 e)
     ],
   );
-  once = AllPairs-join (λ v w. v ≢ w) xs ys v.once w.once (λ i a below j b within.
+  once = AllPairs_join (λ v w. v ≢ w) xs ys v.once w.once (λ i a below j b within.
       differ (get_or xs i a) (get_or ys j b) (Contains-get_or xs i a below) (Contains-get_or ys j b within));
 }
   where
@@ -58,10 +58,10 @@ module _ (zone : Zone) (b : Bypass) (kind : NeedKind) where
   abbrev is_left : Id → Bool
   is_left = is_open zone b kind
 
-  pub of-kind : (of : ℕ) (asked : List Id) (old new : List Want) → IsRising asked
+  pub of_kind_holds : (of : ℕ) (asked : List Id) (old new : List Want) → IsRising asked
       → new ≡ old ++ map (a_want of kind) (filter (is_open zone b kind) asked)
       → AddsPart of (IsOfKind zone b kind asked) old new
-  of-kind of asked old new rising are = record {
+  of_kind_holds of asked old new rising are = record {
     more = map (a_want of kind) (filter is_left asked);
     are = are;
     wants = record {
@@ -83,16 +83,16 @@ module _ (zone : Zone) (b : Bypass) (kind : NeedKind) where
             (in_map (a_want of kind) (filter is_left asked) z (in_filter is_left asked z h.1.1 h.1.2))),
       );
       once = pairs_map (λ x y. IsTrue (is_before x y)) (λ v w. v ≢ w) (a_want of kind)
-          (λ x y below same. before-apart x y below (ap (λ (w : Want). w.id) same)) (filter is_left asked)
+          (λ x y below same. before_apart x y below (ap (λ (w : Want). w.id) same)) (filter is_left asked)
           (AllPairs-filter (λ x y. IsTrue (is_before x y)) is_left asked rising);
     };
   }
 
 -- two parts, one behind the other
-pub both-parts : (of : ℕ) (P Q : NeedKind → Id → Type 0) (a b c : List Want) → AddsPart of P a b → AddsPart of Q b c
+pub both_parts : (of : ℕ) (P Q : NeedKind → Id → Type 0) (a b c : List Want) → AddsPart of P a b → AddsPart of Q b c
     → ((kind : NeedKind) (z : Id) → P kind z → ¬ Q kind z)
     → AddsPart of (λ kind z. P kind z ⊎ Q kind z) a c
-both-parts of P Q a b c p q apart = record {
+both_parts of P Q a b c p q apart = record {
   more = p.more ++ q.more;
   are = q.are ∙ ap (λ l. l ++ q.more) p.are ∙ append_assoc a p.more q.more;
   wants = alike _ _ (p.more ++ q.more) (λ n kind z. (
@@ -103,9 +103,9 @@ both-parts of P Q a b c p q apart = record {
       (λ n kind z l r. apart kind z l.1 r.1));
 }
 
-pub same-part : (of : ℕ) (P Q : NeedKind → Id → Type 0) (a b : List Want)
+pub same_part : (of : ℕ) (P Q : NeedKind → Id → Type 0) (a b : List Want)
     → ((kind : NeedKind) (z : Id) → P kind z ↔ Q kind z) → AddsPart of P a b → AddsPart of Q a b
-same-part of P Q a b both p = record {
+same_part of P Q a b both p = record {
   more = p.more;
   are = p.are;
   wants = alike _ _ p.more (λ n kind z. (
@@ -135,19 +135,19 @@ ranked (suc (suc (suc (suc (suc zero))))) = Orphan
 ranked (suc (suc (suc (suc (suc (suc zero)))))) = Elem
 ranked _ = Dep
 
-ranked-rank : (kind : NeedKind) → ranked (rank kind) ≡ kind
+ranked_rank : (kind : NeedKind) → ranked (rank kind) ≡ kind
 unfolding rank ranked
-ranked-rank Fmid = refl
-ranked-rank Pre = refl
-ranked-rank Req = refl
-ranked-rank Ifreq = refl
-ranked-rank HoldError = refl
-ranked-rank Orphan = refl
-ranked-rank Elem = refl
-ranked-rank Dep = refl
+ranked_rank Fmid = refl
+ranked_rank Pre = refl
+ranked_rank Req = refl
+ranked_rank Ifreq = refl
+ranked_rank HoldError = refl
+ranked_rank Orphan = refl
+ranked_rank Elem = refl
+ranked_rank Dep = refl
 
-same-rank : (j k : NeedKind) → rank j ≡ rank k → j ≡ k
-same-rank j k e = sym (ranked-rank j) ∙ ap ranked e ∙ ranked-rank k
+same_rank : (j k : NeedKind) → rank j ≡ rank k → j ≡ k
+same_rank j k e = sym (ranked_rank j) ∙ ap ranked e ∙ ranked_rank k
 
 -- the needs of a candidate, kind by kind
 module _ (s : Setting) (survivors : List Id) (left : Zone) (of : ℕ) (x : Id) where
@@ -158,8 +158,8 @@ module _ (s : Setting) (survivors : List Id) (left : Zone) (of : ℕ) (x : Id) w
   abbrev UpTo : ℕ → NeedKind → Id → Type 0
   UpTo n kind z = (rank kind < n) × IsOpen s survivors left x kind z
 
-  no-kind : (l : List Want) → AddsPart of (UpTo 0) l l
-  no-kind l = record {
+  no_kind : (l : List Want) → AddsPart of (UpTo 0) l l
+  no_kind l = record {
     more = [];
     are = sym (append-nil l);
     wants = record {
@@ -168,11 +168,11 @@ module _ (s : Setting) (survivors : List Id) (left : Zone) (of : ℕ) (x : Id) w
     };
   }
 
-  next-kind : (kind : NeedKind) (a b c : List Want) → AddsPart of (UpTo (rank kind)) a b → AddsPart of (Of kind) b c
+  next_kind : (kind : NeedKind) (a b c : List Want) → AddsPart of (UpTo (rank kind)) a b → AddsPart of (Of kind) b c
       → AddsPart of (UpTo (rank kind + 1)) a c
-  next-kind kind a b c front next =
-      same-part of (λ k z. UpTo (rank kind) k z ⊎ Of kind k z) (UpTo (rank kind + 1)) a c (λ k z. (up k z, down k z))
-      (both-parts of (UpTo (rank kind)) (Of kind) a b c front next (λ k z h o. omega (arith, h.0, ap rank o.0)))
+  next_kind kind a b c front next =
+      same_part of (λ k z. UpTo (rank kind) k z ⊎ Of kind k z) (UpTo (rank kind + 1)) a c (λ k z. (up k z, down k z))
+      (both_parts of (UpTo (rank kind)) (Of kind) a b c front next (λ k z h o. omega (arith, h.0, ap rank o.0)))
     where
       up : (k : NeedKind) (z : Id) → UpTo (rank kind) k z ⊎ Of kind k z → UpTo (rank kind + 1) k z
       up k z (inl h) = (omega (arith, h.0), h.1)
@@ -184,43 +184,43 @@ module _ (s : Setting) (survivors : List Id) (left : Zone) (of : ℕ) (x : Id) w
       down : (k : NeedKind) (z : Id) → UpTo (rank kind + 1) k z → UpTo (rank kind) k z ⊎ Of kind k z
       down k z h = elim (cases_eq (rank k) (rank kind)) [
         | inl this ↦
-            let same : k ≡ kind = same-rank k kind this in
+            let same : k ≡ kind = same_rank k kind this in
             let of_kind = subst (λ j. IsOpen s survivors left x j z) same h.1 in
             inr (same, of_kind.0, of_kind.1)
         | inr other ↦ inl (omega (arith, h.0, other), h.1)
       ]
 
-  asked-below : (kind : NeedKind) (z : Id) → IsOpen s survivors left x kind z → rank kind < 6
+  asked_below : (kind : NeedKind) (z : Id) → IsOpen s survivors left x kind z → rank kind < 6
   unfolding rank
-  asked-below Fmid z h = omega arith
-  asked-below Pre z h = omega arith
-  asked-below Req z h = omega arith
-  asked-below Ifreq z h = omega arith
-  asked-below HoldError z h = omega arith
-  asked-below Orphan z h = omega arith
-  asked-below Elem z h = absurd (none_in z h.0)
-  asked-below Dep z h = absurd (none_in z h.0)
+  asked_below Fmid z h = omega arith
+  asked_below Pre z h = omega arith
+  asked_below Req z h = omega arith
+  asked_below Ifreq z h = omega arith
+  asked_below HoldError z h = omega arith
+  asked_below Orphan z h = omega arith
+  asked_below Elem z h = absurd (none_in z h.0)
+  asked_below Dep z h = absurd (none_in z h.0)
 
-  pub all-parts : (l0 l1 l2 l3 l4 l5 l6 : List Want) → AddsPart of (Of Fmid) l0 l1 → AddsPart of (Of Pre) l1 l2
+  pub all_parts : (l0 l1 l2 l3 l4 l5 l6 : List Want) → AddsPart of (Of Fmid) l0 l1 → AddsPart of (Of Pre) l1 l2
       → AddsPart of (Of Req) l2 l3 → AddsPart of (Of Ifreq) l3 l4 → AddsPart of (Of HoldError) l4 l5
       → AddsPart of (Of Orphan) l5 l6 → AddsPart of (IsOpen s survivors left x) l0 l6
   unfolding rank
-  all-parts l0 l1 l2 l3 l4 l5 l6 fmid pre req ifreq hold orphan =
-      same-part of (UpTo 6) (IsOpen s survivors left x) l0 l6
-      (λ kind z. (λ h. h.1, λ h. (asked-below kind z h, h)))
-      (next-kind Orphan l0 l5 l6
-      (next-kind HoldError l0 l4 l5
-      (next-kind Ifreq l0 l3 l4
-      (next-kind Req l0 l2 l3
-      (next-kind Pre l0 l1 l2
-      (next-kind Fmid l0 l0 l1 (no-kind l0) fmid) pre) req) ifreq) hold) orphan)
+  all_parts l0 l1 l2 l3 l4 l5 l6 fmid pre req ifreq hold orphan =
+      same_part of (UpTo 6) (IsOpen s survivors left x) l0 l6
+      (λ kind z. (λ h. h.1, λ h. (asked_below kind z h, h)))
+      (next_kind Orphan l0 l5 l6
+      (next_kind HoldError l0 l4 l5
+      (next_kind Ifreq l0 l3 l4
+      (next_kind Req l0 l2 l3
+      (next_kind Pre l0 l1 l2
+      (next_kind Fmid l0 l0 l1 (no_kind l0) fmid) pre) req) ifreq) hold) orphan)
 
 module _ (s : Setting) (survivors : List Id) (left : Zone) where
   -- the next candidate
-  pub wants-next : (k : ℕ) (x : Id) (old new : List Want) → slice_get s.cands k ≡ Some x
+  pub wants_next : (k : ℕ) (x : Id) (old new : List Want) → slice_get s.cands k ≡ Some x
       → AddsPart k (IsOpen s survivors left x) old new
       → AreWants (IsOpenAt s survivors left k) old → AreWants (IsOpenAt s survivors left (k + 1)) new
-  wants-next k x old new at p w =
+  wants_next k x old new at p w =
       subst (AreWants (IsOpenAt s survivors left (k + 1))) (sym p.are)
       (alike _ _ (old ++ p.more) (λ n kind z. (up n kind z, down n kind z))
       (join (IsOpenAt s survivors left k) (λ n kind z. (n ≡ k) × IsOpen s survivors left x kind z) old p.more w p.wants
@@ -246,25 +246,25 @@ module _ (s : Setting) (survivors : List Id) (left : Zone) where
         | inr other ↦ inl (record { below = omega (arith, h.below, other); x = h.x; at = h.at; is_open = h.is_open })
       ]
 
-  pub wants-none : AreWants (IsOpenAt s survivors left 0) []
-  wants-none = record {
+  pub wants_none : AreWants (IsOpenAt s survivors left 0) []
+  wants_none = record {
     members = λ n kind z. (λ h. absurd (none_in (a_want n kind z) h), λ h. absurd (omega (arith, h.below)));
     once = λ i j d less below. absurd (omega (arith, below));
   }
 
   -- each is of a candidate
-  pub wants-within : (end : ℕ) (wants : List Want) → AreWants (IsOpenAt s survivors left end) wants
+  pub wants_within : (end : ℕ) (wants : List Want) → AreWants (IsOpenAt s survivors left end) wants
       → All (λ w. w.of < end) wants
-  wants-within end wants w = λ k d below.
+  wants_within end wants w = λ k d below.
       let v : Want = get_or wants k d in
       ((w.members v.of v.kind v.id).0 (Contains-get_or wants k d below)).below
 
 -- the same ids, in another list
-pub same-asked : (zone : Zone) (b : Bypass) (kind : NeedKind) (of : ℕ) (xs ys : List Id) (old new : List Want)
+pub same_asked : (zone : Zone) (b : Bypass) (kind : NeedKind) (of : ℕ) (xs ys : List Id) (old new : List Want)
     → ((z : Id) → Contains xs z ↔ Contains ys z) → AddsPart of (IsOfKind zone b kind xs) old new
     → AddsPart of (IsOfKind zone b kind ys) old new
-same-asked zone b kind of xs ys old new same part =
-    same-part of (IsOfKind zone b kind xs) (IsOfKind zone b kind ys) old new (λ k z. (
+same_asked zone b kind of xs ys old new same part =
+    same_part of (IsOfKind zone b kind xs) (IsOfKind zone b kind ys) old new (λ k z. (
       λ h. (h.0, (same z).0 h.1, h.2),
       λ h. (h.0, (same z).1 h.1, h.2),
     )) part

@@ -1,4 +1,3 @@
-pub mod Placed
 pub mod Left
 pub mod Conditions
 pub mod Wanted

@@ -6,7 +6,7 @@ use Rattle.terms.specs.Tests.{Setting}
 use Rattle.terms.specs.Needs.{zone_left}
 use Rattle.solve.specs.Problem.{Demand, Problem}
 use Rattle.judge_needs.specs.declared.wanted.Want.{Want}
-use Rattle.judge_needs.specs.Placed.{Beside}
+use Rattle.lemmas.specs.Beside.{Beside}
 use Rattle.judge_needs.specs.Wanted.{AreWants, IsOpenAt}
 use Rattle.judge_needs.specs.Serving.{AreServed, IsServedIn}
 

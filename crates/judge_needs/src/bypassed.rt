@@ -3,15 +3,15 @@ ghost use Rattle.std.specs.Prelude.{◌≡◌, ◌++◌, [], map, OnOk, IfOk, if
 ghost use Rattle.terms.specs.declared.codes.NeedKind.TheVariants.{Ifreq};
 ghost use Rattle.terms.specs.Needs.{asked, bypassed_ids};
 ghost use Rattle.judge_needs.specs.Conditions.{AreStated};
-ghost use Rattle.judge_needs.specs.Left.{choice_of, setting_of};
+ghost use Rattle.zones_views.specs.Scopes.{choice_of, setting_of};
 ghost use Rattle.judge_needs.specs.Bypassed.{AddsPairs, AreBypassed};
 
 use crate::conditions::if_needed;
-use crate::scope::Scope;
 use crate::stated::{Stated, all_stated};
 use fields::Id;
-use std::alloc::{AllocError, Global as Heap};
+use std::alloc::{AllocError, Global};
 use terms::NeedKind;
+use zones_views::Scope;
 
 fn add_pairs(pairs: &mut Vec<(Id, Id)>, id: Id, requisites: &[Id]) -> Result<(), AllocError>
     ensures { OnOk result (pairs.new.items ≡ pairs.old.items ++ map (λ z. (id, z)) requisites.now) }
@@ -39,7 +39,7 @@ fn add_if(
 
 // Adds those by `++IF`.
 fn add_ifreq(
-    alloc: Heap,
+    alloc: Global,
     scope: &Scope<'_, '_>,
     stated: &Stated,
     id: Id,
@@ -58,7 +58,7 @@ fn add_ifreq(
 
 // Adds those of one candidate.
 fn add_bypassed(
-    alloc: Heap,
+    alloc: Global,
     scope: &Scope<'_, '_>,
     stated: &Stated,
     id: Id,
@@ -74,7 +74,7 @@ fn add_bypassed(
 }
 
 /// Each candidate with each of its PRE, REQ and IFREQ that BYPASS covers.
-pub fn bypassed_pairs(alloc: Heap, scope: &Scope<'_, '_>) -> Result<Vec<(Id, Id)>, AllocError>
+pub fn bypassed_pairs(alloc: Global, scope: &Scope<'_, '_>) -> Result<Vec<(Id, Id)>, AllocError>
     ensures { IfOk result (λ pairs. AreBypassed (setting_of scope.now) scope.now.ids.now pairs.items) }
 {
     if !scope.bypasses_requisites() {

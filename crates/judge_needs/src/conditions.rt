@@ -6,15 +6,15 @@ ghost use Rattle.terms.specs.Lookups.{is_applied, is_function, is_in};
 ghost use Rattle.terms.specs.Deleted.{view};
 ghost use Rattle.terms.specs.Conditions.{if_reqs, if_needed};
 ghost use Rattle.judge_needs.specs.Conditions.{AreStated, is_there, listed};
-ghost use Rattle.judge_needs.specs.Left.{global_of, choice_of, left_of};
+ghost use Rattle.zones_views.specs.Scopes.{global_of, choice_of};
+ghost use Rattle.judge_needs.specs.Left.{left_of};
 
 use crate::left::Left;
-use crate::scope::Scope;
 use crate::stated::{Stated, append_stated};
 use fields::{Id, IdList};
-use std::alloc::{AllocError, Global as Heap};
+use std::alloc::{AllocError, Global};
 use sysmods_records::IfReq;
-use zones_less::view_deletions;
+use zones_views::{Scope, view_deletions};
 
 fn append_if_there(
     left: &Left<'_, '_>,
@@ -72,7 +72,7 @@ fn append_for_function(
 
 /// The requisites of a candidate by `++IF` in its view of the zone, given what applied SYSMODs state.
 pub(crate) fn if_needed(
-    alloc: Heap,
+    alloc: Global,
     scope: &Scope<'_, '_>,
     stated: &Stated,
     id: Id,
@@ -82,7 +82,7 @@ pub(crate) fn if_needed(
         (choice_of scope.now) (view (global_of scope.now) (choice_of scope.now) scope.now.ids.now scope.now.zone.now id)
         (is_in scope.now.ids.now) id) z) }
 {
-    scope.zone.known();
+    scope.zone.attest();
     let dels = view_deletions(alloc, scope.vers, scope.ids, id)?;
     let left = Left {
         scope: *scope,

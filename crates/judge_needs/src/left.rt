@@ -6,10 +6,9 @@ ghost use Rattle.judge_needs.specs.Conditions.{is_there};
 ghost use Rattle.judge_needs.specs.Left.{left_of};
 ghost use Rattle.judge_needs.specs.Wanted.{is_open};
 
-use crate::scope::Scope;
 use fields::Id;
 use terms::NeedKind;
-use zones_less::{is_left, supplies_left};
+use zones_views::{Scope, is_left, supplies_left};
 
 /// The zone less these deletions.
 #[derive(Clone, Copy)]

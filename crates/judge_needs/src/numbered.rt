@@ -1,23 +1,22 @@
 //! The numbered problem of who is eligible and needs whom.
 ghost use Rattle.std.specs.Prelude.{◌≡◌, ◌<◌, ◌^◌, length, All, OnOk, IfOk};
 ghost use Rattle.solve.specs.Problem.{IsProblem};
-ghost use Rattle.judge_needs.specs.Left.{setting_of};
+ghost use Rattle.zones_views.specs.Scopes.{setting_of};
 ghost use Rattle.judge_needs.specs.Numbered.{AddsDemand, HasDemands, HasProblem};
 
 use crate::left::Left;
-use crate::scope::Scope;
 use crate::serving::{places_of, served};
 use crate::wanted::{Want, all_wants, want_at};
 use fields::{Id, IdList};
 use solve::{Need, System};
-use std::alloc::{AllocError, Global as Heap};
+use std::alloc::{AllocError, Global};
 use std::collections::BTreeSet;
 use terms::NeedKind;
-use zones_less::deletions;
+use zones_views::{Scope, deletions};
 
 // Adds one need.
 fn add_want(
-    alloc: Heap,
+    alloc: Global,
     ids: &IdList,
     served: &BTreeSet<(Id, u32)>,
     want: Want,
@@ -38,7 +37,7 @@ fn add_want(
 
 // The problem of candidates with these flags and these needs.
 fn numbered(
-    alloc: Heap,
+    alloc: Global,
     ids: &IdList,
     served: &BTreeSet<(Id, u32)>,
     wants: &[Want],
@@ -64,7 +63,7 @@ fn numbered(
 /// The numbered problem of candidates of which these survive and these are eligible, and the kind and the id of each
 /// need.
 pub fn wants_of(
-    alloc: Heap,
+    alloc: Global,
     scope: &Scope<'_, '_>,
     survivors: &IdList,
     eligible: Vec<bool>,

@@ -4,15 +4,14 @@ ghost use Rattle.terms.specs.declared.kinds.HoldKind.TheVariants.{Error};
 ghost use Rattle.terms.specs.Types.{Id as AnId};
 ghost use Rattle.terms.specs.Lookups.{holds_of};
 ghost use Rattle.terms.specs.Tests.{is_bypassed_hold};
-ghost use Rattle.judge_needs.specs.Left.{global_of};
+ghost use Rattle.zones_views.specs.Scopes.{global_of};
 
-use crate::bypassing::is_bypassed_hold;
-use crate::scope::Scope;
 use cntl::Bypass;
 use fields::{Id, IdList};
-use std::alloc::{AllocError, Global as Heap};
+use std::alloc::{AllocError, Global};
 use sysmods_records::Hold;
 use terms::HoldKind;
+use zones_views::{Scope, is_bypassed_hold};
 
 // Appends the reason of an ERROR hold, which is an id, if BYPASS does not cover the hold.
 fn append_reason(bypass: &Bypass, hold: &Hold, found: &mut Vec<Id>) -> Result<(), AllocError>
@@ -40,7 +39,11 @@ fn append_reasons(scope: &Scope<'_, '_>, id: Id, found: &mut Vec<Id>) -> Result<
 }
 
 /// The reasons of the ERROR holds on a candidate that BYPASS does not cover.
-pub(crate) fn open_reasons(alloc: Heap, scope: &Scope<'_, '_>, id: Id) -> Result<IdList, AllocError>
+pub(crate) fn open_reasons(
+    alloc: Global,
+    scope: &Scope<'_, '_>,
+    id: Id,
+) -> Result<IdList, AllocError>
     ensures { IfOk result (λ ids. (z : AnId) → Contains ids z ↔ Contains (map (λ h. h.reason)
         (filter (λ h. not (is_bypassed_hold scope.now.bypass.now h)) (holds_of (global_of scope.now) Error id))) z) }
 {

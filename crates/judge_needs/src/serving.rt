@@ -7,7 +7,7 @@ ghost use Rattle.sysmods.specs.Choices.{choice};
 ghost use Rattle.judge_needs.specs.Serving.{AddsServed, AreServed, IsServedIn, is_between};
 
 use fields::{Id, IdList};
-use std::alloc::{AllocError, Global as Heap};
+use std::alloc::{AllocError, Global};
 use std::collections::BTreeSet;
 use sysmods::VerChoice;
 use terms::NeedKind;
@@ -23,7 +23,7 @@ fn add_pairs(pairs: &mut Vec<(Id, u32)>, ids: &[Id], place: u32) -> Result<(), A
 
 // Adds the ids that a candidate stands for.
 fn add_served(
-    alloc: Heap,
+    alloc: Global,
     vers: &VerChoice<'_>,
     id: Id,
     place: u32,
@@ -39,7 +39,7 @@ fn add_served(
 
 // The ids that the candidates stand for, each with the place of the candidate.
 fn served_pairs(
-    alloc: Heap,
+    alloc: Global,
     vers: &VerChoice<'_>,
     ids: &IdList,
 ) -> Result<Vec<(Id, u32)>, AllocError>
@@ -56,7 +56,7 @@ fn served_pairs(
 
 /// The same in order.
 pub(crate) fn served(
-    alloc: Heap,
+    alloc: Global,
     vers: &VerChoice<'_>,
     ids: &IdList,
 ) -> Result<BTreeSet<(Id, u32)>, AllocError>
@@ -80,7 +80,7 @@ fn takes_superseder(kind: NeedKind) -> bool
 
 // The places of the candidates that stand for an id.
 fn places_in(
-    alloc: Heap,
+    alloc: Global,
     ids: &IdList,
     served: &BTreeSet<(Id, u32)>,
     id: Id,
@@ -98,7 +98,7 @@ fn places_in(
 
 // They serve a need where a superseder does.
 fn served_places(
-    alloc: Heap,
+    alloc: Global,
     ids: &IdList,
     served: &BTreeSet<(Id, u32)>,
     kind: NeedKind,
@@ -116,7 +116,7 @@ fn served_places(
 }
 
 // Else the id alone does, if it is a candidate.
-fn own_place(alloc: Heap, ids: &IdList, kind: NeedKind, id: Id) -> Result<Vec<u32>, AllocError>
+fn own_place(alloc: Global, ids: &IdList, kind: NeedKind, id: Id) -> Result<Vec<u32>, AllocError>
     requires fits { length ids.now < 2 ^ 32 }
     requires alone { IsFalse (takes_superseder kind) }
     ensures places { IfOk result (λ any. (pairs : List (AnId × ℕ)) → IsServedIn ids.now kind id pairs any.items) }
@@ -133,7 +133,7 @@ fn own_place(alloc: Heap, ids: &IdList, kind: NeedKind, id: Id) -> Result<Vec<u3
 
 /// The places of the candidates that serve a need.
 pub(crate) fn places_of(
-    alloc: Heap,
+    alloc: Global,
     ids: &IdList,
     served: &BTreeSet<(Id, u32)>,
     kind: NeedKind,

@@ -4,15 +4,16 @@ ghost use Rattle.std.specs.List.{flat_map};
 ghost use Rattle.std.specs.Str.{bytes_eq};
 ghost use Rattle.terms.specs.Lookups.{is_applied};
 ghost use Rattle.judge_needs.specs.Conditions.{Adds, AreStated, a_requisite, listed, stated_by};
-ghost use Rattle.judge_needs.specs.Left.{choice_of, left_of};
+ghost use Rattle.zones_views.specs.Scopes.{choice_of};
+ghost use Rattle.judge_needs.specs.Left.{left_of};
 
 use crate::left::Left;
-use crate::scope::Scope;
 use fields::Id;
-use std::alloc::{AllocError, Global as Heap};
+use std::alloc::{AllocError, Global};
 use std::collections::BTreeMap;
 use sysmods_records::IfReq;
 use zones::Entry;
+use zones_views::Scope;
 
 /// A requisite, and the applied SYSMOD that states it.
 #[derive(Clone, Copy)]
@@ -24,7 +25,7 @@ pub(crate) struct Requisite {
 /// For each function the requisites that are stated for it.
 pub(crate) type Stated = BTreeMap<Id, Vec<Requisite>>;
 
-fn requisites(alloc: Heap, by: Id, ids: &[Id]) -> Result<Vec<Requisite>, AllocError>
+fn requisites(alloc: Global, by: Id, ids: &[Id]) -> Result<Vec<Requisite>, AllocError>
     ensures { IfOk result (λ list. list.items ≡ map (a_requisite by) ids.now) }
 {
     let mut list = Vec::new(alloc);
@@ -46,7 +47,7 @@ fn add(stated: &mut Stated, function: Id, mut more: Vec<Requisite>) -> Result<()
 }
 
 fn add_conditions(
-    alloc: Heap,
+    alloc: Global,
     stated: &mut Stated,
     by: Id,
     conditions: &[IfReq],
@@ -62,7 +63,7 @@ fn add_conditions(
 }
 
 fn add_if_applied(
-    alloc: Heap,
+    alloc: Global,
     scope: &Scope<'_, '_>,
     entry: &Entry,
     stated: &mut Stated,
@@ -77,7 +78,7 @@ fn add_if_applied(
 }
 
 /// What all applied SYSMODs state.
-pub(crate) fn all_stated(alloc: Heap, scope: &Scope<'_, '_>) -> Result<Stated, AllocError>
+pub(crate) fn all_stated(alloc: Global, scope: &Scope<'_, '_>) -> Result<Stated, AllocError>
     ensures { IfOk result (AreStated (choice_of scope.now) scope.now.zone.now) }
 {
     let mut stated = BTreeMap::new(alloc);

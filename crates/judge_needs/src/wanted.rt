@@ -6,18 +6,18 @@ ghost use Rattle.terms.specs.Types.{Id as AnId};
 ghost use Rattle.terms.specs.Lookups.{IsRising, at_most_one, is_in};
 ghost use Rattle.terms.specs.Needs.{orphans};
 ghost use Rattle.judge_needs.specs.Conditions.{AreStated};
-ghost use Rattle.judge_needs.specs.Left.{choice_of, setting_of, left_of};
+ghost use Rattle.zones_views.specs.Scopes.{choice_of, setting_of};
+ghost use Rattle.judge_needs.specs.Left.{left_of};
 ghost use Rattle.judge_needs.specs.Wanted.{a_want, is_open, IsOpen, IsOpenAt, IsOfKind, AreWants, AddsPart};
 
 use crate::conditions::if_needed;
 use crate::left::Left;
 use crate::reasons::open_reasons;
-use crate::scope::Scope;
 use crate::stated::{Stated, all_stated};
 use fields::{Id, IdList};
-use std::alloc::{AllocError, Global as Heap};
+use std::alloc::{AllocError, Global};
 use terms::NeedKind;
-use zones_less::orphans;
+use zones_views::{Scope, orphans};
 
 /// A candidate, by its place, needs this id.
 #[derive(Clone, Copy)]
@@ -29,7 +29,7 @@ pub(crate) struct Want {
 
 // The ids that neither BYPASS nor what is left of the zone meets.
 fn unmet(
-    alloc: Heap,
+    alloc: Global,
     left: &Left<'_, '_>,
     kind: NeedKind,
     ids: &[Id],
@@ -54,7 +54,7 @@ fn add_each(wants: &mut Vec<Want>, of: u32, kind: NeedKind, ids: &[Id]) -> Resul
 
 // Adds what a candidate asks for and is not met.
 fn add_asked(
-    alloc: Heap,
+    alloc: Global,
     left: &Left<'_, '_>,
     of: u32,
     kind: NeedKind,
@@ -72,7 +72,7 @@ fn add_asked(
 
 // Adds the need for its function.
 fn add_function(
-    alloc: Heap,
+    alloc: Global,
     left: &Left<'_, '_>,
     of: u32,
     fmid: Option<Id>,
@@ -89,7 +89,7 @@ fn add_function(
 
 // What its DELETE orphans, if it is a survivor.
 fn orphaned(
-    alloc: Heap,
+    alloc: Global,
     scope: &Scope<'_, '_>,
     survivors: &IdList,
     id: Id,
@@ -106,7 +106,7 @@ fn orphaned(
 
 // Adds the needs of one candidate.
 fn add_open(
-    alloc: Heap,
+    alloc: Global,
     left: &Left<'_, '_>,
     survivors: &IdList,
     stated: &Stated,
@@ -140,7 +140,7 @@ fn add_open(
 
 /// The needs of all candidates, where these survive and these are the deletions.
 pub(crate) fn all_wants(
-    alloc: Heap,
+    alloc: Global,
     left: &Left<'_, '_>,
     survivors: &IdList,
 ) -> Result<Vec<Want>, AllocError>

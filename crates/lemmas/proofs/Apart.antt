@@ -7,28 +7,28 @@ use Rattle.std.proofs.lemmas.List.{take-append-drop, get_or-take, length-take-le
 use Rattle.std.proofs.lemmas.List.Elements.{Contains-get_or, Contains-append_left, Contains-append_right}
 use Rattle.std.proofs.lemmas.List.Elements.{Contains-append_cases}
 use Rattle.lemmas.proofs.Members.{here, there, here_or, parts, but}
-use Rattle.lemmas.proofs.Pairs.{AllPairs-first, AllPairs-rest}
+use Rattle.lemmas.proofs.Pairs.{AllPairs_first, AllPairs_rest}
 
 abbrev pub AreApart : {X : Type 0} → List X → Type 0
 AreApart xs = AllPairs (λ a b. a ≢ b) xs
 
 -- A list without doubles whose items stand in another is no longer.
-pub apart-le : {X : Type 0} (xs ys : List X) → AreApart xs → ((z : X) → Contains xs z → Contains ys z)
+pub apart_le : {X : Type 0} (xs ys : List X) → AreApart xs → ((z : X) → Contains xs z → Contains ys z)
     → length xs ≤ length ys
-apart-le [] ys apart within = omega arith
-apart-le {X = X} (x ∷ xs) ys apart within =
+apart_le [] ys apart within = omega arith
+apart_le {X = X} (x ∷ xs) ys apart within =
     let p = parts ys x (within x (here x xs)) in
-    let first = AllPairs-first (λ a b. a ≢ b) x xs apart in
+    let first = AllPairs_first (λ a b. a ≢ b) x xs apart in
     let rest : (z : X) → Contains xs z → Contains (p.0 ++ p.1) z =
     λ z h. but p.0 p.1 x z (λ same. first h.0 z h.1 (same ∙ sym h.2))
     (subst (λ l. Contains l z) p.2 (within z (there x xs z h))) in
-    let more = apart-le xs (p.0 ++ p.1) (AllPairs-rest (λ a b. a ≢ b) x xs apart) rest in
+    let more = apart_le xs (p.0 ++ p.1) (AllPairs_rest (λ a b. a ≢ b) x xs apart) rest in
     omega (arith, more, ap length p.2, length-append p.0 (x ∷ p.1), length-append p.0 p.1)
 
 -- One that has each item of a list without doubles, and is no longer, has none.
-pub apart-from_length : {X : Type 0} (xs ys : List X) → AreApart ys → ((z : X) → Contains ys z → Contains xs z)
+pub apart_from_length : {X : Type 0} (xs ys : List X) → AreApart ys → ((z : X) → Contains ys z → Contains xs z)
     → length xs ≤ length ys → AreApart xs
-apart-from_length {X = X} xs ys apart within short = λ i j d before below same.
+apart_from_length {X = X} xs ys apart within short = λ i j d before below same.
     let front = take j xs in
     let back = drop (suc j) xs in
     let x = get_or xs j d in
@@ -48,7 +48,7 @@ apart-from_length {X = X} xs ys apart within short = λ i j d before below same.
     ] in
     omega (
       arith,
-      apart-le ys (front ++ back) apart rest,
+      apart_le ys (front ++ back) apart rest,
       short,
       ap length cut,
       length-append front (x ∷ back),

@@ -26,6 +26,6 @@ turned_twice (true ∷ bs) = ap (λ cs. true ∷ cs) (turned_twice bs)
 turned_twice (false ∷ bs) = ap (λ cs. false ∷ cs) (turned_twice bs)
 
 -- either way the same
-pub cond-same : {X : Type 0} (b : Bool) (x : X) → cond b x x ≡ x
-cond-same true x = refl
-cond-same false x = refl
+pub cond_same : {X : Type 0} (b : Bool) (x : X) → cond b x x ≡ x
+cond_same true x = refl
+cond_same false x = refl

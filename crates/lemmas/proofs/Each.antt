@@ -6,34 +6,34 @@ use Rattle.std.proofs.Math.ListN.{get_or-map}
 use Rattle.std.proofs.lemmas.List.{length-map, length-append, get_or_append_left}
 use Rattle.std.proofs.lemmas.List.Elements.{All-head, All-tail, All-cons, All-nil}
 
-pub All-middle : {X : Type 0} (P : X → Type 0) (before : List X) (x : X) (after : List X) → All P (before ++ x ∷ after)
+pub All_middle : {X : Type 0} (P : X → Type 0) (before : List X) (x : X) (after : List X) → All P (before ++ x ∷ after)
     → P x
-All-middle P [] x after h = All-head P x after h
-All-middle P (y ∷ before) x after h = All-middle P before x after (All-tail P y (before ++ x ∷ after) h)
+All_middle P [] x after h = All-head P x after h
+All_middle P (y ∷ before) x after h = All_middle P before x after (All-tail P y (before ++ x ∷ after) h)
 
 -- a fact of all items stays when one comes in between that has it
-pub All-between : {X : Type 0} (P : X → Type 0) (xs ys : List X) (x : X) → All P (xs ++ ys) → P x → All P (xs ++ x ∷ ys)
-All-between P [] ys x h p = All-cons P x ys p h
-All-between P (y ∷ xs) ys x h p =
-    All-cons P y (xs ++ x ∷ ys) (All-head P y (xs ++ ys) h) (All-between P xs ys x (All-tail P y (xs ++ ys) h) p)
+pub All_between : {X : Type 0} (P : X → Type 0) (xs ys : List X) (x : X) → All P (xs ++ ys) → P x → All P (xs ++ x ∷ ys)
+All_between P [] ys x h p = All-cons P x ys p h
+All_between P (y ∷ xs) ys x h p =
+    All-cons P y (xs ++ x ∷ ys) (All-head P y (xs ++ ys) h) (All_between P xs ys x (All-tail P y (xs ++ ys) h) p)
 
 -- and when one goes
-pub All-skip : {X : Type 0} (P : X → Type 0) (xs ys : List X) (x : X) → All P (xs ++ x ∷ ys) → All P (xs ++ ys)
-All-skip P [] ys x h = All-tail P x ys h
-All-skip P (y ∷ xs) ys x h =
-    All-cons P y (xs ++ ys) (All-head P y (xs ++ x ∷ ys) h) (All-skip P xs ys x (All-tail P y (xs ++ x ∷ ys) h))
+pub All_skip : {X : Type 0} (P : X → Type 0) (xs ys : List X) (x : X) → All P (xs ++ x ∷ ys) → All P (xs ++ ys)
+All_skip P [] ys x h = All-tail P x ys h
+All_skip P (y ∷ xs) ys x h =
+    All-cons P y (xs ++ ys) (All-head P y (xs ++ x ∷ ys) h) (All_skip P xs ys x (All-tail P y (xs ++ x ∷ ys) h))
 
-pub All-front : {X : Type 0} (P : X → Type 0) (xs ys : List X) → All P (xs ++ ys) → All P xs
-All-front P [] ys h = All-nil P
-All-front P (x ∷ xs) ys h = All-cons P x xs (All-head P x (xs ++ ys) h) (All-front P xs ys (All-tail P x (xs ++ ys) h))
+pub All_front : {X : Type 0} (P : X → Type 0) (xs ys : List X) → All P (xs ++ ys) → All P xs
+All_front P [] ys h = All-nil P
+All_front P (x ∷ xs) ys h = All-cons P x xs (All-head P x (xs ++ ys) h) (All_front P xs ys (All-tail P x (xs ++ ys) h))
 
-pub All-back : {X : Type 0} (P : X → Type 0) (xs ys : List X) → All P (xs ++ ys) → All P ys
-All-back P [] ys h = h
-All-back P (x ∷ xs) ys h = All-back P xs ys (All-tail P x (xs ++ ys) h)
+pub All_back : {X : Type 0} (P : X → Type 0) (xs ys : List X) → All P (xs ++ ys) → All P ys
+All_back P [] ys h = h
+All_back P (x ∷ xs) ys h = All_back P xs ys (All-tail P x (xs ++ ys) h)
 
 -- the converse of `All-map`
-pub All-unmap : {X Y : Type 0} (P : Y → Type 0) (f : X → Y) (xs : List X) → All P (map f xs) → All (λ x. P (f x)) xs
-All-unmap P f xs h k d below =
+pub All_unmap : {X Y : Type 0} (P : Y → Type 0) (f : X → Y) (xs : List X) → All P (map f xs) → All (λ x. P (f x)) xs
+All_unmap P f xs h k d below =
     subst P (get_or-map f xs k d) (h k (f d) (subst (λ n. k < n) (sym (length-map xs f)) below))
 
 -- the same of facts that are stated by recursion over the list
@@ -42,28 +42,28 @@ pub recursion_weaker : {X : Type 0} (P Q : X → Type 0) → ((x : X) → P x �
 recursion_weaker P Q h [] all = tt
 recursion_weaker P Q h (x ∷ xs) all = (h x all.0, recursion_weaker P Q h xs all.1)
 
-pub recursion-append : {X : Type 0} (P : X → Type 0) → (xs ys : List X) → AllByRecursion P xs → AllByRecursion P ys
+pub recursion_append : {X : Type 0} (P : X → Type 0) → (xs ys : List X) → AllByRecursion P xs → AllByRecursion P ys
     → AllByRecursion P (xs ++ ys)
-recursion-append P [] ys all more = more
-recursion-append P (x ∷ xs) ys all more = (all.0, recursion-append P xs ys all.1 more)
+recursion_append P [] ys all more = more
+recursion_append P (x ∷ xs) ys all more = (all.0, recursion_append P xs ys all.1 more)
 
-pub recursion-front : {A : Type 0} (P : A → Type 0) (xs ys : List A) → AllByRecursion P (xs ++ ys) → AllByRecursion P xs
-recursion-front P [] ys h = tt
-recursion-front P (x ∷ xs) ys h = (h.0, recursion-front P xs ys h.1)
+pub recursion_front : {A : Type 0} (P : A → Type 0) (xs ys : List A) → AllByRecursion P (xs ++ ys) → AllByRecursion P xs
+recursion_front P [] ys h = tt
+recursion_front P (x ∷ xs) ys h = (h.0, recursion_front P xs ys h.1)
 
-pub recursion-back : {A : Type 0} (P : A → Type 0) (xs ys : List A) → AllByRecursion P (xs ++ ys) → AllByRecursion P ys
-recursion-back P [] ys h = h
-recursion-back P (x ∷ xs) ys h = recursion-back P xs ys h.1
+pub recursion_back : {A : Type 0} (P : A → Type 0) (xs ys : List A) → AllByRecursion P (xs ++ ys) → AllByRecursion P ys
+recursion_back P [] ys h = h
+recursion_back P (x ∷ xs) ys h = recursion_back P xs ys h.1
 
-pub recursion-map : {X Y : Type 0} (f : X → Y) (P : Y → Type 0) (xs : List X) → AllByRecursion (λ x. P (f x)) xs
+pub recursion_map : {X Y : Type 0} (f : X → Y) (P : Y → Type 0) (xs : List X) → AllByRecursion (λ x. P (f x)) xs
     → AllByRecursion P (map f xs)
-recursion-map f P [] h = tt
-recursion-map f P (x ∷ xs) h = (h.0, recursion-map f P xs h.1)
+recursion_map f P [] h = tt
+recursion_map f P (x ∷ xs) h = (h.0, recursion_map f P xs h.1)
 
-pub recursion-unmap : {X Y : Type 0} (f : X → Y) (P : Y → Type 0) (xs : List X) → AllByRecursion P (map f xs)
+pub recursion_unmap : {X Y : Type 0} (f : X → Y) (P : Y → Type 0) (xs : List X) → AllByRecursion P (map f xs)
     → AllByRecursion (λ x. P (f x)) xs
-recursion-unmap f P [] h = tt
-recursion-unmap f P (x ∷ xs) h = (h.0, recursion-unmap f P xs h.1)
+recursion_unmap f P [] h = tt
+recursion_unmap f P (x ∷ xs) h = (h.0, recursion_unmap f P xs h.1)
 
 -- some item
 pub any_here : {X : Type 0} (P : X → Type 0) (x : X) (xs : List X) → P x → Any P (x ∷ xs)
@@ -83,16 +83,16 @@ any_cases P x xs a = any_at_place P x xs a.0 a.1 a.2 a.3 a.4
 pub any_none : {X : Type 0} (P : X → Type 0) → Any P [] → ⊥
 any_none P a = let below = a.2 in omega arith
 
-pub Any-append_left : {X : Type 0} (P : X → Type 0) (xs ys : List X) → Any P xs → Any P (xs ++ ys)
-Any-append_left P xs ys a =
+pub Any_append_left : {X : Type 0} (P : X → Type 0) (xs ys : List X) → Any P xs → Any P (xs ++ ys)
+Any_append_left P xs ys a =
     let len = length-append xs ys in
     let below = a.2 in
     (a.0, a.1, omega (arith, len, below), get_or_append_left xs ys a.1 a.0 below ∙ a.3, a.4)
 
-pub Any-push_cases : {X : Type 0} (P : X → Type 0) (xs : List X) (y : X) → Any P (xs ++ y ∷ []) → Any P xs ⊎ P y
-Any-push_cases P [] y a = elim (any_cases P y [] a) [ inl here ↦ inr here | inr none ↦ absurd (any_none P none) ]
-Any-push_cases P (x ∷ xs) y a =
+pub Any_push_cases : {X : Type 0} (P : X → Type 0) (xs : List X) (y : X) → Any P (xs ++ y ∷ []) → Any P xs ⊎ P y
+Any_push_cases P [] y a = elim (any_cases P y [] a) [ inl here ↦ inr here | inr none ↦ absurd (any_none P none) ]
+Any_push_cases P (x ∷ xs) y a =
     elim (any_cases P x (xs ++ y ∷ []) a) [
       | inl here ↦ inl (any_here P x xs here)
-      | inr rest ↦ elim (Any-push_cases P xs y rest) [ inl later ↦ inl (any_later P x xs later) | inr last ↦ inr last ]
+      | inr rest ↦ elim (Any_push_cases P xs y rest) [ inl later ↦ inl (any_later P x xs later) | inr last ↦ inr last ]
     ]

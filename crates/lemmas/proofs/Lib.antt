@@ -9,3 +9,4 @@ pub mod Pairs
 pub mod Apart
 pub mod Lists
 pub mod Texts
+pub mod BesideLists

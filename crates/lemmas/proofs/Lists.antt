@@ -9,11 +9,11 @@ joined b x [] = append-nil x
 joined b x (y ∷ ys) = ap (λ t. x ++ b ∷ t) (joined b y ys)
 
 -- the items of a list's front and the next
-pub front-more : {X : Type 0} (xs : List X) (k : ℕ) (x : X) → k < length xs → x ≡ get_or xs k x
+pub front_more : {X : Type 0} (xs : List X) (k : ℕ) (x : X) → k < length xs → x ≡ get_or xs k x
     → take (k + 1) xs ≡ take k xs ++ x ∷ []
-front-more xs k x below at = take_more xs k x below ∙ ap (λ v. take k xs ++ v ∷ []) (sym at)
+front_more xs k x below at = take_more xs k x below ∙ ap (λ v. take k xs ++ v ∷ []) (sym at)
 
 -- pairs are made of their parts
-pub same-pairs : {X Y : Type 0} (xs : List (X × Y)) → map (λ p. (p.0, p.1)) xs ≡ xs
-same-pairs [] = refl
-same-pairs (x ∷ xs) = ap (λ l. x ∷ l) (same-pairs xs)
+pub same_pairs : {X Y : Type 0} (xs : List (X × Y)) → map (λ p. (p.0, p.1)) xs ≡ xs
+same_pairs [] = refl
+same_pairs (x ∷ xs) = ap (λ l. x ∷ l) (same_pairs xs)

@@ -3,47 +3,47 @@ use Rattle.std.proofs.Common.{suc, List, ◌∷◌, arith, [], ◌++◌, All, ma
 use Rattle.std.specs.Prelude.{AllPairs}
 use Rattle.std.proofs.lemmas.List.Elements.{All-head, All-tail, All-cons, All-append, All-map, All-weaker}
 use Rattle.std.proofs.lemmas.List.Kept.{AllPairs-cons}
-use Rattle.lemmas.proofs.Each.{All-between, All-skip, All-middle, All-unmap}
+use Rattle.lemmas.proofs.Each.{All_between, All_skip, All_middle, All_unmap}
 
-pub AllPairs-first : {X : Type 0} (R : X → X → Type 0) (x : X) (xs : List X) → AllPairs R (x ∷ xs) → All (R x) xs
-AllPairs-first R x xs h = λ k d below. h 0 (suc k) d (omega arith) (omega arith)
+pub AllPairs_first : {X : Type 0} (R : X → X → Type 0) (x : X) (xs : List X) → AllPairs R (x ∷ xs) → All (R x) xs
+AllPairs_first R x xs h = λ k d below. h 0 (suc k) d (omega arith) (omega arith)
 
-pub AllPairs-rest : {X : Type 0} (R : X → X → Type 0) (x : X) (xs : List X) → AllPairs R (x ∷ xs) → AllPairs R xs
-AllPairs-rest R x xs h = λ i j d less below. h (suc i) (suc j) d (omega arith) (omega arith)
+pub AllPairs_rest : {X : Type 0} (R : X → X → Type 0) (x : X) (xs : List X) → AllPairs R (x ∷ xs) → AllPairs R xs
+AllPairs_rest R x xs h = λ i j d less below. h (suc i) (suc j) d (omega arith) (omega arith)
 
 -- a list in order stays so when an item comes in between that fits
-pub AllPairs-between : {X : Type 0} (R : X → X → Type 0) (xs ys : List X) (x : X) → AllPairs R (xs ++ ys)
+pub AllPairs_between : {X : Type 0} (R : X → X → Type 0) (xs ys : List X) (x : X) → AllPairs R (xs ++ ys)
     → All (λ y. R y x) xs → All (R x) ys → AllPairs R (xs ++ x ∷ ys)
-AllPairs-between R [] ys x h low high = AllPairs-cons R x ys high h
-AllPairs-between R (y ∷ xs) ys x h low high =
-    AllPairs-cons R y (xs ++ x ∷ ys) (All-between (R y) xs ys x (AllPairs-first R y (xs ++ ys) h)
-    (All-head (λ y. R y x) y xs low)) (AllPairs-between R xs ys x (AllPairs-rest R y (xs ++ ys) h)
+AllPairs_between R [] ys x h low high = AllPairs-cons R x ys high h
+AllPairs_between R (y ∷ xs) ys x h low high =
+    AllPairs-cons R y (xs ++ x ∷ ys) (All_between (R y) xs ys x (AllPairs_first R y (xs ++ ys) h)
+    (All-head (λ y. R y x) y xs low)) (AllPairs_between R xs ys x (AllPairs_rest R y (xs ++ ys) h)
     (All-tail (λ y. R y x) y xs low) high)
 
 -- and when one goes
-pub AllPairs-without : {X : Type 0} (R : X → X → Type 0) (xs ys : List X) (x : X) → AllPairs R (xs ++ x ∷ ys)
+pub AllPairs_without : {X : Type 0} (R : X → X → Type 0) (xs ys : List X) (x : X) → AllPairs R (xs ++ x ∷ ys)
     → AllPairs R (xs ++ ys)
-AllPairs-without R [] ys x h = AllPairs-rest R x ys h
-AllPairs-without R (y ∷ xs) ys x h =
-    AllPairs-cons R y (xs ++ ys) (All-skip (R y) xs ys x (AllPairs-first R y (xs ++ x ∷ ys) h))
-    (AllPairs-without R xs ys x (AllPairs-rest R y (xs ++ x ∷ ys) h))
+AllPairs_without R [] ys x h = AllPairs_rest R x ys h
+AllPairs_without R (y ∷ xs) ys x h =
+    AllPairs-cons R y (xs ++ ys) (All_skip (R y) xs ys x (AllPairs_first R y (xs ++ x ∷ ys) h))
+    (AllPairs_without R xs ys x (AllPairs_rest R y (xs ++ x ∷ ys) h))
 
 -- what stands before the first of two parts, and behind the second
-pub AllPairs-parts : {X : Type 0} (R : X → X → Type 0) (xs ys : List X) (x : X) → AllPairs R (xs ++ x ∷ ys)
+pub AllPairs_parts : {X : Type 0} (R : X → X → Type 0) (xs ys : List X) (x : X) → AllPairs R (xs ++ x ∷ ys)
     → All (λ y. R y x) xs × All (R x) ys
-AllPairs-parts R [] ys x h = (λ k d below. absurd (omega arith), AllPairs-first R x ys h)
-AllPairs-parts R (y ∷ xs) ys x h =
-    let rest = AllPairs-parts R xs ys x (AllPairs-rest R y (xs ++ x ∷ ys) h) in
-    (All-cons (λ y. R y x) y xs (All-middle (R y) xs x ys (AllPairs-first R y (xs ++ x ∷ ys) h)) rest.0, rest.1)
+AllPairs_parts R [] ys x h = (λ k d below. absurd (omega arith), AllPairs_first R x ys h)
+AllPairs_parts R (y ∷ xs) ys x h =
+    let rest = AllPairs_parts R xs ys x (AllPairs_rest R y (xs ++ x ∷ ys) h) in
+    (All-cons (λ y. R y x) y xs (All_middle (R y) xs x ys (AllPairs_first R y (xs ++ x ∷ ys) h)) rest.0, rest.1)
 
 -- lists in order, one behind the other
-pub AllPairs-join : {X : Type 0} (R : X → X → Type 0) (xs ys : List X) → AllPairs R xs → AllPairs R ys
+pub AllPairs_join : {X : Type 0} (R : X → X → Type 0) (xs ys : List X) → AllPairs R xs → AllPairs R ys
     → All (λ x. All (R x) ys) xs → AllPairs R (xs ++ ys)
-AllPairs-join R [] ys front back cross = back
-AllPairs-join R (x ∷ xs) ys front back cross =
+AllPairs_join R [] ys front back cross = back
+AllPairs_join R (x ∷ xs) ys front back cross =
     AllPairs-cons R x (xs ++ ys)
-    (All-append (R x) xs ys (AllPairs-first R x xs front) (All-head (λ x. All (R x) ys) x xs cross))
-    (AllPairs-join R xs ys (AllPairs-rest R x xs front) back (All-tail (λ x. All (R x) ys) x xs cross))
+    (All-append (R x) xs ys (AllPairs_first R x xs front) (All-head (λ x. All (R x) ys) x xs cross))
+    (AllPairs_join R xs ys (AllPairs_rest R x xs front) back (All-tail (λ x. All (R x) ys) x xs cross))
 
 -- an image in order, from the list and back
 pub pairs_map : {X Y : Type 0} (R : X → X → Type 0) (S : Y → Y → Type 0) (f : X → Y)
@@ -51,13 +51,13 @@ pub pairs_map : {X Y : Type 0} (R : X → X → Type 0) (S : Y → Y → Type 0)
 pairs_map R S f more [] h = λ i j d before below. absurd (omega (arith, below))
 pairs_map R S f more (x ∷ xs) h =
     AllPairs-cons S (f x) (map f xs) (All-map (S (f x)) f xs
-    (All-weaker (R x) (λ y. S (f x) (f y)) (more x) xs (AllPairs-first R x xs h)))
-    (pairs_map R S f more xs (AllPairs-rest R x xs h))
+    (All-weaker (R x) (λ y. S (f x) (f y)) (more x) xs (AllPairs_first R x xs h)))
+    (pairs_map R S f more xs (AllPairs_rest R x xs h))
 
 pub pairs_unmap : {X Y : Type 0} (R : X → X → Type 0) (S : Y → Y → Type 0) (f : X → Y)
     → ((x y : X) → S (f x) (f y) → R x y) → (xs : List X) → AllPairs S (map f xs) → AllPairs R xs
 pairs_unmap R S f more [] h = λ i j d before below. absurd (omega (arith, below))
 pairs_unmap R S f more (x ∷ xs) h =
     AllPairs-cons R x xs (All-weaker (λ y. S (f x) (f y)) (R x) (more x) xs
-    (All-unmap (S (f x)) f xs (AllPairs-first S (f x) (map f xs) h)))
-    (pairs_unmap R S f more xs (AllPairs-rest S (f x) (map f xs) h))
+    (All_unmap (S (f x)) f xs (AllPairs_first S (f x) (map f xs) h)))
+    (pairs_unmap R S f more xs (AllPairs_rest S (f x) (map f xs) h))

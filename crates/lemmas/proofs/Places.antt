@@ -21,16 +21,16 @@ pub All-found : {X : Type 0} (P : X → Type 0) (xs : List X) (i : ℕ) (x : X) 
 All-found P xs i x all e = subst P (get_or_from_slice_get xs i x x e) (all i x (slice_get_within xs i x e))
 
 -- what stands at a place of a list as long as another
-pub at-place : {X : Type 0} (xs : List X) (n : ℕ) → n < length xs → (x : X) × (slice_get xs n ≡ Some x)
-at-place [] n below = absurd (omega (arith, below))
-at-place (x ∷ xs) zero below = (x, refl)
-at-place (x ∷ xs) (suc n) below = at-place xs n (omega (arith, below))
+pub at_place : {X : Type 0} (xs : List X) (n : ℕ) → n < length xs → (x : X) × (slice_get xs n ≡ Some x)
+at_place [] n below = absurd (omega (arith, below))
+at_place (x ∷ xs) zero below = (x, refl)
+at_place (x ∷ xs) (suc n) below = at_place xs n (omega (arith, below))
 
 -- a place of a list with one more
-pub push-cases : {X : Type 0} (xs : List X) (y : X) (i : ℕ) (x : X) → slice_get (xs ++ y ∷ []) i ≡ Some x
+pub push_cases : {X : Type 0} (xs : List X) (y : X) (i : ℕ) (x : X) → slice_get (xs ++ y ∷ []) i ≡ Some x
     → (slice_get xs i ≡ Some x) ⊎ ((i ≡ length xs) × (y ≡ x))
-push-cases [] y zero x e = inr (refl, cc e)
-push-cases [] y (suc i) x e = absurd (cc e)
-push-cases (z ∷ zs) y zero x e = inl e
-push-cases (z ∷ zs) y (suc i) x e = elim (push-cases zs y i x e)
+push_cases [] y zero x e = inr (refl, cc e)
+push_cases [] y (suc i) x e = absurd (cc e)
+push_cases (z ∷ zs) y zero x e = inl e
+push_cases (z ∷ zs) y (suc i) x e = elim (push_cases zs y i x e)
     [ inl old ↦ inl old | inr last ↦ inr (ap suc last.0, last.1) ]

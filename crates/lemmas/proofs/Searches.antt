@@ -9,72 +9,72 @@ use Rattle.std.proofs.lemmas.List.Elements.{All-head, All-tail}
 use Rattle.std.proofs.lemmas.List.Folds.{list_any_at}
 
 -- a filter that each item passes, or none
-pub filter-all : {X : Type 0} (p : X → Bool) (xs : List X) → All (λ x. p x ≡ true) xs → filter p xs ≡ xs
-filter-all p [] h = refl
-filter-all p (x ∷ xs) h =
-    rw (All-head (λ x. p x ≡ true) x xs h) (ap (λ ys. x ∷ ys) (filter-all p xs (All-tail (λ x. p x ≡ true) x xs h)))
+pub filter_all : {X : Type 0} (p : X → Bool) (xs : List X) → All (λ x. p x ≡ true) xs → filter p xs ≡ xs
+filter_all p [] h = refl
+filter_all p (x ∷ xs) h =
+    rw (All-head (λ x. p x ≡ true) x xs h) (ap (λ ys. x ∷ ys) (filter_all p xs (All-tail (λ x. p x ≡ true) x xs h)))
 
-pub filter-none : {X : Type 0} (p : X → Bool) (xs : List X) → All (λ x. p x ≡ false) xs → filter p xs ≡ []
-filter-none p [] h = refl
-filter-none p (x ∷ xs) h =
-    rw (All-head (λ x. p x ≡ false) x xs h) (filter-none p xs (All-tail (λ x. p x ≡ false) x xs h))
+pub filter_none : {X : Type 0} (p : X → Bool) (xs : List X) → All (λ x. p x ≡ false) xs → filter p xs ≡ []
+filter_none p [] h = refl
+filter_none p (x ∷ xs) h =
+    rw (All-head (λ x. p x ≡ false) x xs h) (filter_none p xs (All-tail (λ x. p x ≡ false) x xs h))
 
-pub filter-all_recursion : {X : Type 0} (p : X → Bool) (xs : List X) → AllByRecursion (λ x. p x ≡ true) xs
+pub filter_all_recursion : {X : Type 0} (p : X → Bool) (xs : List X) → AllByRecursion (λ x. p x ≡ true) xs
     → filter p xs ≡ xs
-filter-all_recursion p [] all = refl
-filter-all_recursion p (x ∷ xs) all = rw all.0 (ap (λ ys. x ∷ ys) (filter-all_recursion p xs all.1))
+filter_all_recursion p [] all = refl
+filter_all_recursion p (x ∷ xs) all = rw all.0 (ap (λ ys. x ∷ ys) (filter_all_recursion p xs all.1))
 
-pub filter-none_recursion : {X : Type 0} (p : X → Bool) (xs : List X) → AllByRecursion (λ x. p x ≡ false) xs
+pub filter_none_recursion : {X : Type 0} (p : X → Bool) (xs : List X) → AllByRecursion (λ x. p x ≡ false) xs
     → filter p xs ≡ []
-filter-none_recursion p [] all = refl
-filter-none_recursion p (x ∷ xs) all = rw all.0 (filter-none_recursion p xs all.1)
+filter_none_recursion p [] all = refl
+filter_none_recursion p (x ∷ xs) all = rw all.0 (filter_none_recursion p xs all.1)
 
 -- a search passes over what fails its test
-pub find-over : {X : Type 0} (p : X → Bool) (xs ys : List X) → All (λ x. p x ≡ false) xs → find p (xs ++ ys) ≡ find p ys
-find-over p [] ys h = refl
-find-over p (x ∷ xs) ys h =
-    rw (All-head (λ x. p x ≡ false) x xs h) (find-over p xs ys (All-tail (λ x. p x ≡ false) x xs h))
+pub find_over : {X : Type 0} (p : X → Bool) (xs ys : List X) → All (λ x. p x ≡ false) xs → find p (xs ++ ys) ≡ find p ys
+find_over p [] ys h = refl
+find_over p (x ∷ xs) ys h =
+    rw (All-head (λ x. p x ≡ false) x xs h) (find_over p xs ys (All-tail (λ x. p x ≡ false) x xs h))
 
-pub find-append_rest : {X : Type 0} (p : X → Bool) (xs ys : List X) → AllByRecursion (λ x. p x ≡ false) xs
+pub find_append_rest : {X : Type 0} (p : X → Bool) (xs ys : List X) → AllByRecursion (λ x. p x ≡ false) xs
     → find p (xs ++ ys) ≡ find p ys
-find-append_rest p [] ys none = refl
-find-append_rest p (x ∷ xs) ys none = rw none.0 (find-append_rest p xs ys none.1)
+find_append_rest p [] ys none = refl
+find_append_rest p (x ∷ xs) ys none = rw none.0 (find_append_rest p xs ys none.1)
 
-pub find-none : {X : Type 0} (p : X → Bool) (xs : List X) → AllByRecursion (λ x. p x ≡ false) xs → find p xs ≡ None
-find-none p [] none = refl
-find-none p (x ∷ xs) none = rw none.0 (find-none p xs none.1)
+pub find_none : {X : Type 0} (p : X → Bool) (xs : List X) → AllByRecursion (λ x. p x ≡ false) xs → find p xs ≡ None
+find_none p [] none = refl
+find_none p (x ∷ xs) none = rw none.0 (find_none p xs none.1)
 
-pub find-append_first : {X : Type 0} (p : X → Bool) (xs ys : List X) → AllByRecursion (λ x. p x ≡ false) ys
+pub find_append_first : {X : Type 0} (p : X → Bool) (xs ys : List X) → AllByRecursion (λ x. p x ≡ false) ys
     → find p (xs ++ ys) ≡ find p xs
-find-append_first p [] ys none = find-none p ys none
-find-append_first p (x ∷ xs) ys none = ap (cond (p x) (Some x)) (find-append_first p xs ys none)
+find_append_first p [] ys none = find_none p ys none
+find_append_first p (x ∷ xs) ys none = ap (cond (p x) (Some x)) (find_append_first p xs ys none)
 
 -- where one of two lists has nothing, the other one decides
-pub find-second : {X : Type 0} (p : X → Bool) (xs ys : List X) → find p xs ≡ None → find p (xs ++ ys) ≡ find p ys
-find-second p [] ys e = refl
-find-second p (x ∷ xs) ys e = by_found (find-second p xs ys) (p x) refl
+pub find_second : {X : Type 0} (p : X → Bool) (xs ys : List X) → find p xs ≡ None → find p (xs ++ ys) ≡ find p ys
+find_second p [] ys e = refl
+find_second p (x ∷ xs) ys e = by_found (find_second p xs ys) (p x) refl
   where
     by_found : (find p xs ≡ None → find p (xs ++ ys) ≡ find p ys) → (found : Bool) → p x ≡ found
         → find p ((x ∷ xs) ++ ys) ≡ find p ys
     by_found rest true f = let impossible : Some x ≡ None = rw f at e in cc
     by_found rest false f = let none : find p xs ≡ None = rw f at e in rw f (rest none)
 
-pub find-first : {X : Type 0} (p : X → Bool) (xs ys : List X) → find p ys ≡ None → find p (xs ++ ys) ≡ find p xs
-find-first p [] ys e = e
-find-first p (x ∷ xs) ys e = ap (λ found. cond (p x) (Some x) found) (find-first p xs ys e)
+pub find_first : {X : Type 0} (p : X → Bool) (xs ys : List X) → find p ys ≡ None → find p (xs ++ ys) ≡ find p xs
+find_first p [] ys e = e
+find_first p (x ∷ xs) ys e = ap (λ found. cond (p x) (Some x) found) (find_first p xs ys e)
 
 -- what a search finds passes its test, stands in the list, and has what all items have
-pub find-passes : {X : Type 0} (p : X → Bool) (xs : List X) (x : X) → find p xs ≡ Some x → p x ≡ true
-find-passes p [] x found = cc
-find-passes p (y ∷ xs) x found = by (find-passes p xs x) (p y) refl
+pub find_passes : {X : Type 0} (p : X → Bool) (xs : List X) (x : X) → find p xs ≡ Some x → p x ≡ true
+find_passes p [] x found = cc
+find_passes p (y ∷ xs) x found = by (find_passes p xs x) (p y) refl
   where
     by : (find p xs ≡ Some x → p x ≡ true) → (b : Bool) → p y ≡ b → p x ≡ true
     by again true e = let now = rw e at found in let same : y ≡ x = cc in subst (λ z. p z ≡ true) same e
     by again false e = let now = rw e at found in again now
 
-pub find-gives : {X : Type 0} (p : X → Bool) (xs : List X) (x : X) → find p xs ≡ Some x → IsTrue (p x) × Contains xs x
-find-gives p [] x e = absurd (cc e)
-find-gives {X} p (y ∷ ys) x e = by_found (find-gives p ys x) (p y) refl
+pub find_gives : {X : Type 0} (p : X → Bool) (xs : List X) (x : X) → find p xs ≡ Some x → IsTrue (p x) × Contains xs x
+find_gives p [] x e = absurd (cc e)
+find_gives {X} p (y ∷ ys) x e = by_found (find_gives p ys x) (p y) refl
   where
     by_found : (find p ys ≡ Some x → IsTrue (p x) × Contains ys x) → (found : Bool) → p y ≡ found
         → IsTrue (p x) × Contains (y ∷ ys) x
@@ -87,22 +87,22 @@ find-gives {X} p (y ∷ ys) x e = by_found (find-gives p ys x) (p y) refl
         let g = rest later in
         (g.0, (suc g.1.0, omega (arith, g.1.1), g.1.2))
 
-pub All-find : {X : Type 0} (P : X → Type 0) (p : X → Bool) (xs : List X) (x : X) → All P xs → find p xs ≡ Some x → P x
-All-find P p [] x all found = absurd (none_some found)
+pub All_find : {X : Type 0} (P : X → Type 0) (p : X → Bool) (xs : List X) (x : X) → All P xs → find p xs ≡ Some x → P x
+All_find P p [] x all found = absurd (none_some found)
   where
     none_some : None ≡ Some x → ⊥
     none_some e = cc
-All-find P p (y ∷ xs) x all found = by (All-find P p xs x (All-tail P y xs all)) (p y) refl
+All_find P p (y ∷ xs) x all found = by (All_find P p xs x (All-tail P y xs all)) (p y) refl
   where
     by : (find p xs ≡ Some x → P x) → (b : Bool) → p y ≡ b → P x
     by again true e = let now = rw e at found in let same : y ≡ x = cc in subst P same (All-head P y xs all)
     by again false e = let now = rw e at found in again now
 
 -- a filter that lets through what a search looks for changes nothing for it, and one that does not leaves nothing
-pub find-filter_all : {X : Type 0} (p q : X → Bool) → ((x : X) → p x ≡ true → q x ≡ true) → (xs : List X)
+pub find_filter_all : {X : Type 0} (p q : X → Bool) → ((x : X) → p x ≡ true → q x ≡ true) → (xs : List X)
     → find p (filter q xs) ≡ find p xs
-find-filter_all p q h [] = refl
-find-filter_all {X} p q h (x ∷ xs) = by_found (find-filter_all p q h xs) (p x) (q x) refl refl
+find_filter_all p q h [] = refl
+find_filter_all {X} p q h (x ∷ xs) = by_found (find_filter_all p q h xs) (p x) (q x) refl refl
   where
     by_found : find p (filter q xs) ≡ find p xs → (found passes : Bool) → p x ≡ found → q x ≡ passes
         → find p (filter q (x ∷ xs)) ≡ find p (x ∷ xs)
@@ -111,10 +111,10 @@ find-filter_all {X} p q h (x ∷ xs) = by_found (find-filter_all p q h xs) (p x)
     by_found rest false true e f = rw (f, e) rest
     by_found rest false false e f = rw (f, e) rest
 
-pub find-filter_none : {X : Type 0} (p q : X → Bool) → ((x : X) → p x ≡ true → q x ≡ false) → (xs : List X)
+pub find_filter_none : {X : Type 0} (p q : X → Bool) → ((x : X) → p x ≡ true → q x ≡ false) → (xs : List X)
     → find p (filter q xs) ≡ None
-find-filter_none p q h [] = refl
-find-filter_none {X} p q h (x ∷ xs) = by_found (find-filter_none p q h xs) (p x) (q x) refl refl
+find_filter_none p q h [] = refl
+find_filter_none {X} p q h (x ∷ xs) = by_found (find_filter_none p q h xs) (p x) (q x) refl refl
   where
     by_found : find p (filter q xs) ≡ None → (found passes : Bool) → p x ≡ found → q x ≡ passes
         → find p (filter q (x ∷ xs)) ≡ None
@@ -124,38 +124,38 @@ find-filter_none {X} p q h (x ∷ xs) = by_found (find-filter_none p q h xs) (p 
     by_found rest false false e f = rw f rest
 
 -- a search that does not see the difference
-pub find-map : {X : Type 0} (p : X → Bool) (f : X → X) → ((x : X) → p (f x) ≡ p x) → (xs : List X)
+pub find_map : {X : Type 0} (p : X → Bool) (f : X → X) → ((x : X) → p (f x) ≡ p x) → (xs : List X)
     → find p (map f xs) ≡ option_map f (find p xs)
-find-map p f same [] = refl
-find-map p f same (x ∷ xs) = by (find-map p f same xs) (p x) refl
+find_map p f same [] = refl
+find_map p f same (x ∷ xs) = by (find_map p f same xs) (p x) refl
   where
     by : find p (map f xs) ≡ option_map f (find p xs) → (b : Bool) → p x ≡ b
         → find p (map f (x ∷ xs)) ≡ option_map f (find p (x ∷ xs))
     by again true e = rw (same x, e) refl
     by again false e = rw (same x, e) again
 
-pub find-agree : {X : Type 0} (p q : X → Bool) → ((x : X) → p x ≡ q x) → (xs : List X) → find p xs ≡ find q xs
-find-agree p q same [] = refl
-find-agree p q same (x ∷ xs) = ap (λ b. cond b (Some x) (find p xs)) (same x)
-    ∙ ap (λ found. cond (q x) (Some x) found) (find-agree p q same xs)
+pub find_agree : {X : Type 0} (p q : X → Bool) → ((x : X) → p x ≡ q x) → (xs : List X) → find p xs ≡ find q xs
+find_agree p q same [] = refl
+find_agree p q same (x ∷ xs) = ap (λ b. cond b (Some x) (find p xs)) (same x)
+    ∙ ap (λ found. cond (q x) (Some x) found) (find_agree p q same xs)
 
-pub list_any-map : {X Y : Type 0} (p : Y → Bool) (f : X → Y) (xs : List X)
+pub list_any_map : {X Y : Type 0} (p : Y → Bool) (f : X → Y) (xs : List X)
     → list_any p (map f xs) ≡ list_any (λ x. p (f x)) xs
-list_any-map p f [] = refl
-list_any-map p f (x ∷ xs) = ap (λ b. p (f x) || b) (list_any-map p f xs)
+list_any_map p f [] = refl
+list_any_map p f (x ∷ xs) = ap (λ b. p (f x) || b) (list_any_map p f xs)
 
 -- fewer pass
-pub list_any-fewer : {X : Type 0} (p q : X → Bool) (xs : List X) → ((x : X) → p x ≡ false → q x ≡ false)
+pub list_any_fewer : {X : Type 0} (p q : X → Bool) (xs : List X) → ((x : X) → p x ≡ false → q x ≡ false)
     → list_any p xs ≡ false → list_any q xs ≡ false
-list_any-fewer p q [] fewer none = refl
-list_any-fewer p q (x ∷ xs) fewer none = by (list_any-fewer p q xs fewer) (p x) refl
+list_any_fewer p q [] fewer none = refl
+list_any_fewer p q (x ∷ xs) fewer none = by (list_any_fewer p q xs fewer) (p x) refl
   where
     by : (list_any p xs ≡ false → list_any q xs ≡ false) → (b : Bool) → p x ≡ b → list_any q (x ∷ xs) ≡ false
     by again true e = absurd (true≢false (rw e at none))
     by again false e = let rest = rw e at none in rw (fewer x e) (again rest)
 
-pub All-from_no_list_any : {X : Type 0} (p : X → Bool) (xs : List X) → list_any p xs ≡ false → All (λ x. p x ≡ false) xs
-All-from_no_list_any p xs none k d below =
+pub All_from_no_list_any : {X : Type 0} (p : X → Bool) (xs : List X) → list_any p xs ≡ false → All (λ x. p x ≡ false) xs
+All_from_no_list_any p xs none k d below =
     elim (cases_Bool (p (get_or xs k d))) [
       | inl holding ↦ absurd (cc (none, list_any_at p xs k d below holding))
       | inr failing ↦ failing

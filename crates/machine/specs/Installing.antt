@@ -1,13 +1,11 @@
 -- What APPLY and ACCEPT make of a zone, and what they print of each id.
 -- (IBM z/OS SMP/E Commands, APPLY and ACCEPT processing. The lines are this project's.)
-use Rattle.std.specs.Prelude.{◌≡◌, ◌↔◌, Bool, List, [], ◌∷◌, Option, Some, IsTrue, Contains, filter, map}
+use Rattle.std.specs.Prelude.{◌≡◌, ◌↔◌, Bool, List, Option, Some, IsTrue, Contains, filter, map}
 use Rattle.std.specs.List.{flat_map}
 use Rattle.terms.specs.declared.kinds.ZoneKind.{ZoneKind}
 use Rattle.terms.specs.declared.kinds.ZoneKind.TheVariants.{Target, Distribution}
 use Rattle.terms.specs.declared.codes.Test.{Test}
-use Rattle.terms.specs.declared.codes.Test.TheVariants as test
 use Rattle.terms.specs.declared.codes.NeedKind.{NeedKind}
-use Rattle.terms.specs.declared.codes.NeedKind.TheVariants as need
 use Rattle.terms.specs.declared.not_chosen.NotChosen.{NotChosen}
 use Rattle.terms.specs.declared.not_chosen.NotChosen.TheVariants as out
 use Rattle.terms.specs.Types.{Text, Id, Global, Zone, Bypass, Selection}
@@ -17,20 +15,11 @@ use Rattle.terms.specs.Tests.{Setting, Fails, IsEligible, AreSurvivors}
 use Rattle.terms.specs.Needs.{Needs, Serves, bypassed_ids}
 use Rattle.terms.specs.Candidates.{AreCandidates, not_chosen}
 use Rattle.terms.specs.Judged.{setting, IsKeptSet}
-use Rattle.terms.specs.Failures.{IsOpenNeed, IsCauser}
+use Rattle.terms.specs.Failures.{all_tests, all_needs, IsOpenNeed, IsCauser}
 use Rattle.terms.specs.Install.{Installation, TakesEffect, HasInstalled}
 use Rattle.machine.specs.Outcome.{Status, Already, Applied, Accepted, Superseded, Failed, Failure, Deleted, Missing}
 use Rattle.machine.specs.Outcome.{NoVer, Line, StatusLine}
 use Rattle.machine.specs.Receiving.{place_of}
-
--- the tests by their numbers, and the kinds of needs, in the order of reports
-abbrev pub all_tests : List Test
-all_tests =
-    test.J1 ∷ test.J2 ∷ test.J3 ∷ test.J4 ∷ test.J5 ∷ test.J6 ∷ test.J7 ∷ test.J8 ∷ test.J9 ∷ test.J10 ∷ test.J11 ∷
-    test.J12 ∷ []
-
-abbrev pub all_needs : List NeedKind
-all_needs = need.Fmid ∷ need.Pre ∷ need.Req ∷ need.Ifreq ∷ need.HoldError ∷ need.Orphan ∷ need.Elem ∷ need.Dep ∷ []
 
 -- Why a candidate is not kept: its failed tests, its open needs by kind and id, and its causers.
 -- Given are the candidates and the kept ones, the tests they fail, which are eligible, and the needs.

@@ -5,6 +5,7 @@ use Rattle.std.specs.List.{flat_map, join_with_byte}
 use Rattle.terms.specs.declared.kinds.ZoneKind.{ZoneKind}
 use Rattle.terms.specs.declared.kinds.ZoneKind.TheVariants.{Target, Distribution}
 use Rattle.terms.specs.Types.{Text, Id, Entry}
+use Rattle.terms.specs.Lookups.{date_of}
 use Rattle.terms.specs.Spelling.{word_text, kind_text, hold_text, type_text, mc_text, cn_text, test_text, need_text}
 use Rattle.terms.specs.Spelling.{refusal_text}
 use Rattle.machine.specs.Outcome.{Header, Refusal, Cm1, Cm2, Cm3, Cm4, Cm5, Place, OfKind, OfHold, NotReceived, Failure}
@@ -106,7 +107,7 @@ applied_words Distribution (Some date) = codes "ACCEPTED" ∷ date ∷ []
 
 abbrev pub entry_text : ZoneKind → Entry → Text
 entry_text kind e =
-    words_line (codes "ENTRY" ∷ e.id ∷ applied_words kind e.applied
+    words_line (codes "ENTRY" ∷ e.id ∷ applied_words kind (date_of e)
     ++ codes "SUPBY" ∷ list_text e.supby ∷ codes "DELBY" ∷ optional_text e.delby
     ∷ codes "WAIVED" ∷ list_text e.waived ∷ [])
 

@@ -16,7 +16,7 @@ pub record Stands {C : Type 0} (Tables : C → Type 0) (Leaves : (C → Type 0) 
   pub crash : Leaves (λ d. d ≡ c)
 
 -- All acts ran: the tables stand for what they lead to, and the bytes are theirs.
-pub record Ran {S A C : Type 0} (Steps : S → A → S → List ℕ → Type 0) (kept : S → C) (s : S) (acts : List A)
+pub record RanAll {S A C : Type 0} (Steps : S → A → S → List ℕ → Type 0) (kept : S → C) (s : S) (acts : List A)
     (Tables : C → Type 0) (Leaves : (C → Type 0) → Type 0) (old new : Option (List ℕ)) : Type 0 where
   pub end : S
   pub bytes : List ℕ

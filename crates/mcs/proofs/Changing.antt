@@ -15,7 +15,7 @@ use Rattle.terms.specs.Words.{Word, word_pieces, HasWords}
 use Rattle.terms.specs.Texts.{IsNumbered, IsReplacement, IsActionOf, IsUpdate, IsNumberedFault, IsUpdateFault}
 use Rattle.terms.specs.Statements.{changed_type, SaysChange, HasAction, IsChangeOf}
 use Rattle.terms.specs.Ptfin.{Begun, sysmod_in, IsUpdateWord, HasValue, IsWithin}
-use Rattle.terms.proofs.Updates.{numbered-no_fault, update-no_fault}
+use Rattle.terms.proofs.Updates.{numbered_no_fault, update_no_fault}
 use Rattle.mcs_statements.specs.declared.fault.StatementError.{StatementError}
 use Rattle.mcs_statements.specs.declared.fault.StatementError.TheVariants.{Memory, Fault}
 use Rattle.mcs.specs.Elements.{HasNames, IsTextError, IsUpdateTextError}
@@ -49,7 +49,7 @@ numbered_form type text (inr e) r = (subst (λ t. IsReplacement t text) e r).1
 pub not_numbered : (type : ElemType) (inline lines : Lines) (fault : TextFault) → (type ≡ Mac) ⊎ (type ≡ Src)
     → lines ≡ inline → IsNumberedFault lines fault → IsReplacement type inline → ⊥
 not_numbered type inline lines fault is same f r =
-    numbered-no_fault lines fault (subst IsNumbered (sym same) (numbered_form type inline is r)) f
+    numbered_no_fault lines fault (subst IsNumbered (sym same) (numbered_form type inline is r)) f
 
 abbrev pub a_change : ElemType → Text → Text → Text → Lines → Change
 a_change type name distlib syslib text = record { elem_type = type; name = name; action = Replaces distlib syslib text }
@@ -143,7 +143,7 @@ update_from w type name text is h = absurd is.1
 
 pub not_update : (name : Text) (inline lines : Lines) (fault : TextFault) → lines ≡ inline
     → IsUpdateFault name lines fault → IsUpdate name inline → ⊥
-not_update name inline lines fault same f u = update-no_fault name lines fault
+not_update name inline lines fault same f u = update_no_fault name lines fault
     (subst (λ l. IsUpdate name l) (sym same) u) f
 
 pub update_fault : (current : Option Begun) (w : StatementWord) (own : Option Text) (rest : List Piece) (inline : Lines)

@@ -10,8 +10,8 @@ use Rattle.terms.specs.Words.{Word, plain, HasWords, IsShort}
 use Rattle.terms.specs.Operands.{HasOne, HasSorted}
 use Rattle.terms.specs.Statements.{SaysIf, IsIfOf}
 use Rattle.terms.specs.Ptfin.{Begun, sysmod_in, is_last, HasValue, IsWithin}
-use Rattle.terms.proofs.ExactOperands.{has_sorted-only}
-use Rattle.terms.proofs.ExactWords.{words-only}
+use Rattle.terms.proofs.ExactOperands.{has_sorted_only}
+use Rattle.terms.proofs.ExactWords.{words_only}
 use Rattle.operands.specs.declared.errors.OperandError.{OperandError}
 use Rattle.operands.specs.declared.errors.OperandError.TheVariants.{Memory, Bad}
 use Rattle.operands.specs.Failing.{Excludes}
@@ -29,7 +29,7 @@ pub lists_are : (s : Sysmod) (own : Option Text) (ws : List Word) (i : IfReq) (r
     → HasWords rest ws → (h : IsIfOf s own ws i) → HasWords rest (fmid ∷ plain (codes "THEN") ∷ req ∷ [])
     → (h.fmid ≡ fmid) × (h.req ≡ req)
 lists_are s own ws i rest fmid req words h read =
-    let same = words-only rest (h.fmid ∷ plain (codes "THEN") ∷ h.req ∷ []) (fmid ∷ plain (codes "THEN") ∷ req ∷ [])
+    let same = words_only rest (h.fmid ∷ plain (codes "THEN") ∷ h.req ∷ []) (fmid ∷ plain (codes "THEN") ∷ req ∷ [])
     (words_are s own ws i rest words h) read in
     (cc (same), cc (same))
 
@@ -49,7 +49,7 @@ ids_of s own ws i rest fmid req words h read = subst (λ w. HasSorted IsId w i.r
 pub ids_are : (s : Sysmod) (own : Option Text) (ws : List Word) (i : IfReq) (rest : List Piece) (fmid req : Word)
     (ids : List Id) → HasWords rest ws → IsIfOf s own ws i → HasWords rest (fmid ∷ plain (codes "THEN") ∷ req ∷ [])
     → HasSorted IsId req ids → i.req ≡ ids
-ids_are s own ws i rest fmid req ids words h read sorted = has_sorted-only IsId req i.req ids
+ids_are s own ws i rest fmid req ids words h read sorted = has_sorted_only IsId req i.req ids
     (ids_of s own ws i rest fmid req words h read) sorted
 
 pub if_is : (s : Sysmod) (own : Option Text) (rest : List Piece) (fmid req : Word) (i : IfReq) → own ≡ None

@@ -11,7 +11,7 @@ use Rattle.terms.specs.Statements.{Statement, SaysHeader, SaysVer, SaysIf, SaysH
 use Rattle.terms.specs.Statements.{IsOwnHoldOf}
 use Rattle.terms.specs.Ptfin.{Begun, sysmod_in, is_last, with_if, SoFar, nothing, after, IsGoodStatement}
 use Rattle.terms.specs.Ptfin.{IsStatementFault, BeginsWithStatements, IsPtfin}
-use Rattle.terms.proofs.ExactPtfin.{ptfin_fault-no_items}
+use Rattle.terms.proofs.ExactPtfin.{ptfin_fault_no_items}
 use Rattle.mcs_statements.specs.declared.fault.StatementError.{StatementError}
 use Rattle.mcs_statements.specs.declared.fault.StatementError.TheVariants as statement
 use Rattle.mcs_statements.specs.Files.{error_at, IsFileError}
@@ -64,7 +64,7 @@ file_error bytes records (Fault number code) h r = inr (records, r.0, r.1, r.2, 
 pub error_is : (bytes : List ℕ) (error : McsError) (items : List Item) → IsPtfinError bytes error → IsPtfin bytes items
     → error ≡ Memory
 error_is bytes Memory items e p = refl
-error_is bytes (Fault number code) items e p = absurd (ptfin_fault-no_items bytes
+error_is bytes (Fault number code) items e p = absurd (ptfin_fault_no_items bytes
     (record { number = number; code = code }) items e p)
 
 own_holds : (current : Option Begun) (own : Option Text) (operands : List Word) (h : Hold)

@@ -11,9 +11,9 @@ use Rattle.terms.specs.Words.{Word, HasWords}
 use Rattle.terms.specs.HoldStatements.{IsHoldOf, HasShortComment}
 use Rattle.terms.specs.Statements.{SaysHold, IsOwnHoldOf}
 use Rattle.terms.specs.Ptfin.{Begun, sysmod_in, HasValue}
-use Rattle.terms.proofs.ExactHolds.{kind-only}
-use Rattle.terms.proofs.ExactOperands.{own-only}
-use Rattle.terms.proofs.ExactWords.{words-only}
+use Rattle.terms.proofs.ExactHolds.{kind_only}
+use Rattle.terms.proofs.ExactOperands.{own_only}
+use Rattle.terms.proofs.ExactWords.{words_only}
 use Rattle.operands.specs.declared.errors.OperandError.{OperandError}
 use Rattle.operands.specs.declared.errors.OperandError.TheVariants.{Memory, Bad}
 use Rattle.operands.specs.Failing.{Excludes}
@@ -28,9 +28,9 @@ OwnHoldOf s own rest h = (ws : List Word) × HasWords rest ws × IsOwnHoldOf s o
 pub not_own : (s : Sysmod) (own : Option Text) (rest : List Piece) (ws : List Word) (h : Hold) → HasWords rest ws
     → IsHoldOf own ws h → ((h.kind ≡ System) × (h.id ≡ s.id) → ⊥) → (x : Hold) → OwnHoldOf s own rest x → ⊥
 not_own s own rest ws h words is other x o =
-    let same = words-only rest o.0 ws o.1 words in
-    let kinds = kind-only ws h.kind x.kind is.kind (subst (λ l. IsHoldOf own l x) same o.2.hold).kind in
-    let ids = own-only IsId IsId own h.id x.id is.id o.2.hold.id in
+    let same = words_only rest o.0 ws o.1 words in
+    let kinds = kind_only ws h.kind x.kind is.kind (subst (λ l. IsHoldOf own l x) same o.2.hold).kind in
+    let ids = own_only IsId IsId own h.id x.id is.id o.2.hold.id in
     other (kinds ∙ o.2.kind, ids ∙ o.2.own_id)
 
 pub own_hold : (s : Sysmod) (own : Option Text) (rest : List Piece) (ws : List Word) (h : Hold) → HasWords rest ws

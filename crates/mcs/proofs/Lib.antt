@@ -9,3 +9,5 @@ pub mod Changing
 pub mod Versions
 pub mod Judging
 pub mod Filing
+pub mod HoldJudging
+pub mod HoldFiling

@@ -16,7 +16,7 @@ use Rattle.terms.specs.Statements.{changed_type}
 use Rattle.terms.specs.Ptfin.{IsSecond}
 use Rattle.lemmas.proofs.Texts.{same_from, same_itself}
 use Rattle.terms.proofs.ElementOrder.{type_from_number}
-use Rattle.terms.proofs.ExactOperands.{own-only}
+use Rattle.terms.proofs.ExactOperands.{own_only}
 use Rattle.lemmas.proofs.Each.{any_here, any_later, any_cases, any_none}
 
 any_weaker : {X : Type 0} (P Q : X → Type 0) → ((x : X) → P x → Q x) → (xs : List X) → Any P xs → Any Q xs
@@ -44,7 +44,7 @@ second_ver s w own srel has w_is h e =
     (λ v t. subst (λ x. bytes_eq v.srel x ≡ true) t (same_itself v.srel)) s.vers has e in
     rw w_is (
       λ t. (srel, h, by.0 t),
-      λ k. by.1 (subst (λ x. Any (λ v. v.srel ≡ x) s.vers) (own-only IsSrel IsSrel own k.0 srel k.1 h) k.2),
+      λ k. by.1 (subst (λ x. Any (λ v. v.srel ≡ x) s.vers) (own_only IsSrel IsSrel own k.0 srel k.1 h) k.2),
     )
 
 same_element : (c : Change) (w : StatementWord) (type : ElemType) (name : Text) → changed_type w ≡ Some type
@@ -95,5 +95,5 @@ second_change s w own type name has is h e =
       λ k.
           let k' = from_second s w own type is k in
           by.1 (subst (λ x. Any (λ c. (changed_type w ≡ Some c.elem_type) × (c.name ≡ x)) s.changes)
-          (own-only IsName IsName own k'.0 name k'.1 h) k'.2),
+          (own_only IsName IsName own k'.0 name k'.1 h) k'.2),
     )

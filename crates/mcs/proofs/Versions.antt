@@ -10,8 +10,8 @@ use Rattle.terms.specs.Words.{Word, HasWords, IsShort}
 use Rattle.terms.specs.Operands.{operand, AreOperands, HasOwn, HasOptional}
 use Rattle.terms.specs.Statements.{SaysVer, SuitsKind, ver_operands, lists_of, IsVerOf}
 use Rattle.terms.specs.Ptfin.{Begun, sysmod_in, HasValue, IsWithin}
-use Rattle.terms.proofs.ExactOperands.{optional-only, texts-only}
-use Rattle.terms.proofs.ExactWords.{words-only}
+use Rattle.terms.proofs.ExactOperands.{optional_only, texts_only}
+use Rattle.terms.proofs.ExactWords.{words_only}
 use Rattle.operands.specs.declared.errors.OperandError.{OperandError}
 use Rattle.operands.specs.declared.errors.OperandError.TheVariants.{Memory, Bad}
 use Rattle.operands.specs.Failing.{Excludes}
@@ -51,17 +51,17 @@ lists_in s own ws v i = record { has_pre = i.pre; has_req = i.req; has_sup = i.s
 -- The FMID is determined.
 pub fmid_is : (s : Sysmod) (own : Option Text) (ws : List Word) (v w : Ver) → IsVerOf s own ws v → HasVer own ws w
     → w.fmid ≡ v.fmid
-fmid_is s own ws v w i h = optional-only IsId (operand (codes "FMID") ws) w.fmid v.fmid h.has_fmid i.fmid
+fmid_is s own ws v w i h = optional_only IsId (operand (codes "FMID") ws) w.fmid v.fmid h.has_fmid i.fmid
 
 -- So are the lists.
 pub lists_are : (s : Sysmod) (own : Option Text) (ws : List Word) (v w : Ver) → IsVerOf s own ws v → HasVer own ws w
     → lists_of w ≡ lists_of v
 lists_are s own ws v w i h =
-    let a = texts-only IsId (operand (codes "PRE") ws) w.pre v.pre h.has_lists.has_pre i.pre in
-    let b = texts-only IsId (operand (codes "REQ") ws) w.req v.req h.has_lists.has_req i.req in
-    let c = texts-only IsId (operand (codes "SUP") ws) w.sup v.sup h.has_lists.has_sup i.sup in
-    let d = texts-only IsId (operand (codes "NPRE") ws) w.npre v.npre h.has_lists.has_npre i.npre in
-    let e = texts-only IsId (operand (codes "DELETE") ws) w.del v.del h.has_lists.has_del i.del in
+    let a = texts_only IsId (operand (codes "PRE") ws) w.pre v.pre h.has_lists.has_pre i.pre in
+    let b = texts_only IsId (operand (codes "REQ") ws) w.req v.req h.has_lists.has_req i.req in
+    let c = texts_only IsId (operand (codes "SUP") ws) w.sup v.sup h.has_lists.has_sup i.sup in
+    let d = texts_only IsId (operand (codes "NPRE") ws) w.npre v.npre h.has_lists.has_npre i.npre in
+    let e = texts_only IsId (operand (codes "DELETE") ws) w.del v.del h.has_lists.has_del i.del in
     cc (a, b, c, d, e)
 
 pub ver_value : (current : Option Begun) (b : Begun) (w : StatementWord) (own : Option Text) (rest : List Piece)
@@ -80,7 +80,7 @@ ver_error current b w own rest inline ws Memory at is h x = tt
 ver_error current b w own rest inline ws Bad at is h x =
     ver_excludes (sysmod_in current) w own rest inline is (λ ws' v h' i.
     let here : IsVerOf b.sysmod own ws' v = subst (λ c. IsSomeAnd (sysmod_in c) (λ y. IsVerOf y own ws' v)) at i in
-    x (v, subst (λ l. IsVerOf b.sysmod own l v) (words-only rest ws' ws h' h) here))
+    x (v, subst (λ l. IsVerOf b.sysmod own l v) (words_only rest ws' ws h' h) here))
 
 pub ver_said : (current : Option Begun) (b : Begun) (w : StatementWord) (own : Option Text) (rest : List Piece)
     (inline : Lines) (ws : List Word) (v : Ver) → current ≡ Some b → w ≡ word.Ver → HasWords rest ws

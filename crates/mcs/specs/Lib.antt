@@ -3,3 +3,4 @@ pub mod Statements
 pub mod Elements
 pub mod VerOperands
 pub mod Files
+pub mod HoldItems

@@ -1,3 +1,4 @@
+//! The changes of elements: replacements and updates, with their texts.
 ghost use Rattle.std.specs.Prelude.{◌≡◌, ◌↔◌, Some, ◌≤◌, ◌<◌, ℕ, List, length, IsTrue, IfOk, IfErr, IfSome, IfNone};
 ghost use Rattle.terms.specs.declared.statement_words.StatementWord.TheVariants as word;
 ghost use Rattle.terms.specs.Statements.{changed_type};

@@ -1,3 +1,4 @@
+//! Whether words have come to their end.
 ghost use Rattle.std.specs.Prelude.{◌≡◌, ◌↔◌, List, [], IsTrue};
 ghost use Rattle.terms.specs.Statement.{Piece, HasSolid};
 ghost use Rattle.rec80.specs.Views.{left_of};

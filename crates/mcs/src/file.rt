@@ -1,3 +1,4 @@
+//! The items of a PTFIN, and what its statements have made so far.
 ghost use Rattle.std.specs.Prelude.{◌≡◌, ◌++◌, ◌∷◌, [], IfOk, option_map};
 ghost use Rattle.terms.specs.Types.{AnAssign};
 ghost use Rattle.terms.specs.Statements.{SaysHold};

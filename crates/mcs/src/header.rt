@@ -1,3 +1,4 @@
+//! The header of a SYSMOD.
 ghost use Rattle.std.specs.Prelude.{◌≡◌};
 ghost use Rattle.terms.specs.declared.statement_words.StatementWord.TheVariants as word;
 ghost use Rattle.mcs.specs.Said.{Says, Fails};

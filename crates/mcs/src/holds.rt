@@ -1,3 +1,4 @@
+//! `++HOLD` within a SYSMOD.
 ghost use Rattle.std.specs.Prelude.{◌≡◌, ◌↔◌, List, IsTrue, IfOk, IfErr};
 ghost use Rattle.terms.specs.declared.statement_words.StatementWord.TheVariants as word;
 ghost use Rattle.terms.specs.declared.kinds.HoldKind.TheVariants.{System};

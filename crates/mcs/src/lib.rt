@@ -1,7 +1,7 @@
 //! PTFIN and hold files: their items, or their first fault.
 //! `read_ptfin` answers the SYSMODs and assignments that the grammar relates the file to, or its first fault with
-//! record and code; `read_hold` does the same for hold files. No file has both. When `Memory`
-//! comes is not said.
+//! record and code; `read_hold` does the same for hold files. No file has both. When
+//! `Memory` comes is not said.
 #![tactic(auto)]
 
 mod assign;
@@ -9,6 +9,8 @@ mod change;
 mod ended;
 mod file;
 mod header;
+mod hold_file;
+mod hold_item;
 mod holds;
 mod ifs;
 mod order;
@@ -18,6 +20,7 @@ mod statement;
 mod ver;
 
 pub use file::{Assign, Item};
-pub use mcs_hold::{HoldItem, Release, read_hold};
-pub use mcs_statements::McsError;
+pub use hold_file::read_hold;
+pub use hold_item::HoldItem;
+pub use mcs_statements::{McsError, Release};
 pub use ptfin::read_ptfin;

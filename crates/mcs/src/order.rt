@@ -1,3 +1,4 @@
+//! Which statements may follow which.
 ghost use Rattle.std.specs.Prelude.{◌≡◌, ◌↔◌, Some, IsTrue};
 ghost use Rattle.terms.specs.declared.statement_words.StatementWord.TheVariants as word;
 ghost use Rattle.terms.specs.declared.kinds.Kind.TheVariants.{Function};

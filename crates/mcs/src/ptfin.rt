@@ -1,7 +1,8 @@
+//! PTFIN files: their items, or their first fault.
 ghost use Rattle.std.specs.Prelude.{◌≡◌, ℕ, List, [], All, IfOk, IfErr};
 ghost use Rattle.terms.specs.Records.{IsRecord};
 ghost use Rattle.terms.specs.Statements.{Statement as AnyStatement};
-ghost use Rattle.terms.specs.Ptfin.{SoFar as AnySoFar, nothing, items_of, BeginsWithStatements, IsPtfin};
+ghost use Rattle.terms.specs.Ptfin.{nothing, BeginsWithStatements, IsPtfin};
 ghost use Rattle.terms.specs.Types.{Item as AnyItem};
 ghost use Rattle.mcs_statements.specs.declared.error.McsError.TheVariants.{Memory};
 ghost use Rattle.mcs.specs.Files.{items, so_far, IsPtfinError, IsRestError};

@@ -1,3 +1,4 @@
+//! What one statement of a PTFIN says.
 use crate::file::Assign;
 use sysmods_records::{ElemChange, Hold, Id, IfReq, Kind, Ver};
 

@@ -1,4 +1,5 @@
-ghost use Rattle.std.specs.Prelude.{◌≡◌, ◌≢◌, All, IfOk, IfErr};
+//! One statement of a PTFIN, behind those before it.
+ghost use Rattle.std.specs.Prelude.{◌≢◌, All, IfOk, IfErr};
 ghost use Rattle.terms.specs.declared.statement_words.StatementWord.TheVariants as word;
 ghost use Rattle.terms.specs.Records.{IsRecord};
 ghost use Rattle.terms.specs.Ptfin.{IsGoodStatement};

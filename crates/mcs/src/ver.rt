@@ -1,3 +1,4 @@
+//! `++VER`.
 ghost use Rattle.std.specs.Prelude.{◌≡◌, ◌↔◌, ◌<◌, ℕ, length, List, [], not, All, IsTrue, IfOk, IfErr, Some};
 ghost use Rattle.terms.specs.declared.statement_words.StatementWord.TheVariants as word;
 ghost use Rattle.terms.specs.Types.{Ver as AnyVer};

@@ -8,7 +8,7 @@ use Rattle.terms.specs.Words.{Word}
 use Rattle.terms.specs.Operands.{AreOperands, HasRequired}
 use Rattle.terms.specs.HoldStatements.{HasKind, IsHoldOf, IsReleaseOf, release_operands}
 use Rattle.terms.proofs.ExactOperands.{has_member, one_of}
-use Rattle.terms.proofs.ExactHolds.{kind-only}
+use Rattle.terms.proofs.ExactHolds.{kind_only}
 use Rattle.mcs_statements.specs.Holds.{HasKey}
 
 pub release_is : (own : Option Text) (ws : List Word) (r : Release) → AreOperands release_operands ws → HasKey own ws r
@@ -26,7 +26,7 @@ pub reason_of : (own : Option Text) (ws : List Word) (found : Option Word) (kind
     → HasKind ws kind → HasKind ws r.kind → HasRequired (IsReason r.kind) found r.reason
     → HasRequired (IsReason kind) found r.reason
 reason_of own ws found kind r h k reason = subst (λ x. HasRequired (IsReason x) found r.reason)
-    (kind-only ws r.kind kind k h) reason
+    (kind_only ws r.kind kind k h) reason
 
 -- A reason of a kind has the form of any reason.
 class_of : (kind : HoldKind) (t : Text) → IsReason kind t → IsClass t

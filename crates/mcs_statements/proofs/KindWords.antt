@@ -10,9 +10,9 @@ use Rattle.terms.specs.Spelling.{hold_text}
 use Rattle.terms.specs.Words.{Word, plain}
 use Rattle.terms.specs.Operands.{operand, HasFlag}
 use Rattle.terms.specs.HoldStatements.{HasKind}
-use Rattle.terms.proofs.ExactOperands.{flag-only}
+use Rattle.terms.proofs.ExactOperands.{flag_only}
 use Rattle.lemmas.proofs.Texts.{same_from}
-use Rattle.lemmas.proofs.Searches.{find-passes}
+use Rattle.lemmas.proofs.Searches.{find_passes}
 use Rattle.mcs_statements.specs.Holds.{kind_from}
 
 pub plain_is : (name : Text) (w : Word) → w.word ≡ name → w.list ≡ None → w ≡ plain name
@@ -24,7 +24,7 @@ there name ws h = by (operand name ws) refl h
     by : (found : Option Word) → operand name ws ≡ found → HasFlag found true → operand name ws ≡ Some (plain name)
     by None e flag = absurd (true≢false flag)
     by (Some w) e flag = e ∙ ap (λ x. Some x) (plain_is name w
-        (same_from w.word name (find-passes (λ x. bytes_eq x.word name) ws w e)) flag.1)
+        (same_from w.word name (find_passes (λ x. bytes_eq x.word name) ws w e)) flag.1)
 
 absent : (found : Option Word) → HasFlag found false → found ≡ None
 absent None flag = refl
@@ -98,12 +98,12 @@ pub kind_found : (ws : List Word) (error system user : Bool) (kind : HoldKind) �
     → HasKind ws kind → kind_from error system user ≡ Some kind
 kind_found ws error system user kind f h =
     let a : error ≡ is_kind kind Error =
-    flag-only (operand (codes "ERROR") ws) error (is_kind kind Error) f.error_flag (kind_flag ws kind Error h) in
+    flag_only (operand (codes "ERROR") ws) error (is_kind kind Error) f.error_flag (kind_flag ws kind Error h) in
     let b : system ≡ is_kind kind System =
-    flag-only (operand (codes "SYSTEM") ws) system (is_kind kind System) f.system_flag
+    flag_only (operand (codes "SYSTEM") ws) system (is_kind kind System) f.system_flag
     (kind_flag ws kind System h) in
     let c : user ≡ is_kind kind User =
-    flag-only (operand (codes "USER") ws) user (is_kind kind User) f.user_flag (kind_flag ws kind User h) in
+    flag_only (operand (codes "USER") ws) user (is_kind kind User) f.user_flag (kind_flag ws kind User h) in
     ap (λ x. kind_from x system user) a ∙ ap (λ x. kind_from (is_kind kind Error) x user) b
     ∙ ap (λ x. kind_from (is_kind kind Error) (is_kind kind System) x) c ∙ from_own kind
 

@@ -5,7 +5,7 @@ use Rattle.std.specs.Prelude.{All, IfSome, slice_index, if◌then◌else◌}
 use Rattle.std.specs.List.{flat_map}
 use Rattle.std.specs.Str.{bytes_eq}
 use Rattle.std.proofs.lemmas.List.Elements.{All-nil, All-cons, All-head, All-tail, All-append, All-take, All-filter}
-use Rattle.lemmas.proofs.Each.{All-front, All-back}
+use Rattle.lemmas.proofs.Each.{All_front, All_back}
 use Rattle.terms.specs.declared.statement_words.StatementWord.{StatementWord}
 use Rattle.terms.specs.Types.{Text, Lines}
 use Rattle.terms.specs.Records.{IsPrintable, IsRecord, front}
@@ -37,7 +37,7 @@ found_printable name [] h = tt
 found_printable name (w ∷ ws) h =
     let more = All-tail IsPrintablePiece (TheWord w.word) (list_pieces w.list ++ flat_map word_pieces ws) h in
     cond_printable w (operand name ws) (bytes_eq w.word name) (own_printable w.list (flat_map word_pieces ws) more)
-    (found_printable name ws (All-back IsPrintablePiece (list_pieces w.list) (flat_map word_pieces ws) more))
+    (found_printable name ws (All_back IsPrintablePiece (list_pieces w.list) (flat_map word_pieces ws) more))
 
 -- An operand of a printable statement has a printable list.
 pub operand_printable : (rest : List Piece) (ws : List Word) (name : Text) → ArePrintable rest → HasWords rest ws
@@ -76,12 +76,12 @@ close_printable (b ∷ bs) after h e =
 -- what follows a piece, and the piece itself
 piece_printable : (text : Text) (p : Piece) (after : Text) → TakesPiece text p after → All IsPrintable text
     → IsPrintablePiece p × All IsPrintable after
-piece_printable text (TheWord word) after t h = (tt, All-back IsPrintable word after (subst (All IsPrintable) t.0 h))
+piece_printable text (TheWord word) after t h = (tt, All_back IsPrintable word after (subst (All IsPrintable) t.0 h))
 piece_printable text (TheList list) after t h =
     let inside = All-tail IsPrintable 40 (list ++ 41 ∷ after) (subst (All IsPrintable) t.0 h) in (
-      All-front IsPrintable list (41 ∷ after) inside,
+      All_front IsPrintable list (41 ∷ after) inside,
       All-tail IsPrintable 41 after
-          (All-back IsPrintable list (41 ∷ after) inside),
+          (All_back IsPrintable list (41 ∷ after) inside),
     )
 piece_printable text Blank after t h = (tt, All-tail IsPrintable t.0 after (subst (All IsPrintable) t.1 h))
 piece_printable text Comment after t h =
@@ -104,5 +104,5 @@ known_printable records w own rest inline h known =
     let pieces = pieces_printable (joined records) s.0 _ s.2.has_pieces (joined_printable records h) in
     let solid_ones : ArePrintable known.pieces = subst ArePrintable (sym s.4)
     (All-filter is_solid IsPrintablePiece s.0 pieces) in
-    All-back IsPrintablePiece (word_pieces (record { word = statement_text w; list = own })) rest
+    All_back IsPrintablePiece (word_pieces (record { word = statement_text w; list = own })) rest
     (subst ArePrintable known.begins.pieces_are solid_ones)

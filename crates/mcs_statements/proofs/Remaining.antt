@@ -12,7 +12,7 @@ use Rattle.terms.specs.Lookups.{is_in}
 use Rattle.terms.specs.Words.{Word, HasWords, TakesWord, BeginsNoWords}
 use Rattle.terms.specs.Operands.{operand, AreOperands}
 use Rattle.terms.proofs.Solids.{words_more, words_first, no_words}
-use Rattle.lemmas.proofs.Pairs.{AllPairs-first, AllPairs-rest}
+use Rattle.lemmas.proofs.Pairs.{AllPairs_first, AllPairs_rest}
 use Rattle.lemmas.proofs.Texts.{same_from, same_itself}
 
 -- The words are operands exactly where those that are left are.
@@ -67,12 +67,12 @@ operands_known : (names : List Text) (w : Word) (ws : List Word) → AreOperands
 operands_known names w ws a = All-head (λ v. IsTrue (is_in names v.word)) w ws a.known
 
 operands_none : (names : List Text) (w : Word) (ws : List Word) → AreOperands names (w ∷ ws) → operand w.word ws ≡ None
-operands_none names w ws a = words_other w.word ws (AllPairs-first (λ a b. a.word ≢ b.word) w ws a.once)
+operands_none names w ws a = words_other w.word ws (AllPairs_first (λ a b. a.word ≢ b.word) w ws a.once)
 
 operands_rest : (names : List Text) (w : Word) (ws : List Word) → AreOperands names (w ∷ ws) → AreOperands names ws
 operands_rest names w ws a = record {
   known = All-tail (λ v. IsTrue (is_in names v.word)) w ws a.known;
-  once = AllPairs-rest (λ a b. a.word ≢ b.word) w ws a.once;
+  once = AllPairs_rest (λ a b. a.word ≢ b.word) w ws a.once;
 }
 
 -- what is taken from the words that are left

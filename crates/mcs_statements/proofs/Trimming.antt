@@ -8,7 +8,7 @@ use Rattle.std.proofs.lemmas.Str.Ascii.{IsAscii-from_all}
 use Rattle.terms.specs.Types.{Text}
 use Rattle.terms.specs.Records.{IsPrintable}
 use Rattle.terms.specs.Forms.{AreBlanks, BeginsDark, IsTrimmed}
-use Rattle.lemmas.proofs.Each.{All-front, All-back}
+use Rattle.lemmas.proofs.Each.{All_front, All_back}
 use Rattle.mcs_statements.specs.Trimmed.{SkipsBlanks, DropsBlanks}
 
 pub skips_more : (text rest next : Text) (b : ℕ) → SkipsBlanks text rest → rest ≡ b ∷ next → b ≡ 32
@@ -39,8 +39,8 @@ no_cut text inner cut other s d none t =
     let inner_is : inner ≡ d.right = d.text_is ∙ ap (λ c. c ++ d.right) none in
     let all : AreBlanks text = subst AreBlanks (sym (s.text_is ∙ ap (λ r. s.left ++ r) inner_is))
     (All-append (λ c. c ≡ 32) s.left d.right s.blanks d.blanks) in
-    let front = All-front (λ c. c ≡ 32) (t.0 ++ other) t.1 (subst AreBlanks t.2 all) in
-    no_dark other (All-back (λ c. c ≡ 32) t.0 other front) t.5
+    let front = All_front (λ c. c ≡ 32) (t.0 ++ other) t.1 (subst AreBlanks t.2 all) in
+    no_dark other (All_back (λ c. c ≡ 32) t.0 other front) t.5
 
 below : (b : ℕ) → IsPrintable b → b < 128
 below b h = grind (arith, h.1)
@@ -51,5 +51,5 @@ printable_utf8 text h = IsUtf8-from_ascii text (IsAscii-from_all text (λ i d wi
 -- The cut of a printable text is a string.
 pub cut_utf8 : (text cut : Text) → All IsPrintable text → IsTrimmed text cut → IsUtf8 cut
 cut_utf8 text cut h t =
-    let front = All-front IsPrintable (t.0 ++ cut) t.1 (subst (All IsPrintable) t.2 h) in
-    printable_utf8 cut (All-back IsPrintable t.0 cut front)
+    let front = All_front IsPrintable (t.0 ++ cut) t.1 (subst (All IsPrintable) t.2 h) in
+    printable_utf8 cut (All_back IsPrintable t.0 cut front)

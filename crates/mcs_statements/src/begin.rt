@@ -1,4 +1,5 @@
-ghost use Rattle.std.specs.Prelude.{◌≡◌, List, IfOk, IfErr};
+//! The word that a statement begins with.
+ghost use Rattle.std.specs.Prelude.{List, IfOk, IfErr};
 ghost use Rattle.terms.specs.Statement.{Piece, HasSolid};
 ghost use Rattle.terms.specs.Ptfin.{IsKnown};
 ghost use Rattle.rec80.specs.Views.{left_of};

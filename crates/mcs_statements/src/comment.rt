@@ -1,3 +1,4 @@
+//! The text of a comment, without the blanks at its ends.
 ghost use Rattle.std.specs.Prelude.{◌≡◌, ℕ, List, Option, All, reverse, option_map, IfOk, IfErr, IfSome, IfNone};
 ghost use Rattle.std.specs.String.{string_bytes};
 ghost use Rattle.terms.specs.Records.{IsPrintable};

@@ -1,3 +1,4 @@
+//! Why a file of statements is not read.
 use std::alloc::{AllocError, AllocFailed};
 use terms::McCode;
 use thiserror::Error;

@@ -1,3 +1,4 @@
+//! Why one statement says nothing.
 ghost use Rattle.std.specs.Prelude.{◌≡◌};
 ghost use Rattle.mcs_statements.specs.Faults.{value_error};
 

@@ -1,3 +1,4 @@
+//! The statements of a file, and where a fault of one of them stands.
 ghost use Rattle.std.specs.Prelude.{◌≡◌, IfOk, IfErr};
 ghost use Rattle.terms.specs.Records.{HasRecords};
 ghost use Rattle.mcs_statements.specs.Files.{error_at, IsFileError};

@@ -1,3 +1,4 @@
+//! `++HOLD` and `++RELEASE`, whichever file they stand in.
 ghost use Rattle.std.specs.Prelude.{◌≡◌, ◌↔◌, List, IsTrue, IfOk, IfErr, IfSome, IfNone, OnErr};
 ghost use Rattle.terms.specs.Types.{Hold as AnyHold, Release as AnyRelease};
 ghost use Rattle.terms.specs.Statement.{Piece, HasSolid};

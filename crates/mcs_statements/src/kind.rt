@@ -1,3 +1,4 @@
+//! The kind of a hold.
 ghost use Rattle.std.specs.Prelude.{◌≡◌, List, IfSome, IfNone};
 ghost use Rattle.terms.specs.declared.kinds.HoldKind.{HoldKind as AnyKind};
 ghost use Rattle.terms.specs.Words as grammar;

@@ -1,4 +1,5 @@
-ghost use Rattle.std.specs.Prelude.{◌≡◌, ◌↔◌, ℕ, Bool, true, false, List, map, IsTrue, IfOk, IfErr, IfSome, IfNone};
+//! Which operands a statement may have, and the values of reasons and lists of ids.
+ghost use Rattle.std.specs.Prelude.{◌≡◌, ◌↔◌, ℕ, true, false, List, map, IsTrue, IfOk, IfErr, IfSome, IfNone};
 ghost use Rattle.terms.specs.Statement.{Piece, HasSolid};
 ghost use Rattle.terms.specs.Words as grammar;
 ghost use Rattle.terms.specs.Forms.{IsId, IsReason};

@@ -1,9 +1,10 @@
+//! The words that statements begin with.
 ghost use Rattle.std.specs.Prelude.{◌≡◌, ◌≢◌, ◌++◌, ℕ, List, codes, IfSome, IfNone};
 ghost use Rattle.terms.specs.declared.statement_words.StatementWord.{StatementWord as AnyWord};
 ghost use Rattle.terms.specs.Statements.{statement_text};
 ghost use Rattle.mcs_statements.specs.KnownWords.{IsFixed};
 
-use spelling::{read_kind, read_type};
+use fields::spelling::{read_kind, read_type};
 use terms::StatementWord;
 
 /// What follows `++`.

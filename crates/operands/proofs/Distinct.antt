@@ -10,7 +10,7 @@ use Rattle.terms.specs.Lookups.{is_before}
 use Rattle.terms.specs.Rising.{Rises}
 use Rattle.terms.specs.Words.{AreDistinct}
 use Rattle.terms.specs.Operands.{AreSorted}
-use Rattle.lemmas.proofs.Apart.{AreApart, apart-le, apart-from_length}
+use Rattle.lemmas.proofs.Apart.{AreApart, apart_le, apart_from_length}
 use Rattle.lemmas.proofs.Members.{in_map, map_in}
 use Rattle.lemmas.proofs.Pairs.{pairs_map, pairs_unmap}
 
@@ -50,12 +50,12 @@ module _ {X : Type 0} (cmp : X → X → Ordering) (text : X → Text)
       → AreDistinct (map text xs)
   distinct_texts ties exact xs rising rises same len =
       pairs_map (λ x y. x ≢ y) (λ s t. s ≢ t) text (λ x y other e. other (same_text ties exact x y e)) xs
-      (apart-from_length xs rising (rises_apart ties rising rises) (λ z h. (same z).0 h) (omega (arith, len)))
+      (apart_from_length xs rising (rises_apart ties rising rises) (λ z h. (same z).0 h) (omega (arith, len)))
 
   pub doubles_texts : ((x : X) → cmp x x ≡ Equal) → (xs rising : List X) → Rises cmp (λ x. x) rising
       → ((x : X) → Contains rising x ↔ Contains xs x) → (length rising ≡ length xs → ⊥) → AreDistinct (map text xs) → ⊥
   doubles_texts ties xs rising rises same other distinct =
       let apart : AreApart xs = pairs_unmap (λ x y. x ≢ y) (λ s t. s ≢ t) text (λ x y n e. n (ap text e)) xs distinct in
-      let up = apart-le xs rising apart (λ z h. (same z).1 h) in
-      let down = apart-le rising xs (rises_apart ties rising rises) (λ z h. (same z).0 h) in
+      let up = apart_le xs rising apart (λ z h. (same z).1 h) in
+      let down = apart_le rising xs (rises_apart ties rising rises) (λ z h. (same z).0 h) in
       other (omega (arith, up, down))

@@ -3,3 +3,4 @@ pub mod Reading
 pub mod Distinct
 pub mod Failing
 pub mod Owning
+pub mod Doubling

@@ -1,3 +1,4 @@
+//! Why an operand has no value.
 use rec80::NoMembers;
 use std::alloc::{AllocError, AllocFailed};
 use thiserror::Error;

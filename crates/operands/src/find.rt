@@ -1,3 +1,4 @@
+//! An operand among words, and a member in a list, by its name.
 ghost use Rattle.std.specs.Prelude.{◌≡◌, ◌<◌, [], ◌∷◌, List, length, option_map, IfSome, IfNone};
 ghost use Rattle.terms.specs.Words as grammar;
 ghost use Rattle.terms.specs.Words.{HasMembers};

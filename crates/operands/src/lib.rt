@@ -3,17 +3,19 @@
 //! without doubles, in rising order, are read just where the word has that form.
 #![tactic(auto)]
 
+mod among;
 mod errors;
 mod find;
-mod known;
 mod lists;
 mod member;
 mod members;
+mod raw;
 mod values;
 
+pub use among::{are_members, is_among};
 pub use errors::{BadOperand, OperandError};
 pub use find::{named_member, operand};
-pub use known::{are_members, is_among};
 pub use lists::{ids, listed, listed_ids, rising, sources};
 pub use member::Member;
+pub use raw::{any_twice, is_there, list_behind};
 pub use values::{flag, one, one_member, optional, required};

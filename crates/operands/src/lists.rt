@@ -1,4 +1,5 @@
-ghost use Rattle.std.specs.Prelude.{◌≡◌, ℕ, List, map, IfOk, IfErr};
+//! Lists without doubles: in rising order, or as they stand.
+ghost use Rattle.std.specs.Prelude.{ℕ, List, map, IfOk, IfErr};
 ghost use Rattle.terms.specs.Forms.{IsId, IsSource};
 ghost use Rattle.terms.specs.Operands.{HasListed, HasSorted};
 ghost use Rattle.rec80.specs.Views.{word_of};

@@ -1,3 +1,4 @@
+//! The values that may stand in a list.
 use fields::{Class, Field, HoldDate, Id, Name, Reason, Source, Srel, ZoneName};
 
 /// A value that may stand in a list, as its only member or among others.

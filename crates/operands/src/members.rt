@@ -1,3 +1,4 @@
+//! The members of a list as values.
 ghost use Rattle.std.specs.Prelude.{◌≡◌, ℕ, List, All, map, IfOk, IfErr, IfSome, IfNone};
 ghost use Rattle.terms.specs.Words.{HasMembers, plain};
 ghost use Rattle.rec80.specs.Cursors.{text_of};

@@ -1,4 +1,5 @@
-ghost use Rattle.std.specs.Prelude.{◌≡◌, ℕ, Bool, List, Option, [], ◌∷◌, option_map, IfOk, IfSome, IfNone, OnErr};
+//! Operands without a list, and operands with one value.
+ghost use Rattle.std.specs.Prelude.{ℕ, Bool, List, Option, [], ◌∷◌, option_map, IfOk, IfSome, IfNone, OnErr};
 ghost use Rattle.std.specs.Prelude.{IsSomeAnd};
 ghost use Rattle.terms.specs.Words.{HasMembers, plain};
 ghost use Rattle.terms.specs.Words as grammar;

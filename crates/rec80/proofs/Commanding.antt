@@ -4,7 +4,7 @@ use Rattle.std.proofs.Common.{length-append}
 use Rattle.terms.specs.Types.{Text}
 use Rattle.terms.specs.Statement.{Piece, HasPieces, followed, joined, solid, HasSolid, IsIdle, IsPlace, Ends, BreaksOff}
 use Rattle.terms.specs.CommandCuts.{BeginsBehind, TakesCommand, IsCutFault}
-use Rattle.terms.proofs.Pieces.{pieces-append}
+use Rattle.terms.proofs.Pieces.{pieces_append}
 use Rattle.rec80.specs.declared.cursor.Cursor.{Cursor}
 use Rattle.rec80.specs.declared.errors.StmtError.{StmtError}
 use Rattle.rec80.specs.declared.errors.StmtError.TheVariants.{NoPeriod, OpenComment, BadParens, TextAfterPeriod}
@@ -52,7 +52,7 @@ behind_gap : (records : List (List ℕ)) (first from : Cursor) (ps : List Piece)
     → HasPieces (joined records) (s.skips.gap ++ ps) rest
 behind_gap records first from ps rest s h =
     subst (λ t. HasPieces t (s.skips.gap ++ ps) rest) s.text_is
-    (pieces-append (rest_of first) (rest_of from) rest s.skips.gap ps s.skips.has_pieces h)
+    (pieces_append (rest_of first) (rest_of from) rest s.skips.gap ps s.skips.has_pieces h)
 
 ends : (records : List (List ℕ)) (first from : Cursor) (ps : List Piece) (tail : Text) (later : List (List ℕ))
     → (s : StandsBehind records first from) → EndsFrom from ps tail later → Ends records (s.skips.gap ++ ps) tail later

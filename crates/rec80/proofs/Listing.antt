@@ -12,8 +12,8 @@ use Rattle.terms.specs.Forms.{AreBlanks}
 use Rattle.terms.specs.Words.{Word, is_inner_byte, is_member_byte, Stops, TakesRun, TakesInner, BeginsInner, IsBefore}
 use Rattle.terms.specs.Words.{TakesNext, HasMore}
 use Rattle.terms.specs.Statement.{followed}
-use Rattle.terms.proofs.Members.{cut-only, is_space, blanks_each, BeginsMember, run_begins, first_start, comma_start}
-use Rattle.terms.proofs.Members.{no_comma, next-only, blanks_none, member_first, run-only}
+use Rattle.terms.proofs.Members.{cut_only, is_space, blanks_each, BeginsMember, run_begins, first_start, comma_start}
+use Rattle.terms.proofs.Members.{no_comma, next_only, blanks_none, member_first, run_only}
 use Rattle.rec80.proofs.Cuts.{BeginsOutside, front_passes, back_fails, prefix_within}
 use Rattle.rec80.specs.Lists.{SkipsBlanks, HasLeft}
 
@@ -68,7 +68,7 @@ over_within text at len g = omega (arith, g.count, ap length g.text_is, length-a
 pub no_inner : (text dark : Text) → SkipsBlanks text dark → ((next : Text) → dark ≡ 40 ∷ next → ⊥) → BeginsInner text
     → ⊥
 no_inner text dark s none b =
-    none b.1 ((cut-only is_space s.gap dark b.0 (40 ∷ b.1) (sym s.text_is ∙ b.3) (blanks_each s.gap s.blanks) s.dark
+    none b.1 ((cut_only is_space s.gap dark b.0 (40 ∷ b.1) (sym s.text_is ∙ b.3) (blanks_each s.gap s.blanks) s.dark
     (blanks_each b.0 b.2) refl).1)
 
 pub some_inner : (text dark inside list close after : Text) → SkipsBlanks text dark → dark ≡ 40 ∷ inside
@@ -89,10 +89,10 @@ pub bad_inner : (text dark inside list close : Text) → SkipsBlanks text dark �
 bad_inner text dark inside list close s opens cut each stops open' None after t =
     t.1 (s.gap, inside, s.blanks, s.text_is ∙ ap (λ d. s.gap ++ d) opens)
 bad_inner text dark inside list close s opens cut each stops open' (Some l) after t =
-    let gaps = cut-only is_space s.gap dark t.0 (40 ∷ l ++ 41 ∷ after) (sym s.text_is ∙ t.3)
+    let gaps = cut_only is_space s.gap dark t.0 (40 ∷ l ++ 41 ∷ after) (sym s.text_is ∙ t.3)
     (blanks_each s.gap s.blanks) s.dark (blanks_each t.0 t.1) refl in
     let inner : list ++ close ≡ l ++ 41 ∷ after = cc (opens, gaps.1, cut) in
-    open' after ((cut-only is_inner_byte list close l (41 ∷ after) inner each stops t.2 refl).1)
+    open' after ((cut_only is_inner_byte list close l (41 ∷ after) inner each stops t.2 refl).1)
 
 -- Where the first member begins.
 pub only_first : (first : Bool) (text dark : Text) → first ≡ true → SkipsBlanks text dark → (gap next : Text)
@@ -178,7 +178,7 @@ blank_end text dark s none = subst AreBlanks (sym (s.text_is ∙ ap (λ d. s.gap
 
 pub dark_end : (text dark : Text) → SkipsBlanks text dark → AreBlanks text → dark ≡ []
 dark_end text dark s blanks =
-    sym ((cut-only is_space text [] s.gap dark (append-nil text ∙ s.text_is) (blanks_each text blanks) tt
+    sym ((cut_only is_space text [] s.gap dark (append-nil text ∙ s.text_is) (blanks_each text blanks) tt
     (blanks_each s.gap s.blanks) s.dark).1)
 
 -- A run of member characters in a line, which no line runs over.
@@ -238,11 +238,11 @@ pub left_only : (first : Bool) (text : Text) (m : Word) (after : Text) (ms : Lis
     → HasLeft first text ms → (rest : List Word) × (ms ≡ m ∷ rest) × HasMore after rest
 left_only true text m after [] t h = absurd h
 left_only true text m after (n ∷ ms) t h =
-    let same = next-only true text m n after h.0 t h.1 in
+    let same = next_only true text m n after h.0 t h.1 in
     (ms, ap (λ x. x ∷ ms) (sym same.0), subst (λ a. HasMore a ms) (sym same.1) h.2)
 left_only false text m after [] t h = absurd (blanks_none false text m after h t)
 left_only false text m after (n ∷ ms) t h =
-    let same = next-only false text m n after h.0 t h.1 in
+    let same = next_only false text m n after h.0 t h.1 in
     (ms, ap (λ x. x ∷ ms) (sym same.0), subst (λ a. HasMore a ms) (sym same.1) h.2)
 
 pub no_left : (first : Bool) (text : Text) → ((m : Word) (after : Text) → TakesNext first text m after → ⊥)
@@ -309,5 +309,5 @@ pub none_closes : (first : Bool) (text start word behind : Text)
     → (m : Word) (after : Text) → TakesNext first text m after → ⊥
 none_closes first text start word behind only run none m after t =
     let same = only t.0 t.1 t.2 t.3 (member_first t.1 m after t.4) in
-    let behinds = run-only start m.word t.4.0 word behind (subst (λ s. TakesRun s m.word t.4.0) same t.4.1) run in
+    let behinds = run_only start m.word t.4.0 word behind (subst (λ s. TakesRun s m.word t.4.0) same t.4.1) run in
     none m.list after (subst (λ b. TakesInner b m.list after) behinds.1 t.4.2)

@@ -3,7 +3,7 @@ use Rattle.std.proofs.Common.{◌≡◌, ℕ, List, [], ◌∷◌, ◌++◌, ref
 use Rattle.terms.specs.Types.{Text}
 use Rattle.terms.specs.Statement.{Piece, HasPieces, followed, joined, solid, HasSolid, IsIdle, Ends, IsStatement}
 use Rattle.terms.specs.Statement.{IsStFault}
-use Rattle.terms.proofs.Exact.{fault-no_statement}
+use Rattle.terms.proofs.Exact.{fault_no_statement}
 use Rattle.rec80.specs.declared.cursor.Cursor.{Cursor}
 use Rattle.rec80.specs.declared.errors.StmtError.{StmtError}
 use Rattle.rec80.specs.declared.errors.StmtError.TheVariants.{NoPeriod, OpenComment, BadParens, TextAfterPeriod}
@@ -41,5 +41,5 @@ is_fault records from TextAfterPeriod text_is h b = (b.0, (b.1, b.2, ends record
 pub no_statement : (records : List (List ℕ)) (from : Cursor) (why : StmtError) → rest_of from ≡ joined records
     → IsIn records from → BreaksFrom from why → (pieces : List Piece) (inline : List (List ℕ))
     → IsStatement records pieces inline → ⊥
-no_statement records from why text_is h b pieces inline s = fault-no_statement records (st_fault why) pieces inline
+no_statement records from why text_is h b pieces inline s = fault_no_statement records (st_fault why) pieces inline
     (is_fault records from why text_is h b) s

@@ -8,7 +8,7 @@ use Rattle.terms.specs.Types.{Text}
 use Rattle.terms.specs.Statement.{Piece, Blank, TakesPiece, HasPieces, followed, IsIdle}
 use Rattle.terms.specs.CommandCuts.{BeginsNoGap}
 use Rattle.terms.proofs.Lengths.{piece_shorter, pieces_shorter}
-use Rattle.terms.proofs.Pieces.{pieces-append, idle_ends}
+use Rattle.terms.proofs.Pieces.{pieces_append, idle_ends}
 use Rattle.rec80.specs.Pieces.{TakesGap}
 use Rattle.rec80.specs.Walks.{SkipsGaps, Walks}
 
@@ -33,7 +33,7 @@ pub walks_more : (text mid next after : Text) (p : Piece) → Walks text mid →
     → SkipsGaps next after → Walks text after
 walks_more text mid next after p w t s = (
   w.0 ++ (p ∷ s.gap),
-  pieces-append text mid after w.0 (p ∷ s.gap) w.1 (next, t, s.has_pieces),
+  pieces_append text mid after w.0 (p ∷ s.gap) w.1 (next, t, s.has_pieces),
 )
 
 pub walk_shorter : (mid next after : Text) (p : Piece) → TakesPiece mid p next → SkipsGaps next after

@@ -1,4 +1,5 @@
-ghost use Rattle.std.specs.Prelude.{◌≡◌, ◌<◌, ◌+◌, ◌^◌, ℕ, List, [], length, IfOk, IfErr, IfSome, IfNone, OnErr};
+//! The commands of a command file, one behind the other.
+ghost use Rattle.std.specs.Prelude.{◌≡◌, ◌<◌, ◌+◌, ◌^◌, List, [], length, IfOk, IfErr, IfSome, IfNone, OnErr};
 ghost use Rattle.terms.specs.Statement.{Piece, HasSolid, IsIdle, joined};
 ghost use Rattle.terms.specs.CommandCuts.{TakesCommand, IsCutFault};
 ghost use Rattle.rec80.specs.Walks.{st_fault};

@@ -1,4 +1,5 @@
-ghost use Rattle.std.specs.Prelude.{◌≡◌, ◌≤◌, ◌+◌, [], ◌∷◌, ◌++◌, true, false, length, take, MatchOption, IfSome};
+//! A place in columns 1 to 72 of records.
+ghost use Rattle.std.specs.Prelude.{◌≡◌, [], ◌∷◌, true, false, take, MatchOption, IfSome};
 ghost use Rattle.terms.specs.Records.{front};
 ghost use Rattle.rec80.specs.Cursors.{rest_of, IsAhead, text_of};
 

@@ -1,3 +1,4 @@
+//! The faults of records, and those of the form of a statement or a command.
 ghost use Rattle.std.specs.Prelude.{◌≡◌};
 ghost use Rattle.terms.specs.Records.{rec_fault_record};
 ghost use Rattle.rec80.specs.Faults.{rec_fault};

@@ -1,3 +1,5 @@
+//! A file as records.
+
 /// 80 bytes: columns 1 to 72 are text, columns 73 to 80 are not.
 pub type Record = [u8; 80];
 

@@ -1,3 +1,4 @@
+//! The statements of a PTFIN or hold file, each with its records.
 ghost use Rattle.std.specs.Prelude.{◌≡◌, ◌<◌, ◌+◌, ◌^◌, not, false, [], ◌++◌, length, IfOk, IfSome, IfNone, IsErr};
 ghost use Rattle.std.specs.Prelude.{IsTrue, ◌↔◌};
 ghost use Rattle.std.specs.List.{prefix_len};

@@ -1,3 +1,4 @@
+//! The members of a list, one behind the other.
 ghost use Rattle.std.specs.Prelude.{◌≡◌, ◌<◌, length, ◌++◌, ℕ, false, List, Option, [], ◌∷◌, All, true, IfOk, IfSome};
 ghost use Rattle.std.specs.Prelude.{IfNone, OnErr, MatchOption, option_map};
 ghost use Rattle.terms.specs.Words.{is_inner_byte, TakesInner, Stops, IsBefore, TakesNext};

@@ -1,10 +1,8 @@
-ghost use Rattle.std.specs.Prelude.{◌≡◌, ◌==◌, ◌++◌, ℕ, List, Option, [], ◌∷◌, All, true, IfOk, IfSome, IfNone, OnErr};
-ghost use Rattle.std.specs.Prelude.{MatchOption, option_map, IsTrue};
+//! A member of a list, and the members that are left.
+ghost use Rattle.std.specs.Prelude.{◌≡◌, ◌==◌, ℕ, List, Option, true, IfSome, IfNone};
 ghost use Rattle.std.specs.List.{prefix_len};
-ghost use Rattle.terms.specs.Forms.{AreBlanks};
-ghost use Rattle.terms.specs.Words.{is_member_byte, is_inner_byte, TakesRun, TakesInner, Stops, IsBefore, HasMembers};
+ghost use Rattle.terms.specs.Words.{is_member_byte, TakesRun, HasMembers};
 ghost use Rattle.terms.specs.Words as grammar;
-ghost use Rattle.terms.proofs.Members.{BeginsMember};
 ghost use Rattle.rec80.specs.Cursors.{text_of};
 
 use crate::text::Text;

@@ -1,5 +1,6 @@
-ghost use Rattle.std.specs.Prelude.{◌≡◌, IfOk, IfErr, IfSome, IfNone, slice_index, true, false};
-ghost use Rattle.terms.specs.Statement.{TakesPiece, TheWord, is_solid};
+//! The parts of a statement or a command: words, lists, other characters, and the gaps between them.
+ghost use Rattle.std.specs.Prelude.{◌≡◌, IfOk, IfErr, IfSome, IfNone, slice_index, true};
+ghost use Rattle.terms.specs.Statement.{TakesPiece, TheWord};
 ghost use Rattle.terms.specs.CommandCuts.{BeginsNoGap};
 ghost use Rattle.terms.specs.Forms.{is_word_byte};
 ghost use Rattle.std.specs.List.{prefix_len};

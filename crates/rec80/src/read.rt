@@ -1,4 +1,5 @@
-ghost use Rattle.std.specs.Prelude.{◌≡◌, ℕ, List, IfOk, IfErr, IsOk, IsTrue, ◌↔◌};
+//! The bytes of a file as its records.
+ghost use Rattle.std.specs.Prelude.{ℕ, List, IfOk, IfErr, IsOk, IsTrue, ◌↔◌};
 ghost use Rattle.terms.specs.Records.{HasRecords, IsPrintable, IsRecFault};
 ghost use Rattle.rec80.specs.Faults.{rec_fault};
 

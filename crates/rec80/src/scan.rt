@@ -1,4 +1,5 @@
-ghost use Rattle.std.specs.Prelude.{◌≡◌, ◌<◌, ◌&&◌, ◌==◌, [], ◌∷◌, ◌++◌, false, length, take, drop, slice_index};
+//! Where a comment and a list in parentheses come to their end.
+ghost use Rattle.std.specs.Prelude.{◌≡◌, ◌<◌, ◌&&◌, ◌==◌, ◌∷◌, ◌++◌, false, slice_index};
 ghost use Rattle.std.specs.Prelude.{is_some, MatchOption, IfSome, Some, None};
 ghost use Rattle.terms.specs.Statement.{behind_close, behind_list};
 ghost use Rattle.rec80.specs.Cursors.{rest_of, IsAhead, text_of};

@@ -1,4 +1,5 @@
-ghost use Rattle.std.specs.Prelude.{◌≡◌, ℕ, List, [], length, IfOk, IfErr, IsOk, IfSome, IfNone, MatchOption};
+//! The words and the inline records of one statement.
+ghost use Rattle.std.specs.Prelude.{◌≡◌, ℕ, List, [], IfOk, IfErr, IsOk, IfSome, IfNone};
 ghost use Rattle.terms.specs.Statement.{Piece, IsStatement, IsStFault, HasSolid, joined};
 ghost use Rattle.rec80.specs.Cursors.{rest_of, IsIn};
 ghost use Rattle.rec80.specs.Walks.{st_fault};

@@ -1,3 +1,4 @@
+//! The text in parentheses, over as many records as it takes.
 ghost use Rattle.std.specs.Prelude.{◌≡◌, ◌≤◌, [], ◌∷◌, ◌++◌, true, false, length, take, MatchOption};
 ghost use Rattle.rec80.specs.Cursors.{text_of, line_of};
 

@@ -1,3 +1,4 @@
+//! Where a statement or a command comes to its end, and what follows it.
 ghost use Rattle.std.specs.Prelude.{◌≡◌, IfOk, IfErr, IsTrue, ℕ, List, false};
 ghost use Rattle.terms.specs.Statement.{IsIdle, Piece};
 ghost use Rattle.rec80.specs.Cursors.{rest_of, IsAhead};

@@ -1,4 +1,5 @@
-ghost use Rattle.std.specs.Prelude.{◌≡◌, ◌<◌, ℕ, List, [], ◌∷◌, length, IfOk, IfErr, IfSome, IfNone, OnErr};
+//! The words of a statement or a command, each with its list.
+ghost use Rattle.std.specs.Prelude.{◌≡◌, ◌<◌, ℕ, List, [], ◌∷◌, length, IfOk, IfSome, IfNone, OnErr};
 ghost use Rattle.std.specs.Prelude.{MatchOption};
 ghost use Rattle.terms.specs.Statement.{Piece as AnyPiece, HasSolid, TakesPiece, TheList};
 ghost use Rattle.terms.specs.Words.{TakesWord, BeginsNoWords};

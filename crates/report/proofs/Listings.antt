@@ -9,7 +9,7 @@ use Rattle.terms.specs.Types.{Element, Global, Zone}
 use Rattle.machine.specs.Outcome.{Line, lines_code, EntryLine, TextLine, SysmodLine, HoldLine, list_global, list_zone}
 use Rattle.machine.specs.Outcome.{element_lines}
 use Rattle.machine.specs.Report.{words_line, detail_line, resolver_text, applied_words}
-use Rattle.report.proofs.Texts.{words_line-more}
+use Rattle.report.proofs.Texts.{words_line_more}
 
 -- a text that is a line of these words
 record IsLine (text : List ℕ) (words : List (List ℕ)) : Type 0 where
@@ -20,7 +20,7 @@ last x = record { is = refl }
 
 -- a word before the others of a line
 then : (x : List ℕ) {t y : List ℕ} {ys : List (List ℕ)} → IsLine t (y ∷ ys) → IsLine (x ++ 32 ∷ t) (x ∷ y ∷ ys)
-then x {t} {y} {ys} line = record { is = ap (λ t. x ++ 32 ∷ t) line.is ∙ words_line-more x y ys }
+then x {t} {y} {ys} line = record { is = ap (λ t. x ++ 32 ∷ t) line.is ∙ words_line_more x y ys }
 
 -- the words of a SYSMOD
 pub sysmod_parts : (id kind sources : List ℕ)
@@ -42,10 +42,10 @@ pub errsysmod_parts : (id reason : List ℕ)
 errsysmod_parts id reason = let line = then (codes "ERRSYSMOD") (then id (last reason)) in line.is
 
 -- resolvers, where there are some
-pub resolvers-some : (xs : List (List ℕ)) → 0 < length xs
+pub resolvers_some : (xs : List (List ℕ)) → 0 < length xs
     → flat_map (λ id. detail_line (codes "RESOLVER" ∷ id ∷ [])) xs ≡ resolver_text xs
-resolvers-some [] some = absurd (omega (arith, some))
-resolvers-some (x ∷ xs) some = refl
+resolvers_some [] some = absurd (omega (arith, some))
+resolvers_some (x ∷ xs) some = refl
 
 -- the words of an entry behind the date
 supby_parts : (supby delby waived : List ℕ)
@@ -91,42 +91,42 @@ element_parts type name fmid rmid umids distlib syslib =
     line.is
 
 -- the texts of lists of lists
-pub flat_map-flat_map : {X Y Z : Type 0} (f : Y → List Z) (h : X → List Y) (xs : List X)
+pub flat_map_flat_map : {X Y Z : Type 0} (f : Y → List Z) (h : X → List Y) (xs : List X)
     → flat_map f (flat_map h xs) ≡ flat_map (λ x. flat_map f (h x)) xs
-flat_map-flat_map f h [] = refl
-flat_map-flat_map f h (x ∷ xs) =
-    flat_map-append f (h x) (flat_map h xs) ∙ ap (λ l. flat_map f (h x) ++ l) (flat_map-flat_map f h xs)
+flat_map_flat_map f h [] = refl
+flat_map_flat_map f h (x ∷ xs) =
+    flat_map-append f (h x) (flat_map h xs) ∙ ap (λ l. flat_map f (h x) ++ l) (flat_map_flat_map f h xs)
 
-codes-append : (xs ys : List Line) → lines_code xs ≡ 0 → lines_code ys ≡ 0 → lines_code (xs ++ ys) ≡ 0
-codes-append [] ys none none_more = none_more
-codes-append (x ∷ xs) ys none none_more =
-    let rest = codes-append xs ys (omega (arith, none)) none_more in
+codes_append : (xs ys : List Line) → lines_code xs ≡ 0 → lines_code ys ≡ 0 → lines_code (xs ++ ys) ≡ 0
+codes_append [] ys none none_more = none_more
+codes_append (x ∷ xs) ys none none_more =
+    let rest = codes_append xs ys (omega (arith, none)) none_more in
     omega (arith, none, rest)
 
-codes-of : {X : Type 0} (line : X → Line) (xs : List X) → ((x : X) → lines_code (line x ∷ []) ≡ 0)
+codes_of : {X : Type 0} (line : X → Line) (xs : List X) → ((x : X) → lines_code (line x ∷ []) ≡ 0)
     → lines_code (map line xs) ≡ 0
-codes-of line [] each = refl
-codes-of line (x ∷ xs) each = let rest = codes-of line xs each in omega (arith, each x, rest)
+codes_of line [] each = refl
+codes_of line (x ∷ xs) each = let rest = codes_of line xs each in omega (arith, each x, rest)
 
-codes-of-all : {X : Type 0} (lines : X → List Line) (xs : List X) → ((x : X) → lines_code (lines x) ≡ 0)
+codes_of_all : {X : Type 0} (lines : X → List Line) (xs : List X) → ((x : X) → lines_code (lines x) ≡ 0)
     → lines_code (flat_map lines xs) ≡ 0
-codes-of-all lines [] each = refl
-codes-of-all lines (x ∷ xs) each = codes-append (lines x) (flat_map lines xs) (each x) (codes-of-all lines xs each)
+codes_of_all lines [] each = refl
+codes_of_all lines (x ∷ xs) each = codes_append (lines x) (flat_map lines xs) (each x) (codes_of_all lines xs each)
 
-element-code : (text : Bool) (e : Element) → lines_code (element_lines text e) ≡ 0
-element-code true e = let rest = codes-of (λ r. TextLine r) e.text (λ r. refl) in omega (arith, rest)
-element-code false e = refl
+element_code : (text : Bool) (e : Element) → lines_code (element_lines text e) ≡ 0
+element_code true e = let rest = codes_of (λ r. TextLine r) e.text (λ r. refl) in omega (arith, rest)
+element_code false e = refl
 
 -- LIST has the code 0
-pub list_global-code : (g : Global) → lines_code (list_global g) ≡ 0
-list_global-code g =
-    codes-append (map (λ s. SysmodLine s.id s.kind s.sources) g.sysmods)
+pub list_global_code : (g : Global) → lines_code (list_global g) ≡ 0
+list_global_code g =
+    codes_append (map (λ s. SysmodLine s.id s.kind s.sources) g.sysmods)
     (map (λ h. HoldLine h.id h.kind h.reason h.internal) g.holds)
-    (codes-of (λ s. SysmodLine s.id s.kind s.sources) g.sysmods (λ s. refl))
-    (codes-of (λ h. HoldLine h.id h.kind h.reason h.internal) g.holds (λ h. refl))
+    (codes_of (λ s. SysmodLine s.id s.kind s.sources) g.sysmods (λ s. refl))
+    (codes_of (λ h. HoldLine h.id h.kind h.reason h.internal) g.holds (λ h. refl))
 
-pub list_zone-code : (text : Bool) (z : Zone) → lines_code (list_zone text z) ≡ 0
-list_zone-code text z =
-    codes-append (map (λ e. EntryLine z.kind e) z.entries) (flat_map (λ e. element_lines text e) z.elements)
-    (codes-of (λ e. EntryLine z.kind e) z.entries (λ e. refl))
-    (codes-of-all (λ e. element_lines text e) z.elements (λ e. element-code text e))
+pub list_zone_code : (text : Bool) (z : Zone) → lines_code (list_zone text z) ≡ 0
+list_zone_code text z =
+    codes_append (map (λ e. EntryLine z.kind e) z.entries) (flat_map (λ e. element_lines text e) z.elements)
+    (codes_of (λ e. EntryLine z.kind e) z.entries (λ e. refl))
+    (codes_of_all (λ e. element_lines text e) z.elements (λ e. element_code text e))

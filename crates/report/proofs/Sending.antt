@@ -15,13 +15,13 @@ abbrev pub Sending : Option (List ℕ) → Bool → Option (List ℕ) → Bool �
 Sending old true new failed text rest = (failed ≡ true) × Keeps old new
 Sending old false new failed text rest = (failed ≡ false) × IsSending old new text rest
 
-pub sending-more : (a : Option (List ℕ)) (f : Bool) (b : Option (List ℕ)) (g : Bool) (c : Option (List ℕ)) (h : Bool)
+pub sending_more : (a : Option (List ℕ)) (f : Bool) (b : Option (List ℕ)) (g : Bool) (c : Option (List ℕ)) (h : Bool)
     (text rest front back : List ℕ)
     → Sending a f b g text rest → rest ≡ front ++ back → g ≡ false → h ≡ false → Appends b c front
     → Sending a f c h text back
-sending-more a true b g c h text rest front back s rest_is before after grown = let is : true ≡ false = sym s.0 ∙ before
+sending_more a true b g c h text rest front back s rest_is before after grown = let is : true ≡ false = sym s.0 ∙ before
     in absurd (cc is)
-sending-more a false b g c h text rest front back s rest_is before after grown = (
+sending_more a false b g c h text rest front back s rest_is before after grown = (
   after,
   record {
     sent = s.1.sent ++ front;
@@ -31,20 +31,20 @@ sending-more a false b g c h text rest front back s rest_is before after grown =
 )
 
 -- one text, and then another
-pub sends-then : (a : Option (List ℕ)) (f : Bool) (b : Option (List ℕ)) (g : Bool) (c : Option (List ℕ)) (h : Bool)
+pub sends_then : (a : Option (List ℕ)) (f : Bool) (b : Option (List ℕ)) (g : Bool) (c : Option (List ℕ)) (h : Bool)
     (xs ys : List ℕ)
     → Sends a f b g xs → Sends b g c h ys → Sends a f c h (xs ++ ys)
-sends-then a true b true c h xs ys s t = (t.0, Keeps-trans a b c s.1 t.1)
-sends-then a true b false c h xs ys s t = let is : false ≡ true = s.0 in absurd (cc is)
-sends-then a false b true c h xs ys s t =
+sends_then a true b true c h xs ys s t = (t.0, Keeps-trans a b c s.1 t.1)
+sends_then a true b false c h xs ys s t = let is : false ≡ true = s.0 in absurd (cc is)
+sends_then a false b true c h xs ys s t =
     let part : WrotePart a c (xs ++ ys) = record {
       piece = s.piece;
       lost = s.lost ++ ys;
       text_is = ap (λ x. x ++ ys) s.text_is ∙ append_assoc s.piece s.lost ys;
       bytes = Appends-kept a b c s.piece s.bytes t.1;
     } in subst (λ v. Went a c v (xs ++ ys)) (sym t.0) part
-sends-then a false b false c false xs ys s t = Appends-trans a b c xs ys s t
-sends-then a false b false c true xs ys s t = record {
+sends_then a false b false c false xs ys s t = Appends-trans a b c xs ys s t
+sends_then a false b false c true xs ys s t = record {
   piece = xs ++ t.piece;
   lost = t.lost;
   text_is = ap (λ y. xs ++ y) t.text_is ∙ sym (append_assoc xs t.piece t.lost);
@@ -52,6 +52,6 @@ sends-then a false b false c true xs ys s t = record {
 }
 
 -- the same text, written otherwise
-pub sends-as : (a : Option (List ℕ)) (f : Bool) (b : Option (List ℕ)) (g : Bool) (xs ys : List ℕ) → xs ≡ ys
+pub sends_as : (a : Option (List ℕ)) (f : Bool) (b : Option (List ℕ)) (g : Bool) (xs ys : List ℕ) → xs ≡ ys
     → Sends a f b g xs → Sends a f b g ys
-sends-as a f b g xs ys is s = subst (Sends a f b g) is s
+sends_as a f b g xs ys is s = subst (Sends a f b g) is s

@@ -1,5 +1,5 @@
 //! The lines of REPORT ERRSYSMODS.
-ghost use Rattle.std.specs.Prelude.{◌≡◌, ◌∷◌, [], codes};
+ghost use Rattle.std.specs.Prelude.{◌∷◌, [], codes};
 ghost use Rattle.std.specs.List.{flat_map};
 ghost use Rattle.machine.specs.Outcome.{ErrsysmodLine};
 ghost use Rattle.machine.specs.Report.{detail_line, resolver_text, line_text};

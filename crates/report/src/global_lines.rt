@@ -9,8 +9,8 @@ use crate::page::Page;
 use crate::pieces::put_left;
 use crate::sink::Sink;
 use fields::Source;
-use spelling::{hold_text, kind_text};
-use sysmods::{Global, Hold, Sysmod};
+use fields::spelling::{hold_text, kind_text};
+use sysmods::{GlobalZone, Hold, Sysmod};
 
 /// Sources joined by commas, each behind one.
 fn put_more_sources<W: Sink>(sources: &[Source], page: &mut Page<'_, W>)
@@ -68,7 +68,7 @@ fn put_hold<W: Sink>(hold: &Hold, page: &mut Page<'_, W>)
     page.put(b"\n");
 }
 
-fn put_sysmods<W: Sink>(global: &Global, page: &mut Page<'_, W>)
+fn put_sysmods<W: Sink>(global: &GlobalZone, page: &mut Page<'_, W>)
     ensures { Paged W.Sink page.old page.new
         (flat_map line_text (map (λ s. SysmodLine s.id s.kind s.sources) global.now.sysmods)) }
 {
@@ -77,7 +77,7 @@ fn put_sysmods<W: Sink>(global: &Global, page: &mut Page<'_, W>)
     }
 }
 
-fn put_holds<W: Sink>(global: &Global, page: &mut Page<'_, W>)
+fn put_holds<W: Sink>(global: &GlobalZone, page: &mut Page<'_, W>)
     ensures { Paged W.Sink page.old page.new
         (flat_map line_text (map (λ h. HoldLine h.id h.kind h.reason h.internal) global.now.holds)) }
 {
@@ -87,7 +87,7 @@ fn put_holds<W: Sink>(global: &Global, page: &mut Page<'_, W>)
 }
 
 /// The SYSMODs and the holds of a global zone.
-pub(crate) fn put_global<W: Sink>(global: &Global, page: &mut Page<'_, W>)
+pub(crate) fn put_global<W: Sink>(global: &GlobalZone, page: &mut Page<'_, W>)
     ensures { Paged W.Sink page.old page.new (flat_map line_text (list_global global.now)) }
 {
     put_sysmods(global, page);

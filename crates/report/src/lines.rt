@@ -1,5 +1,5 @@
 //! The text of lines.
-ghost use Rattle.std.specs.Prelude.{◌≡◌, ◌∷◌, [], ◌++◌, codes, decimal, option_map, if◌then◌else◌};
+ghost use Rattle.std.specs.Prelude.{◌≡◌, ◌∷◌, [], codes, decimal, option_map, if◌then◌else◌};
 ghost use Rattle.std.specs.List.{flat_map};
 ghost use Rattle.terms.specs.Spelling.{mc_text, test_text, need_text};
 ghost use Rattle.machine.specs.Outcome.{StatusLine};
@@ -14,8 +14,10 @@ use crate::outcome::{Failure, Header, Line, OpenNeed, Place, Refusal, Status};
 use crate::page::Page;
 use crate::pieces::{put_left, put_number};
 use crate::sink::Sink;
+use fields::spelling::{
+    hold_text, kind_text, mc_text, need_text, refusal_text, test_text, word_text,
+};
 use fields::{Id, ZoneName};
-use spelling::{hold_text, kind_text, mc_text, need_text, refusal_text, test_text, word_text};
 use terms::{McCode, Test};
 
 fn zone_text(zone: &Option<ZoneName>) -> &[u8]

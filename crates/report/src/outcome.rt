@@ -1,7 +1,7 @@
 //! What commands print, before it is text.
 
 use fields::{Id, Reason, Source, ZoneName};
-use sysmods::Global;
+use sysmods::GlobalZone;
 use terms::{CnCode, CommandWord, HoldKind, IdRefusal, Kind, McCode, NeedKind, Test};
 use zones::Zone;
 
@@ -101,7 +101,7 @@ pub enum Outcome<'a> {
     },
     ListedGlobal {
         header: Header,
-        global: &'a Global,
+        global: &'a GlobalZone,
     },
     Listed {
         header: Header,

@@ -1,7 +1,7 @@
 //! The pieces that lines are made of.
-ghost use Rattle.std.specs.Prelude.{◌≡◌, ◌<◌, ◌≤◌, ◌∷◌, [], length, decimal, OnErr, is_err};
+ghost use Rattle.std.specs.Prelude.{◌≡◌, ◌<◌, ◌≤◌, ◌∷◌, length, decimal, OnErr, is_err};
 ghost use Rattle.std.specs.List.{flat_map};
-ghost use Rattle.machine.specs.Report.{left_in, list_text, detail_line};
+ghost use Rattle.machine.specs.Report.{left_in, list_text};
 ghost use Rattle.report.specs.Paged.{Paged};
 ghost use Rattle.report.specs.Sent.{Sent};
 

@@ -5,10 +5,10 @@ ghost use Rattle.report.specs.Views.{place_view};
 
 use crate::outcome::Place;
 use fields::Id;
-use sysmods::Global;
+use sysmods::GlobalZone;
 
 /// The type of a received SYSMOD.
-pub fn place_of(global: &Global, id: Id) -> Place
+pub fn place_of(global: &GlobalZone, id: Id) -> Place
     ensures { place_view result ≡ place_of global.now id }
 {
     match global.get(id) {

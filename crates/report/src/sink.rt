@@ -1,3 +1,4 @@
+//! What takes the bytes of a report, until a write fails.
 ghost use Rattle.std.specs.Prelude.{◌≡◌, ◌<◌, ◌≤◌, List, ℕ, Bool, Option, true, false, length, take, IfOk, OnOk, OnErr};
 ghost use Rattle.std.specs.Prelude.{is_err};
 ghost use Rattle.std.specs.Io.KnownBytes.{Appends, Keeps};

@@ -14,7 +14,7 @@ use crate::page::Page;
 use crate::pieces::put_number;
 use crate::sink::{Sink, WriteFault};
 use crate::zone_lines::put_zone;
-use spelling::cn_text;
+use fields::spelling::cn_text;
 use terms::{CnCode, IdRefusal};
 
 fn status_code(status: &Status) -> u8

@@ -1,5 +1,5 @@
 //! The lines of LIST of a target or distribution zone.
-ghost use Rattle.std.specs.Prelude.{◌≡◌, codes, map};
+ghost use Rattle.std.specs.Prelude.{◌≡◌, map, option_map};
 ghost use Rattle.std.specs.List.{flat_map, join_with_byte};
 ghost use Rattle.terms.specs.declared.kinds.ZoneKind.TheVariants.{Target, Distribution};
 ghost use Rattle.machine.specs.Outcome.{EntryLine, ElementLine, TextLine, row_of, element_lines, list_zone};
@@ -10,10 +10,10 @@ ghost use Rattle.report.specs.Views.{applied_word};
 use crate::page::Page;
 use crate::pieces::{put_left, put_list};
 use crate::sink::Sink;
-use fields::{Id, YyDdd};
-use spelling::type_text;
+use fields::Id;
+use fields::spelling::type_text;
 use terms::ZoneKind;
-use zones::{Element, Entry, Line, Zone};
+use zones::{Applied, Element, Entry, Line, Zone};
 
 fn applied_word(kind: ZoneKind) -> &'static [u8]
     ensures { result.now ≡ applied_word kind }
@@ -25,14 +25,15 @@ fn applied_word(kind: ZoneKind) -> &'static [u8]
 }
 
 /// The word and the date of an applied entry, or `-`.
-fn put_applied<W: Sink>(kind: ZoneKind, applied: &Option<YyDdd>, page: &mut Page<'_, W>)
-    ensures { Paged W.Sink page.old page.new (join_with_byte 32 (applied_words kind applied.now)) }
+fn put_applied<W: Sink>(kind: ZoneKind, applied: &Option<Applied>, page: &mut Page<'_, W>)
+    ensures { Paged W.Sink page.old page.new
+        (join_with_byte 32 (applied_words kind (option_map (λ a. a.date) applied.now))) }
 {
     match applied {
-        Some(date) => {
+        Some(applied) => {
             page.put(applied_word(kind));
             page.put(b" ");
-            page.put(date.as_bytes());
+            page.put(applied.date.as_bytes());
         }
         None => page.put(b"-"),
     }

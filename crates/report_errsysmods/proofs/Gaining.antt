@@ -17,7 +17,7 @@ use Rattle.terms.specs.Choice.{Choice}
 use Rattle.terms.specs.Over.{Supersedes}
 use Rattle.lemmas.proofs.Members.{none_in}
 use Rattle.lemmas.proofs.Texts.{same_from, same_itself}
-use Rattle.lemmas.proofs.Lists.{front-more}
+use Rattle.lemmas.proofs.Lists.{front_more}
 use Rattle.report_errsysmods.specs.declared.open.OpenError.{OpenError}
 use Rattle.report_errsysmods.specs.Resolvers.{Resolvers, resolvers_of, is_asked, HasReasons, Gains, ResolvesBy}
 use Rattle.report_errsysmods.specs.Resolvers.{AreResolvers}
@@ -30,12 +30,12 @@ not_there k z e same = absurd (true≢false (sym (is_eq-slice_cmp k z
     ∙ subst (λ v. bytes_eq k v ≡ true) (sym same) (same_itself k)) ∙ e))
 
 -- a reason more
-pub reasons-next : (errors : List OpenError) (i : ℕ) (o : OpenError) (old new : Resolvers) (w : Vec Id Global)
+pub reasons_next : (errors : List OpenError) (i : ℕ) (o : OpenError) (old new : Resolvers) (w : Vec Id Global)
     → i < length errors → o ≡ get_or errors i o
     → HasReasons (take i errors) old → UpdatesBy C (C o.reason) old new (Some w) → w.items ≡ []
     → HasReasons (take (i + 1) errors) new
-reasons-next errors i o old new w below at has updates none =
-    subst (λ l. HasReasons l new) (sym (front-more errors i o below at)) (record {
+reasons_next errors i o old new w below at has updates none =
+    subst (λ l. HasReasons l new) (sym (front_more errors i o below at)) (record {
       asked = λ p is. asked p (Contains-push_cases (take i errors) o p is);
       none = λ z. empty z (is_eq (C o.reason z)) refl;
     })
@@ -57,9 +57,9 @@ reasons-next errors i o old new w below at has updates none =
     empty z false e = ap (λ v. option_map_or (λ v. v.items) v []) (now z false e) ∙ has.none z
 
 -- the list of one id goes on with one more
-pub gains-update : (old new : Resolvers) (k f : Id) (was w : Vec Id Global) → get C old k ≡ Some was
+pub gains_update : (old new : Resolvers) (k f : Id) (was w : Vec Id Global) → get C old k ≡ Some was
     → UpdatesBy C (C k) old new (Some w) → w.items ≡ was.items ++ f ∷ [] → Gains old new (λ z y. (z ≡ k) × (y ≡ f))
-gains-update old new k f was w there updates goes_on = record {
+gains_update old new k f was w there updates goes_on = record {
   asked = λ z. asked z (is_eq (C k z)) refl;
   has = λ z y. has z y (is_eq (C k z)) refl;
 }
@@ -105,21 +105,21 @@ gains-update old new k f was w there updates goes_on = record {
         )
 
 -- nothing is gained where nothing more is asked for
-pub gains-nothing : (old : Resolvers) (More : Id → Id → Type 0)
+pub gains_nothing : (old : Resolvers) (More : Id → Id → Type 0)
     → ((z y : Id) → IsTrue (is_asked old z) → ¬ More z y) → Gains old old More
-gains-nothing old More none = record {
+gains_nothing old More none = record {
   asked = λ z. refl;
   has = λ z y. (λ h. inl h, λ h. elim h [ inl was ↦ was | inr more ↦ absurd (none z y more.0 more.1) ]);
 }
 
-pub gains-none : (old : Resolvers) (k f : Id) → get C old k ≡ None → Gains old old (λ z y. (z ≡ k) × (y ≡ f))
-gains-none old k f none =
-    gains-nothing old (λ z y. (z ≡ k) × (y ≡ f)) (λ z y asked more.
+pub gains_none : (old : Resolvers) (k f : Id) → get C old k ≡ None → Gains old old (λ z y. (z ≡ k) × (y ≡ f))
+gains_none old k f none =
+    gains_nothing old (λ z y. (z ≡ k) × (y ≡ f)) (λ z y asked more.
     true≢false (sym asked ∙ ap (is_asked old) more.0 ∙ ap is_some none))
 
-pub gains-join : (old middle new : Resolvers) (P Q R : Id → Id → Type 0) → Gains old middle P → Gains middle new Q
+pub gains_join : (old middle new : Resolvers) (P Q R : Id → Id → Type 0) → Gains old middle P → Gains middle new Q
     → ((z y : Id) → R z y ↔ (P z y ⊎ Q z y)) → Gains old new R
-gains-join old middle new P Q R first second both = record {
+gains_join old middle new P Q R first second both = record {
   asked = λ z. second.asked z ∙ first.asked z;
   has = λ z y. (
     λ h. elim ((second.has z y).0 h) [
@@ -140,15 +140,15 @@ gains-join old middle new P Q R first second both = record {
 }
 
 -- one more of the reasons that it resolves
-pub gains-next : (old middle new : Resolvers) (named : List Id) (i : ℕ) (k f : Id) → i < length named
+pub gains_next : (old middle new : Resolvers) (named : List Id) (i : ℕ) (k f : Id) → i < length named
     → k ≡ get_or named i k
     → Gains old middle (λ z y. Contains (take i named) z × (y ≡ f))
     → Gains middle new (λ z y. (z ≡ k) × (y ≡ f))
     → Gains old new (λ z y. Contains (take (i + 1) named) z × (y ≡ f))
-gains-next old middle new named i k f below at first second =
+gains_next old middle new named i k f below at first second =
     let front = take i named in
-    subst (λ l. Gains old new (λ z y. Contains l z × (y ≡ f))) (sym (front-more named i k below at))
-    (gains-join old middle new (λ z y. Contains front z × (y ≡ f)) (λ z y. (z ≡ k) × (y ≡ f))
+    subst (λ l. Gains old new (λ z y. Contains l z × (y ≡ f))) (sym (front_more named i k below at))
+    (gains_join old middle new (λ z y. Contains front z × (y ≡ f)) (λ z y. (z ≡ k) × (y ≡ f))
     (λ z y. Contains (front ++ k ∷ []) z × (y ≡ f)) first second (λ z y. (
       λ h. elim (Contains-push_cases front k z h.0) [
         | inl was ↦ inl (was, h.1)
@@ -161,12 +161,12 @@ gains-next old middle new named i k f below at first second =
     )))
 
 -- a SYSMOD resolves itself and what it supersedes
-pub gains-sysmod : (c : Choice) (by : Id) (superseded : List Id) (old middle new : Resolvers) → IsTrue (is_some (c by))
+pub gains_sysmod : (c : Choice) (by : Id) (superseded : List Id) (old middle new : Resolvers) → IsTrue (is_some (c by))
     → ((z : Id) → Contains superseded z ↔ Supersedes c by z)
     → Gains old middle (λ z y. (z ≡ by) × (y ≡ by)) → Gains middle new (λ z y. Contains superseded z × (y ≡ by))
     → Gains old new (λ z y. ResolvesBy c by z × (y ≡ by))
-gains-sysmod c by superseded old middle new counts all first second =
-    gains-join old middle new (λ z y. (z ≡ by) × (y ≡ by)) (λ z y. Contains superseded z × (y ≡ by))
+gains_sysmod c by superseded old middle new counts all first second =
+    gains_join old middle new (λ z y. (z ≡ by) × (y ≡ by)) (λ z y. Contains superseded z × (y ≡ by))
     (λ z y. ResolvesBy c by z × (y ≡ by)) first second (λ z y. (
       λ h. elim h.0.1 [
         | inl same ↦ inl (sym same, h.1)
@@ -184,23 +184,23 @@ pub record IsAdding (c : Choice) (old new : Resolvers) (ids rest : List Id) : Ty
   pub ids_are : ids ≡ done ++ rest
   pub gains : Gains old new (λ z y. Contains done y × ResolvesBy c y z)
 
-pub adding-first : (c : Choice) (old : Resolvers) (ids rest : List Id) → ids ≡ rest → IsAdding c old old ids rest
-adding-first c old ids rest is = record {
+pub adding_first : (c : Choice) (old : Resolvers) (ids rest : List Id) → ids ≡ rest → IsAdding c old old ids rest
+adding_first c old ids rest is = record {
   done = [];
   ids_are = is;
-  gains = gains-nothing old (λ z y. Contains [] y × ResolvesBy c y z) (λ z y asked more. none_in y more.0);
+  gains = gains_nothing old (λ z y. Contains [] y × ResolvesBy c y z) (λ z y asked more. none_in y more.0);
 }
 
-pub adding-next : (c : Choice) (old middle new : Resolvers) (ids rest more : List Id) (x : Id)
+pub adding_next : (c : Choice) (old middle new : Resolvers) (ids rest more : List Id) (x : Id)
     → IsAdding c old middle ids rest → rest ≡ x ∷ more → Gains middle new (λ z y. ResolvesBy c x z × (y ≡ x))
     → IsAdding c old new ids more
-adding-next c old middle new ids rest more x a rest_is gains =
+adding_next c old middle new ids rest more x a rest_is gains =
     let front = a.done in
     record {
       done = front ++ x ∷ [];
       ids_are = a.ids_are ∙ ap (λ l. front ++ l) rest_is ∙ sym (append_assoc front (x ∷ []) more);
       gains =
-          gains-join old middle new (λ z y. Contains front y × ResolvesBy c y z) (λ z y. ResolvesBy c x z × (y ≡ x))
+          gains_join old middle new (λ z y. Contains front y × ResolvesBy c y z) (λ z y. ResolvesBy c x z × (y ≡ x))
           (λ z y. Contains (front ++ x ∷ []) y × ResolvesBy c y z) a.gains gains (λ z y. (
             λ h. elim (Contains-push_cases front x y h.0) [
               | inl was ↦ inl (was, h.1)
@@ -216,16 +216,16 @@ adding-next c old middle new ids rest more x a rest_is gains =
           ));
     }
 
-pub adding-last : (c : Choice) (old new : Resolvers) (ids rest : List Id) → IsAdding c old new ids rest → rest ≡ []
+pub adding_last : (c : Choice) (old new : Resolvers) (ids rest : List Id) → IsAdding c old new ids rest → rest ≡ []
     → Gains old new (λ z y. Contains ids y × ResolvesBy c y z)
-adding-last c old new ids rest a rest_is =
+adding_last c old new ids rest a rest_is =
     subst (λ l. Gains old new (λ z y. Contains l y × ResolvesBy c y z))
     (sym (a.ids_are ∙ ap (λ l. a.done ++ l) rest_is ∙ append-nil a.done)) a.gains
 
-pub gathered-all : (g : terms.Global) (c : Choice) (errors : List OpenError) (old new : Resolvers)
+pub gathered_all : (g : terms.Global) (c : Choice) (errors : List OpenError) (old new : Resolvers)
     → HasReasons errors old
     → Gains old new (λ z y. Contains (map (λ s. s.id) g.sysmods) y × ResolvesBy c y z) → AreResolvers g c errors new
-gathered-all g c errors old new has gains o is y = (
+gathered_all g c errors old new has gains o is y = (
   λ h. elim ((gains.has o.reason y).0 h) [
     | inl was ↦ absurd (none_in y (subst (λ l. Contains l y) (has.none o.reason) was))
     | inr more ↦ more.1

@@ -11,7 +11,7 @@ use Rattle.std.proofs.lemmas.List.Elements.{Contains-append_left, Contains-appen
 use Rattle.std.proofs.lemmas.List.Kept.{AllPairs-filter}
 use Rattle.lemmas.proofs.Members.{here, none_in, in_map, in_filter, filter_in, in_flat}
 use Rattle.lemmas.proofs.Pairs.{pairs_map}
-use Rattle.lemmas.proofs.Searches.{find-gives}
+use Rattle.lemmas.proofs.Searches.{find_gives}
 use Rattle.lemmas.proofs.Texts.{same_from, same_or_not}
 use Rattle.terms.specs.Types.{Id, Ver, Sysmod, Entry, Global, Zone}
 use Rattle.terms.specs.Lookups.{IsRising, at_most_one, is_nil, sysmod_of, is_before}
@@ -39,7 +39,7 @@ first_in p vs v = by (find p vs) refl vs refl
   where
     by : (o : Option Ver) → find p vs ≡ o → (ws : List Ver) → vs ≡ ws → or_first vs o ≡ Some v → Contains vs v
     by (Some w) at ws is found = let same : w ≡ v = cc found in
-        subst (Contains vs) same (find-gives p vs w at).1
+        subst (Contains vs) same (find_gives p vs w at).1
     by None at [] is found = let none : None ≡ Some v = ap (λ l. slice_get l 0) (sym is) ∙ found in absurd (cc none)
     by None at (w ∷ ws) is found =
         let same : Some w ≡ Some v = ap (λ l. slice_get l 0) (sym is) ∙ found in
@@ -68,7 +68,7 @@ module _ (g : Global) (zone : Zone) (is_global : IsGlobal g) where
           → Contains (option_map_or (λ s. filter (λ v. bytes_eq v.srel zone.srel) s.vers) o []) v → Contains ids x
       by None at is = absurd (none_in v is)
       by (Some s) at is =
-          let gives = find-gives (λ s. bytes_eq s.id x) g.sysmods s at in
+          let gives = find_gives (λ s. bytes_eq s.id x) g.sysmods s at in
           subst (Contains ids) (same_from s.id x gives.0) (in_map (λ s. s.id) g.sysmods s gives.1)
 
   sup_by : (x z : Id) → Contains (sup_of c x) z → (v : Ver) × Contains (vers_of g zone.srel x) v × Contains v.sup z

@@ -5,8 +5,8 @@ ghost use Rattle.machine.specs.Errsysmods.{is_current};
 ghost use Rattle.report_errsysmods.specs.Open.{open_of, open_on, open_in};
 
 use fields::Id;
-use std::alloc::{AllocError, Global as Heap};
-use sysmods::{Global, Hold, HoldKind};
+use std::alloc::{AllocError, Global};
+use sysmods::{GlobalZone, Hold, HoldKind};
 use zones::{Entry, Zone};
 
 /// An ERROR hold on an applied SYSMOD, by its reason.
@@ -36,7 +36,7 @@ fn append_open(
 
 #[tactic(auto, using(crate::proofs::OpenHolds::open_holds))]
 fn append_holds(
-    global: &Global,
+    global: &GlobalZone,
     zone: &Zone,
     id: Id,
     found: &mut Vec<OpenError>,
@@ -58,7 +58,7 @@ fn is_current(entry: &Entry) -> bool
 
 // Those on an entry, if it is applied and superseded by nothing.
 fn append_of_entry(
-    global: &Global,
+    global: &GlobalZone,
     zone: &Zone,
     entry: &Entry,
     found: &mut Vec<OpenError>,
@@ -73,8 +73,8 @@ fn append_of_entry(
 
 /// The open ERROR holds, by the entries and then by reason.
 pub(crate) fn open_errors(
-    alloc: Heap,
-    global: &Global,
+    alloc: Global,
+    global: &GlobalZone,
     zone: &Zone,
 ) -> Result<Vec<OpenError>, AllocError>
     ensures { IfOk result (λ found. found.items

@@ -8,11 +8,11 @@ use crate::open::{OpenError, open_errors};
 use crate::resolvers::{Resolvers, add_all, reasons, resolvers};
 use fields::{Id, IdList, Reason, ZoneName};
 use report::{Header, Line, Outcome};
-use std::alloc::{AllocError, Global as Heap};
-use sysmods::Global;
+use std::alloc::{AllocError, Global};
+use sysmods::GlobalZone;
 use terms::CommandWord;
 use zones::Zone;
-use zones_less::choose;
+use zones_views::choose;
 
 fn reason_of(id: Id) -> Reason
     ensures { result ≡ id }
@@ -20,7 +20,7 @@ fn reason_of(id: Id) -> Reason
     Reason::read(id.as_bytes()).unwrap()
 }
 
-fn line_of(alloc: Heap, all: &Resolvers, error: OpenError) -> Result<Line, AllocError>
+fn line_of(alloc: Global, all: &Resolvers, error: OpenError) -> Result<Line, AllocError>
     ensures { IfOk result (IsLineOf all.now error) }
 {
     let ids = resolvers(alloc, all, error.reason)?;
@@ -31,7 +31,7 @@ fn line_of(alloc: Heap, all: &Resolvers, error: OpenError) -> Result<Line, Alloc
     })
 }
 
-fn lines_of(alloc: Heap, all: &Resolvers, errors: &[OpenError]) -> Result<Vec<Line>, AllocError>
+fn lines_of(alloc: Global, all: &Resolvers, errors: &[OpenError]) -> Result<Vec<Line>, AllocError>
     ensures { IfOk result (λ lines. AreLinesOf all.now errors.now lines.items) }
 {
     let mut lines = Vec::new(alloc);
@@ -43,8 +43,8 @@ fn lines_of(alloc: Heap, all: &Resolvers, errors: &[OpenError]) -> Result<Vec<Li
 
 // What resolves each reason of them.
 fn gathered(
-    alloc: Heap,
-    global: &Global,
+    alloc: Global,
+    global: &GlobalZone,
     zone: &Zone,
     errors: &[OpenError],
 ) -> Result<Resolvers, AllocError>
@@ -59,9 +59,9 @@ fn gathered(
 
 /// REPORT ERRSYSMODS of the zone of this name.
 pub fn errsysmods(
-    alloc: Heap,
+    alloc: Global,
     zone_name: ZoneName,
-    global: &Global,
+    global: &GlobalZone,
     zone: &Zone,
 ) -> Result<Outcome<'static>, AllocError>
     ensures { IfOk result (IsReportOf zone_name global.now zone.now) }

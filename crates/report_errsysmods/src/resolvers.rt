@@ -1,21 +1,21 @@
 //! What resolves a reason: it itself, and all that supersedes it.
-ghost use Rattle.std.specs.Prelude.{◌≡◌, ◌↔◌, [], ◌∷◌, Contains, IfOk, OnOk, map};
+ghost use Rattle.std.specs.Prelude.{◌≡◌, ◌↔◌, Contains, IfOk, OnOk, map};
 ghost use Rattle.terms.specs.Types.{Id as AnId};
 ghost use Rattle.sysmods.specs.Choices.{choice};
-ghost use Rattle.report_errsysmods.specs.Resolvers.{HasReasons, Gains, Resolvers as SomeResolvers, ResolvesBy};
-ghost use Rattle.report_errsysmods.specs.Resolvers.{AreResolvers, resolvers_of};
+ghost use Rattle.report_errsysmods.specs.Resolvers.{HasReasons, Gains, ResolvesBy};
+ghost use Rattle.report_errsysmods.specs.Resolvers.{resolvers_of};
 
 use crate::open::OpenError;
 use fields::{Id, IdList};
-use std::alloc::{AllocError, Global as Heap};
+use std::alloc::{AllocError, Global};
 use std::collections::BTreeMap;
-use sysmods::{Global, VerChoice};
+use sysmods::{GlobalZone, VerChoice};
 
 /// For each reason in question what resolves it.
 pub(crate) type Resolvers = BTreeMap<Id, Vec<Id>>;
 
 /// The reasons, with no resolvers yet.
-pub(crate) fn reasons(alloc: Heap, errors: &[OpenError]) -> Result<Resolvers, AllocError>
+pub(crate) fn reasons(alloc: Global, errors: &[OpenError]) -> Result<Resolvers, AllocError>
     ensures { IfOk result (HasReasons errors.now) }
 {
     let mut all = BTreeMap::new(alloc);
@@ -46,7 +46,7 @@ fn add_each(all: &mut Resolvers, reasons: &[Id], by: Id) -> Result<(), AllocErro
 
 // Adds a SYSMOD to what it resolves, if a `++VER` of it counts.
 fn add_sysmod(
-    alloc: Heap,
+    alloc: Global,
     vers: &VerChoice<'_>,
     by: Id,
     all: &mut Resolvers,
@@ -64,8 +64,8 @@ fn add_sysmod(
 
 /// Each received SYSMOD is added to what it resolves.
 pub(crate) fn add_all(
-    alloc: Heap,
-    global: &Global,
+    alloc: Global,
+    global: &GlobalZone,
     vers: &VerChoice<'_>,
     all: &mut Resolvers,
 ) -> Result<(), AllocError>
@@ -79,7 +79,7 @@ pub(crate) fn add_all(
 }
 
 /// The resolvers of a reason.
-pub(crate) fn resolvers(alloc: Heap, all: &Resolvers, reason: Id) -> Result<IdList, AllocError>
+pub(crate) fn resolvers(alloc: Global, all: &Resolvers, reason: Id) -> Result<IdList, AllocError>
     ensures { IfOk result (λ ids. (y : AnId) → Contains ids y ↔ Contains (resolvers_of all.now reason) y) }
 {
     match all.get(&reason) {

@@ -7,11 +7,11 @@ use Rattle.std.proofs.lemmas.List.Elements.{Contains-append_left, Contains-appen
 use Rattle.std.proofs.lemmas.Grind.{flat_map-append}
 use Rattle.terms.specs.Types.{Id}
 use Rattle.sysmods_paths.specs.Seen.{AddsAll}
-use Rattle.sysmods_paths.proofs.Growth.{adds-keeps}
+use Rattle.sysmods_paths.proofs.Growth.{adds_keeps}
 
 -- one list and then another
-pub adds-append : (old mid new xs ys : List Id) → AddsAll old xs mid → AddsAll mid ys new → AddsAll old (xs ++ ys) new
-adds-append old mid new xs ys first second = record {
+pub adds_append : (old mid new xs ys : List Id) → AddsAll old xs mid → AddsAll mid ys new → AddsAll old (xs ++ ys) new
+adds_append old mid new xs ys first second = record {
   added = first.added ++ second.added;
   kept = second.kept ∙ ap (λ ks. ks ++ second.added) first.kept ∙ append_assoc old first.added second.added;
   were_named = λ z h. elim (Contains-append_cases first.added second.added z h) [
@@ -19,18 +19,18 @@ adds-append old mid new xs ys first second = record {
     | inr r ↦ Contains-append_right xs ys z (second.were_named z r)
   ];
   has = λ z h. elim (Contains-append_cases xs ys z h) [
-    | inl l ↦ adds-keeps mid ys new second z (first.has z l)
+    | inl l ↦ adds_keeps mid ys new second z (first.has z l)
     | inr r ↦ second.has z r
   ];
 }
 
 -- what the next of a list stands for comes in
-pub adds-flat : (f : Id → List Id) (old xs seen new : List Id) (i : ℕ) (x : Id) → i < length xs → x ≡ get_or xs i x
+pub adds_flat : (f : Id → List Id) (old xs seen new : List Id) (i : ℕ) (x : Id) → i < length xs → x ≡ get_or xs i x
     → AddsAll seen (f x) new → AddsAll old (flat_map f (take i xs)) seen
     → AddsAll old (flat_map f (take (i + 1) xs)) new
-adds-flat f old xs seen new i x below at more adds =
+adds_flat f old xs seen new i x below at more adds =
     subst (λ named. AddsAll old named new) (sym next)
-    (adds-append old seen new (flat_map f (take i xs)) (f x) adds more)
+    (adds_append old seen new (flat_map f (take i xs)) (f x) adds more)
   where
     next : flat_map f (take (i + 1) xs) ≡ flat_map f (take i xs) ++ f x
     next =

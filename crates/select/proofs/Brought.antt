@@ -8,8 +8,7 @@ use Rattle.std.proofs.lemmas.List.Elements.{Contains-append_left, Contains-appen
 use Rattle.terms.specs.declared.kinds.HoldKind.TheVariants.{Error}
 use Rattle.terms.specs.Types.{Id, Global, Zone, Selection}
 use Rattle.terms.specs.Lookups.{at_most_one, is_applied, is_supplied, is_function, applied_ids, holds_of}
-use Rattle.terms.specs.Choice.{Choice, fmid_of, pre_of, req_of, ifs_of}
-use Rattle.sysmods.specs.Choices.{by_srel}
+use Rattle.terms.specs.Choice.{Choice, fmid_of, pre_of, req_of, ifs_of, first_ver}
 use Rattle.terms.specs.Conditions.{if_reqs, stated_for}
 use Rattle.lemmas.proofs.Members.{none_in, filter_in, in_filter, flat_in, in_flat}
 use Rattle.terms.proofs.Applied.{AppliedAre}
@@ -22,7 +21,7 @@ use Rattle.select.proofs.Listed.{stating_listed}
 -- What is brought is asked for, and what is asked for is brought.
 module _ (g : Global) (zone : Zone) (sel : Selection) (seen : List Id) (x : Id) where
   abbrev c : Choice
-  c = by_srel g zone.srel
+  c = first_ver g zone.srel
 
   abbrev free : Id → Bool
   free z = not (is_supplied zone z)

@@ -10,19 +10,18 @@ use Rattle.std.proofs.lemmas.List.Elements.{Contains-get_or, Contains-append_lef
 use Rattle.std.proofs.lemmas.List.Elements.{Contains-append_cases, Contains-push_cases}
 use Rattle.terms.specs.Types.{Id, Global, Zone, Selection}
 use Rattle.terms.specs.Lookups.{is_in, is_supplied, IsRising}
-use Rattle.terms.specs.Choice.{Choice, sup_of}
-use Rattle.sysmods.specs.Choices.{by_srel}
+use Rattle.terms.specs.Choice.{Choice, sup_of, first_ver}
 use Rattle.terms.specs.Over.{Leads, Reaches}
 use Rattle.terms.specs.Global.{IsGlobal}
 use Rattle.terms.specs.Conditions.{if_reqs}
 use Rattle.terms.specs.Candidates.{is_installable, is_open, is_start, is_growing_start, is_mass_chosen, sups_for}
 use Rattle.terms.specs.Candidates.{needed_ids, open_reasons, Extends, BringsIn, IsClosedPair, AreCandidates}
-use Rattle.terms.proofs.Ids.{is_in-from_Contains, Contains-from_is_in}
+use Rattle.terms.proofs.Ids.{is_in_from_Contains, Contains_from_is_in}
 use Rattle.terms.proofs.Leads.{reaches_named, reaches_last}
 use Rattle.lemmas.proofs.Members.{none_in, here, filter_in, in_filter, flat_in, in_flat}
 use Rattle.terms.proofs.Applied.{AppliedAre}
 use Rattle.sysmods_paths.specs.Seen.{AddsAll}
-use Rattle.sysmods_paths.proofs.Growth.{adds-keeps, adds-cases, take-adds}
+use Rattle.sysmods_paths.proofs.Growth.{adds_keeps, adds_cases, take_adds}
 use Rattle.sysmods_received.specs.Namers.{namers_for}
 use Rattle.select.specs.Growing.{WillDo, IsAsked, taken_up, has_grown, asked_by, HasAsked, AreAsked, brought_by}
 use Rattle.select.specs.Growing.{superseders, next_asked, asked_first}
@@ -52,7 +51,7 @@ with_more p q xs ys z more h = elim (or_cases (p z) (is_in xs z && q z) h) [
   | inr both ↦ (
       let parts = and_parts (is_in xs z) (q z) both in
       or_right (p z) (is_in ys z && q z) (and_from (is_in ys z) (q z)
-      (is_in-from_Contains ys z (more (Contains-from_is_in xs z parts.0))) parts.1))
+      (is_in_from_Contains ys z (more (Contains_from_is_in xs z parts.0))) parts.1))
 ]
 
 -- with a list that has one more, it does so as before, or is that one
@@ -61,12 +60,12 @@ with_one : (p q : Id → Bool) (xs : List Id) (d z : Id) → IsTrue (p z || (is_
 with_one p q xs d z h = elim (or_cases (p z) (is_in (xs ++ d ∷ []) z && q z) h) [
   | inl first ↦ inl (or_left (p z) (is_in xs z && q z) first)
   | inr both ↦ let parts = and_parts (is_in (xs ++ d ∷ []) z) (q z) both in by parts.1
-      (Contains-push_cases xs d z (Contains-from_is_in (xs ++ d ∷ []) z parts.0))
+      (Contains-push_cases xs d z (Contains_from_is_in (xs ++ d ∷ []) z parts.0))
 ]
   where
     by : IsTrue (q z) → Contains xs z ⊎ (d ≡ z) → IsTrue (p z || (is_in xs z && q z)) ⊎ ((d ≡ z) × IsTrue (q d))
     by passes (inl was) = inl (or_right (p z) (is_in xs z && q z) (and_from (is_in xs z) (q z)
-        (is_in-from_Contains xs z was) passes))
+        (is_in_from_Contains xs z was) passes))
     by passes (inr same) = inr (same, subst (λ w. IsTrue (q w)) (sym same) passes)
 
 -- the search has seen these ids and gone through the first n of them
@@ -76,7 +75,7 @@ pub record IsGrowth (g : Global) (zone : Zone) (sel : Selection) (seen : List Id
 
 module _ (g : Global) (zone : Zone) (sel : Selection) (form : IsGlobal g) where
   abbrev c : Choice
-  c = by_srel g zone.srel
+  c = first_ver g zone.srel
 
   abbrev sups : Id → List Id
   sups = sups_for g zone.srel
@@ -132,7 +131,7 @@ module _ (g : Global) (zone : Zone) (sel : Selection) (form : IsGlobal g) where
       by true e there = λ cands growing closed y opened will. asks cands growing closed y opened (inr (e, over y will))
         where
           names : Contains (sups x) z
-          names = subst (λ zs. Contains zs z) (sym (sups_are g form zone.srel x)) (Contains-from_is_in (sup_of c x) z
+          names = subst (λ zs. Contains zs z) (sym (sups_are g form zone.srel x)) (Contains_from_is_in (sup_of c x) z
               (filter_in (λ y. is_in (sup_of c y) z) (namers_for g.sysmods zone.srel z) x there).1)
 
           over : (y : Id) → WillDo g zone sel y x → Reaches sups y z
@@ -146,14 +145,14 @@ module _ (g : Global) (zone : Zone) (sel : Selection) (form : IsGlobal g) where
       let names = subst (λ zs. Contains zs z) (sups_are g form zone.srel y) there in
       subst (λ b. Contains (if b then filter (λ y. is_in (sup_of c y) z) (namers_for g.sysmods zone.srel z) else []) y)
       (sym extend) (in_filter (λ y. is_in (sup_of c y) z) (namers_for g.sysmods zone.srel z) y
-      (super_listed g zone.srel y z names) (is_in-from_Contains (sup_of c y) z names))
+      (super_listed g zone.srel y z names) (is_in_from_Contains (sup_of c y) z names))
 
   -- Where ids are asked for, what one of them brings is.
   module _ (seen : List Id) (sound : (z : Id) → Contains seen z → IsAsked g zone sel z) where
     asked_grows : (x : Id) → IsTrue (is_in seen x && is_open g zone sel x) → AlwaysGrows x
     asked_grows x h cands growing closed =
         let parts = and_parts (is_in seen x) (is_open g zone sel x) h in
-        sound x (Contains-from_is_in seen x parts.0) cands growing closed x parts.1 (inl refl)
+        sound x (Contains_from_is_in seen x parts.0) cands growing closed x parts.1 (inl refl)
 
     grown_grows : (x : Id) → IsTrue (has_grown g zone sel seen x) → AlwaysGrows x
     grown_grows x h cands growing closed =
@@ -215,13 +214,13 @@ module _ (g : Global) (zone : Zone) (sel : Selection) (form : IsGlobal g) where
   brought_first x z grows brought = subst (λ b. Contains (if b then brought_by g zone sel [] x else []) z)
       (sym (growing_starts x grows).1) brought
 
-  pub growth-start : AppliedAre zone → (start seen : List Id)
+  pub growth_start : AppliedAre zone → (start seen : List Id)
       → ((x : Id) → Contains start x ↔ IsTrue (is_start g zone sel x))
       → AddsAll [] (flat_map (asked_first g zone sel) start) seen → IsGrowth g zone sel seen 0
-  growth-start applied start seen starts adds = record {
+  growth_start applied start seen starts adds = record {
     within = omega arith;
     has = record {
-      sound = λ z h. elim (adds-cases [] (flat_map (asked_first g zone sel) start) seen adds z h) [
+      sound = λ z h. elim (adds_cases [] (flat_map (asked_first g zone sel) start) seen adds z h) [
         | inl none ↦ none_asked z none
         | inr there ↦ (
             let from = flat_in (asked_first g zone sel) start z there in
@@ -260,7 +259,7 @@ module _ (g : Global) (zone : Zone) (sel : Selection) (form : IsGlobal g) where
     d_seen = done_seen d (Contains-append_right (take n old) (d ∷ []) d (here d []))
 
     stays : (z : Id) → Contains old z → Contains new z
-    stays = adds-keeps old (next_asked g zone sel old d) new adds
+    stays = adds_keeps old (next_asked g zone sel old d) new adds
 
     brought_in : IsTrue (is_open g zone sel d) → (z : Id) → Contains (brought_by g zone sel old d) z → Contains new z
     brought_in opened z h = adds.has z
@@ -297,7 +296,7 @@ module _ (g : Global) (zone : Zone) (sel : Selection) (form : IsGlobal g) where
 
     has_more : HasAsked g zone sel done new
     has_more = record {
-      sound = λ z h. elim (adds-cases old (next_asked g zone sel old d) new adds z h) [
+      sound = λ z h. elim (adds_cases old (next_asked g zone sel old d) new adds z h) [
         | inl was ↦ has.sound z was
         | inr named ↦ asked_next old has.sound applied d z (has.sound d d_seen) named
       ];
@@ -319,19 +318,19 @@ module _ (g : Global) (zone : Zone) (sel : Selection) (form : IsGlobal g) where
     more_within = omega (arith, ap length adds.kept ∙ length-append old adds.added)
 
     more_done : take (n + 1) new ≡ done
-    more_done = take-adds old (next_asked g zone sel old d) new (n + 1) adds (omega arith) ∙ done_is
+    more_done = take_adds old (next_asked g zone sel old d) new (n + 1) adds (omega arith) ∙ done_is
 
-  pub growth-next : AppliedAre zone → (old new : List Id) (n : ℕ) (x : Id) → n < length old → x ≡ get_or old n x
+  pub growth_next : AppliedAre zone → (old new : List Id) (n : ℕ) (x : Id) → n < length old → x ≡ get_or old n x
       → AddsAll old (next_asked g zone sel old x) new → IsGrowth g zone sel old n → IsGrowth g zone sel new (n + 1)
-  growth-next applied old new n x below at adds s = record {
+  growth_next applied old new n x below at adds s = record {
     within = more_within applied old new n x below at adds s.has;
     has = subst (λ xs. HasAsked g zone sel xs new) (sym (more_done applied old new n x below at adds s.has))
         (has_more applied old new n x below at adds s.has);
   }
 
   -- having gone through all, it has all
-  pub growth-end : (seen : List Id) (n : ℕ) → length seen ≤ n → IsGrowth g zone sel seen n → AreAsked g zone sel seen
-  growth-end seen n all s = subst (λ xs. HasAsked g zone sel xs seen) (take_all n seen all) s.has
+  pub growth_end : (seen : List Id) (n : ℕ) → length seen ≤ n → IsGrowth g zone sel seen n → AreAsked g zone sel seen
+  growth_end seen n all s = subst (λ xs. HasAsked g zone sel xs seen) (take_all n seen all) s.has
 
   -- The candidates are the start and what is asked for and open.
   module _ (start seen grown ids : List Id) (starts : (x : Id) → Contains start x ↔ IsTrue (is_start g zone sel x))
@@ -359,12 +358,12 @@ module _ (g : Global) (zone : Zone) (sel : Selection) (form : IsGlobal g) where
       | inl l ↦ inl l
       | inr r ↦ (
           let parts = and_parts (is_in seen x) (is_open g zone sel x) r in
-          inr (in_grown x parts.1 (Contains-from_is_in seen x parts.0)))
+          inr (in_grown x parts.1 (Contains_from_is_in seen x parts.0)))
     ]
 
     seen_open : (x : Id) → Contains seen x → IsTrue (is_open g zone sel x)
         → IsTrue (is_in seen x && is_open g zone sel x)
-    seen_open x there open_x = and_from (is_in seen x) (is_open g zone sel x) (is_in-from_Contains seen x there) open_x
+    seen_open x there open_x = and_from (is_in seen x) (is_open g zone sel x) (is_in_from_Contains seen x there) open_x
 
     grows_from : (x : Id) → Contains seen x → IsTrue (is_open g zone sel x) → IsTrue (grows x)
     grows_from x there open_x = or_right (is_growing_start g zone sel x) (is_in seen x && is_open g zone sel x)
@@ -372,7 +371,7 @@ module _ (g : Global) (zone : Zone) (sel : Selection) (form : IsGlobal g) where
 
     -- each candidate is one as far as the ids are asked for
     candidate_taken : (x : Id) → IsTrue (is_in ids x) → IsTrue (taken_up g zone sel seen x)
-    candidate_taken x h = elim (cases x (Contains-from_is_in ids x h)) [
+    candidate_taken x h = elim (cases x (Contains_from_is_in ids x h)) [
       | inl s ↦ or_left (is_start g zone sel x) (is_in seen x && is_open g zone sel x) s
       | inr r ↦ or_right (is_start g zone sel x) (is_in seen x && is_open g zone sel x)
           (seen_open x (grown_in x r).0 (grown_in x r).1)
@@ -409,9 +408,9 @@ module _ (g : Global) (zone : Zone) (sel : Selection) (form : IsGlobal g) where
 
     pub least_pair : IsClosedPair g zone sel (is_in ids) grows
     least_pair = record {
-      start = λ x h. is_in-from_Contains ids x (from_start x h);
+      start = λ x h. is_in_from_Contains ids x (from_start x h);
       growing_start = λ x h. or_left (is_growing_start g zone sel x) (is_in seen x && is_open g zone sel x) h;
-      part = λ x h. is_in-from_Contains ids x (elim (grower x h) [
+      part = λ x h. is_in_from_Contains ids x (elim (grower x h) [
         | inl l ↦ from_start x (growing_starts x l).0
         | inr r ↦ (both x).1 (Contains-append_right start grown x r)
       ]);
@@ -425,21 +424,21 @@ module _ (g : Global) (zone : Zone) (sel : Selection) (form : IsGlobal g) where
         let parts = grown_in x h in
         closed.part x (asked.sound x parts.0 cands growing closed x parts.1 (inl refl))
 
-    pub candidates-from : IsRising ids → AreCandidates g zone sel ids
-    candidates-from rising = record {
+    pub candidates_from : IsRising ids → AreCandidates g zone sel ids
+    candidates_from rising = record {
       rising = rising;
       members = λ x. (
         λ h cands growing closed. elim (cases x h) [
           | inl s ↦ closed.start x s
           | inr r ↦ grown_candidate x r cands growing closed
         ],
-        λ candidate. Contains-from_is_in ids x (candidate (is_in ids) grows least_pair),
+        λ candidate. Contains_from_is_in ids x (candidate (is_in ids) grows least_pair),
       );
     }
 
     all_open : (x : Id) → Contains ids x → IsTrue (is_open g zone sel x)
     all_open x h = elim (cases x h) [ inl s ↦ start_open x s | inr r ↦ (grown_in x r).1 ]
 
-    pub candidates-installable : All (λ x. IsTrue (is_installable g zone x)) ids
-    candidates-installable = λ k d below. (open_parts g zone sel (get_or ids k d)
+    pub candidates_installable : All (λ x. IsTrue (is_installable g zone x)) ids
+    candidates_installable = λ k d below. (open_parts g zone sel (get_or ids k d)
         (all_open (get_or ids k d) (Contains-get_or ids k d below))).installable

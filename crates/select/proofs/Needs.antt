@@ -8,8 +8,7 @@ use Rattle.std.proofs.lemmas.List.Elements.{Contains-append_left, Contains-appen
 use Rattle.terms.specs.Types.{Id, IfReq, Global, Zone, Selection}
 use Rattle.terms.specs.declared.kinds.HoldKind.TheVariants.{Error}
 use Rattle.terms.specs.Lookups.{at_most_one, is_applied, is_supplied, is_function, applied_ids, holds_of}
-use Rattle.terms.specs.Choice.{Choice, fmid_of, pre_of, req_of, ifs_of}
-use Rattle.sysmods.specs.Choices.{by_srel}
+use Rattle.terms.specs.Choice.{Choice, fmid_of, pre_of, req_of, ifs_of, first_ver}
 use Rattle.terms.specs.Global.{IsGlobal}
 use Rattle.terms.specs.Candidates.{needed_ids, open_reasons}
 use Rattle.terms.specs.Conditions.{if_reqs, stated_for, if_needed}
@@ -53,7 +52,7 @@ if_split c p q x z h = let from = if_in c p x z h in by from (q from.0.function)
 
 module _ (g : Global) (zone : Zone) (sel : Selection) where
   abbrev c : Choice
-  c = by_srel g zone.srel
+  c = first_ver g zone.srel
 
   abbrev free : Id → Bool
   free z = not (is_supplied zone z)

@@ -1,8 +1,9 @@
 -- A SYSMOD has one ++VER for an SREL at most, so that all of them say what the one that counts says.
-use Rattle.std.proofs.Common.{◌≡◌, Bool, true, false, not, ◌||◌, List, [], ◌∷◌, ◌++◌, filter, find, Option, None}
+use Rattle.std.proofs.Common.{◌≡◌, Bool, true, false, not, ◌||◌, List, [], ◌∷◌, ◌++◌, filter, Option, None}
 use Rattle.std.proofs.Common.{Some, IsTrue, if◌then◌else◌, refl, subst, ap, ap₂, ◌∙◌, append_assoc}
 use Rattle.std.specs.List.{flat_map, list_any}
-use Rattle.std.specs.Option.{option_map_or, option_and_then}
+use Rattle.std.specs.Prelude.{slice_get}
+use Rattle.std.specs.Option.{option_map_or}
 use Rattle.std.specs.Ordering.{is_lt, nat_cmp}
 use Rattle.std.specs.Cmp.Lexicographic.{slice_cmp}
 use Rattle.std.specs.Str.{bytes_eq}
@@ -12,21 +13,20 @@ use Rattle.terms.specs.Rising.{Rises}
 use Rattle.terms.specs.Types.{Text, Id, Ver, Sysmod, Global, Zone}
 use Rattle.terms.specs.Lookups.{at_most_one, is_applied, is_supplied, is_function, applied_ids, sysmod_of}
 use Rattle.terms.specs.Global.{IsSysmod, IsGlobal}
-use Rattle.terms.specs.Choice.{Choice, vers_of, fmid_of, pre_of, req_of, sup_of}
+use Rattle.terms.specs.Choice.{Choice, vers_of, fmid_of, pre_of, req_of, sup_of, first_ver}
 use Rattle.terms.specs.Conditions.{stated_for, if_needed}
 use Rattle.terms.specs.Candidates.{required_by, needed_ids, sups_for}
-use Rattle.sysmods.specs.Choices.{by_srel}
 use Rattle.sysmods.proofs.Counting.{counted}
-use Rattle.lemmas.proofs.Orderings.{Less-from_is_lt}
-use Rattle.lemmas.proofs.Pairs.{AllPairs-first, AllPairs-rest}
-use Rattle.lemmas.proofs.Searches.{All-find, filter-none}
+use Rattle.lemmas.proofs.Orderings.{Less_from_is_lt}
+use Rattle.lemmas.proofs.Pairs.{AllPairs_first, AllPairs_rest}
+use Rattle.lemmas.proofs.Searches.{All_find, filter_none}
 use Rattle.lemmas.proofs.Texts.{same_from, same_back, other_from_less}
 
 -- where ++VERs rise by SREL, one of them is for this one at most
 one_kept : (srel : Text) (vs : List Ver) → Rises (slice_cmp nat_cmp) (λ v. v.srel) vs
-    → filter (λ v. bytes_eq v.srel srel) vs ≡ at_most_one (find (λ v. bytes_eq v.srel srel) vs)
+    → filter (λ v. bytes_eq v.srel srel) vs ≡ at_most_one (slice_get (filter (λ v. bytes_eq v.srel srel) vs) 0)
 one_kept srel [] rising = refl
-one_kept srel (v ∷ vs) rising = by (one_kept srel vs (AllPairs-rest Below v vs rising)) (bytes_eq v.srel srel) refl
+one_kept srel (v ∷ vs) rising = by (one_kept srel vs (AllPairs_rest Below v vs rising)) (bytes_eq v.srel srel) refl
   where
     Below : Ver → Ver → Type 0
     Below a b = IsTrue (is_lt (slice_cmp nat_cmp a.srel b.srel))
@@ -38,28 +38,28 @@ one_kept srel (v ∷ vs) rising = by (one_kept srel vs (AllPairs-rest Below v vs
     other same w less =
         subst (λ t. bytes_eq w.srel t ≡ false) (same_from v.srel srel same)
         (same_back w.srel v.srel
-        ∙ other_from_less v.srel w.srel (Less-from_is_lt (slice_cmp nat_cmp v.srel w.srel) less))
+        ∙ other_from_less v.srel w.srel (Less_from_is_lt (slice_cmp nat_cmp v.srel w.srel) less))
 
-    by : filter is_for vs ≡ at_most_one (find is_for vs) → (b : Bool) → is_for v ≡ b
-        → filter is_for (v ∷ vs) ≡ at_most_one (find is_for (v ∷ vs))
-    by rest true e = rw e (ap (λ ws. v ∷ ws) (filter-none is_for vs
-        (All-weaker (Below v) (λ w. is_for w ≡ false) (other e) vs (AllPairs-first Below v vs rising))))
+    by : filter is_for vs ≡ at_most_one (slice_get (filter is_for vs) 0) → (b : Bool) → is_for v ≡ b
+        → filter is_for (v ∷ vs) ≡ at_most_one (slice_get (filter is_for (v ∷ vs)) 0)
+    by rest true e = rw e (ap (λ ws. v ∷ ws) (filter_none is_for vs
+        (All-weaker (Below v) (λ w. is_for w ≡ false) (other e) vs (AllPairs_first Below v vs rising))))
     by rest false e = rw e rest
 
--- All ++VERs for an SREL are the one that is looked up.
-pub one_ver : (g : Global) → IsGlobal g → (srel : Text) (x : Id) → vers_of g srel x ≡ at_most_one (by_srel g srel x)
+-- All ++VERs for an SREL are the first.
+pub one_ver : (g : Global) → IsGlobal g → (srel : Text) (x : Id) → vers_of g srel x ≡ at_most_one (first_ver g srel x)
 one_ver g form srel x = by (sysmod_of g x) refl
   where
     by : (o : Option Sysmod) → sysmod_of g x ≡ o
         → option_map_or (λ s. filter (λ v. bytes_eq v.srel srel) s.vers) o []
-        ≡ at_most_one (option_and_then (λ s. find (λ v. bytes_eq v.srel srel) s.vers) o)
+        ≡ at_most_one (slice_get (option_map_or (λ s. filter (λ v. bytes_eq v.srel srel) s.vers) o []) 0)
     by None e = refl
     by (Some s) e =
-        one_kept srel s.vers (All-find IsSysmod (λ s. bytes_eq s.id x) g.sysmods s form.formed e).vers
+        one_kept srel s.vers (All_find IsSysmod (λ s. bytes_eq s.id x) g.sysmods s form.formed e).vers
 
 -- It supersedes by all of its ++VERs what it supersedes by that one.
-pub sups_are : (g : Global) → IsGlobal g → (srel : Text) (x : Id) → sups_for g srel x ≡ sup_of (by_srel g srel) x
-sups_are g form srel x = ap (flat_map (λ v. v.sup)) (one_ver g form srel x) ∙ by (by_srel g srel x)
+pub sups_are : (g : Global) → IsGlobal g → (srel : Text) (x : Id) → sups_for g srel x ≡ sup_of (first_ver g srel) x
+sups_are g form srel x = ap (flat_map (λ v. v.sup)) (one_ver g form srel x) ∙ by (first_ver g srel x)
   where
     by : (o : Option Ver) → flat_map (λ v. v.sup) (at_most_one o) ≡ option_map_or (λ v. v.sup) o []
     by None = refl
@@ -68,7 +68,7 @@ sups_are g form srel x = ap (flat_map (λ v. v.sup)) (one_ver g form srel x) ∙
 -- Its needed ids are its FMID unless that is applied, and what it lists less what the zone supplies.
 module _ (g : Global) (zone : Zone) (cands : Id → Bool) (x : Id) where
   abbrev c : Choice
-  c = by_srel g zone.srel
+  c = first_ver g zone.srel
 
   abbrev free : Id → Bool
   free z = not (is_supplied zone z)

@@ -7,7 +7,7 @@ use Rattle.terms.specs.declared.not_chosen.NotChosen.{NotChosen}
 use Rattle.terms.specs.Types.{Id, Global, Zone, Selection}
 use Rattle.terms.specs.Lookups.{is_in, is_before, IsRising}
 use Rattle.terms.specs.Candidates.{not_chosen}
-use Rattle.terms.proofs.Ids.{Contains-from_is_in}
+use Rattle.terms.proofs.Ids.{Contains_from_is_in}
 use Rattle.lemmas.proofs.Members.{here, there, here_or, none_in}
 use Rattle.std.specs.Option.{option_to_list}
 use Rattle.std.proofs.lemmas.List.{take_more}
@@ -91,7 +91,7 @@ module _ (g : Global) (zone : Zone) (sel : Selection) where
   reason_named x why e = by (is_in (sel.select ++ sel.group) x) refl
     where
       by : (b : Bool) → is_in (sel.select ++ sel.group) x ≡ b → Contains (sel.select ++ sel.group) x
-      by true named = Contains-from_is_in (sel.select ++ sel.group) x named
+      by true named = Contains_from_is_in (sel.select ++ sel.group) x named
       by false unnamed = let none = rw unnamed at e in absurd (cc none)
 
   pub found_members : (xs : List Id) → ((x : Id) → Contains xs x ↔ Contains (sel.select ++ sel.group) x)

@@ -1,31 +1,33 @@
 -- Where the ids of the start are looked for.
-use Rattle.std.proofs.Common.{◌≡◌, ◌⊎◌, inl, inr, true, false, ◌||◌, List, ◌++◌, map, filter, find, Option, None, Some}
+use Rattle.std.proofs.Common.{◌≡◌, ◌⊎◌, inl, inr, true, false, ◌||◌, List, [], ◌++◌, map, filter, Option, None, Some}
 use Rattle.std.proofs.Common.{is_some, Contains, IsTrue, refl, sym, subst, ◌∙◌, true≢false, ◌↔◌}
-use Rattle.std.specs.Option.{option_and_then}
+use Rattle.std.specs.Prelude.{slice_get}
+use Rattle.std.specs.Option.{option_map_or}
 use Rattle.std.specs.Str.{bytes_eq}
 use Rattle.std.proofs.lemmas.Bool.{and_parts, or_cases}
 use Rattle.std.proofs.lemmas.List.Elements.{Contains-append_left, Contains-append_right, All-contains_itself}
 use Rattle.terms.specs.Types.{Text, Id, Sysmod, Global, Zone, Selection}
 use Rattle.terms.specs.Lookups.{is_in, sysmod_of}
-use Rattle.sysmods.specs.Choices.{by_srel}
+use Rattle.terms.specs.Choice.{first_ver}
 use Rattle.terms.specs.Candidates.{is_open, has_mass_choice, is_mass_chosen, is_start}
-use Rattle.terms.proofs.Ids.{Contains-from_is_in}
+use Rattle.terms.proofs.Ids.{Contains_from_is_in}
 use Rattle.lemmas.proofs.Members.{in_map, filter_in, in_filter}
 use Rattle.lemmas.proofs.Texts.{same_from}
-use Rattle.lemmas.proofs.Searches.{find-passes, All-find}
+use Rattle.lemmas.proofs.Searches.{find_passes, All_find}
 use Rattle.select.proofs.Opened.{open_parts}
 
-received_there : (g : Global) (srel : Text) (x : Id) → is_some (by_srel g srel x) ≡ true
+received_there : (g : Global) (srel : Text) (x : Id) → is_some (first_ver g srel x) ≡ true
     → Contains (map (λ s. s.id) g.sysmods) x
 received_there g srel x there = by (sysmod_of g x) refl there
   where
-    by : (o : Option Sysmod) → sysmod_of g x ≡ o → is_some (option_and_then
-        (λ s. find (λ v. bytes_eq v.srel srel) s.vers) o) ≡ true → Contains (map (λ s. s.id) g.sysmods) x
+    by : (o : Option Sysmod) → sysmod_of g x ≡ o
+        → is_some (slice_get (option_map_or (λ s. filter (λ v. bytes_eq v.srel srel) s.vers) o []) 0) ≡ true
+        → Contains (map (λ s. s.id) g.sysmods) x
     by None e none = absurd (true≢false (sym none))
     by (Some s) e _ =
         subst (Contains (map (λ s. s.id) g.sysmods)) (same_from s.id x
-        (find-passes (λ s. bytes_eq s.id x) g.sysmods s e))
-        (in_map (λ s. s.id) g.sysmods s (All-find (Contains g.sysmods) (λ s. bytes_eq s.id x) g.sysmods s
+        (find_passes (λ s. bytes_eq s.id x) g.sysmods s e))
+        (in_map (λ s. s.id) g.sysmods s (All_find (Contains g.sysmods) (λ s. bytes_eq s.id x) g.sysmods s
         (All-contains_itself g.sysmods) e))
 
 module _ (g : Global) (zone : Zone) (sel : Selection) (x : Id) (start : IsTrue (is_start g zone sel x)) where
@@ -43,8 +45,8 @@ module _ (g : Global) (zone : Zone) (sel : Selection) (x : Id) (start : IsTrue (
   start_named none = by (or_cases (is_in sel.select x || is_in sel.group x) (is_mass_chosen g zone sel x) parts.1)
     where
       named : IsTrue (is_in sel.select x) ⊎ IsTrue (is_in sel.group x) → Contains (sel.select ++ sel.group) x
-      named (inl s) = Contains-append_left sel.select sel.group x (Contains-from_is_in sel.select x s)
-      named (inr r) = Contains-append_right sel.select sel.group x (Contains-from_is_in sel.group x r)
+      named (inl s) = Contains-append_left sel.select sel.group x (Contains_from_is_in sel.select x s)
+      named (inr r) = Contains-append_right sel.select sel.group x (Contains_from_is_in sel.group x r)
 
       by : IsTrue (is_in sel.select x || is_in sel.group x) ⊎ IsTrue (is_mass_chosen g zone sel x)
           → Contains (sel.select ++ sel.group) x

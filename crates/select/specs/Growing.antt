@@ -6,8 +6,7 @@ use Rattle.std.specs.Str.{bytes_eq}
 use Rattle.terms.specs.declared.kinds.HoldKind.TheVariants.{Error}
 use Rattle.terms.specs.Types.{Id, hold_number, IfReq, Hold, Global, Zone, Selection}
 use Rattle.terms.specs.Lookups.{at_most_one, is_applied, is_supplied, is_function, is_in, holds_of}
-use Rattle.terms.specs.Choice.{fmid_of, pre_of, req_of, ifs_of, sup_of}
-use Rattle.sysmods.specs.Choices.{by_srel}
+use Rattle.terms.specs.Choice.{fmid_of, pre_of, req_of, ifs_of, sup_of, first_ver}
 use Rattle.terms.specs.Over.{Reaches}
 use Rattle.terms.specs.Candidates.{is_open, is_start, is_growing_start, needed_ids, open_reasons, sups_for}
 use Rattle.terms.specs.Candidates.{IsClosedPair}
@@ -65,7 +64,7 @@ counts_for g zone sel seen x y = has_grown g zone sel seen y || (is_function g x
 -- the requisites that such SYSMODs state for it
 abbrev pub stated : Global → Zone → Selection → List Id → Id → List Id
 stated g zone sel seen x =
-    flat_map (if_reqs (by_srel g zone.srel) (bytes_eq x)) (filter (counts_for g zone sel seen x) (function_namers
+    flat_map (if_reqs (first_ver g zone.srel) (bytes_eq x)) (filter (counts_for g zone sel seen x) (function_namers
     g.sysmods x))
 
 -- the reason of an ERROR hold
@@ -79,20 +78,20 @@ reasons g sel x = if sel.groupextend then map (λ h. h.reason) (holds_of g Error
 -- its PRE, REQ and the requisites of its ++IFs whose function is there
 abbrev pub own_requisites : Global → Zone → Selection → List Id → Id → List Id
 own_requisites g zone sel seen x =
-    pre_of (by_srel g zone.srel) x ++ req_of (by_srel g zone.srel) x
-    ++ reqs_if (is_there g zone sel seen) (ifs_of (by_srel g zone.srel) x)
+    pre_of (first_ver g zone.srel) x ++ req_of (first_ver g zone.srel) x
+    ++ reqs_if (is_there g zone sel seen) (ifs_of (first_ver g zone.srel) x)
 
 -- what comes to be asked for once x grows: by itself, and by those whose ++IFs count for it
 abbrev pub brought_by : Global → Zone → Selection → List Id → Id → List Id
 brought_by g zone sel seen x =
-    filter (λ z. not (is_applied zone z)) (at_most_one (fmid_of (by_srel g zone.srel) x))
+    filter (λ z. not (is_applied zone z)) (at_most_one (fmid_of (first_ver g zone.srel) x))
     ++ filter (λ z. not (is_supplied zone z)) (own_requisites g zone sel seen x ++ stated g zone sel seen x ++ reasons g
     sel x)
 
 -- those that supersede it directly, under GROUPEXTEND
 abbrev pub superseders : Global → Zone → Selection → Id → List Id
 superseders g zone sel z =
-    if sel.groupextend then filter (λ y. is_in (sup_of (by_srel g zone.srel) y) z)
+    if sel.groupextend then filter (λ y. is_in (sup_of (first_ver g zone.srel) y) z)
     (namers_for g.sysmods zone.srel z) else []
 
 -- what comes to be asked for once an id is: if it is open, what it brings, and those that supersede it

@@ -1,13 +1,11 @@
 //! What comes to be asked for once a SYSMOD grows.
-ghost use Rattle.std.specs.Prelude.{◌≡◌, ◌++◌, ◌&&◌, ◌||◌, ◌==◌, [], ◌∷◌, not, filter, map, IfOk, OnOk};
+ghost use Rattle.std.specs.Prelude.{◌≡◌, ◌++◌, ◌&&◌, ◌||◌, ◌==◌, [], not, filter, map, IfOk, OnOk};
 ghost use Rattle.std.specs.Prelude.{if◌then◌else◌};
 ghost use Rattle.std.specs.List.{flat_map};
 ghost use Rattle.std.specs.Str.{bytes_eq};
 ghost use Rattle.terms.specs.declared.kinds.HoldKind.TheVariants.{Error};
-ghost use Rattle.terms.specs.Types.{hold_number};
 ghost use Rattle.terms.specs.Lookups.{at_most_one, is_applied, is_function, is_in, is_supplied, holds_of};
-ghost use Rattle.terms.specs.Choice.{fmid_of};
-ghost use Rattle.sysmods.specs.Choices.{by_srel};
+ghost use Rattle.terms.specs.Choice.{first_ver};
 ghost use Rattle.terms.specs.Candidates.{is_open, is_growing_start};
 ghost use Rattle.terms.specs.Conditions.{if_reqs};
 ghost use Rattle.select.specs.Growing.{taken_up, has_grown, is_there, reqs_if, own_requisites, counts_for, stated};
@@ -18,7 +16,7 @@ use crate::start::is_start;
 use cntl::Selection;
 use fields::Id;
 use indexmap::IndexSet;
-use std::alloc::{AllocError, Global as Heap};
+use std::alloc::{AllocError, Global};
 use sysmods_records::{Hold, IfReq, Ver};
 use terms::HoldKind;
 use zones::Zone;
@@ -156,7 +154,7 @@ fn append_stated_by(
     found: &mut Vec<Id>,
 ) -> Result<(), AllocError>
     ensures { OnOk result (found.new.items ≡ found.old.items
-        ++ if_reqs (by_srel scope.now.global.now scope.now.zone.now.srel) (bytes_eq function) namer) }
+        ++ if_reqs (first_ver scope.now.global.now scope.now.zone.now.srel) (bytes_eq function) namer) }
 {
     match scope.ver(namer) {
         Some(ver) => append_all_for(function, ver.ifs.as_slice(), found),
@@ -186,7 +184,7 @@ fn append_if_counting(
 ) -> Result<(), AllocError>
     ensures { OnOk result (found.new.items ≡ found.old.items
         ++ (if counts_for scope.now.global.now scope.now.zone.now scope.now.selection.now seen.now.keys function namer
-        then if_reqs (by_srel scope.now.global.now scope.now.zone.now.srel) (bytes_eq function) namer else [])) }
+        then if_reqs (first_ver scope.now.global.now scope.now.zone.now.srel) (bytes_eq function) namer else [])) }
 {
     if counts_for(scope, seen, function, namer) {
         append_stated_by(scope, function, namer, found)?;
@@ -202,7 +200,7 @@ fn append_stated_among(
     found: &mut Vec<Id>,
 ) -> Result<(), AllocError>
     ensures { OnOk result (found.new.items ≡ found.old.items
-        ++ flat_map (if_reqs (by_srel scope.now.global.now scope.now.zone.now.srel) (bytes_eq function))
+        ++ flat_map (if_reqs (first_ver scope.now.global.now scope.now.zone.now.srel) (bytes_eq function))
         (filter (counts_for scope.now.global.now scope.now.zone.now scope.now.selection.now seen.now.keys function)
         namers.now)) }
 {
@@ -214,7 +212,7 @@ fn append_stated_among(
 
 // The requisites that others state for it by `++IF`: those that grow, and for a function those that are applied.
 fn append_stated(
-    alloc: Heap,
+    alloc: Global,
     scope: &Scope,
     seen: &IndexSet<Id>,
     id: Id,
@@ -263,7 +261,7 @@ fn append_reasons(scope: &Scope, id: Id, found: &mut Vec<Id>) -> Result<(), Allo
 }
 
 fn requisites(
-    alloc: Heap,
+    alloc: Global,
     scope: &Scope,
     seen: &IndexSet<Id>,
     id: Id,
@@ -280,7 +278,7 @@ fn requisites(
     Ok(ids)
 }
 
-fn unsupplied(alloc: Heap, zone: &Zone, ids: &[Id]) -> Result<Vec<Id>, AllocError>
+fn unsupplied(alloc: Global, zone: &Zone, ids: &[Id]) -> Result<Vec<Id>, AllocError>
     ensures { IfOk result (λ found. found.items ≡ filter (λ z. not (is_supplied zone.now z)) ids.now) }
 {
     ids.iter()
@@ -289,7 +287,7 @@ fn unsupplied(alloc: Heap, zone: &Zone, ids: &[Id]) -> Result<Vec<Id>, AllocErro
         .collect(alloc)
 }
 
-fn unapplied(alloc: Heap, zone: &Zone, fmid: Option<Id>) -> Result<Vec<Id>, AllocError>
+fn unapplied(alloc: Global, zone: &Zone, fmid: Option<Id>) -> Result<Vec<Id>, AllocError>
     ensures { IfOk result (λ found. found.items ≡ filter (λ z. not (is_applied zone.now z)) (at_most_one fmid)) }
 {
     let mut found = Vec::new(alloc);
@@ -303,7 +301,7 @@ fn unapplied(alloc: Heap, zone: &Zone, fmid: Option<Id>) -> Result<Vec<Id>, Allo
 
 /// What comes to be asked for once it grows, where these ids are asked for already.
 pub(crate) fn brought_by(
-    alloc: Heap,
+    alloc: Global,
     scope: &Scope,
     seen: &IndexSet<Id>,
     id: Id,

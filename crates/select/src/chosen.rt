@@ -7,11 +7,11 @@ use crate::scope::Scope;
 use crate::start::start;
 use cntl::Selection;
 use fields::{Id, IdList};
-use std::alloc::{AllocError, Global as Heap};
-use sysmods::Global;
+use std::alloc::{AllocError, Global};
+use sysmods::GlobalZone;
 use zones::Zone;
 
-fn open_among(alloc: Heap, scope: &Scope, ids: &[Id]) -> Result<Vec<Id>, AllocError>
+fn open_among(alloc: Global, scope: &Scope, ids: &[Id]) -> Result<Vec<Id>, AllocError>
     ensures { IfOk result (λ found. found.items
         ≡ filter (is_open scope.now.global.now scope.now.zone.now scope.now.selection.now) ids.now) }
 {
@@ -22,13 +22,13 @@ fn open_among(alloc: Heap, scope: &Scope, ids: &[Id]) -> Result<Vec<Id>, AllocEr
 }
 
 // The start and what it brings in.
-fn start_and_growing(alloc: Heap, scope: &Scope) -> Result<IdList, AllocError>
+fn start_and_growing(alloc: Global, scope: &Scope) -> Result<IdList, AllocError>
     ensures members { IfOk result
         (λ ids. AreCandidates scope.now.global.now scope.now.zone.now scope.now.selection.now ids) }
     ensures installable { IfOk result (λ ids.
         All (λ x. IsTrue (is_installable scope.now.global.now scope.now.zone.now x)) ids) }
 {
-    scope.known();
+    scope.attest();
     let mut ids = start(alloc, scope)?;
     let asked = asked(alloc, scope, ids.as_slice())?;
     let brought_in = open_among(alloc, scope, asked.as_slice())?;
@@ -40,8 +40,8 @@ fn start_and_growing(alloc: Heap, scope: &Scope) -> Result<IdList, AllocError>
 
 /// The candidates, rising.
 pub fn candidates(
-    alloc: Heap,
-    global: &Global,
+    alloc: Global,
+    global: &GlobalZone,
     zone: &Zone,
     selection: &Selection,
 ) -> Result<IdList, AllocError>

@@ -8,7 +8,7 @@ ghost use Rattle.terms.specs.Candidates.{takes_kind, forfmid_ids, passes_filters
 
 use cntl::Selection;
 use fields::{Id, IdList, SourceList, Srel};
-use sysmods::Global;
+use sysmods::GlobalZone;
 use sysmods_records::{Sysmod, Ver};
 use terms::Kind;
 use zones::Zone;
@@ -65,7 +65,7 @@ fn some_ver_among(vers: &[Ver], srel: Srel, wanted: &IdList) -> bool
     vers.iter().any(|ver| is_for_and_among(ver, srel, wanted))
 }
 
-fn meets_fmids(global: &Global, srel: Srel, id: Id, wanted: &IdList) -> bool
+fn meets_fmids(global: &GlobalZone, srel: Srel, id: Id, wanted: &IdList) -> bool
     ensures { result ≡ meets (flat_map (λ v. at_most_one v.fmid) (vers_of global.now srel id)) wanted.now }
 {
     match global.get(id) {
@@ -74,19 +74,19 @@ fn meets_fmids(global: &Global, srel: Srel, id: Id, wanted: &IdList) -> bool
     }
 }
 
-fn meets_function(global: &Global, id: Id, wanted: &IdList) -> bool
+fn meets_function(global: &GlobalZone, id: Id, wanted: &IdList) -> bool
     ensures { result ≡ meets (if is_function global.now id then id ∷ [] else []) wanted.now }
 {
     global.is_function(id) && wanted.contains(id)
 }
 
-fn meets_forfmid(global: &Global, zone: &Zone, id: Id, wanted: &IdList) -> bool
+fn meets_forfmid(global: &GlobalZone, zone: &Zone, id: Id, wanted: &IdList) -> bool
     ensures { result ≡ meets (forfmid_ids global.now zone.now id) wanted.now }
 {
     meets_fmids(global, zone.srel(), id, wanted) || meets_function(global, id, wanted)
 }
 
-fn passes_forfmid(global: &Global, zone: &Zone, id: Id, wanted: &IdList) -> bool
+fn passes_forfmid(global: &GlobalZone, zone: &Zone, id: Id, wanted: &IdList) -> bool
     ensures { result ≡ (is_nil wanted.now || meets (forfmid_ids global.now zone.now id) wanted.now) }
 {
     is_nil(wanted.as_slice()) || meets_forfmid(global, zone, id, wanted)
@@ -94,7 +94,7 @@ fn passes_forfmid(global: &Global, zone: &Zone, id: Id, wanted: &IdList) -> bool
 
 /// Whether the SYSMOD passes all filters of the mass choice.
 pub(crate) fn passes_filters(
-    global: &Global,
+    global: &GlobalZone,
     zone: &Zone,
     selection: &Selection,
     sysmod: &Sysmod,

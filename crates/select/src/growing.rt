@@ -6,8 +6,7 @@ ghost use Rattle.std.specs.Prelude.{◌≡◌, ◌++◌, ◌↔◌, [], filter, 
 ghost use Rattle.std.specs.List.{flat_map};
 ghost use Rattle.terms.specs.Types.{Id as AnId};
 ghost use Rattle.terms.specs.Lookups.{is_in};
-ghost use Rattle.terms.specs.Choice.{sup_of};
-ghost use Rattle.sysmods.specs.Choices.{by_srel};
+ghost use Rattle.terms.specs.Choice.{sup_of, first_ver};
 ghost use Rattle.terms.specs.Candidates.{is_open, is_start};
 ghost use Rattle.sysmods_paths.specs.Seen.{AddsAll};
 ghost use Rattle.select.specs.Growing.{AreAsked, brought_by, asked_first, superseders, next_asked};
@@ -16,11 +15,11 @@ use crate::asking::{brings_others, brought_by};
 use crate::scope::Scope;
 use fields::Id;
 use indexmap::IndexSet;
-use std::alloc::{AllocError, Global as Heap};
+use std::alloc::{AllocError, Global};
 
-fn those_over(alloc: Heap, scope: &Scope, id: Id, namers: &[Id]) -> Result<Vec<Id>, AllocError>
+fn those_over(alloc: Global, scope: &Scope, id: Id, namers: &[Id]) -> Result<Vec<Id>, AllocError>
     ensures { IfOk result (λ found. found.items
-        ≡ filter (λ y. is_in (sup_of (by_srel scope.now.global.now scope.now.zone.now.srel) y) id) namers.now) }
+        ≡ filter (λ y. is_in (sup_of (first_ver scope.now.global.now scope.now.zone.now.srel) y) id) namers.now) }
 {
     namers
         .iter()
@@ -29,7 +28,7 @@ fn those_over(alloc: Heap, scope: &Scope, id: Id, namers: &[Id]) -> Result<Vec<I
         .collect(alloc)
 }
 
-fn superseders(alloc: Heap, scope: &Scope, id: Id) -> Result<Vec<Id>, AllocError>
+fn superseders(alloc: Global, scope: &Scope, id: Id) -> Result<Vec<Id>, AllocError>
     ensures { IfOk result (λ found. found.items
         ≡ superseders scope.now.global.now scope.now.zone.now scope.now.selection.now id) }
 {
@@ -44,7 +43,7 @@ fn superseders(alloc: Heap, scope: &Scope, id: Id) -> Result<Vec<Id>, AllocError
 }
 
 fn brought_if_open(
-    alloc: Heap,
+    alloc: Global,
     scope: &Scope,
     seen: &IndexSet<Id>,
     id: Id,
@@ -61,7 +60,7 @@ fn brought_if_open(
 }
 
 fn next_asked(
-    alloc: Heap,
+    alloc: Global,
     scope: &Scope,
     seen: &IndexSet<Id>,
     id: Id,
@@ -84,7 +83,7 @@ fn see_all(ids: &[Id], seen: &mut IndexSet<Id>) -> Result<(), AllocError>
     Ok(())
 }
 
-fn see_next(alloc: Heap, scope: &Scope, id: Id, seen: &mut IndexSet<Id>) -> Result<(), AllocError>
+fn see_next(alloc: Global, scope: &Scope, id: Id, seen: &mut IndexSet<Id>) -> Result<(), AllocError>
     ensures { OnOk result (AddsAll seen.old.keys
         (next_asked scope.now.global.now scope.now.zone.now scope.now.selection.now seen.old.keys id) seen.new.keys) }
 {
@@ -93,7 +92,7 @@ fn see_next(alloc: Heap, scope: &Scope, id: Id, seen: &mut IndexSet<Id>) -> Resu
     Ok(())
 }
 
-fn asked_first(alloc: Heap, scope: &Scope, id: Id) -> Result<Vec<Id>, AllocError>
+fn asked_first(alloc: Global, scope: &Scope, id: Id) -> Result<Vec<Id>, AllocError>
     ensures { IfOk result (λ found. found.items
         ≡ asked_first scope.now.global.now scope.now.zone.now scope.now.selection.now id) }
 {
@@ -104,7 +103,12 @@ fn asked_first(alloc: Heap, scope: &Scope, id: Id) -> Result<Vec<Id>, AllocError
     }
 }
 
-fn see_first(alloc: Heap, scope: &Scope, id: Id, seen: &mut IndexSet<Id>) -> Result<(), AllocError>
+fn see_first(
+    alloc: Global,
+    scope: &Scope,
+    id: Id,
+    seen: &mut IndexSet<Id>,
+) -> Result<(), AllocError>
     ensures { OnOk result (AddsAll seen.old.keys
         (asked_first scope.now.global.now scope.now.zone.now scope.now.selection.now id) seen.new.keys) }
 {
@@ -114,7 +118,7 @@ fn see_first(alloc: Heap, scope: &Scope, id: Id, seen: &mut IndexSet<Id>) -> Res
 }
 
 // What those of the start bring that bring others in.
-fn asked_by_start(alloc: Heap, scope: &Scope, start: &[Id]) -> Result<IndexSet<Id>, AllocError>
+fn asked_by_start(alloc: Global, scope: &Scope, start: &[Id]) -> Result<IndexSet<Id>, AllocError>
     ensures { IfOk result (λ seen. AddsAll []
         (flat_map (asked_first scope.now.global.now scope.now.zone.now scope.now.selection.now) start.now)
         seen.keys) }
@@ -127,14 +131,14 @@ fn asked_by_start(alloc: Heap, scope: &Scope, start: &[Id]) -> Result<IndexSet<I
 }
 
 /// The ids that are asked for, open or not.
-pub(crate) fn asked(alloc: Heap, scope: &Scope, start: &[Id]) -> Result<IndexSet<Id>, AllocError>
+pub(crate) fn asked(alloc: Global, scope: &Scope, start: &[Id]) -> Result<IndexSet<Id>, AllocError>
     requires { (x : AnId) → Contains start.now x
         ↔ IsTrue (is_start scope.now.global.now scope.now.zone.now scope.now.selection.now x) }
     ensures { IfOk result
         (λ seen. AreAsked scope.now.global.now scope.now.zone.now scope.now.selection.now seen.keys) }
 {
-    scope.known();
-    scope.zone.known();
+    scope.attest();
+    scope.zone.attest();
     let mut seen = asked_by_start(alloc, scope, start)?;
     let mut i = 0;
     while i < seen.len() {

@@ -12,8 +12,8 @@ use crate::scope::Scope;
 use crate::start::{is_named, named_ids};
 use cntl::Selection;
 use fields::{Id, IdList};
-use std::alloc::{AllocError, Global as Heap};
-use sysmods::Global;
+use std::alloc::{AllocError, Global};
+use sysmods::GlobalZone;
 use terms::NotChosen;
 use zones::Zone;
 
@@ -59,7 +59,11 @@ fn push_with_reason(
 }
 
 // The ids that have a reason, each with it.
-fn with_reasons(alloc: Heap, scope: &Scope, ids: &[Id]) -> Result<Vec<(Id, NotChosen)>, AllocError>
+fn with_reasons(
+    alloc: Global,
+    scope: &Scope,
+    ids: &[Id],
+) -> Result<Vec<(Id, NotChosen)>, AllocError>
     ensures { IfOk result (λ found. found.items
         ≡ filter_map (with_reason scope.now.global.now scope.now.zone.now scope.now.selection.now) ids.now) }
 {
@@ -72,8 +76,8 @@ fn with_reasons(alloc: Heap, scope: &Scope, ids: &[Id]) -> Result<Vec<(Id, NotCh
 
 /// The ids of SELECT and GROUP that are neither excluded nor open, rising, each with the reason.
 pub fn not_chosen(
-    alloc: Heap,
-    global: &Global,
+    alloc: Global,
+    global: &GlobalZone,
     zone: &Zone,
     selection: &Selection,
 ) -> Result<Vec<(Id, NotChosen)>, AllocError>

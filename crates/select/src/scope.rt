@@ -1,27 +1,26 @@
 //! What is open to an APPLY.
 ghost use Rattle.std.specs.Prelude.{◌≡◌, not, is_some, option_copied};
 ghost use Rattle.terms.specs.Lookups.{is_in, is_nil, delby_of};
-ghost use Rattle.terms.specs.Choice.{fmid_of, sup_of, vers_of};
-ghost use Rattle.sysmods.specs.Choices.{by_srel};
+ghost use Rattle.terms.specs.Choice.{fmid_of, sup_of, vers_of, first_ver};
 ghost use Rattle.terms.specs.Global.{IsGlobal};
 ghost use Rattle.terms.specs.Candidates.{is_installable, is_open};
 
 use cntl::Selection;
 use fields::Id;
-use sysmods::{Global, VerChoice};
+use sysmods::{GlobalZone, first_ver};
 use sysmods_records::Ver;
 use zones::Zone;
 
 /// What an APPLY chooses from and by.
 #[derive(Clone, Copy)]
 pub(crate) struct Scope<'a> {
-    pub(crate) global: &'a Global,
+    pub(crate) global: &'a GlobalZone,
     pub(crate) zone: &'a Zone,
     pub(crate) selection: &'a Selection,
 }
 
 impl<'a> Scope<'a> {
-    pub(crate) fn new(global: &'a Global, zone: &'a Zone, selection: &'a Selection) -> Self
+    pub(crate) fn new(global: &'a GlobalZone, zone: &'a Zone, selection: &'a Selection) -> Self
         ensures global { result.global.now ≡ global.now }
         ensures zone { result.zone.now ≡ zone.now }
         ensures selection { result.selection.now ≡ selection.now }
@@ -34,7 +33,7 @@ impl<'a> Scope<'a> {
     }
 
     /// The global zone is in order.
-    pub(crate) fn known(&self)
+    pub(crate) fn attest(&self)
         ensures { IsGlobal self.now.global.now }
     {
         prove!(self.global.len() < 65_536);
@@ -42,16 +41,16 @@ impl<'a> Scope<'a> {
 
     /// The `++VER` that counts, if one does.
     pub(crate) fn ver(&self, id: Id) -> Option<&'a Ver>
-        ensures { option_copied result ≡ by_srel self.now.global.now self.now.zone.now.srel id }
+        ensures { option_copied result ≡ first_ver self.now.global.now self.now.zone.now.srel id }
     {
-        VerChoice::new(self.global, self.zone.srel()).ver(id)
+        first_ver(self.global, self.zone.srel(), id)
     }
 
     /// The FMID of the `++VER` that counts.
     pub(crate) fn fmid(&self, id: Id) -> Option<Id>
-        ensures { result ≡ fmid_of (by_srel self.now.global.now self.now.zone.now.srel) id }
+        ensures { result ≡ fmid_of (first_ver self.now.global.now self.now.zone.now.srel) id }
     {
-        VerChoice::new(self.global, self.zone.srel()).fmid(id)
+        self.ver(id)?.fmid
     }
 
     fn has_ver(&self, id: Id) -> bool
@@ -65,7 +64,7 @@ impl<'a> Scope<'a> {
 
     /// Whether the `++VER` of the one that counts names the other in SUP.
     pub(crate) fn supersedes(&self, id: Id, other: Id) -> bool
-        ensures { result ≡ is_in (sup_of (by_srel self.now.global.now self.now.zone.now.srel) id) other }
+        ensures { result ≡ is_in (sup_of (first_ver self.now.global.now self.now.zone.now.srel) id) other }
     {
         match self.ver(id) {
             Some(ver) => ver.supersedes(other),

@@ -9,8 +9,8 @@ use crate::filters::{has_mass_choice, passes_filters};
 use crate::scope::Scope;
 use cntl::Selection;
 use fields::Id;
-use std::alloc::{AllocError, Global as Heap};
-use sysmods::Global;
+use std::alloc::{AllocError, Global};
+use sysmods::GlobalZone;
 
 fn passes(scope: &Scope, id: Id) -> bool
     ensures { result ≡ option_map_or (passes_filters scope.now.global.now scope.now.zone.now scope.now.selection.now)
@@ -43,7 +43,7 @@ pub(crate) fn is_start(scope: &Scope, id: Id) -> bool
 }
 
 /// The ids of SELECT and of GROUP.
-pub(crate) fn named_ids(alloc: Heap, selection: &Selection) -> Result<Vec<Id>, AllocError>
+pub(crate) fn named_ids(alloc: Global, selection: &Selection) -> Result<Vec<Id>, AllocError>
     ensures { IfOk result (λ ids. ids.items ≡ selection.now.select ++ selection.now.group) }
 {
     let mut ids = Vec::from_slice(alloc, selection.select.as_slice())?;
@@ -51,7 +51,7 @@ pub(crate) fn named_ids(alloc: Heap, selection: &Selection) -> Result<Vec<Id>, A
     Ok(ids)
 }
 
-fn received_ids(alloc: Heap, global: &Global) -> Result<Vec<Id>, AllocError>
+fn received_ids(alloc: Global, global: &GlobalZone) -> Result<Vec<Id>, AllocError>
     ensures { IfOk result (λ ids. ids.items ≡ map (λ s. s.id) global.now.sysmods) }
 {
     let mut ids = Vec::new(alloc);
@@ -62,7 +62,7 @@ fn received_ids(alloc: Heap, global: &Global) -> Result<Vec<Id>, AllocError>
 }
 
 // The ids that may be in the start: those named, or all received ones where the mass choice is made.
-fn ids_in_question(alloc: Heap, scope: &Scope) -> Result<Vec<Id>, AllocError>
+fn ids_in_question(alloc: Global, scope: &Scope) -> Result<Vec<Id>, AllocError>
     ensures { IfOk result (λ ids. (x : AnId)
         → IsTrue (is_start scope.now.global.now scope.now.zone.now scope.now.selection.now x)
         → Contains ids.items x) }
@@ -74,7 +74,7 @@ fn ids_in_question(alloc: Heap, scope: &Scope) -> Result<Vec<Id>, AllocError>
     }
 }
 
-fn among(alloc: Heap, scope: &Scope, ids: &[Id]) -> Result<Vec<Id>, AllocError>
+fn among(alloc: Global, scope: &Scope, ids: &[Id]) -> Result<Vec<Id>, AllocError>
     ensures { IfOk result (λ start. start.items
         ≡ filter (is_start scope.now.global.now scope.now.zone.now scope.now.selection.now) ids.now) }
 {
@@ -85,7 +85,7 @@ fn among(alloc: Heap, scope: &Scope, ids: &[Id]) -> Result<Vec<Id>, AllocError>
 }
 
 /// The open ids that the mass choice, SELECT or GROUP names. Some may stand twice.
-pub(crate) fn start(alloc: Heap, scope: &Scope) -> Result<Vec<Id>, AllocError>
+pub(crate) fn start(alloc: Global, scope: &Scope) -> Result<Vec<Id>, AllocError>
     ensures { IfOk result (λ start. (x : AnId) → Contains start.items x
         ↔ IsTrue (is_start scope.now.global.now scope.now.zone.now scope.now.selection.now x)) }
 {

@@ -16,7 +16,7 @@ use Rattle.machine.specs.Outcome.{Outcome, outcome_code, job_code}
 use Rattle.machine.specs.Report.{text}
 use Rattle.machine.specs.Machine.{Files, Perform, Performs, Steps}
 use Rattle.machine.specs.Runs.{Runs}
-use Rattle.machine.proofs.Joined.{runs-append, runs-one}
+use Rattle.machine.proofs.Joined.{runs_append, runs_one}
 use Rattle.store_schema.specs.declared.error.StoreError.{StoreError}
 use Rattle.store_schema.specs.declared.error.StoreError.TheVariants as store
 use Rattle.store.specs.Causes.{IsLater}
@@ -28,20 +28,20 @@ use Rattle.smpe.specs.declared.error.JobError.{JobError}
 use Rattle.smpe.specs.declared.error.JobError.TheVariants.{Write}
 use Rattle.smpe.specs.Ending.{EndsEarly}
 use Rattle.smpe.specs.Commands.{EndsCommands, job_error}
-use Rattle.smpe.proofs.Early.{stopped-first, faulted-first, broke-first, early-after, early-more}
-use Rattle.smpe.proofs.Printing.{runs-printed}
+use Rattle.smpe.proofs.Early.{stopped_first, faulted_first, broke_first, early_after, early_more}
+use Rattle.smpe.proofs.Printing.{runs_printed}
 
-codes-append : (xs ys : List Outcome) → job_code (xs ++ ys) ≡ max (job_code xs) (job_code ys)
-codes-append [] ys = omega arith
-codes-append (x ∷ xs) ys = let e = codes-append xs ys in omega arith
+codes_append : (xs ys : List Outcome) → job_code (xs ++ ys) ≡ max (job_code xs) (job_code ys)
+codes_append [] ys = omega arith
+codes_append (x ∷ xs) ys = let e = codes_append xs ys in omega arith
 
 module _ {S : Type 0} (g : Ghosts S) (date : Text) (files : Files) where
   -- the exit of a `?`
-  pub commands-err : (began at : Held S) (s : State) (session : Session) (cs : List Command) (a b : Option (List ℕ))
+  pub commands_err : (began at : Held S) (s : State) (session : Session) (cs : List Command) (a b : Option (List ℕ))
       (r : Result ℕ JobError) (e : JobError)
       → IsErrAnd r (λ y. y ≡ e) → EndsEarly g began at s (map (Perform date files) cs) a b e
       → EndsCommands g began at s session date files cs a b r
-  commands-err began at s session cs a b r e failed early =
+  commands_err began at s session cs a b r e failed early =
       let p = err_from_is_err_and r failed in
       subst (EndsCommands g began at s session date files cs a b) (sym (p.1 ∙ ap (λ y. Err y) p.2)) early
 
@@ -51,9 +51,9 @@ module _ {S : Type 0} (g : Ghosts S) (date : Text) (files : Files) where
       → HasPerformed g began at s session date files c (Err e)
       → EndsEarly g began at s (Perform date files c ∷ []) taken taken
       (job_error e)
-  unperformed began at s session c taken store.Fault faulted = faulted-first g began at s (Perform date files c) []
+  unperformed began at s session c taken store.Fault faulted = faulted_first g began at s (Perform date files c) []
       taken faulted
-  unperformed began at s session c taken store.Memory stays = stopped-first g began at s (Perform date files c) []
+  unperformed began at s session c taken store.Memory stays = stopped_first g began at s (Perform date files c) []
       taken stays
   unperformed began at s session c taken store.OtherSchema impossible = absurd impossible
   unperformed began at s session c taken store.NoState impossible = absurd impossible
@@ -63,7 +63,7 @@ module _ {S : Type 0} (g : Ghosts S) (date : Text) (files : Files) where
       → Performs date files s c t outcome → Keeps g at t → WrotePart old new (text outcome)
       → EndsEarly g began at s (Perform date files c ∷ []) old new Write
   unreported began at s t c outcome old new performs keeps part =
-      broke-first g began at s (Perform date files c) t (text outcome) old new
+      broke_first g began at s (Perform date files c) t (text outcome) old new
       (outcome ∷ [], (outcome, performs, refl), sym (append-nil (text outcome))) keeps part
 
   -- it was, and was reported
@@ -75,7 +75,7 @@ module _ {S : Type 0} (g : Ghosts S) (date : Text) (files : Files) where
   reported began at s t session c outcome old new code performs is keeps appends told = (
     t,
     outcome ∷ [],
-    runs-one Steps s t (Perform date files c) (outcome ∷ []) (outcome, performs, refl),
+    runs_one Steps s t (Perform date files c) (outcome ∷ []) (outcome, performs, refl),
     is,
     keeps,
     subst (Appends old new) (sym (append-nil (text outcome))) appends,
@@ -83,10 +83,10 @@ module _ {S : Type 0} (g : Ghosts S) (date : Text) (files : Files) where
   )
 
   -- no command yet
-  pub commands-none : (began at : Held S) (s : State) (session : Session) (taken : Option (List ℕ))
+  pub commands_none : (began at : Held S) (s : State) (session : Session) (taken : Option (List ℕ))
       → IsSessionOf s session
       → Keeps g at s → EndsCommands g began at s session date files [] taken taken (Ok 0)
-  commands-none began at s session taken is keeps = (s, [], (refl, refl), is, keeps, Appends-nil taken, refl)
+  commands_none began at s session taken is keeps = (s, [], (refl, refl), is, keeps, Appends-nil taken, refl)
 
   module _ (s : State) (began before at : Held S) (session session' : Session) (xs ys : List Command)
       (a b c : Option (List ℕ)) (code : ℕ) where
@@ -95,10 +95,10 @@ module _ {S : Type 0} (g : Ghosts S) (date : Text) (files : Files) where
         → EndsCommands g before at t session' date files ys b c r
 
     -- commands, and then others
-    pub commands-more : (next : ℕ) → EndsCommands g began before s session date files xs a b (Ok code)
+    pub commands_more : (next : ℕ) → EndsCommands g began before s session date files xs a b (Ok code)
         → GoesOn (Ok next)
         → EndsCommands g began at s session' date files (xs ++ ys) a c (Ok (max code next))
-    commands-more next (t, front, runs, is, keeps, appends, told) goes_on = joined (goes_on t is keeps)
+    commands_more next (t, front, runs, is, keeps, appends, told) goes_on = joined (goes_on t is keeps)
       where
         joined : EndsCommands g before at t session' date files ys b c (Ok next)
             → EndsCommands g began at s session' date files (xs ++ ys) a c (Ok (max code next))
@@ -106,29 +106,29 @@ module _ {S : Type 0} (g : Ghosts S) (date : Text) (files : Files) where
           u,
           front ++ back,
           subst (λ acts. Runs Steps s acts u (front ++ back)) (sym (map-append (Perform date files) xs ys))
-              (runs-append Steps s t u (map (Perform date files) xs) (map (Perform date files) ys) front back runs
+              (runs_append Steps s t u (map (Perform date files) xs) (map (Perform date files) ys) front back runs
               runs'),
           is',
           keeps',
           subst (Appends a c) (sym (flat_map-append text front back))
               (Appends-trans a b c (flat_map text front) (flat_map text back) appends appends'),
-          ap (λ n. max n next) told ∙ ap (λ n. max (job_code front) n) told' ∙ sym (codes-append front back),
+          ap (λ n. max n next) told ∙ ap (λ n. max (job_code front) n) told' ∙ sym (codes_append front back),
         )
 
     -- commands, and then some that ended early
-    pub commands-stop : (e : JobError) → IsLater g began before
+    pub commands_stop : (e : JobError) → IsLater g began before
         → EndsCommands g began before s session date files xs a b (Ok code) → GoesOn (Err e)
         → EndsEarly g began at s (map (Perform date files) (xs ++ ys)) a c e
-    commands-stop e later (t, front, runs, is, keeps, appends, told) goes_on =
+    commands_stop e later (t, front, runs, is, keeps, appends, told) goes_on =
         subst (λ acts. EndsEarly g began at s acts a c e) (sym (map-append (Perform date files) xs ys))
-        (early-after g began at s before t (map (Perform date files) xs) (map (Perform date files) ys)
+        (early_after g began at s before t (map (Perform date files) xs) (map (Perform date files) ys)
         (flat_map text front) a b c e later
-        (runs-printed s t (map (Perform date files) xs) front runs) keeps appends (goes_on t is keeps))
+        (runs_printed s t (map (Perform date files) xs) front runs) keeps appends (goes_on t is keeps))
 
   -- with commands behind that were never begun
-  pub commands-early : (began at : Held S) (s : State) (xs ys : List Command) (a b : Option (List ℕ)) (e : JobError)
+  pub commands_early : (began at : Held S) (s : State) (xs ys : List Command) (a b : Option (List ℕ)) (e : JobError)
       → EndsEarly g began at s (map (Perform date files) xs) a b e
       → EndsEarly g began at s (map (Perform date files) (xs ++ ys)) a b e
-  commands-early began at s xs ys a b e early =
+  commands_early began at s xs ys a b e early =
       subst (λ acts. EndsEarly g began at s acts a b e) (sym (map-append (Perform date files) xs ys))
-      (early-more g began at s (map (Perform date files) xs) (map (Perform date files) ys) a b e early)
+      (early_more g began at s (map (Perform date files) xs) (map (Perform date files) ys) a b e early)

@@ -18,112 +18,112 @@ use Rattle.machine.specs.Outcome.{Outcome, ControlFault, Control}
 use Rattle.machine.specs.Report.{text}
 use Rattle.machine.specs.Machine.{Files, Act, Begin, Perform, Faulty, Define, Job, RunFiles, NewZone, HasActs}
 use Rattle.machine.specs.Machine.{AreFirstActs}
-use Rattle.machine.proofs.Joined.{runs-append, runs-one}
+use Rattle.machine.proofs.Joined.{runs_append, runs_one}
 use Rattle.store_schema.specs.declared.error.StoreError.{StoreError}
 use Rattle.store_schema.specs.declared.error.StoreError.TheVariants as store
 use Rattle.store.specs.BadRows.{OnlyLoads, FoundNoState}
-use Rattle.store.proofs.NoState.{loads-none}
+use Rattle.store.proofs.NoState.{loads_none}
 use Rattle.smpe_session.specs.Writing.{WritesNothing}
 use Rattle.smpe.specs.declared.error.JobError.{JobError}
 use Rattle.smpe.specs.declared.error.JobError.TheVariants.{Memory, Store, Write}
 use Rattle.smpe.specs.Commands.{job_error}
 use Rattle.smpe.specs.Course.{HaveActs, Passes, Passed, FoundNone, TellsNone, Goes, JobGoes, JobsGo}
-use Rattle.smpe.proofs.Listing.{first-more}
+use Rattle.smpe.proofs.Listing.{first_more}
 
 -- of the store's errors NoState alone is told so
-pub none-told : (e : StoreError) → job_error e ≡ Store store.NoState → e ≡ store.NoState
-none-told store.Fault is = absurd (cc is)
-none-told store.OtherSchema is = absurd (cc is)
-none-told store.NoState is = refl
-none-told store.Memory is = absurd (cc is)
+pub none_told : (e : StoreError) → job_error e ≡ Store store.NoState → e ≡ store.NoState
+none_told store.Fault is = absurd (cc is)
+none_told store.OtherSchema is = absurd (cc is)
+none_told store.NoState is = refl
+none_told store.Memory is = absurd (cc is)
 
 -- jobs, and then one more
-have-more : (jobs more : List Job) (acts back : List Act) → HaveActs jobs acts → HaveActs more back
+have_more : (jobs more : List Job) (acts back : List Act) → HaveActs jobs acts → HaveActs more back
     → HaveActs (jobs ++ more) (acts ++ back)
-have-more [] more acts back is has = subst (λ front. HaveActs more (front ++ back)) (sym is) has
-have-more (job ∷ jobs) more acts back (front, later, of_job, rest, is) has = (
+have_more [] more acts back is has = subst (λ front. HaveActs more (front ++ back)) (sym is) has
+have_more (job ∷ jobs) more acts back (front, later, of_job, rest, is) has = (
   front,
   later ++ back,
   of_job,
-  have-more jobs more later back rest has,
+  have_more jobs more later back rest has,
   ap (λ all. all ++ back) is ∙ append_assoc front later back,
 )
 
 -- jobs, and then first acts of others
-have-first : (jobs more : List Job) (acts back : List Act) → HaveActs jobs acts → AreFirstActs more back
+have_first : (jobs more : List Job) (acts back : List Act) → HaveActs jobs acts → AreFirstActs more back
     → AreFirstActs (jobs ++ more) (acts ++ back)
-have-first [] more acts back is first = subst (λ front. AreFirstActs more (front ++ back)) (sym is) first
-have-first (job ∷ jobs) more acts back (front, later, of_job, rest, is) first = inr (
+have_first [] more acts back is first = subst (λ front. AreFirstActs more (front ++ back)) (sym is) first
+have_first (job ∷ jobs) more acts back (front, later, of_job, rest, is) first = inr (
   front,
   later ++ back,
   of_job,
-  have-first jobs more later back rest first,
+  have_first jobs more later back rest first,
   ap (λ all. all ++ back) is ∙ append_assoc front later back,
 )
 
 module _ {S : Type 0} (g : Ghosts S) where
   -- ---- acts
 
-  pub passed-none : (at : Held S) (taken : Option (List ℕ)) → Passed g at at [] taken taken
-  passed-none at taken = record { outcomes = []; passes = (refl, refl); appends = Appends-nil taken }
+  pub passed_none : (at : Held S) (taken : Option (List ℕ)) → Passed g at at [] taken taken
+  passed_none at taken = record { outcomes = []; passes = (refl, refl); appends = Appends-nil taken }
 
   -- one that reports nothing
-  pub passed-quiet : (old new : Held S) (act : Act) (taken : Option (List ℕ)) → Passes g old act new []
+  pub passed_quiet : (old new : Held S) (act : Act) (taken : Option (List ℕ)) → Passes g old act new []
       → Passed g old new (act ∷ []) taken taken
-  passed-quiet old new act taken passes = record {
+  passed_quiet old new act taken passes = record {
     outcomes = [];
-    passes = runs-one (Passes g) old new act [] passes;
+    passes = runs_one (Passes g) old new act [] passes;
     appends = Appends-nil taken;
   }
 
   -- one that reports this
-  pub passed-one : (old new : Held S) (act : Act) (outcome : Outcome) (a b : Option (List ℕ))
+  pub passed_one : (old new : Held S) (act : Act) (outcome : Outcome) (a b : Option (List ℕ))
       → Passes g old act new (outcome ∷ []) → Appends a b (text outcome) → Passed g old new (act ∷ []) a b
-  passed-one old new act outcome a b passes appends = record {
+  passed_one old new act outcome a b passes appends = record {
     outcomes = outcome ∷ [];
-    passes = runs-one (Passes g) old new act (outcome ∷ []) passes;
+    passes = runs_one (Passes g) old new act (outcome ∷ []) passes;
     appends = subst (Appends a b) (sym (append-nil (text outcome))) appends;
   }
 
   module _ (old mid new : Held S) (xs ys : List Act) (a b c : Option (List ℕ)) (front : Passed g old mid xs a b) where
-    pub passed-more : Passed g mid new ys b c → Passed g old new (xs ++ ys) a c
-    passed-more back = record {
+    pub passed_more : Passed g mid new ys b c → Passed g old new (xs ++ ys) a c
+    passed_more back = record {
       outcomes = front.outcomes ++ back.outcomes;
-      passes = runs-append (Passes g) old mid new xs ys front.outcomes back.outcomes front.passes back.passes;
+      passes = runs_append (Passes g) old mid new xs ys front.outcomes back.outcomes front.passes back.passes;
       appends = subst (Appends a c) (sym (flat_map-append text front.outcomes back.outcomes))
           (Appends-trans a b c (flat_map text front.outcomes) (flat_map text back.outcomes) front.appends
           back.appends);
     }
 
-  pub found-first : (at new : Held S) (next : Act) (rest : List Act) (taken : Option (List ℕ)) → FoundNoState g at new
+  pub found_first : (at new : Held S) (next : Act) (rest : List Act) (taken : Option (List ℕ)) → FoundNoState g at new
       → FoundNone g at new (next ∷ rest) taken taken
-  found-first at new next rest taken found = record {
+  found_first at new next rest taken found = record {
     done = [];
     next = next;
     rest = rest;
     acts_are = refl;
     before = at;
-    passed = passed-none at taken;
+    passed = passed_none at taken;
     found = found;
   }
 
   -- acts that ran, and then some that found none
-  pub found-after : (old mid new : Held S) (xs ys : List Act) (a b c : Option (List ℕ)) → Passed g old mid xs a b
+  pub found_after : (old mid new : Held S) (xs ys : List Act) (a b c : Option (List ℕ)) → Passed g old mid xs a b
       → FoundNone g mid new ys b c → FoundNone g old new (xs ++ ys) a c
-  found-after old mid new xs ys a b c front back = record {
+  found_after old mid new xs ys a b c front back = record {
     done = xs ++ back.done;
     next = back.next;
     rest = back.rest;
     acts_are = ap (λ zs. xs ++ zs) back.acts_are ∙ sym (append_assoc xs back.done (back.next ∷ back.rest));
     before = back.before;
-    passed = passed-more old mid back.before xs back.done a b c front back.passed;
+    passed = passed_more old mid back.before xs back.done a b c front back.passed;
     found = back.found;
   }
 
   -- with acts behind that were never begun
-  pub found-more : (old new : Held S) (xs ys : List Act) (a b : Option (List ℕ)) → FoundNone g old new xs a b
+  pub found_more : (old new : Held S) (xs ys : List Act) (a b : Option (List ℕ)) → FoundNone g old new xs a b
       → FoundNone g old new (xs ++ ys) a b
-  found-more old new xs ys a b found = record {
+  found_more old new xs ys a b found = record {
     done = found.done;
     next = found.next;
     rest = found.rest ++ ys;
@@ -136,56 +136,56 @@ module _ {S : Type 0} (g : Ghosts S) where
   -- ---- errors
 
   module _ (new : Held S) (Found : Type 0) where
-    pub tells-none : (e : JobError) → (e ≡ Store store.NoState → HasCleanDisk (state g new) → Found)
+    pub tells_none : (e : JobError) → (e ≡ Store store.NoState → HasCleanDisk (state g new) → Found)
         → TellsNone g new e Found
-    tells-none Memory found = tt
-    tells-none (Store store.Fault) found = tt
-    tells-none (Store store.OtherSchema) found = tt
-    tells-none (Store store.NoState) found = found refl
-    tells-none (Store store.Memory) found = tt
-    tells-none Write found = tt
+    tells_none Memory found = tt
+    tells_none (Store store.Fault) found = tt
+    tells_none (Store store.OtherSchema) found = tt
+    tells_none (Store store.NoState) found = found refl
+    tells_none (Store store.Memory) found = tt
+    tells_none Write found = tt
 
-    pub none-found : (e : JobError) → TellsNone g new e Found → e ≡ Store store.NoState → HasCleanDisk (state g new)
+    pub none_found : (e : JobError) → TellsNone g new e Found → e ≡ Store store.NoState → HasCleanDisk (state g new)
         → Found
-    none-found e tells is = subst (λ q. TellsNone g new q Found) is tells
+    none_found e tells is = subst (λ q. TellsNone g new q Found) is tells
 
   -- what one tells of one thing it tells of what follows
-  tells-more : (new : Held S) (P Q : Type 0) → (P → Q) → (e : JobError) → TellsNone g new e P → TellsNone g new e Q
-  tells-more new P Q more e tells = tells-none new Q e (λ is clean. more (none-found new P e tells is clean))
+  tells_more : (new : Held S) (P Q : Type 0) → (P → Q) → (e : JobError) → TellsNone g new e P → TellsNone g new e Q
+  tells_more new P Q more e tells = tells_none new Q e (λ is clean. more (none_found new P e tells is clean))
 
   -- ---- commands
 
   -- the exit of a `?`
-  pub goes-err : {X : Type 0} (old new : Held S) (acts : List Act) (a b : Option (List ℕ)) (r : Result X JobError)
+  pub goes_err : {X : Type 0} (old new : Held S) (acts : List Act) (a b : Option (List ℕ)) (r : Result X JobError)
       (e : JobError) → IsErrAnd r (λ y. y ≡ e) → TellsNone g new e (FoundNone g old new acts a b)
       → Goes g old new acts a b r
-  goes-err old new acts a b r e failed tells =
+  goes_err old new acts a b r e failed tells =
       let p = err_from_is_err_and r failed in
       subst (λ q. Goes g old new acts a b q) (sym (p.1 ∙ ap (λ y. Err y) p.2)) tells
 
   module _ (date : Text) (files : Files) (old mid new : Held S) (xs ys : List Command) (a b c : Option (List ℕ))
       (front : Passed g old mid (map (Perform date files) xs) a b) where
     -- commands, and then others
-    pub commands-passed : Passed g mid new (map (Perform date files) ys) b c
+    pub commands_passed : Passed g mid new (map (Perform date files) ys) b c
         → Passed g old new (map (Perform date files) (xs ++ ys)) a c
-    commands-passed back = subst (λ acts. Passed g old new acts a c) (sym (map-append (Perform date files) xs ys))
-        (passed-more old mid new (map (Perform date files) xs) (map (Perform date files) ys) a b c front back)
+    commands_passed back = subst (λ acts. Passed g old new acts a c) (sym (map-append (Perform date files) xs ys))
+        (passed_more old mid new (map (Perform date files) xs) (map (Perform date files) ys) a b c front back)
 
     -- commands, and then some that found none, with others behind that were never begun
-    commands-found : (more : List Command) → FoundNone g mid new (map (Perform date files) ys) b c
+    commands_found : (more : List Command) → FoundNone g mid new (map (Perform date files) ys) b c
         → FoundNone g old new (map (Perform date files) ((xs ++ ys) ++ more)) a c
-    commands-found more back =
+    commands_found more back =
         let perform = Perform date files in
         subst (λ acts. FoundNone g old new acts a c) (sym (map-append perform (xs ++ ys) more))
-        (found-more old new (map perform (xs ++ ys)) (map perform more) a c
+        (found_more old new (map perform (xs ++ ys)) (map perform more) a c
         (subst (λ acts. FoundNone g old new acts a c) (sym (map-append perform xs ys))
-        (found-after old mid new (map perform xs) (map perform ys) a b c front back)))
+        (found_after old mid new (map perform xs) (map perform ys) a b c front back)))
 
-    pub commands-tell : (more : List Command) (e : JobError)
+    pub commands_tell : (more : List Command) (e : JobError)
         → TellsNone g new e (FoundNone g mid new (map (Perform date files) ys) b c)
         → TellsNone g new e (FoundNone g old new (map (Perform date files) ((xs ++ ys) ++ more)) a c)
-    commands-tell more = tells-more new (FoundNone g mid new (map (Perform date files) ys) b c)
-        (FoundNone g old new (map (Perform date files) ((xs ++ ys) ++ more)) a c) (commands-found more)
+    commands_tell more = tells_more new (FoundNone g mid new (map (Perform date files) ys) b c)
+        (FoundNone g old new (map (Perform date files) ((xs ++ ys) ++ more)) a c) (commands_found more)
 
   -- ---- jobs
 
@@ -197,69 +197,69 @@ module _ {S : Type 0} (g : Ghosts S) where
   abbrev pub JobFound : Held S → Held S → Job → Option (List ℕ) → Option (List ℕ) → Type 0
   JobFound old new job a b = (acts : List Act) × HasActs job acts × FoundNone g old new acts a b
 
-  pub job-goes-err : {X : Type 0} (old new : Held S) (job : Job) (a b : Option (List ℕ)) (r : Result X JobError)
+  pub job_goes_err : {X : Type 0} (old new : Held S) (job : Job) (a b : Option (List ℕ)) (r : Result X JobError)
       (e : JobError) → IsErrAnd r (λ y. y ≡ e) → TellsNone g new e (JobFound old new job a b)
       → JobGoes g old new job a b r
-  job-goes-err old new job a b r e failed tells =
+  job_goes_err old new job a b r e failed tells =
       let p = err_from_is_err_and r failed in
       subst (λ q. JobGoes g old new job a b q) (sym (p.1 ∙ ap (λ y. Err y) p.2)) tells
 
   module _ (date : Text) (cntl : List ℕ) (files : Files) where
     -- the command file is at fault, and that is reported
-    pub faulty-goes : (at : Held S) (fault : CntlFault) (a b : Option (List ℕ)) → IsCommandFileFault cntl fault
+    pub faulty_goes : (at : Held S) (fault : CntlFault) (a b : Option (List ℕ)) → IsCommandFileFault cntl fault
         → Appends a b (text (Control (record { number = fault.number; code = fault.code })))
         → JobWent at at (RunFiles date cntl files) a b
-    faulty-goes at fault a b is appends =
+    faulty_goes at fault a b is appends =
         let control : ControlFault = record { number = fault.number; code = fault.code } in (
           Begin ∷ Faulty control ∷ [],
           inr (fault, is, refl),
-          passed-more at at at (Begin ∷ []) (Faulty control ∷ []) a a b
-              (passed-quiet at at Begin a (loads-none g at, refl))
-              (passed-one at at (Faulty control) (Control control) a b (loads-none g at, refl) appends),
+          passed_more at at at (Begin ∷ []) (Faulty control ∷ []) a a b
+              (passed_quiet at at Begin a (loads_none g at, refl))
+              (passed_one at at (Faulty control) (Control control) a b (loads_none g at, refl) appends),
         )
 
     -- the job did not begin
-    pub begin-found : (old new : Held S) (cs : List Command) (taken : Option (List ℕ)) → IsCommandFile cntl cs
+    pub begin_found : (old new : Held S) (cs : List Command) (taken : Option (List ℕ)) → IsCommandFile cntl cs
         → FoundNoState g old new → JobFound old new (RunFiles date cntl files) taken taken
-    begin-found old new cs taken is found = (
+    begin_found old new cs taken is found = (
       Begin ∷ map (Perform date files) cs,
       inl (cs, is, refl),
-      found-first old new Begin (map (Perform date files) cs) taken found,
+      found_first old new Begin (map (Perform date files) cs) taken found,
     )
 
     -- it began, and its commands went so
-    pub begun-goes : {X : Type 0} (old at new : Held S) (cs : List Command) (a b : Option (List ℕ))
+    pub begun_goes : {X : Type 0} (old at new : Held S) (cs : List Command) (a b : Option (List ℕ))
         (r : Result X JobError) → IsCommandFile cntl cs → OnlyLoads g old at
         → Goes g at new (map (Perform date files) cs) a b r → JobGoes g old new (RunFiles date cntl files) a b r
-    begun-goes old at new cs a b (Ok x) is loads went = (
+    begun_goes old at new cs a b (Ok x) is loads went = (
       Begin ∷ map (Perform date files) cs,
       inl (cs, is, refl),
-      passed-more old at new (Begin ∷ []) (map (Perform date files) cs) a a b (passed-quiet old at Begin a (loads, refl))
+      passed_more old at new (Begin ∷ []) (map (Perform date files) cs) a a b (passed_quiet old at Begin a (loads, refl))
           went,
     )
-    begun-goes old at new cs a b (Err e) is loads tells =
-        tells-more new (FoundNone g at new (map (Perform date files) cs) a b)
+    begun_goes old at new cs a b (Err e) is loads tells =
+        tells_more new (FoundNone g at new (map (Perform date files) cs) a b)
         (JobFound old new (RunFiles date cntl files) a b) (λ found. (
           Begin ∷ map (Perform date files) cs,
           inl (cs, is, refl),
-          found-after old at new (Begin ∷ []) (map (Perform date files) cs) a a b
-              (passed-quiet old at Begin a (loads, refl)) found,
+          found_after old at new (Begin ∷ []) (map (Perform date files) cs) a a b
+              (passed_quiet old at Begin a (loads, refl)) found,
         )) e tells
 
   -- the definition of a zone
-  pub define-goes : (old new : Held S) (d : ZoneDefinition) (taken : Option (List ℕ))
+  pub define_goes : (old new : Held S) (d : ZoneDefinition) (taken : Option (List ℕ))
       → JobWent old new (NewZone d) taken taken
-  define-goes old new d taken = (Define d ∷ [], refl, passed-quiet old new (Define d) taken refl)
+  define_goes old new d taken = (Define d ∷ [], refl, passed_quiet old new (Define d) taken refl)
 
   -- or it told that no state is there
-  pub define-none : (old new : Held S) (d : ZoneDefinition) (taken : Option (List ℕ)) (e : StoreError)
+  pub define_none : (old new : Held S) (d : ZoneDefinition) (taken : Option (List ℕ)) (e : StoreError)
       (told : JobError) → told ≡ job_error e → (e ≡ store.NoState → HasCleanDisk (state g new) → FoundNoState g old new)
       → TellsNone g new told (JobFound old new (NewZone d) taken taken)
-  define-none old new d taken e told is found =
-      tells-none new (JobFound old new (NewZone d) taken taken) told (λ bad clean. (
+  define_none old new d taken e told is found =
+      tells_none new (JobFound old new (NewZone d) taken taken) told (λ bad clean. (
         Define d ∷ [],
         refl,
-        found-first old new (Define d) [] taken (found (none-told e (sym is ∙ bad)) clean),
+        found_first old new (Define d) [] taken (found (none_told e (sym is ∙ bad)) clean),
       ))
 
   -- ---- lists of jobs
@@ -272,31 +272,31 @@ module _ {S : Type 0} (g : Ghosts S) where
   abbrev pub JobsFound : Held S → Held S → List Job → Option (List ℕ) → Option (List ℕ) → Type 0
   JobsFound old new jobs a b = (acts : List Act) × AreFirstActs jobs acts × FoundNone g old new acts a b
 
-  pub jobs-go-err : {X : Type 0} (old new : Held S) (jobs : List Job) (a b : Option (List ℕ)) (r : Result X JobError)
+  pub jobs_go_err : {X : Type 0} (old new : Held S) (jobs : List Job) (a b : Option (List ℕ)) (r : Result X JobError)
       (e : JobError) → IsErrAnd r (λ y. y ≡ e) → TellsNone g new e (JobsFound old new jobs a b)
       → JobsGo g old new jobs a b r
-  jobs-go-err old new jobs a b r e failed tells =
+  jobs_go_err old new jobs a b r e failed tells =
       let p = err_from_is_err_and r failed in
       subst (λ q. JobsGo g old new jobs a b q) (sym (p.1 ∙ ap (λ y. Err y) p.2)) tells
 
   module _ (old mid new : Held S) (jobs : List Job) (job : Job) (a b c : Option (List ℕ))
       (front : JobsWent old mid jobs a b) where
     -- and then one more
-    pub went-more : JobWent mid new job b c → JobsWent old new (jobs ++ job ∷ []) a c
-    went-more back = (
+    pub went_more : JobWent mid new job b c → JobsWent old new (jobs ++ job ∷ []) a c
+    went_more back = (
       front.0 ++ back.0,
-      have-more jobs (job ∷ []) front.0 back.0 front.1 (back.0, [], back.1, refl, sym (append-nil back.0)),
-      passed-more old mid new front.0 back.0 a b c front.2 back.2,
+      have_more jobs (job ∷ []) front.0 back.0 front.1 (back.0, [], back.1, refl, sym (append-nil back.0)),
+      passed_more old mid new front.0 back.0 a b c front.2 back.2,
     )
 
     -- or one that found none, with others behind that were never begun
-    pub jobs-tell : (more : List Job) (e : JobError) → TellsNone g new e (JobFound mid new job b c)
+    pub jobs_tell : (more : List Job) (e : JobError) → TellsNone g new e (JobFound mid new job b c)
         → TellsNone g new e (JobsFound old new ((jobs ++ job ∷ []) ++ more) a c)
-    jobs-tell more =
-        tells-more new (JobFound mid new job b c) (JobsFound old new ((jobs ++ job ∷ []) ++ more) a c) (λ back. (
+    jobs_tell more =
+        tells_more new (JobFound mid new job b c) (JobsFound old new ((jobs ++ job ∷ []) ++ more) a c) (λ back. (
           front.0 ++ back.0,
-          first-more (jobs ++ job ∷ []) more (front.0 ++ back.0)
-              (have-first jobs (job ∷ []) front.0 back.0 front.1
+          first_more (jobs ++ job ∷ []) more (front.0 ++ back.0)
+              (have_first jobs (job ∷ []) front.0 back.0 front.1
               (inr (back.0, [], back.1, refl, sym (append-nil back.0)))),
-          found-after old mid new front.0 back.0 a b c front.2 back.2,
+          found_after old mid new front.0 back.0 a b c front.2 back.2,
         ))

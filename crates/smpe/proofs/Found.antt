@@ -10,7 +10,7 @@ use Rattle.store_schema.specs.declared.error.StoreError.TheVariants as store
 use Rattle.store_schema.specs.Inventory.{Inventory}
 use Rattle.store.specs.Causes.{LeavesFaulted}
 use Rattle.store.specs.View.{Tables, TablesIfOpen, MayLeave, Leaves}
-use Rattle.store.proofs.Reopening.{found-left}
+use Rattle.store.proofs.Reopening.{found_left}
 use Rattle.smpe_zones.specs.Kept.{kept}
 use Rattle.smpe.specs.declared.error.JobError.{JobError}
 use Rattle.smpe.specs.declared.error.JobError.TheVariants.{Memory, Store, Write}
@@ -20,8 +20,8 @@ use Rattle.smpe.specs.Reopened.{ShowsLeft, ShowsOne, FindsEarly, NextOpenFinds}
 module _ {S T : Type 0} (g : Ghosts S) (h : Ghosts T) (began at : Held S) (again : Held T) (s : State) (acts : List Act)
     (old new : Option (List ℕ)) (shows : ShowsLeft g at h again) (left : MayLeave g at (state h again).committed.trees)
   where
-    one-of : (Among : Inventory → Type 0) → Leaves g at Among → ShowsOne h again Among
-    one-of Among leaves = found-left g h at again Among leaves shows.live left shows.is_open
+    one_of : (Among : Inventory → Type 0) → Leaves g at Among → ShowsOne h again Among
+    one_of Among leaves = found_left g h at again Among leaves shows.live left shows.is_open
 
     stopped : (Left : (Inventory → Type 0) → Type 0) → ((Among : Inventory → Type 0) → Left Among → Leaves g at Among)
         → Stopped Prints kept s acts (TablesIfOpen g at) Left old new
@@ -34,7 +34,7 @@ module _ {S T : Type 0} (g : Ghosts S) (h : Ghosts T) (began at : Held S) (again
       bytes = stop.bytes;
       runs = stop.runs;
       now = tt;
-      crash = one-of _ (leaves _ stop.crash);
+      crash = one_of _ (leaves _ stop.crash);
       appends = stop.appends;
     }
 
@@ -51,7 +51,7 @@ module _ {S T : Type 0} (g : Ghosts S) (h : Ghosts T) (began at : Held S) (again
       end = off.end;
       text = off.text;
       step = off.step;
-      stands = record { now = tt; crash = one-of _ off.stands.crash };
+      stands = record { now = tt; crash = one_of _ off.stands.crash };
       piece = off.piece;
       lost = off.lost;
       text_is = off.text_is;
@@ -66,6 +66,6 @@ module _ {S T : Type 0} (g : Ghosts S) (h : Ghosts T) (began at : Held S) (again
     early (Store store.Memory) ends = ends
     early Write ends = broke ends
 
-pub next-open-finds : {S T : Type 0} (g : Ghosts S) (h : Ghosts T) → NextOpenFinds g h
-next-open-finds g h began at again s jobs old new error (acts, first, ends) shows =
+pub next_open_finds_holds : {S T : Type 0} (g : Ghosts S) (h : Ghosts T) → NextOpenFinds g h
+next_open_finds_holds g h began at again s jobs old new error (acts, first, ends) shows =
     ∥∥₁_map shows.left (λ left. (acts, first, early g h began at again s acts old new shows left error ends))

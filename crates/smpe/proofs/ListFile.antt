@@ -245,8 +245,8 @@ list_printable : All IsPrintable (codes "LIST.")
 list_printable = printable_from (codes "LIST.") refl
 
 -- The records that list a zone are SET and LIST.
-pub lists-zone : (zone : Text) → IsZoneName zone → IsCommandFile (list_records zone) (Set zone ∷ ListZone false ∷ [])
-lists-zone zone name =
+pub lists_zone : (zone : Text) → IsZoneName zone → IsCommandFile (list_records zone) (Set zone ∷ ListZone false ∷ [])
+lists_zone zone name =
     let set : Text = codes "SET BDY(" ++ (zone ++ codes ").") in
     let one : List ℕ = left_in 80 set in
     let two : List ℕ = left_in 80 (codes "LIST.") in

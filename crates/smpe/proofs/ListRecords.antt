@@ -14,13 +14,13 @@ left_length : (n : ℕ) (text : Text) → length text ≤ n → length (left_in 
 left_length n text short = length-append text (replicate (n - length text) 32)
     ∙ ap (λ k. length text + k) (length-replicate (n - length text) 32) ∙ omega arith
 
-pub are-records : (zone text one both file : Text) → length zone ≤ 7
+pub are_records : (zone text one both file : Text) → length zone ≤ 7
     → text ≡ codes "SET BDY(" ++ zone ++ codes ")."
     → one ≡ take 80 text ++ replicate (80 - length text) 32
     → both ≡ one ++ codes "LIST."
     → file ≡ take 160 both ++ replicate (160 - length both) 32
     → file ≡ list_records zone
-are-records zone text one both file small text_is one_is both_is file_is =
+are_records zone text one both file small text_is one_is both_is file_is =
     let set = codes "SET BDY(" ++ zone ++ codes ")." in
     let set_length : length set ≤ 17 =
     omega (arith, length-append (codes "SET BDY(") (zone ++ codes ")."), length-append zone (codes ").")) in

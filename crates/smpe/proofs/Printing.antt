@@ -8,14 +8,14 @@ use Rattle.machine.specs.Report.{text}
 use Rattle.machine.specs.Machine.{Act, Steps, Prints}
 use Rattle.machine.specs.Runs.{Runs}
 
-pub runs-printed : (s t : State) (acts : List Act) (outcomes : List Outcome) → Runs Steps s acts t outcomes
+pub runs_printed : (s t : State) (acts : List Act) (outcomes : List Outcome) → Runs Steps s acts t outcomes
     → Runs Prints s acts t (flat_map text outcomes)
-runs-printed s t [] outcomes r = (r.0, ap (flat_map text) r.1)
-runs-printed s t (a ∷ acts) outcomes (m, front, back, step, r, is) = (
+runs_printed s t [] outcomes r = (r.0, ap (flat_map text) r.1)
+runs_printed s t (a ∷ acts) outcomes (m, front, back, step, r, is) = (
   m,
   flat_map text front,
   flat_map text back,
   (front, step, refl),
-  runs-printed m t acts back r,
+  runs_printed m t acts back r,
   ap (flat_map text) is ∙ flat_map-append text front back,
 )

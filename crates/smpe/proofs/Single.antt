@@ -32,11 +32,11 @@ use Rattle.smpe.specs.declared.error.JobError.{JobError}
 use Rattle.smpe.specs.declared.error.JobError.TheVariants.{Memory, Write}
 use Rattle.smpe.specs.Ending.{EndsEarly, EndsAmong, EndsJob}
 use Rattle.smpe.specs.Commands.{EndsCommands, job_error}
-use Rattle.smpe.proofs.Early.{stopped-first, faulted-first, early-after}
+use Rattle.smpe.proofs.Early.{stopped_first, faulted_first, early_after}
 
 -- the acts of the only job
-one-job : (job : Job) (acts : List Act) → HasActs job acts → AreFirstActs (job ∷ []) acts
-one-job job acts has = inr (acts, [], has, refl, sym (append-nil acts))
+one_job : (job : Job) (acts : List Act) → HasActs job acts → AreFirstActs (job ∷ []) acts
+one_job job acts has = inr (acts, [], has, refl, sym (append-nil acts))
 
 abbrev unset : State → State
 unset s = record s { boundary = None }
@@ -44,26 +44,26 @@ unset s = record s { boundary = None }
 abbrev control : CntlFault → ControlFault
 control fault = record { number = fault.number; code = fault.code }
 
-pub control-same : {n m : ℕ} {a b : CnCode} → n ≡ m → a ≡ b → text (Control (record { number = n; code = a })) ≡ text
+pub control_same : {n m : ℕ} {a b : CnCode} → n ≡ m → a ≡ b → text (Control (record { number = n; code = a })) ≡ text
     (Control (record { number = m; code = b }))
-control-same {n} {m} {a} {b} numbers codes = ap (λ k. text (Control (record { number = k; code = a }))) numbers
+control_same {n} {m} {a} {b} numbers codes = ap (λ k. text (Control (record { number = k; code = a }))) numbers
     ∙ ap (λ k. text (Control (record { number = m; code = k }))) codes
 
 module _ {S : Type 0} (g : Ghosts S) (began at : Held S) (s : State) where
   -- the exit of a `?`
-  pub job-err : {V : Type 0} (job : Job) (a b : Option (List ℕ)) (answer : V → machine.Answer) (r : Result V JobError)
+  pub job_err : {V : Type 0} (job : Job) (a b : Option (List ℕ)) (answer : V → machine.Answer) (r : Result V JobError)
       (e : JobError)
       → IsErrAnd r (λ y. y ≡ e) → EndsAmong g began at s (job ∷ []) a b e → EndsJob g began at s job a b answer r
-  job-err job a b answer r e failed ends =
+  job_err job a b answer r e failed ends =
       let p = err_from_is_err_and r failed in
       subst (EndsJob g began at s job a b answer) (sym (p.1 ∙ ap (λ y. Err y) p.2)) ends
 
   module _ (date : Text) (cntl : List ℕ) (files : Files) where
     -- the command file is at fault, and that is reported
-    pub faulty-ran : (fault : CntlFault) (old new : Option (List ℕ)) (code : ℕ) → IsCommandFileFault cntl fault
+    pub faulty_ran : (fault : CntlFault) (old new : Option (List ℕ)) (code : ℕ) → IsCommandFileFault cntl fault
         → Keeps g at s → Appends old new (text (Control (control fault))) → code ≡ 12
         → EndsJob g began at s (RunFiles date cntl files) old new Code (Ok code)
-    faulty-ran fault old new code is keeps appends told = (
+    faulty_ran fault old new code is keeps appends told = (
       unset s,
       flat_map text (Control (control fault) ∷ []),
       record {
@@ -86,12 +86,12 @@ module _ {S : Type 0} (g : Ghosts S) (began at : Held S) (s : State) where
     )
 
     -- the report of that broke off
-    pub faulty-broke : (fault : CntlFault) (old new : Option (List ℕ)) → IsCommandFileFault cntl fault → Keeps g at s
+    pub faulty_broke : (fault : CntlFault) (old new : Option (List ℕ)) → IsCommandFileFault cntl fault → Keeps g at s
         → WrotePart old new (text (Control (control fault)))
         → EndsAmong g began at s (RunFiles date cntl files ∷ []) old new Write
-    faulty-broke fault old new is keeps part = (
+    faulty_broke fault old new is keeps part = (
       Begin ∷ Faulty (control fault) ∷ [],
-      one-job (RunFiles date cntl files) (Begin ∷ Faulty (control fault) ∷ []) (inr (fault, is, refl)),
+      one_job (RunFiles date cntl files) (Begin ∷ Faulty (control fault) ∷ []) (inr (fault, is, refl)),
       record {
         done = Begin ∷ [];
         last = Faulty (control fault);
@@ -117,15 +117,15 @@ module _ {S : Type 0} (g : Ghosts S) (began at : Held S) (s : State) where
         → EndsAmong g began at s (RunFiles date cntl files ∷ []) taken taken (job_error e)
     unbegun cs taken e is begun = (
       Begin ∷ map (Perform date files) cs,
-      one-job (RunFiles date cntl files) (Begin ∷ map (Perform date files) cs)
+      one_job (RunFiles date cntl files) (Begin ∷ map (Perform date files) cs)
           (inl (cs, is, refl)),
       by_error e begun,
     )
       where
         by_error : (e : StoreError) → HasBegun g began at s (Err e)
             → EndsEarly g began at s (Begin ∷ map (Perform date files) cs) taken taken (job_error e)
-        by_error store.Fault faulted = faulted-first g began at s Begin (map (Perform date files) cs) taken faulted
-        by_error store.Memory stays = stopped-first g began at s Begin (map (Perform date files) cs) taken stays
+        by_error store.Fault faulted = faulted_first g began at s Begin (map (Perform date files) cs) taken faulted
+        by_error store.Memory stays = stopped_first g began at s Begin (map (Perform date files) cs) taken stays
         by_error store.OtherSchema impossible = absurd impossible
         by_error store.NoState impossible = absurd impossible
 
@@ -150,15 +150,15 @@ module _ {S : Type 0} (g : Ghosts S) (began at : Held S) (s : State) where
     )
     begun before session cs old new (Err e) later is keeps early = (
       Begin ∷ map (Perform date files) cs,
-      one-job (RunFiles date cntl files) (Begin ∷ map (Perform date files) cs) (inl (cs, is, refl)),
-      early-after g began at s before (unset s) (Begin ∷ []) (map (Perform date files) cs) [] old old new e later
+      one_job (RunFiles date cntl files) (Begin ∷ map (Perform date files) cs) (inl (cs, is, refl)),
+      early_after g began at s before (unset s) (Begin ∷ []) (map (Perform date files) cs) [] old old new e later
           (unset s, [], [], ([], (refl, refl), refl), (refl, refl), refl) keeps (Appends-nil old) early,
     )
 
   module _ (d : ZoneDefinition) (taken : Option (List ℕ)) where
-    runs-define : (t : State) (answer : machine.Answer) → t ≡ state_after s (define_zone s d)
+    runs_define : (t : State) (answer : machine.Answer) → t ≡ state_after s (define_zone s d)
         → answer ≡ defined (define_zone s d) → RunsJob s (NewZone d) t [] answer
-    runs-define t answer leads told = record {
+    runs_define t answer leads told = record {
       acts = Define d ∷ [];
       has_acts = refl;
       outcomes = [];
@@ -167,12 +167,12 @@ module _ {S : Type 0} (g : Ghosts S) (began at : Held S) (s : State) where
       answers = told;
     }
 
-    pub define-done : (t : State) → define_zone s d ≡ Ok t → Keeps g at t
+    pub define_done : (t : State) → define_zone s d ≡ Ok t → Keeps g at t
         → EndsJob g began at s (NewZone d) taken taken (λ answer. answer) (Ok machine.Defined)
-    define-done t is keeps = (
+    define_done t is keeps = (
       t,
       [],
-      runs-define t machine.Defined (sym (ap (state_after s) is)) (sym (ap defined is)),
+      runs_define t machine.Defined (sym (ap (state_after s) is)) (sym (ap defined is)),
       keeps,
       Appends-nil taken,
     )
@@ -181,40 +181,40 @@ module _ {S : Type 0} (g : Ghosts S) (began at : Held S) (s : State) where
     abbrev Fails : ZoneError → Type 0
     Fails e = HasDefined g began at s d {U = ℕ} (Err e)
 
-    pub define-refused : (why : ZoneFault) (e : ZoneError) → e ≡ zone_error.Refused why → Fails e
+    pub define_refused : (why : ZoneFault) (e : ZoneError) → e ≡ zone_error.Refused why → Fails e
         → EndsJob g began at s (NewZone d) taken taken (λ answer. answer) (Ok (machine.NotDefined (fault_of why)))
-    define-refused why e told fails = by_fault (subst Fails told fails)
+    define_refused why e told fails = by_fault (subst Fails told fails)
       where
         by_fault : Fails (zone_error.Refused why) → EndsJob g began at s (NewZone d) taken taken (λ answer. answer)
             (Ok (machine.NotDefined (fault_of why)))
         by_fault (is, keeps) = (
           s,
           [],
-          runs-define s (machine.NotDefined (fault_of why)) (sym (ap (state_after s) is))
+          runs_define s (machine.NotDefined (fault_of why)) (sym (ap (state_after s) is))
               (sym (ap defined is)),
           keeps,
           Appends-nil taken,
         )
 
-    unbegun-definition : (e : JobError) → EndsEarly g began at s (Define d ∷ []) taken taken e
+    unbegun_definition : (e : JobError) → EndsEarly g began at s (Define d ∷ []) taken taken e
         → EndsAmong g began at s (NewZone d ∷ []) taken taken e
-    unbegun-definition e early = (Define d ∷ [], one-job (NewZone d) (Define d ∷ []) refl, early)
+    unbegun_definition e early = (Define d ∷ [], one_job (NewZone d) (Define d ∷ []) refl, early)
 
-    pub define-memory : (e : ZoneError) → e ≡ zone_error.Memory → Fails e
+    pub define_memory : (e : ZoneError) → e ≡ zone_error.Memory → Fails e
         → EndsAmong g began at s (NewZone d ∷ []) taken taken Memory
-    define-memory e told fails =
-        unbegun-definition Memory (stopped-first g began at s (Define d) [] taken (subst Fails told fails))
+    define_memory e told fails =
+        unbegun_definition Memory (stopped_first g began at s (Define d) [] taken (subst Fails told fails))
 
-    pub define-fault : (fault : StoreError) (e : ZoneError) (result : JobError) → e ≡ zone_error.Store fault
+    pub define_fault : (fault : StoreError) (e : ZoneError) (result : JobError) → e ≡ zone_error.Store fault
         → result ≡ job_error fault → Fails e → EndsAmong g began at s (NewZone d ∷ []) taken taken result
-    define-fault fault e result told becomes fails =
+    define_fault fault e result told becomes fails =
         subst (EndsAmong g began at s (NewZone d ∷ []) taken taken) (sym becomes)
         (by_fault fault (subst Fails told fails))
       where
         by_fault : (fault : StoreError) → Fails (zone_error.Store fault)
             → EndsAmong g began at s (NewZone d ∷ []) taken taken (job_error fault)
-        by_fault store.Fault faulted = unbegun-definition (job_error store.Fault)
-            (faulted-first g began at s (Define d) [] taken faulted)
+        by_fault store.Fault faulted = unbegun_definition (job_error store.Fault)
+            (faulted_first g began at s (Define d) [] taken faulted)
         by_fault store.Memory impossible = absurd impossible
         by_fault store.OtherSchema impossible = absurd impossible
         by_fault store.NoState impossible = absurd impossible

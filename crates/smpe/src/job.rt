@@ -19,7 +19,7 @@ use fields::YyDdd;
 use report::{Outcome, Sink, write_report};
 use smpe_session::{Files, Performed, Session};
 use sqlite::Alter;
-use std::alloc::Global as Heap;
+use std::alloc::Global;
 use store::Store;
 
 // That the date has its form, which no other call here would say.
@@ -31,7 +31,7 @@ fn is_known(date: YyDdd)
 
 /// Performs a command, and reports it once it is committed.
 fn run_command<S: Alter, W: Sink>(
-    alloc: Heap,
+    alloc: Global,
     session: &mut Session,
     store: &mut Store<S>,
     date: YyDdd,
@@ -60,7 +60,7 @@ fn run_command<S: Alter, W: Sink>(
 
 /// Performs commands one after the other, and answers the highest return code.
 fn run_commands<S: Alter, W: Sink>(
-    alloc: Heap,
+    alloc: Global,
     session: &mut Session,
     store: &mut Store<S>,
     date: YyDdd,
@@ -91,7 +91,7 @@ fn run_commands<S: Alter, W: Sink>(
 /// Performs the commands of a command file over a PTFIN and a hold file, each committed first and reported after, and
 /// answers the highest return code.
 pub fn run_job<S: Alter, W: Sink>(
-    alloc: Heap,
+    alloc: Global,
     store: &mut Store<S>,
     date: YyDdd,
     cntl: &[u8],

@@ -17,7 +17,7 @@ use fields::{Srel, YyDdd, ZoneName};
 use report::Sink;
 use smpe_zones::{ZoneError, ZoneFault};
 use sqlite::Alter;
-use std::alloc::Global as Heap;
+use std::alloc::Global;
 use store::Store;
 use terms::ZoneKind;
 
@@ -77,7 +77,7 @@ fn define<S: Alter>(
 
 /// Runs one job.
 fn run_one<S: Alter, W: Sink>(
-    alloc: Heap,
+    alloc: Global,
     store: &mut Store<S>,
     job: &Job<'_>,
     w: &mut W,
@@ -113,7 +113,7 @@ fn run_one<S: Alter, W: Sink>(
 
 /// Runs the jobs one after the other. A refused definition does not end the list, an error does.
 pub fn run_jobs<S: Alter, W: Sink>(
-    alloc: Heap,
+    alloc: Global,
     store: &mut Store<S>,
     jobs: &[Job<'_>],
     w: &mut W,

@@ -5,7 +5,7 @@ use Rattle.std.proofs.Common.{filter, map, refl, sym, subst, true≢false, is_so
 use Rattle.std.specs.Prelude.{◌↔◌}
 use Rattle.std.specs.Option.{option_map_or}
 use Rattle.lemmas.proofs.Members.{in_map, map_in, in_filter, filter_in}
-use Rattle.lemmas.proofs.Searches.{find-gives}
+use Rattle.lemmas.proofs.Searches.{find_gives}
 use Rattle.lemmas.proofs.Texts.{same_from}
 use Rattle.terms.specs.declared.codes.NeedKind.{NeedKind}
 use Rattle.terms.specs.declared.codes.NeedKind.TheVariants as need
@@ -28,7 +28,7 @@ use Rattle.machine.specs.Receiving.{place_of}
 use Rattle.machine.specs.Installing.{IsFailure, Decision, IsDecision, HasStatus, IsInstalled, IsSuperseded, IsFailed}
 use Rattle.machine.specs.Installing.{IsNotChosen, installed_status, not_chosen_status, AreInstallLines}
 use Rattle.machine.specs.Restoring.{HasRestoreStatus, IsBack, StaysOn, WasNotOn, RestoresListed}
-use Rattle.smpe_answers.proofs.Decided.{survivors-only}
+use Rattle.smpe_answers.proofs.Decided.{survivors_only}
 use Rattle.smpe_answers.proofs.InstallLines.{IsSound, sound, in_kept, chosen}
 use Rattle.smpe_answers.specs.Causers.{HasFailedLine, IsCaused}
 use Rattle.smpe_answers.proofs.Causes.{cause_of, failure_stably, names_causer}
@@ -121,7 +121,7 @@ install_caused g zone related sel bypass date d decides lines are x f (place, pr
   where
     members : (x : Id) → Contains d.kept x ↔ Stays d.setting d.survivors x
     members = subst (λ ids. (x : Id) → Contains d.kept x ↔ Stays d.setting ids x)
-        (survivors-only d.setting decides.kept.survivors d.survivors decides.kept.are_survivors decides.survivors)
+        (survivors_only d.setting decides.kept.survivors d.survivors decides.kept.are_survivors decides.survivors)
         decides.kept.members
 
     by : FailedBy d sel x f
@@ -167,7 +167,7 @@ applied_listed zone y = by (entry_of zone y) refl
         → Contains (applied_ids zone) y
     by None at applied = absurd (true≢false (sym applied))
     by (Some e) at applied =
-        let gives = find-gives (λ e. bytes_eq e.id y) zone.entries e at in
+        let gives = find_gives (λ e. bytes_eq e.id y) zone.entries e at in
         subst (Contains (applied_ids zone)) (same_from e.id y gives.0)
         (in_map (λ e. e.id) (filter (λ e. is_some e.applied) zone.entries) e
         (in_filter (λ e. is_some e.applied) zone.entries e gives.1 applied))

@@ -13,11 +13,11 @@ use Rattle.terms.specs.Types.{Id}
 use Rattle.terms.specs.Lookups.{IsRising}
 use Rattle.terms.specs.Rising.{with_item}
 use Rattle.terms.specs.Kept.{StaysKept}
-use Rattle.terms.specs.Failures.{HasFailed, IsOpenNeed, IsRoot, IsCauser}
-use Rattle.terms.proofs.Placing.{Rises-with_item}
-use Rattle.change.proofs.Gathered.{in-with_item}
+use Rattle.terms.specs.Failures.{HasFailed, IsOpenNeed, IsRoot, IsCauser, all_tests, all_needs}
+use Rattle.terms.proofs.Placing.{Rises_with_item}
+use Rattle.change.proofs.Gathered.{in_with_item}
 use Rattle.machine.specs.Outcome.{Failure}
-use Rattle.machine.specs.Installing.{all_tests, all_needs, IsFailure}
+use Rattle.machine.specs.Installing.{IsFailure}
 use Rattle.smpe_answers.specs.Causers.{IsCause}
 use Rattle.smpe_answers.proofs.FailureAnswers.{needs_of}
 use Rattle.smpe_answers.proofs.Finitely.{all_stably, either_stably, is_so, so_exactly}
@@ -54,13 +54,13 @@ those_stably P (x ∷ xs) refuted = those_stably P xs (λ found. either_stably (
   | inl has ↦ refuted (
     with_item (slice_cmp nat_cmp) (λ z. z) found.0 x,
     record {
-      rising = Rises-with_item nat_list_cmp_total (λ z. z) found.0 x found.1.rising;
+      rising = Rises_with_item nat_list_cmp_total (λ z. z) found.0 x found.1.rising;
       members = λ y. (
-        λ is. elim ((in-with_item found.0 x y).0 is) [
+        λ is. elim ((in_with_item found.0 x y).0 is) [
           | inl old ↦ let of_old = (found.1.members y).0 old in (there x xs y of_old.0, of_old.1)
           | inr same ↦ subst (λ z. Contains (x ∷ xs) z × P z) same (here x xs, has)
         ],
-        λ is. (in-with_item found.0 x y).1 (elim (here_or x xs y is.0) [
+        λ is. (in_with_item found.0 x y).1 (elim (here_or x xs y is.0) [
           | inl same ↦ inr same
           | inr later ↦ inl ((found.1.members y).1 (later, is.1))
         ]),

@@ -13,11 +13,11 @@ use Rattle.terms.specs.CommandForms.{IsCommand}
 use Rattle.terms.specs.Commands.{CntlFault, BeginsWithCommands, IsCommandFile, has_double, is_unchosen, BeginsWith}
 use Rattle.terms.specs.Commands.{IsCommandFault, IsNextFault, IsCommandFileFault}
 use Rattle.terms.proofs.Lengths.{piece_shorter}
-use Rattle.terms.proofs.Pieces.{piece-only, no_piece, stop_nil, stop_period, stop_comment, stop_pairs, pieces-append}
+use Rattle.terms.proofs.Pieces.{piece_only, no_piece, stop_nil, stop_period, stop_comment, stop_pairs, pieces_append}
 use Rattle.terms.proofs.Pieces.{IsStop}
 use Rattle.smpe_answers.specs.Answers.{IsRead}
-use Rattle.smpe_answers.proofs.CutUp.{records-read, Stuck, AtEnd, AtPeriod, AtComment, AtPairs, goes-or-stuck, cut-up}
-use Rattle.smpe_answers.proofs.CutUp.{pieces-before, StandsAt, stands-at, ends-at}
+use Rattle.smpe_answers.proofs.CutUp.{records_read, Stuck, AtEnd, AtPeriod, AtComment, AtPairs, goes_or_stuck, cut_up}
+use Rattle.smpe_answers.proofs.CutUp.{pieces_before, StandsAt, stands_at, ends_at}
 
 -- ---- gaps
 
@@ -41,7 +41,7 @@ uncut text no_gap = record { gap = []; rest = text; has_pieces = refl; is_gap = 
 cut_more : (text : Text) (p : Piece) (after : Text) → TakesPiece text p after → (b : Bool) → is_solid p ≡ b
     → CutGap after → CutGap text
 cut_more text p after t true one later =
-    uncut text (λ q other u. ap is_solid (sym (piece-only text p q after other t u).0) ∙ one)
+    uncut text (λ q other u. ap is_solid (sym (piece_only text p q after other t u).0) ∙ one)
 cut_more text p after t false one later = record {
   gap = p ∷ later.gap;
   rest = later.rest;
@@ -53,7 +53,7 @@ cut_more text p after t false one later = record {
 cut_gap : (n : ℕ) (text : Text) → length text ≤ n → CutGap text
 cut_gap zero [] short = uncut [] (λ p after t. absurd (no_piece [] p after stop_nil t))
 cut_gap zero (b ∷ bs) short = absurd (omega (arith, short))
-cut_gap (suc n) text short = elim (goes-or-stuck text) [
+cut_gap (suc n) text short = elim (goes_or_stuck text) [
   | inr stuck ↦ uncut text (λ p after t. absurd (no_piece text p after (stuck_stops text stuck) t))
   | inl goes ↦ cut_more text goes.0 goes.1 goes.2 (is_solid goes.0) refl
       (cut_gap n goes.1 (omega (arith, piece_shorter text goes.0 goes.1 goes.2, short)))
@@ -143,7 +143,7 @@ module _ (n : ℕ) (records : List (List ℕ)) (none : ¬ NextRead n records) (g
   judged own stop has (AtComment opens) = cut_fault St2 own (stop, has, opens)
   judged own stop has (AtPairs breaks) = cut_fault St3 own (stop, has, breaks)
   judged own stop has (AtPeriod after is) =
-      let e = ends-at records (gap ++ own) after (subst (HasPieces (joined records) (gap ++ own)) is has) in
+      let e = ends_at records (gap ++ own) after (subst (HasPieces (joined records) (gap ++ own)) is has) in
       ended own e.0 e.1 e.2
 
 -- what begins behind the gap
@@ -171,17 +171,17 @@ next_read n records none =
     placed : (gap : List Piece) (y : ℕ) (ys : Text) → HasPieces (joined records) gap (y ∷ ys) → solid gap ≡ []
         → BeginsNoGap (y ∷ ys) → StandsAt records y ys → ⊥
     placed gap y ys has is_gap no_gap at =
-        let own = cut-up (length (y ∷ ys)) (y ∷ ys) (omega arith) in
+        let own = cut_up (length (y ∷ ys)) (y ∷ ys) (omega arith) in
         let begins = begins_there n records gap y ys at.tail at.before at.later has is_gap no_gap at.place at.rest_is in
         judged n records none gap (n + length at.before) begins own.0 own.1
-        (pieces-append (joined records) (y ∷ ys) own.1 gap own.0 has own.2) own.3
+        (pieces_append (joined records) (y ∷ ys) own.1 gap own.0 has own.2) own.3
 
     by : (gap : List Piece) (rest : Text) → HasPieces (joined records) gap rest → solid gap ≡ [] → BeginsNoGap rest → ⊥
     by gap [] has is_gap no_gap = none (inl (gap, has, is_gap))
     by gap (y ∷ ys) has is_gap no_gap =
         let dark : y ≢ 32 = λ same. true≢false (sym (no_gap Blank ys (y, refl, rw same refl))) in
-        let x = pieces-before (joined records) gap (y ∷ ys) has in
-        placed gap y ys has is_gap no_gap (stands-at records x.0 y ys dark x.1)
+        let x = pieces_before (joined records) gap (y ∷ ys) has in
+        placed gap y ys has is_gap no_gap (stands_at records x.0 y ys dark x.1)
 
 -- ---- the file
 
@@ -224,8 +224,8 @@ begins_or_fault (suc k) n records short none = next_read n records (λ read. eli
 ])
 
 -- A command file is of commands or has a fault.
-pub command_file-read : (bytes : List ℕ) → ¬ ¬ IsRead (IsCommandFile bytes) (IsCommandFileFault bytes)
-command_file-read bytes none = elim (records-read bytes) [
+pub command_file_read : (bytes : List ℕ) → ¬ ¬ IsRead (IsCommandFile bytes) (IsCommandFileFault bytes)
+command_file_read bytes none = elim (records_read bytes) [
   | inr bad ↦ none (inr (
     record { number = rec_fault_record bad.0; code = Cn5 },
     inl (refl, bad.0, bad.1, refl),

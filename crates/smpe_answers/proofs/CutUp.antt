@@ -20,13 +20,13 @@ use Rattle.terms.proofs.Closings.{list_before}
 use Rattle.terms.proofs.Lengths.{piece_shorter}
 use Rattle.rec80.proofs.Chunks.{flat_chunks, whole_file, bad_byte}
 use Rattle.rec80.proofs.GroupCuts.{is_later, first_group}
-use Rattle.smpe_answers.proofs.RunsAnswered.{Decided, decided-le}
+use Rattle.smpe_answers.proofs.RunsAnswered.{Decided, decided_le}
 
 -- ---- records
 
 printable_or_not : (b : ℕ) → Decided (IsPrintable b)
-printable_or_not b = elim (decided-le 32 b) [
-  | inl above ↦ elim (decided-le b 126) [
+printable_or_not b = elim (decided_le 32 b) [
+  | inl above ↦ elim (decided_le b 126) [
     | inl below ↦ inl (above, below)
     | inr over ↦ inr (λ is. over is.1)
   ]
@@ -47,9 +47,9 @@ first_bad (b ∷ bs) = elim (printable_or_not b) [
   ]
 ]
 
-pub records-read : (bytes : List ℕ)
+pub records_read : (bytes : List ℕ)
     → ((records : List (List ℕ)) × HasRecords bytes records) ⊎ ((fault : RecFault) × IsRecFault bytes fault)
-records-read bytes = elim (first_bad (take (length bytes / 80 * 80) bytes)) [
+records_read bytes = elim (first_bad (take (length bytes / 80 * 80) bytes)) [
   | inr at ↦ inr (
     Rec2 (at.0 / 80 + 1) (at.0 % 80 + 1),
     bad_byte bytes (take (length bytes / 80 * 80) bytes) at.0 refl at.1 at.3 at.2,
@@ -153,20 +153,20 @@ chosen b bs false false false false false false w k l c p o =
     let stray : is_stray b ≡ true = rw (w, k, l, c, p) refl in
     inl (Stray b, bs, (refl, stray, no_comment b bs o))
 
-pub goes-or-stuck : (text : Text) → ((p : Piece) × (after : Text) × TakesPiece text p after) ⊎ Stuck text
-goes-or-stuck [] = inr (AtEnd refl)
-goes-or-stuck (b ∷ bs) =
+pub goes_or_stuck : (text : Text) → ((p : Piece) × (after : Text) × TakesPiece text p after) ⊎ Stuck text
+goes_or_stuck [] = inr (AtEnd refl)
+goes_or_stuck (b ∷ bs) =
     chosen b bs (is_word_byte b) (is_blank b) (b == 40) (b == 41) (b == 46) (b == 47 && slice_index bs 0 == 42) refl
     refl refl refl refl refl
 
-pub cut-up : (n : ℕ) (text : Text) → length text ≤ n → (ps : List Piece) × (rest : Text) × HasPieces text ps rest
+pub cut_up : (n : ℕ) (text : Text) → length text ≤ n → (ps : List Piece) × (rest : Text) × HasPieces text ps rest
     × Stuck rest
-cut-up zero [] short = ([], [], refl, AtEnd refl)
-cut-up zero (b ∷ bs) short = absurd (omega (arith, short))
-cut-up (suc n) text short = elim (goes-or-stuck text) [
+cut_up zero [] short = ([], [], refl, AtEnd refl)
+cut_up zero (b ∷ bs) short = absurd (omega (arith, short))
+cut_up (suc n) text short = elim (goes_or_stuck text) [
   | inr stuck ↦ ([], text, refl, stuck)
   | inl goes ↦
-      let rest = cut-up n goes.1 (omega (arith, piece_shorter text goes.0 goes.1 goes.2, short)) in
+      let rest = cut_up n goes.1 (omega (arith, piece_shorter text goes.0 goes.1 goes.2, short)) in
       (goes.0 ∷ rest.0, rest.1, (goes.1, goes.2, rest.2), rest.3)
 ]
 
@@ -197,12 +197,12 @@ piece_before text Comment after t =
     (47 ∷ 42 ∷ inside.0, t.1 ∙ ap (λ x. 47 ∷ 42 ∷ x) inside.1)
 piece_before text (Stray b) after t = (b ∷ [], t.0)
 
-pub pieces-before : (text : Text) (ps : List Piece) (rest : Text) → HasPieces text ps rest
+pub pieces_before : (text : Text) (ps : List Piece) (rest : Text) → HasPieces text ps rest
     → (x : Text) × (text ≡ x ++ rest)
-pieces-before text [] rest h = ([], h)
-pieces-before text (p ∷ ps) rest (after, takes, more) =
+pieces_before text [] rest h = ([], h)
+pieces_before text (p ∷ ps) rest (after, takes, more) =
     let first = piece_before text p after takes in
-    let behind = pieces-before after ps rest more in (
+    let behind = pieces_before after ps rest more in (
       first.0 ++ behind.0,
       first.1 ∙ ap (λ t. first.0 ++ t) behind.1 ∙ sym (append_assoc first.0 behind.0 rest),
     )
@@ -232,12 +232,12 @@ pub record StandsAt (records : List (List ℕ)) (y : ℕ) (rest : Text) : Type 0
   pub rest_is : rest ≡ tail ++ followed later
 
 -- Each character but a blank stands in some record.
-pub stands-at : (records : List (List ℕ)) (x : Text) (y : ℕ) (rest : Text) → y ≢ 32 → joined records ≡ x ++ y ∷ rest
+pub stands_at : (records : List (List ℕ)) (x : Text) (y : ℕ) (rest : Text) → y ≢ 32 → joined records ≡ x ++ y ∷ rest
     → StandsAt records y rest
-stands-at [] [] y rest dark e = absurd (cc e)
-stands-at [] (c ∷ x) y rest dark e = absurd (cc e)
-stands-at (r ∷ rs) x y rest dark e =
-    by (splits (front r) (followed rs) x rest y e) (λ x more. stands-at rs x y rest dark more)
+stands_at [] [] y rest dark e = absurd (cc e)
+stands_at [] (c ∷ x) y rest dark e = absurd (cc e)
+stands_at (r ∷ rs) x y rest dark e =
+    by (splits (front r) (followed rs) x rest y e) (λ x more. stands_at rs x y rest dark more)
   where
     behind : (rs : List (List ℕ)) (t : Text) → followed rs ≡ t ++ y ∷ rest
         → ((x : Text) → joined rs ≡ x ++ y ∷ rest → StandsAt rs y rest) → StandsAt rs y rest
@@ -296,11 +296,11 @@ ends_by : (records : List (List ℕ)) (ps : List Piece) (rest : Text) → HasPie
 ends_by records ps rest has at =
     (at.tail, at.later, ends_there records ps rest at.tail at.later at.before has at.place at.rest_is)
 
-pub ends-at : (records : List (List ℕ)) (ps : List Piece) (rest : Text) → HasPieces (joined records) ps (46 ∷ rest)
+pub ends_at : (records : List (List ℕ)) (ps : List Piece) (rest : Text) → HasPieces (joined records) ps (46 ∷ rest)
     → (tail : Text) × (inline : List (List ℕ)) × Ends records ps tail inline
-ends-at records ps rest has =
-    let x = pieces-before (joined records) ps (46 ∷ rest) has in
-    ends_by records ps rest has (stands-at records x.0 46 rest (λ e. cc e) x.1)
+ends_at records ps rest has =
+    let x = pieces_before (joined records) ps (46 ∷ rest) has in
+    ends_by records ps rest has (stands_at records x.0 46 rest (λ e. cc e) x.1)
 
 abbrev pub StatementOrFault : List (List ℕ) → Type 0
 StatementOrFault records =
@@ -308,9 +308,9 @@ StatementOrFault records =
     ⊎ ((why : StFault) × IsStFault records why)
 
 -- It can't be refuted that records are a statement or have a fault of form.
-pub statement-read : (records : List (List ℕ)) → ¬ ¬ StatementOrFault records
-statement-read records none =
-    let cut = cut-up (length (joined records)) (joined records) (omega arith) in
+pub statement_read : (records : List (List ℕ)) → ¬ ¬ StatementOrFault records
+statement_read records none =
+    let cut = cut_up (length (joined records)) (joined records) (omega arith) in
     by cut.0 cut.1 cut.2 cut.3
   where
     by : (ps : List Piece) (rest : Text) → HasPieces (joined records) ps rest → Stuck rest → ⊥
@@ -318,7 +318,7 @@ statement-read records none =
     by ps rest has (AtComment opens) = none (inr (St2, (ps, (rest, has, opens))))
     by ps rest has (AtPairs breaks) = none (inr (St3, (ps, (rest, has, breaks))))
     by ps rest has (AtPeriod after is) =
-        let e = ends-at records ps after (subst (HasPieces (joined records) ps) is has) in
+        let e = ends_at records ps after (subst (HasPieces (joined records) ps) is has) in
         none (inr (St4, (ps, (e.0, e.1, e.2, λ idle. none (inl (solid ps, e.1, (ps, e.0, e.2, idle, refl)))))))
 
 -- ---- groups
@@ -331,8 +331,8 @@ pub record FirstGroup (n : ℕ) (records : List (List ℕ)) : Type 0 where
   pub takes : TakesGroup n records group next later
   pub shorter : length later < length records
 
-pub group-taken : (n : ℕ) (r : List ℕ) (rs : List (List ℕ)) → starts_outside (r ∷ rs) ≡ false → FirstGroup n (r ∷ rs)
-group-taken n r rs starts =
+pub group_taken : (n : ℕ) (r : List ℕ) (rs : List (List ℕ)) → starts_outside (r ∷ rs) ≡ false → FirstGroup n (r ∷ rs)
+group_taken n r rs starts =
     let k = prefix_len is_later rs in
     let first = first_group (r ∷ rs) (take (1 + k) (r ∷ rs)) (drop (1 + k) (r ∷ rs)) k starts (omega arith)
     refl refl refl

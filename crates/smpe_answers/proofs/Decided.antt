@@ -9,27 +9,27 @@ use Rattle.terms.specs.Tests.{Setting, AreSurvivors}
 use Rattle.terms.specs.Needs.{bypassed_ids}
 use Rattle.terms.specs.Install.{Installation}
 use Rattle.terms.specs.Judged.{setting, IsKeptSet, Stays}
-use Rattle.terms.proofs.ExactOperands.{rising-only}
+use Rattle.terms.proofs.ExactOperands.{rising_only}
 use Rattle.machine.specs.Installing.{Decision, IsDecision}
 
 -- Lists that rise and have what has a property are one.
-pub members-only : (P : Id → Type 0) (xs ys : List Id) → IsRising xs → IsRising ys
+pub members_only : (P : Id → Type 0) (xs ys : List Id) → IsRising xs → IsRising ys
     → ((x : Id) → Contains xs x ↔ P x) → ((x : Id) → Contains ys x ↔ P x) → xs ≡ ys
-members-only P xs ys rises rises' has has' =
-    rising-only xs ys rises rises' (λ x there. (has' x).1 ((has x).0 there))
+members_only P xs ys rises rises' has has' =
+    rising_only xs ys rises rises' (λ x there. (has' x).1 ((has x).0 there))
     (λ x there. (has x).1 ((has' x).0 there))
 
-pub candidates-only : (g : Global) (zone : Zone) (sel : Selection) (xs ys : List Id) → AreCandidates g zone sel xs
+pub candidates_only : (g : Global) (zone : Zone) (sel : Selection) (xs ys : List Id) → AreCandidates g zone sel xs
     → AreCandidates g zone sel ys → xs ≡ ys
-candidates-only g zone sel xs ys is is' = members-only _ xs ys is.rising is'.rising is.members is'.members
+candidates_only g zone sel xs ys is is' = members_only _ xs ys is.rising is'.rising is.members is'.members
 
-pub survivors-only : (s : Setting) (xs ys : List Id) → AreSurvivors s xs → AreSurvivors s ys → xs ≡ ys
-survivors-only s xs ys is is' = members-only _ xs ys is.rising is'.rising is.members is'.members
+pub survivors_only : (s : Setting) (xs ys : List Id) → AreSurvivors s xs → AreSurvivors s ys → xs ≡ ys
+survivors_only s xs ys is is' = members_only _ xs ys is.rising is'.rising is.members is'.members
 
-pub kept-only : (s : Setting) (xs ys : List Id) → IsKeptSet s xs → IsKeptSet s ys → xs ≡ ys
-kept-only s xs ys is is' =
-    let same = survivors-only s is'.survivors is.survivors is'.are_survivors is.are_survivors in
-    members-only (Stays s is.survivors) xs ys is.rising is'.rising is.members
+pub kept_only : (s : Setting) (xs ys : List Id) → IsKeptSet s xs → IsKeptSet s ys → xs ≡ ys
+kept_only s xs ys is is' =
+    let same = survivors_only s is'.survivors is.survivors is'.are_survivors is.are_survivors in
+    members_only (Stays s is.survivors) xs ys is.rising is'.rising is.members
     (subst (λ survivors. (x : Id) → Contains ys x ↔ Stays s survivors x) same is'.members)
 
 -- the decision with its bypassed requisites in another list
@@ -62,16 +62,16 @@ module _ (g : Global) (zone : Zone) (related : Option Zone) (sel : Selection) (b
       subst (λ pairs. Contains pairs p ↔ (Contains d.kept p.0 × Contains (bypassed_ids d.setting p.0) p.1))
       (sym (ap (λ (i : Installation). i.bypassed) of_d.installing)) (of_d.are_bypassed p.0 p.1)
 
-  pub decision-only : (d e : Decision) → IsDecision g zone related sel bypass date d
+  pub decision_only : (d e : Decision) → IsDecision g zone related sel bypass date d
       → IsDecision g zone related sel bypass date e → SameDecision d e
   unfolding a_decision install
-  decision-only d e of_d of_e =
-      let cands = candidates-only g zone sel of_e.cands of_d.cands of_e.candidates of_d.candidates in
+  decision_only d e of_d of_e =
+      let cands = candidates_only g zone sel of_e.cands of_d.cands of_e.candidates of_d.candidates in
       let settings : e.setting ≡ d.setting =
       of_e.setting ∙ ap (λ ids. setting g zone related ids bypass) cands ∙ sym of_d.setting in
-      let survivors = survivors-only d.setting e.survivors d.survivors
+      let survivors = survivors_only d.setting e.survivors d.survivors
       (subst (λ s. AreSurvivors s e.survivors) settings of_e.survivors) of_d.survivors in
-      let kept = kept-only d.setting e.kept d.kept (subst (λ s. IsKeptSet s e.kept) settings of_e.kept) of_d.kept in
+      let kept = kept_only d.setting e.kept d.kept (subst (λ s. IsKeptSet s e.kept) settings of_e.kept) of_d.kept in
       let installing : e.installing ≡ record d.installing { bypassed = e.installing.bypassed } =
       of_e.installing ∙ ap (λ ids. install ids e.kept of_e.bypassed) cands
       ∙ ap (λ ids. install of_d.cands ids of_e.bypassed) kept

@@ -6,7 +6,7 @@ use Rattle.std.specs.List.{flat_map}
 use Rattle.std.specs.Option.{option_map_or}
 use Rattle.std.proofs.lemmas.Bool.{and_parts}
 use Rattle.lemmas.proofs.Members.{in_map, map_in, flat_in, in_flat}
-use Rattle.lemmas.proofs.Searches.{find-gives}
+use Rattle.lemmas.proofs.Searches.{find_gives}
 use Rattle.lemmas.proofs.Texts.{same_from}
 use Rattle.terms.specs.Types.{Text, Id, Sysmod, Global, Zone, Bypass, Selection}
 use Rattle.terms.specs.Lookups.{is_nil, sysmod_of}
@@ -35,13 +35,13 @@ installable_received g zone x ok = by (sysmod_of g x) refl
     by None at = absurd (true≢false (sym has_ver ∙ ap (λ s.
         not (is_nil (option_map_or (λ s. filter (λ v. bytes_eq v.srel zone.srel) s.vers) s []))) at))
     by (Some s) at =
-        let gives = find-gives (λ s. bytes_eq s.id x) g.sysmods s at in
+        let gives = find_gives (λ s. bytes_eq s.id x) g.sysmods s at in
         subst (Contains (map (λ s. s.id) g.sysmods)) (same_from s.id x gives.0)
         (in_map (λ s. s.id) g.sysmods s gives.1)
 
-candidates-answered : (g : Global) (zone : Zone) (sel : Selection)
+candidates_answered : (g : Global) (zone : Zone) (sel : Selection)
     → ¬ ¬ ((cands : List Id) × AreCandidates g zone sel cands)
-candidates-answered g zone sel refuted = those_stably (IsCandidate g zone sel) (received g) (λ found. refuted (
+candidates_answered g zone sel refuted = those_stably (IsCandidate g zone sel) (received g) (λ found. refuted (
   found.0,
   record {
     rising = found.1.rising;
@@ -55,8 +55,8 @@ candidates-answered g zone sel refuted = those_stably (IsCandidate g zone sel) (
   },
 ))
 
-survivors-answered : (s : Setting) → ¬ ¬ ((survivors : List Id) × AreSurvivors s survivors)
-survivors-answered s refuted = those_stably (Survives s) s.cands (λ found. refuted (
+survivors_answered : (s : Setting) → ¬ ¬ ((survivors : List Id) × AreSurvivors s survivors)
+survivors_answered s refuted = those_stably (Survives s) s.cands (λ found. refuted (
   found.0,
   record {
     rising = found.1.rising;
@@ -64,9 +64,9 @@ survivors-answered s refuted = those_stably (Survives s) s.cands (λ found. refu
   },
 ))
 
-kept-answered : (s : Setting) (survivors : List Id) → AreSurvivors s survivors
+kept_answered : (s : Setting) (survivors : List Id) → AreSurvivors s survivors
     → ¬ ¬ ((kept : List Id) × IsKeptSet s kept)
-kept-answered s survivors are refuted = those_stably (Stays s survivors) s.cands (λ found. refuted (
+kept_answered s survivors are refuted = those_stably (Stays s survivors) s.cands (λ found. refuted (
   found.0,
   record {
     survivors = survivors;
@@ -100,12 +100,12 @@ in_paired f xs x z = (
 
 -- ---- the decision
 
-pub decision-answered : (g : Global) (zone : Zone) (related : Option Zone) (sel : Selection) (bypass : Bypass)
+pub decision_answered : (g : Global) (zone : Zone) (related : Option Zone) (sel : Selection) (bypass : Bypass)
     (date : Text) → ¬ ¬ ((d : Decision) × IsDecision g zone related sel bypass date d)
-decision-answered g zone related sel bypass date refuted =
-    candidates-answered g zone sel (λ cands.
-    survivors-answered (setting g zone related cands.0 bypass) (λ survivors.
-    kept-answered (setting g zone related cands.0 bypass) survivors.0 survivors.1 (λ kept.
+decision_answered g zone related sel bypass date refuted =
+    candidates_answered g zone sel (λ cands.
+    survivors_answered (setting g zone related cands.0 bypass) (λ survivors.
+    kept_answered (setting g zone related cands.0 bypass) survivors.0 survivors.1 (λ kept.
     let s : Setting = setting g zone related cands.0 bypass in
     let pairs : List (Id × Id) = paired (bypassed_ids s) kept.0 in
     refuted (

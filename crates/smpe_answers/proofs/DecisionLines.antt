@@ -6,13 +6,13 @@ use Rattle.terms.specs.declared.not_chosen.NotChosen.{NotChosen}
 use Rattle.terms.specs.Types.{Text, Id, Global, Zone, Bypass, Selection}
 use Rattle.terms.specs.Lookups.{is_in}
 use Rattle.terms.specs.Candidates.{not_chosen}
-use Rattle.terms.proofs.Ids.{in_or_not, Contains-from_is_in}
+use Rattle.terms.proofs.Ids.{in_or_not, Contains_from_is_in}
 use Rattle.machine.specs.Outcome.{Status, Applied, Line, StatusLine}
 use Rattle.machine.specs.Receiving.{place_of}
 use Rattle.machine.specs.Installing.{Decision, IsDecision, HasStatus, IsInstalled, IsSuperseded, IsFailed, IsNotChosen}
 use Rattle.machine.specs.Installing.{AreInstallLines}
 use Rattle.smpe_answers.proofs.Causes.{those_stably}
-use Rattle.smpe_answers.proofs.DecisionAnswered.{decision-answered}
+use Rattle.smpe_answers.proofs.DecisionAnswered.{decision_answered}
 use Rattle.smpe_answers.proofs.InstallLines.{IsSound, sound, in_kept}
 
 -- no reason is printed of an id that the command does not name
@@ -26,7 +26,7 @@ unchosen_named : (g : Global) (zone : Zone) (sel : Selection) (x : Id) (why : No
 unchosen_named g zone sel x why at = by (is_in (sel.select ++ sel.group) x) refl
   where
     by : (b : Bool) → is_in (sel.select ++ sel.group) x ≡ b → Contains (sel.select ++ sel.group) x
-    by true named = Contains-from_is_in (sel.select ++ sel.group) x named
+    by true named = Contains_from_is_in (sel.select ++ sel.group) x named
     by false out = absurd (cc (sym (unnamed_none g zone sel x out) ∙ at))
 
 module _ (d : Decision) (sel : Selection) (is : IsSound d sel) where
@@ -62,8 +62,8 @@ module _ (d : Decision) (sel : Selection) (is : IsSound d sel) where
     status_has x (inl there) h = (says x there).1
     status_has x (inr out) h = absurd (out h)
 
-  pub lines-answered : ¬ ¬ ((lines : List Line) × AreInstallLines d sel lines)
-  lines-answered refuted = those_stably Says concerned (λ found.
+  pub lines_answered : ¬ ¬ ((lines : List Line) × AreInstallLines d sel lines)
+  lines_answered refuted = those_stably Says concerned (λ found.
       let ids : List Id = found.0 in
       let says : (x : Id) → Contains ids x → Says x = λ x there. ((found.1.members x).0 there).1 in
       let status : Id → Status = λ x. status_at ids says x (in_or_not ids x) in
@@ -80,10 +80,10 @@ module _ (d : Decision) (sel : Selection) (is : IsSound d sel) where
       ))
 
 -- So APPLY and ACCEPT decide something, and have lines for it.
-pub decided-lines : (g : Global) (zone : Zone) (related : Option Zone) (sel : Selection) (bypass : Bypass)
+pub decided_lines : (g : Global) (zone : Zone) (related : Option Zone) (sel : Selection) (bypass : Bypass)
     (date : Text) → ¬ ¬ ((d : Decision) × IsDecision g zone related sel bypass date d
     × ((lines : List Line) × AreInstallLines d sel lines))
-decided-lines g zone related sel bypass date refuted =
-    decision-answered g zone related sel bypass date (λ decided.
-    lines-answered decided.0 sel (sound g zone related sel bypass date decided.0 decided.1) (λ lines.
+decided_lines g zone related sel bypass date refuted =
+    decision_answered g zone related sel bypass date (λ decided.
+    lines_answered decided.0 sel (sound g zone related sel bypass date decided.0 decided.1) (λ lines.
     refuted (decided.0, decided.1, lines)))

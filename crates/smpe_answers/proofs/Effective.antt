@@ -17,7 +17,7 @@ use Rattle.change.specs.Elements.{HasBases}
 use Rattle.change.proofs.ChosenVers.{AreFor, names_received, never_itself}
 use Rattle.store_schema.specs.Forms.{HasSysmodForms, HasZoneForms}
 use Rattle.smpe_answers.proofs.Finitely.{is_so, so_exactly}
-use Rattle.smpe_answers.proofs.RunsAnswered.{Decided, decided-some}
+use Rattle.smpe_answers.proofs.RunsAnswered.{Decided, decided_some}
 
 -- The global zone and the zone are ones that can be stored. Over orders what is kept and changes one element, and what
 -- is updated is there or comes along.
@@ -58,7 +58,7 @@ module _ (i : Installation) (sound : IsSoundInstall i) where
 
   takes_or_not : (x : Id) → Decided (TakesEffect i x)
   takes_or_not x = elim (in_or_not i.kept x) [
-    | inl is ↦ elim (decided-some (λ y. (y ≢ x) × Supersedes i.choice y x) (other_or_not x) i.kept) [
+    | inl is ↦ elim (decided_some (λ y. (y ≢ x) × Supersedes i.choice y x) (other_or_not x) i.kept) [
       | inl found ↦ inr (λ effect. effect.first found.0 found.1 found.2.0 found.2.1)
       | inr none ↦ inl (record { kept = is; first = λ y there other over. none y there (other, over) })
     ]

@@ -14,7 +14,7 @@ use Rattle.store_schema.specs.Forms.{HasZoneForms, IsTextOf}
 use Rattle.change.specs.Folding.{IsFolded}
 use Rattle.change.proofs.ChosenVers.{names_no_loop}
 use Rattle.change.proofs.FoldEnd.{replaces_changes, folded_after, folded_none, folded_some}
-use Rattle.change.proofs.Reverted.{key_found}
+use Rattle.undo.proofs.Reverted.{key_found}
 use Rattle.smpe_upkeep.proofs.LessForms.{zone_less_forms, element_forms}
 use Rattle.smpe_answers.proofs.Effective.{IsSoundInstall}
 use Rattle.smpe_answers.proofs.InOver.{AreInOver, in_over}

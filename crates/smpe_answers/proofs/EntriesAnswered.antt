@@ -6,30 +6,30 @@ use Rattle.std.specs.Option.{option_map_or, option_and_then}
 use Rattle.std.specs.Str.{bytes_eq}
 use Rattle.std.proofs.lemmas.Bool.{false_from_ne_true, not-true}
 use Rattle.lemmas.proofs.Members.{none_in, in_map, map_in, filter_in, in_filter}
-use Rattle.lemmas.proofs.Searches.{All-find}
+use Rattle.lemmas.proofs.Searches.{All_find}
 use Rattle.lemmas.proofs.Texts.{same_from, same_itself}
-use Rattle.terms.specs.Types.{Text, Id, Entry, Zone}
-use Rattle.terms.specs.Lookups.{IsRising, is_nil, is_in, is_held, waives_applied, entry_of, applied_of}
+use Rattle.terms.specs.Types.{Id, Entry, Zone, Applied}
+use Rattle.terms.specs.Lookups.{IsRising, is_nil, is_in, has_content, waives_applied, entry_of, applied_of}
 use Rattle.terms.specs.Lookups.{supby_of, delby_of, waived_of, is_supplied}
 use Rattle.terms.specs.Deleted.{deletions}
 use Rattle.terms.specs.Over.{Supersedes}
-use Rattle.terms.specs.Install.{Installation, TakesEffect, cleared, delby_after}
-use Rattle.terms.proofs.Ids.{is_in-from_Contains, Contains-from_is_in}
+use Rattle.terms.specs.Install.{Installation, TakesEffect, applied_with, cleared, delby_after}
+use Rattle.terms.proofs.Ids.{is_in_from_Contains, Contains_from_is_in}
 use Rattle.store_schema.specs.Forms.{HasEntryForms, HasZoneForms}
 use Rattle.change.specs.Entries.{bare_entry, if_held}
 use Rattle.smpe_upkeep.proofs.LessForms.{none_listed, zone_less_forms}
 use Rattle.smpe_answers.proofs.Effective.{IsSoundInstall, effective, in_effective, superseders, in_superseders}
 use Rattle.smpe_answers.proofs.EntryAfter.{applied_after, supby_after, supplied_after, bypassed_of, waived_after, made}
 use Rattle.smpe_answers.proofs.EntryAfter.{waives}
-use Rattle.smpe_answers.proofs.JoinedIds.{joined, joined-rises, in_joined}
+use Rattle.smpe_answers.proofs.JoinedIds.{joined, joined_rises, in_joined}
 
-an_entry : Id → Option Text → List Id → Option Id → List Id → Entry
+an_entry : Id → Option Applied → List Id → Option Id → List Id → Entry
 an_entry x applied supby delby waived =
     record { id = x; applied = applied; supby = supby; delby = delby; waived = waived }
 
 -- what nothing holds is bare
-bare : (x : Id) (applied : Option Text) (supby : List Id) (delby : Option Id) (waived : List Id)
-    → is_held (an_entry x applied supby delby waived) ≡ false
+bare : (x : Id) (applied : Option Applied) (supby : List Id) (delby : Option Id) (waived : List Id)
+    → has_content (an_entry x applied supby delby waived) ≡ false
     → IsTrue (waives_applied (an_entry x applied supby delby waived))
     → an_entry x applied supby delby waived ≡ bare_entry x
 unfolding an_entry
@@ -50,15 +50,15 @@ module _ (i : Installation) (sound : IsSoundInstall i) where
           → IsRising (option_map_or (λ e. e.supby) o []) × IsRising (option_map_or (λ e. e.waived) o [])
       by None at = (none_listed.rising, none_listed.rising)
       by (Some e) at =
-          let has = All-find HasEntryForms (λ e. bytes_eq e.id x) (cleared i).entries e forms.entries at in
+          let has = All_find HasEntryForms (λ e. bytes_eq e.id x) (cleared i).entries e forms.entries at in
           (has.supby.rising, has.waived.rising)
 
   takes : (x : Id) → TakesEffect i x → is_in (effective i sound) x ≡ true
-  takes x effect = is_in-from_Contains (effective i sound) x ((in_effective i sound x).1 effect)
+  takes x effect = is_in_from_Contains (effective i sound) x ((in_effective i sound x).1 effect)
 
   takes_not : (x : Id) → (¬ TakesEffect i x) → is_in (effective i sound) x ≡ false
   takes_not x none = false_from_ne_true (is_in (effective i sound) x) (λ is.
-      none ((in_effective i sound x).0 (Contains-from_is_in (effective i sound) x is)))
+      none ((in_effective i sound x).0 (Contains_from_is_in (effective i sound) x is)))
 
   in_bypassed : (x z : Id) → Contains (bypassed_of i sound x) z ↔ Contains i.bypassed (x, z)
   unfolding bypassed_of
@@ -77,9 +77,9 @@ module _ (i : Installation) (sound : IsSoundInstall i) where
     read : {X : Type 0} (field : Option Entry → X) (x : Id) → field None ≡ field (Some (bare_entry x))
         → field (entry_of new x) ≡ field (Some (made i sound x))
     unfolding made an_entry
-    read field x none = ap field (entries x) ∙ by (is_held (made i sound x)) refl
+    read field x none = ap field (entries x) ∙ by (has_content (made i sound x)) refl
       where
-        by : (b : Bool) → is_held (made i sound x) ≡ b
+        by : (b : Bool) → has_content (made i sound x) ≡ b
             → field (if b then Some (made i sound x) else None) ≡ field (Some (made i sound x))
         by true held = refl
         by false unheld = none ∙ ap (λ e. field (Some e)) (sym (bare x (applied_after i sound x) (supby_after i sound x)
@@ -104,20 +104,20 @@ module _ (i : Installation) (sound : IsSoundInstall i) where
         (read (λ o. option_map_or (λ e. is_some e.applied) o false) z refl)
         ∙ ap (λ ys. is_some (applied_after i sound z) || not (is_nil ys)) (supby_is z)
 
-    pub applied : (x : Id) → TakesEffect i x → applied_of new x ≡ Some i.date
+    pub applied : (x : Id) → TakesEffect i x → applied_of new x ≡ Some (applied_with i x)
     unfolding applied_after
     applied x effect =
-        date_after x ∙ ap (λ b. if b then Some i.date else applied_of (cleared i) x) (takes x effect)
+        date_after x ∙ ap (λ b. if b then Some (applied_with i x) else applied_of (cleared i) x) (takes x effect)
 
     pub not_applied : (x : Id) → (¬ TakesEffect i x) → applied_of new x ≡ applied_of (cleared i) x
     unfolding applied_after
     not_applied x none =
-        date_after x ∙ ap (λ b. if b then Some i.date else applied_of (cleared i) x) (takes_not x none)
+        date_after x ∙ ap (λ b. if b then Some (applied_with i x) else applied_of (cleared i) x) (takes_not x none)
 
     pub supby_rising : (x : Id) → IsRising (supby_of new x)
     unfolding supby_after
     supby_rising x = subst IsRising (sym (supby_is x))
-        (joined-rises (supby_of (cleared i) x) (superseders i sound x) (lists_rise x).0)
+        (joined_rises (supby_of (cleared i) x) (superseders i sound x) (lists_rise x).0)
 
     pub supby : (x y : Id) → Contains (supby_of new x) y
         ↔ (Contains (supby_of (cleared i) x) y ⊎ (TakesEffect i y × Supersedes i.choice y x))
@@ -159,7 +159,7 @@ module _ (i : Installation) (sound : IsSoundInstall i) where
             then joined [] (filter (λ z. not (supplied_after i sound z)) (bypassed_of i sound x))
             else waived_of (cleared i) x)
         by true =
-            joined-rises [] (filter (λ z. not (supplied_after i sound z)) (bypassed_of i sound x)) none_listed.rising
+            joined_rises [] (filter (λ z. not (supplied_after i sound z)) (bypassed_of i sound x)) none_listed.rising
         by false = (lists_rise x).1
 
     pub waived : (x z : Id) → TakesEffect i x → Contains (waived_of new x) z

@@ -4,20 +4,20 @@ use Rattle.std.proofs.Common.{IsTrue, filter, map, refl}
 use Rattle.std.specs.Prelude.{◌||◌, is_some, if◌then◌else◌}
 use Rattle.std.specs.Option.{option_map_or, option_and_then}
 use Rattle.std.specs.Str.{bytes_eq}
-use Rattle.lemmas.proofs.Searches.{All-find}
-use Rattle.terms.specs.Types.{Text, Id, Entry}
+use Rattle.lemmas.proofs.Searches.{All_find}
+use Rattle.terms.specs.Types.{Id, Entry, Applied}
 use Rattle.terms.specs.Lookups.{is_nil, is_in, waives_applied, entry_of}
 use Rattle.terms.specs.Lookups.{applied_of, supby_of, waived_of}
 use Rattle.terms.specs.Deleted.{deletions, is_taken_out, zone_less}
-use Rattle.terms.specs.Install.{Installation, cleared, delby_after}
-use Rattle.zones_less.proofs.Entries.{entries_less-waive}
+use Rattle.terms.specs.Install.{Installation, applied_with, cleared, delby_after}
+use Rattle.zones_views.proofs.Entries.{entries_less_waive}
 use Rattle.smpe_answers.proofs.Effective.{IsSoundInstall, effective}
 use Rattle.smpe_answers.proofs.Effective.{superseders}
 use Rattle.smpe_answers.proofs.JoinedIds.{joined}
 
 module _ (i : Installation) (sound : IsSoundInstall i) where
-  unfoldable pub applied_after : Id → Option Text
-  applied_after x = if is_in (effective i sound) x then Some i.date else applied_of (cleared i) x
+  unfoldable pub applied_after : Id → Option Applied
+  applied_after x = if is_in (effective i sound) x then Some (applied_with i x) else applied_of (cleared i) x
 
   unfoldable pub supby_after : Id → List Id
   supby_after x = joined (supby_of (cleared i) x) (superseders i sound x)
@@ -46,7 +46,7 @@ module _ (i : Installation) (sound : IsSoundInstall i) where
 
   cleared_waive : All (λ e. IsTrue (waives_applied e)) (cleared i).entries
   unfolding zone_less
-  cleared_waive = entries_less-waive (is_taken_out i.global i.choice (deletions i.choice i.kept) i.zone) i.zone.entries
+  cleared_waive = entries_less_waive (is_taken_out i.global i.choice (deletions i.choice i.kept) i.zone) i.zone.entries
       sound.is_zone.waived
 
   pub waives : (x : Id) → IsTrue (waives_applied (made x))
@@ -57,10 +57,10 @@ module _ (i : Installation) (sound : IsSoundInstall i) where
           → (is_some (option_and_then (λ e. e.applied) o) || is_nil (option_map_or (λ e. e.waived) o [])) ≡ true
       old None at = refl
       old (Some e) at =
-          All-find (λ e. IsTrue (waives_applied e)) (λ e. bytes_eq e.id x) (cleared i).entries e cleared_waive at
+          All_find (λ e. IsTrue (waives_applied e)) (λ e. bytes_eq e.id x) (cleared i).entries e cleared_waive at
 
       by : (b : Bool)
-          → (is_some (if b then Some i.date else applied_of (cleared i) x)
+          → (is_some (if b then Some (applied_with i x) else applied_of (cleared i) x)
           || is_nil (if b then joined [] (filter (λ z. not (supplied_after z)) (bypassed_of x))
           else waived_of (cleared i) x)) ≡ true
       by true = refl

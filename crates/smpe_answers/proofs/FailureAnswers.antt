@@ -5,10 +5,11 @@ use Rattle.std.specs.List.{flat_map}
 use Rattle.terms.specs.declared.codes.NeedKind.{NeedKind}
 use Rattle.terms.specs.declared.codes.Test.{Test}
 use Rattle.terms.specs.Types.{Id}
-use Rattle.zones_less.proofs.Flats.{same_truth}
+use Rattle.zones_views.proofs.Flats.{same_truth}
 use Rattle.machine.specs.Outcome.{Failure, OpenNeed}
-use Rattle.machine.specs.Installing.{all_tests, all_needs, IsFailure}
-use Rattle.smpe_answers.proofs.Decided.{members-only}
+use Rattle.terms.specs.Failures.{all_tests, all_needs}
+use Rattle.machine.specs.Installing.{IsFailure}
+use Rattle.smpe_answers.proofs.Decided.{members_only}
 
 -- the needs by kind
 abbrev pub needs_of : (NeedKind → List Id) → List OpenNeed
@@ -19,16 +20,16 @@ a_failure tests needs causers = record { tests = tests; needs = needs; causers =
 
 module _ (cands kept : List Id) (FailsTest : Id → Test → Type 0) (Eligible : Id → Type 0)
     (Wants : Id → NeedKind → Id → Type 0) (ServedBy : NeedKind → Id → Id → Type 0) where
-  pub failure-only : (x : Id) (f h : Failure) → IsFailure cands kept FailsTest Eligible Wants ServedBy x f
+  pub failure_only : (x : Id) (f h : Failure) → IsFailure cands kept FailsTest Eligible Wants ServedBy x f
       → IsFailure cands kept FailsTest Eligible Wants ServedBy x h → f ≡ h
   unfolding a_failure
-  failure-only x f h is is' =
+  failure_only x f h is is' =
       let fails : is.fails ≡ is'.fails = fun_ext (λ t. same_truth (is.fails t) (is'.fails t)
       (λ so. (is'.failed t).1 ((is.failed t).0 so)) (λ so. (is.failed t).1 ((is'.failed t).0 so))) in
-      let ids : is.ids_of ≡ is'.ids_of = fun_ext (λ kind. members-only _ (is.ids_of kind) (is'.ids_of kind)
+      let ids : is.ids_of ≡ is'.ids_of = fun_ext (λ kind. members_only _ (is.ids_of kind) (is'.ids_of kind)
       (is.ids_rising kind) (is'.ids_rising kind) (is.are_open kind) (is'.are_open kind)) in
       ap (λ tests. a_failure tests f.needs f.causers)
       (is.tests ∙ ap (λ fails. filter fails all_tests) fails ∙ sym is'.tests)
       ∙ ap (λ needs. a_failure h.tests needs f.causers) (is.needs ∙ ap needs_of ids ∙ sym is'.needs)
       ∙ ap (λ causers. a_failure h.tests h.needs causers)
-      (members-only _ f.causers h.causers is.causers_rising is'.causers_rising is.causers is'.causers)
+      (members_only _ f.causers h.causers is.causers_rising is'.causers_rising is.causers is'.causers)

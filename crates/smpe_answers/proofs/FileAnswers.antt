@@ -12,22 +12,22 @@ use Rattle.terms.specs.Words.{TakesWord}
 use Rattle.terms.specs.Statements.{statement_text}
 use Rattle.terms.specs.Commands.{IsCommandFile, IsCommandFileFault}
 use Rattle.terms.specs.Ptfin.{IsKnown, IsUnknown, McsFault, IsPtfin, IsPtfinFault}
-use Rattle.terms.specs.HoldFile.{MayStand, HasItem, IsWithin, IsGoodItem, IsItemFault, BeginsWithItems}
+use Rattle.terms.specs.HoldFile.{StandsInHoldFile, HasItem, IsWithin, IsGoodItem, IsItemFault, BeginsWithItems}
 use Rattle.terms.specs.HoldFile.{IsNextItemFault, IsHoldFile, IsHoldFileFault}
-use Rattle.terms.proofs.Exact.{statement-only, fault-no_statement}
-use Rattle.terms.proofs.ExactFiles.{records-only, rec_fault-no_records, rec_fault-only, group-only}
+use Rattle.terms.proofs.Exact.{statement_only, fault_no_statement}
+use Rattle.terms.proofs.ExactFiles.{records_only, rec_fault_no_records, rec_fault_only, group_only}
 use Rattle.terms.proofs.ExactFiles.{begins_inside}
-use Rattle.terms.proofs.ExactPtfin.{SameParts, known-only, ptfin-only, ptfin_fault-no_items}
-use Rattle.terms.proofs.ExactFaults.{ptfin_fault-only}
-use Rattle.terms.proofs.ExactHoldFile.{item_fault-no_good, hold_file-only, hold_file_fault-no_items}
-use Rattle.terms.proofs.ExactCommandFiles.{file-only, file_fault-only, fault-no_file}
+use Rattle.terms.proofs.ExactPtfin.{SameParts, known_only, ptfin_only, ptfin_fault_no_items}
+use Rattle.terms.proofs.ExactFaults.{ptfin_fault_only}
+use Rattle.terms.proofs.ExactHoldFile.{item_fault_no_good, hold_file_only, hold_file_fault_no_items}
+use Rattle.terms.proofs.ExactCommandFiles.{file_only, file_fault_only, fault_no_file}
 use Rattle.smpe_answers.specs.Answers.{IsReadOnce}
 
 -- what is at fault behind a known word
 abbrev IsBehind : StatementWord → Option Text → List Piece → Lines → McCode → Type 0
-IsBehind w own rest inline Mc4 = ¬ MayStand w inline
-IsBehind w own rest inline Mc3 = MayStand w inline × ((item : HoldItem) → ¬ HasItem w own rest item)
-IsBehind w own rest inline Mc6 = (item : HoldItem) × MayStand w inline × HasItem w own rest item × (¬ IsWithin item)
+IsBehind w own rest inline Mc4 = ¬ StandsInHoldFile w inline
+IsBehind w own rest inline Mc3 = StandsInHoldFile w inline × ((item : HoldItem) → ¬ HasItem w own rest item)
+IsBehind w own rest inline Mc6 = (item : HoldItem) × StandsInHoldFile w inline × HasItem w own rest item × (¬ IsWithin item)
 IsBehind w own rest inline _ = ⊥
 
 behind_codes : (w : StatementWord) (own : Option Text) (rest : List Piece) (inline : Lines) (a b : McCode)
@@ -73,13 +73,13 @@ same_behind w v own other rest more inline text code p f =
 
 known_codes : (records : Lines) (a b : McCode) → KnownFault records a → KnownFault records b → a ≡ b
 known_codes records a b f g =
-    let parts = known-only records f.w g.w f.own g.own f.rest g.rest f.inline g.inline f.known g.known in
+    let parts = known_only records f.w g.w f.own g.own f.rest g.rest f.inline g.inline f.known g.known in
     behind_codes g.w g.own g.rest g.inline a b (same_behind f.w g.w f.own g.own f.rest g.rest f.inline g.inline a parts
     f.fault) g.fault
 
 unknown_known : (records : Lines) (code : McCode) → IsUnknown records → KnownFault records code → ⊥
 unknown_known records code u f =
-    let same = statement-only records f.known.pieces u.pieces f.inline u.inline f.known.statement u.statement in
+    let same = statement_only records f.known.pieces u.pieces f.inline u.inline f.known.statement u.statement in
     u.unknown f.w f.own f.rest (subst (λ p. TakesWord p (record { word = statement_text f.w; list = f.own }) f.rest)
     same.0 f.known.begins)
 
@@ -121,21 +121,21 @@ judged records Mc6 (w, own, rest, inline, item, known, stands, has, over) = Behi
 judged_codes : (records : Lines) (a b : McCode) → Judged records a → Judged records b → a ≡ b
 judged_codes records a b (OfForm f) (OfForm g) = refl
 judged_codes records a b (OfForm f) (OfWord g) =
-    absurd (fault-no_statement records f.0 g.pieces g.inline f.1 g.statement)
+    absurd (fault_no_statement records f.0 g.pieces g.inline f.1 g.statement)
 judged_codes records a b (OfForm f) (Behind code g) =
-    absurd (fault-no_statement records f.0 g.known.pieces g.inline f.1 g.known.statement)
+    absurd (fault_no_statement records f.0 g.known.pieces g.inline f.1 g.known.statement)
 judged_codes records a b (OfWord f) (OfForm g) =
-    absurd (fault-no_statement records g.0 f.pieces f.inline g.1 f.statement)
+    absurd (fault_no_statement records g.0 f.pieces f.inline g.1 f.statement)
 judged_codes records a b (OfWord f) (OfWord g) = refl
 judged_codes records a b (OfWord f) (Behind code g) = absurd (unknown_known records code f g)
 judged_codes records a b (Behind code f) (OfForm g) =
-    absurd (fault-no_statement records g.0 f.known.pieces f.inline g.1 f.known.statement)
+    absurd (fault_no_statement records g.0 f.known.pieces f.inline g.1 f.known.statement)
 judged_codes records a b (Behind code f) (OfWord g) = absurd (unknown_known records code g f)
 judged_codes records a b (Behind code f) (Behind code' g) = known_codes records code code' f g
 
 -- The code of a statement's fault is determined.
-item_fault-only : (records : Lines) (a b : McCode) → IsItemFault records a → IsItemFault records b → a ≡ b
-item_fault-only records a b f g = judged_codes records a b (judged records a f) (judged records b g)
+item_fault_only : (records : Lines) (a b : McCode) → IsItemFault records a → IsItemFault records b → a ≡ b
+item_fault_only records a b f g = judged_codes records a b (judged records a f) (judged records b g)
 
 faults_same : (f g : McsFault) → f.number ≡ g.number → f.code ≡ g.code → f ≡ g
 faults_same f g n c = ap₂ (λ a b. record { number = a; code = b }) n c
@@ -149,15 +149,15 @@ at_place n m records rest fault f g h =
 first_faults : (n : ℕ) (records : Lines) (f g : McsFault) → IsNextItemFault n records f → IsNextItemFault n records g
     → f ≡ g
 first_faults n records f g h k =
-    let same = group-only n h.1 k.1 records h.2 k.2 h.0 k.0 h.3 k.3 in
+    let same = group_only n h.1 k.1 records h.2 k.2 h.0 k.0 h.3 k.3 in
     faults_same f g (h.4 ∙ ap (λ (x : Group). x.number) same.0 ∙ sym k.4)
-    (item_fault-only k.0.records f.code g.code (subst (λ (x : Group). IsItemFault x.records f.code) same.0 h.5) k.5)
+    (item_fault_only k.0.records f.code g.code (subst (λ (x : Group). IsItemFault x.records f.code) same.0 h.5) k.5)
 
 good_first : (n : ℕ) (records : Lines) (fault : McsFault) (g : Group) (next : ℕ) (later : Lines) (item : HoldItem)
     → IsNextItemFault n records fault → TakesGroup n records g next later → IsGoodItem g.records item → ⊥
 good_first n records fault g next later item f t good =
-    let same = group-only n next f.1 records later f.2 g f.0 t f.3 in
-    item_fault-no_good f.0.records fault.code item f.5
+    let same = group_only n next f.1 records later f.2 g f.0 t f.3 in
+    item_fault_no_good f.0.records fault.code item f.5
     (subst (λ (x : Group). IsGoodItem x.records item) same.0 good)
 
 next_faults : (n : ℕ) (records : Lines) (items : List HoldItem) (m : ℕ) (rest : Lines) (items' : List HoldItem) (m' : ℕ)
@@ -170,7 +170,7 @@ next_faults n records [] m rest (i' ∷ items') m' rest' f g b b' h k =
 next_faults n records (i ∷ items) m rest [] m' rest' f g b b' h k =
     absurd (good_first n records g b.0 b.1 b.2 i (at_place n m' records rest' g b'.0 b'.1 k) b.3 b.4)
 next_faults n records (i ∷ items) m rest (i' ∷ items') m' rest' f g b b' h k =
-    let same = group-only n b.1 b'.1 records b.2 b'.2 b.0 b'.0 b.3 b'.3 in
+    let same = group_only n b.1 b'.1 records b.2 b'.2 b.0 b'.0 b.3 b'.3 in
     let more = subst (λ k. BeginsWithItems k b'.2 items m rest) same.1
     (subst (λ r. BeginsWithItems b.1 r items m rest) same.2 b.5) in
     next_faults b'.1 b'.2 items m rest items' m' rest' f g more b'.5 h k
@@ -186,46 +186,46 @@ outside_excludes : (bytes : List ℕ) (records others : Lines) (items : List Hol
     (fault : McsFault) → HasRecords bytes records → HasRecords bytes others → starts_outside records ≡ true
     → BeginsWithItems 1 others items m rest → IsNextItemFault m rest fault → ⊥
 outside_excludes bytes records others items m rest fault h k out b f =
-    true≢false (sym out ∙ ap starts_outside (records-only bytes records others h k)
+    true≢false (sym out ∙ ap starts_outside (records_only bytes records others h k)
     ∙ inside 1 others items m rest fault b f)
 
 -- The first fault of a hold file is determined.
-pub hold_file_fault-only : (bytes : List ℕ) (f g : McsFault) → IsHoldFileFault bytes f → IsHoldFileFault bytes g
+pub hold_file_fault_only : (bytes : List ℕ) (f g : McsFault) → IsHoldFileFault bytes f → IsHoldFileFault bytes g
     → f ≡ g
-hold_file_fault-only bytes f g (inl (inl h)) (inl (inl k)) =
-    faults_same f g (h.3 ∙ ap rec_fault_record (rec_fault-only bytes h.1 k.1 h.2 k.2) ∙ sym k.3) (h.0 ∙ sym k.0)
-hold_file_fault-only bytes f g (inl (inl h)) (inl (inr k)) = absurd (rec_fault-no_records bytes h.1 k.2 h.2 k.3)
-hold_file_fault-only bytes f g (inl (inl h)) (inr k) = absurd (rec_fault-no_records bytes h.1 k.0 h.2 k.4)
-hold_file_fault-only bytes f g (inl (inr h)) (inl (inl k)) = absurd (rec_fault-no_records bytes k.1 h.2 k.2 h.3)
-hold_file_fault-only bytes f g (inl (inr h)) (inl (inr k)) = faults_same f g (h.1 ∙ sym k.1) (h.0 ∙ sym k.0)
-hold_file_fault-only bytes f g (inl (inr h)) (inr k) =
+hold_file_fault_only bytes f g (inl (inl h)) (inl (inl k)) =
+    faults_same f g (h.3 ∙ ap rec_fault_record (rec_fault_only bytes h.1 k.1 h.2 k.2) ∙ sym k.3) (h.0 ∙ sym k.0)
+hold_file_fault_only bytes f g (inl (inl h)) (inl (inr k)) = absurd (rec_fault_no_records bytes h.1 k.2 h.2 k.3)
+hold_file_fault_only bytes f g (inl (inl h)) (inr k) = absurd (rec_fault_no_records bytes h.1 k.0 h.2 k.4)
+hold_file_fault_only bytes f g (inl (inr h)) (inl (inl k)) = absurd (rec_fault_no_records bytes k.1 h.2 k.2 h.3)
+hold_file_fault_only bytes f g (inl (inr h)) (inl (inr k)) = faults_same f g (h.1 ∙ sym k.1) (h.0 ∙ sym k.0)
+hold_file_fault_only bytes f g (inl (inr h)) (inr k) =
     absurd (outside_excludes bytes h.2 k.0 k.1 k.2 k.3 g h.3 k.4 h.4 k.5 k.6)
-hold_file_fault-only bytes f g (inr h) (inl (inl k)) = absurd (rec_fault-no_records bytes k.1 h.0 k.2 h.4)
-hold_file_fault-only bytes f g (inr h) (inl (inr k)) =
+hold_file_fault_only bytes f g (inr h) (inl (inl k)) = absurd (rec_fault_no_records bytes k.1 h.0 k.2 h.4)
+hold_file_fault_only bytes f g (inr h) (inl (inr k)) =
     absurd (outside_excludes bytes k.2 h.0 h.1 h.2 h.3 f k.3 h.4 k.4 h.5 h.6)
-hold_file_fault-only bytes f g (inr h) (inr k) =
-    let same = records-only bytes h.0 k.0 h.4 k.4 in
+hold_file_fault_only bytes f g (inr h) (inr k) =
+    let same = records_only bytes h.0 k.0 h.4 k.4 in
     next_faults 1 k.0 h.1 h.2 h.3 k.1 k.2 k.3 f g (subst (λ r. BeginsWithItems 1 r h.1 h.2 h.3) same h.5) k.5 h.6 k.6
 
 -- ---- each of the three files
 
-pub ptfin-once : (bytes : List ℕ) → IsReadOnce (IsPtfin bytes) (IsPtfinFault bytes)
-ptfin-once bytes = record {
-  items = ptfin-only bytes;
-  faults = ptfin_fault-only bytes;
-  apart = λ items fault is at. ptfin_fault-no_items bytes fault items at is;
+pub ptfin_once : (bytes : List ℕ) → IsReadOnce (IsPtfin bytes) (IsPtfinFault bytes)
+ptfin_once bytes = record {
+  items = ptfin_only bytes;
+  faults = ptfin_fault_only bytes;
+  apart = λ items fault is at. ptfin_fault_no_items bytes fault items at is;
 }
 
-pub hold_file-once : (bytes : List ℕ) → IsReadOnce (IsHoldFile bytes) (IsHoldFileFault bytes)
-hold_file-once bytes = record {
-  items = hold_file-only bytes;
-  faults = hold_file_fault-only bytes;
-  apart = λ items fault is at. hold_file_fault-no_items bytes fault items at is;
+pub hold_file_once : (bytes : List ℕ) → IsReadOnce (IsHoldFile bytes) (IsHoldFileFault bytes)
+hold_file_once bytes = record {
+  items = hold_file_only bytes;
+  faults = hold_file_fault_only bytes;
+  apart = λ items fault is at. hold_file_fault_no_items bytes fault items at is;
 }
 
-pub command_file-once : (bytes : List ℕ) → IsReadOnce (IsCommandFile bytes) (IsCommandFileFault bytes)
-command_file-once bytes = record {
-  items = file-only bytes;
-  faults = file_fault-only bytes;
-  apart = fault-no_file bytes;
+pub command_file_once : (bytes : List ℕ) → IsReadOnce (IsCommandFile bytes) (IsCommandFileFault bytes)
+command_file_once bytes = record {
+  items = file_only bytes;
+  faults = file_fault_only bytes;
+  apart = fault_no_file bytes;
 }

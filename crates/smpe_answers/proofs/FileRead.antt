@@ -15,7 +15,7 @@ use Rattle.terms.specs.Ptfin.{IsGoodStatement, IsStatementFault, IsKnown, Begins
 use Rattle.terms.specs.Ptfin.{IsNextFault, IsPtfinFault}
 use Rattle.terms.specs.HoldFile.{IsGoodItem, IsItemFault, BeginsWithItems, IsHoldFile, IsNextItemFault, IsHoldFileFault}
 use Rattle.smpe_answers.specs.Answers.{IsRead}
-use Rattle.smpe_answers.proofs.CutUp.{records-read, statement-read, group-taken}
+use Rattle.smpe_answers.proofs.CutUp.{records_read, statement_read, group_taken}
 
 -- ---- a statement of PTFIN
 
@@ -51,7 +51,7 @@ module _ (current : Option Begun) (later records : Lines) where
               ))
 
   good_or_fault : ¬ ¬ GoodOrFault
-  good_or_fault none = statement-read records (λ read. elim read [
+  good_or_fault none = statement_read records (λ read. elim read [
     | inr fault ↦ none (inr (Mc1, fault))
     | inl is ↦ none (inr (
       Mc2,
@@ -78,7 +78,7 @@ begins_or_fault : (k : ℕ) (c : SoFar) (n : ℕ) (records : Lines) → length r
 begins_or_fault k c n [] short starts none = none (inl ([], c, n, (refl, refl, refl)))
 begins_or_fault zero c n (r ∷ rs) short starts none = omega (arith, short)
 begins_or_fault (suc k) c n (r ∷ rs) short starts none =
-    let g = group-taken n r rs starts in
+    let g = group_taken n r rs starts in
     good_or_fault c.current g.later g.group.records (λ judged. elim judged [
       | inr bad ↦ none (inr (
         [],
@@ -110,8 +110,8 @@ begins_or_fault (suc k) c n (r ∷ rs) short starts none =
     ])
 
 -- PTFIN is of items or has a fault.
-pub ptfin-read : (bytes : List ℕ) → ¬ ¬ IsRead (IsPtfin bytes) (IsPtfinFault bytes)
-ptfin-read bytes none = elim (records-read bytes) [
+pub ptfin_read : (bytes : List ℕ) → ¬ ¬ IsRead (IsPtfin bytes) (IsPtfinFault bytes)
+ptfin_read bytes none = elim (records_read bytes) [
   | inr bad ↦ none (inr (
     record { number = rec_fault_record bad.0; code = Mc1 },
     inl (inl (refl, bad.0, bad.1, refl)),
@@ -179,7 +179,7 @@ module _ (records : Lines) where
       ))
 
   good_item_or_fault : ¬ ¬ GoodItemOrFault
-  good_item_or_fault none = statement-read records (λ read. elim read [
+  good_item_or_fault none = statement_read records (λ read. elim read [
     | inr fault ↦ none (inr (Mc1, fault))
     | inl is ↦ none (inr (
       Mc2,
@@ -204,7 +204,7 @@ items_or_fault : (k n : ℕ) (records : Lines) → length records ≤ k → star
 items_or_fault k n [] short starts none = none (inl ([], n, (refl, refl)))
 items_or_fault zero n (r ∷ rs) short starts none = omega (arith, short)
 items_or_fault (suc k) n (r ∷ rs) short starts none =
-    let g = group-taken n r rs starts in
+    let g = group_taken n r rs starts in
     good_item_or_fault g.group.records (λ judged. elim judged [
       | inr bad ↦ none (inr (
         [],
@@ -229,8 +229,8 @@ items_or_fault (suc k) n (r ∷ rs) short starts none =
     ])
 
 -- A hold file is of items or has a fault.
-pub hold_file-read : (bytes : List ℕ) → ¬ ¬ IsRead (IsHoldFile bytes) (IsHoldFileFault bytes)
-hold_file-read bytes none = elim (records-read bytes) [
+pub hold_file_read : (bytes : List ℕ) → ¬ ¬ IsRead (IsHoldFile bytes) (IsHoldFileFault bytes)
+hold_file_read bytes none = elim (records_read bytes) [
   | inr bad ↦ none (inr (
     record { number = rec_fault_record bad.0; code = Mc1 },
     inl (inl (refl, bad.0, bad.1, refl)),

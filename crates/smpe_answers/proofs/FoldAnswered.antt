@@ -8,7 +8,7 @@ use Rattle.std.proofs.lemmas.Cmp.{nat_list_cmp_total}
 use Rattle.std.proofs.lemmas.List.{append-nil}
 use Rattle.std.proofs.lemmas.List.Elements.{All-contains}
 use Rattle.lemmas.proofs.Members.{here, there}
-use Rattle.lemmas.proofs.Pairs.{AllPairs-parts}
+use Rattle.lemmas.proofs.Pairs.{AllPairs_parts}
 use Rattle.terms.specs.declared.kinds.Kind.{Kind}
 use Rattle.terms.specs.declared.kinds.ElemType.{ElemType}
 use Rattle.terms.specs.declared.kinds.ElemType.TheVariants.{Mac, Src}
@@ -18,11 +18,11 @@ use Rattle.terms.specs.Rising.{with_item}
 use Rattle.terms.specs.Choice.{Choice}
 use Rattle.terms.specs.Over.{IsOver, owner}
 use Rattle.terms.specs.Texts.{HasForm, IsNumbered}
-use Rattle.terms.proofs.Placing.{Rises-with_item}
-use Rattle.store_schema.specs.Forms.{HasSysmodForms, IsTextOf, IsUpdated, HasActionForms}
+use Rattle.terms.proofs.Placing.{Rises_with_item}
+use Rattle.store_schema.specs.Forms.{HasSysmodForms, IsTextOf, TakesUpdates, HasActionForms}
 use Rattle.change.specs.Folding.{replacement, IsMadeBy, IsStep, IsFolded}
 use Rattle.change.proofs.FoldSteps.{fold_more}
-use Rattle.change.proofs.Gathered.{in-with_item}
+use Rattle.change.proofs.Gathered.{in_with_item}
 use Rattle.smpe_upkeep.proofs.LessForms.{none_listed}
 use Rattle.smpe_upkeep.proofs.OperandForms.{change_forms}
 use Rattle.smpe_answers.proofs.InOver.{Ascend}
@@ -35,12 +35,12 @@ form_of Mac text is = is.1
 form_of Src text is = is.1
 form_of _ text is = tt
 
-numbered_of : (type : ElemType) (text : Lines) → IsUpdated type → HasForm type text → IsNumbered text
+numbered_of : (type : ElemType) (text : Lines) → TakesUpdates type → HasForm type text → IsNumbered text
 numbered_of Mac text updated form = form
 numbered_of Src text updated form = form
 numbered_of _ text updated form = absurd updated
 
-form_from : (type : ElemType) (text : Lines) → IsUpdated type → IsNumbered text → HasForm type text
+form_from : (type : ElemType) (text : Lines) → TakesUpdates type → IsNumbered text → HasForm type text
 form_from Mac text updated numbered = numbered
 form_from Src text updated numbered = numbered
 form_from _ text updated numbered = absurd updated
@@ -65,7 +65,7 @@ module _ (g : Global) (sysmods : All HasSysmodForms g.sysmods) (c : Choice) (typ
   made_by x kind (Updates update) forms None fit = (None, refl, tt)
   made_by x kind (Updates update) forms (Some old) fit =
       let merge = merged name old.text update (numbered_of type old.text forms.1 fit.text) forms.3 in
-      let rising = Rises-with_item nat_list_cmp_total (λ y. y) old.umids x fit.umids in
+      let rising = Rises_with_item nat_list_cmp_total (λ y. y) old.umids x fit.umids in
       let new : Element = record old {
         umids = with_item (slice_cmp nat_cmp) (λ y. y) old.umids x;
         text = merge.0;
@@ -74,7 +74,7 @@ module _ (g : Global) (sysmods : All HasSysmodForms g.sysmods) (c : Choice) (typ
         (
           new,
           refl,
-          record { rest = refl; rising = rising; umids = in-with_item old.umids x; merged = merge.1 },
+          record { rest = refl; rising = rising; umids = in_with_item old.umids x; merged = merge.1 },
         ),
         record { key = fit.key; umids = rising; text = form_from type merge.0 forms.1 merge.1.numbered },
       )
@@ -110,7 +110,7 @@ module _ (g : Global) (sysmods : All HasSysmodForms g.sysmods) (c : Choice) (typ
         → ((x : Id) → Contains rest x → IsTrue (has_change g x type name)) → Folded done → Folded (done ++ rest)
     folded_on done [] ascend change so_far = subst Folded (sym (append-nil done)) so_far
     folded_on done (x ∷ rest) ascend change so_far =
-        let sides = AllPairs-parts (λ y z. IsOver c z y) done rest x ascend in
+        let sides = AllPairs_parts (λ y z. IsOver c z y) done rest x ascend in
         let made = stepped x (change x (here x rest)) so_far.0 so_far.2 in
         let more = fold_more g c type name done x start so_far.0 made.0
         (λ y is. All-contains (IsOver c x) done y sides.0 is) (no_loop x) so_far.1 made.1 in

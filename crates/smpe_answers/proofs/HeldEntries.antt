@@ -8,18 +8,18 @@ use Rattle.std.specs.Str.{bytes_eq}
 use Rattle.std.proofs.lemmas.Bool.{and_parts, or_cases}
 use Rattle.lemmas.proofs.Members.{here, there, none_in, in_map, filter_in, in_flat}
 use Rattle.lemmas.proofs.Places.{contains_at}
-use Rattle.lemmas.proofs.Searches.{find-gives}
+use Rattle.lemmas.proofs.Searches.{find_gives}
 use Rattle.lemmas.proofs.Texts.{same_from}
-use Rattle.terms.specs.Types.{Text, Id, Entry}
-use Rattle.terms.specs.Lookups.{is_nil, is_in, is_function, is_held, entry_of}
+use Rattle.terms.specs.Types.{Id, Entry, Applied}
+use Rattle.terms.specs.Lookups.{is_nil, is_in, is_function, has_content, entry_of}
 use Rattle.terms.specs.Lookups.{applied_of, supby_of, delby_of}
 use Rattle.terms.specs.Choice.{sup_of, del_of}
 use Rattle.terms.specs.Over.{Reaches}
 use Rattle.terms.specs.Deleted.{deletions, is_deleted, is_taken_out}
-use Rattle.terms.specs.Install.{Installation, cleared, deleters, delby_after}
-use Rattle.terms.proofs.Ids.{Contains-from_is_in}
+use Rattle.terms.specs.Install.{Installation, applied_with, cleared, deleters, delby_after}
+use Rattle.terms.proofs.Ids.{Contains_from_is_in}
 use Rattle.terms.proofs.Leads.{last_step}
-use Rattle.change.proofs.Leaving.{left-none}
+use Rattle.change.proofs.Leaving.{left_none}
 use Rattle.smpe_answers.proofs.Effective.{IsSoundInstall, received, superseder_received, effective, in_effective}
 use Rattle.smpe_answers.proofs.Effective.{superseders, in_superseders}
 use Rattle.smpe_answers.proofs.EntryAfter.{applied_after, supby_after, made}
@@ -43,7 +43,7 @@ module _ (i : Installation) (sound : IsSoundInstall i) where
   in_zone : (x : Id) (e : Entry) → entry_of i.zone x ≡ Some e → Contains concerned x
   unfolding lists zone_ids
   in_zone x e found =
-      let gives = find-gives (λ e. bytes_eq e.id x) i.zone.entries e found in
+      let gives = find_gives (λ e. bytes_eq e.id x) i.zone.entries e found in
       among zone_ids (1, omega arith, refl) x
       (subst (Contains (map (λ e. e.id) i.zone.entries)) (same_from e.id x gives.0)
       (in_map (λ (e : Entry). e.id) i.zone.entries e gives.1))
@@ -53,22 +53,22 @@ module _ (i : Installation) (sound : IsSoundInstall i) where
     where
       by : (o : Option Entry) → entry_of i.zone x ≡ o → Contains concerned x
       by None at = absurd (cc (sym found
-          ∙ left-none i.global i.choice (deletions i.choice i.kept) i.zone sound.is_zone x at))
+          ∙ left_none i.global i.choice (deletions i.choice i.kept) i.zone sound.is_zone x at))
       by (Some was) at = in_zone x was at
 
-  applied_concerned : (x : Id) (date : Text) → applied_after i sound x ≡ Some date → Contains concerned x
+  applied_concerned : (x : Id) (a : Applied) → applied_after i sound x ≡ Some a → Contains concerned x
   unfolding applied_after lists
-  applied_concerned x date = by (is_in (effective i sound) x) refl
+  applied_concerned x a = by (is_in (effective i sound) x) refl
     where
-      old : (o : Option Entry) → entry_of (cleared i) x ≡ o → option_and_then (λ e. e.applied) o ≡ Some date
+      old : (o : Option Entry) → entry_of (cleared i) x ≡ o → option_and_then (λ e. e.applied) o ≡ Some a
           → Contains concerned x
       old None found at = absurd (cc at)
       old (Some e) found at = in_cleared x e found
 
       by : (b : Bool) → is_in (effective i sound) x ≡ b
-          → (if b then Some i.date else applied_of (cleared i) x) ≡ Some date → Contains concerned x
+          → (if b then Some (applied_with i x) else applied_of (cleared i) x) ≡ Some a → Contains concerned x
       by true takes at =
-          let effect = (in_effective i sound x).0 (Contains-from_is_in (effective i sound) x takes) in
+          let effect = (in_effective i sound x).0 (Contains_from_is_in (effective i sound) x takes) in
           among i.kept (0, omega arith, refl) x effect.kept
       by false other at = old (entry_of (cleared i) x) refl at
 
@@ -116,7 +116,7 @@ module _ (i : Installation) (sound : IsSoundInstall i) where
       deleter false is there =
           let passes = filter_in (λ k. is_in (del_of i.choice k) x) i.kept y there in
           among (deletions i.choice i.kept) (3, omega arith, refl) x
-          (in_flat (del_of i.choice) i.kept y x passes.0 (Contains-from_is_in (del_of i.choice y) x passes.1))
+          (in_flat (del_of i.choice) i.kept y x passes.0 (Contains_from_is_in (del_of i.choice y) x passes.1))
 
       by : (o : Option Id) → delby_of i.zone x ≡ o → (if is_some o then o else slice_get (deleters i x) 0) ≡ Some y
           → Contains concerned x
@@ -125,7 +125,7 @@ module _ (i : Installation) (sound : IsSoundInstall i) where
           (contains_at (deleters i x) 0 y at)
       by (Some k) was at = old (entry_of i.zone x) refl (ap is_some was)
 
-  pub held_concerned : (x : Id) → is_held (made i sound x) ≡ true → Contains concerned x
+  pub held_concerned : (x : Id) → has_content (made i sound x) ≡ true → Contains concerned x
   unfolding made
   held_concerned x held =
       elim (or_cases (is_some (applied_after i sound x) || not (is_nil (supby_after i sound x)))
@@ -137,9 +137,9 @@ module _ (i : Installation) (sound : IsSoundInstall i) where
         | inr deleted ↦ by_delby (delby_after i x) refl deleted
       ]
     where
-      by_date : (o : Option Text) → applied_after i sound x ≡ o → is_some o ≡ true → Contains concerned x
+      by_date : (o : Option Applied) → applied_after i sound x ≡ o → is_some o ≡ true → Contains concerned x
       by_date None at some = absurd (true≢false (sym some))
-      by_date (Some date) at some = applied_concerned x date at
+      by_date (Some a) at some = applied_concerned x a at
 
       by_supby : (ys : List Id) → supby_after i sound x ≡ ys → not (is_nil ys) ≡ true → Contains concerned x
       by_supby [] at some = absurd (true≢false (sym some))

@@ -4,13 +4,13 @@ use Rattle.std.specs.Prelude.{◌↔◌}
 use Rattle.std.proofs.lemmas.List.Elements.{All-contains}
 use Rattle.std.proofs.lemmas.List.Kept.{AllPairs-cons}
 use Rattle.lemmas.proofs.Members.{here, there, here_or}
-use Rattle.lemmas.proofs.Pairs.{AllPairs-first, AllPairs-rest}
+use Rattle.lemmas.proofs.Pairs.{AllPairs_first, AllPairs_rest}
 use Rattle.terms.specs.Types.{Id}
 use Rattle.terms.specs.Choice.{Choice}
 use Rattle.terms.specs.Over.{IsOver, names}
 use Rattle.terms.proofs.Ids.{in_or_not}
 use Rattle.terms.proofs.Leads.{reaches_through}
-use Rattle.smpe_answers.proofs.RunsAnswered.{all-from-each}
+use Rattle.smpe_answers.proofs.RunsAnswered.{all_from_each}
 
 module _ (c : Choice) where
   -- each later id is over each earlier one
@@ -33,18 +33,18 @@ module _ (c : Choice) where
     where
       one : Ascend (x ∷ [])
       one = λ i j d before below. absurd (omega (arith, before, below))
-  placed x (y ∷ ys) ascend ordered = by (placed x ys (AllPairs-rest (λ v w. IsOver c w v) y ys ascend)
+  placed x (y ∷ ys) ascend ordered = by (placed x ys (AllPairs_rest (λ v w. IsOver c w v) y ys ascend)
       (λ z is. ordered z (there y ys z is))) (ordered y (here y ys))
     where
       above : (z : Id) → Contains ys z → IsOver c z y
-      above z is = All-contains (λ w. IsOver c w y) ys z (AllPairs-first (λ v w. IsOver c w v) y ys ascend) is
+      above z is = All-contains (λ w. IsOver c w y) ys z (AllPairs_first (λ v w. IsOver c w v) y ys ascend) is
 
       by : (zs : List Id) × AreInOver (x ∷ ys) zs → AreOrderedBoth x y → (zs : List Id) × AreInOver (x ∷ y ∷ ys) zs
       by rest (inr under) = (
         x ∷ y ∷ ys,
         record {
           ascend = AllPairs-cons (λ v w. IsOver c w v) x (y ∷ ys)
-              (all-from-each (λ w. IsOver c w x) (y ∷ ys) (λ w is. elim (here_or y ys w is) [
+              (all_from_each (λ w. IsOver c w x) (y ∷ ys) (λ w is. elim (here_or y ys w is) [
                 | inl same ↦ subst (λ v. IsOver c v x) same under
                 | inr later ↦ reaches_through (names c) w y x (above w later) under
               ]))
@@ -56,7 +56,7 @@ module _ (c : Choice) where
         y ∷ rest.0,
         record {
           ascend = AllPairs-cons (λ v w. IsOver c w v) y rest.0
-              (all-from-each (λ w. IsOver c w y) rest.0 (λ w is. elim (here_or x ys w ((rest.1.members w).0 is)) [
+              (all_from_each (λ w. IsOver c w y) rest.0 (λ w is. elim (here_or x ys w ((rest.1.members w).0 is)) [
                 | inl same ↦ subst (λ v. IsOver c v y) same over
                 | inr later ↦ above w later
               ]))

@@ -13,24 +13,24 @@ use Rattle.terms.specs.Candidates.{is_open, not_chosen}
 use Rattle.terms.specs.Tests.{Setting, Fails, IsEligible}
 use Rattle.terms.specs.Needs.{Needs, Serves}
 use Rattle.terms.specs.Install.{Installation, TakesEffect}
-use Rattle.terms.proofs.ExactOperands.{rising-only}
+use Rattle.terms.proofs.ExactOperands.{rising_only}
 use Rattle.machine.specs.Outcome.{Status, Failed, Line, StatusLine}
 use Rattle.machine.specs.Receiving.{place_of}
 use Rattle.machine.specs.Installing.{Decision, IsDecision, HasStatus, IsInstalled, IsSuperseded, IsFailed, IsNotChosen}
 use Rattle.machine.specs.Installing.{not_chosen_status, AreInstallLines, InstallsSelected}
 use Rattle.change.proofs.KeptTogether.{kept_eligible}
 use Rattle.smpe_upkeep.proofs.Decisions.{candidate_open}
-use Rattle.smpe_answers.proofs.Decided.{with_bypassed, decision-only}
-use Rattle.smpe_answers.proofs.FailureAnswers.{failure-only}
-use Rattle.smpe_answers.proofs.Installed.{zone-only}
+use Rattle.smpe_answers.proofs.Decided.{with_bypassed, decision_only}
+use Rattle.smpe_answers.proofs.FailureAnswers.{failure_only}
+use Rattle.smpe_answers.proofs.Installed.{zone_only}
 use Rattle.smpe_answers.proofs.SamePairs.{effect_with}
 
 -- Two functions that agree on the items of a list make the same list of it.
-pub map-alike : {X Y : Type 0} (f h : X → Y) (xs : List X) → ((x : X) → Contains xs x → f x ≡ h x) → map f xs ≡ map h xs
-map-alike f h [] same = refl
-map-alike f h (x ∷ xs) same =
+pub map_alike : {X Y : Type 0} (f h : X → Y) (xs : List X) → ((x : X) → Contains xs x → f x ≡ h x) → map f xs ≡ map h xs
+map_alike f h [] same = refl
+map_alike f h (x ∷ xs) same =
     ap (λ y. y ∷ map f xs) (same x (here x xs))
-    ∙ ap (λ ys. h x ∷ ys) (map-alike f h xs (λ z later. same z (there x xs z later)))
+    ∙ ap (λ ys. h x ∷ ys) (map_alike f h xs (λ z later. same z (there x xs z later)))
 
 -- no reason is printed of what is open
 open_unnamed : (g : Global) (zone : Zone) (sel : Selection) (x : Id) → IsTrue (is_open g zone sel x)
@@ -64,34 +64,34 @@ module _ (d : Decision) (sel : Selection) (is : IsSound d sel) where
       → not_chosen d.setting.global d.setting.zone sel x ≡ Some why → A
   chosen x why cand at = absurd (cc (sym (is.unnamed x cand) ∙ at))
 
-  status-only : (x : Id) (s t : Status) → HasStatus d sel x s → HasStatus d sel x t → s ≡ t
-  status-only x s t (IsInstalled e) (IsInstalled e') = refl
-  status-only x s t (IsInstalled e) (IsSuperseded k other) = absurd (other e)
-  status-only x s t (IsInstalled e) (IsFailed f c out why) = absurd (out (in_kept x e))
-  status-only x s t (IsInstalled e) (IsNotChosen why at) = chosen x why (is.within x (in_kept x e)) at
-  status-only x s t (IsSuperseded k other) (IsInstalled e) = absurd (other e)
-  status-only x s t (IsSuperseded k other) (IsSuperseded k' other') = refl
-  status-only x s t (IsSuperseded k other) (IsFailed f c out why) = absurd (out k)
-  status-only x s t (IsSuperseded k other) (IsNotChosen why at) = chosen x why (is.within x k) at
-  status-only x s t (IsFailed f c out why) (IsInstalled e) = absurd (out (in_kept x e))
-  status-only x s t (IsFailed f c out why) (IsSuperseded k other) = absurd (out k)
-  status-only x s t (IsFailed f c out why) (IsFailed f' c' out' why') =
-      ap (λ f. Failed f) (failure-only d.setting.cands d.kept (Fails d.setting) (IsEligible d.setting)
+  status_only : (x : Id) (s t : Status) → HasStatus d sel x s → HasStatus d sel x t → s ≡ t
+  status_only x s t (IsInstalled e) (IsInstalled e') = refl
+  status_only x s t (IsInstalled e) (IsSuperseded k other) = absurd (other e)
+  status_only x s t (IsInstalled e) (IsFailed f c out why) = absurd (out (in_kept x e))
+  status_only x s t (IsInstalled e) (IsNotChosen why at) = chosen x why (is.within x (in_kept x e)) at
+  status_only x s t (IsSuperseded k other) (IsInstalled e) = absurd (other e)
+  status_only x s t (IsSuperseded k other) (IsSuperseded k' other') = refl
+  status_only x s t (IsSuperseded k other) (IsFailed f c out why) = absurd (out k)
+  status_only x s t (IsSuperseded k other) (IsNotChosen why at) = chosen x why (is.within x k) at
+  status_only x s t (IsFailed f c out why) (IsInstalled e) = absurd (out (in_kept x e))
+  status_only x s t (IsFailed f c out why) (IsSuperseded k other) = absurd (out k)
+  status_only x s t (IsFailed f c out why) (IsFailed f' c' out' why') =
+      ap (λ f. Failed f) (failure_only d.setting.cands d.kept (Fails d.setting) (IsEligible d.setting)
       (Needs d.setting d.survivors) (Serves d.setting.choice) x f f' why why')
-  status-only x s t (IsFailed f c out why) (IsNotChosen reason at) = chosen x reason c at
-  status-only x s t (IsNotChosen why at) (IsInstalled e) = chosen x why (is.within x (in_kept x e)) at
-  status-only x s t (IsNotChosen why at) (IsSuperseded k other) = chosen x why (is.within x k) at
-  status-only x s t (IsNotChosen why at) (IsFailed f c out reason) = chosen x why c at
-  status-only x s t (IsNotChosen why at) (IsNotChosen why' at') =
+  status_only x s t (IsFailed f c out why) (IsNotChosen reason at) = chosen x reason c at
+  status_only x s t (IsNotChosen why at) (IsInstalled e) = chosen x why (is.within x (in_kept x e)) at
+  status_only x s t (IsNotChosen why at) (IsSuperseded k other) = chosen x why (is.within x k) at
+  status_only x s t (IsNotChosen why at) (IsFailed f c out reason) = chosen x why c at
+  status_only x s t (IsNotChosen why at) (IsNotChosen why' at') =
       ap not_chosen_status (same_Some why why' (sym at ∙ at'))
 
-  lines-only : (lines more : List Line) → AreInstallLines d sel lines → AreInstallLines d sel more → lines ≡ more
-  lines-only lines more are are' =
-      let ids = rising-only are.ids are'.ids are.rising are'.rising
+  lines_only : (lines more : List Line) → AreInstallLines d sel lines → AreInstallLines d sel more → lines ≡ more
+  lines_only lines more are are' =
+      let ids = rising_only are.ids are'.ids are.rising are'.rising
       (λ x is. are'.all x (are.status x) (are.each x is)) (λ x is. are.all x (are'.status x) (are'.each x is)) in
       are.lines_are
-      ∙ map-alike _ (λ x. StatusLine x (place_of d.setting.global x) (are'.status x)) are.ids
-      (λ x is. ap (StatusLine x (place_of d.setting.global x)) (status-only x (are.status x) (are'.status x)
+      ∙ map_alike _ (λ x. StatusLine x (place_of d.setting.global x) (are'.status x)) are.ids
+      (λ x is. ap (StatusLine x (place_of d.setting.global x)) (status_only x (are.status x) (are'.status x)
       (are.each x is) (are'.each x (subst (λ ids. Contains ids x) ids is))))
       ∙ ap (map (λ x. StatusLine x (place_of d.setting.global x) (are'.status x))) ids ∙ sym are'.lines_are
 
@@ -116,16 +116,16 @@ lines_with d pairs sel lines are = record {
 }
 
 -- So APPLY and ACCEPT make one zone and print one list of lines.
-pub installs-only : (g : Global) → IsGlobal g → (zone : Zone) (related : Option Zone) (sel : Selection)
+pub installs_only : (g : Global) → IsGlobal g → (zone : Zone) (related : Option Zone) (sel : Selection)
     (bypass : Bypass) (date : Text) (a b : Zone) (lines more : List Line)
     → InstallsSelected g zone related sel bypass date a lines → InstallsSelected g zone related sel bypass date b more
     → (a ≡ b) × (lines ≡ more)
-installs-only g is_global zone related sel bypass date a b lines more is is' =
+installs_only g is_global zone related sel bypass date a b lines more is is' =
     let d = is.decision in
     let e = is'.decision in
-    let same = decision-only g zone related sel bypass date d e is.decides is'.decides in (
-      zone-only g is_global zone related sel bypass date d e is.decides is'.decides a b is.installs is'.installs,
-      lines-only e sel (sound g zone related sel bypass date e is'.decides) lines more
+    let same = decision_only g zone related sel bypass date d e is.decides is'.decides in (
+      zone_only g is_global zone related sel bypass date d e is.decides is'.decides a b is.installs is'.installs,
+      lines_only e sel (sound g zone related sel bypass date e is'.decides) lines more
           (subst (λ e. AreInstallLines e sel lines) (sym same.is)
           (lines_with d e.installing.bypassed sel lines is.lines_are)) is'.lines_are,
     )

@@ -19,13 +19,13 @@ use Rattle.machine.specs.Installing.{Decision, IsDecision, InstallsSelected}
 use Rattle.machine.specs.State.{State, zone_named, with_zone, unless_at, at_kind}
 use Rattle.machine.specs.Machine.{InstallsThere}
 use Rattle.change.proofs.ChosenVers.{counting_for}
-use Rattle.change.proofs.Installable.{is-fresh}
+use Rattle.change.proofs.Installable.{is_fresh}
 use Rattle.change.proofs.KeptTogether.{unsupplied, InstallsKept, install_over, changed_base}
 use Rattle.smpe_upkeep.proofs.Decisions.{candidate_open}
 use Rattle.smpe_upkeep.proofs.StepForms.{IsStorable}
-use Rattle.smpe_answers.proofs.DecisionLines.{decided-lines}
+use Rattle.smpe_answers.proofs.DecisionLines.{decided_lines}
 use Rattle.smpe_answers.proofs.Effective.{IsSoundInstall}
-use Rattle.smpe_answers.proofs.RestoreRuns.{of_named, fits-from}
+use Rattle.smpe_answers.proofs.RestoreRuns.{of_named, fits_from}
 use Rattle.smpe_answers.proofs.ZoneAnswered.{zone_answered}
 
 module _ (g : Global) (is_global : IsGlobal g) (sysmods : All HasSysmodForms g.sysmods) (zone : Zone)
@@ -64,18 +64,18 @@ module _ (g : Global) (is_global : IsGlobal g) (sysmods : All HasSysmodForms g.s
 
       not_applied : (x : Id) → Contains s.cands x → is_applied s.zone x ≡ false
       not_applied x cand =
-          unsupplied zone x (is-fresh g zone x
+          unsupplied zone x (is_fresh g zone x
           (and_parts _ _ (candidate_open g zone sel x ((decides.candidates.members x).0 cand))).0).not_supplied
 
   -- So each decision leads to a zone.
-  pub decision-installed : (d : Decision) → IsDecision g zone related sel bypass date d
+  pub decision_installed : (d : Decision) → IsDecision g zone related sel bypass date d
       → (new : Zone) × HasInstalled d.installing new
-  decision-installed d decides = zone_answered d.installing (decision_sound d decides)
+  decision_installed d decides = zone_answered d.installing (decision_sound d decides)
 
-  pub installs-answered : ¬ ¬ ((new : Zone) × (lines : List Line)
+  pub installs_answered : ¬ ¬ ((new : Zone) × (lines : List Line)
       × InstallsSelected g zone related sel bypass date new lines)
-  installs-answered refuted = decided-lines g zone related sel bypass date (λ found.
-      let made = decision-installed found.0 found.1 in
+  installs_answered refuted = decided_lines g zone related sel bypass date (λ found.
+      let made = decision_installed found.0 found.1 in
       refuted (
         made.0,
         found.2.0,
@@ -90,7 +90,7 @@ module _ (date : Text) (s : State) (c : Command) (i : Install) (related : Text �
       → ¬ ¬ Installed
   at_zone name at zone there refuted =
       let named = of_named IsZoneNamed s.zones name zone is.zones there in
-      installs-answered s.global is.global is.sysmods zone (subst IsZone named.2 named.1.zone)
+      installs_answered s.global is.global is.sysmods zone (subst IsZone named.2 named.1.zone)
       (subst HasZoneForms named.2 named.1.forms) (related name) i.selection i.bypass date (λ made. refuted (
         if i.check then s else with_zone s name made.0,
         Ran (header_of c s.boundary) (or_nothing made.1),
@@ -108,8 +108,8 @@ module _ (date : Text) (s : State) (c : Command) (i : Install) (related : Text �
       ))
 
   -- It runs wherever the boundary is a zone of its kind.
-  pub install-runs : (kind : ZoneKind) → unless_at (at_kind kind s) s ≡ None → ¬ ¬ Installed
-  install-runs kind none = at_boundary s.boundary refl (fits-from (is_some s.boundary) (at_kind kind s) none)
+  pub install_runs : (kind : ZoneKind) → unless_at (at_kind kind s) s ≡ None → ¬ ¬ Installed
+  install_runs kind none = at_boundary s.boundary refl (fits_from (is_some s.boundary) (at_kind kind s) none)
     where
       fits : Option Zone → Bool
       fits o = option_map_or (λ z. zone_number z.kind == zone_number kind) o false

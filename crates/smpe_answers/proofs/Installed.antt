@@ -18,9 +18,9 @@ use Rattle.change.proofs.ChosenVers.{counting_for, names_no_loop}
 use Rattle.change.proofs.KeptTogether.{kept_ordered}
 use Rattle.smpe_upkeep.proofs.Deciders.{AreOrdered}
 use Rattle.smpe_upkeep.proofs.Stable.{by_either}
-use Rattle.smpe_answers.proofs.Decided.{members-only, decision-only}
-use Rattle.smpe_answers.proofs.StableSame.{stable_option, stable_text, stable_texts, stable_element}
-use Rattle.smpe_answers.proofs.InstalledElements.{element_after-only}
+use Rattle.smpe_answers.proofs.Decided.{members_only, decision_only}
+use Rattle.smpe_answers.proofs.StableSame.{stable_option, stable_texts, stable_applied, stable_element}
+use Rattle.smpe_answers.proofs.InstalledElements.{element_after_only}
 use Rattle.smpe_answers.proofs.SamePairs.{installed_with}
 
 -- what is applied has a date
@@ -34,38 +34,38 @@ applied_by_date zone x = by (entry_of zone x)
 
 module _ (i : Installation) (no_loop : (x : Id) → ¬ IsOver i.choice x x) (ordered : AreOrdered i)
     (a b : Zone) (to_a : HasInstalled i a) (to_b : HasInstalled i b) where
-  applied-only : (x : Id) → applied_of a x ≡ applied_of b x
-  applied-only x = by_either {A = TakesEffect i x} (stable_option stable_text (applied_of a x) (applied_of b x))
+  applied_only : (x : Id) → applied_of a x ≡ applied_of b x
+  applied_only x = by_either {A = TakesEffect i x} (stable_option stable_applied (applied_of a x) (applied_of b x))
       (λ effect. to_a.applied x effect ∙ sym (to_b.applied x effect))
       (λ none. to_a.not_applied x none ∙ sym (to_b.not_applied x none))
 
-  supby-only : (x : Id) → supby_of a x ≡ supby_of b x
-  supby-only x = members-only _ (supby_of a x) (supby_of b x) (to_a.supby_rising x) (to_b.supby_rising x) (to_a.supby x)
+  supby_only : (x : Id) → supby_of a x ≡ supby_of b x
+  supby_only x = members_only _ (supby_of a x) (supby_of b x) (to_a.supby_rising x) (to_b.supby_rising x) (to_a.supby x)
       (to_b.supby x)
 
-  supplied-only : (x : Id) → is_supplied a x ≡ is_supplied b x
-  supplied-only x =
+  supplied_only : (x : Id) → is_supplied a x ≡ is_supplied b x
+  supplied_only x =
       ap (λ t. t || not (is_nil (supby_of a x)))
-      (applied_by_date a x ∙ ap is_some (applied-only x) ∙ sym (applied_by_date b x))
-      ∙ ap (λ ids. is_applied b x || not (is_nil ids)) (supby-only x)
+      (applied_by_date a x ∙ ap is_some (applied_only x) ∙ sym (applied_by_date b x))
+      ∙ ap (λ ids. is_applied b x || not (is_nil ids)) (supby_only x)
 
-  waived-only : (x : Id) → waived_of a x ≡ waived_of b x
-  waived-only x = by_either {A = TakesEffect i x} (stable_texts (waived_of a x) (waived_of b x))
-      (λ effect. members-only (λ z. Contains i.bypassed (x, z) × IsFalse (is_supplied b z)) (waived_of a x)
+  waived_only : (x : Id) → waived_of a x ≡ waived_of b x
+  waived_only x = by_either {A = TakesEffect i x} (stable_texts (waived_of a x) (waived_of b x))
+      (λ effect. members_only (λ z. Contains i.bypassed (x, z) × IsFalse (is_supplied b z)) (waived_of a x)
       (waived_of b x) (to_a.waived_rising x) (to_b.waived_rising x)
-      (λ z. subst (λ t. Contains (waived_of a x) z ↔ (Contains i.bypassed (x, z) × IsFalse t)) (supplied-only z)
+      (λ z. subst (λ t. Contains (waived_of a x) z ↔ (Contains i.bypassed (x, z) × IsFalse t)) (supplied_only z)
       (to_a.waived x z effect))
       (λ z. to_b.waived x z effect))
       (λ none. to_a.not_waived x none ∙ sym (to_b.not_waived x none))
 
   -- some SYSMOD that takes effect changes the element, or none does
-  element-only : (type : ElemType) (name : Text) → element_of a type name ≡ element_of b type name
-  element-only type name = by_either {A = (x : Id) × TakesEffect i x × IsTrue (has_change i.global x type name)}
+  element_only : (type : ElemType) (name : Text) → element_of a type name ≡ element_of b type name
+  element_only type name = by_either {A = (x : Id) × TakesEffect i x × IsTrue (has_change i.global x type name)}
       (stable_option stable_element (element_of a type name) (element_of b type name))
       (λ some.
       let in_a = to_a.changed type name some.0 some.1 some.2 in
       let in_b = to_b.changed type name some.0 some.1 some.2 in
-      in_a.1 ∙ ap (λ e. Some e) (element_after-only i no_loop ordered type name in_a.0 in_b.0 in_a.2 in_b.2)
+      in_a.1 ∙ ap (λ e. Some e) (element_after_only i no_loop ordered type name in_a.0 in_b.0 in_a.2 in_b.2)
       ∙ sym in_b.1)
       (λ none.
       let unchanged : (x : Id) → TakesEffect i x → IsFalse (has_change i.global x type name) =
@@ -76,15 +76,15 @@ module _ (i : Installation) (no_loop : (x : Id) → ¬ IsOver i.choice x x) (ord
       false_unless true not_so = absurd (not_so refl)
       false_unless false not_so = refl
 
-  pub installed-only : a ≡ b
-  installed-only =
+  pub installed_only : a ≡ b
+  installed_only =
       same_zone a b to_a.is_zone to_b.is_zone
       (ap (λ (z : Zone). z.kind) to_a.rest ∙ sym (ap (λ (z : Zone). z.kind) to_b.rest))
       (ap (λ (z : Zone). z.srel) to_a.rest ∙ sym (ap (λ (z : Zone). z.srel) to_b.rest))
       (ap (λ (z : Zone). z.related) to_a.rest ∙ sym (ap (λ (z : Zone). z.related) to_b.rest))
-      (λ x. same_entry a b to_a.is_zone to_b.is_zone x (applied-only x) (supby-only x)
-      (to_a.delby x ∙ sym (to_b.delby x)) (waived-only x))
-      element-only
+      (λ x. same_entry a b to_a.is_zone to_b.is_zone x (applied_only x) (supby_only x)
+      (to_a.delby x ∙ sym (to_b.delby x)) (waived_only x))
+      element_only
 
 module _ (g : Global) (is_global : IsGlobal g) (zone : Zone) (related : Option Zone) (sel : Selection)
     (bypass : Bypass) (date : Text) where
@@ -93,7 +93,7 @@ module _ (g : Global) (is_global : IsGlobal g) (zone : Zone) (related : Option Z
       → HasInstalled d.installing b → a ≡ b
   one_zone d decides =
       subst (λ i. (a b : Zone) → HasInstalled i a → HasInstalled i b → a ≡ b) (sym decides.installing)
-      (installed-only (record {
+      (installed_only (record {
         global = g;
         choice = counting g zone decides.cands;
         zone = zone;
@@ -108,11 +108,11 @@ module _ (g : Global) (is_global : IsGlobal g) (zone : Zone) (related : Option Z
       is_kept = subst (λ s. IsKeptSet s d.kept) decides.setting decides.kept
 
   -- and so do two.
-  pub zone-only : (d e : Decision) → IsDecision g zone related sel bypass date d
+  pub zone_only : (d e : Decision) → IsDecision g zone related sel bypass date d
       → IsDecision g zone related sel bypass date e → (a b : Zone) → HasInstalled d.installing a
       → HasInstalled e.installing b → a ≡ b
-  zone-only d e of_d of_e a b to_a to_b =
-      let same = decision-only g zone related sel bypass date d e of_d of_e in
+  zone_only d e of_d of_e a b to_a to_b =
+      let same = decision_only g zone related sel bypass date d e of_d of_e in
       one_zone e of_e a b
       (subst (λ i. HasInstalled i a) (sym (ap (λ (e : Decision). e.installing) same.is))
       (installed_with d.installing e.installing.bypassed a same.bypassed to_a)) to_b

@@ -9,38 +9,38 @@ use Rattle.machine.specs.Machine.{Act, Begin, Perform, Faulty, Define, Steps, Jo
 use Rattle.machine.specs.Machine.{Code, defined, HasAnswer, RunsJob, RunsJobs}
 use Rattle.smpe_upkeep.proofs.StepForms.{IsStorable, HasActForms, HasJobForms, step_storable, acts_formed, job_storable}
 use Rattle.smpe_answers.specs.Answers.{IsAnswered}
-use Rattle.smpe_answers.proofs.CommandFileRead.{command_file-read}
-use Rattle.smpe_answers.proofs.StepAnswered.{step-answered}
+use Rattle.smpe_answers.proofs.CommandFileRead.{command_file_read}
+use Rattle.smpe_answers.proofs.StepAnswered.{step_answered}
 
-acts-answered : (acts : List Act) (s : State) → IsStorable s → AllByRecursion HasActForms acts
+acts_answered : (acts : List Act) (s : State) → IsStorable s → AllByRecursion HasActForms acts
     → ¬ ¬ IsAnswered (Runs Steps) s acts
-acts-answered [] s is forms none = none (s, [], (refl, refl))
-acts-answered (a ∷ more) s is forms none =
-    step-answered s a is forms.0 (λ first.
-    acts-answered more first.0 (step_storable s first.0 a first.1 is forms.0 first.2) forms.1 (λ rest.
+acts_answered [] s is forms none = none (s, [], (refl, refl))
+acts_answered (a ∷ more) s is forms none =
+    step_answered s a is forms.0 (λ first.
+    acts_answered more first.0 (step_storable s first.0 a first.1 is forms.0 first.2) forms.1 (λ rest.
     none (rest.0, first.1 ++ rest.1, (first.0, first.1, rest.1, first.2, rest.2, refl))))
 
 -- a job has acts, and after these an answer
-acts-some : (job : Job) → ¬ ¬ ((acts : List Act) × HasActs job acts)
-acts-some (RunFiles date cntl files) none = command_file-read cntl (λ read. elim read [
+acts_some : (job : Job) → ¬ ¬ ((acts : List Act) × HasActs job acts)
+acts_some (RunFiles date cntl files) none = command_file_read cntl (λ read. elim read [
   | inl good ↦ none (Begin ∷ map (Perform date files) good.0, inl (good.0, good.1, refl))
   | inr bad ↦ none (
     Begin ∷ Faulty (record { number = bad.0.number; code = bad.0.code }) ∷ [],
     inr (bad.0, bad.1, refl),
   )
 ])
-acts-some (NewZone d) none = none (Define d ∷ [], refl)
+acts_some (NewZone d) none = none (Define d ∷ [], refl)
 
-answer-some : (s : State) (job : Job) (outcomes : List Outcome) → (answer : Answer) × HasAnswer s job outcomes answer
-answer-some s (RunFiles date cntl files) outcomes = (Code (job_code outcomes), refl)
-answer-some s (NewZone d) outcomes = (defined (define_zone s d), refl)
+answer_some : (s : State) (job : Job) (outcomes : List Outcome) → (answer : Answer) × HasAnswer s job outcomes answer
+answer_some s (RunFiles date cntl files) outcomes = (Code (job_code outcomes), refl)
+answer_some s (NewZone d) outcomes = (defined (define_zone s d), refl)
 
-pub job-answered : (s : State) (job : Job) → IsStorable s → HasJobForms job
+pub job_answered : (s : State) (job : Job) → IsStorable s → HasJobForms job
     → ¬ ¬ ((t : State) × (bytes : List ℕ) × (answer : Answer) × RunsJob s job t bytes answer)
-job-answered s job is form none =
-    acts-some job (λ acts.
-    acts-answered acts.0 s is (acts_formed job acts.0 form acts.1) (λ runs.
-    let answer = answer-some s job runs.1 in
+job_answered s job is form none =
+    acts_some job (λ acts.
+    acts_answered acts.0 s is (acts_formed job acts.0 form acts.1) (λ runs.
+    let answer = answer_some s job runs.1 in
     none (
       runs.0,
       flat_map text runs.1,
@@ -55,12 +55,12 @@ job-answered s job is form none =
       },
     )))
 
-pub jobs-answered : (jobs : List Job) (s : State) → IsStorable s → AllByRecursion HasJobForms jobs
+pub jobs_answered : (jobs : List Job) (s : State) → IsStorable s → AllByRecursion HasJobForms jobs
     → ¬ ¬ ((t : State) × (bytes : List ℕ) × (answers : List Answer) × RunsJobs s jobs t bytes answers)
-jobs-answered [] s is forms none = none (s, [], [], (refl, refl, refl))
-jobs-answered (job ∷ more) s is forms none =
-    job-answered s job is forms.0 (λ first.
-    jobs-answered more first.0 (job_storable s first.0 job first.1 first.2 is forms.0 first.3) forms.1 (λ rest.
+jobs_answered [] s is forms none = none (s, [], [], (refl, refl, refl))
+jobs_answered (job ∷ more) s is forms none =
+    job_answered s job is forms.0 (λ first.
+    jobs_answered more first.0 (job_storable s first.0 job first.1 first.2 is forms.0 first.3) forms.1 (λ rest.
     none (
       rest.0,
       first.1 ++ rest.1,

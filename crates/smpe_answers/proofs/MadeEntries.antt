@@ -12,11 +12,11 @@ use Rattle.std.proofs.lemmas.List.Folds.{list_any-from_Any}
 use Rattle.lemmas.proofs.Texts.{same_from, same_itself}
 use Rattle.terms.specs.Types.{Id, Entry}
 use Rattle.terms.specs.Rising.{Rises}
-use Rattle.terms.specs.Lookups.{is_held, waives_applied}
+use Rattle.terms.specs.Lookups.{has_content, waives_applied}
 use Rattle.terms.specs.Install.{Installation}
 use Rattle.change.specs.Entries.{if_held}
 use Rattle.smpe_answers.proofs.Effective.{IsSoundInstall}
-use Rattle.smpe_answers.proofs.Wanted.{with_wanted, with_wanted-rises, with_wanted-all, found_wanted}
+use Rattle.smpe_answers.proofs.Wanted.{with_wanted, with_wanted_rises, with_wanted_all, found_wanted}
 use Rattle.smpe_answers.proofs.EntryAfter.{made, waives}
 use Rattle.smpe_answers.proofs.HeldEntries.{concerned, held_concerned}
 
@@ -28,26 +28,26 @@ module _ (i : Installation) (sound : IsSoundInstall i) where
   entries = with_wanted nat_list_cmp_total (λ e. e.id) wanted (concerned i sound) []
 
   -- what all entries have
-  each : (P : Entry → Type 0) → ((x : Id) → is_held (made i sound x) ≡ true → P (made i sound x)) → All P entries
+  each : (P : Entry → Type 0) → ((x : Id) → has_content (made i sound x) ≡ true → P (made i sound x)) → All P entries
   unfolding entries wanted
   each P has =
-      with_wanted-all nat_list_cmp_total (λ (e : Entry). e.id) wanted P (λ x. by x (is_held (made i sound x)) refl)
+      with_wanted_all nat_list_cmp_total (λ (e : Entry). e.id) wanted P (λ x. by x (has_content (made i sound x)) refl)
       (concerned i sound) [] (All-nil P)
     where
-      by : (x : Id) (b : Bool) → is_held (made i sound x) ≡ b → IfSome (if b then Some (made i sound x) else None) P
+      by : (x : Id) (b : Bool) → has_content (made i sound x) ≡ b → IfSome (if b then Some (made i sound x) else None) P
       by x true held = has x held
       by x false unheld = tt
 
-  pub entries-rise : Rises (slice_cmp nat_cmp) (λ e. e.id) entries
+  pub entries_rise : Rises (slice_cmp nat_cmp) (λ e. e.id) entries
   unfolding entries
-  entries-rise = with_wanted-rises nat_list_cmp_total (λ (e : Entry). e.id) wanted (concerned i sound) []
+  entries_rise = with_wanted_rises nat_list_cmp_total (λ (e : Entry). e.id) wanted (concerned i sound) []
       (λ j k d before below. absurd (omega (arith, below)))
 
-  pub entries-held : All (λ e. IsTrue (is_held e)) entries
-  entries-held = each (λ e. IsTrue (is_held e)) (λ x held. held)
+  pub entries_held : All (λ e. IsTrue (has_content e)) entries
+  entries_held = each (λ e. IsTrue (has_content e)) (λ x held. held)
 
-  pub entries-waive : All (λ e. IsTrue (waives_applied e)) entries
-  entries-waive = each (λ e. IsTrue (waives_applied e)) (λ x held. waives i sound x)
+  pub entries_waive : All (λ e. IsTrue (waives_applied e)) entries
+  entries_waive = each (λ e. IsTrue (waives_applied e)) (λ x held. waives i sound x)
 
   pub entry_found : (x : Id) → find (λ e. bytes_eq e.id x) entries ≡ if_held (made i sound x)
   unfolding entries wanted made
@@ -57,7 +57,7 @@ module _ (i : Installation) (sound : IsSoundInstall i) where
       ∙ by (list_any (λ k. bytes_eq k x) (concerned i sound)) refl
     where
       keyed : (k : Id) → IfSome (wanted k) (λ e. e.id ≡ k)
-      keyed k = of (is_held (made i sound k))
+      keyed k = of (has_content (made i sound k))
         where
           of : (b : Bool) → IfSome (if b then Some (made i sound k) else None) (λ e. e.id ≡ k)
           of true = refl
@@ -66,9 +66,9 @@ module _ (i : Installation) (sound : IsSoundInstall i) where
       by : (b : Bool) → list_any (λ k. bytes_eq k x) (concerned i sound) ≡ b
           → (if b then wanted x else None) ≡ if_held (made i sound x)
       by true there = refl
-      by false out = unheld (is_held (made i sound x)) refl
+      by false out = unheld (has_content (made i sound x)) refl
         where
-          unheld : (b : Bool) → is_held (made i sound x) ≡ b → None ≡ (if b then Some (made i sound x) else None)
+          unheld : (b : Bool) → has_content (made i sound x) ≡ b → None ≡ (if b then Some (made i sound x) else None)
           unheld true held =
               let at = held_concerned i sound x held in
               absurd (true≢false (sym (list_any-from_Any (λ k. bytes_eq k x) (concerned i sound)

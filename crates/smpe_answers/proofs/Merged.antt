@@ -12,18 +12,18 @@ use Rattle.std.proofs.lemmas.Map.Keys.{sorted_from_all_adjacent, sorted_from_str
 use Rattle.std.proofs.lemmas.Map.Keys.{IsStrictlyIncreasing-from_sorted}
 use Rattle.std.proofs.lemmas.Option.{same_Some}
 use Rattle.lemmas.proofs.Members.{filter_in, in_filter}
-use Rattle.lemmas.proofs.Orderings.{Less-from_is_lt}
+use Rattle.lemmas.proofs.Orderings.{Less_from_is_lt}
 use Rattle.lemmas.proofs.Pairs.{pairs_map, pairs_unmap}
-use Rattle.lemmas.proofs.Searches.{find-gives}
+use Rattle.lemmas.proofs.Searches.{find_gives}
 use Rattle.terms.specs.Types.{Text, Lines}
 use Rattle.terms.specs.Rising.{Rises, with_item}
 use Rattle.terms.specs.Texts.{number_of, line_at, given, Touches, IsNumberedLine, IsNumbered, IsUpdate, IsMerge}
 use Rattle.terms.proofs.Controls.{begins_control}
-use Rattle.terms.proofs.Placing.{Rises-with_item, All-with_item}
-use Rattle.terms.proofs.RisingLists.{Rises-from_sorted}
-use Rattle.terms.proofs.Updates.{given-control, touches_cases}
-use Rattle.change.proofs.InTurn.{in_turn-none, in_turn-some}
-use Rattle.smpe_upkeep.proofs.Lists.{line_at-itself}
+use Rattle.terms.proofs.Placing.{Rises_with_item, All_with_item}
+use Rattle.terms.proofs.RisingLists.{Rises_from_sorted}
+use Rattle.terms.proofs.Updates.{given_control, touches_cases}
+use Rattle.sorted.proofs.InTurn.{in_turn_none, in_turn_some}
+use Rattle.smpe_upkeep.proofs.Lists.{line_at_itself}
 use Rattle.smpe_answers.proofs.Finitely.{is_so, so_exactly}
 use Rattle.smpe_answers.proofs.RunsAnswered.{Decided}
 
@@ -38,7 +38,7 @@ Below m n = IsTrue (is_lt (nat_cmp m n))
 by_number : (text : Lines) → IsNumbered text → ByNumber text
 by_number text numbered =
     pairs_unmap (λ x y. Below (number_of x) (number_of y)) Below number_of (λ x y below. below) text
-    (Rises-from_sorted nat_cmp (map number_of text)
+    (Rises_from_sorted nat_cmp (map number_of text)
     (sorted_from_strictly_increasing (map number_of text) numbered.rising))
 
 increasing : (text : Lines) → ByNumber text → IsStrictlyIncreasing (map number_of text)
@@ -46,7 +46,7 @@ increasing text rises =
     let pairs = pairs_map (λ x y. Below (number_of x) (number_of y)) Below number_of (λ x y below. below) text rises in
     IsStrictlyIncreasing-from_sorted (map number_of text)
     (sorted_from_all_adjacent nat_cmp_total (map number_of text) 0
-    (λ k below. Less-from_is_lt _ (pairs k (k + 1) 0 (omega arith) below)))
+    (λ k below. Less_from_is_lt _ (pairs k (k + 1) 0 (omega arith) below)))
 
 -- records that come in one after the other, each at its number
 numbered_with : (lines text : Lines) → All IsNumberedLine lines → All IsNumberedLine text → ByNumber text
@@ -54,13 +54,13 @@ numbered_with : (lines text : Lines) → All IsNumberedLine lines → All IsNumb
 numbered_with [] text fine numbers rises = record { numbers = numbers; rising = increasing text rises }
 numbered_with (line ∷ lines) text fine numbers rises =
     numbered_with lines (with_item nat_cmp number_of text line) (All-tail IsNumberedLine line lines fine)
-    (All-with_item nat_cmp number_of IsNumberedLine text line numbers (All-head IsNumberedLine line lines fine))
-    (Rises-with_item nat_cmp_total number_of text line rises)
+    (All_with_item nat_cmp number_of IsNumberedLine text line numbers (All-head IsNumberedLine line lines fine))
+    (Rises_with_item nat_cmp_total number_of text line rises)
 
 given_numbered : (name : Text) (update : Lines) → IsUpdate name update → IsNumbered (given update)
 given_numbered name [] is = absurd is
 given_numbered name (line ∷ lines) is =
-    subst IsNumbered (sym (given-control line lines (begins_control _ _ line is.0))) is.1.numbered
+    subst IsNumbered (sym (given_control line lines (begins_control _ _ line is.0))) is.1.numbered
 
 -- ---- the merge
 
@@ -90,7 +90,7 @@ module _ (name : Text) (old update : Lines) (numbered : IsNumbered old) (is : Is
       → line_at new n ≡ line_at (given update) n
   unfolding new
   from_update n none =
-      in_turn-none nat_cmp_total number_of (λ a b. a == b) unsigned_ties left (given update) n
+      in_turn_none nat_cmp_total number_of (λ a b. a == b) unsigned_ties left (given update) n
       (λ line there. false_from_ne_true (number_of line == n) (λ at. none line there (eqb-true (number_of line) n at)))
 
   touched_at : (n : ℕ) → Touches update n → line_at new n ≡ line_at (given update) n
@@ -100,7 +100,7 @@ module _ (name : Text) (old update : Lines) (numbered : IsNumbered old) (is : Is
 
   old_at : (line : List ℕ) → Contains left line → line_at old (number_of line) ≡ Some line
   unfolding left
-  old_at line there = line_at-itself old line numbered (filter_in stays old line there).0
+  old_at line there = line_at_itself old line numbered (filter_in stays old line there).0
 
   untouched_at : (n : ℕ) → (¬ Touches update n) → line_at new n ≡ line_at old n
   unfolding new left
@@ -116,9 +116,9 @@ module _ (name : Text) (old update : Lines) (numbered : IsNumbered old) (is : Is
           given_none None gives = refl
           given_none (Some x) gives = absurd (untouched (inl (ap is_some gives)))
       by (Some line) at =
-          let gives = find-gives (λ l. number_of l == n) old line at in
+          let gives = find_gives (λ l. number_of l == n) old line at in
           let same : number_of line ≡ n = eqb-true (number_of line) n gives.0 in
-          in_turn-some nat_cmp_total number_of (λ a b. a == b) unsigned_ties left (given update) n line gives.0
+          in_turn_some nat_cmp_total number_of (λ a b. a == b) unsigned_ties left (given update) n line gives.0
           (λ other there hit.
           let number : number_of other ≡ n = eqb-true (number_of other) n hit in
           same_Some other line (sym (old_at other there) ∙ ap (line_at old) number ∙ at))

@@ -7,7 +7,7 @@ use Rattle.std.specs.List.{flat_map}
 use Rattle.std.specs.Option.{option_map_or}
 use Rattle.std.specs.Str.{bytes_eq}
 use Rattle.lemmas.proofs.Members.{none_in, in_map}
-use Rattle.lemmas.proofs.Searches.{find-gives}
+use Rattle.lemmas.proofs.Searches.{find_gives}
 use Rattle.lemmas.proofs.Texts.{same_or_not, same_from}
 use Rattle.terms.specs.Types.{Text, Id, Sysmod, Global, Item, ASysmod, AnAssign, HoldItem, AHold, ARelease}
 use Rattle.terms.specs.Lookups.{sysmod_of, is_received, is_nil}
@@ -16,42 +16,42 @@ use Rattle.terms.specs.Over.{Leads, Reaches}
 use Rattle.terms.specs.Global.{named, names_for, HasLoop, fits_roles, RolesFit, hold, release, assign}
 use Rattle.terms.specs.Global.{with_sysmod, ReceiveFault, Rc1, Rc2, Rc3, Rc4, HasFault, received, Receives}
 use Rattle.terms.proofs.Leads.{reaches_named, reaches_first, reaches_more}
-use Rattle.terms.proofs.Loops.{names-others, LeadsBack, no_loop-from_search}
+use Rattle.terms.proofs.Loops.{names_others, LeadsBack, no_loop_from_search}
 use Rattle.terms.proofs.Walks.{reaches_or_not}
 use Rattle.machine.specs.Outcome.{OfKind, OfHold, Assigned, Unknown, StatusLine}
 use Rattle.machine.specs.Receiving.{global_after, place_of, receive_status, sourced, hold_status, release_status}
 use Rattle.machine.specs.Receiving.{AssignsId, TakesItem, TakesHoldItem}
 use Rattle.smpe_answers.specs.Answers.{IsAnswered}
-use Rattle.smpe_answers.proofs.RunsAnswered.{every-answered, Decided, decided-true, decided-le, decided-some}
-use Rattle.smpe_answers.proofs.RunsAnswered.{decided-all}
-use Rattle.smpe_answers.proofs.RunsAnswered.{all-from-each}
+use Rattle.smpe_answers.proofs.RunsAnswered.{every_answered, Decided, decided_true, decided_le, decided_some}
+use Rattle.smpe_answers.proofs.RunsAnswered.{decided_all}
+use Rattle.smpe_answers.proofs.RunsAnswered.{all_from_each}
 
 -- ---- loops
 
 -- what names anything is received
-naming-received : (g : Global) (srel : Text) (x y : Id) → Contains (names_for g srel x) y
+naming_received : (g : Global) (srel : Text) (x y : Id) → Contains (names_for g srel x) y
     → Contains (map (λ s. s.id) g.sysmods) x
-naming-received g srel x y = by (sysmod_of g x) refl
+naming_received g srel x y = by (sysmod_of g x) refl
   where
     by : (o : Option Sysmod) → sysmod_of g x ≡ o
         → Contains (flat_map named (option_map_or (λ s. filter (λ v. bytes_eq v.srel srel) s.vers) o [])) y
         → Contains (map (λ s. s.id) g.sysmods) x
     by None at is = absurd (none_in y is)
     by (Some s) at is =
-        let gives = find-gives (λ s. bytes_eq s.id x) g.sysmods s at in
+        let gives = find_gives (λ s. bytes_eq s.id x) g.sysmods s at in
         subst (Contains (map (λ s. s.id) g.sysmods)) (same_from s.id x gives.0) (in_map (λ s. s.id) g.sysmods s gives.1)
 
 -- and so is what has a ++VER
-pub vers-received : (g : Global) (srel : Text) (x : Id) → IsTrue (not (is_nil (vers_of g srel x)))
+pub vers_received : (g : Global) (srel : Text) (x : Id) → IsTrue (not (is_nil (vers_of g srel x)))
     → Contains (map (λ s. s.id) g.sysmods) x
-vers-received g srel x = by (sysmod_of g x) refl
+vers_received g srel x = by (sysmod_of g x) refl
   where
     by : (o : Option Sysmod) → sysmod_of g x ≡ o
         → IsTrue (not (is_nil (option_map_or (λ s. filter (λ v. bytes_eq v.srel srel) s.vers) o [])))
         → Contains (map (λ s. s.id) g.sysmods) x
     by None at some = absurd (cc some)
     by (Some s) at some =
-        let gives = find-gives (λ s. bytes_eq s.id x) g.sysmods s at in
+        let gives = find_gives (λ s. bytes_eq s.id x) g.sysmods s at in
         subst (Contains (map (λ s. s.id) g.sysmods)) (same_from s.id x gives.0) (in_map (λ s. s.id) g.sysmods s gives.1)
 
 module _ (g : Global) (s : Sysmod) (no_loop : ¬ HasLoop g) (new : is_received g s.id ≡ false) where
@@ -73,11 +73,11 @@ module _ (g : Global) (s : Sysmod) (no_loop : ¬ HasLoop g) (new : is_received g
     names_on : (x y : Id) → Contains (before x) y → Contains (after x) y
     names_on x y is = elim (same_or_not x s.id) [
       | inl same ↦ absurd (new_names_none y (subst (λ x. Contains (before x) y) same is))
-      | inr other ↦ subst (λ xs. Contains xs y) (sym (names-others g s srel x other)) is
+      | inr other ↦ subst (λ xs. Contains xs y) (sym (names_others g s srel x other)) is
     ]
 
     named_before : (x y : Id) → x ≢ s.id → Contains (after x) y → Contains (before x) y
-    named_before x y other is = subst (λ xs. Contains xs y) (names-others g s srel x other) is
+    named_before x y other is = subst (λ xs. Contains xs y) (names_others g s srel x other) is
 
     -- a walk to the new one leads there by what was named before, up to where it first gets there
     to_new : (between : List Id) (x : Id) → x ≢ s.id → Leads after x between s.id → Reaches before x s.id
@@ -94,7 +94,7 @@ module _ (g : Global) (s : Sysmod) (no_loop : ¬ HasLoop g) (new : is_received g
     back_or_not : (y : Id) → Decided (IsBack y)
     back_or_not y = elim (same_or_not y s.id) [
       | inl same ↦ inl (inl same)
-      | inr other ↦ elim (reaches_or_not before (map (λ s. s.id) g.sysmods) (naming-received g srel)
+      | inr other ↦ elim (reaches_or_not before (map (λ s. s.id) g.sysmods) (naming_received g srel)
           (λ x loop. no_loop (srel, x, loop)) y s.id) [
             | inl to ↦ inl (inr to)
             | inr not ↦ inr (λ back. elim back [ inl same ↦ other same | inr to ↦ not to ])
@@ -113,23 +113,23 @@ module _ (g : Global) (s : Sysmod) (no_loop : ¬ HasLoop g) (new : is_received g
     ]
 
     leads_back_or_not : Decided (LeadsBack g s srel)
-    leads_back_or_not = elim (decided-some IsBack back_or_not (after s.id)) [
+    leads_back_or_not = elim (decided_some IsBack back_or_not (after s.id)) [
       | inl found ↦ inl (leads_back found.0 found.1 found.2)
       | inr none ↦ inr (none_back none)
     ]
 
   loop_or_not : Decided (HasLoop (with_sysmod g s))
-  loop_or_not = elim (decided-some (λ v. LeadsBack g s v.srel) (λ v. leads_back_or_not v.srel) s.vers) [
+  loop_or_not = elim (decided_some (λ v. LeadsBack g s v.srel) (λ v. leads_back_or_not v.srel) s.vers) [
     | inl found ↦ inl (found.0.srel, s.id, found.2)
-    | inr none ↦ inr (no_loop-from_search g s no_loop (all-from-each (λ v. ¬ LeadsBack g s v.srel) s.vers none))
+    | inr none ↦ inr (no_loop_from_search g s no_loop (all_from_each (λ v. ¬ LeadsBack g s v.srel) s.vers none))
   ]
 
 -- ---- the answer
 
 roles_or_not : (g : Global) → Decided (RolesFit g)
 roles_or_not g =
-    decided-all (λ (s : Sysmod). All (λ v. IsTrue (fits_roles g v)) s.vers)
-    (λ s. decided-all (λ v. IsTrue (fits_roles g v)) (λ v. decided-true (fits_roles g v)) s.vers) g.sysmods
+    decided_all (λ (s : Sysmod). All (λ v. IsTrue (fits_roles g v)) s.vers)
+    (λ s. decided_all (λ v. IsTrue (fits_roles g v)) (λ v. decided_true (fits_roles g v)) s.vers) g.sysmods
 
 abbrev Answer : Global → Sysmod → Type 0
 Answer g s = (answer : Result Global ReceiveFault) × Receives g s answer
@@ -145,11 +145,11 @@ accepted g s new no_loop fit small = (Ok (received g s), (none, refl))
     none Rc4 = small
 
 -- RECEIVE of one SYSMOD accepts it or refuses it.
-pub receives-some : (g : Global) (s : Sysmod) → ¬ HasLoop g → Answer g s
-receives-some g s no_loop = by (is_received g s.id) refl
+pub receives_some : (g : Global) (s : Sysmod) → ¬ HasLoop g → Answer g s
+receives_some g s no_loop = by (is_received g s.id) refl
   where
     sized : (¬ HasFault g s Rc1) → (¬ HasFault g s Rc2) → RolesFit (with_sysmod g s) → Answer g s
-    sized new none fit = elim (decided-le (2 ^ 16) (length g.sysmods + 1)) [
+    sized new none fit = elim (decided_le (2 ^ 16) (length g.sysmods + 1)) [
       | inl full ↦ (Err Rc4, (new, none, (λ not. not fit), full))
       | inr small ↦ accepted g s new none fit small
     ]
@@ -171,25 +171,25 @@ receives-some g s no_loop = by (is_received g s.id) refl
 
 -- ---- the items of the two files
 
-assigns-some : (source : Text) (g : Global) (x : Id) → IsAnswered (AssignsId source) g x
-assigns-some source g x = (
+assigns_some : (source : Text) (g : Global) (x : Id) → IsAnswered (AssignsId source) g x
+assigns_some source g x = (
   assign g source x,
   StatusLine x (place_of g x) (if is_received g x then Assigned source else Unknown) ∷ [],
   (refl, refl),
 )
 
-pub item-some : (source : Option Text) (g : Global) (item : Item) → ¬ HasLoop g → IsAnswered (TakesItem source) g item
-item-some source g (ASysmod s) no_loop =
-    let answers = receives-some g (sourced source s) no_loop in (
+pub item_some : (source : Option Text) (g : Global) (item : Item) → ¬ HasLoop g → IsAnswered (TakesItem source) g item
+item_some source g (ASysmod s) no_loop =
+    let answers = receives_some g (sourced source s) no_loop in (
       global_after g answers.0,
       StatusLine s.id (OfKind s.kind) (receive_status answers.0) ∷ [],
       (answers.0, answers.1, refl, refl),
     )
-item-some source g (AnAssign a) no_loop = every-answered (AssignsId a.source) (assigns-some a.source) a.to g
+item_some source g (AnAssign a) no_loop = every_answered (AssignsId a.source) (assigns_some a.source) a.to g
 
-pub hold_item-some : (g : Global) (item : HoldItem) → IsAnswered TakesHoldItem g item
-hold_item-some g (AHold h) = (hold g h, StatusLine h.id (OfHold h.kind) (hold_status g h) ∷ [], (refl, refl))
-hold_item-some g (ARelease r) = (
+pub hold_item_some : (g : Global) (item : HoldItem) → IsAnswered TakesHoldItem g item
+hold_item_some g (AHold h) = (hold g h, StatusLine h.id (OfHold h.kind) (hold_status g h) ∷ [], (refl, refl))
+hold_item_some g (ARelease r) = (
   global_after g (release g r),
   StatusLine r.id (OfHold r.kind) (release_status r (release g r)) ∷ [],
   (refl, refl),

@@ -18,22 +18,22 @@ use Rattle.terms.proofs.Walks.{reaches_or_not}
 use Rattle.change.proofs.ChosenVers.{AreFor, counting_for, names_received, names_no_loop}
 use Rattle.machine.specs.Outcome.{Line, ErrsysmodLine}
 use Rattle.machine.specs.Errsysmods.{open_errors, is_current, Resolves, AreErrsysmods}
-use Rattle.smpe_answers.proofs.RunsAnswered.{Decided, decided-true}
-use Rattle.smpe_answers.proofs.ReceiveAnswered.{vers-received}
+use Rattle.smpe_answers.proofs.RunsAnswered.{Decided, decided_true}
+use Rattle.smpe_answers.proofs.ReceiveAnswered.{vers_received}
 
 told : {P : Type 0} → Decided P → Bool
 told (inl is) = true
 told (inr not) = false
 
-told-so : {P : Type 0} (d : Decided P) → told d ≡ true → P
+told_so : {P : Type 0} (d : Decided P) → told d ≡ true → P
 unfolding told
-told-so (inl is) at = is
-told-so (inr not) at = absurd (cc at)
+told_so (inl is) at = is
+told_so (inr not) at = absurd (cc at)
 
-so-told : {P : Type 0} (d : Decided P) → P → told d ≡ true
+so_told : {P : Type 0} (d : Decided P) → P → told d ≡ true
 unfolding told
-so-told (inl is) p = refl
-so-told (inr not) p = absurd (not p)
+so_told (inl is) p = refl
+so_told (inr not) p = absurd (not p)
 
 module _ (g : Global) (zone : Zone) (is_global : IsGlobal g) where
   c : Choice
@@ -59,7 +59,7 @@ module _ (g : Global) (zone : Zone) (is_global : IsGlobal g) where
 
   resolves_or_not : (reason y : Id) → Decided (Resolves g zone reason y)
   unfolding c
-  resolves_or_not reason y = elim (decided-true (not (is_nil (vers_of g zone.srel y)))) [
+  resolves_or_not reason y = elim (decided_true (not (is_nil (vers_of g zone.srel y)))) [
     | inr none ↦ inr (λ r. none r.fits)
     | inl some ↦ elim (same_or_not y reason) [
       | inl same ↦ inl (record { fits = some; reaches = inl same })
@@ -83,13 +83,13 @@ module _ (g : Global) (zone : Zone) (is_global : IsGlobal g) where
   resolves_is : (reason y : Id) → Contains (resolvers reason) y ↔ Resolves g zone reason y
   unfolding resolvers ids
   resolves_is reason y = (
-    λ h. told-so (resolves_or_not reason y) (filter_in (λ y. told (resolves_or_not reason y)) ids y h).1,
-    λ r. in_filter (λ y. told (resolves_or_not reason y)) ids y (vers-received g zone.srel y r.fits)
-        (so-told (resolves_or_not reason y) r),
+    λ h. told_so (resolves_or_not reason y) (filter_in (λ y. told (resolves_or_not reason y)) ids y h).1,
+    λ r. in_filter (λ y. told (resolves_or_not reason y)) ids y (vers_received g zone.srel y r.fits)
+        (so_told (resolves_or_not reason y) r),
   )
 
-  pub errsysmods-some : (lines : List Line) × AreErrsysmods g zone lines
-  errsysmods-some = (
+  pub errsysmods_some : (lines : List Line) × AreErrsysmods g zone lines
+  errsysmods_some = (
     flat_map (λ (e : Entry). map (λ (h : Hold). ErrsysmodLine e.id h.reason (resolvers h.reason))
         (open_errors g zone e)) (filter is_current zone.entries),
     record { resolvers = resolvers; lines_are = refl; rising = resolvers_rise; all = resolves_is },

@@ -4,7 +4,7 @@ use Rattle.std.specs.Prelude.{map, filter}
 use Rattle.std.specs.List.{flat_map}
 use Rattle.std.proofs.Math.Path.{fun_ext}
 use Rattle.terms.specs.Types.{Id, Entry, Hold, Global, Zone}
-use Rattle.terms.proofs.ExactOperands.{rising-only}
+use Rattle.terms.proofs.ExactOperands.{rising_only}
 use Rattle.machine.specs.Outcome.{Line, ErrsysmodLine}
 use Rattle.machine.specs.Errsysmods.{open_errors, is_current, AreErrsysmods}
 
@@ -15,11 +15,11 @@ lines_by g zone resolvers =
     (open_errors g zone e))
     (filter is_current zone.entries)
 
-pub errsysmods-only : (g : Global) (zone : Zone) (lines others : List Line) → AreErrsysmods g zone lines
+pub errsysmods_only : (g : Global) (zone : Zone) (lines others : List Line) → AreErrsysmods g zone lines
     → AreErrsysmods g zone others → lines ≡ others
-errsysmods-only g zone lines others a b =
+errsysmods_only g zone lines others a b =
     let same : a.resolvers ≡ b.resolvers = fun_ext (λ reason.
-    rising-only (a.resolvers reason) (b.resolvers reason) (a.rising reason) (b.rising reason)
+    rising_only (a.resolvers reason) (b.resolvers reason) (a.rising reason) (b.rising reason)
     (λ y there. (b.all reason y).1 ((a.all reason y).0 there))
     (λ y there. (a.all reason y).1 ((b.all reason y).0 there))) in
     a.lines_are ∙ ap (lines_by g zone) same ∙ sym b.lines_are

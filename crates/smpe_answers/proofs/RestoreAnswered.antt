@@ -8,7 +8,7 @@ use Rattle.terms.specs.Choice.{counting}
 use Rattle.terms.specs.Needs.{Serves}
 use Rattle.terms.specs.Restore.{Restoring, NeedsInRestore, IsListed, AreListed, restore_candidates, FailsRestore}
 use Rattle.terms.specs.Restore.{MayBeRestored, IsRestored}
-use Rattle.terms.proofs.Ids.{in_or_not, is_in-from_Contains, Contains-from_is_in}
+use Rattle.terms.proofs.Ids.{in_or_not, is_in_from_Contains, Contains_from_is_in}
 use Rattle.machine.specs.Outcome.{Status, Restored, NotApplied, Failed, Line, StatusLine}
 use Rattle.machine.specs.Receiving.{place_of}
 use Rattle.machine.specs.Restoring.{HasRestoreStatus, IsBack, StaysOn, WasNotOn, RestoresListed}
@@ -24,20 +24,20 @@ group_within : (r : Restoring) (ids : List Id) (x : Id) → IsListed r (RestoreG
     → Contains (ids ++ applied_ids r.zone) x
 group_within r ids x is =
     let all : List Id = ids ++ applied_ids r.zone in
-    Contains-from_is_in all x (is (is_in all) (record {
-      start = λ y there. is_in-from_Contains all y (Contains-append_left ids (applied_ids r.zone) y there);
-      grown = λ y z kind there needs. is_in-from_Contains all z
+    Contains_from_is_in all x (is (is_in all) (record {
+      start = λ y there. is_in_from_Contains all y (Contains-append_left ids (applied_ids r.zone) y there);
+      grown = λ y z kind there needs. is_in_from_Contains all z
           (Contains-append_right ids (applied_ids r.zone) z (needs_applied r (is_in all) y z kind needs));
     }))
 
-listed-within : (r : Restoring) (what : RestoreList) → (all : List Id)
+listed_within : (r : Restoring) (what : RestoreList) → (all : List Id)
     × ((x : Id) → IsListed r what x → Contains all x)
-listed-within r (RestoreSelect ids) = (ids, λ x is. is)
-listed-within r (RestoreGroup ids) = (ids ++ applied_ids r.zone, group_within r ids)
+listed_within r (RestoreSelect ids) = (ids, λ x is. is)
+listed_within r (RestoreGroup ids) = (ids ++ applied_ids r.zone, group_within r ids)
 
-listed-answered : (r : Restoring) (what : RestoreList) → ¬ ¬ ((ids : List Id) × AreListed r what ids)
-listed-answered r what refuted =
-    let within = listed-within r what in
+listed_answered : (r : Restoring) (what : RestoreList) → ¬ ¬ ((ids : List Id) × AreListed r what ids)
+listed_answered r what refuted =
+    let within = listed_within r what in
     those_stably (IsListed r what) within.0 (λ found. refuted (
       found.0,
       record {
@@ -53,8 +53,8 @@ record AreRestored (r : Restoring) (ids kept : List Id) : Type 0 where
   rising : IsRising kept
   members : (x : Id) → Contains kept x ↔ IsRestored r ids x
 
-restored-answered : (r : Restoring) (ids : List Id) → ¬ ¬ ((kept : List Id) × AreRestored r ids kept)
-restored-answered r ids refuted = those_stably (IsRestored r ids) (restore_candidates r ids) (λ found. refuted (
+restored_answered : (r : Restoring) (ids : List Id) → ¬ ¬ ((kept : List Id) × AreRestored r ids kept)
+restored_answered r ids refuted = those_stably (IsRestored r ids) (restore_candidates r ids) (λ found. refuted (
   found.0,
   record {
     rising = found.1.rising;
@@ -69,8 +69,8 @@ module _ (r : Restoring) (ids kept : List Id) where
   abbrev Says : Id → Type 0
   Says x = (s : Status) × HasRestoreStatus r ids kept x s
 
-  says-answered : (x : Id) → Contains ids x → ¬ ¬ Says x
-  says-answered x there refuted = elim (in_or_not kept x) [
+  says_answered : (x : Id) → Contains ids x → ¬ ¬ Says x
+  says_answered x there refuted = elim (in_or_not kept x) [
     | inl is ↦ refuted (Restored, IsBack is)
     | inr stays ↦ elim (in_or_not (restore_candidates r ids) x) [
       | inl cand ↦ failure_stably (restore_candidates r ids) kept (FailsRestore r) (MayBeRestored r ids)
@@ -95,13 +95,13 @@ module _ (r : Restoring) (ids kept : List Id) where
 
 -- ---- the answer
 
-pub restore-answered : (g : Global) (zone accepted : Zone) (what : RestoreList) → IsZone zone
+pub restore_answered : (g : Global) (zone accepted : Zone) (what : RestoreList) → IsZone zone
     → ¬ ¬ ((new : Zone) × (lines : List Line) × RestoresListed g zone accepted what new lines)
-restore-answered g zone accepted what is refuted =
+restore_answered g zone accepted what is refuted =
     let r : Restoring = record { global = g; choice = counting g zone []; zone = zone; accepted = accepted } in
-    listed-answered r what (λ ids.
-    restored-answered r ids.0 (λ kept.
-    all_stably (Says r ids.0 kept.0) ids.0 (says-answered r ids.0 kept.0) (λ says.
+    listed_answered r what (λ ids.
+    restored_answered r ids.0 (λ kept.
+    all_stably (Says r ids.0 kept.0) ids.0 (says_answered r ids.0 kept.0) (λ says.
     let status : Id → Status = λ x. status_at r ids.0 kept.0 says x (in_or_not ids.0 x) in
     let left = restored r kept.0 is in
     refuted (

@@ -5,7 +5,7 @@ use Rattle.std.proofs.Common.{inl, inr, find, refl, sym, ap, subst, true≢false
 use Rattle.std.specs.Prelude.{◌==◌, option_map, if◌then◌else◌}
 use Rattle.std.specs.Option.{option_map_or, option_and_then}
 use Rattle.lemmas.proofs.Members.{here_or, none_in}
-use Rattle.lemmas.proofs.Searches.{All-find}
+use Rattle.lemmas.proofs.Searches.{All_find}
 use Rattle.lemmas.proofs.Texts.{same_itself}
 use Rattle.terms.specs.declared.kinds.ZoneKind.{ZoneKind}
 use Rattle.terms.specs.declared.kinds.ZoneKind.TheVariants.{Target, Distribution}
@@ -16,7 +16,7 @@ use Rattle.machine.specs.Outcome.{Cm1, Cm3, Outcome, Ran, header_of}
 use Rattle.machine.specs.State.{State, zone_named, current_zone, with_zone, misplaced}
 use Rattle.machine.specs.Machine.{RestoresThere}
 use Rattle.smpe_upkeep.proofs.StepForms.{IsStorable}
-use Rattle.smpe_answers.proofs.RestoreAnswered.{restore-answered}
+use Rattle.smpe_answers.proofs.RestoreAnswered.{restore_answered}
 
 -- a zone of this name is found
 found_zone : (zones : List NamedZone) (name : Text) (z : NamedZone) → Contains zones z → z.name ≡ name
@@ -55,13 +55,13 @@ of_named P zones name zone all found = by (find (λ z. bytes_eq z.name name) zon
     by None at = absurd (cc (sym found ∙ ap (option_map (λ z. z.zone)) at))
     by (Some z) at =
         let same : Some z.zone ≡ Some zone = sym (ap (option_map (λ z. z.zone)) at) ∙ found in
-        (z, All-find P (λ z. bytes_eq z.name name) zones z all at, cc same)
+        (z, All_find P (λ z. bytes_eq z.name name) zones z all at, cc same)
 
 -- where a command is not misplaced, it fits
-pub fits-from : (b fits : Bool) → (if not b then Some Cm1 else if fits then None else Some Cm3) ≡ None → fits ≡ true
-fits-from b true none = refl
-fits-from true false none = absurd (cc none)
-fits-from false false none = absurd (cc none)
+pub fits_from : (b fits : Bool) → (if not b then Some Cm1 else if fits then None else Some Cm3) ≡ None → fits ≡ true
+fits_from b true none = refl
+fits_from true false none = absurd (cc none)
+fits_from false false none = absurd (cc none)
 
 module _ (s : State) (what : RestoreList) (check : Bool) (is : IsStorable s) where
   abbrev Restored : Type 0
@@ -75,7 +75,7 @@ module _ (s : State) (what : RestoreList) (check : Bool) (is : IsStorable s) whe
       is.related there in
       let related = accepted_of s.zones zone zone.kind refl target zone.related refl
       (subst (λ (z : Zone). IsRelated s.zones z.kind z.srel z.related) relates.2 relates.1) in
-      restore-answered s.global zone related.0 what (subst IsZone named.2 named.1.zone) (λ made. refuted (
+      restore_answered s.global zone related.0 what (subst IsZone named.2 named.1.zone) (λ made. refuted (
         if check then s else with_zone s name made.0,
         Ran (header_of (Restore what check) s.boundary) made.1,
         record {
@@ -104,6 +104,6 @@ module _ (s : State) (what : RestoreList) (check : Bool) (is : IsStorable s) whe
       by None there = absurd (true≢false (sym here ∙ ap fits there))
       by (Some zone) there = at_target name at zone there (sym (ap fits there) ∙ here)
 
-  pub restore-runs : misplaced s (Restore what check) ≡ None → ¬ ¬ Restored
+  pub restore_runs : misplaced s (Restore what check) ≡ None → ¬ ¬ Restored
   unfolding misplaced
-  restore-runs none = at_named s.boundary refl (fits-from (is_some s.boundary) (fits (current_zone s)) none)
+  restore_runs none = at_named s.boundary refl (fits_from (is_some s.boundary) (fits (current_zone s)) none)

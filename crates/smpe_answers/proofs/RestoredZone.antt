@@ -9,11 +9,11 @@ use Rattle.terms.specs.Lookups.{IsZone, is_in, has_change, element_of, element_e
 use Rattle.terms.specs.Deleted.{entries_less}
 use Rattle.terms.specs.Restore.{Restoring, Restores}
 use Rattle.terms.proofs.ElementOrder.{element_cmp_total, element_ties}
-use Rattle.zones_less.proofs.Entries.{entries_less-held, entries_less-waive, entries_less-rise}
-use Rattle.change.specs.Restoring.{all_changed, element_at}
+use Rattle.zones_views.proofs.Entries.{entries_less_held, entries_less_waive, entries_less_rise}
+use Rattle.undo.specs.Restoring.{all_changed, element_at}
 use Rattle.change.proofs.Grouped.{same_key}
-use Rattle.change.proofs.Reverted.{key_found, by_some}
-use Rattle.smpe_answers.proofs.Wanted.{with_wanted, with_wanted-rises, found_wanted}
+use Rattle.undo.proofs.Reverted.{key_found, by_some}
+use Rattle.smpe_answers.proofs.Wanted.{with_wanted, with_wanted_rises, found_wanted}
 
 module _ (r : Restoring) (kept : List Id) (is : IsZone r.zone) where
   -- the elements, with those that are taken back as the distribution zone has them
@@ -41,10 +41,10 @@ module _ (r : Restoring) (kept : List Id) (is : IsZone r.zone) where
     record {
       rest = refl;
       is_zone = record {
-        entries = entries_less-rise (is_in kept) r.zone.entries is.entries;
-        held = entries_less-held (is_in kept) r.zone.entries;
-        waived = entries_less-waive (is_in kept) r.zone.entries is.waived;
-        elements = with_wanted-rises element_cmp_total element_key (element_at r.accepted)
+        entries = entries_less_rise (is_in kept) r.zone.entries is.entries;
+        held = entries_less_held (is_in kept) r.zone.entries;
+        waived = entries_less_waive (is_in kept) r.zone.entries is.waived;
+        elements = with_wanted_rises element_cmp_total element_key (element_at r.accepted)
             (all_changed r.global kept) r.zone.elements is.elements;
         related = is.related;
       };

@@ -6,9 +6,8 @@ use Rattle.terms.specs.declared.codes.NeedKind.{NeedKind}
 use Rattle.terms.specs.declared.codes.NeedKind.TheVariants as need
 use Rattle.terms.specs.Types.{Id}
 use Rattle.terms.specs.Kept.{StaysKept}
-use Rattle.terms.specs.Failures.{HasFailed, IsOpenNeed, LeadsTo, LeadsThrough, IsCauser}
+use Rattle.terms.specs.Failures.{HasFailed, IsOpenNeed, LeadsTo, LeadsThrough, IsCauser, all_needs}
 use Rattle.terms.proofs.Ids.{in_or_not}
-use Rattle.machine.specs.Installing.{all_needs}
 use Rattle.smpe_upkeep.proofs.Stable.{stable_bool}
 use Rattle.smpe_answers.proofs.Finitely.{all_stably, set_stably}
 

@@ -1,7 +1,7 @@
 -- Equations of what zones hold are stable: what can't be refuted of them is so.
 use Rattle.std.proofs.Common.{◌≡◌, ◌∙◌, List, [], ◌∷◌, Option, None, Some, refl, ap}
 use Rattle.terms.specs.declared.kinds.ElemType.{ElemType}
-use Rattle.terms.specs.Types.{Text, Id, Lines, Element, type_number}
+use Rattle.terms.specs.Types.{Text, Id, Lines, Element, type_number, Applied, an_applied}
 use Rattle.terms.proofs.ElementOrder.{type_from_number}
 use Rattle.smpe_upkeep.proofs.Stable.{Stable, part_of, stable_number}
 
@@ -28,6 +28,11 @@ stable_text = stable_list stable_number
 -- lists of ids, and records
 pub stable_texts : (xs ys : List Text) → Stable (xs ≡ ys)
 stable_texts = stable_list stable_text
+
+pub stable_applied : (a b : Applied) → Stable (a ≡ b)
+stable_applied a b h =
+    ap (λ v. an_applied v a.number) (part_of (ap (λ (v : Applied). v.date)) (stable_text a.date b.date) h)
+    ∙ ap (λ v. an_applied b.date v) (part_of (ap (λ (v : Applied). v.number)) (stable_number a.number b.number) h)
 
 stable_type : (a b : ElemType) → Stable (a ≡ b)
 stable_type a b h =

@@ -24,12 +24,12 @@ use Rattle.smpe_upkeep.proofs.PtfinForms.{IsItem, ptfin_formed}
 use Rattle.smpe_upkeep.proofs.ReceivingForms.{item_forms}
 use Rattle.smpe_upkeep.proofs.StepForms.{IsStorable, HasCommandForms, HasActForms}
 use Rattle.smpe_answers.specs.Answers.{IsAnswered, AreRead}
-use Rattle.smpe_answers.proofs.InstallRuns.{install-runs}
-use Rattle.smpe_answers.proofs.RestoreRuns.{fits-from, restore-runs}
-use Rattle.smpe_answers.proofs.RunsAnswered.{runs-answered, every-answered}
-use Rattle.smpe_answers.proofs.ReceiveAnswered.{item-some, hold_item-some}
-use Rattle.smpe_answers.proofs.FileRead.{ptfin-read, hold_file-read}
-use Rattle.smpe_answers.proofs.ReportAnswered.{errsysmods-some}
+use Rattle.smpe_answers.proofs.InstallRuns.{install_runs}
+use Rattle.smpe_answers.proofs.RestoreRuns.{fits_from, restore_runs}
+use Rattle.smpe_answers.proofs.RunsAnswered.{runs_answered, every_answered}
+use Rattle.smpe_answers.proofs.ReceiveAnswered.{item_some, hold_item_some}
+use Rattle.smpe_answers.proofs.FileRead.{ptfin_read, hold_file_read}
+use Rattle.smpe_answers.proofs.ReportAnswered.{errsysmods_some}
 
 -- ---- RECEIVE
 
@@ -41,11 +41,11 @@ module _ (files : Files) (s : State) (what : ReceiveWhat) (has : HasGlobalForms 
   all_taken : (items : List Item) (holds : List HoldItem) → AllByRecursion IsItem items
       → HasItems IsPtfin what.sysmods files.ptfin items → HasItems IsHoldFile what.holddata files.holds holds → Taken
   all_taken items holds each reads reads_holds =
-      let first = runs-answered (TakesItem what.source) HasGlobalForms IsItem
-      (λ g item has is. item-some what.source g item has.is_global.no_loop)
+      let first = runs_answered (TakesItem what.source) HasGlobalForms IsItem
+      (λ g item has is. item_some what.source g item has.is_global.no_loop)
       (λ g new item lines has is takes. item_forms what.source form g new item lines is has takes) items s.global has
       each in
-      let second = every-answered TakesHoldItem hold_item-some holds first.0 in (
+      let second = every_answered TakesHoldItem hold_item_some holds first.0 in (
         record s { global = second.0 },
         Ran (header_of (Receive what) s.boundary) (or_nothing (first.1 ++ second.1)),
         TakesAll items holds first.0 second.0 first.1 second.1 reads reads_holds first.2 second.2,
@@ -67,8 +67,8 @@ module _ (files : Files) (s : State) (what : ReceiveWhat) (has : HasGlobalForms 
         )
       ]
 
-  takes-some : Taken
-  takes-some = by what.sysmods refl
+  takes_some : Taken
+  takes_some = by what.sysmods refl
     where
       by : (b : Bool) → what.sysmods ≡ b → Taken
       by false at = behind_items [] tt (subst (λ b. HasItems IsPtfin b files.ptfin []) (sym at) refl)
@@ -84,33 +84,33 @@ module _ (files : Files) (s : State) (what : ReceiveWhat) (has : HasGlobalForms 
 
 -- ---- REJECT and REPORT
 
-rejected-some : (s : State) (g : Global) (x : Id) → IsAnswered (RejectsId s.zones) g x
-rejected-some s g x = (
+rejected_some : (s : State) (g : Global) (x : Id) → IsAnswered (RejectsId s.zones) g x
+rejected_some s g x = (
   global_after g (reject g s.zones x),
   StatusLine x (place_of g x) (reject_status (reject g s.zones x)) ∷ [],
   (refl, refl),
 )
 
-rejects-some : (s : State) (ids : List Id) → (t : State) × (outcome : Outcome) × Rejects s ids t outcome
-rejects-some s ids =
-    let runs = every-answered (RejectsId s.zones) (rejected-some s) ids s.global in (
+rejects_some : (s : State) (ids : List Id) → (t : State) × (outcome : Outcome) × Rejects s ids t outcome
+rejects_some s ids =
+    let runs = every_answered (RejectsId s.zones) (rejected_some s) ids s.global in (
       record s { global = runs.0 },
       Ran (header_of (Reject ids) s.boundary) runs.1,
       record { new = runs.0; lines = runs.1; runs = runs.2; state = refl; prints = refl },
     )
 
-reports-some : (s : State) → IsGlobal s.global → misplaced s Report ≡ None
+reports_some : (s : State) → IsGlobal s.global → misplaced s Report ≡ None
     → (outcome : Outcome) × ReportsThere s outcome
 unfolding misplaced
-reports-some s is none = by (current_zone s) refl
+reports_some s is none = by (current_zone s) refl
   where
     there : is_some (current_zone s) ≡ true
-    there = fits-from (is_some s.boundary) (is_some (current_zone s)) none
+    there = fits_from (is_some s.boundary) (is_some (current_zone s)) none
 
     by : (o : Option Zone) → current_zone s ≡ o → (outcome : Outcome) × ReportsThere s outcome
     by None at = absurd (cc (sym there ∙ ap is_some at))
     by (Some zone) at =
-        let some = errsysmods-some s.global zone is in (
+        let some = errsysmods_some s.global zone is in (
           Ran (header_of Report s.boundary) some.0,
           record { zone = zone; is_there = at; lines = some.0; lines_are = some.1; prints = refl },
         )
@@ -124,30 +124,30 @@ IsPlain (Accept i) = ⊥
 IsPlain (Restore what check) = ⊥
 IsPlain _ = Unit {0}
 
-run-some : (date : Text) (files : Files) (s : State) (c : Command) → IsStorable s → HasCommandForms c → AreRead files
+run_some : (date : Text) (files : Files) (s : State) (c : Command) → IsStorable s → HasCommandForms c → AreRead files
     → IsPlain c → misplaced s c ≡ None → (t : State) × (outcome : Outcome) × RunsThere date files s c t outcome
-run-some date files s (Set name) is form read plain at =
+run_some date files s (Set name) is form read plain at =
     (record s { boundary = Some name }, Ran (header_of (Set name) s.boundary) [], (refl, refl))
-run-some date files s (Receive what) is form read plain at =
-    takes-some files s what (record { is_global = is.global; sysmods = is.sysmods; holds = is.holds }) form read
-run-some date files s (Reject ids) is form read plain at = rejects-some s ids
-run-some date files s (Apply i) is form read plain at = absurd plain
-run-some date files s (Accept i) is form read plain at = absurd plain
-run-some date files s (Restore what check) is form read plain at = absurd plain
-run-some date files s (ListZone text) is form read plain at =
+run_some date files s (Receive what) is form read plain at =
+    takes_some files s what (record { is_global = is.global; sysmods = is.sysmods; holds = is.holds }) form read
+run_some date files s (Reject ids) is form read plain at = rejects_some s ids
+run_some date files s (Apply i) is form read plain at = absurd plain
+run_some date files s (Accept i) is form read plain at = absurd plain
+run_some date files s (Restore what check) is form read plain at = absurd plain
+run_some date files s (ListZone text) is form read plain at =
     (s, Ran (header_of (ListZone text) s.boundary) (listed s text), (refl, refl))
-run-some date files s Report is form read plain at =
-    let some = reports-some s is.global at in (s, some.0, (refl, some.1))
+run_some date files s Report is form read plain at =
+    let some = reports_some s is.global at in (s, some.0, (refl, some.1))
 
-pub perform-some : (date : Text) (files : Files) (s : State) (c : Command) → IsStorable s → HasCommandForms c
+pub perform_some : (date : Text) (files : Files) (s : State) (c : Command) → IsStorable s → HasCommandForms c
     → AreRead files → IsPlain c → (t : State) × (outcome : Outcome) × Performs date files s c t outcome
-perform-some date files s c is form read plain = by (misplaced s c) refl
+perform_some date files s c is form read plain = by (misplaced s c) refl
   where
     by : (o : Option Refusal) → misplaced s c ≡ o
         → (t : State) × (outcome : Outcome) × Performs date files s c t outcome
     by (Some why) at = (s, Refused (header_of c s.boundary) why, inl (why, at, refl, refl))
     by None at =
-        let some = run-some date files s c is form read plain at in
+        let some = run_some date files s c is form read plain at in
         (some.0, some.1, inr (at, some.2))
 
 abbrev pub IsPlainAct : Act → Type 0
@@ -155,27 +155,27 @@ IsPlainAct (Perform date files c) = AreRead files × IsPlain c
 IsPlainAct _ = Unit {0}
 
 -- Such an act has an answer.
-pub step-some : (s : State) (a : Act) → IsStorable s → HasActForms a → IsPlainAct a → IsAnswered Steps s a
-step-some s Begin is form plain = (record s { boundary = None }, [], (refl, refl))
-step-some s (Perform date files c) is form plain =
-    let some = perform-some date files s c is form.1 plain.0 plain.1 in
+pub step_some : (s : State) (a : Act) → IsStorable s → HasActForms a → IsPlainAct a → IsAnswered Steps s a
+step_some s Begin is form plain = (record s { boundary = None }, [], (refl, refl))
+step_some s (Perform date files c) is form plain =
+    let some = perform_some date files s c is form.1 plain.0 plain.1 in
     (some.0, some.1 ∷ [], (some.1, some.2, refl))
-step-some s (Faulty fault) is form plain = (s, Control fault ∷ [], (refl, refl))
-step-some s (Define d) is form plain = (state_after s (define_zone s d), [], (refl, refl))
+step_some s (Faulty fault) is form plain = (s, Control fault ∷ [], (refl, refl))
+step_some s (Define d) is form plain = (state_after s (define_zone s d), [], (refl, refl))
 
 -- ---- whatever the files hold
 
 are_read : (files : Files) → ¬ ¬ AreRead files
-are_read files none = ptfin-read files.ptfin (λ ptfin. hold_file-read files.holds (λ holds.
+are_read files none = ptfin_read files.ptfin (λ ptfin. hold_file_read files.holds (λ holds.
     none (record { ptfin = ptfin; holds = holds })))
 
 abbrev pub IsAnsweredCommand : Text → Files → State → Command → Type 0
 IsAnsweredCommand date files s c = (t : State) × (outcome : Outcome) × Performs date files s c t outcome
 
-plain-answered : (date : Text) (files : Files) (s : State) (c : Command) → IsStorable s → HasCommandForms c → IsPlain c
+plain_answered : (date : Text) (files : Files) (s : State) (c : Command) → IsStorable s → HasCommandForms c → IsPlain c
     → ¬ ¬ IsAnsweredCommand date files s c
-plain-answered date files s c is form plain none =
-    are_read files (λ read. none (perform-some date files s c is form read plain))
+plain_answered date files s c is form plain none =
+    are_read files (λ read. none (perform_some date files s c is form read plain))
 
 -- a command that runs wherever it is not misplaced
 answered_where_it_runs : (date : Text) (files : Files) (s : State) (c : Command)
@@ -187,26 +187,26 @@ answered_where_it_runs date files s c runs none = by (misplaced s c) refl
     by (Some why) at = none (s, Refused (header_of c s.boundary) why, inl (why, at, refl, refl))
     by None at = runs at (λ some. none (some.0, some.1, inr (at, some.2)))
 
-command-answered : (date : Text) (files : Files) (s : State) (c : Command) → IsStorable s → HasCommandForms c
+command_answered : (date : Text) (files : Files) (s : State) (c : Command) → IsStorable s → HasCommandForms c
     → ¬ ¬ IsAnsweredCommand date files s c
 unfolding misplaced
-command-answered date files s (Set name) is form = plain-answered date files s (Set name) is form tt
-command-answered date files s (Receive what) is form = plain-answered date files s (Receive what) is form tt
-command-answered date files s (Reject ids) is form = plain-answered date files s (Reject ids) is form tt
-command-answered date files s (Apply i) is form =
-    answered_where_it_runs date files s (Apply i) (install-runs date s (Apply i) i (λ name. None) is Target)
-command-answered date files s (Accept i) is form =
+command_answered date files s (Set name) is form = plain_answered date files s (Set name) is form tt
+command_answered date files s (Receive what) is form = plain_answered date files s (Receive what) is form tt
+command_answered date files s (Reject ids) is form = plain_answered date files s (Reject ids) is form tt
+command_answered date files s (Apply i) is form =
+    answered_where_it_runs date files s (Apply i) (install_runs date s (Apply i) i (λ name. None) is Target)
+command_answered date files s (Accept i) is form =
     answered_where_it_runs date files s (Accept i)
-    (install-runs date s (Accept i) i (target_of s.zones) is Distribution)
-command-answered date files s (Restore what check) is form =
-    answered_where_it_runs date files s (Restore what check) (restore-runs s what check is)
-command-answered date files s (ListZone text) is form = plain-answered date files s (ListZone text) is form tt
-command-answered date files s Report is form = plain-answered date files s Report is form tt
+    (install_runs date s (Accept i) i (target_of s.zones) is Distribution)
+command_answered date files s (Restore what check) is form =
+    answered_where_it_runs date files s (Restore what check) (restore_runs s what check is)
+command_answered date files s (ListZone text) is form = plain_answered date files s (ListZone text) is form tt
+command_answered date files s Report is form = plain_answered date files s Report is form tt
 
 -- It can't be refuted that an act has an answer.
-pub step-answered : (s : State) (a : Act) → IsStorable s → HasActForms a → ¬ ¬ IsAnswered Steps s a
-step-answered s Begin is form none = none (step-some s Begin is form tt)
-step-answered s (Perform date files c) is form none =
-    command-answered date files s c is form.1 (λ some. none (some.0, some.1 ∷ [], (some.1, some.2, refl)))
-step-answered s (Faulty fault) is form none = none (step-some s (Faulty fault) is form tt)
-step-answered s (Define d) is form none = none (step-some s (Define d) is form tt)
+pub step_answered : (s : State) (a : Act) → IsStorable s → HasActForms a → ¬ ¬ IsAnswered Steps s a
+step_answered s Begin is form none = none (step_some s Begin is form tt)
+step_answered s (Perform date files c) is form none =
+    command_answered date files s c is form.1 (λ some. none (some.0, some.1 ∷ [], (some.1, some.2, refl)))
+step_answered s (Faulty fault) is form none = none (step_some s (Faulty fault) is form tt)
+step_answered s (Define d) is form none = none (step_some s (Define d) is form tt)

@@ -7,10 +7,10 @@ use Rattle.std.specs.declared.cmp.Ordering.{Ordering}
 use Rattle.std.specs.Ordering.{is_eq}
 use Rattle.std.specs.Cmp.{IsTotalOrder}
 use Rattle.std.proofs.lemmas.List.Elements.{All-cons, All-nil}
-use Rattle.tables.specs.declared.edits.Edit.{Edit}
-use Rattle.tables.specs.declared.edits.Edit.TheVariants.{Put, Remove}
-use Rattle.tables.specs.Edits.{edit_key, edit_put, after_edit}
-use Rattle.tables.proofs.Editing.{Rises-after_edit, All-edited, find-after_edit}
+use Rattle.sorted.specs.declared.edits.Edit.{Edit}
+use Rattle.sorted.specs.declared.edits.Edit.TheVariants.{Put, Remove}
+use Rattle.sorted.specs.Edits.{edit_key, edit_put, after_edit}
+use Rattle.sorted.proofs.Editing.{Rises_after_edit, All_edited, find_after_edit}
 use Rattle.terms.specs.Rising.{Rises}
 
 -- the edit that leaves this at the key
@@ -18,16 +18,16 @@ edit_to : {X K : Type 0} → K → Option X → Edit X K
 edit_to k None = Remove k
 edit_to k (Some x) = Put x
 
-edit_to-key : {X K : Type 0} (key : X → K) (k : K) (wanted : Option X) → IfSome wanted (λ x. key x ≡ k)
+edit_to_key : {X K : Type 0} (key : X → K) (k : K) (wanted : Option X) → IfSome wanted (λ x. key x ≡ k)
     → edit_key key (edit_to k wanted) ≡ k
 unfolding edit_to
-edit_to-key key k None at = refl
-edit_to-key key k (Some x) at = at
+edit_to_key key k None at = refl
+edit_to_key key k (Some x) at = at
 
-edit_to-put : {X K : Type 0} (k : K) (wanted : Option X) → edit_put (edit_to k wanted) ≡ wanted
+edit_to_put : {X K : Type 0} (k : K) (wanted : Option X) → edit_put (edit_to k wanted) ≡ wanted
 unfolding edit_to
-edit_to-put k None = refl
-edit_to-put k (Some x) = refl
+edit_to_put k None = refl
+edit_to_put k (Some x) = refl
 
 module _ {X K : Type 0} {R : K → K → Ordering} (o : IsTotalOrder R) (key : X → K) (wanted : K → Option X) where
   edit_at : K → Edit X K
@@ -38,18 +38,18 @@ module _ {X K : Type 0} {R : K → K → Ordering} (o : IsTotalOrder R) (key : X
   with_wanted [] xs = xs
   with_wanted (k ∷ ks) xs = after_edit R key (with_wanted ks xs) (edit_at k)
 
-  pub with_wanted-rises : (ks : List K) (xs : List X) → Rises R key xs → Rises R key (with_wanted ks xs)
+  pub with_wanted_rises : (ks : List K) (xs : List X) → Rises R key xs → Rises R key (with_wanted ks xs)
   unfolding with_wanted
-  with_wanted-rises [] xs rises = rises
-  with_wanted-rises (k ∷ ks) xs rises =
-      Rises-after_edit o key (with_wanted ks xs) (edit_at k) (with_wanted-rises ks xs rises)
+  with_wanted_rises [] xs rises = rises
+  with_wanted_rises (k ∷ ks) xs rises =
+      Rises_after_edit o key (with_wanted ks xs) (edit_at k) (with_wanted_rises ks xs rises)
 
-  pub with_wanted-all : (P : X → Type 0) → ((k : K) → IfSome (wanted k) P) → (ks : List K) (xs : List X) → All P xs
+  pub with_wanted_all : (P : X → Type 0) → ((k : K) → IfSome (wanted k) P) → (ks : List K) (xs : List X) → All P xs
       → All P (with_wanted ks xs)
   unfolding with_wanted edit_at edit_to
-  with_wanted-all P each [] xs all = all
-  with_wanted-all P each (k ∷ ks) xs all =
-      All-edited o key P (edit_at k ∷ []) (with_wanted ks xs) (with_wanted-all P each ks xs all)
+  with_wanted_all P each [] xs all = all
+  with_wanted_all P each (k ∷ ks) xs all =
+      All_edited o key P (edit_at k ∷ []) (with_wanted ks xs) (with_wanted_all P each ks xs all)
       (All-cons (λ e. IfSome (edit_put e) P) (edit_at k) [] (by (wanted k) (each k))
       (All-nil (λ (e : Edit X K). IfSome (edit_put e) P)))
     where
@@ -67,10 +67,10 @@ module _ {X K : Type 0} {R : K → K → Ordering} (o : IsTotalOrder R) (key : X
     unfolding with_wanted edit_at
     found_wanted [] xs j = refl
     found_wanted (k ∷ ks) xs j =
-        find-after_edit o key E ties (with_wanted ks xs) (edit_at k) j
+        find_after_edit o key E ties (with_wanted ks xs) (edit_at k) j
         ∙ ap (λ l. cond (E l j) (edit_put (edit_at k)) (found (with_wanted ks xs) j))
-        (edit_to-key key k (wanted k) (keyed k))
-        ∙ ap (λ w. cond (E k j) w (found (with_wanted ks xs) j)) (edit_to-put k (wanted k))
+        (edit_to_key key k (wanted k) (keyed k))
+        ∙ ap (λ w. cond (E k j) w (found (with_wanted ks xs) j)) (edit_to_put k (wanted k))
         ∙ by (found_wanted ks xs j) (E k j) refl
       where
         rest : List X

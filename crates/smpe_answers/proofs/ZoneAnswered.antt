@@ -15,14 +15,14 @@ use Rattle.terms.specs.Rising.{Rises}
 use Rattle.terms.specs.Deleted.{deletions, is_deleted, zone_less}
 use Rattle.terms.specs.Install.{Installation, TakesEffect, cleared, HasElementAfter, HasInstalled}
 use Rattle.terms.proofs.ElementOrder.{element_cmp_total, element_ties}
-use Rattle.change.specs.Restoring.{all_changed}
+use Rattle.undo.specs.Restoring.{all_changed}
 use Rattle.change.proofs.Grouped.{same_key}
-use Rattle.change.proofs.Reverted.{Key, by_some}
+use Rattle.undo.proofs.Reverted.{Key, by_some}
 use Rattle.smpe_answers.proofs.Effective.{IsSoundInstall, effective, in_effective}
 use Rattle.smpe_answers.proofs.ElementAnswered.{element_answered}
 use Rattle.smpe_answers.proofs.EntriesAnswered as after
 use Rattle.smpe_answers.proofs.MadeEntries as made
-use Rattle.smpe_answers.proofs.Wanted.{with_wanted, with_wanted-rises, found_wanted}
+use Rattle.smpe_answers.proofs.Wanted.{with_wanted, with_wanted_rises, found_wanted}
 
 module _ (i : Installation) (sound : IsSoundInstall i) where
   -- whether something that takes effect changes the element
@@ -72,10 +72,10 @@ module _ (i : Installation) (sound : IsSoundInstall i) where
   elements = with_wanted element_cmp_total element_key element_after (all_changed i.global (effective i sound))
       (cleared i).elements
 
-  elements-rise : Rises element_cmp element_key elements
+  elements_rise : Rises element_cmp element_key elements
   unfolding elements zone_less
-  elements-rise =
-      with_wanted-rises element_cmp_total element_key element_after (all_changed i.global (effective i sound))
+  elements_rise =
+      with_wanted_rises element_cmp_total element_key element_after (all_changed i.global (effective i sound))
       (cleared i).elements
       (AllPairs-filter (λ e f. IsTrue (is_lt (element_cmp (element_key e) (element_key f))))
       (λ e. not (is_deleted i.global i.choice (deletions i.choice i.kept) e.fmid)) i.zone.elements
@@ -126,10 +126,10 @@ module _ (i : Installation) (sound : IsSoundInstall i) where
         record {
           rest = refl;
           is_zone = record {
-            entries = made.entries-rise i sound;
-            held = made.entries-held i sound;
-            waived = made.entries-waive i sound;
-            elements = elements-rise;
+            entries = made.entries_rise i sound;
+            held = made.entries_held i sound;
+            waived = made.entries_waive i sound;
+            elements = elements_rise;
             related = sound.is_zone.related;
           };
           applied = after.applied i sound new entries;

@@ -9,10 +9,10 @@ use Rattle.std.proofs.lemmas.List.{get_or-map, length-map}
 use Rattle.std.proofs.lemmas.List.Sorted.{IsPermutation-map, length_permutation, Contains-permutation, ranks_by}
 use Rattle.std.proofs.lemmas.List.Sorted.{sorted_far}
 use Rattle.std.proofs.lemmas.Map.Lookups.{exact_bytes}
-use Rattle.lemmas.proofs.Orderings.{is_lt-from_turned}
+use Rattle.lemmas.proofs.Orderings.{is_lt_from_turned}
 use Rattle.terms.specs.Types.{Id}
 use Rattle.terms.specs.Rising.{Rises}
-use Rattle.lemmas.proofs.Apart.{AreApart, apart-from_length}
+use Rattle.lemmas.proofs.Apart.{AreApart, apart_from_length}
 use Rattle.lemmas.proofs.Pairs.{pairs_unmap}
 use Rattle.report.specs.declared.outcome.Status as reported
 use Rattle.report.specs.declared.outcome.Status.TheVariants.{Applied}
@@ -36,7 +36,7 @@ rises_by_id {V = V} all found same sorted apart = λ i j d less within.
     let far : is_lt (slice_cmp nat_cmp y.0 x.0) ≡ false =
     sorted_far (λ p q. is_lt (slice_cmp nat_cmp p.0 q.0)) (ranks_by nat_list_cmp_total (λ (p : Id × V). p.0)) found
     sorted i j d (omega arith) within in
-    is_lt-from_turned (slice_cmp nat_cmp x.0 y.0) (slice_cmp nat_cmp y.0 x.0) (nat_list_cmp_total.antisymm x.0 y.0) far
+    is_lt_from_turned (slice_cmp nat_cmp x.0 y.0) (slice_cmp nat_cmp y.0 x.0) (nat_list_cmp_total.antisymm x.0 y.0) far
     (λ tie. other i j d less within (exact_bytes x.0 y.0 tie))
   where
     permuted : IsPermutation (map (λ p. p.0) all) (map (λ p. p.0) found)
@@ -44,7 +44,7 @@ rises_by_id {V = V} all found same sorted apart = λ i j d less within.
 
     found_apart : AreApart (map (λ p. p.0) found)
     found_apart =
-        apart-from_length (map (λ p. p.0) found) (map (λ p. p.0) all) apart
+        apart_from_length (map (λ p. p.0) found) (map (λ p. p.0) all) apart
         (λ z h. Contains-permutation (map (λ p. p.0) all) (map (λ p. p.0) found) z permuted h)
         (let e = length_permutation (map (λ p. p.0) all) (map (λ p. p.0) found) permuted in omega arith)
 

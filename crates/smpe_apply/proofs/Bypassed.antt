@@ -6,25 +6,25 @@ use Rattle.terms.specs.Lookups.{is_in}
 use Rattle.terms.specs.Tests.{Setting}
 use Rattle.terms.specs.Needs.{bypassed_ids}
 use Rattle.lemmas.proofs.Members.{filter_in, in_filter}
-use Rattle.terms.proofs.Ids.{is_in-from_Contains, Contains-from_is_in}
+use Rattle.terms.proofs.Ids.{is_in_from_Contains, Contains_from_is_in}
 use Rattle.machine.specs.Outcome.{Failure}
 use Rattle.smpe_apply.specs.Decided.{IsDecided}
 
 module _ (s : Setting) (kept : List Id) (failed : List (Id × Failure)) (decided : IsDecided s kept failed) where
   -- what is kept is a candidate
-  pub kept-cand : (x : Id) → Contains kept x → Contains s.cands x
-  kept-cand x h = let stays = (decided.are_decided.members x).0 h in (stays.1.eligible x stays.2).0.0.0
+  pub kept_cand : (x : Id) → Contains kept x → Contains s.cands x
+  kept_cand x h = let stays = (decided.are_decided.members x).0 h in (stays.1.eligible x stays.2).0.0.0
 
-  pub bypassed-kept : (pairs : List (Id × Id))
+  pub bypassed_kept : (pairs : List (Id × Id))
       → ((x z : Id) → Contains pairs (x, z) ↔ (Contains s.cands x × Contains (bypassed_ids s x) z))
       → (found : List (Id × Id)) → found ≡ filter (λ p. is_in kept p.0) pairs
       → (x z : Id) → Contains found (x, z) ↔ (Contains kept x × Contains (bypassed_ids s x) z)
-  bypassed-kept pairs all found is x z = (
+  bypassed_kept pairs all found is x z = (
     λ h.
         let m = filter_in (λ (p : Id × Id). is_in kept p.0) pairs (x, z)
         (subst (λ ps. Contains {X = Id × Id} ps (x, z)) is h) in
-        (Contains-from_is_in kept x m.1, ((all x z).0 m.0).1),
+        (Contains_from_is_in kept x m.1, ((all x z).0 m.0).1),
     λ h. subst (λ ps. Contains {X = Id × Id} ps (x, z)) (sym is)
-        (in_filter (λ (p : Id × Id). is_in kept p.0) pairs (x, z) ((all x z).1 (kept-cand x h.0, h.1))
-        (is_in-from_Contains kept x h.0)),
+        (in_filter (λ (p : Id × Id). is_in kept p.0) pairs (x, z) ((all x z).1 (kept_cand x h.0, h.1))
+        (is_in_from_Contains kept x h.0)),
   )

@@ -8,7 +8,7 @@ use Rattle.terms.specs.Tests.{Setting, Fails, IsEligible}
 use Rattle.terms.specs.Needs.{Needs, Serves}
 use Rattle.solve.specs.Problem.{Problem}
 use Rattle.judge.specs.InstallProblem.{IsInstallProblem}
-use Rattle.judge.specs.Failed.{AreFailedTests}
+use Rattle.judge_faults.specs.Failed.{AreFailedTests}
 use Rattle.report.specs.declared.outcome.Failure.{Failure}
 use Rattle.smpe_failures.specs.Decided.{IsDecidedBy}
 use Rattle.smpe_failures.proofs.CandidateIds.{decided}

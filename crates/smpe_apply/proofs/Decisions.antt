@@ -21,8 +21,8 @@ use Rattle.terms.specs.Needs.{Needs, Serves, bypassed_ids}
 use Rattle.terms.specs.Judged.{setting}
 use Rattle.lemmas.proofs.Apart.{AreApart}
 use Rattle.lemmas.proofs.Members.{map_in, in_map, filter_in, in_filter}
-use Rattle.lemmas.proofs.Pairs.{AllPairs-join}
-use Rattle.terms.proofs.Ids.{is_in-from_Contains, Contains-from_is_in, apart-from_rising}
+use Rattle.lemmas.proofs.Pairs.{AllPairs_join}
+use Rattle.terms.proofs.Ids.{is_in_from_Contains, Contains_from_is_in, apart_from_rising}
 use Rattle.machine.specs.Outcome.{Status, Superseded, Failure, Failed, Line}
 use Rattle.machine.specs.Installing.{Decision, IsDecision, IsFailure, HasStatus, IsInstalled, IsSuperseded}
 use Rattle.machine.specs.Installing.{IsFailed, IsNotChosen}
@@ -30,20 +30,20 @@ use Rattle.machine.specs.Installing.{AreInstallLines, installed_status, not_chos
 use Rattle.terms.specs.Install.{TakesEffect}
 use Rattle.change.specs.Elements.{HasBases}
 use Rattle.change.specs.Plans.{IsFresh}
-use Rattle.change.proofs.Installable.{is-fresh}
+use Rattle.change.proofs.Installable.{is_fresh}
 use Rattle.change.proofs.KeptTogether.{install_over, changed_base, unsupplied}
 use Rattle.smpe_apply.specs.Decided.{IsDecided}
 use Rattle.smpe_apply.specs.Statuses.{kept_status, kept_statuses, failed_statuses, left_out_statuses}
 use Rattle.smpe_apply.specs.Statuses.{all_statuses, AreById}
 use Rattle.smpe_apply.proofs.ById.{rises_by_id}
-use Rattle.smpe_apply.proofs.Bypassed.{kept-cand}
+use Rattle.smpe_apply.proofs.Bypassed.{kept_cand}
 use Rattle.smpe_apply.proofs.InstallLines.{are_install_lines}
 
 -- lists without doubles that share nothing have none together
 apart_both : {X : Type 0} (xs ys : List X) → AreApart xs → AreApart ys → ((x : X) → Contains xs x → Contains ys x → ⊥)
     → AreApart (xs ++ ys)
 apart_both xs ys front back off =
-    AllPairs-join (λ a b. a ≢ b) xs ys front back (λ i d below. λ j e within same.
+    AllPairs_join (λ a b. a ≢ b) xs ys front back (λ i d below. λ j e within same.
     off _ (subst (Contains xs) same (Contains-get_or xs i d below)) (Contains-get_or ys j e within))
 
 -- the ids of what is made of a list
@@ -75,7 +75,7 @@ module _ (g : Global) (zone : Zone) (related : Option Zone) (sel : Selection) (b
   eligible x h = let stays = (decided.are_decided.members x).0 h in stays.1.eligible x stays.2
 
   cand : (x : Id) → Contains kept x → Contains cands x
-  cand = kept-cand s kept failed decided
+  cand = kept_cand s kept failed decided
 
   installable : (x : Id) → Contains cands x → IsTrue (is_installable g zone x)
   installable x h = All-contains (λ y. IsTrue (is_installable g zone y)) cands x ok h
@@ -100,7 +100,7 @@ module _ (g : Global) (zone : Zone) (related : Option Zone) (sel : Selection) (b
   }
 
   pub kept_fresh : All (IsFresh zone) kept
-  kept_fresh = λ i d below. is-fresh g zone _ (kept_installable i d below)
+  kept_fresh = λ i d below. is_fresh g zone _ (kept_installable i d below)
 
   unapplied : (x : Id) → Contains cands x → is_applied zone x ≡ false
   unapplied x h = unsupplied zone x (not-true (is_supplied zone x)
@@ -143,13 +143,13 @@ module _ (g : Global) (zone : Zone) (related : Option Zone) (sel : Selection) (b
   not_kept : (x : Id) → Contains failed_ids x → ¬ Contains kept x
   not_kept x h k =
       let off = not-true (is_in kept x) (filter_in (λ y. not (is_in kept y)) cands x h).1 in
-      true≢false (sym (is_in-from_Contains kept x k) ∙ off)
+      true≢false (sym (is_in_from_Contains kept x k) ∙ off)
 
   or_kept : (x : Id) → Contains cands x → (¬ Contains kept x) → Contains failed_ids x
   or_kept x h off = in_filter (λ y. not (is_in kept y)) cands x h (by (is_in kept x) refl)
     where
       by : (b : Bool) → is_in kept x ≡ b → not (is_in kept x) ≡ true
-      by true e = absurd (off (Contains-from_is_in kept x e))
+      by true e = absurd (off (Contains_from_is_in kept x e))
       by false e = ap not e
 
   module _ (bypassed : List (Id × Id)) (effective : List Id)
@@ -192,10 +192,10 @@ module _ (g : Global) (zone : Zone) (related : Option Zone) (sel : Selection) (b
     all_apart =
         subst AreApart (sym all_ids)
         (apart_both (kept ++ failed_ids) left_ids
-        (apart_both kept failed_ids (apart-from_rising kept decided.are_decided.rising)
-        (AllPairs-filter (λ a b. a ≢ b) (λ x. not (is_in kept x)) cands (apart-from_rising cands are.rising))
+        (apart_both kept failed_ids (apart_from_rising kept decided.are_decided.rising)
+        (AllPairs-filter (λ a b. a ≢ b) (λ x. not (is_in kept x)) cands (apart_from_rising cands are.rising))
         (λ x k f. not_kept x f k))
-        (apart-from_rising left_ids rising) apart_from_left)
+        (apart_from_rising left_ids rising) apart_from_left)
 
     -- each status is one of the id
     has_status : (p : Id × Status) → Contains all p → HasStatus (decision bypassed) sel p.0 p.1
@@ -216,12 +216,12 @@ module _ (g : Global) (zone : Zone) (related : Option Zone) (sel : Selection) (b
             by : (x : Id) → Contains kept x → (b : Bool) → is_in effective x ≡ b
                 → HasStatus (decision bypassed) sel x (kept_status zone.kind effective x)
             by x in_kept true e =
-                let here = (in_effect x).0 (Contains-from_is_in effective x e) in
+                let here = (in_effect x).0 (Contains_from_is_in effective x e) in
                 subst (λ b. HasStatus (decision bypassed) sel x (if b then installed_status zone.kind else Superseded))
                 (sym e) (IsInstalled here)
             by x in_kept false e =
                 let off : ¬ TakesEffect (decision bypassed).installing x =
-                λ takes. true≢false (sym (is_in-from_Contains effective x ((in_effect x).1 takes)) ∙ e) in
+                λ takes. true≢false (sym (is_in_from_Contains effective x ((in_effect x).1 takes)) ∙ e) in
                 subst (λ b. HasStatus (decision bypassed) sel x (if b then installed_status zone.kind else Superseded))
                 (sym e) (IsSuperseded in_kept off)
 

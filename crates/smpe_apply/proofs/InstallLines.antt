@@ -15,7 +15,7 @@ use Rattle.lemmas.proofs.Texts.{same_itself}
 use Rattle.machine.specs.Outcome.{Status, Applied, Line, StatusLine}
 use Rattle.machine.specs.Receiving.{place_of}
 use Rattle.machine.specs.Installing.{Decision, HasStatus, AreInstallLines}
-use Rattle.change.proofs.InTurn.{find-member}
+use Rattle.sorted.proofs.InTurn.{find_member}
 use Rattle.smpe_apply.specs.Statuses.{status_line}
 
 module _ (found : List (Id × Status)) where
@@ -23,10 +23,10 @@ module _ (found : List (Id × Status)) where
   status_in : Id → Status
   status_in x = option_map_or (λ p. p.1) (find (λ p. bytes_eq p.0 x) found) Applied
 
-  status-is : Rises (slice_cmp nat_cmp) (λ p. p.0) found → (p : Id × Status) → Contains found p → status_in p.0 ≡ p.1
+  status_is : Rises (slice_cmp nat_cmp) (λ p. p.0) found → (p : Id × Status) → Contains found p → status_in p.0 ≡ p.1
   unfolding status_in
-  status-is rises p h =
-      ap (λ o. option_map_or (λ p. p.1) o Applied) (find-member nat_list_cmp_total (λ (p : Id × Status). p.0) bytes_eq
+  status_is rises p h =
+      ap (λ o. option_map_or (λ p. p.1) o Applied) (find_member nat_list_cmp_total (λ (p : Id × Status). p.0) bytes_eq
       texts_ties found p p.0 rises h (same_itself p.0))
 
 -- lines as a function of the ids
@@ -51,10 +51,10 @@ are_install_lines d sel found lines rises lines_are each all = record {
   rising = pairs_map (λ p q. is_before p.0 q.0 ≡ true) (λ x y. is_before x y ≡ true) (λ p. p.0) (λ p q h. h) found
       rises;
   status = status_in found;
-  lines_are = lines_are ∙ lines_by_ids d.setting.global (status_in found) found (status-is found rises);
+  lines_are = lines_are ∙ lines_by_ids d.setting.global (status_in found) found (status_is found rises);
   each = λ x h.
       let m = map_in (λ (p : Id × Status). p.0) found x h in
       subst (λ y. HasStatus d sel y (status_in found y)) m.2
-      (subst (HasStatus d sel m.0.0) (sym (status-is found rises m.0 m.1)) (each m.0 m.1));
+      (subst (HasStatus d sel m.0.0) (sym (status_is found rises m.0 m.1)) (each m.0 m.1));
   all = all;
 }

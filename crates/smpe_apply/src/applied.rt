@@ -1,5 +1,5 @@
 //! The zone's change and the lines of an APPLY or ACCEPT.
-ghost use Rattle.std.specs.Prelude.{◌≡◌, IfOk, map, option_copied};
+ghost use Rattle.std.specs.Prelude.{IfOk, map, option_copied};
 ghost use Rattle.terms.specs.Types.{Zone as AZone};
 ghost use Rattle.terms.specs.Forms.{IsDottedDate};
 ghost use Rattle.zones.specs.Delta.{IsChanged};
@@ -14,10 +14,10 @@ use cntl::{Bypass, Selection};
 use fields::YyDdd;
 use report::Line;
 use select::{candidates, not_chosen};
-use std::alloc::{AllocError, Global as Heap};
-use sysmods::Global;
+use std::alloc::{AllocError, Global};
+use sysmods::GlobalZone;
 use zones::{Zone, ZoneDelta};
-use zones_less::choose;
+use zones_views::choose;
 
 /// What an APPLY or ACCEPT changes, and its lines by id.
 #[derive(Drop)]
@@ -29,8 +29,8 @@ pub struct Applied {
 /// Installs what is selected into the zone, less what BYPASS leaves out of account: APPLY in a target zone, ACCEPT in a
 /// distribution zone, which looks at the related target zone. Whether the command checks alone is its caller's matter.
 pub fn apply(
-    alloc: Heap,
-    global: &Global,
+    alloc: Global,
+    global: &GlobalZone,
     zone: &Zone,
     related: Option<&Zone>,
     selection: &Selection,
@@ -44,7 +44,7 @@ pub fn apply(
 {
     prove!(date.as_bytes().len() == 6);
     prove!(global.len() < 65_536);
-    zone.known();
+    zone.attest();
     let ids = candidates(alloc, global, zone, selection)?;
     let Decided {
         kept,

@@ -12,8 +12,8 @@ use cntl::Bypass;
 use fields::{Id, IdList};
 use judge::{Judged, install_system};
 use report::Failure;
-use std::alloc::{AllocError, Global as Heap};
-use sysmods::Global;
+use std::alloc::{AllocError, Global};
+use sysmods::GlobalZone;
 use zones::Zone;
 
 /// The kept candidates, each other one with the reason, in their order, and the bypassed requisites of the kept ones.
@@ -25,7 +25,7 @@ pub struct Decided {
 }
 
 // The pairs whose first id is kept.
-fn of_kept(alloc: Heap, kept: &IdList, pairs: &[(Id, Id)]) -> Result<Vec<(Id, Id)>, AllocError>
+fn of_kept(alloc: Global, kept: &IdList, pairs: &[(Id, Id)]) -> Result<Vec<(Id, Id)>, AllocError>
     ensures { IfOk result (λ found. found.items ≡ filter (λ p. is_in kept.now p.0) pairs.now) }
 {
     pairs
@@ -38,8 +38,8 @@ fn of_kept(alloc: Heap, kept: &IdList, pairs: &[(Id, Id)]) -> Result<Vec<(Id, Id
 /// Decides which candidates of an APPLY or ACCEPT in this zone are kept, for ACCEPT with the related target zone: those
 /// of the greatest self-supporting set.
 pub fn decide(
-    alloc: Heap,
-    global: &Global,
+    alloc: Global,
+    global: &GlobalZone,
     zone: &Zone,
     related: Option<&Zone>,
     ids: &IdList,

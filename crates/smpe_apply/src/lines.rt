@@ -7,8 +7,8 @@ ghost use Rattle.smpe_apply.specs.Statuses.{said, status_line, IsById, AreById};
 
 use fields::Id;
 use report::{Line, Status, place_of};
-use std::alloc::{AllocError, Global as Heap};
-use sysmods::Global;
+use std::alloc::{AllocError, Global};
+use sysmods::GlobalZone;
 
 fn sorted(mut statuses: Vec<(Id, Status)>) -> Vec<(Id, Status)>
     ensures { IsById (map said statuses.items) (map said result.items) }
@@ -17,7 +17,7 @@ fn sorted(mut statuses: Vec<(Id, Status)>) -> Vec<(Id, Status)>
     statuses
 }
 
-fn line(global: &Global, id: Id, status: Status) -> Line
+fn line(global: &GlobalZone, id: Id, status: Status) -> Line
     ensures { line_view result ≡ StatusLine id (place_of global.now id) (status_view status) }
 {
     Line::Status {
@@ -28,8 +28,8 @@ fn line(global: &Global, id: Id, status: Status) -> Line
 }
 
 fn lines_of(
-    alloc: Heap,
-    global: &Global,
+    alloc: Global,
+    global: &GlobalZone,
     statuses: Vec<(Id, Status)>,
 ) -> Result<Vec<Line>, AllocError>
     ensures { IfOk result (λ lines. map line_view lines.items ≡ map (status_line global.now)
@@ -44,8 +44,8 @@ fn lines_of(
 
 /// The lines of these ids, by id.
 pub(crate) fn lines(
-    alloc: Heap,
-    global: &Global,
+    alloc: Global,
+    global: &GlobalZone,
     statuses: Vec<(Id, Status)>,
 ) -> Result<Vec<Line>, AllocError>
     ensures { IfOk result (λ lines. AreById global.now (map said statuses.items) (map line_view lines.items)) }

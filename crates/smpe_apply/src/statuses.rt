@@ -7,7 +7,7 @@ ghost use Rattle.smpe_apply.specs.Statuses.{left_out_statuses, all_statuses};
 
 use fields::{Id, IdList};
 use report::{Failure, Status};
-use std::alloc::{AllocError, Global as Heap};
+use std::alloc::{AllocError, Global};
 use terms::{NotChosen, ZoneKind};
 
 fn installed_status(kind: ZoneKind) -> Status
@@ -85,7 +85,7 @@ fn push_left_out(
 /// The statuses of all ids that have one: of those that are kept for this kind of zone, of which some take effect, of
 /// those that failed, and of those that were left out.
 pub(crate) fn statuses(
-    alloc: Heap,
+    alloc: Global,
     kind: ZoneKind,
     effective: &IdList,
     kept: &[Id],

@@ -7,7 +7,7 @@ use Rattle.std.specs.Option.{option_map_or, option_and_then}
 use Rattle.std.specs.Str.{bytes_eq}
 use Rattle.std.proofs.lemmas.List.Elements.{All-nil, All-cons, All-head, All-contains, All-contains_itself}
 use Rattle.lemmas.proofs.Members.{here, there}
-use Rattle.lemmas.proofs.Options.{is_some-map, map_or-map}
+use Rattle.lemmas.proofs.Options.{is_some_map, map_or_map}
 use Rattle.terms.specs.Types.{Id, Ver, Change, Sysmod, Global, Element, Zone, type_number, kind_number}
 use Rattle.terms.specs.Lookups.{is_applied, is_supplied, applied_ids, sysmod_of, is_received, is_function, changes_of}
 use Rattle.terms.specs.Lookups.{delby_of}
@@ -29,13 +29,13 @@ AreAlike g h x = option_map but_sources (sysmod_of h x) ≡ option_map but_sourc
 seen : {Y : Type 0} (f : Sysmod → Y) (d : Y) → ((s : Sysmod) → f (but_sources s) ≡ f s) → (g h : Global) (x : Id)
     → AreAlike g h x → option_map_or f (sysmod_of h x) d ≡ option_map_or f (sysmod_of g x) d
 seen f d blind g h x alike =
-    sym (map_or-map f but_sources d blind (sysmod_of h x))
+    sym (map_or_map f but_sources d blind (sysmod_of h x))
     ∙ ap (λ o. option_map_or f o d) alike
-    ∙ map_or-map f but_sources d blind (sysmod_of g x)
+    ∙ map_or_map f but_sources d blind (sysmod_of g x)
 
 pub alike_received : (g h : Global) (x : Id) → AreAlike g h x → is_received h x ≡ is_received g x
 alike_received g h x alike =
-    sym (is_some-map but_sources (sysmod_of h x)) ∙ ap is_some alike ∙ is_some-map but_sources (sysmod_of g x)
+    sym (is_some_map but_sources (sysmod_of h x)) ∙ ap is_some alike ∙ is_some_map but_sources (sysmod_of g x)
 
 alike_function : (g h : Global) (x : Id) → AreAlike g h x → is_function h x ≡ is_function g x
 alike_function = seen (λ s. kind_number s.kind == 0) false (λ s. refl)

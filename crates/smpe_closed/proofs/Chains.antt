@@ -9,7 +9,7 @@ use Rattle.std.proofs.lemmas.Bool.{or_parts}
 use Rattle.std.proofs.lemmas.List.Elements.{All-contains}
 use Rattle.lemmas.proofs.Members.{here_or, none_in, filter_in, flat_in, in_flat}
 use Rattle.terms.specs.declared.kinds.ElemType.{ElemType}
-use Rattle.lemmas.proofs.Searches.{All-find}
+use Rattle.lemmas.proofs.Searches.{All_find}
 use Rattle.terms.specs.Types.{Text, Id, Entry, Element}
 use Rattle.terms.specs.Lookups.{is_in, meets, is_applied, is_supplied, entry_of, supby_of, element_of, applied_ids}
 use Rattle.terms.specs.Choice.{Choice, fmid_of, del_of}
@@ -18,7 +18,7 @@ use Rattle.terms.specs.Deleted.{deletions, is_deleted, zone_less}
 use Rattle.terms.specs.Tests.{Setting, view_of}
 use Rattle.terms.specs.Needs.{zone_left}
 use Rattle.terms.specs.Closed.{IsSupported}
-use Rattle.terms.proofs.Ids.{Contains-from_is_in}
+use Rattle.terms.proofs.Ids.{Contains_from_is_in}
 use Rattle.change.proofs.ChosenVers.{names_received, names_no_loop}
 use Rattle.change.proofs.FmidChains.{chain_of}
 use Rattle.change.proofs.KeptTogether.{kept_fmid}
@@ -62,7 +62,7 @@ module _ (s : Setting) (survivors kept : List Id) (k : Keeps s survivors kept) w
           → is_applied s.zone y ≡ true
       by None at there = absurd (none_in y there)
       by (Some e) at there = All-contains (λ y. is_applied s.zone y ≡ true) e.supby y
-          (All-find (λ (e : Entry). All (λ y. is_applied s.zone y ≡ true) e.supby) (λ e. bytes_eq e.id z)
+          (All_find (λ (e : Entry). All (λ y. is_applied s.zone y ≡ true) e.supby) (λ e. bytes_eq e.id z)
           s.zone.entries e k.closed.supby at) there
 
   -- The chain of an FMID is part of the chain, so that what deletes the FMID deletes it.
@@ -107,7 +107,7 @@ module _ (s : Setting) (survivors kept : List Id) (k : Keeps s survivors kept) w
       let from = flat_in (del_of s.choice) (filter (is_in s.cands) (chain s.global s.choice x)) z there in
       let member = filter_in (is_in s.cands) (chain s.global s.choice x) from.0 from.1 in
       in_flat (del_of s.choice) kept from.0 z
-      (chain_kept (length s.global.sysmods + 1) x from.0 is member.0 (Contains-from_is_in s.cands from.0 member.1))
+      (chain_kept (length s.global.sysmods + 1) x from.0 is member.0 (Contains_from_is_in s.cands from.0 member.1))
       from.2
 
   pub view_applied : (x y : Id) → Contains kept x

@@ -5,7 +5,7 @@ use Rattle.std.specs.Prelude.{◌↔◌}
 use Rattle.std.proofs.lemmas.Bool.{and_parts}
 use Rattle.terms.specs.Types.{Text, Id, Ver, Global, Zone, Bypass, Selection}
 use Rattle.terms.specs.Lookups.{IsZone, is_nil, is_applied}
-use Rattle.terms.specs.Choice.{vers_of, fits, or_first, counting}
+use Rattle.terms.specs.Choice.{vers_of, fits, or_first, counting, first_ver}
 use Rattle.terms.specs.Global.{IsGlobal}
 use Rattle.terms.specs.Candidates.{is_installable}
 use Rattle.terms.specs.Tests.{Setting, IsEligible, AreSurvivors}
@@ -14,10 +14,9 @@ use Rattle.terms.specs.Judged.{setting, Stays, IsKeptSet}
 use Rattle.terms.specs.Install.{Installation, HasInstalled}
 use Rattle.terms.specs.Closed.{IsClosedZone}
 use Rattle.machine.specs.Installing.{Decision}
-use Rattle.sysmods.specs.Choices.{by_srel}
 use Rattle.sysmods.proofs.Counting.{counted}
 use Rattle.change.proofs.ChosenVers.{AreFor, counting_for}
-use Rattle.change.proofs.Installable.{is-fresh}
+use Rattle.change.proofs.Installable.{is_fresh}
 use Rattle.change.proofs.KeptTogether.{unsupplied}
 use Rattle.smpe_upkeep.proofs.Decisions.{candidate_open}
 use Rattle.smpe_closed.proofs.Installs.{IsInstall}
@@ -56,7 +55,7 @@ module _ (s : Setting) (survivors kept : List Id) (k : Keeps s survivors kept) w
 
   -- a candidate is not applied
   pub unapplied : (x : Id) → Contains s.cands x → is_applied s.zone x ≡ false
-  unapplied x is = unsupplied s.zone x (is-fresh s.global s.zone x (k.installable x is)).not_supplied
+  unapplied x is = unsupplied s.zone x (is_fresh s.global s.zone x (k.installable x is)).not_supplied
 
   -- and has a ++VER that counts
   pub candidate_ver : (x : Id) → Contains s.cands x → IsSome (s.choice x)
@@ -105,5 +104,5 @@ module _ (g : Global) (zone : Zone) (related : Option Zone) (sel : Selection) (b
   pub choice_after : counting g new [] ≡ counting g zone is.decides.cands
   choice_after =
       counted g new [] is.global
-      ∙ sym (subst (λ z. counting g zone is.decides.cands ≡ by_srel g z.srel) (sym installed.rest)
+      ∙ sym (subst (λ z. counting g zone is.decides.cands ≡ first_ver g z.srel) (sym installed.rest)
       (counted g zone is.decides.cands is.global))

@@ -1,7 +1,7 @@
 -- Runs and jobs lead from an inventory whose zones are closed to such a one.
 use Rattle.std.proofs.Common.{inl, inr, ℕ, List, [], ◌∷◌, sym, subst}
 use Rattle.std.specs.List.{AllByRecursion}
-use Rattle.lemmas.proofs.Each.{recursion-append}
+use Rattle.lemmas.proofs.Each.{recursion_append}
 use Rattle.machine.specs.Outcome.{Outcome}
 use Rattle.machine.specs.State.{State}
 use Rattle.machine.specs.Machine.{Act, Steps, Prints, Job, Answer, RunsJob, RunsJobs, AreFirstActs}
@@ -17,7 +17,7 @@ first_formed [] acts each are = subst (AllByRecursion HasActForms) (sym are) tt
 first_formed (job ∷ more) acts each (inl none) = subst (AllByRecursion HasActForms) (sym none) tt
 first_formed (job ∷ more) acts each (inr (front, back, has, rest, are)) =
     subst (AllByRecursion HasActForms) (sym are)
-    (recursion-append HasActForms front back (acts_formed job front each.0 has) (first_formed more back each.1 rest))
+    (recursion_append HasActForms front back (acts_formed job front each.0 has) (first_formed more back each.1 rest))
 
 -- ---- runs
 

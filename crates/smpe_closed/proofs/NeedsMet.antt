@@ -12,7 +12,7 @@ use Rattle.terms.specs.Tests.{Setting}
 use Rattle.terms.specs.Needs.{asked, is_bypassed, is_met, zone_left}
 use Rattle.terms.specs.Needs.{Needs, Serves, bypassed_ids}
 use Rattle.terms.specs.Install.{Installation, TakesEffect, HasInstalled}
-use Rattle.terms.proofs.Ids.{is_in-from_Contains}
+use Rattle.terms.proofs.Ids.{is_in_from_Contains}
 use Rattle.smpe_closed.proofs.Given.{Keeps, installing, kept_candidate}
 use Rattle.smpe_closed.proofs.Chains.{left_supplied_after}
 use Rattle.smpe_closed.proofs.Effect.{supplied_stays, served}
@@ -68,7 +68,7 @@ module _ (s : Setting) (survivors kept : List Id) (k : Keeps s survivors kept) w
           waived over true at = refl
           waived over false at =
               let there = (installed.waived x z effect).1 ((are_bypassed x z).1 (effect.kept, over), at) in
-              absurd (true≢false (sym (is_in-from_Contains (waived_of new x) z there) ∙ unwaived))
+              absurd (true≢false (sym (is_in_from_Contains (waived_of new x) z there) ∙ unwaived))
 
           by : (b : Bool) → is_bypassed s.bypass kind ≡ b → is_supplied new z ≡ true
           by true over = waived (waives over) (is_supplied new z) refl

@@ -15,8 +15,8 @@ use Rattle.terms.specs.Deleted.{deletions, is_deleted, is_taken_out, zone_less}
 use Rattle.terms.specs.Tests.{Setting}
 use Rattle.terms.specs.Needs.{binding_ids, is_lost, orphans, asked}
 use Rattle.terms.specs.Install.{HasInstalled}
-use Rattle.terms.proofs.Ids.{is_in-from_Contains}
-use Rattle.zones_less.proofs.Flats.{passes_some}
+use Rattle.terms.proofs.Ids.{is_in_from_Contains}
+use Rattle.zones_views.proofs.Flats.{passes_some}
 use Rattle.change.proofs.LessLookups.{deleted_by_one}
 use Rattle.smpe_closed.proofs.AppliedIds.{in_applied_ids}
 use Rattle.smpe_closed.proofs.Supplied.{supplied_or, supplied_applied, supplied_by}
@@ -64,7 +64,7 @@ module _ (s : Setting) (survivors kept : List Id) (k : Keeps s survivors kept) (
 
       asks : Contains (asked s survivors one.0 Orphan) z
       asks = subst (λ b. Contains (if b then orphans s one.0 else []) z)
-          (sym (is_in-from_Contains survivors one.0 (kept_survives s survivors kept k one.0 one.1)))
+          (sym (is_in_from_Contains survivors one.0 (kept_survives s survivors kept k one.0 one.1)))
           (in_filter (is_lost s taken) _ z
           (in_flat (binding_ids s.choice s.zone (is_applied staying)) (applied_ids staying) w z
           (in_applied_ids staying w (still w stays))
@@ -92,7 +92,7 @@ module _ (s : Setting) (survivors kept : List Id) (k : Keeps s survivors kept) (
       through : (y : Id) → Contains (supby_of s.zone z) y → (b : Bool) → is_deleted s.global s.choice dels y ≡ b
           → is_supplied new z ≡ true
       through y there true gone = lost_supplied y w z (was_supby s survivors kept k z y there)
-          (or_right (bytes_eq y z) _ (is_in-from_Contains (supby_of s.zone z) y there)) gone on bound
+          (or_right (bytes_eq y z) _ (is_in_from_Contains (supby_of s.zone z) y there)) gone on bound
       through y there false left = supplied_stays s survivors kept k bypassed date new installed z
           (supplied_by less z y (supby_left s.global s.choice s.zone k.is_zone dels z y there
           (and_right (is_applied s.zone y) (is_deleted s.global s.choice dels y) left)))

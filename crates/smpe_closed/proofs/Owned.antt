@@ -8,7 +8,7 @@ use Rattle.std.proofs.lemmas.Bool.{cases_Bool, false_from_ne_true, or_from, and_
 use Rattle.std.proofs.lemmas.List.Elements.{All-contains, All-contains_itself, All-cons, All-nil, All-head, All-tail}
 use Rattle.std.proofs.lemmas.Option.{same_Some}
 use Rattle.lemmas.proofs.Members.{here, there, here_or, none_in, flat_in}
-use Rattle.lemmas.proofs.Searches.{All-find}
+use Rattle.lemmas.proofs.Searches.{All_find}
 use Rattle.lemmas.proofs.Texts.{same_or_not, same_from}
 use Rattle.terms.specs.declared.kinds.ElemType.{ElemType}
 use Rattle.terms.specs.declared.codes.Test.TheVariants.{J4}
@@ -26,12 +26,12 @@ use Rattle.terms.specs.Install.{Installation, TakesEffect, cleared, HasInstalled
 use Rattle.terms.specs.Install.{HasElementAfter, replaced}
 use Rattle.terms.specs.Closed.{IsOwned, IsClosedZone}
 use Rattle.terms.proofs.ElementOrder.{element_cmp_total, element_ties, type_from_number}
-use Rattle.terms.proofs.Ids.{Contains-from_is_in}
+use Rattle.terms.proofs.Ids.{Contains_from_is_in}
 use Rattle.machine.specs.Installing.{Decision}
 use Rattle.change.proofs.ChosenVers.{fmid_function, deleted_function}
 use Rattle.change.proofs.KeptTogether.{kept_owner, update_changes}
 use Rattle.change.proofs.LessLookups.{element_was}
-use Rattle.smpe_upkeep.proofs.Lists.{find-itself}
+use Rattle.smpe_upkeep.proofs.Lists.{find_itself}
 use Rattle.smpe_closed.proofs.Installs.{IsInstall}
 use Rattle.smpe_closed.proofs.Supplied.{left_applied, left_element}
 use Rattle.smpe_closed.proofs.Given.{Keeps, installing, eligible, keeps, installed, choice_after}
@@ -94,7 +94,7 @@ module _ (s : Setting) (survivors kept : List Id) (k : Keeps s survivors kept) w
     where
       unnamed : is_function s.global x ≡ false → is_in (deletions s.choice kept) x ≡ false
       unnamed is = false_from_ne_true (is_in (deletions s.choice kept) x) (λ names.
-          let from = flat_in (del_of s.choice) kept x (Contains-from_is_in (deletions s.choice kept) x names) in
+          let from = flat_in (del_of s.choice) kept x (Contains_from_is_in (deletions s.choice kept) x names) in
           true≢false (sym (deleted_function s.global s.zone.srel s.choice k.vers k.global.roles from.0 x from.2
           (was_received x was)) ∙ is))
 
@@ -176,7 +176,7 @@ module _ (s : Setting) (survivors kept : List Id) (k : Keeps s survivors kept) (
   left_owned type name e found =
       let left = left_element s.global s.choice s.zone k.is_zone (deletions s.choice kept) type name e found in
       let was : IsOwned s.global s.choice s.zone e =
-      All-find (IsOwned s.global s.choice s.zone)
+      All_find (IsOwned s.global s.choice s.zone)
       (λ e. (type_number e.elem_type == type_number type) && bytes_eq e.name name) s.zone.elements e k.closed.elements
       left.0 in
       record {
@@ -330,7 +330,7 @@ module _ (s : Setting) (survivors kept : List Id) (k : Keeps s survivors kept) (
   ]
     where
       found : element_of new e.elem_type e.name ≡ Some e
-      found = find-itself element_cmp_total element_key element_eq element_ties new.elements e
+      found = find_itself element_cmp_total element_key element_eq element_ties new.elements e
           installed.is_zone.elements there
 
 module _ (g : Global) (zone : Zone) (related : Option Zone) (sel : Selection) (bypass : Bypass) (date : Text)

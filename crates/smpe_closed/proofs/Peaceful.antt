@@ -10,7 +10,7 @@ use Rattle.std.proofs.lemmas.Bool.{false_from_ne_true, and_from}
 use Rattle.std.proofs.lemmas.Cmp.{nat_list_cmp_total}
 use Rattle.std.proofs.lemmas.List.Elements.{All-contains, All-contains_itself}
 use Rattle.lemmas.proofs.Members.{none_in}
-use Rattle.lemmas.proofs.Searches.{filter-none}
+use Rattle.lemmas.proofs.Searches.{filter_none}
 use Rattle.lemmas.proofs.Texts.{same_or_not}
 use Rattle.terms.specs.declared.codes.Test.TheVariants.{J3}
 use Rattle.terms.specs.Types.{Text, Id, Ver, Entry, Global, Zone, Selection, Bypass}
@@ -21,11 +21,11 @@ use Rattle.terms.specs.Deleted.{deletions, is_deleted, is_taken_out}
 use Rattle.terms.specs.Tests.{Setting}
 use Rattle.terms.specs.Install.{Installation, cleared, HasInstalled, deleters, delby_after}
 use Rattle.terms.specs.Closed.{IsAtPeace}
-use Rattle.zones_less.proofs.Flats.{passes_some}
+use Rattle.zones_views.proofs.Flats.{passes_some}
 use Rattle.store_schema.specs.Forms.{HasSysmodForms}
 use Rattle.machine.specs.Installing.{Decision}
-use Rattle.change.proofs.Installable.{is-fresh}
-use Rattle.smpe_upkeep.proofs.Lists.{find-itself}
+use Rattle.change.proofs.Installable.{is_fresh}
+use Rattle.smpe_upkeep.proofs.Lists.{find_itself}
 use Rattle.smpe_upkeep.proofs.OperandForms.{HasVers, ver_forms}
 use Rattle.smpe_closed.proofs.AppliedIds.{in_applied_ids, applied_in_ids}
 use Rattle.smpe_closed.proofs.Installs.{IsInstall}
@@ -88,7 +88,7 @@ module _ (s : Setting) (survivors kept : List Id) (k : Keeps s survivors kept) (
   -- what is applied was not deleted before
   was_undeleted : (x : Id) → is_applied new x ≡ true → is_some (delby_of s.zone x) ≡ false
   was_undeleted x on = elim (applied_either s survivors kept k bypassed date new installed x on) [
-    | inl effect ↦ (is-fresh s.global s.zone x
+    | inl effect ↦ (is_fresh s.global s.zone x
         (k.installable x (kept_candidate s survivors kept k x effect.kept))).not_deleted
     | inr left ↦
         let peace : IsAtPeace s.global s.choice s.zone x =
@@ -114,9 +114,9 @@ module _ (s : Setting) (survivors kept : List Id) (k : Keeps s survivors kept) (
 
       by : (b : Bool) → (if b then filter (λ y. is_deleted s.global s.choice (del_of s.choice y) x) kept
           else filter (λ y. is_in (del_of s.choice y) x) kept) ≡ []
-      by true = filter-none (λ y. is_deleted s.global s.choice (del_of s.choice y) x) kept
+      by true = filter_none (λ y. is_deleted s.global s.choice (del_of s.choice y) x) kept
           (λ j d below. no_cut (get_or kept j d) (All-contains_itself kept j d below))
-      by false = filter-none (λ y. is_in (del_of s.choice y) x) kept
+      by false = filter_none (λ y. is_in (del_of s.choice y) x) kept
           (λ j d below. unnamed (get_or kept j d) (All-contains_itself kept j d below))
 
   no_delby : (x : Id) → is_applied new x ≡ true → delby_of new x ≡ None
@@ -155,7 +155,7 @@ module _ (s : Setting) (survivors kept : List Id) (k : Keeps s survivors kept) (
 module _ (g : Global) (zone : Zone) (related : Option Zone) (sel : Selection) (bypass : Bypass) (date : Text)
     (d : Decision) (new : Zone) (is : IsInstall g zone related sel bypass date d new) where
   abbrev found : (e : Entry) → Contains new.entries e → entry_of new e.id ≡ Some e
-  found e there = find-itself nat_list_cmp_total (λ (e : Entry). e.id) bytes_eq texts_ties new.entries e
+  found e there = find_itself nat_list_cmp_total (λ (e : Entry). e.id) bytes_eq texts_ties new.entries e
       is.installs.is_zone.entries there
 
   pub install_keeps_peace : All HasSysmodForms g.sysmods → All (IsAtPeace g (counting g new []) new) (applied_ids new)

@@ -11,7 +11,7 @@ use Rattle.terms.specs.Lookups.{sysmod_of, is_received}
 use Rattle.terms.specs.Global.{hold, hold_of, release, release_found, without_hold, Rl2, assign, with_sysmod, received}
 use Rattle.terms.specs.Global.{ReceiveFault, Rc1, Receives}
 use Rattle.terms.specs.Closed.{AreClosed}
-use Rattle.terms.proofs.GlobalLookups.{sysmod_of-with_sysmod, sysmod_of-assign, assigned, assigned-same}
+use Rattle.terms.proofs.GlobalLookups.{sysmod_of_with_sysmod, sysmod_of_assign, assigned, assigned_same}
 use Rattle.machine.specs.Outcome.{Line}
 use Rattle.machine.specs.Receiving.{sourced, global_after, AssignsId, TakesItem, TakesHoldItem}
 use Rattle.machine.specs.Runs.{Runs}
@@ -42,7 +42,7 @@ with_sysmod_keeps : (g : Global) (s : Sysmod) → (¬ IsTrue (is_received g s.id
 with_sysmod_keeps g s new = λ x there.
     let other : bytes_eq s.id x ≡ false = false_from_ne_true (bytes_eq s.id x)
     (λ same. new (subst (λ y. IsTrue (is_received g y)) (sym (same_from s.id x same)) there)) in
-    ap (option_map but_sources) (sysmod_of-with_sysmod g s x
+    ap (option_map but_sources) (sysmod_of_with_sysmod g s x
     ∙ ap (λ b. cond b (Some (record s { holds = [] })) (sysmod_of g x)) other)
 
 holds_keep : (hs : List Hold) (g : Global) → KeepsReceived g (fold hold g hs)
@@ -77,8 +77,8 @@ twice f same (Some s) = ap Some (same s)
 
 assign_keeps : (g : Global) (source : Text) (x : Id) → KeepsReceived g (assign g source x)
 assign_keeps g source x = λ y there.
-    ap (option_map but_sources) (sysmod_of-assign g source x y)
-    ∙ twice (assigned source x) (assigned-same but_sources source x (λ s. refl)) (sysmod_of g y)
+    ap (option_map but_sources) (sysmod_of_assign g source x y)
+    ∙ twice (assigned source x) (assigned_same but_sources source x (λ s. refl)) (sysmod_of g y)
 
 -- ---- items
 

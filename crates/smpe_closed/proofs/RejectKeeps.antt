@@ -5,13 +5,13 @@ use Rattle.std.specs.Prelude.{Ok, Err, option_map, if◌then◌else◌}
 use Rattle.std.specs.List.{list_any}
 use Rattle.std.specs.Str.{bytes_eq}
 use Rattle.std.proofs.lemmas.Bool.{false_from_ne_true}
-use Rattle.lemmas.proofs.Searches.{All-from_no_list_any}
+use Rattle.lemmas.proofs.Searches.{All_from_no_list_any}
 use Rattle.lemmas.proofs.Texts.{same_from}
 use Rattle.terms.specs.Types.{Id, Global, NamedZone}
 use Rattle.terms.specs.Lookups.{IsZone, is_applied, sysmod_of, is_received}
 use Rattle.terms.specs.Global.{Rj1, Rj2, without_sysmod, reject}
 use Rattle.terms.specs.Closed.{AreClosed}
-use Rattle.terms.proofs.GlobalLookups.{sysmod_of-without_sysmod}
+use Rattle.terms.proofs.GlobalLookups.{sysmod_of_without_sysmod}
 use Rattle.machine.specs.Outcome.{Line}
 use Rattle.machine.specs.Receiving.{global_after}
 use Rattle.machine.specs.Rejecting.{RejectsId}
@@ -22,7 +22,7 @@ use Rattle.smpe_closed.proofs.AlikeSysmods.{but_sources, AreAlike, still_closed}
 -- all others stay as they are
 without_alike : (g : Global) (x y : Id) → bytes_eq x y ≡ false → AreAlike g (without_sysmod g x) y
 without_alike g x y other =
-    ap (option_map but_sources) (sysmod_of-without_sysmod g x y ∙ ap (λ b. cond b None (sysmod_of g y)) other)
+    ap (option_map but_sources) (sysmod_of_without_sysmod g x y ∙ ap (λ b. cond b None (sysmod_of g y)) other)
 
 module _ (zones : List NamedZone) (are : All (λ (z : NamedZone). IsZone z.zone) zones) where
   rejected : (g : Global) (x : Id) → AreClosed g zones → AreClosed (global_after g (reject g zones x)) zones
@@ -35,7 +35,7 @@ module _ (zones : List NamedZone) (are : All (λ (z : NamedZone). IsZone z.zone)
           without_alike g x y (false_from_ne_true (bytes_eq x y) (λ same.
           true≢false (sym (applied_in_ids z.zone (are k d below) y there)
           ∙ ap (is_applied z.zone) (sym (same_from x y same))
-          ∙ All-from_no_list_any (λ (z : NamedZone). is_applied z.zone x) zones none k d below))))
+          ∙ All_from_no_list_any (λ (z : NamedZone). is_applied z.zone x) zones none k d below))))
 
       by : (there applied : Bool) → list_any (λ (z : NamedZone). is_applied z.zone x) zones ≡ applied
           → AreClosed (global_after g (if not there then Err Rj2 else if applied then Err Rj1 else

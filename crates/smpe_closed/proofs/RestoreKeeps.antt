@@ -11,16 +11,16 @@ use Rattle.std.proofs.lemmas.List.Elements.{All-contains, All-contains_itself, A
 use Rattle.std.proofs.lemmas.List.Elements.{Contains-append_left, Contains-append_right, Contains-append_cases}
 use Rattle.std.proofs.lemmas.List.Folds.{Any-from_list_any}
 use Rattle.lemmas.proofs.Members.{here, there, here_or, none_in, in_filter, filter_in, map_in, in_flat}
-use Rattle.lemmas.proofs.Searches.{All-from_no_list_any, find-gives}
+use Rattle.lemmas.proofs.Searches.{All_from_no_list_any, find_gives}
 use Rattle.lemmas.proofs.Texts.{same_from, same_itself}
 use Rattle.terms.specs.declared.kinds.ElemType.{ElemType}
 use Rattle.terms.specs.declared.codes.Test.TheVariants.{J10, J12}
 use Rattle.terms.specs.declared.codes.NeedKind.TheVariants.{Dep}
 use Rattle.terms.specs.Types.{Text, Id, IfReq, Change, Global, Entry, Element, Zone, RestoreList, type_number}
-use Rattle.terms.specs.Lookups.{IsZone, is_nil, is_in, is_function, is_held, is_applied, is_supplied, supplies}
+use Rattle.terms.specs.Lookups.{IsZone, is_nil, is_in, is_function, has_content, is_applied, is_supplied, supplies}
 use Rattle.terms.specs.Lookups.{supby_of, delby_of, waived_of, applied_ids, element_of, element_key, element_eq}
 use Rattle.terms.specs.Lookups.{entry_of, changes_of, change_of, has_change}
-use Rattle.terms.specs.Choice.{counting, fmid_of, pre_of, req_of, ifs_of, npre_of}
+use Rattle.terms.specs.Choice.{counting, fmid_of, pre_of, req_of, ifs_of, npre_of, first_ver}
 use Rattle.terms.specs.Over.{chain, owner}
 use Rattle.terms.specs.Changes.{is_replacement, has_replacement, has_update}
 use Rattle.terms.specs.Deleted.{entry_less}
@@ -29,13 +29,12 @@ use Rattle.terms.specs.Global.{IsGlobal}
 use Rattle.terms.specs.Restore.{Restoring, NeedsDep, is_supplied_outside, MayBeRestored, IsRestored}
 use Rattle.terms.specs.Restore.{Restores, are_applied}
 use Rattle.terms.specs.Closed.{IsSupported, IsAtPeace, IsOwned, IsClosedZone}
-use Rattle.terms.proofs.Ids.{is_in-from_Contains, Contains-from_is_in}
+use Rattle.terms.proofs.Ids.{is_in_from_Contains, Contains_from_is_in}
 use Rattle.terms.proofs.ElementOrder.{element_cmp_total, element_ties}
-use Rattle.sysmods.specs.Choices.{by_srel}
 use Rattle.sysmods.proofs.Counting.{counted}
 use Rattle.machine.specs.Outcome.{Line}
 use Rattle.machine.specs.Restoring.{RestoresListed}
-use Rattle.smpe_upkeep.proofs.Lists.{find-itself, flat_map_in}
+use Rattle.smpe_upkeep.proofs.Lists.{find_itself, flat_map_in}
 use Rattle.smpe_closed.proofs.AppliedIds.{of_applied, each_applied}
 use Rattle.smpe_closed.proofs.TakenOff.{applied_left, supby_left, delby_left, waived_left}
 
@@ -101,13 +100,13 @@ module _ (r : Restoring) (ids kept : List Id) (new : Zone) (is : IsRestore r ids
   still_applied x is_left =
       applied_left (is_in kept) r.zone new is.is_zone is.restores.entries x
       ∙ and_from (is_applied r.zone x) (not (is_in kept x)) is_left.0
-      (ap not (false_from_ne_true (is_in kept x) (λ e. is_left.1 (Contains-from_is_in kept x e))))
+      (ap not (false_from_ne_true (is_in kept x) (λ e. is_left.1 (Contains_from_is_in kept x e))))
 
   was_applied : (x : Id) → IsTrue (is_applied new x) → IsLeft x
   was_applied x on =
       let both = and_parts (is_applied r.zone x) (not (is_in kept x))
       (sym (applied_left (is_in kept) r.zone new is.is_zone is.restores.entries x) ∙ on) in
-      (both.0, λ there. true≢false (sym both.1 ∙ ap not (is_in-from_Contains kept x there)))
+      (both.0, λ there. true≢false (sym both.1 ∙ ap not (is_in_from_Contains kept x there)))
 
   -- who is in a SUPBY is applied
   supby_applied : (zone : Zone) → All (λ e. All (λ y. IsTrue (is_applied zone y)) e.supby) zone.entries → (z y : Id)
@@ -120,7 +119,7 @@ module _ (r : Restoring) (ids kept : List Id) (new : Zone) (is : IsRestore r ids
       by (Some e) at among =
           All-contains (λ y. IsTrue (is_applied zone y)) e.supby y
           (All-contains (λ e. All (λ y. IsTrue (is_applied zone y)) e.supby) zone.entries e all
-          (find-gives (λ e. bytes_eq e.id z) zone.entries e at).1) among
+          (find_gives (λ e. bytes_eq e.id z) zone.entries e at).1) among
 
   some_of : (xs : List Id) → IsTrue (not (is_nil xs)) → (y : Id) × Contains xs y
   some_of [] some = absurd (true≢false (sym some))
@@ -147,7 +146,7 @@ module _ (r : Restoring) (ids kept : List Id) (new : Zone) (is : IsRestore r ids
             and_from (is_applied r.zone some.0) (bytes_eq some.0 z || is_in (supby_of r.zone z) some.0)
                 (supby_applied r.zone is.closed.supby z some.0 some.1)
                 (or_right (bytes_eq some.0 z) (is_in (supby_of r.zone z) some.0)
-                (is_in-from_Contains (supby_of r.zone z) some.0 some.1)),
+                (is_in_from_Contains (supby_of r.zone z) some.0 some.1)),
           )
 
   -- and where one is left, it is still supplied
@@ -161,10 +160,10 @@ module _ (r : Restoring) (ids kept : List Id) (new : Zone) (is : IsRestore r ids
       by true same on named = or_left (is_applied new z) (not (is_nil (supby_of new z)))
           (subst (λ y. IsTrue (is_applied new y)) (same_from p z same) (still_applied p (on, out)))
       by false other on named =
-          let among = Contains-from_is_in (supby_of r.zone z) p
+          let among = Contains_from_is_in (supby_of r.zone z) p
           (subst (λ b. IsTrue (b || is_in (supby_of r.zone z) p)) other named) in
           let stays = in_filter (λ y. not (is_in kept y)) (supby_of r.zone z) p among
-          (ap not (false_from_ne_true (is_in kept p) (λ e. out (Contains-from_is_in kept p e)))) in
+          (ap not (false_from_ne_true (is_in kept p) (λ e. out (Contains_from_is_in kept p e)))) in
           or_right (is_applied new z) (not (is_nil (supby_of new z)))
           (not_nil (supby_of new z) p
           (subst (λ ys. Contains ys p)
@@ -181,18 +180,18 @@ module _ (r : Restoring) (ids kept : List Id) (new : Zone) (is : IsRestore r ids
           let parts = and_parts (not (is_in ids any.1)) (supplies r.zone any.1 z) any.4 in
           true≢false (sym (still_supplied any.1 z parts.1
           (λ there. true≢false (sym parts.0
-          ∙ ap not (is_in-from_Contains ids any.1 (kept_listed any.1 there))))) ∙ lost))
+          ∙ ap not (is_in_from_Contains ids any.1 (kept_listed any.1 there))))) ∙ lost))
 
       by : (b : Bool) → is_supplied new z ≡ b → (p : Id) × IsTrue (supplies r.zone p z) → IsTrue (is_supplied new z)
       by true e some = e
       by false lost (p, supplies_it) = elim (either_bool (is_in kept p)) [
-        | inl there ↦ absurd (left.1 (dependant p x (Contains-from_is_in kept p there) (record {
-          other = λ same. left.1 (subst (Contains kept) (sym same) (Contains-from_is_in kept p there));
+        | inl there ↦ absurd (left.1 (dependant p x (Contains_from_is_in kept p there) (record {
+          other = λ same. left.1 (subst (Contains kept) (sym same) (Contains_from_is_in kept p there));
           applied = left.0;
           depends = inr (binds.0, z, binds.1, binds.2, (supplies_it, none_outside lost));
         })))
         | inr out ↦ still_supplied p z supplies_it
-            (λ there. true≢false (sym (is_in-from_Contains kept p there) ∙ out))
+            (λ there. true≢false (sym (is_in_from_Contains kept p there) ∙ out))
       ]
 
   -- ---- its parts
@@ -265,7 +264,7 @@ module _ (r : Restoring) (ids kept : List Id) (new : Zone) (is : IsRestore r ids
 
   supby_kept : (e : Entry) → Contains new.entries e → All (λ y. IsTrue (is_applied new y)) e.supby
   supby_kept e there =
-      let of = (filter_in is_held (map (entry_less (is_in kept)) r.zone.entries) e
+      let of = (filter_in has_content (map (entry_less (is_in kept)) r.zone.entries) e
       (subst (λ es. Contains es e) is.restores.entries there)).0 in
       let from = map_in (entry_less (is_in kept)) r.zone.entries e of in
       let was = All-contains (λ e. All (λ y. IsTrue (is_applied r.zone y)) e.supby) r.zone.entries from.0
@@ -276,7 +275,7 @@ module _ (r : Restoring) (ids kept : List Id) (new : Zone) (is : IsRestore r ids
       (All-contains_itself (filter (λ y. not (is_in kept y)) from.0.supby) k d below) in
       still_applied y (
         All-contains (λ y. IsTrue (is_applied r.zone y)) from.0.supby y was stays.0,
-        λ among. true≢false (sym stays.1 ∙ ap not (is_in-from_Contains kept y among)),
+        λ among. true≢false (sym stays.1 ∙ ap not (is_in_from_Contains kept y among)),
       ))
 
   -- ---- its elements
@@ -311,14 +310,14 @@ module _ (r : Restoring) (ids kept : List Id) (new : Zone) (is : IsRestore r ids
 
   module _ (e : Element) (stands : Contains new.elements e) where
     found : element_of new e.elem_type e.name ≡ Some e
-    found = find-itself element_cmp_total element_key element_eq element_ties new.elements e
+    found = find_itself element_cmp_total element_key element_eq element_ties new.elements e
         is.restores.is_zone.elements stands
 
     -- it is of the zone, and no kept SYSMOD changes it
     of_zone : All (λ x. IsFalse (has_change r.global x e.elem_type e.name)) kept → IsOwned r.global r.choice new e
     of_zone unchanged =
         let at = sym (is.restores.others e.elem_type e.name unchanged) ∙ found in
-        let there = (find-gives (λ (v : Element). element_eq (element_key v) (e.elem_type, e.name)) r.zone.elements e
+        let there = (find_gives (λ (v : Element). element_eq (element_key v) (e.elem_type, e.name)) r.zone.elements e
         at).1 in
         let was = All-contains (IsOwned r.global r.choice r.zone) r.zone.elements e is.closed.elements there in
         let out : (x : Id) → IsTrue (has_change r.global x e.elem_type e.name) → ¬ Contains kept x =
@@ -369,7 +368,7 @@ module _ (r : Restoring) (ids kept : List Id) (new : Zone) (is : IsRestore r ids
             → IsTrue (are_applied r.zone e)
         by None is_change none = absurd (true≢false (sym none))
         by (Some h) is_change some =
-            let gives = find-gives fits (changes_of r.global x) h is_change in
+            let gives = find_gives fits (changes_of r.global x) h is_change in
             let same = and_parts (type_number h.elem_type == type_number e.elem_type) (bytes_eq h.name e.name) gives.0
             in
             let found_there : element_of r.accepted h.elem_type h.name ≡ Some e =
@@ -388,12 +387,12 @@ module _ (r : Restoring) (ids kept : List Id) (new : Zone) (is : IsRestore r ids
     of_accepted : Any (λ x. IsTrue (has_change r.global x e.elem_type e.name)) kept → IsOwned r.global r.choice new e
     of_accepted some =
         let at = sym (is.restores.reverted e.elem_type e.name some) ∙ found in
-        let among = (find-gives (λ (v : Element). element_eq (element_key v) (e.elem_type, e.name)) r.accepted.elements
+        let among = (find_gives (λ (v : Element). element_eq (element_key v) (e.elem_type, e.name)) r.accepted.elements
         e at).1 in
         let was = All-contains (IsOwned r.global r.choice r.accepted) r.accepted.elements e is.closed_accepted.elements
         among in
         let ids = e.fmid ∷ e.rmid ∷ e.umids in
-        let all = All-from_no_list_any (λ y. not (is_applied r.zone y)) ids
+        let all = All_from_no_list_any (λ y. not (is_applied r.zone y)) ids
         (false_from_true (list_any (λ y. not (is_applied r.zone y)) ids)
         (tested some.1 (some.0, some.2, some.3) some.4 at)) in
         let each : (x : Id) → Contains ids x → IsTrue (is_applied new x) =
@@ -417,7 +416,7 @@ module _ (r : Restoring) (ids kept : List Id) (new : Zone) (is : IsRestore r ids
         by : (b : Bool) → list_any (λ x. has_change r.global x e.elem_type e.name) kept ≡ b
             → IsOwned r.global r.choice new e
         by true some = of_accepted (Any-from_list_any (λ x. has_change r.global x e.elem_type e.name) kept some)
-        by false none = of_zone (All-from_no_list_any (λ x. has_change r.global x e.elem_type e.name) kept none)
+        by false none = of_zone (All_from_no_list_any (λ x. has_change r.global x e.elem_type e.name) kept none)
 
   pub restored_closed : IsClosedZone r.global r.choice new
   restored_closed = record {
@@ -429,7 +428,7 @@ module _ (r : Restoring) (ids kept : List Id) (new : Zone) (is : IsRestore r ids
 
 -- one SREL, one choice
 same_choice : (g : Global) (a b : Zone) → IsGlobal g → a.srel ≡ b.srel → counting g a [] ≡ counting g b []
-same_choice g a b is same = counted g a [] is ∙ ap (by_srel g) same ∙ sym (counted g b [] is)
+same_choice g a b is same = counted g a [] is ∙ ap (first_ver g) same ∙ sym (counted g b [] is)
 
 -- RESTORE in a closed zone, with a closed distribution zone of its SREL, leads to a closed zone.
 pub restore_keeps_closed : (g : Global) (zone accepted : Zone) (what : RestoreList) (new : Zone) (lines : List Line)

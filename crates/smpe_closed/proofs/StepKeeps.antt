@@ -9,7 +9,7 @@ use Rattle.std.specs.Cmp.Lexicographic.{slice_cmp, texts_ties}
 use Rattle.std.proofs.lemmas.Cmp.{nat_list_cmp_total}
 use Rattle.std.proofs.lemmas.List.Elements.{All-weaker}
 use Rattle.lemmas.proofs.Pairs.{pairs_unmap}
-use Rattle.lemmas.proofs.Searches.{All-find}
+use Rattle.lemmas.proofs.Searches.{All_find}
 use Rattle.terms.specs.declared.kinds.ZoneKind.{ZoneKind}
 use Rattle.terms.specs.declared.kinds.ZoneKind.TheVariants.{Target, Distribution}
 use Rattle.terms.specs.Types.{Text, Global, Zone, a_zone, NamedZone, ReceiveWhat, Install, RestoreList, Command, Set}
@@ -19,14 +19,14 @@ use Rattle.terms.specs.Lookups.{IsZone, is_before, IsRising}
 use Rattle.terms.specs.Choice.{Choice, counting}
 use Rattle.terms.specs.Forms.{IsDottedDate}
 use Rattle.terms.specs.Closed.{IsClosedZone, AreClosed}
-use Rattle.terms.proofs.Placing.{All-with_item}
+use Rattle.terms.proofs.Placing.{All_with_item}
 use Rattle.store_schema.specs.Forms.{HasZoneForms}
 use Rattle.store_schema.specs.Inventory.{IsZoneNamed, IsRelated, empty_inventory}
 use Rattle.machine.specs.Outcome.{Outcome}
 use Rattle.machine.specs.State.{State, zone_named, target_of, with_zone, ZoneDefinition, ZoneFault, define_zone}
 use Rattle.machine.specs.Machine.{Files, Takes, TakesAll, TakesNone, TakesNoHold, Rejects, InstallsThere, RestoresThere}
 use Rattle.machine.specs.Machine.{RunsThere, Act, Begin, Perform, Faulty, Define, state_after, Steps}
-use Rattle.smpe_upkeep.proofs.Lists.{find-itself}
+use Rattle.smpe_upkeep.proofs.Lists.{find_itself}
 use Rattle.smpe_upkeep.proofs.Defined.{defined}
 use Rattle.smpe_upkeep.proofs.StepForms.{IsStorable, HasActForms, step_storable}
 use Rattle.smpe_closed.proofs.InstallKeeps.{apply_keeps_closed}
@@ -55,7 +55,7 @@ named_has P zones name zone all found = by (find (λ z. bytes_eq z.name name) zo
     by (Some z) at =
         let same : Some z.zone ≡ Some zone = sym (ap (option_map (λ z. z.zone)) at) ∙ found in
         let is : z.zone ≡ zone = cc same in
-        subst P is (All-find (λ (z : NamedZone). P z.zone) (λ z. bytes_eq z.name name) zones z all at)
+        subst P is (All_find (λ (z : NamedZone). P z.zone) (λ z. bytes_eq z.name name) zones z all at)
 
 -- the zone that a zone names as related has its SREL
 related_srel : (zones : List NamedZone) → IsRising (map (λ z. z.name) zones) → (kind : ZoneKind) (srel : Text)
@@ -65,7 +65,7 @@ related_srel zones rising Target srel None accepted is found = absurd is
 related_srel zones rising Target srel (Some name) accepted (z, there, named, kind, has) found =
     let rises = pairs_unmap (λ (a b : NamedZone). IsTrue (is_before a.name b.name))
     (λ (x y : Text). IsTrue (is_before x y)) (λ z. z.name) (λ a b lower. lower) zones rising in
-    let itself = find-itself nat_list_cmp_total (λ (z : NamedZone). z.name) bytes_eq texts_ties zones z rises there in
+    let itself = find_itself nat_list_cmp_total (λ (z : NamedZone). z.name) bytes_eq texts_ties zones z rises there in
     let is : Some z.zone ≡ Some accepted = sym (ap (option_map (λ (z : NamedZone). z.zone)) itself)
     ∙ ap (zone_named zones) named ∙ found in
     let same : z.zone ≡ accepted = cc is in
@@ -79,7 +79,7 @@ related_srel zones rising Distribution srel related accepted is found =
 placed_closed : (g : Global) (zones : List NamedZone) (z : NamedZone) → AreClosed g zones
     → IsClosedZone g (counting g z.zone []) z.zone
     → AreClosed g (with_item (slice_cmp nat_cmp) (λ (z : NamedZone). z.name) zones z)
-placed_closed g zones z closed is = All-with_item (slice_cmp nat_cmp) (λ (z : NamedZone). z.name)
+placed_closed g zones z closed is = All_with_item (slice_cmp nat_cmp) (λ (z : NamedZone). z.name)
     (λ z. IsClosedZone g (counting g z.zone []) z.zone) zones z closed is
 
 -- A zone without entries and elements is closed.

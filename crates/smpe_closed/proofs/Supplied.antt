@@ -14,11 +14,11 @@ use Rattle.terms.specs.Lookups.{waived_of, element_of}
 use Rattle.terms.specs.Choice.{Choice}
 use Rattle.terms.specs.Over.{chain}
 use Rattle.terms.specs.Deleted.{is_deleted, is_taken_out, zone_less}
-use Rattle.terms.proofs.Ids.{is_in-from_Contains, Contains-from_is_in}
-use Rattle.zones_less.proofs.Filtered.{passing}
-use Rattle.zones_less.proofs.Flats.{some_passes, passes_some}
+use Rattle.terms.proofs.Ids.{is_in_from_Contains, Contains_from_is_in}
+use Rattle.zones_views.proofs.Filtered.{passing}
+use Rattle.zones_views.proofs.Flats.{some_passes, passes_some}
 use Rattle.smpe_closed.proofs.TakenOff.{waived_left as waived_still}
-use Rattle.zones_less.proofs.Lookups.{is_applied-less, supby_of-less, element_of-less}
+use Rattle.zones_views.proofs.Lookups.{is_applied_less, supby_of_less, element_of_less}
 
 module _ (zone : Zone) where
   -- what has a date is applied
@@ -59,7 +59,7 @@ pub deleted_more : (g : Global) (c : Choice) (dels more : List Id) → ((z : Id)
 deleted_more g c dels more within x deleted =
     let some = some_passes (λ y. is_in dels y) (chain g c x) deleted in
     passes_some (λ y. is_in more y) (chain g c x) some.0 some.1
-    (is_in-from_Contains more some.0 (within some.0 (Contains-from_is_in dels some.0 some.2)))
+    (is_in_from_Contains more some.0 (within some.0 (Contains_from_is_in dels some.0 some.2)))
 
 module _ (g : Global) (c : Choice) (zone : Zone) (is_zone : IsZone zone) where
   -- what deletions leave applied, was applied and is not deleted
@@ -67,13 +67,13 @@ module _ (g : Global) (c : Choice) (zone : Zone) (is_zone : IsZone zone) where
       → (is_applied zone x ≡ true) × (is_deleted g c dels x ≡ false)
   left_applied dels x on =
       let both = and_parts (is_applied zone x) (not (is_deleted g c dels x))
-      (sym (is_applied-less g c dels zone is_zone x) ∙ on) in
+      (sym (is_applied_less g c dels zone is_zone x) ∙ on) in
       (both.0, not-true (is_deleted g c dels x) both.1)
 
   pub applied_left : (dels : List Id) (x : Id) → is_applied zone x ≡ true → is_deleted g c dels x ≡ false
       → is_applied (zone_less g c dels zone) x ≡ true
   applied_left dels x on stays =
-      is_applied-less g c dels zone is_zone x
+      is_applied_less g c dels zone is_zone x
       ∙ and_from (is_applied zone x) (not (is_deleted g c dels x)) on (not_from_false (is_deleted g c dels x) stays)
 
   -- who still supersedes z did, and is not taken out
@@ -81,13 +81,13 @@ module _ (g : Global) (c : Choice) (zone : Zone) (is_zone : IsZone zone) where
       → Contains (supby_of zone z) y × (is_taken_out g c dels zone y ≡ false)
   left_supby dels z y there =
       let from = filter_in (λ y. not (is_taken_out g c dels zone y)) (supby_of zone z) y
-      (subst (λ ids. Contains ids y) (supby_of-less g c dels zone is_zone z) there) in
+      (subst (λ ids. Contains ids y) (supby_of_less g c dels zone is_zone z) there) in
       (from.0, not-true (is_taken_out g c dels zone y) from.1)
 
   pub supby_left : (dels : List Id) (z y : Id) → Contains (supby_of zone z) y → is_taken_out g c dels zone y ≡ false
       → Contains (supby_of (zone_less g c dels zone) z) y
   supby_left dels z y there stays =
-      subst (λ ids. Contains ids y) (sym (supby_of-less g c dels zone is_zone z))
+      subst (λ ids. Contains ids y) (sym (supby_of_less g c dels zone is_zone z))
       (in_filter (λ y. not (is_taken_out g c dels zone y)) (supby_of zone z) y there
       (not_from_false (is_taken_out g c dels zone y) stays))
 
@@ -103,7 +103,7 @@ module _ (g : Global) (c : Choice) (zone : Zone) (is_zone : IsZone zone) where
       → element_of (zone_less g c dels zone) type name ≡ Some e
       → (element_of zone type name ≡ Some e) × (is_deleted g c dels e.fmid ≡ false)
   left_element dels type name e found =
-      by (element_of zone type name) refl (sym (element_of-less g c dels zone is_zone type name) ∙ found)
+      by (element_of zone type name) refl (sym (element_of_less g c dels zone is_zone type name) ∙ found)
     where
       kept : (a : Element) → element_of zone type name ≡ Some a → (b : Bool) → is_deleted g c dels a.fmid ≡ b
           → (if not b then Some a else None) ≡ Some e
@@ -150,6 +150,6 @@ module _ (g : Global) (c : Choice) (zone : Zone) (is_zone : IsZone zone) where
         → element_of (zone_less g c dels zone) type name ≡ Some e
     fewer_element type name e found =
         let was = left_element more type name e found in
-        element_of-less g c dels zone is_zone type name
+        element_of_less g c dels zone is_zone type name
         ∙ ap (passing (λ e. not (is_deleted g c dels e.fmid))) was.0
         ∙ ap (λ b. if not b then Some e else None) (undeleted e.fmid was.1)

@@ -16,7 +16,7 @@ use Rattle.terms.specs.Tests.{Setting, view_of}
 use Rattle.terms.specs.Needs.{binding_ids, bypassed_ids}
 use Rattle.terms.specs.Install.{Installation, TakesEffect, HasInstalled}
 use Rattle.terms.specs.Closed.{IsSupported}
-use Rattle.terms.proofs.Ids.{is_in-from_Contains}
+use Rattle.terms.proofs.Ids.{is_in_from_Contains}
 use Rattle.machine.specs.Installing.{Decision}
 use Rattle.change.proofs.ChosenVers.{if_function}
 use Rattle.smpe_closed.proofs.AppliedIds.{in_applied_ids, applied_in_ids}
@@ -58,7 +58,7 @@ module _ (s : Setting) (survivors kept : List Id) (k : Keeps s survivors kept) (
       → (is_applied (view_of s x) f || is_in s.cands f) ≡ true
   there_for x f is on = elim (applied_either s survivors kept k bypassed date new installed f on) [
     | inl effect ↦ or_right (is_applied (view_of s x) f) (is_in s.cands f)
-        (is_in-from_Contains s.cands f (kept_candidate s survivors kept k f effect.kept))
+        (is_in_from_Contains s.cands f (kept_candidate s survivors kept k f effect.kept))
     | inr stays ↦ or_left (is_applied (view_of s x) f) (is_in s.cands f)
         (view_applied s survivors kept k x f is stays)
   ]

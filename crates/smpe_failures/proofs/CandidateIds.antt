@@ -20,16 +20,16 @@ use Rattle.terms.specs.Lookups.{IsRising, is_before, is_in}
 use Rattle.solve.specs.Problem.{Demand, Problem, IsDemand, holds}
 use Rattle.solve.specs.Numbered.{IsProblemOf}
 use Rattle.solve.specs.Causes as numbered
-use Rattle.terms.specs.Failures.{IsOpenNeed, IsCauser}
+use Rattle.terms.specs.Failures.{IsOpenNeed, IsCauser, all_tests}
 use Rattle.lemmas.proofs.Members.{in_map, map_in}
 use Rattle.lemmas.proofs.Pairs.{pairs_map}
 use Rattle.solve.proofs.Numbered.{stays_from_kept, kept_from_stays}
 use Rattle.lemmas.proofs.Places.{All-found, contains_at, found_at}
 use Rattle.solve.proofs.NumberedCauses.{causer_id, causer_number}
 use Rattle.solve.specs.Rows.{row_at}
-use Rattle.lemmas.proofs.Searches.{All-from_no_list_any}
+use Rattle.lemmas.proofs.Searches.{All_from_no_list_any}
 use Rattle.machine.specs.Outcome as machine
-use Rattle.machine.specs.Installing.{all_tests, IsFailure}
+use Rattle.machine.specs.Installing.{IsFailure}
 use Rattle.report.specs.declared.outcome.Failure.{Failure}
 use Rattle.report.specs.Views.{failure_view}
 use Rattle.smpe_failures.specs.Decided.{IsDecidedBy, HaveTests, AreDecided}
@@ -37,34 +37,34 @@ use Rattle.smpe_failures.specs.Open.{HaveOpen}
 use Rattle.smpe_failures.specs.Findings.{IsFailureAt, IsFailed}
 
 -- an id is not before itself
-not-before-itself : (x : Id) → is_before x x ≡ true → ⊥
-not-before-itself x before = true≢false (sym before ∙ ap is_lt (tied_itself nat_list_cmp_total x))
+not_before_itself : (x : Id) → is_before x x ≡ true → ⊥
+not_before_itself x before = true≢false (sym before ∙ ap is_lt (tied_itself nat_list_cmp_total x))
 
-before-at : (ids : List Id) → IsRising ids → (n m : ℕ) (x : Id) → slice_get ids n ≡ Some x → slice_get ids m ≡ Some x
+before_at : (ids : List Id) → IsRising ids → (n m : ℕ) (x : Id) → slice_get ids n ≡ Some x → slice_get ids m ≡ Some x
     → n < m → ⊥
-before-at ids rising n m x at_n at_m less =
+before_at ids rising n m x at_n at_m less =
     let first : get_or ids n x ≡ x = get_or_from_slice_get ids n x x at_n in
     let second : get_or ids m x ≡ x = get_or_from_slice_get ids m x x at_m in
-    not-before-itself x
+    not_before_itself x
     (subst (λ v. is_before x v ≡ true) second (subst (λ v. is_before v (get_or ids m x) ≡ true) first
     (rising n m x less (slice_get_within ids m x at_m))))
 
 -- each id has one number
-pub one-number : (ids : List Id) → IsRising ids → (n m : ℕ) (x : Id) → slice_get ids n ≡ Some x
+pub one_number : (ids : List Id) → IsRising ids → (n m : ℕ) (x : Id) → slice_get ids n ≡ Some x
     → slice_get ids m ≡ Some x → n ≡ m
-one-number ids rising n m x at_n at_m = elim (cases_order n m) [
+one_number ids rising n m x at_n at_m = elim (cases_order n m) [
   | inl same ↦ same
   | inr apart ↦ elim apart [
-    | inl less ↦ absurd (before-at ids rising n m x at_n at_m less)
-    | inr more ↦ absurd (before-at ids rising m n x at_m at_n more)
+    | inl less ↦ absurd (before_at ids rising n m x at_n at_m less)
+    | inr more ↦ absurd (before_at ids rising m n x at_m at_n more)
   ]
 ]
 
 -- ids at places that rise, rise
-pub rising-at : (ids : List Id) (places : List ℕ) → IsRising ids → AllPairs (λ a b. a < b) places
+pub rising_at : (ids : List Id) (places : List ℕ) → IsRising ids → AllPairs (λ a b. a < b) places
     → All (λ m. m < length ids) places
     → IsRising (map (λ m. slice_index_or ids m []) places)
-rising-at ids places rising up within =
+rising_at ids places rising up within =
     pairs_map (λ a b. (a < b) × (b < length ids)) (λ x y. IsTrue (is_before x y)) (λ m. slice_index_or ids m [])
     (λ a b both. rising a b [] both.0 both.1) places
     (λ i j d less below. (up i j d less below, within j d below))
@@ -75,7 +75,7 @@ module _ (ids kept : List Id) (E : Id → Type 0) (N : Id → NeedKind → Id �
     (members : (x : Id) → Contains kept x ↔ ((n : ℕ) × (slice_get ids n ≡ Some x) × IsTrue (holds flags n))) where
   same : (n : ℕ) (x : Id) → slice_get ids n ≡ Some x → Contains kept x ↔ IsTrue (holds flags n)
   same n x at = (
-    λ there. let w = (members x).0 there in subst (λ k. IsTrue (holds flags k)) (one-number ids rising w.0 n x w.1 at)
+    λ there. let w = (members x).0 there in subst (λ k. IsTrue (holds flags k)) (one_number ids rising w.0 n x w.1 at)
         w.2,
     λ on. (members x).1 (n, at, on),
   )
@@ -84,44 +84,44 @@ module _ (ids kept : List Id) (E : Id → Type 0) (N : Id → NeedKind → Id �
   within y there = let w = (members y).0 there in contains_at ids w.0 y w.1
 
   once : (n m : ℕ) (x : Id) → slice_get ids n ≡ Some x → slice_get ids m ≡ Some x → n ≡ m
-  once = one-number ids rising
+  once = one_number ids rising
 
   -- the id of each number that serves
-  id-of : (d : Demand) (i : ℕ) → slice_get p.demands i ≡ Some d → (m : ℕ) → Contains d.any m
+  id_of : (d : Demand) (i : ℕ) → slice_get p.demands i ≡ Some d → (m : ℕ) → Contains d.any m
       → (y : Id) × (slice_get ids m ≡ Some y)
-  id-of d i at m there =
+  id_of d i at m there =
       let found = found_at d.any m there in
       let below = All-found (λ k. k < p.size) d.any found.0 m
       (All-found (IsDemand p.size) p.demands i d h.numbers.demands at).any found.1 in
       (slice_index_or ids m [], slice_get-get_or ids m [] (subst (λ k. m < k) h.size below))
 
-  unserved-id : (d : Demand) (i : ℕ) (kind : NeedKind) (z : Id) → slice_get p.demands i ≡ Some d
+  unserved_id : (d : Demand) (i : ℕ) (kind : NeedKind) (z : Id) → slice_get p.demands i ≡ Some d
       → slice_get needed i ≡ Some (kind, z)
       → list_any (holds flags) d.any ≡ false → (y : Id) → Contains kept y → ¬ S kind y z
-  unserved-id d i kind z at need none y there serves =
+  unserved_id d i kind z at need none y there serves =
       let place = found_at ids y (within y there) in
       let spot = found_at d.any place.0 (((h.demands i d (kind, z) at need).any place.0 y place.1).1 serves) in
       let off = All-found (λ j. holds flags j ≡ false) d.any spot.0 place.0
-      (All-from_no_list_any (holds flags) d.any none) spot.1 in
+      (All_from_no_list_any (holds flags) d.any none) spot.1 in
       true≢false (sym ((same place.0 y place.1).0 there) ∙ off)
 
-  unserved-number : (d : Demand) (i : ℕ) (kind : NeedKind) (z : Id) → slice_get p.demands i ≡ Some d
+  unserved_number : (d : Demand) (i : ℕ) (kind : NeedKind) (z : Id) → slice_get p.demands i ≡ Some d
       → slice_get needed i ≡ Some (kind, z)
       → ((y : Id) → Contains kept y → ¬ S kind y z) → list_any (holds flags) d.any ≡ false
-  unserved-number d i kind z at need unserved =
+  unserved_number d i kind z at need unserved =
       list_any_none (holds flags) d.any (λ k m below.
       let v = slice_index_or d.any k m in
       let there : Contains d.any v = contains_at d.any k v (slice_get-get_or d.any k m below) in
-      let y = id-of d i at v there in
+      let y = id_of d i at v there in
       false_from_ne_true (holds flags v) (λ on. unserved y.0 ((same v y.0 y.1).1 on)
       (((h.demands i d (kind, z) at need).any v y.0 y.1).0 there)))
 
   module _ (rows : List (Vec (NeedKind × Id) Heap)) (opened :
       HaveOpen flags p.demands needed (length needed) rows) where
     -- the open needs of a number are those of its id
-    pub open-needs : (n : ℕ) (x : Id) → slice_get ids n ≡ Some x → (kind : NeedKind) (z : Id)
+    pub open_needs : (n : ℕ) (x : Id) → slice_get ids n ≡ Some x → (kind : NeedKind) (z : Id)
         → Contains (row_at rows n) (kind, z) ↔ IsOpenNeed ids kept E N S x kind z
-    open-needs n x at kind z = (
+    open_needs n x at kind z = (
       λ there.
           let w = (opened n (kind, z)).0 there in
           let both = and_parts (w.1.of == n) (not (list_any (holds flags) w.1.any)) w.5 in
@@ -130,11 +130,11 @@ module _ (ids kept : List Id) (E : Id → Type 0) (N : Id → NeedKind → Id �
           ∙ at) in
           record {
             needs = subst (λ v. N v kind z) whose meant.2;
-            unserved = unserved-id w.1 w.0 kind z w.3 w.4 (not-true (list_any (holds flags) w.1.any) both.1);
+            unserved = unserved_id w.1 w.0 kind z w.3 w.4 (not-true (list_any (holds flags) w.1.any) both.1);
           },
       λ need.
           let a = h.all n x z kind at need.needs in
-          let none = unserved-number a.1 a.0 kind z a.2 a.3 need.unserved in
+          let none = unserved_number a.1 a.0 kind z a.2 a.3 need.unserved in
           (opened n (kind, z)).1 (
             a.0,
             a.1,
@@ -148,9 +148,9 @@ module _ (ids kept : List Id) (E : Id → Type 0) (N : Id → NeedKind → Id �
   module _ (rows : List (Vec ℕ Heap)) (exact : (x y : ℕ) → Contains (row_at rows x) y ↔ numbered.IsCauser p flags x
       y) where
     -- the causers of a number are those of its id
-    pub causers-are : (n : ℕ) (x : Id) → slice_get ids n ≡ Some x → (y : Id)
+    pub causers_are_holds : (n : ℕ) (x : Id) → slice_get ids n ≡ Some x → (y : Id)
         → Contains (map (λ m. slice_index_or ids m []) (row_at rows n)) y ↔ IsCauser ids kept E N S x y
-    causers-are n x at y = (
+    causers_are_holds n x at y = (
       λ there.
           let w = map_in (λ m. slice_index_or ids m []) (row_at rows n) y there in
           let causer = (exact n w.0).0 w.1 in
@@ -166,10 +166,10 @@ module _ (ids kept : List Id) (E : Id → Type 0) (N : Id → NeedKind → Id �
     )
 
 -- causers are candidates
-pub causers-within : (p : Problem) (flags : List Bool) (rows : List (Vec ℕ Heap))
+pub causers_within : (p : Problem) (flags : List Bool) (rows : List (Vec ℕ Heap))
     → ((x y : ℕ) → Contains (row_at rows x) y ↔ numbered.IsCauser p flags x y) → (n : ℕ)
     → All (λ m. m < p.size) (row_at rows n)
-causers-within p flags rows exact n k d below = ((exact n (get_or (row_at rows n) k d)).0
+causers_within p flags rows exact n k d below = ((exact n (get_or (row_at rows n) k d)).0
     (Contains-get_or (row_at rows n) k d below)).0.0.0
 
 -- What is found of the candidates by their places decides all.
@@ -202,14 +202,14 @@ module _ (Fails : Id → Test → Type 0) (E : Id → Type 0) (N : Id → NeedKi
     ids_rising = λ kind. (is.needs.are_ids kind).rising;
     are_open = λ kind z.
         let own = (is.needs.are_ids kind).members z in
-        let same = open-needs ids kept E N S p needed h rising by.flags by.members by.found.unserved.items by.opened n
+        let same = open_needs ids kept E N S p needed h rising by.flags by.members by.found.unserved.items by.opened n
         x at kind z in
         (λ there. same.0 (own.0 there), λ need. own.1 (same.1 need));
-    causers_rising = subst IsRising (sym is.causers_are) (rising-at ids (row_at by.found.causers.items n) rising
+    causers_rising = subst IsRising (sym is.causers_are) (rising_at ids (row_at by.found.causers.items n) rising
         (by.causers_rise n) (subst (λ size. All (λ m. m < size) (row_at by.found.causers.items n)) h.size
-        (causers-within p by.flags by.found.causers.items by.causers n)));
+        (causers_within p by.flags by.found.causers.items by.causers n)));
     causers = λ y. subst (λ l. Contains l y ↔ IsCauser ids kept E N S x y) (sym is.causers_are)
-        (causers-are ids kept E N S p needed h rising by.flags by.members by.found.causers.items by.causers n x at y);
+        (causers_are_holds ids kept E N S p needed h rising by.flags by.members by.found.causers.items by.causers n x at y);
   }
 
   abbrev Fits : Id × machine.Failure → Type 0
@@ -219,14 +219,14 @@ module _ (Fails : Id → Test → Type 0) (E : Id → Type 0) (N : Id → NeedKi
   decided = record {
     rising = by.rising;
     members = stays;
-    ids = ids-of failed ∙ by.failures.ids_are ∙ ap (filter (λ x. not (is_in kept x)))
+    ids = ids_of_holds failed ∙ by.failures.ids_are ∙ ap (filter (λ x. not (is_in kept x)))
         (take_all (length ids) ids (omega arith));
     failures = All-map Fits (λ f. (f.0, failure_view f.1)) failed
         (All-weaker (IsFailed ids by.found) (λ f. Fits (f.0, failure_view f.1))
         (λ f is. failure is.0 f.0 (failure_view f.1) is.1 is.2) failed by.failures.each);
   }
     where
-      ids-of : (fs : List (Id × Failure)) → map (λ (q : Id × machine.Failure). q.0)
+      ids_of_holds : (fs : List (Id × Failure)) → map (λ (q : Id × machine.Failure). q.0)
           (map (λ f. (f.0, failure_view f.1)) fs) ≡ map (λ q. q.0) fs
-      ids-of [] = refl
-      ids-of (f ∷ fs) = ap (λ l. f.0 ∷ l) (ids-of fs)
+      ids_of_holds [] = refl
+      ids_of_holds (f ∷ fs) = ap (λ l. f.0 ∷ l) (ids_of_holds fs)

@@ -12,22 +12,22 @@ pub taken : {X : Type 0} (b : Bool) (x z : X) → Contains (cond b (x ∷ []) []
 taken true x z h = elim (here_or x [] z h) [ inl same ↦ (refl, same) | inr none ↦ absurd (omega (arith, none.1)) ]
 taken false x z h = absurd (omega (arith, h.1))
 
-pub take-one : {X : Type 0} (b : Bool) (x : X) → IsTrue b → Contains (cond b (x ∷ []) []) x
-take-one b x e = rw e (0, omega arith, refl)
+pub take_one : {X : Type 0} (b : Bool) (x : X) → IsTrue b → Contains (cond b (x ∷ []) []) x
+take_one b x e = rw e (0, omega arith, refl)
 
-pub same-at : {X : Type 0} (xs : List X) (n m : ℕ) (x y : X) → n ≡ m → slice_get xs n ≡ Some x → slice_get xs m ≡ Some y
+pub same_at : {X : Type 0} (xs : List X) (n m : ℕ) (x y : X) → n ≡ m → slice_get xs n ≡ Some x → slice_get xs m ≡ Some y
     → x ≡ y
-same-at xs n m x y same at_x at_y = cc (at_x, at_y, ap (slice_get xs) same)
+same_at xs n m x y same at_x at_y = cc (at_x, at_y, ap (slice_get xs) same)
 
 -- the list has the flagged ids in front of a place
 abbrev pub AreFlagged : {X : Type 0} → List X → List Bool → ℕ → List X → Type 0
 AreFlagged {X} ids flags end kept = (x : X) → Contains kept x ↔
     ((n : ℕ) × (n < end) × (slice_get ids n ≡ Some x) × IsTrue (holds flags n))
 
-pub flagged-next : {X : Type 0} (ids : List X) (flags : List Bool) (i : ℕ) (x : X) (b : Bool) (old new : List X)
+pub flagged_next : {X : Type 0} (ids : List X) (flags : List Bool) (i : ℕ) (x : X) (b : Bool) (old new : List X)
     → slice_get ids i ≡ Some x → holds flags i ≡ b → new ≡ old ++ cond b (x ∷ []) [] → AreFlagged ids flags i old
     → AreFlagged ids flags (i + 1) new
-flagged-next ids flags i x b old new at flag made so_far z = (
+flagged_next ids flags i x b old new at flag made so_far z = (
   λ h. elim (Contains-append_cases old (cond b (x ∷ []) []) z (subst (λ l. Contains l z) made h)) [
     | inl before ↦ let w = (so_far z).0 before in (w.0, omega (arith, w.1), w.2, w.3)
     | inr here ↦ let t = taken b x z here in (i, omega arith, at ∙ ap (λ v. Some v) t.1, flag ∙ t.0)
@@ -36,8 +36,8 @@ flagged-next ids flags i x b old new at flag made so_far z = (
     | inl before ↦ Contains-append_left old (cond b (x ∷ []) []) z ((so_far z).1 (w.0, before, w.2, w.3))
     | inr past ↦
         let here : w.0 ≡ i = omega (arith, past, w.1) in
-        let same : x ≡ z = sym (same-at ids w.0 i z x here w.2 at) in
+        let same : x ≡ z = sym (same_at ids w.0 i z x here w.2 at) in
         let on : IsTrue b = sym flag ∙ ap (holds flags) (sym here) ∙ w.3 in
-        Contains-append_right old (cond b (x ∷ []) []) z (subst (Contains (cond b (x ∷ []) [])) same (take-one b x on))
+        Contains-append_right old (cond b (x ∷ []) []) z (subst (Contains (cond b (x ∷ []) [])) same (take_one b x on))
   ]),
 )

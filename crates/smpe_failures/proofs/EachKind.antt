@@ -10,9 +10,9 @@ use Rattle.machine.specs.Outcome.{OpenNeed}
 use Rattle.smpe_failures.specs.Open.{of_kind, AreIdsOf, AddsKind, AreNeedsOf}
 
 -- a list with one more id, of the kind or not
-pub push-of : (ids new : List Id) (kind : NeedKind) (need : NeedKind × Id) → need.0 ≡ kind → new ≡ ids ++ need.1 ∷ []
+pub push_of : (ids new : List Id) (kind : NeedKind) (need : NeedKind × Id) → need.0 ≡ kind → new ≡ ids ++ need.1 ∷ []
     → (z : Id) → Contains new z ↔ (Contains ids z ⊎ ((need.0 ≡ kind) × (need.1 ≡ z)))
-push-of ids new kind need is made z = (
+push_of ids new kind need is made z = (
   λ h. elim (Contains-push_cases ids need.1 z (subst (λ l. Contains l z) made h))
       [ inl before ↦ inl before | inr same ↦ inr (is, same) ],
   λ w. subst (λ l. Contains l z) (sym made) (elim w [
@@ -22,11 +22,11 @@ push-of ids new kind need is made z = (
 )
 
 -- the ids of the kind in a list with one more need
-pub ids-next : (kind : NeedKind) (needs : List (NeedKind × Id)) (need : NeedKind × Id) (old new : List Id)
+pub ids_next : (kind : NeedKind) (needs : List (NeedKind × Id)) (need : NeedKind × Id) (old new : List Id)
     → ((z : Id) → Contains new z ↔ (Contains old z ⊎ ((need.0 ≡ kind) × (need.1 ≡ z))))
     → ((z : Id) → Contains old z ↔ Contains needs (kind, z)) → (z : Id)
     → Contains new z ↔ Contains (needs ++ need ∷ []) (kind, z)
-ids-next kind needs need old new added so_far z = (
+ids_next kind needs need old new added so_far z = (
   λ h. elim ((added z).0 h) [
     | inl before ↦ Contains-append_left needs (need ∷ []) (kind, z) ((so_far z).0 before)
     | inr here ↦
@@ -45,11 +45,11 @@ front : {X : Type 0} (old new more rest all : List X) → new ≡ old ++ more �
 front old new more rest all made is = is ∙ ap (λ l. l ++ rest) made ∙ append_assoc old more rest
 
 -- the needs of all kinds, one kind after the other
-pub all-kinds : (row : List (NeedKind × Id)) (n1 n2 n3 n4 n5 n6 n7 n8 : List OpenNeed)
+pub all_kinds : (row : List (NeedKind × Id)) (n1 n2 n3 n4 n5 n6 n7 n8 : List OpenNeed)
     → AddsKind row Fmid [] n1 → AddsKind row Pre n1 n2 → AddsKind row Req n2 n3 → AddsKind row Ifreq n3 n4
     → AddsKind row HoldError n4 n5 → AddsKind row Orphan n5 n6 → AddsKind row Elem n6 n7 → AddsKind row Dep n7 n8
     → AreNeedsOf row n8
-all-kinds row n1 n2 n3 n4 n5 n6 n7 n8 a b c d e f g h = record {
+all_kinds row n1 n2 n3 n4 n5 n6 n7 n8 a b c d e f g h = record {
   ids_of = ids_of;
   are_ids = are_ids;
   needs_are =

@@ -13,11 +13,11 @@ use Rattle.smpe_failures.specs.declared.failures.Findings.{Findings}
 use Rattle.smpe_failures.specs.Findings.{AddsFailure, AreFailures, IsFailed, IsFailureAt, not_kept}
 
 -- the candidate at a place, kept or not
-pub adds-one : (ids kept : List Id) (found : Findings) (place : ℕ) (id : Id) (f : Failure)
+pub adds_one : (ids kept : List Id) (found : Findings) (place : ℕ) (id : Id) (f : Failure)
     (old new : List (Id × Failure)) → slice_get ids place ≡ Some id
     → is_in kept id ≡ false → new ≡ old ++ (id, f) ∷ [] → IsFailureAt ids found place (failure_view f)
     → AddsFailure ids kept found place old new
-adds-one ids kept found place id f old new at off made is = record {
+adds_one ids kept found place id f old new at off made is = record {
   more = (id, f) ∷ [];
   added = made;
   ids_are = λ x at_x.
@@ -26,10 +26,10 @@ adds-one ids kept found place id f old new at off made is = record {
   failed = All-cons (IsFailed ids found) (id, f) [] (place, at, is) (All-nil (IsFailed ids found));
 }
 
-pub adds-none : (ids kept : List Id) (found : Findings) (place : ℕ) (id : Id) (old : List (Id × Failure))
+pub adds_none : (ids kept : List Id) (found : Findings) (place : ℕ) (id : Id) (old : List (Id × Failure))
     → slice_get ids place ≡ Some id
     → is_in kept id ≡ true → AddsFailure ids kept found place old old
-adds-none ids kept found place id old at on = record {
+adds_none ids kept found place id old at on = record {
   more = [];
   added = sym (append-nil old);
   ids_are = λ x at_x.
@@ -39,10 +39,10 @@ adds-none ids kept found place id old at on = record {
 }
 
 -- one more candidate
-pub failures-next : (ids kept : List Id) (found : Findings) (i : ℕ) (x : Id) (old new : List (Id × Failure))
+pub failures_next : (ids kept : List Id) (found : Findings) (i : ℕ) (x : Id) (old new : List (Id × Failure))
     → slice_get ids i ≡ Some x
     → AddsFailure ids kept found i old new → AreFailures ids kept found i old → AreFailures ids kept found (i + 1) new
-failures-next ids kept found i x old new at adds so_far = record {
+failures_next ids kept found i x old new at adds so_far = record {
   ids_are =
       let whole : take (i + 1) ids ≡ take i ids ++ x ∷ [] =
       take_more ids i x (slice_get_within ids i x at) ∙ ap (λ v. take i ids ++ v ∷ [])

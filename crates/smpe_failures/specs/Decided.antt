@@ -10,7 +10,8 @@ use Rattle.solve.specs.Problem.{Problem, holds, AreKept}
 use Rattle.solve.specs.Causes as numbered
 use Rattle.solve.specs.Rows.{row_at}
 use Rattle.machine.specs.Outcome as machine
-use Rattle.machine.specs.Installing.{all_tests, IsFailure}
+use Rattle.terms.specs.Failures.{all_tests}
+use Rattle.machine.specs.Installing.{IsFailure}
 use Rattle.report.specs.declared.outcome.Failure.{Failure}
 use Rattle.smpe_failures.specs.declared.failures.Findings.{Findings}
 use Rattle.smpe_failures.specs.Findings.{AreFailures}

@@ -9,7 +9,7 @@ use Rattle.terms.specs.Lookups.{IsRising}
 use Rattle.solve.specs.Problem.{Demand, holds}
 use Rattle.solve.specs.Rows.{row_at}
 use Rattle.machine.specs.Outcome.{OpenNeed}
-use Rattle.machine.specs.Installing.{all_needs}
+use Rattle.terms.specs.Failures.{all_needs}
 
 -- whether the demand is of x, and nothing kept serves it
 abbrev pub is_open_of : List Bool → Demand → ℕ → Bool

@@ -8,7 +8,7 @@ use crate::needs::open_needs;
 use fields::{Id, IdList};
 use report::Failure;
 use solve::{Solver, System, Worklist, causers};
-use std::alloc::{AllocError, Global as Heap};
+use std::alloc::{AllocError, Global};
 use terms::{NeedKind, Test};
 
 /// The kept candidates, and each other one with the reason, in their order.
@@ -21,7 +21,7 @@ pub struct Decided {
 /// Keeps the greatest set of candidates that supports itself. There is a kind and an id for each need of the system,
 /// and for each candidate a list of the tests that it fails.
 pub fn decide(
-    alloc: Heap,
+    alloc: Global,
     ids: &IdList,
     system: &System,
     needed: &[(NeedKind, Id)],

@@ -1,8 +1,5 @@
 //! Why each candidate that is not kept failed.
-ghost use Rattle.std.specs.Prelude.{◌≡◌, ◌<◌, ◌++◌, [], ◌∷◌, All, IfOk, OnOk, length, map, filter, not, slice_get};
-ghost use Rattle.std.specs.Prelude.{Some};
-ghost use Rattle.terms.specs.Lookups.{is_in};
-ghost use Rattle.solve.specs.Rows.{row_at};
+ghost use Rattle.std.specs.Prelude.{◌<◌, All, IfOk, OnOk, length, not};
 ghost use Rattle.report.specs.Views.{failure_view};
 ghost use Rattle.smpe_failures.specs.Findings.{AreFindings, IsFailureOf, IsFailureAt, AddsFailure, AreFailures};
 
@@ -10,7 +7,7 @@ use crate::kept::ids_at;
 use crate::needs::needs_of;
 use fields::{Id, IdList};
 use report::Failure;
-use std::alloc::{AllocError, Global as Heap};
+use std::alloc::{AllocError, Global};
 use terms::{NeedKind, Test};
 
 /// What is known of each candidate, by its place: the tests that it fails, its open needs, and its causers.
@@ -23,7 +20,7 @@ pub(crate) struct Findings {
 
 // Why a candidate with these failed.
 fn failure_of(
-    alloc: Heap,
+    alloc: Global,
     ids: &[Id],
     tests: &[Test],
     unserved: &[(NeedKind, Id)],
@@ -44,7 +41,7 @@ fn failure_of(
 
 // Why the candidate at the place failed.
 fn failure_at(
-    alloc: Heap,
+    alloc: Global,
     ids: &[Id],
     found: &Findings,
     place: usize,
@@ -64,7 +61,7 @@ fn failure_at(
 
 // Adds the candidate at the place with its failure, unless it is kept.
 fn add_failure(
-    alloc: Heap,
+    alloc: Global,
     ids: &[Id],
     kept: &IdList,
     found: &Findings,
@@ -85,7 +82,7 @@ fn add_failure(
 
 /// The candidates that are not kept, each with its failure, in their order.
 pub(crate) fn failures(
-    alloc: Heap,
+    alloc: Global,
     ids: &[Id],
     kept: &IdList,
     found: &Findings,

@@ -5,7 +5,7 @@ ghost use Rattle.terms.specs.Types.{Id as AnId};
 ghost use Rattle.solve.specs.Problem.{holds};
 
 use fields::{Id, IdList};
-use std::alloc::{AllocError, Global as Heap};
+use std::alloc::{AllocError, Global};
 
 fn add_if(ids: &mut Vec<Id>, is_kept: bool, id: Id) -> Result<(), AllocError>
     ensures { OnOk result (ids.new.items ≡ ids.old.items ++ (if is_kept then id ∷ [] else [])) }
@@ -17,7 +17,7 @@ fn add_if(ids: &mut Vec<Id>, is_kept: bool, id: Id) -> Result<(), AllocError>
 }
 
 /// The ids whose flags say that they are kept.
-pub(crate) fn kept_ids(alloc: Heap, ids: &[Id], flags: &[bool]) -> Result<IdList, AllocError>
+pub(crate) fn kept_ids(alloc: Global, ids: &[Id], flags: &[bool]) -> Result<IdList, AllocError>
     requires { length flags.now ≡ length ids.now }
     ensures { IfOk result (λ kept. (x : AnId) → Contains kept x
         ↔ ((n : ℕ) × (slice_get ids.now n ≡ Some x) × IsTrue (holds flags.now n))) }
@@ -30,7 +30,7 @@ pub(crate) fn kept_ids(alloc: Heap, ids: &[Id], flags: &[bool]) -> Result<IdList
 }
 
 /// The ids at the places, in their order.
-pub(crate) fn ids_at(alloc: Heap, ids: &[Id], places: &[u32]) -> Result<Vec<Id>, AllocError>
+pub(crate) fn ids_at(alloc: Global, ids: &[Id], places: &[u32]) -> Result<Vec<Id>, AllocError>
     requires { All (λ m. m < length ids.now) places.now }
     ensures { IfOk result (λ found. found.items ≡ map (λ m. slice_index_or ids.now m []) places.now) }
 {

@@ -11,7 +11,7 @@ ghost use Rattle.smpe_failures.specs.Open.{open_of, HaveOpen, AddsKind, AreNeeds
 use fields::{Id, IdList};
 use report::OpenNeed;
 use solve::{Need, System};
-use std::alloc::{AllocError, Global as Heap};
+use std::alloc::{AllocError, Global};
 use terms::NeedKind;
 
 // Whether a kept candidate serves the need.
@@ -40,7 +40,7 @@ fn add_open(
     Ok(())
 }
 
-fn empty_rows(alloc: Heap, size: u32) -> Result<Vec<Vec<(NeedKind, Id)>>, AllocError>
+fn empty_rows(alloc: Global, size: u32) -> Result<Vec<Vec<(NeedKind, Id)>>, AllocError>
     ensures size { IfOk result (λ rows. length rows.items ≡ size) }
     ensures empty { IfOk result (λ rows. (x : ℕ) → row_at rows.items x ≡ []) }
 {
@@ -53,7 +53,7 @@ fn empty_rows(alloc: Heap, size: u32) -> Result<Vec<Vec<(NeedKind, Id)>>, AllocE
 
 /// For each candidate the kinds and ids of its needs that no kept one serves.
 pub(crate) fn open_needs(
-    alloc: Heap,
+    alloc: Global,
     system: &System,
     needed: &[(NeedKind, Id)],
     kept: &[bool],
@@ -84,7 +84,7 @@ fn add_of(ids: &mut Vec<Id>, kind: NeedKind, need: (NeedKind, Id)) -> Result<(),
 }
 
 // The ids of the needs of the kind.
-fn ids_of(alloc: Heap, unserved: &[(NeedKind, Id)], kind: NeedKind) -> Result<IdList, AllocError>
+fn ids_of(alloc: Global, unserved: &[(NeedKind, Id)], kind: NeedKind) -> Result<IdList, AllocError>
     ensures { IfOk result (λ ids. (z : AnId) → Contains ids z ↔ Contains unserved.now (kind, z)) }
 {
     let mut ids = Vec::new(alloc);
@@ -96,7 +96,7 @@ fn ids_of(alloc: Heap, unserved: &[(NeedKind, Id)], kind: NeedKind) -> Result<Id
 
 // Adds the needs of the kind, by their ids.
 fn add_kind(
-    alloc: Heap,
+    alloc: Global,
     unserved: &[(NeedKind, Id)],
     kind: NeedKind,
     needs: &mut Vec<OpenNeed>,
@@ -112,7 +112,7 @@ fn add_kind(
 
 /// The needs by kind and id, each once.
 pub(crate) fn needs_of(
-    alloc: Heap,
+    alloc: Global,
     unserved: &[(NeedKind, Id)],
 ) -> Result<Vec<OpenNeed>, AllocError>
     ensures { IfOk result (λ needs. AreNeedsOf unserved.now (map need_view needs.items)) }

@@ -1,5 +1,5 @@
 //! The command line of `smpe`, as `clap` is told of it.
-ghost use Rattle.std.specs.Prelude.{◌≡◌, false, true, map, IfOk};
+ghost use Rattle.std.specs.Prelude.{◌≡◌, false, true, IfOk};
 ghost use Rattle.clap.specs.Words.{app_of, new_app, rule_of, shape_of};
 ghost use Rattle.clap.specs.declared.builder.command.Command.TheViews.{out-Command as fields_of};
 ghost use Rattle.clap.specs.declared.builder.value_parser.ValueParser.{ValueParser};

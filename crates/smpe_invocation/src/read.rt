@@ -1,8 +1,8 @@
 //! What the words of the command line ask for.
-ghost use Rattle.std.specs.Prelude.{◌≡◌, ◌⊎◌, map, codes, option_map, IfOk, IfErr};
+ghost use Rattle.std.specs.Prelude.{map, option_map, IfOk, IfErr};
 ghost use Rattle.clap.specs.Words.{found_of, rows_of};
 ghost use Rattle.smpe_invocation.specs.Answers.{Excludes, IsMet, IsRead, IsRefused};
-ghost use Rattle.smpe_invocation.specs.Values.{HasList, HasRun, HasValues, HasZone};
+ghost use Rattle.smpe_invocation.specs.Values.{HasList, HasRun, HasZone};
 ghost use Rattle.smpe_invocation.specs.declared.asked.Invocation.{Invocation};
 
 use crate::asked::Invocation;

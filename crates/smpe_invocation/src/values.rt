@@ -1,5 +1,5 @@
 //! The values of the options.
-ghost use Rattle.std.specs.Prelude.{◌≡◌, Some, codes, option_map, IfOk, IfErr};
+ghost use Rattle.std.specs.Prelude.{◌≡◌, Some, option_map, IfOk, IfErr};
 ghost use Rattle.std.specs.String.{string_bytes};
 ghost use Rattle.terms.specs.Types.{Text};
 ghost use Rattle.terms.specs.declared.kinds.ZoneKind.{ZoneKind};
@@ -10,8 +10,8 @@ ghost use Rattle.smpe_invocation.specs.Values.{HasDate, HasKind, HasRelated, Has
 use crate::date::read_date;
 use crate::fault::ArgFault;
 use clap::ArgMatches;
+use fields::spelling::read_zone_kind;
 use fields::{Srel, YyDdd, ZoneName};
-use spelling::read_zone_kind;
 use std::alloc::{AllocError, Global};
 use terms::ZoneKind;
 

@@ -1,7 +1,9 @@
-//! First and refused jobs, RECEIVE, REJECT, LIST and REPORT, lists of jobs, and the program's words and lines. There is
-//! no code here but tests.
+//! First and refused jobs, RECEIVE, REJECT, LIST and REPORT, lists of jobs, disks that fail and come back, and the
+//! program's words and lines. There is no code here but tests.
 #![tactic(auto)]
 
+#[cfg(test)]
+mod failing;
 #[cfg(test)]
 mod firsts;
 #[cfg(test)]

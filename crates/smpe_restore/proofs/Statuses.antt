@@ -12,7 +12,7 @@ use Rattle.std.specs.Option.{option_map_or}
 use Rattle.std.specs.Str.{bytes_eq}
 use Rattle.std.proofs.lemmas.List.Elements.{All-contains}
 use Rattle.lemmas.proofs.Members.{here_or, filter_in, in_filter, in_map, none_in}
-use Rattle.lemmas.proofs.Searches.{find-gives}
+use Rattle.lemmas.proofs.Searches.{find_gives}
 use Rattle.lemmas.proofs.Texts.{same_from, same_itself}
 use Rattle.terms.specs.declared.codes.NeedKind.{NeedKind}
 use Rattle.terms.specs.declared.codes.Test.{Test}
@@ -21,7 +21,7 @@ use Rattle.terms.specs.Lookups.{IsRising, is_before, is_in}
 use Rattle.terms.specs.Rising.{Rises}
 use Rattle.terms.specs.Needs.{Serves}
 use Rattle.terms.specs.Restore.{Restoring, NeedsInRestore, FailsRestore, MayBeRestored}
-use Rattle.terms.proofs.Ids.{is_in-from_Contains, Contains-from_is_in}
+use Rattle.terms.proofs.Ids.{is_in_from_Contains, Contains_from_is_in}
 use Rattle.solve.specs.Problem.{Problem}
 use Rattle.machine.specs.Outcome.{Status, Restored, NotApplied, Failed, Line, StatusLine}
 use Rattle.machine.specs.Outcome as machine
@@ -72,7 +72,7 @@ module _ (r : Restoring) (ids cands : List Id) (rising : IsRising cands) (p : Pr
       problem.tested kept failed by
 
   not_kept : (x : Id) → is_in kept x ≡ false → ¬ Contains kept x
-  not_kept x off there = true≢false (sym (is_in-from_Contains kept x there) ∙ off)
+  not_kept x off there = true≢false (sym (is_in_from_Contains kept x there) ∙ off)
 
   each : (x : Id) → Contains ids x → HasRestoreStatus r ids kept x (status_in kept failed x)
   each x listed = by_kept (is_in kept x) refl
@@ -90,7 +90,7 @@ module _ (r : Restoring) (ids cands : List Id) (rising : IsRising cands) (p : Pr
           (sym (sym (ids_of failed) ∙ is_decided.ids)) (in_filter (λ y. not (is_in kept y)) cands x
           (subst (λ xs. Contains xs x) (sym problem.cands_are) cand) (ap not off))))
       by_found off (Some f) found =
-          let gives = find-gives (λ (f : Id × Failure). bytes_eq f.0 x) failed f found in
+          let gives = find_gives (λ (f : Id × Failure). bytes_eq f.0 x) failed f found in
           let same : f.0 ≡ x = same_from f.0 x gives.0 in
           let why = All-contains (λ q. IsFailure cands kept (FailsRestore r) (MayBeRestored r ids)
           (NeedsInRestore r (is_in ids)) (Serves r.choice) q.0 q.1) (map (λ f. (f.0, failure_view f.1)) failed)
@@ -108,7 +108,7 @@ module _ (r : Restoring) (ids cands : List Id) (rising : IsRising cands) (p : Pr
       by_kept true on =
           subst (λ b. HasRestoreStatus r ids kept x (if b then Restored
           else option_map_or (λ f. Failed (failure_view f.1)) (find (λ f. bytes_eq f.0 x) failed) NotApplied)) (sym on)
-          (IsBack (Contains-from_is_in kept x on))
+          (IsBack (Contains_from_is_in kept x on))
       by_kept false off =
           subst (λ b. HasRestoreStatus r ids kept x (if b then Restored
           else option_map_or (λ f. Failed (failure_view f.1)) (find (λ f. bytes_eq f.0 x) failed) NotApplied)) (sym off)

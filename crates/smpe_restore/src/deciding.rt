@@ -9,8 +9,8 @@ use fields::{Id, IdList};
 use report::Line;
 use smpe_failures::{Decided, decide};
 use solve::System;
-use std::alloc::{AllocError, Global as Heap};
-use sysmods::Global;
+use std::alloc::{AllocError, Global};
+use sysmods::GlobalZone;
 use terms::{NeedKind, Test};
 
 /// The SYSMODs that are taken off, and the lines of the list by id.
@@ -22,8 +22,8 @@ pub(crate) struct TakenOff {
 
 /// Decides the ids of the list by the numbered problem of its candidates and the tests that these fail.
 pub(crate) fn decide_restore(
-    alloc: Heap,
-    global: &Global,
+    alloc: Global,
+    global: &GlobalZone,
     ids: &IdList,
     cands: &IdList,
     system: &System,

@@ -9,13 +9,13 @@ ghost use Rattle.smpe_restore.specs.Lines.{status_in, line_in};
 
 use fields::{Id, IdList};
 use report::{Failure, Line, Status, place_of};
-use std::alloc::{AllocError, Global as Heap};
-use sysmods::Global;
+use std::alloc::{AllocError, Global};
+use sysmods::GlobalZone;
 
 /// A line for each id of the list, of which some are kept and some failed.
 pub(crate) fn lines_of(
-    alloc: Heap,
-    global: &Global,
+    alloc: Global,
+    global: &GlobalZone,
     ids: &[Id],
     kept: &IdList,
     failed: &[(Id, Failure)],
@@ -32,8 +32,8 @@ pub(crate) fn lines_of(
 }
 
 fn line(
-    alloc: Heap,
-    global: &Global,
+    alloc: Global,
+    global: &GlobalZone,
     id: Id,
     kept: &IdList,
     failed: &[(Id, Failure)],
@@ -50,7 +50,7 @@ fn line(
 }
 
 fn status_of(
-    alloc: Heap,
+    alloc: Global,
     id: Id,
     kept: &IdList,
     failed: &[(Id, Failure)],
@@ -77,7 +77,7 @@ fn found(failed: &[(Id, Failure)], id: Id) -> Option<&(Id, Failure)>
     }
 }
 
-fn copied(alloc: Heap, failure: &Failure) -> Result<Failure, AllocError>
+fn copied(alloc: Global, failure: &Failure) -> Result<Failure, AllocError>
     ensures { IfOk result (λ copy. failure_view copy ≡ failure_view failure.now) }
 {
     Ok(Failure {

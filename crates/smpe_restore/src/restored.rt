@@ -10,11 +10,11 @@ use crate::deciding::{TakenOff, decide_restore};
 use cntl::RestoreList;
 use fields::IdList;
 use report::Line;
-use std::alloc::{AllocError, Global as Heap};
-use sysmods::Global;
+use std::alloc::{AllocError, Global};
+use sysmods::GlobalZone;
 use undo::{Judged, restore_list, restore_system};
 use zones::{Zone, ZoneDelta};
-use zones_less::choose;
+use zones_views::choose;
 
 /// What a RESTORE changes, and its lines by id.
 #[derive(Drop)]
@@ -26,8 +26,8 @@ pub struct Restored {
 /// Takes SYSMODs of the list off the target zone, back to what its distribution zone holds. Whether the command checks
 /// alone is its caller's matter.
 pub fn restore(
-    alloc: Heap,
-    global: &Global,
+    alloc: Global,
+    global: &GlobalZone,
     zone: &Zone,
     accepted: &Zone,
     list: &RestoreList,
@@ -54,6 +54,6 @@ pub fn restore(
         needed.as_slice(),
         tests,
     )?;
-    let delta = change::restore(alloc, global, zone, accepted, &kept)?;
+    let delta = undo::restore(alloc, global, zone, accepted, &kept)?;
     Ok(Restored { delta, lines })
 }

@@ -10,27 +10,27 @@ use Rattle.terms.specs.Types.{Text, Zone, NamedZone}
 use Rattle.terms.specs.Lookups.{is_before}
 use Rattle.lemmas.proofs.Pairs.{pairs_unmap}
 use Rattle.lemmas.proofs.Texts.{same_from}
-use Rattle.lemmas.proofs.Searches.{find-gives}
+use Rattle.lemmas.proofs.Searches.{find_gives}
 use Rattle.store_schema.specs.Inventory.{IsInventory}
 use Rattle.machine.specs.State.{State, global_name, zone_named}
-use Rattle.smpe_reject.specs.Rejections.{AppliesAlike}
-use Rattle.smpe_reject.proofs.Zones.{applies-alike}
+use Rattle.smpe_global.specs.Rejections.{AppliesAlike}
+use Rattle.smpe_global.proofs.Zones.{applies_alike}
 use Rattle.smpe_zones.specs.Kept.{kept}
 use Rattle.smpe_session.specs.declared.session.Session.{Session}
 use Rattle.smpe_session.specs.Steps.{is_known, IsSought, AreSought, HasAllZones}
-use Rattle.smpe_session.proofs.Places.{none-global}
+use Rattle.smpe_session.proofs.Places.{none_global}
 use Rattle.std.proofs.lemmas.Bool.{or_right}
 
 abbrev IsHere : State → Session → Text → Type 0
 IsHere s at name = IsTrue (is_known s.zones name) → (name ≡ global_name) ⊎ IsSome (get bytes_eq at.zones name)
 
 -- one name more
-pub sought-more : (s : State) (at new : Session) (names : List Text) (i : ℕ) (name : Text) (answer : Bool)
+pub sought_more : (s : State) (at new : Session) (names : List Text) (i : ℕ) (name : Text) (answer : Bool)
     → i < length names → name ≡ get_or names i name
     → ((q : Text) → IsSome (get bytes_eq at.zones q) → IsSome (get bytes_eq new.zones q))
     → AreSought s at (take i names) → IsSought s new name answer
     → AreSought s new (take (i + 1) names)
-sought-more s at new names i name answer below is stay before sought = record {
+sought_more s at new names i name answer below is stay before sought = record {
   session = sought.session;
   here = All-more (IsHere s new) names i name below
       (All-weaker (IsHere s at) (IsHere s new) later (take i names) before.here)
@@ -53,9 +53,9 @@ at_found P p (y ∷ ys) z all found = by (at_found P p ys z all.1) (p y) refl
     by again false e = let now = rw e at found in again now
 
 -- The zones of all names are those of the state.
-pub all-zones : (s : State) (at : Session) (names : List Text) → IsInventory (kept s)
+pub all_zones : (s : State) (at : Session) (names : List Text) → IsInventory (kept s)
     → names ≡ map (λ z. z.name) s.zones → AreSought s at names → HasAllZones s at
-all-zones s at names inventory are sought = record {
+all_zones s at names inventory are sought = record {
   session = sought.session;
   zones = λ name. by_map name (get bytes_eq at.zones name) refl;
 }
@@ -66,12 +66,12 @@ all-zones s at names inventory are sought = record {
     absent : (name : Text) → get bytes_eq at.zones name ≡ None → (z : NamedZone)
         → find (λ z. bytes_eq z.name name) s.zones ≡ Some z → ⊥
     absent name none z found =
-        let same : z.name ≡ name = same_from z.name name (find-gives (λ z. bytes_eq z.name name) s.zones z found).0 in
+        let same : z.name ≡ name = same_from z.name name (find_gives (λ z. bytes_eq z.name name) s.zones z found).0 in
         let there : zone_named s.zones name ≡ Some z.zone = ap (option_map (λ (z : NamedZone). z.zone)) found in
         elim (subst (IsHere s at) same (at_found (IsHere s at) (λ z. bytes_eq z.name name) s.zones z here found)
         (or_right (bytes_eq name global_name) (is_some (zone_named s.zones name)) (ap is_some there))) [
           | inl global ↦ absurd (cc (sym (ap is_some there) ∙ ap is_some
-              (ap (zone_named s.zones) global ∙ none-global s.zones inventory.zones)))
+              (ap (zone_named s.zones) global ∙ none_global s.zones inventory.zones)))
           | inr some ↦ absurd (cc (sym (ap is_some none) ∙ some))
         ]
 
@@ -89,7 +89,7 @@ all-zones s at names inventory are sought = record {
 pub alike : (s : State) (at : Session) → IsInventory (kept s) → IsUnique bytes_eq at.zones → HasAllZones s at
     → AppliesAlike at.zones s.zones
 alike s at inventory unique has =
-    applies-alike at.zones s.zones unique
+    applies_alike at.zones s.zones unique
     (pairs_unmap (λ (a b : NamedZone). IsTrue (is_before a.name b.name)) (λ (x y : Text). IsTrue (is_before x y))
     (λ z. z.name) (λ a b lower. lower) s.zones inventory.names)
     has.zones

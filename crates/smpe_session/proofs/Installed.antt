@@ -16,9 +16,9 @@ use Rattle.zones.specs.Delta.{ZoneDelta, IsChanged}
 use Rattle.terms.specs.Forms.{IsDottedDate}
 use Rattle.terms.specs.Lookups.{is_before}
 use Rattle.terms.specs.Rising.{Rises, with_item}
-use Rattle.lemmas.proofs.Pairs.{pairs_unmap, AllPairs-parts}
+use Rattle.lemmas.proofs.Pairs.{pairs_unmap, AllPairs_parts}
 use Rattle.lemmas.proofs.Texts.{same_from, same_itself}
-use Rattle.terms.proofs.RisingLists.{with_item-there}
+use Rattle.terms.proofs.RisingLists.{with_item_there}
 use Rattle.store_zones.specs.Zones.{IsZoneChange}
 use Rattle.store_schema.specs.Inventory.{Inventory, IsInventory}
 use Rattle.machine.specs.Installing.{InstallsSelected}
@@ -31,8 +31,8 @@ use Rattle.smpe_upkeep.proofs.InstallForms.{apply_kept}
 use Rattle.smpe_session.specs.declared.session.Session.{Session}
 use Rattle.smpe_session.specs.Sessions.{IsSessionOf}
 use Rattle.smpe_session.specs.Places.{install_command, related_for, IsPlace, IsPlan}
-use Rattle.smpe_session.proofs.Places.{install-at}
-use Rattle.smpe_session.proofs.Seeking.{zones-updated, some-updated}
+use Rattle.smpe_session.proofs.Places.{install_at}
+use Rattle.smpe_session.proofs.Seeking.{zones_updated, some_updated}
 
 abbrev named : Text → Zone → NamedZone
 named name zone = record { name = name; zone = zone }
@@ -49,9 +49,9 @@ not_above a name above same = true≢false (sym above ∙ ap (λ x. is_lt (slice
     ∙ ap is_lt (tied_itself nat_list_cmp_total name))
 
 -- one zone becomes another, and keeps its name
-pub zone-change : (i : Inventory) (name : Text) (old new : Zone) → IsInventory i → zone_named i.zones name ≡ Some old
+pub zone_change : (i : Inventory) (name : Text) (old new : Zone) → IsInventory i → zone_named i.zones name ≡ Some old
     → IsZoneChange name old new i (record i { zones = replaced i.zones name new })
-zone-change i name old new is found =
+zone_change i name old new is found =
     let at = stands_among i.zones name old found in
     let was = named name old in
     let now = named name new in
@@ -60,9 +60,9 @@ zone-change i name old new is found =
     (λ z. z.name) (λ a b lower. lower) i.zones is.names) in
     let put : replaced i.zones name new ≡ at.before ++ now ∷ at.after =
     ap (λ zs. with_item (slice_cmp nat_cmp) (λ (z : NamedZone). z.name) zs now) at.zones_are
-    ∙ with_item-there nat_list_cmp_total (λ (z : NamedZone). z.name) at.before at.after now was rising
+    ∙ with_item_there nat_list_cmp_total (λ (z : NamedZone). z.name) at.before at.after now was rising
     (tied_itself nat_list_cmp_total name) in
-    let parts = AllPairs-parts (λ (a b : NamedZone). IsTrue (is_lt (slice_cmp nat_cmp a.name b.name))) at.before
+    let parts = AllPairs_parts (λ (a b : NamedZone). IsTrue (is_lt (slice_cmp nat_cmp a.name b.name))) at.before
     at.after was rising in
     record {
       before = at.before;
@@ -108,41 +108,41 @@ found_other name q old new other (z ∷ zs) back = by (bytes_eq z.name q) refl (
 
 module _ (s : State) (name : Text) (old new : Zone) (is : IsInventory (kept s))
     (found : zone_named s.zones name ≡ Some old) where
-  zones_are : replaced s.zones name new ≡ (zone-change (kept s) name old new is found).before
-      ++ named name new ∷ (zone-change (kept s) name old new is found).after
-  zones_are = ap (λ i. i.zones) (zone-change (kept s) name old new is found).is
+  zones_are : replaced s.zones name new ≡ (zone_change (kept s) name old new is found).before
+      ++ named name new ∷ (zone_change (kept s) name old new is found).after
+  zones_are = ap (λ i. i.zones) (zone_change (kept s) name old new is found).is
 
-  named-new : zone_named (replaced s.zones name new) name ≡ Some new
-  named-new = let change = zone-change (kept s) name old new is found
+  named_new : zone_named (replaced s.zones name new) name ≡ Some new
+  named_new = let change = zone_change (kept s) name old new is found
       in ap (λ zs. zone_named zs name) zones_are ∙ found_new name new change.before change.after change.others
 
-  named-other : (q : Text) → bytes_eq name q ≡ false → zone_named s.zones q ≡ zone_named (replaced s.zones name new) q
-  named-other q other =
-      let change = zone-change (kept s) name old new is found in
+  named_other : (q : Text) → bytes_eq name q ≡ false → zone_named s.zones q ≡ zone_named (replaced s.zones name new) q
+  named_other q other =
+      let change = zone_change (kept s) name old new is found in
       ap (λ zs. zone_named zs q) change.was ∙ found_other name q old new other change.before change.after
       ∙ sym (ap (λ zs. zone_named zs q) zones_are)
 
   -- the session of the changed state
-  pub install-session : (at session : Session) → IsSessionOf s at → session.global ≡ at.global
+  pub install_session : (at session : Session) → IsSessionOf s at → session.global ≡ at.global
       → session.boundary ≡ at.boundary → Updates bytes_eq at.zones session.zones name (Some new)
       → IsSessionOf (with_zone s name new) session
-  install-session at session here global boundary updates = record {
+  install_session at session here global boundary updates = record {
     global = global ∙ here.global;
     boundary = boundary ∙ here.boundary;
-    zones = zones-updated (with_zone s name new) at session name new
-        (λ q z other held. sym (named-other q other) ∙ here.zones q z held) updates named-new;
+    zones = zones_updated (with_zone s name new) at session name new
+        (λ q z other held. sym (named_other q other) ∙ here.zones q z held) updates named_new;
     current = λ q bound. elim (here.current q bound) [
       | inl same ↦ inl same
-      | inr some ↦ inr (some-updated at session name q new updates some)
+      | inr some ↦ inr (some_updated at session name q new updates some)
     ];
   }
 
 -- the command where it can run
-runs-there : (date : Text) (files : Files) (kind : ZoneKind) (i : Install) (s t : State) (outcome : Outcome)
+runs_there : (date : Text) (files : Files) (kind : ZoneKind) (i : Install) (s t : State) (outcome : Outcome)
     → InstallsThere date s (install_command kind i) i (related_for kind s.zones) t outcome
     → RunsThere date files s (install_command kind i) t outcome
-runs-there date files Target i s t outcome there = there
-runs-there date files Distribution i s t outcome there = there
+runs_there date files Target i s t outcome there = there
+runs_there date files Distribution i s t outcome there = there
 
 -- what was planned, as the command's own words
 pub record IsReady (date : Text) (kind : ZoneKind) (i : Install) (s : State) (at : Session) (name : Text) (zone : Zone)
@@ -174,12 +174,12 @@ planned date kind i s at name zone related sel bypass delta new lines here place
 module _ (date : Text) (kind : ZoneKind) (i : Install) (s : State) (at : Session) (name : Text) (zone : Zone)
     (delta : ZoneDelta) (new : Zone) (lines : List Line)
     (ready : IsReady date kind i s at name zone delta new lines) where
-  pub install-performs : (files : Files) (check : Bool) (t : State) (header : Header) → i.check ≡ check
+  pub install_performs : (files : Files) (check : Bool) (t : State) (header : Header) → i.check ≡ check
       → t ≡ (if check then s else with_zone s name new) → header ≡ header_of (install_command kind i) s.boundary
       → Performs date files s (install_command kind i) t (Ran header lines)
-  install-performs files check t header checks state headed = inr (
-    install-at s kind i ∙ ready.place.fits,
-    runs-there date files kind i s t (Ran header lines) record {
+  install_performs files check t header checks state headed = inr (
+    install_at s kind i ∙ ready.place.fits,
+    runs_there date files kind i s t (Ran header lines) record {
       name = name;
       at = ready.place.boundary;
       zone = zone;
@@ -193,15 +193,15 @@ module _ (date : Text) (kind : ZoneKind) (i : Install) (s : State) (at : Session
   )
 
   -- what a commit of the change asks for
-  pub install-commits : {Committed : Type 0} → IsInventory (kept s)
+  pub install_commits : {Committed : Type 0} → IsInventory (kept s)
       → ((was : Zone) → IsZoneChange name was new (kept s) (kept (with_zone s name new)) → IsChanged delta was new
       → IsInventory (kept (with_zone s name new)) → IsSome (get bytes_eq at.zones name) → Committed) → Committed
-  install-commits is commits = commits zone (zone-change (kept s) name zone new is ready.place.is_there) ready.changed
+  install_commits is commits = commits zone (zone_change (kept s) name zone new is ready.place.is_there) ready.changed
       (apply_kept (kept s) name zone new (related_for kind s.zones name) i.selection i.bypass date ready.printed is
       ready.place.is_there ready.installs ready.dated)
       (subst IsSome (sym ready.place.has) refl)
 
 -- the command where it can't run
-pub install-refused : (date : Text) (files : Files) (c : Command) (s : State) (header : Header) (why : Refusal)
+pub install_refused : (date : Text) (files : Files) (c : Command) (s : State) (header : Header) (why : Refusal)
     → header ≡ header_of c s.boundary → misplaced s c ≡ Some why → Performs date files s c s (Refused header why)
-install-refused date files c s header why headed at = inl (why, at, refl, ap (λ h. Refused h why) headed)
+install_refused date files c s header why headed at = inl (why, at, refl, ap (λ h. Refused h why) headed)

@@ -23,12 +23,12 @@ pub record LeadsBy (date : Text) (files : Files) (c : Command) (s : State) (new 
   pub inventory : IsInventory (kept (record s { global = new }))
   pub leads : LeadsToGlobal date files c s new (record s { global = new }) lines
 
-pub leads-by : (date : Text) (files : Files) (c : Command) (s : State) (old new : Global) (edits : List GlobalEdit)
+pub leads_by : (date : Text) (files : Files) (c : Command) (s : State) (old new : Global) (edits : List GlobalEdit)
     (lines : List Line) → s.global ≡ old
     → EachFits edits old → after_edits edits old ≡ new → IsInventory (kept (record s { global = new }))
     → LeadsToGlobal date files c s new (record s { global = new }) lines
     → LeadsBy date files c s new edits lines
-leads-by date files c s old new edits lines global fits after inventory leads = record {
+leads_by date files c s old new edits lines global fits after inventory leads = record {
   fits = subst (EachFits edits) (sym global) fits;
   makes = ap (λ k. record (kept s) { global = k }) (sym (ap (after_edits edits) global ∙ after));
   inventory = inventory;
@@ -55,9 +55,9 @@ pub refused : (date : Text) (files : Files) (c : Command) (s : State) (boundary 
 refused date files c s boundary why same at = headed date files c s s boundary (λ h. Refused h why) same
     (inl (why, at, refl, refl))
 
-pub led-session : (s t : State) (at new : Session) → IsSessionOf s at → t ≡ record s { global = new.global }
+pub led_session : (s t : State) (at new : Session) → IsSessionOf s at → t ≡ record s { global = new.global }
     → new.zones ≡ at.zones → new.boundary ≡ at.boundary → IsSessionOf t new
-led-session s t at new is state zones boundary = subst (λ u. IsSessionOf u new) (sym state) record {
+led_session s t at new is state zones boundary = subst (λ u. IsSessionOf u new) (sym state) record {
   global = refl;
   boundary = boundary ∙ is.boundary;
   zones = λ q z found. is.zones q z (sym (ap (λ m. get bytes_eq m q) zones) ∙ found);

@@ -15,7 +15,7 @@ use Rattle.store_schema.specs.Inventory.{IsInventory}
 use Rattle.smpe_zones.specs.Kept.{kept}
 use Rattle.smpe_session.specs.declared.session.Session.{Session}
 use Rattle.smpe_session.specs.Sessions.{IsSessionOf}
-use Rattle.smpe_session.proofs.Places.{none-global}
+use Rattle.smpe_session.proofs.Places.{none_global}
 
 -- why LIST or REPORT can't run at a boundary, whose zone is this one
 abbrev list_refusal : Option Text → Option Zone → Option Refusal
@@ -31,9 +31,9 @@ lines_at s text boundary zone = if option_map_or (bytes_eq global_name) boundary
     else option_map_or (list_zone text) zone []
 
 -- A zone of the boundary that the session does not have is the global zone.
-pub at-global-zone : (s : State) (at : Session) (name : Text) → IsSessionOf s at → s.boundary ≡ Some name
+pub at_global_zone : (s : State) (at : Session) (name : Text) → IsSessionOf s at → s.boundary ≡ Some name
     → get bytes_eq at.zones name ≡ None → name ≡ global_name
-at-global-zone s at name is named none = elim (is.current name named) [
+at_global_zone s at name is named none = elim (is.current name named) [
   | inl same ↦ same
   | inr some ↦ absurd (cc (sym (ap is_some none) ∙ some))
 ]
@@ -55,17 +55,17 @@ module _ (s : State) (text : Bool) where
       → listed s text ≡ lines_at s text boundary (option_and_then (zone_named s.zones) boundary)
   listed_at boundary at = listed_here ∙ ap (λ b. lines_at s text b (option_and_then (zone_named s.zones) b)) at
 
-  pub list-nowhere : s.boundary ≡ None → misplaced s (ListZone text) ≡ Some Cm1
-  list-nowhere at = list_at None at
+  pub list_nowhere : s.boundary ≡ None → misplaced s (ListZone text) ≡ Some Cm1
+  list_nowhere at = list_at None at
 
   module _ (date : Text) (files : Files) where
     lists : (lines : List Line) → misplaced s (ListZone text) ≡ None → listed s text ≡ lines
         → Performs date files s (ListZone text) s (Ran (header_of (ListZone text) s.boundary) lines)
     lists lines fits are = inr (fits, (refl, ap (λ ls. Ran (header_of (ListZone text) s.boundary) ls) (sym are)))
 
-    pub list-global : (name : Text) → s.boundary ≡ Some name → name ≡ global_name
+    pub list_global_holds : (name : Text) → s.boundary ≡ Some name → name ≡ global_name
         → Performs date files s (ListZone text) s (Ran (header_of (ListZone text) s.boundary) (list_global s.global))
-    list-global name named is =
+    list_global_holds name named is =
         let at = named ∙ ap Some is in
         lists (list_global s.global)
         (list_at (Some global_name) at ∙ ap (λ b. if b || is_some (zone_named s.zones global_name) then None
@@ -73,10 +73,10 @@ module _ (s : State) (text : Bool) where
         (listed_at (Some global_name) at ∙ ap (λ b. if b then list_global s.global
         else option_map_or (list_zone text) (zone_named s.zones global_name) []) (same_itself global_name))
 
-    pub list-zone : (name : Text) (zone : Zone) → s.boundary ≡ Some name → name ≢ global_name
+    pub list_zone_holds : (name : Text) (zone : Zone) → s.boundary ≡ Some name → name ≢ global_name
         → zone_named s.zones name ≡ Some zone
         → Performs date files s (ListZone text) s (Ran (header_of (ListZone text) s.boundary) (list_zone text zone))
-    list-zone name zone at other there = by (bytes_eq global_name name) refl
+    list_zone_holds name zone at other there = by (bytes_eq global_name name) refl
       where
         by : (b : Bool) → bytes_eq global_name name ≡ b
             → Performs date files s (ListZone text) s (Ran (header_of (ListZone text) s.boundary) (list_zone text zone))
@@ -99,18 +99,18 @@ module _ (s : State) where
       → misplaced s Report ≡ report_refusal boundary (option_and_then (zone_named s.zones) boundary)
   report_at boundary at = report_misplaced ∙ ap (λ b. report_refusal b (option_and_then (zone_named s.zones) b)) at
 
-  pub report-nowhere : s.boundary ≡ None → misplaced s Report ≡ Some Cm1
-  report-nowhere at = report_at None at
+  pub report_nowhere : s.boundary ≡ None → misplaced s Report ≡ Some Cm1
+  report_nowhere at = report_at None at
 
-  pub report-global : (name : Text) → IsInventory (kept s) → s.boundary ≡ Some name → name ≡ global_name
+  pub report_global : (name : Text) → IsInventory (kept s) → s.boundary ≡ Some name → name ≡ global_name
       → misplaced s Report ≡ Some Cm3
-  report-global name inventory at is = report_at (Some name) at ∙ ap (λ z. if is_some z then None else Some Cm3)
-      (ap (zone_named s.zones) is ∙ none-global s.zones inventory.zones)
+  report_global name inventory at is = report_at (Some name) at ∙ ap (λ z. if is_some z then None else Some Cm3)
+      (ap (zone_named s.zones) is ∙ none_global s.zones inventory.zones)
 
-  pub report-zone : (date : Text) (files : Files) (name : Text) (zone : Zone) (lines : List Line)
+  pub report_zone : (date : Text) (files : Files) (name : Text) (zone : Zone) (lines : List Line)
       → s.boundary ≡ Some name → zone_named s.zones name ≡ Some zone → AreErrsysmods s.global zone lines
       → Performs date files s Report s (Ran (header_of Report s.boundary) lines)
-  report-zone date files name zone lines at there are = inr (
+  report_zone date files name zone lines at there are = inr (
     report_at (Some name) at ∙ ap (λ z. if is_some z then None else Some Cm3) there,
     (
       refl,

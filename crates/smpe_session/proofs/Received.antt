@@ -19,32 +19,32 @@ use Rattle.report.specs.Views.{refusal_view}
 use Rattle.sysmods.specs.declared.edit.GlobalEdit.{GlobalEdit}
 use Rattle.sysmods.specs.Edits.{after_edit, EachFits, after_edits}
 use Rattle.smpe_zones.specs.Kept.{kept}
-use Rattle.smpe_receive.specs.External.{IsExternal}
-use Rattle.smpe_receive.proofs.Fitting.{fits-append}
+use Rattle.smpe_global.specs.External.{IsExternal}
+use Rattle.smpe_global.proofs.Fitting.{fits_append}
 use Rattle.smpe_upkeep.proofs.HoldFileForms.{IsHoldItem, hold_file_formed}
 use Rattle.smpe_upkeep.proofs.ReceivingForms.{take_forms}
 use Rattle.smpe_session.specs.Received.{AreTaken}
-use Rattle.smpe_receive.proofs.Fitting.{fits-append}
-use Rattle.smpe_session.proofs.Leading.{LeadsBy, leads-by, headed}
+use Rattle.smpe_global.proofs.Fitting.{fits_append}
+use Rattle.smpe_session.proofs.Leading.{LeadsBy, leads_by, headed}
 
 external : (item : HoldItem) → IsHoldItem item → IsExternal item
 external (AHold h) is = is.1
 external (ARelease r) is = tt
 
 -- The holds of a hold file, where it is read, are external.
-pub each-external : (reads : Bool) (bytes : List ℕ) (holds : List HoldItem) → HasItems IsHoldFile reads bytes holds
+pub each_external : (reads : Bool) (bytes : List ℕ) (holds : List HoldItem) → HasItems IsHoldFile reads bytes holds
     → All IsExternal holds
-each-external true bytes holds has = All-from_recursion IsExternal holds
+each_external true bytes holds has = All-from_recursion IsExternal holds
     (recursion_weaker IsHoldItem IsExternal external holds (hold_file_formed bytes holds has))
-each-external false bytes holds none = subst (All IsExternal) (sym none) (All-from_recursion IsExternal [] tt)
+each_external false bytes holds none = subst (All IsExternal) (sym none) (All-from_recursion IsExternal [] tt)
 
 -- the items of PTFIN, and then those of the hold file
-pub both-taken : (source : Option Text) (items : List Item) (holds : List HoldItem) (g middle new : Global)
+pub both_taken : (source : Option Text) (items : List Item) (holds : List HoldItem) (g middle new : Global)
     (edits later all : List GlobalEdit) (first more lines : List Line)
     → Runs (TakesItem source) g items middle first → EachFits edits g → after_edits edits g ≡ middle
     → Runs TakesHoldItem middle holds new more → EachFits later middle → after_edits later middle ≡ new
     → all ≡ edits ++ later → lines ≡ first ++ more → AreTaken source items holds g new all lines
-both-taken source items holds g middle new edits later all first more lines runs fits after runs_holds fits_holds
+both_taken source items holds g middle new edits later all first more lines runs fits after runs_holds fits_holds
     after_holds all_are lines_are = record {
       middle = middle;
       first = first;
@@ -52,7 +52,7 @@ both-taken source items holds g middle new edits later all first more lines runs
       runs = runs;
       runs_holds = runs_holds;
       lines_are = lines_are;
-      fits = subst (λ es. EachFits es g) (sym all_are) (fits-append g edits later fits
+      fits = subst (λ es. EachFits es g) (sym all_are) (fits_append g edits later fits
           (subst (EachFits later) (sym after) fits_holds));
       after = ap (λ es. after_edits es g) all_are ∙ fold-append after_edit g edits later ∙ ap (after_edits later) after
           ∙ after_holds;
@@ -70,7 +70,7 @@ received date files what s old new source items holds edits printed lines global
     taken all =
     let runs = subst (λ o. Runs (TakesItem o) s.global items taken.middle taken.first) (sym sources)
     (subst (λ k. Runs (TakesItem source) k items taken.middle taken.first) (sym global) taken.runs) in
-    leads-by date files (Receive what) s old new edits lines global taken.fits taken.after
+    leads_by date files (Receive what) s old new edits lines global taken.fits taken.after
     (take_forms files what items holds (kept s) taken.middle new taken.first taken.more
     (subst (λ o. IfSome o IsSource) (sym sources) form) reads reads_holds is runs taken.runs_holds)
     record {
@@ -84,29 +84,29 @@ received date files what s old new source items holds edits printed lines global
     }
 
 -- a fault of a file
-pub take-faulty : (date : Text) (files : Files) (what : ReceiveWhat) (s : State) (boundary : Option Text)
+pub take_faulty : (date : Text) (files : Files) (what : ReceiveWhat) (s : State) (boundary : Option Text)
     (why : Refusal) → boundary ≡ s.boundary → misplaced s (Receive what) ≡ None
     → ((u : State) → Takes files u what u (Refused (header_of (Receive what) u.boundary) (refusal_view why)))
     → Performs date files s (Receive what) s (Refused (header_of (Receive what) boundary) (refusal_view why))
-take-faulty date files what s boundary why same at takes = headed date files (Receive what) s s boundary
+take_faulty date files what s boundary why same at takes = headed date files (Receive what) s s boundary
     (λ h. Refused h (refusal_view why)) same (inr (at, takes s))
 
 -- PTFIN has a fault, or the hold file has one where PTFIN has none
 module _ (files : Files) (what : ReceiveWhat) (why : Refusal) (sysmods : Bool) (ptfin : List ℕ)
     (same_sysmods : what.sysmods ≡ sysmods) (same_ptfin : files.ptfin ≡ ptfin) where
-  pub ptfin-faulty : IsTrue sysmods × ((fault : McsFault) × IsPtfinFault ptfin fault
+  pub ptfin_faulty : IsTrue sysmods × ((fault : McsFault) × IsPtfinFault ptfin fault
       × (refusal_view why ≡ Cm4 fault.number fault.code))
       → (s : State) → Takes files s what s (Refused (header_of (Receive what) s.boundary) (refusal_view why))
-  ptfin-faulty (reads, (fault, is, code)) s =
+  ptfin_faulty (reads, (fault, is, code)) s =
       subst (λ r. Takes files s what s (Refused (header_of (Receive what) s.boundary) r)) (sym code)
       (TakesNone fault (same_sysmods ∙ reads) (subst (λ b. IsPtfinFault b fault) (sym same_ptfin) is))
 
-  pub hold_file-faulty : (items : List Item) (holddata : Bool) (holds : List ℕ) → what.holddata ≡ holddata
+  pub hold_file_faulty : (items : List Item) (holddata : Bool) (holds : List ℕ) → what.holddata ≡ holddata
       → files.holds ≡ holds → HasItems IsPtfin sysmods ptfin items
       → IsTrue holddata × ((fault : McsFault) × IsHoldFileFault holds fault
       × (refusal_view why ≡ Cm5 fault.number fault.code))
       → (s : State) → Takes files s what s (Refused (header_of (Receive what) s.boundary) (refusal_view why))
-  hold_file-faulty items holddata holds same_holddata same_holds has (reads, (fault, is, code)) s =
+  hold_file_faulty items holddata holds same_holddata same_holds has (reads, (fault, is, code)) s =
       subst (λ r. Takes files s what s (Refused (header_of (Receive what) s.boundary) r)) (sym code)
       (TakesNoHold items fault
       (subst (λ b. HasItems IsPtfin b files.ptfin items) (sym same_sysmods)

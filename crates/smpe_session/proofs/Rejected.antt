@@ -11,7 +11,7 @@ use Rattle.sysmods.specs.declared.edit.GlobalEdit.{GlobalEdit}
 use Rattle.sysmods.specs.Edits.{EachFits, after_edits}
 use Rattle.smpe_zones.specs.Kept.{kept}
 use Rattle.smpe_upkeep.proofs.RejectingForms.{reject_forms}
-use Rattle.smpe_session.proofs.Leading.{LeadsBy, leads-by}
+use Rattle.smpe_session.proofs.Leading.{LeadsBy, leads_by}
 
 pub rejected : (date : Text) (files : Files) (ids : List Id) (s : State) (old new : Global) (edits : List GlobalEdit)
     (lines : List Line)
@@ -20,7 +20,7 @@ pub rejected : (date : Text) (files : Files) (ids : List Id) (s : State) (old ne
     → LeadsBy date files (Reject ids) s new edits lines
 rejected date files ids s old new edits lines global is at runs_old fits after =
     let runs = subst (λ k. Runs (RejectsId s.zones) k ids new lines) (sym global) runs_old in
-    leads-by date files (Reject ids) s old new edits lines global fits after
+    leads_by date files (Reject ids) s old new edits lines global fits after
     (reject_forms ids (kept s) new lines is runs)
     record {
       state = refl;

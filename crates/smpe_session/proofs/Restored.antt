@@ -7,7 +7,7 @@ use Rattle.indexmap.specs.IndexMap.{get}
 use Rattle.terms.specs.declared.kinds.ZoneKind.{ZoneKind}
 use Rattle.terms.specs.declared.kinds.ZoneKind.TheVariants.{Target}
 use Rattle.terms.specs.Types.{Text, Zone, NamedZone, RestoreList, Restore}
-use Rattle.lemmas.proofs.Searches.{All-find}
+use Rattle.lemmas.proofs.Searches.{All_find}
 use Rattle.zones.specs.Delta.{ZoneDelta, IsChanged}
 use Rattle.store_zones.specs.Zones.{IsZoneChange}
 use Rattle.store_schema.specs.Inventory.{IsInventory, IsRelated}
@@ -22,9 +22,9 @@ use Rattle.smpe_session.specs.Sessions.{IsSessionOf}
 use Rattle.smpe_session.specs.Steps.{IsSought}
 use Rattle.smpe_session.specs.Places.{IsPlace}
 use Rattle.smpe_session.specs.Restored.{HasAccepted, IsTarget, IsRestorePlan}
-use Rattle.smpe_session.proofs.Installed.{zone-change}
-use Rattle.smpe_session.proofs.Places.{none-global, restore-at}
-use Rattle.smpe_session.proofs.StateZones.{its-own, sought-held}
+use Rattle.smpe_session.proofs.Installed.{zone_change}
+use Rattle.smpe_session.proofs.Places.{none_global, restore_at}
+use Rattle.smpe_session.proofs.StateZones.{its_own, sought_held}
 
 abbrev related_in : Option Zone → Option Text
 related_in zone = option_and_then (λ (z : Zone). z.related) zone
@@ -44,7 +44,7 @@ module _ (s : State) (inventory : IsInventory (kept s)) where
     where
       by : (o : Option Zone) → get bytes_eq at.zones name ≡ o → related_in (get bytes_eq at.zones name) ≡ zone.related
       by None e = elim (is.current name bound) [
-        | inl same ↦ absurd (cc (sym there ∙ ap (zone_named s.zones) same ∙ none-global s.zones inventory.zones))
+        | inl same ↦ absurd (cc (sym there ∙ ap (zone_named s.zones) same ∙ none_global s.zones inventory.zones))
         | inr some ↦ absurd (cc (sym (ap is_some e) ∙ some))
       ]
       by (Some z) e =
@@ -52,17 +52,17 @@ module _ (s : State) (inventory : IsInventory (kept s)) where
           ap related_in e ∙ ap (λ o. related_in o) same
 
   -- The zone of the boundary is related to none, or is none.
-  pub accepted-none : (at : Session) → IsSessionOf s at → IsName at None → HasAccepted s at None
-  accepted-none at is named = record {
+  pub accepted_none : (at : Session) → IsSessionOf s at → IsName at None → HasAccepted s at None
+  accepted_none at is named = record {
     session = is;
     is_related = λ name zone bound there. ap (option_and_then (zone_named s.zones))
         (name_is at None is named name zone bound there);
   }
 
   -- It is related to one, which was sought.
-  pub accepted-some : (old at : Session) (accepted : Text) (answer : Bool) → IsSessionOf s old
+  pub accepted_some : (old at : Session) (accepted : Text) (answer : Bool) → IsSessionOf s old
       → IsName old (Some accepted) → IsSought s at accepted answer → HasAccepted s at (Some accepted)
-  accepted-some old at accepted answer is named sought = record {
+  accepted_some old at accepted answer is named sought = record {
     session = sought.session;
     is_related = λ name zone bound there. by (zone_named s.zones accepted) refl
         ∙ ap (option_and_then (zone_named s.zones)) (name_is old (Some accepted) is named name zone bound there);
@@ -75,7 +75,7 @@ module _ (s : State) (inventory : IsInventory (kept s)) where
       by : (o : Option Zone) → zone_named s.zones accepted ≡ o
           → get bytes_eq at.zones accepted ≡ zone_named s.zones accepted
       by None e = none (get bytes_eq at.zones accepted) refl e ∙ sym e
-      by (Some z) e = sought-held s inventory at accepted answer sought z e ∙ sym e
+      by (Some z) e = sought_held s inventory at accepted answer sought z e ∙ sym e
 
   abbrev Related : ZoneKind → Text → Option Text → Type 0
   Related kind srel name = IsRelated s.zones kind srel name
@@ -85,7 +85,7 @@ module _ (s : State) (inventory : IsInventory (kept s)) where
       → IsSome (option_and_then (zone_named s.zones) name)
   related_there srel None is = absurd is
   related_there srel (Some name) (z, there, named, kind, same) =
-      ap is_some (ap (zone_named s.zones) (sym named) ∙ its-own s inventory z there)
+      ap is_some (ap (zone_named s.zones) (sym named) ∙ its_own s inventory z there)
 
   is_related : (name : Text) (zone : Zone) → zone_named s.zones name ≡ Some zone
       → Related zone.kind zone.srel zone.related
@@ -98,7 +98,7 @@ module _ (s : State) (inventory : IsInventory (kept s)) where
           let same : Some z.zone ≡ Some zone = sym (ap (option_map (λ z. z.zone)) at) ∙ there in
           let is : z.zone ≡ zone = cc same in
           subst (λ (y : Zone). Related y.kind y.srel y.related) is
-          (All-find (λ (z : NamedZone). Related z.zone.kind z.zone.srel z.zone.related)
+          (All_find (λ (z : NamedZone). Related z.zone.kind z.zone.srel z.zone.related)
           (λ z. bytes_eq z.name name) s.zones z inventory.related at)
 
   module _ (at : Session) (accepted : Option Text) (has : HasAccepted s at accepted) (name : Text) (zone : Zone)
@@ -106,9 +106,9 @@ module _ (s : State) (inventory : IsInventory (kept s)) where
     beside : option_and_then (get bytes_eq at.zones) accepted ≡ option_and_then (zone_named s.zones) zone.related
     beside = has.is_related name zone place.boundary place.is_there
 
-    pub is-target : (other : Zone) → option_and_then (get bytes_eq at.zones) accepted ≡ Some other
+    pub is_target : (other : Zone) → option_and_then (get bytes_eq at.zones) accepted ≡ Some other
         → IsTarget s at name zone other
-    is-target other held = record {
+    is_target other held = record {
       boundary = place.boundary;
       has = place.has;
       is_there = place.is_there;
@@ -116,27 +116,27 @@ module _ (s : State) (inventory : IsInventory (kept s)) where
       fits = place.fits;
     }
 
-    pub not-none : option_and_then (get bytes_eq at.zones) accepted ≡ None → ⊥
-    not-none none =
+    pub not_none : option_and_then (get bytes_eq at.zones) accepted ≡ None → ⊥
+    not_none none =
         let some = related_there zone.srel zone.related (subst (λ k. Related k zone.srel zone.related) place.kind_is
         (is_related name zone place.is_there)) in
         absurd (cc (sym (ap is_some (sym beside ∙ none)) ∙ some))
 
 -- what was planned, as the command's own words
-pub restores-there : (s : State) (at : Session) (zone accepted new : Zone) (what : RestoreList) (delta : ZoneDelta)
+pub restores_there : (s : State) (at : Session) (zone accepted new : Zone) (what : RestoreList) (delta : ZoneDelta)
     (lines : List Line) → IsSessionOf s at → IsRestorePlan at.global zone accepted what delta new lines
     → RestoresListed s.global zone accepted what new lines
-restores-there s at zone accepted new what delta lines is plan =
+restores_there s at zone accepted new what delta lines is plan =
     subst (λ g. RestoresListed g zone accepted what new lines) is.global plan.restores
 
 module _ (s : State) (at : Session) (name : Text) (zone accepted new : Zone) (what : RestoreList) (lines : List Line)
     (target : IsTarget s at name zone accepted)
     (restores : RestoresListed s.global zone accepted what new lines) where
-  pub restore-performs : (date : Text) (files : Files) (check : Bool) (t : State)
+  pub restore_performs : (date : Text) (files : Files) (check : Bool) (t : State)
       → t ≡ (if check then s else with_zone s name new)
       → Performs date files s (Restore what check) t (Ran (header_of (Restore what check) s.boundary) lines)
-  restore-performs date files check t state = inr (
-    restore-at s what check ∙ target.fits,
+  restore_performs date files check t state = inr (
+    restore_at s what check ∙ target.fits,
     record {
       name = name;
       at = target.boundary;
@@ -153,10 +153,10 @@ module _ (s : State) (at : Session) (name : Text) (zone accepted new : Zone) (wh
   )
 
   -- what a commit of the change asks for
-  pub restore-commits : (delta : ZoneDelta) → IsChanged delta zone new → {Committed : Type 0} → IsInventory (kept s)
+  pub restore_commits : (delta : ZoneDelta) → IsChanged delta zone new → {Committed : Type 0} → IsInventory (kept s)
       → ((was : Zone) → IsZoneChange name was new (kept s) (kept (with_zone s name new)) → IsChanged delta was new
       → IsInventory (kept (with_zone s name new)) → IsSome (get bytes_eq at.zones name) → Committed) → Committed
-  restore-commits delta changed is commits = commits zone
-      (zone-change (kept s) name zone new is target.is_there) changed
+  restore_commits delta changed is commits = commits zone
+      (zone_change (kept s) name zone new is target.is_there) changed
       (restore_kept (kept s) name zone accepted new what lines is target.is_there target.related restores)
       (subst IsSome (sym target.has) refl)

@@ -15,12 +15,12 @@ use Rattle.smpe_session.specs.Sessions.{IsSessionOf}
 use Rattle.smpe_session.specs.Steps.{IsSought}
 
 -- a zone of the state under its name
-pub zones-updated : (s : State) (at new : Session) (name : Text) (zone : Zone)
+pub zones_updated : (s : State) (at new : Session) (name : Text) (zone : Zone)
     → ((q : Text) (z : Zone) → bytes_eq name q ≡ false → get bytes_eq at.zones q ≡ Some z
     → zone_named s.zones q ≡ Some z)
     → Updates bytes_eq at.zones new.zones name (Some zone) → zone_named s.zones name ≡ Some zone
     → (q : Text) (z : Zone) → get bytes_eq new.zones q ≡ Some z → zone_named s.zones q ≡ Some z
-zones-updated s at new name zone zones updates there q z found = by (bytes_eq name q) refl
+zones_updated s at new name zone zones updates there q z found = by (bytes_eq name q) refl
   where
     by : (b : Bool) → bytes_eq name q ≡ b → zone_named s.zones q ≡ Some z
     by true same =
@@ -31,10 +31,10 @@ zones-updated s at new name zone zones updates there q z found = by (bytes_eq na
         ∙ found)
 
 -- what stood in the map stands in it still
-pub some-updated : (at new : Session) (name q : Text) (zone : Zone)
+pub some_updated : (at new : Session) (name q : Text) (zone : Zone)
     → Updates bytes_eq at.zones new.zones name (Some zone) → IsSome (get bytes_eq at.zones q)
     → IsSome (get bytes_eq new.zones q)
-some-updated at new name q zone updates some = by (bytes_eq name q) refl
+some_updated at new name q zone updates some = by (bytes_eq name q) refl
   where
     by : (b : Bool) → bytes_eq name q ≡ b → IsSome (get bytes_eq new.zones q)
     by true same = subst IsSome (sym (updates.0 q ∙ ap (λ b. cond b (Some zone) (get bytes_eq at.zones q)) same)) refl
@@ -42,18 +42,18 @@ some-updated at new name q zone updates some = by (bytes_eq name q) refl
         some
 
 -- a zone that was loaded
-pub sought-loaded : (s : State) (at new : Session) (name : Text) (zone : Zone) → IsSessionOf s at
+pub sought_loaded : (s : State) (at new : Session) (name : Text) (zone : Zone) → IsSessionOf s at
     → zone_named s.zones name ≡ Some zone
     → new.global ≡ at.global → new.boundary ≡ at.boundary → Updates bytes_eq at.zones new.zones name (Some zone)
     → IsSought s new name true
-sought-loaded s at new name zone is there global boundary updates = record {
+sought_loaded s at new name zone is there global boundary updates = record {
   session = record {
     global = global ∙ is.global;
     boundary = boundary ∙ is.boundary;
-    zones = zones-updated s at new name zone (λ q z other found. is.zones q z found) updates there;
+    zones = zones_updated s at new name zone (λ q z other found. is.zones q z found) updates there;
     current = λ q named. elim (is.current q named) [
       | inl same ↦ inl same
-      | inr some ↦ inr (some-updated at new name q zone updates some)
+      | inr some ↦ inr (some_updated at new name q zone updates some)
     ];
   };
   found = sym (or_right (bytes_eq name global_name) (is_some (zone_named s.zones name)) (ap is_some there));
@@ -61,30 +61,30 @@ sought-loaded s at new name zone is there global boundary updates = record {
 }
 
 -- SET of no zone
-pub set-refused : (s : State) (at : Session) (name date : Text) (files : Files) (answer : Bool)
+pub set_refused : (s : State) (at : Session) (name date : Text) (files : Files) (answer : Bool)
     → IsSought s at name answer → answer ≡ false
     → Performs date files s (Set name) s (Refused (header_of (Set name) s.boundary) Cm2)
 unfolding misplaced
-set-refused s at name date files true is none = absurd (cc none)
-set-refused s at name date files false is none = inl (Cm2, ap (λ b. cond b None (Some Cm2)) (sym is.found), refl, refl)
+set_refused s at name date files true is none = absurd (cc none)
+set_refused s at name date files false is none = inl (Cm2, ap (λ b. cond b None (Some Cm2)) (sym is.found), refl, refl)
 
 -- SET of a zone
-pub set-ran : (s : State) (at : Session) (name date : Text) (files : Files) (lines : List Line) (answer : Bool)
+pub set_ran : (s : State) (at : Session) (name date : Text) (files : Files) (lines : List Line) (answer : Bool)
     → IsSought s at name answer → answer ≡ true → lines ≡ []
     → Performs date files s (Set name) (record s { boundary = Some name }) (Ran (header_of (Set name) s.boundary) lines)
 unfolding misplaced
-set-ran s at name date files lines true is some none = inr (
+set_ran s at name date files lines true is some none = inr (
   ap (λ b. cond b None (Some Cm2)) (sym is.found),
   (refl, ap (λ ls. Ran (header_of (Set name) s.boundary) ls) none),
 )
-set-ran s at name date files lines false is some none = absurd (cc some)
+set_ran s at name date files lines false is some none = absurd (cc some)
 
-pub set-session : (s : State) (at new : Session) (name : Text) (answer : Bool) → IsSought s at name answer
+pub set_session : (s : State) (at new : Session) (name : Text) (answer : Bool) → IsSought s at name answer
     → answer ≡ true
     → new.global ≡ at.global → new.zones ≡ at.zones → new.boundary ≡ Some name
     → IsSessionOf (record s { boundary = Some name }) new
-set-session s at new name false is some global zones boundary = absurd (cc some)
-set-session s at new name true is some global zones boundary = record {
+set_session s at new name false is some global zones boundary = absurd (cc some)
+set_session s at new name true is some global zones boundary = record {
   global = global ∙ is.session.global;
   boundary = boundary;
   zones = λ q z found. is.session.zones q z (sym (ap (λ m. get bytes_eq m q) zones) ∙ found);

@@ -14,10 +14,10 @@ use Rattle.lemmas.proofs.Pairs.{pairs_unmap}
 use Rattle.store_schema.specs.Inventory.{IsInventory}
 use Rattle.machine.specs.State.{State, global_name, zone_named}
 use Rattle.smpe_zones.specs.Kept.{kept}
-use Rattle.smpe_upkeep.proofs.Lists.{find-itself}
+use Rattle.smpe_upkeep.proofs.Lists.{find_itself}
 use Rattle.smpe_session.specs.declared.session.Session.{Session}
 use Rattle.smpe_session.specs.Steps.{IsSought}
-use Rattle.smpe_session.proofs.Places.{none-global}
+use Rattle.smpe_session.proofs.Places.{none_global}
 
 module _ (s : State) (inventory : IsInventory (kept s)) where
   rising : Rises (slice_cmp nat_cmp) (λ (z : NamedZone). z.name) s.zones
@@ -25,23 +25,23 @@ module _ (s : State) (inventory : IsInventory (kept s)) where
       (λ (x y : Text). IsTrue (is_before x y)) (λ z. z.name) (λ a b lower. lower) s.zones inventory.names
 
   -- a zone of the state is that of its name
-  pub its-own : (z : NamedZone) → Contains s.zones z → zone_named s.zones z.name ≡ Some z.zone
-  its-own z there = ap (option_map (λ (z : NamedZone). z.zone))
-      (find-itself nat_list_cmp_total (λ (z : NamedZone). z.name) bytes_eq texts_ties s.zones z rising there)
+  pub its_own : (z : NamedZone) → Contains s.zones z → zone_named s.zones z.name ≡ Some z.zone
+  its_own z there = ap (option_map (λ (z : NamedZone). z.zone))
+      (find_itself nat_list_cmp_total (λ (z : NamedZone). z.name) bytes_eq texts_ties s.zones z rising there)
 
   -- one that was sought is in the session
   module _ (at : Session) (name : Text) (answer : Bool) (sought : IsSought s at name answer) (zone : Zone)
       (there : zone_named s.zones name ≡ Some zone) where
     no_global : zone_named s.zones global_name ≡ None
-    no_global = none-global s.zones inventory.zones
+    no_global = none_global s.zones inventory.zones
 
     got : (o : Option Zone) → get bytes_eq at.zones name ≡ o → IsSome (get bytes_eq at.zones name)
         → get bytes_eq at.zones name ≡ Some zone
     got None e some = absurd (cc (sym some ∙ ap is_some e))
     got (Some z) e some = e ∙ sym (sought.session.zones name z e) ∙ there
 
-    pub sought-held : get bytes_eq at.zones name ≡ Some zone
-    sought-held = elim (sought.here (sought.found ∙ or_right (bytes_eq name global_name)
+    pub sought_held : get bytes_eq at.zones name ≡ Some zone
+    sought_held = elim (sought.here (sought.found ∙ or_right (bytes_eq name global_name)
         (is_some (zone_named s.zones name)) (ap is_some there))) [
           | inl global ↦ absurd (cc (sym there ∙ ap (zone_named s.zones) global ∙ no_global))
           | inr some ↦ got (get bytes_eq at.zones name) refl some

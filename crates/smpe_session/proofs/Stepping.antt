@@ -24,7 +24,7 @@ use Rattle.store.specs.Changes.{Makes}
 use Rattle.store.specs.Causes.{IsLater, HasCause}
 use Rattle.smpe_zones.specs.Kept.{kept, Keeps, IsAround, IsStopped, IsFaulted}
 use Rattle.store.specs.Loads.{Loads}
-use Rattle.smpe_zones.proofs.Keeping.{leaves-more, cause-more, cause-since}
+use Rattle.smpe_zones.proofs.Keeping.{leaves_more, cause_more, cause_since}
 use Rattle.store.specs.View.{Tables, TablesIfOpen, MayLeave, Leaves}
 use Rattle.smpe_session.specs.declared.session.Session.{Session}
 use Rattle.smpe_session.specs.declared.session.Performed.{Performed}
@@ -33,84 +33,84 @@ use Rattle.smpe_session.specs.Steps.{Unmoved, Unsettled, EndsUnmoved, EndsUnsett
 use Rattle.smpe_session.specs.Steps.{EndsCommitted, HasRun}
 
 module _ {S : Type 0} (g : Ghosts S) (at : Held S) (s : State) where
-  pub stays-unmoved : (a : Act) → Unmoved g at s → IsStopped g at s a
-  stays-unmoved a un = record { now = un.now; crash = leaves-more g at _ _ (λ c is. inl is) un.crash }
+  pub stays_unmoved : (a : Act) → Unmoved g at s → IsStopped g at s a
+  stays_unmoved a un = record { now = un.now; crash = leaves_more g at _ _ (λ c is. inl is) un.crash }
 
-  pub unmoved-kept : Keeps g at s → Unmoved g at s
-  unmoved-kept keeps = record { now = λ shown. (keeps.now, keeps.crash); crash = keeps.crash }
+  pub unmoved_kept : Keeps g at s → Unmoved g at s
+  unmoved_kept keeps = record { now = λ shown. (keeps.now, keeps.crash); crash = keeps.crash }
 
   -- what the store keeps is an inventory
-  pub kept-inventory : HasCleanDisk (state g at) → Keeps g at s → IsInventory (kept s)
-  kept-inventory clean keeps = (keeps.now clean).1.inventory
+  pub kept_inventory : HasCleanDisk (state g at) → Keeps g at s → IsInventory (kept s)
+  kept_inventory clean keeps = (keeps.now clean).1.inventory
 
 -- a call that began at `old`
 module _ {S : Type 0} (g : Ghosts S) (old at : Held S) (s : State) where
-  faults-unmoved : (a : Act) → EndsUnmoved g old at s Fault → IsFaulted g old at s a
-  faults-unmoved a (un, cause) = record {
-    stopped = stays-unmoved g at s a un;
-    cause = cause-more g old at _ _ (λ c is. inl is) cause;
+  faults_unmoved : (a : Act) → EndsUnmoved g old at s Fault → IsFaulted g old at s a
+  faults_unmoved a (un, cause) = record {
+    stopped = stays_unmoved g at s a un;
+    cause = cause_more g old at _ _ (λ c is. inl is) cause;
   }
 
   -- errors at which nothing was committed
-  begun-by : (e : StoreError) → EndsUnmoved g old at s e → HasBegun g old at s (Err e)
-  begun-by Fault un = faults-unmoved Begin un
-  begun-by OtherSchema un = un
-  begun-by NoState un = un
-  begun-by Memory un = stays-unmoved g at s Begin un
+  begun_by : (e : StoreError) → EndsUnmoved g old at s e → HasBegun g old at s (Err e)
+  begun_by Fault un = faults_unmoved Begin un
+  begun_by OtherSchema un = un
+  begun_by NoState un = un
+  begun_by Memory un = stays_unmoved g at s Begin un
 
-  pub begun-unmoved : (r : Result Session StoreError) (e : StoreError) → IsErrAnd r (λ y. y ≡ e)
+  pub begun_unmoved : (r : Result Session StoreError) (e : StoreError) → IsErrAnd r (λ y. y ≡ e)
       → EndsUnmoved g old at s e
       → HasBegun g old at s r
-  begun-unmoved r e is un = let p = err_from_is_err_and r is
-      in subst (λ q. HasBegun g old at s q) (sym (p.1 ∙ ap Err p.2)) (begun-by e un)
+  begun_unmoved r e is un = let p = err_from_is_err_and r is
+      in subst (λ q. HasBegun g old at s q) (sym (p.1 ∙ ap Err p.2)) (begun_by e un)
 
   module _ (session : Session) (date : Text) (files : Files) (c : Command) where
-    performs-by : (e : StoreError) → EndsUnmoved g old at s e → HasPerformed g old at s session date files c (Err e)
-    performs-by Fault un = faults-unmoved (Perform date files c) un
-    performs-by OtherSchema un = un
-    performs-by NoState un = un
-    performs-by Memory un = stays-unmoved g at s (Perform date files c) un
+    performs_by : (e : StoreError) → EndsUnmoved g old at s e → HasPerformed g old at s session date files c (Err e)
+    performs_by Fault un = faults_unmoved (Perform date files c) un
+    performs_by OtherSchema un = un
+    performs_by NoState un = un
+    performs_by Memory un = stays_unmoved g at s (Perform date files c) un
 
-    pub performs-unmoved : (r : Result Outcome StoreError) (e : StoreError) → IsErrAnd r (λ y. y ≡ e)
+    pub performs_unmoved : (r : Result Outcome StoreError) (e : StoreError) → IsErrAnd r (λ y. y ≡ e)
         → EndsUnmoved g old at s e → HasPerformed g old at s session date files c r
-    performs-unmoved r e is un = let p = err_from_is_err_and r is
-        in subst (λ q. HasPerformed g old at s session date files c q) (sym (p.1 ∙ ap Err p.2)) (performs-by e un)
+    performs_unmoved r e is un = let p = err_from_is_err_and r is
+        in subst (λ q. HasPerformed g old at s session date files c q) (sym (p.1 ∙ ap Err p.2)) (performs_by e un)
 
     -- want of memory before the store is asked
-    pub performs-short : (r : Result Outcome StoreError) → IsErrAnd r (λ y. y ≡ Memory) → Keeps g at s
+    pub performs_short : (r : Result Outcome StoreError) → IsErrAnd r (λ y. y ≡ Memory) → Keeps g at s
         → HasPerformed g old at s session date files c r
-    performs-short r is keeps = performs-unmoved r Memory is (unmoved-kept g at s keeps)
+    performs_short r is keeps = performs_unmoved r Memory is (unmoved_kept g at s keeps)
 
     -- a command that is no LIST
-    done-told : (r : Result Outcome StoreError) → HasPerformed g old at s session date files c r
+    done_told : (r : Result Outcome StoreError) → HasPerformed g old at s session date files c r
         → HasDone g old at s session date files c (told r)
-    done-told (Ok outcome) performed = performed
-    done-told (Err error) performed = performed
+    done_told (Ok outcome) performed = performed
+    done_told (Err error) performed = performed
 
-    pub done-by : (r : Result Outcome StoreError) (told_so : Result Performed StoreError) → told_so ≡ told r
+    pub done_by : (r : Result Outcome StoreError) (told_so : Result Performed StoreError) → told_so ≡ told r
         → HasPerformed g old at s session date files c r → HasDone g old at s session date files c told_so
-    done-by r told_so is performed = subst (λ q. HasDone g old at s session date files c q) (sym is)
-        (done-told r performed)
+    done_by r told_so is performed = subst (λ q. HasDone g old at s session date files c q) (sym is)
+        (done_told r performed)
 
     -- want of memory before the store is asked
-    pub done-short : (r : Result Performed StoreError) → IsErrAnd r (λ y. y ≡ Memory) → Keeps g at s
+    pub done_short : (r : Result Performed StoreError) → IsErrAnd r (λ y. y ≡ Memory) → Keeps g at s
         → HasDone g old at s session date files c r
-    done-short r is keeps = let p = err_from_is_err_and r is
+    done_short r is keeps = let p = err_from_is_err_and r is
         in subst (λ q. HasDone g old at s session date files c q) (sym (p.1 ∙ ap Err p.2))
-        (stays-unmoved g at s (Perform date files c) (unmoved-kept g at s keeps))
+        (stays_unmoved g at s (Perform date files c) (unmoved_kept g at s keeps))
 
     -- what a command that ran part of the way ends with
-    staying-by : (e : StoreError) → EndsStaying g old at s (Perform date files c) e
+    staying_by : (e : StoreError) → EndsStaying g old at s (Perform date files c) e
         → HasPerformed g old at s session date files c (Err e)
-    staying-by Fault stays = stays
-    staying-by OtherSchema stays = stays
-    staying-by NoState stays = stays
-    staying-by Memory stays = stays
+    staying_by Fault stays = stays
+    staying_by OtherSchema stays = stays
+    staying_by NoState stays = stays
+    staying_by Memory stays = stays
 
-    pub performs-staying : (r : Result Outcome StoreError) (e : StoreError) → IsErrAnd r (λ y. y ≡ e)
+    pub performs_staying : (r : Result Outcome StoreError) (e : StoreError) → IsErrAnd r (λ y. y ≡ e)
         → EndsStaying g old at s (Perform date files c) e → HasPerformed g old at s session date files c r
-    performs-staying r e is stays = let p = err_from_is_err_and r is
-        in subst (λ q. HasPerformed g old at s session date files c q) (sym (p.1 ∙ ap Err p.2)) (staying-by e stays)
+    performs_staying r e is stays = let p = err_from_is_err_and r is
+        in subst (λ q. HasPerformed g old at s session date files c q) (sym (p.1 ∙ ap Err p.2)) (staying_by e stays)
 
   -- where the commit of what a command leads to failed
   module _ (date : Text) (files : Files) (c : Command) (t : State) (outcome : machine.Outcome)
@@ -119,70 +119,70 @@ module _ {S : Type 0} (g : Ghosts S) (old at : Held S) (s : State) where
     around d (inl same) = inl same
     around d (inr is) = inr (t, flat_map text (outcome ∷ []), (outcome ∷ [], (outcome, performs, refl), refl), is)
 
-    stays-unsettled : Unsettled g at s t → IsStopped g at s (Perform date files c)
-    stays-unsettled un = record { now = un.now; crash = leaves-more g at _ _ around un.crash }
+    stays_unsettled : Unsettled g at s t → IsStopped g at s (Perform date files c)
+    stays_unsettled un = record { now = un.now; crash = leaves_more g at _ _ around un.crash }
 
-    pub staying-unsettled : (e : StoreError) → EndsUnsettled g old at s t e
+    pub staying_unsettled : (e : StoreError) → EndsUnsettled g old at s t e
         → EndsStaying g old at s (Perform date files c) e
-    staying-unsettled Fault (un, cause) = record {
-      stopped = stays-unsettled un;
-      cause = cause-more g old at _ _ around cause;
+    staying_unsettled Fault (un, cause) = record {
+      stopped = stays_unsettled un;
+      cause = cause_more g old at _ _ around cause;
     }
-    staying-unsettled OtherSchema un = un
-    staying-unsettled NoState un = un
-    staying-unsettled Memory un = stays-unsettled un
+    staying_unsettled OtherSchema un = un
+    staying_unsettled NoState un = un
+    staying_unsettled Memory un = stays_unsettled un
 
   module _ (a : Act) (LeadsTo : State → List machine.Line → Type 0) {V : Type 0} (lines : V → List machine.Line) where
-    pub run-staying : (r : Result V StoreError) (e : StoreError) → IsErrAnd r (λ y. y ≡ e) → EndsStaying g old at s a e
+    pub run_staying : (r : Result V StoreError) (e : StoreError) → IsErrAnd r (λ y. y ≡ e) → EndsStaying g old at s a e
         → HasRun g old at s a LeadsTo lines r
-    run-staying r e is stays = let p = err_from_is_err_and r is
+    run_staying r e is stays = let p = err_from_is_err_and r is
         in subst (λ q. HasRun g old at s a LeadsTo lines q) (sym (p.1 ∙ ap Err p.2)) stays
 
     -- want of memory before the store is asked
-    pub run-short : (r : Result V StoreError) → IsErrAnd r (λ y. y ≡ Memory) → Keeps g at s
+    pub run_short : (r : Result V StoreError) → IsErrAnd r (λ y. y ≡ Memory) → Keeps g at s
         → HasRun g old at s a LeadsTo lines r
-    run-short r is keeps = run-staying r Memory is (stays-unmoved g at s a (unmoved-kept g at s keeps))
+    run_short r is keeps = run_staying r Memory is (stays_unmoved g at s a (unmoved_kept g at s keeps))
 
-  pub loaded-err : {X : Type 0} (Found : X → Type 0) (r : Result X StoreError) (e : StoreError)
+  pub loaded_err : {X : Type 0} (Found : X → Type 0) (r : Result X StoreError) (e : StoreError)
       → IsErrAnd r (λ y. y ≡ e) → EndsUnmoved g old at s e → HasLoaded g old at s Found r
-  loaded-err Found r e is un = let p = err_from_is_err_and r is
+  loaded_err Found r e is un = let p = err_from_is_err_and r is
       in subst (λ q. HasLoaded g old at s Found q) (sym (p.1 ∙ ap Err p.2)) un
 
-  pub committed-err : (t : State) (r : Result Unit StoreError) (e : StoreError) → IsErrAnd r (λ y. y ≡ e)
+  pub committed_err : (t : State) (r : Result Unit StoreError) (e : StoreError) → IsErrAnd r (λ y. y ≡ e)
       → EndsUnsettled g old at s t e → EndsCommitted g old at s t r
-  committed-err t r e is un = let p = err_from_is_err_and r is
+  committed_err t r e is un = let p = err_from_is_err_and r is
       in subst (λ q. EndsCommitted g old at s t q) (sym (p.1 ∙ ap Err p.2)) un
 
 -- a call that is behind others of one that began at `old`
 module _ {S : Type 0} (g : Ghosts S) (old mid at : Held S) (s : State) (later : IsLater g old mid) where
-  pub unmoved-since : (e : StoreError) → EndsUnmoved g mid at s e → EndsUnmoved g old at s e
-  unmoved-since Fault (un, cause) = (un, cause-since g old mid at later _ cause)
-  unmoved-since OtherSchema un = un
-  unmoved-since NoState un = un
-  unmoved-since Memory un = un
+  pub unmoved_since : (e : StoreError) → EndsUnmoved g mid at s e → EndsUnmoved g old at s e
+  unmoved_since Fault (un, cause) = (un, cause_since g old mid at later _ cause)
+  unmoved_since OtherSchema un = un
+  unmoved_since NoState un = un
+  unmoved_since Memory un = un
 
-  pub staying-since : (a : Act) (e : StoreError) → EndsStaying g mid at s a e → EndsStaying g old at s a e
-  staying-since a Fault faulted = record {
+  pub staying_since : (a : Act) (e : StoreError) → EndsStaying g mid at s a e → EndsStaying g old at s a e
+  staying_since a Fault faulted = record {
     stopped = faulted.stopped;
-    cause = cause-since g old mid at later _ faulted.cause;
+    cause = cause_since g old mid at later _ faulted.cause;
   }
-  staying-since a OtherSchema stays = stays
-  staying-since a NoState stays = stays
-  staying-since a Memory stays = stays
+  staying_since a OtherSchema stays = stays
+  staying_since a NoState stays = stays
+  staying_since a Memory stays = stays
 
 -- no state is told of a command but where it ended so
-pub told-none : {S : Type 0} (g : Ghosts S) (old new : Held S) (r : Result Outcome StoreError)
+pub told_none : {S : Type 0} (g : Ghosts S) (old new : Held S) (r : Result Outcome StoreError)
     (told_so : Result Performed StoreError) → told_so ≡ told r → TellsNoState g old new r
     → TellsNoState g old new told_so
-told-none g old new (Ok outcome) told_so is none clean bad = absurd (cc (is, bad))
-told-none g old new (Err e) told_so is none clean bad = none clean (cc (is, bad))
+told_none g old new (Ok outcome) told_so is none clean bad = absurd (cc (is, bad))
+told_none g old new (Err e) told_so is none clean bad = none clean (cc (is, bad))
 
 -- nor loads alone, but where it was so
-pub told-loads : {S : Type 0} (g : Ghosts S) (old new : Held S) (r : Result Outcome StoreError)
+pub told_loads : {S : Type 0} (g : Ghosts S) (old new : Held S) (r : Result Outcome StoreError)
     (told_so : Result Performed StoreError) → told_so ≡ told r → OnOk r (OnlyLoads g old new)
     → OnOk told_so (OnlyLoads g old new)
-told-loads g old new (Ok outcome) told_so is loads = subst (λ q. OnOk q (OnlyLoads g old new)) (sym is) loads
-told-loads g old new (Err e) told_so is loads = subst (λ q. OnOk q (OnlyLoads g old new)) (sym is) loads
+told_loads g old new (Ok outcome) told_so is loads = subst (λ q. OnOk q (OnlyLoads g old new)) (sym is) loads
+told_loads g old new (Err e) told_so is loads = subst (λ q. OnOk q (OnlyLoads g old new)) (sym is) loads
 
 module _ {S : Type 0} (g : Ghosts S) (old new : Held S) (s : State) where
   -- what a load leaves
@@ -225,7 +225,7 @@ module _ {S : Type 0} (g : Ghosts S) (old new : Held S) (s : State) where
     unsettled lost err = record {
       now = err;
       crash = λ db left. elim (lost (kept s) (kept t) makes is keeps.now db left) [
-        | inl before ↦ leaves-more g old _ _ (λ c is. inl is) keeps.crash db before
+        | inl before ↦ leaves_more g old _ _ (λ c is. inl is) keeps.crash db before
         | inr done ↦ (kept t, inr refl, done)
       ];
     }

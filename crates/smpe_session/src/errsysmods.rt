@@ -11,11 +11,11 @@ ghost use Rattle.smpe_session.specs.Sessions.{IsSessionOf};
 use crate::session::Session;
 use report::{Header, Outcome, Refusal};
 use report_errsysmods::errsysmods;
-use std::alloc::{AllocError, Global as Heap};
+use std::alloc::{AllocError, Global};
 use terms::CommandWord;
 
 impl Session {
-    pub(crate) fn report(&self, alloc: Heap) -> Result<Outcome<'static>, AllocError>
+    pub(crate) fn report(&self, alloc: Global) -> Result<Outcome<'static>, AllocError>
         ensures { IfOk result (λ outcome. (s : State) → IsSessionOf s self.now → IsInventory (kept s)
             → (date : Text) (files : Files) → Performs date files s Report s (outcome_view outcome)) }
     {

@@ -30,9 +30,9 @@ use indexmap::IndexMap;
 use report::{Header, Line, Outcome, Refusal};
 use smpe_apply::{Applied, apply};
 use sqlite::Alter;
-use std::alloc::{AllocError, Global as Heap};
+use std::alloc::{AllocError, Global};
 use store::{Change, Store, StoreError};
-use sysmods::Global;
+use sysmods::GlobalZone;
 use terms::{CommandWord, ZoneKind};
 use zones::{Zone, ZoneDelta};
 
@@ -67,8 +67,8 @@ fn header(kind: ZoneKind, boundary: Option<ZoneName>, check: bool) -> Header
 }
 
 fn plan(
-    alloc: Heap,
-    global: &Global,
+    alloc: Global,
+    global: &GlobalZone,
     zone: &Zone,
     related: Option<&Zone>,
     selection: &Selection,
@@ -184,7 +184,7 @@ impl Session {
     /// APPLY into a target zone, ACCEPT into a distribution zone.
     pub(crate) fn install<S: Alter>(
         &mut self,
-        alloc: Heap,
+        alloc: Global,
         store: &mut Store<S>,
         date: YyDdd,
         kind: ZoneKind,

@@ -15,10 +15,10 @@ ghost use Rattle.smpe_session.specs.Steps.{HasLoaded, EndsCommitted};
 use fields::ZoneName;
 use sqlite::Alter;
 use store::{Change, Store, StoreError, ZoneHead};
-use sysmods::Global;
+use sysmods::GlobalZone;
 use zones::Zone;
 
-pub(crate) fn load_global<S: Alter>(store: &mut Store<S>) -> Result<Global, StoreError>
+pub(crate) fn load_global<S: Alter>(store: &mut Store<S>) -> Result<GlobalZone, StoreError>
     ensures clean { HasCleanDisk (state S.Store store.new) → HasCleanDisk (state S.Store store.old) }
     ensures faults { (state S.Store store.old).faults ≤ (state S.Store store.new).faults }
     ensures limit { store.new.step_limit ≡ store.old.step_limit }

@@ -4,14 +4,14 @@ ghost use Rattle.terms.specs.Ptfin.{IsPtfin, IsPtfinFault};
 ghost use Rattle.terms.specs.HoldFile.{IsHoldFile, IsHoldFileFault};
 ghost use Rattle.machine.specs.Outcome.{Cm4, Cm5};
 ghost use Rattle.mcs.specs.Files.{items};
-ghost use Rattle.mcs_hold.specs.Items.{items as hold_items};
+ghost use Rattle.mcs.specs.HoldItems.{items as hold_items};
 ghost use Rattle.smpe_session.specs.Received.{HasRead, HasFound};
 
 use crate::files::Files;
 use cntl::ReceiveWhat;
 use mcs::{HoldItem, Item, McsError, read_hold, read_ptfin};
 use report::Refusal;
-use std::alloc::{AllocError, Global as Heap};
+use std::alloc::{AllocError, Global};
 
 /// The items of the files that a RECEIVE reads.
 #[derive(Drop)]
@@ -22,7 +22,7 @@ pub(crate) struct Found {
 
 /// The items of PTFIN, none where it is not read.
 fn read_items(
-    alloc: Heap,
+    alloc: Global,
     reads: bool,
     ptfin: &[u8],
 ) -> Result<Result<Vec<Item>, Refusal>, AllocError>
@@ -40,7 +40,7 @@ fn read_items(
 
 /// The items of the hold file, none where it is not read.
 fn read_holds(
-    alloc: Heap,
+    alloc: Global,
     reads: bool,
     holds: &[u8],
 ) -> Result<Result<Vec<HoldItem>, Refusal>, AllocError>
@@ -58,7 +58,7 @@ fn read_holds(
 
 /// The items of both files. A fault of PTFIN comes before one of the hold file.
 pub(crate) fn read_files(
-    alloc: Heap,
+    alloc: Global,
     files: &Files<'_>,
     what: &ReceiveWhat,
 ) -> Result<Result<Found, Refusal>, AllocError>

@@ -9,8 +9,8 @@ ghost use Rattle.terms.specs.HoldFile.{IsHoldFile};
 ghost use Rattle.machine.specs.State.{State, misplaced};
 ghost use Rattle.machine.specs.Machine.{Files as AllFiles, HasItems, Perform};
 ghost use Rattle.mcs.specs.Files.{items};
-ghost use Rattle.mcs_hold.specs.Items.{items as hold_items};
-ghost use Rattle.smpe_receive.specs.External.{IsExternal};
+ghost use Rattle.mcs.specs.HoldItems.{items as hold_items};
+ghost use Rattle.smpe_global.specs.External.{IsExternal};
 ghost use Rattle.report.specs.Views.{line_view};
 ghost use Rattle.store.specs.BadRows.{TellsNoState};
 ghost use Rattle.smpe_zones.specs.Kept.{Keeps};
@@ -27,11 +27,11 @@ use crate::session::Session;
 use cntl::ReceiveWhat;
 use fields::Source;
 use report::{Header, Line, Outcome};
-use smpe_receive::{Taken, receive, receive_holds};
+use smpe_global::{Taken, receive, receive_holds};
 use sqlite::Alter;
-use std::alloc::{AllocError, Global as Heap};
+use std::alloc::{AllocError, Global};
 use store::{Change, Store, StoreError};
-use sysmods::Global;
+use sysmods::GlobalZone;
 use terms::CommandWord;
 
 /// The second list behind the first.
@@ -46,8 +46,8 @@ fn append<T: Drop>(front: &mut Vec<T>, back: Vec<T>) -> Result<(), AllocError>
 
 /// Takes in the items of PTFIN, and then those of the hold file.
 fn take_found(
-    alloc: Heap,
-    global: &mut Global,
+    alloc: Global,
+    global: &mut GlobalZone,
     found: Found,
     source: Option<Source>,
 ) -> Result<Taken, AllocError>
@@ -68,9 +68,9 @@ fn take_found(
 
 /// Takes the items in, and commits what they change.
 fn take_items<S: Alter>(
-    alloc: Heap,
+    alloc: Global,
     store: &mut Store<S>,
-    global: &mut Global,
+    global: &mut GlobalZone,
     found: Found,
     source: Option<Source>,
 ) -> Result<Vec<Line>, StoreError>
@@ -96,7 +96,7 @@ fn take_items<S: Alter>(
 impl Session {
     pub(crate) fn receive<S: Alter>(
         &mut self,
-        alloc: Heap,
+        alloc: Global,
         store: &mut Store<S>,
         files: &Files<'_>,
         what: &ReceiveWhat,

@@ -7,7 +7,7 @@ ghost use Rattle.sqlite.specs.State.{HasCleanDisk};
 ghost use Rattle.terms.specs.Types.{Text, Reject};
 ghost use Rattle.machine.specs.State.{State, misplaced};
 ghost use Rattle.machine.specs.Machine.{Files, Perform};
-ghost use Rattle.smpe_reject.specs.Rejections.{AppliesAlike};
+ghost use Rattle.smpe_global.specs.Rejections.{AppliesAlike};
 ghost use Rattle.report.specs.Views.{line_view};
 ghost use Rattle.store.specs.BadRows.{OnlyLoads, TellsNoState};
 ghost use Rattle.smpe_zones.specs.Kept.{Keeps};
@@ -20,19 +20,19 @@ use crate::session::Session;
 use fields::{IdList, ZoneName};
 use indexmap::IndexMap;
 use report::{Header, Line, Outcome};
-use smpe_reject::{Rejected, reject};
+use smpe_global::{Rejected, reject};
 use sqlite::Alter;
-use std::alloc::Global as Heap;
+use std::alloc::Global;
 use store::{Change, Store, StoreError};
-use sysmods::Global;
+use sysmods::GlobalZone;
 use terms::CommandWord;
 use zones::Zone;
 
 /// Rejects the ids, and commits what they change.
 fn reject_ids<S: Alter>(
-    alloc: Heap,
+    alloc: Global,
     store: &mut Store<S>,
-    global: &mut Global,
+    global: &mut GlobalZone,
     zones: &IndexMap<ZoneName, Zone>,
     ids: &IdList,
 ) -> Result<Vec<Line>, StoreError>
@@ -92,7 +92,7 @@ impl Session {
 
     pub(crate) fn reject<S: Alter>(
         &mut self,
-        alloc: Heap,
+        alloc: Global,
         store: &mut Store<S>,
         ids: &IdList,
     ) -> Result<Outcome<'static>, StoreError>

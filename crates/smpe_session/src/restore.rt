@@ -24,9 +24,9 @@ use fields::ZoneName;
 use report::{Header, Outcome, Refusal};
 use smpe_restore::{Restored, restore};
 use sqlite::Alter;
-use std::alloc::{AllocError, Global as Heap};
+use std::alloc::{AllocError, Global};
 use store::{Store, StoreError};
-use sysmods::Global;
+use sysmods::GlobalZone;
 use terms::{CommandWord, ZoneKind};
 use zones::Zone;
 
@@ -39,8 +39,8 @@ struct Target<'a> {
 }
 
 fn plan(
-    alloc: Heap,
-    global: &Global,
+    alloc: Global,
+    global: &GlobalZone,
     zone: &Zone,
     accepted: &Zone,
     list: &RestoreList,
@@ -107,7 +107,7 @@ impl Session {
 
     pub(crate) fn restore<S: Alter>(
         &mut self,
-        alloc: Heap,
+        alloc: Global,
         store: &mut Store<S>,
         list: &RestoreList,
         check: bool,

@@ -18,9 +18,9 @@ use fields::{YyDdd, ZoneName};
 use indexmap::IndexMap;
 use report::Outcome;
 use sqlite::Alter;
-use std::alloc::Global as Heap;
+use std::alloc::Global;
 use store::{Store, StoreError};
-use sysmods::Global;
+use sysmods::GlobalZone;
 use terms::ZoneKind;
 use zones::Zone;
 
@@ -29,7 +29,7 @@ use zones::Zone;
 /// after a REJECT all. And its boundary.
 #[derive(Drop)]
 pub struct Session {
-    pub(crate) global: Global,
+    pub(crate) global: GlobalZone,
     pub(crate) zones: IndexMap<ZoneName, Zone>,
     pub(crate) boundary: Option<ZoneName>,
 }
@@ -51,7 +51,7 @@ fn told(ended: Result<Outcome<'static>, StoreError>) -> Result<Performed, StoreE
 
 impl Session {
     /// A job begins: the global zone is loaded, and there is no boundary.
-    pub fn begin<S: Alter>(alloc: Heap, store: &mut Store<S>) -> Result<Session, StoreError>
+    pub fn begin<S: Alter>(alloc: Global, store: &mut Store<S>) -> Result<Session, StoreError>
         ensures clean { HasCleanDisk (state S.Store store.new) → HasCleanDisk (state S.Store store.old) }
         ensures faults { (state S.Store store.old).faults ≤ (state S.Store store.new).faults }
         ensures limit { store.new.step_limit ≡ store.old.step_limit }
@@ -71,7 +71,7 @@ impl Session {
     /// Performs a command, which is committed before it is told of.
     pub fn perform<S: Alter>(
         &mut self,
-        alloc: Heap,
+        alloc: Global,
         store: &mut Store<S>,
         date: YyDdd,
         files: &Files<'_>,

@@ -18,7 +18,7 @@ use fields::ZoneName;
 use indexmap::IndexMap;
 use report::{Header, Outcome, Refusal};
 use sqlite::Alter;
-use std::alloc::{AllocError, Global as Heap};
+use std::alloc::{AllocError, Global};
 use store::{Store, StoreError};
 use terms::CommandWord;
 use zones::Zone;
@@ -72,7 +72,7 @@ impl Session {
 
     pub(crate) fn set<S: Alter>(
         &mut self,
-        alloc: Heap,
+        alloc: Global,
         store: &mut Store<S>,
         name: ZoneName,
     ) -> Result<Outcome<'static>, StoreError>

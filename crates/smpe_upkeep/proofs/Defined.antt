@@ -22,11 +22,11 @@ use Rattle.terms.specs.Types.{Text, zone_number, Zone, a_zone, NamedZone}
 use Rattle.terms.specs.Lookups.{is_before}
 use Rattle.terms.specs.Rising.{Rises, with_item, Splits}
 use Rattle.terms.specs.Forms.{IsSrel, IsZoneName}
-use Rattle.lemmas.proofs.Pairs.{pairs_map, pairs_unmap, AllPairs-between, AllPairs-first, AllPairs-rest}
+use Rattle.lemmas.proofs.Pairs.{pairs_map, pairs_unmap, AllPairs_between, AllPairs_first, AllPairs_rest}
 use Rattle.lemmas.proofs.Texts.{same_from, same_itself}
-use Rattle.terms.proofs.RisingLists.{with_item-new, Rises-between}
-use Rattle.lemmas.proofs.Each.{All-between, recursion-front, recursion-back}
-use Rattle.lemmas.proofs.Orderings.{Less-from_is_lt}
+use Rattle.terms.proofs.RisingLists.{with_item_new, Rises_between}
+use Rattle.lemmas.proofs.Each.{All_between, recursion_front, recursion_back}
+use Rattle.lemmas.proofs.Orderings.{Less_from_is_lt}
 use Rattle.store_schema.specs.Inventory.{IsInventory, IsZoneNamed, HasDistribution, IsRelated, AreApart}
 use Rattle.smpe_upkeep.proofs.Lists.{each_alike}
 use Rattle.smpe_upkeep.proofs.ZonesKept.{stands_among}
@@ -104,14 +104,14 @@ cut [] name rises none = record {
   splits = record { low = λ k d below. absurd (omega arith); high = λ k d below. absurd (omega arith) };
 }
 cut (z ∷ zs) name rises none = by (slice_cmp nat_cmp z.name name) refl
-    (cut zs name (AllPairs-rest (λ (x y : NamedZone). IsTrue (is_lt (slice_cmp nat_cmp x.name y.name))) z zs rises)
+    (cut zs name (AllPairs_rest (λ (x y : NamedZone). IsTrue (is_lt (slice_cmp nat_cmp x.name y.name))) z zs rises)
     none.1)
   where
     after_it : slice_cmp nat_cmp name z.name ≡ Less → All (λ (y : NamedZone). slice_cmp nat_cmp name y.name ≡ Less) zs
     after_it less = λ k d below.
         nat_list_cmp_total.trans name z.name (get_or zs k d).name less
-        (Less-from_is_lt (slice_cmp nat_cmp z.name (get_or zs k d).name)
-        (AllPairs-first (λ (x y : NamedZone). IsTrue (is_lt (slice_cmp nat_cmp x.name y.name))) z zs rises k d
+        (Less_from_is_lt (slice_cmp nat_cmp z.name (get_or zs k d).name)
+        (AllPairs_first (λ (x y : NamedZone). IsTrue (is_lt (slice_cmp nat_cmp x.name y.name))) z zs rises k d
         below))
 
     by : (o : Ordering) → slice_cmp nat_cmp z.name name ≡ o → Cut zs name → Cut (z ∷ zs) name
@@ -263,7 +263,7 @@ definition_kept s t d name srel answers is =
     let parts = at.parts in
     let zones : List NamedZone = at.front ++ z ∷ at.back in
     let made = ap (λ zs. with_item (slice_cmp nat_cmp) by_name zs z) parts
-    ∙ with_item-new nat_list_cmp_total by_name at.front at.back z at.splits in
+    ∙ with_item_new nat_list_cmp_total by_name at.front at.back z at.splits in
     let R : NamedZone → Type 0 = λ y. IsRelated zones y.zone.kind y.zone.srel y.zone.related in
     let each : (y : NamedZone) → IsRelated s.zones y.zone.kind y.zone.srel y.zone.related → R y =
     λ y related. still_related at.front at.back z y.zone.kind y.zone.srel y.zone.related
@@ -271,9 +271,9 @@ definition_kept s t d name srel answers is =
     let pairs = subst (λ zs. AllPairs AreApart zs) parts is.apart in
     let apart = apart_back s.zones d.kind d.related told.right in
     let before = All-from_recursion (λ (y : NamedZone). AreApart y z) at.front
-    (recursion-front (λ (y : NamedZone). AreApart y z) at.front at.back
+    (recursion_front (λ (y : NamedZone). AreApart y z) at.front at.back
     (subst (AllByRecursion (λ (y : NamedZone). AreApart y z)) parts (apart_front d.related s.zones apart))) in
-    let behind = All-from_recursion (AreApart z) at.back (recursion-back (AreApart z) at.front at.back
+    let behind = All-from_recursion (AreApart z) at.back (recursion_back (AreApart z) at.front at.back
     (subst (AllByRecursion (AreApart z)) parts apart)) in
     let inventory : IsInventory (record { global = s.global; zones = zones }) = record {
       global = is.global;
@@ -281,14 +281,14 @@ definition_kept s t d name srel answers is =
       holds = is.holds;
       names = pairs_map (λ (a b : NamedZone). IsTrue (is_before a.name b.name)) (λ (x y : Text). IsTrue (is_before x y))
           by_name (λ a b lower. lower) zones
-          (Rises-between nat_list_cmp_total by_name at.front at.back z
+          (Rises_between nat_list_cmp_total by_name at.front at.back z
           (subst (λ zs. Rises (slice_cmp nat_cmp) by_name zs) parts rises) at.splits);
-      zones = All-between IsZoneNamed at.front at.back z (subst (λ zs. All IsZoneNamed zs) parts is.zones)
+      zones = All_between IsZoneNamed at.front at.back z (subst (λ zs. All IsZoneNamed zs) parts is.zones)
           (empty_named s.zones d name srel told.not_global told.right);
-      related = All-between R at.front at.back z (subst (λ zs. All R zs) parts
+      related = All_between R at.front at.back z (subst (λ zs. All R zs) parts
           (All-weaker (λ y. IsRelated s.zones y.zone.kind y.zone.srel y.zone.related) R each s.zones is.related))
           (each z (related_new s.zones d.kind d.srel d.related told.right told.srel));
-      apart = AllPairs-between AreApart at.front at.back z pairs before behind;
+      apart = AllPairs_between AreApart at.front at.back z pairs before behind;
     } in
     subst (λ (u : State). IsInventory (record { global = u.global; zones = u.zones })) told.adds
     (subst (λ zs. IsInventory (record { global = s.global; zones = zs })) (sym made) inventory)
@@ -312,7 +312,7 @@ placed s t d answers is =
     (λ (x y : Text). IsTrue (is_before x y)) by_name (λ a b lower. lower) s.zones is.names in
     let at = cut s.zones d.name rises (none_named s.zones d.name told.is_new) in
     let made = ap (λ zs. with_item (slice_cmp nat_cmp) by_name zs z) at.parts
-    ∙ with_item-new nat_list_cmp_total by_name at.front at.back z at.splits in
+    ∙ with_item_new nat_list_cmp_total by_name at.front at.back z at.splits in
     record {
       before = at.front;
       after = at.back;

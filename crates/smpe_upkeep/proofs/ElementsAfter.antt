@@ -5,7 +5,7 @@ use Rattle.std.specs.Prelude.{IsFalse, ◌==◌, not}
 use Rattle.std.proofs.lemmas.List.Elements.{All-contains, All-contains_itself}
 use Rattle.std.proofs.lemmas.Option.{same_Some}
 use Rattle.lemmas.proofs.Members.{filter_in}
-use Rattle.lemmas.proofs.Searches.{All-find, find-gives}
+use Rattle.lemmas.proofs.Searches.{All_find, find_gives}
 use Rattle.terms.specs.declared.kinds.Kind.{Kind}
 use Rattle.terms.specs.declared.kinds.ElemType.{ElemType}
 use Rattle.terms.specs.declared.kinds.ElemType.TheVariants.{Mac, Src, Clist, Data, Exec, Parm, Proc}
@@ -17,9 +17,9 @@ use Rattle.terms.specs.Install.{Installation, TakesEffect, cleared, HasBase, IsU
 use Rattle.terms.specs.Install.{IsUpdated as IsElementUpdated, HasInstalled}
 use Rattle.terms.specs.Forms.{IsId, IsName}
 use Rattle.terms.proofs.ElementOrder.{element_cmp_total, element_ties}
-use Rattle.store_schema.specs.Forms.{AreListed, AreRecords, IsTextOf, IsUpdated, HasActionForms}
+use Rattle.store_schema.specs.Forms.{AreSorted, AreRecords, IsTextOf, TakesUpdates, HasActionForms}
 use Rattle.store_schema.specs.Forms.{HasElementForms}
-use Rattle.smpe_upkeep.proofs.Lists.{find-itself, line_at-itself}
+use Rattle.smpe_upkeep.proofs.Lists.{find_itself, line_at_itself}
 use Rattle.smpe_upkeep.proofs.Stable.{by_either, part_of, IsRecord, stable_record, stable_text, stable_element}
 use Rattle.smpe_upkeep.proofs.Deciders.{UpdatesAt, decider}
 use Rattle.smpe_upkeep.proofs.LessForms.{none_listed, element_forms}
@@ -28,18 +28,18 @@ use Rattle.smpe_upkeep.proofs.GivenForms.{HasInstallForms, cleared_forms, effect
 
 -- the record of a text at a number
 line_in : (text : Lines) (n : ℕ) (line : List ℕ) → line_at text n ≡ Some line → AreRecords text → IsRecord line
-line_in text n line at records = All-find IsRecord (λ line. number_of line == n) text line records at
+line_in text n line at records = All_find IsRecord (λ line. number_of line == n) text line records at
 
 -- what an update gives
 given_in : (update : Lines) (n : ℕ) (line : List ℕ) → line_at (given update) n ≡ Some line → AreRecords update
     → IsRecord line
 given_in update n line at records =
-    let is_given = find-gives (λ line. number_of line == n) (given update) line at in
+    let is_given = find_gives (λ line. number_of line == n) (given update) line at in
     let in_update = filter_in (λ line. not (is_control line)) update line is_given.1 in
     All-contains IsRecord update line records in_update.0
 
 -- a text of what there are updates for
-updated_text : (type : ElemType) (text : Lines) → IsUpdated type → AreRecords text → IsNumbered text
+updated_text : (type : ElemType) (text : Lines) → TakesUpdates type → AreRecords text → IsNumbered text
     → IsTextOf type text
 updated_text Mac text is records numbered = (records, numbered)
 updated_text Src text is records numbered = (records, numbered)
@@ -93,14 +93,14 @@ module _ (i : Installation) (has : HasInstallForms i) where
     module _ (replacer : Option Id) where
       -- an update of it
       update_forms : (y : Id) (update : Lines) → IsUpdater i type name replacer y update
-          → IsUpdated type × AreRecords update
+          → TakesUpdates type × AreRecords update
       update_forms y update updater =
           let forms = action_forms y updater.updates.0 (Updates update) updater.updates.1 updater.updates.2 in
           (forms.1.1.1, forms.1.1.2)
 
       module _ (base e : Element) (is_base : HasElementForms base)
           (updated : IsElementUpdated i type name replacer base e) where
-        umids_after : AreListed IsId e.umids
+        umids_after : AreSorted IsId e.umids
         umids_after = record {
           each = λ k d below. one (get_or e.umids k d) (All-contains_itself e.umids k d below);
           rising = updated.rising;
@@ -126,7 +126,7 @@ module _ (i : Installation) (has : HasInstallForms i) where
             n = number_of line
 
             at : line_at e.text n ≡ Some line
-            at = line_at-itself e.text line numbered there
+            at = line_at_itself e.text line numbered there
 
             of_update : (y : Id) (update : Lines) → Decides i type name replacer n y update → IsRecord line
             of_update y update decides = given_in update n line (sym (updated.decided n y update decides) ∙ at)
@@ -174,7 +174,7 @@ module _ (i : Installation) (has : HasInstallForms i) where
         (has_change i.global x e.elem_type e.name) (λ changes. none (x, effect, changes)))) ∙ found))
       where
         found : element_of new e.elem_type e.name ≡ Some e
-        found = find-itself element_cmp_total element_key element_eq element_ties new.elements e
+        found = find_itself element_cmp_total element_key element_eq element_ties new.elements e
             installs.is_zone.elements there
 
         false_unless : (b : Bool) → ¬ IsTrue b → IsFalse b

@@ -11,18 +11,18 @@ use Rattle.std.proofs.lemmas.List.Elements.{All-contains, All-contains_itself}
 use Rattle.std.proofs.lemmas.Option.{same_Some}
 use Rattle.lemmas.proofs.Members.{here, filter_in}
 use Rattle.lemmas.proofs.Places.{contains_at}
-use Rattle.terms.specs.Types.{Text, Id, Entry, Zone}
-use Rattle.terms.specs.Lookups.{is_nil, IsRising, is_in, is_function, is_held, waives_applied, entry_of, applied_of}
+use Rattle.terms.specs.Types.{Id, Entry, Zone, Applied}
+use Rattle.terms.specs.Lookups.{is_nil, IsRising, is_in, is_function, has_content, waives_applied, entry_of, applied_of}
 use Rattle.terms.specs.Lookups.{supby_of, delby_of, waived_of}
 use Rattle.terms.specs.Choice.{del_of}
 use Rattle.terms.specs.Deleted.{deletions, is_deleted, is_taken_out}
-use Rattle.terms.specs.Install.{Installation, TakesEffect, cleared, deleters, delby_after, HasInstalled}
-use Rattle.terms.specs.Forms.{IsId, IsDottedDate}
-use Rattle.terms.proofs.Ids.{Contains-from_is_in}
+use Rattle.terms.specs.Install.{Installation, TakesEffect, applied_with, cleared, deleters, delby_after, HasInstalled}
+use Rattle.terms.specs.Forms.{IsId}
+use Rattle.terms.proofs.Ids.{Contains_from_is_in}
 use Rattle.terms.proofs.Nil.{nil_from}
-use Rattle.store_schema.specs.Forms.{AreListed, HasEntryForms}
-use Rattle.smpe_upkeep.proofs.Lists.{find-itself}
-use Rattle.smpe_upkeep.proofs.Stable.{Stable, by_either, part_of, stable_id, stable_dotted}
+use Rattle.store_schema.specs.Forms.{AreSorted, HasAppliedForms, HasEntryForms}
+use Rattle.smpe_upkeep.proofs.Lists.{find_itself}
+use Rattle.smpe_upkeep.proofs.Stable.{Stable, by_either, part_of, stable_id, stable_applied}
 use Rattle.smpe_upkeep.proofs.LessForms.{applied_forms, supby_forms, delby_forms, waived_forms}
 use Rattle.smpe_upkeep.proofs.OperandForms.{function_form, del_form, superseded_form}
 use Rattle.smpe_upkeep.proofs.GivenForms.{HasInstallForms, cleared_forms, effect_form}
@@ -49,7 +49,7 @@ module _ (i : Installation) (has : HasInstallForms i) where
       )
       by false is there =
           let passes = kept_passes (λ k. is_in (del_of i.choice k) x) y there in
-          (del_form i.choice has.vers y x (Contains-from_is_in (del_of i.choice y) x passes.0), passes.1)
+          (del_form i.choice has.vers y x (Contains_from_is_in (del_of i.choice y) x passes.0), passes.1)
 
   delby_after_forms : (x y : Id) → delby_after i x ≡ Some y → IsId x × IsId y
   unfolding delby_after
@@ -62,16 +62,17 @@ module _ (i : Installation) (has : HasInstallForms i) where
 
   -- What the new zone says of an id.
   module _ (new : Zone) (installs : HasInstalled i new) where
-    applied_after : (x : Id) (date : Text) → applied_of new x ≡ Some date → IsId x × IsDottedDate date
-    applied_after x date at = by_either {A = TakesEffect i x} stable
+    applied_after : (x : Id) (a : Applied) → applied_of new x ≡ Some a → IsId x × HasAppliedForms a
+    applied_after x a at = by_either {A = TakesEffect i x} stable
         (λ effect. (
           effect_form i has x effect,
-          subst IsDottedDate (same_Some i.date date (sym (installs.applied x effect) ∙ at)) has.date,
+          subst HasAppliedForms (same_Some (applied_with i x) a (sym (installs.applied x effect) ∙ at))
+              (record { date = has.date; number = refl }),
         ))
-        (λ none. applied_forms (cleared i) (cleared_forms i has) x date (sym (installs.not_applied x none) ∙ at))
+        (λ none. applied_forms (cleared i) (cleared_forms i has) x a (sym (installs.not_applied x none) ∙ at))
       where
-        stable : Stable (IsId x × IsDottedDate date)
-        stable h = (part_of (λ f. f.0) (stable_id x) h, part_of (λ f. f.1) (stable_dotted date) h)
+        stable : Stable (IsId x × HasAppliedForms a)
+        stable h = (part_of (λ f. f.0) (stable_id x) h, part_of (λ f. f.1) (stable_applied a) h)
 
     supby_after : (x y : Id) → Contains (supby_of new x) y → IsId x × IsId y
     supby_after x y there = elim ((installs.supby x y).0 there) [
@@ -89,7 +90,7 @@ module _ (i : Installation) (has : HasInstallForms i) where
     delby_forms_after x y at = delby_after_forms x y (sym (installs.delby x) ∙ at)
 
     -- an entry is there for a date, for SUPBY or for DELBY
-    entry_id : (e : Entry) → entry_of new e.id ≡ Some e → IsTrue (is_held e) → IsId e.id
+    entry_id : (e : Entry) → entry_of new e.id ≡ Some e → IsTrue (has_content e) → IsId e.id
     entry_id e found held = elim (or_cases (is_some e.applied || not (is_nil e.supby)) (is_some e.delby) held) [
       | inl first ↦ elim (or_cases (is_some e.applied) (not (is_nil e.supby)) first) [
         | inl applied ↦ by_date e.applied (ap (option_and_then (λ e. e.applied)) found) applied
@@ -98,9 +99,9 @@ module _ (i : Installation) (has : HasInstallForms i) where
       | inr deleted ↦ by_delby e.delby (ap (option_and_then (λ e. e.delby)) found) deleted
     ]
       where
-        by_date : (o : Option Text) → applied_of new e.id ≡ o → is_some o ≡ true → IsId e.id
+        by_date : (o : Option Applied) → applied_of new e.id ≡ o → is_some o ≡ true → IsId e.id
         by_date None at some = absurd (cc some)
-        by_date (Some date) at some = (applied_after e.id date at).0
+        by_date (Some a) at some = (applied_after e.id a at).0
 
         by_supby : (ids : List Id) → supby_of new e.id ≡ ids → not (is_nil ids) ≡ true → IsId e.id
         by_supby [] at some = absurd (cc some)
@@ -113,15 +114,15 @@ module _ (i : Installation) (has : HasInstallForms i) where
     entry_after : (e : Entry) → Contains new.entries e → HasEntryForms e
     entry_after e there =
         let found : entry_of new e.id ≡ Some e =
-        find-itself nat_list_cmp_total (λ (e : Entry). e.id) bytes_eq texts_ties new.entries e installs.is_zone.entries
+        find_itself nat_list_cmp_total (λ (e : Entry). e.id) bytes_eq texts_ties new.entries e installs.is_zone.entries
         there in
         let applied : applied_of new e.id ≡ e.applied = ap (option_and_then (λ (e : Entry). e.applied)) found in
         let supby : supby_of new e.id ≡ e.supby = ap (λ o. option_map_or (λ (e : Entry). e.supby) o []) found in
         let delby : delby_of new e.id ≡ e.delby = ap (option_and_then (λ (e : Entry). e.delby)) found in
         let waived : waived_of new e.id ≡ e.waived = ap (λ o. option_map_or (λ (e : Entry). e.waived) o []) found in
         record {
-          id = entry_id e found (All-contains (λ e. IsTrue (is_held e)) new.entries e installs.is_zone.held there);
-          applied = date_of e.applied applied;
+          id = entry_id e found (All-contains (λ e. IsTrue (has_content e)) new.entries e installs.is_zone.held there);
+          applied = applied_as e.applied applied;
           supby = listed supby (λ y is. (supby_after e.id y is).1) (installs.supby_rising e.id);
           delby = deleter_of e.delby delby;
           waived = listed waived (waived_after e.id) (installs.waived_rising e.id);
@@ -132,17 +133,17 @@ module _ (i : Installation) (has : HasInstallForms i) where
               ];
         }
       where
-        date_of : (o : Option Text) → applied_of new e.id ≡ o → IfSome o IsDottedDate
-        date_of None at = tt
-        date_of (Some date) at = (applied_after e.id date at).1
+        applied_as : (o : Option Applied) → applied_of new e.id ≡ o → IfSome o HasAppliedForms
+        applied_as None at = tt
+        applied_as (Some a) at = (applied_after e.id a at).1
 
         deleter_of : (o : Option Id) → delby_of new e.id ≡ o → IfSome o IsId
         deleter_of None at = tt
         deleter_of (Some y) at = (delby_forms_after e.id y at).1
 
         listed : {ids now : List Id} → now ≡ ids → ((y : Id) → Contains now y → IsId y) → IsRising now
-            → AreListed IsId ids
-        listed {now = now} same each rising = subst (AreListed IsId) same (record {
+            → AreSorted IsId ids
+        listed {now = now} same each rising = subst (AreSorted IsId) same (record {
           each = λ k d below. each (get_or now k d) (All-contains_itself now k d below);
           rising = rising;
         })

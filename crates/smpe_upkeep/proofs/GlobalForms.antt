@@ -14,8 +14,8 @@ use Rattle.terms.specs.Forms.{IsSource}
 use Rattle.terms.specs.Global.{IsSysmod, IsGlobal, hold_cmp, has_key, hold_of, marked, hold, Rl2, release_found}
 use Rattle.terms.specs.Global.{release, without_hold, assign, with_sysmod, received, ReceiveFault, HasFault, Rj1, Rj2}
 use Rattle.terms.specs.Global.{without_sysmod, reject}
-use Rattle.terms.proofs.GlobalKept.{IsOwned, hold-kept, without_hold-kept, assign-kept, without_sysmod-kept}
-use Rattle.terms.proofs.Placing.{All-with_item, Rises-with_item}
+use Rattle.terms.proofs.GlobalKept.{IsOwned, hold_kept, without_hold_kept, assign_kept, without_sysmod_kept}
+use Rattle.terms.proofs.Placing.{All_with_item, Rises_with_item}
 use Rattle.terms.proofs.GlobalLookups.{assigned}
 use Rattle.sysmods.proofs.Receiving.{kept}
 use Rattle.store_schema.specs.Forms.{HasSysmodForms, HasHoldForms}
@@ -72,12 +72,12 @@ marked_forms was h forms = record {
 all_held : (g : Global) (h : Hold) → All HasHoldForms g.holds → HasHoldForms h → All HasHoldForms (hold g h).holds
 all_held g h all forms =
     let was = hold_of g h.id h.kind h.reason in
-    All-with_item hold_cmp (λ (o : Hold). o) HasHoldForms g.holds (marked was h) all (marked_forms was h forms)
+    All_with_item hold_cmp (λ (o : Hold). o) HasHoldForms g.holds (marked was h) all (marked_forms was h forms)
 
 -- A hold that is external, or an internal one of a received SYSMOD.
 pub hold_forms : (g : Global) (h : Hold) → HasHoldForms h → IsOwned g h → HasGlobalForms g → HasGlobalForms (hold g h)
 hold_forms g h forms own has = record {
-  is_global = hold-kept g h has.is_global own;
+  is_global = hold_kept g h has.is_global own;
   sysmods = has.sysmods;
   holds = all_held g h has.holds forms;
 }
@@ -90,7 +90,7 @@ release_forms g r has = found (hold_of g r.id r.kind r.reason)
   where
     without : HasGlobalForms (without_hold r.id r.kind r.reason g)
     without = record {
-      is_global = without_hold-kept g r.id r.kind r.reason has.is_global;
+      is_global = without_hold_kept g r.id r.kind r.reason has.is_global;
       sysmods = has.sysmods;
       holds = All-filter (λ h. not (has_key r.id r.kind r.reason h)) HasHoldForms g.holds has.holds;
     }
@@ -114,8 +114,8 @@ sourced_forms source x s form has = by (bytes_eq s.id x) refl
     by true e = rw e (record {
       id = has.id;
       sources = record {
-        each = All-with_item (slice_cmp nat_cmp) (λ (t : Text). t) IsSource s.sources source has.sources.each form;
-        rising = Rises-with_item nat_list_cmp_total (λ (t : Text). t) s.sources source has.sources.rising;
+        each = All_with_item (slice_cmp nat_cmp) (λ (t : Text). t) IsSource s.sources source has.sources.each form;
+        rising = Rises_with_item nat_list_cmp_total (λ (t : Text). t) s.sources source has.sources.rising;
       };
       some = has.some;
       vers = has.vers;
@@ -128,7 +128,7 @@ sourced_forms source x s form has = by (bytes_eq s.id x) refl
 pub assign_forms : (g : Global) (source : Text) (x : Id) → IsSource source → HasGlobalForms g
     → HasGlobalForms (assign g source x)
 assign_forms g source x form has = record {
-  is_global = assign-kept g source x has.is_global;
+  is_global = assign_kept g source x has.is_global;
   sysmods = All-map HasSysmodForms (assigned source x) g.sysmods
       (All-weaker HasSysmodForms (λ s. HasSysmodForms (assigned source x s))
       (λ s forms. sourced_forms source x s form forms) g.sysmods has.sysmods);
@@ -166,7 +166,7 @@ pub received_forms : (g : Global) (s : Sysmod) → HasSysmodForms s → IsSysmod
 received_forms g s forms is held good has = record {
   is_global = kept g s has.is_global is good;
   sysmods = same_sysmods s.holds (with_sysmod g s)
-      (All-with_item (slice_cmp nat_cmp) (λ (r : Sysmod). r.id) HasSysmodForms g.sysmods (record s { holds = [] })
+      (All_with_item (slice_cmp nat_cmp) (λ (r : Sysmod). r.id) HasSysmodForms g.sysmods (record s { holds = [] })
       has.sysmods (laid_aside s forms));
   holds = all_holds s.holds (with_sysmod g s) has.holds held;
 }
@@ -178,7 +178,7 @@ rejected_forms g zones x has = by (is_received g x) (list_any (λ (z : NamedZone
   where
     without : HasGlobalForms (without_sysmod g x)
     without = record {
-      is_global = without_sysmod-kept g x has.is_global;
+      is_global = without_sysmod_kept g x has.is_global;
       sysmods = All-filter (λ s. not (bytes_eq s.id x)) HasSysmodForms g.sysmods has.sysmods;
       holds = All-filter (λ h. not (h.internal && bytes_eq h.id x)) HasHoldForms g.holds has.holds;
     }

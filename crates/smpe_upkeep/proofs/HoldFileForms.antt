@@ -9,7 +9,7 @@ use Rattle.terms.specs.Statement.{Piece}
 use Rattle.terms.specs.Ptfin.{IsKnown}
 use Rattle.terms.specs.HoldFile.{HasItem, IsWithin, BeginsWithItems, IsHoldFile}
 use Rattle.store_schema.specs.Forms.{HasHoldForms}
-use Rattle.lemmas.proofs.Each.{recursion-front, recursion-back}
+use Rattle.lemmas.proofs.Each.{recursion_front, recursion_back}
 use Rattle.smpe_upkeep.proofs.Printable.{operands_printable}
 use Rattle.smpe_upkeep.proofs.StatementForms.{hold_formed}
 
@@ -40,9 +40,9 @@ items_formed (item ∷ items) n records m each (
   more,
 ) =
     let parts = subst (λ rs. AllByRecursion IsRecord rs) takes.records_are each in
-    let inside = recursion-front IsRecord group.records later parts in (
+    let inside = recursion_front IsRecord group.records later parts in (
       item_formed group.records w own rest inline item known has within inside,
-      items_formed items next later m (recursion-back IsRecord group.records later parts) more,
+      items_formed items next later m (recursion_back IsRecord group.records later parts) more,
     )
 
 -- each item of a hold file has its forms, and each of its holds is external

@@ -4,7 +4,7 @@ use Rattle.std.specs.Prelude.{find, option_map}
 use Rattle.std.specs.Str.{bytes_eq}
 use Rattle.std.specs.Ordering.{nat_cmp}
 use Rattle.std.specs.Cmp.Lexicographic.{slice_cmp}
-use Rattle.lemmas.proofs.Searches.{All-find}
+use Rattle.lemmas.proofs.Searches.{All_find}
 use Rattle.terms.specs.Types.{Text, Zone, NamedZone, Bypass, Selection}
 use Rattle.terms.specs.Rising.{with_item}
 use Rattle.terms.specs.Install.{Installation, HasInstalled}
@@ -37,7 +37,7 @@ named_forms zones name zone all found = by (find (λ z. bytes_eq z.name name) zo
     by (Some z) at =
         let same : Some z.zone ≡ Some zone = sym (ap (option_map (λ z. z.zone)) at) ∙ found in
         let is : z.zone ≡ zone = cc same in
-        subst HasZoneForms is (All-find IsZoneNamed (λ z. bytes_eq z.name name) zones z all at).forms
+        subst HasZoneForms is (All_find IsZoneNamed (λ z. bytes_eq z.name name) zones z all at).forms
 
 -- What is selected and installed in a zone of an inventory leads to an inventory.
 pub apply_kept : (i : Inventory) (name : Text) (old new : Zone) (related : Option Zone) (sel : Selection)

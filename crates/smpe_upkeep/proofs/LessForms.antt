@@ -7,23 +7,23 @@ use Rattle.std.specs.Str.{bytes_eq}
 use Rattle.std.proofs.lemmas.List.Elements.{All-nil, All-filter, All-map, All-contains, All-weaker}
 use Rattle.std.proofs.lemmas.List.Kept.{AllPairs-filter}
 use Rattle.lemmas.proofs.Members.{none_in}
-use Rattle.lemmas.proofs.Searches.{All-find, find-gives}
+use Rattle.lemmas.proofs.Searches.{All_find, find_gives}
 use Rattle.lemmas.proofs.Texts.{same_from}
 use Rattle.terms.specs.declared.kinds.ElemType.{ElemType}
-use Rattle.terms.specs.Types.{Text, Id, Global, Entry, Element, Zone, type_number}
-use Rattle.terms.specs.Lookups.{is_before, is_held, entry_of, element_of, applied_of, supby_of, delby_of, waived_of}
+use Rattle.terms.specs.Types.{Text, Id, Global, Entry, Element, Zone, type_number, Applied}
+use Rattle.terms.specs.Lookups.{is_before, has_content, entry_of, element_of, applied_of, supby_of, delby_of, waived_of}
 use Rattle.terms.specs.Choice.{Choice}
 use Rattle.terms.specs.Deleted.{is_deleted, is_taken_out, entry_less, entries_less, zone_less}
-use Rattle.terms.specs.Forms.{IsId, IsDottedDate}
-use Rattle.store_schema.specs.Forms.{AreListed, HasEntryForms, HasElementForms, HasZoneForms}
+use Rattle.terms.specs.Forms.{IsId}
+use Rattle.store_schema.specs.Forms.{AreSorted, HasAppliedForms, HasEntryForms, HasElementForms, HasZoneForms}
 
 -- no ids
-pub none_listed : AreListed IsId []
+pub none_listed : AreSorted IsId []
 none_listed = record { each = All-nil IsId; rising = λ i j d up below. absurd (omega arith) }
 
 -- the ids of a list that pass a test
-pub listed-filter : (test : Id → Bool) (ids : List Id) → AreListed IsId ids → AreListed IsId (filter test ids)
-listed-filter test ids listed = record {
+pub listed_filter : (test : Id → Bool) (ids : List Id) → AreSorted IsId ids → AreSorted IsId (filter test ids)
+listed_filter test ids listed = record {
   each = All-filter test IsId ids listed.each;
   rising = AllPairs-filter (λ x y. IsTrue (is_before x y)) test ids listed.rising;
 }
@@ -40,7 +40,7 @@ entry_less_forms is_gone e forms = by (is_gone e.id)
     by true = record {
       id = forms.id;
       applied = tt;
-      supby = listed-filter (λ y. not (is_gone y)) e.supby forms.supby;
+      supby = listed_filter (λ y. not (is_gone y)) e.supby forms.supby;
       delby = forms.delby;
       waived = none_listed;
       waived_if_applied = λ some. absurd (some refl);
@@ -48,7 +48,7 @@ entry_less_forms is_gone e forms = by (is_gone e.id)
     by false = record {
       id = forms.id;
       applied = forms.applied;
-      supby = listed-filter (λ y. not (is_gone y)) e.supby forms.supby;
+      supby = listed_filter (λ y. not (is_gone y)) e.supby forms.supby;
       delby = forms.delby;
       waived = forms.waived;
       waived_if_applied = forms.waived_if_applied;
@@ -57,7 +57,7 @@ entry_less_forms is_gone e forms = by (is_gone e.id)
 pub entries_less_forms : (is_gone : Id → Bool) (es : List Entry) → All HasEntryForms es
     → All HasEntryForms (entries_less is_gone es)
 entries_less_forms is_gone es forms =
-    All-filter is_held HasEntryForms (map (entry_less is_gone) es)
+    All-filter has_content HasEntryForms (map (entry_less is_gone) es)
     (All-map HasEntryForms (entry_less is_gone) es
     (All-weaker HasEntryForms (λ e. HasEntryForms (entry_less is_gone e)) (entry_less_forms is_gone) es forms))
 
@@ -75,17 +75,17 @@ zone_less_forms g c dels zone forms = record {
 module _ (zone : Zone) (forms : HasZoneForms zone) where
   entry_found : (x : Id) (e : Entry) → entry_of zone x ≡ Some e → HasEntryForms e × IsId x
   entry_found x e found =
-      let has = All-find HasEntryForms (λ e. bytes_eq e.id x) zone.entries e forms.entries found in
-      (has, subst IsId (same_from e.id x (find-gives (λ e. bytes_eq e.id x) zone.entries e found).0) has.id)
+      let has = All_find HasEntryForms (λ e. bytes_eq e.id x) zone.entries e forms.entries found in
+      (has, subst IsId (same_from e.id x (find_gives (λ e. bytes_eq e.id x) zone.entries e found).0) has.id)
 
-  pub applied_forms : (x : Id) (date : Text) → applied_of zone x ≡ Some date → IsId x × IsDottedDate date
-  applied_forms x date = by (entry_of zone x) refl
+  pub applied_forms : (x : Id) (a : Applied) → applied_of zone x ≡ Some a → IsId x × HasAppliedForms a
+  applied_forms x a = by (entry_of zone x) refl
     where
-      by : (e : Option Entry) → entry_of zone x ≡ e → option_and_then (λ e. e.applied) e ≡ Some date
-          → IsId x × IsDottedDate date
+      by : (e : Option Entry) → entry_of zone x ≡ e → option_and_then (λ e. e.applied) e ≡ Some a
+          → IsId x × HasAppliedForms a
       by None found at = absurd (cc at)
       by (Some e) found at = let is = entry_found x e found in
-          (is.1, subst (λ a. IfSome a IsDottedDate) at is.0.applied)
+          (is.1, subst (λ o. IfSome o HasAppliedForms) at is.0.applied)
 
   pub delby_forms : (x y : Id) → delby_of zone x ≡ Some y → IsId x × IsId y
   delby_forms x y = by (entry_of zone x) refl
@@ -113,5 +113,5 @@ module _ (zone : Zone) (forms : HasZoneForms zone) where
   pub element_forms : (type : ElemType) (name : Text) (e : Element) → element_of zone type name ≡ Some e
       → HasElementForms e
   element_forms type name e found =
-      All-find HasElementForms (λ e. (type_number e.elem_type == type_number type) && bytes_eq e.name name)
+      All_find HasElementForms (λ e. (type_number e.elem_type == type_number type) && bytes_eq e.name name)
       zone.elements e forms.elements found

@@ -11,8 +11,8 @@ use Rattle.lemmas.proofs.Members.{here, there, here_or, none_in, parts}
 use Rattle.terms.specs.Rising.{Rises}
 use Rattle.terms.specs.Types.{Lines}
 use Rattle.terms.specs.Texts.{number_of, line_at, IsNumbered}
-use Rattle.terms.proofs.RisingLists.{find-there, Splits-around}
-use Rattle.terms.proofs.Texts.{Rises as LinesRise, Rises-numbered, line_at-head, line_at-tail}
+use Rattle.terms.proofs.RisingLists.{find_there, Splits_around}
+use Rattle.terms.proofs.Texts.{Rises as LinesRise, Rises_numbered, line_at_head, line_at_tail}
 
 pub each_alike : {X : Type 0} (P : Type 0) → P → (xs : List X) → AllByRecursion (λ (x : X). P) xs
 each_alike P is [] = tt
@@ -29,20 +29,20 @@ flat_map_in f (x ∷ xs) y is_in =
     ]
 
 -- An item of a list that rises is what is found at its key.
-pub find-itself : {X K : Type 0} {R : K → K → Ordering} → IsTotalOrder R → (key : X → K) (E : K → K → Bool)
+pub find_itself : {X K : Type 0} {R : K → K → Ordering} → IsTotalOrder R → (key : X → K) (E : K → K → Bool)
     → ((a b : K) → E a b ≡ is_eq (R a b)) → (xs : List X) (x : X) → Rises R key xs → Contains xs x
     → find (λ y. E (key y) (key x)) xs ≡ Some x
-find-itself {R = R} o key E ties xs x rises is_in =
+find_itself {R = R} o key E ties xs x rises is_in =
     let p = parts xs x is_in in
     let tie = tied_itself o (key x) in
     ap (find (λ y. E (key y) (key x))) p.2
-    ∙ find-there o key E ties (key x) p.0 p.1 x
-    (Splits-around o key (key x) p.0 p.1 x (subst (Rises R key) p.2 rises) tie) tie
+    ∙ find_there o key E ties (key x) p.0 p.1 x
+    (Splits_around o key (key x) p.0 p.1 x (subst (Rises R key) p.2 rises) tie) tie
 
 -- So is a record of a numbered text, at its number.
-pub line_at-itself : (text : Lines) (line : List ℕ) → IsNumbered text → Contains text line
+pub line_at_itself : (text : Lines) (line : List ℕ) → IsNumbered text → Contains text line
     → line_at text (number_of line) ≡ Some line
-line_at-itself text line numbered = among 0 text (Rises-numbered text numbered)
+line_at_itself text line numbered = among 0 text (Rises_numbered text numbered)
   where
     above : (least : ℕ) (text : Lines) → LinesRise least text → Contains text line → least ≤ number_of line
     above least [] rises is_in = absurd (none_in line is_in)
@@ -55,8 +55,8 @@ line_at-itself text line numbered = among 0 text (Rises-numbered text numbered)
         → line_at text (number_of line) ≡ Some line
     among least [] rises is_in = absurd (none_in line is_in)
     among least (x ∷ xs) rises is_in = elim (here_or x xs line is_in) [
-      | inl first ↦ subst (λ l. line_at (x ∷ xs) (number_of l) ≡ Some l) first (line_at-head x xs)
+      | inl first ↦ subst (λ l. line_at (x ∷ xs) (number_of l) ≡ Some l) first (line_at_head x xs)
       | inr later ↦
           let over = above (number_of x + 1) xs rises.1 later in
-          line_at-tail x xs (number_of line) (λ e. omega (arith, e, over)) ∙ among (number_of x + 1) xs rises.1 later
+          line_at_tail x xs (number_of line) (λ e. omega (arith, e, over)) ∙ among (number_of x + 1) xs rises.1 later
     ]

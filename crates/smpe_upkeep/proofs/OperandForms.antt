@@ -8,7 +8,7 @@ use Rattle.std.proofs.lemmas.Bool.{and_parts, eqb-true}
 use Rattle.std.proofs.lemmas.List.Elements.{All-contains, Contains-append_cases}
 use Rattle.lemmas.proofs.Members.{none_in, filter_in}
 use Rattle.lemmas.proofs.Places.{contains_at}
-use Rattle.lemmas.proofs.Searches.{All-find, find-gives}
+use Rattle.lemmas.proofs.Searches.{All_find, find_gives}
 use Rattle.lemmas.proofs.Texts.{same_from}
 use Rattle.terms.specs.declared.kinds.Kind.{Kind}
 use Rattle.terms.specs.declared.kinds.ElemType.{ElemType}
@@ -37,14 +37,14 @@ counting_one p xs x = by (find p xs) refl
   where
     by : (o : Option _) → find p xs ≡ o → or_first xs o ≡ Some x → Contains xs x
     by None found at = contains_at xs 0 x at
-    by (Some y) found at = (find-gives p xs x (found ∙ at)).1
+    by (Some y) found at = (find_gives p xs x (found ∙ at)).1
 
 -- The received SYSMODs have their forms.
 module _ (g : Global) (sysmods : All HasSysmodForms g.sysmods) where
   pub sysmod_forms : (x : Id) (s : Sysmod) → sysmod_of g x ≡ Some s → (s.id ≡ x) × HasSysmodForms s
   sysmod_forms x s found = (
-    same_from s.id x (find-gives (λ s. bytes_eq s.id x) g.sysmods s found).0,
-    All-find HasSysmodForms (λ s. bytes_eq s.id x) g.sysmods s sysmods found,
+    same_from s.id x (find_gives (λ s. bytes_eq s.id x) g.sysmods s found).0,
+    All_find HasSysmodForms (λ s. bytes_eq s.id x) g.sysmods s sysmods found,
   )
 
   pub function_form : (x : Id) → is_function g x ≡ true → IsId x
@@ -67,11 +67,11 @@ module _ (g : Global) (sysmods : All HasSysmodForms g.sysmods) where
           → (h.elem_type ≡ type) × (h.name ≡ name) × ((kind : Kind) × HasChangeForms kind h)
       by None found at = absurd (cc at)
       by (Some s) found at =
-          let passes = find-gives test s.changes h at in
+          let passes = find_gives test s.changes h at in
           let parts = and_parts (type_number h.elem_type == type_number type) (bytes_eq h.name name) passes.0 in (
             type_from_number h.elem_type type (eqb-true _ _ parts.0),
             same_from h.name name parts.1,
-            (s.kind, All-find (HasChangeForms s.kind) test s.changes h (sysmod_forms x s found).1.changes at),
+            (s.kind, All_find (HasChangeForms s.kind) test s.changes h (sysmod_forms x s found).1.changes at),
           )
 
   -- the ++VER that counts, as it is one of those for the zone's SREL

@@ -17,8 +17,8 @@ use Rattle.terms.specs.Statements.{statement_text}
 use Rattle.terms.specs.Ptfin.{IsKnown}
 use Rattle.store_schema.specs.Forms.{IsPaired}
 use Rattle.smpe_upkeep.proofs.Paired.{list_paired}
-use Rattle.lemmas.proofs.Each.{recursion-append, recursion-front, recursion-back}
-use Rattle.lemmas.proofs.Searches.{All-find}
+use Rattle.lemmas.proofs.Each.{recursion_append, recursion_front, recursion_back}
+use Rattle.lemmas.proofs.Searches.{All_find}
 
 abbrev pub ArePrintable : Text → Type 0
 ArePrintable text = AllByRecursion IsPrintable text
@@ -32,12 +32,12 @@ followed_printable : (records : Lines) → AllByRecursion IsRecord records → A
 followed_printable [] each = tt
 followed_printable (r ∷ rs) each = (
   (omega arith, omega arith),
-  recursion-append IsPrintable (front r) (followed rs) (front_printable r each.0) (followed_printable rs each.1),
+  recursion_append IsPrintable (front r) (followed rs) (front_printable r each.0) (followed_printable rs each.1),
 )
 
 joined_printable : (records : Lines) → AllByRecursion IsRecord records → ArePrintable (joined records)
 joined_printable [] each = tt
-joined_printable (r ∷ rs) each = recursion-append IsPrintable (front r) (followed rs) (front_printable r each.0)
+joined_printable (r ∷ rs) each = recursion_append IsPrintable (front r) (followed rs) (front_printable r each.0)
     (followed_printable rs each.1)
 
 -- ---- pieces
@@ -70,13 +70,13 @@ piece_printable : (text : Text) (p : Piece) (after : Text) → TakesPiece text p
     → HasPrintable p × ArePrintable after
 piece_printable text (TheWord word) after takes each = (
   tt,
-  recursion-back IsPrintable word after
+  recursion_back IsPrintable word after
       (subst ArePrintable takes.0 each),
 )
 piece_printable text (TheList list) after takes each =
     let inside : ArePrintable (list ++ 41 ∷ after) = (subst ArePrintable takes.0 each).1 in (
-      (recursion-front IsPrintable list (41 ∷ after) inside, list_paired list after takes.1),
-      (recursion-back IsPrintable list (41 ∷ after) inside).1,
+      (recursion_front IsPrintable list (41 ∷ after) inside, list_paired list after takes.1),
+      (recursion_back IsPrintable list (41 ∷ after) inside).1,
     )
 piece_printable text Blank after (b, is, blank) each = (tt, (subst ArePrintable is each).1)
 piece_printable text Comment after (inside, is, closes) each =
@@ -116,8 +116,8 @@ words_printable : (words : List Word) → AllByRecursion HasPrintable (flat_map 
     → AllByRecursion HasPrintableList words
 words_printable [] h = tt
 words_printable (w ∷ ws) h = (
-  list_printable w.list (recursion-front HasPrintable (list_pieces w.list) (flat_map word_pieces ws) h.1),
-  words_printable ws (recursion-back HasPrintable (list_pieces w.list) (flat_map word_pieces ws) h.1),
+  list_printable w.list (recursion_front HasPrintable (list_pieces w.list) (flat_map word_pieces ws) h.1),
+  words_printable ws (recursion_back HasPrintable (list_pieces w.list) (flat_map word_pieces ws) h.1),
 )
 
 -- the operands of a statement
@@ -128,7 +128,7 @@ pub operands_printable : (records : Lines) (w : StatementWord) (own : Option Tex
 operands_printable records w own rest inline operands known are each =
     let pieces = statement_printable records known.pieces inline known.statement each in
     let first : List Piece = word_pieces (record { word = statement_text w; list = own }) in
-    let behind = recursion-back HasPrintable first rest (subst (λ ps. AllByRecursion HasPrintable ps)
+    let behind = recursion_back HasPrintable first rest (subst (λ ps. AllByRecursion HasPrintable ps)
     known.begins.pieces_are pieces) in
     words_printable operands (subst (λ ps. AllByRecursion HasPrintable ps) are behind)
 
@@ -138,5 +138,5 @@ operand_printable name words each = by (operand name words) refl
   where
     by : (o : Option Word) → operand name words ≡ o → IfSome o HasPrintableList
     by None found = tt
-    by (Some w) found = All-find HasPrintableList (λ (v : Word). bytes_eq v.word name) words w
+    by (Some w) found = All_find HasPrintableList (λ (v : Word). bytes_eq v.word name) words w
         (All-from_recursion HasPrintableList words each) found

@@ -31,10 +31,10 @@ use Rattle.terms.specs.Ptfin.{Begun, SoFar, nothing, items_of, begun, with_ver, 
 use Rattle.terms.specs.Ptfin.{with_hold, after, sysmod_in, MayStand, CannotStand, LastHeader, UpdateInFunction}
 use Rattle.terms.specs.Ptfin.{IsHeader, IsUpdateWord, IsPlaced, IsKnown, IsGood, BeginsWithStatements, IsPtfin}
 use Rattle.terms.proofs.ElementOrder.{change_cmp_total}
-use Rattle.terms.proofs.GlobalKept.{Rises-map}
-use Rattle.terms.proofs.Placing.{All-with_item, Rises-with_item}
-use Rattle.lemmas.proofs.Each.{recursion-append, recursion-front, recursion-back}
-use Rattle.store_schema.specs.Forms.{AreRecords, SuitsKind, HasIfForms, HasVerForms, HasChangeForms, HasHoldForms}
+use Rattle.terms.proofs.GlobalKept.{Rises_map}
+use Rattle.terms.proofs.Placing.{All_with_item, Rises_with_item}
+use Rattle.lemmas.proofs.Each.{recursion_append, recursion_front, recursion_back}
+use Rattle.store_schema.specs.Forms.{AreRecords, VerSuitsKind, HasIfForms, HasVerForms, HasChangeForms, HasHoldForms}
 use Rattle.smpe_upkeep.proofs.Printable.{HasPrintableList, operands_printable}
 use Rattle.smpe_upkeep.proofs.StatementForms.{one_form, hold_formed, ver_formed, if_formed, source_formed}
 use Rattle.smpe_upkeep.proofs.StatementForms.{change_formed}
@@ -108,16 +108,16 @@ ver_growing : (b : Begun) (v : Ver) → IsGrowing b.sysmod → HasVerForms b.sys
 ver_growing b v g forms = record {
   id = g.id;
   no_sources = g.no_sources;
-  vers = All-with_item (slice_cmp nat_cmp) (λ (w : Ver). w.srel) (HasVerForms b.sysmod.kind b.sysmod.id) b.sysmod.vers v
+  vers = All_with_item (slice_cmp nat_cmp) (λ (w : Ver). w.srel) (HasVerForms b.sysmod.kind b.sysmod.id) b.sysmod.vers v
       g.vers forms;
-  srels = Rises-with_item nat_list_cmp_total (λ (w : Ver). w.srel) b.sysmod.vers v g.srels;
+  srels = Rises_with_item nat_list_cmp_total (λ (w : Ver). w.srel) b.sysmod.vers v g.srels;
   changes = g.changes;
   elements = g.elements;
   held = g.held;
   holds = g.holds;
 }
 
-suits_still : (kind : Kind) (v : Ver) (ifs : List IfReq) → SuitsKind kind v → SuitsKind kind (record v { ifs = ifs })
+suits_still : (kind : Kind) (v : Ver) (ifs : List IfReq) → VerSuitsKind kind v → VerSuitsKind kind (record v { ifs = ifs })
 suits_still Function v ifs suits = suits
 suits_still _ v ifs suits = suits
 
@@ -158,7 +158,7 @@ module _ (i : IfReq) where
         no_sources = g.no_sources;
         vers = All-map P f b.sysmod.vers (All-weaker P (λ v. P (f v))
             (λ v has. more_forms b.sysmod.kind b.sysmod.id (is_last b v) v forms has) b.sysmod.vers g.vers);
-        srels = Rises-map nat_list_cmp_total (λ (v : Ver). v.srel) f (λ v. more_srel (is_last b v) v) b.sysmod.vers
+        srels = Rises_map nat_list_cmp_total (λ (v : Ver). v.srel) f (λ v. more_srel (is_last b v) v) b.sysmod.vers
             g.srels;
         changes = g.changes;
         elements = g.elements;
@@ -175,8 +175,8 @@ hold_growing b h g forms own = record {
   srels = g.srels;
   changes = g.changes;
   elements = g.elements;
-  held = recursion-append HasHoldForms b.sysmod.holds (h ∷ []) g.held (forms, tt);
-  holds = recursion-append (IsOwnHold b.sysmod.id) b.sysmod.holds (h ∷ []) g.holds (own, tt);
+  held = recursion_append HasHoldForms b.sysmod.holds (h ∷ []) g.held (forms, tt);
+  holds = recursion_append (IsOwnHold b.sysmod.id) b.sysmod.holds (h ∷ []) g.holds (own, tt);
 }
 
 change_growing : (b : Begun) (c : Change) → IsGrowing b.sysmod → HasChangeForms b.sysmod.kind c
@@ -186,9 +186,9 @@ change_growing b c g forms = record {
   no_sources = g.no_sources;
   vers = g.vers;
   srels = g.srels;
-  changes = All-with_item change_cmp (λ (x : Change). x) (HasChangeForms b.sysmod.kind) b.sysmod.changes c g.changes
+  changes = All_with_item change_cmp (λ (x : Change). x) (HasChangeForms b.sysmod.kind) b.sysmod.changes c g.changes
       forms;
-  elements = Rises-with_item change_cmp_total (λ (x : Change). x) b.sysmod.changes c g.elements;
+  elements = Rises_with_item change_cmp_total (λ (x : Change). x) b.sysmod.changes c g.elements;
   held = g.held;
   holds = g.holds;
 }
@@ -204,7 +204,7 @@ current_good (Some b) left g some = (record { growing = g.0; some = some }, tt)
 items_good : (c : SoFar) (left : Lines) → IsGoodSoFar c left → IfSome c.current (λ b. b.sysmod.vers ≢ [])
     → AllByRecursion IsItem (items_of c)
 items_good c left g some =
-    recursion-append IsItem c.whole (at_most_one (option_map (λ (b : Begun). ASysmod b.sysmod) c.current)) g.whole
+    recursion_append IsItem c.whole (at_most_one (option_map (λ (b : Begun). ASysmod b.sysmod) c.current)) g.whole
     (current_good c.current left g.current some)
 
 some_vers : (w : StatementWord) → ((s : Sysmod) → MayStand (Some s) w → s.vers ≢ []) → (o : Option Begun)
@@ -276,7 +276,7 @@ change_current w own operands inline x left later (Some b) g may other says reco
 inline_records : (records : Lines) (pieces : List Piece) (inline : Lines) → IsStatement records pieces inline
     → AllByRecursion IsRecord records → AreRecords inline
 inline_records records pieces inline (ps, tail, ends, idle, is) each =
-    let behind_it = recursion-back IsRecord ends.before (ends.place.at ∷ inline)
+    let behind_it = recursion_back IsRecord ends.before (ends.place.at ∷ inline)
     (subst (λ rs. AllByRecursion IsRecord rs) ends.place.records_are each) in
     let those = All-from_recursion IsRecord inline behind_it.1 in
     λ k d below. ((those k d below).0, λ i b within. omega (arith, ((those k d below).1 i b within).1))
@@ -318,7 +318,7 @@ module _ (c : SoFar) (later records : Lines) (w : StatementWord) (own : Option T
   good_after left (SaysAssign a) g good =
       let says = good.value.2 in
       record {
-        whole = recursion-append IsItem (items_of c) (AnAssign a ∷ [])
+        whole = recursion_append IsItem (items_of c) (AnAssign a ∷ [])
             (items_good c left g (some_vers word.Assign (λ s stands. stands) c.current
             (may word.Assign says.0 good.placed))) (source_formed own good.value.0 a says.1, tt);
         current = tt;
@@ -337,10 +337,10 @@ all_good [] c n records d m g each (same, at, none) = subst (λ e. IsGoodSoFar e
     (subst (λ rs. IsGoodSoFar c rs) none g)
 all_good (s ∷ ss) c n records d m g each (group, next, later, takes, (w, own, rest, inline, known, good), more) =
     let parts = subst (λ rs. AllByRecursion IsRecord rs) takes.records_are each in
-    let inside = recursion-front IsRecord group.records later parts in
+    let inside = recursion_front IsRecord group.records later parts in
     all_good ss (after c s) next later d m
     (good_after c later group.records w own rest inline known inside records s g good)
-    (recursion-back IsRecord group.records later parts) more
+    (recursion_back IsRecord group.records later parts) more
 
 last_vers : (left : Lines) (o : Option Begun) → left ≡ [] → IfSome o (IsOpen left) → IfSome o (λ b. b.sysmod.vers ≢ [])
 last_vers left None none g = tt

@@ -20,8 +20,8 @@ use Rattle.terms.specs.Global.{IsSysmod, change_cmp, ReceiveFault, Receives}
 use Rattle.terms.specs.Ptfin.{IsPtfin}
 use Rattle.terms.specs.HoldFile.{IsHoldFile}
 use Rattle.lemmas.proofs.Pairs.{pairs_map}
-use Rattle.terms.proofs.Placing.{All-with_item, Rises-with_item}
-use Rattle.store_schema.specs.Forms.{AreListed, is_change_before, HasSysmodForms, HasHoldForms}
+use Rattle.terms.proofs.Placing.{All_with_item, Rises_with_item}
+use Rattle.store_schema.specs.Forms.{AreSorted, is_change_before, HasSysmodForms, HasHoldForms}
 use Rattle.store_schema.specs.Inventory.{Inventory, IsInventory}
 use Rattle.machine.specs.Outcome.{Line}
 use Rattle.machine.specs.Receiving.{sourced, global_after, AssignsId, TakesItem, TakesHoldItem}
@@ -54,13 +54,13 @@ before_from_cmp a b lower = lower_first (type_number a.elem_type) (type_number b
     (slice_cmp nat_cmp a.name b.name) lower
 
 sources_listed : (source : Option Text) (s : Sysmod) → IfSome source IsSource → s.sources ≡ []
-    → AreListed IsSource (sourced source s).sources
-sources_listed None s form none = subst (λ ts. AreListed IsSource ts) (sym none)
+    → AreSorted IsSource (sourced source s).sources
+sources_listed None s form none = subst (λ ts. AreSorted IsSource ts) (sym none)
     (record { each = λ k d below. absurd (omega arith); rising = λ i j d up below. absurd (omega arith) })
 sources_listed (Some source) s form none = record {
-  each = All-with_item (slice_cmp nat_cmp) (λ (t : Text). t) IsSource s.sources source
+  each = All_with_item (slice_cmp nat_cmp) (λ (t : Text). t) IsSource s.sources source
       (subst (λ ts. All IsSource ts) (sym none) (λ k d below. absurd (omega arith))) form;
-  rising = Rises-with_item nat_list_cmp_total (λ (t : Text). t) s.sources source
+  rising = Rises_with_item nat_list_cmp_total (λ (t : Text). t) s.sources source
       (subst (λ ts. Rises (slice_cmp nat_cmp) (λ (t : Text). t) ts) (sym none)
       (λ i j d up below. absurd (omega arith)));
 }
@@ -70,7 +70,7 @@ same_rest None s = refl
 same_rest (Some source) s = refl
 
 -- a SYSMOD that is read, with the source of the command
-with_forms : (s : Sysmod) (sources : List Text) → IsWhole s → AreListed IsSource sources
+with_forms : (s : Sysmod) (sources : List Text) → IsWhole s → AreSorted IsSource sources
     → HasSysmodForms (record s { sources = sources })
 with_forms s sources whole listed = record {
   id = whole.growing.id;
@@ -84,7 +84,7 @@ with_forms s sources whole listed = record {
       (whole.growing.elements i j d less below);
 }
 
-is_sysmod : (s : Sysmod) (sources : List Text) → IsWhole s → AreListed IsSource sources
+is_sysmod : (s : Sysmod) (sources : List Text) → IsWhole s → AreSorted IsSource sources
     → IsSysmod (record s { sources = sources })
 is_sysmod s sources whole listed = record {
   sources = listed.rising;

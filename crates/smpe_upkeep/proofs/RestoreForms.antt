@@ -7,7 +7,7 @@ use Rattle.std.specs.Ordering.{nat_cmp}
 use Rattle.std.specs.Cmp.Lexicographic.{slice_cmp}
 use Rattle.std.proofs.lemmas.List.Elements.{All-contains_itself}
 use Rattle.std.proofs.lemmas.List.Folds.{Any-from_list_any}
-use Rattle.lemmas.proofs.Searches.{All-from_no_list_any}
+use Rattle.lemmas.proofs.Searches.{All_from_no_list_any}
 use Rattle.terms.specs.Types.{Text, Id, Element, Zone, NamedZone, RestoreList}
 use Rattle.terms.specs.Lookups.{is_in, element_eq, element_key, element_of, has_change}
 use Rattle.terms.specs.Rising.{with_item}
@@ -21,7 +21,7 @@ use Rattle.machine.specs.Restoring.{RestoresListed}
 use Rattle.machine.specs.State.{zone_named}
 use Rattle.smpe_upkeep.proofs.InstallForms.{named_forms}
 use Rattle.smpe_upkeep.proofs.LessForms.{entries_less_forms, element_forms}
-use Rattle.smpe_upkeep.proofs.Lists.{find-itself}
+use Rattle.smpe_upkeep.proofs.Lists.{find_itself}
 use Rattle.smpe_upkeep.proofs.ZonesKept.{zone_kept}
 
 module _ (r : Restoring) (kept : List Id) (new : Zone) (target : HasZoneForms r.zone)
@@ -31,7 +31,7 @@ module _ (r : Restoring) (kept : List Id) (new : Zone) (target : HasZoneForms r.
   in_zone e there = by (list_any (λ x. has_change r.global x e.elem_type e.name) kept) refl
     where
       found : element_of new e.elem_type e.name ≡ Some e
-      found = find-itself element_cmp_total element_key element_eq element_ties new.elements e
+      found = find_itself element_cmp_total element_key element_eq element_ties new.elements e
           restores.is_zone.elements there
 
       by : (b : Bool) → list_any (λ x. has_change r.global x e.elem_type e.name) kept ≡ b → HasElementForms e
@@ -42,7 +42,7 @@ module _ (r : Restoring) (kept : List Id) (new : Zone) (target : HasZoneForms r.
       by false none =
           element_forms r.zone target e.elem_type e.name e
           (sym (restores.others e.elem_type e.name
-          (All-from_no_list_any (λ x. has_change r.global x e.elem_type e.name) kept none)) ∙ found)
+          (All_from_no_list_any (λ x. has_change r.global x e.elem_type e.name) kept none)) ∙ found)
 
   -- A restore keeps the forms of the zone.
   pub restored_forms : HasZoneForms new

@@ -6,11 +6,11 @@ use Rattle.std.specs.Prelude.{slice_index_or}
 use Rattle.std.proofs.lemmas.Bool.{cases_lt, cases_eq}
 use Rattle.terms.specs.declared.kinds.ElemType.{ElemType}
 use Rattle.terms.specs.declared.kinds.ElemType.TheVariants.{Mac, Src, Clist, Data, Exec, Parm, Proc}
-use Rattle.terms.specs.Types.{Text, Id, Lines, Element}
+use Rattle.terms.specs.Types.{Text, Id, Lines, Element, Applied}
 use Rattle.terms.specs.Lookups.{is_before, IsRising}
 use Rattle.terms.specs.Forms.{is_id_byte, is_digit, IsRun, IsId, IsName, IsDottedDate}
 use Rattle.terms.specs.Texts.{IsNumbered, IsNumberedLine}
-use Rattle.store_schema.specs.Forms.{AreListed, AreRecords, IsTextOf, HasElementForms}
+use Rattle.store_schema.specs.Forms.{AreSorted, HasAppliedForms, AreRecords, IsTextOf, HasElementForms}
 
 abbrev pub Stable : Type 0 → Type 0
 Stable A = ¬ ¬ A → A
@@ -90,7 +90,13 @@ stable_dotted date h = (
   ),
 )
 
-pub stable_listed : (ids : List Id) → Stable (AreListed IsId ids)
+pub stable_applied : (a : Applied) → Stable (HasAppliedForms a)
+stable_applied a h = record {
+  date = part_of (λ f. f.date) (stable_dotted a.date) h;
+  number = part_of (λ f. f.number) (stable_number a.number 1) h;
+}
+
+pub stable_listed : (ids : List Id) → Stable (AreSorted IsId ids)
 stable_listed ids h = record {
   each = part_of (λ l. l.each) (stable_all IsId stable_id ids) h;
   rising = part_of (λ l. l.rising) (stable_rising ids) h;

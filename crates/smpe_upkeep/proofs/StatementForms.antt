@@ -22,9 +22,9 @@ use Rattle.terms.specs.Statements.{IsVerOf, IsIfOf, IsAssignOf, HasAction, IsCha
 use Rattle.terms.specs.Ptfin.{IsUpdateWord}
 use Rattle.terms.specs.declared.statement_words.StatementWord.TheVariants as word
 use Rattle.terms.specs.Statements as says
-use Rattle.store_schema.specs.Forms.{AreListed, AreOthers, IsComment, HasHoldForms, AreRecords, IsTextOf, SuitsKind}
+use Rattle.store_schema.specs.Forms.{AreSorted, AreOthers, IsComment, HasHoldForms, AreRecords, IsTextOf, VerSuitsKind}
 use Rattle.store_schema.specs.Forms.{HasIfForms, HasVerForms, HasActionForms, HasChangeForms}
-use Rattle.lemmas.proofs.Each.{recursion-front, recursion-back}
+use Rattle.lemmas.proofs.Each.{recursion_front, recursion_back}
 use Rattle.smpe_upkeep.proofs.Printable.{ArePrintable, IsInside, HasPrintableList, operand_printable}
 use Rattle.smpe_upkeep.proofs.Paired.{cut_paired}
 
@@ -51,12 +51,12 @@ listed_form : (form : Text → Type 0) (list : Option Text) (values : List Text)
 listed_form form None values h = absurd h
 listed_form form (Some text) values h = h.each
 
-none_listed : {form : Text → Type 0} → AreListed form []
+none_listed : {form : Text → Type 0} → AreSorted form []
 none_listed = record { each = λ k d below. absurd (omega arith); rising = λ i j d up below. absurd (omega arith) }
 
 texts_listed : (form : Text → Type 0) (found : Option Word) (values : List Text) → HasTexts form found values
-    → AreListed form values
-texts_listed form None values is = subst (λ vs. AreListed form vs) (sym is) none_listed
+    → AreSorted form values
+texts_listed form None values is = subst (λ vs. AreSorted form vs) (sym is) none_listed
 texts_listed form (Some w) values (listed, has, sorted) = record {
   each = λ k d below. All-contains form listed (get_or values k d) (listed_form form w.list listed has)
       ((sorted.same (get_or values k d)).0 (All-contains_itself values k d below));
@@ -106,8 +106,8 @@ cut_form : (text cut : Text) → IsTrimmed text cut → IsInside text → length
 cut_form text cut (left, right, is, blank, blank_behind, front, back) each short = record {
   least = first_there cut front;
   most = short;
-  characters = printable_characters cut (recursion-back IsPrintable left cut
-      (recursion-front IsPrintable (left ++ cut) right (subst ArePrintable is each.0)));
+  characters = printable_characters cut (recursion_back IsPrintable left cut
+      (recursion_front IsPrintable (left ++ cut) right (subst ArePrintable is each.0)));
   front = front;
   back = back;
   paired = cut_paired text left cut right is blank blank_behind each.1;
@@ -143,7 +143,7 @@ fmid_form x None form other = tt
 fmid_form x (Some f) form other = (form, λ same. other (ap (λ v. Some v) same))
 
 module _ (s : Sysmod) (own : Option Text) (operands : List Word) (v : Ver) (is : IsVerOf s own operands v) where
-  suits : (kind : Kind) → says.SuitsKind kind operands → SuitsKind kind v
+  suits : (kind : Kind) → says.SuitsKind kind operands → VerSuitsKind kind v
   suits Function h = tt
   suits _ h = (
     some_there IsId _ v.fmid h.0 is.fmid,

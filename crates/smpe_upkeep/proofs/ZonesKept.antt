@@ -18,7 +18,7 @@ use Rattle.terms.specs.Rising.{Rises, with_item}
 use Rattle.lemmas.proofs.Pairs.{pairs_map, pairs_unmap}
 use Rattle.lemmas.proofs.Each.{recursion_weaker}
 use Rattle.lemmas.proofs.Texts.{same_from}
-use Rattle.terms.proofs.RisingLists.{with_item-there}
+use Rattle.terms.proofs.RisingLists.{with_item_there}
 use Rattle.store_schema.specs.Forms.{HasZoneForms}
 use Rattle.store_schema.specs.Inventory.{Inventory, IsInventory, IsZoneNamed, HasDistribution, IsRelated, AreApart}
 use Rattle.machine.specs.State.{zone_named}
@@ -156,7 +156,7 @@ zone_kept i name old new is found rest zone forms =
     (pairs_unmap (λ (a b : NamedZone). IsTrue (is_before a.name b.name)) (λ (x y : Text). IsTrue (is_before x y))
     (λ z. z.name) (λ a b lower. lower) i.zones is.names) in
     let put = ap (λ zs. with_item (slice_cmp nat_cmp) (λ (z : NamedZone). z.name) zs now) at.zones_are
-    ∙ with_item-there nat_list_cmp_total (λ (z : NamedZone). z.name) at.before at.after now was rising
+    ∙ with_item_there nat_list_cmp_total (λ (z : NamedZone). z.name) at.before at.after now was rising
     (tied_itself nat_list_cmp_total name) in
     let named = middle_of at.before at.after was was IsZoneNamed at.before
     (recursion_from_All IsZoneNamed (at.before ++ was ∷ at.after)

@@ -18,11 +18,11 @@ module _ (s t : State) (d : ZoneDefinition) (is : define_zone s d ≡ Ok t) (inv
   pub leads : IsZoneName d.name → IsSrel d.srel → IsInventory (kept t)
   leads name srel = definition_kept s t d name srel is inventory
 
-pub prints-none : (s t : State) (d : ZoneDefinition) → define_zone s d ≡ Ok t → Prints s (Define d) t []
-prints-none s t d is = ([], (sym (ap (state_after s) is), refl), refl)
+pub prints_none : (s t : State) (d : ZoneDefinition) → define_zone s d ≡ Ok t → Prints s (Define d) t []
+prints_none s t d is = ([], (sym (ap (state_after s) is), refl), refl)
 
 -- the state without the zone, or the one with it
-pub around-defined : (s t : State) (d : ZoneDefinition) → define_zone s d ≡ Ok t → (c : Inventory)
+pub around_defined : (s t : State) (d : ZoneDefinition) → define_zone s d ≡ Ok t → (c : Inventory)
     → (c ≡ kept s) ⊎ (c ≡ kept t) → IsAround s (Define d) c
-around-defined s t d is c (inl same) = inl same
-around-defined s t d is c (inr same) = inr (t, [], prints-none s t d is, same)
+around_defined s t d is c (inl same) = inl same
+around_defined s t d is c (inr same) = inr (t, [], prints_none s t d is, same)

@@ -16,19 +16,19 @@ use Rattle.smpe_zones.specs.Kept.{kept, Keeps, IsStopped}
 use Rattle.store.specs.View.{Tables, TablesIfOpen, MayLeave, Leaves}
 
 -- what is kept is an inventory
-pub inventory-kept : {S : Type 0} (g : Ghosts S) (at : Held S) (s : State) → Keeps g at s → HasCleanDisk (state g at)
+pub inventory_kept : {S : Type 0} (g : Ghosts S) (at : Held S) (s : State) → Keeps g at s → HasCleanDisk (state g at)
     → IsInventory (kept s)
-inventory-kept g at s keeps clean = (keeps.now clean).1.inventory
+inventory_kept g at s keeps clean = (keeps.now clean).1.inventory
 
 -- what a crash leaves is among more
-pub leaves-more : {S : Type 0} (g : Ghosts S) (at : Held S) (P Q : Inventory → Type 0) → ((c : Inventory) → P c → Q c)
+pub leaves_more : {S : Type 0} (g : Ghosts S) (at : Held S) (P Q : Inventory → Type 0) → ((c : Inventory) → P c → Q c)
     → Leaves g at P → Leaves g at Q
-leaves-more g at P Q more leaves db left = let it = leaves db left in (it.0, more it.0 it.1, it.2)
+leaves_more g at P Q more leaves db left = let it = leaves db left in (it.0, more it.0 it.1, it.2)
 
 -- and so a cause
-pub cause-more : {S : Type 0} (g : Ghosts S) (old at : Held S) (P Q : Inventory → Type 0)
+pub cause_more : {S : Type 0} (g : Ghosts S) (old at : Held S) (P Q : Inventory → Type 0)
     → ((c : Inventory) → P c → Q c) → HasCause g old at P → HasCause g old at Q
-cause-more g old at P Q more cause = record {
+cause_more g old at P Q more cause = record {
   moment = cause.moment;
   since = cause.since;
   is_open = cause.is_open;
@@ -43,17 +43,17 @@ cause-more g old at P Q more cause = record {
   ];
 }
 
-pub faulted-more : {S : Type 0} (g : Ghosts S) (old at : Held S) (P Q : Inventory → Type 0)
+pub faulted_more : {S : Type 0} (g : Ghosts S) (old at : Held S) (P Q : Inventory → Type 0)
     → ((c : Inventory) → P c → Q c) → LeavesFaulted g old at P → LeavesFaulted g old at Q
-faulted-more g old at P Q more faulted = (
-  leaves-more g at P Q more faulted.0,
-  cause-more g old at P Q more faulted.1,
+faulted_more g old at P Q more faulted = (
+  leaves_more g at P Q more faulted.0,
+  cause_more g old at P Q more faulted.1,
 )
 
 -- a cause since a later moment
-pub cause-since : {S : Type 0} (g : Ghosts S) (old mid at : Held S) → IsLater g old mid → (P : Inventory → Type 0)
+pub cause_since : {S : Type 0} (g : Ghosts S) (old mid at : Held S) → IsLater g old mid → (P : Inventory → Type 0)
     → HasCause g mid at P → HasCause g old at P
-cause-since g old mid at later P cause = record {
+cause_since g old mid at later P cause = record {
   moment = cause.moment;
   since = (omega (arith, later.0, cause.since.0), cause.since.1 ∙ later.1);
   is_open = cause.is_open;
@@ -68,45 +68,45 @@ cause-since g old mid at later P cause = record {
   ];
 }
 
-pub faulted-since : {S : Type 0} (g : Ghosts S) (old mid at : Held S) → IsLater g old mid → (P : Inventory → Type 0)
+pub faulted_since : {S : Type 0} (g : Ghosts S) (old mid at : Held S) → IsLater g old mid → (P : Inventory → Type 0)
     → LeavesFaulted g mid at P → LeavesFaulted g old at P
-faulted-since g old mid at later P faulted = (faulted.0, cause-since g old mid at later P faulted.1)
+faulted_since g old mid at later P faulted = (faulted.0, cause_since g old mid at later P faulted.1)
 
 module _ {S : Type 0} (g : Ghosts S) (old new : Held S) (s : State) (keeps : Keeps g old s) where
   -- what was loaded
-  pub keeps-loaded : (Tables g old (kept s) → Tables g new (kept s))
+  pub keeps_loaded : (Tables g old (kept s) → Tables g new (kept s))
       → ((db : Trees) → MayLeave g new db → MayLeave g old db) → Keeps g new s
-  keeps-loaded same crash = record { now = same keeps.now; crash = λ db left. keeps.crash db (crash db left) }
+  keeps_loaded same crash = record { now = same keeps.now; crash = λ db left. keeps.crash db (crash db left) }
 
   -- a load that failed
-  pub stays-loaded : (a : Act) → (Tables g old (kept s) → TablesIfOpen g new (kept s))
+  pub stays_loaded : (a : Act) → (Tables g old (kept s) → TablesIfOpen g new (kept s))
       → ((db : Trees) → MayLeave g new db → MayLeave g old db) → IsStopped g new s a
-  stays-loaded a err crash = record {
+  stays_loaded a err crash = record {
     now = err keeps.now;
-    crash = λ db left. leaves-more g old _ _ (λ c is. inl is) keeps.crash db (crash db left);
+    crash = λ db left. leaves_more g old _ _ (λ c is. inl is) keeps.crash db (crash db left);
   }
 
   -- a commit, after which the tables stand for t
-  pub keeps-committed : (t : State) → (Tables g old (kept s) → Tables g new (kept t))
+  pub keeps_committed : (t : State) → (Tables g old (kept s) → Tables g new (kept t))
       → (Tables g old (kept s) → Leaves g new (λ c. c ≡ kept t)) → Keeps g new t
-  keeps-committed t ok durable = record { now = ok keeps.now; crash = durable keeps.now }
+  keeps_committed t ok durable = record { now = ok keeps.now; crash = durable keeps.now }
 
   -- a commit that failed, of what the act leads to
-  pub stays-uncommitted : (t : State) (a : Act) (text : List ℕ) → Prints s a t text
+  pub stays_uncommitted : (t : State) (a : Act) (text : List ℕ) → Prints s a t text
       → (Tables g old (kept s) → TablesIfOpen g new (kept s))
       → (Tables g old (kept s) → (db : Trees) → MayLeave g new db
       → MayLeave g old db ⊎ StandsFor (kept t) (record { schema = store_schema; trees = db })) → IsStopped g new s a
-  stays-uncommitted t a text prints err crash = record {
+  stays_uncommitted t a text prints err crash = record {
     now = err keeps.now;
     crash = λ db left. elim (crash keeps.now db left) [
-      | inl before ↦ leaves-more g old _ _ (λ c is. inl is) keeps.crash db before
+      | inl before ↦ leaves_more g old _ _ (λ c is. inl is) keeps.crash db before
       | inr done ↦ (kept t, inr (t, text, prints, refl), done)
     ];
   }
 
 -- the errors of a load where the tables stand for something
-pub load-errors : (e : StoreError) → e ≢ OtherSchema → (e ≡ NoState → ⊥) → (e ≡ Fault) ⊎ (e ≡ Memory)
-load-errors Fault other none = inl refl
-load-errors OtherSchema other none = absurd (other refl)
-load-errors NoState other none = absurd (none refl)
-load-errors Memory other none = inr refl
+pub load_errors : (e : StoreError) → e ≢ OtherSchema → (e ≡ NoState → ⊥) → (e ≡ Fault) ⊎ (e ≡ Memory)
+load_errors Fault other none = inl refl
+load_errors OtherSchema other none = absurd (other refl)
+load_errors NoState other none = absurd (none refl)
+load_errors Memory other none = inr refl

@@ -12,7 +12,7 @@ use crate::error::ZoneError;
 use crate::faults::first_fault;
 use fields::{Srel, ZoneName};
 use sqlite::Alter;
-use std::alloc::Global as Heap;
+use std::alloc::Global;
 use store::{Change, Store};
 use terms::ZoneKind;
 

@@ -11,8 +11,8 @@ use Rattle.std.proofs.lemmas.List.Quantifiers.{all_pairs_push}
 use Rattle.std.proofs.lemmas.List.Folds.{Any-from_list_any}
 use Rattle.std.proofs.lemmas.Bool.{cases_eq, cases_Bool, and_parts, and_from, ltb-true, lt-ltb}
 use Rattle.solve.proofs.Passing.{clash}
-use Rattle.lemmas.proofs.Searches.{All-from_no_list_any}
-use Rattle.solve.proofs.Times.{times-from_Contains, Contains-from_times, Contains-from_is_in, is_in-from_Contains}
+use Rattle.lemmas.proofs.Searches.{All_from_no_list_any}
+use Rattle.solve.proofs.Times.{times_from_Contains, Contains_from_times, Contains_from_is_in, is_in_from_Contains}
 use Rattle.solve.specs.Problem.{Problem, Demand, IsDemand, IsProblem, holds, IsSelfSupporting, IsGreatest}
 use Rattle.solve.specs.Causes.{HasFailed, LeadsTo, LeadsOn, IsRoot, IsCauser}
 use Rattle.solve.specs.Rows.{row_at, times}
@@ -25,9 +25,9 @@ pub record AreCausersBelow (p : Problem) (kept : List Bool) (rows : List (Vec �
   pub rising : (x : ℕ) → AllPairs (λ a b. a < b) (row_at rows x)
 
 -- y is no root
-pub causers-skip : (p : Problem) (kept : List Bool) (rows : List (Vec ℕ Global)) (y : ℕ) → (IsRoot p kept y → ⊥)
+pub causers_skip : (p : Problem) (kept : List Bool) (rows : List (Vec ℕ Global)) (y : ℕ) → (IsRoot p kept y → ⊥)
     → AreCausersBelow p kept rows y → AreCausersBelow p kept rows (y + 1)
-causers-skip p kept rows y no_root so_far = record {
+causers_skip p kept rows y no_root so_far = record {
   size = so_far.size;
   exact = λ x z. (
     λ c. (omega (arith, ((so_far.exact x z).0 c).0), ((so_far.exact x z).0 c).1),
@@ -48,23 +48,23 @@ appended : (old new : List (Vec ℕ Global)) (list : List ℕ) (y : ℕ) → ((x
     → ((x : ℕ) → row_at new x ≡ row_at old x ++ replicate (times x list) y)
     → (x : ℕ) (b : Bool) → is_in list x ≡ b → row_at new x ≡ cond b (row_at old x ++ y ∷ []) (row_at old x)
 appended old new list y once added x true here =
-    let one : times x list ≡ 1 = omega (arith, once x, times-from_Contains x list (Contains-from_is_in list x here)) in
+    let one : times x list ≡ 1 = omega (arith, once x, times_from_Contains x list (Contains_from_is_in list x here)) in
     added x ∙ ap (λ n. row_at old x ++ replicate n y) one
 appended old new list y once added x false away =
     added x ∙ ap (λ n. row_at old x ++ replicate n y) (none (times x list) refl) ∙ append-nil (row_at old x)
   where
     none : (n : ℕ) → times x list ≡ n → n ≡ 0
     none zero is = refl
-    none (suc n) is = absurd (cc (away, is_in-from_Contains list x (Contains-from_times x list (omega (arith, is)))))
+    none (suc n) is = absurd (cc (away, is_in_from_Contains list x (Contains_from_times x list (omega (arith, is)))))
 
 -- y is a root, and the list has what reaches it
-pub causers-add : (p : Problem) (kept : List Bool) (old new : List (Vec ℕ Global)) (list : List ℕ) (y : ℕ)
+pub causers_add : (p : Problem) (kept : List Bool) (old new : List (Vec ℕ Global)) (list : List ℕ) (y : ℕ)
     → IsRoot p kept y → length new ≡ length old
     → ((x : ℕ) → times x list ≤ 1)
     → ((x : ℕ) → Contains list x ↔ LeadsOn p kept x y)
     → ((x : ℕ) → row_at new x ≡ row_at old x ++ replicate (times x list) y)
     → AreCausersBelow p kept old y → AreCausersBelow p kept new (y + 1)
-causers-add p kept old new list y root size once reached added so_far =
+causers_add p kept old new list y root size once reached added so_far =
     let row_is = appended old new list y once added in
     record {
       size = size ∙ so_far.size;
@@ -75,7 +75,7 @@ causers-add p kept old new list y root size once reached added so_far =
             | inr same ↦ (
               omega (arith, same),
               subst (IsCauser p kept x) same
-                  (root, (reached x).0 (Contains-from_is_in list x here)),
+                  (root, (reached x).0 (Contains_from_is_in list x here)),
             )
           ],
           λ c. subst (λ row. Contains row z) (sym (row_is x true here)) (elim (cases_eq z y) [
@@ -89,7 +89,7 @@ causers-add p kept old new list y root size once reached added so_far =
           λ c. subst (λ row. Contains row z) (sym (row_is x false away)) (elim (cases_eq z y) [
             | inl same ↦ absurd (cc (
               away,
-              is_in-from_Contains list x
+              is_in_from_Contains list x
                   ((reached x).1 (subst (LeadsOn p kept x) same c.1.1)),
             ))
             | inr other ↦ (so_far.exact x z).1 (omega arith, c.1)
@@ -103,9 +103,9 @@ causers-add p kept old new list y root size once reached added so_far =
       ];
     }
 
-pub causers-all : (p : Problem) (kept : List Bool) (rows : List (Vec ℕ Global)) → AreCausersBelow p kept rows p.size
+pub causers_all : (p : Problem) (kept : List Bool) (rows : List (Vec ℕ Global)) → AreCausersBelow p kept rows p.size
     → (x y : ℕ) → Contains (row_at rows x) y ↔ IsCauser p kept x y
-causers-all p kept rows so_far x y = (λ c. ((so_far.exact x y).0 c).1, λ c. (so_far.exact x y).1 (c.0.0.0, c))
+causers_all p kept rows so_far x y = (λ c. ((so_far.exact x y).0 c).1, λ c. (so_far.exact x y).1 (c.0.0.0, c))
 
 abbrev is_nil : List ℕ → Bool
 is_nil [] = true
@@ -180,7 +180,7 @@ uncaused_served p kept rows valid supported exact d in_demands member =
       | inl some ↦ let a = Any-from_list_any (holds kept) d.any some
           in (a.0, a.1, a.2, a.3, from_kept p kept rows a.1 a.4)
       | inr none ↦
-          let unmet = All-from_no_list_any (holds kept) d.any none in
+          let unmet = All_from_no_list_any (holds kept) d.any none in
           elim (cases_Bool (holds kept d.of)) [
             | inl is_kept ↦ absurd (clash (holds kept) d.any
                 (All-contains (λ e. IsTrue (holds kept e.of) → Any (λ y. IsTrue (holds kept y)) e.any) p.demands d

@@ -7,66 +7,66 @@ use Rattle.std.specs.List.{All, Any, Contains}
 use Rattle.std.proofs.lemmas.List.Elements.{Contains-append_left, Contains-append_right, Contains-append_cases}
 use Rattle.std.proofs.lemmas.List.Elements.{Contains-get_or}
 use Rattle.std.proofs.lemmas.List.Quantifiers.{Any-push}
-use Rattle.lemmas.proofs.Each.{Any-push_cases, Any-append_left}
+use Rattle.lemmas.proofs.Each.{Any_push_cases, Any_append_left}
 use Rattle.solve.specs.Problem.{Problem, Demand, holds}
 use Rattle.solve.specs.Causes.{HasFailed, LeadsBy}
 use Rattle.solve.specs.Rows.{row_at, times}
 use Rattle.solve.specs.Marks.{AreLeads}
-use Rattle.solve.proofs.Times.{Contains-replicate, replicate-Contains, Contains-from_times, times-from_Contains}
+use Rattle.solve.proofs.Times.{Contains_replicate, replicate_Contains, Contains_from_times, times_from_Contains}
 
 -- the rows have what leads by the seen demands
 abbrev pub AreLeadsBy : Problem → List Bool → List Demand → List (Vec ℕ Global) → Type 0
 AreLeadsBy p kept seen rows = (x y : ℕ) → Contains (row_at rows y) x ↔
     (HasFailed p kept x × Any (LeadsBy kept x y) seen)
 
-pub leads-none : (p : Problem) (kept : List Bool) (rows : List (Vec ℕ Global)) → ((y : ℕ) → row_at rows y ≡ [])
+pub leads_none : (p : Problem) (kept : List Bool) (rows : List (Vec ℕ Global)) → ((y : ℕ) → row_at rows y ≡ [])
     → AreLeadsBy p kept [] rows
-leads-none p kept rows empty x y = (
+leads_none p kept rows empty x y = (
   λ c. absurd (omega (arith, (subst (λ row. Contains row x) (empty y) c).1)),
   λ led. absurd (omega (arith, led.1.2)),
 )
 
 -- one more demand, through which nothing leads
-pub leads-skip : (p : Problem) (kept : List Bool) (seen : List Demand) (d : Demand) (rows : List (Vec ℕ Global))
+pub leads_skip : (p : Problem) (kept : List Bool) (seen : List Demand) (d : Demand) (rows : List (Vec ℕ Global))
     → (HasFailed p kept d.of → All (λ z. holds kept z ≡ false) d.any → ⊥) → AreLeadsBy p kept seen rows
     → AreLeadsBy p kept (seen ++ d ∷ []) rows
-leads-skip p kept seen d rows nothing so_far x y = (
-  λ c. let led = (so_far x y).0 c in (led.0, Any-append_left (LeadsBy kept x y) seen (d ∷ []) led.1),
-  λ led. elim (Any-push_cases (LeadsBy kept x y) seen d led.1) [
+leads_skip p kept seen d rows nothing so_far x y = (
+  λ c. let led = (so_far x y).0 c in (led.0, Any_append_left (LeadsBy kept x y) seen (d ∷ []) led.1),
+  λ led. elim (Any_push_cases (LeadsBy kept x y) seen d led.1) [
     | inl before ↦ (so_far x y).1 (led.0, before)
     | inr here ↦ absurd (nothing (subst (HasFailed p kept) (sym here.0) led.0) here.1)
   ],
 )
 
 -- one more demand, of a failed candidate and served by no kept one
-pub leads-add : (p : Problem) (kept : List Bool) (seen : List Demand) (d : Demand) (old new : List (Vec ℕ Global))
+pub leads_add : (p : Problem) (kept : List Bool) (seen : List Demand) (d : Demand) (old new : List (Vec ℕ Global))
     → HasFailed p kept d.of → All (λ z. holds kept z ≡ false) d.any
     → ((y : ℕ) → row_at new y ≡ row_at old y ++ replicate (times y d.any) d.of)
     → AreLeadsBy p kept seen old → AreLeadsBy p kept (seen ++ d ∷ []) new
-leads-add p kept seen d old new failed unmet added so_far x y = (
+leads_add p kept seen d old new failed unmet added so_far x y = (
   λ c. elim (Contains-append_cases (row_at old y) (replicate (times y d.any) d.of) x
       (subst (λ row. Contains row x) (added y) c)) [
         | inl before ↦ let led = (so_far x y).0 before in
-            (led.0, Any-append_left (LeadsBy kept x y) seen (d ∷ []) led.1)
+            (led.0, Any_append_left (LeadsBy kept x y) seen (d ∷ []) led.1)
         | inr here ↦
-            let is = Contains-replicate (times y d.any) d.of x here in (
+            let is = Contains_replicate (times y d.any) d.of x here in (
               subst (HasFailed p kept) (sym is.1) failed,
               Any-push (LeadsBy kept x y) seen d
-                  (sym is.1, unmet, Contains-from_times y d.any is.0),
+                  (sym is.1, unmet, Contains_from_times y d.any is.0),
             )
       ],
-  λ led. subst (λ row. Contains row x) (sym (added y)) (elim (Any-push_cases (LeadsBy kept x y) seen d led.1) [
+  λ led. subst (λ row. Contains row x) (sym (added y)) (elim (Any_push_cases (LeadsBy kept x y) seen d led.1) [
     | inl before ↦ Contains-append_left (row_at old y) (replicate (times y d.any) d.of) x
         ((so_far x y).1 (led.0, before))
     | inr here ↦ Contains-append_right (row_at old y) (replicate (times y d.any) d.of) x
         (subst (Contains (replicate (times y d.any) d.of)) here.0
-        (replicate-Contains (times y d.any) d.of (times-from_Contains y d.any here.2)))
+        (replicate_Contains (times y d.any) d.of (times_from_Contains y d.any here.2)))
   ]),
 )
 
 -- what leads to a candidate is a candidate
-pub leads-small : (p : Problem) (kept : List Bool) (leads : List (Vec ℕ Global)) → AreLeads p kept leads → (z : ℕ)
+pub leads_small : (p : Problem) (kept : List Bool) (leads : List (Vec ℕ Global)) → AreLeads p kept leads → (z : ℕ)
     → All (λ x. x < length leads) (row_at leads z)
-leads-small p kept leads is z k d below =
+leads_small p kept leads is z k d below =
     let lead = (is.exact (get_or (row_at leads z) k d) z).0 (Contains-get_or (row_at leads z) k d below) in
     omega (arith, is.size, lead.0.0)

@@ -20,23 +20,23 @@ least_from_closed g flags size closed part = record {
 }
 
 -- the flags turned round, as tests
-pub holds-not : (flags : List Bool) (x : ℕ) → x < length flags → holds (map not flags) x ≡ not (holds flags x)
-holds-not flags x below = get_or-map not flags x false false below
+pub holds_not : (flags : List Bool) (x : ℕ) → x < length flags → holds (map not flags) x ≡ not (holds flags x)
+holds_not flags x below = get_or-map not flags x false false below
 
 -- a member of the flags turned round is below their number, and no member of the flags
-pub member-not : (flags : List Bool) (x : ℕ) → IsTrue (holds (map not flags) x)
+pub member_not : (flags : List Bool) (x : ℕ) → IsTrue (holds (map not flags) x)
     → (x < length flags) × (holds flags x ≡ false)
-member-not flags x member = elim (cases_lt x (length flags)) [
-  | inl below ↦ (below, not-true (holds flags x) (sym (holds-not flags x below) ∙ member))
+member_not flags x member = elim (cases_lt x (length flags)) [
+  | inl below ↦ (below, not-true (holds flags x) (sym (holds_not flags x below) ∙ member))
   | inr past ↦ absurd (
       let long : length (map not flags) ≡ length flags = length-map flags not in
       let out : holds (map not flags) x ≡ false = get_or_past (map not flags) x false (omega arith) in
       cc)
 ]
 
-pub not-member : (flags : List Bool) (x : ℕ) → x < length flags → holds flags x ≡ false
+pub not_member : (flags : List Bool) (x : ℕ) → x < length flags → holds flags x ≡ false
     → IsTrue (holds (map not flags) x)
-not-member flags x below out = holds-not flags x below ∙ ap not out
+not_member flags x below out = holds_not flags x below ∙ ap not out
 
 -- the numbers that are candidates and outside of a set
 abbrev outside : Problem → (ℕ → Bool) → ℕ → Bool
@@ -69,7 +69,7 @@ outside_supported p set valid closed = record {
         | inl good ↦ good
         | inr bad ↦ absurd (cc (
           parts.1,
-          closed.start x (not-member p.eligible x (omega (arith, valid.flags, parts.0))
+          closed.start x (not_member p.eligible x (omega (arith, valid.flags, parts.0))
               bad),
         ))
       ];
@@ -107,10 +107,10 @@ least_from_kept p kept valid are_kept =
     (length-map kept not ∙ are_kept.size ∙ sym valid.flags ∙ sym (length-map p.eligible not))
     (record {
       start = λ x starts.
-          let out = member-not p.eligible x starts in
+          let out = member_not p.eligible x starts in
           elim (cases_Bool (holds kept x)) [
             | inl inside ↦ absurd (cc (out.1, greatest.self_supporting.eligible x inside))
-            | inr missing ↦ not-member kept x (omega (arith, are_kept.size, valid.flags, out.0)) missing
+            | inr missing ↦ not_member kept x (omega (arith, are_kept.size, valid.flags, out.0)) missing
           ];
       rules = All-map (λ r. All (λ y. IsTrue (holds (map not kept) y)) r.these → IsTrue (holds (map not kept) r.that))
           rule_of p.demands
@@ -120,14 +120,14 @@ least_from_kept p kept valid are_kept =
           elim (cases_Bool (holds kept d.of)) [
             | inl inside ↦ absurd (
                 let some = greatest.self_supporting.served k e below inside in
-                let out = member-not kept some.1 (All-contains (λ y. IsTrue (holds (map not kept) y)) d.any some.1 all
+                let out = member_not kept some.1 (All-contains (λ y. IsTrue (holds (map not kept) y)) d.any some.1 all
                 (some.0, some.2, some.3)) in
                 cc (out.1, some.4))
-            | inr missing ↦ not-member kept d.of (omega (arith, are_kept.size, low)) missing
+            | inr missing ↦ not_member kept d.of (omega (arith, are_kept.size, low)) missing
           ]);
     })
     (λ set closed x member.
-    let out = member-not kept x member in
+    let out = member_not kept x member in
     elim (cases_Bool (set x)) [
       | inl inside ↦ inside
       | inr missing ↦ absurd (

@@ -21,26 +21,26 @@ abbrev pub ids_in : List Id → (ℕ → Bool) → Id → Bool
 ids_in [] set x = false
 ids_in (y ∷ ys) set x = (bytes_eq x y && set zero) || ids_in ys (λ n. set (suc n)) x
 
-pub ids_in-from : (ids : List Id) (set : ℕ → Bool) (n : ℕ) (x : Id) → slice_get ids n ≡ Some x → IsTrue (set n)
+pub ids_in_from : (ids : List Id) (set : ℕ → Bool) (n : ℕ) (x : Id) → slice_get ids n ≡ Some x → IsTrue (set n)
     → IsTrue (ids_in ids set x)
-ids_in-from [] set n x e m = absurd (cc e)
-ids_in-from (y ∷ ys) set zero x e m =
+ids_in_from [] set n x e m = absurd (cc e)
+ids_in_from (y ∷ ys) set zero x e m =
     ap (λ v. v || ids_in ys (λ n. set (suc n)) x)
     (ap (λ v. v && set zero) ((bytes_eq-Decides x y).1 (sym (same_Some y x e))) ∙ m)
-ids_in-from (y ∷ ys) set (suc n) x e m =
-    ap (λ v. (bytes_eq x y && set zero) || v) (ids_in-from ys (λ k. set (suc k)) n x e m)
+ids_in_from (y ∷ ys) set (suc n) x e m =
+    ap (λ v. (bytes_eq x y && set zero) || v) (ids_in_from ys (λ k. set (suc k)) n x e m)
     ∙ or-true (bytes_eq x y && set zero)
 
-pub ids_in-gives : (ids : List Id) (set : ℕ → Bool) (x : Id) → IsTrue (ids_in ids set x)
+pub ids_in_gives : (ids : List Id) (set : ℕ → Bool) (x : Id) → IsTrue (ids_in ids set x)
     → (n : ℕ) × (slice_get ids n ≡ Some x) × IsTrue (set n)
-ids_in-gives [] set x m = absurd (cc m)
-ids_in-gives (y ∷ ys) set x m = elim (or_cases (bytes_eq x y && set zero) (ids_in ys (λ n. set (suc n)) x) m) [
+ids_in_gives [] set x m = absurd (cc m)
+ids_in_gives (y ∷ ys) set x m = elim (or_cases (bytes_eq x y && set zero) (ids_in ys (λ n. set (suc n)) x) m) [
   | inl a ↦ let p = and_parts (bytes_eq x y) (set zero) a in (
     zero,
     ap (λ v. Some v) (sym ((bytes_eq-Decides x y).0 p.0)),
     p.1,
   )
-  | inr b ↦ let r = ids_in-gives ys (λ n. set (suc n)) x b in (suc r.0, r.1, r.2)
+  | inr b ↦ let r = ids_in_gives ys (λ n. set (suc n)) x b in (suc r.0, r.1, r.2)
 ]
 
 -- a kept number's id stays kept
@@ -51,9 +51,9 @@ pub stays_from_kept : (ids : List Id) (E : Id → Type 0) (N : Id → NeedKind �
 stays_from_kept ids E N S p needed h n x is u = (
   ids_in ids u.0,
   record {
-    eligible = λ y m. let g = ids_in-gives ids u.0 y m in (h.eligible g.0 y g.1).0 (u.1.eligible g.0 g.2);
+    eligible = λ y m. let g = ids_in_gives ids u.0 y m in (h.eligible g.0 y g.1).0 (u.1.eligible g.0 g.2);
     served = λ y z kind m need.
-        let g = ids_in-gives ids u.0 y m in
+        let g = ids_in_gives ids u.0 y m in
         let a = h.all g.0 y z kind g.1 need in
         let demand = h.demands a.0 a.1 (kind, z) a.2 a.3 in
         let P : Demand → Type 0 = λ d. IsTrue (u.0 d.of) → Any (λ k. IsTrue (u.0 k)) d.any in
@@ -62,18 +62,18 @@ stays_from_kept ids E N S p needed h n x is u = (
         let within = subst (λ k. k < p.size) some.3 (below some.0 some.1 some.2) in
         let v = slice_index_or ids some.1 x in
         let number = slice_get-get_or ids some.1 x (subst (λ k. some.1 < k) h.size within) in
-        (v, ids_in-from ids u.0 some.1 v number some.4, (demand.any some.1 v number).0 (some.0, some.2, some.3));
+        (v, ids_in_from ids u.0 some.1 v number some.4, (demand.any some.1 v number).0 (some.0, some.2, some.3));
   },
-  ids_in-from ids u.0 n x is u.2,
+  ids_in_from ids u.0 n x is u.2,
 )
 
 -- the numbers of a set of ids
 abbrev pub numbers_in : List Id → (Id → Bool) → ℕ → Bool
 numbers_in ids set n = option_map_or set (slice_get ids n) false
 
-pub numbers_in-from : (ids : List Id) (set : Id → Bool) (n : ℕ) (x : Id) → slice_get ids n ≡ Some x → IsTrue (set x)
+pub numbers_in_from : (ids : List Id) (set : Id → Bool) (n : ℕ) (x : Id) → slice_get ids n ≡ Some x → IsTrue (set x)
     → IsTrue (numbers_in ids set n)
-numbers_in-from ids set n x e m = ap (λ o. option_map_or set o false) e ∙ m
+numbers_in_from ids set n x e m = ap (λ o. option_map_or set o false) e ∙ m
 
 option_gives : (set : Id → Bool) (o : Option Id) → IsTrue (option_map_or set o false)
     → (x : Id) × (o ≡ Some x) × IsTrue (set x)
@@ -101,7 +101,7 @@ kept_from_stays ids E N S p needed h within n x is u = (
         let place = within r.0 (u.1.eligible r.0 r.1) in
         let number = slice_get-get_or ids place.0 r.0 place.1 ∙ ap (λ v. Some v) place.2 in
         let some = (meant.any place.0 r.0 number).1 r.2 in
-        (some.0, place.0, some.1, some.2, numbers_in-from ids u.0 place.0 r.0 number r.1);
+        (some.0, place.0, some.1, some.2, numbers_in_from ids u.0 place.0 r.0 number r.1);
   },
-  numbers_in-from ids u.0 n x is u.2,
+  numbers_in_from ids u.0 n x is u.2,
 )

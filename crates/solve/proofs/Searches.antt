@@ -20,18 +20,18 @@ use Rattle.solve.specs.declared.system.Need.{Need}
 use Rattle.solve.specs.Need.{demand}
 use Rattle.solve.specs.Rows.{row_at, times, one_if}
 use Rattle.solve.specs.Board.{demand_at, AreServed, eligible_in, weight, IsDrop, IsSearch}
-use Rattle.terms.proofs.Rising.{rising-length}
-use Rattle.lemmas.proofs.Searches.{All-from_no_list_any}
-use Rattle.solve.proofs.Times.{eqb-other, times-push_same, times-push_other, times-from_Contains}
-use Rattle.solve.proofs.Sums.{sum_by-same, sum_by-split, count-part, count-none}
+use Rattle.terms.proofs.Rising.{rising_length}
+use Rattle.lemmas.proofs.Searches.{All_from_no_list_any}
+use Rattle.solve.proofs.Times.{eqb_other, times_push_same, times_push_other, times_from_Contains}
+use Rattle.solve.proofs.Sums.{sum_by_same, sum_by_split, count_part, count_none}
 use Rattle.solve.proofs.Drops.{kept_from_parts}
 
-demand-in : (p : Problem) (k : ℕ) → k < length p.demands → Contains p.demands (demand_at p.demands k)
-demand-in p k below = Contains-get_or p.demands k (record { of = 0; any = [] }) below
+demand_in : (p : Problem) (k : ℕ) → k < length p.demands → Contains p.demands (demand_at p.demands k)
+demand_in p k below = Contains-get_or p.demands k (record { of = 0; any = [] }) below
 
-drop-within : (x : ℕ) (standing : List Bool) (dropped : List ℕ) (standing' : List Bool) (dropped' : List ℕ)
+drop_within : (x : ℕ) (standing : List Bool) (dropped : List ℕ) (standing' : List Bool) (dropped' : List ℕ)
     → IsDrop x standing dropped standing' dropped' → IsWithin standing' standing
-drop-within x standing dropped standing' dropped' drop y stands = elim (cases_eq y x) [
+drop_within x standing dropped standing' dropped' drop y stands = elim (cases_eq y x) [
   | inl same ↦ absurd (cc (stands, ap (holds standing') same ∙ drop.out))
   | inr other ↦ sym (drop.others y other) ∙ stands
 ]
@@ -51,17 +51,17 @@ unserved standing dropped any none some =
     omega (arith, one, none, get_or-le-sum_by (weight standing dropped) any some.0 some.1 some.2)
 
 -- the candidate of a demand with no living member is dropped
-pub search-drop : (p : Problem) (due : List ℕ) (settled settled' : ℕ → Type 0) (standing standing' : List Bool)
+pub search_drop : (p : Problem) (due : List ℕ) (settled settled' : ℕ → Type 0) (standing standing' : List Bool)
     (living dropped dropped' : List ℕ) (strikes room k : ℕ)
     → k < length p.demands → (demand_at p.demands k).of < p.size → get_or living k 0 ≡ 0
     → ((j : ℕ) → settled' j → settled j ⊎ (j ≡ k))
     → IsDrop (demand_at p.demands k).of standing dropped standing' dropped'
     → IsSearch p due settled standing living dropped strikes room
     → IsSearch p due settled' standing' living dropped' strikes room
-search-drop p due settled settled' standing standing' living dropped dropped' strikes room k below small_of none more
+search_drop p due settled settled' standing standing' living dropped dropped' strikes room k below small_of none more
     drop search =
     let d = demand_at p.demands k in
-    let part = drop-within d.of standing dropped standing' dropped' drop in
+    let part = drop_within d.of standing dropped standing' dropped' drop in
     record {
       size = drop.size ∙ search.size;
       needs = search.needs;
@@ -72,7 +72,7 @@ search-drop p due settled settled' standing standing' living dropped dropped' st
         part = λ set supported x member. elim (cases_eq x d.of) [
           | inl same ↦ absurd (
               let served = All-contains (λ e. IsTrue (set e.of) → Any (λ y. IsTrue (set y)) e.any) p.demands d
-              supported.served (demand-in p k below) in
+              supported.served (demand_in p k below) in
               let some = served (subst (λ n. IsTrue (set n)) same member) in
               unserved standing dropped d.any (omega (arith, search.counts k below, none))
               (some.0, some.1, some.2, some.3, search.every.part set supported some.1 some.4))
@@ -81,7 +81,7 @@ search-drop p due settled settled' standing standing' living dropped dropped' st
       };
       within = λ x stands. search.within x (part x stands);
       counts = λ j small. search.counts j small ∙ ap (λ n. n + times j due)
-          (sym (sum_by-same (weight standing' dropped') (weight standing dropped) (demand_at p.demands j).any
+          (sym (sum_by_same (weight standing' dropped') (weight standing dropped) (demand_at p.demands j).any
           drop.weights));
       bare = λ j small is zero_left. elim (more j is) [
         | inl before ↦ not_standing standing' standing (demand_at p.demands j).of part
@@ -92,12 +92,12 @@ search-drop p due settled settled' standing standing' living dropped dropped' st
     }
 
 -- a demand that has a living member is settled
-pub search-pass : (p : Problem) (due : List ℕ) (settled settled' : ℕ → Type 0) (standing : List Bool)
+pub search_pass : (p : Problem) (due : List ℕ) (settled settled' : ℕ → Type 0) (standing : List Bool)
     (living dropped : List ℕ) (strikes room k : ℕ)
     → (get_or living k 0 ≡ 0 → ⊥) → ((j : ℕ) → settled' j → settled j ⊎ (j ≡ k))
     → IsSearch p due settled standing living dropped strikes room
     → IsSearch p due settled' standing living dropped strikes room
-search-pass p due settled settled' standing living dropped strikes room k some more search = record {
+search_pass p due settled settled' standing living dropped strikes room k some more search = record {
   size = search.size;
   needs = search.needs;
   members = search.members;
@@ -113,33 +113,33 @@ search-pass p due settled settled' standing living dropped strikes room k some m
   struck = search.struck;
 }
 
-times-cons_same : (k : ℕ) (rest : List ℕ) → times k (k ∷ rest) ≡ 1 + times k rest
-times-cons_same k rest =
+times_cons_same : (k : ℕ) (rest : List ℕ) → times k (k ∷ rest) ≡ 1 + times k rest
+times_cons_same k rest =
     let one : one_if (k == k) ≡ one_if true = ap one_if (eq-eqb k k refl) in
     omega (arith, sum_by-cons (λ y. one_if (y == k)) k rest, one)
 
-times-cons_other : (j k : ℕ) (rest : List ℕ) → (j ≡ k → ⊥) → times j (k ∷ rest) ≡ times j rest
-times-cons_other j k rest other =
-    let none : one_if (k == j) ≡ one_if false = ap one_if (eqb-other k j (λ same. other (sym same))) in
+times_cons_other : (j k : ℕ) (rest : List ℕ) → (j ≡ k → ⊥) → times j (k ∷ rest) ≡ times j rest
+times_cons_other j k rest other =
+    let none : one_if (k == j) ≡ one_if false = ap one_if (eqb_other k j (λ same. other (sym same))) in
     omega (arith, sum_by-cons (λ y. one_if (y == j)) k rest, none)
 
 -- a demand on which a strike is due has a living member
-pub due-living : (p : Problem) (k : ℕ) (rest : List ℕ) (settled : ℕ → Type 0) (standing : List Bool)
+pub due_living : (p : Problem) (k : ℕ) (rest : List ℕ) (settled : ℕ → Type 0) (standing : List Bool)
     (living dropped : List ℕ) (strikes room : ℕ)
     → k < length p.demands → IsSearch p (k ∷ rest) settled standing living dropped strikes room → 0 < get_or living k 0
-due-living p k rest settled standing living dropped strikes room below search =
-    omega (arith, search.counts k below, times-cons_same k rest)
+due_living p k rest settled standing living dropped strikes room below search =
+    omega (arith, search.counts k below, times_cons_same k rest)
 
 -- a strike: the demand loses a living member, and is settled no more
-pub search-strike : (p : Problem) (k : ℕ) (rest : List ℕ) (settled : ℕ → Type 0) (standing : List Bool)
+pub search_strike : (p : Problem) (k : ℕ) (rest : List ℕ) (settled : ℕ → Type 0) (standing : List Bool)
     (living dropped : List ℕ) (strikes room : ℕ)
     → k < length p.demands → IsSearch p (k ∷ rest) settled standing living dropped strikes room
     → IsSearch p rest (λ j. settled j × (j ≡ k → ⊥)) standing (set living k (get_or living k 0 - 1)) dropped
     (strikes + 1) room
-search-strike p k rest settled standing living dropped strikes room below search =
+search_strike p k rest settled standing living dropped strikes room below search =
     let less = get_or living k 0 - 1 in
     let small : k < length living = omega (arith, search.needs, below) in
-    let some = due-living p k rest settled standing living dropped strikes room below search in
+    let some = due_living p k rest settled standing living dropped strikes room below search in
     record {
       size = search.size;
       needs = length-set living k less ∙ search.needs;
@@ -156,19 +156,19 @@ search-strike p k rest settled standing living dropped strikes room below search
             let count : get_or living k 0 ≡ weights k + times k (k ∷ rest) = search.counts k below in
             let moved : weights j ≡ weights k = ap weights same in
             let due : times j rest ≡ times k rest = ap (λ n. times n rest) same in
-            omega (arith, here, count, moved, due, times-cons_same k rest)
+            omega (arith, here, count, moved, due, times_cons_same k rest)
         | inr other ↦
             let stays = get_or-set_other living k j less 0 other in
-            omega (arith, stays, search.counts j low, times-cons_other j k rest other)
+            omega (arith, stays, search.counts j low, times_cons_other j k rest other)
       ];
       bare = λ j low is zero_left. search.bare j low is.0 (sym (get_or-set_other living k j less 0 is.1) ∙ zero_left);
       struck = omega (arith, search.struck, sum_by-set (λ (n : ℕ). n) living k less 0 small, some);
     }
 
 -- a demand that is read
-pub demand_at-read : (needs : List Need) (demands : List Demand) (k : ℕ) (n : Need) → map demand needs ≡ demands
+pub demand_at_read : (needs : List Need) (demands : List Demand) (k : ℕ) (n : Need) → map demand needs ≡ demands
     → k < length needs → n ≡ get_or needs k n → demand_at demands k ≡ demand n
-demand_at-read needs demands k n maps below is =
+demand_at_read needs demands k n maps below is =
     ap (λ ds. demand_at ds k) (sym maps) ∙ get_or-map demand needs k n (record { of = 0; any = [] }) below
     ∙ ap demand (sym is)
 
@@ -176,56 +176,56 @@ either : (k j : ℕ) → (Unit {0} × (j ≡ k → ⊥)) ⊎ (j ≡ k)
 either k j = elim (cases_eq j k) [ inl same ↦ inr same | inr other ↦ inl (tt, other) ]
 
 -- a strike that takes the last living member, and one that does not
-pub strike-drop : (p : Problem) (k : ℕ) (rest : List ℕ) (standing standing' : List Bool)
+pub strike_drop : (p : Problem) (k : ℕ) (rest : List ℕ) (standing standing' : List Bool)
     (living dropped dropped' : List ℕ) (strikes room : ℕ)
     → k < length p.demands → (demand_at p.demands k).of < p.size → get_or living k 0 - 1 ≡ 0
     → IsDrop (demand_at p.demands k).of standing dropped standing' dropped'
     → IsSearch p (k ∷ rest) (λ j. Unit {0}) standing living dropped strikes room
     → IsSearch p rest (λ j. Unit {0}) standing' (set living k (get_or living k 0 - 1)) dropped' (strikes + 1) room
-strike-drop p k rest standing standing' living dropped dropped' strikes room below small none drop search =
-    search-drop p rest (λ j. Unit {0} × (j ≡ k → ⊥)) (λ j. Unit {0}) standing standing'
+strike_drop p k rest standing standing' living dropped dropped' strikes room below small none drop search =
+    search_drop p rest (λ j. Unit {0} × (j ≡ k → ⊥)) (λ j. Unit {0}) standing standing'
     (set living k (get_or living k 0 - 1)) dropped dropped' (strikes + 1) room k below small
     (get_or-set_same living k (get_or living k 0 - 1) 0 (omega (arith, search.needs, below)) ∙ none)
     (λ j _. either k j) drop
-    (search-strike p k rest (λ j. Unit {0}) standing living dropped strikes room below search)
+    (search_strike p k rest (λ j. Unit {0}) standing living dropped strikes room below search)
 
-pub strike-pass : (p : Problem) (k : ℕ) (rest : List ℕ) (standing : List Bool) (living dropped : List ℕ)
+pub strike_pass : (p : Problem) (k : ℕ) (rest : List ℕ) (standing : List Bool) (living dropped : List ℕ)
     (strikes room : ℕ)
     → k < length p.demands → (get_or living k 0 - 1 ≡ 0 → ⊥)
     → IsSearch p (k ∷ rest) (λ j. Unit {0}) standing living dropped strikes room
     → IsSearch p rest (λ j. Unit {0}) standing (set living k (get_or living k 0 - 1)) dropped (strikes + 1) room
-strike-pass p k rest standing living dropped strikes room below some search =
+strike_pass p k rest standing living dropped strikes room below some search =
     let same = get_or-set_same living k (get_or living k 0 - 1) 0 (omega (arith, search.needs, below)) in
-    search-pass p rest (λ j. Unit {0} × (j ≡ k → ⊥)) (λ j. Unit {0}) standing (set living k (get_or living k 0 - 1))
+    search_pass p rest (λ j. Unit {0} × (j ≡ k → ⊥)) (λ j. Unit {0}) standing (set living k (get_or living k 0 - 1))
     dropped (strikes + 1) room k
     (λ none. some (sym same ∙ none))
     (λ j _. either k j)
-    (search-strike p k rest (λ j. Unit {0}) standing living dropped strikes room below search)
+    (search_strike p k rest (λ j. Unit {0}) standing living dropped strikes room below search)
 
-below-next : (k j : ℕ) → j < k + 1 → (j < k) ⊎ (j ≡ k)
-below-next k j less = elim (cases_eq j k) [ inl same ↦ inr same | inr other ↦ inl (omega (arith, less, other)) ]
+below_next : (k j : ℕ) → j < k + 1 → (j < k) ⊎ (j ≡ k)
+below_next k j less = elim (cases_eq j k) [ inl same ↦ inr same | inr other ↦ inl (omega (arith, less, other)) ]
 
 -- one more demand of the start
-pub settle-drop : (p : Problem) (standing standing' : List Bool) (living dropped dropped' : List ℕ) (strikes room k : ℕ)
+pub settle_drop : (p : Problem) (standing standing' : List Bool) (living dropped dropped' : List ℕ) (strikes room k : ℕ)
     → k < length p.demands → (demand_at p.demands k).of < p.size → get_or living k 0 ≡ 0
     → IsDrop (demand_at p.demands k).of standing dropped standing' dropped'
     → IsSearch p [] (λ j. j < k) standing living dropped strikes room
     → IsSearch p [] (λ j. j < k + 1) standing' living dropped' strikes room
-settle-drop p standing standing' living dropped dropped' strikes room k below small none drop search =
-    search-drop p [] (λ j. j < k) (λ j. j < k + 1) standing standing' living dropped dropped' strikes room k below small
-    none (below-next k) drop search
+settle_drop p standing standing' living dropped dropped' strikes room k below small none drop search =
+    search_drop p [] (λ j. j < k) (λ j. j < k + 1) standing standing' living dropped dropped' strikes room k below small
+    none (below_next k) drop search
 
-pub settle-pass : (p : Problem) (standing : List Bool) (living dropped : List ℕ) (strikes room k : ℕ)
+pub settle_pass : (p : Problem) (standing : List Bool) (living dropped : List ℕ) (strikes room k : ℕ)
     → (get_or living k 0 ≡ 0 → ⊥)
     → IsSearch p [] (λ j. j < k) standing living dropped strikes room
     → IsSearch p [] (λ j. j < k + 1) standing living dropped strikes room
-settle-pass p standing living dropped strikes room k some search =
-    search-pass p [] (λ j. j < k) (λ j. j < k + 1) standing living dropped strikes room k some (below-next k) search
+settle_pass p standing living dropped strikes room k some search =
+    search_pass p [] (λ j. j < k) (λ j. j < k + 1) standing living dropped strikes room k some (below_next k) search
 
-pub settled-all : (p : Problem) (standing : List Bool) (living dropped : List ℕ) (strikes room k : ℕ)
+pub settled_all : (p : Problem) (standing : List Bool) (living dropped : List ℕ) (strikes room k : ℕ)
     → length p.demands ≤ k → IsSearch p [] (λ j. j < k) standing living dropped strikes room
     → IsSearch p [] (λ j. Unit {0}) standing living dropped strikes room
-settled-all p standing living dropped strikes room k all search = record {
+settled_all p standing living dropped strikes room k all search = record {
   size = search.size;
   needs = search.needs;
   members = search.members;
@@ -238,20 +238,20 @@ settled-all p standing living dropped strikes room k all search = record {
   struck = search.struck;
 }
 
-times-push : (x y : ℕ) (dropped : List ℕ) → times y (dropped ++ x ∷ []) ≡ times y dropped + one_if (y == x)
-times-push x y dropped = elim (cases_eq y x) [
+times_push : (x y : ℕ) (dropped : List ℕ) → times y (dropped ++ x ∷ []) ≡ times y dropped + one_if (y == x)
+times_push x y dropped = elim (cases_eq y x) [
   | inl same ↦ let one : one_if (y == x) ≡ one_if true = ap one_if (eq-eqb y x same)
-      in omega (arith, one, times-push_same y dropped x same)
-  | inr other ↦ let none : one_if (y == x) ≡ one_if false = ap one_if (eqb-other y x other)
-      in omega (arith, none, times-push_other y dropped x other)
+      in omega (arith, one, times_push_same y dropped x same)
+  | inr other ↦ let none : one_if (y == x) ≡ one_if false = ap one_if (eqb_other y x other)
+      in omega (arith, none, times_push_other y dropped x other)
 ]
 
 -- the last one dropped is taken, and the strikes of its row become due
-pub search-take : (p : Problem) (served : List (Vec ℕ Global)) (x : ℕ) (settled : ℕ → Type 0) (standing : List Bool)
+pub search_take : (p : Problem) (served : List (Vec ℕ Global)) (x : ℕ) (settled : ℕ → Type 0) (standing : List Bool)
     (living dropped : List ℕ) (strikes room : ℕ)
     → AreServed p.demands served → IsSearch p [] settled standing living (dropped ++ x ∷ []) strikes room
     → IsSearch p (row_at served x) settled standing living dropped strikes room
-search-take p served x settled standing living dropped strikes room are search = record {
+search_take p served x settled standing living dropped strikes room are search = record {
   size = search.size;
   needs = search.needs;
   members = λ k d below. subst (λ n. n < p.size) (get_or_append_left dropped (x ∷ []) d k below)
@@ -262,21 +262,21 @@ search-take p served x settled standing living dropped strikes room are search =
   within = search.within;
   counts = λ k below.
       let any = (demand_at p.demands k).any in
-      let parts = sum_by-split (weight standing (dropped ++ x ∷ [])) (weight standing dropped) (λ y. one_if (y == x))
-      any (λ y. omega (arith, times-push x y dropped)) in
+      let parts = sum_by_split (weight standing (dropped ++ x ∷ [])) (weight standing dropped) (λ y. one_if (y == x))
+      any (λ y. omega (arith, times_push x y dropped)) in
       omega (arith, search.counts k below, parts, are x k);
   bare = search.bare;
   struck = search.struck;
 }
 
 -- the last one dropped is a candidate
-pub last-small : (p : Problem) (dropped : List ℕ) (x : ℕ) → All (λ y. y < p.size) (dropped ++ x ∷ []) → x < p.size
-last-small p dropped x all = All-contains (λ y. y < p.size) (dropped ++ x ∷ []) x all (Contains-push dropped x)
+pub last_small : (p : Problem) (dropped : List ℕ) (x : ℕ) → All (λ y. y < p.size) (dropped ++ x ∷ []) → x < p.size
+last_small p dropped x all = All-contains (λ y. y < p.size) (dropped ++ x ∷ []) x all (Contains-push dropped x)
 
 -- a row names demands
-pub served-small : (p : Problem) (served : List (Vec ℕ Global)) → AreServed p.demands served → (x : ℕ)
+pub served_small : (p : Problem) (served : List (Vec ℕ Global)) → AreServed p.demands served → (x : ℕ)
     → All (λ k. k < length p.demands) (row_at served x)
-served-small p served are x i d below =
+served_small p served are x i d below =
     let k = get_or (row_at served x) i d in
     elim (cases_lt k (length p.demands)) [
       | inl low ↦ low
@@ -288,18 +288,18 @@ served-small p served are x i d below =
             arith,
             zero_times,
             are x k,
-            times-from_Contains k (row_at served x)
+            times_from_Contains k (row_at served x)
                 (Contains-get_or (row_at served x) i d below),
           ))
     ]
 
 no_weight : (standing : List Bool) (any : List ℕ) → sum_by (weight standing []) any ≡ count_by (holds standing) any
-no_weight standing any = sum_by-same (weight standing []) (λ y. one_if (holds standing y)) any (λ y. omega arith)
+no_weight standing any = sum_by_same (weight standing []) (λ y. one_if (holds standing y)) any (λ y. omega arith)
 
 -- at the start all that is eligible stands
-pub search-start : (p : Problem) (living : List ℕ) (room : ℕ) → IsProblem p → p.size ≤ room
+pub search_start : (p : Problem) (living : List ℕ) (room : ℕ) → IsProblem p → p.size ≤ room
     → living ≡ map (eligible_in p) p.demands → IsSearch p [] (λ j. j < 0) p.eligible living [] 0 room
-search-start p living room valid enough counted = record {
+search_start p living room valid enough counted = record {
   size = valid.flags;
   needs = ap length counted ∙ length-map p.demands (eligible_in p);
   members = All-nil _;
@@ -327,7 +327,7 @@ search_kept p standing living strikes room search = kept_from_parts p standing s
     (elim (cases_Bool (list_any (holds standing) d.any)) [
       | inl some ↦ Any-from_list_any (holds standing) d.any some
       | inr none_stands ↦ absurd (
-          let gone = count-none (holds standing) d.any (All-from_no_list_any (holds standing) d.any none_stands) in
+          let gone = count_none (holds standing) d.any (All_from_no_list_any (holds standing) d.any none_stands) in
           let zero_left : get_or living k 0 ≡ 0 = omega (arith, search.counts k below, no_weight standing d.any, gone)
           in
           cc (search.bare k below tt zero_left, subst (λ f. IsTrue (holds standing f.of)) same member))
@@ -347,45 +347,45 @@ search_strikes p standing living strikes room search =
     omega (arith, here, there, search.counts k low, no_weight standing (demand_at p.demands k).any)) in
     let total : sum living ≡ sum_by left p.demands = ap sum counted ∙ sum-map left p.demands in
     let parts : sum_by (eligible_in p) p.demands ≡ strikes_of p standing + sum_by left p.demands =
-    sum_by-split (eligible_in p) (λ d. count_by (λ y. holds p.eligible y && not (holds standing y)) d.any) left
+    sum_by_split (eligible_in p) (λ d. count_by (λ y. holds p.eligible y && not (holds standing y)) d.any) left
     p.demands
-    (λ d. count-part (holds p.eligible) (holds standing) d.any search.within) in
+    (λ d. count_part (holds p.eligible) (holds standing) d.any search.within) in
     omega (arith, search.struck, total, parts)
 
 -- there are no more eligible members than pairs
-pub eligible-le-pairs : (p : Problem) → sum_by (eligible_in p) p.demands ≤ pairs_of p.demands
-eligible-le-pairs p = sum_by-le-sum_by (eligible_in p) (λ d. length d.any) p.demands
+pub eligible_le_pairs : (p : Problem) → sum_by (eligible_in p) p.demands ≤ pairs_of p.demands
+eligible_le_pairs p = sum_by-le-sum_by (eligible_in p) (λ d. length d.any) p.demands
     (λ d. count_by-le-length (holds p.eligible) d.any)
 
 -- pairs, one more need at a time
-pub pairs-more : (needs : List Need) (k : ℕ) (n : Need) → k < length needs → n ≡ get_or needs k n
+pub pairs_more : (needs : List Need) (k : ℕ) (n : Need) → k < length needs → n ≡ get_or needs k n
     → pairs_of (map demand (take (k + 1) needs)) ≡ pairs_of (map demand (take k needs)) + length n.any.items
-pairs-more needs k n below is =
+pairs_more needs k n below is =
     ap pairs_of (map_more demand needs k n below) ∙ sum_by_push (λ d. length d.any) (map demand (take k needs))
     (demand (get_or needs k n))
     ∙ ap (λ m. pairs_of (map demand (take k needs)) + length m.any.items) (sym is)
 
-pub pairs-part : (needs : List Need) (k : ℕ) → pairs_of (map demand (take k needs)) ≤ pairs_of (map demand needs)
-pairs-part needs k = subst (λ ds. pairs_of ds ≤ pairs_of (map demand needs)) (take-map demand k needs)
+pub pairs_part : (needs : List Need) (k : ℕ) → pairs_of (map demand (take k needs)) ≤ pairs_of (map demand needs)
+pairs_part needs k = subst (λ ds. pairs_of ds ≤ pairs_of (map demand needs)) (take-map demand k needs)
     (sum_by-take-le (λ d. length d.any) (map demand needs) k)
 
 -- a list of candidates that rises has at most as many members as there are candidates
-pub pairs-few : (p : Problem) → IsProblem p → p.size < 2 ^ 32 → length p.demands < 2 ^ 64 → pairs_of p.demands < 2 ^ 96
-pairs-few p valid small few =
+pub pairs_few : (p : Problem) → IsProblem p → p.size < 2 ^ 32 → length p.demands < 2 ^ 64 → pairs_of p.demands < 2 ^ 96
+pairs_few p valid small few =
     let all = sum_by-le (λ d. length d.any) 4294967295 p.demands
     (λ k d below. omega (
       arith,
       small,
-      rising-length (get_or p.demands k d).any p.size
+      rising_length (get_or p.demands k d).any p.size
           (valid.demands k d below).rising (valid.demands k d below).any,
     )) in
     omega (arith, all, few)
 
 -- a row has the demands of before, and the new one as often as it names the row's candidate
-pub served-more : (seen : List Demand) (d : Demand) (k : ℕ) (old new : List (Vec ℕ Global)) → length seen ≡ k
+pub served_more : (seen : List Demand) (d : Demand) (k : ℕ) (old new : List (Vec ℕ Global)) → length seen ≡ k
     → ((x : ℕ) → row_at new x ≡ row_at old x ++ replicate (times x d.any) k) → AreServed seen old
     → AreServed (seen ++ d ∷ []) new
-served-more seen d k old new place added so_far x j =
+served_more seen d k old new place added so_far x j =
     let empty : Demand = record { of = 0; any = [] } in
     let part : times j (row_at new x) ≡ times j (row_at old x) + times x d.any * one_if (k == j) =
     ap (times j) (added x) ∙ sum_by-append (λ y. one_if (y == j)) (row_at old x) (replicate (times x d.any) k)
@@ -402,7 +402,7 @@ served-more seen d k old new place added so_far x j =
           omega (arith, part, whole, want, none, so_far x j)
       | inr other ↦
           let zero_more : times x d.any * one_if (k == j) ≡ 0 =
-          ap (λ b. times x d.any * one_if b) (eqb-other k j (λ same. other (sym same)))
+          ap (λ b. times x d.any * one_if b) (eqb_other k j (λ same. other (sym same)))
           ∙ mul-zero (times x d.any) in
           let stays : demand_at (seen ++ d ∷ []) j ≡ demand_at seen j = elim (cases_lt j (length seen)) [
             | inl before ↦ get_or_append_left seen (d ∷ []) empty j before
@@ -415,42 +415,42 @@ served-more seen d k old new place added so_far x j =
     ]
 
 -- the turns of the start fit
-pub start-room : (p : Problem) (needs : List Need) (k : ℕ) (n : Need) → map demand needs ≡ p.demands → IsProblem p
+pub start_room : (p : Problem) (needs : List Need) (k : ℕ) (n : Need) → map demand needs ≡ p.demands → IsProblem p
     → p.size < 2 ^ 32 → length needs < 2 ^ 64
     → k < length needs → n ≡ get_or needs k n → p.size + k + 2 * pairs_of (map demand (take k needs)) +
     (1 + 2 * length n.any.items) < 2 ^ 128
-start-room p needs k n maps valid small short below is =
+start_room p needs k n maps valid small short below is =
     let all : pairs_of (map demand needs) ≡ pairs_of p.demands = ap pairs_of maps in
     let few : length p.demands < 2 ^ 64 = omega (arith, ap length maps, length-map needs demand, short) in
     omega (
       arith,
-      pairs-few p valid small few,
+      pairs_few p valid small few,
       all,
-      pairs-more needs k n below is,
-      pairs-part needs (k + 1),
+      pairs_more needs k n below is,
+      pairs_part needs (k + 1),
       small,
       below,
       short,
     )
 
-pub living-more : (p : Problem) (needs : List Need) (k : ℕ) (n : Need) (living : List ℕ) (count : ℕ) → k < length needs
+pub living_more : (p : Problem) (needs : List Need) (k : ℕ) (n : Need) (living : List ℕ) (count : ℕ) → k < length needs
     → n ≡ get_or needs k n → count ≡ eligible_in p (demand n)
     → living ≡ map (eligible_in p) (map demand (take k needs))
     → living ++ count ∷ [] ≡ map (eligible_in p) (map demand (take (k + 1) needs))
-living-more p needs k n living count below is counted so_far =
+living_more p needs k n living count below is counted so_far =
     ap (λ xs. xs ++ count ∷ []) so_far ∙ ap (λ m. map (eligible_in p) (map demand (take k needs)) ++ m ∷ [])
     (counted ∙ ap (λ m. eligible_in p (demand m)) is)
     ∙ sym (ap (map (eligible_in p)) (map_more demand needs k n below)
     ∙ map_push (eligible_in p) (map demand (take k needs)) (demand (get_or needs k n)))
 
-pub served-next : (needs : List Need) (k : ℕ) (n : Need) (old new : List (Vec ℕ Global)) → k < length needs
+pub served_next : (needs : List Need) (k : ℕ) (n : Need) (old new : List (Vec ℕ Global)) → k < length needs
     → n ≡ get_or needs k n
     → ((x : ℕ) → row_at new x ≡ row_at old x ++ replicate (times x n.any.items) k)
     → AreServed (map demand (take k needs)) old → AreServed (map demand (take (k + 1) needs)) new
-served-next needs k n old new below is added so_far =
+served_next needs k n old new below is added so_far =
     let seen : List Demand = map demand (take k needs) in
     let place : length seen ≡ k = length-map (take k needs) demand ∙ length-take-le k needs (omega arith) in
     let next : seen ++ demand n ∷ [] ≡ map demand (take (k + 1) needs) =
     ap (λ m. map demand (take k needs) ++ demand m ∷ []) is ∙ sym (map_more demand needs k n below) in
-    subst (λ ds. AreServed ds new) next (served-more (map demand (take k needs)) (demand n) k old new place added
+    subst (λ ds. AreServed ds new) next (served_more (map demand (take k needs)) (demand n) k old new place added
     so_far)

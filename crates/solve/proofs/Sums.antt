@@ -8,26 +8,26 @@ use Rattle.std.proofs.lemmas.Bool.{cases_Bool}
 use Rattle.solve.specs.Rows.{one_if}
 
 -- equal terms, and terms that are sums
-pub sum_by-same : {X : Type 0} (f g : X → ℕ) (xs : List X) → ((x : X) → f x ≡ g x) → sum_by f xs ≡ sum_by g xs
-sum_by-same f g [] same = refl
-sum_by-same f g (x ∷ xs) same = omega (arith, sum_by-cons f x xs, sum_by-cons g x xs, same x, sum_by-same f g xs same)
+pub sum_by_same : {X : Type 0} (f g : X → ℕ) (xs : List X) → ((x : X) → f x ≡ g x) → sum_by f xs ≡ sum_by g xs
+sum_by_same f g [] same = refl
+sum_by_same f g (x ∷ xs) same = omega (arith, sum_by-cons f x xs, sum_by-cons g x xs, same x, sum_by_same f g xs same)
 
-pub sum_by-split : {X : Type 0} (f g h : X → ℕ) (xs : List X) → ((x : X) → f x ≡ g x + h x)
+pub sum_by_split : {X : Type 0} (f g h : X → ℕ) (xs : List X) → ((x : X) → f x ≡ g x + h x)
     → sum_by f xs ≡ sum_by g xs + sum_by h xs
-sum_by-split f g h [] same = refl
-sum_by-split f g h (x ∷ xs) same = omega (
+sum_by_split f g h [] same = refl
+sum_by_split f g h (x ∷ xs) same = omega (
   arith,
   sum_by-cons f x xs,
   sum_by-cons g x xs,
   sum_by-cons h x xs,
   same x,
-  sum_by-split f g h xs same,
+  sum_by_split f g h xs same,
 )
 
 -- the members of a set, and those of a part of it
-pub count-part : (whole part : ℕ → Bool) (xs : List ℕ) → ((x : ℕ) → IsTrue (part x) → IsTrue (whole x))
+pub count_part : (whole part : ℕ → Bool) (xs : List ℕ) → ((x : ℕ) → IsTrue (part x) → IsTrue (whole x))
     → count_by whole xs ≡ count_by (λ x. whole x && not (part x)) xs + count_by part xs
-count-part whole part xs within = sum_by-split (λ x. one_if (whole x)) (λ x. one_if (whole x && not (part x)))
+count_part whole part xs within = sum_by_split (λ x. one_if (whole x)) (λ x. one_if (whole x && not (part x)))
     (λ x. one_if (part x)) xs (λ x. elim (cases_Bool (part x)) [
       | inl inside ↦ yes_part (whole x) (part x) (within x inside) inside
       | inr outside ↦ no_part (whole x) (part x) outside
@@ -44,8 +44,8 @@ count-part whole part xs within = sum_by-split (λ x. one_if (whole x)) (λ x. o
     no_part false true h = cc
     no_part false false h = refl
 
-pub count-none : (test : ℕ → Bool) (xs : List ℕ) → All (λ x. test x ≡ false) xs → count_by test xs ≡ 0
-count-none test xs none =
+pub count_none : (test : ℕ → Bool) (xs : List ℕ) → All (λ x. test x ≡ false) xs → count_by test xs ≡ 0
+count_none test xs none =
     let small = sum_by-le (λ x. one_if (test x)) 0 xs (λ k d below.
     zero_if (test (slice_index_or xs k d)) (none k d below)) in
     omega (arith, small)

@@ -1,9 +1,10 @@
+//! The causers of each candidate that failed.
 ghost use Rattle.std.specs.Prelude.{◌≡◌, ◌<◌, ◌↔◌, ◌≤◌, ◌&&◌, ℕ, List, Bool, false, not, IfOk, OnOk, IsTrue, length};
 ghost use Rattle.std.specs.Prelude.{All, AllPairs, Contains};
 ghost use Rattle.solve.specs.Problem.{Problem, AreKept, holds};
 ghost use Rattle.solve.specs.Causes.{HasFailed, HasBareNeed, IsRoot, IsCauser, LeadsOn};
 ghost use Rattle.solve.specs.Rows.{row_at, times};
-ghost use Rattle.solve.specs.Marks.{AreLeads, AreClear, IsListOf, IsMarked, is_in};
+ghost use Rattle.solve.specs.Marks.{AreLeads, AreClear, IsMarked, is_in};
 
 use crate::rows::{add_under, empty_rows};
 use crate::sets::{Kept, serves};

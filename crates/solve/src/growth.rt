@@ -1,3 +1,4 @@
+//! The least set that holds its start and is closed under rules.
 ghost use Rattle.std.specs.Prelude.{◌≡◌, ◌<◌, ◌^◌, ◌+◌, ◌++◌, ◌∷◌, [], ◌↔◌, IfOk, OnOk, OnErr, IsTrue, length, map};
 ghost use Rattle.std.specs.Prelude.{not};
 ghost use Rattle.solve.specs.Least.{IsRule, IsLeast};

@@ -1,3 +1,4 @@
+//! A row of values for each number.
 ghost use Rattle.std.specs.Prelude.{◌≡◌, ◌<◌, ◌++◌, [], ℕ, IfOk, OnOk, All, length, replicate};
 ghost use Rattle.solve.specs.Rows.{row_at, times};
 

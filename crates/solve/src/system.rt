@@ -1,3 +1,4 @@
+//! The numbered problem: candidates, which of them are eligible, and their needs.
 ghost use Rattle.std.specs.Prelude.{◌≡◌, ◌<◌, ◌^◌, ◌+◌, ◌++◌, ◌∷◌, [], ◌↔◌, length, map, All, AllPairs, OnOk, OnErr};
 ghost use Rattle.std.specs.Prelude.{IsTrue};
 ghost use Rattle.solve.specs.Need.{demand};

@@ -1,8 +1,8 @@
-ghost use Rattle.std.specs.Prelude.{◌≡◌, ◌<◌, ◌≤◌, ◌+◌, ◌*◌, ◌^◌, ◌∷◌, [], ℕ, List, IfOk, IsTrue, length, map, All};
+//! The kept set by following each candidate that falls, with a count of the work.
+ghost use Rattle.std.specs.Prelude.{◌≡◌, ◌<◌, ◌≤◌, ◌+◌, ◌*◌, ◌^◌, ◌∷◌, [], ℕ, List, IfOk, length, All};
 ghost use Rattle.std.specs.Prelude.{count_by};
 ghost use Rattle.solve.specs.Problem.{AreKept, holds, pairs_of, strikes_of, most_turns};
-ghost use Rattle.solve.specs.Rows.{row_at};
-ghost use Rattle.solve.specs.Board.{AreServed, AtRest, SettledBelow, IsDrop, open_in, eligible_in};
+ghost use Rattle.solve.specs.Board.{AreServed, AtRest, SettledBelow, IsDrop, open_in};
 
 use crate::Solver;
 use crate::rows::{add_under, empty_rows};

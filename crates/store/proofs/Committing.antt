@@ -161,50 +161,50 @@ failed_to_commit g old last done change (Err d) x e inside commit is clean runs 
 
 -- ---- what is committed, whatever the tables hold
 
-rolled-keeps : (a b : State) → IsRolledBack a b → KeepsCommit a b
-rolled-keeps a b back = record { was_open = back.was_open; committed = λ is_open. (back.undone is_open).1 }
+rolled_keeps : (a b : State) → IsRolledBack a b → KeepsCommit a b
+rolled_keeps a b back = record { was_open = back.was_open; committed = λ is_open. (back.undone is_open).1 }
 
-kept-by : {A E : Type 0} (r : Result A E) {P : E → Type 0} {Q : Type 0} → ((e : E) → P e → Q) → IfErr r P → OnErr r Q
-kept-by (Ok a) f h = tt
-kept-by (Err e) f h = f e h
+kept_by : {A E : Type 0} (r : Result A E) {P : E → Type 0} {Q : Type 0} → ((e : E) → P e → Q) → IfErr r P → OnErr r Q
+kept_by (Ok a) f h = tt
+kept_by (Err e) f h = f e h
 
-failed-keeps : (a b : State) (e : Error) → FailsToCommit a b e → KeepsCommit a b
-failed-keeps a b e (inl (cause, is, has, back, told)) = rolled-keeps a b back
-failed-keeps a b e (inr (is, ended, same)) = unchanged_keeps_commit a b same
+failed_keeps : (a b : State) (e : Error) → FailsToCommit a b e → KeepsCommit a b
+failed_keeps a b e (inl (cause, is, has, back, told)) = rolled_keeps a b back
+failed_keeps a b e (inr (is, ended, same)) = unchanged_keeps_commit a b same
 
 module _ {S : Type 0} (g : Ghosts S) (calls : List Call) (old new : Held S) where
   -- `last` is reached in the transaction that is begun at `old`
   module _ (last : Held S) (inside : StaysInside g (record old { in_transaction = true }) last) where
-    keeps-old : doubt (state g last).is_clean ≤ doubt (state g new).is_clean → HasCleanDisk (state g new)
+    keeps_old : doubt (state g last).is_clean ≤ doubt (state g new).is_clean → HasCleanDisk (state g new)
         → KeepsCommit (state g last) (state g new) → KeepsCommit (state g old) (state g new)
-    keeps-old falls clean kept =
+    keeps_old falls clean kept =
         let both = keeps_then (state g (record old { in_transaction = true })) (state g last) (state g new)
         (inside.kept (omega (arith, falls, clean))) kept in
         record { was_open = both.was_open; committed = both.committed }
 
     -- the statements failed, and what they wrote is undone
-    pub only-undone : {X E : Type 0} (r : Result X E) (P : E → Type 0) → IsErrAnd r P
+    pub only_undone : {X E : Type 0} (r : Result X E) (P : E → Type 0) → IsErrAnd r P
         → (HasCleanDisk (state g new) → IsRolledBack (state g last) (state g new))
         → Survives (state g last) (state g new) (λ _. ⊥) → OnlyCommits g calls old new r
-    only-undone (Err e) P is undone survives = record {
+    only_undone (Err e) P is undone survives = record {
       made = λ clean. tt;
-      kept = λ clean. keeps-old survives.clean clean (rolled-keeps (state g last) (state g new) (undone clean));
+      kept = λ clean. keeps_old survives.clean clean (rolled_keeps (state g last) (state g new) (undone clean));
       crash = survives_then (state g old) (state g last) (state g new) (λ _. ⊥) (λ _. ⊥) (IsWritten g calls old)
           (λ _ db none. absurd none) (λ _ db none. absurd none)
           (survives_begin g old (state g last) (λ _. ⊥) inside.survives) survives;
     }
-    only-undone (Ok x) P is undone survives = absurd is
+    only_undone (Ok x) P is undone survives = absurd is
 
     -- the statements ran, and the commit ended so
-    pub only-committed : {A : Type 0} (q : Result A Error) (x : A) (r : Result Unit Error) → q ≡ Ok x
+    pub only_committed : {A : Type 0} (q : Result A Error) (x : A) (r : Result Unit Error) → q ≡ Ok x
         → RunsInside g calls (record old { in_transaction = true }) last q
         → Survives (state g last) (state g new) (λ db. db ≡ (state g last).now.trees)
         → (HasCleanDisk (state g new)
         → OnOk r (Shows (state g last) (state g new) (state g last).now (state g last).now false))
         → (HasCleanDisk (state g new) → IfErr r (FailsToCommit (state g last) (state g new)))
         → OnlyCommits g calls old new r
-    only-committed (Err d) x r is runs survives ok err = absurd cc
-    only-committed (Ok w) x r is runs survives ok err =
+    only_committed (Err d) x r is runs survives ok err = absurd cc
+    only_committed (Ok w) x r is runs survives ok err =
         let falls = survives.clean in
         record {
           made = λ clean. on_ok r _ _ (λ shows. record {
@@ -214,21 +214,21 @@ module _ {S : Type 0} (g : Ghosts S) (calls : List Call) (old new : Held S) wher
             is_open = shows.is_open;
             committed = shows.committed_is;
           }) (ok clean);
-          kept = λ clean. kept-by r (λ e fails. keeps-old falls clean
-              (failed-keeps (state g last) (state g new) e fails)) (err clean);
+          kept = λ clean. kept_by r (λ e fails. keeps_old falls clean
+              (failed_keeps (state g last) (state g new) e fails)) (err clean);
           crash = survives_then (state g old) (state g last) (state g new) (λ _. ⊥) _ (IsWritten g calls old)
               (λ _ db none. absurd none) (λ clean db is. (last, (runs (omega (arith, falls, clean)) refl).0, is))
               (survives_begin g old (state g last) (λ _. ⊥) inside.survives) survives;
         }
 
   -- what is so of the call is so of the one that hands its answer on
-  pub only-answered : {X Y E F : Type 0} (q : Result X E) (x : X) (y : Y) → q ≡ Ok x → OnlyCommits g calls old new q
+  pub only_answered : {X Y E F : Type 0} (q : Result X E) (x : X) (y : Y) → q ≡ Ok x → OnlyCommits g calls old new q
       → OnlyCommits g calls old new {E = F} (Ok y)
-  only-answered (Ok w) x y is only = record { made = only.made; kept = λ clean. tt; crash = only.crash }
-  only-answered (Err d) x y is only = absurd cc
+  only_answered (Ok w) x y is only = record { made = only.made; kept = λ clean. tt; crash = only.crash }
+  only_answered (Err d) x y is only = absurd cc
 
-  pub only-failed : {X Y E F : Type 0} (q : Result X E) (e : E) (r : Result Y F) (P : F → Type 0) → q ≡ Err e
+  pub only_failed : {X Y E F : Type 0} (q : Result X E) (e : E) (r : Result Y F) (P : F → Type 0) → q ≡ Err e
       → IsErrAnd r P → OnlyCommits g calls old new q → OnlyCommits g calls old new r
-  only-failed (Err d) e (Err z) P is failed only = record { made = λ clean. tt; kept = only.kept; crash = only.crash }
-  only-failed (Err d) e (Ok y) P is failed only = absurd failed
-  only-failed (Ok w) e r P is failed only = absurd cc
+  only_failed (Err d) e (Err z) P is failed only = record { made = λ clean. tt; kept = only.kept; crash = only.crash }
+  only_failed (Err d) e (Ok y) P is failed only = absurd failed
+  only_failed (Ok w) e r P is failed only = absurd cc

@@ -7,18 +7,18 @@ use Rattle.std.specs.Str.{bytes_eq}
 use Rattle.std.specs.Cmp.Lexicographic.{slice_cmp, texts_ties}
 use Rattle.std.proofs.lemmas.Cmp.{nat_list_cmp_total}
 use Rattle.std.proofs.lemmas.List.Sums.{fold_more}
-use Rattle.lemmas.proofs.Each.{All-middle}
+use Rattle.lemmas.proofs.Each.{All_middle}
 use Rattle.sqlite.specs.Store.{Ghosts}
 use Rattle.sqlite.specs.Held.{Held}
 use Rattle.terms.specs.declared.kinds.ElemType.{ElemType}
-use Rattle.tables.specs.declared.edits.Edit.{Edit}
-use Rattle.tables.specs.declared.edits.Edit.TheVariants.{Put, Remove}
+use Rattle.sorted.specs.declared.edits.Edit.{Edit}
+use Rattle.sorted.specs.declared.edits.Edit.TheVariants.{Put, Remove}
 use Rattle.terms.specs.Types.{Text, Id, Entry, Element, Zone}
 use Rattle.terms.specs.Lookups.{IsZone, element_cmp, element_key}
 use Rattle.zones.specs.Delta.{ZoneDelta, IsDelta, IsChanged}
 use Rattle.terms.specs.Lookups.{element_eq}
-use Rattle.tables.specs.Edits.{after_edit}
-use Rattle.tables.proofs.Editing.{find-edited, Rises-edited}
+use Rattle.sorted.specs.Edits.{after_edit}
+use Rattle.sorted.proofs.Editing.{find_edited, Rises_edited}
 use Rattle.terms.proofs.ElementOrder.{element_cmp_total, element_ties}
 use Rattle.terms.proofs.SameLists.{rising_same}
 use Rattle.store_rows.specs.Inside.{StaysInside}
@@ -173,14 +173,14 @@ is_edited delta was is d zone c =
     let id : Entry → Id = λ e. e.id in
     let entries : is.entries ≡ entries_after was.entries delta.entries =
     rising_same nat_list_cmp_total id bytes_eq texts_ties is.entries (entries_after was.entries delta.entries)
-    c.is_zone.entries (Rises-edited nat_list_cmp_total id delta.entries was.entries zone.entries)
-    (λ k. c.entries k ∙ sym (find-edited nat_list_cmp_total id bytes_eq texts_ties delta.entries d.entries was.entries
+    c.is_zone.entries (Rises_edited nat_list_cmp_total id delta.entries was.entries zone.entries)
+    (λ k. c.entries k ∙ sym (find_edited nat_list_cmp_total id bytes_eq texts_ties delta.entries d.entries was.entries
     k)) in
     let elements : is.elements ≡ elements_after was.elements delta.elements =
     rising_same element_cmp_total element_key element_eq element_ties is.elements
     (elements_after was.elements delta.elements) c.is_zone.elements
-    (Rises-edited element_cmp_total element_key delta.elements was.elements zone.elements)
-    (λ k. c.elements k.0 k.1 ∙ sym (find-edited element_cmp_total element_key element_eq element_ties delta.elements
+    (Rises_edited element_cmp_total element_key delta.elements was.elements zone.elements)
+    (λ k. c.elements k.0 k.1 ∙ sym (find_edited element_cmp_total element_key element_eq element_ties delta.elements
     d.elements was.elements k)) in
     c.rest ∙ ap₂ (λ xs ys. record was { entries = xs; elements = ys }) entries elements
 
@@ -189,6 +189,6 @@ pub zone_was : (name : Text) (was is : Zone) (i j : Inventory) → IsInventory i
     → IsZone was
 zone_was name was is i j inventory change =
     let named : IsZoneNamed (record { name = name; zone = was }) =
-    All-middle IsZoneNamed change.before (record { name = name; zone = was }) change.after
+    All_middle IsZoneNamed change.before (record { name = name; zone = was }) change.after
     (subst (All IsZoneNamed) change.was inventory.zones) in
     named.zone

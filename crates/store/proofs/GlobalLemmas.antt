@@ -21,7 +21,7 @@ use Rattle.terms.specs.Spelling.{hold_text}
 use Rattle.terms.specs.Global as rule
 use Rattle.terms.specs.Global.{hold_cmp, without_hold}
 use Rattle.terms.proofs.GlobalKept.{hold_cmp_total}
-use Rattle.terms.proofs.HoldOrder.{has_key-ties}
+use Rattle.terms.proofs.HoldOrder.{has_key_ties}
 use Rattle.store_rows.specs.Inside.{StaysInside, Leads, Turns}
 use Rattle.store_rows.specs.Rows.{HasContents, has_key, in_table, with_put, without}
 use Rattle.store_rows.proofs.ContentsLemmas.{permuted}
@@ -69,7 +69,7 @@ eq_back Greater = refl
 
 hold_ties : (a b : Hold) → same_key a b ≡ is_eq (hold_cmp a b)
 unfolding same_key
-hold_ties a b = sym (has_key-ties b.id b.kind b.reason a) ∙ eq_back (hold_cmp b a)
+hold_ties a b = sym (has_key_ties b.id b.kind b.reason a) ∙ eq_back (hold_cmp b a)
     ∙ ap is_eq (sym (hold_cmp_total.antisymm a b))
 
 -- ---- the rows of holds

@@ -30,14 +30,14 @@ HasFoundNone g old new r =
 
 module _ {S X : Type 0} (g : Ghosts S) (Found : Inventory → X → Type 0) (old new : Held S)
     (outside : IsOutside g old) (settled : Settled g new) where
-  was-clean : (r : Result X ReadError) → OnlyReads g store_schema read.BadRow read.Fault old new r
+  was_clean : (r : Result X ReadError) → OnlyReads g store_schema read.BadRow read.Fault old new r
       → HasCleanDisk (state g new) → HasCleanDisk (state g old)
-  was-clean r reads clean = omega (arith, reads.crash.clean, clean)
+  was_clean r reads clean = omega (arith, reads.crash.clean, clean)
 
   lost : (r : Result X ReadError) → OnlyReads g store_schema read.BadRow read.Fault old new r → (db : Trees)
       → MayLeave g new db → MayLeave g old db
   lost r reads db left = elim (reads.crash.crash left.0 db left.1) [
-    | inl before ↦ (was-clean r reads left.0, before)
+    | inl before ↦ (was_clean r reads left.0, before)
     | inr none ↦ absurd none
   ]
 
@@ -45,19 +45,19 @@ module _ {S X : Type 0} (g : Ghosts S) (Found : Inventory → X → Type 0) (old
   failed : (r : Result X ReadError) → OnlyReads g store_schema read.BadRow read.Fault old new r → (i : Inventory)
       → Tables g old i → TablesIfOpen g new i
   failed r reads i tables = still_open g new settled i (λ clean is_open.
-      subst (StandsFor i) (sym ((reads.kept clean).committed is_open)) (tables (was-clean r reads clean)).1)
+      subst (StandsFor i) (sym ((reads.kept clean).committed is_open)) (tables (was_clean r reads clean)).1)
 
   -- One that answered left the tables as they were.
   stays : (r : Result X ReadError) → OnlyReads g store_schema read.BadRow read.Fault old new r
       → OnOk r ((i : Inventory) → Tables g old i → Tables g new i)
   stays (Ok x) reads = λ i tables clean.
       let it = reads.same clean in
-      (it.0.is_open, subst (StandsFor i) (sym it.0.committed_is) (tables (was-clean _ reads clean)).1)
+      (it.0.is_open, subst (StandsFor i) (sym it.0.committed_is) (tables (was_clean _ reads clean)).1)
   stays (Err e) reads = tt
 
-  bad-row : IsUnchanged (state g old) (state g new) → Survives (state g old) (state g new) (λ _. ⊥)
+  bad_row : IsUnchanged (state g old) (state g new) → Survives (state g old) (state g new) (λ _. ⊥)
       → ((i : Inventory) → ¬ StandsFor i (state g old).now) → FoundNoState g old new
-  bad-row unchanged crash none = record {
+  bad_row unchanged crash none = record {
     loads = record {
       was_open = λ clean is_open. unchanged.0.was_open;
       same = λ clean is_open. unchanged;
@@ -69,53 +69,53 @@ module _ {S X : Type 0} (g : Ghosts S) (Found : Inventory → X → Type 0) (old
 
   -- ---- how the result is told
 
-  told-ok : (r : Result X ReadError) (P : Type 0) → OnOk r P → OnOk (told r) P
-  told-ok (Ok x) P h = h
-  told-ok (Err e) P h = tt
+  told_ok : (r : Result X ReadError) (P : Type 0) → OnOk r P → OnOk (told r) P
+  told_ok (Ok x) P h = h
+  told_ok (Err e) P h = tt
 
-  told-if : (r : Result X ReadError) (P : X → Type 0) → IfOk r P → IfOk (told r) P
-  told-if (Ok x) P h = h
-  told-if (Err e) P h = tt
+  told_if : (r : Result X ReadError) (P : X → Type 0) → IfOk r P → IfOk (told r) P
+  told_if (Ok x) P h = h
+  told_if (Err e) P h = tt
 
-  told-err : (r : Result X ReadError) (P : Type 0) → P → OnErr (told r) P
-  told-err (Ok x) P h = tt
-  told-err (Err e) P h = h
+  told_err : (r : Result X ReadError) (P : Type 0) → P → OnErr (told r) P
+  told_err (Ok x) P h = tt
+  told_err (Err e) P h = h
 
-  told-bad : (r : Result X ReadError) → IsErrOf (told r) NoState → IsErrOf r read.BadRow
-  told-bad (Ok x) bad = absurd (cc bad)
-  told-bad (Err read.BadRow) bad = refl
-  told-bad (Err read.Memory) bad = absurd (cc bad)
-  told-bad (Err read.Fault) bad = absurd (cc bad)
+  told_bad : (r : Result X ReadError) → IsErrOf (told r) NoState → IsErrOf r read.BadRow
+  told_bad (Ok x) bad = absurd (cc bad)
+  told_bad (Err read.BadRow) bad = refl
+  told_bad (Err read.Memory) bad = absurd (cc bad)
+  told_bad (Err read.Fault) bad = absurd (cc bad)
 
-  told-fault : (r : Result X ReadError) → IsErrOf (told r) Fault → IsErrOf r read.Fault
-  told-fault (Ok x) failed = absurd (cc failed)
-  told-fault (Err read.BadRow) failed = absurd (cc failed)
-  told-fault (Err read.Memory) failed = absurd (cc failed)
-  told-fault (Err read.Fault) failed = refl
+  told_fault : (r : Result X ReadError) → IsErrOf (told r) Fault → IsErrOf r read.Fault
+  told_fault (Ok x) failed = absurd (cc failed)
+  told_fault (Err read.BadRow) failed = absurd (cc failed)
+  told_fault (Err read.Memory) failed = absurd (cc failed)
+  told_fault (Err read.Fault) failed = refl
 
-  told-which : (r : Result X ReadError) → IfErr (told r) (λ e. e ≢ OtherSchema)
-  told-which (Ok x) = tt
-  told-which (Err read.BadRow) = λ is. absurd (cc is)
-  told-which (Err read.Memory) = λ is. absurd (cc is)
-  told-which (Err read.Fault) = λ is. absurd (cc is)
+  told_which : (r : Result X ReadError) → IfErr (told r) (λ e. e ≢ OtherSchema)
+  told_which (Ok x) = tt
+  told_which (Err read.BadRow) = λ is. absurd (cc is)
+  told_which (Err read.Memory) = λ is. absurd (cc is)
+  told_which (Err read.Fault) = λ is. absurd (cc is)
 
   by : (r : Result X ReadError) → OnlyReads g store_schema read.BadRow read.Fault old new r → HasFound g Found old new r
       → HasFoundNone g old new r → Loads g old new Found (told r)
   by r reads found none = record {
     found = λ clean i tables.
-        let was = tables (was-clean r reads clean) in
-        told-if r (Found i) (found clean i (subst (StandsFor i) (sym (outside was.0)) was.1));
-    none = λ clean bad. bad-row (reads.bad clean (told-bad r bad)) reads.crash (none clean (told-bad r bad));
+        let was = tables (was_clean r reads clean) in
+        told_if r (Found i) (found clean i (subst (StandsFor i) (sym (outside was.0)) was.1));
+    none = λ clean bad. bad_row (reads.bad clean (told_bad r bad)) reads.crash (none clean (told_bad r bad));
     reads = record {
-      same = λ clean. told-ok r _ (reads.same clean);
-      bad = λ clean bad. reads.bad clean (told-bad r bad);
-      cause = λ clean failed. reads.cause clean (told-fault r failed);
+      same = λ clean. told_ok r _ (reads.same clean);
+      bad = λ clean bad. reads.bad clean (told_bad r bad);
+      cause = λ clean failed. reads.cause clean (told_fault r failed);
       kept = reads.kept;
       crash = reads.crash;
       mode = reads.mode;
     };
     cause = λ clean failed i tables.
-        let was = tables (was-clean r reads clean) in
+        let was = tables (was_clean r reads clean) in
         let stands = subst (StandsFor i) (sym (outside was.0)) was.1 in
         record {
           moment = old;
@@ -125,26 +125,26 @@ module _ {S X : Type 0} (g : Ghosts S) (Found : Inventory → X → Type 0) (old
           is_among = refl;
           stands = stands;
           kept = reads.kept clean;
-          why = elim (reads.cause clean (told-fault r failed) stands.tables.schema_is) [
+          why = elim (reads.cause clean (told_fault r failed) stands.tables.schema_is) [
             | inl (inl more) ↦ inl more
             | inl (inr shut) ↦ absurd (let is_open = was.0 in cc)
             | inr limited ↦ inr (inl limited)
           ];
         };
-    same = told-ok r _ (stays r reads);
-    err = told-err r _ (failed r reads);
-    which = told-which r;
+    same = told_ok r _ (stays r reads);
+    err = told_err r _ (failed r reads);
+    which = told_which r;
     crash = λ i tables. lost r reads;
-    clean = was-clean r reads;
+    clean = was_clean r reads;
   }
 
 -- a load of a store, whose connection it reads
-pub loads-by : {S X : Type 0} (g : Ghosts S) (Found : Inventory → X → Type 0) (conn old new : Held S) → conn ≡ old
+pub loads_by : {S X : Type 0} (g : Ghosts S) (Found : Inventory → X → Type 0) (conn old new : Held S) → conn ≡ old
     → IsOutside g conn → Settled g new → (r : Result X ReadError)
     → OnlyReads g store_schema read.BadRow read.Fault conn new r
     → HasFound g Found conn new r → HasFoundNone g conn new r → (result : Result X StoreError) → result ≡ told r
     → Loads g old new Found result
-loads-by {S = S} {X = X} g Found conn old new same outside settled r reads found none result is =
+loads_by {S = S} {X = X} g Found conn old new same outside settled r reads found none result is =
     subst (λ (h : Held S). Loads g h new Found result) same
     (subst (λ (x : Result X StoreError). Loads g conn new Found x) (sym is)
     (by g Found conn new outside settled r reads found none))

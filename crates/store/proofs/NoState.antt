@@ -17,8 +17,8 @@ use Rattle.store.specs.BadRows.{OnlyLoads, FoundNoState, TellsNoState}
 module _ {S : Type 0} (g : Ghosts S) where
   -- ---- loads
 
-  pub loads-none : (at : Held S) → OnlyLoads g at at
-  loads-none at = record {
+  pub loads_none : (at : Held S) → OnlyLoads g at at
+  loads_none at = record {
     was_open = λ clean is_open. is_open;
     same = λ clean is_open. unchanged (state g at) is_open;
     crash = record {
@@ -31,8 +31,8 @@ module _ {S : Type 0} (g : Ghosts S) where
     };
   }
 
-  pub loads-then : (a b c : Held S) → OnlyLoads g a b → OnlyLoads g b c → OnlyLoads g a c
-  loads-then a b c one two =
+  pub loads_then : (a b c : Held S) → OnlyLoads g a b → OnlyLoads g b c → OnlyLoads g a c
+  loads_then a b c one two =
       let before : HasCleanDisk (state g c) → HasCleanDisk (state g b) = λ clean. omega (arith, two.crash.clean, clean)
       in
       record {
@@ -45,9 +45,9 @@ module _ {S : Type 0} (g : Ghosts S) where
       }
 
   -- a load that answered
-  pub loads-read : {X : Type 0} (old new : Held S) (x : X) → OnlyReads g store_schema NoState Fault old new (Ok x)
+  pub loads_read : {X : Type 0} (old new : Held S) (x : X) → OnlyReads g store_schema NoState Fault old new (Ok x)
       → OnlyLoads g old new
-  loads-read old new x reads = record {
+  loads_read old new x reads = record {
     was_open = λ clean is_open. (reads.same clean).0.was_open;
     same = λ clean is_open. reads.same clean;
     crash = reads.crash;
@@ -56,35 +56,35 @@ module _ {S : Type 0} (g : Ghosts S) where
   -- ---- the error
 
   -- loads, and behind them one that found no state
-  pub found-after : (a b c : Held S) → OnlyLoads g a b → HasCleanDisk (state g c) → FoundNoState g b c
+  pub found_after : (a b c : Held S) → OnlyLoads g a b → HasCleanDisk (state g c) → FoundNoState g b c
       → FoundNoState g a c
-  found-after a b c one clean found =
+  found_after a b c one clean found =
       let before : HasCleanDisk (state g b) = omega (arith, found.loads.crash.clean, clean) in
       let is_open = one.was_open before found.was_open in
       record {
-        loads = loads-then a b c one found.loads;
+        loads = loads_then a b c one found.loads;
         was_open = is_open;
         none = λ i stands. found.none i (subst (StandsFor i) (sym (one.same before is_open).0.committed_is) stands);
       }
 
   -- an error behind loads, handed on
-  pub tells-after : {X : Type 0} (a b c : Held S) (r : Result X StoreError) (e : StoreError)
+  pub tells_after : {X : Type 0} (a b c : Held S) (r : Result X StoreError) (e : StoreError)
       → OnlyLoads g a b → IsErrAnd r (λ y. y ≡ e) → (HasCleanDisk (state g c) → e ≡ NoState → FoundNoState g b c)
       → TellsNoState g a c r
-  tells-after a b c r e one is told clean bad =
+  tells_after a b c r e one is told clean bad =
       let p = err_from_is_err_and r is in
-      found-after a b c one clean (told clean (cc (p.1, p.2, bad)))
+      found_after a b c one clean (told clean (cc (p.1, p.2, bad)))
 
   -- want of memory
-  pub tells-short : {X : Type 0} (old new : Held S) (r : Result X StoreError) → IsErrAnd r (λ y. y ≡ Memory)
+  pub tells_short : {X : Type 0} (old new : Held S) (r : Result X StoreError) → IsErrAnd r (λ y. y ≡ Memory)
       → TellsNoState g old new r
-  tells-short old new r is clean bad = let p = err_from_is_err_and r is in absurd (cc (p.1, p.2, bad))
+  tells_short old new r is clean bad = let p = err_from_is_err_and r is in absurd (cc (p.1, p.2, bad))
 
   -- the errors of a commit
-  pub tells-committed : {X : Type 0} (old new : Held S) (r : Result X StoreError)
+  pub tells_committed : {X : Type 0} (old new : Held S) (r : Result X StoreError)
       → IfErr r (λ e. (e ≡ Fault) ⊎ (e ≡ Memory)) → TellsNoState g old new r
-  tells-committed old new (Ok x) which clean bad = absurd (cc bad)
-  tells-committed old new (Err e) which clean bad = elim which [
+  tells_committed old new (Ok x) which clean bad = absurd (cc bad)
+  tells_committed old new (Err e) which clean bad = elim which [
     | inl is ↦ absurd (cc (is, bad))
     | inr is ↦ absurd (cc (is, bad))
   ]

@@ -119,8 +119,8 @@ no_rows R [] (y ∷ ys) p q = absurd q
 no_rows R (x ∷ xs) ys p q = absurd p
 
 -- what lists the store's tables lists no other schema
-pub lists-own : (schema : Schema) (db : Trees) → IsSound store_schema db → IsSound schema db → schema ≡ store_schema
-lists-own schema db own other =
+pub lists_own : (schema : Schema) (db : Trees) → IsSound store_schema db → IsSound schema db → schema ≡ store_schema
+lists_own schema db own other =
     let a = other.lists.listed in
     let b = own.lists.listed in
     let objects = db catalog_tree in
@@ -138,29 +138,29 @@ lists-own schema db own other =
 
 -- A connection that shows what a crash of the store may leave finds one of the inventories that a crash may leave. By
 -- sqlite's `next_run` an open shows that, of files that hold what a crash left.
-pub found-left : {S T : Type 0} (g : Ghosts S) (h : Ghosts T) (old : Held S) (new : Held T)
+pub found_left : {S T : Type 0} (g : Ghosts S) (h : Ghosts T) (old : Held S) (new : Held T)
     (Among : Inventory → Type 0) → Leaves g old Among → IsLive (state h new)
     → MayLeave g old (state h new).committed.trees → IsTrue (state h new).is_open
     → (c : Inventory) × Among c × StandsFor c (state h new).committed
-found-left g h old new Among leaves live left is_open =
+found_left g h old new Among leaves live left is_open =
     let db = (state h new).committed.trees in
     let it = leaves db left in
     let own : (state h new).committed.schema ≡ store_schema =
-    lists-own (state h new).committed.schema db it.2.tables.sound (live is_open).1 in
+    lists_own (state h new).committed.schema db it.2.tables.sound (live is_open).1 in
     (it.0, it.1, subst (λ (s : Schema). StandsFor it.0 (record { schema = s; trees = db })) (sym own) it.2)
 
 -- A connection that shows what the store last committed finds its inventory. By sqlite's `finds_again` an open of the
 -- files that a close gave back shows that.
-pub found-again : {S T : Type 0} (g : Ghosts S) (h : Ghosts T) (old : Held S) (new : Held T) (i : Inventory)
+pub found_again : {S T : Type 0} (g : Ghosts S) (h : Ghosts T) (old : Held S) (new : Held T) (i : Inventory)
     → HasCleanDisk (state g old) → Tables g old i → IsLive (state h new)
     → (state h new).committed.trees ≡ (state g old).committed.trees → IsFound h new i
-found-again g h old new i clean tables live same late is_open =
+found_again g h old new i clean tables live same late is_open =
     let was = tables clean in
     let db = (state g old).committed.trees in
     let schema = (state h new).committed.schema in
     let kept : StandsFor i (record { schema = store_schema; trees = db }) =
     subst (λ (s : Schema). StandsFor i (record { schema = s; trees = db })) was.1.tables.schema_is was.1 in
-    let own : schema ≡ store_schema = lists-own schema db kept.tables.sound
+    let own : schema ≡ store_schema = lists_own schema db kept.tables.sound
     (subst (IsSound schema) same (live is_open).1) in
     inr (subst (λ trees. StandsFor i (record { schema = schema; trees = trees })) (sym same)
     (subst (λ (s : Schema). StandsFor i (record { schema = s; trees = db })) (sym own) kept))

@@ -4,8 +4,8 @@ use Rattle.std.specs.List.{flat_map}
 use Rattle.sqlite.specs.Store.{Ghosts}
 use Rattle.sqlite.specs.declared.error.Error.{Error}
 use Rattle.sqlite.specs.Held.{Held, state}
-use Rattle.tables.specs.declared.edits.Edit.{Edit}
-use Rattle.tables.specs.declared.edits.Edit.TheVariants.{Put, Remove}
+use Rattle.sorted.specs.declared.edits.Edit.{Edit}
+use Rattle.sorted.specs.declared.edits.Edit.TheVariants.{Put, Remove}
 use Rattle.terms.specs.declared.kinds.ElemType.{ElemType}
 use Rattle.terms.specs.Types.{Text, Id, Entry, Element}
 use Rattle.sysmods.specs.declared.edit.GlobalEdit.{GlobalEdit}

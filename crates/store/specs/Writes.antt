@@ -7,11 +7,11 @@ use Rattle.sqlite.specs.Tree.{Trees}
 use Rattle.sqlite.specs.Schema.{Schema}
 use Rattle.sqlite.specs.Held.{Held, state}
 use Rattle.terms.specs.declared.kinds.ElemType.{ElemType}
-use Rattle.tables.specs.declared.edits.Edit.{Edit}
+use Rattle.sorted.specs.declared.edits.Edit.{Edit}
 use Rattle.terms.specs.Types.{Text, Id, Entry, Element, Zone}
 use Rattle.terms.specs.Lookups.{element_cmp, element_key}
 use Rattle.zones.specs.Delta.{ZoneDelta}
-use Rattle.tables.specs.Edits.{edited}
+use Rattle.sorted.specs.Edits.{edited}
 use Rattle.store_rows.specs.Inside.{Leads}
 use Rattle.store_rows.specs.Rows.{HasContents}
 use Rattle.store_schema.specs.Inventory.{Inventory, IsInventory}

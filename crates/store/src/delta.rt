@@ -9,10 +9,10 @@ ghost use Rattle.store_zones.specs.Zones.{ChangesZone};
 ghost use Rattle.store.specs.Writes.{HasEditedEntries, HasEditedElements, HasEdited};
 
 use fields::{Id, Name, ZoneName};
+use sorted::Edit;
 use sqlite::{Alter, Error, Transaction};
 use std::alloc::Global;
 use store_zones::{put_element, put_entry, remove_element, remove_entry};
-use tables::Edit;
 use terms::ElemType;
 use zones::{Element, Entry, ZoneDelta};
 

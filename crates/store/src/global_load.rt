@@ -11,11 +11,11 @@ ghost use Rattle.store_schema.specs.Stands.{StandsFor};
 ghost use Rattle.store_schema.specs.Tables.{store_schema};
 
 use sqlite::{Alter, Connection};
-use std::alloc::Global as Heap;
+use std::alloc::Global;
 use store_holds::load_holds;
 use store_rows::ReadError;
 use store_sysmod_loads::load_sysmods;
-use sysmods::Global;
+use sysmods::GlobalZone;
 use sysmods_records::{Hold, Sysmod};
 
 /// What the tables of the global zone hold, each list in order.
@@ -25,7 +25,7 @@ struct Lists {
     holds: Vec<Hold>,
 }
 
-fn load_lists<S: Alter>(alloc: Heap, conn: &mut Connection<S>) -> Result<Lists, ReadError>
+fn load_lists<S: Alter>(alloc: Global, conn: &mut Connection<S>) -> Result<Lists, ReadError>
     ensures found { HasCleanDisk (state S.Store conn.new) → (i : Inventory) → StandsFor i (state S.Store conn.old).now
         → IfOk result (λ lists. a_global lists.sysmods.items lists.holds.items ≡ i.global) }
     ensures none { HasCleanDisk (state S.Store conn.new) → IsErrOf result ReadError.BadRow → (i : Inventory)
@@ -38,12 +38,12 @@ fn load_lists<S: Alter>(alloc: Heap, conn: &mut Connection<S>) -> Result<Lists, 
 }
 
 /// The global zone of these, if they are one.
-fn joined(alloc: Heap, lists: Lists) -> Result<Global, ReadError>
+fn joined(alloc: Global, lists: Lists) -> Result<GlobalZone, ReadError>
     ensures same { IfOk result (λ global. global ≡ a_global lists.sysmods.items lists.holds.items) }
     ensures none { IsErrOf result ReadError.BadRow → ¬ IsGlobal (a_global lists.sysmods.items lists.holds.items) }
     ensures fault { IsErrOf result ReadError.Fault → ⊥ }
 {
-    match Global::from_parts(alloc, lists.sysmods, lists.holds)? {
+    match GlobalZone::from_parts(alloc, lists.sysmods, lists.holds)? {
         Some(global) => Ok(global),
         None => Err(ReadError::BadRow),
     }
@@ -51,9 +51,9 @@ fn joined(alloc: Heap, lists: Lists) -> Result<Global, ReadError>
 
 /// The global zone.
 pub(crate) fn load_global<S: Alter>(
-    alloc: Heap,
+    alloc: Global,
     conn: &mut Connection<S>,
-) -> Result<Global, ReadError>
+) -> Result<GlobalZone, ReadError>
     ensures found { HasCleanDisk (state S.Store conn.new) → (i : Inventory) → StandsFor i (state S.Store conn.old).now
         → IfOk result (λ global. global ≡ i.global) }
     ensures none { HasCleanDisk (state S.Store conn.new) → IsErrOf result ReadError.BadRow → (i : Inventory)

@@ -11,7 +11,7 @@ use sqlite::Alter;
 use store_rows::ReadError;
 use store_schema::StoreError;
 use store_zone_loads::ZoneHead;
-use sysmods::Global;
+use sysmods::GlobalZone;
 use zones::Zone;
 
 /// How an error of reading is told: rows that stand for nothing stand for no state.
@@ -36,7 +36,7 @@ fn told<T>(read: Result<T, ReadError>) -> Result<T, StoreError>
 
 impl<S: Alter> Store<S> {
     /// The global zone.
-    pub fn load_global(&mut self) -> Result<Global, StoreError>
+    pub fn load_global(&mut self) -> Result<GlobalZone, StoreError>
         ensures { Loads S.Store self.old self.new (λ i global. global ≡ i.global) result }
     {
         // So what the connection shows is what it last committed.

@@ -29,7 +29,7 @@ fn write<S: Alter>(alloc: Global, tx: &mut Transaction<'_, S>, change: &Change) 
             insert_zone(tx, *name, *kind, *srel, *related)
         }
         Change::Zone(name, delta) => {
-            delta.known();
+            delta.attest();
             write_delta(alloc, tx, *name, delta)
         }
         Change::Global(edits) => write_edits(alloc, tx, edits.as_slice()),

@@ -9,9 +9,9 @@ use Rattle.std.proofs.lemmas.List.{get_or_default, get_or-map, get_or-take, leng
 use Rattle.terms.specs.Types.{Text}
 use Rattle.terms.specs.Lookups.{is_before}
 use Rattle.terms.specs.Texts.{HasLines}
-use Rattle.store_schema.specs.Forms.{AreListed, AreRecords}
-use Rattle.lemmas.proofs.Each.{All-between, recursion-back, recursion-front}
-use Rattle.lemmas.proofs.Pairs.{AllPairs-between}
+use Rattle.store_schema.specs.Forms.{AreSorted, AreRecords}
+use Rattle.lemmas.proofs.Each.{All_between, recursion_back, recursion_front}
+use Rattle.lemmas.proofs.Pairs.{AllPairs_between}
 use Rattle.store_rows.proofs.Pieces.{flat_concat}
 use Rattle.store_schema.proofs.Lists.{IsWord}
 use Rattle.store_columns.specs.Parts.{parts_of}
@@ -52,20 +52,20 @@ parts_joined (x ∷ xs) h = parts_are _ (filled x xs h.0.0) ∙ split_joined x x
 -- ---- lists that are read part by part
 
 module _ (form : Text → Type 0) where
-  pub none_listed : AreListed form []
+  pub none_listed : AreSorted form []
   none_listed = record { each = λ k d within. absurd (omega arith); rising = λ i j d less within. absurd (omega arith) }
 
   -- one more that all others stand before
-  pub listed_more : (xs : List Text) (x : Text) → AreListed form xs → form x → All (λ y. IsTrue (is_before y x)) xs
-      → AreListed form (xs ++ x ∷ [])
+  pub listed_more : (xs : List Text) (x : Text) → AreSorted form xs → form x → All (λ y. IsTrue (is_before y x)) xs
+      → AreSorted form (xs ++ x ∷ [])
   listed_more xs x h formed last = record {
-    each = All-between form xs [] x (rw append-nil h.each) formed;
-    rising = AllPairs-between (λ y z. IsTrue (is_before y z)) xs [] x (rw append-nil h.rising) last
+    each = All_between form xs [] x (rw append-nil h.each) formed;
+    rising = AllPairs_between (λ y z. IsTrue (is_before y z)) xs [] x (rw append-nil h.rising) last
         (λ k d within. absurd (omega arith));
   }
 
   module _ (parts : List (Bor Text)) (i : ℕ) (d : Bor Text) (within : i < length parts)
-      (h : AreListed form (map (λ part. part.now) parts)) where
+      (h : AreSorted form (map (λ part. part.now) parts)) where
     at : (e : Text) → get_or (map (λ part. part.now) parts) i e ≡ (get_or parts i d).now
     at e = get_or-map (λ (part : Bor Text). part.now) parts i d e within
 
@@ -96,8 +96,8 @@ bytes_of : (lines : List (List ℕ)) → AllByRecursion (λ b. b < 256) (concat 
     → AllByRecursion (λ line. All (λ b. b < 256) line) lines
 bytes_of [] h = tt
 bytes_of (line ∷ lines) h = (
-  All-from_recursion _ line (recursion-front (λ b. b < 256) line (concat lines) h),
-  bytes_of lines (recursion-back (λ b. b < 256) line (concat lines) h),
+  All-from_recursion _ line (recursion_front (λ b. b < 256) line (concat lines) h),
+  bytes_of lines (recursion_back (λ b. b < 256) line (concat lines) h),
 )
 
 pub are_records : (bytes : List ℕ) (lines : List (List ℕ)) → HasLines bytes lines → ((i : ℕ) → get_or bytes i 0 < 256)

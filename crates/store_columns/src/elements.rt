@@ -2,7 +2,7 @@
 
 ghost use Rattle.std.specs.Prelude.{◌≡◌, ◌≢◌, ◌↔◌, ℕ, List, IsTrue, IfOk, IsErrOf};
 ghost use Rattle.sqlite.specs.Order.{column};
-ghost use Rattle.store_schema.specs.Forms.{IsTextOf, IsUpdated};
+ghost use Rattle.store_schema.specs.Forms.{IsTextOf, TakesUpdates};
 ghost use Rattle.store_schema.specs.Rows.{records};
 
 use crate::lists::records_in;
@@ -14,7 +14,7 @@ use text80::{Line, Numbered};
 
 /// Whether there are updates of elements of this type, whose texts are numbered.
 pub fn is_updated(elem_type: ElemType) -> bool
-    ensures { IsTrue result ↔ IsUpdated elem_type }
+    ensures { IsTrue result ↔ TakesUpdates elem_type }
 {
     matches!(elem_type, ElemType::Mac | ElemType::Src)
 }

@@ -10,7 +10,7 @@ ghost use Rattle.terms.specs.declared.kinds.ElemType.{ElemType as TypeTerm};
 ghost use Rattle.terms.specs.declared.kinds.ZoneKind.{ZoneKind as ZoneTerm};
 ghost use Rattle.terms.specs.Spelling.{kind_text, hold_text, type_text, zone_kind_text};
 
-use spelling::{read_hold, read_kind, read_type, read_zone_kind};
+use fields::spelling::{read_hold, read_kind, read_type, read_zone_kind};
 use sqlite::Row;
 use store_rows::{text, whole};
 use terms::{ElemType, HoldKind, Kind, ZoneKind};

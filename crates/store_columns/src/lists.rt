@@ -4,7 +4,7 @@ ghost use Rattle.std.specs.Prelude.{◌≡◌, ◌≢◌, ◌==◌, ℕ, List, m
 ghost use Rattle.std.specs.List.{concat};
 ghost use Rattle.store_columns.specs.Parts.{parts_of};
 ghost use Rattle.sqlite.specs.Order.{column};
-ghost use Rattle.store_schema.specs.Forms.{AreListed, AreRecords};
+ghost use Rattle.store_schema.specs.Forms.{AreSorted, AreRecords};
 ghost use Rattle.store_schema.specs.Rows.{ids, records};
 ghost use Rattle.terms.specs.Forms.{IsId, IsSource};
 
@@ -25,8 +25,8 @@ fn parts(alloc: Global, text: &[u8]) -> Result<Vec<&[u8]>, AllocError>
 }
 
 fn id_list(alloc: Global, parts: &[&[u8]]) -> Result<IdList, ReadError>
-    ensures some { IfOk result (λ list. (list ≡ map (λ part. part.now) parts.now) × AreListed IsId list) }
-    ensures none { IsErrOf result ReadError.BadRow → ¬ AreListed IsId (map (λ part. part.now) parts.now) }
+    ensures some { IfOk result (λ list. (list ≡ map (λ part. part.now) parts.now) × AreSorted IsId list) }
+    ensures none { IsErrOf result ReadError.BadRow → ¬ AreSorted IsId (map (λ part. part.now) parts.now) }
     ensures fault { IsErrOf result ReadError.Fault → ⊥ }
 {
     let mut list = IdList::new(alloc);
@@ -42,8 +42,8 @@ fn id_list(alloc: Global, parts: &[&[u8]]) -> Result<IdList, ReadError>
 }
 
 fn source_list(alloc: Global, parts: &[&[u8]]) -> Result<SourceList, ReadError>
-    ensures some { IfOk result (λ list. (list ≡ map (λ part. part.now) parts.now) × AreListed IsSource list) }
-    ensures none { IsErrOf result ReadError.BadRow → ¬ AreListed IsSource (map (λ part. part.now) parts.now) }
+    ensures some { IfOk result (λ list. (list ≡ map (λ part. part.now) parts.now) × AreSorted IsSource list) }
+    ensures none { IsErrOf result ReadError.BadRow → ¬ AreSorted IsSource (map (λ part. part.now) parts.now) }
     ensures fault { IsErrOf result ReadError.Fault → ⊥ }
 {
     let mut list = SourceList::new(alloc);
@@ -60,8 +60,8 @@ fn source_list(alloc: Global, parts: &[&[u8]]) -> Result<SourceList, ReadError>
 
 /// The ids of a list that rises.
 pub fn ids_in(alloc: Global, row: &Row, at: usize) -> Result<IdList, ReadError>
-    ensures some { IfOk result (λ list. (column row.now at ≡ ids list) × AreListed IsId list) }
-    ensures none { IsErrOf result ReadError.BadRow → (list : List (List ℕ)) → AreListed IsId list
+    ensures some { IfOk result (λ list. (column row.now at ≡ ids list) × AreSorted IsId list) }
+    ensures none { IsErrOf result ReadError.BadRow → (list : List (List ℕ)) → AreSorted IsId list
         → column row.now at ≢ ids list }
     ensures fault { IsErrOf result ReadError.Fault → ⊥ }
 {
@@ -74,8 +74,8 @@ pub fn ids_in(alloc: Global, row: &Row, at: usize) -> Result<IdList, ReadError>
 
 /// The sources of a list that rises.
 pub fn sources_in(alloc: Global, row: &Row, at: usize) -> Result<SourceList, ReadError>
-    ensures some { IfOk result (λ list. (column row.now at ≡ ids list) × AreListed IsSource list) }
-    ensures none { IsErrOf result ReadError.BadRow → (list : List (List ℕ)) → AreListed IsSource list
+    ensures some { IfOk result (λ list. (column row.now at ≡ ids list) × AreSorted IsSource list) }
+    ensures none { IsErrOf result ReadError.BadRow → (list : List (List ℕ)) → AreSorted IsSource list
         → column row.now at ≢ ids list }
     ensures fault { IsErrOf result ReadError.Fault → ⊥ }
 {

@@ -1,6 +1,6 @@
 //! The comment of a hold.
 
-ghost use Rattle.std.specs.Prelude.{◌↔◌, ◌≤◌, ◌&&◌, nat_le, reverse, IsTrue, All};
+ghost use Rattle.std.specs.Prelude.{◌↔◌, ◌&&◌, nat_le, reverse, IsTrue, All};
 ghost use Rattle.terms.specs.Forms.{BeginsDark};
 ghost use Rattle.store_schema.specs.Forms.{IsComment, IsPaired};
 

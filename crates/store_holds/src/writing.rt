@@ -13,8 +13,8 @@ ghost use Rattle.store_schema.specs.Tables.{hold as hold_table, store_schema};
 ghost use Rattle.store_holds.specs.Calls.{put_hold_calls, remove_hold_calls};
 ghost use Rattle.store_holds.specs.Keys.{hold_key, key_row};
 
+use fields::spelling::hold_text;
 use fields::{Class, HoldDate, Id, Reason};
-use spelling::hold_text;
 use sqlite::{Alter, Error, Transaction};
 use sqlite_value::value::ValueRef;
 use store_rows::{put, remove};

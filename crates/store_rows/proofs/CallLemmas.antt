@@ -60,17 +60,17 @@ left_by old new sql params e (inr h) = elim (cases_Bool (shows_rows false h.0)) 
   ]
 ]
 
-next-calls : {X : Type 0} (f : X → List Call) (items : List X) (i : ℕ) (item : X) → i < length items
+next_calls : {X : Type 0} (f : X → List Call) (items : List X) (i : ℕ) (item : X) → i < length items
     → item ≡ get_or items i item → flat_map f (take (i + 1) items) ≡ flat_map f (take i items) ++ f item
-next-calls f items i item within at =
+next_calls f items i item within at =
     let next : i + 1 ≡ suc i = omega arith in
     ap (λ n. flat_map f (take n items)) next
     ∙ ap (flat_map f) (take-suc items i item within ∙ ap (λ x. take i items ++ x ∷ []) (sym at))
     ∙ flat_map-append f (take i items) (item ∷ []) ∙ ap (λ l. flat_map f (take i items) ++ l) (append-nil (f item))
 
-parted-calls : {X : Type 0} (f : X → List Call) (items : List X) (n : ℕ)
+parted_calls : {X : Type 0} (f : X → List Call) (items : List X) (n : ℕ)
     → flat_map f (take n items) ++ flat_map f (drop n items) ≡ flat_map f items
-parted-calls f items n =
+parted_calls f items n =
     sym (flat_map-append f (take n items) (drop n items)) ∙ ap (flat_map f) (take-append-drop n items)
 
 -- the database failed behind calls, or before others
@@ -205,7 +205,7 @@ module _ {S : Type 0} (g : Ghosts S) where
       → RunsInside g (flat_map f (take i items)) a b (Ok x) → RunsInside g (f item) b c r
       → RunsInside g (flat_map f (take (i + 1) items)) a c r
   runs_item f items i item a b c x r within at one two before it =
-      subst (λ calls. RunsInside g calls a c r) (sym (next-calls f items i item within at))
+      subst (λ calls. RunsInside g calls a c r) (sym (next_calls f items i item within at))
       (runs_then (flat_map f (take i items)) (f item) a b c (Ok x) x r one two refl before it)
 
   -- an item failed, and none behind it was begun
@@ -213,5 +213,5 @@ module _ {S : Type 0} (g : Ghosts S) where
       (r : Result Z Error) → IsErr q → Follows q r → RunsInside g (flat_map f (take (i + 1) items)) a c q
       → RunsInside g (flat_map f items) a c r
   runs_stop f items i a c q r failed follows it =
-      subst (λ calls. RunsInside g calls a c r) (parted-calls f items (i + 1))
+      subst (λ calls. RunsInside g calls a c r) (parted_calls f items (i + 1))
       (runs_err (flat_map f (take (i + 1) items)) (flat_map f (drop (i + 1) items)) a c q r failed follows it)

@@ -6,7 +6,7 @@ use Rattle.std.proofs.lemmas.List.{append_assoc}
 use Rattle.std.proofs.lemmas.List.Elements.{filter-append}
 use Rattle.std.proofs.lemmas.List.Sorted.{IsPermutation-trans, IsPermutation-append_left}
 use Rattle.std.proofs.lemmas.List.Sorted.{IsPermutation-append_right, IsPermutation-append_comm}
-use Rattle.lemmas.proofs.Each.{recursion-front, recursion-back}
+use Rattle.lemmas.proofs.Each.{recursion_front, recursion_back}
 
 -- nothing of it changes
 pub map_same : {A B : Type 0} (f : A → B) (before : List A) (a b : A) (after : List A) → f a ≡ f b
@@ -56,5 +56,5 @@ module _ {A B : Type 0} (f : A → List B) (p : B → Bool) where
       → AllByRecursion (λ x. filter p (f x) ≡ f x) (before ++ after)
       → IsPermutation (f b) (news ++ filter p (f a)) → IsPermutation (flat_map f (before ++ b ∷ after))
       (news ++ filter p (flat_map f (before ++ a ∷ after)))
-  changed before a b after news pass = changed_by before a b after news (recursion-front _ before after pass)
-      (recursion-back _ before after pass)
+  changed before a b after news pass = changed_by before a b after news (recursion_front _ before after pass)
+      (recursion_back _ before after pass)

@@ -9,8 +9,8 @@ use Rattle.std.proofs.lemmas.Cmp.{tied_itself}
 use Rattle.std.proofs.lemmas.List.Sorted.{IsPermutation-refl, IsPermutation-sym, IsPermutation-trans}
 use Rattle.std.proofs.lemmas.List.Sorted.{IsPermutation-cons, IsPermutation-map, IsPermutation-swap}
 use Rattle.std.proofs.lemmas.List.Sorted.{list_any-IsPermutation, Contains-permutation}
-use Rattle.lemmas.proofs.Orderings.{Equal-from_is_eq}
-use Rattle.lemmas.proofs.Searches.{list_any-map}
+use Rattle.lemmas.proofs.Orderings.{Equal_from_is_eq}
+use Rattle.lemmas.proofs.Searches.{list_any_map}
 use Rattle.sqlite.specs.declared.types.Value.TheVariants.{Int}
 use Rattle.sqlite.specs.Order.{Row, value_cmp}
 use Rattle.sqlite.specs.Tree.{rowid, has_rowid, put_row, without_rowid}
@@ -76,7 +76,7 @@ module _ (shown : Row → Row) where
       let one = whole new in
       let also : is_taken h.sorted one ≡ false = sym (list_any-IsPermutation
       (λ r. is_eq (value_cmp (rowid r) (rowid new))) (map whole rows) h.sorted h.same)
-      ∙ list_any-map (λ r. is_eq (value_cmp (rowid r) (rowid new))) whole rows ∙ free in
+      ∙ list_any_map (λ r. is_eq (value_cmp (rowid r) (rowid new))) whole rows ∙ free in
       record {
         sorted = put_row one h.sorted;
         same = IsPermutation-trans _ _ _ (IsPermutation-map whole _ _ (IsPermutation-sym _ _ (put_adds new rows free)))
@@ -154,7 +154,7 @@ module _ (shown : Row → Row) (rows : List Row) (numbered : AreNumbered (map (w
           let was = has_filtered (λ y. p (shown y)) rows from.0 from.1 in
           let is : rowid from.0 ≡ Int it.0 = keyed from.0 was.0 ∙ ap Int (sym from.2) in
           let tie : value_cmp (rowid r) (rowid from.0) ≡ Equal =
-          Equal-from_is_eq _ (ap (λ v. is_eq (value_cmp (rowid r) v)) is ∙ it.2) in
+          Equal_from_is_eq _ (ap (λ v. is_eq (value_cmp (rowid r) v)) is ∙ it.2) in
           let same = same_shown r from.0 h was.0 tie in
           absurd (let wrong : p (shown r) ≡ true = ap p same ∙ was.1 in cc)
       | inr none ↦ none ∙ sym e

@@ -5,7 +5,7 @@ use Rattle.sqlite.specs.Kind.TheVariants as kind
 use Rattle.sqlite.specs.Cast.{cast}
 use Rattle.sqlite.specs.Ops.{unary}
 use Rattle.sqlite.specs.Values.{or_null, bound_value}
-use Rattle.lemmas.proofs.Booleans.{cond-same}
+use Rattle.lemmas.proofs.Booleans.{cond_same}
 
 -- a text that may be NULL is bound as it is
 pub bound_optional : (t : Option (List ℕ)) → bound_value (or_null Text t) ≡ or_null Text t
@@ -19,4 +19,4 @@ kept_optional (Some t) = refl
 
 pub kept_whole : (n : ℤ) → cast kind.Integer (Int n) ≡ Int n
 unfolding unary
-kept_whole n = cond-same _ (Int n)
+kept_whole n = cond_same _ (Int n)

@@ -44,14 +44,14 @@ use Rattle.std.proofs.lemmas.Bool.{and_parts, ne_eqb, not-true}
 use Rattle.std.proofs.lemmas.List.Sorted.{IsPermutation-refl, IsPermutation-sym, IsPermutation-trans}
 use Rattle.std.proofs.lemmas.List.Sorted.{IsPermutation-cons, IsPermutation-map, IsPermutation-append_left}
 use Rattle.std.proofs.lemmas.List.Sorted.{IsPermutation-middle}
-use Rattle.lemmas.proofs.Booleans.{cond-same}
+use Rattle.lemmas.proofs.Booleans.{cond_same}
 use Rattle.store_rows.proofs.ContentsLemmas.{columns_from, meets_from, puts, takes, each_table, held_at}
 
 -- ---- values that their columns keep
 
 cast_null : cast Integer Null ≡ Null
 unfolding unary
-cast_null = cond-same _ Null
+cast_null = cond_same _ Null
 
 pub kept_length : (columns : List Column) (row : Row) → SuitColumns columns row → length columns ≡ length row
 kept_length [] [] h = refl

@@ -7,13 +7,13 @@ use Rattle.std.specs.declared.cmp.Ordering.{Ordering}
 use Rattle.std.specs.Ordering.{is_lt}
 use Rattle.std.specs.Cmp.{IsTotalOrder}
 use Rattle.std.proofs.lemmas.List.Sorted.{IsPermutation-sym}
-use Rattle.lemmas.proofs.Each.{recursion-unmap}
+use Rattle.lemmas.proofs.Each.{recursion_unmap}
 use Rattle.sqlite.specs.Tree.{IsAscending}
 use Rattle.sqlite_rules.specs.Lists.{Has}
 use Rattle.sqlite_rules.proofs.ListLemmas.{all_has, all_from, has_left, has_right, has_either, contains_had}
 use Rattle.store_rows.proofs.RowLemmas.{has_permuted}
 use Rattle.terms.specs.Rising.{Rises}
-use Rattle.lemmas.proofs.Orderings.{Less-from_is_lt}
+use Rattle.lemmas.proofs.Orderings.{Less_from_is_lt}
 
 -- ---- in order
 
@@ -68,13 +68,13 @@ ascending R (x ∷ xs) h = (
 pub ascending_by : {X Y : Type 0} (f : X → Y) (R : Y → Y → Type 0) (xs : List X) → IsAscending R (map f xs)
     → IsAscending (λ a b. R (f a) (f b)) xs
 ascending_by f R [] h = tt
-ascending_by f R (x ∷ xs) h = (recursion-unmap f (R (f x)) xs h.0, ascending_by f R xs h.1)
+ascending_by f R (x ∷ xs) h = (recursion_unmap f (R (f x)) xs h.0, ascending_by f R xs h.1)
 
 -- what stands before another does not stand behind it
 pub lower_once : {K : Type 0} {R : K → K → Ordering} → IsTotalOrder R → (a b : K) → IsTrue (is_lt (R a b))
     → ¬ IsTrue (is_lt (R b a))
 lower_once {R} o a b low high =
-    let not_high : is_lt (R b a) ≡ false = rw (o.antisymm b a, Less-from_is_lt (R a b) low) refl in
+    let not_high : is_lt (R b a) ≡ false = rw (o.antisymm b a, Less_from_is_lt (R a b) low) refl in
     true≢false (sym high ∙ not_high)
 
 -- lists that rise by a key are one where they have the same items

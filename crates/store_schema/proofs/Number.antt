@@ -2,7 +2,7 @@
 use Rattle.std.proofs.Common.{◌≡◌, ℕ, List, [], ◌∷◌, codes, pos, IsPermutation, IsTrue, ℤ, map, drop, arith, refl, sym}
 use Rattle.std.proofs.Common.{ap, subst, ◌∙◌}
 use Rattle.std.proofs.lemmas.List.Sorted.{IsPermutation-refl}
-use Rattle.lemmas.proofs.Booleans.{cond-same}
+use Rattle.lemmas.proofs.Booleans.{cond_same}
 use Rattle.sqlite.specs.declared.types.Value.TheVariants.{Null, Int, Text}
 use Rattle.sqlite.specs.Ops.{unary}
 use Rattle.sqlite.specs.Cast.{cast}
@@ -52,11 +52,11 @@ insert_plain = (refl, refl)
 
 cast_null : cast Integer Null ≡ Null
 unfolding unary
-cast_null = cond-same _ Null
+cast_null = cond_same _ Null
 
 cast_one : cast Integer (Int (pos 1)) ≡ Int (pos 1)
 unfolding unary
-cast_one = cond-same _ (Int (pos 1))
+cast_one = cond_same _ (Int (pos 1))
 
 one_numbered : (row : Row) → IsTrue (is_int (rowid row)) → AreNumbered (row ∷ [])
 one_numbered row keyed = record {

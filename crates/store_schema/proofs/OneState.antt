@@ -1,8 +1,11 @@
 -- The rows of a database stand for one inventory at most.
 use Rattle.std.proofs.Common.{◌≡◌, inl, inr, ℕ, List, [], map, IsTrue, AllPairs, arith, sym}
-use Rattle.std.proofs.Common.{ap, ap₂, subst, ◌∙◌}
+use Rattle.std.proofs.Common.{Option, None, Some, refl, ap, ap₂, subst, ◌∙◌}
+use Rattle.std.specs.Prelude.{IfSome, option_map}
 use Rattle.std.specs.List.{flat_map, enumerate_from}
 use Rattle.std.proofs.lemmas.List.Sorted.{IsPermutation-sym}
+use Rattle.sqlite.specs.declared.types.Value.TheVariants as value
+use Rattle.sqlite.specs.Values.{or_null}
 use Rattle.sqlite.specs.Effect.{Database}
 use Rattle.sqlite.specs.Order.{Row}
 use Rattle.sqlite.specs.Schema.{Schema}
@@ -14,16 +17,17 @@ use Rattle.store_rows.proofs.RowLemmas.{has_permuted, mapped, unmapped}
 use Rattle.terms.specs.declared.kinds.Kind.{Kind}
 use Rattle.terms.specs.declared.kinds.ElemType.{ElemType}
 use Rattle.terms.specs.declared.kinds.ElemType.TheVariants.{Mac, Src, Clist, Data, Exec, Parm, Proc}
-use Rattle.terms.specs.Types.{Text, Id, Lines, type_number, IfReq, Ver, Hold, Action, Replaces, Updates}
-use Rattle.terms.specs.Types.{Change, Sysmod, Entry, Element, Zone, NamedZone}
+use Rattle.terms.specs.Types.{Text, Id, Lines, type_number, IfReq, Ver, Hold, Action, Replaces, Updates, Applied}
+use Rattle.terms.specs.Types.{Change, Sysmod, Entry, Element, Zone, NamedZone, an_applied}
 use Rattle.std.specs.Ordering.{is_lt}
 use Rattle.terms.specs.Lookups.{is_before, element_key, element_cmp}
 use Rattle.terms.specs.Global.{hold_cmp}
 use Rattle.terms.proofs.ElementOrder.{element_cmp_total}
 use Rattle.terms.proofs.GlobalKept.{hold_cmp_total}
 use Rattle.terms.specs.Forms.{IsId}
-use Rattle.store_schema.specs.Forms.{AreListed, AreRecords, IsTextOf, HasIfForms, HasVerForms, HasActionForms}
+use Rattle.store_schema.specs.Forms.{AreSorted, AreRecords, IsTextOf, HasIfForms, HasVerForms, HasActionForms}
 use Rattle.store_schema.specs.Forms.{HasChangeForms, is_change_before, HasSysmodForms, HasEntryForms, HasElementForms}
+use Rattle.store_schema.specs.Forms.{HasAppliedForms}
 use Rattle.store_schema.specs.Inventory.{Inventory, IsInventory, IsZoneNamed}
 use Rattle.store_schema.specs.Rows.{sysmod_row, ver_row, vers_of, ifreq_row, ifreqs_of, hold_row, action_cells}
 use Rattle.store_schema.specs.Rows.{elem_row, elems_of, zone_row, entry_row, entries_of, zelem_row, zelems_of, ids}
@@ -38,7 +42,7 @@ use Rattle.store_schema.proofs.Spelled.{not_before_same, pair_once}
 
 -- ---- what one row says
 
-pub same_ids : (a b : List Id) → AreListed IsId a → AreListed IsId b → ids a ≡ ids b → a ≡ b
+pub same_ids : (a b : List Id) → AreSorted IsId a → AreSorted IsId b → ids a ≡ ids b → a ≡ b
 same_ids a b p q e = ids_same a b (ids_are_words a p) (ids_are_words b q) e
 
 pub if_same : (x y : Id) (a b : IfReq) → HasIfForms x a → HasIfForms y b → (n m : ℕ) (srel other : Text)
@@ -133,11 +137,22 @@ change_is j k x y a b p q e =
     ∙ ap (λ z. record b { name = z; action = a.action }) name
     ∙ ap (λ z. record b { action = z }) action
 
-pub entry_is : (x y : Text) (a b : Entry) → AreListed IsId a.supby → AreListed IsId b.supby → AreListed IsId a.waived
-    → AreListed IsId b.waived → entry_row x a ≡ entry_row y b → a ≡ b
-entry_is x y a b sup_a sup_b waived_a waived_b e =
+-- dates tell apart when something was applied, as long as all have one number
+applied_same : (a b : Option Applied) → IfSome a HasAppliedForms → IfSome b HasAppliedForms
+    → or_null value.Text (option_map (λ v. v.date) a) ≡ or_null value.Text (option_map (λ v. v.date) b) → a ≡ b
+applied_same None None p q e = refl
+applied_same None (Some b) p q e = absurd cc
+applied_same (Some a) None p q e = absurd cc
+applied_same (Some a) (Some b) p q e =
+    let date : a.date ≡ b.date = cc in
+    ap₂ (λ d n. Some (an_applied d n)) date (p.number ∙ sym q.number)
+
+pub entry_is : (x y : Text) (a b : Entry) → IfSome a.applied HasAppliedForms → IfSome b.applied HasAppliedForms
+    → AreSorted IsId a.supby → AreSorted IsId b.supby → AreSorted IsId a.waived → AreSorted IsId b.waived
+    → entry_row x a ≡ entry_row y b → a ≡ b
+entry_is x y a b applied_a applied_b sup_a sup_b waived_a waived_b e =
     let id : a.id ≡ b.id = cc in
-    let applied : a.applied ≡ b.applied = or_null_same a.applied b.applied cc in
+    let applied : a.applied ≡ b.applied = applied_same a.applied b.applied applied_a applied_b cc in
     let supby : a.supby ≡ b.supby = same_ids a.supby b.supby sup_a sup_b cc in
     let delby : a.delby ≡ b.delby = or_null_same a.delby b.delby cc in
     let waived : a.waived ≡ b.waived = same_ids a.waived b.waived waived_a waived_b cc in
@@ -367,7 +382,7 @@ module _ (i j : Inventory) (p : IsInventory i) (q : IsInventory j) (to : IsWithi
       let is : u ≡ z = own_zone u hu cc in
       let f = has_all HasEntryForms y.zone.entries a (has_all IsZoneNamed i.zones y p.zones hy).forms.entries ha in
       let g = has_all HasEntryForms u.zone.entries b (has_all IsZoneNamed j.zones u q.zones hu).forms.entries hb in
-      let equal : a ≡ b = entry_is y.name u.name a b f.supby g.supby f.waived g.waived e in
+      let equal : a ≡ b = entry_is y.name u.name a b f.applied g.applied f.supby g.supby f.waived g.waived e in
       subst (λ (x : NamedZone). Has x.zone.entries a) is (subst (Has u.zone.entries) (sym equal) hb)
 
   entry_in : (a : Entry) → Has y.zone.entries a → Has z.zone.entries a

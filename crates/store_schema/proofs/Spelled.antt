@@ -23,7 +23,7 @@ use Rattle.terms.specs.Spelling.{kind_text, hold_text, type_text, zone_kind_text
 use Rattle.terms.specs.Types.{Text, Id, Lines, type_number}
 use Rattle.terms.specs.Forms.{is_id_byte, IsRun, IsId, IsSource}
 use Rattle.terms.specs.Lookups.{is_before}
-use Rattle.store_schema.specs.Forms.{AreListed, AreRecords}
+use Rattle.store_schema.specs.Forms.{AreSorted, AreRecords}
 use Rattle.store_schema.specs.Rows.{ids, flag, records}
 use Rattle.store_schema.proofs.Lists.{IsWord, all_by, joined_same, records_same}
 
@@ -169,11 +169,11 @@ word_of least most t some run = (
       rw comma at test in cc)),
 )
 
-pub ids_are_words : (xs : List Id) → AreListed IsId xs → AllByRecursion IsWord xs
+pub ids_are_words : (xs : List Id) → AreSorted IsId xs → AllByRecursion IsWord xs
 ids_are_words xs listed = all_by IsWord xs (λ k d within. word_of 7 7 _ (omega arith) (listed.each k d within))
 
-pub sources_are_words : (xs : List Text) → AreListed IsSource xs → AllByRecursion IsWord xs
-sources_are_words xs listed = all_by IsWord xs (λ k d within. word_of 1 8 _ (omega arith) (listed.each k d within))
+pub sources_are_words : (xs : List Text) → AreSorted IsSource xs → AllByRecursion IsWord xs
+sources_are_words xs listed = all_by IsWord xs (λ k d within. word_of 1 64 _ (omega arith) (listed.each k d within))
 
 pub ids_same : (xs ys : List Text) → AllByRecursion IsWord xs → AllByRecursion IsWord ys → ids xs ≡ ids ys → xs ≡ ys
 ids_same xs ys p q e = joined_same xs ys p q (cc)

@@ -6,7 +6,7 @@ use Rattle.terms.specs.declared.kinds.Kind.TheVariants.{Function}
 use Rattle.terms.specs.declared.kinds.ElemType.{ElemType}
 use Rattle.terms.specs.declared.kinds.ElemType.TheVariants.{Mac, Src}
 use Rattle.terms.specs.Types.{Text, Id, Lines, type_number, Ver, IfReq, Hold, Action, Replaces, Updates, Change, Sysmod}
-use Rattle.terms.specs.Types.{Entry, Element, Zone}
+use Rattle.terms.specs.Types.{Applied, Entry, Element, Zone}
 use Rattle.terms.specs.Lookups.{is_before, IsRising}
 use Rattle.terms.specs.Forms.{IsId, IsClass, IsReason, IsSource, IsSrel, IsName, IsDate, IsDottedDate}
 use Rattle.terms.specs.Forms.{BeginsDark}
@@ -14,13 +14,13 @@ use Rattle.terms.specs.Statement.{behind_list}
 use Rattle.terms.specs.Texts.{IsNumbered, IsUpdate}
 
 -- ids of this form, rising
-pub record AreListed (form : Text → Type 0) (ids : List Text) : Type 0 where
+pub record AreSorted (form : Text → Type 0) (ids : List Text) : Type 0 where
   pub each : All form ids
   pub rising : IsRising ids
 
 -- rising ids, among which the SYSMOD's own is not
 pub record AreOthers (x : Id) (ids : List Id) : Type 0 where
-  pub listed : AreListed IsId ids
+  pub listed : AreSorted IsId ids
   pub others : ¬ Contains ids x
 
 -- 80-byte records
@@ -34,10 +34,10 @@ IsTextOf Src text = AreRecords text × IsNumbered text
 IsTextOf _ text = AreRecords text
 
 -- there is ++MACUPD and ++SRCUPD
-abbrev pub IsUpdated : ElemType → Type 0
-IsUpdated Mac = Unit {0}
-IsUpdated Src = Unit {0}
-IsUpdated _ = ⊥
+abbrev pub TakesUpdates : ElemType → Type 0
+TakesUpdates Mac = Unit {0}
+TakesUpdates Src = Unit {0}
+TakesUpdates _ = ⊥
 
 -- ++IF: at least one requisite, none of them the SYSMOD itself
 pub record HasIfForms (x : Id) (i : IfReq) : Type 0 where
@@ -46,9 +46,9 @@ pub record HasIfForms (x : Id) (i : IfReq) : Type 0 where
   pub some : i.req ≢ []
 
 -- FMID may be absent in a function alone, and NPRE and DELETE stand there alone.
-abbrev pub SuitsKind : Kind → Ver → Type 0
-SuitsKind Function v = Unit {0}
-SuitsKind _ v = IsSome v.fmid × (v.npre ≡ []) × (v.del ≡ [])
+abbrev pub VerSuitsKind : Kind → Ver → Type 0
+VerSuitsKind Function v = Unit {0}
+VerSuitsKind _ v = IsSome v.fmid × (v.npre ≡ []) × (v.del ≡ [])
 
 -- ++VER
 pub record HasVerForms (kind : Kind) (x : Id) (v : Ver) : Type 0 where
@@ -60,14 +60,14 @@ pub record HasVerForms (kind : Kind) (x : Id) (v : Ver) : Type 0 where
   pub npre : AreOthers x v.npre
   pub del : AreOthers x v.del
   pub ifs : All (HasIfForms x) v.ifs
-  pub suits : SuitsKind kind v
+  pub suits : VerSuitsKind kind v
 
 -- a replacement has a record at least; no function has an update
 abbrev pub HasActionForms : Kind → ElemType → Text → Action → Type 0
 HasActionForms kind type name (Replaces distlib syslib text) = IsName distlib × IsName syslib × IsTextOf type text
     × (text ≢ [])
 HasActionForms kind type name (Updates lines) =
-    (kind ≢ Function) × IsUpdated type × AreRecords lines × IsUpdate name lines
+    (kind ≢ Function) × TakesUpdates type × AreRecords lines × IsUpdate name lines
 
 -- an element statement
 pub record HasChangeForms (kind : Kind) (c : Change) : Type 0 where
@@ -83,7 +83,7 @@ is_change_before a b =
 -- A SYSMOD has a ++VER at least, one for each SREL, rising; its element statements rise by type and name.
 pub record HasSysmodForms (s : Sysmod) : Type 0 where
   pub id : IsId s.id
-  pub sources : AreListed IsSource s.sources
+  pub sources : AreSorted IsSource s.sources
   pub some : s.vers ≢ []
   pub vers : All (HasVerForms s.kind s.id) s.vers
   pub srels : IsRising (map (λ v. v.srel) s.vers)
@@ -113,13 +113,18 @@ pub record HasHoldForms (h : Hold) : Type 0 where
   pub date : IfSome h.date IsDate
   pub comment : IfSome h.comment IsComment
 
+-- The ++VER that counted is the only one of its SREL.
+pub record HasAppliedForms (a : Applied) : Type 0 where
+  pub date : IsDottedDate a.date
+  pub number : a.number ≡ 1
+
 -- a SYSMOD entry; only what is applied has waived requisites
 pub record HasEntryForms (e : Entry) : Type 0 where
   pub id : IsId e.id
-  pub applied : IfSome e.applied IsDottedDate
-  pub supby : AreListed IsId e.supby
+  pub applied : IfSome e.applied HasAppliedForms
+  pub supby : AreSorted IsId e.supby
   pub delby : IfSome e.delby IsId
-  pub waived : AreListed IsId e.waived
+  pub waived : AreSorted IsId e.waived
   pub waived_if_applied : e.waived ≢ [] → IsSome e.applied
 
 -- an element entry, whose text may have no records
@@ -127,7 +132,7 @@ pub record HasElementForms (e : Element) : Type 0 where
   pub name : IsName e.name
   pub fmid : IsId e.fmid
   pub rmid : IsId e.rmid
-  pub umids : AreListed IsId e.umids
+  pub umids : AreSorted IsId e.umids
   pub distlib : IsName e.distlib
   pub syslib : IsName e.syslib
   pub text : IsTextOf e.elem_type e.text

@@ -7,6 +7,7 @@ use Rattle.sqlite.specs.Values.{or_null}
 use Rattle.sqlite.specs.Order.{Row}
 use Rattle.terms.specs.Types.{Text, Id, Lines, IfReq, Ver, Hold, Action, Replaces, Updates, Change, Sysmod, Entry}
 use Rattle.terms.specs.Types.{Element, NamedZone}
+use Rattle.terms.specs.Lookups.{date_of}
 use Rattle.terms.specs.Spelling.{kind_text, hold_text, type_text, zone_kind_text}
 
 -- a list of ids as a text: joined by commas, and the empty text where there is none
@@ -61,7 +62,7 @@ zone_row z =
 
 abbrev pub entry_row : Text → Entry → Row
 entry_row zone e =
-    value.Text zone ∷ value.Text e.id ∷ or_null value.Text e.applied ∷ ids e.supby ∷ or_null value.Text e.delby ∷ ids
+    value.Text zone ∷ value.Text e.id ∷ or_null value.Text (date_of e) ∷ ids e.supby ∷ or_null value.Text e.delby ∷ ids
     e.waived ∷ []
 
 abbrev pub zelem_row : Text → Element → Row

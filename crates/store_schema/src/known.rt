@@ -12,7 +12,6 @@ ghost use Rattle.store_schema.specs.Known.{select_meta, select_own, Gives, Gives
 ghost use Rattle.store_schema.specs.Known.{HasOtherNumber, HasNoState};
 ghost use Rattle.store_schema.specs.Known.{HasOwnTables};
 ghost use Rattle.store_schema.specs.Stands.{StandsFor, IsStateOf, IsSetUp};
-ghost use Rattle.store_schema.specs.Tables.{store_schema};
 
 use crate::error::StoreError;
 use crate::tables::{create, is_blank, is_ours};

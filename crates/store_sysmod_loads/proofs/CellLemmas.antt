@@ -15,19 +15,19 @@ use Rattle.terms.specs.Forms.{IsName}
 use Rattle.terms.specs.Lookups.{is_in}
 use Rattle.terms.specs.Spelling.{type_text}
 use Rattle.terms.specs.Texts.{IsActionOf}
-use Rattle.terms.proofs.Ids.{Contains-from_is_in}
-use Rattle.store_schema.specs.Forms.{AreListed, AreOthers, AreRecords, HasActionForms}
+use Rattle.terms.proofs.Ids.{Contains_from_is_in}
+use Rattle.store_schema.specs.Forms.{AreSorted, AreOthers, AreRecords, HasActionForms}
 use Rattle.store_schema.specs.Rows.{ids, flag, records, ifreq_row, action_cells, elem_row}
 use Rattle.store_schema.proofs.OneState.{same_ids}
 use Rattle.store_schema.proofs.Spelled.{text_same}
 use Rattle.terms.specs.Forms.{IsId}
 
 -- the SYSMOD's own id is not among others
-pub own_id : (x : Id) (xs ys : List Id) (v : Value) → v ≡ ids xs → AreListed IsId xs → is_in xs x ≡ true
+pub own_id : (x : Id) (xs ys : List Id) (v : Value) → v ≡ ids xs → AreSorted IsId xs → is_in xs x ≡ true
     → AreOthers x ys → v ≡ ids ys → ⊥
 own_id x xs ys v is listed there others same =
     let one : xs ≡ ys = same_ids xs ys listed others.listed (sym is ∙ same) in
-    others.others (Contains-from_is_in ys x (ap (λ l. is_in l x) (sym one) ∙ there))
+    others.others (Contains_from_is_in ys x (ap (λ l. is_in l x) (sym one) ∙ there))
 
 -- ---- texts of elements
 

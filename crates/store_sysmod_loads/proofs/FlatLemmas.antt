@@ -4,7 +4,7 @@ use Rattle.std.proofs.Common.{subst, ◌∙◌}
 use Rattle.std.specs.List.{AllByRecursion, flat_map, enumerate_from}
 use Rattle.std.proofs.lemmas.List.{map-append}
 use Rattle.sqlite.specs.Tree.{IsAscending}
-use Rattle.lemmas.proofs.Each.{recursion-append, recursion_weaker}
+use Rattle.lemmas.proofs.Each.{recursion_append, recursion_weaker}
 use Rattle.terms.specs.Types.{Text, Id, IfReq, Ver, Change, Sysmod}
 use Rattle.terms.specs.Lookups.{is_before}
 use Rattle.store_schema.proofs.Lists.{ascending}
@@ -114,7 +114,7 @@ taken_flat (x ∷ heads) (s ∷ ss) vers ifs elems h =
 pub recursion_flat : {A X : Type 0} (f : A → List X) (Q : A → Type 0) (P : X → Type 0)
     → ((a : A) → Q a → AllByRecursion P (f a)) → (xs : List A) → AllByRecursion Q xs → AllByRecursion P (flat_map f xs)
 recursion_flat f Q P each [] h = tt
-recursion_flat f Q P each (x ∷ xs) h = recursion-append P (f x) (flat_map f xs) (each x h.0)
+recursion_flat f Q P each (x ∷ xs) h = recursion_append P (f x) (flat_map f xs) (each x h.0)
     (recursion_flat f Q P each xs h.1)
 
 stands_apart : {X K : Type 0} (parent : X → K) (k : K) (xs : List X) → AllByRecursion (λ x. parent x ≢ k) xs
@@ -138,7 +138,7 @@ elem_parents x (d ∷ changes) = (refl, elem_parents x changes)
 pub if_ids : (x : Id) (vers : List Ver) → AllByRecursion (λ (r : IfRow). r.id ≡ x) (ifs_of x vers)
 if_ids x [] = tt
 if_ids x (v ∷ vers) =
-    recursion-append (λ (r : IfRow). r.id ≡ x) (if_rows x v.srel 1 v.ifs) (ifs_of x vers)
+    recursion_append (λ (r : IfRow). r.id ≡ x) (if_rows x v.srel 1 v.ifs) (ifs_of x vers)
     (recursion_weaker (λ r. parent_of_if r ≡ (x, v.srel)) (λ r. r.id ≡ x) (λ r e. ap (λ (k : Id × Text). k.0) e) _
     (if_parents x v.srel 1 v.ifs)) (if_ids x vers)
 
@@ -157,7 +157,7 @@ ifs_taken x (v ∷ vers) rest up others =
     (λ w other. recursion_weaker (λ r. parent_of_if r ≡ (x, w.srel)) (λ r. parent_of_if r ≢ (x, v.srel))
     (λ r e f. other (ap (λ (k : Id × Text). k.1) (sym e ∙ f))) _ (if_parents x w.srel 1 w.ifs)) vers up.0 in
     let apart = stands_apart parent_of_if (x, v.srel) (ifs_of x vers ++ rest)
-    (recursion-append _ (ifs_of x vers) rest of_vers of_rest) in (
+    (recursion_append _ (ifs_of x vers) rest of_vers of_rest) in (
       ifs_of x vers ++ rest,
       (append_assoc (if_rows x v.srel 1 v.ifs) (ifs_of x vers) rest, apart),
       ifs_taken x vers rest up.1 others,

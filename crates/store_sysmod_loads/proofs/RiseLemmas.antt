@@ -10,15 +10,15 @@ use Rattle.std.proofs.lemmas.Cmp.{nat_list_cmp_total, tied_itself}
 use Rattle.std.proofs.lemmas.List.Kept.{AllPairs-cons}
 use Rattle.std.proofs.lemmas.List.Elements.{All-from_recursion}
 use Rattle.sqlite.specs.Tree.{IsAscending}
-use Rattle.lemmas.proofs.Each.{recursion-append, recursion-map, recursion_weaker}
-use Rattle.lemmas.proofs.Orderings.{Less-from_is_lt}
+use Rattle.lemmas.proofs.Each.{recursion_append, recursion_map, recursion_weaker}
+use Rattle.lemmas.proofs.Orderings.{Less_from_is_lt}
 use Rattle.terms.specs.declared.kinds.ElemType.{ElemType}
 use Rattle.terms.specs.Types.{Text, Id, IfReq, Ver, Change, Sysmod, type_number}
 use Rattle.terms.specs.Lookups.{is_before}
 use Rattle.terms.specs.Rising.{Rises}
 use Rattle.terms.specs.Global.{change_cmp}
 use Rattle.terms.specs.contracts.kinds.ElemTypeOrd.TheImpl as type_order
-use Rattle.terms.proofs.ElementOrder.{cmp-keys}
+use Rattle.terms.proofs.ElementOrder.{cmp_keys}
 use Rattle.store_schema.proofs.Lists.{ascending}
 use Rattle.store_sysmod_loads.specs.declared.flat.HeadRow.{HeadRow}
 use Rattle.store_sysmod_loads.specs.declared.flat.VerRow.{VerRow}
@@ -32,7 +32,7 @@ use Rattle.store_sysmod_loads.proofs.FlatLemmas.{recursion_flat, ver_parents, el
 asc_append : {X : Type 0} (R : X → X → Type 0) (xs ys : List X) → IsAscending R xs → IsAscending R ys
     → AllByRecursion (λ x. AllByRecursion (R x) ys) xs → IsAscending R (xs ++ ys)
 asc_append R [] ys p q cross = q
-asc_append R (x ∷ xs) ys p q cross = (recursion-append (R x) xs ys p.0 cross.0, asc_append R xs ys p.1 q cross.1)
+asc_append R (x ∷ xs) ys p q cross = (recursion_append (R x) xs ys p.0 cross.0, asc_append R xs ys p.1 q cross.1)
 
 pub pairs_from : {X : Type 0} (R : X → X → Type 0) (xs : List X) → IsAscending R xs → AllPairs R xs
 pairs_from R [] h = λ i j d less within. absurd (omega (arith, within))
@@ -41,7 +41,7 @@ pairs_from R (x ∷ xs) h = AllPairs-cons R x xs (All-from_recursion (R x) xs h.
 asc_map : {X Y : Type 0} (g : X → Y) (R : Y → Y → Type 0) (xs : List X) → IsAscending (λ a b. R (g a) (g b)) xs
     → IsAscending R (map g xs)
 asc_map g R [] h = tt
-asc_map g R (x ∷ xs) h = (recursion-map g (R (g x)) xs h.0, asc_map g R xs h.1)
+asc_map g R (x ∷ xs) h = (recursion_map g (R (g x)) xs h.0, asc_map g R xs h.1)
 
 both : {X : Type 0} (P Q S : X → Type 0) → ((x : X) → P x → Q x → S x) → (xs : List X) → AllByRecursion P xs
     → AllByRecursion Q xs → AllByRecursion S xs
@@ -66,7 +66,7 @@ module _ {A B K : Type 0} (order : K → K → Ordering) (f : A → List B) (id_
   low_other : (x y : Text) (a b : B) → parent a ≡ x → parent b ≡ y → IsTrue (is_before x y) → Low a b
   low_other x y a b p q h =
       let less : slice_cmp nat_cmp (parent a) (parent b) ≡ Less =
-      ap₂ (slice_cmp nat_cmp) p q ∙ Less-from_is_lt (slice_cmp nat_cmp x y) h in
+      ap₂ (slice_cmp nat_cmp) p q ∙ Less_from_is_lt (slice_cmp nat_cmp x y) h in
       subst (λ o. IsTrue (is_lt (ordering_then o (order (sub a) (sub b))))) (sym less) refl
 
   of_one : (x : Text) (bs : List B) → AllByRecursion (λ b. parent b ≡ x) bs → IsAscending LowSub bs → IsAscending Low bs
@@ -188,7 +188,7 @@ pub changes_derived : (xs : List Change) → Rises change_cmp (λ c. c) xs
 changes_derived xs h = λ i j d less within.
     let a = get_or xs i d in
     let b = get_or xs j d in
-    ap is_lt (cmp-keys (a.elem_type, a.name) (b.elem_type, b.name)) ∙ h i j d less within
+    ap is_lt (cmp_keys (a.elem_type, a.name) (b.elem_type, b.name)) ∙ h i j d less within
 
 abbrev pub derived_elem_cmp : Id × (ElemType × Text) → Id × (ElemType × Text) → Ordering
 derived_elem_cmp a b = ordering_then (slice_cmp nat_cmp a.0 b.0) (derived_key_cmp a.1 b.1)
@@ -200,4 +200,4 @@ elems_derived xs h = λ i j d less within.
     let a = get_or xs i d in
     let b = get_or xs j d in
     ap (λ o. is_lt (ordering_then (slice_cmp nat_cmp a.id b.id) o))
-    (cmp-keys (a.change.elem_type, a.change.name) (b.change.elem_type, b.change.name)) ∙ h i j d less within
+    (cmp_keys (a.change.elem_type, a.change.name) (b.change.elem_type, b.change.name)) ∙ h i j d less within

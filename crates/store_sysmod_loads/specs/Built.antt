@@ -7,7 +7,7 @@ use Rattle.terms.specs.declared.kinds.Kind.TheVariants.{Function}
 use Rattle.terms.specs.Types.{Ver, Action, Updates, Change, Sysmod}
 use Rattle.terms.specs.Rising.{Rises}
 use Rattle.terms.specs.Global.{change_cmp}
-use Rattle.store_schema.specs.Forms.{SuitsKind}
+use Rattle.store_schema.specs.Forms.{VerSuitsKind}
 use Rattle.store_sysmod_loads.specs.declared.flat.HeadRow.{HeadRow}
 use Rattle.store_sysmod_loads.specs.declared.flat.VerRow.{VerRow}
 use Rattle.store_sysmod_loads.specs.declared.flat.IfRow.{IfRow}
@@ -23,7 +23,7 @@ MayDo kind action = Unit {0}
 -- statements suit its kind and rise by type and name.
 pub record IsBuilt (s : Sysmod) : Type 0 where
   pub some : s.vers ≢ []
-  pub suits : All (SuitsKind s.kind) s.vers
+  pub suits : All (VerSuitsKind s.kind) s.vers
   pub srels : Rises (slice_cmp nat_cmp) (λ v. v.srel) s.vers
   pub does : All (λ c. MayDo s.kind c.action) s.changes
   pub changes : Rises change_cmp (λ c. c) s.changes

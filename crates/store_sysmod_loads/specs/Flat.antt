@@ -5,7 +5,7 @@ use Rattle.sqlite.specs.Order.{Row}
 use Rattle.terms.specs.declared.kinds.Kind.TheVariants.{Function, Ptf}
 use Rattle.terms.specs.Forms.{IsId, IsSource, IsSrel}
 use Rattle.terms.specs.Spelling.{kind_text}
-use Rattle.store_schema.specs.Forms.{AreListed, HasVerForms, HasIfForms, HasChangeForms}
+use Rattle.store_schema.specs.Forms.{AreSorted, HasVerForms, HasIfForms, HasChangeForms}
 use Rattle.store_schema.specs.Rows.{ids, ver_row, ifreq_row, elem_row}
 use Rattle.store_sysmod_loads.specs.declared.flat.HeadRow.{HeadRow}
 use Rattle.store_sysmod_loads.specs.declared.flat.VerRow.{VerRow}
@@ -16,7 +16,7 @@ abbrev pub row_of_head : HeadRow → Row
 row_of_head h = value.Text h.id ∷ value.Text (kind_text h.kind) ∷ ids h.sources ∷ []
 
 abbrev pub HasHeadForms : HeadRow → Type 0
-HasHeadForms h = IsId h.id × AreListed IsSource h.sources
+HasHeadForms h = IsId h.id × AreSorted IsSource h.sources
 
 abbrev pub row_of_ver : VerRow → Row
 row_of_ver r = ver_row r.id r.ver

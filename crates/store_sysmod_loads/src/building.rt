@@ -2,8 +2,7 @@
 
 ghost use Rattle.std.specs.Prelude.{◌≡◌, ◌↔◌, List, [], ◌∷◌, All, IsTrue, IfOk, IfSome, IfNone, IsErrOf};
 ghost use Rattle.terms.specs.Types.{Sysmod as SysmodTerm};
-ghost use Rattle.store_schema.specs.Forms.{SuitsKind};
-ghost use Rattle.sysmods_records.specs.Views.{action_of};
+ghost use Rattle.store_schema.specs.Forms.{VerSuitsKind};
 ghost use Rattle.store_sysmod_loads.specs.declared.flat.VerRow.{VerRow as VerLine};
 ghost use Rattle.store_sysmod_loads.specs.declared.flat.IfRow.{IfRow as IfLine};
 ghost use Rattle.store_sysmod_loads.specs.declared.flat.ElemRow.{ElemRow as ElemLine};
@@ -12,16 +11,16 @@ ghost use Rattle.store_sysmod_loads.specs.Built.{MayDo, IsBuilt, sysmod_from, Is
 
 use crate::flat::{ElemRow, HeadRow, IfRow, VerRow};
 use crate::gathering::{take_changes, take_vers};
+use sorted::are_rising;
 use std::alloc::Global;
 use std::collections::VecDeque;
 use store_rows::ReadError;
 use sysmods_records::{Action, ElemChange, Sysmod, Ver};
-use tables::are_rising;
 use terms::Kind;
 
 /// Whether the operands of the `++VER` are those of a SYSMOD of this kind.
 fn suits_kind(kind: Kind, ver: &Ver) -> bool
-    ensures { IsTrue result ↔ SuitsKind kind ver.now }
+    ensures { IsTrue result ↔ VerSuitsKind kind ver.now }
 {
     match kind {
         Kind::Function => true,
@@ -40,7 +39,7 @@ fn may_do(kind: Kind, change: &ElemChange) -> bool
 }
 
 fn all_suit(kind: Kind, vers: &[Ver]) -> bool
-    ensures { IsTrue result ↔ All (SuitsKind kind) vers.now }
+    ensures { IsTrue result ↔ All (VerSuitsKind kind) vers.now }
 {
     vers.iter().all(|ver| suits_kind(kind, ver))
 }

@@ -8,7 +8,7 @@ ghost use Rattle.sqlite.specs.declared.types.Value.TheVariants.{Text};
 ghost use Rattle.terms.specs.declared.kinds.Kind.TheVariants.{Ptf};
 ghost use Rattle.terms.specs.Forms.{IsId};
 ghost use Rattle.terms.specs.Types.{Action as ActionTerm};
-ghost use Rattle.store_schema.specs.Forms.{AreOthers, AreRecords, IsTextOf, IsUpdated, HasActionForms};
+ghost use Rattle.store_schema.specs.Forms.{AreOthers, AreRecords, IsTextOf, TakesUpdates, HasActionForms};
 ghost use Rattle.store_schema.specs.Rows.{ids, records, action_cells};
 ghost use Rattle.terms.specs.Texts.{IsUpdate};
 ghost use Rattle.sysmods_records.specs.Views.{action_of};
@@ -105,9 +105,9 @@ fn update_in(
     elem_type: ElemType,
     name: Name,
 ) -> Result<Vec<Line>, ReadError>
-    ensures some { IfOk result (λ text. (column row.now at ≡ records text.items) × IsUpdated elem_type
+    ensures some { IfOk result (λ text. (column row.now at ≡ records text.items) × TakesUpdates elem_type
         × AreRecords text.items × IsUpdate name text.items) }
-    ensures none { IsErrOf result ReadError.BadRow → (text : List (List ℕ)) → IsUpdated elem_type → AreRecords text
+    ensures none { IsErrOf result ReadError.BadRow → (text : List (List ℕ)) → TakesUpdates elem_type → AreRecords text
         → IsUpdate name text → column row.now at ≢ records text }
     ensures fault { IsErrOf result ReadError.Fault → ⊥ }
 {

@@ -1,8 +1,8 @@
 //! The rows of the tables of SYSMODs, each as what it says by itself.
 
 use fields::{Id, SourceList, Srel};
+use sorted::Keyed;
 use sysmods_records::{ElemChange, IfReq, Ver};
-use tables::Keyed;
 use terms::Kind;
 
 /// A SYSMOD without its statements.

@@ -1,6 +1,6 @@
 //! The statements of a SYSMOD, taken off the front of rows that are sorted.
 
-ghost use Rattle.std.specs.Prelude.{◌≡◌, ◌≢◌, ◌↔◌, ℕ, List, ◌∷◌, IsTrue, IfOk, IfSome, IfNone, IsErrOf};
+ghost use Rattle.std.specs.Prelude.{◌≡◌, ◌↔◌, List, ◌∷◌, IsTrue, IfOk, IfSome, IfNone, IsErrOf};
 ghost use Rattle.terms.specs.Types as terms;
 ghost use Rattle.store_sysmod_loads.specs.declared.flat.VerRow.{VerRow as VerLine};
 ghost use Rattle.store_sysmod_loads.specs.declared.flat.IfRow.{IfRow as IfLine};
@@ -9,11 +9,11 @@ ghost use Rattle.store_sysmod_loads.specs.Runs.{AreBare, Begins, StandsApart, Ha
 
 use crate::flat::{ElemRow, IfRow, VerRow};
 use fields::{Id, Srel};
+use sorted::Keyed;
 use std::alloc::{AllocError, Global};
 use std::collections::VecDeque;
 use store_rows::ReadError;
 use sysmods_records::{ElemChange, IfReq, Ver};
-use tables::Keyed;
 
 /// A row that belongs to another.
 pub(crate) trait Child: Drop {

@@ -15,12 +15,12 @@ use crate::building::assemble;
 use crate::flat::{ElemRow, HeadRow, IfRow, VerRow};
 use crate::loading::load_sorted;
 use crate::reading::{Elems, Heads, Ifs, Vers};
+use sorted::are_rising;
 use sqlite::{Alter, Connection};
 use std::alloc::Global;
 use std::collections::VecDeque;
 use store_rows::ReadError;
 use sysmods_records::Sysmod;
-use tables::are_rising;
 
 /// The rows of the four tables, each by their keys.
 #[derive(Drop)]

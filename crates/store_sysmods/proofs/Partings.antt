@@ -7,7 +7,7 @@ use Rattle.std.proofs.lemmas.List.Elements.{filter-append}
 use Rattle.std.proofs.lemmas.List.Sorted.{IsPermutation-refl, IsPermutation-trans}
 use Rattle.std.proofs.lemmas.List.Sorted.{IsPermutation-append_right}
 use Rattle.std.proofs.lemmas.Grind.{flat_map-append}
-use Rattle.lemmas.proofs.Each.{recursion-append}
+use Rattle.lemmas.proofs.Each.{recursion_append}
 use Rattle.sqlite_rules.specs.Lists.{Has}
 use Rattle.store_rows.proofs.Parts.{moved_front}
 
@@ -54,7 +54,7 @@ all_map P f h (x ∷ xs) = (h x, all_map P f h xs)
 pub all_flat : {A B : Type 0} (P : B → Type 0) (f : A → List B) → ((x : A) → AllByRecursion P (f x)) → (xs : List A)
     → AllByRecursion P (flat_map f xs)
 all_flat P f h [] = tt
-all_flat P f h (x ∷ xs) = recursion-append P (f x) (flat_map f xs) (h x) (all_flat P f h xs)
+all_flat P f h (x ∷ xs) = recursion_append P (f x) (flat_map f xs) (h x) (all_flat P f h xs)
 
 filter_gone : {B : Type 0} (p : B → Bool) (xs : List B) → AllByRecursion (λ x. p x ≡ true) xs
     → filter (λ x. not (p x)) xs ≡ []

@@ -1,6 +1,6 @@
 //! The table of element statements.
 
-ghost use Rattle.std.specs.Prelude.{◌≡◌, pos, [], ◌∷◌, map, if◌then◌else◌, OnOk};
+ghost use Rattle.std.specs.Prelude.{◌≡◌, [], ◌∷◌, map, OnOk};
 ghost use Rattle.std.specs.List.{concat};
 ghost use Rattle.sqlite.specs.Values.{or_null};
 ghost use Rattle.sqlite.specs.declared.types.Value.TheVariants.{Int, Text};
@@ -15,7 +15,7 @@ ghost use Rattle.store_sysmods.specs.Calls.{puts, insert_elem as into_elem};
 ghost use Rattle.store_sysmods.specs.Sysmods.{Adds};
 
 use fields::Id;
-use spelling::type_text;
+use fields::spelling::type_text;
 use sqlite::{Alter, Error, Transaction};
 use sqlite_value::value::ValueRef;
 use std::alloc::Global;

@@ -16,7 +16,7 @@ use crate::elem::insert_changes;
 use crate::ifreq::insert_all_ifs;
 use crate::ver::insert_vers;
 use fields::Id;
-use spelling::kind_text;
+use fields::spelling::kind_text;
 use sqlite::{Alter, Error, Transaction};
 use sqlite_value::value::ValueRef;
 use std::alloc::Global;

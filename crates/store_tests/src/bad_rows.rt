@@ -31,7 +31,7 @@ const SYSMODS: &[&str] = &[
     "UPDATE sysmod SET kind = '' WHERE id = 'UAA0001'",
     "UPDATE sysmod SET sources = 'PUT2402,PUT2401' WHERE id = 'UAA0001'",
     "UPDATE sysmod SET sources = 'PUT2401,PUT2401' WHERE id = 'UAA0001'",
-    "UPDATE sysmod SET sources = 'PUT240123' WHERE id = 'UAA0001'",
+    "UPDATE sysmod SET sources = 'PUT2401$RSU2404#PUT2401$RSU2404#PUT2401$RSU2404#PUT2401$RSU2404#A' WHERE id = 'UAA0001'",
     "UPDATE sysmod SET sources = 'put2401' WHERE id = 'UAA0001'",
     "UPDATE sysmod SET sources = 'PUT2401,' WHERE id = 'UAA0001'",
     "UPDATE sysmod SET sources = ',PUT2401' WHERE id = 'UAA0001'",

@@ -9,7 +9,7 @@ use store::{Change, GlobalEdit, Store};
 use store_schema::StoreError;
 use sysmods_records::Sysmod;
 use terms::{ElemType, HoldKind, Kind};
-use zones::{Entry, ZoneDelta};
+use zones::{Applied, Entry, ZoneDelta};
 
 fn id(text: &[u8]) -> Result<Id, Fail> {
     Ok(Id::read(text).ok_or("no id")?)
@@ -23,9 +23,13 @@ fn removals(alloc: Global) -> Result<Change, Fail> {
     Ok(Change::Zone(zone_name(b"TGT1")?, delta))
 }
 
+// A source of 64 characters.
+const LONG: &[u8] = b"PUT2401$RSU2404#PUT2401$RSU2404#PUT2401$RSU2404#PUT2401$RSU2404#";
+
 fn new_sources(alloc: Global) -> Result<Change, Fail> {
     let mut sysmod = Sysmod::new(alloc, Kind::Apar, id(b"AAA0003")?);
     sysmod.add_source(Source::read(b"PUT2402").ok_or("no source")?)?;
+    sysmod.add_source(Source::read(LONG).ok_or("no source")?)?;
     Ok(Change::Global(vec![in alloc; GlobalEdit::ReplaceSources(sysmod)]?))
 }
 
@@ -59,7 +63,7 @@ fn rows_go_and_are_replaced(rt: HostRuntime) -> Result<(), Fail> {
     let conn = Connection::open_in_memory(rt.alloc())?;
     assert_eq!(rt;
         left(rt.alloc(), conn)?.as_str(),
-        "AAA0003 PUT2402\nDLB1 HAA1100\nDLB1 MAC1\nHAA1100 \nHAA1200 PUT2401,SMCREC01\nTGT1 AAA0001\nTGT1 HAA1000\nTGT1 HAA1100\nTGT1 MAC1\nUAA0001 AAA0009\nUAA0001 ACTION\nUAA0001 DOC\nUAA0001 PUT2401\n"
+        "AAA0003 PUT2401$RSU2404#PUT2401$RSU2404#PUT2401$RSU2404#PUT2401$RSU2404#,PUT2402\nDLB1 HAA1100\nDLB1 MAC1\nHAA1100 \nHAA1200 PUT2401,SMCREC01\nTGT1 AAA0001\nTGT1 HAA1000\nTGT1 HAA1100\nTGT1 MAC1\nUAA0001 AAA0009\nUAA0001 ACTION\nUAA0001 DOC\nUAA0001 PUT2401\n"
     );
     Ok(())
 }
@@ -103,17 +107,21 @@ fn add_many<S: Alter>(conn: &mut Connection<S>) -> Result<(), Fail> {
     Ok(())
 }
 
+fn applied_on(date: &[u8]) -> Option<Applied> {
+    Some(Applied::on(YyDdd::read(date)?))
+}
+
 /// One of the entries has another date.
 fn one_entry(alloc: Global) -> Result<Change, Fail> {
     let mut delta = ZoneDelta::new(alloc);
     let entry = Entry {
         id: id(b"U100500")?,
-        applied: YyDdd::read(b"24.139"),
+        applied: applied_on(b"24.139"),
         supby: IdList::new(alloc),
         delby: None,
         waived: IdList::new(alloc),
     };
-    if entry.is_held() && entry.waives_applied() {
+    if entry.has_content() && entry.waives_applied() {
         delta.put_entry(entry)?;
     }
     Ok(Change::Zone(zone_name(b"DLB1")?, delta))

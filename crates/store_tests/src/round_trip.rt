@@ -3,10 +3,10 @@ use crate::known::{again, committed, files, filled, lines, opened};
 use fields::ZoneName;
 use sqlite::{Alter, Connection, FileStore};
 use sqlite_disk::Memory;
-use std::alloc::Global as Heap;
+use std::alloc::Global;
 use std::test::Fail;
 use store::{Change, GlobalEdit, Store};
-use sysmods::Global;
+use sysmods::GlobalZone;
 use sysmods_records::Hold;
 use zones::{TryClone, Zone, ZoneDelta};
 
@@ -23,7 +23,7 @@ const TABLES: [&str; 8] = [
 ];
 
 /// All rows of all tables.
-pub(crate) fn all_lines<S: Alter>(alloc: Heap, conn: &mut Connection<S>) -> Result<String, Fail> {
+pub(crate) fn all_lines<S: Alter>(alloc: Global, conn: &mut Connection<S>) -> Result<String, Fail> {
     let mut all = String::new(alloc);
     for sql in TABLES {
         all.push_str(lines(alloc, conn, sql)?.as_str())?;
@@ -31,7 +31,11 @@ pub(crate) fn all_lines<S: Alter>(alloc: Heap, conn: &mut Connection<S>) -> Resu
     Ok(all)
 }
 
-fn add_sysmods(alloc: Heap, edits: &mut Vec<GlobalEdit>, global: &Global) -> Result<(), Fail> {
+fn add_sysmods(
+    alloc: Global,
+    edits: &mut Vec<GlobalEdit>,
+    global: &GlobalZone,
+) -> Result<(), Fail> {
     for sysmod in global.sysmods() {
         edits.push(GlobalEdit::InsertSysmod(sysmod.try_clone(alloc)?))?;
     }
@@ -51,7 +55,7 @@ fn copy_of(hold: &Hold) -> Result<Hold, Fail> {
     })
 }
 
-fn add_holds(edits: &mut Vec<GlobalEdit>, global: &Global) -> Result<(), Fail> {
+fn add_holds(edits: &mut Vec<GlobalEdit>, global: &GlobalZone) -> Result<(), Fail> {
     for hold in global.holds() {
         edits.push(GlobalEdit::PutHold(copy_of(hold)?))?;
     }
@@ -59,24 +63,24 @@ fn add_holds(edits: &mut Vec<GlobalEdit>, global: &Global) -> Result<(), Fail> {
 }
 
 /// The edits by which an empty global zone becomes this one.
-fn edits_to(alloc: Heap, global: &Global) -> Result<Change, Fail> {
+fn edits_to(alloc: Global, global: &GlobalZone) -> Result<Change, Fail> {
     let mut edits = Vec::new(alloc);
     add_sysmods(alloc, &mut edits, global)?;
     add_holds(&mut edits, global)?;
     Ok(Change::Global(edits))
 }
 
-fn put_entries(alloc: Heap, delta: &mut ZoneDelta, zone: &Zone) -> Result<(), Fail> {
+fn put_entries(alloc: Global, delta: &mut ZoneDelta, zone: &Zone) -> Result<(), Fail> {
     for entry in zone.entries() {
         let entry = entry.try_clone(alloc)?;
-        if entry.is_held() && entry.waives_applied() {
+        if entry.has_content() && entry.waives_applied() {
             delta.put_entry(entry)?;
         }
     }
     Ok(())
 }
 
-fn put_elements(alloc: Heap, delta: &mut ZoneDelta, zone: &Zone) -> Result<(), Fail> {
+fn put_elements(alloc: Global, delta: &mut ZoneDelta, zone: &Zone) -> Result<(), Fail> {
     for element in zone.elements() {
         delta.put_element(element.try_clone(alloc)?)?;
     }
@@ -84,7 +88,7 @@ fn put_elements(alloc: Heap, delta: &mut ZoneDelta, zone: &Zone) -> Result<(), F
 }
 
 /// The change by which an empty zone of this name becomes this one.
-pub(crate) fn delta_to(alloc: Heap, name: ZoneName, zone: &Zone) -> Result<Change, Fail> {
+pub(crate) fn delta_to(alloc: Global, name: ZoneName, zone: &Zone) -> Result<Change, Fail> {
     let mut delta = ZoneDelta::new(alloc);
     put_entries(alloc, &mut delta, zone)?;
     put_elements(alloc, &mut delta, zone)?;
@@ -92,7 +96,7 @@ pub(crate) fn delta_to(alloc: Heap, name: ZoneName, zone: &Zone) -> Result<Chang
 }
 
 fn copy_global<S: Alter, T: Alter>(
-    alloc: Heap,
+    alloc: Global,
     from: &mut Store<S>,
     to: &mut Store<T>,
 ) -> Result<(), Fail> {
@@ -103,7 +107,7 @@ fn copy_global<S: Alter, T: Alter>(
 }
 
 fn copy_zone<S: Alter, T: Alter>(
-    alloc: Heap,
+    alloc: Global,
     from: &mut Store<S>,
     to: &mut Store<T>,
     name: ZoneName,
@@ -118,7 +122,7 @@ fn copy_zone<S: Alter, T: Alter>(
 
 /// Commits all that one store holds to another that is empty.
 fn copy_all<S: Alter, T: Alter>(
-    alloc: Heap,
+    alloc: Global,
     from: &mut Store<S>,
     to: &mut Store<T>,
 ) -> Result<(), Fail> {
@@ -134,7 +138,7 @@ fn copy_all<S: Alter, T: Alter>(
 
 /// What becomes of a database without tables when all that another holds is committed to it.
 fn copied<S: Alter + Drop, T: Alter + Drop>(
-    alloc: Heap,
+    alloc: Global,
     from: Connection<S>,
     to: Connection<T>,
 ) -> Result<Connection<T>, Fail> {
@@ -146,7 +150,7 @@ fn copied<S: Alter + Drop, T: Alter + Drop>(
 
 /// The copy in files, which were closed and are opened again.
 fn in_files<S: Alter + Drop>(
-    alloc: Heap,
+    alloc: Global,
     from: Connection<S>,
 ) -> Result<Connection<FileStore<Memory>>, Fail> {
     let fresh = files(alloc, Memory::new(alloc), Memory::new(alloc))?;
@@ -154,7 +158,7 @@ fn in_files<S: Alter + Drop>(
 }
 
 /// The rows of the copy in memory.
-fn rows_of_copy<S: Alter + Drop>(alloc: Heap, from: Connection<S>) -> Result<String, Fail> {
+fn rows_of_copy<S: Alter + Drop>(alloc: Global, from: Connection<S>) -> Result<String, Fail> {
     let mut conn = copied(alloc, from, Connection::open_in_memory(alloc)?)?;
     all_lines(alloc, &mut conn)
 }

@@ -7,7 +7,7 @@ use Rattle.store_rows.specs.Rows.{has_key}
 use Rattle.terms.specs.Types.{Text, Element}
 use Rattle.terms.specs.Lookups.{element_cmp, element_key}
 use Rattle.terms.specs.Rising.{Rises}
-use Rattle.lemmas.proofs.Each.{recursion_weaker, recursion-map}
+use Rattle.lemmas.proofs.Each.{recursion_weaker, recursion_map}
 use Rattle.store_schema.specs.Forms.{HasElementForms}
 use Rattle.store_schema.specs.Inventory.{Inventory, IsInventory}
 use Rattle.store_schema.specs.Rows.{zelem_row, zelems_of}
@@ -30,7 +30,7 @@ pub element_forms : (i : Inventory) → IsInventory i → (name : Text)
     → AllByRecursion HasElementRowForms (map (with_zone name) (elements_in i name))
 element_forms i h name =
     in_zone (λ z. z.elements) i h name (λ es. AllByRecursion HasElementRowForms (map (with_zone name) es)) tt
-    (λ z named. recursion-map (with_zone name) HasElementRowForms z.elements
+    (λ z named. recursion_map (with_zone name) HasElementRowForms z.elements
     (recursion_weaker HasElementForms (λ e. HasElementRowForms (with_zone name e))
     (λ e f. record { zone = named.name; element = f }) z.elements
     (all_by HasElementForms z.elements named.forms.elements)))

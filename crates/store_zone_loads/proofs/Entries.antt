@@ -6,7 +6,7 @@ use Rattle.std.specs.Cmp.Lexicographic.{slice_cmp}
 use Rattle.store_rows.specs.Rows.{has_key}
 use Rattle.terms.specs.Types.{Text, Entry}
 use Rattle.terms.specs.Rising.{Rises}
-use Rattle.lemmas.proofs.Each.{recursion_weaker, recursion-map}
+use Rattle.lemmas.proofs.Each.{recursion_weaker, recursion_map}
 use Rattle.store_schema.specs.Forms.{HasEntryForms}
 use Rattle.store_schema.specs.Inventory.{Inventory, IsInventory}
 use Rattle.store_schema.specs.Rows.{entry_row, entries_of}
@@ -22,14 +22,15 @@ pub exact_entry : (a b : ZoneRow Entry) → HasEntryRowForms a → HasEntryRowFo
     → a ≡ b
 exact_entry a b p q e =
     let zone : a.zone ≡ b.zone = cc in
-    let item : a.item ≡ b.item = entry_is a.zone b.zone a.item b.item p.supby q.supby p.waived q.waived e in
+    let item : a.item ≡ b.item =
+    entry_is a.zone b.zone a.item b.item p.applied q.applied p.supby q.supby p.waived q.waived e in
     ap (λ x. record a { zone = x }) zone ∙ ap (λ x. record b { item = x }) item
 
 pub entry_forms : (i : Inventory) → IsInventory i → (name : Text)
     → AllByRecursion HasEntryRowForms (map (with_zone name) (entries_in i name))
 entry_forms i h name =
     in_zone (λ z. z.entries) i h name (λ es. AllByRecursion HasEntryRowForms (map (with_zone name) es)) tt
-    (λ z named. recursion-map (with_zone name) HasEntryRowForms z.entries
+    (λ z named. recursion_map (with_zone name) HasEntryRowForms z.entries
     (recursion_weaker HasEntryForms (λ e. HasEntryRowForms (with_zone name e))
     (λ e f. record {
       zone = named.name;

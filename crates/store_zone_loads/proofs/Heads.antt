@@ -31,7 +31,7 @@ use Rattle.store_zone_loads.specs.Found.{head_in, head_of, zone_in}
 use Rattle.store_zone_loads.specs.Read.{head_row, HasHeadForms}
 use Rattle.store_zone_loads.proofs.ZoneRows.{name_key, first_cell, of_zone}
 use Rattle.store_zone_loads.proofs.Zones.{is_there}
-use Rattle.lemmas.proofs.Each.{recursion-map}
+use Rattle.lemmas.proofs.Each.{recursion_map}
 
 pub exact_head : (a b : ZoneHead) → HasHeadForms a → HasHeadForms b → head_row a ≡ head_row b → a ≡ b
 exact_head a b p q e =
@@ -124,7 +124,7 @@ pub all_head_rows : (i : Inventory) → IsPermutation (map head_row (map head_of
 all_head_rows i = same_rows (map-map head_row head_of i.zones)
 
 pub all_head_forms : (i : Inventory) → IsInventory i → AllByRecursion HasHeadForms (map head_of i.zones)
-all_head_forms i h = recursion-map head_of HasHeadForms i.zones
+all_head_forms i h = recursion_map head_of HasHeadForms i.zones
     (all_from (λ z. HasHeadForms (head_of z)) i.zones (head_forms i h))
 
 pub heads_rise : (i : Inventory) → IsInventory i → Rises (slice_cmp nat_cmp) (λ (a : ZoneHead). a.name)

@@ -8,7 +8,7 @@ use Rattle.std.proofs.lemmas.Option.{IfSome_then}
 use Rattle.std.proofs.lemmas.Slice.Eq.{bytes_eq-Decides}
 use Rattle.sqlite_rules.specs.Lists.{Has}
 use Rattle.terms.specs.Types.{Text, zone_number, a_zone, Entry, Element, Zone, NamedZone}
-use Rattle.terms.specs.Lookups.{is_held, waives_applied}
+use Rattle.terms.specs.Lookups.{has_content, waives_applied}
 use Rattle.store_schema.specs.Inventory.{Inventory, IsInventory, IsZoneNamed}
 use Rattle.store_schema.proofs.Lists.{has_all}
 use Rattle.store_zone_loads.specs.Found.{zone_in, head_in}
@@ -56,7 +56,7 @@ module _ (name : Text) (head : ZoneHead) (entries : List Entry) (elements : List
 
   pub may_stand : (found : Option Zone) → IfSome found (λ zone. IsZoneNamed (record { name = name; zone = zone }))
       → Some whole ≡ found
-      → All (λ e. IsTrue (is_held e)) entries × All (λ e. IsTrue (waives_applied e)) entries
+      → All (λ e. IsTrue (has_content e)) entries × All (λ e. IsTrue (waives_applied e)) entries
       × (is_some head.related ≡ (zone_number head.kind == 0))
   may_stand found named is =
       let it : IsZoneNamed (record { name = name; zone = whole }) =

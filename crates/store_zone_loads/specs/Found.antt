@@ -3,7 +3,7 @@ use Rattle.std.specs.Prelude.{◌≡◌, ◌==◌, List, [], All, IsTrue, find, 
 use Rattle.std.specs.Option.{option_map_or}
 use Rattle.std.specs.Str.{bytes_eq}
 use Rattle.terms.specs.declared.kinds.ZoneKind.{ZoneKind}
-use Rattle.terms.specs.Lookups.{is_held, waives_applied}
+use Rattle.terms.specs.Lookups.{has_content, waives_applied}
 use Rattle.terms.specs.Types.{Text, zone_number, Entry, Element, Zone, NamedZone}
 use Rattle.store_schema.specs.Inventory.{Inventory}
 use Rattle.store_zone_loads.specs.declared.head.ZoneHead.{ZoneHead}
@@ -28,7 +28,7 @@ head_of z = head_in z.name z.zone
 
 -- what a zone asks of its parts: no entry is empty or waives what is not applied, and a target zone alone names a
 -- related zone
-abbrev pub MayStand : ZoneKind → Option Text → List Entry → Type 0
-MayStand kind related entries =
-    All (λ e. IsTrue (is_held e)) entries × All (λ e. IsTrue (waives_applied e)) entries
+abbrev pub MayBeZone : ZoneKind → Option Text → List Entry → Type 0
+MayBeZone kind related entries =
+    All (λ e. IsTrue (has_content e)) entries × All (λ e. IsTrue (waives_applied e)) entries
     × (is_some related ≡ (zone_number kind == 0))

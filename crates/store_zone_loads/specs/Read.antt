@@ -3,10 +3,10 @@ use Rattle.std.specs.Prelude.{◌≡◌, ◌≢◌, ◌==◌, [], ◌∷◌, IfS
 use Rattle.sqlite.specs.declared.types.Value.TheVariants as value
 use Rattle.sqlite.specs.Values.{or_null}
 use Rattle.sqlite.specs.Order.{Row}
-use Rattle.terms.specs.Forms.{IsId, IsDottedDate, IsSrel, IsZoneName}
+use Rattle.terms.specs.Forms.{IsId, IsSrel, IsZoneName}
 use Rattle.terms.specs.Spelling.{zone_kind_text}
 use Rattle.terms.specs.Types.{zone_number, Entry, Element}
-use Rattle.store_schema.specs.Forms.{AreListed, HasElementForms}
+use Rattle.store_schema.specs.Forms.{AreSorted, HasAppliedForms, HasElementForms}
 use Rattle.store_schema.specs.Rows.{entry_row, zelem_row}
 use Rattle.store_zone_loads.specs.declared.head.ZoneHead.{ZoneHead}
 use Rattle.store_zone_loads.specs.declared.rows.ZoneRow.{ZoneRow}
@@ -30,10 +30,10 @@ row_of_entry r = entry_row r.zone r.item
 pub record HasEntryRowForms (r : ZoneRow Entry) : Type 0 where
   pub zone : IsZoneName r.zone
   pub id : IsId r.item.id
-  pub applied : IfSome r.item.applied IsDottedDate
-  pub supby : AreListed IsId r.item.supby
+  pub applied : IfSome r.item.applied HasAppliedForms
+  pub supby : AreSorted IsId r.item.supby
   pub delby : IfSome r.item.delby IsId
-  pub waived : AreListed IsId r.item.waived
+  pub waived : AreSorted IsId r.item.waived
 
 abbrev pub row_of_element : ZoneRow Element → Row
 row_of_element r = zelem_row r.zone r.item

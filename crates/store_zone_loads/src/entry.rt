@@ -1,10 +1,14 @@
 //! The table of SYSMOD entries.
 
-ghost use Rattle.std.specs.Prelude.{◌≡◌, ◌≢◌, IfOk, IsErrOf};
+ghost use Rattle.std.specs.Prelude.{◌≡◌, ◌≢◌, Option, IfSome, IfNone, IfOk, IsErrOf, option_map};
+ghost use Rattle.sqlite.specs.declared.types.Value.TheVariants.{Text};
 ghost use Rattle.sqlite.specs.Held.{state};
+ghost use Rattle.sqlite.specs.Order.{column};
 ghost use Rattle.sqlite.specs.State.{HasCleanDisk};
+ghost use Rattle.sqlite.specs.Values.{or_null};
 ghost use Rattle.store_rows.specs.Reads.{OnlyReads};
-ghost use Rattle.terms.specs.Types.{Entry as EntryTerm};
+ghost use Rattle.terms.specs.Types.{Applied as AppliedTerm, Entry as EntryTerm};
+ghost use Rattle.store_schema.specs.Forms.{HasAppliedForms};
 ghost use Rattle.store_schema.specs.Inventory.{Inventory};
 ghost use Rattle.store_schema.specs.Stands.{StandsFor};
 ghost use Rattle.store_schema.specs.Tables.{store_schema};
@@ -18,7 +22,7 @@ use sqlite_value::value::ValueRef;
 use std::alloc::Global;
 use store_columns::{Query, date_in, id_in, ids_in, load_listed, optional_id_in, zone_name_in};
 use store_rows::{FromRow, ReadError};
-use zones::{Entry, Table};
+use zones::{Applied, Entry, Table};
 
 /// Reads the rows of entries.
 struct Entries;
@@ -47,7 +51,7 @@ impl FromRow for Entries {
         let Some(id) = id_in(row, 1) else {
             return Err(ReadError::BadRow);
         };
-        let Some(applied) = date_in(row, 2) else {
+        let Some(applied) = applied_in(row, 2) else {
             return Err(ReadError::BadRow);
         };
         let supby = ids_in(alloc, row, 3)?;
@@ -65,6 +69,19 @@ impl FromRow for Entries {
                 waived,
             },
         })
+    }
+}
+
+// When it was applied, or NULL. The tables hold no number, since it is 1.
+fn applied_in(row: &Row, at: usize) -> Option<Option<Applied>>
+    ensures some { IfSome result (λ applied. (column row.now at ≡ or_null Text (option_map (λ a. a.date) applied))
+        × IfSome applied HasAppliedForms) }
+    ensures none { IfNone result ((applied : Option AppliedTerm) → IfSome applied HasAppliedForms
+        → column row.now at ≢ or_null Text (option_map (λ a. a.date) applied)) }
+{
+    match date_in(row, at)? {
+        Some(date) => Some(Some(Applied::on(date))),
+        None => Some(None),
     }
 }
 

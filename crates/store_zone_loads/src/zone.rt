@@ -8,7 +8,7 @@ ghost use Rattle.terms.specs.Types.{a_zone};
 ghost use Rattle.store_schema.specs.Inventory.{Inventory};
 ghost use Rattle.store_schema.specs.Stands.{StandsFor};
 ghost use Rattle.store_schema.specs.Tables.{store_schema};
-ghost use Rattle.store_zone_loads.specs.Found.{head_in, zone_in, MayStand};
+ghost use Rattle.store_zone_loads.specs.Found.{head_in, zone_in, MayBeZone};
 
 use crate::element::load_elements;
 use crate::entry::load_entries;
@@ -22,7 +22,7 @@ use zones::{Element, Entry, Table, Zone};
 /// The zone of these parts, if they may stand in one.
 fn join(head: ZoneHead, entries: Table<Entry>, elements: Table<Element>) -> Result<Zone, ReadError>
     ensures same { IfOk result (λ zone. zone ≡ a_zone head.kind head.srel head.related entries elements) }
-    ensures none { IsErrOf result ReadError.BadRow → ¬ MayStand head.kind head.related entries }
+    ensures none { IsErrOf result ReadError.BadRow → ¬ MayBeZone head.kind head.related entries }
     ensures fault { IsErrOf result ReadError.Fault → ⊥ }
 {
     match Zone::from_tables(head.kind, head.srel, head.related, entries, elements) {

@@ -7,6 +7,7 @@ use Rattle.sqlite_value.specs.Value.{owned}
 use Rattle.sqlite.specs.Values.{or_null, bound_value}
 use Rattle.terms.specs.declared.kinds.ElemType.{ElemType}
 use Rattle.terms.specs.Types.{Text, Entry, Element, NamedZone}
+use Rattle.terms.specs.Lookups.{date_of}
 use Rattle.terms.specs.Spelling.{type_text, zone_kind_text}
 use Rattle.store_rows.specs.Texts.{SuitColumns}
 use Rattle.store_rows.proofs.Values.{kept_optional, bound_optional}
@@ -16,7 +17,7 @@ use Rattle.store_zones.specs.Keys.{element_key}
 
 -- their columns keep them
 pub kept_entry : (name : Text) (e : Entry) → SuitColumns entry.columns (entry_row name e)
-kept_entry name e = (refl, (refl, (kept_optional e.applied, (refl, (kept_optional e.delby, (refl, tt))))))
+kept_entry name e = (refl, (refl, (kept_optional (date_of e), (refl, (kept_optional e.delby, (refl, tt))))))
 
 pub kept_element : (name : Text) (e : Element) → SuitColumns zelem.columns (zelem_row name e)
 kept_element name e = (refl, (refl, (refl, (refl, (refl, (refl, (refl, (refl, (refl, tt)))))))))
@@ -26,13 +27,13 @@ kept_zone z = (refl, (refl, (refl, (kept_optional z.zone.related, tt))))
 
 -- the values that are bound for an entry are its row
 pub entry_bound : (zone id supby waived : Text) (date delby : ValueRef) (name : Text) (e : Entry) → zone ≡ name
-    → id ≡ e.id → owned date ≡ or_null value.Text e.applied → supby ≡ join_with_byte 44 e.supby
+    → id ≡ e.id → owned date ≡ or_null value.Text (date_of e) → supby ≡ join_with_byte 44 e.supby
     → owned delby ≡ or_null value.Text e.delby → waived ≡ join_with_byte 44 e.waived
     → value.Text zone ∷ value.Text id ∷ bound_value (owned date) ∷ value.Text supby ∷ bound_value (owned delby) ∷
     value.Text waived ∷ [] ≡ entry_row name e
 entry_bound zone id supby waived date delby name e is_zone is_id is_date is_supby is_delby is_waived =
-    let applied : bound_value (owned date) ≡ or_null value.Text e.applied =
-    ap bound_value is_date ∙ bound_optional e.applied in
+    let applied : bound_value (owned date) ≡ or_null value.Text (date_of e) =
+    ap bound_value is_date ∙ bound_optional (date_of e) in
     let deleted : bound_value (owned delby) ≡ or_null value.Text e.delby =
     ap bound_value is_delby ∙ bound_optional e.delby in
     cc

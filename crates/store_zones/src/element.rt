@@ -12,8 +12,8 @@ ghost use Rattle.store_zones.specs.Calls.{put_element_calls, remove_element_call
 ghost use Rattle.store_zones.specs.Keys.{element_key};
 ghost use Rattle.store_zones.specs.Zones.{ChangesZone, HasPutElement, HasRemovedElement};
 
+use fields::spelling::type_text;
 use fields::{Name, ZoneName};
-use spelling::type_text;
 use sqlite::{Alter, Error, Transaction};
 use sqlite_value::value::ValueRef;
 use std::alloc::Global;

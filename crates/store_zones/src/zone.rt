@@ -10,8 +10,8 @@ ghost use Rattle.store_zones.specs.Calls.{zone_calls};
 ghost use Rattle.store_zones.specs.Zones.{AddsZone, empty_zone};
 
 use crate::values::name_value;
+use fields::spelling::zone_kind_text;
 use fields::{Srel, ZoneName};
-use spelling::zone_kind_text;
 use sqlite::{Alter, Error, Transaction};
 use sqlite_value::value::ValueRef;
 use store_rows::insert;

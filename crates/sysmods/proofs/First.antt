@@ -1,7 +1,7 @@
 -- The first item that passes a test, by its place.
-use Rattle.std.proofs.Common.{◌≡◌, ◌<◌, ℕ, zero, suc, Bool, true, false, List, [], ◌∷◌, length, get_or, refl, arith}
+use Rattle.std.proofs.Common.{◌≡◌, ◌<◌, ℕ, zero, suc, Bool, true, false, List, [], ◌∷◌, length, get_or, filter, refl, arith}
 use Rattle.std.proofs.Common.{Some, None, find, sym, ◌∙◌, ap, cond}
-use Rattle.std.specs.Prelude.{position}
+use Rattle.std.specs.Prelude.{position, slice_get}
 use Rattle.std.specs.List.{position_or_len}
 use Rattle.std.specs.Prelude.{nat_lt}
 use Rattle.std.proofs.lemmas.Bool.{ltb-false}
@@ -18,18 +18,28 @@ at_place p (x ∷ xs) (suc i) d below here before =
     rw (before 0 (omega arith)) (at_place p xs i d (omega (arith, below)) here
     (λ k h. before (suc k) (omega (arith, h))))
 
-pub find-position : {X : Type 0} (p : X → Bool) (xs : List X) (i : ℕ) (d : X) → position p xs ≡ Some i
+pub find_position : {X : Type 0} (p : X → Bool) (xs : List X) (i : ℕ) (d : X) → position p xs ≡ Some i
     → find p xs ≡ Some (get_or xs i d)
-find-position p xs i d e =
+find_position p xs i d e =
     let first = position-Some p xs i d e in
     at_place p xs i d first.0 first.1 first.2
 
 -- where none passes none is found
-pub find-no_position : {X : Type 0} (p : X → Bool) (xs : List X) → position p xs ≡ None → find p xs ≡ None
-find-no_position p xs e = by (nat_lt (position_or_len p xs) (length xs)) refl
+pub find_no_position : {X : Type 0} (p : X → Bool) (xs : List X) → position p xs ≡ None → find p xs ≡ None
+find_no_position p xs e = by (nat_lt (position_or_len p xs) (length xs)) refl
   where
     by : (b : Bool) → nat_lt (position_or_len p xs) (length xs) ≡ b → find p xs ≡ None
     by true h = absurd (none-some (position_or_len p xs) (sym e
         ∙ ap (λ b. cond b (Some (position_or_len p xs)) None) h))
     by false h = find_at p xs ∙ slice_get_past xs (position_or_len p xs)
         (ltb-false (position_or_len p xs) (length xs) h)
+
+-- it is the first of those that pass
+pub first_filtered : {X : Type 0} (p : X → Bool) (xs : List X) → slice_get (filter p xs) 0 ≡ find p xs
+first_filtered p [] = refl
+first_filtered p (x ∷ xs) = by (first_filtered p xs) (p x) refl
+  where
+    by : slice_get (filter p xs) 0 ≡ find p xs → (b : Bool) → p x ≡ b
+        → slice_get (filter p (x ∷ xs)) 0 ≡ find p (x ∷ xs)
+    by rest true e = rw e refl
+    by rest false e = rw e rest

@@ -14,7 +14,7 @@ use Rattle.std.proofs.lemmas.Map.Text.{is_eq-slice_cmp}
 use Rattle.std.proofs.lemmas.List.{get_or_append_left}
 use Rattle.std.proofs.lemmas.List.Folds.{find-append}
 use Rattle.std.proofs.lemmas.List.Elements.{All-nil, All-weaker}
-use Rattle.lemmas.proofs.Each.{All-front}
+use Rattle.lemmas.proofs.Each.{All_front}
 use Rattle.terms.specs.Types.{Text, Id, Hold, Sysmod, Global, a_global, kind_number}
 use Rattle.terms.specs.Rising.{Rises, Splits, with_item}
 use Rattle.terms.specs.Lookups.{is_function}
@@ -22,11 +22,11 @@ use Rattle.terms.specs.Global.{named, names_for, HasLoop, is_service, fits_roles
 use Rattle.terms.specs.Global.{IsGlobal, HasFault, ReceiveFault, Rc1, Rc2, Rc3, Rc4, with_sysmod}
 use Rattle.terms.proofs.Leads.{reaches_more}
 use Rattle.terms.proofs.GlobalKept.{IsOwned}
-use Rattle.terms.proofs.GlobalRoles.{fits-fewer}
-use Rattle.terms.proofs.RisingLists.{with_item-new}
-use Rattle.lemmas.proofs.Pairs.{AllPairs-parts}
-use Rattle.lemmas.proofs.Orderings.{Less-from_is_lt}
-use Rattle.lemmas.proofs.Searches.{find-over}
+use Rattle.terms.proofs.GlobalRoles.{fits_fewer}
+use Rattle.terms.proofs.RisingLists.{with_item_new}
+use Rattle.lemmas.proofs.Pairs.{AllPairs_parts}
+use Rattle.lemmas.proofs.Orderings.{Less_from_is_lt}
+use Rattle.lemmas.proofs.Searches.{find_over}
 use Rattle.sysmods_received.specs.Held.{found, zone_of}
 use Rattle.sysmods_received.specs.declared.faults.ReceiveFault.{ReceiveFault as Code}
 use Rattle.sysmods_received.specs.declared.faults.ReceiveFault.TheVariants as code
@@ -34,8 +34,8 @@ use Rattle.sysmods_received.specs.Refused.{IsRefusal}
 use Rattle.sysmods.proofs.Receiving.{kept}
 
 -- the front of a list that is in order
-Rises-front : {X : Type 0} (R : X → X → Type 0) (xs ys : List X) → AllPairs R (xs ++ ys) → AllPairs R xs
-Rises-front R xs ys all = λ i j d less below.
+Rises_front : {X : Type 0} (R : X → X → Type 0) (xs ys : List X) → AllPairs R (xs ++ ys) → AllPairs R xs
+Rises_front R xs ys all = λ i j d less below.
     let first = get_or_append_left xs ys d i (omega (arith, less, below)) in
     let second = get_or_append_left xs ys d j below in
     subst (λ a. R a (get_or xs j d)) first (subst (R (get_or (xs ++ ys) i d)) second
@@ -49,31 +49,31 @@ module _ (xs ys : List Sysmod) where
   Front = zone_of xs
 
   -- what is found in the front is found in the whole
-  whole-found : (x : Id) (s : Sysmod) → found xs x ≡ Some s → found (xs ++ ys) x ≡ Some s
-  whole-found x s here = find-append (λ r. bytes_eq r.id x) xs ys ∙ ap (λ o. option_or o (found ys x)) here
+  whole_found : (x : Id) (s : Sysmod) → found xs x ≡ Some s → found (xs ++ ys) x ≡ Some s
+  whole_found x s here = find-append (λ r. bytes_eq r.id x) xs ys ∙ ap (λ o. option_or o (found ys x)) here
 
-  function-front : (x : Id) → is_function Whole x ≡ false → is_function Front x ≡ false
-  function-front x none = by (found xs x) refl
+  function_front : (x : Id) → is_function Whole x ≡ false → is_function Front x ≡ false
+  function_front x none = by (found xs x) refl
     where
       is_fn : Option Sysmod → Bool
       is_fn o = option_map_or (λ s. kind_number s.kind == 0) o false
 
       by : (o : Option Sysmod) → found xs x ≡ o → is_fn (found xs x) ≡ false
       by None e = ap is_fn e
-      by (Some s) e = ap is_fn e ∙ sym (ap is_fn (whole-found x s e)) ∙ none
+      by (Some s) e = ap is_fn e ∙ sym (ap is_fn (whole_found x s e)) ∙ none
 
-  service-front : (x : Id) → is_service Whole x ≡ false → is_service Front x ≡ false
-  service-front x none = by (found xs x) refl
+  service_front : (x : Id) → is_service Whole x ≡ false → is_service Front x ≡ false
+  service_front x none = by (found xs x) refl
     where
       is_other : Option Sysmod → Bool
       is_other o = is_some o && not (option_map_or (λ s. kind_number s.kind == 0) o false)
 
       by : (o : Option Sysmod) → found xs x ≡ o → is_other (found xs x) ≡ false
       by None e = ap is_other e
-      by (Some s) e = ap is_other e ∙ sym (ap is_other (whole-found x s e)) ∙ none
+      by (Some s) e = ap is_other e ∙ sym (ap is_other (whole_found x s e)) ∙ none
 
-  names-front : (srel : Text) (y z : Id) → Contains (names_for Front srel y) z → Contains (names_for Whole srel y) z
-  names-front srel y z here = by (found xs y) refl
+  names_front : (srel : Text) (y z : Id) → Contains (names_for Front srel y) z → Contains (names_for Whole srel y) z
+  names_front srel y z here = by (found xs y) refl
     where
       named_by : Option Sysmod → List Id
       named_by o = flat_map named (option_map_or (λ s. filter (λ v. bytes_eq v.srel srel) s.vers) o [])
@@ -83,36 +83,36 @@ module _ (xs ys : List Sysmod) where
         where
           none : Contains [] z → ⊥
           none h = omega (arith, h.1)
-      by (Some s) e = subst (λ o. Contains (named_by o) z) (e ∙ sym (whole-found y s e)) here
+      by (Some s) e = subst (λ o. Contains (named_by o) z) (e ∙ sym (whole_found y s e)) here
 
   -- A loop or a fault of roles in the front is one of the whole.
-  pub loop-front : HasLoop Front → HasLoop Whole
-  loop-front (srel, x, loop) = (
+  pub loop_front : HasLoop Front → HasLoop Whole
+  loop_front (srel, x, loop) = (
     srel,
     x,
-    reaches_more (names_for Front srel) (names_for Whole srel) (names-front srel) x
+    reaches_more (names_for Front srel) (names_for Whole srel) (names_front srel) x
         x loop,
   )
 
-  pub roles-front : RolesFit Whole → RolesFit Front
-  roles-front fit =
-      All-front Fits xs ys
+  pub roles_front : RolesFit Whole → RolesFit Front
+  roles_front fit =
+      All_front Fits xs ys
       (All-weaker (λ s. All (λ v. IsTrue (fits_roles Whole v)) s.vers) Fits
       (λ s all. All-weaker (λ v. IsTrue (fits_roles Whole v)) (λ v. IsTrue (fits_roles Front v))
-      (fits-fewer Whole Front function-front service-front) s.vers all) (xs ++ ys) fit)
+      (fits_fewer Whole Front function_front service_front) s.vers all) (xs ++ ys) fit)
     where
       Fits : Sysmod → Type 0
       Fits s = All (λ v. IsTrue (fits_roles Front v)) s.vers
 
-  pub global-front : IsGlobal Whole → IsGlobal Front
-  global-front g = record {
-    sysmods = Rises-front (λ a b. IsTrue (is_lt (slice_cmp nat_cmp a.id b.id))) xs ys g.sysmods;
+  pub global_front : IsGlobal Whole → IsGlobal Front
+  global_front g = record {
+    sysmods = Rises_front (λ a b. IsTrue (is_lt (slice_cmp nat_cmp a.id b.id))) xs ys g.sysmods;
     holds = g.holds;
-    formed = All-front IsSysmod xs ys g.formed;
-    no_loop = λ loop. g.no_loop (loop-front loop);
-    roles = roles-front g.roles;
+    formed = All_front IsSysmod xs ys g.formed;
+    no_loop = λ loop. g.no_loop (loop_front loop);
+    roles = roles_front g.roles;
     internal = All-nil (IsOwned Front);
-    none_carried = All-front (λ s. s.holds ≡ []) xs ys g.none_carried;
+    none_carried = All_front (λ s. s.holds ≡ []) xs ys g.none_carried;
     size = omega (arith, g.size, length-append xs ys);
   }
 
@@ -121,28 +121,28 @@ abbrev pub AreBefore : List Sysmod → Id → Type 0
 AreBefore xs x = All (λ s. IsTrue (is_lt (slice_cmp nat_cmp s.id x))) xs
 
 module _ (xs : List Sysmod) (s : Sysmod) where
-  pub before-last : (ys : List Sysmod) → Rises (slice_cmp nat_cmp) (λ r. r.id) (xs ++ s ∷ ys) → AreBefore xs s.id
-  before-last ys rises = (AllPairs-parts (λ a b. IsTrue (is_lt (slice_cmp nat_cmp a.id b.id))) xs ys s rises).0
+  pub before_last : (ys : List Sysmod) → Rises (slice_cmp nat_cmp) (λ r. r.id) (xs ++ s ∷ ys) → AreBefore xs s.id
+  before_last ys rises = (AllPairs_parts (λ a b. IsTrue (is_lt (slice_cmp nat_cmp a.id b.id))) xs ys s rises).0
 
-  pub new-last : AreBefore xs s.id → found xs s.id ≡ None
-  new-last low =
+  pub new_last : AreBefore xs s.id → found xs s.id ≡ None
+  new_last low =
       ap (λ rs. found rs s.id) (sym (append-nil xs))
-      ∙ find-over (λ r. bytes_eq r.id s.id) xs []
+      ∙ find_over (λ r. bytes_eq r.id s.id) xs []
       (All-weaker (λ r. IsTrue (is_lt (slice_cmp nat_cmp r.id s.id))) (λ r. bytes_eq r.id s.id ≡ false)
-      (λ r less. sym (is_eq-slice_cmp r.id s.id) ∙ ap is_eq (Less-from_is_lt (slice_cmp nat_cmp r.id s.id) less)) xs
+      (λ r less. sym (is_eq-slice_cmp r.id s.id) ∙ ap is_eq (Less_from_is_lt (slice_cmp nat_cmp r.id s.id) less)) xs
       low)
 
   -- it comes in at the end
-  pub item-last : AreBefore xs s.id → (r : Sysmod) → r.id ≡ s.id
+  pub item_last : AreBefore xs s.id → (r : Sysmod) → r.id ≡ s.id
       → with_item (slice_cmp nat_cmp) (λ r. r.id) xs r ≡ xs ++ r ∷ []
-  item-last low r same =
+  item_last low r same =
       ap (λ rs. with_item (slice_cmp nat_cmp) (λ r. r.id) rs r) (sym (append-nil xs))
-      ∙ with_item-new nat_list_cmp_total (λ (r : Sysmod). r.id) xs [] r splits
+      ∙ with_item_new nat_list_cmp_total (λ (r : Sysmod). r.id) xs [] r splits
     where
       splits : Splits (slice_cmp nat_cmp) (λ (r : Sysmod). r.id) r.id xs []
       splits = record {
         low = All-weaker (λ y. IsTrue (is_lt (slice_cmp nat_cmp y.id s.id))) (λ y. slice_cmp nat_cmp y.id r.id ≡ Less)
-            (λ y less. ap (slice_cmp nat_cmp y.id) same ∙ Less-from_is_lt (slice_cmp nat_cmp y.id s.id) less) xs low;
+            (λ y less. ap (slice_cmp nat_cmp y.id) same ∙ Less_from_is_lt (slice_cmp nat_cmp y.id s.id) less) xs low;
         high = λ i d below. absurd (omega arith);
       }
 
@@ -150,28 +150,28 @@ module _ (xs : List Sysmod) (s : Sysmod) where
     bare : record s { holds = [] } ≡ s
     bare = ap (λ hs. record s { holds = hs }) (sym none)
 
-    zone-last : with_sysmod (zone_of xs) s ≡ zone_of (xs ++ s ∷ [])
-    zone-last = ap zone_of (item-last low (record s { holds = [] }) refl ∙ ap (λ r. xs ++ r ∷ []) bare)
+    zone_last : with_sysmod (zone_of xs) s ≡ zone_of (xs ++ s ∷ [])
+    zone_last = ap zone_of (item_last low (record s { holds = [] }) refl ∙ ap (λ r. xs ++ r ∷ []) bare)
 
     -- Where it is refused, it makes no global zone.
-    pub none-refused : IsGlobal (zone_of (xs ++ s ∷ [])) → (f : ReceiveFault) → ¬ HasFault (zone_of xs) s f
-    none-refused g Rc1 fault = true≢false (sym fault ∙ ap is_some (new-last low))
-    none-refused g Rc2 fault = g.no_loop (subst HasLoop zone-last fault)
-    none-refused g Rc3 fault = fault (subst RolesFit (sym zone-last) g.roles)
-    none-refused g Rc4 fault = omega (arith, fault, g.size, length-append xs (s ∷ []))
+    pub none_refused : IsGlobal (zone_of (xs ++ s ∷ [])) → (f : ReceiveFault) → ¬ HasFault (zone_of xs) s f
+    none_refused g Rc1 fault = true≢false (sym fault ∙ ap is_some (new_last low))
+    none_refused g Rc2 fault = g.no_loop (subst HasLoop zone_last fault)
+    none_refused g Rc3 fault = fault (subst RolesFit (sym zone_last) g.roles)
+    none_refused g Rc4 fault = omega (arith, fault, g.size, length-append xs (s ∷ []))
 
     -- Where it is not, it makes one.
-    pub global-last : IsGlobal (zone_of xs) → IsSysmod s → ((f : ReceiveFault) → ¬ HasFault (zone_of xs) s f)
+    pub global_last : IsGlobal (zone_of xs) → IsSysmod s → ((f : ReceiveFault) → ¬ HasFault (zone_of xs) s f)
         → IsGlobal (zone_of (xs ++ s ∷ []))
-    global-last g formed no_fault =
-        subst IsGlobal (ap (fold hold (with_sysmod (zone_of xs) s)) none ∙ zone-last)
+    global_last g formed no_fault =
+        subst IsGlobal (ap (fold hold (with_sysmod (zone_of xs) s)) none ∙ zone_last)
         (kept (zone_of xs) s g formed no_fault)
 
 -- Holds beside the SYSMODs of a global zone.
 module _ (xs : List Sysmod) (hs : List Hold) where
-  pub global-holds : IsGlobal (zone_of xs) → Rises hold_cmp (λ h. h) hs → All (IsOwned (zone_of xs)) hs
+  pub global_holds : IsGlobal (zone_of xs) → Rises hold_cmp (λ h. h) hs → All (IsOwned (zone_of xs)) hs
       → IsGlobal (a_global xs hs)
-  global-holds g rises owned = record {
+  global_holds g rises owned = record {
     sysmods = g.sysmods;
     holds = rises;
     formed = g.formed;
@@ -184,13 +184,13 @@ module _ (xs : List Sysmod) (hs : List Hold) where
 
 -- what a refusal says
 module _ (g : Global) (s : Sysmod) where
-  pub some-fault : (o : Option Code) → IsRefusal g s o → is_some o ≡ true → (f : ReceiveFault) × HasFault g s f
-  some-fault None none some = absurd (true≢false (sym some))
-  some-fault (Some code.Rc1) fault some = (Rc1, fault)
-  some-fault (Some code.Rc2) (first, fault) some = (Rc2, fault)
-  some-fault (Some code.Rc3) (first, second, fault) some = (Rc3, fault)
-  some-fault (Some code.Rc4) (first, second, third, fault) some = (Rc4, fault)
+  pub some_fault : (o : Option Code) → IsRefusal g s o → is_some o ≡ true → (f : ReceiveFault) × HasFault g s f
+  some_fault None none some = absurd (true≢false (sym some))
+  some_fault (Some code.Rc1) fault some = (Rc1, fault)
+  some_fault (Some code.Rc2) (first, fault) some = (Rc2, fault)
+  some_fault (Some code.Rc3) (first, second, fault) some = (Rc3, fault)
+  some_fault (Some code.Rc4) (first, second, third, fault) some = (Rc4, fault)
 
-  pub no-fault : (o : Option Code) → IsRefusal g s o → is_some o ≡ false → (f : ReceiveFault) → ¬ HasFault g s f
-  no-fault None none some = none
-  no-fault (Some fault) by some = absurd (true≢false some)
+  pub no_fault_holds : (o : Option Code) → IsRefusal g s o → is_some o ≡ false → (f : ReceiveFault) → ¬ HasFault g s f
+  no_fault_holds None none some = none
+  no_fault_holds (Some fault) by some = absurd (true≢false some)

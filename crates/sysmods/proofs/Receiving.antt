@@ -9,7 +9,7 @@ use Rattle.terms.specs.Rising.{with_item}
 use Rattle.terms.specs.Lookups.{is_received}
 use Rattle.terms.specs.Global.{IsGlobal, IsSysmod, HasFault, RefusedBy, ReceiveFault, Rc1, Rc2, Rc3, Rc4, with_sysmod}
 use Rattle.terms.specs.Global.{received, fits_roles, RolesFit}
-use Rattle.terms.proofs.GlobalKept.{received-kept}
+use Rattle.terms.proofs.GlobalKept.{received_kept}
 use Rattle.sysmods_holds.specs.Lists.{with_holds}
 use Rattle.sysmods_received.specs.declared.faults.ReceiveFault.{ReceiveFault as Code}
 use Rattle.sysmods_received.specs.declared.faults.ReceiveFault.TheVariants as code
@@ -57,7 +57,7 @@ taken g s xs hs xs_is hs_is = ap₂ a_global xs_is hs_is ∙ sym (folded s.holds
 
 pub kept : (g : Global) (s : Sysmod) → IsGlobal g → IsSysmod s → ((f : ReceiveFault) → ¬ HasFault g s f)
     → IsGlobal (received g s)
-kept g s k formed none = received-kept g s (new (is_received g s.id) refl) k formed (none Rc2)
+kept g s k formed none = received_kept g s (new (is_received g s.id) refl) k formed (none Rc2)
     (roles_stable (with_sysmod g s) (none Rc3)) room
   where
     new : (b : Bool) → is_received g s.id ≡ b → is_received g s.id ≡ false

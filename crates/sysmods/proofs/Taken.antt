@@ -14,10 +14,10 @@ use Rattle.lemmas.proofs.Texts.{other_from_less, same_itself}
 use Rattle.terms.specs.Types.{Id, Hold, Sysmod, Global, a_global}
 use Rattle.terms.specs.Rising.{Rises, Splits, with_item}
 use Rattle.terms.specs.Global.{hold}
-use Rattle.terms.proofs.RisingLists.{with_item-new}
-use Rattle.lemmas.proofs.Pairs.{AllPairs-first, AllPairs-rest}
-use Rattle.lemmas.proofs.Orderings.{Less-from_is_lt, Greater-turned, Less-turned}
-use Rattle.lemmas.proofs.Searches.{filter-all}
+use Rattle.terms.proofs.RisingLists.{with_item_new}
+use Rattle.lemmas.proofs.Pairs.{AllPairs_first, AllPairs_rest}
+use Rattle.lemmas.proofs.Orderings.{Less_from_is_lt, Greater_turned, Less_turned}
+use Rattle.lemmas.proofs.Searches.{filter_all}
 use Rattle.sysmods_received.specs.Held.{found}
 use Rattle.sysmods_holds.specs.Lists.{with_holds}
 
@@ -27,11 +27,11 @@ pub taken_out : (xs : List Sysmod) (s : Sysmod) → Rises (slice_cmp nat_cmp) (�
     → filter (λ r. not (bytes_eq r.id s.id)) (with_item (slice_cmp nat_cmp) (λ r. r.id) xs s) ≡ xs
 taken_out [] s rises none = rw (same_itself s.id) refl
 taken_out (y ∷ ys) s rises none =
-    by (taken_out ys s (AllPairs-rest (λ a b. IsTrue (is_lt (slice_cmp nat_cmp a.id b.id))) y ys rises))
+    by (taken_out ys s (AllPairs_rest (λ a b. IsTrue (is_lt (slice_cmp nat_cmp a.id b.id))) y ys rises))
     (slice_cmp nat_cmp y.id s.id) refl
   where
     higher : All (λ z. IsTrue (is_lt (slice_cmp nat_cmp y.id z.id))) ys
-    higher = AllPairs-first (λ a b. IsTrue (is_lt (slice_cmp nat_cmp a.id b.id))) y ys rises
+    higher = AllPairs_first (λ a b. IsTrue (is_lt (slice_cmp nat_cmp a.id b.id))) y ys rises
 
     by : (find (λ r. bytes_eq r.id s.id) ys ≡ None → filter (λ r. not (bytes_eq r.id s.id))
         (with_item (slice_cmp nat_cmp) (λ r. r.id) ys s) ≡ ys)
@@ -40,30 +40,30 @@ taken_out (y ∷ ys) s rises none =
     by again Less c =
         let apart : bytes_eq y.id s.id ≡ false = other_from_less y.id s.id c in
         let rest = rw apart at none in
-        rw (c, Greater-turned nat_list_cmp_total y.id s.id c, apart) (ap (λ zs. y ∷ zs) (again rest))
+        rw (c, Greater_turned nat_list_cmp_total y.id s.id c, apart) (ap (λ zs. y ∷ zs) (again rest))
     by again Equal c =
         let same : bytes_eq y.id s.id ≡ true = sym (is_eq-slice_cmp y.id s.id) ∙ ap is_eq c in
         let found = rw same at none in
         absurd (none-some y (sym found))
     by again Greater c =
-        let first : slice_cmp nat_cmp s.id y.id ≡ Less = Less-turned nat_list_cmp_total y.id s.id c in
+        let first : slice_cmp nat_cmp s.id y.id ≡ Less = Less_turned nat_list_cmp_total y.id s.id c in
         let behind : All (λ z. slice_cmp nat_cmp s.id z.id ≡ Less) (y ∷ ys) =
         All-cons (λ z. slice_cmp nat_cmp s.id z.id ≡ Less) y ys first
         (All-weaker (λ z. IsTrue (is_lt (slice_cmp nat_cmp y.id z.id))) (λ z. slice_cmp nat_cmp s.id z.id ≡ Less)
         (λ z less. nat_list_cmp_total.trans s.id y.id z.id first
-        (Less-from_is_lt (slice_cmp nat_cmp y.id z.id) less)) ys higher) in
+        (Less_from_is_lt (slice_cmp nat_cmp y.id z.id) less)) ys higher) in
         let splits : Splits (slice_cmp nat_cmp) (λ (r : Sysmod). r.id) s.id [] (y ∷ ys) =
         record { low = λ i d below. absurd (omega arith); high = behind } in
-        ap (filter (λ r. not (bytes_eq r.id s.id))) (with_item-new nat_list_cmp_total (λ (r : Sysmod). r.id) [] (y ∷ ys)
+        ap (filter (λ r. not (bytes_eq r.id s.id))) (with_item_new nat_list_cmp_total (λ (r : Sysmod). r.id) [] (y ∷ ys)
         s splits)
         ∙ ap (λ b. cond (not b) (s ∷ filter (λ r. not (bytes_eq r.id s.id)) (y ∷ ys))
         (filter (λ r. not (bytes_eq r.id s.id)) (y ∷ ys))) (same_itself s.id)
-        ∙ filter-all (λ r. not (bytes_eq r.id s.id)) (y ∷ ys)
+        ∙ filter_all (λ r. not (bytes_eq r.id s.id)) (y ∷ ys)
         (All-weaker (λ z. slice_cmp nat_cmp s.id z.id ≡ Less) (λ z. not (bytes_eq z.id s.id) ≡ true)
         (λ z less. ap not (behind_other z.id less)) (y ∷ ys) behind)
       where
         behind_other : (x : Id) → slice_cmp nat_cmp s.id x ≡ Less → bytes_eq x s.id ≡ false
-        behind_other x less = sym (is_eq-slice_cmp x s.id) ∙ ap is_eq (Greater-turned nat_list_cmp_total s.id x less)
+        behind_other x less = sym (is_eq-slice_cmp x s.id) ∙ ap is_eq (Greater_turned nat_list_cmp_total s.id x less)
 
 pub put_back : (xs ys zs : List Sysmod) (s t : Sysmod) (x : Id) → Rises (slice_cmp nat_cmp) (λ r. r.id) xs
     → found xs s.id ≡ None → t ≡ record s { holds = [] } → x ≡ s.id

@@ -1,50 +1,47 @@
 //! The chain of an id.
 ghost use Rattle.std.specs.Prelude.{◌≡◌};
 ghost use Rattle.std.specs.Iterator.{YieldsFirst, item_count};
-ghost use Rattle.sysmods.specs.Choices.{by_srel};
+ghost use Rattle.sysmods.specs.Choices.{choice};
 ghost use Rattle.terms.specs.Over.{chain};
 
 use crate::choice::VerChoice;
-use crate::zone::Global;
-use fields::{Id, Srel};
+use fields::Id;
 use std::marker::Model;
 
-/// The walk from an id to its FMID, and on from FMID to FMID, by the `++VER`s of an SREL. A contract sees it as the
+/// The walk from an id to its FMID, and on from FMID to FMID, by the `++VER`s that count. A contract sees it as the
 /// list of the ids that are left.
 #[derive(Drop)]
-pub struct Chain<'a> {
-    global: &'a Global,
-    srel: Srel,
+pub struct Chain<'a, 'b> {
+    vers: &'a VerChoice<'b>,
     next: Option<Id>,
     most: usize,
 }
 
-impl<'a> Model for Chain<'a> {
+impl<'a, 'b> Model for Chain<'a, 'b> {
     ghost use Rattle.std.specs.Prelude.{List};
     ghost use Rattle.terms.specs.Types as terms;
 
     ghost Value = { List terms.Id };
 
-    ghost use Rattle.sysmods.specs.Choices.{by_srel};
+    ghost use Rattle.sysmods.specs.Choices.{choice};
     ghost use Rattle.terms.specs.Over.{chain_from};
 
-    ghost view = { λ a. chain_from a.most (by_srel a.global.now a.srel) a.next };
+    ghost view = { λ a. chain_from a.most (choice a.vers.now) a.next };
 }
 
-impl<'a> Chain<'a> {
-    pub(crate) fn new(global: &'a Global, srel: Srel, id: Id) -> Chain<'a>
-        ensures { result ≡ chain global.now (by_srel global.now srel) id }
+impl<'a, 'b> Chain<'a, 'b> {
+    pub(crate) fn new(vers: &'a VerChoice<'b>, id: Id) -> Chain<'a, 'b>
+        ensures { result ≡ chain vers.now.global.now (choice vers.now) id }
     {
         Chain {
-            global,
-            srel,
+            vers,
             next: Some(id),
-            most: global.len() + 1,
+            most: vers.global().len() + 1,
         }
     }
 }
 
-impl<'a> Iterator for Chain<'a> {
+impl<'a, 'b> Iterator for Chain<'a, 'b> {
     type Item = Id;
 
     ghost next_gives = { YieldsFirst (λ s. s) };
@@ -57,7 +54,7 @@ impl<'a> Iterator for Chain<'a> {
         }
         let id = self.next?;
         self.most -= 1;
-        self.next = VerChoice::new(self.global, self.srel).fmid(id);
+        self.next = self.vers.fmid(id);
         Some(id)
     }
 }

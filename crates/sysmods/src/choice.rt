@@ -1,29 +1,29 @@
 //! Which `++VER` of a SYSMOD counts.
-ghost use Rattle.std.specs.Prelude.{◌≡◌, ◌↔◌, ◌<◌, List, ℕ, length, position, Contains, IsTrue, IfOk, IfSome, find};
-ghost use Rattle.std.specs.Prelude.{option_copied};
+ghost use Rattle.std.specs.Prelude.{◌≡◌, ◌↔◌, ◌<◌, List, ℕ, length, position, Contains, IsTrue, IfOk, IfSome};
+ghost use Rattle.std.specs.Prelude.{filter, slice_get, option_copied};
 ghost use Rattle.std.specs.Str.{bytes_eq};
-ghost use Rattle.terms.specs.Choice.{fmid_of};
+ghost use Rattle.terms.specs.Choice.{fmid_of, first_ver};
 ghost use Rattle.terms.specs.Lookups.{is_in, meets};
 ghost use Rattle.terms.specs.Over.{IsOver, Supersedes, chain, owner};
 ghost use Rattle.sysmods.specs.Choices.{choice};
 
 use crate::chain::Chain;
-use crate::zone::Global;
+use crate::zone::GlobalZone;
 use fields::{Id, IdList, Srel};
-use std::alloc::{AllocError, Global as Heap};
+use std::alloc::{AllocError, Global};
 use sysmods_paths::{Names, ends, leads};
 use sysmods_records::Ver;
 
 /// Gives each received id its `++VER` that counts for a zone: the one of the zone's SREL.
 #[derive(Clone, Copy)]
 pub struct VerChoice<'a> {
-    global: &'a Global,
+    global: &'a GlobalZone,
     srel: Srel,
 }
 
 impl<'a> VerChoice<'a> {
     /// The choice of the `++VER`s for one SREL.
-    pub fn new(global: &'a Global, srel: Srel) -> Self
+    pub fn new(global: &'a GlobalZone, srel: Srel) -> Self
         ensures global { result.global.now ≡ global.now }
         ensures srel { result.srel ≡ srel }
     {
@@ -31,7 +31,7 @@ impl<'a> VerChoice<'a> {
     }
 
     /// The global zone that it looks into.
-    pub fn global(&self) -> &'a Global
+    pub fn global(&self) -> &'a GlobalZone
         ensures { result.now ≡ self.now.global.now }
     {
         self.global
@@ -41,8 +41,7 @@ impl<'a> VerChoice<'a> {
     pub fn ver(&self, id: Id) -> Option<&'a Ver>
         ensures { option_copied result ≡ choice self.now id }
     {
-        let sysmod = self.global.get(id)?;
-        of_srel(sysmod.vers.as_slice(), self.srel)
+        first_ver(self.global, self.srel, id)
     }
 
     /// The FMID of the `++VER` that counts.
@@ -63,10 +62,10 @@ impl<'a> VerChoice<'a> {
     }
 
     /// The id, and all that the walk from FMID to FMID meets.
-    pub fn chain(&self, id: Id) -> Chain<'a>
+    pub fn chain(&self, id: Id) -> Chain<'_, 'a>
         ensures { result ≡ chain self.now.global.now (choice self.now) id }
     {
-        Chain::new(self.global, self.srel, id)
+        Chain::new(self, id)
     }
 
     /// Whether its chain has one of these ids.
@@ -77,14 +76,14 @@ impl<'a> VerChoice<'a> {
     }
 
     /// Whether x is over z: a list leads from x to z by PRE, SUP and FMID.
-    pub fn over(&self, alloc: Heap, x: Id, z: Id) -> Result<bool, AllocError>
+    pub fn over(&self, alloc: Global, x: Id, z: Id) -> Result<bool, AllocError>
         ensures { IfOk result (λ over. IsTrue over ↔ IsOver (choice self.now) x z) }
     {
         leads(alloc, &AllNames { choice: self }, x, z)
     }
 
     /// The ids that x supersedes, directly or through others.
-    pub fn sup_all(&self, alloc: Heap, x: Id) -> Result<IdList, AllocError>
+    pub fn sup_all(&self, alloc: Global, x: Id) -> Result<IdList, AllocError>
         ensures { IfOk result (λ ids. (z : List ℕ) → Contains ids z ↔ Supersedes (choice self.now) x z) }
     {
         ends(alloc, &Superseded { choice: self }, x)
@@ -97,9 +96,17 @@ fn is_in(ids: &[Id], id: Id) -> bool
     ids.contains(&id)
 }
 
+/// The first `++VER` of the SYSMOD for the SREL.
+pub fn first_ver(global: &GlobalZone, srel: Srel, id: Id) -> Option<&Ver>
+    ensures { option_copied result ≡ first_ver global.now srel id }
+{
+    let sysmod = global.get(id)?;
+    of_srel(sysmod.vers.as_slice(), srel)
+}
+
 // The first of the `++VER`s for the SREL.
 fn of_srel<'a>(vers: &'a [Ver], srel: Srel) -> Option<&'a Ver>
-    ensures { option_copied result ≡ find (λ v. bytes_eq v.srel srel) vers.now }
+    ensures { option_copied result ≡ slice_get (filter (λ v. bytes_eq v.srel srel) vers.now) 0 }
 {
     match find_srel(vers, srel) {
         Some(place) => Some(&vers[place]),

@@ -1,5 +1,5 @@
 //! The global zone: the received SYSMODs and the holds.
-//! A `Global` keeps `IsGlobal`. `receive`, `hold`, `release`, `assign` and `reject` are the definitions', and where
+//! A `GlobalZone` keeps `IsGlobal`. `receive`, `hold`, `release`, `assign` and `reject` are the definitions', and where
 //! they fail nothing changes; `from_parts` takes two lists just where they are those of a global zone. `VerChoice`
 //! answers who is over, supersedes and owns, by the one `++VER` that counts. Times are measured only.
 #![tactic(auto)]
@@ -12,7 +12,7 @@ mod receive;
 mod zone;
 
 pub use chain::Chain;
-pub use choice::VerChoice;
+pub use choice::{VerChoice, first_ver};
 pub use edit::GlobalEdit;
 pub use fields::{
     Class, HoldDate, Id, IdList, Name, Reason, Rising, Source, SourceList, Srel, ZoneName,
@@ -21,4 +21,4 @@ pub use sysmods_holds::{Placed, ReleaseError};
 pub use sysmods_received::ReceiveFault;
 pub use sysmods_records::{Action, ElemChange, Hold, IfReq, Sysmod, Ver};
 pub use terms::{ElemType, HoldKind, Kind};
-pub use zone::{Global, RejectError};
+pub use zone::{GlobalZone, RejectError};

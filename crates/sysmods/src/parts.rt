@@ -8,16 +8,16 @@ ghost use Rattle.terms.specs.declared.kinds.HoldKind.TheVariants.{System};
 ghost use Rattle.terms.specs.Lookups.{is_received};
 ghost use Rattle.terms.proofs.GlobalKept.{IsOwned};
 
-use std::alloc::{AllocError, Global as Heap};
+use sorted::are_rising;
+use std::alloc::{AllocError, Global};
 use sysmods_received::{Received, refusal};
 use sysmods_records::{Hold, Sysmod};
-use tables::are_rising;
 use terms::HoldKind;
 
 /// These SYSMODs, if they are those of a global zone: they rise by id and carry no holds, there is no
 /// loop, roles fit, and they are not too many.
 pub(crate) fn received_from(
-    alloc: Heap,
+    alloc: Global,
     sysmods: Vec<Sysmod>,
 ) -> Result<Option<Received>, AllocError>
     ensures some { IfOk result (λ made. IfSome made (λ received. received ≡ sysmods.items)) }
@@ -36,7 +36,7 @@ pub(crate) fn received_from(
 }
 
 /// Takes in a SYSMOD that stands behind all others, if they are those of a global zone with it.
-fn add_last(alloc: Heap, received: &mut Received, sysmod: Sysmod) -> Result<bool, AllocError>
+fn add_last(alloc: Global, received: &mut Received, sysmod: Sysmod) -> Result<bool, AllocError>
     requires global { IsGlobal (zone_of received.old) }
     requires last { All (λ s. IsTrue (is_lt (slice_cmp nat_cmp s.id sysmod.id))) received.old }
     ensures fits { IfOk result (λ fits. IsTrue fits ↔ IsGlobal (zone_of (received.old ++ sysmod ∷ []))) }
@@ -48,7 +48,7 @@ fn add_last(alloc: Heap, received: &mut Received, sysmod: Sysmod) -> Result<bool
     if refusal(alloc, received, &sysmod)?.is_some() {
         return Ok(false);
     }
-    sysmod.known();
+    sysmod.attest();
     drop(received.insert(sysmod)?);
     Ok(true)
 }

@@ -6,7 +6,7 @@ ghost use Rattle.terms.specs.Rising.{with_item};
 ghost use Rattle.sysmods_holds.specs.Lists.{with_holds};
 ghost use Rattle.sysmods_received.specs.Held.{found};
 
-use std::alloc::{AllocError, Global as Heap};
+use std::alloc::{AllocError, Global};
 use sysmods_holds::Holds;
 use sysmods_received::Received;
 use sysmods_records::Sysmod;
@@ -16,7 +16,7 @@ use sysmods_records::Sysmod;
 pub(crate) fn take_in(
     sysmods: &mut Received,
     holds: &mut Holds,
-    alloc: Heap,
+    alloc: Global,
     mut sysmod: Sysmod,
 ) -> Result<(), AllocError>
     requires { found sysmods.old sysmod.id ≡ None }

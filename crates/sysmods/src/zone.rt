@@ -1,5 +1,5 @@
 //! The received SYSMODs and the holds.
-ghost use Rattle.std.specs.Prelude.{◌≡◌, ◌↔◌, ◌<◌, ◌^◌, ◌++◌, [], List, length, Ok, Err, IsTrue, IsOk, IfOk, IfErr};
+ghost use Rattle.std.specs.Prelude.{◌≡◌, ◌↔◌, ◌<◌, ◌^◌, ◌++◌, [], length, Ok, Err, IsTrue, IsOk, IfOk, IfErr};
 ghost use Rattle.std.specs.Prelude.{OnOk};
 ghost use Rattle.std.specs.Prelude.{OnErr, option_copied, if◌then◌else◌};
 ghost use Rattle.std.specs.Map.Iter.{ShowsInOrder, deref};
@@ -16,7 +16,7 @@ ghost use Rattle.sysmods.specs.Parts.{IsMadeOf};
 use crate::parts::{are_owned, received_from};
 use crate::receive::take_in;
 use fields::{Id, Reason, Source, Srel};
-use std::alloc::{AllocError, Global as Heap};
+use std::alloc::{AllocError, Global};
 use std::collections::btree_map::Values;
 use std::marker::Model;
 use sysmods_holds::{Holds, Placed, ReleaseError};
@@ -34,12 +34,12 @@ pub enum RejectError {
 
 /// The global zone: what was received. SYSMODs rise by id, and holds by id, kind and reason.
 #[derive(Drop)]
-pub struct Global {
+pub struct GlobalZone {
     sysmods: Received,
     holds: Holds,
 }
 
-impl Model for Global {
+impl Model for GlobalZone {
     ghost use Rattle.terms.specs.Types.{Global as AGlobal};
 
     ghost Value = { AGlobal };
@@ -52,13 +52,13 @@ impl Model for Global {
     ghost invariant = { λ g. IsGlobal (a_global g.sysmods g.holds) };
 }
 
-impl Global {
+impl GlobalZone {
     /// A global zone that has received nothing.
-    pub fn new(alloc: Heap) -> Self
+    pub fn new(alloc: Global) -> Self
         ensures sysmods { result.sysmods ≡ [] }
         ensures holds { result.holds ≡ [] }
     {
-        Global {
+        GlobalZone {
             sysmods: Received::new(alloc),
             holds: Holds::new(alloc),
         }
@@ -66,7 +66,7 @@ impl Global {
 
     /// The global zone of these SYSMODs and holds, if they are those of one.
     pub fn from_parts(
-        alloc: Heap,
+        alloc: Global,
         sysmods: Vec<Sysmod>,
         holds: Vec<Hold>,
     ) -> Result<Option<Self>, AllocError>
@@ -81,7 +81,7 @@ impl Global {
         let Some(holds) = Holds::from_vec(alloc, holds)? else {
             return Ok(None);
         };
-        Ok(Some(Global { sysmods, holds }))
+        Ok(Some(GlobalZone { sysmods, holds }))
     }
 
     /// How many SYSMODs are received.
@@ -175,7 +175,7 @@ impl Global {
     /// is refused, if there is one.
     pub fn receive(
         &mut self,
-        alloc: Heap,
+        alloc: Global,
         sysmod: Sysmod,
     ) -> Result<Option<ReceiveFault>, AllocError>
         ensures answer { IfOk result (IsReceived self.old sysmod self.new) }
@@ -184,7 +184,7 @@ impl Global {
         match refusal(alloc, &self.sysmods, &sysmod)? {
             Some(fault) => Ok(Some(fault)),
             None => {
-                sysmod.known();
+                sysmod.attest();
                 take_in(&mut self.sysmods, &mut self.holds, alloc, sysmod)?;
                 Ok(None)
             }

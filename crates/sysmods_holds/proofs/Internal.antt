@@ -21,7 +21,7 @@ use Rattle.lemmas.proofs.Texts.{other_from_less, same_from, same_itself, same_ba
 use Rattle.terms.specs.declared.kinds.HoldKind.{HoldKind}
 use Rattle.terms.specs.declared.kinds.HoldKind.TheVariants.{Error, System, User}
 use Rattle.terms.specs.Types.{Id, Hold, hold_number}
-use Rattle.lemmas.proofs.Searches.{filter-all_recursion}
+use Rattle.lemmas.proofs.Searches.{filter_all_recursion}
 use Rattle.lemmas.proofs.Each.{recursion_weaker}
 use Rattle.sysmods_holds.specs.declared.key.HoldKey.{HoldKey}
 use Rattle.sysmods_holds.specs.Keys.{key_of, key_cmp, key_cmp_total, place_cmp, before_kind, behind_kind, IsByKey}
@@ -305,7 +305,7 @@ module _ (x : Id) (from : HoldKey) (of : from.id ≡ x) (es : Entries) (m : IsBy
   -- where there is none more, all is done
   pub done_all : AllByRecursion (λ e. goes_on from e.0 ≡ true → e.1.internal ≡ false) es
       → values_of es ≡ filter (stays x) (values_of es)
-  done_all none = sym (filter-all_recursion (stays x) (values_of es)
+  done_all none = sym (filter_all_recursion (stays x) (values_of es)
       (values es (both (λ e. key_cmp e.0 from ≡ Less → stays x e.1 ≡ true) (Rest from) (λ e. stays x e.1 ≡ true) step es
       done rest)))
     where

@@ -21,8 +21,8 @@ use Rattle.sysmods_holds.specs.KeyedMaps.{KnowKeys}
 use Rattle.terms.specs.Rising.{Rises, with_item}
 use Rattle.lemmas.proofs.Texts.{same_from, same_back}
 use Rattle.terms.proofs.GlobalKept.{kind_from}
-use Rattle.terms.proofs.HoldOrder.{has_key-ties, number_back}
-use Rattle.lemmas.proofs.Orderings.{is_eq-then}
+use Rattle.terms.proofs.HoldOrder.{has_key_ties, number_back}
+use Rattle.lemmas.proofs.Orderings.{is_eq_then}
 use Rattle.sysmods_holds.proofs.KeyedMaps as keyed
 use Rattle.sysmods_holds.specs.declared.key.Place.{Place}
 use Rattle.sysmods_holds.specs.declared.key.Place.TheVariants.{First, At, Last}
@@ -61,8 +61,8 @@ exact_keys a b e =
     let kinds = nat_cmp (hold_number a.kind) (hold_number b.kind) in
     let places = place_cmp a.place b.place in
     let first = and_parts (is_eq ids) (is_eq (ordering_then kinds places))
-    (sym (is_eq-then ids (ordering_then kinds places)) ∙ ap is_eq e) in
-    let second = and_parts (is_eq kinds) (is_eq places) (sym (is_eq-then kinds places) ∙ first.1) in
+    (sym (is_eq_then ids (ordering_then kinds places)) ∙ ap is_eq e) in
+    let second = and_parts (is_eq kinds) (is_eq places) (sym (is_eq_then kinds places) ∙ first.1) in
     one_key a b
     (same_from a.id b.id (sym (is_eq-slice_cmp a.id b.id) ∙ first.0))
     (kind_from a.kind b.kind (unsigned_ties (hold_number a.kind) (hold_number b.kind) ∙ second.0))
@@ -71,44 +71,44 @@ exact_keys a b e =
 module _ (es : Entries) (m : IsByKey es) where
   -- the list rises
   pub rising : Rises hold_cmp (λ h. h) (values_of es)
-  rising = keyed.Rises-values key_cmp_total key_of es m.known m.sorted
+  rising = keyed.Rises_values key_cmp_total key_of es m.known m.sorted
 
   -- what stands at a key
   pub found : (x : Id) (kind : HoldKind) (reason : Text) → lookup (is_at (key_cmp (key x kind reason))) es ≡ held
       (values_of es) x kind reason
   found x kind reason =
-      keyed.lookup-values key_cmp_total key_of (is_at (key_cmp (key x kind reason))) (has_key x kind reason)
-      (has_key-ties x kind reason) es m.known
+      keyed.lookup_values key_cmp_total key_of (is_at (key_cmp (key x kind reason))) (has_key x kind reason)
+      (has_key_ties x kind reason) es m.known
 
   -- a hold comes in
   pub put : (h : Hold) (fs : Entries) → fs ≡ insert_entry key_cmp es (key_of h) h
       → IsStrictlySortedBy key_cmp (keys_of fs) → IsByKey fs
   put h fs is sorted = record {
-    known = rw is (keyed.KnowKeys-insert_entry key_cmp_total key_of es h (exact_keys (key_of h)) m.known);
+    known = rw is (keyed.KnowKeys_insert_entry key_cmp_total key_of es h (exact_keys (key_of h)) m.known);
     sorted = sorted;
   }
 
   pub listed_put : (h : Hold) → values_of (insert_entry key_cmp es (key_of h) h) ≡ with_item hold_cmp (λ o. o)
       (values_of es) h
-  listed_put h = keyed.values-insert_entry key_cmp_total key_of es h m.known m.sorted
+  listed_put h = keyed.values_insert_entry key_cmp_total key_of es h m.known m.sorted
 
   -- a hold goes
   pub removed : (k : HoldKey) (fs : Entries) → fs ≡ remove_entry (is_at (key_cmp k)) es
       → IsStrictlySortedBy key_cmp (keys_of fs) → IsByKey fs
   removed k fs is sorted = record {
-    known = rw is (keyed.KnowKeys-remove_entry key_cmp_total key_of (is_at (key_cmp k)) es m.known);
+    known = rw is (keyed.KnowKeys_remove_entry key_cmp_total key_of (is_at (key_cmp k)) es m.known);
     sorted = sorted;
   }
 
   pub listed_removed : (k : HoldKey) (p : Hold → Bool) → ((h : Hold) → is_at (key_cmp k) (key_of h) ≡ p h)
       → values_of (remove_entry (is_at (key_cmp k)) es) ≡ filter (λ h. not (p h)) (values_of es)
-  listed_removed k p ties = keyed.values-remove_entry key_cmp_total key_of k p ties es m.known m.sorted
+  listed_removed k p ties = keyed.values_remove_entry key_cmp_total key_of k p ties es m.known m.sorted
 
   pub listed_released : (x : Id) (kind : HoldKind) (reason : Text)
       → values_of (remove_entry (is_at (key_cmp (key x kind reason))) es) ≡ filter (λ h. not (has_key x kind reason h))
       (values_of es)
   listed_released x kind reason = listed_removed (key x kind reason) (has_key x kind reason)
-      (has_key-ties x kind reason)
+      (has_key_ties x kind reason)
 
 -- what is found at a key has it
 pub found_key : (es : Entries) → KnowKeys key_of es → (k : HoldKey) (old : Hold)
@@ -148,7 +148,7 @@ pub listed_kind : (es : Entries) → IsByKey es → (x : Id) (kind : HoldKind)
     → values_of (entries_between key_cmp (Included (before_kind x kind)) (Excluded (behind_kind x kind)) es) ≡ filter
     (is_on x kind) (values_of es)
 listed_kind es m x kind =
-    keyed.values-filter key_cmp_total key_of (range_contains key_cmp (Included (before_kind x kind))
+    keyed.values_filter key_cmp_total key_of (range_contains key_cmp (Included (before_kind x kind))
     (Excluded (behind_kind x kind))) (is_on x kind) (on_kind x kind) es m.known
 
 -- all holds

@@ -13,11 +13,11 @@ use Rattle.std.proofs.lemmas.Cmp.{tied_itself, tied_back}
 use Rattle.std.proofs.lemmas.List.Elements.{All-cons, All-nil}
 use Rattle.std.proofs.lemmas.List.Kept.{AllPairs-cons}
 use Rattle.std.proofs.lemmas.Map.Keys.{sorted_head, sorted_tail}
-use Rattle.lemmas.proofs.Orderings.{Greater-turned, Less-turned, above_lower, above_same, Equal-from_is_eq}
+use Rattle.lemmas.proofs.Orderings.{Greater_turned, Less_turned, above_lower, above_same, Equal_from_is_eq}
 use Rattle.sysmods_holds.specs.KeyedMaps.{KnowKeys}
 use Rattle.terms.specs.Rising.{Rises, with_item}
-use Rattle.terms.proofs.GlobalGroups.{put-ahead, put-behind}
-use Rattle.lemmas.proofs.Searches.{filter-all_recursion}
+use Rattle.terms.proofs.GlobalGroups.{put_ahead, put_behind}
+use Rattle.lemmas.proofs.Searches.{filter_all_recursion}
 use Rattle.lemmas.proofs.Each.{recursion_weaker}
 
 -- the test by the key's order is the test of the values
@@ -39,18 +39,18 @@ module _ {X K : Type 0} {C : K → K → Ordering} (o : IsTotalOrder C) (key : X
   unfolding R
   all_behind y es known above xs =
       let behind = values_have (λ q. C (key y) q ≡ Less) es known above in
-      put-behind R xs (values_of es) y
+      put_behind R xs (values_of es) y
       (recursion_weaker (λ x. C (key y) (key x) ≡ Less) (λ x. is_lt (R x y) ≡ false)
-      (λ x h. ap is_lt (Greater-turned o (key y) (key x) h)) (values_of es) behind)
+      (λ x h. ap is_lt (Greater_turned o (key y) (key x) h)) (values_of es) behind)
       (recursion_weaker (λ x. C (key y) (key x) ≡ Less) (λ x. is_lt (R y x) ≡ true) (λ x h. ap is_lt h) (values_of es)
       behind)
 
   -- a value takes its place by its key
-  pub values-insert_entry : (es : List (K × X)) (y : X) → KnowKeys key es → IsStrictlySortedBy C (keys_of es)
+  pub values_insert_entry : (es : List (K × X)) (y : X) → KnowKeys key es → IsStrictlySortedBy C (keys_of es)
       → values_of (insert_entry C es (key y) y) ≡ with_item C key (values_of es) y
   unfolding R
-  values-insert_entry [] y known sorted = refl
-  values-insert_entry (e ∷ es) y known sorted = by (values-insert_entry es y known.1
+  values_insert_entry [] y known sorted = refl
+  values_insert_entry (e ∷ es) y known sorted = by (values_insert_entry es y known.1
       (sorted_tail C e.0 (keys_of es) sorted)) (C (key y) e.0) refl
     where
       higher : AllByRecursion (λ q. C e.0 q ≡ Less) (keys_of es)
@@ -69,14 +69,14 @@ module _ {X K : Type 0} {C : K → K → Ordering} (o : IsTotalOrder C) (key : X
           rw c (ap (λ xs. xs ++ values_of es) (sym alone) ∙ sym
           (all_behind y es known.1 (above_same o (key y) e.0 (keys_of es) c higher) (e.1 ∷ [])))
       by again Greater c =
-          let first : is_lt (R e.1 y) ≡ true = ap is_lt (Less-turned o (key y) (key e.1) (at Greater c)) in
+          let first : is_lt (R e.1 y) ≡ true = ap is_lt (Less_turned o (key y) (key e.1) (at Greater c)) in
           let second : is_lt (R y e.1) ≡ false = ap is_lt (at Greater c) in
-          rw c (ap (λ xs. e.1 ∷ xs) again ∙ sym (put-ahead R (e.1 ∷ []) (values_of es) y (first, tt) (second, tt)))
+          rw c (ap (λ xs. e.1 ∷ xs) again ∙ sym (put_ahead R (e.1 ∷ []) (values_of es) y (first, tt) (second, tt)))
 
-  pub KnowKeys-insert_entry : (es : List (K × X)) (y : X) → ((k : K) → C (key y) k ≡ Equal → key y ≡ k)
+  pub KnowKeys_insert_entry : (es : List (K × X)) (y : X) → ((k : K) → C (key y) k ≡ Equal → key y ≡ k)
       → KnowKeys key es → KnowKeys key (insert_entry C es (key y) y)
-  KnowKeys-insert_entry [] y exact known = (refl, tt)
-  KnowKeys-insert_entry (e ∷ es) y exact known = by (KnowKeys-insert_entry es y exact known.1) (C (key y) e.0) refl
+  KnowKeys_insert_entry [] y exact known = (refl, tt)
+  KnowKeys_insert_entry (e ∷ es) y exact known = by (KnowKeys_insert_entry es y exact known.1) (C (key y) e.0) refl
     where
       by : KnowKeys key (insert_entry C es (key y) y) → (c : Ordering) → C (key y) e.0 ≡ c
           → KnowKeys key (insert_entry C (e ∷ es) (key y) y)
@@ -84,33 +84,33 @@ module _ {X K : Type 0} {C : K → K → Ordering} (o : IsTotalOrder C) (key : X
       by again Equal c = rw c (exact e.0 c, known.1)
       by again Greater c = rw c (known.0, again)
 
-  pub KnowKeys-remove_entry : (test : K → Bool) (es : List (K × X)) → KnowKeys key es
+  pub KnowKeys_remove_entry : (test : K → Bool) (es : List (K × X)) → KnowKeys key es
       → KnowKeys key (remove_entry test es)
-  KnowKeys-remove_entry test [] known = tt
-  KnowKeys-remove_entry test (e ∷ es) known = by (KnowKeys-remove_entry test es known.1) (test e.0) refl
+  KnowKeys_remove_entry test [] known = tt
+  KnowKeys_remove_entry test (e ∷ es) known = by (KnowKeys_remove_entry test es known.1) (test e.0) refl
     where
       by : KnowKeys key (remove_entry test es) → (b : Bool) → test e.0 ≡ b → KnowKeys key (remove_entry test (e ∷ es))
       by again true here = rw here known.1
       by again false other = rw other (known.0, again)
 
   -- the value of a key goes
-  pub values-remove_entry : (k : K) (p : X → Bool) → Ties (is_at (C k)) key p → (es : List (K × X)) → KnowKeys key es
+  pub values_remove_entry : (k : K) (p : X → Bool) → Ties (is_at (C k)) key p → (es : List (K × X)) → KnowKeys key es
       → IsStrictlySortedBy C (keys_of es)
       → values_of (remove_entry (is_at (C k)) es) ≡ filter (λ x. not (p x)) (values_of es)
-  values-remove_entry k p ties [] known sorted = refl
-  values-remove_entry k p ties (e ∷ es) known sorted =
-      by (values-remove_entry k p ties es known.1 (sorted_tail C e.0 (keys_of es) sorted)) (is_at (C k) e.0) refl
+  values_remove_entry k p ties [] known sorted = refl
+  values_remove_entry k p ties (e ∷ es) known sorted =
+      by (values_remove_entry k p ties es known.1 (sorted_tail C e.0 (keys_of es) sorted)) (is_at (C k) e.0) refl
     where
       at : (b : Bool) → is_at (C k) e.0 ≡ b → p e.1 ≡ b
       at b is = sym (ties e.1) ∙ ap (λ q. is_at (C k) q) known.0 ∙ is
 
       others_stay : is_at (C k) e.0 ≡ true → filter (λ x. not (p x)) (values_of es) ≡ values_of es
       others_stay here =
-          filter-all_recursion (λ x. not (p x)) (values_of es)
+          filter_all_recursion (λ x. not (p x)) (values_of es)
           (recursion_weaker (λ x. C k (key x) ≡ Less) (λ x. not (p x) ≡ true)
           (λ x less. ap not (sym (ties x) ∙ ap is_eq less)) (values_of es)
           (values_have (λ q. C k q ≡ Less) es known.1
-          (above_same o k e.0 (keys_of es) (Equal-from_is_eq (C k e.0) here) (sorted_head C e.0 (keys_of es) sorted))))
+          (above_same o k e.0 (keys_of es) (Equal_from_is_eq (C k e.0) here) (sorted_head C e.0 (keys_of es) sorted))))
 
       by : values_of (remove_entry (is_at (C k)) es) ≡ filter (λ x. not (p x)) (values_of es)
           → (b : Bool) → is_at (C k) e.0 ≡ b → values_of (remove_entry (is_at (C k)) (e ∷ es)) ≡ filter (λ x. not (p x))
@@ -119,18 +119,18 @@ module _ {X K : Type 0} {C : K → K → Ordering} (o : IsTotalOrder C) (key : X
       by again false other = rw (other, at false other) (ap (λ xs. e.1 ∷ xs) again)
 
   -- what a look-up finds
-  pub lookup-values : (test : K → Bool) (p : X → Bool) → Ties test key p → (es : List (K × X)) → KnowKeys key es
+  pub lookup_values : (test : K → Bool) (p : X → Bool) → Ties test key p → (es : List (K × X)) → KnowKeys key es
       → lookup test es ≡ find p (values_of es)
-  lookup-values test p ties [] known = refl
-  lookup-values test p ties (e ∷ es) known =
+  lookup_values test p ties [] known = refl
+  lookup_values test p ties (e ∷ es) known =
       let here : test e.0 ≡ p e.1 = ap test (sym known.0) ∙ ties e.1 in
-      rw here (ap (cond (p e.1) (Some e.1)) (lookup-values test p ties es known.1))
+      rw here (ap (cond (p e.1) (Some e.1)) (lookup_values test p ties es known.1))
 
   -- what lies in a range of keys
-  pub values-filter : (test : K → Bool) (p : X → Bool) → Ties test key p → (es : List (K × X)) → KnowKeys key es
+  pub values_filter : (test : K → Bool) (p : X → Bool) → Ties test key p → (es : List (K × X)) → KnowKeys key es
       → values_of (filter (λ e. test e.0) es) ≡ filter p (values_of es)
-  values-filter test p ties [] known = refl
-  values-filter test p ties (e ∷ es) known = by (values-filter test p ties es known.1) (test e.0) refl
+  values_filter test p ties [] known = refl
+  values_filter test p ties (e ∷ es) known = by (values_filter test p ties es known.1) (test e.0) refl
     where
       by : values_of (filter (λ e. test e.0) es) ≡ filter p (values_of es) → (b : Bool) → test e.0 ≡ b
           → values_of (filter (λ e. test e.0) (e ∷ es)) ≡ filter p (values_of (e ∷ es))
@@ -140,13 +140,13 @@ module _ {X K : Type 0} {C : K → K → Ordering} (o : IsTotalOrder C) (key : X
           in rw (other, there) again
 
   -- the values rise
-  pub Rises-values : (es : List (K × X)) → KnowKeys key es → IsStrictlySortedBy C (keys_of es)
+  pub Rises_values : (es : List (K × X)) → KnowKeys key es → IsStrictlySortedBy C (keys_of es)
       → Rises C key (values_of es)
-  Rises-values [] known sorted = λ i j d less below. absurd (omega arith)
-  Rises-values (e ∷ es) known sorted =
+  Rises_values [] known sorted = λ i j d less below. absurd (omega arith)
+  Rises_values (e ∷ es) known sorted =
       AllPairs-cons (λ x y. IsTrue (is_lt (C (key x) (key y)))) e.1 (values_of es)
       (all_from (values_of es) (values_have (λ q. C e.0 q ≡ Less) es known.1 (sorted_head C e.0 (keys_of es) sorted)))
-      (Rises-values es known.1 (sorted_tail C e.0 (keys_of es) sorted))
+      (Rises_values es known.1 (sorted_tail C e.0 (keys_of es) sorted))
     where
       all_from : (xs : List X) → AllByRecursion (λ x. C e.0 (key x) ≡ Less) xs
           → All (λ x. IsTrue (is_lt (C (key e.1) (key x)))) xs
@@ -162,10 +162,10 @@ module _ {X K : Type 0} {C : K → K → Ordering} (o : IsTotalOrder C) (key : X
   none_above k (e ∷ es) all = rw all.0 (none_above k es all.1)
 
   -- a new entry goes again
-  pub remove-insert : (es : List (K × X)) (k : K) (v : X) → lookup (is_at (C k)) es ≡ None
+  pub remove_insert : (es : List (K × X)) (k : K) (v : X) → lookup (is_at (C k)) es ≡ None
       → remove_entry (is_at (C k)) (insert_entry C es k v) ≡ es
-  remove-insert [] k v none = rw (tied_itself o k) refl
-  remove-insert (e ∷ es) k v none = by (remove-insert es k v) (C k e.0) refl
+  remove_insert [] k v none = rw (tied_itself o k) refl
+  remove_insert (e ∷ es) k v none = by (remove_insert es k v) (C k e.0) refl
     where
       by : (lookup (is_at (C k)) es ≡ None → remove_entry (is_at (C k)) (insert_entry C es k v) ≡ es)
           → (c : Ordering) → C k e.0 ≡ c → remove_entry (is_at (C k)) (insert_entry C (e ∷ es) k v) ≡ e ∷ es
@@ -177,11 +177,11 @@ module _ {X K : Type 0} {C : K → K → Ordering} (o : IsTotalOrder C) (key : X
       by again Greater c = let rest = rw c at none in rw (c, c) (ap (λ fs. e ∷ fs) (again rest))
 
   -- an old value comes again
-  pub insert-insert : (es : List (K × X)) (k : K) (v old : X) → IsStrictlySortedBy C (keys_of es)
+  pub insert_insert : (es : List (K × X)) (k : K) (v old : X) → IsStrictlySortedBy C (keys_of es)
       → lookup (is_at (C k)) es ≡ Some old
       → insert_entry C (insert_entry C es k v) k old ≡ es
-  insert-insert [] k v old sorted some = cc
-  insert-insert (e ∷ es) k v old sorted some = by (insert-insert es k v old (sorted_tail C e.0 (keys_of es) sorted))
+  insert_insert [] k v old sorted some = cc
+  insert_insert (e ∷ es) k v old sorted some = by (insert_insert es k v old (sorted_tail C e.0 (keys_of es) sorted))
       (C k e.0) refl
     where
       by : (lookup (is_at (C k)) es ≡ Some old → insert_entry C (insert_entry C es k v) k old ≡ es)
@@ -203,9 +203,9 @@ module _ {X K : Type 0} {C : K → K → Ordering} (o : IsTotalOrder C) (key : X
       by again Greater c = let rest = rw c at some in rw (c, c) (ap (λ fs. e ∷ fs) (again rest))
 
   -- what was put is found
-  pub lookup-inserted : (es : List (K × X)) (k : K) (v : X) → lookup (is_at (C k)) (insert_entry C es k v) ≡ Some v
-  lookup-inserted [] k v = rw (tied_itself o k) refl
-  lookup-inserted (e ∷ es) k v = by (lookup-inserted es k v) (C k e.0) refl
+  pub lookup_inserted : (es : List (K × X)) (k : K) (v : X) → lookup (is_at (C k)) (insert_entry C es k v) ≡ Some v
+  lookup_inserted [] k v = rw (tied_itself o k) refl
+  lookup_inserted (e ∷ es) k v = by (lookup_inserted es k v) (C k e.0) refl
     where
       by : lookup (is_at (C k)) (insert_entry C es k v) ≡ Some v → (c : Ordering) → C k e.0 ≡ c
           → lookup (is_at (C k)) (insert_entry C (e ∷ es) k v) ≡ Some v

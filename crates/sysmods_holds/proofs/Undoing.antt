@@ -26,7 +26,7 @@ module _ (es fs : Entries) (m : IsByKey es) (h : Hold) (is : fs ≡ insert_entry
   pub undoes_new : lookup (is_at (key_cmp (key_of h))) es ≡ None
       → Undoes (values_of es) (values_of fs) (Remove (key_of h))
   undoes_new none =
-      ap values_of (sym (keyed.remove-insert key_cmp_total key_of es (key_of h) h none)
+      ap values_of (sym (keyed.remove_insert key_cmp_total key_of es (key_of h) h none)
       ∙ ap (remove_entry (is_at (key_cmp (key_of h)))) (sym is))
       ∙ listed_removed fs new (key_of h) (λ o. is_at (key_cmp (key_of h)) (key_of o)) (λ o. refl)
 
@@ -36,12 +36,12 @@ module _ (es fs : Entries) (m : IsByKey es) (h : Hold) (is : fs ≡ insert_entry
   undoes_replaced old some =
       let same : key_of old ≡ key_of h = found_key es m.known (key_of h) old some in
       let there : lookup (is_at (key_cmp (key_of h))) fs ≡ Some h =
-      ap (lookup (is_at (key_cmp (key_of h)))) is ∙ keyed.lookup-inserted key_cmp_total key_of es (key_of h) h
+      ap (lookup (is_at (key_cmp (key_of h)))) is ∙ keyed.lookup_inserted key_cmp_total key_of es (key_of h) h
       in
       let stands : held (values_of fs) old.id old.kind old.reason ≡ Some h =
       sym (found fs new old.id old.kind old.reason) ∙ ap (λ k. lookup (is_at (key_cmp k)) fs) same ∙ there in
       let back : insert_entry key_cmp fs (key_of old) old ≡ es =
-      ap₂ (λ gs k. insert_entry key_cmp gs k old) is same ∙ keyed.insert-insert key_cmp_total key_of es (key_of h) h old
+      ap₂ (λ gs k. insert_entry key_cmp gs k old) is same ∙ keyed.insert_insert key_cmp_total key_of es (key_of h) h old
       m.sorted some in
       (ap is_some stands, ap values_of (sym back) ∙ listed_put fs new old)
 

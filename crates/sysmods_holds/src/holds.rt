@@ -1,7 +1,6 @@
 //! The map of holds.
-ghost use Rattle.std.specs.Prelude.{◌≡◌, ◌↔◌, ◌<◌, ◌^◌, [], List, length, filter, find, not, is_some, Some, None, Err};
+ghost use Rattle.std.specs.Prelude.{◌≡◌, ◌↔◌, ◌<◌, ◌^◌, [], List, length, filter, not, is_some, Some, None, Err};
 ghost use Rattle.std.specs.Prelude.{IsTrue, IsSome, IsSomeAnd, IfOk, IfSome, OnOk, OnErr, option_copied, if◌then◌else◌};
-ghost use Rattle.std.specs.Result.{IsErrOf};
 ghost use Rattle.terms.specs.Global.{has_key, hold_cmp, marked};
 ghost use Rattle.terms.specs.Rising.{Rises};
 ghost use Rattle.terms.specs.Types as terms;
@@ -14,11 +13,11 @@ use crate::iter::Iter;
 use crate::key::{HoldKey, Place, key_of};
 use crate::undo::{Undo, put_each, take_back};
 use fields::{Id, Reason};
+use sorted::are_rising;
 use std::alloc::{AllocError, Global};
 use std::collections::BTreeMap;
 use std::marker::Model;
 use sysmods_records::Hold;
-use tables::are_rising;
 use terms::HoldKind;
 use thiserror::Error;
 

@@ -1,8 +1,8 @@
 //! Putting holds so that it can be taken back.
-ghost use Rattle.std.specs.Prelude.{◌≡◌, List, [], IfOk, OnOk, OnErr};
+ghost use Rattle.std.specs.Prelude.{◌≡◌, List, [], OnOk};
 ghost use Rattle.terms.specs.Types as terms;
-ghost use Rattle.sysmods_holds.specs.Lists.{with_hold, with_holds};
-ghost use Rattle.sysmods_holds.specs.Undone.{Undoes, UndoesAll};
+ghost use Rattle.sysmods_holds.specs.Lists.{with_holds};
+ghost use Rattle.sysmods_holds.specs.Undone.{UndoesAll};
 
 use crate::holds::Holds;
 use crate::key::HoldKey;

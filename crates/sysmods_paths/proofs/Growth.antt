@@ -11,21 +11,21 @@ use Rattle.lemmas.proofs.Members.{none_in}
 use Rattle.indexmap.specs.IndexSet.{insert_key}
 use Rattle.terms.specs.Types.{Id}
 use Rattle.terms.specs.Lookups.{is_in}
-use Rattle.terms.proofs.Ids.{Contains-from_is_in, is_in-from_Contains}
+use Rattle.terms.proofs.Ids.{Contains_from_is_in, is_in_from_Contains}
 use Rattle.sysmods_paths.specs.Seen.{AddsAll}
 
 -- the keys after an insertion: they stay, or gain the id behind them
-insert_key-cases : (keys : List Id) (x : Id)
+insert_key_cases : (keys : List Id) (x : Id)
     → (Contains keys x × (insert_key bytes_eq keys x ≡ keys)) ⊎ (insert_key bytes_eq keys x ≡ keys ++ x ∷ [])
-insert_key-cases keys x = by (list_any (bytes_eq x) keys) refl
+insert_key_cases keys x = by (list_any (bytes_eq x) keys) refl
   where
     by : (b : Bool) → list_any (bytes_eq x) keys ≡ b
         → (Contains keys x × (insert_key bytes_eq keys x ≡ keys)) ⊎ (insert_key bytes_eq keys x ≡ keys ++ x ∷ [])
-    by true e = inl (Contains-from_is_in keys x e, ap (λ c. if c then keys else keys ++ x ∷ []) e)
+    by true e = inl (Contains_from_is_in keys x e, ap (λ c. if c then keys else keys ++ x ∷ []) e)
     by false e = inr (ap (λ c. if c then keys else keys ++ x ∷ []) e)
 
-pub adds-none : (old : List Id) → AddsAll old [] old
-adds-none old = record {
+pub adds_none : (old : List Id) → AddsAll old [] old
+adds_none old = record {
   added = [];
   kept = sym (append-nil old);
   were_named = λ z h. absurd (none_in z h);
@@ -33,9 +33,9 @@ adds-none old = record {
 }
 
 -- one more id is named and inserted
-pub adds-insert : (old named seen : List Id) (x : Id) → AddsAll old named seen
+pub adds_insert : (old named seen : List Id) (x : Id) → AddsAll old named seen
     → AddsAll old (named ++ x ∷ []) (insert_key bytes_eq seen x)
-adds-insert old named seen x adds = by (insert_key-cases seen x)
+adds_insert old named seen x adds = by (insert_key_cases seen x)
   where
     by : (Contains seen x × (insert_key bytes_eq seen x ≡ seen)) ⊎ (insert_key bytes_eq seen x ≡ seen ++ x ∷ [])
         → AddsAll old (named ++ x ∷ []) (insert_key bytes_eq seen x)
@@ -67,34 +67,34 @@ adds-insert old named seen x adds = by (insert_key-cases seen x)
     }
 
 -- the next of those named is inserted
-pub adds-next : (old named seen new : List Id) (i : ℕ) (x : Id) → i < length named → x ≡ get_or named i x
+pub adds_next : (old named seen new : List Id) (i : ℕ) (x : Id) → i < length named → x ≡ get_or named i x
     → new ≡ insert_key bytes_eq seen x → AddsAll old (take i named) seen → AddsAll old (take (i + 1) named) new
-adds-next old named seen new i x below at inserted adds =
+adds_next old named seen new i x below at inserted adds =
     subst (λ now. AddsAll old (take (i + 1) named) now) (sym inserted)
     (subst (λ gone. AddsAll old gone (insert_key bytes_eq seen x))
     (sym (take_more named i x below ∙ ap (λ y. take i named ++ y ∷ []) (sym at)))
-    (adds-insert old (take i named) seen x adds))
+    (adds_insert old (take i named) seen x adds))
 
 -- the test, where what is not there is there
-pub is_in-from_either : (keys : List Id) (x : Id) → (¬ Contains keys x → Contains keys x) → is_in keys x ≡ true
-is_in-from_either keys x either = by (is_in keys x) refl
+pub is_in_from_either : (keys : List Id) (x : Id) → (¬ Contains keys x → Contains keys x) → is_in keys x ≡ true
+is_in_from_either keys x either = by (is_in keys x) refl
   where
     by : (b : Bool) → is_in keys x ≡ b → is_in keys x ≡ true
     by true e = e
-    by false e = is_in-from_Contains keys x (either (λ there. true≢false (sym (is_in-from_Contains keys x there) ∙ e)))
+    by false e = is_in_from_Contains keys x (either (λ there. true≢false (sym (is_in_from_Contains keys x there) ∙ e)))
 
 -- an id that was there is there still
-pub adds-keeps : (old named new : List Id) → AddsAll old named new → (z : Id) → Contains old z → Contains new z
-adds-keeps old named new adds z h = subst (λ ks. Contains ks z) (sym adds.kept)
+pub adds_keeps : (old named new : List Id) → AddsAll old named new → (z : Id) → Contains old z → Contains new z
+adds_keeps old named new adds z h = subst (λ ks. Contains ks z) (sym adds.kept)
     (Contains-append_left old adds.added z h)
 
 -- an id that is there was there or is one of those named
-pub adds-cases : (old named new : List Id) → AddsAll old named new → (z : Id) → Contains new z
+pub adds_cases : (old named new : List Id) → AddsAll old named new → (z : Id) → Contains new z
     → Contains old z ⊎ Contains named z
-adds-cases old named new adds z h =
+adds_cases old named new adds z h =
     elim (Contains-append_cases old adds.added z (subst (λ ks. Contains ks z) adds.kept h))
     [ inl was ↦ inl was | inr is_new ↦ inr (adds.were_named z is_new) ]
 
 -- the first ones stay the first
-pub take-adds : (old named new : List Id) (n : ℕ) → AddsAll old named new → n ≤ length old → take n new ≡ take n old
-take-adds old named new n adds within = ap (take n) adds.kept ∙ take-append-le n old adds.added within
+pub take_adds : (old named new : List Id) (n : ℕ) → AddsAll old named new → n ≤ length old → take n new ≡ take n old
+take_adds old named new n adds within = ap (take n) adds.kept ∙ take-append-le n old adds.added within

@@ -1,3 +1,4 @@
+//! Searches in a graph of ids.
 ghost use Rattle.std.specs.Prelude.{◌≡◌, ◌++◌, ◌↔◌, ◌<◌, ◌||◌, length, List, ℕ, OnOk, IfOk, IsSomeAnd, Contains};
 ghost use Rattle.std.specs.Prelude.{IsTrue};
 ghost use Rattle.terms.specs.Lookups.{is_in};

@@ -20,10 +20,10 @@ use Rattle.terms.specs.Types.{Text, Id, Sysmod}
 use Rattle.terms.specs.Rising.{Rises}
 use Rattle.terms.specs.Global.{IsSysmod, with_source}
 use Rattle.lemmas.proofs.Texts.{same_from, same_back}
-use Rattle.lemmas.proofs.Searches.{find-passes, All-find}
+use Rattle.lemmas.proofs.Searches.{find_passes, All_find}
 use Rattle.sysmods_received.specs.Index.{Sets, IsIndexed, Grows, KeepsOthers}
 use Rattle.sysmods_received.specs.Held.{IsHeld, IsKeyed, found}
-use Rattle.sysmods_received.proofs.Entries.{find-lookup, keyed-insert, keyed-remove, keyed-assign, values-remove}
+use Rattle.sysmods_received.proofs.Entries.{find_lookup, keyed_insert, keyed_remove, keyed_assign, values_remove}
 use Rattle.sysmods_received.proofs.Entries.{others}
 
 abbrev C : Id → Id → Ordering
@@ -40,30 +40,30 @@ above x (e ∷ es) k all =
     All-cons (λ s. IsTrue (is_lt (C x s.id))) e.1 (values_of es) (ap (λ y. is_lt (C x y)) k.0 ∙ ap is_lt all.0)
     (above x es k.1 all.1)
 
-pub rises-values : (es : Entries) → IsKeyed es → IsStrictlySortedBy C (keys_of es) → Rises C (λ s. s.id) (values_of es)
-rises-values [] k sorted = λ i j d before below. absurd (omega (arith, below))
-rises-values (e ∷ es) k sorted =
+pub rises_values : (es : Entries) → IsKeyed es → IsStrictlySortedBy C (keys_of es) → Rises C (λ s. s.id) (values_of es)
+rises_values [] k sorted = λ i j d before below. absurd (omega (arith, below))
+rises_values (e ∷ es) k sorted =
     AllPairs-cons (λ a b. IsTrue (is_lt (C a.id b.id))) e.1 (values_of es)
     (subst (λ y. All (λ s. IsTrue (is_lt (C y s.id))) (values_of es)) (sym k.0)
     (above e.0 es k.1 (sorted_head C e.0 (keys_of es) sorted)))
-    (rises-values es k.1 (sorted_tail C e.0 (keys_of es) sorted))
+    (rises_values es k.1 (sorted_tail C e.0 (keys_of es) sorted))
 
 -- each SYSMOD is found by its id
-all-keyed : (es : Entries) → IsKeyed es → All (λ e. e.1.id ≡ e.0) es
-all-keyed [] k = All-nil (λ (e : Id × Sysmod). e.1.id ≡ e.0)
-all-keyed (e ∷ es) k = All-cons (λ (e : Id × Sysmod). e.1.id ≡ e.0) e es k.0 (all-keyed es k.1)
+all_keyed : (es : Entries) → IsKeyed es → All (λ e. e.1.id ≡ e.0) es
+all_keyed [] k = All-nil (λ (e : Id × Sysmod). e.1.id ≡ e.0)
+all_keyed (e ∷ es) k = All-cons (λ (e : Id × Sysmod). e.1.id ≡ e.0) e es k.0 (all_keyed es k.1)
 
-pub found-itself : (m : BTreeMap Id Sysmod) → IsKeyed m.entries → IsOrdered C m
+pub found_itself : (m : BTreeMap Id Sysmod) → IsKeyed m.entries → IsOrdered C m
     → All (λ s. found (values_of m.entries) s.id ≡ Some s) (values_of m.entries)
-found-itself m k sorted =
+found_itself m k sorted =
     All-map (λ s. found (values_of m.entries) s.id ≡ Some s) (λ (e : Id × Sysmod). e.1) m.entries
     (λ i d below.
-    let here = all-keyed m.entries k i d below in
+    let here = all_keyed m.entries k i d below in
     let there = All-found nat_list_cmp_total m sorted i d below in
-    find-lookup m.entries (get_or m.entries i d).1.id k ∙ ap (λ y. lookup (is_at (C y)) m.entries) here ∙ there)
+    find_lookup m.entries (get_or m.entries i d).1.id k ∙ ap (λ y. lookup (is_at (C y)) m.entries) here ∙ there)
 
-pub held-grows : (es : Entries) (old new : Sets) → IsHeld es old → Grows old new → IsHeld es new
-held-grows es old new h grows = record {
+pub held_grows : (es : Entries) (old new : Sets) → IsHeld es old → Grows old new → IsHeld es new
+held_grows es old new h grows = record {
   sorted = h.sorted;
   keyed = h.keyed;
   formed = h.formed;
@@ -71,22 +71,22 @@ held-grows es old new h grows = record {
       h.indexed;
 }
 
-pub held-insert : (es : Entries) (old new : Sets) (s : Sysmod) → IsHeld es old → Grows old new
+pub held_insert : (es : Entries) (old new : Sets) (s : Sysmod) → IsHeld es old → Grows old new
     → IsStrictlySortedBy C (keys_of (insert_entry C es s.id s))
     → IsIndexed new s → IsSysmod s → IsHeld (insert_entry C es s.id s) new
-held-insert es old new s h grows sorted has formed = record {
+held_insert es old new s h grows sorted has formed = record {
   sorted = sorted;
-  keyed = keyed-insert es s h.keyed;
+  keyed = keyed_insert es s h.keyed;
   formed = All-values-insert_entry C s.id s IsSysmod es h.formed formed;
-  indexed = All-values-insert_entry C s.id s (IsIndexed new) es (held-grows es old new h grows).indexed has;
+  indexed = All-values-insert_entry C s.id s (IsIndexed new) es (held_grows es old new h grows).indexed has;
 }
 
-pub held-remove : (es : Entries) (old new : Sets) (x : Id) (s : Sysmod) → lookup (is_at (C x)) es ≡ Some s
+pub held_remove : (es : Entries) (old new : Sets) (x : Id) (s : Sysmod) → lookup (is_at (C x)) es ≡ Some s
     → IsHeld es old → KeepsOthers s.id old new
     → IsStrictlySortedBy C (keys_of (remove_entry (is_at (C x)) es)) → IsHeld (remove_entry (is_at (C x)) es) new
-held-remove es old new x s there h keeps sorted = record {
+held_remove es old new x s there h keeps sorted = record {
   sorted = sorted;
-  keyed = keyed-remove es x h.keyed;
+  keyed = keyed_remove es x h.keyed;
   formed = subst (All IsSysmod) (sym values) (All-filter other IsSysmod (values_of es) h.formed);
   indexed = subst (All (IsIndexed new)) (sym values)
       (λ i d below. stays (get_or (others x (values_of es)) i d) (filter_passes other (values_of es) i d below)
@@ -97,23 +97,23 @@ held-remove es old new x s there h keeps sorted = record {
     other r = not (bytes_eq r.id x)
 
     values : values_of (remove_entry (is_at (C x)) es) ≡ others x (values_of es)
-    values = values-remove es x h.keyed h.sorted
+    values = values_remove es x h.keyed h.sorted
 
     same : s.id ≡ x
-    same = same_from s.id x (find-passes (λ r. bytes_eq r.id x) (values_of es) s (find-lookup es x h.keyed ∙ there))
+    same = same_from s.id x (find_passes (λ r. bytes_eq r.id x) (values_of es) s (find_lookup es x h.keyed ∙ there))
 
     stays : (r : Sysmod) → not (bytes_eq r.id x) ≡ true → IsIndexed old r → IsIndexed new r
     stays r passes has z named = keeps z r.id (ap (λ y. bytes_eq y r.id) same ∙ same_back x r.id
         ∙ not-true (bytes_eq r.id x) passes) (has z named)
 
-pub held-assign : (es : Entries) (sets : Sets) (source : Text) (x : Id) (s : Sysmod) → lookup (is_at (C x)) es ≡ Some s
+pub held_assign : (es : Entries) (sets : Sets) (source : Text) (x : Id) (s : Sysmod) → lookup (is_at (C x)) es ≡ Some s
     → IsHeld es sets → IsSysmod (with_source source s)
     → IsStrictlySortedBy C (keys_of (set_value (is_at (C x)) es (with_source source s)))
     → IsHeld (set_value (is_at (C x)) es (with_source source s)) sets
-held-assign es sets source x s there h formed sorted = record {
+held_assign es sets source x s there h formed sorted = record {
   sorted = sorted;
-  keyed = keyed-assign es source x s h.keyed there;
+  keyed = keyed_assign es source x s h.keyed there;
   formed = All-values-set_value (is_at (C x)) IsSysmod es (with_source source s) h.formed formed;
   indexed = All-values-set_value (is_at (C x)) (IsIndexed sets) es (with_source source s) h.indexed
-      (All-find (IsIndexed sets) (λ r. bytes_eq r.id x) (values_of es) s h.indexed (find-lookup es x h.keyed ∙ there));
+      (All_find (IsIndexed sets) (λ r. bytes_eq r.id x) (values_of es) s h.indexed (find_lookup es x h.keyed ∙ there));
 }

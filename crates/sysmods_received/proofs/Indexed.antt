@@ -23,35 +23,35 @@ pub either : {P : Type 0} (a b : Bool) → IsTrue (a || b) → (IsTrue a → P) 
 either true b h left right = left refl
 either false b h left right = right h
 
-pub grows-same : (old : Sets) → Grows old old
-grows-same old z y h = h
+pub grows_same : (old : Sets) → Grows old old
+grows_same old z y h = h
 
-pub grows-then : (a b c : Sets) → Grows a b → Grows b c → Grows a c
-grows-then a b c first second z y h = second z y (first z y h)
+pub grows_then : (a b c : Sets) → Grows a b → Grows b c → Grows a c
+grows_then a b c first second z y h = second z y (first z y h)
 
 -- what it has under each id of a test it has still
-pub has_all-grows : (old new : Sets) (y : Id) (test : Id → Bool) → Grows old new → HasAll old y test → HasAll new y test
-has_all-grows old new y test grows all z h = grows z y (all z h)
+pub has_all_grows : (old new : Sets) (y : Id) (test : Id → Bool) → Grows old new → HasAll old y test → HasAll new y test
+has_all_grows old new y test grows all z h = grows z y (all z h)
 
 -- a loop's step: under the ids that the first ones name, and under those that the next names
-pub has_all-more : {X : Type 0} (old new : Sets) (y : Id) (p : Id → X → Bool) (xs : List X) (i : ℕ) (d : X)
+pub has_all_more : {X : Type 0} (old new : Sets) (y : Id) (p : Id → X → Bool) (xs : List X) (i : ℕ) (d : X)
     → i < length xs
     → Grows old new → HasAll old y (λ z. list_any (p z) (take i xs)) → HasAll new y (λ z. p z (get_or xs i d))
     → HasAll new y (λ z. list_any (p z) (take (i + 1) xs))
-has_all-more old new y p xs i d below grows first next z h =
+has_all_more old new y p xs i d below grows first next z h =
     let two : IsTrue (list_any (p z) (take i xs) || p z (get_or xs i d)) = sym (list_any_more (p z) xs i d below) ∙ h in
     either (list_any (p z) (take i xs)) (p z (get_or xs i d)) two (λ was. grows z y (first z was)) (next z)
 
 -- one id
-pub has_all-one : (sets : Sets) (y x : Id) → IsTrue (has sets x y) → HasAll sets y (λ z. bytes_eq z x)
-has_all-one sets y x h z same = subst (λ w. IsTrue (has sets w y)) (sym (same_from z x same)) h
+pub has_all_one : (sets : Sets) (y x : Id) → IsTrue (has sets x y) → HasAll sets y (λ z. bytes_eq z x)
+has_all_one sets y x h z same = subst (λ w. IsTrue (has sets w y)) (sym (same_from z x same)) h
 
 -- the parts of a ++VER
-pub has_all-ver : (sets : Sets) (y : Id) (v : Ver) → HasAll sets y (is_in v.pre) → HasAll sets y (is_in v.sup)
+pub has_all_ver : (sets : Sets) (y : Id) (v : Ver) → HasAll sets y (is_in v.pre) → HasAll sets y (is_in v.sup)
     → HasAll sets y (is_in v.del)
     → HasAll sets y (is_in (map (λ i. i.function) v.ifs)) → HasAll sets y (is_in (at_most_one v.fmid))
     → HasAll sets y (mentions v)
-has_all-ver sets y v pre sup del ifs fmid z h =
+has_all_ver sets y v pre sup del ifs fmid z h =
     either (is_in (named v) z) (is_in (named_functions v) z) h
     (λ one. either (is_in (v.pre ++ v.sup) z) (is_in (at_most_one v.fmid) z)
     (sym (list_any-append (bytes_eq z) (v.pre ++ v.sup) (at_most_one v.fmid)) ∙ one)
@@ -68,9 +68,9 @@ abbrev C : Id → Id → Ordering
 C = slice_cmp nat_cmp
 
 -- a set is put in place of another that it holds
-pub grows-update : (old new : Sets) (k : Id) (w : BTreeSet Id) → UpdatesBy C (C k) old new (Some w)
+pub grows_update : (old new : Sets) (k : Id) (w : BTreeSet Id) → UpdatesBy C (C k) old new (Some w)
     → ((y : Id) → IsTrue (has old k y) → IsTrue (contains C w y)) → Grows old new
-grows-update old new k w updates within z y h = by (is_eq (C k z)) refl
+grows_update old new k w updates within z y h = by (is_eq (C k z)) refl
   where
     now : (b : Bool) → is_eq (C k z) ≡ b → has new z y ≡ option_map_or (λ s. contains C s y)
         (cond b (Some w) (get C old z)) false
@@ -83,16 +83,16 @@ grows-update old new k w updates within z y h = by (is_eq (C k z)) refl
     by false e = now false e ∙ h
 
 -- what the set of an id is
-pub has-at : (sets : Sets) (k : Id) (s : BTreeSet Id) → get C sets k ≡ Some s → (y : Id) → has sets k y ≡ contains C s y
-has-at sets k s there y = ap (λ o. option_map_or (λ t. contains C t y) o false) there
+pub has_at : (sets : Sets) (k : Id) (s : BTreeSet Id) → get C sets k ≡ Some s → (y : Id) → has sets k y ≡ contains C s y
+has_at sets k s there y = ap (λ o. option_map_or (λ t. contains C t y) o false) there
 
-pub has-none : (sets : Sets) (k : Id) → get C sets k ≡ None → (y : Id) → has sets k y ≡ false
-has-none sets k there y = ap (λ o. option_map_or (λ t. contains C t y) o false) there
+pub has_none : (sets : Sets) (k : Id) → get C sets k ≡ None → (y : Id) → has sets k y ≡ false
+has_none sets k there y = ap (λ o. option_map_or (λ t. contains C t y) o false) there
 
 -- a set with one more
-pub contains-more : (old new : BTreeSet Id) (k : Id) → Updates C old new k true → (y : Id) → IsTrue (contains C old y)
+pub contains_more : (old new : BTreeSet Id) (k : Id) → Updates C old new k true → (y : Id) → IsTrue (contains C old y)
     → IsTrue (contains C new y)
-contains-more old new k updates y h = updates.0 y ∙ by (is_eq (C k y))
+contains_more old new k updates y h = updates.0 y ∙ by (is_eq (C k y))
   where
     by : (b : Bool) → cond b true (contains C old y) ≡ true
     by true = refl
@@ -101,22 +101,22 @@ contains-more old new k updates y h = updates.0 y ∙ by (is_eq (C k y))
 -- the same ids in another list that is no other
 pub carried : (a b : Sets) (y : Id) (xs ys : List Id) → Grows a b → xs ≡ ys → HasAll a y (is_in xs)
     → HasAll b y (is_in ys)
-carried a b y xs ys grows same all = subst (λ zs. HasAll b y (is_in zs)) same (has_all-grows a b y (is_in xs) grows all)
+carried a b y xs ys grows same all = subst (λ zs. HasAll b y (is_in zs)) same (has_all_grows a b y (is_in xs) grows all)
 
 -- the functions of ++IFs
-any-map : {X : Type 0} (f : X → Id) (z : Id) (xs : List X) → is_in (map f xs) z ≡ list_any (λ x. bytes_eq z (f x)) xs
-any-map f z [] = refl
-any-map f z (x ∷ xs) = ap (λ b. bytes_eq z (f x) || b) (any-map f z xs)
+any_map : {X : Type 0} (f : X → Id) (z : Id) (xs : List X) → is_in (map f xs) z ≡ list_any (λ x. bytes_eq z (f x)) xs
+any_map f z [] = refl
+any_map f z (x ∷ xs) = ap (λ b. bytes_eq z (f x) || b) (any_map f z xs)
 
-pub has_all-map : {X : Type 0} (sets : Sets) (y : Id) (f : X → Id) (xs : List X) (i : ℕ) → length xs ≤ i
+pub has_all_map : {X : Type 0} (sets : Sets) (y : Id) (f : X → Id) (xs : List X) (i : ℕ) → length xs ≤ i
     → HasAll sets y (λ z. list_any (λ x. bytes_eq z (f x)) (take i xs)) → HasAll sets y (is_in (map f xs))
-has_all-map sets y f xs i all has z h = has z (ap (list_any (λ x. bytes_eq z (f x))) (take_all i xs all)
-    ∙ sym (any-map f z xs) ∙ h)
+has_all_map sets y f xs i all has z h = has z (ap (list_any (λ x. bytes_eq z (f x))) (take_all i xs all)
+    ∙ sym (any_map f z xs) ∙ h)
 
 -- a set is put in place of another that it keeps all but x of
-pub keeps-update : (old new : Sets) (k : Id) (w : BTreeSet Id) (x : Id) → UpdatesBy C (C k) old new (Some w)
+pub keeps_update : (old new : Sets) (k : Id) (w : BTreeSet Id) (x : Id) → UpdatesBy C (C k) old new (Some w)
     → ((y : Id) → bytes_eq x y ≡ false → IsTrue (has old k y) → IsTrue (contains C w y)) → KeepsOthers x old new
-keeps-update old new k w x updates within z y other h = by (is_eq (C k z)) refl
+keeps_update old new k w x updates within z y other h = by (is_eq (C k z)) refl
   where
     now : (b : Bool) → is_eq (C k z) ≡ b → has new z y ≡ option_map_or (λ s. contains C s y)
         (cond b (Some w) (get C old z)) false
@@ -129,7 +129,7 @@ keeps-update old new k w x updates within z y other h = by (is_eq (C k z)) refl
     by false e = now false e ∙ h
 
 -- a set with one less
-pub contains-less : (old new : BTreeSet Id) (x : Id) → Updates C old new x false → (y : Id) → bytes_eq x y ≡ false
+pub contains_less : (old new : BTreeSet Id) (x : Id) → Updates C old new x false → (y : Id) → bytes_eq x y ≡ false
     → IsTrue (contains C old y) → IsTrue (contains C new y)
-contains-less old new x updates y other h = updates.0 y ∙ ap (λ b. cond b false (contains C old y))
+contains_less old new x updates y other h = updates.0 y ∙ ap (λ b. cond b false (contains C old y))
     (is_eq-slice_cmp x y ∙ other) ∙ h

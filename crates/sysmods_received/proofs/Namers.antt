@@ -15,13 +15,13 @@ use Rattle.terms.specs.Types.{Id, Ver, Sysmod}
 use Rattle.terms.specs.Lookups.{is_in, at_most_one}
 use Rattle.terms.specs.Global.{named, named_functions}
 use Rattle.lemmas.proofs.Texts.{same_from}
-use Rattle.lemmas.proofs.Searches.{list_any-fewer}
+use Rattle.lemmas.proofs.Searches.{list_any_fewer}
 use Rattle.sysmods_received.specs.declared.ways.Way.{Way}
 use Rattle.sysmods_received.specs.declared.ways.Way.TheVariants.{Named, Superseded, AsFunction}
 use Rattle.sysmods_received.specs.Index.{Sets, has, mentions, IsIndexed}
 use Rattle.sysmods_received.specs.Held.{found}
 use Rattle.sysmods_received.specs.Ways.{names_so}
-use Rattle.sysmods_received.proofs.Indexed.{has-at, has-none}
+use Rattle.sysmods_received.proofs.Indexed.{has_at, has_none}
 
 left_none : (a b : Bool) → (a || b) ≡ false → a ≡ false
 left_none true b e = absurd (true≢false e)
@@ -39,12 +39,12 @@ sup_none v z none =
     right_none (is_in v.pre z) (is_in v.sup z) (sym (list_any-append (bytes_eq z) v.pre v.sup) ∙ listed)
 
 unmentioned : (way : Way) (z : Id) (s : Sysmod) → list_any (λ v. mentions v z) s.vers ≡ false → names_so way z s ≡ false
-unmentioned Named z s none = list_any-fewer (λ v. mentions v z) (λ v. is_in (named v) z) s.vers
+unmentioned Named z s none = list_any_fewer (λ v. mentions v z) (λ v. is_in (named v) z) s.vers
     (λ v. left_none (is_in (named v) z) (is_in (named_functions v) z)) none
 unmentioned Superseded z s none =
-    list_any-fewer (λ v. mentions v z) (λ v. is_in v.sup z) s.vers
+    list_any_fewer (λ v. mentions v z) (λ v. is_in v.sup z) s.vers
     (λ v e. sup_none v z (left_none (is_in (named v) z) (is_in (named_functions v) z) e)) none
-unmentioned AsFunction z s none = list_any-fewer (λ v. mentions v z) (λ v. is_in (named_functions v) z) s.vers
+unmentioned AsFunction z s none = list_any_fewer (λ v. mentions v z) (λ v. is_in (named_functions v) z) s.vers
     (λ v. right_none (is_in (named v) z) (is_in (named_functions v) z)) none
 
 pub mentioned : (way : Way) (z : Id) (s : Sysmod) → names_so way z s ≡ true
@@ -113,9 +113,9 @@ module _ (xs : List Sysmod) (sets : Sets) (way : Way) (z : Id) (ks : List Id) wh
             (ap (λ o. option_map_or (names_so way z) o false) (All-head (λ s. found xs s.id ≡ Some s) s ys itself) ∙ e)
         by again false e = let rest = rw e at h in again rest
 
-    pub some-names : All (IsIndexed sets) xs → All (λ s. found xs s.id ≡ Some s) xs
+    pub some_names : All (IsIndexed sets) xs → All (λ s. found xs s.id ≡ Some s) xs
         → list_any (λ y. option_map_or (names_so way z) (found xs y) false) ks ≡ list_any (names_so way z) xs
-    some-names indexed itself = by (list_any Test ks) (list_any (names_so way z) xs) refl refl
+    some_names indexed itself = by (list_any Test ks) (list_any (names_so way z) xs) refl refl
       where
         by : (a b : Bool) → list_any Test ks ≡ a → list_any (names_so way z) xs ≡ b → a ≡ b
         by true true e f = refl
@@ -124,16 +124,16 @@ module _ (xs : List Sysmod) (sets : Sets) (way : Way) (z : Id) (ks : List Id) wh
         by false false e f = refl
 
 -- what the set of an id has
-any-same : (p q : Id → Bool) (ks : List Id) → ((k : Id) → p k ≡ q k) → list_any p ks ≡ list_any q ks
-any-same p q [] same = refl
-any-same p q (k ∷ ks) same = rw (same k, any-same p q ks same) refl
+any_same : (p q : Id → Bool) (ks : List Id) → ((k : Id) → p k ≡ q k) → list_any p ks ≡ list_any q ks
+any_same p q [] same = refl
+any_same p q (k ∷ ks) same = rw (same k, any_same p q ks same) refl
 
-pub complete-at : (sets : Sets) (z : Id) (s : BTreeSet Id) → get (slice_cmp nat_cmp) sets z ≡ Some s → (y : Id)
+pub complete_at : (sets : Sets) (z : Id) (s : BTreeSet Id) → get (slice_cmp nat_cmp) sets z ≡ Some s → (y : Id)
     → IsTrue (has sets z y) → is_in s.keys y ≡ true
-complete-at sets z s there y h =
-    any-same (bytes_eq y) (is_at (slice_cmp nat_cmp y)) s.keys (λ k. sym (is_eq-slice_cmp y k))
-    ∙ sym (has-at sets z s there y) ∙ h
+complete_at sets z s there y h =
+    any_same (bytes_eq y) (is_at (slice_cmp nat_cmp y)) s.keys (λ k. sym (is_eq-slice_cmp y k))
+    ∙ sym (has_at sets z s there y) ∙ h
 
-pub complete-none : (sets : Sets) (z : Id) → get (slice_cmp nat_cmp) sets z ≡ None → (y : Id) → IsTrue (has sets z y)
+pub complete_none : (sets : Sets) (z : Id) → get (slice_cmp nat_cmp) sets z ≡ None → (y : Id) → IsTrue (has sets z y)
     → is_in [] y ≡ true
-complete-none sets z there y h = absurd (true≢false (sym h ∙ has-none sets z there y))
+complete_none sets z there y h = absurd (true≢false (sym h ∙ has_none sets z there y))

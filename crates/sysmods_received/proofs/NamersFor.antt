@@ -17,8 +17,8 @@ use Rattle.terms.specs.Global.{named, names_for}
 use Rattle.lemmas.proofs.Members.{in_map}
 use Rattle.lemmas.proofs.Pairs.{pairs_map}
 use Rattle.lemmas.proofs.Texts.{same_from, same_back}
-use Rattle.lemmas.proofs.Searches.{find-passes, find-filter_all, find-filter_none, All-find, find-gives}
-use Rattle.terms.proofs.Ids.{is_in-from_Contains, Contains-from_is_in}
+use Rattle.lemmas.proofs.Searches.{find_passes, find_filter_all, find_filter_none, All_find, find_gives}
+use Rattle.terms.proofs.Ids.{is_in_from_Contains, Contains_from_is_in}
 use Rattle.terms.proofs.Loops.{named_by_all}
 use Rattle.terms.proofs.SameLists.{rising_same}
 use Rattle.sysmods_received.specs.declared.ways.Way.TheVariants.{Named, AsFunction}
@@ -26,7 +26,7 @@ use Rattle.sysmods_received.specs.Index.{Sets, has, IsIndexed}
 use Rattle.sysmods_received.specs.Held.{found, zone_of}
 use Rattle.sysmods_received.specs.Namers.{namers_for, names_as_function, function_namers}
 use Rattle.sysmods_received.specs.Ways.{names_so}
-use Rattle.sysmods_received.proofs.Named.{any-flat}
+use Rattle.sysmods_received.proofs.Named.{any_flat}
 use Rattle.sysmods_received.proofs.Namers.{mentioned}
 
 -- whether one of the ++VERs that a test chooses names the id
@@ -59,11 +59,11 @@ module _ (test : Id → Bool) (xs ys : List Id) where
 
   passing : (ks : List Id) (k : Id) → test k ≡ true → is_in ks k ≡ true
       → find (λ y. bytes_eq y k) (filter test ks) ≡ Some k
-  passing ks k passes here = find-filter_all (λ y. bytes_eq y k) test (λ y same. ap test (same_from y k same) ∙ passes)
+  passing ks k passes here = find_filter_all (λ y. bytes_eq y k) test (λ y same. ap test (same_from y k same) ∙ passes)
       ks ∙ find_there ks k here
 
   failing : (ks : List Id) (k : Id) → test k ≡ false → find (λ y. bytes_eq y k) (filter test ks) ≡ None
-  failing ks k fails = find-filter_none (λ y. bytes_eq y k) test (λ y same. ap test (same_from y k same) ∙ fails) ks
+  failing ks k fails = find_filter_none (λ y. bytes_eq y k) test (λ y same. ap test (same_from y k same) ∙ fails) ks
 
   pub same_passing : Rises (slice_cmp nat_cmp) (λ k. k) xs → Rises (slice_cmp nat_cmp) (λ k. k) ys
       → ((k : Id) → test k ≡ true → is_in xs k ≡ true) → ((k : Id) → test k ≡ true → is_in ys k ≡ true)
@@ -83,60 +83,60 @@ module _ (xs : List Sysmod) (srel : Text) (z : Id) where
   abbrev From : Option Sysmod → Bool
   From o = is_in (flat_map named (option_map_or (λ r. filter (λ v. bytes_eq v.srel srel) r.vers) o [])) z
 
-  pub names-at : (y : Id) (o : Option Sysmod) → o ≡ found xs y
+  pub names_at : (y : Id) (o : Option Sysmod) → o ≡ found xs y
       → option_map_or (λ s. list_any (λ v. bytes_eq v.srel srel && is_in (named v) z) s.vers) o false ≡ is_in
       (names_for (zone_of xs) srel y) z
-  names-at y None there = ap From there
-  names-at y (Some s) there = sym (named_for (λ v. bytes_eq v.srel srel) s.vers z) ∙ ap From there
+  names_at y None there = ap From there
+  names_at y (Some s) there = sym (named_for (λ v. bytes_eq v.srel srel) s.vers z) ∙ ap From there
 
   -- what names it is received
-  pub named-by : (y : Id) → is_in (names_for (zone_of xs) srel y) z ≡ true
+  pub named_by : (y : Id) → is_in (names_for (zone_of xs) srel y) z ≡ true
       → (s : Sysmod) × (found xs y ≡ Some s) × (s.id ≡ y)
-  named-by y names = by (found xs y) refl
+  named_by y names = by (found xs y) refl
     where
       by : (o : Option Sysmod) → found xs y ≡ o → (s : Sysmod) × (found xs y ≡ Some s) × (s.id ≡ y)
       by None there = absurd (true≢false (sym names ∙ ap From there))
-      by (Some s) there = (s, there, same_from s.id y (find-passes (λ r. bytes_eq r.id y) xs s there))
+      by (Some s) there = (s, there, same_from s.id y (find_passes (λ r. bytes_eq r.id y) xs s there))
 
-  pub named-by_received : (y : Id) → is_in (names_for (zone_of xs) srel y) z ≡ true
+  pub named_by_received : (y : Id) → is_in (names_for (zone_of xs) srel y) z ≡ true
       → is_in (map (λ s. s.id) xs) y ≡ true
-  named-by_received y names =
-      let s = named-by y names in
+  named_by_received y names =
+      let s = named_by y names in
       subst (λ w. is_in (map (λ r. r.id) xs) w ≡ true) s.2
-      (is_in-from_Contains (map (λ r. r.id) xs) s.0.id (in_map (λ r. r.id) xs s.0
-      (find-gives (λ r. bytes_eq r.id y) xs s.0 s.1).1))
+      (is_in_from_Contains (map (λ r. r.id) xs) s.0.id (in_map (λ r. r.id) xs s.0
+      (find_gives (λ r. bytes_eq r.id y) xs s.0 s.1).1))
 
   -- and the index has it
-  named-by_indexed : (sets : Sets) → All (IsIndexed sets) xs → (y : Id) → is_in (names_for (zone_of xs) srel y) z ≡ true
+  named_by_indexed : (sets : Sets) → All (IsIndexed sets) xs → (y : Id) → is_in (names_for (zone_of xs) srel y) z ≡ true
       → IsTrue (has sets z y)
-  named-by_indexed sets indexed y names =
-      let s = named-by y names in
+  named_by_indexed sets indexed y names =
+      let s = named_by y names in
       let some : Bool = is_in (flat_map named (filter (λ v. bytes_eq v.srel srel) s.0.vers)) z in
       let here : some ≡ true = sym (ap From s.1) ∙ names in
-      let all = named_by_all srel s.0.vers z (Contains-from_is_in
+      let all = named_by_all srel s.0.vers z (Contains_from_is_in
       (flat_map named (filter (λ v. bytes_eq v.srel srel) s.0.vers)) z here) in
       subst (λ w. IsTrue (has sets z w)) s.2
-      (All-find (IsIndexed sets) (λ r. bytes_eq r.id y) xs s.0 indexed s.1 z
-      (mentioned Named z s.0 (sym (any-flat s.0.vers z) ∙ is_in-from_Contains (flat_map named s.0.vers) z all)))
+      (All_find (IsIndexed sets) (λ r. bytes_eq r.id y) xs s.0 indexed s.1 z
+      (mentioned Named z s.0 (sym (any_flat s.0.vers z) ∙ is_in_from_Contains (flat_map named s.0.vers) z all)))
 
   -- so those of a rising list that has all that the index has are all
-  pub namers-among : (sets : Sets) (ks : List Id) → All (IsIndexed sets) xs → Rises (slice_cmp nat_cmp) (λ s. s.id) xs
+  pub namers_among : (sets : Sets) (ks : List Id) → All (IsIndexed sets) xs → Rises (slice_cmp nat_cmp) (λ s. s.id) xs
       → Rises (slice_cmp nat_cmp) (λ k. k) ks → ((y : Id) → IsTrue (has sets z y) → is_in ks y ≡ true)
       → filter (λ y. is_in (names_for (zone_of xs) srel y) z) ks ≡ namers_for xs srel z
-  namers-among sets ks indexed rising rising_ks complete =
+  namers_among sets ks indexed rising rising_ks complete =
       same_passing (λ y. is_in (names_for (zone_of xs) srel y) z) ks (map (λ s. s.id) xs) rising_ks
       (pairs_map (λ a b. IsTrue (is_lt (slice_cmp nat_cmp a.id b.id))) (λ a b. IsTrue (is_lt (slice_cmp nat_cmp a b)))
       (λ s. s.id) (λ a b less. less) xs rising)
-      (λ y names. complete y (named-by_indexed sets indexed y names)) named-by_received
+      (λ y names. complete y (named_by_indexed sets indexed y names)) named_by_received
 
 -- The same of those that name an id as a function.
 module _ (xs : List Sysmod) (z : Id) where
   abbrev Of : Option Sysmod → Bool
   Of o = option_map_or (names_so AsFunction z) o false
 
-  function-namer : (y : Id) → names_as_function xs z y ≡ true
+  function_namer : (y : Id) → names_as_function xs z y ≡ true
       → (s : Sysmod) × (found xs y ≡ Some s) × (s.id ≡ y) × (names_so AsFunction z s ≡ true)
-  function-namer y names = by (found xs y) refl
+  function_namer y names = by (found xs y) refl
     where
       by : (o : Option Sysmod) → found xs y ≡ o
           → (s : Sysmod) × (found xs y ≡ Some s) × (s.id ≡ y) × (names_so AsFunction z s ≡ true)
@@ -144,30 +144,30 @@ module _ (xs : List Sysmod) (z : Id) where
       by (Some s) there = (
         s,
         there,
-        same_from s.id y (find-passes (λ r. bytes_eq r.id y) xs s there),
+        same_from s.id y (find_passes (λ r. bytes_eq r.id y) xs s there),
         sym (ap Of there) ∙ names,
       )
 
-  function-namer_received : (y : Id) → names_as_function xs z y ≡ true → is_in (map (λ s. s.id) xs) y ≡ true
-  function-namer_received y names =
-      let s = function-namer y names in
+  function_namer_received : (y : Id) → names_as_function xs z y ≡ true → is_in (map (λ s. s.id) xs) y ≡ true
+  function_namer_received y names =
+      let s = function_namer y names in
       subst (λ w. is_in (map (λ r. r.id) xs) w ≡ true) s.2
-      (is_in-from_Contains (map (λ r. r.id) xs) s.0.id (in_map (λ r. r.id) xs s.0
-      (find-gives (λ r. bytes_eq r.id y) xs s.0 s.1).1))
+      (is_in_from_Contains (map (λ r. r.id) xs) s.0.id (in_map (λ r. r.id) xs s.0
+      (find_gives (λ r. bytes_eq r.id y) xs s.0 s.1).1))
 
-  function-namer_indexed : (sets : Sets) → All (IsIndexed sets) xs → (y : Id) → names_as_function xs z y ≡ true
+  function_namer_indexed : (sets : Sets) → All (IsIndexed sets) xs → (y : Id) → names_as_function xs z y ≡ true
       → IsTrue (has sets z y)
-  function-namer_indexed sets indexed y names =
-      let s = function-namer y names in
+  function_namer_indexed sets indexed y names =
+      let s = function_namer y names in
       subst (λ w. IsTrue (has sets z w)) s.2
-      (All-find (IsIndexed sets) (λ r. bytes_eq r.id y) xs s.0 indexed s.1 z (mentioned AsFunction z s.0 s.3))
+      (All_find (IsIndexed sets) (λ r. bytes_eq r.id y) xs s.0 indexed s.1 z (mentioned AsFunction z s.0 s.3))
 
-  pub function-namers-among : (sets : Sets) (ks : List Id) → All (IsIndexed sets) xs
+  pub function_namers_among : (sets : Sets) (ks : List Id) → All (IsIndexed sets) xs
       → Rises (slice_cmp nat_cmp) (λ s. s.id) xs
       → Rises (slice_cmp nat_cmp) (λ k. k) ks → ((y : Id) → IsTrue (has sets z y) → is_in ks y ≡ true)
       → filter (names_as_function xs z) ks ≡ function_namers xs z
-  function-namers-among sets ks indexed rising rising_ks complete =
+  function_namers_among sets ks indexed rising rising_ks complete =
       same_passing (names_as_function xs z) ks (map (λ s. s.id) xs) rising_ks
       (pairs_map (λ a b. IsTrue (is_lt (slice_cmp nat_cmp a.id b.id))) (λ a b. IsTrue (is_lt (slice_cmp nat_cmp a b)))
       (λ s. s.id) (λ a b less. less) xs rising)
-      (λ y names. complete y (function-namer_indexed sets indexed y names)) function-namer_received
+      (λ y names. complete y (function_namer_indexed sets indexed y names)) function_namer_received

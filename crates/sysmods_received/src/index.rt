@@ -1,6 +1,5 @@
 //! For each id the ids of those that name it.
-ghost use Rattle.std.specs.Prelude.{◌≡◌, IsTrue, map, OnOk};
-ghost use Rattle.std.specs.List.{list_any};
+ghost use Rattle.std.specs.Prelude.{IsTrue, map, OnOk};
 ghost use Rattle.terms.specs.Lookups.{at_most_one, is_in};
 ghost use Rattle.sysmods_received.specs.Index.{has, HasAll, Grows, IsIndexed, KeepsOthers, mentions};
 

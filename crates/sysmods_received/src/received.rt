@@ -95,7 +95,7 @@ impl Received {
         if self.by_id.contains_key(&id) {
             return Ok(Some(sysmod));
         }
-        sysmod.known();
+        sysmod.attest();
         self.index.add_sysmod(&sysmod)?;
         self.by_id.insert(id, sysmod)?;
         Ok(None)
@@ -124,7 +124,7 @@ impl Received {
             return Ok(());
         };
         sysmod.add_source(source)?;
-        sysmod.known();
+        sysmod.attest();
         Ok(())
     }
 

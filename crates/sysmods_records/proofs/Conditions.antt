@@ -12,7 +12,7 @@ use Rattle.std.proofs.lemmas.List.Elements.{All-head, All-tail, All-append, All-
 use Rattle.terms.specs.Types.{Text, IfReq, Ver}
 use Rattle.terms.specs.Rising.{Rises, Splits, StandsAt}
 use Rattle.lemmas.proofs.Texts.{same_back}
-use Rattle.terms.proofs.RisingLists.{Splits-around}
+use Rattle.terms.proofs.RisingLists.{Splits_around}
 
 abbrev pub with_if : IfReq → Ver → Ver
 with_if i v = record v { ifs = v.ifs ++ i ∷ [] }
@@ -58,7 +58,7 @@ comes srel i vs n x rises below s =
     let front = take n vs in
     let back = drop (suc n) vs in
     let whole : Rises (slice_cmp nat_cmp) (λ (v : Ver). v.srel) (front ++ x ∷ back) = rw (← s.parts) rises in
-    let split = Splits-around nat_list_cmp_total (λ (v : Ver). v.srel) srel front back x whole s.tie in
+    let split = Splits_around nat_list_cmp_total (λ (v : Ver). v.srel) srel front back x whole s.tie in
     let first = others_stay srel i front (low_others srel front back split) in
     let last = others_stay srel i back (high_others srel front back split) in
     let middle = here srel i x (texts_ties x.srel srel ∙ ap is_eq s.tie) in

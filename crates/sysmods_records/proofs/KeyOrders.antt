@@ -11,11 +11,11 @@ use Rattle.terms.specs.Rising.{Rises}
 use Rattle.terms.specs.Global.{hold_cmp}
 
 -- what `cmp` of two kinds answers
-cmp-kinds : (a b : HoldKind) → kind_order.ghosts.cmp a b ≡ nat_cmp (hold_number a) (hold_number b)
-cmp-kinds Error Error = refl
-cmp-kinds System Error = refl
-cmp-kinds User Error = refl
-cmp-kinds a b = refl
+cmp_kinds : (a b : HoldKind) → kind_order.ghosts.cmp a b ≡ nat_cmp (hold_number a) (hold_number b)
+cmp_kinds Error Error = refl
+cmp_kinds System Error = refl
+cmp_kinds User Error = refl
+cmp_kinds a b = refl
 
 -- by id, then kind, then reason
 abbrev pub hold_key_cmp : Id × (HoldKind × Text) → Id × (HoldKind × Text) → Ordering
@@ -26,13 +26,13 @@ hold_key_cmp a b =
 abbrev pub hold_key : Hold → Id × (HoldKind × Text)
 hold_key h = (h.id, (h.kind, h.reason))
 
-cmp-holds : (a b : Hold) → hold_key_cmp (hold_key a) (hold_key b) ≡ hold_cmp a b
-cmp-holds a b =
+cmp_holds : (a b : Hold) → hold_key_cmp (hold_key a) (hold_key b) ≡ hold_cmp a b
+cmp_holds a b =
     ap (λ o. ordering_then (slice_cmp nat_cmp a.id b.id) (ordering_then o (slice_cmp nat_cmp a.reason b.reason)))
-    (cmp-kinds a.kind b.kind)
+    (cmp_kinds a.kind b.kind)
 
 pub holds_rise : (hs : List Hold) → Rises hold_key_cmp hold_key hs ↔ Rises hold_cmp (λ h. h) hs
 holds_rise hs = (
-  λ rises i j d less within. ap is_lt (sym (cmp-holds (get_or hs i d) (get_or hs j d))) ∙ rises i j d less within,
-  λ rises i j d less within. ap is_lt (cmp-holds (get_or hs i d) (get_or hs j d)) ∙ rises i j d less within,
+  λ rises i j d less within. ap is_lt (sym (cmp_holds (get_or hs i d) (get_or hs j d))) ∙ rises i j d less within,
+  λ rises i j d less within. ap is_lt (cmp_holds (get_or hs i d) (get_or hs j d)) ∙ rises i j d less within,
 )

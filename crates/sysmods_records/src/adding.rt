@@ -1,5 +1,5 @@
 //! A SYSMOD grows by the statements behind its header.
-ghost use Rattle.std.specs.Prelude.{◌≡◌, ◌≤◌, ◌<◌, ◌↔◌, ◌&&◌, ◌==◌, ◌++◌, [], ◌∷◌, length, map, take, drop};
+ghost use Rattle.std.specs.Prelude.{◌≡◌, ◌≤◌, ◌<◌, ◌&&◌, ◌==◌, ◌++◌, [], ◌∷◌, length, map, take, drop};
 ghost use Rattle.std.specs.Prelude.{if◌then◌else◌, IsTrue, IfOk, IfErr, OnOk, OnErr};
 ghost use Rattle.std.specs.List.{list_any};
 ghost use Rattle.std.specs.Str.{bytes_eq};
@@ -13,8 +13,8 @@ ghost use Rattle.terms.specs.Ptfin.{begun};
 
 use crate::{ElemChange, Hold, IfReq, Sysmod, Ver};
 use fields::{Id, Name, SourceList, Srel};
+use sorted::place;
 use std::alloc::{AllocError, Global};
-use tables::place;
 use terms::{ElemType, Kind};
 
 impl Sysmod {

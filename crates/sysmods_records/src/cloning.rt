@@ -3,8 +3,8 @@ ghost use Rattle.std.specs.Prelude.{◌≡◌, IfOk};
 ghost use Rattle.sysmods_records.specs.Views.{action_of};
 
 use crate::{Action, ElemChange, Hold, IfReq, Sysmod, Ver};
+use sorted::{TryClone, copied};
 use std::alloc::{AllocError, Global};
-use tables::{TryClone, copied};
 
 impl TryClone for IfReq {
     fn try_clone(&self, alloc: Global) -> Result<Self, AllocError> {

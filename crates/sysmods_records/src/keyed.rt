@@ -2,7 +2,7 @@
 
 use crate::{ElemChange, Hold, Sysmod, Ver};
 use fields::{Id, Name, Reason, Srel};
-use tables::Keyed;
+use sorted::Keyed;
 use terms::{ElemType, HoldKind};
 
 impl Keyed for Sysmod {

@@ -48,7 +48,7 @@ impl Sysmod {
     }
 
     /// What holds of each SYSMOD. The call does nothing.
-    pub fn known(&self)
+    pub fn attest(&self)
         ensures { IsSysmod self.now }
     {
         let _ = &self.id;

@@ -9,10 +9,10 @@ use Rattle.terms.specs.Rising.{Rises}
 use Rattle.terms.specs.Types.{Id, Entry, Zone}
 use Rattle.terms.specs.Lookups.{IsZone, entry_of, is_applied, applied_ids}
 use Rattle.lemmas.proofs.Members.{none_in, here_or, in_map, map_in, filter_in, in_filter}
-use Rattle.lemmas.proofs.Searches.{find-gives}
+use Rattle.lemmas.proofs.Searches.{find_gives}
 use Rattle.lemmas.proofs.Texts.{same_from, same_itself, other_from_less}
-use Rattle.lemmas.proofs.Pairs.{AllPairs-first, AllPairs-rest}
-use Rattle.lemmas.proofs.Orderings.{Less-from_is_lt}
+use Rattle.lemmas.proofs.Pairs.{AllPairs_first, AllPairs_rest}
+use Rattle.lemmas.proofs.Orderings.{Less_from_is_lt}
 
 -- an entry is found at its own id
 pub found_itself : (es : List Entry) → Rises (slice_cmp nat_cmp) (λ e. e.id) es → (e : Entry) → Contains es e
@@ -22,9 +22,9 @@ found_itself (v ∷ es) rising e h = elim (here_or v es e h) [
   | inl same ↦ subst (λ (w : Entry). find (λ u. bytes_eq u.id w.id) (v ∷ es) ≡ Some w) same (rw (same_itself v.id) refl)
   | inr later ↦ (
       let less = subst (λ (w : Entry). IsTrue (is_lt (slice_cmp nat_cmp v.id w.id))) later.2
-      (AllPairs-first Below v es rising later.0 e later.1) in
-      rw (other_from_less v.id e.id (Less-from_is_lt (slice_cmp nat_cmp v.id e.id) less))
-      (found_itself es (AllPairs-rest Below v es rising) e later))
+      (AllPairs_first Below v es rising later.0 e later.1) in
+      rw (other_from_less v.id e.id (Less_from_is_lt (slice_cmp nat_cmp v.id e.id) less))
+      (found_itself es (AllPairs_rest Below v es rising) e later))
 ]
   where
     Below : Entry → Entry → Type 0
@@ -37,8 +37,8 @@ AppliedAre zone = (y : Id) → Contains (applied_ids zone) y ↔ IsTrue (is_appl
 abbrev on : Option Entry → Bool
 on o = option_map_or (λ e. is_some e.applied) o false
 
-pub applied-are : (zone : Zone) → IsZone zone → AppliedAre zone
-applied-are zone form y = (there, among)
+pub applied_are : (zone : Zone) → IsZone zone → AppliedAre zone
+applied_are zone form y = (there, among)
   where
     there : Contains (applied_ids zone) y → IsTrue (is_applied zone y)
     there h =
@@ -53,7 +53,7 @@ applied-are zone form y = (there, among)
         by : (o : Option Entry) → entry_of zone y ≡ o → Contains (applied_ids zone) y
         by None e = absurd (true≢false (sym applied ∙ ap on e))
         by (Some f) e =
-            let gives = find-gives (λ v. bytes_eq v.id y) zone.entries f e in
+            let gives = find_gives (λ v. bytes_eq v.id y) zone.entries f e in
             subst (Contains (applied_ids zone)) (same_from f.id y gives.0)
             (in_map (λ v. v.id) (filter (λ v. is_some v.applied) zone.entries) f
             (in_filter (λ v. is_some v.applied) zone.entries f gives.1 (sym (ap on e) ∙ applied)))

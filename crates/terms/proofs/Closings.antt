@@ -38,11 +38,11 @@ list_text text at next inner b len same outer at_is closes count =
     let len_is : length r.0 ≡ len = omega (arith, ap length r.1, length-append r.0 (41 ∷ next), ap length at_is') in
     r.1 ∙ ap (λ l. l ++ 41 ∷ next) (sym (ap (take len) r.1 ∙ take_at r.0 (41 ∷ next) len len_is))
 
-pub length-followed : (records : List (List ℕ)) → length (followed records) ≤ 73 * length records
-length-followed [] = omega arith
-length-followed (r ∷ rs) = omega (
+pub length_followed : (records : List (List ℕ)) → length (followed records) ≤ 73 * length records
+length_followed [] = omega arith
+length_followed (r ∷ rs) = omega (
   arith,
-  length-followed rs,
+  length_followed rs,
   length-append (32 ∷ front r) (followed rs),
   length-take 72 r,
 )

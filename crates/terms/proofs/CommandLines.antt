@@ -36,8 +36,8 @@ spelled_is word.List = refl
 spelled_is word.Report = refl
 
 -- No two commands begin with one word.
-pub word-only : (a b : CommandWord) → word_text a ≡ word_text b → a ≡ b
-word-only a b e = sym (spelled_is a) ∙ ap spelled e ∙ spelled_is b
+pub word_only : (a b : CommandWord) → word_text a ≡ word_text b → a ≡ b
+word_only a b e = sym (spelled_is a) ∙ ap spelled e ∙ spelled_is b
 
 pub same_text : (s t : Text) (ps qs : List Piece) → TheWord s ∷ ps ≡ TheWord t ∷ qs → s ≡ t
 same_text s t ps qs e = cc (e)
@@ -45,11 +45,11 @@ same_text s t ps qs e = cc (e)
 same_rest : (s t : Text) (ps qs : List Piece) → TheWord s ∷ ps ≡ TheWord t ∷ qs → ps ≡ qs
 same_rest s t ps qs e = cc (e)
 
-pub begins-only : (pieces : List Piece) (v w : CommandWord) (rest rest' : List Piece) → BeginsWith pieces v rest
+pub begins_only : (pieces : List Piece) (v w : CommandWord) (rest rest' : List Piece) → BeginsWith pieces v rest
     → BeginsWith pieces w rest' → (v ≡ w) × (rest ≡ rest')
-begins-only pieces v w rest rest' b c =
+begins_only pieces v w rest rest' b c =
     let e : TheWord (word_text v) ∷ rest ≡ TheWord (word_text w) ∷ rest' = sym b ∙ c in (
-      word-only v w (same_text (word_text v) (word_text w) rest rest' e),
+      word_only v w (same_text (word_text v) (word_text w) rest rest' e),
       same_rest (word_text v) (word_text w) rest rest' e,
     )
 
@@ -58,7 +58,7 @@ pub of_command : (pieces : List Piece) (w : CommandWord) (rest : List Piece) (c 
     → IsCommand pieces c → (command_word c ≡ w) × ((ws : List Word) × HasWords rest ws × AreKnown w ws
     × HasOperands ws c)
 of_command pieces w rest c b k =
-    let s = begins-only pieces (command_word c) w k.rest rest k.begins b in (
+    let s = begins_only pieces (command_word c) w k.rest rest k.begins b in (
       s.0,
       (
         k.words,

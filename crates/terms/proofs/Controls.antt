@@ -159,8 +159,8 @@ other_words : codes "CHANGE" ≡ codes "DELETE" → ⊥
 other_words e = true≢false (ap (bytes_eq (codes "CHANGE")) e)
 
 -- No CHANGE record is a DELETE record.
-pub change-no_delete : (name line : Text) (low high : ℕ) → IsChange name line → IsDelete low high line → ⊥
-change-no_delete name line low high c d =
+pub change_no_delete : (name line : Text) (low high : ℕ) → IsChange name line → IsDelete low high line → ⊥
+change_no_delete name line low high c d =
     other_words (same_control _ _ _ _ line c d.1).0
 
 -- The operand determines its numbers.

@@ -8,7 +8,7 @@ use Rattle.terms.specs.Types.{Text}
 use Rattle.terms.specs.Records.{front}
 use Rattle.terms.specs.Statement.{Piece, HasPieces, solid, joined, followed, Ends, IsIdle, IsStatement, StFault, St1}
 use Rattle.terms.specs.Statement.{St2, St3, St4, BreaksOff, IsStFault, OpensComment, BreaksPairs}
-use Rattle.terms.proofs.Pieces.{IsStop, stop_nil, stop_period, stop_comment, stop_pairs, pieces-only}
+use Rattle.terms.proofs.Pieces.{IsStop, stop_nil, stop_period, stop_comment, stop_pairs, pieces_only}
 
 abbrev rest_text : Text → List (List ℕ) → Text
 rest_text line later = line ++ followed later
@@ -62,20 +62,20 @@ place_only (b ∷ before) (b' ∷ before') at at' head head' line line' later la
     (cc (first, more.0), more.1, more.2)
 
 -- Where a statement ends is determined.
-pub ends-only : (records : List (List ℕ)) (ps qs : List Piece) (tail tail' : Text) (inline inline' : List (List ℕ))
+pub ends_only : (records : List (List ℕ)) (ps qs : List Piece) (tail tail' : Text) (inline inline' : List (List ℕ))
     → Ends records ps tail inline → Ends records qs tail' inline' → (ps ≡ qs) × (tail ≡ tail') × (inline ≡ inline')
-ends-only records ps qs tail tail' inline inline' e f =
-    let pieces = pieces-only (joined records) ps qs (46 ∷ tail ++ followed inline) (46 ∷ tail' ++ followed inline')
+ends_only records ps qs tail tail' inline inline' e f =
+    let pieces = pieces_only (joined records) ps qs (46 ∷ tail ++ followed inline) (46 ∷ tail' ++ followed inline')
     e.has_pieces (stop_period (tail ++ followed inline)) f.has_pieces (stop_period (tail' ++ followed inline'))
     in
     let place = place_only e.before f.before e.place.at f.place.at e.place.head f.place.head (46 ∷ tail) (46 ∷ tail')
     inline inline' (sym e.place.records_are ∙ f.place.records_are) e.place.line_is f.place.line_is pieces.1 in
     (pieces.0, cc (place.1), place.2)
 
-pub statement-only : (records : List (List ℕ)) (pieces others : List Piece) (inline inline' : List (List ℕ))
+pub statement_only : (records : List (List ℕ)) (pieces others : List Piece) (inline inline' : List (List ℕ))
     → IsStatement records pieces inline → IsStatement records others inline' → (pieces ≡ others) × (inline ≡ inline')
-statement-only records pieces others inline inline' s t =
-    let same = ends-only records s.0 t.0 s.1 t.1 inline inline' s.2 t.2 in
+statement_only records pieces others inline inline' s t =
+    let same = ends_only records s.0 t.0 s.1 t.1 inline inline' s.2 t.2 in
     (s.4 ∙ ap solid same.0 ∙ sym t.4, same.2)
 
 first_byte : (a b : ℕ) (s t : Text) → a ∷ s ≡ b ∷ t → a ≡ b
@@ -94,28 +94,28 @@ pairs_no_period rest after o e =
     ]
 
 -- What breaks off does not end well.
-pub breaks-not_ends : (records : List (List ℕ)) (qs ps : List Piece) (why : StFault) (tail : Text)
+pub breaks_not_ends : (records : List (List ℕ)) (qs ps : List Piece) (why : StFault) (tail : Text)
     (inline : List (List ℕ)) → BreaksOff records qs why → Ends records ps tail inline → IsIdle tail → ⊥
-breaks-not_ends records qs ps St1 tail inline b e idle =
-    let same = pieces-only (joined records) qs ps [] (46 ∷ tail ++ followed inline) b stop_nil e.has_pieces
+breaks_not_ends records qs ps St1 tail inline b e idle =
+    let same = pieces_only (joined records) qs ps [] (46 ∷ tail ++ followed inline) b stop_nil e.has_pieces
     (stop_period (tail ++ followed inline)) in
     cc (same.1)
-breaks-not_ends records qs ps St2 tail inline b e idle =
-    let same = pieces-only (joined records) qs ps b.0 (46 ∷ tail ++ followed inline) b.1 (stop_comment b.0 b.2)
+breaks_not_ends records qs ps St2 tail inline b e idle =
+    let same = pieces_only (joined records) qs ps b.0 (46 ∷ tail ++ followed inline) b.1 (stop_comment b.0 b.2)
     e.has_pieces (stop_period (tail ++ followed inline)) in
     no_period b.0 (tail ++ followed inline) b.2 same.1
-breaks-not_ends records qs ps St3 tail inline b e idle =
-    let same = pieces-only (joined records) qs ps b.0 (46 ∷ tail ++ followed inline) b.1 (stop_pairs b.0 b.2)
+breaks_not_ends records qs ps St3 tail inline b e idle =
+    let same = pieces_only (joined records) qs ps b.0 (46 ∷ tail ++ followed inline) b.1 (stop_pairs b.0 b.2)
     e.has_pieces (stop_period (tail ++ followed inline)) in
     pairs_no_period b.0 (tail ++ followed inline) b.2 same.1
-breaks-not_ends records qs ps St4 tail inline b e idle =
-    let same = ends-only records qs ps b.0 tail b.1 inline b.2 e in
+breaks_not_ends records qs ps St4 tail inline b e idle =
+    let same = ends_only records qs ps b.0 tail b.1 inline b.2 e in
     b.3 (subst IsIdle (sym same.1) idle)
 
 -- No records are both a statement and at fault.
-pub fault-no_statement : (records : List (List ℕ)) (why : StFault) (pieces : List Piece) (inline : List (List ℕ))
+pub fault_no_statement : (records : List (List ℕ)) (why : StFault) (pieces : List Piece) (inline : List (List ℕ))
     → IsStFault records why → IsStatement records pieces inline → ⊥
-fault-no_statement records why pieces inline f s = breaks-not_ends records f.0 s.0 why s.1 inline f.1 s.2 s.3
+fault_no_statement records why pieces inline f s = breaks_not_ends records f.0 s.0 why s.1 inline f.1 s.2 s.3
 
 -- the fault that shows where pieces stop
 abbrev fault_at : Text → StFault
@@ -154,15 +154,15 @@ stops records ps St4 b = record {
 }
 
 -- Where a statement breaks off, and why, is determined.
-pub breaks-only : (records : List (List ℕ)) (ps qs : List Piece) (why other : StFault) → BreaksOff records ps why
+pub breaks_only : (records : List (List ℕ)) (ps qs : List Piece) (why other : StFault) → BreaksOff records ps why
     → BreaksOff records qs other → (ps ≡ qs) × (why ≡ other)
-breaks-only records ps qs why other b c =
+breaks_only records ps qs why other b c =
     let s = stops records ps why b in
     let t = stops records qs other c in
-    let same = pieces-only (joined records) ps qs s.rest t.rest s.has_pieces s.stop t.has_pieces t.stop in
+    let same = pieces_only (joined records) ps qs s.rest t.rest s.has_pieces s.stop t.has_pieces t.stop in
     (same.0, sym s.why_is ∙ ap fault_at same.1 ∙ t.why_is)
 
 -- The fault of a statement is determined.
-pub st_fault-only : (records : List (List ℕ)) (why other : StFault) → IsStFault records why → IsStFault records other
+pub st_fault_only : (records : List (List ℕ)) (why other : StFault) → IsStFault records why → IsStFault records other
     → why ≡ other
-st_fault-only records why other f g = (breaks-only records f.0 g.0 why other f.1 g.1).1
+st_fault_only records why other f g = (breaks_only records f.0 g.0 why other f.1 g.1).1

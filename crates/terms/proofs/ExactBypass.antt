@@ -20,34 +20,34 @@ use Rattle.terms.specs.Operands.{operand, AreOperands, HasSorted}
 use Rattle.terms.specs.CommandForms.{members_of, HasReasons, HasBypassed, IsBypassList, HasBypass}
 use Rattle.terms.specs.Commands.{list_behind, runs_from, runs_in, is_often}
 use Rattle.lemmas.proofs.Pairs.{pairs_map}
-use Rattle.terms.proofs.Ids.{Contains-from_is_in}
-use Rattle.terms.proofs.ExactWords.{members-only}
-use Rattle.terms.proofs.ExactOperands.{has_sorted-only, texts-only, flag-only}
+use Rattle.terms.proofs.Ids.{Contains_from_is_in}
+use Rattle.terms.proofs.ExactWords.{members_only}
+use Rattle.terms.proofs.ExactOperands.{has_sorted_only, texts_only, flag_only}
 use Rattle.terms.proofs.OperandWords.{count, count_once, operands_once, once_each, seldom}
 use Rattle.terms.proofs.BypassMembers.{AreWordBytes, members_count, list_of, behind_operand}
 
 no_list : (form : Text → Type 0) (m : Word) (values : List Text) → m.list ≡ None → HasSorted form m values → ⊥
 no_list form m values none h = subst (λ l. IsSomeAnd l (λ text. IsListOf form text h.0)) none h.1
 
-reasons-only : (kind : HoldKind) (found : Option Word) (a b : Reasons) → HasReasons kind found a
+reasons_only : (kind : HoldKind) (found : Option Word) (a b : Reasons) → HasReasons kind found a
     → HasReasons kind found b → a ≡ b
-reasons-only kind None a b h k = h ∙ sym k
-reasons-only kind (Some m) NoReason b h k = absurd h
-reasons-only kind (Some m) AnyReason NoReason h k = absurd k
-reasons-only kind (Some m) AnyReason AnyReason h k = refl
-reasons-only kind (Some m) AnyReason (TheseReasons b) h k = absurd (no_list (IsReason kind) m b h k.0)
-reasons-only kind (Some m) (TheseReasons a) NoReason h k = absurd k
-reasons-only kind (Some m) (TheseReasons a) AnyReason h k = absurd (no_list (IsReason kind) m a k h.0)
-reasons-only kind (Some m) (TheseReasons a) (TheseReasons b) h k =
-    ap (λ l. TheseReasons l) (has_sorted-only (IsReason kind) m a b h.0 k.0)
+reasons_only kind None a b h k = h ∙ sym k
+reasons_only kind (Some m) NoReason b h k = absurd h
+reasons_only kind (Some m) AnyReason NoReason h k = absurd k
+reasons_only kind (Some m) AnyReason AnyReason h k = refl
+reasons_only kind (Some m) AnyReason (TheseReasons b) h k = absurd (no_list (IsReason kind) m b h k.0)
+reasons_only kind (Some m) (TheseReasons a) NoReason h k = absurd k
+reasons_only kind (Some m) (TheseReasons a) AnyReason h k = absurd (no_list (IsReason kind) m a k h.0)
+reasons_only kind (Some m) (TheseReasons a) (TheseReasons b) h k =
+    ap (λ l. TheseReasons l) (has_sorted_only (IsReason kind) m a b h.0 k.0)
 
-bypassed-only : (ms : List Word) (a b : Bypass) → HasBypassed ms a → HasBypassed ms b → a ≡ b
-bypassed-only ms a b h k =
-    ap (λ x. record a { pre = x }) (flag-only (operand (codes "PRE") ms) a.pre b.pre h.pre k.pre)
-    ∙ ap (λ x. record a { pre = b.pre; req = x }) (flag-only (operand (codes "REQ") ms) a.req b.req h.req k.req)
-    ∙ ap (λ x. record a { pre = b.pre; req = b.req; ifreq = x }) (flag-only (operand (codes "IFREQ") ms) a.ifreq b.ifreq
+bypassed_only : (ms : List Word) (a b : Bypass) → HasBypassed ms a → HasBypassed ms b → a ≡ b
+bypassed_only ms a b h k =
+    ap (λ x. record a { pre = x }) (flag_only (operand (codes "PRE") ms) a.pre b.pre h.pre k.pre)
+    ∙ ap (λ x. record a { pre = b.pre; req = x }) (flag_only (operand (codes "REQ") ms) a.req b.req h.req k.req)
+    ∙ ap (λ x. record a { pre = b.pre; req = b.req; ifreq = x }) (flag_only (operand (codes "IFREQ") ms) a.ifreq b.ifreq
     h.ifreq k.ifreq)
-    ∙ ap (λ x. record a { pre = b.pre; req = b.req; ifreq = b.ifreq; same_id = x }) (flag-only
+    ∙ ap (λ x. record a { pre = b.pre; req = b.req; ifreq = b.ifreq; same_id = x }) (flag_only
     (operand (codes "ID") ms) a.same_id b.same_id h.same_id k.same_id)
     ∙ ap (λ x. record b {
       applycheck = x;
@@ -55,28 +55,28 @@ bypassed-only ms a b h k =
       holdsystem = a.holdsystem;
       holduser = a.holduser;
       holdclass = a.holdclass;
-    }) (flag-only (operand (codes "APPLYCHECK") ms) a.applycheck b.applycheck h.applycheck
+    }) (flag_only (operand (codes "APPLYCHECK") ms) a.applycheck b.applycheck h.applycheck
     k.applycheck)
     ∙ ap (λ x. record b { holderror = x; holdsystem = a.holdsystem; holduser = a.holduser; holdclass = a.holdclass })
-    (reasons-only Error (operand (codes "HOLDERROR") ms) a.holderror b.holderror h.holderror k.holderror)
-    ∙ ap (λ x. record b { holdsystem = x; holduser = a.holduser; holdclass = a.holdclass }) (reasons-only System
+    (reasons_only Error (operand (codes "HOLDERROR") ms) a.holderror b.holderror h.holderror k.holderror)
+    ∙ ap (λ x. record b { holdsystem = x; holduser = a.holduser; holdclass = a.holdclass }) (reasons_only System
     (operand (codes "HOLDSYSTEM") ms) a.holdsystem b.holdsystem h.holdsystem k.holdsystem)
-    ∙ ap (λ x. record b { holduser = x; holdclass = a.holdclass }) (reasons-only User
+    ∙ ap (λ x. record b { holduser = x; holdclass = a.holdclass }) (reasons_only User
     (operand (codes "HOLDUSER") ms) a.holduser b.holduser h.holduser k.holduser)
-    ∙ ap (λ x. record b { holdclass = x }) (texts-only IsClass (operand (codes "HOLDCLASS") ms) a.holdclass b.holdclass
+    ∙ ap (λ x. record b { holdclass = x }) (texts_only IsClass (operand (codes "HOLDCLASS") ms) a.holdclass b.holdclass
     h.holdclass.0 k.holdclass.0)
 
-list-only : (w : CommandWord) (list : Option Text) (a b : Bypass) → IsSomeAnd list (λ text. IsBypassList w text a)
+list_only : (w : CommandWord) (list : Option Text) (a b : Bypass) → IsSomeAnd list (λ text. IsBypassList w text a)
     → IsSomeAnd list (λ text. IsBypassList w text b) → a ≡ b
-list-only w None a b h k = absurd h
-list-only w (Some text) a b h k =
-    let same = members-only text h.members k.members h.has_members k.has_members in
-    bypassed-only k.members a b (subst (λ ms. HasBypassed ms a) same h.has_bypassed) k.has_bypassed
+list_only w None a b h k = absurd h
+list_only w (Some text) a b h k =
+    let same = members_only text h.members k.members h.has_members k.has_members in
+    bypassed_only k.members a b (subst (λ ms. HasBypassed ms a) same h.has_bypassed) k.has_bypassed
 
-pub bypass-only : (w : CommandWord) (found : Option Word) (a b : Bypass) → HasBypass w found a → HasBypass w found b
+pub bypass_only : (w : CommandWord) (found : Option Word) (a b : Bypass) → HasBypass w found a → HasBypass w found b
     → a ≡ b
-bypass-only w None a b h k = h ∙ sym k
-bypass-only w (Some m) a b h k = list-only w m.list a b h k
+bypass_only w None a b h k = h ∙ sym k
+bypass_only w (Some m) a b h k = list_only w m.list a b h k
 
 -- whether a name is made of word characters, and has some
 abbrev is_name : Text → Bool
@@ -109,7 +109,7 @@ pub runs_count : (w : CommandWord) (text : Text) (ms : List Word) (t : Text) →
 runs_count w text ms t h known there' =
     members_count t (name_is w t there').0 text ms h
     (All-weaker (λ (m : Word). IsTrue (is_in (members_of w) m.word)) (λ m. AreWordBytes m.word)
-    (λ m k. (name_is w m.word (Contains-from_is_in (members_of w) m.word k)).1) ms known)
+    (λ m k. (name_is w m.word (Contains_from_is_in (members_of w) m.word k)).1) ms known)
 
 -- Known members of which no name runs twice are members each at most once.
 pub are_members : (w : CommandWord) (text : Text) (ms : List Word) → HasMembers text ms

@@ -13,10 +13,10 @@ use Rattle.terms.specs.Statements.{Statement, statement_text}
 use Rattle.terms.specs.Ptfin.{Begun, SoFar, sysmod_in, nothing, after, IsKnown, IsUnknown, IsWithin, IsFault}
 use Rattle.terms.specs.Ptfin.{IsGoodStatement, IsStatementFault, BeginsWithStatements, McsFault, IsNextFault}
 use Rattle.terms.specs.Ptfin.{IsPtfinFault}
-use Rattle.terms.proofs.Exact.{statement-only, fault-no_statement}
-use Rattle.terms.proofs.ExactFiles.{records-only, rec_fault-no_records, rec_fault-only, group-only, begins_inside}
-use Rattle.terms.proofs.ExactStatements.{value-only}
-use Rattle.terms.proofs.ExactPtfin.{SameParts, known-only, good-only, same_step, statement_fault-no_good}
+use Rattle.terms.proofs.Exact.{statement_only, fault_no_statement}
+use Rattle.terms.proofs.ExactFiles.{records_only, rec_fault_no_records, rec_fault_only, group_only, begins_inside}
+use Rattle.terms.proofs.ExactStatements.{value_only}
+use Rattle.terms.proofs.ExactPtfin.{SameParts, known_only, good_only, same_step, statement_fault_no_good}
 
 fault_codes : (current : Option Begun) (later : Lines) (w : StatementWord) (own : Option Text) (rest : List Piece)
     (inline : Lines) (a b : McCode) → IsFault current later w own rest inline a
@@ -41,14 +41,14 @@ fault_codes current later w own rest inline Mc5 Mc3 f g = absurd (g.1 f.0 f.2)
 fault_codes current later w own rest inline Mc5 Mc4 f g = absurd (f.1 g.0 g.1)
 fault_codes current later w own rest inline Mc5 Mc5 f g = refl
 fault_codes current later w own rest inline Mc5 Mc6 f g =
-    let same = value-only (sysmod_in current) w own rest inline f.0 g.0 f.2 g.2 in
+    let same = value_only (sysmod_in current) w own rest inline f.0 g.0 f.2 g.2 in
     absurd (g.3 (subst (λ t. IsWithin current t inline) same f.3))
 fault_codes current later w own rest inline Mc6 Mc1 f g = absurd g
 fault_codes current later w own rest inline Mc6 Mc2 f g = absurd g
 fault_codes current later w own rest inline Mc6 Mc3 f g = absurd (g.1 f.0 f.2)
 fault_codes current later w own rest inline Mc6 Mc4 f g = absurd (f.1 g.0 g.1)
 fault_codes current later w own rest inline Mc6 Mc5 f g =
-    let same = value-only (sysmod_in current) w own rest inline g.0 f.0 g.2 f.2 in
+    let same = value_only (sysmod_in current) w own rest inline g.0 f.0 g.2 f.2 in
     absurd (f.3 (subst (λ t. IsWithin current t inline) same g.3))
 fault_codes current later w own rest inline Mc6 Mc6 f g = refl
 
@@ -73,14 +73,14 @@ same_fault current later w v own other rest more inline text code p f =
 known_codes : (current : Option Begun) (later records : Lines) (a b : McCode) → KnownFault current later records a
     → KnownFault current later records b → a ≡ b
 known_codes current later records a b f g =
-    let parts = known-only records f.w g.w f.own g.own f.rest g.rest f.inline g.inline f.known g.known in
+    let parts = known_only records f.w g.w f.own g.own f.rest g.rest f.inline g.inline f.known g.known in
     fault_codes current later g.w g.own g.rest g.inline a b (same_fault current later f.w g.w f.own g.own f.rest g.rest
     f.inline g.inline a parts f.fault) g.fault
 
 unknown_known : (current : Option Begun) (later records : Lines) (code : McCode) → IsUnknown records
     → KnownFault current later records code → ⊥
 unknown_known current later records code u f =
-    let same = statement-only records f.known.pieces u.pieces f.inline u.inline f.known.statement u.statement in
+    let same = statement_only records f.known.pieces u.pieces f.inline u.inline f.known.statement u.statement in
     u.unknown f.w f.own f.rest (subst (λ p. TakesWord p (record { word = statement_text f.w; list = f.own }) f.rest)
     same.0 f.known.begins)
 
@@ -131,25 +131,25 @@ judged_codes : (current : Option Begun) (later records : Lines) (a b : McCode) �
     → Judged current later records b → a ≡ b
 judged_codes current later records a b (OfForm f) (OfForm g) = refl
 judged_codes current later records a b (OfForm f) (OfWord g) =
-    absurd (fault-no_statement records f.0 g.pieces g.inline f.1 g.statement)
+    absurd (fault_no_statement records f.0 g.pieces g.inline f.1 g.statement)
 judged_codes current later records a b (OfForm f) (Behind code g) =
-    absurd (fault-no_statement records f.0 g.known.pieces g.inline f.1 g.known.statement)
+    absurd (fault_no_statement records f.0 g.known.pieces g.inline f.1 g.known.statement)
 judged_codes current later records a b (OfWord f) (OfForm g) =
-    absurd (fault-no_statement records g.0 f.pieces f.inline g.1 f.statement)
+    absurd (fault_no_statement records g.0 f.pieces f.inline g.1 f.statement)
 judged_codes current later records a b (OfWord f) (OfWord g) = refl
 judged_codes current later records a b (OfWord f) (Behind code g) =
     absurd (unknown_known current later records code f g)
 judged_codes current later records a b (Behind code f) (OfForm g) =
-    absurd (fault-no_statement records g.0 f.known.pieces f.inline g.1 f.known.statement)
+    absurd (fault_no_statement records g.0 f.known.pieces f.inline g.1 f.known.statement)
 judged_codes current later records a b (Behind code f) (OfWord g) =
     absurd (unknown_known current later records code g f)
 judged_codes current later records a b (Behind code f) (Behind code' g) =
     known_codes current later records code code' f g
 
 -- The code of a statement's fault is determined.
-pub statement_fault-only : (current : Option Begun) (later records : Lines) (a b : McCode)
+pub statement_fault_only : (current : Option Begun) (later records : Lines) (a b : McCode)
     → IsStatementFault current later records a → IsStatementFault current later records b → a ≡ b
-statement_fault-only current later records a b f g = judged_codes current later records a b
+statement_fault_only current later records a b f g = judged_codes current later records a b
     (judged current later records a f) (judged current later records b g)
 
 faults_same : (f g : McsFault) → f.number ≡ g.number → f.code ≡ g.code → f ≡ g
@@ -165,17 +165,17 @@ at_place c d n m records rest fault e f g h =
 first_faults : (c : SoFar) (n : ℕ) (records : Lines) (f g : McsFault) → IsNextFault c n records f
     → IsNextFault c n records g → f ≡ g
 first_faults c n records f g h k =
-    let same = group-only n h.1 k.1 records h.2 k.2 h.0 k.0 h.3 k.3 in
+    let same = group_only n h.1 k.1 records h.2 k.2 h.0 k.0 h.3 k.3 in
     let moved = subst (λ x. IsStatementFault c.current k.2 x.records f.code) same.0
     (subst (λ l. IsStatementFault c.current l h.0.records f.code) same.2 h.5) in
     faults_same f g (h.4 ∙ ap (λ (x : Group). x.number) same.0 ∙ sym k.4)
-    (statement_fault-only c.current k.2 k.0.records f.code g.code moved k.5)
+    (statement_fault_only c.current k.2 k.0.records f.code g.code moved k.5)
 
 good_first : (c : SoFar) (n : ℕ) (records : Lines) (fault : McsFault) (g : Group) (next : ℕ) (later : Lines)
     (s : Statement) → IsNextFault c n records fault → TakesGroup n records g next later
     → IsGoodStatement c.current later g.records s → ⊥
 good_first c n records fault g next later s f t good =
-    statement_fault-no_good c.current f.2 f.0.records fault.code s f.5
+    statement_fault_no_good c.current f.2 f.0.records fault.code s f.5
     (same_step c n next f.1 records later f.2 g f.0 s t f.3 good)
 
 next_faults : (c : SoFar) (n : ℕ) (records : Lines) (ss : List Statement) (d : SoFar) (m : ℕ) (rest : Lines)
@@ -190,9 +190,9 @@ next_faults c n records [] d m rest (s' ∷ ss') d' m' rest' f g b b' h k =
 next_faults c n records (s ∷ ss) d m rest [] d' m' rest' f g b b' h k =
     absurd (good_first c n records g b.0 b.1 b.2 s (at_place c d' n m' records rest' g b'.0 b'.1 b'.2 k) b.3 b.4)
 next_faults c n records (s ∷ ss) d m rest (s' ∷ ss') d' m' rest' f g b b' h k =
-    let same = group-only n b.1 b'.1 records b.2 b'.2 b.0 b'.0 b.3 b'.3 in
+    let same = group_only n b.1 b'.1 records b.2 b'.2 b.0 b'.0 b.3 b'.3 in
     let good = same_step c n b.1 b'.1 records b.2 b'.2 b.0 b'.0 s b.3 b'.3 b.4 in
-    let says = good-only c.current b'.2 b'.0.records s s' good b'.4 in
+    let says = good_only c.current b'.2 b'.0.records s s' good b'.4 in
     let more = subst (λ x. BeginsWithStatements (after c x) b.1 b.2 ss d m rest) says b.5 in
     let more' = subst (λ k. BeginsWithStatements (after c s') k b'.2 ss d m rest) same.1
     (subst (λ r. BeginsWithStatements (after c s') b.1 r ss d m rest) same.2 more) in
@@ -210,23 +210,23 @@ outside_excludes : (bytes : List ℕ) (records others : Lines) (ss : List Statem
     (fault : McsFault) → HasRecords bytes records → HasRecords bytes others → starts_outside records ≡ true
     → BeginsWithStatements nothing 1 others ss d m rest → IsNextFault d m rest fault → ⊥
 outside_excludes bytes records others ss d m rest fault h k out b f =
-    true≢false (sym out ∙ ap starts_outside (records-only bytes records others h k)
+    true≢false (sym out ∙ ap starts_outside (records_only bytes records others h k)
     ∙ inside nothing 1 others ss d m rest fault b f)
 
 -- The first fault of a file is determined.
-pub ptfin_fault-only : (bytes : List ℕ) (f g : McsFault) → IsPtfinFault bytes f → IsPtfinFault bytes g → f ≡ g
-ptfin_fault-only bytes f g (inl (inl h)) (inl (inl k)) =
-    faults_same f g (h.3 ∙ ap rec_fault_record (rec_fault-only bytes h.1 k.1 h.2 k.2) ∙ sym k.3) (h.0 ∙ sym k.0)
-ptfin_fault-only bytes f g (inl (inl h)) (inl (inr k)) = absurd (rec_fault-no_records bytes h.1 k.2 h.2 k.3)
-ptfin_fault-only bytes f g (inl (inl h)) (inr k) = absurd (rec_fault-no_records bytes h.1 k.0 h.2 k.5)
-ptfin_fault-only bytes f g (inl (inr h)) (inl (inl k)) = absurd (rec_fault-no_records bytes k.1 h.2 k.2 h.3)
-ptfin_fault-only bytes f g (inl (inr h)) (inl (inr k)) = faults_same f g (h.1 ∙ sym k.1) (h.0 ∙ sym k.0)
-ptfin_fault-only bytes f g (inl (inr h)) (inr k) = absurd (outside_excludes bytes h.2 k.0 k.1 k.2 k.3 k.4 g h.3 k.5 h.4
+pub ptfin_fault_only : (bytes : List ℕ) (f g : McsFault) → IsPtfinFault bytes f → IsPtfinFault bytes g → f ≡ g
+ptfin_fault_only bytes f g (inl (inl h)) (inl (inl k)) =
+    faults_same f g (h.3 ∙ ap rec_fault_record (rec_fault_only bytes h.1 k.1 h.2 k.2) ∙ sym k.3) (h.0 ∙ sym k.0)
+ptfin_fault_only bytes f g (inl (inl h)) (inl (inr k)) = absurd (rec_fault_no_records bytes h.1 k.2 h.2 k.3)
+ptfin_fault_only bytes f g (inl (inl h)) (inr k) = absurd (rec_fault_no_records bytes h.1 k.0 h.2 k.5)
+ptfin_fault_only bytes f g (inl (inr h)) (inl (inl k)) = absurd (rec_fault_no_records bytes k.1 h.2 k.2 h.3)
+ptfin_fault_only bytes f g (inl (inr h)) (inl (inr k)) = faults_same f g (h.1 ∙ sym k.1) (h.0 ∙ sym k.0)
+ptfin_fault_only bytes f g (inl (inr h)) (inr k) = absurd (outside_excludes bytes h.2 k.0 k.1 k.2 k.3 k.4 g h.3 k.5 h.4
     k.6 k.7)
-ptfin_fault-only bytes f g (inr h) (inl (inl k)) = absurd (rec_fault-no_records bytes k.1 h.0 k.2 h.5)
-ptfin_fault-only bytes f g (inr h) (inl (inr k)) = absurd (outside_excludes bytes k.2 h.0 h.1 h.2 h.3 h.4 f k.3 h.5 k.4
+ptfin_fault_only bytes f g (inr h) (inl (inl k)) = absurd (rec_fault_no_records bytes k.1 h.0 k.2 h.5)
+ptfin_fault_only bytes f g (inr h) (inl (inr k)) = absurd (outside_excludes bytes k.2 h.0 h.1 h.2 h.3 h.4 f k.3 h.5 k.4
     h.6 h.7)
-ptfin_fault-only bytes f g (inr h) (inr k) =
-    let same = records-only bytes h.0 k.0 h.5 k.5 in
+ptfin_fault_only bytes f g (inr h) (inr k) =
+    let same = records_only bytes h.0 k.0 h.5 k.5 in
     next_faults nothing 1 k.0 h.1 h.2 h.3 h.4 k.1 k.2 k.3 k.4 f g
     (subst (λ r. BeginsWithStatements nothing 1 r h.1 h.2 h.3 h.4) same h.6) k.6 h.7 k.7

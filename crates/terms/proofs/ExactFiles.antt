@@ -9,7 +9,7 @@ use Rattle.std.proofs.lemmas.List.Elements.{All-weaker, All-head, All-tail, All-
 use Rattle.terms.specs.Records.{IsPrintable, IsRecord, HasRecords, RecFault, Rec1, Rec2, IsRecFault}
 use Rattle.terms.specs.Texts.{HasLines}
 use Rattle.terms.specs.Groups.{begins_statement, starts_outside, IsGroup, Group, TakesGroup, HasGroups}
-use Rattle.terms.proofs.Longest.{StartsWithout, longest-only}
+use Rattle.terms.proofs.Longest.{StartsWithout, longest_only}
 use Rattle.terms.proofs.Texts.{same_lines}
 
 has_lines : (bytes : List ℕ) (records : List (List ℕ)) → HasRecords bytes records → HasLines bytes records
@@ -19,9 +19,9 @@ has_lines bytes records h = record {
 }
 
 -- A file has one list of records at most.
-pub records-only : (bytes : List ℕ) (records others : List (List ℕ)) → HasRecords bytes records
+pub records_only : (bytes : List ℕ) (records others : List (List ℕ)) → HasRecords bytes records
     → HasRecords bytes others → records ≡ others
-records-only bytes records others h g = same_lines bytes records others (has_lines bytes records h)
+records_only bytes records others h g = same_lines bytes records others (has_lines bytes records h)
     (has_lines bytes others g)
 
 whole_length : (records : List (List ℕ)) → All IsRecord records
@@ -40,12 +40,12 @@ whole_printable (r ∷ rs) each =
     (whole_printable rs (All-tail IsRecord r rs each))
 
 -- No file has records and a fault of its records.
-pub rec_fault-no_records : (bytes : List ℕ) (fault : RecFault) (records : List (List ℕ)) → IsRecFault bytes fault
+pub rec_fault_no_records : (bytes : List ℕ) (fault : RecFault) (records : List (List ℕ)) → IsRecFault bytes fault
     → HasRecords bytes records → ⊥
-rec_fault-no_records bytes (Rec1 n) records f h =
+rec_fault_no_records bytes (Rec1 n) records f h =
     let whole = ap length h.bytes_are ∙ whole_length records h.each in
     f.0 (omega (arith, whole))
-rec_fault-no_records bytes (Rec2 n column) records f h =
+rec_fault_no_records bytes (Rec2 n column) records f h =
     let all = subst (All IsPrintable) (sym h.bytes_are) (whole_printable records h.each) in
     f.2 (all f.0 0 (omega (arith, f.1)))
 
@@ -67,14 +67,14 @@ bad_only bytes i j end within i_in j_in bad bad' all all' =
     ]
 
 -- The first fault of a file's records is determined.
-pub rec_fault-only : (bytes : List ℕ) (fault other : RecFault) → IsRecFault bytes fault → IsRecFault bytes other
+pub rec_fault_only : (bytes : List ℕ) (fault other : RecFault) → IsRecFault bytes fault → IsRecFault bytes other
     → fault ≡ other
-rec_fault-only bytes (Rec1 n) (Rec1 m) f g = ap Rec1 (f.2 ∙ sym g.2)
-rec_fault-only bytes (Rec1 n) (Rec2 m column) f g = absurd (g.2
+rec_fault_only bytes (Rec1 n) (Rec1 m) f g = ap Rec1 (f.2 ∙ sym g.2)
+rec_fault_only bytes (Rec1 n) (Rec2 m column) f g = absurd (g.2
     (early bytes (length bytes / 80 * 80) g.0 f.1 g.1 (omega arith)))
-rec_fault-only bytes (Rec2 n column) (Rec1 m) f g = absurd (f.2
+rec_fault_only bytes (Rec2 n column) (Rec1 m) f g = absurd (f.2
     (early bytes (length bytes / 80 * 80) f.0 g.1 f.1 (omega arith)))
-rec_fault-only bytes (Rec2 n column) (Rec2 m column') f g =
+rec_fault_only bytes (Rec2 n column) (Rec2 m column') f g =
     let same : f.0 ≡ g.0 = bad_only bytes f.0 g.0 (length bytes / 80 * 80) (omega arith) f.1 g.1 f.2 g.2 f.3 g.3 in
     ap₂ Rec2 (f.4 ∙ ap (λ i. i / 80 + 1) same ∙ sym g.4) (f.5 ∙ ap (λ i. i % 80 + 1) same ∙ sym g.5)
 
@@ -90,15 +90,15 @@ cut_only : (front back front' back' : List (List ℕ)) → front ++ back ≡ fro
 cut_only [] back front' back' e g g' starts starts' = absurd g
 cut_only (r ∷ front) back [] back' e g g' starts starts' = absurd g'
 cut_only (r ∷ front) back (r' ∷ front') back' e g g' starts starts' =
-    let more = longest-only IsLater front back front' back' (cc (e)) g.1 (starts_without back starts) g'.1
+    let more = longest_only IsLater front back front' back' (cc (e)) g.1 (starts_without back starts) g'.1
     (starts_without back' starts') in
     let same : r ≡ r' = cc (e) in
     (cc (same, more.0), more.1)
 
 -- The first group is determined, and so is what follows it.
-pub group-only : (n m m' : ℕ) (records rest rest' : List (List ℕ)) (g g' : Group) → TakesGroup n records g m rest
+pub group_only : (n m m' : ℕ) (records rest rest' : List (List ℕ)) (g g' : Group) → TakesGroup n records g m rest
     → TakesGroup n records g' m' rest' → (g ≡ g') × (m ≡ m') × (rest ≡ rest')
-group-only n m m' records rest rest' g g' t u =
+group_only n m m' records rest rest' g g' t u =
     let cut = cut_only g.records rest g'.records rest' (sym t.records_are ∙ u.records_are) t.is_group u.is_group
     t.rest_starts u.rest_starts in
     let number : g.number ≡ g'.number = t.number_is ∙ sym u.number_is in (
@@ -115,15 +115,15 @@ pub no_group : (n m : ℕ) (rest : List (List ℕ)) (g : Group) → TakesGroup n
 no_group n m rest g t = empty_group g.records rest t.records_are t.is_group
 
 -- Records are one list of groups at most.
-pub groups-only : (n : ℕ) (records : List (List ℕ)) (gs gs' : List Group) → HasGroups n records gs
+pub groups_only : (n : ℕ) (records : List (List ℕ)) (gs gs' : List Group) → HasGroups n records gs
     → HasGroups n records gs' → gs ≡ gs'
-groups-only n records [] [] h k = refl
-groups-only n records [] (g ∷ gs') h k = absurd (no_group n k.0 k.1 g (subst (λ rs. TakesGroup n rs g k.0 k.1) h k.2))
-groups-only n records (g ∷ gs) [] h k = absurd (no_group n h.0 h.1 g (subst (λ rs. TakesGroup n rs g h.0 h.1) k h.2))
-groups-only n records (g ∷ gs) (g' ∷ gs') h k =
-    let first = group-only n h.0 k.0 records h.1 k.1 g g' h.2 k.2 in
+groups_only n records [] [] h k = refl
+groups_only n records [] (g ∷ gs') h k = absurd (no_group n k.0 k.1 g (subst (λ rs. TakesGroup n rs g k.0 k.1) h k.2))
+groups_only n records (g ∷ gs) [] h k = absurd (no_group n h.0 h.1 g (subst (λ rs. TakesGroup n rs g h.0 h.1) k h.2))
+groups_only n records (g ∷ gs) (g' ∷ gs') h k =
+    let first = group_only n h.0 k.0 records h.1 k.1 g g' h.2 k.2 in
     let rest = subst (λ m. HasGroups m k.1 gs') (sym first.1) k.3 in
-    let more = groups-only h.0 h.1 gs gs' h.3 (subst (λ rs. HasGroups h.0 rs gs') (sym first.2) rest) in
+    let more = groups_only h.0 h.1 gs gs' h.3 (subst (λ rs. HasGroups h.0 rs gs') (sym first.2) rest) in
     cc (first.0, more)
 
 first_inside : (front rest : List (List ℕ)) → starts_outside (front ++ rest) ≡ true → IsGroup front → ⊥
@@ -131,10 +131,10 @@ first_inside [] rest out g = g
 first_inside (r ∷ front) rest out g = true≢false (sym out ∙ ap not g.0)
 
 -- Records whose first begins no statement are no groups.
-pub outside-no_groups : (n : ℕ) (records : List (List ℕ)) (gs : List Group) → starts_outside records ≡ true
+pub outside_no_groups : (n : ℕ) (records : List (List ℕ)) (gs : List Group) → starts_outside records ≡ true
     → HasGroups n records gs → ⊥
-outside-no_groups n records [] out h = true≢false (sym out ∙ ap starts_outside h)
-outside-no_groups n records (g ∷ gs) out h = first_inside g.records h.1
+outside_no_groups n records [] out h = true≢false (sym out ∙ ap starts_outside h)
+outside_no_groups n records (g ∷ gs) out h = first_inside g.records h.1
     (subst (λ rs. starts_outside rs ≡ true) h.2.records_are out) h.2.is_group
 
 group_inside : (front rest : List (List ℕ)) → IsGroup front → starts_outside (front ++ rest) ≡ false

@@ -11,25 +11,25 @@ use Rattle.terms.specs.Words.{TakesWord}
 use Rattle.terms.specs.Statements.{statement_text}
 use Rattle.terms.specs.HoldStatements.{IsHoldOf, IsReleaseOf}
 use Rattle.terms.specs.Ptfin.{McsFault}
-use Rattle.terms.specs.HoldFile.{MayStand, HasItem, IsWithin, IsGoodItem, IsItemFault, BeginsWithItems, IsHoldFile}
+use Rattle.terms.specs.HoldFile.{StandsInHoldFile, HasItem, IsWithin, IsGoodItem, IsItemFault, BeginsWithItems, IsHoldFile}
 use Rattle.terms.specs.HoldFile.{IsNextItemFault, IsHoldFileFault}
-use Rattle.terms.proofs.Exact.{statement-only, fault-no_statement}
-use Rattle.terms.proofs.ExactFiles.{records-only, rec_fault-no_records, group-only, no_group, begins_inside}
-use Rattle.terms.proofs.ExactHolds.{hold-only, release-only}
-use Rattle.terms.proofs.ExactPtfin.{SameParts, known-only}
-use Rattle.terms.proofs.ExactWords.{words-only}
+use Rattle.terms.proofs.Exact.{statement_only, fault_no_statement}
+use Rattle.terms.proofs.ExactFiles.{records_only, rec_fault_no_records, group_only, no_group, begins_inside}
+use Rattle.terms.proofs.ExactHolds.{hold_only, release_only}
+use Rattle.terms.proofs.ExactPtfin.{SameParts, known_only}
+use Rattle.terms.proofs.ExactWords.{words_only}
 
 -- A statement says one item at most.
-pub item-only : (w : StatementWord) (own : Option Text) (rest : List Piece) (a b : HoldItem) → HasItem w own rest a
+pub item_only : (w : StatementWord) (own : Option Text) (rest : List Piece) (a b : HoldItem) → HasItem w own rest a
     → HasItem w own rest b → a ≡ b
-item-only w own rest (AHold a) (AHold b) h k =
-    let words = words-only rest h.0 k.0 h.1 k.1 in
-    ap (λ x. AHold x) (hold-only own k.0 a b (subst (λ l. IsHoldOf own l a) words h.2.1) k.2.1 (h.2.2 ∙ sym k.2.2))
-item-only w own rest (AHold a) (ARelease b) h k = absurd (cc (h.2.0, k.2.0))
-item-only w own rest (ARelease a) (AHold b) h k = absurd (cc (h.2.0, k.2.0))
-item-only w own rest (ARelease a) (ARelease b) h k =
-    let words = words-only rest h.0 k.0 h.1 k.1 in
-    ap (λ x. ARelease x) (release-only own k.0 a b (subst (λ l. IsReleaseOf own l a) words h.2.1) k.2.1)
+item_only w own rest (AHold a) (AHold b) h k =
+    let words = words_only rest h.0 k.0 h.1 k.1 in
+    ap (λ x. AHold x) (hold_only own k.0 a b (subst (λ l. IsHoldOf own l a) words h.2.1) k.2.1 (h.2.2 ∙ sym k.2.2))
+item_only w own rest (AHold a) (ARelease b) h k = absurd (cc (h.2.0, k.2.0))
+item_only w own rest (ARelease a) (AHold b) h k = absurd (cc (h.2.0, k.2.0))
+item_only w own rest (ARelease a) (ARelease b) h k =
+    let words = words_only rest h.0 k.0 h.1 k.1 in
+    ap (λ x. ARelease x) (release_only own k.0 a b (subst (λ l. IsReleaseOf own l a) words h.2.1) k.2.1)
 
 same_item : (w v : StatementWord) (own other : Option Text) (rest more : List Piece) (inline text : Lines)
     (item : HoldItem) → SameParts w v own other rest more inline text → HasItem w own rest item
@@ -39,33 +39,33 @@ same_item w v own other rest more inline text item p h =
     (subst (λ x. HasItem x own rest item) p.words h))
 
 same_place : (w v : StatementWord) (own other : Option Text) (rest more : List Piece) (inline text : Lines)
-    → SameParts w v own other rest more inline text → MayStand w inline → MayStand v text
-same_place w v own other rest more inline text p h = subst (λ i. MayStand v i) p.inlines
-    (subst (λ x. MayStand x inline) p.words h)
+    → SameParts w v own other rest more inline text → StandsInHoldFile w inline → StandsInHoldFile v text
+same_place w v own other rest more inline text p h = subst (λ i. StandsInHoldFile v i) p.inlines
+    (subst (λ x. StandsInHoldFile x inline) p.words h)
 
-good_item-only : (records : Lines) (a b : HoldItem) → IsGoodItem records a → IsGoodItem records b → a ≡ b
-good_item-only records a b h k =
-    let parts = known-only records h.0 k.0 h.1 k.1 h.2 k.2 h.3 k.3 h.4 k.4 in
-    item-only k.0 k.1 k.2 a b (same_item h.0 k.0 h.1 k.1 h.2 k.2 h.3 k.3 a parts h.6) k.6
+good_item_only : (records : Lines) (a b : HoldItem) → IsGoodItem records a → IsGoodItem records b → a ≡ b
+good_item_only records a b h k =
+    let parts = known_only records h.0 k.0 h.1 k.1 h.2 k.2 h.3 k.3 h.4 k.4 in
+    item_only k.0 k.1 k.2 a b (same_item h.0 k.0 h.1 k.1 h.2 k.2 h.3 k.3 a parts h.6) k.6
 
 -- No statement is both good and at fault.
-pub item_fault-no_good : (records : Lines) (code : McCode) (item : HoldItem) → IsItemFault records code
+pub item_fault_no_good : (records : Lines) (code : McCode) (item : HoldItem) → IsItemFault records code
     → IsGoodItem records item → ⊥
-item_fault-no_good records Mc1 item f g = fault-no_statement records f.0 g.4.pieces g.3 f.1 g.4.statement
-item_fault-no_good records Mc2 item f g =
-    let same = statement-only records g.4.pieces f.pieces g.3 f.inline g.4.statement f.statement in
+item_fault_no_good records Mc1 item f g = fault_no_statement records f.0 g.4.pieces g.3 f.1 g.4.statement
+item_fault_no_good records Mc2 item f g =
+    let same = statement_only records g.4.pieces f.pieces g.3 f.inline g.4.statement f.statement in
     f.unknown g.0 g.1 g.2 (subst (λ p. TakesWord p (record { word = statement_text g.0; list = g.1 }) g.2) same.0
     g.4.begins)
-item_fault-no_good records Mc3 item f g =
-    let parts = known-only records g.0 f.0 g.1 f.1 g.2 f.2 g.3 f.3 g.4 f.4 in
+item_fault_no_good records Mc3 item f g =
+    let parts = known_only records g.0 f.0 g.1 f.1 g.2 f.2 g.3 f.3 g.4 f.4 in
     f.6 item (same_item g.0 f.0 g.1 f.1 g.2 f.2 g.3 f.3 item parts g.6)
-item_fault-no_good records Mc4 item f g =
-    let parts = known-only records g.0 f.0 g.1 f.1 g.2 f.2 g.3 f.3 g.4 f.4 in
+item_fault_no_good records Mc4 item f g =
+    let parts = known_only records g.0 f.0 g.1 f.1 g.2 f.2 g.3 f.3 g.4 f.4 in
     f.5 (same_place g.0 f.0 g.1 f.1 g.2 f.2 g.3 f.3 parts g.5)
-item_fault-no_good records Mc5 item f g = f
-item_fault-no_good records Mc6 item f g =
-    let parts = known-only records g.0 f.0 g.1 f.1 g.2 f.2 g.3 f.3 g.4 f.5 in
-    let same = item-only f.0 f.1 f.2 item f.4 (same_item g.0 f.0 g.1 f.1 g.2 f.2 g.3 f.3 item parts g.6) f.7 in
+item_fault_no_good records Mc5 item f g = f
+item_fault_no_good records Mc6 item f g =
+    let parts = known_only records g.0 f.0 g.1 f.1 g.2 f.2 g.3 f.3 g.4 f.5 in
+    let same = item_only f.0 f.1 f.2 item f.4 (same_item g.0 f.0 g.1 f.1 g.2 f.2 g.3 f.3 item parts g.6) f.7 in
     f.8 (subst IsWithin same g.7)
 
 no_next : (n : ℕ) (records : Lines) (fault : McsFault) → records ≡ [] → IsNextItemFault n records fault → ⊥
@@ -79,12 +79,12 @@ fault_behind n records [] m [] m' rest fault b b' f = no_next m' rest fault (sym
 fault_behind n records (i ∷ items) m [] m' rest fault b b' f =
     let takes = subst (λ k. TakesGroup k records f.0 f.1 f.2) (sym b'.0)
     (subst (λ r. TakesGroup m' r f.0 f.1 f.2) (sym b'.1) f.3) in
-    let same = group-only n b.1 f.1 records b.2 f.2 b.0 f.0 b.3 takes in
-    item_fault-no_good f.0.records fault.code i f.5 (subst (λ x. IsGoodItem x.records i) same.0 b.4)
+    let same = group_only n b.1 f.1 records b.2 f.2 b.0 f.0 b.3 takes in
+    item_fault_no_good f.0.records fault.code i f.5 (subst (λ x. IsGoodItem x.records i) same.0 b.4)
 fault_behind n records [] m (i' ∷ items') m' rest fault b b' f =
     no_group n b'.1 b'.2 b'.0 (subst (λ r. TakesGroup n r b'.0 b'.1 b'.2) b.1 b'.3)
 fault_behind n records (i ∷ items) m (i' ∷ items') m' rest fault b b' f =
-    let same = group-only n b.1 b'.1 records b.2 b'.2 b.0 b'.0 b.3 b'.3 in
+    let same = group_only n b.1 b'.1 records b.2 b'.2 b.0 b'.0 b.3 b'.3 in
     let more = subst (λ k. BeginsWithItems k b'.2 items m []) same.1
     (subst (λ r. BeginsWithItems b.1 r items m []) same.2 b.5) in
     fault_behind b'.1 b'.2 items m items' m' rest fault more b'.5 f
@@ -95,33 +95,33 @@ first_inside n records [] m b = ap starts_outside b.1
 first_inside n records (i ∷ items) m b = begins_inside n b.1 records b.2 b.0 b.3
 
 -- No file is both a hold file and at fault.
-pub hold_file_fault-no_items : (bytes : List ℕ) (fault : McsFault) (items : List HoldItem) → IsHoldFileFault bytes fault
+pub hold_file_fault_no_items : (bytes : List ℕ) (fault : McsFault) (items : List HoldItem) → IsHoldFileFault bytes fault
     → IsHoldFile bytes items → ⊥
-hold_file_fault-no_items bytes fault items (inl (inl f)) p = rec_fault-no_records bytes f.1 p.0 f.2 p.2
-hold_file_fault-no_items bytes fault items (inl (inr f)) p =
-    let same = records-only bytes p.0 f.2 p.2 f.3 in
+hold_file_fault_no_items bytes fault items (inl (inl f)) p = rec_fault_no_records bytes f.1 p.0 f.2 p.2
+hold_file_fault_no_items bytes fault items (inl (inr f)) p =
+    let same = records_only bytes p.0 f.2 p.2 f.3 in
     true≢false (sym f.4 ∙ ap starts_outside (sym same) ∙ first_inside 1 p.0 items p.1 p.3)
-hold_file_fault-no_items bytes fault items (inr f) p =
-    let same = records-only bytes f.0 p.0 f.4 p.2 in
+hold_file_fault_no_items bytes fault items (inr f) p =
+    let same = records_only bytes f.0 p.0 f.4 p.2 in
     fault_behind 1 p.0 items p.1 f.1 f.2 f.3 fault p.3 (subst (λ r. BeginsWithItems 1 r f.1 f.2 f.3) same f.5) f.6
 
-items-only : (n : ℕ) (records : Lines) (items : List HoldItem) (m : ℕ) (items' : List HoldItem) (m' : ℕ)
+items_only : (n : ℕ) (records : Lines) (items : List HoldItem) (m : ℕ) (items' : List HoldItem) (m' : ℕ)
     → BeginsWithItems n records items m [] → BeginsWithItems n records items' m' [] → items ≡ items'
-items-only n records [] m [] m' b b' = refl
-items-only n records (i ∷ items) m [] m' b b' = absurd (no_group n b.1 b.2 b.0
+items_only n records [] m [] m' b b' = refl
+items_only n records (i ∷ items) m [] m' b b' = absurd (no_group n b.1 b.2 b.0
     (subst (λ r. TakesGroup n r b.0 b.1 b.2) b'.1 b.3))
-items-only n records [] m (i' ∷ items') m' b b' = absurd (no_group n b'.1 b'.2 b'.0
+items_only n records [] m (i' ∷ items') m' b b' = absurd (no_group n b'.1 b'.2 b'.0
     (subst (λ r. TakesGroup n r b'.0 b'.1 b'.2) b.1 b'.3))
-items-only n records (i ∷ items) m (i' ∷ items') m' b b' =
-    let same = group-only n b.1 b'.1 records b.2 b'.2 b.0 b'.0 b.3 b'.3 in
+items_only n records (i ∷ items) m (i' ∷ items') m' b b' =
+    let same = group_only n b.1 b'.1 records b.2 b'.2 b.0 b'.0 b.3 b'.3 in
     let more = subst (λ k. BeginsWithItems k b'.2 items m []) same.1
     (subst (λ r. BeginsWithItems b.1 r items m []) same.2 b.5) in
-    let first = good_item-only b'.0.records i i' (subst (λ x. IsGoodItem x.records i) same.0 b.4) b'.4 in
-    let others = items-only b'.1 b'.2 items m items' m' more b'.5 in
+    let first = good_item_only b'.0.records i i' (subst (λ x. IsGoodItem x.records i) same.0 b.4) b'.4 in
+    let others = items_only b'.1 b'.2 items m items' m' more b'.5 in
     cc (first, others)
 
 -- A hold file has one list of items.
-pub hold_file-only : (bytes : List ℕ) (a b : List HoldItem) → IsHoldFile bytes a → IsHoldFile bytes b → a ≡ b
-hold_file-only bytes a b p q =
-    let same = records-only bytes p.0 q.0 p.2 q.2 in
-    items-only 1 q.0 a p.1 b q.1 (subst (λ r. BeginsWithItems 1 r a p.1 []) same p.3) q.3
+pub hold_file_only : (bytes : List ℕ) (a b : List HoldItem) → IsHoldFile bytes a → IsHoldFile bytes b → a ≡ b
+hold_file_only bytes a b p q =
+    let same = records_only bytes p.0 q.0 p.2 q.2 in
+    items_only 1 q.0 a p.1 b q.1 (subst (λ r. BeginsWithItems 1 r a p.1 []) same p.3) q.3

@@ -12,29 +12,29 @@ use Rattle.terms.specs.Lookups.{is_before, IsRising}
 use Rattle.terms.specs.Words.{Word, HasMembers, IsListOf, IsOneOf, plain}
 use Rattle.terms.specs.Operands.{AreSorted, HasOne, HasListed, HasSorted, HasRequired, HasOptional, HasTexts, HasFlag}
 use Rattle.lemmas.proofs.Members.{here, here_or, there, none_in}
-use Rattle.terms.proofs.ExactWords.{members-only, list-only}
-use Rattle.lemmas.proofs.Pairs.{AllPairs-first, AllPairs-rest}
-use Rattle.lemmas.proofs.Orderings.{Less-from_is_lt}
+use Rattle.terms.proofs.ExactWords.{members_only, list_only}
+use Rattle.lemmas.proofs.Pairs.{AllPairs_first, AllPairs_rest}
+use Rattle.lemmas.proofs.Orderings.{Less_from_is_lt}
 
 not_both : (a b : Text) → is_before a b ≡ true → is_before b a ≡ true → ⊥
 not_both a b low high =
-    let one : slice_cmp nat_cmp a b ≡ Less = Less-from_is_lt (slice_cmp nat_cmp a b) low in
-    let two : slice_cmp nat_cmp b a ≡ Less = Less-from_is_lt (slice_cmp nat_cmp b a) high in
+    let one : slice_cmp nat_cmp a b ≡ Less = Less_from_is_lt (slice_cmp nat_cmp a b) low in
+    let two : slice_cmp nat_cmp b a ≡ Less = Less_from_is_lt (slice_cmp nat_cmp b a) high in
     let back : Less ≡ Greater = sym one ∙ nat_list_cmp_total.antisymm a b ∙ ap ordering_reverse two in
     cc (back)
 
 -- what comes behind the first
 behind_first : (a : Text) (as' : List Text) (z : Text) → IsRising (a ∷ as') → Contains as' z → is_before a z ≡ true
 behind_first a as' z rises h = subst (λ t. is_before a t ≡ true) h.2
-    (AllPairs-first (λ x y. IsTrue (is_before x y)) a as' rises h.0 z h.1)
+    (AllPairs_first (λ x y. IsTrue (is_before x y)) a as' rises h.0 z h.1)
 
 -- Lists that rise and have the same texts are one.
-pub rising-only : (as' bs : List Text) → IsRising as' → IsRising bs → ((x : Text) → Contains as' x → Contains bs x)
+pub rising_only : (as' bs : List Text) → IsRising as' → IsRising bs → ((x : Text) → Contains as' x → Contains bs x)
     → ((x : Text) → Contains bs x → Contains as' x) → as' ≡ bs
-rising-only [] [] rises rises' up down = refl
-rising-only [] (b ∷ bs) rises rises' up down = absurd (none_in b (down b (here b bs)))
-rising-only (a ∷ as') [] rises rises' up down = absurd (none_in a (up a (here a as')))
-rising-only (a ∷ as') (b ∷ bs) rises rises' up down =
+rising_only [] [] rises rises' up down = refl
+rising_only [] (b ∷ bs) rises rises' up down = absurd (none_in b (down b (here b bs)))
+rising_only (a ∷ as') [] rises rises' up down = absurd (none_in a (up a (here a as')))
+rising_only (a ∷ as') (b ∷ bs) rises rises' up down =
     let same : a ≡ b = elim (here_or b bs a (up a (here a as'))) [
       | inl is ↦ sym is
       | inr later ↦ elim (here_or a as' b (down b (here b bs))) [
@@ -42,8 +42,8 @@ rising-only (a ∷ as') (b ∷ bs) rises rises' up down =
         | inr later' ↦ absurd (not_both b a (behind_first b bs a rises' later) (behind_first a as' b rises later'))
       ]
     ] in
-    let more = rising-only as' bs (AllPairs-rest (λ x y. IsTrue (is_before x y)) a as' rises)
-    (AllPairs-rest (λ x y. IsTrue (is_before x y)) b bs rises')
+    let more = rising_only as' bs (AllPairs_rest (λ x y. IsTrue (is_before x y)) a as' rises)
+    (AllPairs_rest (λ x y. IsTrue (is_before x y)) b bs rises')
     (λ z h. rest a b as' bs z same rises (up z (there a as' z h)) h)
     (λ z h. rest b a bs as' z (sym same) rises' (down z (there b bs z h)) h) in
     cc (same, more)
@@ -57,27 +57,27 @@ rising-only (a ∷ as') (b ∷ bs) rises rises' up down =
           | inr more ↦ more
         ]
 
-pub sorted-only : (texts a b : List Text) → AreSorted texts a → AreSorted texts b → a ≡ b
-sorted-only texts a b s t = rising-only a b s.rising t.rising (λ x h. (t.same x).1 ((s.same x).0 h))
+pub sorted_only : (texts a b : List Text) → AreSorted texts a → AreSorted texts b → a ≡ b
+sorted_only texts a b s t = rising_only a b s.rising t.rising (λ x h. (t.same x).1 ((s.same x).0 h))
     (λ x h. (s.same x).1 ((t.same x).0 h))
 
-listed-only : (form : Text → Type 0) (list : Option Text) (a b : List Text)
+listed_only : (form : Text → Type 0) (list : Option Text) (a b : List Text)
     → IsSomeAnd list (λ text. IsListOf form text a) → IsSomeAnd list (λ text. IsListOf form text b) → a ≡ b
-listed-only form None a b h k = absurd h
-listed-only form (Some text) a b h k = list-only form form text a b h k
+listed_only form None a b h k = absurd h
+listed_only form (Some text) a b h k = list_only form form text a b h k
 
 -- A word's list has one list of values in rising order.
-pub has_sorted-only : (form : Text → Type 0) (w : Word) (a b : List Text) → HasSorted form w a → HasSorted form w b
+pub has_sorted_only : (form : Text → Type 0) (w : Word) (a b : List Text) → HasSorted form w a → HasSorted form w b
     → a ≡ b
-has_sorted-only form w a b h k = sorted-only h.0 a b h.2 (subst (λ l. AreSorted l b)
-    (listed-only form w.list k.0 h.0 k.1 h.1) k.2)
+has_sorted_only form w a b h k = sorted_only h.0 a b h.2 (subst (λ l. AreSorted l b)
+    (listed_only form w.list k.0 h.0 k.1 h.1) k.2)
 
 -- and one value, where it has one
 pub members_one : (list : Option Text) (m n : Text) → IsSomeAnd list (λ text. HasMembers text (plain m ∷ []))
     → IsSomeAnd list (λ text. HasMembers text (plain n ∷ [])) → m ≡ n
 members_one None m n h k = absurd h
 members_one (Some text) m n h k =
-    let same = members-only text (plain m ∷ []) (plain n ∷ []) h k in
+    let same = members_only text (plain m ∷ []) (plain n ∷ []) h k in
     let words : plain m ≡ plain n = cc (same) in
     ap (λ (w : Word). w.word) words
 
@@ -92,40 +92,40 @@ one_of form None m h f = absurd h
 one_of form (Some text) m h f = record { has_member = h; form_is = f }
 
 -- Two forms take one and the same member.
-pub own-only : (form other : Text → Type 0) (own : Option Text) (m n : Text)
+pub own_only : (form other : Text → Type 0) (own : Option Text) (m n : Text)
     → IsSomeAnd own (λ text. IsOneOf form text m) → IsSomeAnd own (λ text. IsOneOf other text n) → m ≡ n
-own-only form other own m n h k = members_one own m n (has_member form own m h).0 (has_member other own n k).0
+own_only form other own m n h k = members_one own m n (has_member form own m h).0 (has_member other own n k).0
 
 pub one_value : (form : Text → Type 0) (w : Word) (m n : Text) → HasOne form w m → HasOne form w n → m ≡ n
-one_value form w m n h k = own-only form form w.list m n h k
+one_value form w m n h k = own_only form form w.list m n h k
 
-pub required-only : (form : Text → Type 0) (found : Option Word) (m n : Text) → HasRequired form found m
+pub required_only : (form : Text → Type 0) (found : Option Word) (m n : Text) → HasRequired form found m
     → HasRequired form found n → m ≡ n
-required-only form None m n h k = absurd h
-required-only form (Some w) m n h k = one_value form w m n h k
+required_only form None m n h k = absurd h
+required_only form (Some w) m n h k = one_value form w m n h k
 
-pub optional-only : (form : Text → Type 0) (found : Option Word) (m n : Option Text) → HasOptional form found m
+pub optional_only : (form : Text → Type 0) (found : Option Word) (m n : Option Text) → HasOptional form found m
     → HasOptional form found n → m ≡ n
-optional-only form None m n h k = h ∙ sym k
-optional-only form (Some w) None n h k = absurd h
-optional-only form (Some w) (Some m) None h k = absurd k
-optional-only form (Some w) (Some m) (Some n) h k = ap (λ t. Some t) (one_value form w m n h k)
+optional_only form None m n h k = h ∙ sym k
+optional_only form (Some w) None n h k = absurd h
+optional_only form (Some w) (Some m) None h k = absurd k
+optional_only form (Some w) (Some m) (Some n) h k = ap (λ t. Some t) (one_value form w m n h k)
 
-pub texts-only : (form : Text → Type 0) (found : Option Word) (a b : List Text) → HasTexts form found a
+pub texts_only : (form : Text → Type 0) (found : Option Word) (a b : List Text) → HasTexts form found a
     → HasTexts form found b → a ≡ b
-texts-only form None a b h k = h ∙ sym k
-texts-only form (Some w) a b h k = has_sorted-only form w a b h k
+texts_only form None a b h k = h ∙ sym k
+texts_only form (Some w) a b h k = has_sorted_only form w a b h k
 
-pub some-only : (form : Text → Type 0) (found : Option Word) (a b : List Text)
+pub some_only : (form : Text → Type 0) (found : Option Word) (a b : List Text)
     → IsSomeAnd found (λ w. HasSorted form w a) → IsSomeAnd found (λ w. HasSorted form w b) → a ≡ b
-some-only form None a b h k = absurd h
-some-only form (Some w) a b h k = has_sorted-only form w a b h k
+some_only form None a b h k = absurd h
+some_only form (Some w) a b h k = has_sorted_only form w a b h k
 
-pub listed_some-only : (form : Text → Type 0) (found : Option Word) (a b : List Text)
+pub listed_some_only : (form : Text → Type 0) (found : Option Word) (a b : List Text)
     → IsSomeAnd found (λ w. HasListed form w a) → IsSomeAnd found (λ w. HasListed form w b) → a ≡ b
-listed_some-only form None a b h k = absurd h
-listed_some-only form (Some w) a b h k = listed-only form w.list a b h k
+listed_some_only form None a b h k = absurd h
+listed_some_only form (Some w) a b h k = listed_only form w.list a b h k
 
-pub flag-only : (found : Option Word) (m n : Bool) → HasFlag found m → HasFlag found n → m ≡ n
-flag-only None m n h k = h ∙ sym k
-flag-only (Some w) m n h k = h.0 ∙ sym k.0
+pub flag_only : (found : Option Word) (m n : Bool) → HasFlag found m → HasFlag found n → m ≡ n
+flag_only None m n h k = h ∙ sym k
+flag_only (Some w) m n h k = h.0 ∙ sym k.0

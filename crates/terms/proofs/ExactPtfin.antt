@@ -12,9 +12,9 @@ use Rattle.terms.specs.Statements.{Statement, statement_text}
 use Rattle.terms.specs.Ptfin.{Begun, SoFar, sysmod_in, nothing, items_of, after, IsKnown, IsGood, IsWithin, HasGoodText}
 use Rattle.terms.specs.Ptfin.{IsFault, IsGoodStatement, IsStatementFault, BeginsWithStatements, IsPtfin, McsFault}
 use Rattle.terms.specs.Ptfin.{IsNextFault, IsPtfinFault}
-use Rattle.terms.proofs.Exact.{statement-only, fault-no_statement}
-use Rattle.terms.proofs.ExactFiles.{records-only, rec_fault-no_records, group-only, no_group, begins_inside}
-use Rattle.terms.proofs.ExactStatements.{spelled-only, takes-only, value-only}
+use Rattle.terms.proofs.Exact.{statement_only, fault_no_statement}
+use Rattle.terms.proofs.ExactFiles.{records_only, rec_fault_no_records, group_only, no_group, begins_inside}
+use Rattle.terms.proofs.ExactStatements.{spelled_only, takes_only, value_only}
 
 -- the parts of a statement that begins with a known word are the same
 pub record SameParts (w v : StatementWord) (own other : Option Text) (rest more : List Piece) (inline later : Lines) :
@@ -24,14 +24,14 @@ pub record SameParts (w v : StatementWord) (own other : Option Text) (rest more 
   pub rests : rest ≡ more
   pub inlines : inline ≡ later
 
-pub known-only : (records : Lines) (w v : StatementWord) (own other : Option Text) (rest more : List Piece)
+pub known_only : (records : Lines) (w v : StatementWord) (own other : Option Text) (rest more : List Piece)
     (inline later : Lines) → IsKnown records w own rest inline → IsKnown records v other more later
     → SameParts w v own other rest more inline later
-known-only records w v own other rest more inline later h k =
-    let same = statement-only records h.pieces k.pieces inline later h.statement k.statement in
+known_only records w v own other rest more inline later h k =
+    let same = statement_only records h.pieces k.pieces inline later h.statement k.statement in
     let begins = subst (λ p. TakesWord p (record { word = statement_text w; list = own }) rest) same.0 h.begins in
-    let takes = takes-only k.pieces (statement_text w) (statement_text v) own other rest more begins k.begins in
-    record { words = spelled-only w v takes.0; owns = takes.1; rests = takes.2; inlines = same.1 }
+    let takes = takes_only k.pieces (statement_text w) (statement_text v) own other rest more begins k.begins in
+    record { words = spelled_only w v takes.0; owns = takes.1; rests = takes.2; inlines = same.1 }
 
 same_good : (current : Option Begun) (later : Lines) (w v : StatementWord) (own other : Option Text)
     (rest more : List Piece) (inline text : Lines) (s : Statement) → SameParts w v own other rest more inline text
@@ -42,12 +42,12 @@ same_good current later w v own other rest more inline text s p g =
     (subst (λ o. IsGood current later v o rest inline s) p.owns
     (subst (λ x. IsGood current later x own rest inline s) p.words g)))
 
-pub good-only : (current : Option Begun) (later records : Lines) (s t : Statement)
+pub good_only : (current : Option Begun) (later records : Lines) (s t : Statement)
     → IsGoodStatement current later records s → IsGoodStatement current later records t → s ≡ t
-good-only current later records s t h k =
-    let parts = known-only records h.0 k.0 h.1 k.1 h.2 k.2 h.3 k.3 h.4 k.4 in
+good_only current later records s t h k =
+    let parts = known_only records h.0 k.0 h.1 k.1 h.2 k.2 h.3 k.3 h.4 k.4 in
     let good = same_good current later h.0 k.0 h.1 k.1 h.2 k.2 h.3 k.3 s parts h.5 in
-    value-only (sysmod_in current) k.0 k.1 k.2 k.3 s t good.value k.5.value
+    value_only (sysmod_in current) k.0 k.1 k.2 k.3 s t good.value k.5.value
 
 fault_excludes : (current : Option Begun) (later : Lines) (w : StatementWord) (own : Option Text) (rest : List Piece)
     (inline : Lines) (code : McCode) (s : Statement) → IsFault current later w own rest inline code
@@ -57,10 +57,10 @@ fault_excludes current later w own rest inline Mc2 s f g = f
 fault_excludes current later w own rest inline Mc3 s f g = f.1 s g.value
 fault_excludes current later w own rest inline Mc4 s f g = g.placed f.0 f.1
 fault_excludes current later w own rest inline Mc5 s f g =
-    let same = value-only (sysmod_in current) w own rest inline s f.0 g.value f.2 in
+    let same = value_only (sysmod_in current) w own rest inline s f.0 g.value f.2 in
     f.4 (subst HasGoodText same g.text)
 fault_excludes current later w own rest inline Mc6 s f g =
-    let same = value-only (sysmod_in current) w own rest inline s f.0 g.value f.2 in
+    let same = value_only (sysmod_in current) w own rest inline s f.0 g.value f.2 in
     f.3 (subst (λ t. IsWithin current t inline) same g.within)
 
 known_excludes : (current : Option Begun) (later records : Lines) (code : McCode) (s : Statement)
@@ -68,30 +68,30 @@ known_excludes : (current : Option Begun) (later records : Lines) (code : McCode
     × IsKnown records w own rest inline × IsFault current later w own rest inline code)
     → IsGoodStatement current later records s → ⊥
 known_excludes current later records code s f g =
-    let parts = known-only records g.0 f.0 g.1 f.1 g.2 f.2 g.3 f.3 g.4 f.4 in
+    let parts = known_only records g.0 f.0 g.1 f.1 g.2 f.2 g.3 f.3 g.4 f.4 in
     fault_excludes current later f.0 f.1 f.2 f.3 code s f.5 (same_good current later g.0 f.0 g.1 f.1 g.2 f.2 g.3 f.3 s
     parts g.5)
 
 -- No statement is both good and at fault.
-pub statement_fault-no_good : (current : Option Begun) (later records : Lines) (code : McCode) (s : Statement)
+pub statement_fault_no_good : (current : Option Begun) (later records : Lines) (code : McCode) (s : Statement)
     → IsStatementFault current later records code → IsGoodStatement current later records s → ⊥
-statement_fault-no_good current later records Mc1 s f g = fault-no_statement records f.0 g.4.pieces g.3 f.1
+statement_fault_no_good current later records Mc1 s f g = fault_no_statement records f.0 g.4.pieces g.3 f.1
     g.4.statement
-statement_fault-no_good current later records Mc2 s f g =
-    let same = statement-only records g.4.pieces f.pieces g.3 f.inline g.4.statement f.statement in
+statement_fault_no_good current later records Mc2 s f g =
+    let same = statement_only records g.4.pieces f.pieces g.3 f.inline g.4.statement f.statement in
     f.unknown g.0 g.1 g.2 (subst (λ p. TakesWord p (record { word = statement_text g.0; list = g.1 }) g.2) same.0
     g.4.begins)
-statement_fault-no_good current later records Mc3 s f g = known_excludes current later records Mc3 s f g
-statement_fault-no_good current later records Mc4 s f g = known_excludes current later records Mc4 s f g
-statement_fault-no_good current later records Mc5 s f g = known_excludes current later records Mc5 s f g
-statement_fault-no_good current later records Mc6 s f g = known_excludes current later records Mc6 s f g
+statement_fault_no_good current later records Mc3 s f g = known_excludes current later records Mc3 s f g
+statement_fault_no_good current later records Mc4 s f g = known_excludes current later records Mc4 s f g
+statement_fault_no_good current later records Mc5 s f g = known_excludes current later records Mc5 s f g
+statement_fault_no_good current later records Mc6 s f g = known_excludes current later records Mc6 s f g
 
 -- the first statement of two ways is the same, and so is what follows it
 pub same_step : (c : SoFar) (n next next' : ℕ) (records later later' : Lines) (g g' : Group) (s : Statement)
     → TakesGroup n records g next later → TakesGroup n records g' next' later'
     → IsGoodStatement c.current later g.records s → IsGoodStatement c.current later' g'.records s
 same_step c n next next' records later later' g g' s t u good =
-    let same = group-only n next next' records later later' g g' t u in
+    let same = group_only n next next' records later later' g g' t u in
     subst (λ x. IsGoodStatement c.current later' x.records s) same.0
     (subst (λ l. IsGoodStatement c.current l g.records s) same.2 good)
 
@@ -107,14 +107,14 @@ fault_behind c n records (s ∷ ss) d m [] d' m' rest fault b b' f =
     let takes = subst (λ k. TakesGroup k records f.0 f.1 f.2) (sym b'.1)
     (subst (λ r. TakesGroup m' r f.0 f.1 f.2) (sym b'.2) f.3) in
     let good = same_step c n b.1 f.1 records b.2 f.2 b.0 f.0 s b.3 takes b.4 in
-    statement_fault-no_good c.current f.2 f.0.records fault.code s
+    statement_fault_no_good c.current f.2 f.0.records fault.code s
     (subst (λ x. IsStatementFault x.current f.2 f.0.records fault.code) (sym b'.0) f.5) good
 fault_behind c n records [] d m (s' ∷ ss') d' m' rest fault b b' f =
     no_group n b'.1 b'.2 b'.0 (subst (λ r. TakesGroup n r b'.0 b'.1 b'.2) b.2 b'.3)
 fault_behind c n records (s ∷ ss) d m (s' ∷ ss') d' m' rest fault b b' f =
-    let same = group-only n b.1 b'.1 records b.2 b'.2 b.0 b'.0 b.3 b'.3 in
+    let same = group_only n b.1 b'.1 records b.2 b'.2 b.0 b'.0 b.3 b'.3 in
     let good = same_step c n b.1 b'.1 records b.2 b'.2 b.0 b'.0 s b.3 b'.3 b.4 in
-    let says = good-only c.current b'.2 b'.0.records s s' good b'.4 in
+    let says = good_only c.current b'.2 b'.0.records s s' good b'.4 in
     let more = subst (λ x. BeginsWithStatements (after c x) b.1 b.2 ss d m []) says b.5 in
     let more' = subst (λ k. BeginsWithStatements (after c s') k b'.2 ss d m []) same.1
     (subst (λ r. BeginsWithStatements (after c s') b.1 r ss d m []) same.2 more) in
@@ -126,38 +126,38 @@ first_inside c n records [] d m b = ap starts_outside b.2
 first_inside c n records (s ∷ ss) d m b = begins_inside n b.1 records b.2 b.0 b.3
 
 -- No file is both a PTFIN and at fault.
-pub ptfin_fault-no_items : (bytes : List ℕ) (fault : McsFault) (items : List Item) → IsPtfinFault bytes fault
+pub ptfin_fault_no_items : (bytes : List ℕ) (fault : McsFault) (items : List Item) → IsPtfinFault bytes fault
     → IsPtfin bytes items → ⊥
-ptfin_fault-no_items bytes fault items (inl (inl f)) p = rec_fault-no_records bytes f.1 p.0 f.2 p.4
-ptfin_fault-no_items bytes fault items (inl (inr f)) p =
-    let same = records-only bytes p.0 f.2 p.4 f.3 in
+ptfin_fault_no_items bytes fault items (inl (inl f)) p = rec_fault_no_records bytes f.1 p.0 f.2 p.4
+ptfin_fault_no_items bytes fault items (inl (inr f)) p =
+    let same = records_only bytes p.0 f.2 p.4 f.3 in
     true≢false (sym f.4 ∙ ap starts_outside (sym same) ∙ first_inside nothing 1 p.0 p.1 p.2 p.3 p.5)
-ptfin_fault-no_items bytes fault items (inr f) p =
-    let same = records-only bytes f.0 p.0 f.5 p.4 in
+ptfin_fault_no_items bytes fault items (inr f) p =
+    let same = records_only bytes f.0 p.0 f.5 p.4 in
     fault_behind nothing 1 p.0 p.1 p.2 p.3 f.1 f.2 f.3 f.4 fault p.5
     (subst (λ r. BeginsWithStatements nothing 1 r f.1 f.2 f.3 f.4) same f.6) f.7
 
-made-only : (c : SoFar) (n : ℕ) (records : Lines) (ss : List Statement) (d : SoFar) (m : ℕ) (ss' : List Statement)
+made_only : (c : SoFar) (n : ℕ) (records : Lines) (ss : List Statement) (d : SoFar) (m : ℕ) (ss' : List Statement)
     (d' : SoFar) (m' : ℕ) → BeginsWithStatements c n records ss d m [] → BeginsWithStatements c n records ss' d' m' []
     → d ≡ d'
-made-only c n records [] d m [] d' m' b b' = sym b.0 ∙ b'.0
-made-only c n records (s ∷ ss) d m [] d' m' b b' = absurd (no_group n b.1 b.2 b.0
+made_only c n records [] d m [] d' m' b b' = sym b.0 ∙ b'.0
+made_only c n records (s ∷ ss) d m [] d' m' b b' = absurd (no_group n b.1 b.2 b.0
     (subst (λ r. TakesGroup n r b.0 b.1 b.2) b'.2 b.3))
-made-only c n records [] d m (s' ∷ ss') d' m' b b' = absurd (no_group n b'.1 b'.2 b'.0
+made_only c n records [] d m (s' ∷ ss') d' m' b b' = absurd (no_group n b'.1 b'.2 b'.0
     (subst (λ r. TakesGroup n r b'.0 b'.1 b'.2) b.2 b'.3))
-made-only c n records (s ∷ ss) d m (s' ∷ ss') d' m' b b' =
-    let same = group-only n b.1 b'.1 records b.2 b'.2 b.0 b'.0 b.3 b'.3 in
+made_only c n records (s ∷ ss) d m (s' ∷ ss') d' m' b b' =
+    let same = group_only n b.1 b'.1 records b.2 b'.2 b.0 b'.0 b.3 b'.3 in
     let good = same_step c n b.1 b'.1 records b.2 b'.2 b.0 b'.0 s b.3 b'.3 b.4 in
-    let says = good-only c.current b'.2 b'.0.records s s' good b'.4 in
+    let says = good_only c.current b'.2 b'.0.records s s' good b'.4 in
     let more = subst (λ x. BeginsWithStatements (after c x) b.1 b.2 ss d m []) says b.5 in
     let more' = subst (λ k. BeginsWithStatements (after c s') k b'.2 ss d m []) same.1
     (subst (λ r. BeginsWithStatements (after c s') b.1 r ss d m []) same.2 more) in
-    made-only (after c s') b'.1 b'.2 ss d m ss' d' m' more' b'.5
+    made_only (after c s') b'.1 b'.2 ss d m ss' d' m' more' b'.5
 
 -- A file has one list of items at most.
-pub ptfin-only : (bytes : List ℕ) (a b : List Item) → IsPtfin bytes a → IsPtfin bytes b → a ≡ b
-ptfin-only bytes a b p q =
-    let same = records-only bytes p.0 q.0 p.4 q.4 in
-    let made = made-only nothing 1 q.0 p.1 p.2 p.3 q.1 q.2 q.3
+pub ptfin_only : (bytes : List ℕ) (a b : List Item) → IsPtfin bytes a → IsPtfin bytes b → a ≡ b
+ptfin_only bytes a b p q =
+    let same = records_only bytes p.0 q.0 p.4 q.4 in
+    let made = made_only nothing 1 q.0 p.1 p.2 p.3 q.1 q.2 q.3
     (subst (λ r. BeginsWithStatements nothing 1 r p.1 p.2 p.3 []) same p.5) q.5 in
     p.6 ∙ ap items_of made ∙ sym q.6

@@ -17,10 +17,10 @@ use Rattle.terms.specs.Statements.{statement_text, changed_type, Statement, Says
 use Rattle.terms.specs.Statements.{SaysAssign, SaysChange, IsVerOf, IsIfOf, IsOwnHoldOf, IsAssignOf, HasAction}
 use Rattle.terms.specs.Statements.{IsChangeOf, Says}
 use Rattle.terms.specs.Ptfin.{HasValue}
-use Rattle.terms.proofs.ExactWords.{words-only}
-use Rattle.terms.proofs.ExactOperands.{own-only, one_value, has_sorted-only, listed_some-only, required-only}
-use Rattle.terms.proofs.ExactOperands.{optional-only, texts-only}
-use Rattle.terms.proofs.ExactHolds.{hold-only}
+use Rattle.terms.proofs.ExactWords.{words_only}
+use Rattle.terms.proofs.ExactOperands.{own_only, one_value, has_sorted_only, listed_some_only, required_only}
+use Rattle.terms.proofs.ExactOperands.{optional_only, texts_only}
+use Rattle.terms.proofs.ExactHolds.{hold_only}
 
 -- the words, as a reader knows them
 read_word : Text → Option StatementWord
@@ -56,8 +56,8 @@ some_same : (a b : StatementWord) → Some a ≡ Some b → a ≡ b
 some_same a b e = cc (e)
 
 -- A spelling is that of one word.
-pub spelled-only : (w v : StatementWord) → statement_text w ≡ statement_text v → w ≡ v
-spelled-only w v e = some_same w v (sym (reads w) ∙ ap read_word e ∙ reads v)
+pub spelled_only : (w v : StatementWord) → statement_text w ≡ statement_text v → w ≡ v
+spelled_only w v e = some_same w v (sym (reads w) ∙ ap read_word e ∙ reads v)
 
 takes_same : (a b : Text) (k l : Option Text) (rest more : List Piece)
     → TheWord a ∷ (list_pieces k ++ rest) ≡ TheWord b ∷ (list_pieces l ++ more) → (k ≡ None → BeginsNoList rest)
@@ -72,80 +72,80 @@ takes_same a b (Some k) None rest more e f g =
 takes_same a b (Some k) (Some l) rest more e f g = (cc (e), cc (e), cc (e))
 
 -- The word that pieces begin with, its list and what follows are determined.
-pub takes-only : (pieces : List Piece) (a b : Text) (k l : Option Text) (rest more : List Piece)
+pub takes_only : (pieces : List Piece) (a b : Text) (k l : Option Text) (rest more : List Piece)
     → TakesWord pieces (record { word = a; list = k }) rest → TakesWord pieces (record { word = b; list = l }) more
     → (a ≡ b) × (k ≡ l) × (rest ≡ more)
-takes-only pieces a b k l rest more t u = takes_same a b k l rest more (sym t.pieces_are ∙ u.pieces_are) t.ends u.ends
+takes_only pieces a b k l rest more t u = takes_same a b k l rest more (sym t.pieces_are ∙ u.pieces_are) t.ends u.ends
 
 -- A ++VER is determined.
-pub ver-only : (s : Sysmod) (own : Option Text) (ws : List Word) (a b : Ver) → IsVerOf s own ws a → IsVerOf s own ws b
+pub ver_only : (s : Sysmod) (own : Option Text) (ws : List Word) (a b : Ver) → IsVerOf s own ws a → IsVerOf s own ws b
     → a ≡ b
-ver-only s own ws a b h k =
-    ap (λ x. record a { srel = x }) (own-only IsSrel IsSrel own a.srel b.srel h.srel k.srel)
-    ∙ ap (λ x. record a { srel = b.srel; fmid = x }) (optional-only IsId _ a.fmid b.fmid h.fmid k.fmid)
-    ∙ ap (λ x. record a { srel = b.srel; fmid = b.fmid; pre = x }) (texts-only IsId _ a.pre b.pre h.pre k.pre)
+ver_only s own ws a b h k =
+    ap (λ x. record a { srel = x }) (own_only IsSrel IsSrel own a.srel b.srel h.srel k.srel)
+    ∙ ap (λ x. record a { srel = b.srel; fmid = x }) (optional_only IsId _ a.fmid b.fmid h.fmid k.fmid)
+    ∙ ap (λ x. record a { srel = b.srel; fmid = b.fmid; pre = x }) (texts_only IsId _ a.pre b.pre h.pre k.pre)
     ∙ ap (λ x. record a { srel = b.srel; fmid = b.fmid; pre = b.pre; req = x })
-    (texts-only IsId _ a.req b.req h.req k.req)
+    (texts_only IsId _ a.req b.req h.req k.req)
     ∙ ap (λ x. record b { sup = x; npre = a.npre; del = a.del; ifs = a.ifs })
-    (texts-only IsId _ a.sup b.sup h.sup k.sup)
-    ∙ ap (λ x. record b { npre = x; del = a.del; ifs = a.ifs }) (texts-only IsId _ a.npre b.npre h.npre k.npre)
-    ∙ ap (λ x. record b { del = x; ifs = a.ifs }) (texts-only IsId _ a.del b.del h.del k.del)
+    (texts_only IsId _ a.sup b.sup h.sup k.sup)
+    ∙ ap (λ x. record b { npre = x; del = a.del; ifs = a.ifs }) (texts_only IsId _ a.npre b.npre h.npre k.npre)
+    ∙ ap (λ x. record b { del = x; ifs = a.ifs }) (texts_only IsId _ a.del b.del h.del k.del)
     ∙ ap (λ x. record b { ifs = x }) (h.no_ifs ∙ sym k.no_ifs)
 
 -- An ++IF is determined.
-pub if-only : (s : Sysmod) (own : Option Text) (ws : List Word) (a b : IfReq) → IsIfOf s own ws a → IsIfOf s own ws b
+pub if_only : (s : Sysmod) (own : Option Text) (ws : List Word) (a b : IfReq) → IsIfOf s own ws a → IsIfOf s own ws b
     → a ≡ b
-if-only s own ws a b h k =
+if_only s own ws a b h k =
     let fmid : h.fmid ≡ k.fmid = cc (h.are_operands, k.are_operands) in
     let req : h.req ≡ k.req = cc (h.are_operands, k.are_operands) in
     ap (λ x. record a { function = x }) (one_value IsId k.fmid a.function b.function
     (subst (λ w. HasOne IsId w a.function) fmid h.function) k.function)
-    ∙ ap (λ x. record b { req = x }) (has_sorted-only IsId k.req a.req b.req
+    ∙ ap (λ x. record b { req = x }) (has_sorted_only IsId k.req a.req b.req
     (subst (λ w. HasSorted IsId w a.req) req h.ids) k.ids)
 
 -- A hold inside a SYSMOD is determined.
-pub own_hold-only : (s : Sysmod) (own : Option Text) (ws : List Word) (a b : Hold) → IsOwnHoldOf s own ws a
+pub own_hold_only : (s : Sysmod) (own : Option Text) (ws : List Word) (a b : Hold) → IsOwnHoldOf s own ws a
     → IsOwnHoldOf s own ws b → a ≡ b
-own_hold-only s own ws a b h k = hold-only own ws a b h.hold k.hold (h.internal ∙ sym k.internal)
+own_hold_only s own ws a b h k = hold_only own ws a b h.hold k.hold (h.internal ∙ sym k.internal)
 
 -- An ++ASSIGN is determined.
-pub assign-only : (own : Option Text) (ws : List Word) (a b : Assign) → IsAssignOf own ws a → IsAssignOf own ws b
+pub assign_only : (own : Option Text) (ws : List Word) (a b : Assign) → IsAssignOf own ws a → IsAssignOf own ws b
     → a ≡ b
-assign-only own ws a b h k =
-    ap (λ x. record a { source = x }) (required-only IsSource _ a.source b.source h.source k.source)
-    ∙ ap (λ x. record b { to = x }) (listed_some-only IsId _ a.to b.to h.to k.to)
+assign_only own ws a b h k =
+    ap (λ x. record a { source = x }) (required_only IsSource _ a.source b.source h.source k.source)
+    ∙ ap (λ x. record b { to = x }) (listed_some_only IsId _ a.to b.to h.to k.to)
 
-action-only : (w : StatementWord) (ws : List Word) (inline : Lines) (a b : Action) → HasAction w ws inline a
+action_only : (w : StatementWord) (ws : List Word) (inline : Lines) (a b : Action) → HasAction w ws inline a
     → HasAction w ws inline b → a ≡ b
-action-only (word.Replace type) ws inline (Replaces d l text) (Replaces d' l' text') h k =
-    ap (λ x. Replaces x l text) (required-only IsName _ d d' h.1 k.1)
-    ∙ ap (λ x. Replaces d' x text) (required-only IsName _ l l' h.2 k.2)
+action_only (word.Replace type) ws inline (Replaces d l text) (Replaces d' l' text') h k =
+    ap (λ x. Replaces x l text) (required_only IsName _ d d' h.1 k.1)
+    ∙ ap (λ x. Replaces d' x text) (required_only IsName _ l l' h.2 k.2)
     ∙ ap (λ x. Replaces d' l' x) (h.3 ∙ sym k.3)
-action-only word.UpdateMac ws inline (Updates text) (Updates text') h k = ap (λ x. Updates x) (h.1 ∙ sym k.1)
-action-only word.UpdateSrc ws inline (Updates text) (Updates text') h k = ap (λ x. Updates x) (h.1 ∙ sym k.1)
-action-only (word.Replace type) ws inline (Updates text) b h k = absurd h
-action-only (word.Replace type) ws inline a (Updates text) h k = absurd k
-action-only word.UpdateMac ws inline (Replaces d l text) b h k = absurd h
-action-only word.UpdateMac ws inline a (Replaces d l text) h k = absurd k
-action-only word.UpdateSrc ws inline (Replaces d l text) b h k = absurd h
-action-only word.UpdateSrc ws inline a (Replaces d l text) h k = absurd k
-action-only w ws inline a b h k = absurd h
+action_only word.UpdateMac ws inline (Updates text) (Updates text') h k = ap (λ x. Updates x) (h.1 ∙ sym k.1)
+action_only word.UpdateSrc ws inline (Updates text) (Updates text') h k = ap (λ x. Updates x) (h.1 ∙ sym k.1)
+action_only (word.Replace type) ws inline (Updates text) b h k = absurd h
+action_only (word.Replace type) ws inline a (Updates text) h k = absurd k
+action_only word.UpdateMac ws inline (Replaces d l text) b h k = absurd h
+action_only word.UpdateMac ws inline a (Replaces d l text) h k = absurd k
+action_only word.UpdateSrc ws inline (Replaces d l text) b h k = absurd h
+action_only word.UpdateSrc ws inline a (Replaces d l text) h k = absurd k
+action_only w ws inline a b h k = absurd h
 
 -- A replacement or an update is determined.
-pub change-only : (w : StatementWord) (own : Option Text) (ws : List Word) (inline : Lines) (a b : Change)
+pub change_only : (w : StatementWord) (own : Option Text) (ws : List Word) (inline : Lines) (a b : Change)
     → IsChangeOf w own ws inline a → IsChangeOf w own ws inline b → a ≡ b
-change-only w own ws inline a b h k =
+change_only w own ws inline a b h k =
     let types : a.elem_type ≡ b.elem_type = cc (h.type_is, k.type_is) in
     ap (λ x. record a { elem_type = x }) types
-    ∙ ap (λ x. record a { elem_type = b.elem_type; name = x }) (own-only IsName IsName own a.name b.name h.name k.name)
-    ∙ ap (λ x. record b { action = x }) (action-only w ws inline a.action b.action h.action k.action)
+    ∙ ap (λ x. record a { elem_type = b.elem_type; name = x }) (own_only IsName IsName own a.name b.name h.name k.name)
+    ∙ ap (λ x. record b { action = x }) (action_only w ws inline a.action b.action h.action k.action)
 
 -- what is said of a SYSMOD, where there is one
-current-only : {A : Type 0} (current : Option Sysmod) (Is : Sysmod → A → Type 0)
+current_only : {A : Type 0} (current : Option Sysmod) (Is : Sysmod → A → Type 0)
     → ((s : Sysmod) (a b : A) → Is s a → Is s b → a ≡ b) → (a b : A) → IsSomeAnd current (λ s. Is s a)
     → IsSomeAnd current (λ s. Is s b) → a ≡ b
-current-only None Is only a b h k = absurd h
-current-only (Some s) Is only a b h k = only s a b h k
+current_only None Is only a b h k = absurd h
+current_only (Some s) Is only a b h k = only s a b h k
 
 -- the kinds of statements by number, and those of words
 said : Statement → ℕ
@@ -192,29 +192,29 @@ says_same : (current : Option Sysmod) (w : StatementWord) (own : Option Text) (w
 unfolding said
 says_same current w own ws inline (SaysHeader j x) (SaysHeader k y) e h g =
     let kinds = header_kind w j k h.0 g.0 in
-    let ids = own-only IsId IsId own x y h.1.0 g.1.0 in
+    let ids = own_only IsId IsId own x y h.1.0 g.1.0 in
     cc (kinds, ids)
 says_same current w own ws inline (SaysVer v) (SaysVer u) e h g =
-    ap (λ x. SaysVer x) (current-only current (λ s. IsVerOf s own ws) (λ s. ver-only s own ws) v u h.1 g.1)
+    ap (λ x. SaysVer x) (current_only current (λ s. IsVerOf s own ws) (λ s. ver_only s own ws) v u h.1 g.1)
 says_same current w own ws inline (SaysIf i) (SaysIf j) e h g =
-    ap (λ x. SaysIf x) (current-only current (λ s. IsIfOf s own ws) (λ s. if-only s own ws) i j h.1 g.1)
+    ap (λ x. SaysIf x) (current_only current (λ s. IsIfOf s own ws) (λ s. if_only s own ws) i j h.1 g.1)
 says_same current w own ws inline (SaysHold x) (SaysHold y) e h g =
-    ap (λ x. SaysHold x) (current-only current (λ s. IsOwnHoldOf s own ws) (λ s. own_hold-only s own ws) x y h.1 g.1)
+    ap (λ x. SaysHold x) (current_only current (λ s. IsOwnHoldOf s own ws) (λ s. own_hold_only s own ws) x y h.1 g.1)
 says_same current w own ws inline (SaysAssign a) (SaysAssign b) e h g =
-    ap (λ x. SaysAssign x) (assign-only own ws a b h.1 g.1)
+    ap (λ x. SaysAssign x) (assign_only own ws a b h.1 g.1)
 says_same current w own ws inline (SaysChange c) (SaysChange d) e h g =
-    ap (λ x. SaysChange x) (change-only w own ws inline c d h g)
+    ap (λ x. SaysChange x) (change_only w own ws inline c d h g)
 says_same current w own ws inline s t e h g = absurd (omega (arith, e))
 
-says-only : (current : Option Sysmod) (w : StatementWord) (own : Option Text) (ws : List Word) (inline : Lines)
+says_only : (current : Option Sysmod) (w : StatementWord) (own : Option Text) (ws : List Word) (inline : Lines)
     (s t : Statement) → Says current w own ws inline s → Says current w own ws inline t → s ≡ t
-says-only current w own ws inline s t h g =
+says_only current w own ws inline s t h g =
     says_same current w own ws inline s t (says_spoken current w own ws inline s h
     ∙ sym (says_spoken current w own ws inline t g)) h g
 
 -- What a statement says is determined.
-pub value-only : (current : Option Sysmod) (w : StatementWord) (own : Option Text) (rest : List Piece) (inline : Lines)
+pub value_only : (current : Option Sysmod) (w : StatementWord) (own : Option Text) (rest : List Piece) (inline : Lines)
     (s t : Statement) → HasValue current w own rest inline s → HasValue current w own rest inline t → s ≡ t
-value-only current w own rest inline s t h k =
-    let words = words-only rest h.0 k.0 h.1 k.1 in
-    says-only current w own k.0 inline s t (subst (λ l. Says current w own l inline s) words h.2) k.2
+value_only current w own rest inline s t h k =
+    let words = words_only rest h.0 k.0 h.1 k.1 in
+    says_only current w own k.0 inline s t (subst (λ l. Says current w own l inline s) words h.2) k.2

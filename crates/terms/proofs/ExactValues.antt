@@ -23,20 +23,20 @@ use Rattle.terms.specs.CommandForms.{HasRestoreList, HasOperands, IsCommand}
 use Rattle.terms.specs.Commands.{words_in, runs_in, list_behind, is_often, has_double, is_unchosen, BeginsWith}
 use Rattle.terms.specs.Commands.{IsCommandFault}
 use Rattle.lemmas.proofs.Pairs.{pairs_map}
-use Rattle.terms.proofs.ExactWords.{words-only}
-use Rattle.terms.proofs.ExactOperands.{required-only, optional-only, texts-only, some-only, flag-only}
+use Rattle.terms.proofs.ExactWords.{words_only}
+use Rattle.terms.proofs.ExactOperands.{required_only, optional_only, texts_only, some_only, flag_only}
 use Rattle.terms.proofs.OperandWords.{count, count_once, count_same, count_other, words_of, often, seldom}
-use Rattle.terms.proofs.ExactBypass.{bypass-only, bypass_once}
-use Rattle.terms.proofs.CommandLines.{begins-only, of_command}
+use Rattle.terms.proofs.ExactBypass.{bypass_only, bypass_once}
+use Rattle.terms.proofs.CommandLines.{begins_only, of_command}
 
 abbrev what : Bool → Bool → Option Text → ReceiveWhat
 what s h source = record { sysmods = s; holddata = h; source = source }
 
-receive-only : (ws : List Word) (a b : ReceiveWhat) → HasReceive ws a → HasReceive ws b → a ≡ b
-receive-only ws a b h k =
-    let sysmods = flag-only (operand (codes "SYSMODS") ws) h.sysmods k.sysmods h.has_sysmods k.has_sysmods in
-    let holddata = flag-only (operand (codes "HOLDDATA") ws) h.holddata k.holddata h.has_holddata k.has_holddata in
-    let source = optional-only IsSource (operand (codes "SOURCEID") ws) a.source b.source h.source k.source in
+receive_only : (ws : List Word) (a b : ReceiveWhat) → HasReceive ws a → HasReceive ws b → a ≡ b
+receive_only ws a b h k =
+    let sysmods = flag_only (operand (codes "SYSMODS") ws) h.sysmods k.sysmods h.has_sysmods k.has_sysmods in
+    let holddata = flag_only (operand (codes "HOLDDATA") ws) h.holddata k.holddata h.has_holddata k.has_holddata in
+    let source = optional_only IsSource (operand (codes "SOURCEID") ws) a.source b.source h.source k.source in
     ap (λ x. what x a.holddata a.source) (h.reads_sysmods ∙ ap₂ (λ s d. s || not d) sysmods holddata
     ∙ sym k.reads_sysmods)
     ∙ ap (λ x. what b.sysmods x a.source) (h.reads_holds ∙ ap₂ (λ s d. d || not s) sysmods holddata ∙ sym k.reads_holds)
@@ -56,25 +56,25 @@ make x0 x1 x2 x3 x4 x5 x6 x7 x8 x9 = record {
   groupextend = x9;
 }
 
-selection-only : (ws : List Word) (s t : Selection) → HasSelection ws s → HasSelection ws t → s ≡ t
-selection-only ws s t h k =
+selection_only : (ws : List Word) (s t : Selection) → HasSelection ws s → HasSelection ws t → s ≡ t
+selection_only ws s t h k =
     let e0 : s.functions ≡ t.functions =
-    flag-only (operand (codes "FUNCTIONS") ws) s.functions t.functions h.functions k.functions in
-    let e1 : s.ptfs ≡ t.ptfs = flag-only (operand (codes "PTFS") ws) s.ptfs t.ptfs h.ptfs k.ptfs in
-    let e2 : s.apars ≡ t.apars = flag-only (operand (codes "APARS") ws) s.apars t.apars h.apars k.apars in
+    flag_only (operand (codes "FUNCTIONS") ws) s.functions t.functions h.functions k.functions in
+    let e1 : s.ptfs ≡ t.ptfs = flag_only (operand (codes "PTFS") ws) s.ptfs t.ptfs h.ptfs k.ptfs in
+    let e2 : s.apars ≡ t.apars = flag_only (operand (codes "APARS") ws) s.apars t.apars h.apars k.apars in
     let e3 : s.usermods ≡ t.usermods =
-    flag-only (operand (codes "USERMODS") ws) s.usermods t.usermods h.usermods k.usermods in
+    flag_only (operand (codes "USERMODS") ws) s.usermods t.usermods h.usermods k.usermods in
     let e4 : s.select ≡ t.select =
-    texts-only IsId (operand (codes "SELECT") ws) s.select t.select h.select.0 k.select.0 in
+    texts_only IsId (operand (codes "SELECT") ws) s.select t.select h.select.0 k.select.0 in
     let e5 : s.exclude ≡ t.exclude =
-    texts-only IsId (operand (codes "EXCLUDE") ws) s.exclude t.exclude h.exclude.0 k.exclude.0 in
+    texts_only IsId (operand (codes "EXCLUDE") ws) s.exclude t.exclude h.exclude.0 k.exclude.0 in
     let e6 : s.sourceid ≡ t.sourceid =
-    texts-only IsSource (operand (codes "SOURCEID") ws) s.sourceid t.sourceid h.sourceid.0 k.sourceid.0 in
+    texts_only IsSource (operand (codes "SOURCEID") ws) s.sourceid t.sourceid h.sourceid.0 k.sourceid.0 in
     let e7 : s.forfmid ≡ t.forfmid =
-    texts-only IsId (operand (codes "FORFMID") ws) s.forfmid t.forfmid h.forfmid.0 k.forfmid.0 in
-    let e8 : s.group ≡ t.group = texts-only IsId (operand (codes "GROUP") ws) s.group t.group h.group.0 k.group.0 in
+    texts_only IsId (operand (codes "FORFMID") ws) s.forfmid t.forfmid h.forfmid.0 k.forfmid.0 in
+    let e8 : s.group ≡ t.group = texts_only IsId (operand (codes "GROUP") ws) s.group t.group h.group.0 k.group.0 in
     let e9 : s.groupextend ≡ t.groupextend =
-    flag-only (operand (codes "GROUPEXTEND") ws) s.groupextend t.groupextend h.groupextend k.groupextend in
+    flag_only (operand (codes "GROUPEXTEND") ws) s.groupextend t.groupextend h.groupextend k.groupextend in
     ap (λ x. make x s.ptfs s.apars s.usermods s.select s.exclude s.sourceid s.forfmid s.group s.groupextend) e0
     ∙ ap (λ x. make t.functions x s.apars s.usermods s.select s.exclude s.sourceid s.forfmid s.group s.groupextend) e1
     ∙ ap (λ x. make t.functions t.ptfs x s.usermods s.select s.exclude s.sourceid s.forfmid s.group s.groupextend) e2
@@ -86,46 +86,46 @@ selection-only ws s t h k =
     ∙ ap (λ x. make t.functions t.ptfs t.apars t.usermods t.select t.exclude t.sourceid t.forfmid x s.groupextend) e8
     ∙ ap (λ x. make t.functions t.ptfs t.apars t.usermods t.select t.exclude t.sourceid t.forfmid t.group x) e9
 
-install-only : (w : CommandWord) (ws : List Word) (i j : Install) → HasInstall w ws i → HasInstall w ws j → i ≡ j
-install-only w ws i j h k =
-    ap (λ x. record i { selection = x }) (selection-only ws i.selection j.selection h.selection k.selection)
+install_only : (w : CommandWord) (ws : List Word) (i j : Install) → HasInstall w ws i → HasInstall w ws j → i ≡ j
+install_only w ws i j h k =
+    ap (λ x. record i { selection = x }) (selection_only ws i.selection j.selection h.selection k.selection)
     ∙ ap (λ x. record i { selection = j.selection; bypass = x })
-    (bypass-only w (operand (codes "BYPASS") ws) i.bypass j.bypass h.bypass k.bypass)
-    ∙ ap (λ x. record j { check = x }) (flag-only (operand (codes "CHECK") ws) i.check j.check h.check k.check)
+    (bypass_only w (operand (codes "BYPASS") ws) i.bypass j.bypass h.bypass k.bypass)
+    ∙ ap (λ x. record j { check = x }) (flag_only (operand (codes "CHECK") ws) i.check j.check h.check k.check)
 
 none_some : (found : Option Word) (ids : List Text) → found ≡ None → HasSome IsId found ids → ⊥
 none_some None ids none h = h.0
 none_some (Some w) ids none h = cc (none)
 
-list-only : (ws : List Word) (a b : RestoreList) → HasRestoreList ws a → HasRestoreList ws b → a ≡ b
-list-only ws (RestoreSelect x) (RestoreSelect y) h k =
-    ap (λ l. RestoreSelect l) (some-only IsId (operand (codes "SELECT") ws) x y h.1.0 k.1.0)
-list-only ws (RestoreSelect x) (RestoreGroup y) h k = absurd (none_some (operand (codes "GROUP") ws) y h.0 k.1)
-list-only ws (RestoreGroup x) (RestoreSelect y) h k = absurd (none_some (operand (codes "GROUP") ws) x k.0 h.1)
-list-only ws (RestoreGroup x) (RestoreGroup y) h k =
-    ap (λ l. RestoreGroup l) (some-only IsId (operand (codes "GROUP") ws) x y h.1.0 k.1.0)
+list_only : (ws : List Word) (a b : RestoreList) → HasRestoreList ws a → HasRestoreList ws b → a ≡ b
+list_only ws (RestoreSelect x) (RestoreSelect y) h k =
+    ap (λ l. RestoreSelect l) (some_only IsId (operand (codes "SELECT") ws) x y h.1.0 k.1.0)
+list_only ws (RestoreSelect x) (RestoreGroup y) h k = absurd (none_some (operand (codes "GROUP") ws) y h.0 k.1)
+list_only ws (RestoreGroup x) (RestoreSelect y) h k = absurd (none_some (operand (codes "GROUP") ws) x k.0 h.1)
+list_only ws (RestoreGroup x) (RestoreGroup y) h k =
+    ap (λ l. RestoreGroup l) (some_only IsId (operand (codes "GROUP") ws) x y h.1.0 k.1.0)
 
-values-only : (ws : List Word) (c d : Command) → command_word c ≡ command_word d → HasOperands ws c → HasOperands ws d
+values_only : (ws : List Word) (c d : Command) → command_word c ≡ command_word d → HasOperands ws c → HasOperands ws d
     → c ≡ d
-values-only ws (Set x) (Set y) e h k = ap (λ v. Set v) (required-only IsZoneName (operand (codes "BDY") ws) x y h k)
-values-only ws (Receive x) (Receive y) e h k = ap (λ v. Receive v) (receive-only ws x y h k)
-values-only ws (Reject x) (Reject y) e h k =
-    ap (λ v. Reject v) (some-only IsId (operand (codes "SELECT") ws) x y h.0 k.0)
-values-only ws (Apply x) (Apply y) e h k = ap (λ v. Apply v) (install-only word.Apply ws x y h k)
-values-only ws (Accept x) (Accept y) e h k = ap (λ v. Accept v) (install-only word.Accept ws x y h k)
-values-only ws (Restore x a) (Restore y b) e h k =
-    ap (λ v. Restore v a) (list-only ws x y h.0 k.0)
-    ∙ ap (λ v. Restore y v) (flag-only (operand (codes "CHECK") ws) a b h.1 k.1)
-values-only ws (ListZone x) (ListZone y) e h k = ap (λ v. ListZone v) (flag-only (operand (codes "TEXT") ws) x y h k)
-values-only ws Report Report e h k = refl
-values-only ws c d e h k = absurd (cc (e))
+values_only ws (Set x) (Set y) e h k = ap (λ v. Set v) (required_only IsZoneName (operand (codes "BDY") ws) x y h k)
+values_only ws (Receive x) (Receive y) e h k = ap (λ v. Receive v) (receive_only ws x y h k)
+values_only ws (Reject x) (Reject y) e h k =
+    ap (λ v. Reject v) (some_only IsId (operand (codes "SELECT") ws) x y h.0 k.0)
+values_only ws (Apply x) (Apply y) e h k = ap (λ v. Apply v) (install_only word.Apply ws x y h k)
+values_only ws (Accept x) (Accept y) e h k = ap (λ v. Accept v) (install_only word.Accept ws x y h k)
+values_only ws (Restore x a) (Restore y b) e h k =
+    ap (λ v. Restore v a) (list_only ws x y h.0 k.0)
+    ∙ ap (λ v. Restore y v) (flag_only (operand (codes "CHECK") ws) a b h.1 k.1)
+values_only ws (ListZone x) (ListZone y) e h k = ap (λ v. ListZone v) (flag_only (operand (codes "TEXT") ws) x y h k)
+values_only ws Report Report e h k = refl
+values_only ws c d e h k = absurd (cc (e))
 
 -- Pieces are one command at most.
-pub value-only : (pieces : List Piece) (c d : Command) → IsCommand pieces c → IsCommand pieces d → c ≡ d
-value-only pieces c d k l =
+pub value_only : (pieces : List Piece) (c d : Command) → IsCommand pieces c → IsCommand pieces d → c ≡ d
+value_only pieces c d k l =
     let o = of_command pieces (command_word c) k.rest d k.begins l in
-    let same = words-only k.rest k.words o.1.0 k.has_words o.1.1 in
-    values-only o.1.0 c d (sym o.0) (subst (λ ws. HasOperands ws c) same k.has_operands) o.1.3
+    let same = words_only k.rest k.words o.1.0 k.has_words o.1.1 in
+    values_only o.1.0 c d (sym o.0) (subst (λ ws. HasOperands ws c) same k.has_operands) o.1.3
 
 abbrev texts_of : List Word → List Text
 texts_of ws = map (λ (w : Word). w.word) ws
@@ -224,51 +224,51 @@ chosen rest ws (ListZone x) h v = refl
 chosen rest ws Report h v = refl
 
 -- No pieces are both a command and at fault.
-pub fault-no_value : (pieces : List Piece) (c : Command) (code : CnCode) → IsCommand pieces c
+pub fault_no_value : (pieces : List Piece) (c : Command) (code : CnCode) → IsCommand pieces c
     → IsCommandFault pieces code → ⊥
-fault-no_value pieces c Cn1 k f = f (command_word c) k.rest k.begins
-fault-no_value pieces c Cn2 k f = f.5 c k
-fault-no_value pieces c Cn3 k f =
-    let s = begins-only pieces f.0 (command_word c) f.1 k.rest f.2 k.begins in
+fault_no_value pieces c Cn1 k f = f (command_word c) k.rest k.begins
+fault_no_value pieces c Cn2 k f = f.5 c k
+fault_no_value pieces c Cn3 k f =
+    let s = begins_only pieces f.0 (command_word c) f.1 k.rest f.2 k.begins in
     true≢false (sym f.3 ∙ ap (λ w. has_double w f.1) s.0 ∙ ap (has_double (command_word c)) s.1 ∙ single pieces c k)
-fault-no_value pieces c Cn4 k f =
-    let s = begins-only pieces f.0 (command_word c) f.1 k.rest f.2 k.begins in
+fault_no_value pieces c Cn4 k f =
+    let s = begins_only pieces f.0 (command_word c) f.1 k.rest f.2 k.begins in
     true≢false (sym f.4 ∙ ap (λ w. is_unchosen w f.1) s.0 ∙ ap (is_unchosen (command_word c)) s.1
     ∙ chosen k.rest k.words c k.has_words k.has_operands)
-fault-no_value pieces c Cn5 k f = f
+fault_no_value pieces c Cn5 k f = f
 
 double_same : (pieces : List Piece) (v w : CommandWord) (rest rest' : List Piece) → BeginsWith pieces v rest
     → BeginsWith pieces w rest' → has_double v rest ≡ true → has_double w rest' ≡ false → ⊥
 double_same pieces v w rest rest' b b' yes' no' =
-    let s = begins-only pieces v w rest rest' b b' in
+    let s = begins_only pieces v w rest rest' b b' in
     true≢false (sym yes' ∙ ap (λ w. has_double w rest) s.0 ∙ ap (has_double w) s.1 ∙ no')
 
 unchosen_same : (pieces : List Piece) (v w : CommandWord) (rest rest' : List Piece) → BeginsWith pieces v rest
     → BeginsWith pieces w rest' → is_unchosen v rest ≡ true → is_unchosen w rest' ≡ false → ⊥
 unchosen_same pieces v w rest rest' b b' yes' no' =
-    let s = begins-only pieces v w rest rest' b b' in
+    let s = begins_only pieces v w rest rest' b b' in
     true≢false (sym yes' ∙ ap (λ w. is_unchosen w rest) s.0 ∙ ap (is_unchosen w) s.1 ∙ no')
 
 -- The first fault of a command is determined.
-pub fault-only : (pieces : List Piece) (a b : CnCode) → IsCommandFault pieces a → IsCommandFault pieces b → a ≡ b
-fault-only pieces Cn1 Cn1 f g = refl
-fault-only pieces Cn1 Cn2 f g = absurd (f g.0 g.1 g.2)
-fault-only pieces Cn1 Cn3 f g = absurd (f g.0 g.1 g.2)
-fault-only pieces Cn1 Cn4 f g = absurd (f g.0 g.1 g.2)
-fault-only pieces Cn2 Cn1 f g = absurd (g f.0 f.1 f.2)
-fault-only pieces Cn3 Cn1 f g = absurd (g f.0 f.1 f.2)
-fault-only pieces Cn4 Cn1 f g = absurd (g f.0 f.1 f.2)
-fault-only pieces Cn2 Cn2 f g = refl
-fault-only pieces Cn3 Cn3 f g = refl
-fault-only pieces Cn4 Cn4 f g = refl
-fault-only pieces Cn2 Cn3 f g = absurd (double_same pieces g.0 f.0 g.1 f.1 g.2 f.2 g.3 f.3)
-fault-only pieces Cn3 Cn2 f g = absurd (double_same pieces f.0 g.0 f.1 g.1 f.2 g.2 f.3 g.3)
-fault-only pieces Cn4 Cn3 f g = absurd (double_same pieces g.0 f.0 g.1 f.1 g.2 f.2 g.3 f.3)
-fault-only pieces Cn3 Cn4 f g = absurd (double_same pieces f.0 g.0 f.1 g.1 f.2 g.2 f.3 g.3)
-fault-only pieces Cn2 Cn4 f g = absurd (unchosen_same pieces g.0 f.0 g.1 f.1 g.2 f.2 g.4 f.4)
-fault-only pieces Cn4 Cn2 f g = absurd (unchosen_same pieces f.0 g.0 f.1 g.1 f.2 g.2 f.4 g.4)
-fault-only pieces Cn5 b f g = absurd f
-fault-only pieces Cn1 Cn5 f g = absurd g
-fault-only pieces Cn2 Cn5 f g = absurd g
-fault-only pieces Cn3 Cn5 f g = absurd g
-fault-only pieces Cn4 Cn5 f g = absurd g
+pub fault_only : (pieces : List Piece) (a b : CnCode) → IsCommandFault pieces a → IsCommandFault pieces b → a ≡ b
+fault_only pieces Cn1 Cn1 f g = refl
+fault_only pieces Cn1 Cn2 f g = absurd (f g.0 g.1 g.2)
+fault_only pieces Cn1 Cn3 f g = absurd (f g.0 g.1 g.2)
+fault_only pieces Cn1 Cn4 f g = absurd (f g.0 g.1 g.2)
+fault_only pieces Cn2 Cn1 f g = absurd (g f.0 f.1 f.2)
+fault_only pieces Cn3 Cn1 f g = absurd (g f.0 f.1 f.2)
+fault_only pieces Cn4 Cn1 f g = absurd (g f.0 f.1 f.2)
+fault_only pieces Cn2 Cn2 f g = refl
+fault_only pieces Cn3 Cn3 f g = refl
+fault_only pieces Cn4 Cn4 f g = refl
+fault_only pieces Cn2 Cn3 f g = absurd (double_same pieces g.0 f.0 g.1 f.1 g.2 f.2 g.3 f.3)
+fault_only pieces Cn3 Cn2 f g = absurd (double_same pieces f.0 g.0 f.1 g.1 f.2 g.2 f.3 g.3)
+fault_only pieces Cn4 Cn3 f g = absurd (double_same pieces g.0 f.0 g.1 f.1 g.2 f.2 g.3 f.3)
+fault_only pieces Cn3 Cn4 f g = absurd (double_same pieces f.0 g.0 f.1 g.1 f.2 g.2 f.3 g.3)
+fault_only pieces Cn2 Cn4 f g = absurd (unchosen_same pieces g.0 f.0 g.1 f.1 g.2 f.2 g.4 f.4)
+fault_only pieces Cn4 Cn2 f g = absurd (unchosen_same pieces f.0 g.0 f.1 g.1 f.2 g.2 f.4 g.4)
+fault_only pieces Cn5 b f g = absurd f
+fault_only pieces Cn1 Cn5 f g = absurd g
+fault_only pieces Cn2 Cn5 f g = absurd g
+fault_only pieces Cn3 Cn5 f g = absurd g
+fault_only pieces Cn4 Cn5 f g = absurd g

@@ -10,7 +10,7 @@ use Rattle.terms.specs.declared.codes.NeedKind.TheVariants.{Fmid, Pre, Req, Ifre
 use Rattle.terms.specs.declared.not_chosen.NotChosen.TheVariants.{Already, Deleted, Missing}
 use Rattle.lemmas.proofs.Members.{here_or, none_in}
 use Rattle.terms.specs.Types.{Text, Id, Ver, Change, Replaces, Sysmod, Global, Entry, Zone, NoReason, AnyReason, Bypass}
-use Rattle.terms.specs.Types.{Selection}
+use Rattle.terms.specs.Types.{Selection, an_applied}
 use Rattle.terms.specs.Lookups.{is_applied}
 use Rattle.terms.specs.Choice.{counting, del_of}
 use Rattle.terms.specs.Over.{Leads, Reaches, Supersedes, names, chain}
@@ -63,7 +63,7 @@ deleting = record {
 }
 
 abbrev applied : Id → Entry
-applied x = record { id = x; applied = Some (1 ∷ []); supby = []; delby = None; waived = [] }
+applied x = record { id = x; applied = Some (an_applied (1 ∷ []) 1); supby = []; delby = None; waived = [] }
 
 -- all but HCC1200 are applied
 abbrev full : Zone
@@ -112,19 +112,19 @@ select xs = record {
 }
 
 -- the chain of UA00021 is itself and its FMID
-chain-service : chain deleting (counting deleting full []) ua21 ≡ ua21 ∷ haa ∷ []
-chain-service = refl
+chain_service : chain deleting (counting deleting full []) ua21 ≡ ua21 ∷ haa ∷ []
+chain_service = refl
 
 -- HCC1200 takes the supplier of UA00021 from UA00023
-orphans-deleter : orphans (setting deleting full None (hcc ∷ []) no_bypass) hcc ≡ ua21 ∷ []
+orphans_deleter : orphans (setting deleting full None (hcc ∷ []) no_bypass) hcc ≡ ua21 ∷ []
 unfolding orphans zone_less
-orphans-deleter = refl
+orphans_deleter = refl
 
 -- with HAA1100 its service and its macro go
-zone_less-deletion : zone_less deleting (counting deleting full []) (haa ∷ []) full
+zone_less_deletion : zone_less deleting (counting deleting full []) (haa ∷ []) full
     ≡ record full { entries = applied hdd ∷ applied ua23 ∷ []; elements = [] }
 unfolding zone_less
-zone_less-deletion = refl
+zone_less_deletion = refl
 
 abbrev installing : Installation
 installing = record {
@@ -137,48 +137,48 @@ installing = record {
 }
 
 -- HAA1100 gets DELBY HCC1200, and service that goes with it gets none
-delby_after-deletion : map (delby_after installing) (haa ∷ hcc ∷ hdd ∷ ua21 ∷ ua23 ∷ []) ≡ Some hcc ∷ None ∷ None ∷ None
+delby_after_deletion : map (delby_after installing) (haa ∷ hcc ∷ hdd ∷ ua21 ∷ ua23 ∷ []) ≡ Some hcc ∷ None ∷ None ∷ None
     ∷ None ∷ []
 unfolding delby_after
-delby_after-deletion = refl
+delby_after_deletion = refl
 
 -- HAA1100 alone is applied
 abbrev base : Zone
 base = record full { entries = applied haa ∷ []; elements = [] }
 
 -- what is applied is not open
-is_start-select : map (is_start deleting base (select (hcc ∷ haa ∷ hdd ∷ []))) (haa ∷ hcc ∷ hdd ∷ []) ≡ false ∷ true ∷
+is_start_select : map (is_start deleting base (select (hcc ∷ haa ∷ hdd ∷ []))) (haa ∷ hcc ∷ hdd ∷ []) ≡ false ∷ true ∷
     true ∷ []
-is_start-select = refl
+is_start_select = refl
 
 -- without operands PTFs alone are taken
-is_start-mass : map (is_start deleting base (select [])) (haa ∷ hdd ∷ ua21 ∷ ua23 ∷ []) ≡ false ∷ false ∷ true ∷ true ∷
+is_start_mass : map (is_start deleting base (select [])) (haa ∷ hdd ∷ ua21 ∷ ua23 ∷ []) ≡ false ∷ false ∷ true ∷ true ∷
     []
-is_start-mass = refl
+is_start_mass = refl
 
-not_chosen-select : map (not_chosen deleting full (select (hcc ∷ haa ∷ (99 ∷ []) ∷ [])))
+not_chosen_select : map (not_chosen deleting full (select (hcc ∷ haa ∷ (99 ∷ []) ∷ [])))
     (haa ∷ hcc ∷ hdd ∷ (99 ∷ []) ∷ [])
     ≡ Some Already ∷ None ∷ None ∷ Some Missing ∷ []
 unfolding not_chosen
-not_chosen-select = refl
+not_chosen_select = refl
 
 -- an id that was deleted is DELETED, and not MISSING or NOVER
-not_chosen-deleted : not_chosen deleting (record full {
+not_chosen_deleted : not_chosen deleting (record full {
   entries =
       record { id = haa; applied = None; supby = []; delby = Some hcc; waived = [] } ∷ [];
 }) (select (haa ∷ [])) haa
     ≡ Some Deleted
 unfolding not_chosen
-not_chosen-deleted = refl
+not_chosen_deleted = refl
 
 -- what UA00023 asks for
-binding_ids-service : binding_ids (counting deleting full []) full (is_applied full) ua23 ≡ ua21 ∷ []
-binding_ids-service = refl
+binding_ids_service : binding_ids (counting deleting full []) full (is_applied full) ua23 ≡ ua21 ∷ []
+binding_ids_service = refl
 
-asked-service : map (asked (setting deleting full None (ua23 ∷ []) no_bypass) [] ua23)
+asked_service : map (asked (setting deleting full None (ua23 ∷ []) no_bypass) [] ua23)
     (Fmid ∷ Pre ∷ Req ∷ Ifreq ∷ HoldError ∷ Orphan ∷ [])
     ≡ (hdd ∷ []) ∷ [] ∷ (ua21 ∷ []) ∷ [] ∷ [] ∷ [] ∷ []
-asked-service = refl
+asked_service = refl
 
 -- UA00007 has PRE(UA00008), which is not received, UA00010 has SUP(UA00008), and UA00007 is held by ERROR and USER.
 abbrev ua7 : Id
@@ -221,9 +221,9 @@ extending = record {
       ∷ [];
 }
 
-needed_ids-missing : needed_ids extending base (λ x. false) ua7 ≡ ua8 ∷ []
+needed_ids_missing : needed_ids extending base (λ x. false) ua7 ≡ ua8 ∷ []
 unfolding needed_ids
-needed_ids-missing = refl
+needed_ids_missing = refl
 
 supersedes_missing : Supersedes (counting extending base []) ua10 ua8
 supersedes_missing = ([], (0, omega arith, refl))
@@ -251,28 +251,28 @@ needs_missing = record {
 held : FailsJ2 (setting extending base None (ua7 ∷ []) no_bypass) ua7
 held = λ e. absurd (cc e)
 
-standing_holds-bypassed : standing_holds (setting extending base None (ua7 ∷ [])
+standing_holds_bypassed : standing_holds (setting extending base None (ua7 ∷ [])
     (record no_bypass { holduser = AnyReason })) User ua7 ≡ []
-standing_holds-bypassed = refl
+standing_holds_bypassed = refl
 
-standing_holds-class : standing_holds (setting extending base None (ua7 ∷ [])
+standing_holds_class : standing_holds (setting extending base None (ua7 ∷ [])
     (record no_bypass { holdclass = (6 ∷ []) ∷ [] })) User ua7 ≡ []
-standing_holds-class = refl
+standing_holds_class = refl
 
 -- UA00010 supersedes the reason of the ERROR hold on UA00007, and so it serves the need for it.
 abbrev resolving : Setting
 resolving = setting extending base None (ua7 ∷ ua10 ∷ []) no_bypass
 
-asked-error : asked resolving [] ua7 HoldError ≡ ua8 ∷ []
-asked-error = refl
+asked_error : asked resolving [] ua7 HoldError ≡ ua8 ∷ []
+asked_error = refl
 
-serves-error : Serves resolving.choice HoldError ua10 ua8
-serves-error = inr (refl, ([], (0, omega arith, refl)))
+serves_error : Serves resolving.choice HoldError ua10 ua8
+serves_error = inr (refl, ([], (0, omega arith, refl)))
 
 -- only UA00010 itself would serve a need for it as FMID
-serves-fmid : Serves resolving.choice Fmid ua10 ua8 → ⊥
-serves-fmid (inl same) = absurd (cc same)
-serves-fmid (inr more) = absurd (cc (more.0))
+serves_fmid : Serves resolving.choice Fmid ua10 ua8 → ⊥
+serves_fmid (inl same) = absurd (cc same)
+serves_fmid (inr more) = absurd (cc (more.0))
 
 -- Kept with what supersedes it, UA00008 is not installed.
 abbrev superseding : Installation
@@ -303,13 +303,13 @@ conditional = record {
       ∷ [];
 }
 
-asked-condition : asked (setting conditional base None (hcc ∷ ua13 ∷ []) no_bypass) [] ua13 Ifreq ≡ ua14 ∷ []
+asked_condition : asked (setting conditional base None (hcc ∷ ua13 ∷ []) no_bypass) [] ua13 Ifreq ≡ ua14 ∷ []
 unfolding zone_less
-asked-condition = refl
+asked_condition = refl
 
-asked-no_condition : asked (setting conditional base None (ua13 ∷ []) no_bypass) [] ua13 Ifreq ≡ []
+asked_no_condition : asked (setting conditional base None (ua13 ∷ []) no_bypass) [] ua13 Ifreq ≡ []
 unfolding zone_less
-asked-no_condition = refl
+asked_no_condition = refl
 
 -- Two PTFs for one function replace its macro, and neither is over the other.
 abbrev ua15 : Id
@@ -335,17 +335,17 @@ unordered = record {
 abbrev led_to : Id → Id → Type 0
 led_to x z = Reaches (names (counting unordered base [])) x z
 
-none-above : (x : Id) → led_to haa x → ⊥
-none-above x ([], at) = none_in x at
-none-above x (y ∷ ys, (at, rest)) = none_in y at
+none_above : (x : Id) → led_to haa x → ⊥
+none_above x ([], at) = none_in x at
+none_above x (y ∷ ys, (at, rest)) = none_in y at
 
-only-function : (x : Id) → x ≢ haa → (y : Id) → names (counting unordered base []) y ≡ haa ∷ [] → led_to y x → ⊥
-only-function x other y is ([], at) =
+only_function : (x : Id) → x ≢ haa → (y : Id) → names (counting unordered base []) y ≡ haa ∷ [] → led_to y x → ⊥
+only_function x other y is ([], at) =
     elim (here_or haa [] x (subst (λ xs. Contains xs x) is at))
     [ inl same ↦ other (sym same) | inr none ↦ none_in x none ]
-only-function x other y is (z ∷ zs, (at, rest)) =
+only_function x other y is (z ∷ zs, (at, rest)) =
     elim (here_or haa [] z (subst (λ xs. Contains xs z) is at)) [
-      | inl same ↦ none-above x (zs, subst (λ w. Leads (names (counting unordered base [])) w zs x) (sym same) rest)
+      | inl same ↦ none_above x (zs, subst (λ w. Leads (names (counting unordered base [])) w zs x) (sym same) rest)
       | inr none ↦ none_in z none
     ]
 
@@ -354,20 +354,20 @@ clashes : Clash (setting unordered base None [] no_bypass) ua15 ua16
 clashes = inr (inr (
   (Mac, macro, refl, refl),
   inr (
-    only-function ua16 (λ same. absurd (cc same)) ua15 refl,
-    only-function ua15 (λ same. absurd (cc same)) ua16 refl,
+    only_function ua16 (λ same. absurd (cc same)) ua15 refl,
+    only_function ua15 (λ same. absurd (cc same)) ua16 refl,
   ),
 ))
 
 -- With HCC1200 service for HAA1100 is deleted; where something applied supersedes it, its entry stays.
-deleted-service : is_deleted deleting (counting deleting full []) (del_of (counting deleting full []) hcc) ua21 ≡ true
-deleted-service = refl
+deleted_service : is_deleted deleting (counting deleting full []) (del_of (counting deleting full []) hcc) ua21 ≡ true
+deleted_service = refl
 
-zone_less-superseded : zone_less deleting (counting deleting full []) (haa ∷ [])
+zone_less_superseded : zone_less deleting (counting deleting full []) (haa ∷ [])
     (record full { entries = applied hdd ∷ record (applied ua21) { supby = ua23 ∷ [] } ∷ applied ua23 ∷ [] })
     ≡ record full {
       entries = applied hdd ∷ record (applied ua21) { applied = None; supby = ua23 ∷ [] } ∷ applied ua23 ∷ [];
       elements = [];
     }
 unfolding zone_less
-zone_less-superseded = refl
+zone_less_superseded = refl

@@ -12,7 +12,7 @@ use Rattle.std.proofs.lemmas.Cmp.{nat_list_cmp_total, tied_itself}
 use Rattle.std.proofs.lemmas.List.Folds.{find-append}
 use Rattle.lemmas.proofs.Texts.{same_from, same_back}
 use Rattle.lemmas.proofs.Options.{option_or-none}
-use Rattle.lemmas.proofs.Searches.{find-filter_all, find-filter_none, find-map}
+use Rattle.lemmas.proofs.Searches.{find_filter_all, find_filter_none, find_map}
 use Rattle.terms.specs.Types.{Text, Id, Sysmod, Global}
 use Rattle.terms.specs.Lookups.{sysmod_of}
 use Rattle.terms.specs.Global.{with_sysmod, without_sysmod, assign, with_source}
@@ -24,9 +24,9 @@ apart : (x y : Id) → bytes_eq x y ≡ false → slice_cmp nat_cmp x y ≡ Equa
 apart x y other e = true≢false (sym (ap is_eq e) ∙ is_eq-slice_cmp x y ∙ other)
 
 -- among the SYSMODs with one more
-pub sysmod_of-with_sysmod : (g : Global) (s : Sysmod) (y : Id)
+pub sysmod_of_with_sysmod : (g : Global) (s : Sysmod) (y : Id)
     → sysmod_of (with_sysmod g s) y ≡ cond (bytes_eq s.id y) (Some (record s { holds = [] })) (sysmod_of g y)
-sysmod_of-with_sysmod g s y = parts ∙ by (bytes_eq s.id y) (slice_cmp nat_cmp y s.id) refl refl
+sysmod_of_with_sysmod g s y = parts ∙ by (bytes_eq s.id y) (slice_cmp nat_cmp y s.id) refl refl
   where
     p : Sysmod → Bool
     p r = bytes_eq r.id y
@@ -63,26 +63,26 @@ sysmod_of-with_sysmod g s y = parts ∙ by (bytes_eq s.id y) (slice_cmp nat_cmp 
     by true c e f =
         let same : slice_cmp nat_cmp y s.id ≡ Equal = ap (λ x. slice_cmp nat_cmp y x) (same_from s.id y e)
         ∙ cmp_itself y in
-        rw (find-filter_none p ahead (ahead_is Equal same) g.sysmods, e) refl
+        rw (find_filter_none p ahead (ahead_is Equal same) g.sysmods, e) refl
     by false Less e f =
         rw (
-          find-filter_all p ahead (ahead_is Less f) g.sysmods,
-          find-filter_none p behind (behind_is Less f) g.sysmods,
+          find_filter_all p ahead (ahead_is Less f) g.sysmods,
+          find_filter_none p behind (behind_is Less f) g.sysmods,
           e,
         )
         (option_or-none (option_or (sysmod_of g y) None) ∙ option_or-none (sysmod_of g y))
     by false Equal e f = absurd (apart s.id y e (nat_list_cmp_total.antisymm s.id y ∙ ap ordering_reverse f))
     by false Greater e f =
         rw (
-          find-filter_none p ahead (ahead_is Greater f) g.sysmods,
-          find-filter_all p behind (behind_is Greater f) g.sysmods,
+          find_filter_none p ahead (ahead_is Greater f) g.sysmods,
+          find_filter_all p behind (behind_is Greater f) g.sysmods,
           e,
         ) refl
 
 -- among the SYSMODs without one
-pub sysmod_of-without_sysmod : (g : Global) (x y : Id) → sysmod_of (without_sysmod g x) y ≡ cond (bytes_eq x y) None
+pub sysmod_of_without_sysmod : (g : Global) (x y : Id) → sysmod_of (without_sysmod g x) y ≡ cond (bytes_eq x y) None
     (sysmod_of g y)
-sysmod_of-without_sysmod g x y = by (bytes_eq x y) refl
+sysmod_of_without_sysmod g x y = by (bytes_eq x y) refl
   where
     p : Sysmod → Bool
     p r = bytes_eq r.id y
@@ -94,24 +94,24 @@ sysmod_of-without_sysmod g x y = by (bytes_eq x y) refl
     q_is b e r here = ap (λ z. not (bytes_eq z x)) (same_from r.id y here) ∙ ap not (same_back y x ∙ e)
 
     by : (b : Bool) → bytes_eq x y ≡ b → find p (filter q g.sysmods) ≡ cond (bytes_eq x y) None (sysmod_of g y)
-    by true e = rw e (find-filter_none p q (q_is true e) g.sysmods)
-    by false e = rw e (find-filter_all p q (q_is false e) g.sysmods)
+    by true e = rw e (find_filter_none p q (q_is true e) g.sysmods)
+    by false e = rw e (find_filter_all p q (q_is false e) g.sysmods)
 
 -- what ++ASSIGN does to one SYSMOD
 abbrev pub assigned : Text → Id → Sysmod → Sysmod
 assigned source x s = if bytes_eq s.id x then with_source source s else s
 
 -- a source is seen nowhere else
-pub assigned-same : {Y : Type 0} (f : Sysmod → Y) (source : Text) (x : Id)
+pub assigned_same : {Y : Type 0} (f : Sysmod → Y) (source : Text) (x : Id)
     → ((s : Sysmod) → f (with_source source s) ≡ f s) → (s : Sysmod) → f (assigned source x s) ≡ f s
-assigned-same f source x same s = by (bytes_eq s.id x) refl
+assigned_same f source x same s = by (bytes_eq s.id x) refl
   where
     by : (b : Bool) → bytes_eq s.id x ≡ b → f (assigned source x s) ≡ f s
     by true e = rw e (same s)
     by false e = rw e refl
 
-pub sysmod_of-assign : (g : Global) (source : Text) (x y : Id)
+pub sysmod_of_assign : (g : Global) (source : Text) (x y : Id)
     → sysmod_of (assign g source x) y ≡ option_map (assigned source x) (sysmod_of g y)
-sysmod_of-assign g source x y =
-    find-map (λ s. bytes_eq s.id y) (assigned source x) (assigned-same (λ s. bytes_eq s.id y) source x (λ s. refl))
+sysmod_of_assign g source x y =
+    find_map (λ s. bytes_eq s.id y) (assigned source x) (assigned_same (λ s. bytes_eq s.id y) source x (λ s. refl))
     g.sysmods

@@ -7,7 +7,7 @@ use Rattle.std.specs.Cmp.Lexicographic.{slice_cmp}
 use Rattle.std.specs.Str.{bytes_eq}
 use Rattle.std.proofs.lemmas.Map.Text.{is_eq-slice_cmp}
 use Rattle.lemmas.proofs.Booleans.{and_assoc}
-use Rattle.lemmas.proofs.Orderings.{is_eq-then}
+use Rattle.lemmas.proofs.Orderings.{is_eq_then}
 use Rattle.terms.specs.declared.kinds.HoldKind.{HoldKind}
 use Rattle.terms.specs.Types.{Text, Id, Hold, hold_number}
 use Rattle.terms.specs.Global.{has_key}
@@ -19,14 +19,14 @@ number_back a b = by (hold_number a) (hold_number b)
     by : (m n : ℕ) → is_eq (nat_cmp m n) ≡ (n == m)
     by m n = sym (unsigned_ties m n) ∙ nat_eq_equiv.symm m n
 
-pub has_key-ties : (x : Id) (kind : HoldKind) (reason : Text) (h : Hold)
+pub has_key_ties : (x : Id) (kind : HoldKind) (reason : Text) (h : Hold)
     → is_eq (ordering_then (slice_cmp nat_cmp x h.id) (ordering_then (nat_cmp (hold_number kind) (hold_number h.kind))
     (slice_cmp nat_cmp reason h.reason)))
     ≡ has_key x kind reason h
-has_key-ties x kind reason h =
-    is_eq-then (slice_cmp nat_cmp x h.id) (ordering_then (nat_cmp (hold_number kind) (hold_number h.kind))
+has_key_ties x kind reason h =
+    is_eq_then (slice_cmp nat_cmp x h.id) (ordering_then (nat_cmp (hold_number kind) (hold_number h.kind))
     (slice_cmp nat_cmp reason h.reason))
-    ∙ ap (λ b. is_eq (slice_cmp nat_cmp x h.id) && b) (is_eq-then (nat_cmp (hold_number kind) (hold_number h.kind))
+    ∙ ap (λ b. is_eq (slice_cmp nat_cmp x h.id) && b) (is_eq_then (nat_cmp (hold_number kind) (hold_number h.kind))
     (slice_cmp nat_cmp reason h.reason))
     ∙ ap (λ b. b && (is_eq (nat_cmp (hold_number kind) (hold_number h.kind)) && is_eq
     (slice_cmp nat_cmp reason h.reason))) (is_eq-slice_cmp x h.id ∙ same_back x h.id)

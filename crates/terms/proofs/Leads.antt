@@ -10,13 +10,13 @@ module _ (next : Id → List Id) where
   reaches_named x z named = ([], named)
 
   -- two lists that meet at y
-  pub leads-append : (x y z : Id) (first second : List Id)
+  pub leads_append : (x y z : Id) (first second : List Id)
       → Leads next x first y → Leads next y second z → Leads next x (first ++ y ∷ second) z
-  leads-append x y z [] second to from = (to, from)
-  leads-append x y z (w ∷ first) second to from = (to.0, leads-append w y z first second to.1 from)
+  leads_append x y z [] second to from = (to, from)
+  leads_append x y z (w ∷ first) second to from = (to.0, leads_append w y z first second to.1 from)
 
   pub reaches_through : (x y z : Id) → Reaches next x y → Reaches next y z → Reaches next x z
-  reaches_through x y z to from = (to.0 ++ y ∷ from.0, leads-append x y z to.0 from.0 to.1 from.1)
+  reaches_through x y z to from = (to.0 ++ y ∷ from.0, leads_append x y z to.0 from.0 to.1 from.1)
 
   -- a first step, and a last one
   pub reaches_first : (x y z : Id) → Contains (next x) y → Reaches next y z → Reaches next x z

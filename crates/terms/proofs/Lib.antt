@@ -45,3 +45,4 @@ pub mod ExactStatements
 pub mod ExactPtfin
 pub mod ExactHoldFile
 pub mod ExactFaults
+pub mod IdPlaces

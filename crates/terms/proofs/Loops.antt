@@ -12,7 +12,7 @@ use Rattle.terms.specs.Over.{Reaches}
 use Rattle.terms.specs.Global.{named, names_for, HasLoop, with_sysmod}
 use Rattle.terms.proofs.Leads.{loop_through, last_step}
 use Rattle.lemmas.proofs.Texts.{same_or_not, same_from, same_itself}
-use Rattle.terms.proofs.GlobalLookups.{sysmod_of-with_sysmod}
+use Rattle.terms.proofs.GlobalLookups.{sysmod_of_with_sysmod}
 
 -- all ++VERs of a received SYSMOD
 abbrev pub all_vers : Global → Id → List Ver
@@ -59,21 +59,21 @@ first_named next x z (y ∷ ys, leads) = (y, leads.0)
 
 module _ (g : Global) (s : Sysmod) where
   -- other SYSMODs name what they named
-  pub names-others : (srel : Text) (y : Id) → y ≢ s.id → names_for (with_sysmod g s) srel y ≡ names_for g srel y
-  names-others srel y other = by (bytes_eq s.id y) refl
+  pub names_others : (srel : Text) (y : Id) → y ≢ s.id → names_for (with_sysmod g s) srel y ≡ names_for g srel y
+  names_others srel y other = by (bytes_eq s.id y) refl
     where
       from : Option Sysmod → List Id
       from o = flat_map named (option_map_or (λ r. for_srel srel r.vers) o [])
 
       by : (b : Bool) → bytes_eq s.id y ≡ b → names_for (with_sysmod g s) srel y ≡ names_for g srel y
       by true e = absurd (other (sym (same_from s.id y e)))
-      by false e = ap from (sysmod_of-with_sysmod g s y ∙ ap
+      by false e = ap from (sysmod_of_with_sysmod g s y ∙ ap
           (λ b. cond b (Some (record s { holds = [] })) (sysmod_of g y)) e)
 
-  pub names-own : (srel : Text) → names_for (with_sysmod g s) srel s.id ≡ flat_map named (for_srel srel s.vers)
-  names-own srel =
+  pub names_own : (srel : Text) → names_for (with_sysmod g s) srel s.id ≡ flat_map named (for_srel srel s.vers)
+  names_own srel =
       ap (λ o. flat_map named (option_map_or (λ r. for_srel srel r.vers) o []))
-      (sysmod_of-with_sysmod g s s.id ∙ ap (λ b. cond b (Some (record s { holds = [] })) (sysmod_of g s.id))
+      (sysmod_of_with_sysmod g s s.id ∙ ap (λ b. cond b (Some (record s { holds = [] })) (sysmod_of g s.id))
       (same_itself s.id))
 
   -- it leads to itself in the ++VERs of this SREL
@@ -82,22 +82,22 @@ module _ (g : Global) (s : Sysmod) where
 
   leads_back : ¬ HasLoop g → (srel : Text) (x : Id) → Reaches (names_for (with_sysmod g s) srel) x x → LeadsBack srel
   leads_back none srel x loop =
-      loop_through (names_for g srel) (names_for (with_sysmod g s) srel) s.id (names-others srel)
+      loop_through (names_for g srel) (names_for (with_sysmod g s) srel) s.id (names_others srel)
       (λ y was. none (srel, y, was)) x loop
 
   -- So a search from it in each of its ++VERs finds each loop.
-  pub no_loop-from_search : ¬ HasLoop g → All (λ v. ¬ LeadsBack v.srel) s.vers → ¬ HasLoop (with_sysmod g s)
-  no_loop-from_search none searched (srel, x, loop) =
+  pub no_loop_from_search : ¬ HasLoop g → All (λ v. ¬ LeadsBack v.srel) s.vers → ¬ HasLoop (with_sysmod g s)
+  no_loop_from_search none searched (srel, x, loop) =
       let back : LeadsBack srel = leads_back none srel x loop in
       let first = first_named (names_for (with_sysmod g s) srel) s.id s.id back in
       let own = some_ver (λ v. ¬ LeadsBack v.srel) srel s.vers first.0
-      (subst (λ xs. Contains xs first.0) (names-own srel) first.1) searched in
+      (subst (λ xs. Contains xs first.0) (names_own srel) first.1) searched in
       own.1 (subst LeadsBack (sym own.2) back)
 
   -- and there is none where nothing names it
-  pub no_loop-unnamed : ¬ HasLoop g → ((y : Id) → ¬ Contains (flat_map named (all_vers g y)) s.id)
+  pub no_loop_unnamed : ¬ HasLoop g → ((y : Id) → ¬ Contains (flat_map named (all_vers g y)) s.id)
       → ¬ Contains (flat_map named s.vers) s.id → ¬ HasLoop (with_sysmod g s)
-  no_loop-unnamed none others own (srel, x, loop) = by (last_step (names_for (with_sysmod g s) srel) s.id s.id
+  no_loop_unnamed none others own (srel, x, loop) = by (last_step (names_for (with_sysmod g s) srel) s.id s.id
       (leads_back none srel x loop))
     where
       unnamed : (y : Id) → Contains (names_for (with_sysmod g s) srel y) s.id → ⊥
@@ -105,8 +105,8 @@ module _ (g : Global) (s : Sysmod) where
         where
           at : (y ≡ s.id) ⊎ (y ≢ s.id) → ⊥
           at (inl same) = own (named_by_all srel s.vers s.id
-              (subst (λ xs. Contains xs s.id) (ap (names_for (with_sysmod g s) srel) same ∙ names-own srel) here))
-          at (inr other) = others y (by_all (sysmod_of g y) (subst (λ xs. Contains xs s.id) (names-others srel y other)
+              (subst (λ xs. Contains xs s.id) (ap (names_for (with_sysmod g s) srel) same ∙ names_own srel) here))
+          at (inr other) = others y (by_all (sysmod_of g y) (subst (λ xs. Contains xs s.id) (names_others srel y other)
               here))
             where
               by_all : (o : Option Sysmod) → Contains (flat_map named (option_map_or (λ r. for_srel srel r.vers) o []))

@@ -5,7 +5,7 @@ use Rattle.std.proofs.Common.{ap, ap₂, subst, arith, inl, inr, append_assoc, e
 use Rattle.std.proofs.lemmas.Bool.{true≢false, false≢true, not-true, or_parts}
 use Rattle.std.proofs.lemmas.List.Elements.{All-head, All-tail, All-weaker}
 use Rattle.terms.specs.Types.{Text}
-use Rattle.terms.proofs.Longest.{StartsWithout, longest-only}
+use Rattle.terms.proofs.Longest.{StartsWithout, longest_only}
 use Rattle.terms.specs.Forms.{AreBlanks}
 use Rattle.terms.specs.Words.{Word, is_member_byte, is_inner_byte, TakesRun, Stops, TakesInner, TakesMember, IsBefore}
 use Rattle.terms.specs.Words.{TakesNext}
@@ -18,10 +18,10 @@ without test [] stops = tt
 without test (b ∷ bs) stops = λ passes. true≢false (sym passes ∙ stops)
 
 -- A longest front that passes a test is determined.
-pub cut-only : (test : ℕ → Bool) (front back front' back' : Text) → front ++ back ≡ front' ++ back' → Each test front
+pub cut_only : (test : ℕ → Bool) (front back front' back' : Text) → front ++ back ≡ front' ++ back' → Each test front
     → Stops test back → Each test front' → Stops test back' → (front ≡ front') × (back ≡ back')
-cut-only test front back front' back' e each stops each' stops' =
-    longest-only (λ b. test b ≡ true) front back front' back' e each (without test back stops) each'
+cut_only test front back front' back' e each stops each' stops' =
+    longest_only (λ b. test b ≡ true) front back front' back' e each (without test back stops) each'
     (without test back' stops')
 
 abbrev pub is_space : ℕ → Bool
@@ -30,31 +30,31 @@ is_space b = b == 32
 pub blanks_each : (gap : Text) → AreBlanks gap → Each is_space gap
 blanks_each gap h = All-weaker (λ b. b ≡ 32) (λ b. is_space b ≡ true) (λ b e. eq-eqb b 32 e) gap h
 
-pub run-only : (text word after word' after' : Text) → TakesRun text word after → TakesRun text word' after'
+pub run_only : (text word after word' after' : Text) → TakesRun text word after → TakesRun text word' after'
     → (word ≡ word') × (after ≡ after')
-run-only text word after word' after' t u =
-    cut-only is_member_byte word after word' after' (sym t.text_is ∙ u.text_is) t.each t.ends u.each u.ends
+run_only text word after word' after' t u =
+    cut_only is_member_byte word after word' after' (sym t.text_is ∙ u.text_is) t.each t.ends u.each u.ends
 
-inner-only : (text : Text) (k l : Option Text) (after after' : Text) → TakesInner text k after
+inner_only : (text : Text) (k l : Option Text) (after after' : Text) → TakesInner text k after
     → TakesInner text l after' → (k ≡ l) × (after ≡ after')
-inner-only text None None after after' t u = (refl, sym t.0 ∙ u.0)
-inner-only text None (Some l) after after' t u = absurd (t.1 (u.0, l ++ 41 ∷ after', u.1, u.3))
-inner-only text (Some k) None after after' t u = absurd (u.1 (t.0, k ++ 41 ∷ after, t.1, t.3))
-inner-only text (Some k) (Some l) after after' t u =
-    let gaps = cut-only is_space t.0 (40 ∷ k ++ 41 ∷ after) u.0 (40 ∷ l ++ 41 ∷ after') (sym t.3 ∙ u.3)
+inner_only text None None after after' t u = (refl, sym t.0 ∙ u.0)
+inner_only text None (Some l) after after' t u = absurd (t.1 (u.0, l ++ 41 ∷ after', u.1, u.3))
+inner_only text (Some k) None after after' t u = absurd (u.1 (t.0, k ++ 41 ∷ after, t.1, t.3))
+inner_only text (Some k) (Some l) after after' t u =
+    let gaps = cut_only is_space t.0 (40 ∷ k ++ 41 ∷ after) u.0 (40 ∷ l ++ 41 ∷ after') (sym t.3 ∙ u.3)
     (blanks_each t.0 t.1) refl (blanks_each u.0 u.1) refl in
     let inner : k ++ 41 ∷ after ≡ l ++ 41 ∷ after' = cc (gaps.1) in
-    let lists = cut-only is_inner_byte k (41 ∷ after) l (41 ∷ after') inner t.2 refl u.2 refl in
+    let lists = cut_only is_inner_byte k (41 ∷ after) l (41 ∷ after') inner t.2 refl u.2 refl in
     (ap (λ x. Some x) lists.0, cc (lists.1))
 
 words_same : (w v : Word) → w.word ≡ v.word → w.list ≡ v.list → w ≡ v
 words_same w v e f = ap₂ (λ a b. record { word = a; list = b }) e f
 
-pub member-only : (text : Text) (m n : Word) (after after' : Text) → TakesMember text m after
+pub member_only : (text : Text) (m n : Word) (after after' : Text) → TakesMember text m after
     → TakesMember text n after' → (m ≡ n) × (after ≡ after')
-member-only text m n after after' t u =
-    let run = run-only text m.word t.0 n.word u.0 t.1 u.1 in
-    let inner = inner-only t.0 m.list n.list after after' t.2 (subst (λ x. TakesInner x n.list after') (sym run.1) u.2)
+member_only text m n after after' t u =
+    let run = run_only text m.word t.0 n.word u.0 t.1 u.1 in
+    let inner = inner_only t.0 m.list n.list after after' t.2 (subst (λ x. TakesInner x n.list after') (sym run.1) u.2)
     in
     (words_same m n run.0 inner.0, inner.1)
 
@@ -99,44 +99,44 @@ comma_next left right next text e = e ∙ append_assoc left (44 ∷ right) next
 pub first_start : (text gap next blanks dark : Text) → text ≡ gap ++ next → AreBlanks gap → BeginsMember next
     → text ≡ blanks ++ dark → AreBlanks blanks → Stops is_space dark → (gap ≡ blanks) × (next ≡ dark)
 first_start text gap next blanks dark e h member f k stops =
-    cut-only is_space gap next blanks dark (sym e ∙ f) (blanks_each gap h) (begins_dark next member)
+    cut_only is_space gap next blanks dark (sym e ∙ f) (blanks_each gap h) (begins_dark next member)
     (blanks_each blanks k) stops
 
 pub comma_start : (text left right next blanks dark : Text) → text ≡ (left ++ 44 ∷ right) ++ next → AreBlanks left
     → text ≡ blanks ++ dark → AreBlanks blanks → Stops is_space dark → dark ≡ 44 ∷ (right ++ next)
 comma_start text left right next blanks dark e h f k stops =
-    sym ((cut-only is_space left (44 ∷ (right ++ next)) blanks dark (sym (comma_next left right next text e) ∙ f)
+    sym ((cut_only is_space left (44 ∷ (right ++ next)) blanks dark (sym (comma_next left right next text e) ∙ f)
     (blanks_each left h) refl (blanks_each blanks k) stops).1)
 
-gaps-only : (first : Bool) (text gap next gap' next' : Text) → text ≡ gap ++ next → IsBefore first gap
+gaps_only : (first : Bool) (text gap next gap' next' : Text) → text ≡ gap ++ next → IsBefore first gap
     → BeginsMember next → text ≡ gap' ++ next' → IsBefore first gap' → BeginsMember next' → next ≡ next'
-gaps-only true text gap next gap' next' e h m e' h' m' = (first_start text gap next gap' next' e h m e' h'
+gaps_only true text gap next gap' next' e h m e' h' m' = (first_start text gap next gap' next' e h m e' h'
     (begins_dark next' m')).1
-gaps-only false text gap next gap' next' e (inl h) m e' (inl h') m' =
+gaps_only false text gap next gap' next' e (inl h) m e' (inl h') m' =
     (first_start text gap next gap' next' e h.1 m e' h'.1 (begins_dark next' m')).1
-gaps-only false text gap next gap' next' e (inl h) m e' (inr k) m' =
+gaps_only false text gap next gap' next' e (inl h) m e' (inr k) m' =
     absurd (no_comma next (k.1 ++ next') m (comma_start text k.0 k.1 next' gap next (e' ∙ ap (λ g. g ++ next') k.2) k.3
     e h.1 (begins_dark next m)))
-gaps-only false text gap next gap' next' e (inr k) m e' (inl h') m' =
+gaps_only false text gap next gap' next' e (inr k) m e' (inl h') m' =
     absurd (no_comma next' (k.1 ++ next) m' (comma_start text k.0 k.1 next gap' next' (e ∙ ap (λ g. g ++ next) k.2) k.3
     e' h'.1 (begins_dark next' m')))
-gaps-only false text gap next gap' next' e (inr k) m e' (inr l) m' =
+gaps_only false text gap next gap' next' e (inr k) m e' (inr l) m' =
     let whole : k.0 ++ (44 ∷ (k.1 ++ next)) ≡ l.0 ++ (44 ∷ (l.1 ++ next')) =
     sym (comma_next k.0 k.1 next text (e ∙ ap (λ g. g ++ next) k.2))
     ∙ comma_next l.0 l.1 next' text (e' ∙ ap (λ g. g ++ next') l.2) in
-    let cut = cut-only is_space k.0 (44 ∷ (k.1 ++ next)) l.0 (44 ∷ (l.1 ++ next')) whole (blanks_each k.0 k.3) refl
+    let cut = cut_only is_space k.0 (44 ∷ (k.1 ++ next)) l.0 (44 ∷ (l.1 ++ next')) whole (blanks_each k.0 k.3) refl
     (blanks_each l.0 l.3) refl in
     let rests : k.1 ++ next ≡ l.1 ++ next' = cc (cut.1) in
-    (cut-only is_space k.1 next l.1 next' rests (blanks_each k.1 k.4) (begins_dark next m) (blanks_each l.1 l.4)
+    (cut_only is_space k.1 next l.1 next' rests (blanks_each k.1 k.4) (begins_dark next m) (blanks_each l.1 l.4)
     (begins_dark next' m')).1
 
 -- The next member is determined.
-pub next-only : (first : Bool) (text : Text) (m n : Word) (after after' : Text) → TakesNext first text m after
+pub next_only : (first : Bool) (text : Text) (m n : Word) (after after' : Text) → TakesNext first text m after
     → TakesNext first text n after' → (m ≡ n) × (after ≡ after')
-next-only first text m n after after' t u =
-    let same = gaps-only first text t.0 t.1 u.0 u.1 t.2 t.3 (member_first t.1 m after t.4) u.2 u.3
+next_only first text m n after after' t u =
+    let same = gaps_only first text t.0 t.1 u.0 u.1 t.2 t.3 (member_first t.1 m after t.4) u.2 u.3
     (member_first u.1 n after' u.4) in
-    member-only t.1 m n after after' t.4 (subst (λ x. TakesMember x n after') (sym same) u.4)
+    member_only t.1 m n after after' t.4 (subst (λ x. TakesMember x n after') (sym same) u.4)
 
 blanks_behind : (gap next : Text) → AreBlanks (gap ++ next) → AreBlanks next
 blanks_behind [] next h = h

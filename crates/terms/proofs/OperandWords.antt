@@ -21,9 +21,9 @@ use Rattle.terms.specs.Words.{Word, HasWords, TakesWord, word_pieces, list_piece
 use Rattle.terms.specs.Operands.{AreOperands}
 use Rattle.terms.specs.CommandForms.{operands_of}
 use Rattle.terms.specs.Commands.{words_in, is_often, has_double}
-use Rattle.lemmas.proofs.Pairs.{pairs_unmap, AllPairs-first, AllPairs-rest}
+use Rattle.lemmas.proofs.Pairs.{pairs_unmap, AllPairs_first, AllPairs_rest}
 use Rattle.lemmas.proofs.Members.{here, here_or, there}
-use Rattle.terms.proofs.Ids.{Contains-from_is_in}
+use Rattle.terms.proofs.Ids.{Contains_from_is_in}
 
 -- how often a word stands in a list
 abbrev pub count : Text → List Text → ℕ
@@ -79,14 +79,14 @@ count_none t (s ∷ texts) apart =
 
 pub count_once : (t : Text) (texts : List Text) → AllPairs (λ a b. a ≢ b) texts → count t texts ≤ 1
 count_once t [] apart = omega arith
-count_once t (s ∷ texts) apart = at (count_once t texts (AllPairs-rest (λ a b. a ≢ b) s texts apart)) (bytes_eq t s)
+count_once t (s ∷ texts) apart = at (count_once t texts (AllPairs_rest (λ a b. a ≢ b) s texts apart)) (bytes_eq t s)
     refl
   where
     at : count t texts ≤ 1 → (b : Bool) → bytes_eq t s ≡ b → count t (s ∷ texts) ≤ 1
     at more true same =
         let is : t ≡ s = (bytes_eq-Decides t s).0 same in
         let none = count_none t texts (subst (λ u. All (λ v. u ≢ v) texts) (sym is)
-        (AllPairs-first (λ a b. a ≢ b) s texts apart)) in
+        (AllPairs_first (λ a b. a ≢ b) s texts apart)) in
         omega (arith, count_same t s texts same, none)
     at more false other = omega (arith, count_other t s texts other, more)
 
@@ -112,7 +112,7 @@ known_text : (names : List Text) (ws : List Word) (t : Text) → All (λ w. IsTr
 known_text names [] t known h = absurd (omega (arith, h.1))
 known_text names (w ∷ ws) t known h =
     elim (here_or w.word (map (λ w. w.word) ws) t h) [
-      | inl same ↦ Contains-from_is_in names t (subst (λ t. IsTrue (is_in names t)) same
+      | inl same ↦ Contains_from_is_in names t (subst (λ t. IsTrue (is_in names t)) same
           (All-head (λ w. IsTrue (is_in names w.word)) w ws known))
       | inr later ↦ known_text names ws t (All-tail (λ w. IsTrue (is_in names w.word)) w ws known) later
     ]

@@ -12,9 +12,9 @@ use Rattle.std.proofs.lemmas.Cmp.{tied_itself}
 use Rattle.std.proofs.lemmas.List.Elements.{All-head, All-tail}
 use Rattle.std.proofs.lemmas.List.Recursion.{is_sum_by}
 use Rattle.std.proofs.lemmas.List.Sorted.{sum_by-IsPermutation, sorted_far, ranks_by}
-use Rattle.lemmas.proofs.Orderings.{Equal-from_is_eq, is_lt-from_turned, Less-from_is_lt}
+use Rattle.lemmas.proofs.Orderings.{Equal_from_is_eq, is_lt_from_turned, Less_from_is_lt}
 use Rattle.terms.specs.Rising.{Rises}
-use Rattle.lemmas.proofs.Pairs.{AllPairs-first, AllPairs-rest}
+use Rattle.lemmas.proofs.Pairs.{AllPairs_first, AllPairs_rest}
 
 module _ {X K : Type 0} {R : K → K → Ordering} (o : IsTotalOrder R) (key : X → K) where
   abbrev weight : K → X → ℕ
@@ -37,7 +37,7 @@ module _ {X K : Type 0} {R : K → K → Ordering} (o : IsTotalOrder R) (key : X
   unfolding count
   none_behind k x [] low tie = refl
   none_behind k x (y ∷ ys) low tie =
-      let less : R (key x) (key y) ≡ Less = Less-from_is_lt _
+      let less : R (key x) (key y) ≡ Less = Less_from_is_lt _
       (All-head (λ z. is_lt (R (key x) (key z)) ≡ true) y ys low) in
       let above : R k (key y) ≡ Less = sym (o.congr (key x) k (key y) tie) ∙ less in
       let other : is_eq (R (key y) k) ≡ false = ap is_eq (o.antisymm (key y) k ∙ ap ordering_reverse above) in
@@ -49,11 +49,11 @@ module _ {X K : Type 0} {R : K → K → Ordering} (o : IsTotalOrder R) (key : X
   one_at_most k [] rises = omega arith
   one_at_most k (x ∷ xs) rises = elim (cases_Bool (is_eq (R (key x) k))) [
     | inl e ↦
-        let none = none_behind k x xs (AllPairs-first (λ a b. is_lt (R (key a) (key b)) ≡ true) x xs rises)
-        (Equal-from_is_eq _ e) in
+        let none = none_behind k x xs (AllPairs_first (λ a b. is_lt (R (key a) (key b)) ≡ true) x xs rises)
+        (Equal_from_is_eq _ e) in
         rw (e, none) (omega arith)
     | inr e ↦
-        let later = one_at_most k xs (AllPairs-rest (λ a b. is_lt (R (key a) (key b)) ≡ true) x xs rises) in
+        let later = one_at_most k xs (AllPairs_rest (λ a b. is_lt (R (key a) (key b)) ≡ true) x xs rises) in
         rw e (omega (arith, later))
   ]
 
@@ -82,7 +82,7 @@ module _ {X K : Type 0} {R : K → K → Ordering} (o : IsTotalOrder R) (key : X
       let b = key (get_or xs j d) in
       let far : is_lt (R b a) ≡ false = sorted_far (λ x y. is_lt (R (key x) (key y))) (ranks_by o key) xs sorted i j d
       (omega (arith, less)) within in
-      is_lt-from_turned (R a b) (R b a) (o.antisymm a b) far (λ tie.
+      is_lt_from_turned (R a b) (R b a) (o.antisymm a b) far (λ tie.
       let two = two_at_least b xs i j d less within tie (tied_itself o b) in
       let one = one_at_most b ys rises in
       absurd (omega (arith, two, one, same_count b xs ys same)))

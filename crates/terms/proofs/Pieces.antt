@@ -57,18 +57,18 @@ word_cut word after is_word stops =
     ∙ ap (λ w. Some (TheWord w, drop (length word) (word ++ after))) (take_at word after (length word) refl)
     ∙ ap (λ a. Some (TheWord word, a)) (drop_at word after (length word) refl)
 
-first-word : (word after : Text) → IsWord word → BeginsNoWord after
+first_word : (word after : Text) → IsWord word → BeginsNoWord after
     → first_piece (word ++ after) ≡ Some (TheWord word, after)
-first-word [] after is_word stops = absurd (omega (arith, is_word.0))
-first-word (b ∷ word) after is_word stops =
+first_word [] after is_word stops = absurd (omega (arith, is_word.0))
+first_word (b ∷ word) after is_word stops =
     let first : is_word_byte b ≡ true = All-head (λ b. IsTrue (is_word_byte b)) b word is_word.1 in
     ap (λ v. chosen v (is_blank b) (b == 40) (b == 47 && slice_index (word ++ after) 0 == 42) (b == 41 || b == 46) b
     (word ++ after)) first
     ∙ word_cut (b ∷ word) after is_word stops
 
-first-list : (list after : Text) → behind_list false (list ++ 41 ∷ after) ≡ Some after
+first_list : (list after : Text) → behind_list false (list ++ 41 ∷ after) ≡ Some after
     → first_piece (40 ∷ list ++ 41 ∷ after) ≡ Some (TheList list, after)
-first-list list after closes =
+first_list list after closes =
     let n = length (list ++ 41 ∷ after) - length after - 1 in
     let len : length list ≡ n = omega (arith, length-append list (41 ∷ after)) in
     ap (list_piece (list ++ 41 ∷ after)) closes ∙ ap (λ l. Some (TheList l, after)) (take_at list (41 ∷ after) n len)
@@ -80,8 +80,8 @@ blank_first b after e = elim e [
       (λ c. first_piece (c ∷ after)) is
 ]
 
-first-blank : (b : ℕ) (after : Text) → is_blank b ≡ true → first_piece (b ∷ after) ≡ Some (Blank, after)
-first-blank b after blank =
+first_blank : (b : ℕ) (after : Text) → is_blank b ≡ true → first_piece (b ∷ after) ≡ Some (Blank, after)
+first_blank b after blank =
     blank_first b after (elim (or_cases (b == 32) (b == 44) blank)
     [ inl is ↦ inl (eqb-true b 32 is) | inr is ↦ inr (eqb-true b 44 is) ])
 
@@ -92,9 +92,9 @@ no_opening b after no_star =
     let parts = and_parts (b == 47) (slice_index after 0 == 42) opens in
     no_star (eqb-true b 47 parts.0) (eqb-true (slice_index after 0) 42 parts.1))
 
-first-stray : (b : ℕ) (after : Text) → IsTrue (is_stray b) → (b ≡ 47 → slice_index after 0 ≢ 42)
+first_stray : (b : ℕ) (after : Text) → IsTrue (is_stray b) → (b ≡ 47 → slice_index after 0 ≢ 42)
     → first_piece (b ∷ after) ≡ Some (Stray b, after)
-first-stray b after stray no_star =
+first_stray b after stray no_star =
     let all = not-true (is_word_byte b || is_blank b || b == 40 || b == 41 || b == 46) stray in
     let period = or_parts (is_word_byte b || is_blank b || b == 40 || b == 41) (b == 46) all in
     let close = or_parts (is_word_byte b || is_blank b || b == 40) (b == 41) period.0 in
@@ -109,13 +109,13 @@ first-stray b after stray no_star =
     ∙ ap (λ v. chosen false false false v (b == 41 || b == 46) b after) comment
     ∙ ap (λ v. chosen false false false false v b after) stop
 
-pub takes-first : (text : Text) (p : Piece) (after : Text) → TakesPiece text p after
+pub takes_first : (text : Text) (p : Piece) (after : Text) → TakesPiece text p after
     → first_piece text ≡ Some (p, after)
-takes-first text (TheWord word) after t = ap first_piece t.0 ∙ first-word word after t.1 t.2
-takes-first text (TheList list) after t = ap first_piece t.0 ∙ first-list list after t.1
-takes-first text Blank after t = ap first_piece t.1 ∙ first-blank t.0 after t.2
-takes-first text Comment after t = ap first_piece t.1 ∙ ap comment_piece t.2
-takes-first text (Stray b) after t = ap first_piece t.0 ∙ first-stray b after t.1 t.2
+takes_first text (TheWord word) after t = ap first_piece t.0 ∙ first_word word after t.1 t.2
+takes_first text (TheList list) after t = ap first_piece t.0 ∙ first_list list after t.1
+takes_first text Blank after t = ap first_piece t.1 ∙ first_blank t.0 after t.2
+takes_first text Comment after t = ap first_piece t.1 ∙ ap comment_piece t.2
+takes_first text (Stray b) after t = ap first_piece t.0 ∙ first_stray b after t.1 t.2
 
 -- No piece begins there.
 abbrev pub IsStop : Text → Type 0
@@ -138,12 +138,12 @@ stop_pairs text o =
     ]
 
 pub no_piece : (text : Text) (p : Piece) (after : Text) → IsStop text → TakesPiece text p after → ⊥
-no_piece text p after stop t = cc (stop, takes-first text p after t)
+no_piece text p after stop t = cc (stop, takes_first text p after t)
 
-pub piece-only : (text : Text) (p q : Piece) (after after' : Text) → TakesPiece text p after → TakesPiece text q after'
+pub piece_only : (text : Text) (p q : Piece) (after after' : Text) → TakesPiece text p after → TakesPiece text q after'
     → (p ≡ q) × (after ≡ after')
-piece-only text p q after after' t u =
-    let same : Some (p, after) ≡ Some (q, after') = sym (takes-first text p after t) ∙ takes-first text q after' u in
+piece_only text p q after after' t u =
+    let same : Some (p, after) ≡ Some (q, after') = sym (takes_first text p after t) ∙ takes_first text q after' u in
     let pair : unwrap_or (Some (p, after)) (p, after) ≡ unwrap_or (Some (q, after')) (p, after) =
     ap (λ o. unwrap_or o (p, after)) same in
     (ap (λ x. x.0) pair, ap (λ x. x.1) pair)
@@ -155,27 +155,27 @@ pub pieces_behind : (text : Text) (ps : List Piece) (stop : Text) (qs : List Pie
 pieces_behind text ps stop [] mid h stops g = (ps, refl, subst (λ t. HasPieces t ps stop) g h)
 pieces_behind text [] stop (q ∷ qs) mid h stops g = absurd (no_piece text q g.0 (ap first_piece h ∙ stops) g.1)
 pieces_behind text (p ∷ ps) stop (q ∷ qs) mid h stops g =
-    let same = piece-only text p q h.0 g.0 h.1 g.1 in
+    let same = piece_only text p q h.0 g.0 h.1 g.1 in
     let more = pieces_behind g.0 ps stop qs mid (subst (λ t. HasPieces t ps stop) same.1 h.2) stops g.2 in
     (more.0, cc (same.0, more.1), more.2)
 
-pub pieces-only : (text : Text) (ps qs : List Piece) (stop stop' : Text) → HasPieces text ps stop → IsStop stop
+pub pieces_only : (text : Text) (ps qs : List Piece) (stop stop' : Text) → HasPieces text ps stop → IsStop stop
     → HasPieces text qs stop' → IsStop stop' → (ps ≡ qs) × (stop ≡ stop')
-pieces-only text [] [] stop stop' h stops g stops' = (refl, sym h ∙ g)
-pieces-only text [] (q ∷ qs) stop stop' h stops g stops' = absurd (no_piece text q g.0 (ap first_piece h ∙ stops) g.1)
-pieces-only text (p ∷ ps) [] stop stop' h stops g stops' = absurd (no_piece text p h.0 (ap first_piece g ∙ stops') h.1)
-pieces-only text (p ∷ ps) (q ∷ qs) stop stop' h stops g stops' =
-    let same = piece-only text p q h.0 g.0 h.1 g.1 in
-    let more = pieces-only h.0 ps qs stop stop' h.2 stops (subst (λ t. HasPieces t qs stop') (sym same.1) g.2) stops' in
+pieces_only text [] [] stop stop' h stops g stops' = (refl, sym h ∙ g)
+pieces_only text [] (q ∷ qs) stop stop' h stops g stops' = absurd (no_piece text q g.0 (ap first_piece h ∙ stops) g.1)
+pieces_only text (p ∷ ps) [] stop stop' h stops g stops' = absurd (no_piece text p h.0 (ap first_piece g ∙ stops') h.1)
+pieces_only text (p ∷ ps) (q ∷ qs) stop stop' h stops g stops' =
+    let same = piece_only text p q h.0 g.0 h.1 g.1 in
+    let more = pieces_only h.0 ps qs stop stop' h.2 stops (subst (λ t. HasPieces t qs stop') (sym same.1) g.2) stops' in
     (cc (same.0, more.0), more.1)
 
-pub pieces-append : (text mid rest : Text) (ps qs : List Piece) → HasPieces text ps mid → HasPieces mid qs rest
+pub pieces_append : (text mid rest : Text) (ps qs : List Piece) → HasPieces text ps mid → HasPieces mid qs rest
     → HasPieces text (ps ++ qs) rest
-pieces-append text mid rest [] qs h g = subst (λ t. HasPieces t qs rest) (sym h) g
-pieces-append text mid rest (p ∷ ps) qs h g = (h.0, h.1, pieces-append h.0 mid rest ps qs h.2 g)
+pieces_append text mid rest [] qs h g = subst (λ t. HasPieces t qs rest) (sym h) g
+pieces_append text mid rest (p ∷ ps) qs h g = (h.0, h.1, pieces_append h.0 mid rest ps qs h.2 g)
 
-pub solid-append : (ps qs : List Piece) → solid (ps ++ qs) ≡ solid ps ++ solid qs
-solid-append ps qs = filter-append is_solid ps qs
+pub solid_append : (ps qs : List Piece) → solid (ps ++ qs) ≡ solid ps ++ solid qs
+solid_append ps qs = filter-append is_solid ps qs
 
 none_solid : (front : List Piece) (r : Piece) (rs : List Piece) → is_solid r ≡ true → front ++ solid (r ∷ rs) ≡ [] → ⊥
 none_solid front r rs one none =
@@ -193,4 +193,4 @@ pub idle_ends : (text : Text) (gap : List Piece) (mid : Text) → HasPieces text
     → mid ≡ []
 idle_ends text gap mid h no_gap idle =
     let more = pieces_behind text idle.0 [] gap mid idle.1 stop_nil h in
-    no_more mid gap more.0 no_gap (sym (solid-append gap more.0) ∙ sym (ap solid more.1) ∙ idle.2) more.2
+    no_more mid gap more.0 no_gap (sym (solid_append gap more.0) ∙ sym (ap solid more.1) ∙ idle.2) more.2

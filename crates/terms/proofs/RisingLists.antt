@@ -19,16 +19,16 @@ use Rattle.std.proofs.lemmas.Bool.{cases_lt}
 use Rattle.std.proofs.lemmas.List.Folds.{list_any_at, list_any_none}
 use Rattle.std.proofs.lemmas.List.Elements.{All-append, filter-append}
 use Rattle.std.proofs.lemmas.List.Sorted.{searchable_from_sorted}
-use Rattle.lemmas.proofs.Pairs.{AllPairs-between, AllPairs-without, AllPairs-parts}
-use Rattle.lemmas.proofs.Searches.{filter-all, filter-none, find-over}
-use Rattle.lemmas.proofs.Orderings.{Less-from_is_lt}
+use Rattle.lemmas.proofs.Pairs.{AllPairs_between, AllPairs_without, AllPairs_parts}
+use Rattle.lemmas.proofs.Searches.{filter_all, filter_none, find_over}
+use Rattle.lemmas.proofs.Orderings.{Less_from_is_lt}
 use Rattle.terms.specs.Rising.{Rises, before, behind, with_item, without_key}
 pub use Rattle.terms.specs.Rising.{Splits, StandsAt}
 
 -- keys that are strictly sorted rise
-pub Rises-from_sorted : {K : Type 0} (R : K → K → Ordering) (ks : List K) → IsStrictlySortedBy R ks
+pub Rises_from_sorted : {K : Type 0} (R : K → K → Ordering) (ks : List K) → IsStrictlySortedBy R ks
     → Rises R (λ k. k) ks
-Rises-from_sorted R ks s = λ i j d less below. ap is_lt (Less-from_sorted R ks i j d s less below)
+Rises_from_sorted R ks s = λ i j d less below. ap is_lt (Less-from_sorted R ks i j d s less below)
 
 module _ {X K : Type 0} {R : K → K → Ordering} (o : IsTotalOrder R) (key : X → K) where
   -- of two keys one is below, or they tie
@@ -41,61 +41,61 @@ module _ {X K : Type 0} {R : K → K → Ordering} (o : IsTotalOrder R) (key : X
   unequal : (a b : K) → R a b ≡ Less → is_eq (R b a) ≡ false
   unequal a b e = rw (o.antisymm b a, e) refl
 
-  pub before-apart : (k : K) (front back : List X) → Splits R key k front back → before R key k (front ++ back) ≡ front
-  before-apart k front back s =
+  pub before_apart : (k : K) (front back : List X) → Splits R key k front back → before R key k (front ++ back) ≡ front
+  before_apart k front back s =
       let p : X → Bool = λ x. is_lt (R (key x) k) in
       filter-append p front back
-      ∙ ap (λ ys. ys ++ filter p back) (filter-all p front (λ i d h. ap is_lt (s.low i d h)))
-      ∙ ap (λ ys. front ++ ys) (filter-none p back (λ i d h. turned k (key (get_or back i d)) (s.high i d h)))
+      ∙ ap (λ ys. ys ++ filter p back) (filter_all p front (λ i d h. ap is_lt (s.low i d h)))
+      ∙ ap (λ ys. front ++ ys) (filter_none p back (λ i d h. turned k (key (get_or back i d)) (s.high i d h)))
       ∙ append-nil front
 
-  pub behind-apart : (k : K) (front back : List X) → Splits R key k front back → behind R key k (front ++ back) ≡ back
-  behind-apart k front back s =
+  pub behind_apart : (k : K) (front back : List X) → Splits R key k front back → behind R key k (front ++ back) ≡ back
+  behind_apart k front back s =
       let p : X → Bool = λ x. is_lt (R k (key x)) in
       filter-append p front back
-      ∙ ap (λ ys. ys ++ filter p back) (filter-none p front (λ i d h. turned (key (get_or front i d)) k (s.low i d h)))
-      ∙ filter-all p back (λ i d h. ap is_lt (s.high i d h))
+      ∙ ap (λ ys. ys ++ filter p back) (filter_none p front (λ i d h. turned (key (get_or front i d)) k (s.low i d h)))
+      ∙ filter_all p back (λ i d h. ap is_lt (s.high i d h))
 
-  pub before-around : (k : K) (front back : List X) (x : X) → Splits R key k front back → R (key x) k ≡ Equal
+  pub before_around : (k : K) (front back : List X) (x : X) → Splits R key k front back → R (key x) k ≡ Equal
       → before R key k (front ++ x ∷ back) ≡ front
-  before-around k front back x s e =
+  before_around k front back x s e =
       let p : X → Bool = λ y. is_lt (R (key y) k) in
       filter-append p front (x ∷ back)
       ∙ ap (λ b. filter p front ++ cond b (x ∷ filter p back) (filter p back)) (ap is_lt e)
-      ∙ sym (filter-append p front back) ∙ before-apart k front back s
+      ∙ sym (filter-append p front back) ∙ before_apart k front back s
 
-  pub behind-around : (k : K) (front back : List X) (x : X) → Splits R key k front back → R (key x) k ≡ Equal
+  pub behind_around : (k : K) (front back : List X) (x : X) → Splits R key k front back → R (key x) k ≡ Equal
       → behind R key k (front ++ x ∷ back) ≡ back
-  behind-around k front back x s e =
+  behind_around k front back x s e =
       let p : X → Bool = λ y. is_lt (R k (key y)) in
       filter-append p front (x ∷ back)
       ∙ ap (λ b. filter p front ++ cond b (x ∷ filter p back) (filter p back)) (tied (key x) k e)
-      ∙ sym (filter-append p front back) ∙ behind-apart k front back s
+      ∙ sym (filter-append p front back) ∙ behind_apart k front back s
 
   -- around an item of the key all others are before and behind
-  pub Splits-around : (k : K) (front back : List X) (x : X) → Rises R key (front ++ x ∷ back) → R (key x) k ≡ Equal
+  pub Splits_around : (k : K) (front back : List X) (x : X) → Rises R key (front ++ x ∷ back) → R (key x) k ≡ Equal
       → Splits R key k front back
-  Splits-around k front back x rises e =
-      let parts = AllPairs-parts (λ a b. is_lt (R (key a) (key b)) ≡ true) front back x rises in
+  Splits_around k front back x rises e =
+      let parts = AllPairs_parts (λ a b. is_lt (R (key a) (key b)) ≡ true) front back x rises in
       record {
         low = λ i d h. sym (alike_right o (key x) k (key (get_or front i d)) e)
-            ∙ Less-from_is_lt (R (key (get_or front i d)) (key x)) (parts.0 i d h);
+            ∙ Less_from_is_lt (R (key (get_or front i d)) (key x)) (parts.0 i d h);
         high = λ i d h. sym (o.congr (key x) k (key (get_or back i d)) e)
-            ∙ Less-from_is_lt (R (key x) (key (get_or back i d))) (parts.1 i d h);
+            ∙ Less_from_is_lt (R (key x) (key (get_or back i d))) (parts.1 i d h);
       }
 
   -- keys in order are what a binary search asks for
   pub searchable : (k : K) (xs : List X) → Rises R key xs → IsNonDecreasingBy (λ y. ordering_index (R (key y) k)) xs
   searchable k xs rises =
       searchable_from_sorted o key xs k (λ i d low below. turned (key (get_or xs i d)) (key (get_or xs (i + 1) d))
-      (Less-from_is_lt (R (key (get_or xs i d)) (key (get_or xs (i + 1) d)))
+      (Less_from_is_lt (R (key (get_or xs i d)) (key (get_or xs (i + 1) d)))
       (rises i (i + 1) d (omega arith) below)))
 
   -- where a binary search ends without the key
-  pub Splits-at : (k : K) (xs : List X) (i : ℕ) → i ≤ length xs
+  pub Splits_at : (k : K) (xs : List X) (i : ℕ) → i ≤ length xs
       → IsPartitionPoint (λ y. R (key y) k ≡ Less) (λ y. R (key y) k ≡ Greater) xs i
       → Splits R key k (take i xs) (drop i xs)
-  Splits-at k xs i within p = record {
+  Splits_at k xs i within p = record {
     low = λ j d h. rw (get_or-take i xs j d (omega (arith, length-take-le i xs within)))
         (p.0 j d (omega arith) (omega (arith, length-take-le i xs within)));
     high = λ j d h.
@@ -104,34 +104,34 @@ module _ {X K : Type 0} {R : K → K → Ordering} (o : IsTotalOrder R) (key : X
   }
 
   -- an item whose key is new comes in between
-  pub with_item-new : (front back : List X) (x : X) → Splits R key (key x) front back
+  pub with_item_new : (front back : List X) (x : X) → Splits R key (key x) front back
       → with_item R key (front ++ back) x ≡ front ++ x ∷ back
-  with_item-new front back x s =
-      ap (λ ys. (ys ++ x ∷ []) ++ behind R key (key x) (front ++ back)) (before-apart (key x) front back s)
-      ∙ ap (λ ys. (front ++ x ∷ []) ++ ys) (behind-apart (key x) front back s)
+  with_item_new front back x s =
+      ap (λ ys. (ys ++ x ∷ []) ++ behind R key (key x) (front ++ back)) (before_apart (key x) front back s)
+      ∙ ap (λ ys. (front ++ x ∷ []) ++ ys) (behind_apart (key x) front back s)
       ∙ append_assoc front (x ∷ []) back
 
   -- an item takes the place of the one of its key
-  pub with_item-there : (front back : List X) (x y : X) → Rises R key (front ++ y ∷ back) → R (key y) (key x) ≡ Equal
+  pub with_item_there : (front back : List X) (x y : X) → Rises R key (front ++ y ∷ back) → R (key y) (key x) ≡ Equal
       → with_item R key (front ++ y ∷ back) x ≡ front ++ x ∷ back
-  with_item-there front back x y rises e =
-      let s = Splits-around (key x) front back y rises e in
-      ap (λ ys. (ys ++ x ∷ []) ++ behind R key (key x) (front ++ y ∷ back)) (before-around (key x) front back y s e)
-      ∙ ap (λ ys. (front ++ x ∷ []) ++ ys) (behind-around (key x) front back y s e)
+  with_item_there front back x y rises e =
+      let s = Splits_around (key x) front back y rises e in
+      ap (λ ys. (ys ++ x ∷ []) ++ behind R key (key x) (front ++ y ∷ back)) (before_around (key x) front back y s e)
+      ∙ ap (λ ys. (front ++ x ∷ []) ++ ys) (behind_around (key x) front back y s e)
       ∙ append_assoc front (x ∷ []) back
 
   -- the list stays in order with a new item
-  pub Rises-between : (front back : List X) (x : X) → Rises R key (front ++ back) → Splits R key (key x) front back
+  pub Rises_between : (front back : List X) (x : X) → Rises R key (front ++ back) → Splits R key (key x) front back
       → Rises R key (front ++ x ∷ back)
-  Rises-between front back x rises s =
-      AllPairs-between (λ a b. is_lt (R (key a) (key b)) ≡ true) front back x rises (λ i d h. ap is_lt (s.low i d h))
+  Rises_between front back x rises s =
+      AllPairs_between (λ a b. is_lt (R (key a) (key b)) ≡ true) front back x rises (λ i d h. ap is_lt (s.low i d h))
       (λ i d h. ap is_lt (s.high i d h))
 
   -- where a binary search finds the key
-  pub Stands-at : (k : K) (xs : List X) (i : ℕ) → i < length xs → HoldsAt (λ y. R (key y) k ≡ Equal) xs i
+  pub Stands_at : (k : K) (xs : List X) (i : ℕ) → i < length xs → HoldsAt (λ y. R (key y) k ≡ Equal) xs i
       → (x : X) × StandsAt R key k xs i x
-  Stands-at k [] i below h = absurd (omega arith)
-  Stands-at k (x ∷ xs) i below h = (
+  Stands_at k [] i below h = absurd (omega arith)
+  Stands_at k (x ∷ xs) i below h = (
     get_or (x ∷ xs) i x,
     record {
       tie = h x;
@@ -141,15 +141,15 @@ module _ {X K : Type 0} {R : K → K → Ordering} (o : IsTotalOrder R) (key : X
   )
 
   -- whether some item has the key, by a test that ties with the order
-  pub list_any-there : (E : K → K → Bool) → ((a b : K) → E a b ≡ is_eq (R a b)) → (k : K) (xs : List X) (i : ℕ) (x : X)
+  pub list_any_there : (E : K → K → Bool) → ((a b : K) → E a b ≡ is_eq (R a b)) → (k : K) (xs : List X) (i : ℕ) (x : X)
       → i < length xs → StandsAt R key k xs i x → list_any (λ y. E k (key y)) xs ≡ true
-  list_any-there E ties k xs i x below s =
+  list_any_there E ties k xs i x below s =
       list_any_at (λ y. E k (key y)) xs i x below (ap (λ y. E k (key y)) (s.at x) ∙ ties k (key x)
       ∙ ap is_eq (tied_back o (key x) k s.tie))
 
-  pub list_any-apart : (E : K → K → Bool) → ((a b : K) → E a b ≡ is_eq (R a b)) → (k : K) (front back : List X)
+  pub list_any_apart : (E : K → K → Bool) → ((a b : K) → E a b ≡ is_eq (R a b)) → (k : K) (front back : List X)
       → Splits R key k front back → list_any (λ y. E k (key y)) (front ++ back) ≡ false
-  list_any-apart E ties k front back s =
+  list_any_apart E ties k front back s =
       let low : All (λ y. E k (key y) ≡ false) front = λ i d h. ties k (key (get_or front i d))
       ∙ unequal (key (get_or front i d)) k (s.low i d h) in
       let high : All (λ y. E k (key y) ≡ false) back = λ i d h. ties k (key (get_or back i d)) ∙ ap is_eq (s.high i d h)
@@ -157,59 +157,59 @@ module _ {X K : Type 0} {R : K → K → Ordering} (o : IsTotalOrder R) (key : X
       list_any_none (λ y. E k (key y)) (front ++ back) (All-append (λ y. E k (key y) ≡ false) front back low high)
 
   -- whether a binary search finds the key
-  pub is_ok-search : (E : K → K → Bool) → ((a b : K) → E a b ≡ is_eq (R a b)) → (k : K) (xs : List X) → Rises R key xs
+  pub is_ok_search : (E : K → K → Bool) → ((a b : K) → E a b ≡ is_eq (R a b)) → (k : K) (xs : List X) → Rises R key xs
       → (r : Result ℕ ℕ) → IsSearchInRange r (length xs) → IsBinarySearchResult (λ y. R (key y) k) xs r
       → is_ok r ≡ list_any (λ y. E k (key y)) xs
-  is_ok-search E ties k xs rises (Ok i) within p =
-      sym (list_any-there E ties k xs i (Stands-at k xs i within p).0 within (Stands-at k xs i within p).1)
-  is_ok-search E ties k xs rises (Err i) within p =
+  is_ok_search E ties k xs rises (Ok i) within p =
+      sym (list_any_there E ties k xs i (Stands_at k xs i within p).0 within (Stands_at k xs i within p).1)
+  is_ok_search E ties k xs rises (Err i) within p =
       sym (ap (list_any (λ y. E k (key y))) (sym (take-append-drop i xs))
-      ∙ list_any-apart E ties k (take i xs) (drop i xs) (Splits-at k xs i within (p (searchable k xs rises))))
+      ∙ list_any_apart E ties k (take i xs) (drop i xs) (Splits_at k xs i within (p (searchable k xs rises))))
 
   -- where a binary search ends without the item's key the item comes in
-  pub with_item-at : (xs : List X) (i : ℕ) (x : X) → Rises R key xs → i ≤ length xs
+  pub with_item_at : (xs : List X) (i : ℕ) (x : X) → Rises R key xs → i ≤ length xs
       → IsPartitionPoint (λ y. R (key y) (key x) ≡ Less) (λ y. R (key y) (key x) ≡ Greater) xs i
       → with_item R key xs x ≡ take i xs ++ x ∷ drop i xs
-  with_item-at xs i x rises within p =
+  with_item_at xs i x rises within p =
       ap (λ ys. with_item R key ys x) (sym (take-append-drop i xs))
-      ∙ with_item-new (take i xs) (drop i xs) x (Splits-at (key x) xs i within p)
+      ∙ with_item_new (take i xs) (drop i xs) x (Splits_at (key x) xs i within p)
 
-  pub Rises-at : (xs : List X) (i : ℕ) (x : X) → Rises R key xs → i ≤ length xs
+  pub Rises_at : (xs : List X) (i : ℕ) (x : X) → Rises R key xs → i ≤ length xs
       → IsPartitionPoint (λ y. R (key y) (key x) ≡ Less) (λ y. R (key y) (key x) ≡ Greater) xs i
       → Rises R key (take i xs ++ x ∷ drop i xs)
-  Rises-at xs i x rises within p =
+  Rises_at xs i x rises within p =
       let whole : Rises R key (take i xs ++ drop i xs) = rw (take-append-drop i xs) rises in
-      Rises-between (take i xs) (drop i xs) x whole (Splits-at (key x) xs i within p)
+      Rises_between (take i xs) (drop i xs) x whole (Splits_at (key x) xs i within p)
 
   -- an item that is there already changes nothing
-  pub with_item-same : (xs : List X) (i : ℕ) (x : X) → Rises R key xs → StandsAt R key (key x) xs i x
+  pub with_item_same : (xs : List X) (i : ℕ) (x : X) → Rises R key xs → StandsAt R key (key x) xs i x
       → with_item R key xs x ≡ xs
-  with_item-same xs i x rises s =
+  with_item_same xs i x rises s =
       let whole : Rises R key (take i xs ++ x ∷ drop (suc i) xs) = rw (← s.parts) rises in
-      ap (λ ys. with_item R key ys x) s.parts ∙ with_item-there (take i xs) (drop (suc i) xs) x x whole s.tie
+      ap (λ ys. with_item R key ys x) s.parts ∙ with_item_there (take i xs) (drop (suc i) xs) x x whole s.tie
       ∙ sym s.parts
 
   -- what goes when a key goes
-  pub without_key-there : (k : K) (xs : List X) (i : ℕ) (x : X) → Rises R key xs → StandsAt R key k xs i x
+  pub without_key_there : (k : K) (xs : List X) (i : ℕ) (x : X) → Rises R key xs → StandsAt R key k xs i x
       → without_key R key xs k ≡ take i xs ++ drop (suc i) xs
-  without_key-there k xs i x rises s =
+  without_key_there k xs i x rises s =
       let whole : Rises R key (take i xs ++ x ∷ drop (suc i) xs) = rw (← s.parts) rises in
-      let apart = Splits-around k (take i xs) (drop (suc i) xs) x whole s.tie in
+      let apart = Splits_around k (take i xs) (drop (suc i) xs) x whole s.tie in
       ap (λ ys. without_key R key ys k) s.parts
       ∙ ap (λ ys. ys ++ behind R key k (take i xs ++ x ∷ drop (suc i) xs))
-      (before-around k (take i xs) (drop (suc i) xs) x apart s.tie)
-      ∙ ap (λ ys. take i xs ++ ys) (behind-around k (take i xs) (drop (suc i) xs) x apart s.tie)
+      (before_around k (take i xs) (drop (suc i) xs) x apart s.tie)
+      ∙ ap (λ ys. take i xs ++ ys) (behind_around k (take i xs) (drop (suc i) xs) x apart s.tie)
 
-  pub without_key-apart : (k : K) (front back : List X) → Splits R key k front back
+  pub without_key_apart : (k : K) (front back : List X) → Splits R key k front back
       → without_key R key (front ++ back) k ≡ front ++ back
-  without_key-apart k front back s =
-      ap (λ ys. ys ++ behind R key k (front ++ back)) (before-apart k front back s)
-      ∙ ap (λ ys. front ++ ys) (behind-apart k front back s)
+  without_key_apart k front back s =
+      ap (λ ys. ys ++ behind R key k (front ++ back)) (before_apart k front back s)
+      ∙ ap (λ ys. front ++ ys) (behind_apart k front back s)
 
-  pub without_key-at : (k : K) (xs : List X) (i : ℕ) → i ≤ length xs
+  pub without_key_at : (k : K) (xs : List X) (i : ℕ) → i ≤ length xs
       → IsPartitionPoint (λ y. R (key y) k ≡ Less) (λ y. R (key y) k ≡ Greater) xs i → without_key R key xs k ≡ xs
-  without_key-at k xs i within p =
-      rw (take-append-drop i xs) at (without_key-apart k (take i xs) (drop i xs) (Splits-at k xs i within p))
+  without_key_at k xs i within p =
+      rw (take-append-drop i xs) at (without_key_apart k (take i xs) (drop i xs) (Splits_at k xs i within p))
 
   -- a key behind the last is behind all
   pub All-before_last : (k : K) (xs : List X) (last : X) → Rises R key xs → 0 < length xs
@@ -218,7 +218,7 @@ module _ {X K : Type 0} {R : K → K → Ordering} (o : IsTotalOrder R) (key : X
       λ i d below. elim (cases_lt i (length xs - 1)) [
         | inl less ↦
             let e = get_or_default xs (length xs - 1) d last (omega arith) in
-            let step = Less-from_is_lt _ (rises i (length xs - 1) d less (omega arith)) in
+            let step = Less_from_is_lt _ (rises i (length xs - 1) d less (omega arith)) in
             ap is_lt (o.trans _ _ k step (rw (e ∙ sym is) low))
         | inr more ↦
             let here : i ≡ length xs - 1 = omega arith in
@@ -226,80 +226,80 @@ module _ {X K : Type 0} {R : K → K → Ordering} (o : IsTotalOrder R) (key : X
             rw (here, e ∙ sym is) (ap is_lt low)
       ]
 
-  pub AllPairs-last : (xs : List X) (x : X) → Rises R key xs → All (λ y. is_lt (R (key y) (key x)) ≡ true) xs
+  pub AllPairs_last : (xs : List X) (x : X) → Rises R key xs → All (λ y. is_lt (R (key y) (key x)) ≡ true) xs
       → Rises R key (xs ++ x ∷ [])
-  AllPairs-last xs x rises low =
+  AllPairs_last xs x rises low =
       let whole : Rises R key (xs ++ []) = rw (append-nil xs) rises in
-      AllPairs-between (λ a b. is_lt (R (key a) (key b)) ≡ true) xs [] x whole low (λ i d below. absurd (omega arith))
+      AllPairs_between (λ a b. is_lt (R (key a) (key b)) ≡ true) xs [] x whole low (λ i d below. absurd (omega arith))
 
   -- what a search for the key finds, by a test that ties with the order
-  pub find-there : (E : K → K → Bool) → ((a b : K) → E a b ≡ is_eq (R a b)) → (k : K) (front back : List X) (x : X)
+  pub find_there : (E : K → K → Bool) → ((a b : K) → E a b ≡ is_eq (R a b)) → (k : K) (front back : List X) (x : X)
       → Splits R key k front back → R (key x) k ≡ Equal → find (λ y. E (key y) k) (front ++ x ∷ back) ≡ Some x
-  find-there E ties k front back x s e =
-      find-over (λ y. E (key y) k) front (x ∷ back) (λ i d h. ties (key (get_or front i d)) k ∙ ap is_eq (s.low i d h))
+  find_there E ties k front back x s e =
+      find_over (λ y. E (key y) k) front (x ∷ back) (λ i d h. ties (key (get_or front i d)) k ∙ ap is_eq (s.low i d h))
       ∙ ap (λ b. cond b (Some x) (find (λ y. E (key y) k) back)) (ties (key x) k ∙ ap is_eq e)
 
-  pub find-apart : (E : K → K → Bool) → ((a b : K) → E a b ≡ is_eq (R a b)) → (k : K) (front back : List X)
+  pub find_apart : (E : K → K → Bool) → ((a b : K) → E a b ≡ is_eq (R a b)) → (k : K) (front back : List X)
       → Splits R key k front back → find (λ y. E (key y) k) (front ++ back) ≡ None
-  find-apart E ties k front back s =
-      find-over (λ y. E (key y) k) front back (λ i d h. ties (key (get_or front i d)) k ∙ ap is_eq (s.low i d h))
+  find_apart E ties k front back s =
+      find_over (λ y. E (key y) k) front back (λ i d h. ties (key (get_or front i d)) k ∙ ap is_eq (s.low i d h))
       ∙ ap (find (λ y. E (key y) k)) (sym (append-nil back))
-      ∙ find-over (λ y. E (key y) k) back [] (λ i d h. ties (key (get_or back i d)) k
+      ∙ find_over (λ y. E (key y) k) back [] (λ i d h. ties (key (get_or back i d)) k
       ∙ unequal k (key (get_or back i d)) (s.high i d h))
 
-  pub find-stands : (E : K → K → Bool) → ((a b : K) → E a b ≡ is_eq (R a b)) → (k : K) (xs : List X) (i : ℕ) (x : X)
+  pub find_stands : (E : K → K → Bool) → ((a b : K) → E a b ≡ is_eq (R a b)) → (k : K) (xs : List X) (i : ℕ) (x : X)
       → Rises R key xs → StandsAt R key k xs i x → find (λ y. E (key y) k) xs ≡ Some x
-  find-stands E ties k xs i x rises s =
+  find_stands E ties k xs i x rises s =
       let whole : Rises R key (take i xs ++ x ∷ drop (suc i) xs) = rw (← s.parts) rises in
-      ap (find (λ y. E (key y) k)) s.parts ∙ find-there E ties k (take i xs) (drop (suc i) xs) x
-      (Splits-around k (take i xs) (drop (suc i) xs) x whole s.tie) s.tie
+      ap (find (λ y. E (key y) k)) s.parts ∙ find_there E ties k (take i xs) (drop (suc i) xs) x
+      (Splits_around k (take i xs) (drop (suc i) xs) x whole s.tie) s.tie
 
   -- the list stays in order when an item takes the place of one of its key
-  pub Rises-there : (front back : List X) (x y : X) → Rises R key (front ++ x ∷ back) → R (key x) (key y) ≡ Equal
+  pub Rises_there : (front back : List X) (x y : X) → Rises R key (front ++ x ∷ back) → R (key x) (key y) ≡ Equal
       → Rises R key (front ++ y ∷ back)
-  Rises-there front back x y rises e =
-      Rises-between front back y (AllPairs-without (λ a b. is_lt (R (key a) (key b)) ≡ true) front back x rises)
-      (Splits-around (key y) front back x rises e)
+  Rises_there front back x y rises e =
+      Rises_between front back y (AllPairs_without (λ a b. is_lt (R (key a) (key b)) ≡ true) front back x rises)
+      (Splits_around (key y) front back x rises e)
 
-  pub with_item-set : (xs : List X) (i : ℕ) (x y : X) → Rises R key xs → i < length xs → StandsAt R key (key y) xs i x
+  pub with_item_set : (xs : List X) (i : ℕ) (x y : X) → Rises R key xs → i < length xs → StandsAt R key (key y) xs i x
       → with_item R key xs y ≡ set xs i y
-  with_item-set xs i x y rises below s =
+  with_item_set xs i x y rises below s =
       let whole : Rises R key (take i xs ++ x ∷ drop (suc i) xs) = rw (← s.parts) rises in
-      ap (λ ys. with_item R key ys y) s.parts ∙ with_item-there (take i xs) (drop (suc i) xs) y x whole s.tie
+      ap (λ ys. with_item R key ys y) s.parts ∙ with_item_there (take i xs) (drop (suc i) xs) y x whole s.tie
       ∙ sym (set_split xs i y below)
 
-  pub Rises-set : (xs : List X) (i : ℕ) (x y : X) → Rises R key xs → i < length xs → StandsAt R key (key y) xs i x
+  pub Rises_set : (xs : List X) (i : ℕ) (x y : X) → Rises R key xs → i < length xs → StandsAt R key (key y) xs i x
       → Rises R key (set xs i y)
-  Rises-set xs i x y rises below s =
+  Rises_set xs i x y rises below s =
       let whole : Rises R key (take i xs ++ x ∷ drop (suc i) xs) = rw (← s.parts) rises in
-      rw (set_split xs i y below) (Rises-there (take i xs) (drop (suc i) xs) x y whole s.tie)
+      rw (set_split xs i y below) (Rises_there (take i xs) (drop (suc i) xs) x y whole s.tie)
 
   -- what a binary search answers
-  pub found-search : (k : K) (xs : List X) → Rises R key xs → (r : Result ℕ ℕ) → IsSearchInRange r (length xs)
+  pub found_search : (k : K) (xs : List X) → Rises R key xs → (r : Result ℕ ℕ) → IsSearchInRange r (length xs)
       → IsBinarySearchResult (λ y. R (key y) k) xs r
       → IfOk r (λ i. (i < length xs) × ((x : X) × StandsAt R key k xs i x))
-  found-search k xs rises (Ok i) within p = (within, Stands-at k xs i within p)
-  found-search k xs rises (Err i) within p = tt
+  found_search k xs rises (Ok i) within p = (within, Stands_at k xs i within p)
+  found_search k xs rises (Err i) within p = tt
 
-  pub missing-search : (k : K) (xs : List X) → Rises R key xs → (r : Result ℕ ℕ) → IsSearchInRange r (length xs)
+  pub missing_search : (k : K) (xs : List X) → Rises R key xs → (r : Result ℕ ℕ) → IsSearchInRange r (length xs)
       → IsBinarySearchResult (λ y. R (key y) k) xs r → IfErr r
       (λ i. (i ≤ length xs) × Splits R key k (take i xs) (drop i xs))
-  missing-search k xs rises (Ok i) within p = tt
-  missing-search k xs rises (Err i) within p = (within, Splits-at k xs i within (p (searchable k xs rises)))
+  missing_search k xs rises (Ok i) within p = tt
+  missing_search k xs rises (Err i) within p = (within, Splits_at k xs i within (p (searchable k xs rises)))
 
   -- an item comes in where its key parts the list
-  pub with_item-parted : (xs : List X) (i : ℕ) (x : X) → Splits R key (key x) (take i xs) (drop i xs)
+  pub with_item_parted : (xs : List X) (i : ℕ) (x : X) → Splits R key (key x) (take i xs) (drop i xs)
       → with_item R key xs x ≡ take i xs ++ x ∷ drop i xs
-  with_item-parted xs i x s =
-      ap (λ ys. with_item R key ys x) (sym (take-append-drop i xs)) ∙ with_item-new (take i xs) (drop i xs) x s
+  with_item_parted xs i x s =
+      ap (λ ys. with_item R key ys x) (sym (take-append-drop i xs)) ∙ with_item_new (take i xs) (drop i xs) x s
 
-  pub Rises-parted : (xs : List X) (i : ℕ) (x : X) → Rises R key xs → Splits R key (key x) (take i xs) (drop i xs)
+  pub Rises_parted : (xs : List X) (i : ℕ) (x : X) → Rises R key xs → Splits R key (key x) (take i xs) (drop i xs)
       → Rises R key (take i xs ++ x ∷ drop i xs)
-  Rises-parted xs i x rises s =
+  Rises_parted xs i x rises s =
       let whole : Rises R key (take i xs ++ drop i xs) = rw (take-append-drop i xs) rises in
-      Rises-between (take i xs) (drop i xs) x whole s
+      Rises_between (take i xs) (drop i xs) x whole s
 
-  pub find-parted : (E : K → K → Bool) → ((a b : K) → E a b ≡ is_eq (R a b)) → (k : K) (xs : List X) (i : ℕ)
+  pub find_parted : (E : K → K → Bool) → ((a b : K) → E a b ≡ is_eq (R a b)) → (k : K) (xs : List X) (i : ℕ)
       → Splits R key k (take i xs) (drop i xs) → find (λ y. E (key y) k) xs ≡ None
-  find-parted E ties k xs i s =
-      ap (find (λ y. E (key y) k)) (sym (take-append-drop i xs)) ∙ find-apart E ties k (take i xs) (drop i xs) s
+  find_parted E ties k xs i s =
+      ap (find (λ y. E (key y) k)) (sym (take-append-drop i xs)) ∙ find_apart E ties k (take i xs) (drop i xs) s

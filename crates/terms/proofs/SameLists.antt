@@ -7,10 +7,10 @@ use Rattle.std.specs.declared.cmp.Ordering.TheVariants.{Equal}
 use Rattle.std.specs.Ordering.{is_lt, is_eq, ordering_reverse}
 use Rattle.std.specs.Cmp.{IsTotalOrder}
 use Rattle.std.proofs.lemmas.Cmp.{tied_itself, alike_right}
-use Rattle.lemmas.proofs.Orderings.{Equal-from_is_eq, Less-from_is_lt}
-use Rattle.lemmas.proofs.Searches.{find-gives}
+use Rattle.lemmas.proofs.Orderings.{Equal_from_is_eq, Less_from_is_lt}
+use Rattle.lemmas.proofs.Searches.{find_gives}
 use Rattle.terms.specs.Rising.{Rises}
-use Rattle.lemmas.proofs.Pairs.{AllPairs-first, AllPairs-rest}
+use Rattle.lemmas.proofs.Pairs.{AllPairs_first, AllPairs_rest}
 
 module _ {X K : Type 0} {R : K → K → Ordering} (o : IsTotalOrder R) (key : X → K) (E : K → K → Bool)
     (ties : (a b : K) → E a b ≡ is_eq (R a b)) where
@@ -24,7 +24,7 @@ module _ {X K : Type 0} {R : K → K → Ordering} (o : IsTotalOrder R) (key : X
   above : (x : X) (xs : List X) (y : X) → Rises R key (x ∷ xs) → Contains xs y → is_lt (R (key x) (key y)) ≡ true
   above x xs y rises there =
       subst (λ v. is_lt (R (key x) (key v)) ≡ true) there.2
-      (AllPairs-first (λ a b. IsTrue (is_lt (R (key a) (key b)))) x xs rises there.0 y there.1)
+      (AllPairs_first (λ a b. IsTrue (is_lt (R (key a) (key b)))) x xs rises there.0 y there.1)
 
   -- so behind the first one nothing has its key
   none_behind : (x : X) (xs : List X) (k : K) → Rises R key (x ∷ xs) → E (key x) k ≡ true
@@ -34,9 +34,9 @@ module _ {X K : Type 0} {R : K → K → Ordering} (o : IsTotalOrder R) (key : X
       by_found : (found : Option X) → find (λ y. E (key y) k) xs ≡ found → find (λ y. E (key y) k) xs ≡ None
       by_found None f = f
       by_found (Some y) f =
-          let g = find-gives (λ v. E (key v) k) xs y f in
-          let at_x = Equal-from_is_eq (R (key x) k) (sym (ties (key x) k) ∙ tie) in
-          let at_y = Equal-from_is_eq (R (key y) k) (sym (ties (key y) k) ∙ g.0) in
+          let g = find_gives (λ v. E (key v) k) xs y f in
+          let at_x = Equal_from_is_eq (R (key x) k) (sym (ties (key x) k) ∙ tie) in
+          let at_y = Equal_from_is_eq (R (key y) k) (sym (ties (key y) k) ∙ g.0) in
           not_below (R (key x) (key y)) (alike_right o (key y) k (key x) at_y ∙ at_x) (above x xs y rises g.1)
 
   abbrev pub Same : List X → List X → Type 0
@@ -65,9 +65,9 @@ module _ {X K : Type 0} {R : K → K → Ordering} (o : IsTotalOrder R) (key : X
       by_tie false e true f = let is : Some x ≡ Some y = sym
           (ap (λ b. cond b (Some x) (find (λ v. E (key v) (key y)) xs)) f) ∙ at_y in cc is
       by_tie false e false f =
-          let g = find-gives (λ v. E (key v) (key x)) ys x (sym (past y ys (key x) e) ∙ at_x) in
-          let h = find-gives (λ v. E (key v) (key y)) xs y (sym (past x xs (key y) f) ∙ at_y) in
-          let less = Less-from_is_lt (R (key x) (key y)) (above x xs y rx h.1) in
+          let g = find_gives (λ v. E (key v) (key x)) ys x (sym (past y ys (key x) e) ∙ at_x) in
+          let h = find_gives (λ v. E (key v) (key y)) xs y (sym (past x xs (key y) f) ∙ at_y) in
+          let less = Less_from_is_lt (R (key x) (key y)) (above x xs y rx h.1) in
           let more = above y ys x ry g.1 in
           absurd (true≢false (sym more ∙ ap is_lt (o.antisymm (key y) (key x))
           ∙ ap (λ r. is_lt (ordering_reverse r)) less))
@@ -80,8 +80,8 @@ module _ {X K : Type 0} {R : K → K → Ordering} (o : IsTotalOrder R) (key : X
   rising_same (x ∷ xs) (y ∷ ys) rx ry same =
       let is = heads x y xs ys rx ry same in
       let Below : X → X → Type 0 = λ a b. IsTrue (is_lt (R (key a) (key b))) in
-      ap (λ v. v ∷ xs) is ∙ ap (λ vs. y ∷ vs) (rising_same xs ys (AllPairs-rest Below x xs rx)
-      (AllPairs-rest Below y ys ry) (rest is))
+      ap (λ v. v ∷ xs) is ∙ ap (λ vs. y ∷ vs) (rising_same xs ys (AllPairs_rest Below x xs rx)
+      (AllPairs_rest Below y ys ry) (rest is))
     where
       rest : x ≡ y → Same xs ys
       rest is k = by_tie (E (key x) k) refl

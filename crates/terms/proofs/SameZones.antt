@@ -6,14 +6,14 @@ use Rattle.std.specs.Cmp.Lexicographic.{texts_ties}
 use Rattle.std.specs.Str.{bytes_eq}
 use Rattle.std.proofs.lemmas.Cmp.{nat_list_cmp_total}
 use Rattle.terms.specs.declared.kinds.ElemType.{ElemType}
-use Rattle.terms.specs.Types.{Text, Id, Entry, Zone, a_zone}
-use Rattle.terms.specs.Lookups.{IsZone, is_nil, is_held, entry_of, element_of, element_key, applied_of, supby_of}
+use Rattle.terms.specs.Types.{Text, Id, Applied, Entry, Zone, a_zone}
+use Rattle.terms.specs.Lookups.{IsZone, is_nil, has_content, entry_of, element_of, element_key, applied_of, supby_of}
 use Rattle.terms.specs.Lookups.{delby_of, waived_of}
 use Rattle.terms.specs.Lookups.{element_eq}
 use Rattle.terms.proofs.ElementOrder.{element_cmp_total, element_ties}
 use Rattle.lemmas.proofs.Texts.{same_from}
 use Rattle.terms.proofs.SameLists.{rising_same}
-use Rattle.lemmas.proofs.Searches.{find-gives}
+use Rattle.lemmas.proofs.Searches.{find_gives}
 
 all_fields : (a b : Zone) → a.kind ≡ b.kind → a.srel ≡ b.srel → a.related ≡ b.related → a.entries ≡ b.entries
     → a.elements ≡ b.elements → a ≡ b
@@ -34,7 +34,7 @@ same_zone a b za zb k s r entries elements =
     (rising_same element_cmp_total element_key element_eq element_ties a.elements b.elements za.elements zb.elements
     (λ key. elements key.0 key.1))
 
-an_entry : Id → Option Text → List Id → Option Id → List Id → Entry
+an_entry : Id → Option Applied → List Id → Option Id → List Id → Entry
 an_entry id applied supby delby waived = record {
   id = id;
   applied = applied;
@@ -51,13 +51,13 @@ entry_fields e f i a s d w =
     ∙ ap (λ v. an_entry f.id f.applied v e.delby e.waived) s ∙ ap (λ v. an_entry f.id f.applied f.supby v e.waived) d
     ∙ ap (λ v. an_entry f.id f.applied f.supby f.delby v) w
 
-held_entry : (zone : Zone) → IsZone zone → (x : Id) (e : Entry) → entry_of zone x ≡ Some e → IsTrue (is_held e)
+held_entry : (zone : Zone) → IsZone zone → (x : Id) (e : Entry) → entry_of zone x ≡ Some e → IsTrue (has_content e)
 held_entry zone z x e at =
-    let g = find-gives (λ v. bytes_eq v.id x) zone.entries e at in
-    subst (λ v. IsTrue (is_held v)) g.1.2 (z.held g.1.0 e g.1.1)
+    let g = find_gives (λ v. bytes_eq v.id x) zone.entries e at in
+    subst (λ v. IsTrue (has_content v)) g.1.2 (z.held g.1.0 e g.1.1)
 
 -- no entry is there where there is no date, SUPBY or DELBY
-bare : {A : Type 0} (e : Entry) → IsTrue (is_held e) → e.applied ≡ None → e.supby ≡ [] → e.delby ≡ None → A
+bare : {A : Type 0} (e : Entry) → IsTrue (has_content e) → e.applied ≡ None → e.supby ≡ [] → e.delby ≡ None → A
 bare e held a s d =
     let off : (is_some e.applied || not (is_nil e.supby) || is_some e.delby) ≡ false = rw (a, s, d) refl in
     absurd (true≢false (sym held ∙ off))
@@ -83,8 +83,8 @@ same_entry a b za zb x date supby delby waived = by_found (entry_of a x) refl (e
         (sym (ap (λ o. option_map_or (λ v. v.supby) o []) at) ∙ supby ∙ ap (λ o. option_map_or (λ v. v.supby) o []) to)
         (sym (ap (option_and_then (λ v. v.delby)) at) ∙ delby ∙ ap (option_and_then (λ v. v.delby)) to)
     by_found (Some e) at (Some f) to =
-        let id_e = same_from e.id x (find-gives (λ v. bytes_eq v.id x) a.entries e at).0 in
-        let id_f = same_from f.id x (find-gives (λ v. bytes_eq v.id x) b.entries f to).0 in
+        let id_e = same_from e.id x (find_gives (λ v. bytes_eq v.id x) a.entries e at).0 in
+        let id_f = same_from f.id x (find_gives (λ v. bytes_eq v.id x) b.entries f to).0 in
         at ∙ ap (λ v. Some v) (entry_fields e f (id_e ∙ sym id_f)
         (sym (ap (option_and_then (λ v. v.applied)) at) ∙ date ∙ ap (option_and_then (λ v. v.applied)) to)
         (sym (ap (λ o. option_map_or (λ v. v.supby) o []) at) ∙ supby ∙ ap (λ o. option_map_or (λ v. v.supby) o []) to)

@@ -7,14 +7,14 @@ use Rattle.terms.specs.Statement.{Piece, TheWord, TheList, Blank, Comment, Stray
 use Rattle.terms.specs.Statement.{solid, HasSolid}
 use Rattle.terms.specs.CommandCuts.{BeginsNoGap}
 use Rattle.terms.specs.Words.{Word, word_pieces, list_pieces, HasWords, TakesWord, BeginsNoList, BeginsNoWords}
-use Rattle.terms.proofs.Pieces.{IsStop, stop_period, first_piece, no_piece, piece-only, pieces-only, pieces_behind}
-use Rattle.terms.proofs.Pieces.{solid-append}
+use Rattle.terms.proofs.Pieces.{IsStop, stop_period, first_piece, no_piece, piece_only, pieces_only, pieces_behind}
+use Rattle.terms.proofs.Pieces.{solid_append}
 
 -- The pieces are determined.
-pub solid-only : (text : Text) (pieces others : List Piece) → HasSolid text pieces → HasSolid text others
+pub solid_only : (text : Text) (pieces others : List Piece) → HasSolid text pieces → HasSolid text others
     → pieces ≡ others
-solid-only text pieces others h g =
-    let same = pieces-only text h.0 g.0 (46 ∷ h.1) (46 ∷ g.1) h.2 (stop_period h.1) g.2 (stop_period g.1) in
+solid_only text pieces others h g =
+    let same = pieces_only text h.0 g.0 (46 ∷ h.1) (46 ∷ g.1) h.2 (stop_period h.1) g.2 (stop_period g.1) in
     h.3 ∙ ap solid same.0 ∙ sym g.3
 
 -- Gaps do not count.
@@ -22,7 +22,7 @@ pub solid_behind : (text : Text) (gap : List Piece) (after : Text) (pieces : Lis
     → solid gap ≡ [] → HasSolid text pieces → HasSolid after pieces
 solid_behind text gap after pieces g none h =
     let more = pieces_behind text h.0 (46 ∷ h.1) gap after h.2 (stop_period h.1) g in
-    let same : solid h.0 ≡ solid more.0 = ap solid more.1 ∙ solid-append gap more.0 ∙ ap (λ l. l ++ solid more.0) none
+    let same : solid h.0 ≡ solid more.0 = ap solid more.1 ∙ solid_append gap more.0 ∙ ap (λ l. l ++ solid more.0) none
     in
     (more.0, h.1, more.2, h.3 ∙ same)
 
@@ -32,7 +32,7 @@ solid_rest : (text : Text) (ps : List Piece) (rest : Text) (p : Piece) (after : 
 solid_rest text [] rest p after pieces h pieces_are t one = absurd
     (no_piece text p after (ap first_piece h ∙ stop_period rest) t)
 solid_rest text (q ∷ qs) rest p after pieces h pieces_are t one =
-    let same = piece-only text q p h.0 after h.1 t in
+    let same = piece_only text q p h.0 after h.1 t in
     let kept : solid (p ∷ qs) ≡ p ∷ solid qs = rw one refl in (
       solid qs,
       pieces_are ∙ ap (λ x. solid (x ∷ qs)) same.0 ∙ kept,

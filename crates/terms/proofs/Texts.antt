@@ -70,9 +70,9 @@ rises_from least x (y ∷ ys) h from = (
 )
 
 -- Numbers that rise do so from any number that is not above the first.
-pub Rises-from_increasing : (text : Lines) → IsStrictlyIncreasing (map number_of text) → Rises 0 text
-Rises-from_increasing [] h = tt
-Rises-from_increasing (x ∷ xs) h = rises_from 0 x xs h (omega arith)
+pub Rises_from_increasing : (text : Lines) → IsStrictlyIncreasing (map number_of text) → Rises 0 text
+Rises_from_increasing [] h = tt
+Rises_from_increasing (x ∷ xs) h = rises_from 0 x xs h (omega arith)
 
 pub increasing_from_Rises : (least : ℕ) (text : Lines) → Rises least text → IsStrictlyIncreasing (map number_of text)
 increasing_from_Rises least [] h k below = absurd (omega (arith, below))
@@ -83,52 +83,52 @@ increasing_from_Rises least (x ∷ y ∷ ys) h (suc k) below =
     let rest = increasing_from_Rises (number_of x + 1) (y ∷ ys) h.1 k (omega (arith, below)) in
     rw e rest
 
-pub Rises-numbered : (text : Lines) → IsNumbered text → Rises 0 text
-Rises-numbered text h = Rises-from_increasing text h.rising
+pub Rises_numbered : (text : Lines) → IsNumbered text → Rises 0 text
+Rises_numbered text h = Rises_from_increasing text h.rising
 
-pub Rises-lower : (low least : ℕ) (text : Lines) → low ≤ least → Rises least text → Rises low text
-Rises-lower low least [] below h = tt
-Rises-lower low least (x ∷ xs) below h = (omega (arith, h.0), h.1)
+pub Rises_lower : (low least : ℕ) (text : Lines) → low ≤ least → Rises least text → Rises low text
+Rises_lower low least [] below h = tt
+Rises_lower low least (x ∷ xs) below h = (omega (arith, h.0), h.1)
 
 -- looking up
 
-pub line_at-head : (x : List ℕ) (xs : Lines) → line_at (x ∷ xs) (number_of x) ≡ Some x
-line_at-head x xs = ap (λ b. cond b (Some x) (line_at xs (number_of x))) (eq-eqb (number_of x) (number_of x) refl)
+pub line_at_head : (x : List ℕ) (xs : Lines) → line_at (x ∷ xs) (number_of x) ≡ Some x
+line_at_head x xs = ap (λ b. cond b (Some x) (line_at xs (number_of x))) (eq-eqb (number_of x) (number_of x) refl)
 
-pub line_at-tail : (x : List ℕ) (xs : Lines) (n : ℕ) → (number_of x ≡ n → ⊥) → line_at (x ∷ xs) n ≡ line_at xs n
-line_at-tail x xs n other = ap (λ b. cond b (Some x) (line_at xs n)) (ne_eqb (number_of x) n other)
+pub line_at_tail : (x : List ℕ) (xs : Lines) (n : ℕ) → (number_of x ≡ n → ⊥) → line_at (x ∷ xs) n ≡ line_at xs n
+line_at_tail x xs n other = ap (λ b. cond b (Some x) (line_at xs n)) (ne_eqb (number_of x) n other)
 
 -- no record stands below the least number
-pub line_at-below : (least : ℕ) (text : Lines) (n : ℕ) → Rises least text → n < least → line_at text n ≡ None
-line_at-below least [] n h below = refl
-line_at-below least (x ∷ xs) n h below =
+pub line_at_below : (least : ℕ) (text : Lines) (n : ℕ) → Rises least text → n < least → line_at text n ≡ None
+line_at_below least [] n h below = refl
+line_at_below least (x ∷ xs) n h below =
     let above : least ≤ number_of x = h.0 in
-    line_at-tail x xs n (λ e. omega (arith, e, above)) ∙ line_at-below (number_of x + 1) xs n h.1 (omega (arith, above))
+    line_at_tail x xs n (λ e. omega (arith, e, above)) ∙ line_at_below (number_of x + 1) xs n h.1 (omega (arith, above))
 
 same_rising : (j k : ℕ) (a b : Lines) → Rises j a → Rises k b → ((n : ℕ) → line_at a n ≡ line_at b n) → a ≡ b
 same_rising j k [] [] h i same = refl
-same_rising j k [] (y ∷ ys) h i same = let e = same (number_of y) ∙ line_at-head y ys in absurd (cc e)
-same_rising j k (x ∷ xs) [] h i same = let e = sym (same (number_of x)) ∙ line_at-head x xs in absurd (cc e)
+same_rising j k [] (y ∷ ys) h i same = let e = same (number_of y) ∙ line_at_head y ys in absurd (cc e)
+same_rising j k (x ∷ xs) [] h i same = let e = sym (same (number_of x)) ∙ line_at_head x xs in absurd (cc e)
 same_rising j k (x ∷ xs) (y ∷ ys) h i same =
     elim (cases_order (number_of x) (number_of y)) [
       | inl e ↦
-          let at_x = sym (line_at-head x xs) ∙ same (number_of x) ∙ ap (line_at (y ∷ ys)) e ∙ line_at-head y ys in
+          let at_x = sym (line_at_head x xs) ∙ same (number_of x) ∙ ap (line_at (y ∷ ys)) e ∙ line_at_head y ys in
           let heads : x ≡ y = cc at_x in
           let tails = same_rising (number_of x + 1) (number_of y + 1) xs ys h.1 i.1 (λ n.
           elim (cases_eq (number_of x) n) [
-            | inl here ↦ line_at-below (number_of x + 1) xs n h.1 (omega (arith, here))
-                ∙ sym (line_at-below (number_of y + 1) ys n i.1 (omega (arith, here, e)))
-            | inr other ↦ sym (line_at-tail x xs n other) ∙ same n ∙ line_at-tail y ys n (λ there. other (e ∙ there))
+            | inl here ↦ line_at_below (number_of x + 1) xs n h.1 (omega (arith, here))
+                ∙ sym (line_at_below (number_of y + 1) ys n i.1 (omega (arith, here, e)))
+            | inr other ↦ sym (line_at_tail x xs n other) ∙ same n ∙ line_at_tail y ys n (λ there. other (e ∙ there))
           ]) in
           cc (heads, tails)
       | inr apart ↦ elim apart [
-        | inl less ↦ absurd (let none = line_at-below (number_of y) (y ∷ ys) (number_of x) (omega arith, i.1) less
-            in cc (none, same (number_of x), line_at-head x xs))
-        | inr more ↦ absurd (let none = line_at-below (number_of x) (x ∷ xs) (number_of y) (omega arith, h.1) more
-            in cc (none, same (number_of y), line_at-head y ys))
+        | inl less ↦ absurd (let none = line_at_below (number_of y) (y ∷ ys) (number_of x) (omega arith, i.1) less
+            in cc (none, same (number_of x), line_at_head x xs))
+        | inr more ↦ absurd (let none = line_at_below (number_of x) (x ∷ xs) (number_of y) (omega arith, h.1) more
+            in cc (none, same (number_of y), line_at_head y ys))
       ]
     ]
 
 -- Two numbered texts that are the same map are the same text.
 pub same_text : (a b : Lines) → IsNumbered a → IsNumbered b → ((n : ℕ) → line_at a n ≡ line_at b n) → a ≡ b
-same_text a b h k same = same_rising 0 0 a b (Rises-numbered a h) (Rises-numbered b k) same
+same_text a b h k same = same_rising 0 0 a b (Rises_numbered a h) (Rises_numbered b k) same

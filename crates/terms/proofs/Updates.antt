@@ -7,7 +7,7 @@ use Rattle.std.proofs.lemmas.Bool.{true≢false, both_ways, cases_Bool, cases_lt
 use Rattle.std.proofs.lemmas.Bool.{not_from_false, false_from_ne_true}
 use Rattle.std.proofs.lemmas.List.{append_cancel_left}
 use Rattle.std.proofs.lemmas.List.Elements.{All-nil, All-cons, All-head, All-tail, filter-append}
-use Rattle.lemmas.proofs.Each.{any_here, any_later, any_cases, any_none, All-middle}
+use Rattle.lemmas.proofs.Each.{any_here, any_later, any_cases, any_none, All_middle}
 use Rattle.terms.specs.declared.text_faults.TextCode.{TextCode}
 use Rattle.terms.specs.declared.text_faults.TextCode.TheVariants.{Tx1, Tx2, Tx3, Tx4, Tx5, Tx6}
 use Rattle.terms.specs.declared.text_faults.TextFault.{TextFault}
@@ -15,8 +15,8 @@ use Rattle.terms.specs.Types.{Text, Lines}
 use Rattle.terms.specs.Texts.{IsNumberedLine, number_of, IsNumbered, line_at, IsChange, IsDelete, IsSomeDelete}
 use Rattle.terms.specs.Texts.{is_control, given, Deletes, Touches, IsMerge, FollowChange, IsUpdate, BreaksOrder}
 use Rattle.terms.specs.Texts.{HasNumberedFault, HasChangeFault, HasRestFault, IsNumberedFault, IsUpdateFault}
-use Rattle.terms.proofs.Texts.{Rises, Rises-numbered, same_text}
-use Rattle.terms.proofs.Controls.{begins_control, change-no_delete, same_delete, same_control}
+use Rattle.terms.proofs.Texts.{Rises, Rises_numbered, same_text}
+use Rattle.terms.proofs.Controls.{begins_control, change_no_delete, same_delete, same_control}
 
 -- what an update touches
 
@@ -57,22 +57,22 @@ some_cases None = inr (λ h. true≢false (sym h))
 some_cases (Some x) = inl refl
 
 -- the CHANGE record deletes nothing
-pub deletes-change : (name : Text) (n : ℕ) (line : List ℕ) (lines : Lines) → IsChange name line
+pub deletes_change : (name : Text) (n : ℕ) (line : List ℕ) (lines : Lines) → IsChange name line
     → Deletes (line ∷ lines) n → Deletes lines n
-deletes-change name n line lines c a =
+deletes_change name n line lines c a =
     elim (any_cases (Hits n) line lines a) [
-      | inl hit ↦ absurd (change-no_delete name line hit.0 hit.1 c hit.2)
+      | inl hit ↦ absurd (change_no_delete name line hit.0 hit.1 c hit.2)
       | inr
           later ↦ later
     ]
 
 -- and gives no record
-pub given-control : (line : List ℕ) (lines : Lines) → IsTrue (is_control line) → given (line ∷ lines) ≡ given lines
-given-control line lines h = cond-false (not (is_control line)) (line ∷ given lines) (given lines)
+pub given_control : (line : List ℕ) (lines : Lines) → IsTrue (is_control line) → given (line ∷ lines) ≡ given lines
+given_control line lines h = cond-false (not (is_control line)) (line ∷ given lines) (given lines)
     (not_from_true (is_control line) h)
 
-pub given-other : (line : List ℕ) (lines : Lines) → is_control line ≡ false → given (line ∷ lines) ≡ line ∷ given lines
-given-other line lines h = cond-true (not (is_control line)) (line ∷ given lines) (given lines)
+pub given_other : (line : List ℕ) (lines : Lines) → is_control line ≡ false → given (line ∷ lines) ≡ line ∷ given lines
+given_other line lines h = cond-true (not (is_control line)) (line ∷ given lines) (given lines)
     (not_from_false (is_control line) h)
 
 -- An update touches a number or does not.
@@ -87,7 +87,7 @@ touches_cases name (line ∷ lines) n h =
         | inr keeps ↦ inr (λ t. elim t [
           | inl gives ↦ none gives
           | inr deletes ↦ keeps
-              (deletes-change name n line lines h.0 deletes)
+              (deletes_change name n line lines h.0 deletes)
         ])
       ]
     ]
@@ -123,7 +123,7 @@ all_below least (x ∷ xs) line after h =
 in_order : (before : Lines) (line : List ℕ) (after : Lines) → IsNumbered (before ++ line ∷ after)
     → BreaksOrder before line → ⊥
 in_order before line after h b =
-    let below = all_below 0 before line after (Rises-numbered (before ++ line ∷ after) h) in
+    let below = all_below 0 before line after (Rises_numbered (before ++ line ∷ after) h) in
     let one : number_of (get_or before b.1.0 b.1.1) < number_of line = below b.1.0 b.1.1 b.1.2 in
     let same = ap number_of b.1.3 in
     let not_above = b.1.4 in
@@ -131,7 +131,7 @@ in_order before line after h b =
 
 numbered_code : (code : TextCode) (before : Lines) (line : List ℕ) (after : Lines) → IsNumbered (before ++ line ∷ after)
     → HasNumberedFault before line code → ⊥
-numbered_code Tx1 before line after h f = f (All-middle IsNumberedLine before line after h.numbers)
+numbered_code Tx1 before line after h f = f (All_middle IsNumberedLine before line after h.numbers)
 numbered_code Tx2 before line after h f = in_order before line after h f
 numbered_code Tx3 before line after h f = f
 numbered_code Tx4 before line after h f = f
@@ -139,8 +139,8 @@ numbered_code Tx5 before line after h f = f
 numbered_code Tx6 before line after h f = f
 
 -- A numbered text has no fault.
-pub numbered-no_fault : (text : Lines) (fault : TextFault) → IsNumbered text → IsNumberedFault text fault → ⊥
-numbered-no_fault text fault h f = numbered_code fault.code f.before f.line f.after (subst IsNumbered f.lines_are h)
+pub numbered_no_fault : (text : Lines) (fault : TextFault) → IsNumbered text → IsNumberedFault text fault → ⊥
+numbered_no_fault text fault h f = numbered_code fault.code f.before f.line f.after (subst IsNumbered f.lines_are h)
     f.code_is
 
 change_code : (name : Text) (line : List ℕ) (code : TextCode) → IsChange name line → HasChangeFault name line code → ⊥
@@ -155,25 +155,25 @@ given_middle : (before : Lines) (line : List ℕ) (after : Lines) → (IsTrue (i
     → given (before ++ line ∷ after) ≡ given before ++ line ∷ given after
 given_middle before line after other =
     filter-append (λ l. not (is_control l)) before (line ∷ after)
-    ∙ ap (λ l. given before ++ l) (given-other line after (false_from_ne_true (is_control line) other))
+    ∙ ap (λ l. given before ++ l) (given_other line after (false_from_ne_true (is_control line) other))
 
 rest_code : (before : Lines) (line : List ℕ) (after : Lines) (code : TextCode) → FollowChange (before ++ line ∷ after)
     → HasRestFault before line code → ⊥
-rest_code before line after Tx1 h f = f.1 (All-middle IsNumberedLine (given before) line (given after)
+rest_code before line after Tx1 h f = f.1 (All_middle IsNumberedLine (given before) line (given after)
     (subst IsNumbered (given_middle before line after f.0) h.numbered).numbers)
 rest_code before line after Tx2 h f = f
 rest_code before line after Tx3 h f = f
 rest_code before line after Tx4 h f = f
-rest_code before line after Tx5 h f = f.1 (All-middle (λ l. IsTrue (is_control l) → IsSomeDelete l) before line after
+rest_code before line after Tx5 h f = f.1 (All_middle (λ l. IsTrue (is_control l) → IsSomeDelete l) before line after
     h.controls f.0)
 rest_code before line after Tx6 h f = in_order (given before) line (given after)
     (subst IsNumbered (given_middle before line after f.0) h.numbered) f.1
 
 -- An update has no fault.
-pub update-no_fault : (name : Text) (update : Lines) (fault : TextFault) → IsUpdate name update
+pub update_no_fault : (name : Text) (update : Lines) (fault : TextFault) → IsUpdate name update
     → IsUpdateFault name update fault → ⊥
-update-no_fault name [] fault h f = h
-update-no_fault name (line ∷ lines) fault h f =
+update_no_fault name [] fault h f = h
+update_no_fault name (line ∷ lines) fault h f =
     elim f [
       | inl first ↦ change_code name line fault.code h.0 first.1
       | inr later ↦ rest_code later.1.before later.1.line later.1.after fault.code

@@ -7,12 +7,12 @@ use Rattle.std.proofs.lemmas.Bool.{or_left, or_right, or_cases}
 use Rattle.std.proofs.lemmas.List.Elements.{Contains-get_or}
 use Rattle.std.proofs.lemmas.List.Folds.{Any-from_list_any, list_any-from_Any}
 use Rattle.std.proofs.lemmas.List.Kept.{AllPairs-cons}
-use Rattle.lemmas.proofs.Apart.{AreApart, apart-le}
+use Rattle.lemmas.proofs.Apart.{AreApart, apart_le}
 use Rattle.lemmas.proofs.Members.{here_or, none_in}
 use Rattle.terms.specs.Types.{Id}
 use Rattle.terms.specs.Lookups.{is_in}
 use Rattle.terms.specs.Over.{Leads, Reaches}
-use Rattle.terms.proofs.Ids.{is_in-from_Contains, Contains-from_is_in}
+use Rattle.terms.proofs.Ids.{is_in_from_Contains, Contains_from_is_in}
 use Rattle.terms.proofs.Leads.{reaches_named, reaches_first}
 
 module _ (next : Id → List Id) where
@@ -26,7 +26,7 @@ module _ (next : Id → List Id) where
   reaches_from zero x z leads = absurd (true≢false (sym leads))
   reaches_from (suc n) x z leads =
       elim (or_cases (is_in (next x) z) (list_any (λ y. leads_in n y z) (next x)) leads) [
-        | inl named ↦ reaches_named next x z (Contains-from_is_in (next x) z named)
+        | inl named ↦ reaches_named next x z (Contains_from_is_in (next x) z named)
         | inr on ↦
             let any = Any-from_list_any (λ y. leads_in n y z) (next x) on in
             reaches_first next x any.1 z (any.0, any.2, any.3) (reaches_from n any.1 z any.4)
@@ -37,7 +37,7 @@ module _ (next : Id → List Id) where
   unfolding leads_in
   leads_by zero x z between leads short = absurd (omega (arith, short))
   leads_by (suc n) x z [] leads short =
-      or_left (is_in (next x) z) (list_any (λ y. leads_in n y z) (next x)) (is_in-from_Contains (next x) z leads)
+      or_left (is_in (next x) z) (list_any (λ y. leads_in n y z) (next x)) (is_in_from_Contains (next x) z leads)
   leads_by (suc n) x z (y ∷ ys) leads short =
       let named = leads.0 in
       or_right (is_in (next x) z) (list_any (λ y. leads_in n y z) (next x))
@@ -76,7 +76,7 @@ module _ (next : Id → List Id) where
 
     walk_short : (x z : Id) (between : List Id) → Leads next x between z → length between < length ids
     walk_short x z between leads =
-        let few = apart-le (x ∷ between) ids (walk_apart x z between leads) (walk_within x z between leads) in
+        let few = apart_le (x ∷ between) ids (walk_apart x z between leads) (walk_within x z between leads) in
         omega (arith, few)
 
     pub reaches_or_not : (x z : Id) → Reaches next x z ⊎ (¬ Reaches next x z)

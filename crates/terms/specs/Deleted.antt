@@ -3,7 +3,7 @@
 use Rattle.std.specs.Prelude.{◌&&◌, Bool, not, List, [], None, filter, map, if◌then◌else◌}
 use Rattle.std.specs.List.{flat_map}
 use Rattle.terms.specs.Types.{Id, Global, Entry, Zone}
-use Rattle.terms.specs.Lookups.{is_held, is_in, meets, is_applied}
+use Rattle.terms.specs.Lookups.{has_content, is_in, meets, is_applied}
 use Rattle.terms.specs.Choice.{Choice, del_of}
 use Rattle.terms.specs.Over.{chain}
 
@@ -30,7 +30,7 @@ entry_less is_gone e = record e {
 
 -- the entries without those SYSMODs; an entry that is left with no date, SUPBY and DELBY goes
 abbrev pub entries_less : (Id → Bool) → List Entry → List Entry
-entries_less is_gone es = filter is_held (map (entry_less is_gone) es)
+entries_less is_gone es = filter has_content (map (entry_less is_gone) es)
 
 -- the zone less these deletions: SYSMODs are taken out, and elements go by their owner's chain
 unfoldable pub zone_less : Global → Choice → List Id → Zone → Zone

@@ -2,8 +2,20 @@
 -- each have their own eligible ids, needs and what serves a need. (Causers are this project's; SMP/E's CAUSER SYSMOD
 -- report is their model.)
 use Rattle.std.specs.Prelude.{◌≡◌, ◌⊎◌, List, [], ◌∷◌, Contains}
+use Rattle.terms.specs.declared.codes.Test.{Test}
+use Rattle.terms.specs.declared.codes.Test.TheVariants as test
 use Rattle.terms.specs.declared.codes.NeedKind.{NeedKind}
+use Rattle.terms.specs.declared.codes.NeedKind.TheVariants as need
 use Rattle.terms.specs.Types.{Id}
+
+-- the tests by their numbers, and the kinds of needs, in the order of reports
+abbrev pub all_tests : List Test
+all_tests =
+    test.J1 ∷ test.J2 ∷ test.J3 ∷ test.J4 ∷ test.J5 ∷ test.J6 ∷ test.J7 ∷ test.J8 ∷ test.J9 ∷ test.J10 ∷ test.J11 ∷
+    test.J12 ∷ []
+
+abbrev pub all_needs : List NeedKind
+all_needs = need.Fmid ∷ need.Pre ∷ need.Req ∷ need.Ifreq ∷ need.HoldError ∷ need.Orphan ∷ need.Elem ∷ need.Dep ∷ []
 
 module _ (cands kept : List Id) (Eligible : Id → Type 0) (Needs : Id → NeedKind → Id → Type 0)
     (Serves : NeedKind → Id → Id → Type 0) where

@@ -37,7 +37,7 @@ IsReason System text = IsClass text
 IsReason User text = IsClass text
 
 abbrev pub IsSource : Text → Type 0
-IsSource text = IsRun is_id_byte 1 8 text
+IsSource text = IsRun is_id_byte 1 64 text
 
 -- one letter and three digits
 abbrev pub IsSrel : Text → Type 0

@@ -14,10 +14,10 @@ use Rattle.terms.specs.HoldStatements.{IsHoldOf, IsReleaseOf, HasShortComment}
 use Rattle.terms.specs.Ptfin.{IsKnown, IsUnknown, McsFault, IsFileFault}
 
 -- ++HOLD and ++RELEASE alone stand in a hold file, and no text behind them.
-abbrev pub MayStand : StatementWord → Lines → Type 0
-MayStand word.Hold inline = inline ≡ []
-MayStand word.Release inline = inline ≡ []
-MayStand _ inline = ⊥
+abbrev pub StandsInHoldFile : StatementWord → Lines → Type 0
+StandsInHoldFile word.Hold inline = inline ≡ []
+StandsInHoldFile word.Release inline = inline ≡ []
+StandsInHoldFile _ inline = ⊥
 
 -- what the statement of this word says; a hold of a hold file is external
 abbrev pub SaysItem : StatementWord → Option Text → List Word → HoldItem → Type 0
@@ -35,19 +35,19 @@ IsWithin (ARelease r) = Unit {0}
 -- The records are this item, and nothing is at fault.
 abbrev pub IsGoodItem : Lines → HoldItem → Type 0
 IsGoodItem records item = (w : StatementWord) × (own : Option Text) × (rest : List Piece) × (inline : Lines)
-    × IsKnown records w own rest inline × MayStand w inline × HasItem w own rest item × IsWithin item
+    × IsKnown records w own rest inline × StandsInHoldFile w inline × HasItem w own rest item × IsWithin item
 
 -- What is at fault with a statement. The first of Mc1, Mc2, Mc4, Mc3 and Mc6 is answered.
 abbrev pub IsItemFault : Lines → McCode → Type 0
 IsItemFault records Mc1 = (why : StFault) × IsStFault records why
 IsItemFault records Mc2 = IsUnknown records
 IsItemFault records Mc4 = (w : StatementWord) × (own : Option Text) × (rest : List Piece) × (inline : Lines)
-    × IsKnown records w own rest inline × (¬ MayStand w inline)
+    × IsKnown records w own rest inline × (¬ StandsInHoldFile w inline)
 IsItemFault records Mc3 = (w : StatementWord) × (own : Option Text) × (rest : List Piece) × (inline : Lines)
-    × IsKnown records w own rest inline × MayStand w inline × ((item : HoldItem) → ¬ HasItem w own rest item)
+    × IsKnown records w own rest inline × StandsInHoldFile w inline × ((item : HoldItem) → ¬ HasItem w own rest item)
 IsItemFault records Mc6 = (w : StatementWord) × (own : Option Text) × (rest : List Piece) × (inline : Lines)
     × (item : HoldItem)
-    × IsKnown records w own rest inline × MayStand w inline × HasItem w own rest item × (¬ IsWithin item)
+    × IsKnown records w own rest inline × StandsInHoldFile w inline × HasItem w own rest item × (¬ IsWithin item)
 IsItemFault records _ = ⊥
 
 -- The records that count from n begin with these items, and the rest follows, which counts from m.

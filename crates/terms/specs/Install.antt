@@ -4,7 +4,7 @@
 use Rattle.std.specs.Prelude.{◌≡◌, ◌≢◌, ◌⊎◌, ◌↔◌, ◌&&◌, ℕ, List, [], Option, None, Some, filter, is_some, IsTrue}
 use Rattle.std.specs.Prelude.{IsFalse, IfSome, Contains, slice_get, if◌then◌else◌}
 use Rattle.terms.specs.declared.kinds.ElemType.{ElemType}
-use Rattle.terms.specs.Types.{Text, Id, Lines, Change, Replaces, Updates, Global, Element, Zone}
+use Rattle.terms.specs.Types.{Text, Id, Lines, Change, Replaces, Updates, Global, Applied, an_applied, Element, Zone}
 use Rattle.terms.specs.Lookups.{IsRising, IsZone, is_in, change_of, has_change, element_of, applied_of, supby_of}
 use Rattle.terms.specs.Lookups.{delby_of, waived_of, is_supplied, is_function}
 use Rattle.terms.specs.Choice.{Choice, del_of}
@@ -26,6 +26,10 @@ pub record Installation : Type 0 where
 pub record TakesEffect (i : Installation) (x : Id) : Type 0 where
   pub kept : Contains i.kept x
   pub first : (y : Id) → Contains i.kept y → y ≢ x → ¬ Supersedes i.choice y x
+
+-- what the entry of x says once x takes effect: the ++VER that counts is the only one of its SREL
+abbrev pub applied_with : Installation → Id → Applied
+applied_with i x = an_applied i.date 1
 
 -- the zone less all deletions of the kept set
 abbrev pub cleared : Installation → Zone
@@ -107,7 +111,7 @@ module _ (i : Installation) (type : ElemType) (name : Text) where
 pub record HasInstalled (i : Installation) (new : Zone) : Type 0 where
   pub rest : new ≡ record i.zone { entries = new.entries; elements = new.elements }
   pub is_zone : IsZone new
-  pub applied : (x : Id) → TakesEffect i x → applied_of new x ≡ Some i.date
+  pub applied : (x : Id) → TakesEffect i x → applied_of new x ≡ Some (applied_with i x)
   pub not_applied : (x : Id) → (¬ TakesEffect i x) → applied_of new x ≡ applied_of (cleared i) x
   pub supby_rising : (x : Id) → IsRising (supby_of new x)
   pub supby : (x y : Id) → Contains (supby_of new x) y

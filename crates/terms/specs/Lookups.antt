@@ -1,6 +1,6 @@
 -- Finding things in the global zone and in a zone, and what is supplied in a zone.
 use Rattle.std.specs.Prelude.{◌≡◌, ◌&&◌, ◌||◌, ◌==◌, IsTrue, All, AllPairs, ℕ, Bool, true, false, not, List, [], ◌∷◌}
-use Rattle.std.specs.Prelude.{Option, None, Some, find, filter, map, is_some}
+use Rattle.std.specs.Prelude.{Option, None, Some, option_map, find, filter, map, is_some}
 use Rattle.std.specs.List.{list_any}
 use Rattle.std.specs.Option.{option_map_or, option_and_then}
 use Rattle.std.specs.declared.cmp.Ordering.{Ordering}
@@ -11,7 +11,7 @@ use Rattle.terms.specs.declared.kinds.ElemType.{ElemType}
 use Rattle.terms.specs.declared.kinds.HoldKind.{HoldKind}
 use Rattle.terms.specs.Rising.{Rises}
 use Rattle.terms.specs.Types.{Text, Id, type_number, kind_number, hold_number, zone_number, Hold, Change, Sysmod}
-use Rattle.terms.specs.Types.{Global, Entry, Element, Zone}
+use Rattle.terms.specs.Types.{Global, Applied, Entry, Element, Zone}
 
 abbrev pub is_nil : {X : Type 0} → List X → Bool
 is_nil [] = true
@@ -67,8 +67,8 @@ abbrev pub holds_of : Global → HoldKind → Id → List Hold
 holds_of g kind x = filter (λ h. bytes_eq h.id x && (hold_number h.kind == hold_number kind)) g.holds
 
 -- An entry is there for a date, for SUPBY or for DELBY.
-abbrev pub is_held : Entry → Bool
-is_held e = is_some e.applied || not (is_nil e.supby) || is_some e.delby
+abbrev pub has_content : Entry → Bool
+has_content e = is_some e.applied || not (is_nil e.supby) || is_some e.delby
 
 -- Only what is applied waives anything.
 abbrev pub waives_applied : Entry → Bool
@@ -89,7 +89,7 @@ element_eq a b = (type_number a.0 == type_number b.0) && bytes_eq a.1 b.1
 -- Entries and elements are in order, none twice. No entry is empty. A target zone alone names a related zone.
 pub record IsZone (zone : Zone) : Type 0 where
   pub entries : Rises (slice_cmp nat_cmp) (λ e. e.id) zone.entries
-  pub held : All (λ e. IsTrue (is_held e)) zone.entries
+  pub held : All (λ e. IsTrue (has_content e)) zone.entries
   pub waived : All (λ e. IsTrue (waives_applied e)) zone.entries
   pub elements : Rises element_cmp element_key zone.elements
   pub related : is_some zone.related ≡ (zone_number zone.kind == 0)
@@ -107,8 +107,12 @@ element_of zone type name = find (λ e. (type_number e.elem_type == type_number 
 abbrev pub is_applied : Zone → Id → Bool
 is_applied zone x = option_map_or (λ e. is_some e.applied) (entry_of zone x) false
 
--- the date of APPLY or ACCEPT
-abbrev pub applied_of : Zone → Id → Option Text
+-- the date of an entry that is applied
+abbrev pub date_of : Entry → Option Text
+date_of e = option_map (λ a. a.date) e.applied
+
+-- when it was applied, and by which ++VER
+abbrev pub applied_of : Zone → Id → Option Applied
 applied_of zone x = option_and_then (λ e. e.applied) (entry_of zone x)
 
 -- the applied SYSMODs that supersede it

@@ -102,10 +102,19 @@ pub record Global : Type 0 where
 abbrev pub a_global : List Sysmod → List Hold → Global
 a_global sysmods holds = record { sysmods = sysmods; holds = holds }
 
--- a zone's SYSMOD entry: the date of APPLY or ACCEPT, SUPBY, DELBY, and the requisites that were bypassed
+-- that a zone has applied a SYSMOD: the date of APPLY or ACCEPT, and the number of the ++VER that counted, among those of
+-- the SYSMOD for the zone's SREL
+pub record Applied : Type 0 where
+  pub date : Text
+  pub number : ℕ
+
+abbrev pub an_applied : Text → ℕ → Applied
+an_applied date number = record { date = date; number = number }
+
+-- a zone's SYSMOD entry: whether it is applied, SUPBY, DELBY, and the requisites that were bypassed
 pub record Entry : Type 0 where
   pub id : Id
-  pub applied : Option Text
+  pub applied : Option Applied
   pub supby : List Id
   pub delby : Option Id
   pub waived : List Id

@@ -11,7 +11,7 @@ use Rattle.terms.specs.declared.text_faults.TextFault.{TextFault}
 use Rattle.terms.specs.Types.{Lines}
 use Rattle.terms.specs.Texts.{IsNumberedLine, number_of, IsNumbered, BreaksOrder, HasNumberedFault}
 use Rattle.terms.specs.Texts.{IsNumberedFault}
-use Rattle.terms.proofs.Texts.{Rises, Rises-numbered, increasing_from_Rises}
+use Rattle.terms.proofs.Texts.{Rises, Rises_numbered, increasing_from_Rises}
 use Rattle.text80.specs.Rising.{IsNumberFault}
 
 -- These records are a numbered text, and the next number has to be `least` or higher.
@@ -38,7 +38,7 @@ read_more seen least line h numbered from =
       numbered = record {
         numbers = All-push IsNumberedLine seen line h.numbered.numbers numbered;
         rising = increasing_from_Rises 0 (seen ++ line ∷ [])
-            (rises_push 0 seen line (Rises-numbered seen h.numbered) lower (omega arith));
+            (rises_push 0 seen line (Rises_numbered seen h.numbered) lower (omega arith));
       };
       below = All-push Below seen line wider (omega arith);
       reached = λ n low. Any-push (λ b. n ≤ number_of b) seen line (omega (arith, low));

@@ -18,8 +18,8 @@ use Rattle.terms.specs.Types.{Text, Lines}
 use Rattle.terms.specs.Texts.{IsNumbered, IsNumberedLine, number_of, is_control, IsDelete, IsSomeDelete, given, Deletes}
 use Rattle.terms.specs.Texts.{FollowChange, IsUpdate, BreaksOrder, HasRestFault, IsFirstFault}
 use Rattle.terms.proofs.Controls.{begins_control, same_delete}
-use Rattle.terms.proofs.Updates.{given-control, given-other, deletes-change}
-use Rattle.lemmas.proofs.Each.{any_later, Any-append_left, Any-push_cases}
+use Rattle.terms.proofs.Updates.{given_control, given_other, deletes_change}
+use Rattle.lemmas.proofs.Each.{any_later, Any_append_left, Any_push_cases}
 use Rattle.text80.specs.declared.control.Range.{Range}
 use Rattle.text80.specs.Rising.{IsNumberFault}
 use Rattle.text80.specs.Ranges.{covers, AreRangesOf}
@@ -44,7 +44,7 @@ ranges_push : (seen : Lines) (line : List ℕ) (ranges : List Range) (r : Range)
 ranges_push seen line ranges r d h n =
     let parts = list_any-append (holds_number n) ranges (r ∷ []) in (
       λ e. elim (or_cases (covers ranges n) (list_any (holds_number n) (r ∷ [])) (sym parts ∙ e)) [
-        | inl before ↦ Any-append_left (Hits n) seen (line ∷ []) ((h n).0 before)
+        | inl before ↦ Any_append_left (Hits n) seen (line ∷ []) ((h n).0 before)
         | inr here ↦ elim (or_cases (holds_number n r) false here) [
           | inl holds ↦
               let p = and_parts (nat_le r.low n) (nat_le n r.high) holds in
@@ -52,7 +52,7 @@ ranges_push seen line ranges r d h n =
           | inr none ↦ absurd (cc none)
         ]
       ],
-      λ a. parts ∙ elim (Any-push_cases (Hits n) seen line a) [
+      λ a. parts ∙ elim (Any_push_cases (Hits n) seen line a) [
         | inl before ↦ or_left (covers ranges n) (list_any (holds_number n) (r ∷ [])) ((h n).1 before)
         | inr hit ↦
             let same = same_delete line hit.0 hit.1 r.low r.high hit.2 d in
@@ -71,7 +71,7 @@ pub split_control : (seen givens : Lines) (ranges : List Range) (least : ℕ) (l
 split_control seen givens ranges least line r h yes' d = record {
   controls = All-push (λ l. IsTrue (is_control l) → IsSomeDelete l) seen line h.controls (λ _. (r.low, r.high, d));
   given_is = h.given_is ∙ sym (filter-append (λ l. not (is_control l)) seen (line ∷ [])
-      ∙ ap (λ l. given seen ++ l) (given-control line [] yes') ∙ append-nil (given seen));
+      ∙ ap (λ l. given seen ++ l) (given_control line [] yes') ∙ append-nil (given seen));
   read = h.read;
   ranges_are = ranges_push seen line ranges r d h.ranges_are;
 }
@@ -79,8 +79,8 @@ split_control seen givens ranges least line r h yes' d = record {
 ranges_other : (seen : Lines) (line : List ℕ) (ranges : List Range) → is_control line ≡ false → AreRangesOf seen ranges
     → AreRangesOf (seen ++ line ∷ []) ranges
 ranges_other seen line ranges no' h n = (
-  λ e. Any-append_left (Hits n) seen (line ∷ []) ((h n).0 e),
-  λ a. elim (Any-push_cases (Hits n) seen line a) [
+  λ e. Any_append_left (Hits n) seen (line ∷ []) ((h n).0 e),
+  λ a. elim (Any_push_cases (Hits n) seen line a) [
     | inl before ↦ (h n).1 before
     | inr hit ↦ absurd (both_ways (is_control line) no' (begins_control _ _ line hit.2.1))
   ],
@@ -93,7 +93,7 @@ split_given seen givens ranges least n line h no' numbered is from = record {
   controls = All-push (λ l. IsTrue (is_control l) → IsSomeDelete l) seen line h.controls
       (λ e. absurd (both_ways (is_control line) no' e));
   given_is = ap (λ l. l ++ line ∷ []) h.given_is ∙ sym (filter-append (λ l. not (is_control l)) seen (line ∷ [])
-      ∙ ap (λ l. given seen ++ l) (given-other line [] no'));
+      ∙ ap (λ l. given seen ++ l) (given_other line [] no'));
   read = subst (λ m. IsRead (givens ++ line ∷ []) (m + 1)) (sym is)
       (read_more givens least line h.read numbered (subst (λ m. least ≤ m) is from));
   ranges_are = ranges_other seen line ranges no' h.ranges_are;
@@ -191,11 +191,11 @@ pub sound_from : (name : Text) (records rest givens : Lines) (ranges : List Rang
 sound_from name records rest givens ranges s p = record {
   name = name;
   update = update_from name records rest givens ranges s p;
-  given_is = p.given_is ∙ sym (given-control s.first rest (begins_control _ _ s.first s.change))
+  given_is = p.given_is ∙ sym (given_control s.first rest (begins_control _ _ s.first s.change))
       ∙ ap given (sym s.records_are);
   rising = p.rising;
   ranges_are = λ n. (
     λ e. subst (λ r. Deletes r n) (sym s.records_are) (any_later (Hits n) s.first rest ((p.ranges_are n).0 e)),
-    λ a. (p.ranges_are n).1 (deletes-change name n s.first rest s.change (subst (λ r. Deletes r n) s.records_are a)),
+    λ a. (p.ranges_are n).1 (deletes_change name n s.first rest s.change (subst (λ r. Deletes r n) s.records_are a)),
   );
 }

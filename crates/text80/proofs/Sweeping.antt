@@ -13,7 +13,7 @@ use Rattle.std.proofs.lemmas.List.Sorted.{IsNonDecreasingBy-drop}
 use Rattle.lemmas.proofs.Booleans.{or_false}
 use Rattle.terms.specs.Types.{Lines}
 use Rattle.terms.specs.Texts.{IsNumberedLine, number_of, IsNumbered}
-use Rattle.terms.proofs.Texts.{Rises, Rises-numbered, Rises-lower}
+use Rattle.terms.proofs.Texts.{Rises, Rises_numbered, Rises_lower}
 use Rattle.text80.specs.declared.control.Range.{Range}
 use Rattle.text80.specs.Ranges.{covers}
 use Rattle.text80.specs.Merging.{IsSplitBelow, StandsFirst, StandsNowhere, IsSwept}
@@ -98,8 +98,8 @@ pub merging_none : (all : List Range) (old givens : Lines) → IsNumbered old �
     → IsNonDecreasingBy (λ r. r.low) all → IsMerging all old givens old givens [] all 0
 merging_none all old givens h k rising = record {
   from = 0;
-  old_rises = Rises-numbered old h;
-  rest_rises = Rises-numbered givens k;
+  old_rises = Rises_numbered old h;
+  rest_rises = Rises_numbered givens k;
   old_numbered = h.numbers;
   rest_numbered = k.numbers;
   swept = swept_none all rising;
@@ -116,7 +116,7 @@ pass_below o os (g ∷ front) rest ms h m =
 -- what is left behind a front still rises
 rises_behind : (least : ℕ) (front rest : Lines) → Rises least (front ++ rest) → Rises least rest
 rises_behind least [] rest h = h
-rises_behind least (x ∷ front) rest h = let from = h.0 in Rises-lower least (number_of x + 1) rest (omega (arith, from))
+rises_behind least (x ∷ front) rest h = let from = h.0 in Rises_lower least (number_of x + 1) rest (omega (arith, from))
     (rises_behind (number_of x + 1) front rest h.1)
 
 pub all_behind : (front rest : Lines) → All IsNumberedLine (front ++ rest) → All IsNumberedLine rest

@@ -1,5 +1,5 @@
+//! The CHANGE and DELETE records of an update.
 ghost use Rattle.std.specs.Prelude.{◌≡◌, ◌≢◌, ◌==◌, ◌++◌, ℕ, List, not, IfSome, IfNone};
-ghost use Rattle.std.specs.List.{prefix_len};
 ghost use Rattle.terms.specs.Texts.{IsControl, IsChange, IsRange, IsDelete, IsSomeDelete};
 ghost use Rattle.text80.specs.Cuts.{IsCut};
 

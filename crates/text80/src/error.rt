@@ -1,3 +1,4 @@
+//! Why an update is not read.
 use std::alloc::{AllocError, AllocFailed};
 use terms::TextFault;
 use thiserror::Error;

@@ -1,3 +1,4 @@
+//! A record of 80 bytes, and its number.
 ghost use Rattle.std.specs.Prelude.{◌≡◌, ◌<◌, ◌%◌, length, IfOk, IfSome, IfNone};
 ghost use Rattle.std.specs.Str.Parse.{digits_value};
 ghost use Rattle.terms.specs.Texts.{HasLines, IsNumber, IsNumberedLine, number_of, is_control};

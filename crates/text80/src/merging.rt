@@ -1,5 +1,6 @@
-ghost use Rattle.std.specs.Prelude.{◌≡◌, ◌<◌, List, IfOk, IfSome, IfNone, All, slice_get};
-ghost use Rattle.terms.specs.Texts.{IsMerge, IsNumberedLine, number_of};
+//! A numbered text with an update made in it.
+ghost use Rattle.std.specs.Prelude.{◌<◌, List, IfOk, IfSome, IfNone, All, slice_get};
+ghost use Rattle.terms.specs.Texts.{IsMerge, IsNumberedLine};
 ghost use Rattle.text80.specs.declared.control.Range.{Range as DeletedRange};
 ghost use Rattle.text80.specs.Merging.{IsSplitBelow, StandsFirst, StandsNowhere, IsSwept};
 

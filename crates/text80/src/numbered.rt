@@ -1,3 +1,4 @@
+//! Numbered texts.
 ghost use Rattle.std.specs.Prelude.{◌≡◌, ◌<◌, ◌≤◌, [], IfOk, IfErr};
 ghost use Rattle.terms.specs.Texts.{IsNumbered, IsNumberedLine, IsNumberedFault, number_of};
 ghost use Rattle.text80.specs.Rising.{IsNumberFault};

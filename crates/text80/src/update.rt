@@ -1,3 +1,4 @@
+//! Updates of numbered texts.
 ghost use Rattle.std.specs.Prelude.{◌≡◌, ℕ, List, IfOk, IfErr};
 ghost use Rattle.std.specs.List.Sorted.{IsNonDecreasingBy};
 ghost use Rattle.terms.specs.Texts.{given as given_of, IsUpdate, IsUpdateFault};

@@ -14,26 +14,26 @@ use Rattle.std.proofs.lemmas.List.Elements.{Contains-append_left, Contains-push,
 use Rattle.terms.specs.Types as terms
 use Rattle.terms.specs.Types.{Id, Change, type_number}
 use Rattle.terms.specs.Lookups.{changes_of}
-use Rattle.terms.proofs.ElementOrder.{cmp-keys, element_cmp_total, element_ties, type_from_number}
+use Rattle.terms.proofs.ElementOrder.{cmp_keys, element_cmp_total, element_ties, type_from_number}
 use Rattle.lemmas.proofs.Texts.{same_from}
-use Rattle.lemmas.proofs.Lists.{front-more}
+use Rattle.lemmas.proofs.Lists.{front_more}
 use Rattle.undo.specs.Elements.{Key, change_key, key_cmp, Changers, changers_of, Gains, AreChangers}
 
-tied-keys : (a b : Key) → is_eq (key_cmp a b) ≡ true → a ≡ b
-tied-keys a b on =
+tied_keys : (a b : Key) → is_eq (key_cmp a b) ≡ true → a ≡ b
+tied_keys a b on =
     let parts = and_parts (type_number a.0 == type_number b.0) (bytes_eq a.1 b.1)
-    (element_ties a b ∙ ap is_eq (sym (cmp-keys a b)) ∙ on) in
+    (element_ties a b ∙ ap is_eq (sym (cmp_keys a b)) ∙ on) in
     ap₂ (λ t n. (t, n)) (type_from_number a.0 b.0 (eqb-true (type_number a.0) (type_number b.0) parts.0))
     (same_from a.1 b.1 parts.1)
 
-key-itself : (a : Key) → is_eq (key_cmp a a) ≡ true
-key-itself a = ap is_eq (cmp-keys a a ∙ tied_itself element_cmp_total a)
+key_itself : (a : Key) → is_eq (key_cmp a a) ≡ true
+key_itself a = ap is_eq (cmp_keys a a ∙ tied_itself element_cmp_total a)
 
 -- the list of one element goes on with one SYSMOD
-pub gains-update : (old new : Changers) (k : Key) (f : Id) (w : Vec Id Global)
+pub gains_update : (old new : Changers) (k : Key) (f : Id) (w : Vec Id Global)
     → UpdatesBy key_cmp (key_cmp k) old new (Some w)
     → w.items ≡ changers_of old k ++ f ∷ [] → Gains old new (λ z y. (z ≡ k) × (y ≡ f))
-gains-update old new k f w updates goes_on z y = by (is_eq (key_cmp k z)) refl
+gains_update old new k f w updates goes_on z y = by (is_eq (key_cmp k z)) refl
   where
     now : (b : Bool) → is_eq (key_cmp k z) ≡ b
         → changers_of new z ≡ option_map_or (λ v. v.items) (cond b (Some w) (get key_cmp old z)) []
@@ -44,7 +44,7 @@ gains-update old new k f w updates goes_on z y = by (is_eq (key_cmp k z)) refl
         → Contains (changers_of new z) y ↔ (Contains (changers_of old z) y ⊎ ((z ≡ k) × (y ≡ f)))
     by true e =
         let was = changers_of old z in
-        let same : k ≡ z = tied-keys k z e in
+        let same : k ≡ z = tied_keys k z e in
         let is : changers_of new z ≡ was ++ f ∷ [] =
         now true e ∙ goes_on ∙ ap (λ x. changers_of old x ++ f ∷ []) same in (
           λ h. elim (Contains-push_cases was f y (subst (λ l. Contains l y) is h)) [
@@ -60,20 +60,20 @@ gains-update old new k f w updates goes_on z y = by (is_eq (key_cmp k z)) refl
       λ h. inl (subst (λ l. Contains l y) (now false e) h),
       λ h. subst (λ l. Contains l y) (sym (now false e)) (elim h [
         | inl there ↦ there
-        | inr both ↦ absurd (true≢false (sym (subst (λ v. is_eq (key_cmp k v) ≡ true) (sym both.0) (key-itself k)) ∙ e))
+        | inr both ↦ absurd (true≢false (sym (subst (λ v. is_eq (key_cmp k v) ≡ true) (sym both.0) (key_itself k)) ∙ e))
       ]),
     )
 
-pub listed-at : (all : Changers) (k : Key) (v : Vec Id Global) → get key_cmp all k ≡ Some v
+pub listed_at : (all : Changers) (k : Key) (v : Vec Id Global) → get key_cmp all k ≡ Some v
     → changers_of all k ≡ v.items
-listed-at all k v there = ap (λ o. option_map_or (λ v. v.items) o []) there
+listed_at all k v there = ap (λ o. option_map_or (λ v. v.items) o []) there
 
-pub listed-none : (all : Changers) (k : Key) → get key_cmp all k ≡ None → changers_of all k ≡ []
-listed-none all k there = ap (λ o. option_map_or (λ v. v.items) o []) there
+pub listed_none : (all : Changers) (k : Key) → get key_cmp all k ≡ None → changers_of all k ≡ []
+listed_none all k there = ap (λ o. option_map_or (λ v. v.items) o []) there
 
-gains-join : (old middle new : Changers) (P Q R : Key → Id → Type 0) → Gains old middle P → Gains middle new Q
+gains_join : (old middle new : Changers) (P Q R : Key → Id → Type 0) → Gains old middle P → Gains middle new Q
     → ((z : Key) (y : Id) → R z y ↔ (P z y ⊎ Q z y)) → Gains old new R
-gains-join old middle new P Q R first second both z y = (
+gains_join old middle new P Q R first second both z y = (
   λ h. elim ((second z y).0 h) [
     | inl between ↦ elim ((first z y).0 between) [ inl was ↦ inl was | inr p ↦ inr ((both z y).1 (inl p)) ]
     | inr q ↦ inr ((both z y).1 (inr q))
@@ -85,17 +85,17 @@ gains-join old middle new P Q R first second both z y = (
 )
 
 -- one more of the statements of a SYSMOD
-pub gains-next : (old middle new : Changers) (changes : List Change) (i : ℕ) (h : Change) (f : Id) → i < length changes
+pub gains_next : (old middle new : Changers) (changes : List Change) (i : ℕ) (h : Change) (f : Id) → i < length changes
     → h ≡ get_or changes i h
     → Gains old middle (λ k y. Contains (map change_key (take i changes)) k × (y ≡ f))
     → Gains middle new (λ k y. (k ≡ change_key h) × (y ≡ f))
     → Gains old new (λ k y. Contains (map change_key (take (i + 1) changes)) k × (y ≡ f))
-gains-next old middle new changes i h f below at first second =
+gains_next old middle new changes i h f below at first second =
     let front = map change_key (take i changes) in
     let more : map change_key (take (i + 1) changes) ≡ front ++ change_key h ∷ [] =
-    ap (map change_key) (front-more changes i h below at) ∙ map-append change_key (take i changes) (h ∷ []) in
+    ap (map change_key) (front_more changes i h below at) ∙ map-append change_key (take i changes) (h ∷ []) in
     subst (λ l. Gains old new (λ k y. Contains l k × (y ≡ f))) (sym more)
-    (gains-join old middle new (λ k y. Contains front k × (y ≡ f)) (λ k y. (k ≡ change_key h) × (y ≡ f))
+    (gains_join old middle new (λ k y. Contains front k × (y ≡ f)) (λ k y. (k ≡ change_key h) × (y ≡ f))
     (λ k y. Contains (front ++ change_key h ∷ []) k × (y ≡ f)) first second (λ k y. (
       λ g. elim (Contains-push_cases front (change_key h) k g.0) [
         | inl was ↦ inl (was, g.1)
@@ -108,13 +108,13 @@ gains-next old middle new changes i h f below at first second =
     )))
 
 -- one more SYSMOD
-pub changers-next : (g : terms.Global) (ids : List Id) (i : ℕ) (x : Id) (old new : Changers) → i < length ids
+pub changers_next : (g : terms.Global) (ids : List Id) (i : ℕ) (x : Id) (old new : Changers) → i < length ids
     → x ≡ get_or ids i x → AreChangers g (take i ids) old
     → Gains old new (λ k y. Contains (map change_key (changes_of g x)) k × (y ≡ x))
     → AreChangers g (take (i + 1) ids) new
-changers-next g ids i x old new below at are gains =
+changers_next g ids i x old new below at are gains =
     let front = take i ids in
-    subst (λ l. AreChangers g l new) (sym (front-more ids i x below at)) (λ k y. (
+    subst (λ l. AreChangers g l new) (sym (front_more ids i x below at)) (λ k y. (
       λ h. elim ((gains k y).0 h) [
         | inl was ↦ let f = (are k y).0 was in (Contains-append_left front (x ∷ []) y f.0, f.1)
         | inr by ↦ (

@@ -5,3 +5,6 @@ pub mod Needing
 pub mod Wanting
 pub mod Numbering
 pub mod Testing
+pub mod LessEdits
+pub mod Reverted
+pub mod AfterRestore

@@ -13,9 +13,9 @@ use Rattle.terms.specs.Lookups.{IsZone, at_most_one, is_in, is_applied, applied_
 use Rattle.terms.specs.Choice.{fmid_of}
 use Rattle.terms.specs.Needs.{binding_ids}
 use Rattle.terms.specs.Restore.{Restoring, NeedsDep, is_supplied_outside}
-use Rattle.terms.proofs.Applied.{applied-are}
+use Rattle.terms.proofs.Applied.{applied_are}
 use Rattle.undo_list.specs.Restoring.{suppliers}
-use Rattle.undo_list.proofs.Supplying.{supplier-is}
+use Rattle.undo_list.proofs.Supplying.{supplier_is}
 use Rattle.undo.specs.Dependences.{by_requisite, dependences_of}
 
 abbrev Pair : Type 0
@@ -23,27 +23,27 @@ Pair = Id × Id
 
 -- ---- lists of which all meet a test
 
-pub all-in : {X : Type 0} (p : X → Bool) (xs : List X) → list_all p xs ≡ true → (x : X) → Contains xs x → p x ≡ true
-all-in p [] all x h = absurd (none_in x h)
-all-in p (z ∷ xs) all x h =
+pub all_in : {X : Type 0} (p : X → Bool) (xs : List X) → list_all p xs ≡ true → (x : X) → Contains xs x → p x ≡ true
+all_in p [] all x h = absurd (none_in x h)
+all_in p (z ∷ xs) all x h =
     let parts = and_parts (p z) (list_all p xs) all in
     elim (here_or z xs x h) [
       | inl same ↦ subst (λ v. p v ≡ true) same parts.0
-      | inr later ↦ all-in p xs parts.1 x later
+      | inr later ↦ all_in p xs parts.1 x later
     ]
 
-pub in-all : {X : Type 0} (p : X → Bool) (xs : List X) → ((x : X) → Contains xs x → p x ≡ true) → list_all p xs ≡ true
-in-all p [] each = refl
-in-all p (z ∷ xs) each =
-    rw (each z (here z xs)) (in-all p xs (λ x h. each x (there z xs x h)))
+pub in_all : {X : Type 0} (p : X → Bool) (xs : List X) → ((x : X) → Contains xs x → p x ≡ true) → list_all p xs ≡ true
+in_all p [] each = refl
+in_all p (z ∷ xs) each =
+    rw (each z (here z xs)) (in_all p xs (λ x h. each x (there z xs x h)))
 
 -- ---- who depends on whom
 
 module _ (r : Restoring) (is_zone : IsZone r.zone) (listed : Id → Bool) where
   -- none outside the list supplies it just where all that supply it are listed
-  pub listed-outside : (z : Id) → list_all listed (suppliers r.zone z) ≡ true
+  pub listed_outside : (z : Id) → list_all listed (suppliers r.zone z) ≡ true
       ↔ IsFalse (is_supplied_outside r listed z)
-  listed-outside z = (
+  listed_outside z = (
     λ all. not-true (is_supplied_outside r listed z) (turned (is_supplied_outside r listed z) (none all)),
     to,
   )
@@ -56,25 +56,25 @@ module _ (r : Restoring) (is_zone : IsZone r.zone) (listed : Id → Bool) where
       none all on =
           let a = Any-from_list_any (λ p. not (listed p) && supplies r.zone p z) (applied_ids r.zone) on in
           let parts = and_parts (not (listed a.1)) (supplies r.zone a.1 z) a.4 in
-          true≢false (sym (all-in listed (suppliers r.zone z) all a.1 ((supplier-is r.zone a.1 z).1 parts.1))
+          true≢false (sym (all_in listed (suppliers r.zone z) all a.1 ((supplier_is r.zone a.1 z).1 parts.1))
           ∙ not-true (listed a.1) parts.0)
 
       to : IsFalse (is_supplied_outside r listed z) → list_all listed (suppliers r.zone z) ≡ true
-      to off = in-all listed (suppliers r.zone z) (λ x h. by x h (listed x) refl)
+      to off = in_all listed (suppliers r.zone z) (λ x h. by x h (listed x) refl)
         where
           by : (x : Id) → Contains (suppliers r.zone z) x → (b : Bool) → listed x ≡ b → listed x ≡ true
           by x h true e = e
           by x h false e =
-              let on = (supplier-is r.zone x z).0 h in
+              let on = (supplier_is r.zone x z).0 h in
               let applied = (and_parts (is_applied r.zone x) (bytes_eq x z || is_in (supby_of r.zone z) x) on).0 in
-              let there = (applied-are r.zone is_zone x).1 applied in
+              let there = (applied_are r.zone is_zone x).1 applied in
               absurd (true≢false (sym (list_any-from_Any (λ p. not (listed p) && supplies r.zone p z)
               (applied_ids r.zone) (there.0, x, there.1, there.2, rw (e, on) refl)) ∙ off))
 
   -- a pair by a requisite
-  requisite-pair : (x y z : Id) → Contains {X = Pair} (by_requisite r.zone listed y z) (x, y)
+  requisite_pair : (x y z : Id) → Contains {X = Pair} (by_requisite r.zone listed y z) (x, y)
       ↔ (IsTrue (supplies r.zone x z) × IsFalse (is_supplied_outside r listed z))
-  requisite-pair x y z = by (list_all listed (suppliers r.zone z)) refl
+  requisite_pair x y z = by (list_all listed (suppliers r.zone z)) refl
     where
       by : (b : Bool) → list_all listed (suppliers r.zone z) ≡ b
           → Contains {X = Pair} (cond b (map (λ x. (x, y)) (suppliers r.zone z)) []) (x, y)
@@ -82,27 +82,27 @@ module _ (r : Restoring) (is_zone : IsZone r.zone) (listed : Id → Bool) where
       by true e = (
         λ h.
             let m = map_in (λ (v : Id). (v, y)) (suppliers r.zone z) (x, y) h in (
-              (supplier-is r.zone x z).0 (subst (Contains (suppliers r.zone z)) (ap (λ p. p.0) m.2) m.1),
-              (listed-outside z).0 e,
+              (supplier_is r.zone x z).0 (subst (Contains (suppliers r.zone z)) (ap (λ p. p.0) m.2) m.1),
+              (listed_outside z).0 e,
             ),
-        λ both. in_map (λ (v : Id). (v, y)) (suppliers r.zone z) x ((supplier-is r.zone x z).1 both.0),
+        λ both. in_map (λ (v : Id). (v, y)) (suppliers r.zone z) x ((supplier_is r.zone x z).1 both.0),
       )
       by false e = (
         λ h. absurd (none_in (x, y) h),
-        λ both. absurd (true≢false (sym ((listed-outside z).1 both.1) ∙ e)),
+        λ both. absurd (true≢false (sym ((listed_outside z).1 both.1) ∙ e)),
       )
 
   -- the second of each pair is who depends
-  requisite-by : (y z : Id) (p : Pair) → Contains (by_requisite r.zone listed y z) p → p.1 ≡ y
-  requisite-by y z p h = by (list_all listed (suppliers r.zone z)) h
+  requisite_by : (y z : Id) (p : Pair) → Contains (by_requisite r.zone listed y z) p → p.1 ≡ y
+  requisite_by y z p h = by (list_all listed (suppliers r.zone z)) h
     where
       by : (b : Bool) → Contains {X = Pair} (cond b (map (λ x. (x, y)) (suppliers r.zone z)) []) p → p.1 ≡ y
       by true h = let m = map_in (λ (v : Id). (v, y)) (suppliers r.zone z) p h in sym (ap (λ p. p.1) m.2)
       by false h = absurd (none_in p h)
 
-  fmid-pair : (o : Option Id) (x y : Id) → Contains {X = Pair} (map (λ x. (x, y)) (at_most_one o)) (x, y) ↔ (o ≡ Some x)
-  fmid-pair None x y = (λ h. absurd (none_in (x, y) h), λ e. cc e)
-  fmid-pair (Some f) x y = (
+  fmid_pair : (o : Option Id) (x y : Id) → Contains {X = Pair} (map (λ x. (x, y)) (at_most_one o)) (x, y) ↔ (o ≡ Some x)
+  fmid_pair None x y = (λ h. absurd (none_in (x, y) h), λ e. cc e)
+  fmid_pair (Some f) x y = (
     λ h. elim (here_or (f, y) [] (x, y) h) [
       | inl same ↦ ap (λ (p : Pair). Some p.0) same
       | inr later ↦ absurd (none_in (x, y) later)
@@ -111,52 +111,52 @@ module _ (r : Restoring) (is_zone : IsZone r.zone) (listed : Id → Bool) where
   )
 
   -- the pairs of one that depends
-  pub dependence-pair : (x y : Id) → Contains {X = Pair} (dependences_of r listed y) (x, y)
+  pub dependence_pair : (x y : Id) → Contains {X = Pair} (dependences_of r listed y) (x, y)
       ↔ ((fmid_of r.choice y ≡ Some x)
       ⊎ Any (λ z. IsTrue (supplies r.zone x z) × IsFalse (is_supplied_outside r listed z))
       (binding_ids r.choice r.zone (is_applied r.zone) y))
-  dependence-pair x y =
+  dependence_pair x y =
       let first : List Pair = map (λ x. (x, y)) (at_most_one (fmid_of r.choice y)) in
       let ids = binding_ids r.choice r.zone (is_applied r.zone) y in
       let second = flat_map (by_requisite r.zone listed y) ids in (
         λ h. elim (Contains-append_cases first second (x, y) h) [
-          | inl by ↦ inl ((fmid-pair (fmid_of r.choice y) x y).0 by)
+          | inl by ↦ inl ((fmid_pair (fmid_of r.choice y) x y).0 by)
           | inr by ↦
               let m = flat_in (by_requisite r.zone listed y) ids (x, y) by in
-              let both = (requisite-pair x y m.0).0 m.2 in
+              let both = (requisite_pair x y m.0).0 m.2 in
               inr (m.1.0, m.0, m.1.1, m.1.2, both)
         ],
         λ h. elim h [
-          | inl by ↦ Contains-append_left first second (x, y) ((fmid-pair (fmid_of r.choice y) x y).1 by)
+          | inl by ↦ Contains-append_left first second (x, y) ((fmid_pair (fmid_of r.choice y) x y).1 by)
           | inr by ↦ Contains-append_right first second (x, y)
               (in_flat (by_requisite r.zone listed y) ids by.1 (x, y) (by.0, by.2, by.3)
-              ((requisite-pair x y by.1).1 by.4))
+              ((requisite_pair x y by.1).1 by.4))
         ],
       )
 
-  dependence-by : (y : Id) (p : Pair) → Contains (dependences_of r listed y) p → p.1 ≡ y
-  dependence-by y p h =
+  dependence_by : (y : Id) (p : Pair) → Contains (dependences_of r listed y) p → p.1 ≡ y
+  dependence_by y p h =
       let first : List Pair = map (λ x. (x, y)) (at_most_one (fmid_of r.choice y)) in
       let ids = binding_ids r.choice r.zone (is_applied r.zone) y in
       elim (Contains-append_cases first (flat_map (by_requisite r.zone listed y) ids) p h) [
         | inl by ↦
             let m = map_in (λ (v : Id). (v, y)) (at_most_one (fmid_of r.choice y)) p by in sym (ap (λ p. p.1) m.2)
-        | inr by ↦ let m = flat_in (by_requisite r.zone listed y) ids p by in requisite-by y m.0 p m.2
+        | inr by ↦ let m = flat_in (by_requisite r.zone listed y) ids p by in requisite_by y m.0 p m.2
       ]
 
   -- all pairs
-  pub dependences-are : (x y : Id) → y ≢ x
+  pub dependences_are : (x y : Id) → y ≢ x
       → Contains {X = Pair} (flat_map (dependences_of r listed) (applied_ids r.zone)) (x, y) ↔ NeedsDep r listed x y
-  dependences-are x y other = (
+  dependences_are x y other = (
     λ h.
         let m = flat_in (dependences_of r listed) (applied_ids r.zone) (x, y) h in
-        let same : y ≡ m.0 = dependence-by m.0 (x, y) m.2 in
+        let same : y ≡ m.0 = dependence_by m.0 (x, y) m.2 in
         record {
           other = other;
-          applied = (applied-are r.zone is_zone y).0 (subst (Contains (applied_ids r.zone)) (sym same) m.1);
-          depends = (dependence-pair x y).0 (subst (λ v. Contains {X = Pair} (dependences_of r listed v) (x, y))
+          applied = (applied_are r.zone is_zone y).0 (subst (Contains (applied_ids r.zone)) (sym same) m.1);
+          depends = (dependence_pair x y).0 (subst (λ v. Contains {X = Pair} (dependences_of r listed v) (x, y))
               (sym same) m.2);
         },
     λ n. in_flat (dependences_of r listed) (applied_ids r.zone) y (x, y)
-        ((applied-are r.zone is_zone y).1 n.applied) ((dependence-pair x y).1 n.depends),
+        ((applied_are r.zone is_zone y).1 n.applied) ((dependence_pair x y).1 n.depends),
   )

@@ -14,14 +14,14 @@ use Rattle.terms.specs.Rising.{StandsAt}
 use Rattle.std.proofs.lemmas.Option.{slice_get_within, slice_get-map, slice_get-get_or, get_or_from_slice_get}
 use Rattle.std.proofs.lemmas.Option.{same_Some}
 use Rattle.lemmas.proofs.Members.{here_or, none_in}
-use Rattle.lemmas.proofs.Places.{contains_at, found_at, at-place, push-cases}
+use Rattle.lemmas.proofs.Places.{contains_at, found_at, at_place, push_cases}
 use Rattle.terms.specs.declared.codes.NeedKind.{NeedKind}
 use Rattle.terms.specs.declared.codes.NeedKind.TheVariants.{Fmid, Pre, Req, Ifreq, HoldError, Orphan, Elem, Dep}
 use Rattle.terms.specs.Types.{Id}
 use Rattle.terms.specs.Lookups.{IsRising, is_in}
 use Rattle.terms.specs.Needs.{Serves, takes_superseder}
 use Rattle.terms.specs.Restore.{Restoring, NeedsInRestore, MayBeRestored}
-use Rattle.terms.proofs.Ids.{is_in-from_Contains, apart-from_rising}
+use Rattle.terms.proofs.Ids.{is_in_from_Contains, apart_from_rising}
 use Rattle.solve.specs.Problem.{Demand, Problem, IsProblem, holds}
 use Rattle.solve.specs.Numbered.{IsProblemOf}
 use Rattle.undo.specs.declared.wanted.Want.{Want}
@@ -30,9 +30,9 @@ use Rattle.undo.specs.Wants.{a_want, AreWants}
 
 -- ---- places
 
-same-place : (ids : List Id) → IsRising ids → (i n : ℕ) (x : Id) → slice_get ids i ≡ Some x → slice_get ids n ≡ Some x
+same_place : (ids : List Id) → IsRising ids → (i n : ℕ) (x : Id) → slice_get ids i ≡ Some x → slice_get ids n ≡ Some x
     → i ≡ n
-same-place ids rising i n x at_i at_n = elim (cases_order i n) [
+same_place ids rising i n x at_i at_n = elim (cases_order i n) [
   | inl same ↦ same
   | inr apart ↦ elim apart [
     | inl less ↦ absurd (two i n at_i at_n less)
@@ -41,46 +41,46 @@ same-place ids rising i n x at_i at_n = elim (cases_order i n) [
 ]
   where
     two : (i n : ℕ) → slice_get ids i ≡ Some x → slice_get ids n ≡ Some x → i < n → ⊥
-    two i n at_i at_n less = apart-from_rising ids rising i n x less (slice_get_within ids n x at_n)
+    two i n at_i at_n less = apart_from_rising ids rising i n x less (slice_get_within ids n x at_n)
         (get_or_from_slice_get ids i x x at_i ∙ sym (get_or_from_slice_get ids n x x at_n))
 
-pub one-place : (ids : List Id) → IsRising ids → (i : ℕ) (z : Id) → slice_get ids i ≡ Some z
+pub one_place : (ids : List Id) → IsRising ids → (i : ℕ) (z : Id) → slice_get ids i ≡ Some z
     → AreOwnPlaces ids z (i ∷ [])
-one-place ids rising i z at n y at_y = (
+one_place ids rising i z at n y at_y = (
   λ h.
       let same : i ≡ n = elim (here_or i [] n h) [ inl here ↦ here | inr later ↦ absurd (none_in n later) ] in
       same_Some y z (sym at_y ∙ subst (λ k. slice_get ids k ≡ Some z) same at),
   λ e. (
     0,
     omega arith,
-    same-place ids rising i n z at (subst (λ v. slice_get ids n ≡ Some v) e at_y),
+    same_place ids rising i n z at (subst (λ v. slice_get ids n ≡ Some v) e at_y),
   ),
 )
 
-pub no-place : (ids : List Id) (z : Id) → is_in ids z ≡ false → AreOwnPlaces ids z []
-no-place ids z none n y at_y = (
+pub no_place : (ids : List Id) (z : Id) → is_in ids z ≡ false → AreOwnPlaces ids z []
+no_place ids z none n y at_y = (
   λ h. absurd (none_in n h),
-  λ e. absurd (true≢false (sym (is_in-from_Contains ids z (subst (Contains ids) e (contains_at ids n y at_y))) ∙ none)),
+  λ e. absurd (true≢false (sym (is_in_from_Contains ids z (subst (Contains ids) e (contains_at ids n y at_y))) ∙ none)),
 )
 
 -- what a search finds
-pub stands-at : (ids : List Id) (z : Id) (i : ℕ) → i < length ids → (x : Id)
+pub stands_at : (ids : List Id) (z : Id) (i : ℕ) → i < length ids → (x : Id)
     → StandsAt (slice_cmp nat_cmp) (λ y. y) z ids i x → slice_get ids i ≡ Some z
-stands-at ids z i below x s =
+stands_at ids z i below x s =
     slice_get-get_or ids i x below ∙ ap (λ v. Some v) (s.at x) ∙ ap (λ v. Some v) (exact_bytes x z s.tie)
 
 -- who needs is a candidate
-pub wants-within : (r : Restoring) (list ids : List Id) (wants : List Want) → AreWants r list ids wants
+pub wants_within : (r : Restoring) (list ids : List Id) (wants : List Want) → AreWants r list ids wants
     → All (λ w. Contains ids w.of) wants
-wants-within r list ids wants are k d below =
+wants_within r list ids wants are k d below =
     let w = get_or wants k d in
     ((are.members w.of w.kind w.id).0 (Contains-get_or wants k d below)).0
 
 -- ---- demands
 
-adds-over : (old new : Problem) (d : Demand) → new ≡ record old { demands = old.demands ++ d ∷ [] }
+adds_over : (old new : Problem) (d : Demand) → new ≡ record old { demands = old.demands ++ d ∷ [] }
     → (new.size ≡ old.size) × (new.eligible ≡ old.eligible) × (new.demands ≡ old.demands ++ d ∷ [])
-adds-over old new d e = (
+adds_over old new d e = (
   ap (λ (p : Problem). p.size) e,
   ap (λ (p : Problem). p.eligible) e,
   ap (λ (p : Problem). p.demands) e,
@@ -88,24 +88,24 @@ adds-over old new d e = (
 
 module _ (ids : List Id) (flags : List Bool) where
   -- one more demand
-  pub demands-next : (wants : List Want) (i : ℕ) (w : Want) (old new : Problem) (ns new_ns : List (NeedKind × Id))
+  pub demands_next : (wants : List Want) (i : ℕ) (w : Want) (old new : Problem) (ns new_ns : List (NeedKind × Id))
       → slice_get wants i ≡ Some w
       → AddsDemand ids w old ns new new_ns → HasDemands ids flags (take i wants) old ns
       → HasDemands ids flags (take (i + 1) wants) new new_ns
-  demands-next wants i w old new ns new_ns at a h =
+  demands_next wants i w old new ns new_ns at a h =
       let front = take i wants in
       let more : take (i + 1) wants ≡ front ++ w ∷ [] =
       take_more wants i w (slice_get_within wants i w at)
       ∙ ap (λ v. front ++ v ∷ []) (get_or_from_slice_get wants i w w at) in
-      let over = adds-over old new a.demand a.problem in
+      let over = adds_over old new a.demand a.problem in
       subst (λ l. HasDemands ids flags l new new_ns) (sym more) (record {
         size = over.0 ∙ h.size;
         eligible = over.1 ∙ h.eligible;
         lengths = ap length over.2 ∙ length-append old.demands (a.demand ∷ []) ∙ ap (λ n. n + 1) h.lengths
             ∙ sym (length-append front (w ∷ []));
         demands = λ j v d at_v at_d.
-            let cut = push-cases old.demands a.demand j d (subst (λ l. slice_get l j ≡ Some d) over.2 at_d) in
-            elim (push-cases front w j v at_v) [
+            let cut = push_cases old.demands a.demand j d (subst (λ l. slice_get l j ≡ Some d) over.2 at_d) in
+            elim (push_cases front w j v at_v) [
               | inl early ↦ elim cut [
                 | inl early_d ↦ h.demands j v d early early_d
                 | inr last_d ↦ absurd (omega (arith, slice_get_within front j v early, last_d.0, h.lengths))
@@ -121,35 +121,35 @@ module _ (ids : List Id) (flags : List Bool) where
 
   module _ (wants : List Want) (p : Problem) (needed : List (NeedKind × Id)) (h : HasDemands ids flags wants p needed)
     where
-      needed-at : (i : ℕ) (w : Want) → slice_get wants i ≡ Some w → slice_get needed i ≡ Some (w.kind, w.id)
-      needed-at i w at =
+      needed_at : (i : ℕ) (w : Want) → slice_get wants i ≡ Some w → slice_get needed i ≡ Some (w.kind, w.id)
+      needed_at i w at =
           ap (λ l. slice_get l i) h.needed_are ∙ slice_get-map (λ w. (w.kind, w.id)) wants i
           ∙ ap (option_map (λ w. (w.kind, w.id))) at
 
       -- a demand and its need are those of the want at their place
-      is-demand : (i : ℕ) (d : Demand) (need : NeedKind × Id) → slice_get p.demands i ≡ Some d
+      is_demand : (i : ℕ) (d : Demand) (need : NeedKind × Id) → slice_get p.demands i ≡ Some d
           → slice_get needed i ≡ Some need
           → (w : Want) × (slice_get wants i ≡ Some w) × IsDemandFor ids w d × (w ≡ a_want need.0 (w.of, need.1))
-      is-demand i d need at_d at_need =
-          let w = at-place wants i (subst (λ k. i < k) h.lengths (slice_get_within p.demands i d at_d)) in
+      is_demand i d need at_d at_need =
+          let w = at_place wants i (subst (λ k. i < k) h.lengths (slice_get_within p.demands i d at_d)) in
           let is : (w.0.kind, w.0.id) ≡ need =
-          same_Some (w.0.kind, w.0.id) need (sym (needed-at i w.0 w.1) ∙ at_need) in
+          same_Some (w.0.kind, w.0.id) need (sym (needed_at i w.0 w.1) ∙ at_need) in
           (w.0, w.1, h.demands i w.0 d w.1 at_d, ap (λ n. a_want n.0 (w.0.of, n.1)) is)
 
       -- and each want has its demand
-      demand-at : (i : ℕ) (w : Want) → slice_get wants i ≡ Some w
+      demand_at : (i : ℕ) (w : Want) → slice_get wants i ≡ Some w
           → (d : Demand) × (slice_get p.demands i ≡ Some d) × (slice_get needed i ≡ Some (w.kind, w.id))
           × (slice_get ids d.of ≡ Some w.of)
-      demand-at i w at =
-          let d = at-place p.demands i (subst (λ k. i < k) (sym h.lengths) (slice_get_within wants i w at)) in
-          (d.0, d.1, needed-at i w at, (h.demands i w d.0 at d.1).of)
+      demand_at i w at =
+          let d = at_place p.demands i (subst (λ k. i < k) (sym h.lengths) (slice_get_within wants i w at)) in
+          (d.0, d.1, needed_at i w at, (h.demands i w d.0 at d.1).of)
 
-      wants-once : AllPairs (λ v w. v ≢ w) wants → (i j : ℕ) (d e : Demand) (need : NeedKind × Id)
+      wants_once : AllPairs (λ v w. v ≢ w) wants → (i j : ℕ) (d e : Demand) (need : NeedKind × Id)
           → slice_get p.demands i ≡ Some d → slice_get p.demands j ≡ Some e → slice_get needed i ≡ Some need
           → slice_get needed j ≡ Some need → d.of ≡ e.of → i ≡ j
-      wants-once once i j d e need at_d at_e need_d need_e same =
-          let v = is-demand i d need at_d need_d in
-          let w = is-demand j e need at_e need_e in
+      wants_once once i j d e need at_d at_e need_d need_e same =
+          let v = is_demand i d need at_d need_d in
+          let w = is_demand j e need at_e need_e in
           let who : v.0.of ≡ w.0.of =
           same_Some v.0.of w.0.of (sym v.2.of ∙ subst (λ k. slice_get ids k ≡ Some w.0.of) (sym same) w.2.of) in
           let one : v.0 ≡ w.0 = v.3 ∙ ap (λ o. a_want need.0 (o, need.1)) who ∙ sym w.3 in
@@ -179,17 +179,17 @@ module _ (ids : List Id) (flags : List Bool) where
       alone r listed x HoldError z n = absurd n
       alone r listed x Orphan z n = absurd n
 
-      pub restore-problem : (r : Restoring) (list : List Id) → IsRising ids → AreWants r list ids wants → IsProblem p
+      pub restore_problem : (r : Restoring) (list : List Id) → IsRising ids → AreWants r list ids wants → IsProblem p
           → ((n : ℕ) (x : Id) → slice_get ids n ≡ Some x → IsTrue (holds flags n) ↔ MayBeRestored r list x)
           → IsProblemOf (MayBeRestored r list) (NeedsInRestore r (is_in list)) (Serves r.choice) ids p needed
-      restore-problem r list rising are numbers eligible = record {
+      restore_problem r list rising are numbers eligible = record {
         numbers = numbers;
         size = h.size;
         eligible = λ n x at. subst (λ l. IsTrue (holds l n) ↔ MayBeRestored r list x) (sym h.eligible)
             (eligible n x at);
         lengths = ap length h.needed_are ∙ length-map wants (λ w. (w.kind, w.id)) ∙ sym h.lengths;
         demands = λ i d need at_d at_need.
-            let w = is-demand i d need at_d at_need in
+            let w = is_demand i d need at_d at_need in
             let own = (are.members w.0.of need.0 need.1).0 (subst (Contains wants) w.3 (contains_at wants i w.0 w.1)) in
             let id : w.0.id ≡ need.1 = ap (λ (v : Want). v.id) w.3 in
             let off = alone r (is_in list) w.0.of need.0 need.1 own.1 in
@@ -205,7 +205,7 @@ module _ (ids : List Id) (flags : List Bool) where
             };
         all = λ n x z kind at need.
             let found = found_at wants (a_want kind (x, z)) ((are.members x kind z).1 (contains_at ids n x at, need)) in
-            let d = demand-at found.0 (a_want kind (x, z)) found.1 in
-            (found.0, d.0, d.1, d.2, same-place ids rising d.0.of n x d.3 at);
-        once = wants-once are.once;
+            let d = demand_at found.0 (a_want kind (x, z)) found.1 in
+            (found.0, d.0, d.1, d.2, same_place ids rising d.0.of n x d.3 at);
+        once = wants_once are.once;
       }

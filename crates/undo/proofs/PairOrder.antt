@@ -14,9 +14,9 @@ use Rattle.std.proofs.lemmas.Cmp.{tied_itself}
 use Rattle.std.proofs.lemmas.List.Kept.{IsStrictlySortedBy-dedup, Contains-dedup, Contains-from_dedup}
 use Rattle.std.proofs.lemmas.List.Sorted.{Contains-permutation, IsPermutation-sym}
 use Rattle.lemmas.proofs.Members.{in_filter, filter_in}
-use Rattle.lemmas.proofs.Orderings.{is_eq-then}
+use Rattle.lemmas.proofs.Orderings.{is_eq_then}
 use Rattle.lemmas.proofs.Texts.{same_from}
-use Rattle.terms.proofs.RisingLists.{Rises-from_sorted}
+use Rattle.terms.proofs.RisingLists.{Rises_from_sorted}
 use Rattle.terms.specs.Types.{Id}
 use Rattle.undo.specs.Pairs.{is_own, AreOwn}
 
@@ -26,45 +26,45 @@ pair_cmp a b = ordering_then (slice_cmp nat_cmp a.0 b.0) (slice_cmp nat_cmp a.1 
 abbrev pub pair_eq : Id × Id → Id × Id → Bool
 pair_eq a b = bytes_eq a.0 b.0 && bytes_eq a.1 b.1
 
-pairs-total : IsTotalOrder pair_cmp
-pairs-total = then_total (on_total (λ (p : Id × Id). p.0) nat_list_cmp_total) (on_total (λ (p : Id × Id). p.1)
+pairs_total : IsTotalOrder pair_cmp
+pairs_total = then_total (on_total (λ (p : Id × Id). p.0) nat_list_cmp_total) (on_total (λ (p : Id × Id). p.1)
     nat_list_cmp_total)
 
-pairs-equiv : IsEquivalence pair_eq
-pairs-equiv = and_equiv (on_equiv (λ (p : Id × Id). p.0) nat_list_eq_equiv) (on_equiv (λ (p : Id × Id). p.1)
+pairs_equiv : IsEquivalence pair_eq
+pairs_equiv = and_equiv (on_equiv (λ (p : Id × Id). p.0) nat_list_eq_equiv) (on_equiv (λ (p : Id × Id). p.1)
     nat_list_eq_equiv)
 
-pairs-ties : (a b : Id × Id) → pair_eq a b ≡ is_eq (pair_cmp a b)
-pairs-ties a b =
+pairs_ties : (a b : Id × Id) → pair_eq a b ≡ is_eq (pair_cmp a b)
+pairs_ties a b =
     ap₂ (λ s t. s && t) (texts_ties a.0 b.0) (texts_ties a.1 b.1)
-    ∙ sym (is_eq-then (slice_cmp nat_cmp a.0 b.0) (slice_cmp nat_cmp a.1 b.1))
+    ∙ sym (is_eq_then (slice_cmp nat_cmp a.0 b.0) (slice_cmp nat_cmp a.1 b.1))
 
-pairs-same : (a b : Id × Id) → pair_eq a b ≡ true → a ≡ b
-pairs-same a b on =
+pairs_same : (a b : Id × Id) → pair_eq a b ≡ true → a ≡ b
+pairs_same a b on =
     let parts = and_parts (bytes_eq a.0 b.0) (bytes_eq a.1 b.1) on in
     ap₂ (λ s t. (s, t)) (same_from a.0 b.0 parts.0) (same_from a.1 b.1 parts.1)
 
 -- what is sorted and has no doubles
 module _ (pairs sorted : List (Id × Id)) (moved : IsPermutation pairs sorted) where
-  pub unique-members : (p : Id × Id) → Contains (dedup pair_eq sorted) p ↔ Contains pairs p
-  unique-members p = (
+  pub unique_members : (p : Id × Id) → Contains (dedup pair_eq sorted) p ↔ Contains pairs p
+  unique_members p = (
     λ h. Contains-permutation sorted pairs p (IsPermutation-sym pairs sorted moved)
         (Contains-from_dedup pair_eq sorted p h),
-    λ h. Contains-dedup pairs-equiv pairs-same sorted p (Contains-permutation pairs sorted p moved h),
+    λ h. Contains-dedup pairs_equiv pairs_same sorted p (Contains-permutation pairs sorted p moved h),
   )
 
-  pub unique-once : IsSorted pair_cmp sorted → AllPairs (λ p q. p ≢ q) (dedup pair_eq sorted)
-  unique-once in_order i j d before below same =
-      let rises = Rises-from_sorted pair_cmp (dedup pair_eq sorted)
-      (IsStrictlySortedBy-dedup pairs-total pairs-ties sorted in_order) in
+  pub unique_once : IsSorted pair_cmp sorted → AllPairs (λ p q. p ≢ q) (dedup pair_eq sorted)
+  unique_once in_order i j d before below same =
+      let rises = Rises_from_sorted pair_cmp (dedup pair_eq sorted)
+      (IsStrictlySortedBy-dedup pairs_total pairs_ties sorted in_order) in
       let first = get_or (dedup pair_eq sorted) i d in
-      let tied = ap is_lt (ap (pair_cmp first) (sym same) ∙ tied_itself pairs-total first) in
+      let tied = ap is_lt (ap (pair_cmp first) (sym same) ∙ tied_itself pairs_total first) in
       true≢false (sym (rises i j d before below) ∙ tied)
 
 -- the own pairs of all, each once
-pub own-once : (ids : List Id) (pairs found : List (Id × Id)) → ((p : Id × Id) → Contains found p
+pub own_once : (ids : List Id) (pairs found : List (Id × Id)) → ((p : Id × Id) → Contains found p
     ↔ Contains (filter (is_own ids) pairs) p) → AllPairs (λ p q. p ≢ q) found → AreOwn ids pairs found
-own-once ids pairs found same once = record {
+own_once ids pairs found same once = record {
   members = λ p. (
     λ h. filter_in (is_own ids) pairs p ((same p).0 h),
     λ h. (same p).1 (in_filter (is_own ids) pairs p h.0 h.1),

@@ -15,85 +15,85 @@ use Rattle.terms.specs.Types.{Id, Element, Change}
 use Rattle.terms.specs.Lookups.{is_nil, element_of, changes_of}
 use Rattle.terms.specs.Choice.{del_of}
 use Rattle.terms.specs.Restore.{Restoring, FailsRestore, MayBeRestored, are_applied, restore_candidates}
-use Rattle.machine.specs.Installing.{all_tests}
+use Rattle.terms.specs.Failures.{all_tests}
 use Rattle.solve.specs.Problem.{holds}
 use Rattle.undo.specs.Tests.{is_behind, fails_test, AreFailedTests}
 
-behind-is : (r : Restoring) (h : Change) → is_behind r h ≡ true
+behind_is : (r : Restoring) (h : Change) → is_behind r h ≡ true
     ↔ IsFalse (option_map_or (are_applied r.zone) (element_of r.accepted h.elem_type h.name) true)
-behind-is r h = by (element_of r.accepted h.elem_type h.name)
+behind_is r h = by (element_of r.accepted h.elem_type h.name)
   where
     by : (o : Option Element) → option_map_or (λ e. not (are_applied r.zone e)) o false ≡ true
         ↔ IsFalse (option_map_or (are_applied r.zone) o true)
     by None = (λ e. absurd (cc e), λ e. absurd (cc e))
     by (Some e) = (λ on. not-true (are_applied r.zone e) on, λ off. ap not off)
 
-nil-is : (xs : List Id) → not (is_nil xs) ≡ true ↔ (xs ≢ [])
-nil-is [] = (λ e. absurd (cc e), λ apart. absurd (apart refl))
-nil-is (x ∷ xs) = (λ e same. cc same, λ apart. refl)
+nil_is : (xs : List Id) → not (is_nil xs) ≡ true ↔ (xs ≢ [])
+nil_is [] = (λ e. absurd (cc e), λ apart. absurd (apart refl))
+nil_is (x ∷ xs) = (λ e same. cc same, λ apart. refl)
 
-pub fails-is : (r : Restoring) (x : Id) (t : Test) → IsTrue (fails_test r x t) ↔ FailsRestore r x t
-fails-is r x J10 = (λ h. h, λ h. h)
-fails-is r x J11 = nil-is (del_of r.choice x)
-fails-is r x J12 = (
+pub fails_is : (r : Restoring) (x : Id) (t : Test) → IsTrue (fails_test r x t) ↔ FailsRestore r x t
+fails_is r x J10 = (λ h. h, λ h. h)
+fails_is r x J11 = nil_is (del_of r.choice x)
+fails_is r x J12 = (
   λ on.
       let a = Any-from_list_any (is_behind r) (changes_of r.global x) on in
-      (a.0, a.1, a.2, a.3, (behind-is r a.1).0 a.4),
-  λ a. list_any-from_Any (is_behind r) (changes_of r.global x) (a.0, a.1, a.2, a.3, (behind-is r a.1).1 a.4),
+      (a.0, a.1, a.2, a.3, (behind_is r a.1).0 a.4),
+  λ a. list_any-from_Any (is_behind r) (changes_of r.global x) (a.0, a.1, a.2, a.3, (behind_is r a.1).1 a.4),
 )
-fails-is r x J1 = (λ e. absurd (cc e), λ e. absurd e)
-fails-is r x J2 = (λ e. absurd (cc e), λ e. absurd e)
-fails-is r x J3 = (λ e. absurd (cc e), λ e. absurd e)
-fails-is r x J4 = (λ e. absurd (cc e), λ e. absurd e)
-fails-is r x J5 = (λ e. absurd (cc e), λ e. absurd e)
-fails-is r x J6 = (λ e. absurd (cc e), λ e. absurd e)
-fails-is r x J7 = (λ e. absurd (cc e), λ e. absurd e)
-fails-is r x J8 = (λ e. absurd (cc e), λ e. absurd e)
-fails-is r x J9 = (λ e. absurd (cc e), λ e. absurd e)
+fails_is r x J1 = (λ e. absurd (cc e), λ e. absurd e)
+fails_is r x J2 = (λ e. absurd (cc e), λ e. absurd e)
+fails_is r x J3 = (λ e. absurd (cc e), λ e. absurd e)
+fails_is r x J4 = (λ e. absurd (cc e), λ e. absurd e)
+fails_is r x J5 = (λ e. absurd (cc e), λ e. absurd e)
+fails_is r x J6 = (λ e. absurd (cc e), λ e. absurd e)
+fails_is r x J7 = (λ e. absurd (cc e), λ e. absurd e)
+fails_is r x J8 = (λ e. absurd (cc e), λ e. absurd e)
+fails_is r x J9 = (λ e. absurd (cc e), λ e. absurd e)
 
-all-there : (t : Test) → Contains all_tests t
-all-there J1 = (0, omega arith, refl)
-all-there J2 = (1, omega arith, refl)
-all-there J3 = (2, omega arith, refl)
-all-there J4 = (3, omega arith, refl)
-all-there J5 = (4, omega arith, refl)
-all-there J6 = (5, omega arith, refl)
-all-there J7 = (6, omega arith, refl)
-all-there J8 = (7, omega arith, refl)
-all-there J9 = (8, omega arith, refl)
-all-there J10 = (9, omega arith, refl)
-all-there J11 = (10, omega arith, refl)
-all-there J12 = (11, omega arith, refl)
+all_there : (t : Test) → Contains all_tests t
+all_there J1 = (0, omega arith, refl)
+all_there J2 = (1, omega arith, refl)
+all_there J3 = (2, omega arith, refl)
+all_there J4 = (3, omega arith, refl)
+all_there J5 = (4, omega arith, refl)
+all_there J6 = (5, omega arith, refl)
+all_there J7 = (6, omega arith, refl)
+all_there J8 = (7, omega arith, refl)
+all_there J9 = (8, omega arith, refl)
+all_there J10 = (9, omega arith, refl)
+all_there J11 = (10, omega arith, refl)
+all_there J12 = (11, omega arith, refl)
 
-pub map-through : {X Y Z : Type 0} (f : X → Y) (g : Y → Z) (xs : List X) → map (λ x. g (f x)) xs ≡ map g (map f xs)
-map-through f g [] = refl
-map-through f g (x ∷ xs) = ap (λ l. g (f x) ∷ l) (map-through f g xs)
+pub map_through : {X Y Z : Type 0} (f : X → Y) (g : Y → Z) (xs : List X) → map (λ x. g (f x)) xs ≡ map g (map f xs)
+map_through f g [] = refl
+map_through f g (x ∷ xs) = ap (λ l. g (f x) ∷ l) (map_through f g xs)
 
 module _ (r : Restoring) (cands : List Id) (rows : List (List Test))
     (made : rows ≡ map (λ x. filter (fails_test r x) all_tests) cands) where
-  row-at : (n : ℕ) (x : Id) → slice_get cands n ≡ Some x → slice_get rows n ≡ Some (filter (fails_test r x) all_tests)
-  row-at n x at =
+  row_at : (n : ℕ) (x : Id) → slice_get cands n ≡ Some x → slice_get rows n ≡ Some (filter (fails_test r x) all_tests)
+  row_at n x at =
       ap (λ l. slice_get l n) made ∙ slice_get-map (λ x. filter (fails_test r x) all_tests) cands n
       ∙ ap (option_map (λ x. filter (fails_test r x) all_tests)) at
 
-  pub are-failed : AreFailedTests r cands rows
-  are-failed = record {
+  pub are_failed : AreFailedTests r cands rows
+  are_failed = record {
     lengths = ap length made ∙ length-map cands (λ x. filter (fails_test r x) all_tests);
     fails = fails_test r;
-    rows_are = row-at;
-    failed = λ n x at t. fails-is r x t;
+    rows_are = row_at;
+    failed = λ n x at t. fails_is r x t;
   }
 
-  pub flags-fit : (flags : List Bool) → flags ≡ map is_nil rows → length flags ≡ length cands
-  flags-fit flags flagged = ap length flagged ∙ length-map rows is_nil ∙ are-failed.lengths
+  pub flags_fit : (flags : List Bool) → flags ≡ map is_nil rows → length flags ≡ length cands
+  flags_fit flags flagged = ap length flagged ∙ length-map rows is_nil ∙ are_failed.lengths
 
-  none-fails : (x : Id) → is_nil (filter (fails_test r x) all_tests) ≡ true ↔ ((t : Test) → ¬ FailsRestore r x t)
-  none-fails x = (from (filter (fails_test r x) all_tests) refl, to (filter (fails_test r x) all_tests) refl)
+  none_fails : (x : Id) → is_nil (filter (fails_test r x) all_tests) ≡ true ↔ ((t : Test) → ¬ FailsRestore r x t)
+  none_fails x = (from (filter (fails_test r x) all_tests) refl, to (filter (fails_test r x) all_tests) refl)
     where
       from : (row : List Test) → filter (fails_test r x) all_tests ≡ row → is_nil row ≡ true
           → ((t : Test) → ¬ FailsRestore r x t)
       from [] is on = λ t fails.
-          let there = in_filter (fails_test r x) all_tests t (all-there t) ((fails-is r x t).1 fails) in
+          let there = in_filter (fails_test r x) all_tests t (all_there t) ((fails_is r x t).1 fails) in
           none_in t (subst (λ l. Contains l t) is there)
       from (t ∷ row) is on = absurd (cc on)
 
@@ -102,18 +102,18 @@ module _ (r : Restoring) (cands : List Id) (rows : List (List Test))
       to [] is none = refl
       to (t ∷ row) is none =
           let f = filter_in (fails_test r x) all_tests t (subst (λ l. Contains l t) (sym is) (0, omega arith, refl)) in
-          absurd (none t ((fails-is r x t).0 f.1))
+          absurd (none t ((fails_is r x t).0 f.1))
 
-  pub eligible-is : (list : List Id) → cands ≡ restore_candidates r list → (flags : List Bool) → flags ≡ map is_nil rows
+  pub eligible_is : (list : List Id) → cands ≡ restore_candidates r list → (flags : List Bool) → flags ≡ map is_nil rows
       → (n : ℕ) (x : Id) → slice_get cands n ≡ Some x → IsTrue (holds flags n) ↔ MayBeRestored r list x
-  eligible-is list are flags flagged n x at =
+  eligible_is list are flags flagged n x at =
       let flag : slice_get flags n ≡ Some (is_nil (filter (fails_test r x) all_tests)) =
-      ap (λ l. slice_get l n) flagged ∙ slice_get-map is_nil rows n ∙ ap (option_map is_nil) (row-at n x at) in
+      ap (λ l. slice_get l n) flagged ∙ slice_get-map is_nil rows n ∙ ap (option_map is_nil) (row_at n x at) in
       let is : holds flags n ≡ is_nil (filter (fails_test r x) all_tests) =
       get_or_from_slice_get flags n _ false flag in (
         λ on. record {
           cand = subst (λ l. Contains l x) are (contains_at cands n x at);
-          passes = (none-fails x).0 (sym is ∙ on);
+          passes = (none_fails x).0 (sym is ∙ on);
         },
-        λ may. is ∙ (none-fails x).1 may.passes,
+        λ may. is ∙ (none_fails x).1 may.passes,
       )

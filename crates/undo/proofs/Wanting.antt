@@ -8,22 +8,22 @@ use Rattle.std.proofs.lemmas.Bool.{and_parts, not-true}
 use Rattle.std.proofs.lemmas.List.Elements.{Contains-append_left, Contains-append_right, Contains-append_cases}
 use Rattle.std.proofs.lemmas.List.Elements.{All-map}
 use Rattle.lemmas.proofs.Members.{in_map, map_in, in_filter, filter_in, in_flat, flat_in}
-use Rattle.lemmas.proofs.Pairs.{AllPairs-join, pairs_map}
+use Rattle.lemmas.proofs.Pairs.{AllPairs_join, pairs_map}
 use Rattle.lemmas.proofs.Texts.{same_itself, other_text}
 use Rattle.terms.specs.declared.codes.NeedKind.{NeedKind}
 use Rattle.terms.specs.declared.codes.NeedKind.TheVariants.{Fmid, Pre, Req, Ifreq, HoldError, Orphan, Elem, Dep}
 use Rattle.terms.specs.Types.{Id, Change}
 use Rattle.terms.specs.Lookups.{IsZone, is_in, is_applied, is_supplied, applied_ids, changes_of, has_change}
 use Rattle.terms.specs.Restore.{Restoring, NeedsDep, NeedsInRestore, restore_candidates}
-use Rattle.terms.proofs.Ids.{is_in-from_Contains, Contains-from_is_in}
-use Rattle.terms.proofs.Applied.{applied-are}
+use Rattle.terms.proofs.Ids.{is_in_from_Contains, Contains_from_is_in}
+use Rattle.terms.proofs.Applied.{applied_are}
 use Rattle.undo.specs.declared.wanted.Want.{Want}
 use Rattle.undo.specs.Dependences.{dependences_of}
 use Rattle.undo.specs.Elements.{Changers, changers_of, change_key, AreChangers, beside_at, beside}
 use Rattle.undo.specs.Pairs.{is_own, AreOwn}
 use Rattle.undo.specs.Wants.{a_want, HaveElem, HaveDep, AreWants}
-use Rattle.undo.proofs.Changed.{changes-from, changes-to}
-use Rattle.undo.proofs.Needing.{dependences-are}
+use Rattle.undo.proofs.Changed.{changes_from, changes_to}
+use Rattle.undo.proofs.Needing.{dependences_are}
 
 abbrev Pair : Type 0
 Pair = Id × Id
@@ -33,46 +33,46 @@ Pair = Id × Id
 module _ (r : Restoring) (is_zone : IsZone r.zone) (others : List Id)
     (are_others : others ≡ filter (λ y. not (is_supplied r.accepted y)) (applied_ids r.zone)) (all : Changers)
     (are : AreChangers r.global others all) where
-  other-is : (y : Id) → Contains others y ↔ (IsTrue (is_applied r.zone y) × IsFalse (is_supplied r.accepted y))
-  other-is y = (
+  other_is : (y : Id) → Contains others y ↔ (IsTrue (is_applied r.zone y) × IsFalse (is_supplied r.accepted y))
+  other_is y = (
     λ h.
         let f = filter_in (λ y. not (is_supplied r.accepted y)) (applied_ids r.zone) y
         (subst (λ l. Contains l y) are_others h) in
-        ((applied-are r.zone is_zone y).0 f.0, not-true (is_supplied r.accepted y) f.1),
+        ((applied_are r.zone is_zone y).0 f.0, not-true (is_supplied r.accepted y) f.1),
     λ both. subst (λ l. Contains l y) (sym are_others) (in_filter (λ y. not (is_supplied r.accepted y))
-        (applied_ids r.zone) y ((applied-are r.zone is_zone y).1 both.0) (ap not both.1)),
+        (applied_ids r.zone) y ((applied_are r.zone is_zone y).1 both.0) (ap not both.1)),
   )
 
-  beside-at-is : (x y : Id) (h : Change) → Contains {X = Pair} (beside_at all x h) (x, y)
+  beside_at_is : (x y : Id) (h : Change) → Contains {X = Pair} (beside_at all x h) (x, y)
       ↔ (IsTrue (is_applied r.zone y) × IsFalse (is_supplied r.accepted y)
       × IsTrue (has_change r.global y h.elem_type h.name))
-  beside-at-is x y h = (
+  beside_at_is x y h = (
     λ there.
         let m = map_in (λ (v : Id). (x, v)) (changers_of all (change_key h)) (x, y) there in
         let c = (are (change_key h) y).0 (subst (Contains (changers_of all (change_key h))) (ap (λ p. p.1) m.2) m.1) in
-        let o = (other-is y).0 c.0 in
-        (o.0, o.1, changes-from r.global y (change_key h) c.1),
+        let o = (other_is y).0 c.0 in
+        (o.0, o.1, changes_from r.global y (change_key h) c.1),
     λ p. in_map (λ (v : Id). (x, v)) (changers_of all (change_key h)) y ((are (change_key h) y).1 (
-      (other-is y).1 (p.0, p.1),
-      changes-to r.global y h.elem_type h.name p.2,
+      (other_is y).1 (p.0, p.1),
+      changes_to r.global y h.elem_type h.name p.2,
     )),
   )
 
-  beside-by : (x : Id) (p : Pair) → Contains (beside r.global all x) p → p.0 ≡ x
-  beside-by x p there =
+  beside_by : (x : Id) (p : Pair) → Contains (beside r.global all x) p → p.0 ≡ x
+  beside_by x p there =
       let m = flat_in (beside_at all x) (changes_of r.global x) p there in
       let v = map_in (λ (v : Id). (x, v)) (changers_of all (change_key m.0)) p m.2 in
       sym (ap (λ q. q.0) v.2)
 
-  pub have-elem : (cands : List Id) (pairs : List Pair) → pairs ≡ flat_map (beside r.global all) cands
+  pub have_elem_holds : (cands : List Id) (pairs : List Pair) → pairs ≡ flat_map (beside r.global all) cands
       → HaveElem r cands pairs
-  have-elem cands pairs made x y other = (
+  have_elem_holds cands pairs made x y other = (
     λ there.
         let m = flat_in (beside r.global all) cands (x, y) (subst (λ l. Contains {X = Pair} l (x, y)) made there) in
-        let same : x ≡ m.0 = beside-by m.0 (x, y) m.2 in
+        let same : x ≡ m.0 = beside_by m.0 (x, y) m.2 in
         let own = subst (λ v. Contains {X = Pair} (beside r.global all v) (x, y)) (sym same) m.2 in
         let h = flat_in (beside_at all x) (changes_of r.global x) (x, y) own in
-        let is = (beside-at-is x y h.0).0 h.2 in (
+        let is = (beside_at_is x y h.0).0 h.2 in (
           subst (Contains cands) (sym same) m.1,
           record {
             other = other;
@@ -86,21 +86,21 @@ module _ (r : Restoring) (is_zone : IsZone r.zone) (others : List Id)
         subst (λ l. Contains {X = Pair} l (x, y)) (sym made) (in_flat (beside r.global all) cands x (x, y) both.0
         (in_flat (beside_at all x) (changes_of r.global x) n.shared.1 (x, y)
         (n.shared.0, n.shared.2, n.shared.3)
-        ((beside-at-is x y n.shared.1).1 (n.applied, n.not_accepted, n.shared.4)))),
+        ((beside_at_is x y n.shared.1).1 (n.applied, n.not_accepted, n.shared.4)))),
   )
 
 -- ---- both kinds
 
-pub have-dep : (r : Restoring) → IsZone r.zone → (ids cands : List Id) (pairs : List Pair)
+pub have_dep_holds : (r : Restoring) → IsZone r.zone → (ids cands : List Id) (pairs : List Pair)
     → pairs ≡ flat_map (dependences_of r (is_in ids)) (applied_ids r.zone) → HaveDep r ids cands pairs
-have-dep r is_zone ids cands pairs made x y other own =
+have_dep_holds r is_zone ids cands pairs made x y other own =
     subst (λ l. Contains {X = Pair} l (x, y) ↔ NeedsDep r (is_in ids) x y) (sym made)
-    (dependences-are r is_zone (is_in ids) x y other)
+    (dependences_are r is_zone (is_in ids) x y other)
 
-own-parts : (cands : List Id) (x y : Id) → IsTrue (is_own cands (x, y)) → Contains cands x × (y ≢ x)
-own-parts cands x y own =
+own_parts : (cands : List Id) (x y : Id) → IsTrue (is_own cands (x, y)) → Contains cands x × (y ≢ x)
+own_parts cands x y own =
     let parts = and_parts (is_in cands x) (not (bytes_eq x y)) own in (
-      Contains-from_is_in cands x parts.0,
+      Contains_from_is_in cands x parts.0,
       λ same. absurd (cc (
         not-true (bytes_eq x y) parts.1,
         subst (λ v. bytes_eq x v ≡ true) (sym same)
@@ -108,9 +108,9 @@ own-parts cands x y own =
       )),
     )
 
-own-whole : (cands : List Id) (x y : Id) → Contains cands x → y ≢ x → IsTrue (is_own cands (x, y))
-own-whole cands x y there other =
-    rw (is_in-from_Contains cands x there, other_text x y (λ same. other (sym same))) refl
+own_whole : (cands : List Id) (x y : Id) → Contains cands x → y ≢ x → IsTrue (is_own cands (x, y))
+own_whole cands x y there other =
+    rw (is_in_from_Contains cands x there, other_text x y (λ same. other (sym same))) refl
 
 module _ (r : Restoring) (ids cands : List Id) (are : cands ≡ restore_candidates r ids)
     (elem dep own_elem own_dep : List Pair)
@@ -119,72 +119,72 @@ module _ (r : Restoring) (ids cands : List Id) (are : cands ≡ restore_candidat
   on : (x : Id) → Contains cands x → IsTrue (is_applied r.zone x)
   on x there = (filter_in (is_applied r.zone) ids x (subst (λ l. Contains l x) are there)).1
 
-  elem-is : (x y : Id) → Contains {X = Pair} own_elem (x, y)
+  elem_is : (x y : Id) → Contains {X = Pair} own_elem (x, y)
       ↔ (Contains cands x × NeedsInRestore r (is_in ids) x Elem y)
-  elem-is x y = (
+  elem_is x y = (
     λ h.
         let m = (of_elem.members (x, y)).0 h in
-        let p = own-parts cands x y m.1 in
+        let p = own_parts cands x y m.1 in
         (p.0, (on x p.0, ((have_elem x y p.1).0 m.0).1)),
     λ n. (of_elem.members (x, y)).1
-        ((have_elem x y n.1.1.other).1 (n.0, n.1.1), own-whole cands x y n.0 n.1.1.other),
+        ((have_elem x y n.1.1.other).1 (n.0, n.1.1), own_whole cands x y n.0 n.1.1.other),
   )
 
-  dep-is : (x y : Id) → Contains {X = Pair} own_dep (x, y) ↔ (Contains cands x × NeedsInRestore r (is_in ids) x Dep y)
-  dep-is x y = (
+  dep_is : (x y : Id) → Contains {X = Pair} own_dep (x, y) ↔ (Contains cands x × NeedsInRestore r (is_in ids) x Dep y)
+  dep_is x y = (
     λ h.
         let m = (of_dep.members (x, y)).0 h in
-        let p = own-parts cands x y m.1 in
+        let p = own_parts cands x y m.1 in
         (p.0, (on x p.0, (have_dep x y p.1 p.0).0 m.0)),
     λ n. (of_dep.members (x, y)).1
-        ((have_dep x y n.1.1.other n.0).1 n.1.1, own-whole cands x y n.0 n.1.1.other),
+        ((have_dep x y n.1.1.other n.0).1 n.1.1, own_whole cands x y n.0 n.1.1.other),
   )
 
   abbrev both : List Want
   both = map (a_want Elem) own_elem ++ map (a_want Dep) own_dep
 
-  wants-from : (x : Id) (kind : NeedKind) (y : Id) → Contains both (a_want kind (x, y))
+  wants_from : (x : Id) (kind : NeedKind) (y : Id) → Contains both (a_want kind (x, y))
       → Contains cands x × NeedsInRestore r (is_in ids) x kind y
-  wants-from x kind y h =
+  wants_from x kind y h =
       elim (Contains-append_cases (map (a_want Elem) own_elem) (map (a_want Dep) own_dep) (a_want kind (x, y)) h) [
         | inl front ↦
             let m = map_in (a_want Elem) own_elem (a_want kind (x, y)) front in
             let pair : m.0 ≡ (x, y) = ap (λ (w : Want). (w.of, w.id)) m.2 in
             subst (λ k. Contains cands x × NeedsInRestore r (is_in ids) x k y) (ap (λ (w : Want). w.kind) m.2)
-            ((elem-is x y).0 (subst (Contains own_elem) pair m.1))
+            ((elem_is x y).0 (subst (Contains own_elem) pair m.1))
         | inr back ↦
             let m = map_in (a_want Dep) own_dep (a_want kind (x, y)) back in
             let pair : m.0 ≡ (x, y) = ap (λ (w : Want). (w.of, w.id)) m.2 in
             subst (λ k. Contains cands x × NeedsInRestore r (is_in ids) x k y) (ap (λ (w : Want). w.kind) m.2)
-            ((dep-is x y).0 (subst (Contains own_dep) pair m.1))
+            ((dep_is x y).0 (subst (Contains own_dep) pair m.1))
       ]
 
-  wants-to : (x : Id) (kind : NeedKind) (y : Id) → Contains cands x → NeedsInRestore r (is_in ids) x kind y
+  wants_to : (x : Id) (kind : NeedKind) (y : Id) → Contains cands x → NeedsInRestore r (is_in ids) x kind y
       → Contains both (a_want kind (x, y))
-  wants-to x Elem y there n =
+  wants_to x Elem y there n =
       Contains-append_left (map (a_want Elem) own_elem) (map (a_want Dep) own_dep) (a_want Elem (x, y))
-      (in_map (a_want Elem) own_elem (x, y) ((elem-is x y).1 (there, n)))
-  wants-to x Dep y there n =
+      (in_map (a_want Elem) own_elem (x, y) ((elem_is x y).1 (there, n)))
+  wants_to x Dep y there n =
       Contains-append_right (map (a_want Elem) own_elem) (map (a_want Dep) own_dep) (a_want Dep (x, y))
-      (in_map (a_want Dep) own_dep (x, y) ((dep-is x y).1 (there, n)))
-  wants-to x Fmid y there n = absurd n
-  wants-to x Pre y there n = absurd n
-  wants-to x Req y there n = absurd n
-  wants-to x Ifreq y there n = absurd n
-  wants-to x HoldError y there n = absurd n
-  wants-to x Orphan y there n = absurd n
+      (in_map (a_want Dep) own_dep (x, y) ((dep_is x y).1 (there, n)))
+  wants_to x Fmid y there n = absurd n
+  wants_to x Pre y there n = absurd n
+  wants_to x Req y there n = absurd n
+  wants_to x Ifreq y there n = absurd n
+  wants_to x HoldError y there n = absurd n
+  wants_to x Orphan y there n = absurd n
 
-  once-each : (kind : NeedKind) (pairs : List Pair) → AllPairs (λ p q. p ≢ q) pairs
+  once_each : (kind : NeedKind) (pairs : List Pair) → AllPairs (λ p q. p ≢ q) pairs
       → AllPairs (λ v w. v ≢ w) (map (a_want kind) pairs)
-  once-each kind pairs once =
+  once_each kind pairs once =
       pairs_map (λ p q. p ≢ q) (λ v w. v ≢ w) (a_want kind)
       (λ p q apart same. apart (ap (λ (w : Want). (w.of, w.id)) same)) pairs once
 
-  pub are-wants : (wants : List Want) → wants ≡ both → AreWants r ids cands wants
-  are-wants wants made = subst (AreWants r ids cands) (sym made) (record {
-    members = λ x kind y. (wants-from x kind y, λ n. wants-to x kind y n.0 n.1);
-    once = AllPairs-join (λ v w. v ≢ w) (map (a_want Elem) own_elem) (map (a_want Dep) own_dep)
-        (once-each Elem own_elem of_elem.once) (once-each Dep own_dep of_dep.once)
+  pub are_wants : (wants : List Want) → wants ≡ both → AreWants r ids cands wants
+  are_wants wants made = subst (AreWants r ids cands) (sym made) (record {
+    members = λ x kind y. (wants_from x kind y, λ n. wants_to x kind y n.0 n.1);
+    once = AllPairs_join (λ v w. v ≢ w) (map (a_want Elem) own_elem) (map (a_want Dep) own_dep)
+        (once_each Elem own_elem of_elem.once) (once_each Dep own_dep of_dep.once)
         (All-map (λ v. All (λ w. v ≢ w) (map (a_want Dep) own_dep)) (a_want Elem) own_elem
         (λ i d below. All-map (λ w. a_want Elem (get_or own_elem i d) ≢ w) (a_want Dep) own_dep
         (λ j e within. apart (get_or own_elem i d) (get_or own_dep j e))));

@@ -4,3 +4,4 @@ pub mod Tests
 pub mod Pairs
 pub mod Wants
 pub mod Numbered
+pub mod Restoring

@@ -8,7 +8,7 @@ use Rattle.terms.specs.Types.{Id, Change}
 use Rattle.terms.specs.Lookups.{is_nil, changes_of, element_of, is_supplied}
 use Rattle.terms.specs.Choice.{del_of}
 use Rattle.terms.specs.Restore.{Restoring, are_applied, FailsRestore}
-use Rattle.machine.specs.Installing.{all_tests}
+use Rattle.terms.specs.Failures.{all_tests}
 
 -- whether the distribution zone has the element under an FMID, an RMID or a UMID that the target zone has not applied
 abbrev pub is_behind : Restoring → Change → Bool

@@ -7,10 +7,10 @@ ghost use Rattle.undo.specs.Dependences.{by_requisite, dependences_of};
 
 use crate::pairs::add_pairs;
 use fields::{Id, IdList};
-use std::alloc::{AllocError, Global as Heap};
+use std::alloc::{AllocError, Global};
 use undo_list::{Scope, applied_ids, suppliers};
 use zones::Zone;
-use zones_less::requisites_held;
+use zones_views::requisites_held;
 
 // Whether the list has all of these.
 fn are_listed(list: &IdList, ids: &[Id]) -> bool
@@ -21,7 +21,7 @@ fn are_listed(list: &IdList, ids: &[Id]) -> bool
 
 // Adds those that supply the requisite, if all are in the list.
 fn add_by_requisite(
-    alloc: Heap,
+    alloc: Global,
     zone: &Zone,
     list: &IdList,
     by: Id,
@@ -38,7 +38,7 @@ fn add_by_requisite(
 }
 
 fn add_by_requisites(
-    alloc: Heap,
+    alloc: Global,
     zone: &Zone,
     list: &IdList,
     by: Id,
@@ -65,7 +65,7 @@ fn add_by_function(pairs: &mut Vec<(Id, Id)>, fmid: Option<Id>, by: Id) -> Resul
 
 // Adds those on which one SYSMOD depends.
 fn add_dependences(
-    alloc: Heap,
+    alloc: Global,
     scope: &Scope<'_, '_>,
     list: &IdList,
     by: Id,
@@ -82,7 +82,7 @@ fn add_dependences(
 
 /// The pairs of a SYSMOD and an applied one that depends on it.
 pub(crate) fn dependences(
-    alloc: Heap,
+    alloc: Global,
     scope: &Scope<'_, '_>,
     list: &IdList,
 ) -> Result<Vec<(Id, Id)>, AllocError>

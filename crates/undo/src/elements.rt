@@ -5,7 +5,7 @@ ghost use Rattle.undo.specs.Elements.{AreChangers, Gains, beside, beside_at, cha
 
 use crate::pairs::add_needed;
 use fields::{Id, Name};
-use std::alloc::{AllocError, Global as Heap};
+use std::alloc::{AllocError, Global};
 use std::collections::BTreeMap;
 use sysmods::VerChoice;
 use sysmods_records::ElemChange;
@@ -15,7 +15,7 @@ use undo_list::changes_of;
 /// For each element some SYSMODs that change it.
 pub(crate) type Changers = BTreeMap<(ElemType, Name), Vec<Id>>;
 
-fn only(alloc: Heap, id: Id) -> Result<Vec<Id>, AllocError>
+fn only(alloc: Global, id: Id) -> Result<Vec<Id>, AllocError>
     ensures { IfOk result (λ ids. ids.items ≡ id ∷ []) }
 {
     let mut ids = Vec::new(alloc);
@@ -24,7 +24,7 @@ fn only(alloc: Heap, id: Id) -> Result<Vec<Id>, AllocError>
 }
 
 fn add(
-    alloc: Heap,
+    alloc: Global,
     changers: &mut Changers,
     element: (ElemType, Name),
     by: Id,
@@ -40,7 +40,7 @@ fn add(
 }
 
 fn add_at(
-    alloc: Heap,
+    alloc: Global,
     changers: &mut Changers,
     change: &ElemChange,
     by: Id,
@@ -51,7 +51,7 @@ fn add_at(
 }
 
 fn add_each(
-    alloc: Heap,
+    alloc: Global,
     changers: &mut Changers,
     changes: &[ElemChange],
     by: Id,
@@ -67,7 +67,7 @@ fn add_each(
 
 /// What these SYSMODs change.
 pub(crate) fn changers(
-    alloc: Heap,
+    alloc: Global,
     vers: &VerChoice<'_>,
     ids: &[Id],
 ) -> Result<Changers, AllocError>
@@ -118,7 +118,7 @@ fn add_beside(
 
 /// Each of these SYSMODs with each that changes an element of it.
 pub(crate) fn all_beside(
-    alloc: Heap,
+    alloc: Global,
     vers: &VerChoice<'_>,
     changers: &Changers,
     ids: &[Id],

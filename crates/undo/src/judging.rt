@@ -1,3 +1,4 @@
+//! The candidates of a RESTORE, judged: their tests and their numbered needs.
 ghost use Rattle.std.specs.Prelude.{◌≡◌, IfOk, filter, map};
 ghost use Rattle.terms.specs.Lookups.{is_in, is_applied};
 ghost use Rattle.terms.specs.Needs.{Serves};
@@ -12,7 +13,7 @@ use crate::tests::{all_eligible, all_rows};
 use crate::wanted::all_wants;
 use fields::{Id, IdList};
 use solve::System;
-use std::alloc::{AllocError, Global as Heap};
+use std::alloc::{AllocError, Global};
 use sysmods::VerChoice;
 use terms::{NeedKind, Test};
 use undo_list::{Scope, push_applied};
@@ -29,7 +30,7 @@ pub struct Judged {
 }
 
 // Those of the list that are applied.
-fn candidates(alloc: Heap, zone: &Zone, ids: &IdList) -> Result<IdList, AllocError>
+fn candidates(alloc: Global, zone: &Zone, ids: &IdList) -> Result<IdList, AllocError>
     ensures { IfOk result (λ cands. cands ≡ filter (is_applied zone.now) ids.now) }
 {
     let mut found = Vec::new(alloc);
@@ -42,7 +43,7 @@ fn candidates(alloc: Heap, zone: &Zone, ids: &IdList) -> Result<IdList, AllocErr
 /// Judges the SYSMODs of RESTORE's list in a target zone with this distribution zone. More candidates than there are
 /// numbers of 32 bits count as too little memory.
 pub fn restore_system(
-    alloc: Heap,
+    alloc: Global,
     vers: &VerChoice<'_>,
     zone: &Zone,
     accepted: &Zone,

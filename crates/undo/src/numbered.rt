@@ -8,7 +8,7 @@ ghost use Rattle.undo.specs.Numbered.{AddsDemand, AreOwnPlaces, HasDemands};
 use crate::wanted::{Want, want_at};
 use fields::{Id, IdList};
 use solve::{Need, System};
-use std::alloc::{AllocError, Global as Heap};
+use std::alloc::{AllocError, Global};
 use terms::NeedKind;
 
 // Where the id stands in the list.
@@ -24,7 +24,7 @@ fn place_of(ids: &IdList, id: Id) -> Option<u32>
 }
 
 // The same as a list of no more than one.
-fn places_of(alloc: Heap, ids: &IdList, id: Id) -> Result<Vec<u32>, AllocError>
+fn places_of(alloc: Global, ids: &IdList, id: Id) -> Result<Vec<u32>, AllocError>
     requires { length ids.now < 2 ^ 32 }
     ensures places { IfOk result (λ any. AreOwnPlaces ids.now id any.items) }
     ensures below { IfOk result (λ any. All (λ n. n < length ids.now) any.items) }
@@ -50,7 +50,7 @@ fn own_place(ids: &IdList, id: Id) -> u32
 
 // Adds one need.
 fn add_want(
-    alloc: Heap,
+    alloc: Global,
     ids: &IdList,
     want: Want,
     system: &mut System,
@@ -70,7 +70,7 @@ fn add_want(
 
 /// The problem of candidates with these flags and these needs, and the kind and the id of each need.
 pub(crate) fn numbered(
-    alloc: Heap,
+    alloc: Global,
     ids: &IdList,
     wants: &[Want],
     eligible: Vec<bool>,

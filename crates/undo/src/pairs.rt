@@ -4,7 +4,7 @@ ghost use Rattle.terms.specs.Types.{Id as AnId};
 ghost use Rattle.undo.specs.Pairs.{is_own, AreOwn};
 
 use fields::{Id, IdList};
-use std::alloc::{AllocError, Global as Heap};
+use std::alloc::{AllocError, Global};
 
 /// Adds each of these ids with one that it needs.
 pub(crate) fn add_pairs(pairs: &mut Vec<(Id, Id)>, ids: &[Id], needed: Id) -> Result<(), AllocError>
@@ -42,7 +42,7 @@ fn push_if_own(ids: &IdList, pair: &(Id, Id), found: &mut Vec<(Id, Id)>) -> Resu
     Ok(())
 }
 
-fn own_pairs(alloc: Heap, ids: &IdList, pairs: &[(Id, Id)]) -> Result<Vec<(Id, Id)>, AllocError>
+fn own_pairs(alloc: Global, ids: &IdList, pairs: &[(Id, Id)]) -> Result<Vec<(Id, Id)>, AllocError>
     ensures { IfOk result (λ found. found.items ≡ filter (is_own ids.now) pairs.now) }
 {
     let mut found = Vec::new(alloc);
@@ -64,7 +64,7 @@ fn unique(mut pairs: Vec<(Id, Id)>) -> Vec<(Id, Id)>
 
 /// The pairs of one of the list and another one, each once.
 pub(crate) fn all_own(
-    alloc: Heap,
+    alloc: Global,
     ids: &IdList,
     pairs: &[(Id, Id)],
 ) -> Result<Vec<(Id, Id)>, AllocError>

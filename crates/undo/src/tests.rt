@@ -1,17 +1,16 @@
 //! The tests of RESTORE.
 ghost use Rattle.std.specs.Prelude.{◌≡◌, ◌++◌, [], ◌∷◌, not, filter, map, IfOk, OnOk, if◌then◌else◌};
 ghost use Rattle.std.specs.List.{list_any};
-ghost use Rattle.std.specs.Option.{option_map_or};
-ghost use Rattle.terms.specs.Lookups.{is_nil, is_applied, element_of};
+ghost use Rattle.terms.specs.Lookups.{is_nil, is_applied};
 ghost use Rattle.terms.specs.Choice.{del_of};
 ghost use Rattle.terms.specs.Restore.{are_applied};
 ghost use Rattle.sysmods.specs.Choices.{choice};
-ghost use Rattle.machine.specs.Installing.{all_tests};
+ghost use Rattle.terms.specs.Failures.{all_tests};
 ghost use Rattle.undo_list.specs.Restoring.{restoring_of};
 ghost use Rattle.undo.specs.Tests.{is_behind, fails_test};
 
 use fields::Id;
-use std::alloc::{AllocError, Global as Heap};
+use std::alloc::{AllocError, Global};
 use sysmods::VerChoice;
 use sysmods_records::ElemChange;
 use terms::Test;
@@ -69,7 +68,7 @@ fn add_if(tests: &mut Vec<Test>, fails: bool, test: Test) -> Result<(), AllocErr
 }
 
 // The tests that a candidate fails.
-fn row_of(alloc: Heap, scope: &Scope<'_, '_>, id: Id) -> Result<Vec<Test>, AllocError>
+fn row_of(alloc: Global, scope: &Scope<'_, '_>, id: Id) -> Result<Vec<Test>, AllocError>
     ensures { IfOk result (λ row. row.items ≡ filter (fails_test (restoring_of scope.now) id) all_tests) }
 {
     let mut tests = Vec::new(alloc);
@@ -85,7 +84,7 @@ fn row_of(alloc: Heap, scope: &Scope<'_, '_>, id: Id) -> Result<Vec<Test>, Alloc
 
 /// The tests that each candidate fails.
 pub(crate) fn all_rows(
-    alloc: Heap,
+    alloc: Global,
     scope: &Scope<'_, '_>,
     ids: &[Id],
 ) -> Result<Vec<Vec<Test>>, AllocError>
@@ -100,7 +99,7 @@ pub(crate) fn all_rows(
 }
 
 /// Whether each candidate fails none.
-pub(crate) fn all_eligible(alloc: Heap, rows: &[Vec<Test>]) -> Result<Vec<bool>, AllocError>
+pub(crate) fn all_eligible(alloc: Global, rows: &[Vec<Test>]) -> Result<Vec<bool>, AllocError>
     ensures { IfOk result (λ flags. flags.items ≡ map (λ row. is_nil row.items) rows.now) }
 {
     let mut flags = Vec::new(alloc);

@@ -8,7 +8,7 @@ use crate::dependences::dependences;
 use crate::elements::{all_beside, changers};
 use crate::pairs::all_own;
 use fields::{Id, IdList};
-use std::alloc::{AllocError, Global as Heap};
+use std::alloc::{AllocError, Global};
 use terms::NeedKind;
 use undo_list::{Scope, applied_ids, unaccepted};
 
@@ -22,13 +22,13 @@ pub(crate) struct Want {
 
 // The candidates with those that share an element with them.
 fn elem_pairs(
-    alloc: Heap,
+    alloc: Global,
     scope: &Scope<'_, '_>,
     cands: &IdList,
 ) -> Result<Vec<(Id, Id)>, AllocError>
     ensures { IfOk result (λ pairs. HaveElem (restoring_of scope.now) cands.now pairs.items) }
 {
-    scope.zone.known();
+    scope.zone.attest();
     let applied = applied_ids(alloc, scope.zone)?;
     let others = unaccepted(alloc, scope.accepted, applied.as_slice())?;
     let changers = changers(alloc, scope.vers, others.as_slice())?;
@@ -38,7 +38,7 @@ fn elem_pairs(
 
 // The candidates with those that depend on them.
 fn dep_pairs(
-    alloc: Heap,
+    alloc: Global,
     scope: &Scope<'_, '_>,
     list: &IdList,
     cands: &IdList,
@@ -46,7 +46,7 @@ fn dep_pairs(
     requires { cands.now ≡ restore_candidates (restoring_of scope.now) list.now }
     ensures { IfOk result (λ pairs. HaveDep (restoring_of scope.now) list.now cands.now pairs.items) }
 {
-    scope.zone.known();
+    scope.zone.attest();
     let pairs = dependences(alloc, scope, list)?;
     Ok(pairs)
 }
@@ -66,7 +66,7 @@ fn add_wants(wants: &mut Vec<Want>, kind: NeedKind, pairs: &[(Id, Id)]) -> Resul
 
 /// The needs of all candidates.
 pub(crate) fn all_wants(
-    alloc: Heap,
+    alloc: Global,
     scope: &Scope<'_, '_>,
     list: &IdList,
     cands: &IdList,

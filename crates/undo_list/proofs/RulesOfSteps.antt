@@ -27,27 +27,27 @@ use Rattle.undo_list.specs.contracts.nodes.NodeOrd.TheImpl as node_order
 use Rattle.undo_list.specs.Steps.{Step, as_step, as_steps, is_start}
 use Rattle.undo_list.specs.ByNumbers.{ArePlaces, IsNumbered, AreNumbered, IsGrowth, AddsRule, Covers, nodes_in}
 use Rattle.undo_list.specs.ByNumbers.{sysmod_in, AreFlagged, IsFlagged, AreReached}
-use Rattle.undo_list.proofs.Reached.{all-from, flagged-reached}
+use Rattle.undo_list.proofs.Reached.{all_from, flagged_reached}
 
 -- ---- sorted numbers without doubles
 
-pub unique-members : (all sorted : List ℕ) → IsPermutation all sorted → (n : ℕ) → Contains (dedup nat_eq sorted) n
+pub unique_members : (all sorted : List ℕ) → IsPermutation all sorted → (n : ℕ) → Contains (dedup nat_eq sorted) n
     ↔ Contains all n
-unique-members all sorted moved n = (
+unique_members all sorted moved n = (
   λ h. Contains-permutation sorted all n (IsPermutation-sym all sorted moved) (Contains-from_dedup nat_eq sorted n h),
   λ h. Contains-dedup_nat sorted n (Contains-permutation all sorted n moved h),
 )
 
-pub unique-rising : (sorted : List ℕ) → IsSorted nat_cmp sorted → AllPairs (λ a b. a < b) (dedup nat_eq sorted)
-unique-rising sorted in_order =
+pub unique_rising : (sorted : List ℕ) → IsSorted nat_cmp sorted → AllPairs (λ a b. a < b) (dedup nat_eq sorted)
+unique_rising sorted in_order =
     AllPairs-from_increasing (dedup nat_eq sorted) (IsStrictlyIncreasing-dedup sorted in_order)
 
 -- ---- a rule
 
-pub are-places : (table these : List Node) (found places : List ℕ)
+pub are_places : (table these : List Node) (found places : List ℕ)
     → map (slice_get table) found ≡ map (λ n. Some n) these → ((n : ℕ) → Contains places n ↔ Contains found n)
     → ArePlaces table these places
-are-places table these found places same members = record {
+are_places table these found places same members = record {
   there = λ m h.
       let p = map_in (slice_get table) found (Some m) (subst (λ l. Contains l (Some m)) (sym same)
       (in_map (λ n. Some n) these m h)) in
@@ -58,10 +58,10 @@ are-places table these found places same members = record {
       (p.0, p.1, sym p.2);
 }
 
-pub numbered-rule : (table : List Node) (s : Step) (r : Rule) → IsNumbered table s r
+pub numbered_rule : (table : List Node) (s : Step) (r : Rule) → IsNumbered table s r
     → AllPairs (λ a b. a < b) r.these → IsRule (length table) r
-numbered-rule table s r is rising = record {
-  these = all-from (λ y. y < length table) r.these
+numbered_rule table s r is rising = record {
+  these = all_from (λ y. y < length table) r.these
       (λ i h. let m = is.these.only i h in slice_get_within table i m.0 m.2);
   rising = rising;
   that = slice_get_within table r.that s.that is.that;
@@ -69,9 +69,9 @@ numbered-rule table s r is rising = record {
 
 -- ---- one rule more
 
-both-numbered : (table : List Node) (steps : List Step) (rules : List Rule) (s : Step) (r : Rule)
+both_numbered : (table : List Node) (steps : List Step) (rules : List Rule) (s : Step) (r : Rule)
     → AreNumbered table steps rules → IsNumbered table s r → AreNumbered table (steps ++ s ∷ []) (rules ++ r ∷ [])
-both-numbered table steps rules s r are is = record {
+both_numbered table steps rules s r are is = record {
   there = λ t h. elim (Contains-append_cases steps (s ∷ []) t h) [
     | inl old ↦ (let p = are.there t old in (p.0, Contains-append_left rules (r ∷ []) p.0 p.1, p.2))
     | inr new ↦ elim (here_or s [] t new) [
@@ -88,43 +88,43 @@ both-numbered table steps rules s r are is = record {
   ];
 }
 
-pub one-more : (table : List Node) (ids : List Id) (steps : List RustStep) (i : ℕ) (s : RustStep) (old new : Growth)
+pub one_more : (table : List Node) (ids : List Id) (steps : List RustStep) (i : ℕ) (s : RustStep) (old new : Growth)
     → i < length steps → s ≡ get_or steps i s → IsGrowth table ids (as_steps (take i steps)) old
     → AddsRule table (as_step s) old new → IsGrowth table ids (as_steps (take (i + 1) steps)) new
-one-more table ids steps i s old new low is growth adds =
+one_more table ids steps i s old new low is growth adds =
     let more : as_steps (take (i + 1) steps) ≡ as_steps (take i steps) ++ as_step s ∷ [] =
     ap as_steps (take_more steps i s low ∙ ap (λ v. take i steps ++ v ∷ []) (sym is))
     ∙ map-append as_step (take i steps) (s ∷ []) in
     subst (λ l. IsGrowth table ids l new) (sym more)
     (subst (IsGrowth table ids (as_steps (take i steps) ++ as_step s ∷ [])) (sym adds.new_is) record {
       start = growth.start;
-      rules = both-numbered table (as_steps (take i steps)) old.rules (as_step s) adds.rule growth.rules adds.numbered;
+      rules = both_numbered table (as_steps (take i steps)) old.rules (as_step s) adds.rule growth.rules adds.numbered;
     })
 
 -- ---- one place more
 
-own-sysmod : (n : Node) (x : Id) → Contains (sysmod_in n) x → n ≡ Sysmod x
-own-sysmod (Sysmod y) x h = elim (here_or y [] x h) [
+own_sysmod : (n : Node) (x : Id) → Contains (sysmod_in n) x → n ≡ Sysmod x
+own_sysmod (Sysmod y) x h = elim (here_or y [] x h) [
   | inl same ↦ ap Sysmod same
   | inr later ↦ absurd (none_in x later)
 ]
-own-sysmod (Element type name) x h = absurd (none_in x h)
+own_sysmod (Element type name) x h = absurd (none_in x h)
 
-pub flagged-more : (table : List Node) (flags : List Bool) (i : ℕ) (found new : List Id) (n : Node)
+pub flagged_more : (table : List Node) (flags : List Bool) (i : ℕ) (found new : List Id) (n : Node)
     → slice_get table i ≡ Some n → AreFlagged table flags i found
     → new ≡ found ++ cond (holds flags i) (sysmod_in n) [] → AreFlagged table flags (i + 1) new
-flagged-more table flags i found new n at are is x = (
+flagged_more table flags i found new n at are is x = (
   λ h. elim (Contains-append_cases found (cond (holds flags i) (sysmod_in n) []) x
       (subst (λ l. Contains l x) is h)) [
         | inl old ↦ (let p = (are x).0 old in (p.0, omega (arith, p.1), p.2))
-        | inr own ↦ (i, omega arith, by-flag (holds flags i) refl own)
+        | inr own ↦ (i, omega arith, by_flag (holds flags i) refl own)
       ],
   λ p. subst (λ l. Contains l x) (sym is) (within p.0 p.1 p.2),
 )
   where
-    by-flag : (b : Bool) → holds flags i ≡ b → Contains (cond b (sysmod_in n) []) x → IsFlagged table flags x i
-    by-flag true e own = (at ∙ ap (λ v. Some v) (own-sysmod n x own), e)
-    by-flag false e own = absurd (none_in x own)
+    by_flag : (b : Bool) → holds flags i ≡ b → Contains (cond b (sysmod_in n) []) x → IsFlagged table flags x i
+    by_flag true e own = (at ∙ ap (λ v. Some v) (own_sysmod n x own), e)
+    by_flag false e own = absurd (none_in x own)
 
     at-end : IsFlagged table flags x i → Contains (cond (holds flags i) (sysmod_in n) []) x
     at-end f =
@@ -141,17 +141,17 @@ flagged-more table flags i found new n at are is x = (
 
 -- ---- a table of all
 
-pub starts-in : (table nodes : List Node) (ids : List Id) (steps : List RustStep)
+pub starts_in : (table nodes : List Node) (ids : List Id) (steps : List RustStep)
     → nodes ≡ map Sysmod ids ++ flat_map nodes_in steps → ((n : Node) → Contains table n ↔ Contains nodes n)
     → All (λ x. Contains table (Sysmod x)) ids
-starts-in table nodes ids steps is same = all-from (λ x. Contains table (Sysmod x)) ids (λ x h.
+starts_in table nodes ids steps is same = all_from (λ x. Contains table (Sysmod x)) ids (λ x h.
     (same (Sysmod x)).1 (subst (λ l. Contains l (Sysmod x)) (sym is)
     (Contains-append_left (map Sysmod ids) (flat_map nodes_in steps) (Sysmod x) (in_map Sysmod ids x h))))
 
-pub covers-in : (table nodes : List Node) (ids : List Id) (steps : List RustStep)
+pub covers_in : (table nodes : List Node) (ids : List Id) (steps : List RustStep)
     → nodes ≡ map Sysmod ids ++ flat_map nodes_in steps → ((n : Node) → Contains table n ↔ Contains nodes n)
     → All (Covers table) steps
-covers-in table nodes ids steps is same = all-from (Covers table) steps (λ s h.
+covers_in table nodes ids steps is same = all_from (Covers table) steps (λ s h.
     let in_table : (n : Node) → Contains (nodes_in s) n → Contains table n =
     λ n of. (same n).1 (subst (λ l. Contains l n) (sym is)
     (Contains-append_right (map Sysmod ids) (flat_map nodes_in steps) n (in_flat nodes_in steps s n h of))) in
@@ -162,15 +162,15 @@ covers-in table nodes ids steps is same = all-from (Covers table) steps (λ s h.
 
 -- ---- the whole
 
-pub all-reached : (table : List Node) → Rises node_order.ghosts.cmp (λ n. n) table → (ids : List Id)
+pub all_reached : (table : List Node) → Rises node_order.ghosts.cmp (λ n. n) table → (ids : List Id)
     → (steps : List Step) (g : Growth) → IsGrowth table ids steps g → ((x : Id) → Contains ids x
     → Contains table (Sysmod x)) → (flags : List Bool) → IsLeast g flags → (chosen found : List Id)
     → AreFlagged table flags (length table) chosen → ((x : Id) → Contains found x ↔ Contains chosen x)
     → IsRising found → AreReached ids steps found
-all-reached table rises ids steps g growth starts flags least chosen found flagged same rising = record {
+all_reached table rises ids steps g growth starts flags least chosen found flagged same rising = record {
   rising = rising;
   members = λ x.
       let size : length flags ≡ length table = least.size ∙ ap length growth.start ∙ length-map table (is_start ids) in
-      let both = flagged-reached table rises ids steps g growth starts flags least chosen flagged size x in
+      let both = flagged_reached table rises ids steps g growth starts flags least chosen flagged size x in
       (λ h. both.0 ((same x).0 h), λ h. (same x).1 (both.1 h));
 }

@@ -9,15 +9,15 @@ use Rattle.lemmas.proofs.Members.{here, here_or, none_in, in_filter, filter_in}
 use Rattle.lemmas.proofs.Texts.{same_from, same_itself}
 use Rattle.terms.specs.Types.{Id, Zone}
 use Rattle.terms.specs.Lookups.{is_in, is_applied, supby_of, supplies}
-use Rattle.terms.proofs.Ids.{is_in-from_Contains, Contains-from_is_in}
+use Rattle.terms.proofs.Ids.{is_in_from_Contains, Contains_from_is_in}
 use Rattle.undo_list.specs.Restoring.{suppliers}
 
-by-or : (a b : Bool) → (a || b) ≡ true → (a ≡ true) ⊎ (b ≡ true)
-by-or true b on = inl refl
-by-or false b on = inr on
+by_or : (a b : Bool) → (a || b) ≡ true → (a ≡ true) ⊎ (b ≡ true)
+by_or true b on = inl refl
+by_or false b on = inr on
 
-pub supplier-is : (zone : Zone) (x z : Id) → Contains (suppliers zone z) x ↔ IsTrue (supplies zone x z)
-supplier-is zone x z = (from, to)
+pub supplier_is : (zone : Zone) (x z : Id) → Contains (suppliers zone z) x ↔ IsTrue (supplies zone x z)
+supplier_is zone x z = (from, to)
   where
     from : Contains (suppliers zone z) x → IsTrue (supplies zone x z)
     from h = elim (Contains-append_cases (filter (is_applied zone) (z ∷ [])) (filter (is_applied zone)
@@ -30,23 +30,23 @@ supplier-is zone x z = (from, to)
               ]
           | inr over ↦
               let f = filter_in (is_applied zone) (supby_of zone z) x over in
-              rw (f.1) (or-right (bytes_eq x z) (is_in (supby_of zone z) x)
-              (is_in-from_Contains (supby_of zone z) x f.0))
+              rw (f.1) (or_right (bytes_eq x z) (is_in (supby_of zone z) x)
+              (is_in_from_Contains (supby_of zone z) x f.0))
         ]
       where
-        or-right : (a b : Bool) → b ≡ true → (a || b) ≡ true
-        or-right true b on = refl
-        or-right false b on = on
+        or_right : (a b : Bool) → b ≡ true → (a || b) ≡ true
+        or_right true b on = refl
+        or_right false b on = on
 
     to : IsTrue (supplies zone x z) → Contains (suppliers zone z) x
     to on =
         let parts = and_parts (is_applied zone x) (bytes_eq x z || is_in (supby_of zone z) x) on in
-        elim (by-or (bytes_eq x z) (is_in (supby_of zone z) x) parts.1) [
+        elim (by_or (bytes_eq x z) (is_in (supby_of zone z) x) parts.1) [
           | inl same ↦ Contains-append_left (filter (is_applied zone) (z ∷ []))
               (filter (is_applied zone) (supby_of zone z)) x
               (in_filter (is_applied zone) (z ∷ []) x
               (subst (Contains (z ∷ [])) (sym (same_from x z same)) (here z [])) parts.0)
           | inr over ↦ Contains-append_right (filter (is_applied zone) (z ∷ []))
               (filter (is_applied zone) (supby_of zone z)) x
-              (in_filter (is_applied zone) (supby_of zone z) x (Contains-from_is_in (supby_of zone z) x over) parts.0)
+              (in_filter (is_applied zone) (supby_of zone z) x (Contains_from_is_in (supby_of zone z) x over) parts.0)
         ]

@@ -10,13 +10,13 @@ use crate::scope::Scope;
 use crate::steps::all_steps;
 use cntl::RestoreList;
 use fields::IdList;
-use std::alloc::{AllocError, Global as Heap};
+use std::alloc::{AllocError, Global};
 use sysmods::VerChoice;
 use zones::Zone;
 
 // GROUP's list: its ids and all which they need, and what those need.
 fn grouped(
-    alloc: Heap,
+    alloc: Global,
     vers: &VerChoice<'_>,
     zone: &Zone,
     accepted: &Zone,
@@ -24,7 +24,7 @@ fn grouped(
 ) -> Result<IdList, AllocError>
     ensures { IfOk result (AreListed (restoring vers.now zone.now accepted.now) (RestoreGroup ids.now)) }
 {
-    zone.known();
+    zone.attest();
     let scope = Scope {
         vers,
         zone,
@@ -36,7 +36,7 @@ fn grouped(
 
 // SELECT's list: its ids.
 fn selected(
-    alloc: Heap,
+    alloc: Global,
     vers: &VerChoice<'_>,
     zone: &Zone,
     accepted: &Zone,
@@ -50,7 +50,7 @@ fn selected(
 
 /// SELECT's ids, or what GROUP's ids lead to, in a target zone with this distribution zone.
 pub fn restore_list(
-    alloc: Heap,
+    alloc: Global,
     vers: &VerChoice<'_>,
     zone: &Zone,
     accepted: &Zone,

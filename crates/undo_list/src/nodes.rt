@@ -4,7 +4,7 @@ ghost use Rattle.undo_list.specs.Steps.{as_steps};
 ghost use Rattle.undo_list.specs.declared.nodes.Node.TheVariants.{Sysmod};
 
 use fields::{Field, Id, Name};
-use std::alloc::{AllocError, Global as Heap};
+use std::alloc::{AllocError, Global};
 use terms::ElemType;
 
 /// A SYSMOD, or an element.
@@ -28,7 +28,7 @@ pub(crate) struct Step {
 }
 
 /// A list of one.
-pub(crate) fn only(alloc: Heap, node: Node) -> Result<Vec<Node>, AllocError>
+pub(crate) fn only(alloc: Global, node: Node) -> Result<Vec<Node>, AllocError>
     ensures { IfOk result (λ nodes. nodes.items ≡ node ∷ []) }
 {
     let mut nodes = Vec::new(alloc);

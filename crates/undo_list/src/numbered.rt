@@ -1,5 +1,5 @@
 //! What GROUP's list reaches, by numbers.
-ghost use Rattle.std.specs.Prelude.{◌≡◌, ◌<◌, ◌^◌, ◌++◌, ◌∷◌, [], length, map, All, Contains, IfOk, OnOk};
+ghost use Rattle.std.specs.Prelude.{◌≡◌, ◌<◌, ◌^◌, ◌++◌, [], length, map, All, Contains, IfOk, OnOk};
 ghost use Rattle.std.specs.Prelude.{if◌then◌else◌};
 ghost use Rattle.std.specs.List.{flat_map};
 ghost use Rattle.undo_list.specs.declared.nodes.Node.TheVariants.{Sysmod};
@@ -10,7 +10,7 @@ use crate::nodes::{Node, Step, push_sysmods};
 use crate::numbers::rule_of;
 use fields::{Id, IdList, Rising};
 use solve::{Rules, least};
-use std::alloc::{AllocError, Global as Heap};
+use std::alloc::{AllocError, Global};
 
 fn push_nodes_in(step: &Step, nodes: &mut Vec<Node>) -> Result<(), AllocError>
     ensures { OnOk result (nodes.new.items ≡ nodes.old.items ++ nodes_in step.now) }
@@ -21,7 +21,7 @@ fn push_nodes_in(step: &Step, nodes: &mut Vec<Node>) -> Result<(), AllocError>
 }
 
 // All that these ids and steps are about.
-fn all_nodes(alloc: Heap, ids: &IdList, steps: &[Step]) -> Result<Vec<Node>, AllocError>
+fn all_nodes(alloc: Global, ids: &IdList, steps: &[Step]) -> Result<Vec<Node>, AllocError>
     ensures { IfOk result (λ nodes. nodes.items ≡ map Sysmod ids.now ++ flat_map nodes_in steps.now) }
 {
     let mut nodes = Vec::new(alloc);
@@ -41,14 +41,14 @@ fn is_start(ids: &IdList, node: &Node) -> bool
     }
 }
 
-fn starts(alloc: Heap, ids: &IdList, table: &[Node]) -> Result<Vec<bool>, AllocError>
+fn starts(alloc: Global, ids: &IdList, table: &[Node]) -> Result<Vec<bool>, AllocError>
     ensures { IfOk result (λ flags. flags.items ≡ map (is_start ids.now) table.now) }
 {
     table.iter().map(|node| is_start(ids, node)).collect(alloc)
 }
 
 fn add_rule(
-    alloc: Heap,
+    alloc: Global,
     table: &Rising<Node>,
     step: &Step,
     rules: &mut Rules,
@@ -65,7 +65,7 @@ fn add_rule(
 
 // The numbered problem.
 fn growth(
-    alloc: Heap,
+    alloc: Global,
     table: &Rising<Node>,
     ids: &IdList,
     steps: &[Step],
@@ -94,7 +94,7 @@ fn push_if(flag: bool, node: Node, found: &mut Vec<Id>) -> Result<(), AllocError
 }
 
 // The ids of the flagged SYSMODs.
-fn flagged(alloc: Heap, table: &[Node], flags: &[bool]) -> Result<Vec<Id>, AllocError>
+fn flagged(alloc: Global, table: &[Node], flags: &[bool]) -> Result<Vec<Id>, AllocError>
     requires { length flags.now ≡ length table.now }
     ensures { IfOk result (λ found. AreFlagged table.now flags.now (length table.now) found.items) }
 {
@@ -107,7 +107,7 @@ fn flagged(alloc: Heap, table: &[Node], flags: &[bool]) -> Result<Vec<Id>, Alloc
 
 // The ids that are reached over a table of all that they and the steps are about.
 fn reached_over(
-    alloc: Heap,
+    alloc: Global,
     table: &Rising<Node>,
     ids: &IdList,
     steps: &[Step],
@@ -125,7 +125,7 @@ fn reached_over(
 }
 
 /// The ids of SYSMODs that the steps reach from these.
-pub(crate) fn reached(alloc: Heap, ids: &IdList, steps: &[Step]) -> Result<IdList, AllocError>
+pub(crate) fn reached(alloc: Global, ids: &IdList, steps: &[Step]) -> Result<IdList, AllocError>
     ensures { IfOk result (λ found. AreReached ids.now (as_steps steps.now) found) }
 {
     let table = Rising::from_vec(all_nodes(alloc, ids, steps)?);

@@ -1,15 +1,15 @@
 //! A step with numbers: the places of what it is about in a table.
-ghost use Rattle.std.specs.Prelude.{◌≡◌, ◌<◌, ◌^◌, ◌↔◌, ◌++◌, ◌∷◌, [], ℕ, Some, length, map, slice_get, All, AllPairs};
-ghost use Rattle.std.specs.Prelude.{Contains, IfOk, OnOk};
+ghost use Rattle.std.specs.Prelude.{◌≡◌, ◌<◌, ◌^◌, ◌↔◌, ℕ, Some, length, map, slice_get, All, AllPairs};
+ghost use Rattle.std.specs.Prelude.{Contains, IfOk};
 ghost use Rattle.solve.specs.Least.{IsRule};
 ghost use Rattle.solve.specs.Rules.{as_rule};
 ghost use Rattle.undo_list.specs.Steps.{as_step};
-ghost use Rattle.undo_list.specs.ByNumbers.{ArePlaces, Covers, IsNumbered};
+ghost use Rattle.undo_list.specs.ByNumbers.{Covers, IsNumbered};
 
 use crate::nodes::{Node, Step};
 use fields::{Field, Rising};
 use solve::Rule;
-use std::alloc::{AllocError, Global as Heap};
+use std::alloc::{AllocError, Global};
 
 // The place of an item that stands in the list.
 fn place<T: Field>(table: &Rising<T>, item: T) -> usize
@@ -28,7 +28,7 @@ fn number(table: &Rising<Node>, node: Node) -> u32
     place(table, node) as u32
 }
 
-fn numbers(alloc: Heap, table: &Rising<Node>, nodes: &[Node]) -> Result<Vec<u32>, AllocError>
+fn numbers(alloc: Global, table: &Rising<Node>, nodes: &[Node]) -> Result<Vec<u32>, AllocError>
     requires fits { length table.now < 2 ^ 32 }
     requires there { All (λ n. Contains table.now n) nodes.now }
     ensures { IfOk result (λ found. map (slice_get table.now) found.items ≡ map (λ n. Some n) nodes.now) }
@@ -51,7 +51,7 @@ fn unique(mut numbers: Vec<u32>) -> Vec<u32>
 }
 
 /// The step as a rule.
-pub(crate) fn rule_of(alloc: Heap, table: &Rising<Node>, step: &Step) -> Result<Rule, AllocError>
+pub(crate) fn rule_of(alloc: Global, table: &Rising<Node>, step: &Step) -> Result<Rule, AllocError>
     requires fits { length table.now < 2 ^ 32 }
     requires covers { Covers table.now step.now }
     ensures numbered { IfOk result (λ rule. IsNumbered table.now (as_step step.now) (as_rule rule)) }

@@ -3,7 +3,7 @@ ghost use Rattle.std.specs.Prelude.{◌≡◌, ◌++◌, [], ◌∷◌, not, fil
 ghost use Rattle.terms.specs.Lookups.{is_supplied, applied_ids, changes_of, supby_of};
 
 use fields::Id;
-use std::alloc::{AllocError, Global as Heap};
+use std::alloc::{AllocError, Global};
 use sysmods::VerChoice;
 use sysmods_records::ElemChange;
 use zones::{Entry, Zone};
@@ -47,7 +47,7 @@ fn push_if_applied(entry: &Entry, found: &mut Vec<Id>) -> Result<(), AllocError>
 }
 
 /// The ids that are applied.
-pub fn applied_ids(alloc: Heap, zone: &Zone) -> Result<Vec<Id>, AllocError>
+pub fn applied_ids(alloc: Global, zone: &Zone) -> Result<Vec<Id>, AllocError>
     ensures { IfOk result (λ found. found.items ≡ applied_ids zone.now) }
 {
     let mut found = Vec::new(alloc);
@@ -68,7 +68,7 @@ fn push_if_unaccepted(accepted: &Zone, id: Id, found: &mut Vec<Id>) -> Result<()
 }
 
 /// Those of these ids that the distribution zone does not supply.
-pub fn unaccepted(alloc: Heap, accepted: &Zone, ids: &[Id]) -> Result<Vec<Id>, AllocError>
+pub fn unaccepted(alloc: Global, accepted: &Zone, ids: &[Id]) -> Result<Vec<Id>, AllocError>
     ensures { IfOk result (λ found. found.items ≡ filter (λ y. not (is_supplied accepted.now y)) ids.now) }
 {
     let mut found = Vec::new(alloc);

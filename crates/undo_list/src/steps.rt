@@ -10,13 +10,13 @@ use crate::nodes::{Node, Step, only, push_step, push_sysmods};
 use crate::scope::{Scope, applied_ids, changes_of};
 use crate::supply::suppliers;
 use fields::Id;
-use std::alloc::{AllocError, Global as Heap};
+use std::alloc::{AllocError, Global};
 use sysmods_records::ElemChange;
 use zones::Zone;
-use zones_less::requisites_held;
+use zones_views::requisites_held;
 
 fn push_to_element(
-    alloc: Heap,
+    alloc: Global,
     by: Id,
     change: &ElemChange,
     steps: &mut Vec<Step>,
@@ -28,7 +28,7 @@ fn push_to_element(
 }
 
 fn push_to_elements(
-    alloc: Heap,
+    alloc: Global,
     by: Id,
     changes: &[ElemChange],
     steps: &mut Vec<Step>,
@@ -42,7 +42,7 @@ fn push_to_elements(
 }
 
 fn push_from_element(
-    alloc: Heap,
+    alloc: Global,
     by: Id,
     change: &ElemChange,
     steps: &mut Vec<Step>,
@@ -54,7 +54,7 @@ fn push_from_element(
 }
 
 fn push_from_elements(
-    alloc: Heap,
+    alloc: Global,
     by: Id,
     changes: &[ElemChange],
     steps: &mut Vec<Step>,
@@ -69,7 +69,7 @@ fn push_from_elements(
 
 // From its elements, if the distribution zone does not supply it.
 fn push_if_unaccepted(
-    alloc: Heap,
+    alloc: Global,
     accepted: &Zone,
     by: Id,
     changes: &[ElemChange],
@@ -85,7 +85,7 @@ fn push_if_unaccepted(
 }
 
 fn push_from_function(
-    alloc: Heap,
+    alloc: Global,
     zone: &Zone,
     function: Id,
     by: Id,
@@ -102,7 +102,7 @@ fn push_from_function(
 }
 
 fn push_from_functions(
-    alloc: Heap,
+    alloc: Global,
     zone: &Zone,
     fmid: Option<Id>,
     by: Id,
@@ -119,7 +119,7 @@ fn push_from_functions(
 
 // From all these together, if there are any.
 fn push_from_suppliers(
-    alloc: Heap,
+    alloc: Global,
     ids: &[Id],
     by: Id,
     steps: &mut Vec<Step>,
@@ -135,7 +135,7 @@ fn push_from_suppliers(
 }
 
 fn push_by_requisite(
-    alloc: Heap,
+    alloc: Global,
     zone: &Zone,
     by: Id,
     requisite: Id,
@@ -149,7 +149,7 @@ fn push_by_requisite(
 }
 
 fn push_by_requisites(
-    alloc: Heap,
+    alloc: Global,
     zone: &Zone,
     by: Id,
     requisites: &[Id],
@@ -166,7 +166,7 @@ fn push_by_requisites(
 
 // Adds the steps to an applied SYSMOD, and those from it to its elements.
 fn push_steps_of(
-    alloc: Heap,
+    alloc: Global,
     scope: &Scope<'_, '_>,
     by: Id,
     steps: &mut Vec<Step>,
@@ -184,7 +184,7 @@ fn push_steps_of(
 }
 
 /// The steps of all applied SYSMODs.
-pub(crate) fn all_steps(alloc: Heap, scope: &Scope<'_, '_>) -> Result<Vec<Step>, AllocError>
+pub(crate) fn all_steps(alloc: Global, scope: &Scope<'_, '_>) -> Result<Vec<Step>, AllocError>
     ensures { IfOk result (λ steps. as_steps steps.items ≡ all_steps (restoring_of scope.now)) }
 {
     let applied = applied_ids(alloc, scope.zone)?;

@@ -5,7 +5,7 @@ ghost use Rattle.undo_list.specs.Restoring.{suppliers};
 
 use crate::scope::superseders;
 use fields::Id;
-use std::alloc::{AllocError, Global as Heap};
+use std::alloc::{AllocError, Global};
 use zones::Zone;
 
 fn push_if_applied(zone: &Zone, id: Id, found: &mut Vec<Id>) -> Result<(), AllocError>
@@ -28,7 +28,7 @@ pub fn push_applied(zone: &Zone, ids: &[Id], found: &mut Vec<Id>) -> Result<(), 
 }
 
 /// The applied SYSMODs that supply the id.
-pub fn suppliers(alloc: Heap, zone: &Zone, id: Id) -> Result<Vec<Id>, AllocError>
+pub fn suppliers(alloc: Global, zone: &Zone, id: Id) -> Result<Vec<Id>, AllocError>
     ensures { IfOk result (λ found. found.items ≡ suppliers zone.now id) }
 {
     let mut found = Vec::new(alloc);

@@ -4,7 +4,7 @@ use Rattle.std.specs.Cmp.Lexicographic.{slice_cmp}
 use Rattle.terms.specs.Types.{Zone}
 use Rattle.terms.specs.Lookups.{element_cmp, element_key}
 use Rattle.zones.specs.Delta.{ZoneDelta}
-use Rattle.tables.specs.Edits.{edited}
+use Rattle.sorted.specs.Edits.{edited}
 
 abbrev pub changed_zone : ZoneDelta → Zone → Zone
 changed_zone delta zone = record zone {

@@ -3,12 +3,12 @@ use Rattle.std.specs.Prelude.{◌≡◌, List, All, IsTrue, IfSome}
 use Rattle.std.specs.Ordering.{nat_cmp}
 use Rattle.std.specs.Cmp.Lexicographic.{slice_cmp}
 use Rattle.std.specs.Str.{bytes_eq}
-use Rattle.tables.specs.declared.edits.Edit.{Edit}
-use Rattle.tables.specs.Edits.{edit_key, edit_put, after_edits}
+use Rattle.sorted.specs.declared.edits.Edit.{Edit}
+use Rattle.sorted.specs.Edits.{edit_key, edit_put, after_edits}
 use Rattle.terms.specs.declared.kinds.ElemType.{ElemType}
 use Rattle.terms.specs.Types.{Text, Id, Entry, Element, Zone}
 use Rattle.terms.specs.Lookups.{IsZone, entry_of, element_of, element_cmp, element_key, element_eq}
-use Rattle.terms.specs.Lookups.{is_held, waives_applied}
+use Rattle.terms.specs.Lookups.{has_content, waives_applied}
 use Rattle.terms.specs.Rising.{Rises}
 
 -- entries and elements that are put and removed
@@ -19,7 +19,7 @@ pub record ZoneDelta : Type 0 where
 -- The edits rise by their keys, and what is put may stand in a zone.
 pub record IsDelta (delta : ZoneDelta) : Type 0 where
   pub entries : Rises (slice_cmp nat_cmp) (edit_key (λ e. e.id)) delta.entries
-  pub held : All (λ d. IfSome (edit_put d) (λ e. IsTrue (is_held e))) delta.entries
+  pub held : All (λ d. IfSome (edit_put d) (λ e. IsTrue (has_content e))) delta.entries
   pub waived : All (λ d. IfSome (edit_put d) (λ e. IsTrue (waives_applied e))) delta.entries
   pub elements : Rises element_cmp (edit_key element_key) delta.elements
 

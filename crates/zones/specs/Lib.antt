@@ -1,2 +1,3 @@
 pub mod Changed
 pub mod Delta
+pub mod Differing

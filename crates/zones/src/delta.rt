@@ -2,18 +2,18 @@
 ghost use Rattle.std.specs.Prelude.{◌≡◌, [], IsTrue, IfOk, OnOk, OnErr};
 ghost use Rattle.std.specs.Ordering.{nat_cmp};
 ghost use Rattle.std.specs.Cmp.Lexicographic.{slice_cmp};
-ghost use Rattle.tables.specs.declared.edits.Edit.TheVariants.{Put, Remove};
-ghost use Rattle.terms.specs.Lookups.{element_cmp, element_key, is_held, waives_applied};
+ghost use Rattle.sorted.specs.declared.edits.Edit.TheVariants.{Put, Remove};
+ghost use Rattle.terms.specs.Lookups.{element_cmp, element_key, has_content, waives_applied};
 ghost use Rattle.terms.specs.Rising.{with_item};
 ghost use Rattle.zones.specs.Delta.{IsChanged, IsDelta};
-ghost use Rattle.tables.specs.Edits.{edit_key};
+ghost use Rattle.sorted.specs.Edits.{edit_key};
 
 use crate::entries::{Element, Entry};
 use crate::zone::Zone;
 use fields::{Id, Name};
+use sorted::{Edit, Table};
 use std::alloc::{AllocError, Global};
 use std::marker::Model;
-use tables::{Edit, Table};
 use terms::ElemType;
 
 /// Entries and elements that are put and removed, one edit at a key.
@@ -26,14 +26,14 @@ pub struct ZoneDelta {
 impl Model for ZoneDelta {
     ghost use Rattle.std.specs.Prelude.{All, IfSome, IsTrue};
     ghost use Rattle.zones.specs.Delta.{ZoneDelta as AZoneDelta};
-    ghost use Rattle.tables.specs.Edits.{edit_put};
-    ghost use Rattle.terms.specs.Lookups.{is_held, waives_applied};
+    ghost use Rattle.sorted.specs.Edits.{edit_put};
+    ghost use Rattle.terms.specs.Lookups.{has_content, waives_applied};
 
     ghost Value = { AZoneDelta };
 
     ghost view = { λ d. record { entries = d.entries; elements = d.elements } };
 
-    ghost invariant = { λ d. All (λ e. IfSome (edit_put e) (λ x. IsTrue (is_held x))) d.entries
+    ghost invariant = { λ d. All (λ e. IfSome (edit_put e) (λ x. IsTrue (has_content x))) d.entries
         × All (λ e. IfSome (edit_put e) (λ x. IsTrue (waives_applied x))) d.entries };
 }
 
@@ -50,7 +50,7 @@ impl ZoneDelta {
     }
 
     /// What holds of each delta. The call does nothing.
-    pub fn known(&self)
+    pub fn attest(&self)
         ensures { IsDelta self.now }
     {
         let _ = self.entries.as_slice();
@@ -85,7 +85,7 @@ impl ZoneDelta {
 
     /// Puts an entry in place of the one of its id. At ids that rise it takes the least time.
     pub fn put_entry(&mut self, entry: Entry) -> Result<(), AllocError>
-        requires held { IsTrue (is_held entry) }
+        requires held { IsTrue (has_content entry) }
         requires waived { IsTrue (waives_applied entry) }
         ensures ok { OnOk result
             (self.new ≡ record self.old {

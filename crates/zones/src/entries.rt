@@ -1,20 +1,47 @@
 //! What a zone knows of a SYSMOD and of an element.
 ghost use Rattle.std.specs.Prelude.{◌≡◌};
-ghost use Rattle.terms.specs.Lookups.{IsRising, is_held, waives_applied};
+ghost use Rattle.terms.specs.Types.{an_applied};
+ghost use Rattle.terms.specs.Lookups.{IsRising, has_content, waives_applied};
 
 use fields::{Id, IdList, Name, YyDdd};
+use sorted::{Keyed, TryClone};
 use std::alloc::{AllocError, Global};
 use std::marker::Model;
-use tables::{Keyed, TryClone};
 use terms::ElemType;
 use text80::Line;
 
-/// A SYSMOD entry: when it was applied, which applied SYSMODs supersede it, which function deleted
+/// That a zone has applied a SYSMOD: when, and by which of its `++VER`s for the zone's SREL, counted from 1.
+#[derive(Clone, Copy, Debug, PartialEq, Eq)]
+pub struct Applied {
+    pub date: YyDdd,
+    pub number: u32,
+}
+
+impl Model for Applied {
+    ghost use Rattle.terms.specs.Types as terms;
+
+    ghost Value = { terms.Applied };
+
+    ghost view = { λ a. terms.an_applied a.date a.number };
+
+    ghost inverse = { λ a. record { date = a.date; number = a.number } };
+}
+
+impl Applied {
+    /// Applied on this date by the only `++VER` of the SREL.
+    pub fn on(date: YyDdd) -> Applied
+        ensures { result ≡ an_applied date 1 }
+    {
+        Applied { date, number: 1 }
+    }
+}
+
+/// A SYSMOD entry: whether it is applied, which applied SYSMODs supersede it, which function deleted
 /// it, and which of its requisites were bypassed.
 #[derive(Drop)]
 pub struct Entry {
     pub id: Id,
-    pub applied: Option<YyDdd>,
+    pub applied: Option<Applied>,
     pub supby: IdList,
     pub delby: Option<Id>,
     pub waived: IdList,
@@ -36,8 +63,8 @@ impl Model for Entry {
 
 impl Entry {
     /// Whether it is there for a date, for SUPBY or for DELBY.
-    pub fn is_held(&self) -> bool
-        ensures { result ≡ is_held self.now }
+    pub fn has_content(&self) -> bool
+        ensures { result ≡ has_content self.now }
     {
         self.applied.is_some() || !self.supby.is_empty() || self.delby.is_some()
     }
@@ -50,7 +77,7 @@ impl Entry {
     }
 
     /// What holds of each entry. The call does nothing.
-    pub fn known(&self)
+    pub fn attest(&self)
         ensures { IsRising self.now.supby × IsRising self.now.waived }
     {
         let _ = self.supby.as_slice();

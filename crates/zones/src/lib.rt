@@ -5,12 +5,14 @@
 
 mod delta;
 mod entries;
+mod equal;
 mod zone;
 
 pub use delta::ZoneDelta;
-pub use entries::{Element, Entry};
+pub use entries::{Applied, Element, Entry};
+pub use equal::{is_element, is_same_entry, is_there};
 pub use fields::{Id, IdList, Name, Srel, YyDdd, ZoneName};
-pub use tables::{Edit, Keyed, Table, TryClone};
+pub use sorted::{Edit, Keyed, Table, TryClone};
 pub use terms::{ElemType, ZoneKind};
 pub use text80::Line;
 pub use zone::Zone;

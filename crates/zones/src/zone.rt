@@ -2,15 +2,15 @@
 ghost use Rattle.std.specs.Prelude.{◌≡◌, ◌==◌, ◌↔◌, [], All, IsTrue, IsSome, IfSome, IfOk, is_some, option_copied};
 ghost use Rattle.zones.specs.Delta.{IsChanged};
 ghost use Rattle.terms.specs.Types.{zone_number, a_zone};
-ghost use Rattle.terms.specs.Lookups.{IsRising, IsZone, entry_of, element_of, is_applied, is_supplied, is_held};
+ghost use Rattle.terms.specs.Lookups.{IsRising, IsZone, entry_of, element_of, is_applied, is_supplied, has_content};
 ghost use Rattle.terms.specs.Lookups.{waives_applied};
 
 use crate::delta::ZoneDelta;
 use crate::entries::{Element, Entry};
 use fields::{Id, Name, Srel, ZoneName};
+use sorted::Table;
 use std::alloc::{AllocError, Global};
 use std::marker::Model;
-use tables::Table;
 use terms::{ElemType, ZoneKind};
 
 /// A target zone, with its related distribution zone, or a distribution zone.
@@ -26,7 +26,7 @@ pub struct Zone {
 impl Model for Zone {
     ghost use Rattle.std.specs.Prelude.{◌≡◌, ◌==◌, All, IsTrue, is_some};
     ghost use Rattle.terms.specs.Types.{zone_number, Zone as AZone};
-    ghost use Rattle.terms.specs.Lookups.{is_held, waives_applied};
+    ghost use Rattle.terms.specs.Lookups.{has_content, waives_applied};
 
     ghost Value = { AZone };
 
@@ -38,7 +38,8 @@ impl Model for Zone {
       elements = z.elements;
     } };
 
-    ghost invariant = { λ z. All (λ e. IsTrue (is_held e)) z.entries × All (λ e. IsTrue (waives_applied e)) z.entries
+    ghost invariant = { λ z. All (λ e. IsTrue (has_content e)) z.entries
+        × All (λ e. IsTrue (waives_applied e)) z.entries
         × (is_some z.related ≡ (zone_number z.kind == 0)) };
 }
 
@@ -66,7 +67,7 @@ impl Zone {
         elements: Table<Element>,
     ) -> Option<Self>
         ensures form { IsSome result
-            ↔ (All (λ e. IsTrue (is_held e)) entries × All (λ e. IsTrue (waives_applied e)) entries
+            ↔ (All (λ e. IsTrue (has_content e)) entries × All (λ e. IsTrue (waives_applied e)) entries
             × (is_some related ≡ (zone_number kind == 0))) }
         ensures same { IfSome result (λ zone. zone ≡ a_zone kind srel related entries elements) }
     {
@@ -104,7 +105,7 @@ impl Zone {
     }
 
     /// What holds of each zone. The call does nothing.
-    pub fn known(&self)
+    pub fn attest(&self)
         ensures { IsZone self.now }
     {
         let _ = self.entries.as_slice();
@@ -116,7 +117,7 @@ impl Zone {
         ensures { All (λ e. IsRising e.supby × IsRising e.waived) self.now.entries }
     {
         for entry in self.entries() {
-            entry.known();
+            entry.attest();
         }
     }
 
@@ -172,7 +173,7 @@ impl Zone {
     pub(crate) fn changed(&self, alloc: Global, delta: &ZoneDelta) -> Result<Zone, AllocError>
         ensures { IfOk result (IsChanged delta.now self.now) }
     {
-        delta.known();
+        delta.attest();
         let zone = Zone {
             kind: self.kind,
             srel: self.srel,
@@ -180,7 +181,7 @@ impl Zone {
             entries: self.entries.edited(alloc, delta.entry_edits())?,
             elements: self.elements.edited(alloc, delta.element_edits())?,
         };
-        zone.known();
+        zone.attest();
         Ok(zone)
     }
 }
@@ -188,9 +189,9 @@ impl Zone {
 // Whether each entry is there for something, and requisites are waived only of what is applied.
 fn may_stand(entries: &[Entry]) -> bool
     ensures { IsTrue result
-        ↔ (All (λ e. IsTrue (is_held e)) entries.now
+        ↔ (All (λ e. IsTrue (has_content e)) entries.now
         × All (λ e. IsTrue (waives_applied e)) entries.now) }
 {
-    entries.iter().all(|entry| entry.is_held())
+    entries.iter().all(|entry| entry.has_content())
         && entries.iter().all(|entry| entry.waives_applied())
 }

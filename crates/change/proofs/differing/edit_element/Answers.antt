@@ -1,6 +1,6 @@
 use Rattle.std.proofs.Common.{sym, subst}
 use Rattle.std.proofs.lemmas.Result.{on_ok_weaker}
-use Rattle.change.specs.Differing.{AddsElementEdit}
+use Rattle.zones.specs.Differing.{AddsElementEdit}
 use Rattle.change.proofs.differing.edit_element.Goals as goal
 
 pub returns-in-Put : goal.returns-in-Put

@@ -6,16 +6,16 @@ use Rattle.std.proofs.lemmas.List.Elements.{Contains-append_right}
 use Rattle.lemmas.proofs.Members.{here}
 use Rattle.terms.specs.Lookups.{element_cmp, element_key}
 use Rattle.terms.specs.Rising.{Rises}
-use Rattle.tables.specs.Edits.{edit_key}
-use Rattle.change.specs.Differing.{HasEditedElements}
-use Rattle.change.proofs.ElementEdits.{AreDone, done-none, done-next, done-all, entries_stay}
+use Rattle.sorted.specs.Edits.{edit_key}
+use Rattle.zones.specs.Differing.{HasEditedElements}
+use Rattle.change.proofs.ElementEdits.{AreDone, done_none, done_next, done_all, entries_stay}
 use Rattle.change.proofs.differing.edit_elements.Goals as goal
 
 pub loop-edit-init : goal.loop-edit-init
 loop-edit-init c = record {
   all = refl;
   entries = refl;
-  done = done-none c.args.zone.now (into_iter_items c.into_iter-edit-iterator.result) c.args.delta.now.elements
+  done = done_none c.args.zone.now (into_iter_items c.into_iter-edit-iterator.result) c.args.delta.now.elements
       c.requires.empty;
   count = search;
 }
@@ -30,7 +30,7 @@ loop-edit-preserved c =
       all = append_assoc at.yielded (x ∷ []) _ ∙ rw (← steps) all;
       entries = entries_stay c.args.zone.now x at.delta c.edit_element.new.delta c.in_ok-edit_element.ensures
           ∙ at.invariant.entries;
-      done = done-next c.args.zone.now (into_iter_items c.into_iter-edit-iterator.result)
+      done = done_next c.args.zone.now (into_iter_items c.into_iter-edit-iterator.result)
           (subst (Rises element_cmp (edit_key element_key)) (sym c.into_iter-edit-iterator.ensures.into_iter_gives.0)
           c.requires.rising)
           at.yielded x at.delta c.edit_element.new.delta
@@ -52,5 +52,5 @@ returns c =
     let yielded : at.yielded ≡ edits = sym (append-nil at.yielded) ∙ rw empty at at.invariant.all in
     subst (λ es. HasEditedElements c.args.zone.now es c.args.delta.now at.delta)
     c.into_iter-edit-iterator.ensures.into_iter_gives.0
-    (done-all c.args.zone.now edits c.args.delta.now at.delta at.invariant.entries
+    (done_all c.args.zone.now edits c.args.delta.now at.delta at.invariant.entries
     (subst (λ es. AreDone c.args.zone.now edits es at.delta.elements) yielded at.invariant.done))

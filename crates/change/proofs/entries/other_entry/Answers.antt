@@ -2,7 +2,7 @@ use Rattle.std.proofs.Common.{◌∙◌, ◌++◌, ap, ap₂, sym, subst}
 use Rattle.std.specs.Prelude.{◌↔◌, Contains}
 use Rattle.terms.specs.Types.{Id, Entry}
 use Rattle.change.specs.Entries.{IsOtherEntry}
-use Rattle.change.proofs.Made.{other-from}
+use Rattle.change.proofs.Made.{other_from}
 use Rattle.change.proofs.entries.other_entry.Goals as goal
 
 pub returns : goal.returns
@@ -12,7 +12,7 @@ returns c =
     let delby = c.delby-delby.result in
     subst (IsOtherEntry c.args.deleting.now c.args.plan.now c.args.id)
     (ap {A = Entry} {B = Entry} (λ e. record e { supby = supby; delby = delby }) (sym c.old.view_is))
-    (other-from c.args.deleting.now c.args.plan.now c.args.id old c.in_ok-more.more supby delby c.in_ok-old.ensures
+    (other_from c.args.deleting.now c.args.plan.now c.args.id old c.in_ok-more.more supby delby c.in_ok-old.ensures
     c.in_ok-more.ensures
     (subst (λ ids. (x : Id) → Contains supby x ↔ Contains ids x)
     (ap₂ (λ xs ys. xs ++ ys) (c.as_slice.ensures.items ∙ ap (λ (e : Entry). e.supby) c.old.view_is)

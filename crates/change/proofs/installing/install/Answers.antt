@@ -7,7 +7,7 @@ use Rattle.terms.specs.Deleted.{deletions, zone_less}
 use Rattle.zones.specs.Delta.{IsChanged}
 use Rattle.terms.specs.Install.{Installation, HasInstalled}
 use Rattle.change.specs.declared.deleting.Deleting.{Deleting}
-use Rattle.change.specs.Differing.{ChangesEntry, HasEditedElements}
+use Rattle.zones.specs.Differing.{ChangesEntry, HasEditedElements}
 use Rattle.change.specs.Plans.{installation, IsFresh, IsPlan}
 use Rattle.change.proofs.AfterInstall.{installs}
 use Rattle.change.proofs.EffectiveIds.{members_are, effective_ordered, effective_base}
@@ -64,7 +64,7 @@ returns-clause-installs c =
     c.in_ok-plan.ensures) in
     subst (λ ids. (new : Zone) → IsChanged c.edit_elements.new.delta zone new → HasInstalled (i ids) new)
     c.as_slice-3.ensures.items
-    (installs d c.args.bypassed.now c.args.date (rw c.global.ensures at c.len.ensures.form) c.known.ensures
+    (installs d c.args.bypassed.now c.args.date (rw c.global.ensures at c.len.ensures.form) c.attest.ensures
     c.known_lists.ensures
     (c.as_slice-4.ensures.value ∙ dels)
     (subst (All (IsFresh zone)) (sym c.as_slice-3.ensures.items) c.requires.fresh)

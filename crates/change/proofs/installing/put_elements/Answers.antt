@@ -2,11 +2,11 @@ use Rattle.std.proofs.Common.{◌≡◌, ◌∷◌, [], length, sym, ap, ◌∙�
 use Rattle.std.specs.Vec.Iter.{into_iter_items}
 use Rattle.std.proofs.lemmas.List.{nil_from_length}
 use Rattle.std.proofs.lemmas.List.Sums.{fold-append}
-use Rattle.tables.specs.declared.edits.Edit.TheVariants.{Put}
-use Rattle.tables.specs.Edits.{edit_key}
+use Rattle.sorted.specs.declared.edits.Edit.TheVariants.{Put}
+use Rattle.sorted.specs.Edits.{edit_key}
 use Rattle.terms.specs.Lookups.{element_cmp, element_key}
-use Rattle.terms.proofs.ElementOrder.{cmp-keys}
-use Rattle.terms.proofs.Placing.{with_item-agree}
+use Rattle.terms.proofs.ElementOrder.{cmp_keys}
+use Rattle.terms.proofs.Placing.{with_item_agree}
 use Rattle.change.specs.Puts.{with_element, with_elements}
 use Rattle.change.proofs.installing.put_elements.Goals as goal
 
@@ -18,7 +18,7 @@ loop-element-preserved c =
     record {
       all = append_assoc at.yielded (x ∷ []) _ ∙ rw (← steps) at.invariant.all;
       put = c.in_ok-put.ensures.ok
-          ∙ with_item-agree _ element_cmp cmp-keys (edit_key element_key) at.edits (Put x)
+          ∙ with_item_agree _ element_cmp cmp_keys (edit_key element_key) at.edits (Put x)
           ∙ ap (λ d. with_element d x) at.invariant.put
           ∙ sym (fold-append with_element c.args.edits.now at.yielded (x ∷ []));
       count = let was = at.invariant.count in

@@ -6,8 +6,8 @@ use Rattle.terms.specs.Install.{Installation, TakesEffect}
 use Rattle.change.specs.Pairs.{AreGrouped}
 use Rattle.change.specs.Superseded.{AreSuperseded}
 use Rattle.change.specs.Plans.{installation, IsPlan}
-use Rattle.change.proofs.Gathered.{superseded-same}
-use Rattle.change.proofs.Planned.{is-plan}
+use Rattle.change.proofs.Gathered.{superseded_same}
+use Rattle.change.proofs.Planned.{is_plan}
 use Rattle.change.proofs.plan.planned.Goals as goal
 
 pub returns : goal.returns
@@ -22,7 +22,7 @@ returns c =
     → (x : Id) → Contains effective x ↔ TakesEffect i x =
     c.in_ok-effective.ensures in
     let are : AreSuperseded by effective pairs =
-    superseded-same by effective c.in_ok-superseded_pairs.field-0.items pairs
+    superseded_same by effective c.in_ok-superseded_pairs.field-0.items pairs
     c.sorted-pairs.ensures
     (rw (← c.as_slice.ensures.items) c.in_ok-superseded_pairs.ensures) in
     let dels = c.args.dels.now in
@@ -33,7 +33,7 @@ returns c =
       touched = c.in_ok-touched.touched;
       date = c.args.date;
     })) (sym c.effective.view_is)
-    (is-plan g by zone kept c.args.bypassed.now c.args.date dels effective c.in_ok-touched.touched pairs
+    (is_plan g by zone kept c.args.bypassed.now c.args.date dels effective c.in_ok-touched.touched pairs
     c.in_ok-grouped.field-0 c.in_ok-grouped-2.field-0 takes are
     (subst (λ ids. (x : Id) → Contains c.in_ok-touched.touched x ↔ Contains ids x)
     (ap₂ (λ xs ys. xs ++ ys)

@@ -3,7 +3,7 @@ use Rattle.std.specs.Prelude.{All}
 use Rattle.std.proofs.lemmas.Bool.{true≢false}
 use Rattle.std.proofs.lemmas.Result.{err_from_is_err_and}
 use Rattle.terms.specs.Forms.{IsClass, IsReason}
-use Rattle.terms.proofs.ExactOperands.{has_sorted-only}
+use Rattle.terms.proofs.ExactOperands.{has_sorted_only}
 use Rattle.rec80.specs.Views.{word_of}
 use Rattle.operands.proofs.Failing.{excludes_more}
 use Rattle.cntl.proofs.Bypassing.{sorted_classes, sorted_reasons}
@@ -20,7 +20,7 @@ pub returns-then-not-suit_kind-clause-bad : goal.returns-then-not-suit_kind-clau
 returns-then-not-suit_kind-clause-bad c = λ x.
     let m = word_of c.args.member.now in
     let s = sorted_classes c.args.kind m x.0 x.1.0 in
-    let same = has_sorted-only IsClass m x.0 c.in_ok-reasons.reasons s.0 c.in_ok-reasons.ensures.ok.0 in
+    let same = has_sorted_only IsClass m x.0 c.in_ok-reasons.reasons s.0 c.in_ok-reasons.ensures.ok.0 in
     true≢false (sym (c.suit_kind.ensures.1 (subst (All (IsReason c.args.kind)) same s.1))
     ∙ c.if-not-suit_kind.true)
 

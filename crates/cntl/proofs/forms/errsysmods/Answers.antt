@@ -3,7 +3,7 @@ use Rattle.std.specs.Prelude.{codes}
 use Rattle.std.proofs.lemmas.Bool.{true≢false}
 use Rattle.std.proofs.lemmas.Result.{err_from_is_err_and}
 use Rattle.terms.specs.Operands.{operand}
-use Rattle.terms.proofs.ExactOperands.{flag-only}
+use Rattle.terms.proofs.ExactOperands.{flag_only}
 use Rattle.cntl.proofs.forms.errsysmods.Goals as goal
 
 pub returns-in_err-flag_of-clause-bad : goal.returns-in_err-flag_of-clause-bad
@@ -13,7 +13,7 @@ returns-in_err-flag_of-clause-bad c = λ ws l.
 
 pub returns-then-not-branch-clause-bad : goal.returns-then-not-branch-clause-bad
 returns-then-not-branch-clause-bad c = λ ws l is.
-    true≢false (flag-only (operand (codes "ERRSYSMODS") ws) true _ is (c.in_ok-flag_of.ensures.ok ws l)
+    true≢false (flag_only (operand (codes "ERRSYSMODS") ws) true _ is (c.in_ok-flag_of.ensures.ok ws l)
     ∙ c.if-not-branch.true)
 
 pub returns-clause-ok : goal.returns-clause-ok

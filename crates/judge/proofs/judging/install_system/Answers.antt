@@ -4,9 +4,9 @@ use Rattle.terms.specs.Types.{Id}
 use Rattle.terms.specs.Candidates.{is_installable}
 use Rattle.terms.specs.Needs.{bypassed_ids}
 use Rattle.sysmods.specs.Choices.{choice}
-use Rattle.judge.specs.Failed.{AreFailedTests}
+use Rattle.judge_faults.specs.Failed.{AreFailedTests}
 use Rattle.judge.specs.InstallProblem.{IsInstallProblem}
-use Rattle.judge.proofs.Chosen.{same-setting}
+use Rattle.judge.proofs.Chosen.{same_setting}
 use Rattle.judge.proofs.judging.install_system.Goals as goal
 
 pub judge_by-requires : goal.judge_by-requires
@@ -17,7 +17,7 @@ judge_by-requires c =
 pub returns-clause-problem : goal.returns-clause-problem
 returns-clause-problem c =
     subst (λ s. IfOk c.judge_by.result (λ j. IsInstallProblem s j.system (map (λ n. (n.0, n.1)) j.needed.items)))
-    (same-setting c.args.zone.now (option_copied c.args.related) c.args.ids.now c.args.bypass.now c.args.global.now
+    (same_setting c.args.zone.now (option_copied c.args.related) c.args.ids.now c.args.bypass.now c.args.global.now
     c.choose-vers.result.global.now (choice c.choose-vers.result) c.choose-vers.ensures.global
     c.choose-vers.ensures.counting)
     c.judge_by.ensures.problem
@@ -25,7 +25,7 @@ returns-clause-problem c =
 pub returns-clause-tests : goal.returns-clause-tests
 returns-clause-tests c =
     subst (λ s. IfOk c.judge_by.result (λ j. AreFailedTests s (map (λ row. row.items) j.tests.items)))
-    (same-setting c.args.zone.now (option_copied c.args.related) c.args.ids.now c.args.bypass.now c.args.global.now
+    (same_setting c.args.zone.now (option_copied c.args.related) c.args.ids.now c.args.bypass.now c.args.global.now
     c.choose-vers.result.global.now (choice c.choose-vers.result) c.choose-vers.ensures.global
     c.choose-vers.ensures.counting)
     c.judge_by.ensures.tests
@@ -34,7 +34,7 @@ pub returns-clause-bypassed : goal.returns-clause-bypassed
 returns-clause-bypassed c =
     subst (λ s. IfOk c.judge_by.result (λ j. (x z : Id) → Contains {X = Id × Id} j.bypassed.items (x, z)
     ↔ (Contains c.args.ids.now x × Contains (bypassed_ids s x) z)))
-    (same-setting c.args.zone.now (option_copied c.args.related) c.args.ids.now c.args.bypass.now c.args.global.now
+    (same_setting c.args.zone.now (option_copied c.args.related) c.args.ids.now c.args.bypass.now c.args.global.now
     c.choose-vers.result.global.now (choice c.choose-vers.result) c.choose-vers.ensures.global
     c.choose-vers.ensures.counting)
     c.judge_by.ensures.bypassed

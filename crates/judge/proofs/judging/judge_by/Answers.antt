@@ -1,10 +1,10 @@
 use Rattle.std.proofs.Common.{map}
 use Rattle.std.specs.Prelude.{option_copied}
-use Rattle.lemmas.proofs.Lists.{same-pairs}
+use Rattle.lemmas.proofs.Lists.{same_pairs}
 use Rattle.terms.specs.Tests.{Setting, AreSurvivors}
-use Rattle.judge_needs.specs.Left.{setting_with}
-use Rattle.judge.proofs.Numbering.{install-problem}
-use Rattle.judge.proofs.Survivors.{survivors-are}
+use Rattle.zones_views.specs.Scopes.{setting_with}
+use Rattle.judge.proofs.Numbering.{install_problem}
+use Rattle.judge.proofs.Survivors.{survivors_are}
 use Rattle.judge.proofs.judging.judge_by.Goals as goal
 
 pub returns-clause-problem : goal.returns-clause-problem
@@ -14,11 +14,11 @@ returns-clause-problem c =
     let s : Setting = setting_with scope related in
     let eligible = c.in_ok-tested.ensures.eligible in
     let are : AreSurvivors s c.in_ok-survivors.survivors =
-    survivors-are s (map (λ row. row.items) c.in_ok-tested.tested.tests.items)
+    survivors_are s (map (λ row. row.items) c.in_ok-tested.tested.tests.items)
     c.in_ok-tested.ensures.tests c.in_ok-survivors.survivors c.in_ok-survivors.ensures.rising
     (rw c.as_slice.ensures.value at c.in_ok-survivors.ensures.members) in
-    rw (same-pairs c.in_ok-system.needed.items)
-    (install-problem scope related c.in_ok-survivors.survivors are c.in_ok-tested.tested.eligible.items
+    rw (same_pairs c.in_ok-system.needed.items)
+    (install_problem scope related c.in_ok-survivors.survivors are c.in_ok-tested.tested.eligible.items
     eligible.eligible c.in_ok-system.system c.in_ok-system.needed.items c.in_ok-system.ensures.valid
     c.in_ok-system.ensures.problem)
 

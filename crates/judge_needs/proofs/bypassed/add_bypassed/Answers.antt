@@ -2,8 +2,8 @@ use Rattle.std.proofs.Common.{◌++◌, [], cond}
 use Rattle.terms.specs.declared.codes.NeedKind.TheVariants.{Ifreq}
 use Rattle.terms.specs.Choice.{pre_of, req_of}
 use Rattle.terms.specs.Needs.{asked}
-use Rattle.judge_needs.specs.Left.{choice_of, setting_of}
-use Rattle.judge_needs.proofs.Paired.{pairs-then}
+use Rattle.zones_views.specs.Scopes.{choice_of, setting_of}
+use Rattle.judge_needs.proofs.Paired.{pairs_then}
 use Rattle.judge_needs.proofs.bypassed.add_bypassed.Goals as goal
 
 pub returns : goal.returns
@@ -18,8 +18,8 @@ returns c =
     let pre = cond b.pre (pre_of (choice_of s) x) [] in
     let req = cond b.req (req_of (choice_of s) x) [] in
     let ifreq = cond b.ifreq (asked (setting_of s) [] x Ifreq) [] in
-    pairs-then x (pre ++ req) ifreq old two new
-    (pairs-then x pre req old one two
+    pairs_then x (pre ++ req) ifreq old two new
+    (pairs_then x pre req old one two
     (rw (c.is_bypassed.ensures, c.pre.ensures.items) at c.in_ok-add_if.ensures)
     (rw (c.is_bypassed-2.ensures, c.req.ensures.items) at c.in_ok-add_if-2.ensures))
     c.in_ok-add_ifreq.ensures

@@ -7,8 +7,8 @@ use Rattle.terms.specs.Deleted.{deletions, zone_less}
 use Rattle.terms.specs.Conditions.{if_needed, if_reqs}
 use Rattle.judge_needs.specs.declared.stated.Requisite.{Requisite}
 use Rattle.judge_needs.specs.Conditions.{is_there, listed}
-use Rattle.judge_needs.specs.Left.{choice_of}
-use Rattle.judge_needs.proofs.Stating.{stated-left}
+use Rattle.zones_views.specs.Scopes.{choice_of}
+use Rattle.judge_needs.proofs.Stating.{stated_left}
 use Rattle.judge_needs.proofs.conditions.if_needed.Goals as goal
 
 pub returns : goal.returns
@@ -31,6 +31,6 @@ returns c =
     (c.in_ok-append_own.ensures ∙ ap (λ l. l ++ own) c.new-found.ensures.items)
     ∙ ap (λ l. own ++ cond (is_function g x) (map (λ (r : Requisite). r.id) (filter (λ r. is_applied left r.by) l)) [])
     (c.requires x)
-    ∙ ap (λ l. own ++ cond (is_function g x) l []) (stated-left g ch dels zone c.known.ensures x)
+    ∙ ap (λ l. own ++ cond (is_function g x) l []) (stated_left g ch dels zone c.attest.ensures x)
     ∙ ap (λ ds. if_needed g ch (zone_less g ch ds zone) (is_in ids) x) seen)
     c.from_vec.ensures

@@ -1,11 +1,11 @@
 use Rattle.std.proofs.Common.{◌≤◌, length, arith, subst, take_all}
 use Rattle.judge_needs.specs.Numbered.{HasDemands}
-use Rattle.judge_needs.proofs.Demands.{demands-next}
+use Rattle.judge_needs.proofs.Demands.{demands_next}
 use Rattle.judge_needs.proofs.numbered.numbered.Goals as goal
 
 pub loop-i-preserved : goal.loop-i-preserved
 loop-i-preserved c =
-    demands-next c.args.ids.now c.args.served.now.keys c.args.eligible.items c.args.wants.now c.loop-i.i
+    demands_next c.args.ids.now c.args.served.now.keys c.args.eligible.items c.args.wants.now c.loop-i.i
     c.want_at-want.result c.loop-i.system c.add_want.new.system c.loop-i.needed.items c.add_want.new.needed.items
     c.want_at-want.ensures c.in_ok-add_want.ensures c.loop-i.invariant
 

@@ -1,12 +1,12 @@
 use Rattle.std.proofs.Common.{◌∙◌, ◌++◌, ap, map}
 use Rattle.judge_needs.specs.Left.{left_of}
 use Rattle.judge_needs.specs.Wanted.{a_want}
-use Rattle.judge_needs.proofs.Wants.{of-kind}
+use Rattle.judge_needs.proofs.Wants.{of_kind_holds}
 use Rattle.judge_needs.proofs.wanted.add_asked.Goals as goal
 
 pub returns : goal.returns
 returns c =
-    of-kind (left_of c.args.left.now) c.args.left.now.scope.bypass.now c.args.kind c.args.of c.args.asked.now
+    of_kind_holds (left_of c.args.left.now) c.args.left.now.scope.bypass.now c.args.kind c.args.of c.args.asked.now
     c.args.wants.now.items c.add_each.new.wants.items
     c.requires
     (c.in_ok-add_each.ensures ∙ ap (λ l. c.args.wants.now.items ++ map (a_want c.args.of c.args.kind) l)

@@ -1,9 +1,10 @@
 use Rattle.std.proofs.Common.{subst}
 use Rattle.terms.specs.declared.codes.NeedKind.TheVariants.{Fmid, Pre, Req, Ifreq, HoldError, Orphan}
 use Rattle.terms.specs.Lookups.{at_most_one}
-use Rattle.judge_needs.specs.Left.{setting_of, left_of}
+use Rattle.zones_views.specs.Scopes.{setting_of}
+use Rattle.judge_needs.specs.Left.{left_of}
 use Rattle.judge_needs.specs.Wanted.{AddsPart, IsOfKind}
-use Rattle.judge_needs.proofs.Wants.{all-parts, same-asked}
+use Rattle.judge_needs.proofs.Wants.{all_parts, same_asked}
 use Rattle.judge_needs.proofs.wanted.add_open.Goals as goal
 
 pub returns : goal.returns
@@ -12,7 +13,7 @@ returns c =
     let of = c.args.of in
     let left = left_of c.args.left.now in
     let b = c.args.left.now.scope.bypass.now in
-    all-parts s c.args.survivors.now left of c.args.id c.args.wants.now.items c.add_function.new.wants.items
+    all_parts s c.args.survivors.now left of c.args.id c.args.wants.now.items c.add_function.new.wants.items
     c.add_asked.new.wants.items c.add_asked-2.new.wants.items c.add_asked-3.new.wants.items
     c.add_asked-4.new.wants.items c.add_asked-5.new.wants.items
     (subst (λ f. AddsPart of (IsOfKind left b Fmid (at_most_one f)) c.args.wants.now.items
@@ -21,9 +22,9 @@ returns c =
     c.pre.ensures.items c.in_ok-add_asked.ensures)
     (subst (λ l. AddsPart of (IsOfKind left b Req l) c.add_asked.new.wants.items c.add_asked-2.new.wants.items)
     c.req.ensures.items c.in_ok-add_asked-2.ensures)
-    (same-asked left b Ifreq of _ _ _ _ (rw c.as_slice.ensures.items c.in_ok-by_ifs.ensures)
+    (same_asked left b Ifreq of _ _ _ _ (rw c.as_slice.ensures.items c.in_ok-by_ifs.ensures)
     c.in_ok-add_asked-3.ensures)
-    (same-asked left b HoldError of _ _ _ _ (rw c.as_slice-2.ensures.items c.in_ok-reasons.ensures)
+    (same_asked left b HoldError of _ _ _ _ (rw c.as_slice-2.ensures.items c.in_ok-reasons.ensures)
     c.in_ok-add_asked-4.ensures)
-    (same-asked left b Orphan of _ _ _ _ (rw c.as_slice-3.ensures.items c.in_ok-lost.ensures)
+    (same_asked left b Orphan of _ _ _ _ (rw c.as_slice-3.ensures.items c.in_ok-lost.ensures)
     c.in_ok-add_asked-5.ensures)

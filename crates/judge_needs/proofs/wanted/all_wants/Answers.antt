@@ -1,15 +1,16 @@
 use Rattle.std.proofs.Common.{◌≡◌, length, refl, arith, subst}
 use Rattle.std.proofs.lemmas.Option.{slice_get_read}
-use Rattle.judge_needs.specs.Left.{setting_of, left_of}
+use Rattle.zones_views.specs.Scopes.{setting_of}
+use Rattle.judge_needs.specs.Left.{left_of}
 use Rattle.judge_needs.specs.Wanted.{AreWants, IsOpenAt}
-use Rattle.judge_needs.proofs.Wants.{wants-next}
+use Rattle.judge_needs.proofs.Wants.{wants_next}
 use Rattle.judge_needs.proofs.wanted.all_wants.Goals as goal
 
 pub loop-i-preserved : goal.loop-i-preserved
 loop-i-preserved c =
     let left = c.args.left.now in
     let ids = left.scope.ids.now in
-    wants-next (setting_of left.scope) c.args.survivors.now (left_of left) c.loop-i.i c.index-as_slice-i.result
+    wants_next (setting_of left.scope) c.args.survivors.now (left_of left) c.loop-i.i c.index-as_slice-i.result
     c.loop-i.wants.items c.add_open.new.wants.items
     (slice_get_read ids (length ids) c.loop-i.i c.index-as_slice-i.result refl (omega arith)
     (rw c.as_slice.ensures.items at c.index-as_slice-i.is))

@@ -1,4 +1,5 @@
-use Rattle.judge_needs.specs.Left.{setting_of, left_of}
+use Rattle.zones_views.specs.Scopes.{setting_of}
+use Rattle.judge_needs.specs.Left.{left_of}
 use Rattle.judge_needs.specs.Wanted.{AreWants, IsOpenAt}
 use Rattle.judge_needs.proofs.wanted.all_wants.Given as goal
 

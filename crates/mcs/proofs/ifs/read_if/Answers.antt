@@ -4,19 +4,19 @@ use Rattle.terms.specs.Types.{Id, IfReq, Sysmod}
 use Rattle.terms.specs.Forms.{IsId}
 use Rattle.terms.specs.Lookups.{is_in}
 use Rattle.terms.specs.Operands.{HasSorted}
-use Rattle.terms.proofs.Ids.{is_in-from_Contains, Contains-from_is_in}
+use Rattle.terms.proofs.Ids.{is_in_from_Contains, Contains_from_is_in}
 use Rattle.rec80.specs.Cursors.{text_of}
 use Rattle.rec80.specs.Views.{word_of}
 use Rattle.mcs_statements.specs.KnownWords.{own_list}
 use Rattle.operands.proofs.Failing.{excludes_more}
 use Rattle.mcs.proofs.Ending.{no_list}
-use Rattle.lemmas.proofs.Options.{map-not_none}
+use Rattle.lemmas.proofs.Options.{map_not_none}
 use Rattle.mcs.proofs.Conditions.{IfOf, words_are, function_of, ids_of, ids_are, if_is}
 use Rattle.mcs.proofs.ifs.read_if.Goals as goal
 
 pub returns-then-is_some-clause-bad : goal.returns-then-is_some-clause-bad
 returns-then-is_some-clause-bad c = λ rest h x.
-    map-not_none c.args.known.now.first.list text_of (sym c.is_some.ensures ∙ c.if-is_some.true) x.1.2.no_list
+    map_not_none c.args.known.now.first.list text_of (sym c.is_some.ensures ∙ c.if-is_some.true) x.1.2.no_list
 
 pub returns-in_default-clause-bad : goal.returns-in_default-clause-bad
 returns-in_default-clause-bad c = λ rest h x.
@@ -49,7 +49,7 @@ returns-then-contains-clause-bad c = λ rest h x.
     (word_of c.in-Some.lists.req) c.in-Ok.req x.1.1 x.1.2 l.0 c.in-Ok.ensures.sorted in
     let own : c.sysmod.inside.id ≡ c.args.sysmod.now.id = ap (λ (s : Sysmod). s.id) c.sysmod.view_is in
     let there : is_in c.in-Ok.req c.sysmod.inside.id ≡ true = sym c.contains.ensures ∙ c.if-contains.true in
-    x.1.2.others (Contains-from_is_in x.0.req c.args.sysmod.now.id
+    x.1.2.others (Contains_from_is_in x.0.req c.args.sysmod.now.id
     (ap (λ ids. is_in ids c.args.sysmod.now.id) same ∙ ap (is_in c.in-Ok.req) (sym own) ∙ there))
 
 pub returns-clause-ok : goal.returns-clause-ok
@@ -61,5 +61,5 @@ returns-clause-ok c = λ rest h.
     (word_of c.in-Some.lists.req) (record { function = c.in-Some-one.function; req = c.in-Ok.req })
     (no_list c.args.known.now.first.list text_of (sym c.is_some.ensures ∙ c.if-is_some.false)) l.1 l.2 l.0
     c.in-Some-one.ensures.one c.in-Ok.ensures.sorted
-    (λ there. true≢false (sym (is_in-from_Contains c.in-Ok.req c.args.sysmod.now.id there)
+    (λ there. true≢false (sym (is_in_from_Contains c.in-Ok.req c.args.sysmod.now.id there)
     ∙ ap (is_in c.in-Ok.req) (sym own) ∙ free))

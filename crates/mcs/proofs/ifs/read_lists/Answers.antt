@@ -6,7 +6,7 @@ use Rattle.rec80.specs.Cursors.{text_of}
 use Rattle.rec80.specs.Views.{word_of}
 use Rattle.mcs.proofs.Ending.{first_is, ended_none, no_list, three}
 use Rattle.mcs_statements.proofs.KindWords.{plain_is}
-use Rattle.lemmas.proofs.Options.{map-not_none}
+use Rattle.lemmas.proofs.Options.{map_not_none}
 use Rattle.mcs.proofs.ifs.read_lists.Goals as goal
 
 pub returns-in_default-clause-none : goal.returns-in_default-clause-none
@@ -33,7 +33,7 @@ returns-then-is_some-clause-none c = λ pieces h fmid req f r words.
     let first = first_is pieces (word_of c.in-Some.fmid) t.0 fmid (plain (codes "THEN") ∷ req ∷ []) t.1 words in
     let u = (c.in-Some-take_named.ensures.some t.0 t.2).1 in
     let second = first_is t.0 (word_of c.in-Some-take_named.then) u.0 (plain (codes "THEN")) (req ∷ []) u.1 first.1 in
-    map-not_none c.in-Some-take_named.then.list text_of (sym c.is_some.ensures ∙ c.if-is_some.true)
+    map_not_none c.in-Some-take_named.then.list text_of (sym c.is_some.ensures ∙ c.if-is_some.true)
     (ap (λ (w : Word). w.list) (sym second.0))
 
 pub returns-then-not-is_ended-clause-none : goal.returns-then-not-is_ended-clause-none

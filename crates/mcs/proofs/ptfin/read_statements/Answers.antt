@@ -1,7 +1,7 @@
 use Rattle.std.proofs.Common.{sym, subst, [], ◌∷◌, ◌++◌}
 use Rattle.std.specs.Prelude.{All}
 use Rattle.terms.specs.Records.{IsRecord}
-use Rattle.lemmas.proofs.Each.{All-front, All-back}
+use Rattle.lemmas.proofs.Each.{All_front, All_back}
 use Rattle.terms.specs.Ptfin.{nothing, BeginsWithStatements}
 use Rattle.rec80.specs.Views.{group_of}
 use Rattle.mcs.specs.Statements.{statement_of}
@@ -19,7 +19,7 @@ loop-group-preserved c =
       ss ++ s ∷ [],
       subst (λ d. BeginsWithStatements nothing c.args.groups.number c.args.groups.rest.now (ss ++ s ∷ []) d
           c.next_group.new.self.number c.next_group.new.self.rest.now) (sym c.in_ok-made-in-Ok.ensures) b,
-      λ each. All-back IsRecord c.in-Some.group.records.now c.next_group.new.self.rest.now
+      λ each. All_back IsRecord c.in-Some.group.records.now c.next_group.new.self.rest.now
           (subst (All IsRecord) c.in-Some.ensures.group.records_are (c.loop-group.invariant.2 each)),
     )
 
@@ -31,7 +31,7 @@ and-requires c =
 pub returns-in-Err-clause-fault : goal.returns-in-Err-clause-fault
 returns-in-Err-clause-fault c = λ each.
     let group = c.in-Some.ensures.group in
-    let own = All-front IsRecord c.in-Some.group.records.now c.next_group.new.self.rest.now
+    let own = All_front IsRecord c.in-Some.group.records.now c.next_group.new.self.rest.now
     (subst (All IsRecord) group.records_are (c.loop-group.invariant.2 each)) in
     rw c.error_at.ensures (rest_error nothing c.args.groups.number c.args.groups.rest.now c.loop-group.invariant.0
     (so_far c.loop-group.made) c.loop-group.left.number c.loop-group.left.rest.now (group_of c.in-Some.group)

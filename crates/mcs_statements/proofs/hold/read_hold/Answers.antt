@@ -5,7 +5,7 @@ use Rattle.terms.specs.Forms.{IsClass, IsDate}
 use Rattle.terms.specs.Words.{Word, HasWords}
 use Rattle.terms.specs.Operands.{operand}
 use Rattle.terms.specs.HoldStatements.{HasComment, IsHoldOf}
-use Rattle.terms.proofs.ExactWords.{words-only}
+use Rattle.terms.proofs.ExactWords.{words_only}
 use Rattle.operands.specs.Left.{LeavesWords}
 use Rattle.mcs_statements.specs.KnownWords.{own_list}
 use Rattle.mcs_statements.specs.Holds.{HasKey}
@@ -41,7 +41,7 @@ returns-in-Err-clause-bad c = λ rest h printable.
     λ x. (
       x.1.comment,
       subst (λ l. HasComment (operand (codes "COMMENT") l) x.1.comment)
-          (words-only rest x.0 y.0 x.2 y.1) x.3.comment,
+          (words_only rest x.0 y.0 x.2 y.1) x.3.comment,
     ) in
     excludes_more c.in-Err.error One All pick
     (c.in-Err.ensures.bad y.0 (rest, h, y.1) (operand_printable rest y.0 (codes "COMMENT") printable y.1))

@@ -4,7 +4,7 @@ use Rattle.std.specs.Borrow.{Bor}
 use Rattle.std.specs.Str.{bytes_eq}
 use Rattle.rec80.specs.Views.{left_of, word_of}
 use Rattle.mcs_statements.proofs.Finding.{operand_none, operand_some}
-use Rattle.lemmas.proofs.Searches.{list_any-map}
+use Rattle.lemmas.proofs.Searches.{list_any_map}
 use Rattle.mcs_statements.proofs.Remaining.{Takes, remains_all, remains_more, remains_end, remains_unknown}
 use Rattle.mcs_statements.proofs.Remaining.{remains_twice, remains_bad}
 use Rattle.mcs_statements.proofs.values.are_operands.Goals as goal
@@ -20,7 +20,7 @@ pub returns-then-not-is_one_of-clause-no : goal.returns-then-not-is_one_of-claus
 returns-then-not-is_one_of-clause-no c = λ pieces h e.
     remains_unknown _ _ _ pieces (word_of c.in-Ok-Some.word) (c.loop-word.invariant pieces h)
     (takes (goal.at.returns-then-not-is_one_of-clause-no c).In-Ok-Some)
-    (list_any-map (bytes_eq c.in-Ok-Some.word.word.now) (λ (name : Bor (List ℕ)). name.now) c.args.names.now
+    (list_any_map (bytes_eq c.in-Ok-Some.word.word.now) (λ (name : Bor (List ℕ)). name.now) c.args.names.now
     ∙ sym c.is_one_of.ensures ∙ c.if-not-is_one_of.true)
 
 pub returns-then-is_some-clause-no : goal.returns-then-is_some-clause-no
@@ -35,7 +35,7 @@ loop-word-preserved c = λ pieces h.
     let none : is_some c.operand.result ≡ false = search rules in
     remains_more _ _ _ pieces (word_of c.in-Ok-Some.word) (c.loop-word.invariant pieces h)
     (takes (goal.at.loop-word-preserved c).In-Ok-Some)
-    (list_any-map (bytes_eq c.in-Ok-Some.word.word.now) (λ (name : Bor (List ℕ)). name.now) c.args.names.now
+    (list_any_map (bytes_eq c.in-Ok-Some.word.word.now) (λ (name : Bor (List ℕ)). name.now) c.args.names.now
     ∙ sym c.is_one_of.ensures ∙ c.if-not-is_one_of.false)
     (λ more ws solid words. operand_none c.operand.result _ (c.operand.ensures ws (more, solid, words)) none)
 

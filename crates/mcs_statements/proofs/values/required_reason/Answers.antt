@@ -2,7 +2,7 @@ use Rattle.std.proofs.Common.{◌∙◌, sym, subst}
 use Rattle.std.proofs.lemmas.Bool.{true≢false}
 use Rattle.terms.specs.Forms.{IsClass, IsReason}
 use Rattle.terms.specs.Operands.{operand}
-use Rattle.terms.proofs.ExactOperands.{required-only}
+use Rattle.terms.proofs.ExactOperands.{required_only}
 use Rattle.mcs_statements.proofs.Holding.{reason_class, reason_form, class_reason}
 use Rattle.mcs_statements.proofs.values.required_reason.Goals as goal
 
@@ -13,7 +13,7 @@ returns-in_default-clause-none c = λ ws l v h. c.in_default.ensures.none ws l v
 pub returns-then-not-suits_kind-clause-none : goal.returns-then-not-suits_kind-clause-none
 returns-then-not-suits_kind-clause-none c = λ ws l v h.
     let found = operand c.args.name.now ws in
-    let same = required-only IsClass found v c.in-Some.reason (reason_class c.args.kind found v h)
+    let same = required_only IsClass found v c.in-Some.reason (reason_class c.args.kind found v h)
     (c.in-Some.ensures.some ws l) in
     true≢false (sym (c.suits_kind.ensures.1 (subst (IsReason c.args.kind) same (reason_form c.args.kind found v h)))
     ∙ c.if-not-suits_kind.true)

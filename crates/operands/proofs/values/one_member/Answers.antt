@@ -5,7 +5,7 @@ use Rattle.rec80.specs.Cursors.{text_of}
 use Rattle.rec80.specs.Lists.{LeavesMembers}
 use Rattle.rec80.specs.Views.{word_of}
 use Rattle.operands.proofs.Reading.{some_and, and_some, if_none, if_some, one_is, plain_word}
-use Rattle.lemmas.proofs.Options.{map-not_none, None-from_is_some}
+use Rattle.lemmas.proofs.Options.{map_not_none, None_from_is_some}
 use Rattle.operands.proofs.values.one_member.Goals as goal
 
 pub returns-in_default-clause-none : goal.returns-in_default-clause-none
@@ -21,7 +21,7 @@ returns-then-is_some-clause-none c = λ m h.
     let r = only (plain m ∷ []) (c.members-members.ensures.all (plain m ∷ [])
     (some_and c.args.word.now.list text_of c.in_ok-list.list (λ text. HasMembers text (plain m ∷ []))
     c.in_ok-list.was h)) in
-    map-not_none c.in_ok-member.member.list text_of (sym c.is_some.ensures ∙ c.if-is_some.true)
+    map_not_none c.in_ok-member.member.list text_of (sym c.is_some.ensures ∙ c.if-is_some.true)
     (ap (λ w. w.list) (one_is r.0 m (word_of c.in_ok-member.member) r.1).0)
 
 pub returns-in_default-next_member-clause-none : goal.returns-in_default-next_member-clause-none
@@ -54,7 +54,7 @@ returns-clause-one c =
     (LeavesMembers c.next_member.new.self []) (sym c.is_some-2.ensures ∙ c.if-is_some-2.false)
     c.in-Ok-next_member.ensures.end in
     let all = c.members-members.ensures.only (word_of c.in_ok-member.member ∷ []) (member [] end) in
-    let none : c.in_ok-member.member.list ≡ None = None-from_is_some c.in_ok-member.member.list
+    let none : c.in_ok-member.member.list ≡ None = None_from_is_some c.in_ok-member.member.list
     (sym c.is_some.ensures ∙ c.if-is_some.false) in
     let w : word_of c.in_ok-member.member ≡ plain c.in_ok-member.member.word.now =
     plain_word (word_of c.in_ok-member.member) (ap (option_map text_of) none) in

@@ -1,7 +1,7 @@
 use Rattle.std.proofs.Common.{◌<◌, ◌*◌, ◌^◌, length, take, arith, ap, length-append}
 use Rattle.std.proofs.lemmas.List.{length-take}
 use Rattle.terms.specs.Statement.{followed}
-use Rattle.terms.proofs.Closings.{length-followed}
+use Rattle.terms.proofs.Closings.{length_followed}
 use Rattle.rec80.specs.Cursors.{text_of}
 use Rattle.rec80.proofs.Listing.{over_more, over_within}
 use Rattle.rec80.proofs.lists.split_inner.Goals as goal
@@ -11,7 +11,7 @@ overflow_add-len c =
     let t = c.args.inside.now in
     let small : length t.line.now < 2 ^ 63 = omega arith in
     let few : length t.later.now * 80 < 2 ^ 63 = omega arith in
-    let within = length-followed t.later.now in
+    let within = length_followed t.later.now in
     let sum = length-append t.line.now (take t.more (followed t.later.now)) in
     let cut = length-take t.more (followed t.later.now) in
     let step = ap length c.in-Some.ensures in

@@ -1,6 +1,6 @@
 use Rattle.std.proofs.Common.{◌<◌, ◌++◌, ◌∷◌, ◌*◌, ◌^◌, length, length-append, arith, ap, ◌∙◌, sym}
 use Rattle.terms.specs.Statement.{followed}
-use Rattle.terms.proofs.Closings.{length-followed, list_text}
+use Rattle.terms.proofs.Closings.{length_followed, list_text}
 use Rattle.rec80.specs.Cursors.{rest_of}
 use Rattle.rec80.proofs.scan.behind_parens.Goals as goal
 
@@ -8,7 +8,7 @@ pub overflow_add-len : goal.overflow_add-len
 overflow_add-len c =
     let small : length c.args.inside.now.line.now < 2 ^ 63 = omega arith in
     let few : length c.args.inside.now.later.now * 80 < 2 ^ 63 = omega arith in
-    let within = length-followed c.args.inside.now.later.now in
+    let within = length_followed c.args.inside.now.later.now in
     let sum = length-append c.args.inside.now.line.now (followed c.args.inside.now.later.now) in
     let step = ap length c.in-Some.ensures.text in
     omega (arith, c.loop-byte.invariant.count)

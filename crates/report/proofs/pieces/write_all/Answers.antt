@@ -1,11 +1,11 @@
 use Rattle.std.proofs.Common.{take, arith}
 use Rattle.std.proofs.lemmas.Grind.{common_steps}
-use Rattle.report.proofs.Sending.{sending-more}
+use Rattle.report.proofs.Sending.{sending_more}
 use Rattle.report.proofs.pieces.write_all.Goals as goal
 
 pub loop-rest-preserved : goal.loop-rest-preserved
 loop-rest-preserved g c = record {
-  sending = sending-more (g.W.Sink.taken c.args.w.now) (g.W.Sink.has_failed c.args.w.now) (g.W.Sink.taken c.loop-rest.w)
+  sending = sending_more (g.W.Sink.taken c.args.w.now) (g.W.Sink.has_failed c.args.w.now) (g.W.Sink.taken c.loop-rest.w)
       (g.W.Sink.has_failed c.loop-rest.w)
       (g.W.Sink.taken c.write.new.self) (g.W.Sink.has_failed c.write.new.self) c.args.piece.now c.loop-rest.rest.now
       (take c.in_ok-n.n c.loop-rest.rest.now) _

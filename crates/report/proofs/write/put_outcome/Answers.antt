@@ -3,23 +3,23 @@ use Rattle.std.specs.List.{flat_map}
 use Rattle.machine.specs.Outcome.{list_global, list_zone}
 use Rattle.machine.specs.Report.{code_text, header_text, line_text, text}
 use Rattle.report.specs.Views.{header_view}
-use Rattle.report.proofs.Paging.{paged-then, paged-as}
-use Rattle.report.proofs.Listings.{list_global-code, list_zone-code}
+use Rattle.report.proofs.Paging.{paged_then, paged_as}
+use Rattle.report.proofs.Listings.{list_global_code, list_zone_code}
 use Rattle.report.proofs.write.put_outcome.Goals as goal
 
 pub returns-in-Ran-clause-paged : goal.returns-in-Ran-clause-paged
 unfolding text
 returns-in-Ran-clause-paged g c =
     rw c.in-Ran.is
-    (paged-as _ _ _ _ _ _ (rw (c.put_lines-code.ensures.code, c.deref.ensures.value) refl)
-    (paged-then _ _ _ _ _ _ _ _ (paged-then _ _ _ _ _ _ _ _ c.put_header.ensures c.put_lines-code.ensures.paged)
+    (paged_as _ _ _ _ _ _ (rw (c.put_lines-code.ensures.code, c.deref.ensures.value) refl)
+    (paged_then _ _ _ _ _ _ _ _ (paged_then _ _ _ _ _ _ _ _ c.put_header.ensures c.put_lines-code.ensures.paged)
     c.put_code.ensures.paged))
 
 pub returns-in-Refused-clause-paged : goal.returns-in-Refused-clause-paged
 unfolding text
 returns-in-Refused-clause-paged g c =
     rw c.in-Refused.is
-    (paged-then _ _ _ _ _ _ _ _ (paged-then _ _ _ _ _ _ _ _ c.put_header-in-Refused.ensures c.put_refusal.ensures)
+    (paged_then _ _ _ _ _ _ _ _ (paged_then _ _ _ _ _ _ _ _ c.put_header-in-Refused.ensures c.put_refusal.ensures)
     c.put_code-in-Refused.ensures.paged)
 
 pub returns-in-ListedGlobal-clause-paged : goal.returns-in-ListedGlobal-clause-paged
@@ -27,29 +27,29 @@ unfolding text
 returns-in-ListedGlobal-clause-paged g c =
     let lines = list_global c.in-ListedGlobal.global.now in
     rw c.in-ListedGlobal.is
-    (paged-as _ _ _ _ _ _
+    (paged_as _ _ _ _ _ _
     (ap (λ n. header_text (header_view c.in-ListedGlobal.header) ++ flat_map line_text lines ++ code_text n)
-    (sym (list_global-code c.in-ListedGlobal.global.now)))
-    (paged-then _ _ _ _ _ _ _ _
-    (paged-then _ _ _ _ _ _ _ _ c.put_header-in-ListedGlobal.ensures c.put_global.ensures)
+    (sym (list_global_code c.in-ListedGlobal.global.now)))
+    (paged_then _ _ _ _ _ _ _ _
+    (paged_then _ _ _ _ _ _ _ _ c.put_header-in-ListedGlobal.ensures c.put_global.ensures)
     c.put_code-in-ListedGlobal.ensures.paged))
 
 pub returns-in-ListedGlobal-clause-code : goal.returns-in-ListedGlobal-clause-code
 returns-in-ListedGlobal-clause-code g c =
-    rw c.in-ListedGlobal.is (sym (list_global-code c.in-ListedGlobal.global.now))
+    rw c.in-ListedGlobal.is (sym (list_global_code c.in-ListedGlobal.global.now))
 
 pub returns-in-Listed-clause-paged : goal.returns-in-Listed-clause-paged
 unfolding text
 returns-in-Listed-clause-paged g c =
     let lines = list_zone c.in-Listed.text c.in-Listed.zone.now in
     rw c.in-Listed.is
-    (paged-as _ _ _ _ _ _
+    (paged_as _ _ _ _ _ _
     (ap (λ n. header_text (header_view c.in-Listed.header) ++ flat_map line_text lines ++ code_text n)
-    (sym (list_zone-code c.in-Listed.text c.in-Listed.zone.now)))
-    (paged-then _ _ _ _ _ _ _ _
-    (paged-then _ _ _ _ _ _ _ _ c.put_header-in-Listed.ensures c.put_zone.ensures)
+    (sym (list_zone_code c.in-Listed.text c.in-Listed.zone.now)))
+    (paged_then _ _ _ _ _ _ _ _
+    (paged_then _ _ _ _ _ _ _ _ c.put_header-in-Listed.ensures c.put_zone.ensures)
     c.put_code-in-Listed.ensures.paged))
 
 pub returns-in-Listed-clause-code : goal.returns-in-Listed-clause-code
 returns-in-Listed-clause-code g c =
-    rw c.in-Listed.is (sym (list_zone-code c.in-Listed.text c.in-Listed.zone.now))
+    rw c.in-Listed.is (sym (list_zone_code c.in-Listed.text c.in-Listed.zone.now))

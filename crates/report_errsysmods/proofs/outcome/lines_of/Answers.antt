@@ -1,7 +1,7 @@
 use Rattle.std.proofs.Common.{◌<◌, ◌∙◌, [], ◌∷◌, ◌++◌, ap, map, sym, subst, Contains, take, length, arith}
 use Rattle.std.proofs.lemmas.List.{map-append}
 use Rattle.std.proofs.lemmas.List.Elements.{Contains-get_or}
-use Rattle.lemmas.proofs.Lists.{front-more}
+use Rattle.lemmas.proofs.Lists.{front_more}
 use Rattle.machine.specs.Outcome as machine
 use Rattle.report.specs.Views.{line_view}
 use Rattle.report_errsysmods.specs.declared.open.OpenError.{OpenError}
@@ -20,4 +20,4 @@ loop-error-preserved c resolvers fits =
     ∙ map-append line_view c.loop-error.lines.items (line ∷ [])
     ∙ ap (λ l. l ++ line_view line ∷ []) (c.loop-error.invariant resolvers fits)
     ∙ ap (λ v. map printed (take i errors) ++ v ∷ []) (c.in_ok-line_of.ensures (resolvers o.reason) (fits o is_in))
-    ∙ sym (ap (map printed) (front-more errors i o below c.error-item.is) ∙ map-append printed (take i errors) (o ∷ []))
+    ∙ sym (ap (map printed) (front_more errors i o below c.error-item.is) ∙ map-append printed (take i errors) (o ∷ []))

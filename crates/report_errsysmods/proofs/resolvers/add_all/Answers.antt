@@ -2,13 +2,13 @@ use Rattle.std.proofs.Common.{◌≡◌, ap, map, subst}
 use Rattle.sysmods.specs.Choices.{choice}
 use Rattle.terms.specs.Types.{Sysmod}
 use Rattle.report_errsysmods.specs.Resolvers.{Gains, ResolvesBy}
-use Rattle.report_errsysmods.proofs.Gaining.{adding-next, adding-last}
+use Rattle.report_errsysmods.proofs.Gaining.{adding_next, adding_last}
 use Rattle.report_errsysmods.proofs.resolvers.add_all.Goals as goal
 
 pub loop-sysmod-preserved : goal.loop-sysmod-preserved
 loop-sysmod-preserved c =
     let vers = choice c.args.vers.now in
-    adding-next vers c.args.all.now c.loop-sysmod.all c.add_sysmod.new.all
+    adding_next vers c.args.all.now c.loop-sysmod.all c.add_sysmod.new.all
     (map (λ s. s.id) c.args.global.now.sysmods) (map (λ s. s.id) c.loop-sysmod.sysmod-iterator)
     (map (λ s. s.id) c.next.new.self) c.in-Some.sysmod.now.id c.loop-sysmod.invariant
     (ap (map (λ (s : Sysmod). s.id)) c.in-Some.ensures.steps)
@@ -17,6 +17,6 @@ loop-sysmod-preserved c =
 
 pub returns : goal.returns
 returns c =
-    adding-last (choice c.args.vers.now) c.args.all.now c.loop-sysmod.all (map (λ s. s.id) c.args.global.now.sysmods)
+    adding_last (choice c.args.vers.now) c.args.all.now c.loop-sysmod.all (map (λ s. s.id) c.args.global.now.sysmods)
     (map (λ s. s.id) c.loop-sysmod.sysmod-iterator) c.loop-sysmod.invariant
     (ap (map (λ (s : Sysmod). s.id)) c.in-None.ensures.steps.0)

@@ -1,17 +1,17 @@
 use Rattle.std.proofs.Common.{arith}
-use Rattle.terms.proofs.Applied.{applied-are}
-use Rattle.select.proofs.Growth.{growth-start, growth-next, growth-end}
+use Rattle.terms.proofs.Applied.{applied_are}
+use Rattle.select.proofs.Growth.{growth_start, growth_next, growth_end}
 use Rattle.select.proofs.growing.asked.Goals as goal
 
 pub loop-i-init : goal.loop-i-init
 loop-i-init c =
-    growth-start _ _ _ c.known.ensures (applied-are _ c.known-2.ensures) c.args.start.now _ c.requires
+    growth_start _ _ _ c.attest.ensures (applied_are _ c.attest-2.ensures) c.args.start.now _ c.requires
     c.in_ok-seen.ensures
 
 pub loop-i-preserved : goal.loop-i-preserved
 loop-i-preserved c =
-    growth-next _ _ _ c.known.ensures (applied-are _ c.known-2.ensures) _ _ _ _ (omega arith)
+    growth_next _ _ _ c.attest.ensures (applied_are _ c.attest-2.ensures) _ _ _ _ (omega arith)
     (rw c.as_slice.ensures.keys at c.index-as_slice-i.is) c.in_ok-see_next.ensures c.loop-i.invariant
 
 pub returns : goal.returns
-returns c = growth-end _ _ _ c.known.ensures _ c.loop-i.i (omega arith) c.loop-i.invariant
+returns c = growth_end _ _ _ c.attest.ensures _ c.loop-i.i (omega arith) c.loop-i.invariant

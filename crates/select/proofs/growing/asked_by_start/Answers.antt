@@ -1,15 +1,15 @@
 use Rattle.std.proofs.Common.{[], sym, subst, arith}
 use Rattle.sysmods_paths.specs.Seen.{AddsAll}
-use Rattle.sysmods_paths.proofs.Growth.{adds-none}
+use Rattle.sysmods_paths.proofs.Growth.{adds_none}
 use Rattle.select.specs.Growing.{asked_first}
-use Rattle.select.proofs.Adds.{adds-flat}
+use Rattle.select.proofs.Adds.{adds_flat}
 use Rattle.select.proofs.growing.asked_by_start.Goals as goal
 
 pub loop-id-init : goal.loop-id-init
-loop-id-init c = subst (AddsAll [] []) (sym c.new-seen.ensures.empty) (adds-none [])
+loop-id-init c = subst (AddsAll [] []) (sym c.new-seen.ensures.empty) (adds_none [])
 
 pub loop-id-preserved : goal.loop-id-preserved
 loop-id-preserved c =
-    adds-flat (asked_first c.args.scope.now.global.now c.args.scope.now.zone.now c.args.scope.now.selection.now) []
+    adds_flat (asked_first c.args.scope.now.global.now c.args.scope.now.zone.now c.args.scope.now.selection.now) []
     c.args.start.now c.loop-id.seen.keys c.see_first.new.seen.keys c.loop-id.id-index c.id-item.result (omega arith)
     c.id-item.is c.in_ok-see_first.ensures c.loop-id.invariant

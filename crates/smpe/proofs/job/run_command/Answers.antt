@@ -5,9 +5,9 @@ use Rattle.report.specs.Views.{outcome_view}
 use Rattle.smpe.specs.declared.error.JobError.TheVariants.{Write}
 use Rattle.smpe.specs.Commands.{job_error}
 use Rattle.smpe.specs.Course.{FoundNone}
-use Rattle.smpe.proofs.Reports.{sent-all, sent-part}
-use Rattle.smpe.proofs.Commanding.{commands-err, unperformed, unreported, reported}
-use Rattle.smpe.proofs.Coursing.{none-told, tells-none, passed-one, found-first, goes-err}
+use Rattle.smpe.proofs.Reports.{sent_all, sent_part}
+use Rattle.smpe.proofs.Commanding.{commands_err, unperformed, unreported, reported}
+use Rattle.smpe.proofs.Coursing.{none_told, tells_none, passed_one, found_first, goes_err}
 use Rattle.smpe.proofs.job.run_command.Goals as goal
 
 pub returns-in_err-performed-clause-ended : goal.returns-in_err-performed-clause-ended
@@ -16,7 +16,7 @@ returns-in_err-performed-clause-ended g c clean s is keeps =
     let session = c.perform.new.self in
     let command = command_of c.args.command.now in
     let taken = g.W.Sink.taken c.args.w.now in
-    commands-err g.S.Store c.args.date c.args.files.now c.args.store.now at s session (command ∷ []) taken taken
+    commands_err g.S.Store c.args.date c.args.files.now c.args.store.now at s session (command ∷ []) taken taken
     c.from_residual.result
     (job_error c.in_err-performed.field-0.0) c.from_residual.ensures.1
     (unperformed g.S.Store c.args.date c.args.files.now c.args.store.now at s session command taken
@@ -31,12 +31,12 @@ returns-in_err-write_report-in-Told-clause-ended g c clean s is keeps =
     let old = g.W.Sink.taken c.args.w.now in
     let new = g.W.Sink.taken c.write_report.new.w in
     let p = rw c.in-Told.is at (c.in_ok-performed.ensures.ended clean s is keeps) in
-    commands-err g.S.Store c.args.date c.args.files.now c.args.store.now at s session (command ∷ []) old new
+    commands_err g.S.Store c.args.date c.args.files.now c.args.store.now at s session (command ∷ []) old new
     c.from_residual-in_err-write_report-in-Told.result Write c.from_residual-in_err-write_report-in-Told.ensures.1
     (unreported g.S.Store c.args.date c.args.files.now c.args.store.now at s p.0 command
     (outcome_view c.in-Told.outcome) old new
     p.1 p.3
-    (sent-part _ _ _ _ _ c.in_err-write_report-in-Told.ensures.sends c.in_err-write_report-in-Told.ensures.fault))
+    (sent_part _ _ _ _ _ c.in_err-write_report-in-Told.ensures.sends c.in_err-write_report-in-Told.ensures.fault))
 
 pub returns-in_ok-write_report-in-Told-clause-ended : goal.returns-in_ok-write_report-in-Told-clause-ended
 returns-in_ok-write_report-in-Told-clause-ended g c clean s is keeps =
@@ -44,7 +44,7 @@ returns-in_ok-write_report-in-Told-clause-ended g c clean s is keeps =
     reported g.S.Store c.args.date c.args.files.now c.args.store.now c.perform.new.store s p.0 c.perform.new.self
     (command_of c.args.command.now) (outcome_view c.in-Told.outcome)
     (g.W.Sink.taken c.args.w.now) (g.W.Sink.taken c.write_report.new.w) _ p.1 p.2 p.3
-    (sent-all _ _ _ _ _ c.in_ok-write_report-in-Told.ensures.sends c.in_ok-write_report-in-Told.ensures.fault)
+    (sent_all _ _ _ _ _ c.in_ok-write_report-in-Told.ensures.sends c.in_ok-write_report-in-Told.ensures.fault)
     c.in_ok-write_report-in-Told.ensures.code
 
 pub returns-in_err-write_report-in-Lists-clause-ended : goal.returns-in_err-write_report-in-Lists-clause-ended
@@ -57,12 +57,12 @@ returns-in_err-write_report-in-Lists-clause-ended g c clean s is keeps =
     let p = rw c.in-Lists.is at (c.in_ok-performed.ensures.ended clean s is keeps) in
     let performs = subst (λ d. Performs c.args.date c.args.files.now s d s (outcome_view c.list.result)) (sym p.0)
     (c.list.ensures s p.1 c.args.date c.args.files.now) in
-    commands-err g.S.Store c.args.date c.args.files.now c.args.store.now at s session (command ∷ []) old new
+    commands_err g.S.Store c.args.date c.args.files.now c.args.store.now at s session (command ∷ []) old new
     c.from_residual-in_err-write_report-in-Lists.result Write c.from_residual-in_err-write_report-in-Lists.ensures.1
     (unreported g.S.Store c.args.date c.args.files.now c.args.store.now at s s command
     (outcome_view c.list.result) old new
     performs p.2
-    (sent-part _ _ _ _ _ c.in_err-write_report-in-Lists.ensures.sends c.in_err-write_report-in-Lists.ensures.fault))
+    (sent_part _ _ _ _ _ c.in_err-write_report-in-Lists.ensures.sends c.in_err-write_report-in-Lists.ensures.fault))
 
 pub returns-in_ok-write_report-in-Lists-clause-ended : goal.returns-in_ok-write_report-in-Lists-clause-ended
 returns-in_ok-write_report-in-Lists-clause-ended g c clean s is keeps =
@@ -72,7 +72,7 @@ returns-in_ok-write_report-in-Lists-clause-ended g c clean s is keeps =
     reported g.S.Store c.args.date c.args.files.now c.args.store.now c.perform.new.store s s c.perform.new.self
     (command_of c.args.command.now) (outcome_view c.list.result)
     (g.W.Sink.taken c.args.w.now) (g.W.Sink.taken c.write_report-in-Lists.new.w) _ performs p.1 p.2
-    (sent-all _ _ _ _ _ c.in_ok-write_report-in-Lists.ensures.sends c.in_ok-write_report-in-Lists.ensures.fault)
+    (sent_all _ _ _ _ _ c.in_ok-write_report-in-Lists.ensures.sends c.in_ok-write_report-in-Lists.ensures.fault)
     c.in_ok-write_report-in-Lists.ensures.code
 
 -- ---- whatever the tables are
@@ -82,15 +82,15 @@ returns-in_err-performed-clause-course g c =
     let act = Perform c.args.date c.args.files.now (command_of c.args.command.now) in
     let taken = g.W.Sink.taken c.args.w.now in
     let e = c.in_err-performed.field-0.0 in
-    goes-err g.S.Store c.args.store.now c.perform.new.store (act ∷ []) taken taken c.from_residual.result
+    goes_err g.S.Store c.args.store.now c.perform.new.store (act ∷ []) taken taken c.from_residual.result
     (job_error e) c.from_residual.ensures.1
-    (tells-none g.S.Store c.perform.new.store (FoundNone g.S.Store c.args.store.now c.perform.new.store (act ∷ []) taken
-    taken) (job_error e) (λ is clean. found-first g.S.Store c.args.store.now c.perform.new.store act [] taken
-    (c.in_err-performed.ensures.none clean (ap Err (none-told e is)))))
+    (tells_none g.S.Store c.perform.new.store (FoundNone g.S.Store c.args.store.now c.perform.new.store (act ∷ []) taken
+    taken) (job_error e) (λ is clean. found_first g.S.Store c.args.store.now c.perform.new.store act [] taken
+    (c.in_err-performed.ensures.none clean (ap Err (none_told e is)))))
 
 pub returns-in_err-write_report-in-Told-clause-course : goal.returns-in_err-write_report-in-Told-clause-course
 returns-in_err-write_report-in-Told-clause-course g c =
-    goes-err g.S.Store c.args.store.now c.perform.new.store
+    goes_err g.S.Store c.args.store.now c.perform.new.store
     (Perform c.args.date c.args.files.now (command_of c.args.command.now) ∷ []) (g.W.Sink.taken c.args.w.now)
     (g.W.Sink.taken c.write_report.new.w) c.from_residual-in_err-write_report-in-Told.result Write
     c.from_residual-in_err-write_report-in-Told.ensures.1 tt
@@ -98,14 +98,14 @@ returns-in_err-write_report-in-Told-clause-course g c =
 pub returns-in_ok-write_report-in-Told-clause-course : goal.returns-in_ok-write_report-in-Told-clause-course
 returns-in_ok-write_report-in-Told-clause-course g c =
     let outcome = outcome_view c.in-Told.outcome in
-    passed-one g.S.Store c.args.store.now c.perform.new.store
+    passed_one g.S.Store c.args.store.now c.perform.new.store
     (Perform c.args.date c.args.files.now (command_of c.args.command.now)) outcome (g.W.Sink.taken c.args.w.now)
     (g.W.Sink.taken c.write_report.new.w) (c.in_ok-performed.ensures.loads, (outcome, refl))
-    (sent-all _ _ _ _ _ c.in_ok-write_report-in-Told.ensures.sends c.in_ok-write_report-in-Told.ensures.fault)
+    (sent_all _ _ _ _ _ c.in_ok-write_report-in-Told.ensures.sends c.in_ok-write_report-in-Told.ensures.fault)
 
 pub returns-in_err-write_report-in-Lists-clause-course : goal.returns-in_err-write_report-in-Lists-clause-course
 returns-in_err-write_report-in-Lists-clause-course g c =
-    goes-err g.S.Store c.args.store.now c.perform.new.store
+    goes_err g.S.Store c.args.store.now c.perform.new.store
     (Perform c.args.date c.args.files.now (command_of c.args.command.now) ∷ []) (g.W.Sink.taken c.args.w.now)
     (g.W.Sink.taken c.write_report-in-Lists.new.w) c.from_residual-in_err-write_report-in-Lists.result Write
     c.from_residual-in_err-write_report-in-Lists.ensures.1 tt
@@ -113,7 +113,7 @@ returns-in_err-write_report-in-Lists-clause-course g c =
 pub returns-in_ok-write_report-in-Lists-clause-course : goal.returns-in_ok-write_report-in-Lists-clause-course
 returns-in_ok-write_report-in-Lists-clause-course g c =
     let outcome = outcome_view c.list.result in
-    passed-one g.S.Store c.args.store.now c.perform.new.store
+    passed_one g.S.Store c.args.store.now c.perform.new.store
     (Perform c.args.date c.args.files.now (command_of c.args.command.now)) outcome (g.W.Sink.taken c.args.w.now)
     (g.W.Sink.taken c.write_report-in-Lists.new.w) (c.in_ok-performed.ensures.loads, (outcome, refl))
-    (sent-all _ _ _ _ _ c.in_ok-write_report-in-Lists.ensures.sends c.in_ok-write_report-in-Lists.ensures.fault)
+    (sent_all _ _ _ _ _ c.in_ok-write_report-in-Lists.ensures.sends c.in_ok-write_report-in-Lists.ensures.fault)

@@ -5,9 +5,9 @@ use Rattle.smpe.specs.Ending.{EndsEarly}
 use Rattle.machine.specs.Machine.{Perform}
 use Rattle.smpe.specs.Commands.{EndsCommands}
 use Rattle.smpe.specs.Course.{Passed, FoundNone, TellsNone}
-use Rattle.smpe.proofs.Taken.{taken-more, taken-split}
-use Rattle.smpe.proofs.Commanding.{commands-err, commands-more, commands-stop, commands-early}
-use Rattle.smpe.proofs.Coursing.{commands-passed, commands-tell, goes-err}
+use Rattle.smpe.proofs.Taken.{taken_more, taken_split}
+use Rattle.smpe.proofs.Commanding.{commands_err, commands_more, commands_stop, commands_early}
+use Rattle.smpe.proofs.Coursing.{commands_passed, commands_tell, goes_err}
 use Rattle.smpe.proofs.job.run_commands.Goals as goal
 
 pub loop-command-preserved : goal.loop-command-preserved
@@ -23,9 +23,9 @@ loop-command-preserved g c = record {
       rw code (subst (λ cs. EndsCommands g.S.Store c.args.store.now c.run_command.new.store s c.run_command.new.session
       c.args.date
       c.args.files.now cs old new (Ok (max c.loop-command.code c.in_ok-next.next)))
-      (sym (taken-more command_of c.args.commands.now c.loop-command.command-index c.command-item.result
+      (sym (taken_more command_of c.args.commands.now c.loop-command.command-index c.command-item.result
       c.loop-command-test.true c.command-item.is))
-      (commands-more g.S.Store c.args.date c.args.files.now s c.args.store.now c.loop-command.store
+      (commands_more g.S.Store c.args.date c.args.files.now s c.args.store.now c.loop-command.store
       c.run_command.new.store
       c.loop-command.session c.run_command.new.session
       done (command_of c.command-item.result ∷ []) old (g.W.Sink.taken c.loop-command.w) new c.loop-command.code
@@ -38,9 +38,9 @@ loop-command-preserved g c = record {
       let old = g.W.Sink.taken c.args.w.now in
       let new = g.W.Sink.taken c.run_command.new.w in
       subst (λ cs. Passed g.S.Store c.args.store.now c.run_command.new.store (map perform cs) old new)
-      (sym (taken-more command_of c.args.commands.now c.loop-command.command-index c.command-item.result
+      (sym (taken_more command_of c.args.commands.now c.loop-command.command-index c.command-item.result
       c.loop-command-test.true c.command-item.is))
-      (commands-passed g.S.Store c.args.date c.args.files.now c.args.store.now c.loop-command.store
+      (commands_passed g.S.Store c.args.date c.args.files.now c.args.store.now c.loop-command.store
       c.run_command.new.store done (command_of c.command-item.result ∷ []) old (g.W.Sink.taken c.loop-command.w) new
       c.loop-command.invariant.course c.in_ok-next.ensures.course);
   sound = λ none. c.in_ok-next.ensures.fault (c.loop-command.invariant.sound none);
@@ -54,16 +54,16 @@ returns-in_err-next-clause-ended g c clean s is keeps =
     let new = g.W.Sink.taken c.run_command.new.w in
     let at = c.run_command.new.store in
     let error = c.in_err-next.field-0.0 in
-    commands-err g.S.Store c.args.date c.args.files.now c.args.store.now at s c.run_command.new.session
+    commands_err g.S.Store c.args.date c.args.files.now c.args.store.now at s c.run_command.new.session
     (map command_of c.args.commands.now) old new c.from_residual.result error c.from_residual.ensures.1
     (subst (λ cs. EndsEarly g.S.Store c.args.store.now at s (map (Perform c.args.date c.args.files.now) cs) old new
     error)
-    (sym (taken-split command_of c.args.commands.now c.loop-command.command-index c.command-item.result
+    (sym (taken_split command_of c.args.commands.now c.loop-command.command-index c.command-item.result
     c.loop-command-test.true c.command-item.is))
-    (commands-early g.S.Store c.args.date c.args.files.now c.args.store.now at s (done ++ command_of
+    (commands_early g.S.Store c.args.date c.args.files.now c.args.store.now at s (done ++ command_of
     c.command-item.result ∷ []) rest old
     new error
-    (commands-stop g.S.Store c.args.date c.args.files.now s c.args.store.now c.loop-command.store at
+    (commands_stop g.S.Store c.args.date c.args.files.now s c.args.store.now c.loop-command.store at
     c.loop-command.session
     c.run_command.new.session
     done (command_of c.command-item.result ∷ []) old (g.W.Sink.taken c.loop-command.w) new c.loop-command.code error
@@ -81,12 +81,12 @@ returns-in_err-next-clause-course g c =
     let new = g.W.Sink.taken c.run_command.new.w in
     let at = c.run_command.new.store in
     let error = c.in_err-next.field-0.0 in
-    goes-err g.S.Store c.args.store.now at (map perform (map command_of c.args.commands.now)) old new
+    goes_err g.S.Store c.args.store.now at (map perform (map command_of c.args.commands.now)) old new
     c.from_residual.result error c.from_residual.ensures.1
     (subst (λ cs. TellsNone g.S.Store at error (FoundNone g.S.Store c.args.store.now at (map perform cs) old new))
-    (sym (taken-split command_of c.args.commands.now c.loop-command.command-index c.command-item.result
+    (sym (taken_split command_of c.args.commands.now c.loop-command.command-index c.command-item.result
     c.loop-command-test.true c.command-item.is))
-    (commands-tell g.S.Store c.args.date c.args.files.now c.args.store.now c.loop-command.store at done next old
+    (commands_tell g.S.Store c.args.date c.args.files.now c.args.store.now c.loop-command.store at done next old
     (g.W.Sink.taken c.loop-command.w) new c.loop-command.invariant.course rest error c.in_err-next.ensures.course))
 
 pub returns-clause-course : goal.returns-clause-course

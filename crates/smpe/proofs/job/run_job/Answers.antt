@@ -4,53 +4,53 @@ use Rattle.report.specs.Sent.{WrotePart}
 use Rattle.cntl.specs.Views.{command_of}
 use Rattle.cntl.specs.Faults.{FailsFile}
 use Rattle.machine.specs.Machine.{RunFiles, Code, Files}
-use Rattle.store.proofs.NoState.{loads-read}
+use Rattle.store.proofs.NoState.{loads_read}
 use Rattle.smpe.specs.declared.error.JobError.TheVariants.{Write}
 use Rattle.smpe.specs.Commands.{job_error}
-use Rattle.smpe.proofs.Early.{ends-unbegun}
-use Rattle.smpe.proofs.Reports.{sent-all, sent-part}
-use Rattle.smpe.proofs.Single.{control-same, job-err, faulty-ran, faulty-broke, unbegun, begun}
-use Rattle.smpe.proofs.Closing.{keeps-closed, job-closed}
-use Rattle.smpe.proofs.Coursing.{none-told, tells-none, JobFound, job-goes-err, begin-found, faulty-goes, begun-goes}
+use Rattle.smpe.proofs.Early.{ends_unbegun}
+use Rattle.smpe.proofs.Reports.{sent_all, sent_part}
+use Rattle.smpe.proofs.Single.{control_same, job_err, faulty_ran, faulty_broke, unbegun, begun}
+use Rattle.smpe.proofs.Closing.{keeps_closed, job_closed}
+use Rattle.smpe.proofs.Coursing.{none_told, tells_none, JobFound, job_goes_err, begin_found, faulty_goes, begun_goes}
 use Rattle.smpe.proofs.job.run_job.Goals as goal
 
 pub returns-in-Err-Memory-clause-ended : goal.returns-in-Err-Memory-clause-ended
 returns-in-Err-Memory-clause-ended g c clean s keeps =
-    ends-unbegun g.S.Store c.args.store.now c.args.store.now s (RunFiles c.args.date c.args.cntl.now
+    ends_unbegun g.S.Store c.args.store.now c.args.store.now s (RunFiles c.args.date c.args.cntl.now
     (record { ptfin = c.args.ptfin.now; holds = c.args.hold.now }) ∷ []) (g.W.Sink.taken c.args.w.now) keeps
 
 pub returns-in_err-write_report-in-Err-Fault-clause-ended : goal.returns-in_err-write_report-in-Err-Fault-clause-ended
 returns-in_err-write_report-in-Err-Fault-clause-ended g c clean s keeps =
     let old = g.W.Sink.taken c.args.w.now in
     let new = g.W.Sink.taken c.write_report.new.w in
-    job-err g.S.Store c.args.store.now c.args.store.now s (RunFiles c.args.date c.args.cntl.now
+    job_err g.S.Store c.args.store.now c.args.store.now s (RunFiles c.args.date c.args.cntl.now
     (record { ptfin = c.args.ptfin.now; holds = c.args.hold.now })) old new Code c.from_residual.result Write
     c.from_residual.ensures.1
-    (faulty-broke g.S.Store c.args.store.now c.args.store.now s c.args.date c.args.cntl.now
+    (faulty_broke g.S.Store c.args.store.now c.args.store.now s c.args.date c.args.cntl.now
     (record { ptfin = c.args.ptfin.now; holds = c.args.hold.now })
     (record { number = c.in-Err-Fault.number; code = c.in-Err-Fault.code }) old new
     (subst (FailsFile c.args.cntl.now) c.in-Err-Fault.field-0-is c.in-Err-Fault.ensures.fault) keeps
-    (subst (WrotePart old new) (control-same c.in-Err-Fault.number-is c.in-Err-Fault.code-is)
-    (sent-part _ _ _ _ _ c.in_err-write_report-in-Err-Fault.ensures.sends
+    (subst (WrotePart old new) (control_same c.in-Err-Fault.number-is c.in-Err-Fault.code-is)
+    (sent_part _ _ _ _ _ c.in_err-write_report-in-Err-Fault.ensures.sends
     c.in_err-write_report-in-Err-Fault.ensures.fault)))
 
 pub returns-in-Err-Fault-clause-ended : goal.returns-in-Err-Fault-clause-ended
 returns-in-Err-Fault-clause-ended g c clean s keeps =
     let old = g.W.Sink.taken c.args.w.now in
     let new = g.W.Sink.taken c.write_report.new.w in
-    faulty-ran g.S.Store c.args.store.now c.args.store.now s c.args.date c.args.cntl.now
+    faulty_ran g.S.Store c.args.store.now c.args.store.now s c.args.date c.args.cntl.now
     (record { ptfin = c.args.ptfin.now; holds = c.args.hold.now })
     (record { number = c.in-Err-Fault.number; code = c.in-Err-Fault.code }) old new
     c.in_ok-write_report-in-Err-Fault.field-0 (subst (FailsFile c.args.cntl.now) c.in-Err-Fault.field-0-is
     c.in-Err-Fault.ensures.fault) keeps
-    (subst (Appends old new) (control-same c.in-Err-Fault.number-is c.in-Err-Fault.code-is)
-    (sent-all _ _ _ _ _ c.in_ok-write_report-in-Err-Fault.ensures.sends
+    (subst (Appends old new) (control_same c.in-Err-Fault.number-is c.in-Err-Fault.code-is)
+    (sent_all _ _ _ _ _ c.in_ok-write_report-in-Err-Fault.ensures.sends
     c.in_ok-write_report-in-Err-Fault.ensures.fault)) c.in_ok-write_report-in-Err-Fault.ensures.code
 
 pub returns-in_err-session-clause-ended : goal.returns-in_err-session-clause-ended
 returns-in_err-session-clause-ended g c clean s keeps =
     let taken = g.W.Sink.taken c.args.w.now in
-    job-err g.S.Store c.args.store.now c.begin.new.store s (RunFiles c.args.date c.args.cntl.now
+    job_err g.S.Store c.args.store.now c.begin.new.store s (RunFiles c.args.date c.args.cntl.now
     (record { ptfin = c.args.ptfin.now; holds = c.args.hold.now })) taken taken Code
     c.from_residual-in_err-session.result (job_error c.in_err-session.field-0.0)
     c.from_residual-in_err-session.ensures.1
@@ -74,27 +74,27 @@ returns-clause-ended g c clean s keeps =
 
 pub returns-in-Err-Memory-clause-closed : goal.returns-in-Err-Memory-clause-closed
 returns-in-Err-Memory-clause-closed g c clean s keeps closed =
-    keeps-closed g.S.Store c.args.store.now clean s keeps closed
+    keeps_closed g.S.Store c.args.store.now clean s keeps closed
 
 pub returns-in_err-write_report-in-Err-Fault-clause-closed : goal.returns-in_err-write_report-in-Err-Fault-clause-closed
 returns-in_err-write_report-in-Err-Fault-clause-closed g c clean s keeps closed =
-    keeps-closed g.S.Store c.args.store.now clean s keeps closed
+    keeps_closed g.S.Store c.args.store.now clean s keeps closed
 
 pub returns-in-Err-Fault-clause-closed : goal.returns-in-Err-Fault-clause-closed
 returns-in-Err-Fault-clause-closed g c clean s keeps closed =
-    keeps-closed g.S.Store c.args.store.now clean s keeps closed
+    keeps_closed g.S.Store c.args.store.now clean s keeps closed
 
 pub returns-in_err-session-clause-closed : goal.returns-in_err-session-clause-closed
 returns-in_err-session-clause-closed g c clean s keeps closed =
     let taken = g.W.Sink.taken c.args.w.now in
-    job-closed g.S.Store c.args.store.now c.begin.new.store s (c.begin.ensures.clean clean) clean keeps closed
+    job_closed g.S.Store c.args.store.now c.begin.new.store s (c.begin.ensures.clean clean) clean keeps closed
     (RunFiles c.args.date c.args.cntl.now (record { ptfin = c.args.ptfin.now; holds = c.args.hold.now })) taken taken
     Code c.from_residual-in_err-session.result c.is_known.ensures
     (returns-in_err-session-clause-ended g c clean s keeps)
 
 pub returns-clause-closed : goal.returns-clause-closed
 returns-clause-closed g c clean s keeps closed =
-    job-closed g.S.Store c.args.store.now c.run_commands.new.store s
+    job_closed g.S.Store c.args.store.now c.run_commands.new.store s
     (c.begin.ensures.clean (c.run_commands.ensures.clean clean)) clean keeps closed
     (RunFiles c.args.date c.args.cntl.now (record { ptfin = c.args.ptfin.now; holds = c.args.hold.now }))
     (g.W.Sink.taken c.args.w.now) (g.W.Sink.taken c.run_commands.new.w) Code c.run_commands.result c.is_known.ensures
@@ -104,7 +104,7 @@ returns-clause-closed g c clean s keeps closed =
 
 pub returns-in_err-write_report-in-Err-Fault-clause-course : goal.returns-in_err-write_report-in-Err-Fault-clause-course
 returns-in_err-write_report-in-Err-Fault-clause-course g c =
-    job-goes-err g.S.Store c.args.store.now c.args.store.now (RunFiles c.args.date c.args.cntl.now
+    job_goes_err g.S.Store c.args.store.now c.args.store.now (RunFiles c.args.date c.args.cntl.now
     (record { ptfin = c.args.ptfin.now; holds = c.args.hold.now })) (g.W.Sink.taken c.args.w.now)
     (g.W.Sink.taken c.write_report.new.w) c.from_residual.result Write c.from_residual.ensures.1 tt
 
@@ -112,11 +112,11 @@ pub returns-in-Err-Fault-clause-course : goal.returns-in-Err-Fault-clause-course
 returns-in-Err-Fault-clause-course g c =
     let old = g.W.Sink.taken c.args.w.now in
     let new = g.W.Sink.taken c.write_report.new.w in
-    faulty-goes g.S.Store c.args.date c.args.cntl.now (record { ptfin = c.args.ptfin.now; holds = c.args.hold.now })
+    faulty_goes g.S.Store c.args.date c.args.cntl.now (record { ptfin = c.args.ptfin.now; holds = c.args.hold.now })
     c.args.store.now (record { number = c.in-Err-Fault.number; code = c.in-Err-Fault.code }) old new
     (subst (FailsFile c.args.cntl.now) c.in-Err-Fault.field-0-is c.in-Err-Fault.ensures.fault)
-    (subst (Appends old new) (control-same c.in-Err-Fault.number-is c.in-Err-Fault.code-is)
-    (sent-all _ _ _ _ _ c.in_ok-write_report-in-Err-Fault.ensures.sends
+    (subst (Appends old new) (control_same c.in-Err-Fault.number-is c.in-Err-Fault.code-is)
+    (sent_all _ _ _ _ _ c.in_ok-write_report-in-Err-Fault.ensures.sends
     c.in_ok-write_report-in-Err-Fault.ensures.fault))
 
 pub returns-in_err-session-clause-course : goal.returns-in_err-session-clause-course
@@ -125,17 +125,17 @@ returns-in_err-session-clause-course g c =
     let taken = g.W.Sink.taken c.args.w.now in
     let job = RunFiles c.args.date c.args.cntl.now files in
     let e = c.in_err-session.field-0.0 in
-    job-goes-err g.S.Store c.args.store.now c.begin.new.store job taken taken
+    job_goes_err g.S.Store c.args.store.now c.begin.new.store job taken taken
     c.from_residual-in_err-session.result (job_error e) c.from_residual-in_err-session.ensures.1
-    (tells-none g.S.Store c.begin.new.store (JobFound g.S.Store c.args.store.now c.begin.new.store job taken taken)
-    (job_error e) (λ is clean. begin-found g.S.Store c.args.date c.args.cntl.now files c.args.store.now
+    (tells_none g.S.Store c.begin.new.store (JobFound g.S.Store c.args.store.now c.begin.new.store job taken taken)
+    (job_error e) (λ is clean. begin_found g.S.Store c.args.date c.args.cntl.now files c.args.store.now
     c.begin.new.store (map command_of c.in-Ok.commands.items) taken c.in-Ok.ensures.commands
-    (c.in_err-session.ensures.none clean (ap Err (none-told e is)))))
+    (c.in_err-session.ensures.none clean (ap Err (none_told e is)))))
 
 pub returns-clause-course : goal.returns-clause-course
 returns-clause-course g c =
-    begun-goes g.S.Store c.args.date c.args.cntl.now (record { ptfin = c.args.ptfin.now; holds = c.args.hold.now })
+    begun_goes g.S.Store c.args.date c.args.cntl.now (record { ptfin = c.args.ptfin.now; holds = c.args.hold.now })
     c.args.store.now c.begin.new.store c.run_commands.new.store (map command_of c.in-Ok.commands.items)
     (g.W.Sink.taken c.args.w.now) (g.W.Sink.taken c.run_commands.new.w) c.run_commands.result c.in-Ok.ensures.commands
-    (loads-read g.S.Store c.args.store.now c.begin.new.store _ c.in_ok-session.ensures.reads)
+    (loads_read g.S.Store c.args.store.now c.begin.new.store _ c.in_ok-session.ensures.reads)
     (rw c.deref.ensures.value at c.run_commands.ensures.course)

@@ -3,20 +3,20 @@ use Rattle.std.proofs.lemmas.List.{map-append, take_all}
 use Rattle.smpe.specs.declared.error.JobError.TheVariants.{Memory}
 use Rattle.smpe.specs.Course.{TellsNone}
 use Rattle.smpe.specs.Ending.{EndsAmong, EndsJobs, job_of, answer_of}
-use Rattle.smpe.proofs.Early.{ends-unbegun}
-use Rattle.smpe.proofs.Taken.{taken-more, taken-split}
-use Rattle.smpe.proofs.Listing.{jobs-err, jobs-more, jobs-stop}
-use Rattle.smpe.proofs.Closing.{keeps-closed, closed-now}
-use Rattle.smpe.proofs.Coursing.{JobsWent, JobsFound, passed-none, went-more, jobs-tell, jobs-go-err}
+use Rattle.smpe.proofs.Early.{ends_unbegun}
+use Rattle.smpe.proofs.Taken.{taken_more, taken_split}
+use Rattle.smpe.proofs.Listing.{jobs_err, jobs_more, jobs_stop}
+use Rattle.smpe.proofs.Closing.{keeps_closed, closed_now}
+use Rattle.smpe.proofs.Coursing.{JobsWent, JobsFound, passed_none, went_more, jobs_tell, jobs_go_err}
 use Rattle.smpe.proofs.jobs.run_jobs.Goals as goal
 
 pub returns-in_err-answers-clause-ended : goal.returns-in_err-answers-clause-ended
 returns-in_err-answers-clause-ended g c clean s keeps =
     let taken = g.W.Sink.taken c.args.w.now in
-    jobs-err g.S.Store s c.args.store.now c.args.store.now (map job_of c.args.jobs.now) taken taken (λ v. map answer_of
+    jobs_err g.S.Store s c.args.store.now c.args.store.now (map job_of c.args.jobs.now) taken taken (λ v. map answer_of
     v.items)
     c.from_residual.result Memory c.from_residual.ensures.1
-    (ends-unbegun g.S.Store c.args.store.now c.args.store.now s (map job_of c.args.jobs.now) taken keeps)
+    (ends_unbegun g.S.Store c.args.store.now c.args.store.now s (map job_of c.args.jobs.now) taken keeps)
 
 pub returns-in_err-answer-clause-ended : goal.returns-in_err-answer-clause-ended
 returns-in_err-answer-clause-ended g c clean s keeps =
@@ -26,11 +26,11 @@ returns-in_err-answer-clause-ended g c clean s keeps =
     let old = g.W.Sink.taken c.args.w.now in
     let new = g.W.Sink.taken c.run_one.new.w in
     let error = c.in_err-answer.field-0.0 in
-    jobs-err g.S.Store s c.args.store.now at (map job_of c.args.jobs.now) old new (λ v. map answer_of v.items)
+    jobs_err g.S.Store s c.args.store.now at (map job_of c.args.jobs.now) old new (λ v. map answer_of v.items)
     c.from_residual-in_err-answer.result error c.from_residual-in_err-answer.ensures.1
     (subst (λ jobs. EndsAmong g.S.Store c.args.store.now at s jobs old new error)
-    (sym (taken-split job_of c.args.jobs.now c.loop-job.job-index c.job-item.result c.loop-job-test.true c.job-item.is))
-    (jobs-stop g.S.Store s c.args.store.now c.loop-job.store at done (job_of c.job-item.result) old (g.W.Sink.taken
+    (sym (taken_split job_of c.args.jobs.now c.loop-job.job-index c.job-item.result c.loop-job-test.true c.job-item.is))
+    (jobs_stop g.S.Store s c.args.store.now c.loop-job.store at done (job_of c.job-item.result) old (g.W.Sink.taken
     c.loop-job.w) new
     (map answer_of c.loop-job.answers.items) rest error
     (c.loop-job.invariant.faults, c.loop-job.invariant.limit)
@@ -58,9 +58,9 @@ loop-job-preserved g c =
           (sym (ap (map answer_of) pushed ∙ map-append answer_of c.loop-job.answers.items (c.in_ok-answer.answer ∷ [])))
           (subst (λ jobs. EndsJobs g.S.Store c.args.store.now at s jobs old new (λ all. all) (Ok (answers ++ answer ∷
           [])))
-          (sym (taken-more job_of c.args.jobs.now c.loop-job.job-index c.job-item.result c.loop-job-test.true
+          (sym (taken_more job_of c.args.jobs.now c.loop-job.job-index c.job-item.result c.loop-job-test.true
           c.job-item.is))
-          (jobs-more g.S.Store s c.args.store.now c.loop-job.store at done (job_of c.job-item.result) old
+          (jobs_more g.S.Store s c.args.store.now c.loop-job.store at done (job_of c.job-item.result) old
           (g.W.Sink.taken c.loop-job.w)
           new answers answer
           (c.loop-job.invariant.ran (c.run_one.ensures.clean clean) s keeps)
@@ -70,15 +70,15 @@ loop-job-preserved g c =
           let old = g.W.Sink.taken c.args.w.now in
           let new = g.W.Sink.taken c.run_one.new.w in
           subst (λ jobs. JobsWent g.S.Store c.args.store.now c.run_one.new.store jobs old new)
-          (sym (taken-more job_of c.args.jobs.now c.loop-job.job-index c.job-item.result c.loop-job-test.true
+          (sym (taken_more job_of c.args.jobs.now c.loop-job.job-index c.job-item.result c.loop-job-test.true
           c.job-item.is))
-          (went-more g.S.Store c.args.store.now c.loop-job.store c.run_one.new.store done (job_of c.job-item.result) old
+          (went_more g.S.Store c.args.store.now c.loop-job.store c.run_one.new.store done (job_of c.job-item.result) old
           (g.W.Sink.taken c.loop-job.w) new c.loop-job.invariant.course c.in_ok-answer.ensures.course);
       closed = λ clean s keeps closed.
           let was = c.run_one.ensures.clean clean in
           let ran = c.loop-job.invariant.ran was s keeps in
           c.run_one.ensures.closed clean ran.0 ran.3
-          (closed-now g.S.Store c.loop-job.store was ran.0 ran.3 (c.loop-job.invariant.closed was s keeps closed));
+          (closed_now g.S.Store c.loop-job.store was ran.0 ran.3 (c.loop-job.invariant.closed was s keeps closed));
       count = search rules;
       room = omega (arith, c.push.ensures.capacity, c.loop-job.invariant.room);
       sound = λ none. c.in_ok-answer.ensures.fault (c.loop-job.invariant.sound none);
@@ -90,8 +90,8 @@ loop-job-init g c = record {
   faults = omega arith;
   limit = refl;
   ran = search rules;
-  course = ([], refl, passed-none g.S.Store c.args.store.now (g.W.Sink.taken c.args.w.now));
-  closed = λ clean s keeps closed. keeps-closed g.S.Store c.args.store.now clean s keeps closed;
+  course = ([], refl, passed_none g.S.Store c.args.store.now (g.W.Sink.taken c.args.w.now));
+  closed = λ clean s keeps closed. keeps_closed g.S.Store c.args.store.now clean s keeps closed;
   count = search rules;
   room = search rules;
   sound = search rules;
@@ -99,19 +99,19 @@ loop-job-init g c = record {
 
 pub returns-in_err-answers-clause-closed : goal.returns-in_err-answers-clause-closed
 returns-in_err-answers-clause-closed g c clean s keeps closed =
-    keeps-closed g.S.Store c.args.store.now clean s keeps closed
+    keeps_closed g.S.Store c.args.store.now clean s keeps closed
 
 pub returns-in_err-answer-clause-closed : goal.returns-in_err-answer-clause-closed
 returns-in_err-answer-clause-closed g c clean s keeps closed =
     let was = c.run_one.ensures.clean clean in
     let ran = c.loop-job.invariant.ran was s keeps in
     c.run_one.ensures.closed clean ran.0 ran.3
-    (closed-now g.S.Store c.loop-job.store was ran.0 ran.3 (c.loop-job.invariant.closed was s keeps closed))
+    (closed_now g.S.Store c.loop-job.store was ran.0 ran.3 (c.loop-job.invariant.closed was s keeps closed))
 
 pub returns-in_err-answers-clause-course : goal.returns-in_err-answers-clause-course
 returns-in_err-answers-clause-course g c =
     let taken = g.W.Sink.taken c.args.w.now in
-    jobs-go-err g.S.Store c.args.store.now c.args.store.now (map job_of c.args.jobs.now) taken taken
+    jobs_go_err g.S.Store c.args.store.now c.args.store.now (map job_of c.args.jobs.now) taken taken
     c.from_residual.result Memory c.from_residual.ensures.1 tt
 
 pub returns-in_err-answer-clause-course : goal.returns-in_err-answer-clause-course
@@ -124,11 +124,11 @@ returns-in_err-answer-clause-course g c =
     let new = g.W.Sink.taken c.run_one.new.w in
     let job = job_of c.job-item.result in
     let error = c.in_err-answer.field-0.0 in
-    jobs-go-err g.S.Store c.args.store.now at (map job_of c.args.jobs.now) old new
+    jobs_go_err g.S.Store c.args.store.now at (map job_of c.args.jobs.now) old new
     c.from_residual-in_err-answer.result error c.from_residual-in_err-answer.ensures.1
     (subst (λ jobs. TellsNone g.S.Store at error (JobsFound g.S.Store c.args.store.now at jobs old new))
-    (sym (taken-split job_of c.args.jobs.now c.loop-job.job-index c.job-item.result c.loop-job-test.true c.job-item.is))
-    (jobs-tell g.S.Store c.args.store.now c.loop-job.store at done job old mid new c.loop-job.invariant.course rest
+    (sym (taken_split job_of c.args.jobs.now c.loop-job.job-index c.job-item.result c.loop-job-test.true c.job-item.is))
+    (jobs_tell g.S.Store c.args.store.now c.loop-job.store at done job old mid new c.loop-job.invariant.course rest
     error c.in_err-answer.ensures.course))
 
 pub returns-clause-course : goal.returns-clause-course

@@ -1,8 +1,8 @@
 use Rattle.std.proofs.Common.{◌∷◌, [], sym, subst}
 use Rattle.smpe.specs.Course.{JobGoes, TellsNone}
 use Rattle.smpe.specs.Ending.{EndsAmong, EndsJob, job_of, answer_of}
-use Rattle.smpe.proofs.Single.{job-err}
-use Rattle.smpe.proofs.Coursing.{JobFound, job-goes-err}
+use Rattle.smpe.proofs.Single.{job_err}
+use Rattle.smpe.proofs.Coursing.{JobFound, job_goes_err}
 use Rattle.smpe.proofs.jobs.run_one.Goals as goal
 
 pub returns-in_err-code-in-Run-clause-ended : goal.returns-in_err-code-in-Run-clause-ended
@@ -11,7 +11,7 @@ returns-in_err-code-in-Run-clause-ended g c clean s keeps =
     let old = g.W.Sink.taken c.args.w.now in
     let new = g.W.Sink.taken c.run_job.new.w in
     let error = c.in_err-code-in-Run.field-0.0 in
-    job-err g.S.Store c.args.store.now at s (job_of c.args.job.now) old new answer_of c.from_residual.result error
+    job_err g.S.Store c.args.store.now at s (job_of c.args.job.now) old new answer_of c.from_residual.result error
     c.from_residual.ensures.1
     (subst (λ job. EndsAmong g.S.Store c.args.store.now at s (job_of job ∷ []) old new error) (sym c.in-Run.is)
     (c.in_err-code-in-Run.ensures.ended clean s keeps))
@@ -29,7 +29,7 @@ returns-in_err-code-in-Run-clause-course g c =
     let new = g.W.Sink.taken c.run_job.new.w in
     let error = c.in_err-code-in-Run.field-0.0 in
     let at = c.run_job.new.store in
-    job-goes-err g.S.Store c.args.store.now at (job_of c.args.job.now) old new c.from_residual.result error
+    job_goes_err g.S.Store c.args.store.now at (job_of c.args.job.now) old new c.from_residual.result error
     c.from_residual.ensures.1
     (subst (λ job. TellsNone g.S.Store at error (JobFound g.S.Store c.args.store.now at (job_of job) old new))
     (sym c.in-Run.is) c.in_err-code-in-Run.ensures.course)

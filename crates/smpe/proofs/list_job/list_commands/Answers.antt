@@ -5,8 +5,8 @@ use Rattle.terms.specs.Types.{Set, ListZone}
 use Rattle.terms.specs.Forms.{IsZoneName}
 use Rattle.terms.specs.Commands.{IsCommandFile}
 use Rattle.smpe.specs.ListJob.{list_records}
-use Rattle.smpe.proofs.ListFile.{lists-zone}
-use Rattle.smpe.proofs.ListRecords.{are-records}
+use Rattle.smpe.proofs.ListFile.{lists_zone}
+use Rattle.smpe.proofs.ListRecords.{are_records}
 use Rattle.smpe.proofs.list_job.list_commands.Goals as goal
 
 pub returns : goal.returns
@@ -18,7 +18,7 @@ returns c =
     let both : vec_len c.extend_from_slice-4.new.self ≡ length c.extend_from_slice-4.new.self.items =
     omega (arith, c.extend_from_slice-4.new.self.ok) in
     let is : c.resize-2.new.self.items ≡ list_records c.args.zone =
-    are-records c.args.zone c.extend_from_slice-3.new.self.items c.resize.new.self.items
+    are_records c.args.zone c.extend_from_slice-3.new.self.items c.resize.new.self.items
     c.extend_from_slice-4.new.self.items c.resize-2.new.self.items small
     (c.in_ok-extend_from_slice-3.ensures.items ∙ ap (λ t. t ++ codes ").") (c.in_ok-extend_from_slice-2.ensures.items
     ∙ ap (λ t. t ++ c.as_bytes.result.now) (c.in_ok-extend_from_slice.ensures.items
@@ -32,5 +32,5 @@ returns c =
       records = is;
       commands =
           subst (λ bytes. IsCommandFile bytes (Set c.args.zone ∷ ListZone false ∷ [])) (sym is)
-          (lists-zone c.args.zone (subst IsZoneName c.as_bytes.ensures.same c.as_bytes.ensures.form));
+          (lists_zone c.args.zone (subst IsZoneName c.as_bytes.ensures.same c.as_bytes.ensures.form));
     }

@@ -26,7 +26,7 @@ install-requires-clause-order c =
     → IsOver chosen x y ⊎ IsOver chosen y x) (sym c.choose-vers.ensures.global) (sym c.choose-vers.ensures.counting)
     (kept_order c.args.global.now c.args.zone.now (option_copied c.args.related) c.args.selection.now c.args.bypass.now
     c.args.date c.in_ok-ids.ids kept (map why_failed c.in_ok-kept.field-0.failed.items)
-    c.in_ok-ids.ensures.members c.in_ok-ids.ensures.installable c.in_ok-kept.ensures.decided c.known.ensures
+    c.in_ok-ids.ensures.members c.in_ok-ids.ensures.installable c.in_ok-kept.ensures.decided c.attest.ensures
     c.len.ensures.form c.in_ok-kept.field-0.bypassed.items)
 
 pub install-requires-clause-base : goal.install-requires-clause-base
@@ -39,7 +39,7 @@ install-requires-clause-base c =
     c.args.date)) (sym c.choose-vers.ensures.global) (sym c.choose-vers.ensures.counting)
     (kept_bases c.args.global.now c.args.zone.now (option_copied c.args.related) c.args.selection.now c.args.bypass.now
     c.args.date c.in_ok-ids.ids kept (map why_failed c.in_ok-kept.field-0.failed.items)
-    c.in_ok-ids.ensures.members c.in_ok-ids.ensures.installable c.in_ok-kept.ensures.decided c.known.ensures
+    c.in_ok-ids.ensures.members c.in_ok-ids.ensures.installable c.in_ok-kept.ensures.decided c.attest.ensures
     c.len.ensures.form c.in_ok-kept.field-0.bypassed.items))
 
 pub returns-clause-installs : goal.returns-clause-installs

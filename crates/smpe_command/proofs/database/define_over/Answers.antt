@@ -1,6 +1,6 @@
 use Rattle.std.proofs.Common.{inr, subst}
 use Rattle.smpe_zones.specs.Kept.{kept}
-use Rattle.smpe_zones.proofs.Ending.{defined-since}
+use Rattle.smpe_zones.proofs.Ending.{defined_since}
 use Rattle.smpe_command.proofs.database.define_over.Goals as goal
 
 pub returns : goal.returns
@@ -14,7 +14,7 @@ returns g c =
         opens = found;
         store = c.define_zone-defined.new.store;
         ends = λ clean s is.
-            defined-since g.H.Disk.Store found.conn c.in_ok-store.store c.define_zone-defined.new.store s
+            defined_since g.H.Disk.Store found.conn c.in_ok-store.store c.define_zone-defined.new.store s
             (found.crash.counts, found.crash.limit) _
             _
             (c.define_zone-defined.ensures.ended clean s (found.stands (kept s) is));

@@ -3,7 +3,7 @@ use Rattle.machine.specs.Machine.{RunFiles, Code}
 use Rattle.smpe_zones.specs.Kept.{kept}
 use Rattle.smpe.specs.Course.{JobGoes}
 use Rattle.smpe.specs.Ending.{EndsJob}
-use Rattle.smpe.proofs.Early.{job-since}
+use Rattle.smpe.proofs.Early.{job_since}
 use Rattle.smpe_command.proofs.database.run_over.Goals as goal
 
 pub returns : goal.returns
@@ -28,7 +28,7 @@ returns g c =
           subst (λ hold. Ends files.cntl.items files.ptfin.items hold) c.as_slice-3.ensures.value
           (subst (λ ptfin. Ends files.cntl.items ptfin c.as_slice-3.result.now) b
           (subst (λ cntl. Ends cntl c.as_slice-2.result.now c.as_slice-3.result.now) a
-          (job-since g.H.Disk.Store found.conn c.in_ok-store.store at s
+          (job_since g.H.Disk.Store found.conn c.in_ok-store.store at s
           (found.crash.counts, found.crash.limit) _ old new Code c.run_job-code.result
           (c.run_job-code.ensures.ended clean s (found.stands (kept s) is)))));
       closed = λ clean s is closed. c.run_job-code.ensures.closed clean s (found.stands (kept s) is) closed;

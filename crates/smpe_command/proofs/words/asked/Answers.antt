@@ -5,7 +5,7 @@ use Rattle.std.specs.Str.{IsUtf8}
 use Rattle.std.specs.String.{string_bytes}
 use Rattle.smpe_invocation.specs.Answers.{IsRead, IsRefused}
 use Rattle.smpe_command.specs.Asking.{AreText, IsUnasked}
-use Rattle.smpe_command.proofs.Texts.{shown-text, text-each, unasked-refused}
+use Rattle.smpe_command.proofs.Texts.{shown_text, text_each, unasked_refused}
 use Rattle.smpe_command.proofs.words.asked.Goals as goal
 
 pub returns-in_err-asked-clause-err : goal.returns-in_err-asked-clause-err
@@ -14,7 +14,7 @@ returns-in_err-asked-clause-err c =
     let fault = c.in_err-asked.field-0.0 in
     let failed = err_from_is_err_and c.from_residual-in_err-asked.result c.from_residual-in_err-asked.ensures.1 in
     subst (λ r. IfErr r (IsUnasked words)) (sym (failed.1 ∙ ap (λ e. Err e) failed.2))
-    (unasked-refused words fault
+    (unasked_refused words fault
     (subst (λ texts. IsRefused texts fault) (ap (map string_bytes) c.as_slice.ensures.value ∙ c.in_ok-texts.ensures)
     c.in_err-asked.ensures.err))
 
@@ -25,13 +25,13 @@ returns-then-are_text-clause-ok c =
     All-map IsUtf8 (λ word. word.items) c.args.words.now (c.are_text.ensures.0 c.if-are_text.true) in (
       text,
       subst (λ texts. IsRead texts c.in_ok-asked.asked)
-          (ap (map string_bytes) c.as_slice.ensures.value ∙ c.in_ok-texts.ensures ∙ shown-text words text)
+          (ap (map string_bytes) c.as_slice.ensures.value ∙ c.in_ok-texts.ensures ∙ shown_text words text)
           c.in_ok-asked.ensures.ok,
     )
 
 pub returns-clause-err : goal.returns-clause-err
 returns-clause-err c = inr (
-  (λ text. let is = c.are_text.ensures.1 (text-each (λ word. word.items) c.args.words.now text) in search rules),
+  (λ text. let is = c.are_text.ensures.1 (text_each (λ word. word.items) c.args.words.now text) in search rules),
   (
     c.in_ok-asked.asked,
     subst (λ texts. IsRead texts c.in_ok-asked.asked)

@@ -2,7 +2,7 @@ use Rattle.std.proofs.Common.{◌≡◌, ◌<◌, ◌∙◌, length, refl, subst
 use Rattle.std.specs.Prelude.{All}
 use Rattle.terms.specs.Lookups.{IsRising}
 use Rattle.solve.specs.Rows.{row_at}
-use Rattle.smpe_failures.proofs.CandidateIds.{causers-within}
+use Rattle.smpe_failures.proofs.CandidateIds.{causers_within}
 use Rattle.smpe_failures.proofs.decided.decide.Goals as goal
 
 pub failures-requires : goal.failures-requires
@@ -16,7 +16,7 @@ failures-requires c =
       unserved = c.in_ok-unserved.ensures.size ∙ whole;
       causers = c.in_ok-causers.ensures.size ∙ whole;
       within = λ n. subst (λ size. All (λ m. m < size) (row_at rows n)) whole
-          (causers-within system c.in_ok-set.set rows c.in_ok-causers.ensures.exact n);
+          (causers_within system c.in_ok-set.set rows c.in_ok-causers.ensures.exact n);
     }
 
 pub returns : goal.returns

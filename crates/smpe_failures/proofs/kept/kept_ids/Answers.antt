@@ -1,11 +1,11 @@
 use Rattle.std.proofs.Common.{length, refl, arith}
 use Rattle.std.proofs.lemmas.Option.{slice_get_read, slice_get_within}
-use Rattle.smpe_failures.proofs.Choosing.{flagged-next}
+use Rattle.smpe_failures.proofs.Choosing.{flagged_next}
 use Rattle.smpe_failures.proofs.kept.kept_ids.Goals as goal
 
 pub loop-i-preserved : goal.loop-i-preserved
 loop-i-preserved c =
-    flagged-next c.args.ids.now c.args.flags.now c.loop-i.i c.index-ids-i.result _ c.loop-i.kept.items
+    flagged_next c.args.ids.now c.args.flags.now c.loop-i.i c.index-ids-i.result _ c.loop-i.kept.items
     c.add_if.new.ids.items
     (slice_get_read c.args.ids.now (length c.args.ids.now) c.loop-i.i c.index-ids-i.result refl (omega arith)
     c.index-ids-i.is)

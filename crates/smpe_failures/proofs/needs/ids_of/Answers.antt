@@ -1,7 +1,7 @@
 use Rattle.std.proofs.Common.{◌∷◌, [], ◌∙◌, ap, subst, sym, take, take_all, arith, Contains}
 use Rattle.std.specs.Prelude.{◌↔◌, ◌++◌}
 use Rattle.std.proofs.lemmas.List.{take_more}
-use Rattle.smpe_failures.proofs.EachKind.{ids-next}
+use Rattle.smpe_failures.proofs.EachKind.{ids_next}
 use Rattle.smpe_failures.proofs.needs.ids_of.Goals as goal
 
 pub loop-i-preserved : goal.loop-i-preserved
@@ -11,7 +11,7 @@ loop-i-preserved c z =
     let need = c.index-unserved-i.result in
     let more = take_more row i need (omega arith) ∙ ap (λ v. take i row ++ v ∷ []) (sym c.index-unserved-i.is) in
     subst (λ l. Contains c.add_of.new.ids.items z ↔ Contains l (c.args.kind, z)) (sym more)
-    (ids-next c.args.kind (take i row) need c.loop-i.ids.items c.add_of.new.ids.items c.in_ok-add_of.ensures
+    (ids_next c.args.kind (take i row) need c.loop-i.ids.items c.add_of.new.ids.items c.in_ok-add_of.ensures
     c.loop-i.invariant z)
 
 pub returns : goal.returns

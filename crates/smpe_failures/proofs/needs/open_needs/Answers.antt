@@ -5,7 +5,7 @@ use Rattle.std.proofs.lemmas.List.{length-map}
 use Rattle.std.proofs.lemmas.Option.{slice_get_read, slice_get-map}
 use Rattle.solve.specs.Need.{demand}
 use Rattle.smpe_failures.specs.Open.{HaveOpen}
-use Rattle.smpe_failures.proofs.Opened.{open-next}
+use Rattle.smpe_failures.proofs.Opened.{open_next}
 use Rattle.smpe_failures.proofs.needs.open_needs.Goals as goal
 
 pub loop-i-preserved : goal.loop-i-preserved
@@ -33,7 +33,7 @@ loop-i-preserved c =
     c.index-needed-i.is in
     rw whole (record {
       size = omega (arith, c.add_open.auto.rows, c.deref_mut.ensures.len, c.loop-i.invariant.size);
-      unserved = open-next c.args.kept.now demands needed i (demand n) c.index-needed-i.result rows new at_d at_meant
+      unserved = open_next c.args.kept.now demands needed i (demand n) c.index-needed-i.result rows new at_d at_meant
           (rw c.deref_mut.ensures.value at c.in_ok-add_open.ensures) c.loop-i.invariant.unserved;
     })
 

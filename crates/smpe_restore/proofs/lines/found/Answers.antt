@@ -4,7 +4,7 @@ use Rattle.std.specs.Str.{bytes_eq}
 use Rattle.std.proofs.lemmas.Cmp.{nat_list_cmp_total}
 use Rattle.std.proofs.lemmas.List.Sorted.{answers_always}
 use Rattle.terms.specs.Types.{Id}
-use Rattle.terms.proofs.RisingLists.{found-search, missing-search, find-stands, find-parted}
+use Rattle.terms.proofs.RisingLists.{found_search, missing_search, find_stands, find_parted}
 use Rattle.report.specs.declared.outcome.Failure.{Failure}
 use Rattle.smpe_restore.proofs.lines.found.Goals as goal
 
@@ -15,17 +15,17 @@ pub returns-in-Ok : goal.returns-in-Ok
 returns-in-Ok c =
     let xs = c.args.failed.now in
     let position = c.binary_search_by_key.ensures.position id_of (answers_always _ _ _ (λ f a r h q. search rules)) in
-    let found = found-search nat_list_cmp_total id_of c.args.id xs c.requires c.binary_search_by_key.result
+    let found = found_search nat_list_cmp_total id_of c.args.id xs c.requires c.binary_search_by_key.result
     c.binary_search_by_key.ensures.bound position in
     let at = rw c.in-Ok.is at found in
     ap Some (c.index-failed-place.is ∙ at.1.1.at c.index-failed-place.result)
-    ∙ sym (find-stands nat_list_cmp_total id_of bytes_eq texts_ties c.args.id xs c.in-Ok.place at.1.0 c.requires at.1.1)
+    ∙ sym (find_stands nat_list_cmp_total id_of bytes_eq texts_ties c.args.id xs c.in-Ok.place at.1.0 c.requires at.1.1)
 
 pub returns-in-Err : goal.returns-in-Err
 returns-in-Err c =
     let xs = c.args.failed.now in
     let position = c.binary_search_by_key.ensures.position id_of (answers_always _ _ _ (λ f a r h q. search rules)) in
-    let missing = missing-search nat_list_cmp_total id_of c.args.id xs c.requires c.binary_search_by_key.result
+    let missing = missing_search nat_list_cmp_total id_of c.args.id xs c.requires c.binary_search_by_key.result
     c.binary_search_by_key.ensures.bound position in
     let at = rw c.in-Err.is at missing in
-    sym (find-parted nat_list_cmp_total id_of bytes_eq texts_ties c.args.id xs c.in-Err.field-0 at.1)
+    sym (find_parted nat_list_cmp_total id_of bytes_eq texts_ties c.args.id xs c.in-Err.field-0 at.1)

@@ -1,6 +1,6 @@
 use Rattle.std.specs.Prelude.{◌≡◌, map, refl}
 use Rattle.std.proofs.Common.{◌∙◌, sym, ap, ap₂, subst}
-use Rattle.lemmas.proofs.Lists.{same-pairs}
+use Rattle.lemmas.proofs.Lists.{same_pairs}
 use Rattle.terms.specs.Types.{Global}
 use Rattle.terms.specs.Choice.{Choice, counting}
 use Rattle.terms.specs.Lookups.{is_in}
@@ -26,7 +26,7 @@ returns c = λ new changed.
       problem = subst (λ needed. IsProblemOf (MayBeRestored r c.in_ok-ids.ids)
           (NeedsInRestore r (is_in c.in_ok-ids.ids))
           (Serves r.choice) c.in_ok-cands.field-0.cands c.in_ok-cands.field-0.system needed)
-          (sym (c.as_slice.ensures.value ∙ sym (same-pairs c.in_ok-cands.field-0.needed.items)))
+          (sym (c.as_slice.ensures.value ∙ sym (same_pairs c.in_ok-cands.field-0.needed.items)))
           c.in_ok-cands.ensures.problem;
       tested = record {
         lengths = tested.lengths;

@@ -1,5 +1,5 @@
 use Rattle.smpe_zones.specs.Kept.{kept}
-use Rattle.store.proofs.NoState.{tells-committed}
+use Rattle.store.proofs.NoState.{tells_committed}
 use Rattle.smpe_session.proofs.Stepping.{committed}
 use Rattle.smpe_session.proofs.load.commit_change.Goals as goal
 
@@ -12,7 +12,7 @@ returns-clause-ended g c = λ clean s t keeps makes is.
 
 pub returns-clause-none : goal.returns-clause-none
 returns-clause-none g c =
-    tells-committed g.S.Store c.args.store.now c.commit.new.self c.commit.result c.commit.ensures.which
+    tells_committed g.S.Store c.args.store.now c.commit.new.self c.commit.result c.commit.ensures.which
 
 pub returns-clause-faults : goal.returns-clause-faults
 returns-clause-faults g c = c.commit.ensures.only.crash.counts

@@ -5,7 +5,7 @@ use Rattle.std.proofs.lemmas.Grind.{common_steps}
 use Rattle.solve.specs.Problem.{Demand, holds}
 use Rattle.solve.specs.Need.{demand}
 use Rattle.solve.proofs.Passing.{clash}
-use Rattle.solve.proofs.Leads.{AreLeadsBy, leads-skip, leads-add}
+use Rattle.solve.proofs.Leads.{AreLeadsBy, leads_skip, leads_add}
 use Rattle.solve.proofs.causes.leads_to.Goals as goal
 use Rattle.solve.proofs.causes.leads_to.Goals.{then-not-kept-need+then-not-serves+in_ok-add_under, else-not-kept-need}
 use Rattle.solve.proofs.causes.leads_to.Goals.{else-not-kept-need-via-then-not-kept-need+else-not-serves}
@@ -30,7 +30,7 @@ loop-need-preserved c =
           let whole : take c.loop-need.leads.len (new ++ drop (length new) rows) ≡ new = grind (arith, common_steps) in
           rw (w.leads-is, whole) (record {
             size = omega (arith, w.add_under.auto.rows, w.deref_mut.ensures.len, c.loop-need.invariant.size);
-            exact = subst (λ ds. AreLeadsBy p kept ds new) (sym more) (leads-add p kept seen (demand n) rows new
+            exact = subst (λ ds. AreLeadsBy p kept ds new) (sym more) (leads_add p kept seen (demand n) rows new
                 (in_size, w.if-not-kept-need.true)
                 (rw w.deref.ensures.value at (w.serves.ensures.none w.if-not-serves.true))
                 (rw (w.deref_mut.ensures.value, w.deref-then-not-serves.ensures.value) at w.in_ok-add_under.ensures)
@@ -38,7 +38,7 @@ loop-need-preserved c =
           })
       | else-not-kept-need w ↦ rw w.leads-is (record {
         size = c.loop-need.invariant.size;
-        exact = subst (λ ds. AreLeadsBy p kept ds rows) (sym more) (leads-skip p kept seen (demand n) rows
+        exact = subst (λ ds. AreLeadsBy p kept ds rows) (sym more) (leads_skip p kept seen (demand n) rows
             (elim w.else-not-kept-need.branch [
               | else-not-kept-need-via-then-not-kept-need+else-not-serves v ↦ λ _ unmet.
                   clash (holds kept) n.any.items (rw v.deref.ensures.value at

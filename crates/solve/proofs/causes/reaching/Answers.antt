@@ -4,22 +4,22 @@ use Rattle.std.specs.List.{All}
 use Rattle.std.proofs.lemmas.List.{get_or_default}
 use Rattle.solve.specs.Rows.{row_at}
 use Rattle.solve.specs.Marks.{IsMarked}
-use Rattle.solve.proofs.Added.{row_at-read}
-use Rattle.solve.proofs.Marked.{listed-once, clear-from_listed}
-use Rattle.solve.proofs.Spread.{spread-start, spread-more, spread-next, spread-within, spread_exact}
+use Rattle.solve.proofs.Added.{row_at_read}
+use Rattle.solve.proofs.Marked.{listed_once, clear_from_listed}
+use Rattle.solve.proofs.Spread.{spread_start, spread_more, spread_next, spread_within, spread_exact}
 use Rattle.solve.proofs.causes.reaching.Goals as goal
 
 pub loop-next-init : goal.loop-next-init
 loop-next-init c =
     rw (c.in_ok-push.ensures.items, c.new-list.ensures.items)
-    (spread-start c.args.leads.now c.args.y c.args.marks.now c.requires.marks c.requires.y c.requires.clear)
+    (spread_start c.args.leads.now c.args.y c.args.marks.now c.requires.marks c.requires.y c.requires.clear)
 
 pub bounds-leads-z : goal.bounds-leads-z
 bounds-leads-z c =
     let below : c.loop-next.next < length c.loop-next.list.items = omega arith in
     let z : c.index.result.now ≡ get_or c.loop-next.list.items c.loop-next.next 0 =
     c.index.ensures ∙ get_or_default c.loop-next.list.items c.loop-next.next c.index.result.now 0 below in
-    rw z (spread-next c.args.leads.now c.args.y c.loop-next.marks c.loop-next.list.items c.loop-next.next below
+    rw z (spread_next c.args.leads.now c.args.y c.loop-next.marks c.loop-next.list.items c.loop-next.next below
     c.loop-next.invariant)
 
 pub mark_row-requires : goal.mark_row-requires
@@ -29,8 +29,8 @@ mark_row-requires c =
     let z = c.index.result.now in
     let below : next < length list = omega arith in
     let read : z ≡ get_or list next 0 = c.index.ensures ∙ get_or_default list next z 0 below in
-    let in_rows = spread-next c.args.leads.now c.args.y c.loop-next.marks list next below c.loop-next.invariant in
-    let row = row_at-read c.args.leads.now z c.index-leads-z.result c.deref.result.now
+    let in_rows = spread_next c.args.leads.now c.args.y c.loop-next.marks list next below c.loop-next.invariant in
+    let row = row_at_read c.args.leads.now z c.index-leads-z.result c.deref.result.now
     (subst (λ n. n < length c.args.leads.now) (sym read) in_rows) c.index-leads-z.is c.deref.ensures.value in
     subst (All (λ x. x < length c.loop-next.marks)) row (λ k d in_row.
     omega (arith, c.loop-next.invariant.size, c.requires.rows z k d in_row))
@@ -43,11 +43,11 @@ loop-next-preserved c =
     let below : next < length list = omega arith in
     let size : length c.mark_row.new.marks ≡ length c.loop-next.marks = omega arith in
     let read : z ≡ get_or list next 0 = c.index.ensures ∙ get_or_default list next z 0 below in
-    let in_rows = spread-next c.args.leads.now c.args.y c.loop-next.marks list next below c.loop-next.invariant in
-    let row = row_at-read c.args.leads.now z c.index-leads-z.result c.deref.result.now
+    let in_rows = spread_next c.args.leads.now c.args.y c.loop-next.marks list next below c.loop-next.invariant in
+    let row = row_at_read c.args.leads.now z c.index-leads-z.result c.deref.result.now
     (subst (λ n. n < length c.args.leads.now) (sym read) in_rows) c.index-leads-z.is c.deref.ensures.value in
     let P : List ℕ → Type 0 = λ r. IsMarked r c.loop-next.marks c.mark_row.new.marks list c.mark_row.new.list.items in
-    spread-more c.args.leads.now c.args.y c.loop-next.marks c.mark_row.new.marks list c.mark_row.new.list.items next
+    spread_more c.args.leads.now c.args.y c.loop-next.marks c.mark_row.new.marks list c.mark_row.new.list.items next
     below size
     (subst P (sym row ∙ ap (row_at c.args.leads.now) read) c.in_ok-mark_row.ensures) c.loop-next.invariant
 
@@ -56,12 +56,12 @@ clear-requires c =
     rw c.deref-2.ensures.value (λ k d in_list. omega (
       arith,
       c.loop-next.invariant.size,
-      spread-within c.args.leads.now c.args.y c.loop-next.marks c.loop-next.list.items c.loop-next.next
+      spread_within c.args.leads.now c.args.y c.loop-next.marks c.loop-next.list.items c.loop-next.next
           c.loop-next.invariant k d in_list,
     ))
 
 pub returns-clause-once : goal.returns-clause-once
-returns-clause-once c = listed-once c.loop-next.marks c.loop-next.list.items c.loop-next.invariant.listed
+returns-clause-once c = listed_once c.loop-next.marks c.loop-next.list.items c.loop-next.invariant.listed
 
 pub returns-clause-exact : goal.returns-clause-exact
 returns-clause-exact c =
@@ -70,10 +70,10 @@ returns-clause-exact c =
     c.loop-next.invariant
 
 pub returns-clause-within : goal.returns-clause-within
-returns-clause-within c = spread-within c.args.leads.now c.args.y c.loop-next.marks c.loop-next.list.items
+returns-clause-within c = spread_within c.args.leads.now c.args.y c.loop-next.marks c.loop-next.list.items
     c.loop-next.next c.loop-next.invariant
 
 pub returns-clause-clear : goal.returns-clause-clear
 returns-clause-clear c =
-    clear-from_listed c.loop-next.marks c.clear.new.marks c.loop-next.list.items c.loop-next.invariant.listed
+    clear_from_listed c.loop-next.marks c.clear.new.marks c.loop-next.list.items c.loop-next.invariant.listed
     (rw c.deref-2.ensures.value at c.clear.ensures)

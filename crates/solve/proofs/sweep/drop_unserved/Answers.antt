@@ -5,7 +5,7 @@ use Rattle.solve.specs.Need.{demand}
 use Rattle.solve.specs.Parts.{IsServed}
 use Rattle.solve.specs.Problem.{holds}
 use Rattle.solve.proofs.Passing.{clash}
-use Rattle.solve.proofs.Drops.{swept-stay, swept-drop, Contains-demand}
+use Rattle.solve.proofs.Drops.{swept_stay, swept_drop, Contains_demand}
 use Rattle.solve.proofs.sweep.drop_unserved.Goals as goal
 use Rattle.solve.proofs.sweep.drop_unserved.Goals.{then-set-of+then-not-serves, else-set-of}
 use Rattle.solve.proofs.sweep.drop_unserved.Goals.{else-set-of-via-then-set-of+else-not-serves}
@@ -27,12 +27,12 @@ loop-need-preserved c =
     elim c.if-set-of.branch [
       | then-set-of+then-not-serves w ↦
           let none = rw w.deref.ensures.value at (w.serves.ensures.none w.if-not-serves.true) in
-          rw (w.set-is, w.dropped-is) (swept-drop p old now c.loop-need.dropped (take i needs) (take (i + 1) needs)
+          rw (w.set-is, w.dropped-is) (swept_drop p old now c.loop-need.dropped (take i needs) (take (i + 1) needs)
           (demand n)
-          (Contains-demand needs i n p.demands c.needs-need-items.ensures.needs c.loop-need-test.true c.need-item.is)
+          (Contains_demand needs i n p.demands c.needs-need-items.ensures.needs c.loop-need-test.true c.need-item.is)
           (λ some. clash (holds now) n.any.items some none) below w.if-set-of.true c.loop-need.invariant)
       | else-set-of w ↦
-          rw (w.set-is, w.dropped-is) (swept-stay p old now c.loop-need.dropped needs i n c.loop-need-test.true
+          rw (w.set-is, w.dropped-is) (swept_stay p old now c.loop-need.dropped needs i n c.loop-need-test.true
           c.need-item.is
           (elim w.else-set-of.branch [
             | else-set-of-via-then-set-of+else-not-serves v ↦ λ _.

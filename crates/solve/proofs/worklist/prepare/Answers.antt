@@ -4,7 +4,7 @@ use Rattle.std.proofs.lemmas.List.{length-map}
 use Rattle.std.proofs.lemmas.Grind.{common_steps}
 use Rattle.solve.specs.Need.{demand}
 use Rattle.solve.specs.Board.{eligible_in}
-use Rattle.solve.proofs.Searches.{pairs-more, pairs-few, start-room, living-more, served-next, search-start}
+use Rattle.solve.proofs.Searches.{pairs_more, pairs_few, start_room, living_more, served_next, search_start}
 use Rattle.solve.proofs.worklist.prepare.Goals as goal
 
 pub overflow_add-turns-in-loop-k : goal.overflow_add-turns-in-loop-k
@@ -15,7 +15,7 @@ overflow_add-turns-in-loop-k c =
     let short : length needs < 2 ^ 64 = omega arith in
     omega (
       arith,
-      start-room p needs c.loop-k.k c.index-needs-k.result c.needs-needs.ensures.needs c.size.ensures.valid
+      start_room p needs c.loop-k.k c.index-needs-k.result c.needs-needs.ensures.needs c.size.ensures.valid
           small short c.loop-k-test.true c.index-needs-k.is,
       c.loop-k.invariant.turns,
     )
@@ -30,15 +30,15 @@ loop-k-preserved c =
     let new = c.add_under.new.rows in
     let whole : take c.loop-k.served.len (new ++ drop (length new) old) ≡ new = grind (arith, common_steps) in
     record {
-      living = c.in_ok-push.ensures.items ∙ living-more p needs k n c.loop-k.living.items c.count_living.result
+      living = c.in_ok-push.ensures.items ∙ living_more p needs k n c.loop-k.living.items c.count_living.result
           c.loop-k-test.true c.index-needs-k.is
           (rw (c.eligible-in-loop-k.ensures.flags, c.deref.ensures.value) at c.count_living.ensures)
           c.loop-k.invariant.living;
-      served = rw whole (served-next needs k n old new c.loop-k-test.true c.index-needs-k.is
+      served = rw whole (served_next needs k n old new c.loop-k-test.true c.index-needs-k.is
           (rw (c.deref_mut.ensures.value, c.deref-in-loop-k.ensures.value) at c.in_ok-add_under.ensures)
           c.loop-k.invariant.served);
       size = ap length whole ∙ (omega (arith, c.add_under.auto.rows, c.deref_mut.ensures.len, c.loop-k.invariant.size));
-      turns = omega (arith, c.loop-k.invariant.turns, pairs-more needs k n c.loop-k-test.true c.index-needs-k.is);
+      turns = omega (arith, c.loop-k.invariant.turns, pairs_more needs k n c.loop-k-test.true c.index-needs-k.is);
     }
 
 pub returns-clause-board : goal.returns-clause-board
@@ -51,7 +51,7 @@ returns-clause-board c =
     ∙ ap (map (eligible_in p)) c.needs-needs.ensures.needs in
     let copied : c.in_ok-standing.standing.items ≡ c.eligible.result.now = search rules in
     let stands : c.in_ok-standing.standing.items ≡ p.eligible = copied ∙ c.eligible.ensures.flags in
-    rw (stands, c.in_ok-with_capacity.ensures.items) (search-start p c.loop-k.living.items
+    rw (stands, c.in_ok-with_capacity.ensures.items) (search_start p c.loop-k.living.items
     c.in_ok-with_capacity.field-0.cap c.size.ensures.valid
     (omega (arith, c.in_ok-with_capacity.ensures.capacity, c.size-3.ensures.size)) all)
 
@@ -63,4 +63,4 @@ returns-clause-few c =
     let same : length p.demands ≡ length needs = ap length (sym c.needs-needs.ensures.needs) ∙ length-map needs demand
     in
     let short : length p.demands < 2 ^ 64 = omega (arith, same) in
-    pairs-few p c.size.ensures.valid small short
+    pairs_few p c.size.ensures.valid small short

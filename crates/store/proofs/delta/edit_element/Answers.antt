@@ -1,5 +1,5 @@
 use Rattle.std.proofs.Common.{[], ◌∷◌}
-use Rattle.tables.specs.declared.edits.Edit.TheVariants.{Put, Remove}
+use Rattle.sorted.specs.declared.edits.Edit.TheVariants.{Put, Remove}
 use Rattle.store_rows.proofs.InsideLemmas.{on_ok}
 use Rattle.store_zones.specs.Zones.{HasPutElement, HasRemovedElement}
 use Rattle.store.specs.Writes.{HasEditedElements}

@@ -8,7 +8,7 @@ use Rattle.store.specs.Calls.{calls_of, FailsToWrite}
 use Rattle.store.specs.Commits.{OnlyCommits}
 use Rattle.store.specs.Writes.{CommitsChange, IsChangeOutcome}
 use Rattle.store.proofs.Committing.{crashed, committed, if_err, handed_on, failed_to_write, failed_to_commit}
-use Rattle.store.proofs.Committing.{only-undone, only-committed}
+use Rattle.store.proofs.Committing.{only_undone, only_committed}
 use Rattle.store.proofs.write.commit_change.Goals as goal
 
 pub returns-clause-made : goal.returns-clause-made
@@ -86,7 +86,7 @@ returns-in_err-write-clause-only g c =
     let inside = rw begun at c.write.ensures.inside in
     let same : last_now ≡ c.conn-1.given.0 = search rules in
     subst (λ h. OnlyCommits s calls old h c.from_residual.result) same
-    (only-undone s calls old last_now c.write.new.tx.conn.now inside c.from_residual.result _ c.from_residual.ensures.1
+    (only_undone s calls old last_now c.write.new.tx.conn.now inside c.from_residual.result _ c.from_residual.ensures.1
     (λ clean. c.drop-tx.ensures.undone clean) c.drop-tx.ensures.survives)
 
 pub returns-clause-only : goal.returns-clause-only
@@ -100,7 +100,7 @@ returns-clause-only g c =
     let runs = rw begun at c.write.ensures.calls in
     let same : last_now ≡ c.conn-2-1.given.0 = search rules in
     subst (λ h. OnlyCommits s calls old h c.commit.result) same
-    (only-committed s calls old last_now c.write.new.tx.conn.now inside c.write.result (tt {0}) c.commit.result
+    (only_committed s calls old last_now c.write.new.tx.conn.now inside c.write.result (tt {0}) c.commit.result
     c.in_ok-write.was runs c.commit.ensures.survives
     (λ clean. on_ok c.commit.result _ _ (λ it. it.1) (c.commit.ensures.ok clean))
     (λ clean. if_err c.commit.result _ _ (λ e fails. fails) (c.commit.ensures.err clean)))

@@ -1,5 +1,5 @@
 use Rattle.std.proofs.Common.{◌≡◌, false, IsTrue, sym, ap, subst, ◌∙◌}
-use Rattle.store_schema.specs.Forms.{AreRecords, IsUpdated}
+use Rattle.store_schema.specs.Forms.{AreRecords, TakesUpdates}
 use Rattle.store_schema.specs.Rows.{records}
 use Rattle.store_columns.proofs.TextForms.{numbered_text, free_text, no_text}
 use Rattle.store_columns.proofs.elements.element_text_in.Goals as goal
@@ -7,7 +7,7 @@ use Rattle.store_columns.proofs.elements.element_text_in.Goals as goal
 pub returns-then-not-is_updated-clause-some : goal.returns-then-not-is_updated-clause-some
 returns-then-not-is_updated-clause-some c =
     let no : c.is_updated.result ≡ false = c.if-not-is_updated.true in
-    let free : ¬ IsUpdated c.args.elem_type = λ is. let yes : IsTrue c.is_updated.result = c.is_updated.ensures.1 is
+    let free : ¬ TakesUpdates c.args.elem_type = λ is. let yes : IsTrue c.is_updated.result = c.is_updated.ensures.1 is
     in absurd cc in (
       c.in_ok-lines.ensures.some.0,
       free_text c.args.elem_type c.in_ok-lines.lines.items free

@@ -3,7 +3,7 @@ use Rattle.store_rows.proofs.Queries.{reads_err, reads_more}
 use Rattle.store_rows.proofs.InsideLemmas.{if_ok}
 use Rattle.store_rows.specs.declared.error.ReadError.TheVariants.{BadRow}
 use Rattle.terms.specs.Lookups.{element_cmp, element_key}
-use Rattle.terms.proofs.ElementOrder.{cmp-keys}
+use Rattle.terms.proofs.ElementOrder.{cmp_keys}
 use Rattle.store_schema.specs.Stands.{rows_of}
 use Rattle.store_zone_loads.specs.Found.{elements_in}
 use Rattle.store_zone_loads.proofs.InZone.{with_zone, without_zone}
@@ -26,7 +26,7 @@ returns-clause-found g c clean i stands =
     (element_forms i stands.inventory name)
     (element_rows i stands.inventory name c.as_bytes.result.now c.as_bytes.ensures.same) in
     if_ok c.zone_table.result _ _ (λ table only. only own (without_zone name c.in_ok-rows.rows.items own rows)
-    (rises_alike _ element_cmp cmp-keys element_key own (elements_rise i stands.inventory name)))
+    (rises_alike _ element_cmp cmp_keys element_key own (elements_rise i stands.inventory name)))
     c.zone_table.ensures.only
 
 pub returns-clause-none : goal.returns-clause-none
@@ -37,7 +37,7 @@ returns-clause-none g c clean bad i stands =
     (element_forms i stands.inventory name)
     (element_rows i stands.inventory name c.as_bytes.result.now c.as_bytes.ensures.same) in
     c.zone_table.ensures.none bad own (without_zone name c.in_ok-rows.rows.items own rows)
-    (rises_alike _ element_cmp cmp-keys element_key own (elements_rise i stands.inventory name))
+    (rises_alike _ element_cmp cmp_keys element_key own (elements_rise i stands.inventory name))
 
 pub returns-in_err-rows-clause-reads : goal.returns-in_err-rows-clause-reads
 returns-in_err-rows-clause-reads g c =

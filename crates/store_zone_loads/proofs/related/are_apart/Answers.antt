@@ -3,7 +3,7 @@ use Rattle.std.proofs.Common.{arith, rules}
 use Rattle.std.specs.Prelude.{All, AllPairs}
 use Rattle.std.proofs.lemmas.List.{append-nil, take_more, take_all, get_or-take, get_or_default, length-take-le}
 use Rattle.std.proofs.lemmas.List.Elements.{All-nil}
-use Rattle.lemmas.proofs.Pairs.{AllPairs-between}
+use Rattle.lemmas.proofs.Pairs.{AllPairs_between}
 use Rattle.store_zone_loads.specs.Related.{HeadsAreApart}
 use Rattle.store_zone_loads.proofs.related.are_apart.Goals as goal
 
@@ -34,7 +34,7 @@ loop-i-preserved c =
     let low : All (λ a. HeadsAreApart a x) (take i xs) = c.is_apart_from.ensures.0 c.if-not-is_apart_from.false in
     let more : take (i + 1) xs ≡ take i xs ++ x ∷ [] = take_more xs i x (omega (arith, c.loop-i-test.true))
     ∙ ap (λ y. take i xs ++ y ∷ []) (sym c.index-heads-i.is) in
-    rw more (AllPairs-between HeadsAreApart (take i xs) [] x (rw (append-nil (take i xs)) c.loop-i.invariant) low
+    rw more (AllPairs_between HeadsAreApart (take i xs) [] x (rw (append-nil (take i xs)) c.loop-i.invariant) low
     (All-nil (HeadsAreApart x)))
 
 pub returns : goal.returns

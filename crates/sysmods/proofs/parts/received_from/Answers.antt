@@ -6,7 +6,7 @@ use Rattle.terms.specs.Rising.{Rises}
 use Rattle.terms.specs.Global.{IsGlobal}
 use Rattle.sysmods_received.specs.Held.{zone_of}
 use Rattle.sysmods.proofs.Empty.{empty}
-use Rattle.sysmods.proofs.Fronts.{AreBefore, before-last, global-front}
+use Rattle.sysmods.proofs.Fronts.{AreBefore, before_last, global_front}
 use Rattle.sysmods.proofs.parts.received_from.Goals as goal
 
 pub loop-sysmod-init : goal.loop-sysmod-init
@@ -28,7 +28,7 @@ add_last-requires-clause-last c =
     let rises : Rises (slice_cmp nat_cmp) (λ r. r.id) (at.yielded ++ s ∷ rest) =
     subst (Rises (slice_cmp nat_cmp) (λ r. r.id)) (c.as_slice.ensures.value ∙ sym all)
     (c.are_rising.ensures.0 c.if-not-are_rising.false) in
-    subst (λ xs. AreBefore xs s.id) (sym at.invariant.taken) (before-last at.yielded s rest rises)
+    subst (λ xs. AreBefore xs s.id) (sym at.invariant.taken) (before_last at.yielded s rest rises)
 
 pub returns-then-not-branch-clause-none : goal.returns-then-not-branch-clause-none
 returns-then-not-branch-clause-none c =
@@ -41,7 +41,7 @@ returns-then-not-branch-clause-none c =
     ∙ c.into_iter-sysmod-iterator.ensures.into_iter_gives.0 in (
       λ e. absurd (true≢false (sym e)),
       λ g.
-          let front = global-front (at.yielded ++ s ∷ []) rest (subst (λ xs. IsGlobal (zone_of xs)) (sym all) g) in
+          let front = global_front (at.yielded ++ s ∷ []) rest (subst (λ xs. IsGlobal (zone_of xs)) (sym all) g) in
           let fits = c.in_ok-add_last.ensures.fits.1 (subst (λ xs. IsGlobal (zone_of (xs ++ s ∷ [])))
           (sym at.invariant.taken) front) in
           absurd (true≢false (sym fits ∙ c.if-not-branch.true)),

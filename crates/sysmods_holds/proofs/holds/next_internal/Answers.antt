@@ -1,7 +1,7 @@
 use Rattle.std.proofs.Common.{◌≡◌, ◌∙◌, [], ◌∷◌, ◌++◌, sym, ap, append_assoc}
 use Rattle.terms.specs.Types.{Hold}
 use Rattle.sysmods_holds.proofs.Internal.{at_middle, first_at, none_at}
-use Rattle.lemmas.proofs.Each.{recursion-append}
+use Rattle.lemmas.proofs.Each.{recursion_append}
 use Rattle.std.proofs.Common.{subst, All, false, Some}
 use Rattle.std.specs.BTreeMap.{get}
 use Rattle.sysmods_holds.specs.Keys.{key_cmp}
@@ -35,7 +35,7 @@ loop-key-preserved c =
       front ++ last ∷ [],
       c.loop-key.invariant.1 ∙ ap (λ es. front ++ es) c.in-Some.ensures.steps
           ∙ sym (append_assoc front (last ∷ []) c.next.new.self),
-      recursion-append (λ e. e.1.internal ≡ false) front (last ∷ []) c.loop-key.invariant.2
+      recursion_append (λ e. e.1.internal ≡ false) front (last ∷ []) c.loop-key.invariant.2
           (ap (λ h. h.internal) (sym c.hold.view_is) ∙ c.if-hold.false, tt),
     )
 

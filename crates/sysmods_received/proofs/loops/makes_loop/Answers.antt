@@ -5,9 +5,9 @@ use Rattle.std.specs.List.{list_any}
 use Rattle.terms.specs.Lookups.{is_in}
 use Rattle.terms.specs.Over.{Reaches}
 use Rattle.terms.specs.Global.{named, names_for, with_sysmod}
-use Rattle.terms.proofs.Loops.{no_loop-unnamed, no_loop-from_search}
+use Rattle.terms.proofs.Loops.{no_loop_unnamed, no_loop_from_search}
 use Rattle.sysmods_received.specs.Held.{zone_of}
-use Rattle.sysmods_received.proofs.Named.{own-unnamed, others-unnamed}
+use Rattle.sysmods_received.proofs.Named.{own_unnamed, others_unnamed}
 use Rattle.sysmods_received.proofs.loops.makes_loop.Goals as goal
 
 pub returns-then-not-names : goal.returns-then-not-names
@@ -18,10 +18,10 @@ returns-then-not-names c =
     let unnamed : c.is_named.result ≡ false = search rules in
     let own : c.names.result ≡ false = search rules in (
       λ e. absurd (true≢false (sym e)),
-      λ loop. absurd (no_loop-unnamed (zone_of xs) s c.requires.no_loop
-          (others-unnamed xs s.id (subst (λ z. list_any (λ r. list_any (λ v. is_in (named v) z) r.vers) xs ≡ false) id
+      λ loop. absurd (no_loop_unnamed (zone_of xs) s c.requires.no_loop
+          (others_unnamed xs s.id (subst (λ z. list_any (λ r. list_any (λ v. is_in (named v) z) r.vers) xs ≡ false) id
           (sym c.is_named.ensures ∙ unnamed)))
-          (own-unnamed s.vers s.id (subst (λ z. list_any (λ v. is_in (named v) z) s.vers ≡ false) id
+          (own_unnamed s.vers s.id (subst (λ z. list_any (λ v. is_in (named v) z) s.vers ≡ false) id
           (sym c.names.ensures ∙ own)))
           loop),
     )
@@ -50,7 +50,7 @@ loop-ver-preserved c = λ k d below reached.
 pub returns : goal.returns
 returns c = (
   λ e. absurd (true≢false (sym e)),
-  λ loop. absurd (no_loop-from_search (zone_of c.args.received.now) c.args.sysmod.now c.requires.no_loop
+  λ loop. absurd (no_loop_from_search (zone_of c.args.received.now) c.args.sysmod.now c.requires.no_loop
       (subst (λ vs. All (λ v. ¬ Reaches (names_for (with_sysmod (zone_of c.args.received.now) c.args.sysmod.now) v.srel)
       c.args.sysmod.now.id c.args.sysmod.now.id) vs)
       (c.deref-ver-items.ensures.value ∙ ap (λ r. r.vers) c.sysmod.view_is)

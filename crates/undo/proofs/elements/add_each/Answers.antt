@@ -1,11 +1,11 @@
 use Rattle.std.proofs.Common.{◌≡◌, ◌≤◌, Contains, length, map, take_all, subst, arith}
 use Rattle.undo.specs.Elements.{Gains, change_key}
-use Rattle.undo.proofs.Gaining.{gains-next}
+use Rattle.undo.proofs.Gaining.{gains_next}
 use Rattle.undo.proofs.elements.add_each.Goals as goal
 
 pub loop-change-preserved : goal.loop-change-preserved
 loop-change-preserved c =
-    gains-next c.args.changers.now c.loop-change.changers c.add_at.new.changers c.args.changes.now
+    gains_next c.args.changers.now c.loop-change.changers c.add_at.new.changers c.args.changes.now
     c.loop-change.change-index c.change-item.result c.args.by (omega arith) c.change-item.is c.loop-change.invariant
     c.in_ok-add_at.ensures
 

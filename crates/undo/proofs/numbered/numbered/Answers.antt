@@ -3,12 +3,12 @@ use Rattle.std.specs.Prelude.{Contains}
 use Rattle.lemmas.proofs.Places.{All-found}
 use Rattle.undo.specs.declared.wanted.Want.{Want}
 use Rattle.undo.specs.Numbered.{HasDemands}
-use Rattle.undo.proofs.Numbering.{demands-next}
+use Rattle.undo.proofs.Numbering.{demands_next}
 use Rattle.undo.proofs.numbered.numbered.Goals as goal
 
 pub loop-i-preserved : goal.loop-i-preserved
 loop-i-preserved c =
-    demands-next c.args.ids.now c.args.eligible.items c.args.wants.now c.loop-i.i
+    demands_next c.args.ids.now c.args.eligible.items c.args.wants.now c.loop-i.i
     c.want_at-want.result c.loop-i.system c.add_want.new.system c.loop-i.needed.items c.add_want.new.needed.items
     c.want_at-want.ensures c.in_ok-add_want.ensures c.loop-i.invariant
 

@@ -1,17 +1,17 @@
 use Rattle.std.proofs.Common.{◌<◌, [], length, refl, arith}
 use Rattle.std.proofs.lemmas.List.Elements.{All-push}
 use Rattle.std.proofs.lemmas.Option.{slice_get_within}
-use Rattle.undo.proofs.Numbering.{one-place, no-place}
+use Rattle.undo.proofs.Numbering.{one_place, no_place}
 use Rattle.undo.proofs.numbered.places_of.Goals as goal
 
 pub returns-in_default-clause-places : goal.returns-in_default-clause-places
 returns-in_default-clause-places c =
-    rw c.new-places.ensures.items (no-place c.args.ids.now c.args.id (c.in_default.ensures.none refl))
+    rw c.new-places.ensures.items (no_place c.args.ids.now c.args.id (c.in_default.ensures.none refl))
 
 pub returns-clause-places : goal.returns-clause-places
 returns-clause-places c =
     rw (c.in_ok-push.ensures.items, c.new-places.ensures.items)
-    (one-place c.args.ids.now (rw c.as_slice.ensures.items at c.as_slice.ensures.rising) c.in-Some.place c.args.id
+    (one_place c.args.ids.now (rw c.as_slice.ensures.items at c.as_slice.ensures.rising) c.in-Some.place c.args.id
     c.in-Some.ensures.at)
 
 pub returns-clause-below : goal.returns-clause-below

@@ -2,12 +2,12 @@ use Rattle.std.proofs.Common.{◌∙◌, ◌++◌, ap, map}
 use Rattle.terms.specs.declared.codes.NeedKind.TheVariants.{Dep}
 use Rattle.undo_list.specs.Restoring.{restoring_of}
 use Rattle.undo.specs.Wants.{a_want}
-use Rattle.undo.proofs.Wanting.{are-wants}
+use Rattle.undo.proofs.Wanting.{are_wants}
 use Rattle.undo.proofs.wanted.all_wants.Goals as goal
 
 pub returns : goal.returns
 returns c =
-    are-wants (restoring_of c.args.scope.now) c.args.list.now c.args.cands.now c.requires c.in_ok-elem.elem.items
+    are_wants (restoring_of c.args.scope.now) c.args.list.now c.args.cands.now c.requires c.in_ok-elem.elem.items
     c.in_ok-dep.dep.items c.in_ok-own_elem.own_elem.items c.in_ok-own_dep.own_dep.items c.in_ok-elem.ensures
     c.in_ok-dep.ensures (rw c.as_slice.ensures.value at c.in_ok-own_elem.ensures)
     (rw c.as_slice-2.ensures.value at c.in_ok-own_dep.ensures) c.add_wants-2.new.wants.items

@@ -1,10 +1,10 @@
 use Rattle.undo_list.specs.Restoring.{restoring_of}
-use Rattle.undo.proofs.Wanting.{have-elem}
+use Rattle.undo.proofs.Wanting.{have_elem_holds}
 use Rattle.undo.proofs.wanted.elem_pairs.Goals as goal
 
 pub returns : goal.returns
 returns c =
-    have-elem (restoring_of c.args.scope.now) c.known.ensures c.in_ok-others.others.items
+    have_elem_holds (restoring_of c.args.scope.now) c.attest.ensures c.in_ok-others.others.items
     (rw (c.as_slice.ensures.value, c.in_ok-applied.ensures) at c.in_ok-others.ensures) c.in_ok-changers.changers
     (rw c.as_slice-2.ensures.value at c.in_ok-changers.ensures) c.args.cands.now c.in_ok-pairs.pairs.items
     (rw c.as_slice-3.ensures.items at c.in_ok-pairs.ensures)

@@ -5,7 +5,7 @@ use Rattle.terms.specs.Restore.{AreListed}
 use Rattle.undo_list.specs.Restoring.{restoring}
 use Rattle.undo_list.specs.Steps.{as_steps}
 use Rattle.undo_list.specs.ByNumbers.{AreReached}
-use Rattle.undo_list.proofs.ListedBySteps.{listed-from}
+use Rattle.undo_list.proofs.ListedBySteps.{listed_from}
 use Rattle.undo_list.proofs.listing.grouped.Goals as goal
 
 pub returns : goal.returns
@@ -14,5 +14,5 @@ returns c =
     let steps = ap as_steps c.as_slice.ensures.value ∙ c.in_ok-steps.ensures in
     IfOk-weaker c.reached.result (AreReached c.args.ids.now (as_steps c.as_slice.result.now))
     (AreListed r (RestoreGroup c.args.ids.now))
-    (λ found h. listed-from r c.known.ensures c.args.ids.now found
+    (λ found h. listed_from r c.attest.ensures c.args.ids.now found
     (subst (λ l. AreReached c.args.ids.now l found) steps h)) c.reached.ensures

@@ -1,12 +1,12 @@
 use Rattle.std.proofs.Common.{◌≡◌, ◌∙◌, Some, ap, sym, subst, arith, length}
 use Rattle.std.proofs.lemmas.Option.{slice_get-get_or}
 use Rattle.undo_list.specs.ByNumbers.{AreFlagged}
-use Rattle.undo_list.proofs.RulesOfSteps.{flagged-more}
+use Rattle.undo_list.proofs.RulesOfSteps.{flagged_more}
 use Rattle.undo_list.proofs.numbered.flagged.Goals as goal
 
 pub loop-i-preserved : goal.loop-i-preserved
 loop-i-preserved c =
-    flagged-more c.args.table.now c.args.flags.now c.loop-i.i c.loop-i.found.items c.push_if.new.found.items
+    flagged_more c.args.table.now c.args.flags.now c.loop-i.i c.loop-i.found.items c.push_if.new.found.items
     c.index-table-i.result
     (slice_get-get_or c.args.table.now c.loop-i.i c.index-table-i.result c.loop-i-test.true
     ∙ ap (λ v. Some v) (sym c.index-table-i.is))

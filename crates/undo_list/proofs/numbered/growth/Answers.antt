@@ -1,6 +1,6 @@
 use Rattle.std.proofs.Common.{sym, subst}
 use Rattle.undo_list.specs.ByNumbers.{Covers}
-use Rattle.undo_list.proofs.RulesOfSteps.{one-more}
+use Rattle.undo_list.proofs.RulesOfSteps.{one_more}
 use Rattle.undo_list.proofs.numbered.growth.Goals as goal
 
 pub add_rule-requires-clause-covers : goal.add_rule-requires-clause-covers
@@ -10,6 +10,6 @@ add_rule-requires-clause-covers c =
 
 pub loop-step-preserved : goal.loop-step-preserved
 loop-step-preserved c =
-    one-more c.args.table.now c.args.ids.now c.args.steps.now c.loop-step.step-index c.step-item.result
+    one_more c.args.table.now c.args.ids.now c.args.steps.now c.loop-step.step-index c.step-item.result
     c.loop-step.rules c.add_rule.new.rules c.loop-step-test.true c.step-item.is c.loop-step.invariant
     c.in_ok-add_rule.ensures

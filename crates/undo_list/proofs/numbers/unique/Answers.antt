@@ -1,14 +1,14 @@
 use Rattle.std.proofs.Common.{nat_eq}
 use Rattle.std.proofs.lemmas.List.Filters.{dedup_is}
-use Rattle.undo_list.proofs.RulesOfSteps.{unique-members, unique-rising}
+use Rattle.undo_list.proofs.RulesOfSteps.{unique_members, unique_rising}
 use Rattle.undo_list.proofs.numbers.unique.Goals as goal
 
 pub returns-clause-members : goal.returns-clause-members
 returns-clause-members c =
     rw (dedup_is nat_eq c.sort_unstable.new.self.items c.dedup.new.self.items c.dedup.ensures.filtered)
-    (unique-members c.args.numbers.items c.sort_unstable.new.self.items c.sort_unstable.ensures.permutation)
+    (unique_members c.args.numbers.items c.sort_unstable.new.self.items c.sort_unstable.ensures.permutation)
 
 pub returns-clause-rising : goal.returns-clause-rising
 returns-clause-rising c =
     rw (dedup_is nat_eq c.sort_unstable.new.self.items c.dedup.new.self.items c.dedup.ensures.filtered)
-    (unique-rising c.sort_unstable.new.self.items c.sort_unstable.ensures.sorted)
+    (unique_rising c.sort_unstable.new.self.items c.sort_unstable.ensures.sorted)

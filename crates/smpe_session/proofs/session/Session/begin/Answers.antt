@@ -1,19 +1,19 @@
 use Rattle.std.proofs.Common.{Err, ap, rules}
 use Rattle.store_rows.proofs.Queries.{reads_err, reads_more}
-use Rattle.store.proofs.NoState.{loads-none, tells-after}
-use Rattle.smpe_session.proofs.Stepping.{begun-unmoved}
+use Rattle.store.proofs.NoState.{loads_none, tells_after}
+use Rattle.smpe_session.proofs.Stepping.{begun_unmoved}
 use Rattle.smpe_session.proofs.session.Session.begin.Goals as goal
 
 pub returns-in_err-global-clause-ended : goal.returns-in_err-global-clause-ended
 returns-in_err-global-clause-ended g c = λ clean s keeps.
-    begun-unmoved g.S.Store c.args.store.now c.load_global.new.store s c.from_residual.result c.in_err-global.field-0.0
+    begun_unmoved g.S.Store c.args.store.now c.load_global.new.store s c.from_residual.result c.in_err-global.field-0.0
     c.from_residual.ensures.1 (c.in_err-global.ensures.ended clean s keeps)
 
 pub returns-in_err-global-clause-none : goal.returns-in_err-global-clause-none
 returns-in_err-global-clause-none g c =
-    tells-after g.S.Store c.args.store.now c.args.store.now c.load_global.new.store c.from_residual.result
+    tells_after g.S.Store c.args.store.now c.args.store.now c.load_global.new.store c.from_residual.result
     c.in_err-global.field-0.0
-    (loads-none g.S.Store c.args.store.now) c.from_residual.ensures.1
+    (loads_none g.S.Store c.args.store.now) c.from_residual.ensures.1
     (λ clean is. c.in_err-global.ensures.none clean (ap Err is))
 
 pub returns-in_err-global-clause-reads : goal.returns-in_err-global-clause-reads

@@ -3,17 +3,17 @@ use Rattle.terms.specs.Types.{ListZone}
 use Rattle.machine.specs.Outcome.{Ran, Cm1, list_global, list_zone, header_of}
 use Rattle.machine.specs.Machine.{Performs}
 use Rattle.smpe_session.proofs.Leading.{headed, refused}
-use Rattle.smpe_session.proofs.Looking.{at-global-zone, list-nowhere, list-global, list-zone}
+use Rattle.smpe_session.proofs.Looking.{at_global_zone, list_nowhere, list_global_holds, list_zone_holds}
 use Rattle.smpe_session.proofs.session.Session.list.Goals as goal
 
 pub returns-in_default : goal.returns-in_default
 returns-in_default c = λ s is date files.
     refused date files (ListZone c.args.text) s c.args.self.now.boundary Cm1 is.boundary
-    (list-nowhere s c.args.text (sym is.boundary ∙ c.in_default.is))
+    (list_nowhere s c.args.text (sym is.boundary ∙ c.in_default.is))
 
 pub returns-then-is_global : goal.returns-then-is_global
 returns-then-is_global c = λ s is date files.
-    let performs = list-global s c.args.text date files c.in-Some.name (sym is.boundary ∙ c.in-Some.is)
+    let performs = list_global_holds s c.args.text date files c.in-Some.name (sym is.boundary ∙ c.in-Some.is)
     (c.is_global.ensures.0 c.if-is_global.true) in
     headed date files (ListZone c.args.text) s s c.args.self.now.boundary
     (λ h. Ran h (list_global c.args.self.now.global)) is.boundary
@@ -24,12 +24,12 @@ pub returns-in-Some-get : goal.returns-in-Some-get
 returns-in-Some-get c = λ s is date files.
     headed date files (ListZone c.args.text) s s c.args.self.now.boundary
     (λ h. Ran h (list_zone c.args.text c.in-Some-get.zone.now)) is.boundary
-    (list-zone s c.args.text date files c.in-Some.name c.in-Some-get.zone.now (sym is.boundary ∙ c.in-Some.is)
+    (list_zone_holds s c.args.text date files c.in-Some.name c.in-Some-get.zone.now (sym is.boundary ∙ c.in-Some.is)
     (λ same. true≢false (sym (c.is_global.ensures.1 same) ∙ c.if-is_global.false))
     (is.zones c.in-Some.name c.in-Some-get.zone.now (sym c.in-Some-get.ensures.value)))
 
 pub returns-in-None : goal.returns-in-None
 returns-in-None c = λ s is date files.
-    let same = at-global-zone s c.args.self.now c.in-Some.name is (sym is.boundary ∙ c.in-Some.is)
+    let same = at_global_zone s c.args.self.now c.in-Some.name is (sym is.boundary ∙ c.in-Some.is)
     (sym c.in-None.ensures.value) in
     absurd (true≢false (sym (c.is_global.ensures.1 same) ∙ c.if-is_global.false))

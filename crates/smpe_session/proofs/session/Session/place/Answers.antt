@@ -1,18 +1,18 @@
 use Rattle.std.proofs.Common.{◌≡◌, ◌≢◌, ◌∙◌, rules, sym}
-use Rattle.smpe_session.proofs.Places.{kind-nowhere, kind-fits, kind-other, kind-global}
+use Rattle.smpe_session.proofs.Places.{kind_nowhere, kind_fits, kind_other, kind_global}
 use Rattle.smpe_session.proofs.session.Session.place.Goals as goal
 
 pub returns-in_default : goal.returns-in_default
-returns-in_default c = λ s is inventory. kind-nowhere s c.args.kind (sym is.boundary ∙ c.in_default.is)
+returns-in_default c = λ s is inventory. kind_nowhere s c.args.kind (sym is.boundary ∙ c.in_default.is)
 
 pub returns-in_default-get : goal.returns-in_default-get
-returns-in_default-get c = λ s is inventory. kind-global s c.args.self.now c.args.kind c.in-Some.name is
+returns-in_default-get c = λ s is inventory. kind_global s c.args.self.now c.args.kind c.in-Some.name is
     inventory (sym is.boundary ∙ c.in-Some.is) (sym c.in_default-get.ensures.value)
 
 pub returns-then-ne : goal.returns-then-ne
 returns-then-ne c = λ s is inventory.
     let other : c.kind.result ≢ c.args.kind = search rules in
-    kind-other s c.args.kind c.in-Some.name c.in-Some-get.zone.now (sym is.boundary ∙ c.in-Some.is)
+    kind_other s c.args.kind c.in-Some.name c.in-Some-get.zone.now (sym is.boundary ∙ c.in-Some.is)
     (is.zones c.in-Some.name c.in-Some-get.zone.now (sym c.in-Some-get.ensures.value))
     (λ same. other (c.kind.ensures ∙ same))
 
@@ -26,5 +26,5 @@ returns c = λ s is inventory.
       has = sym c.in-Some-get.ensures.value;
       is_there = there;
       kind_is = sym c.kind.ensures ∙ same;
-      fits = kind-fits s c.args.kind c.in-Some.name c.in-Some-get.zone.now at there (sym c.kind.ensures ∙ same);
+      fits = kind_fits s c.args.kind c.in-Some.name c.in-Some-get.zone.now at there (sym c.kind.ensures ∙ same);
     }

@@ -2,7 +2,7 @@ use Rattle.std.proofs.Common.{◌≡◌, ◌<◌, length, get_or, sym, ◌∙◌
 use Rattle.std.proofs.lemmas.List.{get_or_default, length-map}
 use Rattle.solve.specs.Need.{demand}
 use Rattle.solve.specs.Board.{demand_at, IsDrop}
-use Rattle.solve.proofs.Searches.{settle-drop, settle-pass, demand_at-read}
+use Rattle.solve.proofs.Searches.{settle_drop, settle_pass, demand_at_read}
 use Rattle.solve.proofs.worklist.Board.drop_unserved.Goals as goal
 use Rattle.solve.proofs.worklist.Board.drop_unserved.Goals.{then-index-eq0, else-index-eq0}
 
@@ -20,7 +20,7 @@ loop-k-preserved c =
       ap length c.needs-need-items.ensures.needs,
       length-map needs demand,
     ) in
-    let at = demand_at-read needs p.demands k n c.needs-need-items.ensures.needs c.loop-k-test.true c.need-item.is in
+    let at = demand_at_read needs p.demands k n c.needs-need-items.ensures.needs c.loop-k-test.true c.need-item.is in
     let of_is : (get_or needs k n).of ≡ (demand_at p.demands k).of =
     ap (λ m. m.of) (sym c.need-item.is) ∙ ap (λ d. d.of) (sym at) in
     let small : (demand_at p.demands k).of < p.size = subst (λ x. x < p.size) of_is
@@ -35,14 +35,14 @@ loop-k-preserved c =
           (ap (λ d. d.of) (sym at)) w.drop_candidate.ensures.drop in
           rw (w.self-is) (record {
             board = rw (w.drop_candidate.ensures.living, w.drop_candidate.ensures.count, w.drop_candidate.ensures.room)
-                (settle-drop p b.standing.items new.standing.items b.living.items b.dropped.items new.dropped.items
+                (settle_drop p b.standing.items new.standing.items b.living.items b.dropped.items new.dropped.items
                 b.count.strikes b.dropped.cap k below small (sym read ∙ w.if-index-eq0.true) drop before);
             total = drop.total ∙ c.loop-k.invariant.total;
             strikes = ap (λ count. count.strikes) w.drop_candidate.ensures.count ∙ c.loop-k.invariant.strikes;
             turns = omega (arith, ap (λ count. count.turns) w.drop_candidate.ensures.count, c.loop-k.invariant.turns);
           })
       | else-index-eq0 w ↦ rw (w.self-is) (record {
-        board = settle-pass p b.standing.items b.living.items b.dropped.items b.count.strikes b.dropped.cap k
+        board = settle_pass p b.standing.items b.living.items b.dropped.items b.count.strikes b.dropped.cap k
             (λ none. w.if-index-eq0.false (read ∙ none)) before;
         total = c.loop-k.invariant.total;
         strikes = c.loop-k.invariant.strikes;

@@ -1,8 +1,8 @@
 use Rattle.std.proofs.Common.{◌<◌, [], List, ℕ, length, subst, arith}
 use Rattle.std.specs.List.{All}
 use Rattle.solve.specs.Board.{IsSearch}
-use Rattle.solve.proofs.Added.{row_at-read}
-use Rattle.solve.proofs.Searches.{search-take, last-small, served-small, eligible-le-pairs}
+use Rattle.solve.proofs.Added.{row_at_read}
+use Rattle.solve.proofs.Searches.{search_take, last_small, served_small, eligible_le_pairs}
 use Rattle.solve.proofs.worklist.Board.run.Goals as goal
 
 pub overflow_add-self : goal.overflow_add-self
@@ -11,7 +11,7 @@ overflow_add-self c =
       arith,
       c.loop-x.invariant.turns,
       c.loop-x.invariant.board.struck,
-      eligible-le-pairs c.args.s.now,
+      eligible_le_pairs c.args.s.now,
       c.requires.few,
       c.requires.turns,
       c.requires.board.total,
@@ -23,10 +23,10 @@ strike_row-requires-clause-row c =
     let served = c.args.served.now in
     let x = c.in-Some.x in
     let members = subst (All (λ y. y < p.size)) c.in-Some.ensures.items c.loop-x.invariant.board.members in
-    let small = last-small p c.pop.new.self.items x members in
-    let row = row_at-read served x c.index-served-x.result c.deref.result.now (omega (arith, c.requires.size, small))
+    let small = last_small p c.pop.new.self.items x members in
+    let row = row_at_read served x c.index-served-x.result c.deref.result.now (omega (arith, c.requires.size, small))
     c.index-served-x.is c.deref.ensures.value in
-    subst (All (λ k. k < length p.demands)) row (served-small p served c.requires.served x)
+    subst (All (λ k. k < length p.demands)) row (served_small p served c.requires.served x)
 
 pub strike_row-requires-clause-board : goal.strike_row-requires-clause-board
 strike_row-requires-clause-board c =
@@ -36,12 +36,12 @@ strike_row-requires-clause-board c =
     let x = c.in-Some.x in
     let left = c.pop.new.self.items in
     let members = subst (All (λ y. y < p.size)) c.in-Some.ensures.items c.loop-x.invariant.board.members in
-    let small = last-small p left x members in
-    let row = row_at-read served x c.index-served-x.result c.deref.result.now (omega (arith, c.requires.size, small))
+    let small = last_small p left x members in
+    let row = row_at_read served x c.index-served-x.result c.deref.result.now (omega (arith, c.requires.size, small))
     c.index-served-x.is c.deref.ensures.value in
     let at : List ℕ → Type 0 = λ dropped. IsSearch p [] (λ k. Unit {0}) b.standing.items b.living.items dropped
     b.count.strikes b.dropped.cap in
-    let taken = search-take p served x (λ k. Unit {0}) b.standing.items b.living.items left b.count.strikes
+    let taken = search_take p served x (λ k. Unit {0}) b.standing.items b.living.items left b.count.strikes
     b.dropped.cap c.requires.served (subst at c.in-Some.ensures.items c.loop-x.invariant.board) in
     rw (c.in-Some.ensures.capacity) (subst (λ due. IsSearch p due (λ k. Unit {0}) b.standing.items b.living.items left
     b.count.strikes b.dropped.cap) row taken)
@@ -52,7 +52,7 @@ strike_row-requires-clause-turns c =
       arith,
       c.loop-x.invariant.turns,
       c.loop-x.invariant.board.struck,
-      eligible-le-pairs c.args.s.now,
+      eligible_le_pairs c.args.s.now,
       c.requires.few,
       c.requires.turns,
       c.requires.board.total,

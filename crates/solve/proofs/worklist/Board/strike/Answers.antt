@@ -2,7 +2,7 @@ use Rattle.std.proofs.Common.{◌≡◌, ◌<◌, ◌-◌, length, get_or, sym, 
 use Rattle.std.proofs.lemmas.List.{get_or_default, length-map}
 use Rattle.solve.specs.Need.{demand}
 use Rattle.solve.specs.Board.{demand_at, IsDrop}
-use Rattle.solve.proofs.Searches.{due-living, strike-drop, strike-pass, demand_at-read}
+use Rattle.solve.proofs.Searches.{due_living, strike_drop, strike_pass, demand_at_read}
 use Rattle.solve.proofs.worklist.Board.strike.Goals as goal
 
 pub overflow_sub-left : goal.overflow_sub-left
@@ -15,7 +15,7 @@ overflow_sub-left c =
     omega (
       arith,
       read,
-      due-living c.args.s.now c.args.need c.requires.due.0 (λ j. Unit {0}) b.standing.items
+      due_living c.args.s.now c.args.need c.requires.due.0 (λ j. Unit {0}) b.standing.items
           b.living.items b.dropped.items b.count.strikes b.dropped.cap c.requires.need before,
     )
 
@@ -34,14 +34,14 @@ returns-then-left-eq0-clause-board c rest before =
       ap length c.needs.ensures.needs,
       length-map needs demand,
     ) in
-    let at = demand_at-read needs p.demands k n c.needs.ensures.needs in_needs c.index-needs-need.is in
+    let at = demand_at_read needs p.demands k n c.needs.ensures.needs in_needs c.index-needs-need.is in
     let read : c.index.result.now ≡ get_or living k 0 = c.index.ensures
     ∙ get_or_default living k c.index.result.now 0 (omega (arith, before.needs, c.requires.need)) in
     let of_is : (get_or needs k n).of ≡ (demand_at p.demands k).of =
     ap (λ m. m.of) (sym c.index-needs-need.is) ∙ ap (λ d. d.of) (sym at) in
     let small : n.of < p.size = rw (← c.index-needs-need.is) at (c.needs.ensures.valid k n in_needs).of in
     rw (c.drop_candidate.ensures.living, c.drop_candidate.ensures.count, c.drop_candidate.ensures.room, read)
-    (strike-drop p k rest b.standing.items new.standing.items living b.dropped.items new.dropped.items b.count.strikes
+    (strike_drop p k rest b.standing.items new.standing.items living b.dropped.items new.dropped.items b.count.strikes
     b.dropped.cap c.requires.need
     (subst (λ d. d.of < p.size) (sym at) small)
     (ap (λ m. m - 1) (sym read) ∙ c.if-left-eq0.true)
@@ -57,5 +57,5 @@ returns-else-left-eq0-clause-board c rest before =
     c.index.ensures ∙ get_or_default living c.args.need c.index.result.now 0
     (omega (arith, before.needs, c.requires.need)) in
     let some : get_or living c.args.need 0 - 1 ≡ 0 → ⊥ = λ none. c.if-left-eq0.false (ap (λ m. m - 1) read ∙ none) in
-    rw read (strike-pass c.args.s.now c.args.need rest b.standing.items living b.dropped.items b.count.strikes
+    rw read (strike_pass c.args.s.now c.args.need rest b.standing.items living b.dropped.items b.count.strikes
     b.dropped.cap c.requires.need some before)

@@ -1,14 +1,14 @@
 use Rattle.std.proofs.Common.{◌+◌, List, ℕ, drop, subst, ◌∙◌, arith}
 use Rattle.std.proofs.lemmas.List.{drop_more}
 use Rattle.solve.specs.Board.{AtRest}
-use Rattle.solve.proofs.Searches.{eligible-le-pairs}
+use Rattle.solve.proofs.Searches.{eligible_le_pairs}
 use Rattle.solve.proofs.worklist.Board.strike_row.Goals as goal
 
 pub strike-requires-clause-strikes : goal.strike-requires-clause-strikes
 strike-requires-clause-strikes c = omega (
   arith,
   c.loop-need.invariant.board.struck,
-  eligible-le-pairs c.args.s.now,
+  eligible_le_pairs c.args.s.now,
   c.requires.few,
 )
 

@@ -1,6 +1,6 @@
 use Rattle.std.proofs.Common.{[], List, ℕ, subst, arith}
 use Rattle.solve.specs.Board.{IsSearch}
-use Rattle.solve.proofs.Searches.{search_kept, search_strikes, eligible-le-pairs}
+use Rattle.solve.proofs.Searches.{search_kept, search_strikes, eligible_le_pairs}
 use Rattle.solve.proofs.worklist.Worklist.count.Goals as goal
 
 pub returns-clause-kept : goal.returns-clause-kept
@@ -26,7 +26,7 @@ returns-clause-turns c =
       arith,
       c.run.ensures.turns,
       c.run.ensures.board.struck,
-      eligible-le-pairs p,
+      eligible_le_pairs p,
       c.drop_unserved.ensures.board.total,
       c.drop_unserved.ensures.turns,
       c.drop_unserved.ensures.strikes,

@@ -3,7 +3,7 @@ use Rattle.sqlite.specs.declared.error.Error.TheVariants.{SqliteFailure}
 use Rattle.sqlite.specs.declared.error.ErrorCode.TheVariants.{OutOfMemory}
 use Rattle.store.specs.Calls.{calls_of, FailsToWrite}
 use Rattle.store.specs.Commits.{OnlyCommits}
-use Rattle.store.proofs.Committing.{told_failed, only-answered, only-failed, kept_failed}
+use Rattle.store.proofs.Committing.{told_failed, only_answered, only_failed, kept_failed}
 use Rattle.store.proofs.ViewLemmas.{leaves_either, leaves_changed, faulted_among}
 use Rattle.store.proofs.open.Store.commit.Goals as goal
 
@@ -38,7 +38,7 @@ returns-in_err-commit_change-clause-only g c =
     let s = g.S.Store in
     let calls = calls_of c.args.change.now in
     let now = c.commit_change.new.conn in
-    only-failed s calls c.args.self.now now c.commit_change.result _ c.from_residual.result _
+    only_failed s calls c.args.self.now now c.commit_change.result _ c.from_residual.result _
     c.in_err-commit_change.was c.from_residual.ensures.1
     (subst (λ old. OnlyCommits s calls old now c.commit_change.result) c.self.view_is c.commit_change.ensures.only)
 
@@ -54,5 +54,5 @@ returns-clause-only g c =
     let s = g.S.Store in
     let calls = calls_of c.args.change.now in
     let now = c.commit_change.new.conn in
-    only-answered s calls c.args.self.now now c.commit_change.result (tt {0}) (tt {0}) c.in_ok-commit_change.was
+    only_answered s calls c.args.self.now now c.commit_change.result (tt {0}) (tt {0}) c.in_ok-commit_change.was
     (subst (λ old. OnlyCommits s calls old now c.commit_change.result) c.self.view_is c.commit_change.ensures.only)

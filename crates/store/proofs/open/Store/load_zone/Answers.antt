@@ -1,11 +1,11 @@
 use Rattle.std.proofs.Common.{◌≡◌, refl}
 use Rattle.store_zone_loads.specs.Found.{zone_in}
-use Rattle.store.proofs.Loading.{loads-by}
+use Rattle.store.proofs.Loading.{loads_by}
 use Rattle.store.proofs.open.Store.load_zone.Goals as goal
 
 pub returns : goal.returns
 returns g c =
     let now = c.load_zone.new.conn in
-    loads-by g.S.Store (λ i zone. zone ≡ zone_in i c.args.name) c.self.inside.conn c.args.self.now now c.self.view_is
+    loads_by g.S.Store (λ i zone. zone ≡ zone_in i c.args.name) c.self.inside.conn c.args.self.now now c.self.view_is
     (c.if-prove.ensures.settled refl) (g.met.S.Store.settled now.store) c.load_zone.result c.load_zone.ensures.reads
     c.load_zone.ensures.found c.load_zone.ensures.none c.told.result c.told.ensures

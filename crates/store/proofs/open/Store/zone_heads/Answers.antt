@@ -1,11 +1,11 @@
 use Rattle.std.proofs.Common.{◌≡◌, map, refl}
 use Rattle.store_zone_loads.specs.Found.{head_of}
-use Rattle.store.proofs.Loading.{loads-by}
+use Rattle.store.proofs.Loading.{loads_by}
 use Rattle.store.proofs.open.Store.zone_heads.Goals as goal
 
 pub returns : goal.returns
 returns g c =
     let now = c.zone_heads.new.conn in
-    loads-by g.S.Store (λ i heads. heads.items ≡ map head_of i.zones) c.self.inside.conn c.args.self.now now c.self.view_is
+    loads_by g.S.Store (λ i heads. heads.items ≡ map head_of i.zones) c.self.inside.conn c.args.self.now now c.self.view_is
     (c.if-prove.ensures.settled refl) (g.met.S.Store.settled now.store) c.zone_heads.result c.zone_heads.ensures.reads
     c.zone_heads.ensures.found c.zone_heads.ensures.none c.told.result c.told.ensures

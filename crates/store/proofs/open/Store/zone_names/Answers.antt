@@ -1,10 +1,10 @@
 use Rattle.std.proofs.Common.{◌≡◌, map, refl}
-use Rattle.store.proofs.Loading.{loads-by}
+use Rattle.store.proofs.Loading.{loads_by}
 use Rattle.store.proofs.open.Store.zone_names.Goals as goal
 
 pub returns : goal.returns
 returns g c =
     let now = c.zone_names.new.conn in
-    loads-by g.S.Store (λ i names. names.items ≡ map (λ z. z.name) i.zones) c.self.inside.conn c.args.self.now now c.self.view_is
+    loads_by g.S.Store (λ i names. names.items ≡ map (λ z. z.name) i.zones) c.self.inside.conn c.args.self.now now c.self.view_is
     (c.if-prove.ensures.settled refl) (g.met.S.Store.settled now.store) c.zone_names.result c.zone_names.ensures.reads
     c.zone_names.ensures.found c.zone_names.ensures.none c.told.result c.told.ensures

@@ -11,7 +11,7 @@ returns-clause-read c =
     sym (columns_from row 0 6 (sym long)) in
     let zone = c.in-Some.ensures.some.0 in
     let id = c.in-Some-id_in.ensures.some.0 in
-    let applied = c.in-Some-date_in.ensures.some.0 in
+    let applied = c.in-Some-applied_in.ensures.some.0 in
     let supby = c.in_ok-supby.ensures.some.0 in
     let delby = c.in-Some-optional_id_in.ensures.some.0 in
     let waived = c.in_ok-waived.ensures.some.0 in (
@@ -19,7 +19,7 @@ returns-clause-read c =
       record {
         zone = c.in-Some.ensures.some.1;
         id = c.in-Some-id_in.ensures.some.1;
-        applied = c.in-Some-date_in.ensures.some.1;
+        applied = c.in-Some-applied_in.ensures.some.1;
         supby = c.in_ok-supby.ensures.some.1;
         delby = c.in-Some-optional_id_in.ensures.some.1;
         waived = c.in_ok-waived.ensures.some.1;

@@ -1,21 +1,18 @@
-use Rattle.std.proofs.Common.{◌≡◌, ◌-◌, ◌∙◌, ◌∷◌, length, sym, ap, ap₂, arith}
-use Rattle.terms.specs.Choice.{fmid_of}
-use Rattle.sysmods.specs.Choices.{by_srel}
+use Rattle.std.proofs.Common.{◌≡◌, ◌-◌, ◌∙◌, ◌∷◌, length, sym, ap, arith}
+use Rattle.sysmods.specs.Choices.{choice}
 use Rattle.terms.specs.Over.{chain_from}
 use Rattle.sysmods.proofs.Chains.{chain_first}
 use Rattle.sysmods.proofs.chain.ChainIterator.next.Goals as goal
 use Rattle.sysmods.proofs.chain.ChainIterator.next.Goals.{After-fmid-self-inside}
 
 steps : (c : After-fmid-self-inside) → c.args.self.now ≡ c.in_ok-id.id ∷ chain_from (c.self.inside.most - 1)
-    (by_srel c.self.inside.global.now c.self.inside.srel) c.fmid-self-inside.result
+    (choice c.self.inside.vers.now) c.fmid-self-inside.result
 steps c =
     let at = c.self.inside in
-    let by = by_srel at.global.now at.srel in
+    let by = choice at.vers.now in
     sym c.self.view_is ∙ chain_first at.most by at.next c.in_ok-id.id (omega (arith, c.if-self-eq0.false))
     c.in_ok-id.was
-    ∙ ap (λ o. c.in_ok-id.id ∷ chain_from (at.most - 1) by o)
-    (ap₂ (λ g s. fmid_of (by_srel g s) c.in_ok-id.id) (sym c.new.ensures.global) (sym c.new.ensures.srel)
-    ∙ sym c.fmid-self-inside.ensures)
+    ∙ ap (λ o. c.in_ok-id.id ∷ chain_from (at.most - 1) by o) (sym c.fmid-self-inside.ensures)
 
 pub returns-clause-steps : goal.returns-clause-steps
 returns-clause-steps c = steps (goal.at.returns-clause-steps c).After-fmid-self-inside

@@ -1,7 +1,7 @@
 use Rattle.std.proofs.Common.{◌∙◌, ap, [], refl, true≢false, sym}
 use Rattle.sysmods_records.proofs.KeyOrders.{holds_rise}
 use Rattle.sysmods_holds.specs.Lists.{with_holds}
-use Rattle.sysmods_holds.proofs.Listed.{with_holds-rising}
+use Rattle.sysmods_holds.proofs.Listed.{with_holds_rising}
 use Rattle.sysmods_holds.proofs.holds.Holds.from_vec.Goals as goal
 
 pub returns-then-not-are_rising-clause-none : goal.returns-then-not-are_rising-clause-none
@@ -15,7 +15,7 @@ returns-then-not-are_rising-clause-none c = (
 pub returns-clause-some : goal.returns-clause-some
 returns-clause-some c =
     c.in_ok-put_all.ensures.ok ∙ ap (λ xs. with_holds xs c.args.holds.items) c.new-made.ensures
-    ∙ with_holds-rising [] c.args.holds.items ((holds_rise c.args.holds.items).0 (rw c.as_slice.ensures.value at
+    ∙ with_holds_rising [] c.args.holds.items ((holds_rise c.args.holds.items).0 (rw c.as_slice.ensures.value at
     (c.are_rising.ensures.0 c.if-not-are_rising.false)))
 
 pub returns-clause-none : goal.returns-clause-none

@@ -1,16 +1,16 @@
 use Rattle.std.proofs.Common.{subst, arith}
 use Rattle.std.specs.Str.{bytes_eq}
 use Rattle.sysmods_received.specs.Index.{HasAll}
-use Rattle.sysmods_received.proofs.Indexed.{grows-then, has_all-more, has_all-one}
+use Rattle.sysmods_received.proofs.Indexed.{grows_then, has_all_more, has_all_one}
 use Rattle.sysmods_received.proofs.index.Index.add_all.Goals as goal
 
 pub loop-id-preserved : goal.loop-id-preserved
 loop-id-preserved c = record {
-  has = has_all-more c.loop-id.self.sets c.add.new.self.sets c.args.namer (λ z x. bytes_eq z x) c.args.named.now
+  has = has_all_more c.loop-id.self.sets c.add.new.self.sets c.args.namer (λ z x. bytes_eq z x) c.args.named.now
       c.loop-id.id-index c.id-item.result (omega arith)
       c.in_ok-add.ensures.grows c.loop-id.invariant.has
       (subst (λ x. HasAll c.add.new.self.sets c.args.namer (λ z. bytes_eq z x)) c.id-item.is
-      (has_all-one c.add.new.self.sets c.args.namer c.id-item.result c.in_ok-add.ensures.has));
-  grows = grows-then c.args.self.now.sets c.loop-id.self.sets c.add.new.self.sets c.loop-id.invariant.grows
+      (has_all_one c.add.new.self.sets c.args.namer c.id-item.result c.in_ok-add.ensures.has));
+  grows = grows_then c.args.self.now.sets c.loop-id.self.sets c.add.new.self.sets c.loop-id.invariant.grows
       c.in_ok-add.ensures.grows;
 }

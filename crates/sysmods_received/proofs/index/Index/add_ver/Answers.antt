@@ -1,20 +1,20 @@
 use Rattle.std.proofs.Common.{ap, ◌∙◌, map}
 use Rattle.terms.specs.Lookups.{at_most_one}
 use Rattle.sysmods_received.specs.Index.{Grows}
-use Rattle.sysmods_received.proofs.Indexed.{grows-same, grows-then, has_all-ver, carried}
+use Rattle.sysmods_received.proofs.Indexed.{grows_same, grows_then, has_all_ver, carried}
 use Rattle.sysmods_received.proofs.index.Index.add_ver.Goals as goal
 
 pub returns-clause-has : goal.returns-clause-has
 returns-clause-has c =
     let end = c.add_fmid.new.self.sets in
     let g : Grows c.add_functions.new.self.sets end = c.in_ok-add_fmid.ensures.grows in
-    let h : Grows c.add_all-3.new.self.sets end = grows-then c.add_all-3.new.self.sets c.add_functions.new.self.sets end
+    let h : Grows c.add_all-3.new.self.sets end = grows_then c.add_all-3.new.self.sets c.add_functions.new.self.sets end
     c.in_ok-add_functions.ensures.grows g in
-    let i : Grows c.add_all-2.new.self.sets end = grows-then c.add_all-2.new.self.sets c.add_all-3.new.self.sets end
+    let i : Grows c.add_all-2.new.self.sets end = grows_then c.add_all-2.new.self.sets c.add_all-3.new.self.sets end
     c.in_ok-add_all-3.ensures.grows h in
-    let j : Grows c.add_all.new.self.sets end = grows-then c.add_all.new.self.sets c.add_all-2.new.self.sets end
+    let j : Grows c.add_all.new.self.sets end = grows_then c.add_all.new.self.sets c.add_all-2.new.self.sets end
     c.in_ok-add_all-2.ensures.grows i in
-    has_all-ver end c.args.namer c.args.ver.now
+    has_all_ver end c.args.namer c.args.ver.now
     (carried c.add_all.new.self.sets end c.args.namer c.as_slice.result.now c.args.ver.now.pre j
     (c.as_slice.ensures.items ∙ ap (λ v. v.pre) c.ver.view_is) c.in_ok-add_all.ensures.has)
     (carried c.add_all-2.new.self.sets end c.args.namer c.as_slice-2.result.now c.args.ver.now.sup i
@@ -24,5 +24,5 @@ returns-clause-has c =
     (carried c.add_functions.new.self.sets end c.args.namer (map (λ i. i.function) c.as_slice-4.result.now)
     (map (λ i. i.function) c.args.ver.now.ifs) g (ap (map (λ i. i.function))
     (c.as_slice-4.ensures.value ∙ ap (λ v. v.ifs) c.ver.view_is)) c.in_ok-add_functions.ensures.has)
-    (carried end end c.args.namer (at_most_one c.ver.inside.fmid) (at_most_one c.args.ver.now.fmid) (grows-same end)
+    (carried end end c.args.namer (at_most_one c.ver.inside.fmid) (at_most_one c.args.ver.now.fmid) (grows_same end)
     (ap (λ v. at_most_one v.fmid) c.ver.view_is) c.in_ok-add_fmid.ensures.has)

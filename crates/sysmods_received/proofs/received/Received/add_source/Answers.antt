@@ -9,8 +9,8 @@ use Rattle.std.proofs.lemmas.Map.Steps.{set_value_same}
 use Rattle.terms.specs.Types.{Id}
 use Rattle.terms.specs.Global.{IsSysmod, with_source}
 use Rattle.sysmods_received.specs.Held.{IsHeld}
-use Rattle.sysmods_received.proofs.Entries.{values-assign, values-none, all_assigned}
-use Rattle.sysmods_received.proofs.Holding.{held-assign}
+use Rattle.sysmods_received.proofs.Entries.{values_assign, values_none, all_assigned}
+use Rattle.sysmods_received.proofs.Holding.{held_assign}
 use Rattle.sysmods_received.proofs.received.Received.add_source.Goals as goal
 
 abbrev C : Id → Id → Ordering
@@ -47,7 +47,7 @@ returns-in_default-clause-ok c =
     let es = c.self.inside.by_id.entries in
     let same : c.get_mut.follows.lender-at-none ≡ c.self.inside.by_id = search rules in
     let none : lookup (is_at (C c.args.id)) es ≡ None = search rules in
-    ap (λ m. values_of m.entries) same ∙ sym (values-none es c.args.source c.args.id c.self.invariant.keyed none)
+    ap (λ m. values_of m.entries) same ∙ sym (values_none es c.args.source c.args.id c.self.invariant.keyed none)
     ∙ ap (all_assigned c.args.source c.args.id) c.self.view_is
 
 pub invariant_of-self-2 : goal.invariant_of-self-2
@@ -61,8 +61,8 @@ invariant_of-self-2 c =
     (with_source c.args.source s) =
     (c.get_mut.follows.holds new).0 ∙ ap (set_value (is_at (C c.args.id)) es) source in
     subst (λ now. IsHeld now c.self.inside.index.sets) (sym entries)
-    (held-assign es c.self.inside.index.sets c.args.source c.args.id s there c.self.invariant
-    (subst IsSysmod source c.known.ensures)
+    (held_assign es c.self.inside.index.sets c.args.source c.args.id s there c.self.invariant
+    (subst IsSysmod source c.attest.ensures)
     (subst (λ now. IsStrictlySortedBy C (keys_of now)) entries (c.get_mut.follows.holds new).4))
 
 pub returns-clause-ok : goal.returns-clause-ok
@@ -74,5 +74,5 @@ returns-clause-ok c =
     let entries : (c.get_mut.follows.lender new).entries ≡ set_value (is_at (C c.args.id)) es
     (with_source c.args.source s) =
     (c.get_mut.follows.holds new).0 ∙ ap (set_value (is_at (C c.args.id)) es) c.in_ok-add_source.ensures.ok in
-    ap values_of entries ∙ values-assign es c.args.source c.args.id s c.self.invariant.keyed c.self.invariant.sorted
+    ap values_of entries ∙ values_assign es c.args.source c.args.id s c.self.invariant.keyed c.self.invariant.sorted
     there ∙ ap (all_assigned c.args.source c.args.id) c.self.view_is

@@ -1,7 +1,7 @@
 use Rattle.std.proofs.Common.{refl}
 use Rattle.terms.specs.Types.{Change}
 use Rattle.terms.proofs.ElementOrder.{change_cmp_total}
-use Rattle.terms.proofs.RisingLists.{with_item-set, Rises-set, with_item-parted, Rises-parted}
+use Rattle.terms.proofs.RisingLists.{with_item_set, Rises_set, with_item_parted, Rises_parted}
 use Rattle.sysmods_records.proofs.sysmod.Sysmod.add_change.Goals as goal
 use Rattle.sysmods_records.proofs.sysmod.Sysmod.add_change.Goals.{in-Replaces-1, in-Updates-1}
 
@@ -12,7 +12,7 @@ invariant_of-self c =
     record {
       sources = k.sources;
       vers = k.vers;
-      changes = Rises-set change_cmp_total (λ (x : Change). x) c.self.inside.changes.items c.in-Ok.place found.1.0
+      changes = Rises_set change_cmp_total (λ (x : Change). x) c.self.inside.changes.items c.in-Ok.place found.1.0
           c.args.change k.changes found.0 found.1.1;
       holds = k.holds;
     }
@@ -24,7 +24,7 @@ invariant_of-self-in-Ok-2 c =
     record {
       sources = k.sources;
       vers = k.vers;
-      changes = Rises-set change_cmp_total (λ (x : Change). x) c.self.inside.changes.items c.in-Ok.place found.1.0
+      changes = Rises_set change_cmp_total (λ (x : Change). x) c.self.inside.changes.items c.in-Ok.place found.1.0
           c.args.change k.changes found.0 found.1.1;
       holds = k.holds;
     }
@@ -36,7 +36,7 @@ invariant_of-self-in-Continue-1 c =
     record {
       sources = k.sources;
       vers = k.vers;
-      changes = rw c.in_ok-insert-in-Err.ensures.items (Rises-parted change_cmp_total (λ (x : Change). x)
+      changes = rw c.in_ok-insert-in-Err.ensures.items (Rises_parted change_cmp_total (λ (x : Change). x)
           c.self.inside.changes.items c.in-Err.place c.args.change k.changes missing.1);
       holds = k.holds;
     }
@@ -44,7 +44,7 @@ invariant_of-self-in-Continue-1 c =
 pub returns-in-Ok-clause-ok : goal.returns-in-Ok-clause-ok
 returns-in-Ok-clause-ok c =
     let found = rw c.deref.ensures.value at c.in-Ok.ensures.found in
-    let at = with_item-set change_cmp_total (λ (x : Change). x) c.self.inside.changes.items c.in-Ok.place found.1.0
+    let at = with_item_set change_cmp_total (λ (x : Change). x) c.self.inside.changes.items c.in-Ok.place found.1.0
     c.args.change c.self.invariant.changes found.0 found.1.1 in
     elim c.match-index_mut-change.branch [
       | in-Replaces-1 w ↦ rw (w.self-is, ← c.self.view_is, at) refl
@@ -54,6 +54,6 @@ returns-in-Ok-clause-ok c =
 pub returns-in_ok-insert-in-Err-clause-ok : goal.returns-in_ok-insert-in-Err-clause-ok
 returns-in_ok-insert-in-Err-clause-ok c =
     let missing = rw c.deref.ensures.value at c.in-Err.ensures.missing in
-    let at = with_item-parted change_cmp_total (λ (x : Change). x) c.self.inside.changes.items c.in-Err.place
+    let at = with_item_parted change_cmp_total (λ (x : Change). x) c.self.inside.changes.items c.in-Err.place
     c.args.change missing.1 in
     rw (← c.self.view_is, at, c.in_ok-insert-in-Err.ensures.items) refl

@@ -1,13 +1,13 @@
 -- Sources stay in order with one more.
 use Rattle.std.proofs.lemmas.Cmp.{nat_list_cmp_total}
-use Rattle.terms.proofs.Placing.{Rises-with_item}
+use Rattle.terms.proofs.Placing.{Rises_with_item}
 use Rattle.sysmods_records.proofs.sysmod.Sysmod.add_source.Goals as goal
 
 pub invariant_of-self-2 : goal.invariant_of-self-2
 invariant_of-self-2 c =
     let k = c.self.invariant in
     record {
-      sources = rw c.in_ok-insert.ensures.ok (Rises-with_item nat_list_cmp_total (λ t. t) c.self.inside.sources
+      sources = rw c.in_ok-insert.ensures.ok (Rises_with_item nat_list_cmp_total (λ t. t) c.self.inside.sources
           c.args.source k.sources);
       vers = k.vers;
       changes = k.changes;

@@ -10,7 +10,7 @@ pub loop-entry-preserved : goal.loop-entry-preserved
 loop-entry-preserved c =
     All-more (λ e. IsRising e.supby × IsRising e.waived) c.entries-entry-items.result.now c.loop-entry.entry-index
     c.entry-item.result c.loop-entry-test.true c.loop-entry.invariant
-    (subst (λ (e : Entry). IsRising e.supby × IsRising e.waived) c.entry-item.is c.known.ensures)
+    (subst (λ (e : Entry). IsRising e.supby × IsRising e.waived) c.entry-item.is c.attest.ensures)
 
 pub returns : goal.returns
 returns c =

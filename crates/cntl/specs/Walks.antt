@@ -1,0 +1,24 @@
+-- A walk over the runs of a list that looks for a name.
+use Rattle.std.specs.Prelude.{◌≡◌, ℕ, Bool, true, false, [], ◌∷◌, ◌++◌}
+use Rattle.terms.specs.Types.{Text}
+use Rattle.terms.specs.Commands.{runs_from}
+use Rattle.terms.proofs.OperandWords.{count}
+use Rattle.cntl.specs.declared.at.At.{At}
+use Rattle.cntl.specs.declared.at.At.TheVariants.{Inner, Part, Other}
+
+-- what the run up to here, of which there is none in an inner list, has of the name
+abbrev pub IsAt : Text → At → Text → Type 0
+IsAt name Inner run = run ≡ []
+IsAt name (Part left) run = run ++ left.now ≡ name
+IsAt name Other run = (left : Text) → run ++ left ≡ name → ⊥
+
+abbrev pub is_inner : At → Bool
+is_inner Inner = true
+is_inner _ = false
+
+-- Behind the byte the name stands as often among the runs, from the run up to there on.
+pub record GoesOn (name : Text) (at : At) (run : Text) (byte : ℕ) (next : At) : Type 0 where
+  pub goes_on : Text
+  pub is_at : IsAt name next goes_on
+  pub same : (rest : Text) → count name (runs_from (is_inner at) run (byte ∷ rest)) ≡ count name
+      (runs_from (is_inner next) goes_on rest)

@@ -1,0 +1,44 @@
+//! Operands and members of BYPASS that a command has twice, whatever else is wrong in it.
+ghost use Rattle.std.specs.Prelude.{◌≡◌, List, codes};
+ghost use Rattle.std.specs.List.{list_any};
+ghost use Rattle.terms.specs.Statement.{Piece};
+ghost use Rattle.terms.specs.CommandForms.{operands_of, members_of};
+ghost use Rattle.terms.specs.Commands.{words_in, runs_in, list_behind, is_often, has_double};
+ghost use Rattle.operands.specs.Left.{LeavesPieces};
+
+use crate::runs::any_run_twice;
+use crate::tables::{members_of, operands_of};
+use operands::{any_twice, list_behind};
+use rec80::Words;
+use terms::CommandWord;
+
+/// Whether a known operand of the command is there twice.
+fn has_operand_twice(word: CommandWord, words: &Words<'_>) -> bool
+    ensures { (pieces : List Piece) → LeavesPieces words.now pieces
+        → result ≡ list_any (is_often 2 (words_in pieces)) (operands_of word) }
+{
+    any_twice(operands_of(word), words)
+}
+
+/// Whether a member that BYPASS may have is there twice.
+fn has_member_twice(word: CommandWord, words: &Words<'_>) -> bool
+    ensures { (pieces : List Piece) → LeavesPieces words.now pieces
+        → result ≡ list_any (is_often 2 (runs_in (list_behind (codes "BYPASS") pieces)))
+        (members_of word) }
+{
+    let Some(list) = list_behind(words, b"BYPASS") else {
+        return false;
+    };
+    any_run_twice(members_of(word), &list)
+}
+
+/// Whether a known operand of the command is there twice, or a member of its BYPASS.
+pub fn has_double(word: CommandWord, words: &Words<'_>) -> bool
+    ensures { (pieces : List Piece) → LeavesPieces words.now pieces
+        → result ≡ has_double word pieces }
+{
+    if has_operand_twice(word, words) {
+        return true;
+    }
+    has_member_twice(word, words)
+}

@@ -1,2 +1,0 @@
-pub mod Doubling
-pub mod Walking

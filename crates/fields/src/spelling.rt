@@ -1,0 +1,232 @@
+//! How kinds, types and codes are spelled in files, tables and reports.
+//! Each has its word, and what is read is spelled so.
+ghost use Rattle.std.specs.Prelude.{◌≡◌, ◌≢◌, IfSome, IfNone};
+ghost use Rattle.terms.specs.declared.kinds.Kind.{Kind};
+ghost use Rattle.terms.specs.declared.kinds.HoldKind.{HoldKind};
+ghost use Rattle.terms.specs.declared.kinds.ElemType.{ElemType};
+ghost use Rattle.terms.specs.declared.kinds.ZoneKind.{ZoneKind};
+ghost use Rattle.terms.specs.declared.codes.CommandWord.{CommandWord};
+ghost use Rattle.terms.specs.Spelling.{kind_text, hold_text, type_text, zone_kind_text, mc_text, cn_text, word_text};
+ghost use Rattle.terms.specs.Spelling.{test_text, need_text, refusal_text};
+
+use terms::{
+    CnCode, CommandWord, ElemType, HoldKind, IdRefusal, Kind, McCode, NeedKind, Test, ZoneKind,
+};
+
+/// A SYSMOD's type, as it is spelled.
+pub fn kind_text(kind: Kind) -> &'static [u8]
+    ensures { result.now ≡ kind_text kind }
+{
+    match kind {
+        Kind::Function => b"FUNCTION",
+        Kind::Ptf => b"PTF",
+        Kind::Apar => b"APAR",
+        Kind::Usermod => b"USERMOD",
+    }
+}
+
+/// A SYSMOD's type that is spelled so.
+pub fn read_kind(text: &[u8]) -> Option<Kind>
+    ensures found { IfSome result (λ found. kind_text found ≡ text.now) }
+    ensures none { IfNone result ((other : Kind) → kind_text other ≢ text.now) }
+{
+    match text {
+        b"FUNCTION" => Some(Kind::Function),
+        b"PTF" => Some(Kind::Ptf),
+        b"APAR" => Some(Kind::Apar),
+        b"USERMOD" => Some(Kind::Usermod),
+        _ => None,
+    }
+}
+
+/// A hold's kind, as it is spelled.
+pub fn hold_text(hold: HoldKind) -> &'static [u8]
+    ensures { result.now ≡ hold_text hold }
+{
+    match hold {
+        HoldKind::Error => b"ERROR",
+        HoldKind::System => b"SYSTEM",
+        HoldKind::User => b"USER",
+    }
+}
+
+/// A hold's kind that is spelled so.
+pub fn read_hold(text: &[u8]) -> Option<HoldKind>
+    ensures found { IfSome result (λ found. hold_text found ≡ text.now) }
+    ensures none { IfNone result ((other : HoldKind) → hold_text other ≢ text.now) }
+{
+    match text {
+        b"ERROR" => Some(HoldKind::Error),
+        b"SYSTEM" => Some(HoldKind::System),
+        b"USER" => Some(HoldKind::User),
+        _ => None,
+    }
+}
+
+/// An element's type, as it is spelled.
+pub fn type_text(elem_type: ElemType) -> &'static [u8]
+    ensures { result.now ≡ type_text elem_type }
+{
+    match elem_type {
+        ElemType::Mac => b"MAC",
+        ElemType::Src => b"SRC",
+        ElemType::Clist => b"CLIST",
+        ElemType::Data => b"DATA",
+        ElemType::Exec => b"EXEC",
+        ElemType::Parm => b"PARM",
+        ElemType::Proc => b"PROC",
+    }
+}
+
+/// An element's type that is spelled so.
+pub fn read_type(text: &[u8]) -> Option<ElemType>
+    ensures found { IfSome result (λ found. type_text found ≡ text.now) }
+    ensures none { IfNone result ((other : ElemType) → type_text other ≢ text.now) }
+{
+    match text {
+        b"MAC" => Some(ElemType::Mac),
+        b"SRC" => Some(ElemType::Src),
+        b"CLIST" => Some(ElemType::Clist),
+        b"DATA" => Some(ElemType::Data),
+        b"EXEC" => Some(ElemType::Exec),
+        b"PARM" => Some(ElemType::Parm),
+        b"PROC" => Some(ElemType::Proc),
+        _ => None,
+    }
+}
+
+/// A zone's kind, as it is spelled.
+pub fn zone_kind_text(zone_kind: ZoneKind) -> &'static [u8]
+    ensures { result.now ≡ zone_kind_text zone_kind }
+{
+    match zone_kind {
+        ZoneKind::Target => b"target",
+        ZoneKind::Distribution => b"distribution",
+    }
+}
+
+/// A zone's kind that is spelled so.
+pub fn read_zone_kind(text: &[u8]) -> Option<ZoneKind>
+    ensures found { IfSome result (λ found. zone_kind_text found ≡ text.now) }
+    ensures none { IfNone result ((other : ZoneKind) → zone_kind_text other ≢ text.now) }
+{
+    if text == b"target".as_slice() {
+        Some(ZoneKind::Target)
+    } else if text == b"distribution".as_slice() {
+        Some(ZoneKind::Distribution)
+    } else {
+        None
+    }
+}
+
+/// The fault of a statement file, as it is spelled.
+pub fn mc_text(mc: McCode) -> &'static [u8]
+    ensures { result.now ≡ mc_text mc }
+{
+    match mc {
+        McCode::Mc1 => b"Mc1",
+        McCode::Mc2 => b"Mc2",
+        McCode::Mc3 => b"Mc3",
+        McCode::Mc4 => b"Mc4",
+        McCode::Mc5 => b"Mc5",
+        McCode::Mc6 => b"Mc6",
+    }
+}
+
+/// The fault of a command file, as it is spelled.
+pub fn cn_text(cn: CnCode) -> &'static [u8]
+    ensures { result.now ≡ cn_text cn }
+{
+    match cn {
+        CnCode::Cn1 => b"Cn1",
+        CnCode::Cn2 => b"Cn2",
+        CnCode::Cn3 => b"Cn3",
+        CnCode::Cn4 => b"Cn4",
+        CnCode::Cn5 => b"Cn5",
+    }
+}
+
+/// The word that a command begins with, as it is spelled.
+pub fn word_text(word: CommandWord) -> &'static [u8]
+    ensures { result.now ≡ word_text word }
+{
+    match word {
+        CommandWord::Set => b"SET",
+        CommandWord::Receive => b"RECEIVE",
+        CommandWord::Reject => b"REJECT",
+        CommandWord::Apply => b"APPLY",
+        CommandWord::Accept => b"ACCEPT",
+        CommandWord::Restore => b"RESTORE",
+        CommandWord::List => b"LIST",
+        CommandWord::Report => b"REPORT",
+    }
+}
+
+/// The command that begins with this word.
+pub fn read_word(text: &[u8]) -> Option<CommandWord>
+    ensures found { IfSome result (λ found. word_text found ≡ text.now) }
+    ensures none { IfNone result ((other : CommandWord) → word_text other ≢ text.now) }
+{
+    match text {
+        b"SET" => Some(CommandWord::Set),
+        b"RECEIVE" => Some(CommandWord::Receive),
+        b"REJECT" => Some(CommandWord::Reject),
+        b"APPLY" => Some(CommandWord::Apply),
+        b"ACCEPT" => Some(CommandWord::Accept),
+        b"RESTORE" => Some(CommandWord::Restore),
+        b"LIST" => Some(CommandWord::List),
+        b"REPORT" => Some(CommandWord::Report),
+        _ => None,
+    }
+}
+
+/// A test, as it is spelled.
+pub fn test_text(test: Test) -> &'static [u8]
+    ensures { result.now ≡ test_text test }
+{
+    match test {
+        Test::J1 => b"J1",
+        Test::J2 => b"J2",
+        Test::J3 => b"J3",
+        Test::J4 => b"J4",
+        Test::J5 => b"J5",
+        Test::J6 => b"J6",
+        Test::J7 => b"J7",
+        Test::J8 => b"J8",
+        Test::J9 => b"J9",
+        Test::J10 => b"J10",
+        Test::J11 => b"J11",
+        Test::J12 => b"J12",
+    }
+}
+
+/// What an id is needed for, as it is spelled.
+pub fn need_text(need: NeedKind) -> &'static [u8]
+    ensures { result.now ≡ need_text need }
+{
+    match need {
+        NeedKind::Fmid => b"FMID",
+        NeedKind::Pre => b"PRE",
+        NeedKind::Req => b"REQ",
+        NeedKind::Ifreq => b"IFREQ",
+        NeedKind::HoldError => b"HOLDERROR",
+        NeedKind::Orphan => b"ORPHAN",
+        NeedKind::Elem => b"ELEM",
+        NeedKind::Dep => b"DEP",
+    }
+}
+
+/// Why an id was refused, as it is spelled.
+pub fn refusal_text(refusal: IdRefusal) -> &'static [u8]
+    ensures { result.now ≡ refusal_text refusal }
+{
+    match refusal {
+        IdRefusal::Rc2 => b"Rc2",
+        IdRefusal::Rc3 => b"Rc3",
+        IdRefusal::Rc4 => b"Rc4",
+        IdRefusal::Rl1 => b"Rl1",
+        IdRefusal::Rl2 => b"Rl2",
+        IdRefusal::Rj1 => b"Rj1",
+        IdRefusal::Rj2 => b"Rj2",
+    }
+}

@@ -1,9 +1,0 @@
-use Rattle.std.proofs.Common.{take}
-use Rattle.sysmods.specs.Choices.{choice}
-use Rattle.judge_needs.specs.Placed.{Beside}
-use Rattle.judge.specs.Deletes.{IsMarked}
-use Rattle.judge.proofs.deleted.all_with.Given as goal
-
-abbrev pub invariant-loop-i : goal.invariant-loop-i
-invariant-loop-i l =
-    Beside (λ n x own. IsMarked l.vers.global.now (choice l.vers) l.dels l.faults n x own) (take l.i l.ids) l.all.items

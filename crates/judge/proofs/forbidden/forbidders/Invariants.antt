@@ -1,8 +1,0 @@
-use Rattle.std.proofs.Common.{take}
-use Rattle.sysmods.specs.Choices.{choice}
-use Rattle.judge.specs.Forbidders.{AreForbidders}
-use Rattle.judge.proofs.forbidden.forbidders.Given as goal
-
-abbrev pub invariant-loop-entry : goal.invariant-loop-entry
-invariant-loop-entry l =
-    AreForbidders l.vers.global.now (choice l.vers) (take l.entry-index l.entry-items) l.forbidders

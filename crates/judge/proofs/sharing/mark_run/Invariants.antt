@@ -1,9 +1,0 @@
-use Rattle.std.proofs.Common.{take}
-use Rattle.sysmods.specs.Choices.{choice}
-use Rattle.judge.specs.Sharing.{AreMarked}
-use Rattle.judge.proofs.sharing.mark_run.Given as goal
-
-abbrev pub invariant-loop-claim : goal.invariant-loop-claim
-invariant-loop-claim l =
-    AreMarked l.vers.global.now (choice l.vers) (take l.claim-index l.claims) l.known.chain.items l.known.others.items
-    l.fn.shared.keys l.shared.keys

@@ -1,0 +1,315 @@
+-- What candidates fail by themselves: those of J1 to J8 that their faults say.
+use Rattle.std.proofs.Common.{◌≡◌, ◌≢◌, Bool, true, false, not, List, [], ◌∷◌, Option, None, Some, IsTrue}
+use Rattle.std.proofs.Common.{refl, sym, ap, ◌∙◌, subst, true≢false, filter, find, Contains, arith}
+use Rattle.std.specs.Prelude.{◌↔◌, ◌==◌, ◌&&◌, is_some}
+use Rattle.std.specs.List.{list_any}
+use Rattle.std.specs.Option.{option_map_or}
+use Rattle.std.specs.Str.{bytes_eq}
+use Rattle.std.proofs.lemmas.Bool.{and_parts, not-true}
+use Rattle.std.proofs.lemmas.Cmp.{tied_itself}
+use Rattle.std.proofs.lemmas.List.Folds.{Any-from_list_any, list_any-from_Any}
+use Rattle.terms.specs.declared.kinds.ElemType.{ElemType}
+use Rattle.terms.specs.declared.kinds.HoldKind.TheVariants.{System, User}
+use Rattle.terms.specs.declared.kinds.ZoneKind.{ZoneKind}
+use Rattle.terms.specs.declared.kinds.ZoneKind.TheVariants.{Target, Distribution}
+use Rattle.terms.specs.declared.codes.Test.{Test}
+use Rattle.terms.specs.declared.codes.Test.TheVariants.{J1, J2, J3, J4, J5, J6, J7, J8, J9, J10, J11, J12}
+use Rattle.terms.specs.Types.{Text, Id, Change, Element, Global, Sysmod, Zone, zone_number}
+use Rattle.terms.specs.Lookups.{changes_of, change_of, element_cmp, element_of, holds_of}
+use Rattle.terms.specs.Lookups.{is_applied, sysmod_of}
+use Rattle.terms.specs.Rising.{Rises}
+use Rattle.terms.specs.Choice.{fmid_of}
+use Rattle.terms.specs.Changes.{is_replacement, has_update}
+use Rattle.terms.specs.Lookups.{element_eq}
+use Rattle.terms.specs.Global.{IsGlobal, IsSysmod}
+use Rattle.terms.specs.Tests.{Setting, view_of, owner_of, is_bypassed_hold, ChangesInView}
+use Rattle.terms.specs.Tests.{FailsJ1, FailsJ2, FailsJ4, FailsJ5, FailsJ6, FailsJ7, FailsJ8, FailsJ9}
+use Rattle.terms.specs.Tests.{FailsAlone, PassesAlone, Fails, Survives, has_candidate_base}
+use Rattle.terms.proofs.ElementOrder.{element_cmp_total, element_ties}
+use Rattle.terms.proofs.RisingLists.{find_there, Splits_around}
+use Rattle.lemmas.proofs.Members.{here, none_in, filter_in, in_filter, parts}
+use Rattle.lemmas.proofs.Searches.{All_find}
+use Rattle.lemmas.proofs.Texts.{same_from, same_itself}
+use Rattle.terms.proofs.ChangedElements.{change_there, change_found, change_has}
+use Rattle.judge_faults.specs.declared.own.OwnFaults.{OwnFaults}
+use Rattle.judge_faults.specs.Own.{is_foreign_at, is_bare_at, HasFaults, passes_alone, passes}
+use Rattle.judge_faults.specs.Rows.{fails_test}
+
+pub off : (b : Bool) → ¬ IsTrue b → not b ≡ true
+off true lacks = absurd (lacks refl)
+off false lacks = refl
+
+bytes_apart : (x y : Id) → not (bytes_eq x y) ≡ true → x ≢ y
+bytes_apart x y e same = true≢false (sym (subst (λ z. bytes_eq x z ≡ true) same (same_itself x))
+    ∙ not-true (bytes_eq x y) e)
+
+pub bytes_differ : (x y : Id) → x ≢ y → not (bytes_eq x y) ≡ true
+bytes_differ x y other = off (bytes_eq x y) (λ same. other (same_from x y same))
+
+-- some item passes where the filter leaves one
+any_left : {X : Type 0} (p : X → Bool) (xs : List X) → IsTrue (list_any p xs) ↔ (filter p xs ≢ [])
+any_left {X} p xs = (
+  λ any none.
+      let a = Any-from_list_any p xs any in
+      none_in a.1 (subst (λ l. Contains l a.1) none (in_filter p xs a.1 (a.0, a.2, a.3) a.4)),
+  λ some. by (filter p xs) refl some,
+)
+  where
+    by : (l : List X) → filter p xs ≡ l → filter p xs ≢ [] → list_any p xs ≡ true
+    by [] e some = absurd (some e)
+    by (y ∷ ys) e some =
+        let f = filter_in p xs y (subst (λ l. Contains l y) (sym e) (here y ys)) in
+        list_any-from_Any p xs (f.0.0, y, f.0.1, f.0.2, f.1)
+
+abbrev change_key : Change → ElemType × Text
+change_key h = (h.elem_type, h.name)
+
+-- the statement about an element is the one that is found
+pub change_own : (g : Global) → IsGlobal g → (x : Id) (h : Change) → Contains (changes_of g x) h
+    → change_of g x h.elem_type h.name ≡ Some h
+change_own g is_global x h of =
+    let p = parts (changes_of g x) h of in
+    let tie = tied_itself element_cmp_total (change_key h) in
+    ap (find (λ k. element_eq (change_key k) (change_key h))) p.2
+    ∙ find_there element_cmp_total change_key element_eq element_ties (change_key h) p.0 p.1 h
+    (Splits_around element_cmp_total change_key (change_key h) p.0 p.1 h
+    (subst (Rises element_cmp change_key) p.2 (rises (sysmod_of g x) refl)) tie) tie
+  where
+    rises : (o : Option Sysmod) → sysmod_of g x ≡ o → Rises element_cmp change_key (option_map_or (λ s. s.changes) o [])
+    rises None at = λ i j d less below. absurd (omega (arith, below))
+    rises (Some s) at = (All_find IsSysmod (λ s. bytes_eq s.id x) g.sysmods s is_global.formed at).changes
+
+none_from : {X : Type 0} (o : Option X) → not (is_some o) ≡ true → o ≡ None
+none_from None e = refl
+none_from (Some x) e = absurd (true≢false (sym e))
+
+distribution_from : (k : ZoneKind) → (zone_number k == 1) ≡ true → k ≡ Distribution
+distribution_from Target e = absurd (true≢false (sym e))
+distribution_from Distribution e = refl
+
+-- whether the related target zone has it applied
+abbrev has_applied : Option Zone → Id → Bool
+has_applied related x = option_map_or (λ target. is_applied target x) related false
+
+-- an update is one of its statements
+update_found : (g : Global) (x : Id) (type : ElemType) (name : Text) → IsTrue (has_update g x type name)
+    → (h : Change) × Contains (changes_of g x) h × (h.elem_type ≡ type) × (h.name ≡ name)
+    × (not (is_replacement h.action) ≡ true)
+update_found g x type name updates = by (change_of g x type name) refl
+  where
+    by : (o : Option Change) → change_of g x type name ≡ o → (h : Change) × Contains (changes_of g x) h
+        × (h.elem_type ≡ type) × (h.name ≡ name) × (not (is_replacement h.action) ≡ true)
+    by None e = absurd (true≢false (sym updates ∙ ap (λ o. option_map_or (λ h. not (is_replacement h.action)) o
+        false) e))
+    by (Some h) e =
+        let t = change_there g x type name h e in
+        (h, t.0, t.1, t.2, sym (ap (λ o. option_map_or (λ h. not (is_replacement h.action)) o false) e) ∙ updates)
+
+module _ (s : Setting) (is_global : IsGlobal s.global) where
+  abbrev g : Global
+  g = s.global
+
+  module _ (x : Id) (in_ids : Contains s.cands x) where
+    abbrev seen : Zone
+    seen = view_of s x
+
+    -- it changes an element of its view
+    from_view : (e : Element) → ChangesInView s x e
+        → (h : Change) × Contains (changes_of g x) h × (element_of seen h.elem_type h.name ≡ Some e)
+    from_view e (type, name, has, at) =
+        let found = change_found g x type name has in (
+          found.0,
+          found.1,
+          ap (λ t. element_of seen t found.0.name) found.2 ∙ ap (λ n. element_of seen type n) found.3 ∙ at,
+        )
+
+    in_view : (h : Change) (e : Element) → Contains (changes_of g x) h → element_of seen h.elem_type h.name ≡ Some e
+        → ChangesInView s x e
+    in_view h e of at = (h.elem_type, h.name, change_has g x h of, at)
+
+    module _ (a : OwnFaults) (own : HasFaults s x a) where
+      one : IsTrue a.system_held ↔ FailsJ1 s x
+      one = rw own.system_held (any_left (λ h. not (is_bypassed_hold s.bypass h)) (holds_of g System x))
+
+      two : IsTrue a.user_held ↔ FailsJ2 s x
+      two = rw own.user_held (any_left (λ h. not (is_bypassed_hold s.bypass h)) (holds_of g User x))
+
+      foreign_at : (h : Change) → is_foreign_at seen (owner_of s x) h ≡ true
+          → (e : Element) × (element_of seen h.elem_type h.name ≡ Some e) × (e.fmid ≢ owner_of s x)
+      foreign_at h foreign = by (element_of seen h.elem_type h.name) refl
+        where
+          by : (o : Option Element) → element_of seen h.elem_type h.name ≡ o
+              → (e : Element) × (element_of seen h.elem_type h.name ≡ Some e) × (e.fmid ≢ owner_of s x)
+          by None e = absurd (true≢false (sym foreign ∙ ap (λ o. option_map_or (λ e. not (bytes_eq e.fmid
+              (owner_of s x))) o false) e))
+          by (Some v) e = (
+            v,
+            e,
+            bytes_apart v.fmid (owner_of s x) (sym (ap (λ o. option_map_or (λ e. not (bytes_eq e.fmid
+                (owner_of s x))) o false) e) ∙ foreign),
+          )
+
+      four : IsTrue a.foreign ↔ FailsJ4 s x
+      four = (
+        λ foreign.
+            let any = Any-from_list_any (is_foreign_at seen (owner_of s x)) (changes_of g x)
+            (sym own.foreign ∙ foreign) in
+            let found = foreign_at any.1 any.4 in
+            (found.0, in_view any.1 found.0 (any.0, any.2, any.3) found.1, found.2),
+        λ fails.
+            let t = from_view fails.0 fails.1 in
+            own.foreign ∙ list_any-from_Any (is_foreign_at seen (owner_of s x)) (changes_of g x) (
+              t.1.0,
+              t.0,
+              t.1.1,
+              t.1.2,
+              ap (λ o. option_map_or (λ e. not (bytes_eq e.fmid (owner_of s x))) o false) t.2
+                  ∙ bytes_differ fails.0.fmid (owner_of s x) fails.2,
+            ),
+      )
+
+      five : IsTrue a.lower ↔ FailsJ5 s x
+      five = (
+        λ lower.
+            let both = own.lower.0 lower in
+            let any = both.1 in
+            let e = any.4.0 in
+            let z = any.4.2 in
+            (both.0, (e, z.1, in_view any.1 e (any.0, any.2, any.3) any.4.1, (z.0, z.2, z.3), z.4)),
+        λ fails.
+            let e = fails.1.0 in
+            let t = from_view e fails.1.2 in
+            let z = fails.1.3 in
+            own.lower.1
+            (fails.0, (t.1.0, t.0, t.1.1, t.1.2, (e, t.2, (z.0, fails.1.1, z.1, z.2, fails.1.4)))),
+      )
+
+      six : IsTrue a.bare ↔ FailsJ6 s x
+      six = (
+        λ bare.
+            let any = Any-from_list_any (is_bare_at g seen s.cands (fmid_of s.choice x)) (changes_of g x)
+            (sym own.bare ∙ bare) in
+            let h = any.1 in
+            let p = and_parts (not (is_replacement h.action) && not (is_some (element_of seen h.elem_type h.name)))
+            (not (has_candidate_base s x h.elem_type h.name)) any.4 in
+            let q = and_parts (not (is_replacement h.action)) (not (is_some (element_of seen h.elem_type h.name))) p.0
+            in (
+              h.elem_type,
+              h.name,
+              ap (λ o. option_map_or (λ h. not (is_replacement h.action)) o false)
+                  (change_own g is_global x h (any.0, any.2, any.3)) ∙ q.0,
+              none_from (element_of seen h.elem_type h.name) q.1,
+              not-true (has_candidate_base s x h.elem_type h.name) p.1,
+            ),
+        λ (type, name, updates, lacks, base).
+            let u = update_found g x type name updates in
+            let h = u.0 in
+            let missing : element_of seen h.elem_type h.name ≡ None =
+            ap (λ t. element_of seen t h.name) u.2 ∙ ap (λ n. element_of seen type n) u.3
+            ∙ lacks in
+            let no_base : has_candidate_base s x h.elem_type h.name ≡ false =
+            ap (λ t. has_candidate_base s x t h.name) u.2 ∙ ap (λ n. has_candidate_base s x type n) u.3 ∙ base in
+            own.bare
+            ∙ list_any-from_Any (is_bare_at g seen s.cands (fmid_of s.choice x)) (changes_of g x) (
+              u.1.0,
+              h,
+              u.1.1,
+              u.1.2,
+              ap (λ b. b && not (is_some (element_of seen h.elem_type h.name)) && not
+                  (has_candidate_base s x h.elem_type h.name)) u.4
+                  ∙ ap (λ o. not (is_some o) && not (has_candidate_base s x h.elem_type h.name)) missing
+                  ∙ ap not no_base,
+            ),
+      )
+
+      seven : IsTrue a.unapplied ↔ FailsJ7 s x
+      seven = (
+        λ unapplied.
+            let p = and_parts ((zone_number s.zone.kind == 1) && not s.bypass.applycheck)
+            (not (has_applied s.related x)) (sym own.unapplied ∙ unapplied) in
+            let q = and_parts (zone_number s.zone.kind == 1) (not s.bypass.applycheck) p.0 in (
+              distribution_from s.zone.kind q.0,
+              not-true s.bypass.applycheck q.1,
+              not-true (has_applied s.related x) p.1,
+            ),
+        λ fails.
+            own.unapplied
+            ∙ ap (λ k. (zone_number k == 1) && not s.bypass.applycheck && not (has_applied s.related x)) fails.0
+            ∙ ap (λ b. not b && not (has_applied s.related x)) fails.1
+            ∙ ap not fails.2,
+      )
+
+      -- it passes J1 to J7
+      pub alone_if : IsTrue (passes_alone a) ↔ PassesAlone s x
+      alone_if = (
+        λ on.
+            let p = and_parts (not a.system_held && not a.user_held && not a.forbidden && not a.foreign && not a.lower
+            && not a.bare) (not a.unapplied) on in
+            let q = and_parts (not a.system_held && not a.user_held && not a.forbidden && not a.foreign && not a.lower)
+            (not a.bare) p.0 in
+            let r = and_parts (not a.system_held && not a.user_held && not a.forbidden && not a.foreign)
+            (not a.lower) q.0 in
+            let t = and_parts (not a.system_held && not a.user_held && not a.forbidden) (not a.foreign) r.0 in
+            let v = and_parts (not a.system_held && not a.user_held) (not a.forbidden) t.0 in
+            let u = and_parts (not a.system_held) (not a.user_held) v.0 in (
+              in_ids,
+              λ test. by test (not-true a.system_held u.0) (not-true a.user_held u.1) (not-true a.forbidden v.1)
+                  (not-true a.foreign t.1) (not-true a.lower r.1) (not-true a.bare q.1) (not-true a.unapplied p.1),
+            ),
+        λ alone.
+            let no_one = off a.system_held (λ on. alone.1 J1 (one.0 on)) in
+            let no_two = off a.user_held (λ on. alone.1 J2 (two.0 on)) in
+            let no_three = off a.forbidden (λ on. alone.1 J3 (own.forbidden.0 on)) in
+            let no_four = off a.foreign (λ on. alone.1 J4 (four.0 on)) in
+            let no_five = off a.lower (λ on. alone.1 J5 (five.0 on)) in
+            let no_six = off a.bare (λ on. alone.1 J6 (six.0 on)) in
+            let no_seven = off a.unapplied (λ on. alone.1 J7 (seven.0 on)) in
+            rw (no_one, no_two, no_three, no_four, no_five, no_six, no_seven) refl,
+      )
+        where
+          by : (test : Test) → a.system_held ≡ false → a.user_held ≡ false → a.forbidden ≡ false → a.foreign ≡ false
+              → a.lower ≡ false → a.bare ≡ false → a.unapplied ≡ false → ¬ FailsAlone s x test
+          by J1 e1 e2 e3 e4 e5 e6 e7 fails = true≢false (sym (one.1 fails) ∙ e1)
+          by J2 e1 e2 e3 e4 e5 e6 e7 fails = true≢false (sym (two.1 fails) ∙ e2)
+          by J3 e1 e2 e3 e4 e5 e6 e7 fails = true≢false (sym (own.forbidden.1 fails) ∙ e3)
+          by J4 e1 e2 e3 e4 e5 e6 e7 fails = true≢false (sym (four.1 fails) ∙ e4)
+          by J5 e1 e2 e3 e4 e5 e6 e7 fails = true≢false (sym (five.1 fails) ∙ e5)
+          by J6 e1 e2 e3 e4 e5 e6 e7 fails = true≢false (sym (six.1 fails) ∙ e6)
+          by J7 e1 e2 e3 e4 e5 e6 e7 fails = true≢false (sym (seven.1 fails) ∙ e7)
+          by J8 e1 e2 e3 e4 e5 e6 e7 fails = fails
+          by J9 e1 e2 e3 e4 e5 e6 e7 fails = fails
+          by J10 e1 e2 e3 e4 e5 e6 e7 fails = fails
+          by J11 e1 e2 e3 e4 e5 e6 e7 fails = fails
+          by J12 e1 e2 e3 e4 e5 e6 e7 fails = fails
+
+      never : (T : Type 0) → ¬ T → IsTrue false ↔ T
+      never T lacks = (λ e. absurd (true≢false (sym e)), λ t. absurd (lacks t))
+
+      module _ (eight : IsTrue a.deleted ↔ FailsJ8 s x) where
+        -- it has no faults where it survives
+        pub survives_if : IsTrue (passes a) ↔ Survives s x
+        survives_if = (
+          λ on.
+              let p = and_parts (passes_alone a) (not a.deleted) on in
+              (alone_if.0 p.0, λ fails. true≢false (sym (eight.1 fails) ∙ not-true a.deleted p.1)),
+          λ survives.
+              let alone = alone_if.1 survives.0 in
+              let no_eight = off a.deleted (λ on. survives.1 (eight.0 on)) in
+              ap (λ b. b && not a.deleted) alone ∙ no_eight,
+        )
+
+        -- the tests that it fails, given whether it fails J9
+        pub test_fails : (clashes : Bool) → IsTrue clashes ↔ FailsJ9 s x → (t : Test)
+            → IsTrue (fails_test a clashes t) ↔ Fails s x t
+        test_fails clashes nine J1 = one
+        test_fails clashes nine J2 = two
+        test_fails clashes nine J3 = own.forbidden
+        test_fails clashes nine J4 = four
+        test_fails clashes nine J5 = five
+        test_fails clashes nine J6 = six
+        test_fails clashes nine J7 = seven
+        test_fails clashes nine J8 = eight
+        test_fails clashes nine J9 = nine
+        test_fails clashes nine J10 = never (Fails s x J10) (λ no. no)
+        test_fails clashes nine J11 = never (Fails s x J11) (λ no. no)
+        test_fails clashes nine J12 = never (Fails s x J12) (λ no. no)

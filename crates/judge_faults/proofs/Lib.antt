@@ -1,0 +1,15 @@
+pub mod Few
+pub mod Collapsed
+pub mod Alone
+pub mod Claimed
+pub mod Chained
+pub mod Marks
+pub mod Runs
+pub mod Clashing
+pub mod Places
+pub mod Overs
+pub mod Forbidders
+pub mod Naming
+pub mod Deleting
+pub mod Faulted
+pub mod Filled

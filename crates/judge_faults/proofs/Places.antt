@@ -1,0 +1,181 @@
+-- What the places of the candidates tell: each fails the tests that are marked at its place, and no others.
+use Rattle.std.proofs.Common.{◌≡◌, ◌≢◌, ℕ, zero, suc, ◌<◌, ◌+◌, Bool, true, false, not, List, [], ◌∷◌, length}
+use Rattle.std.proofs.Common.{Option, None, Some, IsTrue, refl, sym, ap, ap₂, ◌∙◌, subst, true≢false, filter, map}
+use Rattle.std.proofs.Common.{Contains, cond, arith, slice_get, get_or}
+use Rattle.std.specs.Prelude.{◌↔◌, nat_eq}
+use Rattle.std.specs.Option.{option_map, option_map_or}
+use Rattle.std.specs.Str.{bytes_eq}
+use Rattle.std.proofs.lemmas.Bool.{and_parts, eqb-true, not-true}
+use Rattle.std.proofs.lemmas.Cmp.{nat_eq_equiv}
+use Rattle.std.proofs.lemmas.List.{length-map}
+use Rattle.std.proofs.lemmas.Option.{slice_get_within, slice_get-get_or, slice_get-map}
+use Rattle.std.proofs.lemmas.Option.{same_Some}
+use Rattle.std.proofs.lemmas.List.Elements.{All-contains, filter_passes}
+use Rattle.std.proofs.lemmas.List.Kept.{AllPairs-filter}
+use Rattle.std.proofs.lemmas.Map.Views.{list_any-from_Contains}
+use Rattle.indexmap.proofs.CallerLemmas.{Contains-list_any}
+use Rattle.terms.specs.declared.codes.Test.{Test}
+use Rattle.terms.specs.Types.{Id}
+use Rattle.terms.specs.Lookups.{IsRising, is_before}
+use Rattle.terms.specs.Tests.{Setting, FailsJ8, FailsJ9, Survives, AreSurvivors, IsEligible, Fails}
+use Rattle.terms.specs.Global.{IsGlobal}
+use Rattle.solve.specs.Problem.{holds}
+use Rattle.lemmas.proofs.Pairs.{AllPairs_rest}
+use Rattle.lemmas.proofs.Places.{contains_at, found_at}
+use Rattle.lemmas.proofs.Texts.{same_itself}
+use Rattle.lemmas.proofs.Members.{filter_in, in_filter}
+use Rattle.terms.specs.Failures.{all_tests}
+use Rattle.judge_faults.specs.declared.own.OwnFaults.{OwnFaults}
+use Rattle.judge_faults.specs.Failed.{AreFailedTests, AreEligible}
+use Rattle.lemmas.specs.Beside.{Beside}
+use Rattle.judge_faults.specs.Own.{HasFaults, passes}
+use Rattle.judge_faults.specs.Forbidding.{AreClashing}
+use Rattle.judge_faults.specs.Rows.{fails_test, is_among, row_of, is_eligible_at}
+use Rattle.terms.proofs.IdPlaces.{two_places}
+use Rattle.judge_faults.proofs.Clashing.{fails_nine}
+use Rattle.lemmas.proofs.BesideLists.{beside_there}
+use Rattle.judge_faults.proofs.Alone.{off, bytes_differ, survives_if as survives-alone, test_fails as fails-alone}
+
+-- the place of an id and what it fails by itself
+abbrev pub own_of : List Id → List OwnFaults → ℕ → Id → Option (ℕ × OwnFaults)
+own_of [] faults k x = None
+own_of (y ∷ ys) [] k x = None
+own_of (y ∷ ys) (a ∷ faults) k x = cond (bytes_eq y x) (Some (k, a)) (own_of ys faults (suc k) x)
+
+own_at_holds : (ids : List Id) (faults : List OwnFaults) (k : ℕ) → IsRising ids → (n m : ℕ) (x : Id) (a : OwnFaults)
+    → slice_get ids n ≡ Some x → slice_get faults n ≡ Some a → m ≡ k + n → own_of ids faults k x ≡ Some (m, a)
+own_at_holds [] faults k rising n m x a at own place = absurd (cc at)
+own_at_holds (y ∷ ys) [] k rising n m x a at own place = absurd (cc own)
+own_at_holds (y ∷ ys) (b ∷ faults) k rising zero m x a at own place =
+    let same : y ≡ x = same_Some y x at in
+    let is : b ≡ a = same_Some b a own in
+    let number : k ≡ m = omega (arith, place) in
+    ap (λ t. cond t (Some (k, b)) (own_of ys faults (suc k) x)) (subst (λ z. bytes_eq y z ≡ true) same (same_itself y))
+    ∙ ap₂ (λ i c. Some (i, c)) number is
+own_at_holds (y ∷ ys) (b ∷ faults) k rising (suc n) m x a at own place =
+    let other : y ≢ x = two_places (y ∷ ys) rising 0 (suc n) y x refl at (λ e. omega (arith, e)) in
+    ap (λ t. cond t (Some (k, b)) (own_of ys faults (suc k) x)) (not-true (bytes_eq y x) (bytes_differ y x other))
+    ∙ own_at_holds ys faults (suc k) (AllPairs_rest (λ u v. IsTrue (is_before u v)) y ys rising) n m x a at own
+    (omega (arith, place))
+
+module _ (s : Setting) (is_global : IsGlobal s.global) (rising : IsRising s.cands) (faults : List OwnFaults)
+    (own : Beside (λ n x a. HasFaults s x a) s.cands faults)
+    (eight : (n : ℕ) (x : Id) (a : OwnFaults) → slice_get s.cands n ≡ Some x → slice_get faults n ≡ Some a
+    → IsTrue a.deleted ↔ FailsJ8 s x) where
+  abbrev ids : List Id
+  ids = s.cands
+
+  pub survives_if : (n : ℕ) (x : Id) (a : OwnFaults) → slice_get ids n ≡ Some x → slice_get faults n ≡ Some a
+      → IsTrue (passes a) ↔ Survives s x
+  survives_if n x a at at_own =
+      survives-alone s is_global x (contains_at ids n x at) a (own.each n x a at at_own) (eight n x a at at_own)
+
+  beside_own : (n : ℕ) (x : Id) → slice_get ids n ≡ Some x → (a : OwnFaults) × (slice_get faults n ≡ Some a)
+  beside_own = beside_there ids faults own.lengths
+
+  -- the survivors
+  abbrev is_survivor : Id → Bool
+  is_survivor x = option_map_or (λ p. passes p.1) (own_of ids faults 0 x) false
+
+  survivor_if : (x : Id) → Contains ids x → IsTrue (is_survivor x) ↔ Survives s x
+  survivor_if x in_ids =
+      let found = found_at ids x in_ids in
+      let a = beside_own found.0 x found.1 in
+      let is : is_survivor x ≡ passes a.0 =
+      ap (λ o. option_map_or (λ p. passes p.1) o false) (own_at_holds ids faults 0 rising found.0 found.0 x a.0 found.1 a.1
+      (omega arith)) in
+      let both = survives_if found.0 x a.0 found.1 a.1 in
+      (λ on. both.0 (sym is ∙ on), λ survives. is ∙ both.1 survives)
+
+  abbrev pub survivors : List Id
+  survivors = filter is_survivor ids
+
+  pub survivors_among : (x : Id) → Contains survivors x → Contains ids x
+  survivors_among x h = (filter_in is_survivor ids x h).0
+
+  pub are_survivors_holds : AreSurvivors s survivors
+  are_survivors_holds = record {
+    rising = AllPairs-filter (λ u v. IsTrue (is_before u v)) is_survivor ids rising;
+    members = λ x. (
+      λ h. (survivor_if x (filter_in is_survivor ids x h).0).0
+          (All-contains (λ y. is_survivor y ≡ true) survivors x (filter_passes is_survivor ids) h),
+      λ survives. in_filter is_survivor ids x survives.0.0 ((survivor_if x survives.0.0).1 survives),
+    );
+  }
+
+  module _ (marked : List ℕ) (are : AreClashing s.global s.choice ids faults marked) where
+    pub nine : (n : ℕ) (x : Id) → slice_get ids n ≡ Some x → IsTrue (is_among marked n) ↔ FailsJ9 s x
+    nine n x at =
+        let both = fails_nine s faults own.lengths survives_if n x at in (
+          λ on. both.0 ((are n).0 (Contains-list_any nat_eq eqb-true marked n on)),
+          λ fails. list_any-from_Contains nat_eq_equiv n marked ((are n).1 (both.1 fails)),
+        )
+
+    test_fails : (n : ℕ) (x : Id) (a : OwnFaults) → slice_get ids n ≡ Some x → slice_get faults n ≡ Some a
+        → (t : Test) → IsTrue (fails_test a (is_among marked n) t) ↔ Fails s x t
+    test_fails n x a at at_own =
+        fails-alone s is_global x (contains_at ids n x at) a (own.each n x a at at_own) (eight n x a at at_own)
+        (is_among marked n) (nine n x at)
+
+    abbrev fails_at : Option (ℕ × OwnFaults) → Test → Bool
+    fails_at o t = option_map_or (λ p. fails_test p.1 (is_among marked p.0) t) o false
+
+    -- the rows of failed tests
+    pub are_failed : {R : Type 0} (items : R → List Test) (rows : List R)
+        → Beside (λ n a row. items row ≡ row_of marked n a) faults rows → AreFailedTests s (map items rows)
+    are_failed {R} items rows beside = record {
+      lengths = length-map rows items ∙ beside.lengths ∙ own.lengths;
+      fails = λ x. fails_at (own_of ids faults 0 x);
+      rows_are = λ n x at. row_at n x at;
+      failed = λ n x at t.
+          let a = beside_own n x at in
+          let is = own_at_holds ids faults 0 rising n n x a.0 at a.1 (omega arith) in
+          let both = test_fails n x a.0 at a.1 t in
+          (λ on. both.0 (sym (ap (λ o. fails_at o t) is) ∙ on), λ fails. ap (λ o. fails_at o t) is ∙ both.1 fails);
+    }
+      where
+        row_beside : (rs : List R) (n : ℕ) → n < length rs → (r : R) × (slice_get rs n ≡ Some r)
+        row_beside [] n below = absurd (omega (arith, below))
+        row_beside (r ∷ rs) zero below = (r, refl)
+        row_beside (r ∷ rs) (suc n) below = row_beside rs n (omega (arith, below))
+
+        row_at : (n : ℕ) (x : Id) → slice_get ids n ≡ Some x
+            → slice_get (map items rows) n ≡ Some (filter (fails_at (own_of ids faults 0 x)) all_tests)
+        row_at n x at =
+            let a = beside_own n x at in
+            let is = own_at_holds ids faults 0 rising n n x a.0 at a.1 (omega arith) in
+            let row = row_beside rows n (subst (λ k. n < k) (sym beside.lengths) (slice_get_within faults n a.0 a.1)) in
+            slice_get-map items rows n ∙ ap (option_map items) row.1
+            ∙ ap (λ l. Some l) (beside.each n a.0 row.0 a.1 row.1)
+            ∙ ap (λ o. Some (filter (fails_at o) all_tests)) (sym is)
+
+    eligible_if : (n : ℕ) (x : Id) (a : OwnFaults) → slice_get ids n ≡ Some x → slice_get faults n ≡ Some a
+        → IsTrue (is_eligible_at marked n a) ↔ IsEligible s x
+    eligible_if n x a at at_own = (
+      λ on.
+          let p = and_parts (passes a) (not (is_among marked n)) on in (
+            (survives_if n x a at at_own).0 p.0,
+            λ fails. true≢false
+                (sym ((nine n x at).1 fails) ∙ not-true (is_among marked n) p.1),
+          ),
+      λ eligible.
+          let alone = (survives_if n x a at at_own).1 eligible.0 in
+          let apart = off (is_among marked n) (λ on. eligible.1 ((nine n x at).0 on)) in
+          rw (alone, apart) refl,
+    )
+
+    -- the flags of who is eligible
+    pub are_eligible : (flags : List Bool) → Beside (λ n a flag. flag ≡ is_eligible_at marked n a) faults flags
+        → AreEligible s flags
+    are_eligible flags flagged = record {
+      lengths = flagged.lengths ∙ own.lengths;
+      eligible = λ n x at.
+          let a = beside_own n x at in
+          let below : n < length flags = subst (λ k. n < k) (sym flagged.lengths) (slice_get_within faults n a.0 a.1) in
+          let flag = slice_get-get_or flags n false below in
+          let is : holds flags n ≡ is_eligible_at marked n a.0 = flagged.each n a.0 (get_or flags n false) a.1 flag in
+          let both = eligible_if n x a.0 at a.1 in
+          (λ on. both.0 (sym is ∙ on), λ eligible. is ∙ both.1 eligible);
+      survivors = survivors;
+      are_survivors = are_survivors_holds;
+    }

@@ -1,0 +1,18 @@
+use Rattle.std.proofs.Common.{◌≤◌, ◌∙◌, length, take_all, subst, arith}
+use Rattle.sysmods.specs.Choices.{choice}
+use Rattle.judge_faults.specs.Forbidders.{AreForbidders}
+use Rattle.judge_faults.proofs.Forbidders.{forbidders_next}
+use Rattle.judge_faults.proofs.forbidden.forbidders.Goals as goal
+
+pub loop-entry-preserved : goal.loop-entry-preserved
+loop-entry-preserved c =
+    forbidders_next c.args.vers.now.global.now (choice c.args.vers.now) c.entries-entry-items.result.now
+    c.loop-entry.entry-index c.entry-item.result c.loop-entry.forbidders c.add_function.new.forbidders (omega arith)
+    c.entry-item.is c.loop-entry.invariant c.in_ok-add_function.ensures
+
+pub returns : goal.returns
+returns c =
+    let items = c.entries-entry-items.result.now in
+    let whole : length items ≤ c.loop-entry.entry-index = omega arith in
+    subst (λ l. AreForbidders c.args.vers.now.global.now (choice c.args.vers.now) l c.loop-entry.forbidders)
+    (take_all c.loop-entry.entry-index items whole ∙ c.entries-entry-items.ensures) c.loop-entry.invariant

@@ -1,0 +1,22 @@
+use Rattle.std.proofs.Common.{◌∙◌, refl}
+use Rattle.std.specs.Prelude.{option_copied}
+use Rattle.zones_views.specs.Scopes.{choice_of, global_of, setting_with}
+use Rattle.judge_faults.proofs.Faulted.{faults_from}
+use Rattle.judge_faults.proofs.own.own_faults.Goals as goal
+
+pub returns-clause-faults : goal.returns-clause-faults
+returns-clause-faults c =
+    let scope = c.args.scope.now in
+    faults_from (setting_with scope (option_copied c.args.related)) c.args.id _ (global_of scope) (choice_of scope)
+    c.as_slice.result.now c.owner.result c.fmid.result c.changes_of-changes.result.now refl refl
+    (c.as_slice.ensures.value ∙ c.in_ok-dels.ensures) c.owner.ensures c.fmid.ensures
+    (rw c.global-global.ensures at c.changes_of-changes.ensures)
+    (record {
+      system_held = rw c.global-global.ensures at c.has_standing_hold.ensures;
+      user_held = rw c.global-global.ensures at c.has_standing_hold-2.ensures;
+      forbidden = c.is_forbidden.ensures;
+      foreign = c.is_foreign.ensures;
+      lower = c.in_ok-lower.ensures.lower;
+      bare = rw c.global-global.ensures at c.has_bare_update.ensures;
+      unapplied = c.is_unapplied.ensures;
+    })

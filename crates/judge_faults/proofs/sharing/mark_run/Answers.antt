@@ -1,0 +1,25 @@
+use Rattle.std.proofs.Common.{◌≤◌, ◌∙◌, ◌++◌, [], ◌∷◌, take, take_all, length, ap, sym, subst, arith}
+use Rattle.std.proofs.lemmas.List.{take_more}
+use Rattle.sysmods.specs.Choices.{choice}
+use Rattle.judge_faults.specs.Sharing.{Marks, IsAmong, Clashes, AreMarked}
+use Rattle.judge_faults.proofs.sharing.mark_run.Goals as goal
+
+pub loop-claim-preserved : goal.loop-claim-preserved
+loop-claim-preserved c =
+    let g = c.args.vers.now.global.now in
+    let choices = choice c.args.vers.now in
+    let claims = c.args.claims.now in
+    let i = c.loop-claim.claim-index in
+    let claim = c.claim-item.result in
+    let old = c.args.shared.now.keys in
+    let new = c.take_in.new in
+    subst (λ l. AreMarked g choices l new.claimants.chain.items new.claimants.others.items old new.shared.keys)
+    (sym (take_more claims i claim (omega arith) ∙ ap (λ v. take i claims ++ v ∷ []) (sym c.claim-item.is)))
+    (c.in_ok-take_in.ensures (take i claims) old c.loop-claim.invariant)
+
+pub returns : goal.returns
+returns c =
+    let whole : length c.args.claims.now ≤ c.loop-claim.claim-index = omega arith in
+    subst (λ l. Marks (IsAmong (Clashes c.args.vers.now.global.now (choice c.args.vers.now)) l)
+    c.args.shared.now.keys c.loop-claim.shared.keys) (take_all c.loop-claim.claim-index c.args.claims.now whole)
+    c.loop-claim.invariant.marks

@@ -1,0 +1,42 @@
+-- Which candidates forbid each other by NPRE.
+use Rattle.std.specs.Prelude.{◌≡◌, ◌≢◌, ◌⊎◌, ◌↔◌, ◌<◌, ℕ, List, Contains}
+use Rattle.terms.specs.Types.{Id, Global}
+use Rattle.terms.specs.Choice.{Choice, npre_of}
+use Rattle.judge_faults.specs.declared.own.OwnFaults.{OwnFaults}
+use Rattle.judge_faults.specs.Claims.{PassesAt}
+use Rattle.judge_faults.specs.Sharing.{IsClashing}
+
+-- the place is one of two
+abbrev pub IsEither : ℕ → ℕ → ℕ → Type 0
+IsEither i m n = (n ≡ i) ⊎ (n ≡ m)
+
+-- the place is this one or that of y, where y is another candidate that passes
+abbrev pub IsOfNamed : List Id → List OwnFaults → ℕ → Id → Id → ℕ → Type 0
+IsOfNamed ids faults i x y n = (x ≢ y) × ((m : ℕ) × PassesAt ids faults m y × IsEither i m n)
+
+-- y is one of these
+abbrev pub IsOfOne : List Id → List OwnFaults → ℕ → Id → List Id → ℕ → Type 0
+IsOfOne ids faults i x named n = (y : Id) × Contains named y × IsOfNamed ids faults i x y n
+
+-- x at the first place passes and names y in NPRE
+abbrev pub IsByNpre : Choice → List Id → List OwnFaults → ℕ → ℕ → Type 0
+IsByNpre c ids faults i n = (x : Id) × PassesAt ids faults i x × IsOfOne ids faults i x (npre_of c x) n
+
+-- x is in front of a place
+abbrev pub IsByNpreBefore : Choice → List Id → List OwnFaults → ℕ → ℕ → Type 0
+IsByNpreBefore c ids faults end n = (i : ℕ) × (i < end) × IsByNpre c ids faults i n
+
+-- the candidate at the place passes, and so does another one; one names the other in NPRE
+pub record IsForbidding (c : Choice) (ids : List Id) (faults : List OwnFaults) (n : ℕ) : Type 0 where
+  pub x : Id
+  pub passes : PassesAt ids faults n x
+  pub place : ℕ
+  pub y : Id
+  pub other : PassesAt ids faults place y
+  pub apart : x ≢ y
+  pub names : Contains (npre_of c x) y ⊎ Contains (npre_of c y) x
+
+-- they are the places of candidates that pass by themselves and clash with another such one
+abbrev pub AreClashing : Global → Choice → List Id → List OwnFaults → List ℕ → Type 0
+AreClashing g c ids faults places =
+    (n : ℕ) → Contains places n ↔ (IsClashing g c ids faults n ⊎ IsForbidding c ids faults n)

@@ -1,0 +1,10 @@
+pub mod Failed
+pub mod Own
+pub mod Claims
+pub mod Sharing
+pub mod Rows
+pub mod Overs
+pub mod Views
+pub mod Forbidders
+pub mod Deletes
+pub mod Forbidding

@@ -1,0 +1,72 @@
+-- What a candidate fails by itself, as the code tests it.
+use Rattle.std.specs.Prelude.{◌≡◌, ◌↔◌, ◌==◌, ◌&&◌, Bool, false, not, List, ◌∷◌, Any, IsTrue, IsFalse, Option, Some}
+use Rattle.std.specs.Prelude.{is_some}
+use Rattle.std.specs.List.{list_any}
+use Rattle.std.specs.Option.{option_map_or}
+use Rattle.std.specs.Str.{bytes_eq}
+use Rattle.terms.specs.declared.kinds.HoldKind.{HoldKind}
+use Rattle.terms.specs.declared.kinds.HoldKind.TheVariants.{System, User}
+use Rattle.terms.specs.Types.{Id, Change, Element, Global, Zone, zone_number}
+use Rattle.terms.specs.Lookups.{changes_of, element_of, holds_of, is_applied, is_in}
+use Rattle.terms.specs.Choice.{Choice, fmid_of}
+use Rattle.terms.specs.Over.{IsOver}
+use Rattle.terms.specs.Changes.{is_replacement, has_replacement}
+use Rattle.terms.specs.Tests.{Setting, view_of, owner_of, is_bypassed_hold}
+use Rattle.judge_faults.specs.declared.own.OwnFaults.{OwnFaults}
+use Rattle.judge_faults.specs.Forbidders.{IsForbidden}
+
+-- whether a hold of the kind stands against x
+abbrev pub has_standing_hold : Setting → HoldKind → Id → Bool
+has_standing_hold s kind x = list_any (λ h. not (is_bypassed_hold s.bypass h)) (holds_of s.global kind x)
+
+-- whether the statement is about an element of the view that another than this one owns
+abbrev pub is_foreign_at : Zone → Id → Change → Bool
+is_foreign_at zone owner h =
+    option_map_or (λ e. not (bytes_eq e.fmid owner)) (element_of zone h.elem_type h.name) false
+
+-- x is not over one of the SYSMODs that made the element
+abbrev pub IsLower : Choice → Id → Element → Type 0
+IsLower c x e = Any (λ z. ¬ IsOver c x z) (e.rmid ∷ e.umids)
+
+-- the statement is about an element of the view that x is lower than
+abbrev pub IsLowerAt : Choice → Zone → Id → Change → Type 0
+IsLowerAt c zone x h = (e : Element) × (element_of zone h.elem_type h.name ≡ Some e) × IsLower c x e
+
+-- whether the function is a candidate that replaces the element of the statement
+abbrev pub has_base : Global → List Id → Option Id → Change → Bool
+has_base g cands fmid h =
+    option_map_or (λ f. is_in cands f && has_replacement g f h.elem_type h.name) fmid false
+
+-- whether the statement updates what the view lacks, and no base comes with it
+abbrev pub is_bare_at : Global → Zone → List Id → Option Id → Change → Bool
+is_bare_at g zone cands fmid h =
+    not (is_replacement h.action) && not (is_some (element_of zone h.elem_type h.name))
+    && not (has_base g cands fmid h)
+
+-- whether x is accepted, and no related target zone has it applied
+abbrev pub is_unapplied : Setting → Id → Bool
+is_unapplied s x =
+    (zone_number s.zone.kind == 1) && not s.bypass.applycheck
+    && not (option_map_or (λ target. is_applied target x) s.related false)
+
+-- J1 to J7, each as the code tests it
+pub record HasFaults (s : Setting) (x : Id) (a : OwnFaults) : Type 0 where
+  pub system_held : a.system_held ≡ has_standing_hold s System x
+  pub user_held : a.user_held ≡ has_standing_hold s User x
+  pub forbidden : IsTrue a.forbidden ↔ IsForbidden s.global s.choice (view_of s x) x
+  pub foreign : a.foreign ≡ list_any (is_foreign_at (view_of s x) (owner_of s x)) (changes_of s.global x)
+  pub lower : IsTrue a.lower
+      ↔ (IsFalse s.bypass.same_id × Any (IsLowerAt s.choice (view_of s x) x) (changes_of s.global x))
+  pub bare : a.bare
+      ≡ list_any (is_bare_at s.global (view_of s x) s.cands (fmid_of s.choice x)) (changes_of s.global x)
+  pub unapplied : a.unapplied ≡ is_unapplied s x
+
+-- whether it has none of J1 to J7
+abbrev pub passes_alone : OwnFaults → Bool
+passes_alone a =
+    not a.system_held && not a.user_held && not a.forbidden && not a.foreign && not a.lower && not a.bare
+    && not a.unapplied
+
+-- whether it has none of its faults
+abbrev pub passes : OwnFaults → Bool
+passes a = passes_alone a && not a.deleted

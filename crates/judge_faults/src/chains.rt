@@ -1,0 +1,163 @@
+//! Chains of claims on one element: each SYSMOD is over those before it, and all have one owner.
+ghost use Rattle.std.specs.Prelude.{◌≡◌, ◌↔◌, ◌≤◌, ◌⊎◌, length, take, drop, All, IsTrue, IfOk, IfSome};
+ghost use Rattle.terms.specs.Over.{IsOver, owner};
+ghost use Rattle.sysmods.specs.Choices.{choice};
+ghost use Rattle.judge_faults.specs.Sharing.{StandApart, IsBelow, IsChain, FitsAt};
+
+use crate::claims::Claim;
+use fields::Id;
+use std::alloc::{AllocError, Global};
+use sysmods::VerChoice;
+
+// Whether both have one owner.
+fn have_one_owner(vers: &VerChoice<'_>, x: Id, y: Id) -> bool
+    ensures { IsTrue result ↔ (owner vers.now.global.now (choice vers.now) x
+        ≡ owner vers.now.global.now (choice vers.now) y) }
+{
+    vers.owner(x) == vers.owner(y)
+}
+
+// Whether over orders them.
+fn are_ordered(alloc: Global, vers: &VerChoice<'_>, x: Id, y: Id) -> Result<bool, AllocError>
+    ensures { IfOk result (λ ordered. IsTrue ordered ↔ (IsOver (choice vers.now) x y
+        ⊎ IsOver (choice vers.now) y x)) }
+{
+    if vers.over(alloc, x, y)? {
+        return Ok(true);
+    }
+    vers.over(alloc, y, x)
+}
+
+/// Whether two SYSMODs may not change one element.
+pub(crate) fn may_not_share(
+    alloc: Global,
+    vers: &VerChoice<'_>,
+    x: Id,
+    y: Id,
+) -> Result<bool, AllocError>
+    ensures { IfOk result (λ apart. IsTrue apart ↔ StandApart vers.now.global.now (choice vers.now) x y) }
+{
+    if !have_one_owner(vers, x, y) {
+        return Ok(true);
+    }
+    Ok(!are_ordered(alloc, vers, x, y)?)
+}
+
+// Whether the second is over the first, and both have one owner.
+fn is_below(
+    alloc: Global,
+    vers: &VerChoice<'_>,
+    first: &Claim,
+    second: &Claim,
+) -> Result<bool, AllocError>
+    ensures { IfOk result (λ below. IsTrue below ↔ IsBelow vers.now.global.now (choice vers.now) first.now second.now) }
+{
+    if !have_one_owner(vers, first.id, second.id) {
+        return Ok(false);
+    }
+    vers.over(alloc, second.id, first.id)
+}
+
+// Whether the claim is over all of the chain.
+fn is_at_end(
+    alloc: Global,
+    vers: &VerChoice<'_>,
+    chain: &[Claim],
+    claim: &Claim,
+) -> Result<bool, AllocError>
+    ensures { IfOk result (λ ends. IsTrue ends → IsChain vers.now.global.now (choice vers.now) chain.now
+        → All (λ b. IsBelow vers.now.global.now (choice vers.now) b claim.now) chain.now) }
+{
+    match chain.last() {
+        Some(last) => is_below(alloc, vers, last, claim),
+        None => Ok(true),
+    }
+}
+
+// A place of the chain such that the claim is over all in front of it. A claim that fits into the chain is over no
+// other.
+fn search_end(
+    alloc: Global,
+    vers: &VerChoice<'_>,
+    chain: &[Claim],
+    claim: &Claim,
+) -> Result<usize, AllocError>
+    ensures within { IfOk result (λ k. k ≤ length chain.now) }
+    ensures front { IfOk result (λ k. IsChain vers.now.global.now (choice vers.now) chain.now
+        → All (λ b. IsBelow vers.now.global.now (choice vers.now) b claim.now) (take k chain.now)) }
+{
+    let mut low = 0;
+    let mut high = chain.len();
+    while low < high {
+        let middle = low + (high - low) / 2;
+        if is_below(alloc, vers, &chain[middle], claim)? {
+            low = middle + 1;
+        } else {
+            high = middle;
+        }
+    }
+    Ok(low)
+}
+
+// Whether the claim is below all of the chain from a place on.
+fn is_in_front(
+    alloc: Global,
+    vers: &VerChoice<'_>,
+    chain: &[Claim],
+    place: usize,
+    claim: &Claim,
+) -> Result<bool, AllocError>
+    requires { place ≤ length chain.now }
+    ensures { IfOk result (λ fits. IsTrue fits → IsChain vers.now.global.now (choice vers.now) chain.now
+        → All (λ b. IsBelow vers.now.global.now (choice vers.now) claim.now b) (drop place chain.now)) }
+{
+    if place == chain.len() {
+        return Ok(true);
+    }
+    is_below(alloc, vers, claim, &chain[place])
+}
+
+// Where a claim fits into the chain that is neither over all of it nor below all.
+fn place_inside(
+    alloc: Global,
+    vers: &VerChoice<'_>,
+    chain: &[Claim],
+    claim: &Claim,
+) -> Result<Option<usize>, AllocError>
+    ensures within { IfOk result (λ place. IfSome place (λ k. k ≤ length chain.now)) }
+    ensures fits { IfOk result (λ place. IfSome place (λ k. IsChain vers.now.global.now (choice vers.now) chain.now
+        → FitsAt vers.now.global.now (choice vers.now) chain.now claim.now k)) }
+{
+    let Some(first) = chain.first() else {
+        return Ok(None);
+    };
+    // What is not over the first fits nowhere, and needs no search for its place.
+    if !is_below(alloc, vers, first, claim)? {
+        return Ok(None);
+    }
+    let place = search_end(alloc, vers, chain, claim)?;
+    if !is_in_front(alloc, vers, chain, place, claim)? {
+        return Ok(None);
+    }
+    Ok(Some(place))
+}
+
+/// Where the claim fits into the chain, if it may share the element with each in it: mostly at its end.
+pub(crate) fn place_in(
+    alloc: Global,
+    vers: &VerChoice<'_>,
+    chain: &[Claim],
+    claim: &Claim,
+) -> Result<Option<usize>, AllocError>
+    ensures within { IfOk result (λ place. IfSome place (λ k. k ≤ length chain.now)) }
+    ensures fits { IfOk result (λ place. IfSome place (λ k. IsChain vers.now.global.now (choice vers.now) chain.now
+        → FitsAt vers.now.global.now (choice vers.now) chain.now claim.now k)) }
+{
+    if is_at_end(alloc, vers, chain, claim)? {
+        return Ok(Some(chain.len()));
+    }
+    if is_in_front(alloc, vers, chain, 0, claim)? {
+        return Ok(Some(0));
+    }
+    place_inside(alloc, vers, chain, claim)
+}

@@ -1,0 +1,194 @@
+//! The tests that look at the elements which a candidate changes.
+ghost use Rattle.std.specs.Prelude.{◌≡◌, ◌==◌, ◌↔◌, ◌&&◌, Any, find, option_copied, IsTrue, IfOk, OnOk};
+ghost use Rattle.std.specs.List.{list_any};
+ghost use Rattle.std.specs.Str.{bytes_eq};
+ghost use Rattle.terms.specs.Types.{type_number};
+ghost use Rattle.terms.specs.Over.{IsOver};
+ghost use Rattle.terms.specs.Changes.{is_replacement, has_replacement};
+ghost use Rattle.sysmods.specs.Choices.{choice};
+ghost use Rattle.judge_faults.specs.Overs.{AreOver};
+ghost use Rattle.judge_faults.specs.Views.{seen};
+ghost use Rattle.judge_faults.specs.Own.{is_foreign_at, IsLower, IsLowerAt, has_base, is_bare_at};
+
+use crate::memo::over;
+use crate::own::changes_of;
+use crate::view::View;
+use fields::{Id, IdList, Name};
+use indexmap::IndexSet;
+use std::alloc::{AllocError, Global};
+use sysmods::{GlobalZone, VerChoice};
+use sysmods_records::{Action, ElemChange};
+use terms::ElemType;
+use zones::Element;
+
+// Whether the view has the element of the statement under another owner.
+fn is_foreign_at(view: &View<'_, '_>, owner: Id, change: &ElemChange) -> bool
+    ensures { result ≡ is_foreign_at (seen view.now) owner change.now }
+{
+    match view.element(change.elem_type, change.name) {
+        Some(element) => element.fmid != owner,
+        None => false,
+    }
+}
+
+/// Whether the view has an element of these statements under another owner.
+pub(crate) fn is_foreign(view: &View<'_, '_>, owner: Id, changes: &[ElemChange]) -> bool
+    ensures { result ≡ list_any (is_foreign_at (seen view.now) owner) changes.now }
+{
+    changes
+        .iter()
+        .any(|change| is_foreign_at(view, owner, change))
+}
+
+// Whether it is not over one of these.
+fn is_not_over_one(
+    alloc: Global,
+    vers: &VerChoice<'_>,
+    memo: &mut IndexSet<(Id, Id)>,
+    id: Id,
+    others: &[Id],
+) -> Result<bool, AllocError>
+    requires { AreOver (choice vers.now) memo.old.keys }
+    ensures lower { IfOk result (λ lower. IsTrue lower ↔ Any (λ z. ¬ IsOver (choice vers.now) id z) others.now) }
+    ensures memo { OnOk result (AreOver (choice vers.now) memo.new.keys) }
+{
+    for other in others {
+        if !over(alloc, vers, memo, id, *other)? {
+            return Ok(true);
+        }
+    }
+    Ok(false)
+}
+
+// Whether it is not over the RMID or a UMID of the element.
+fn is_lower(
+    alloc: Global,
+    vers: &VerChoice<'_>,
+    memo: &mut IndexSet<(Id, Id)>,
+    id: Id,
+    element: &Element,
+) -> Result<bool, AllocError>
+    requires { AreOver (choice vers.now) memo.old.keys }
+    ensures lower { IfOk result (λ lower. IsTrue lower ↔ IsLower (choice vers.now) id element.now) }
+    ensures memo { OnOk result (AreOver (choice vers.now) memo.new.keys) }
+{
+    if !over(alloc, vers, memo, id, element.rmid)? {
+        return Ok(true);
+    }
+    is_not_over_one(alloc, vers, memo, id, element.umids.as_slice())
+}
+
+fn is_lower_at(
+    alloc: Global,
+    view: &View<'_, '_>,
+    memo: &mut IndexSet<(Id, Id)>,
+    id: Id,
+    change: &ElemChange,
+) -> Result<bool, AllocError>
+    requires { AreOver (choice view.now.vers.now) memo.old.keys }
+    ensures lower { IfOk result (λ lower. IsTrue lower
+        ↔ IsLowerAt (choice view.now.vers.now) (seen view.now) id change.now) }
+    ensures memo { OnOk result (AreOver (choice view.now.vers.now) memo.new.keys) }
+{
+    match view.element(change.elem_type, change.name) {
+        Some(element) => is_lower(alloc, view.vers, memo, id, element),
+        None => Ok(false),
+    }
+}
+
+/// Whether an element of these statements was made by a SYSMOD which it is not over.
+pub(crate) fn is_lower_somewhere(
+    alloc: Global,
+    view: &View<'_, '_>,
+    memo: &mut IndexSet<(Id, Id)>,
+    id: Id,
+    changes: &[ElemChange],
+) -> Result<bool, AllocError>
+    requires { AreOver (choice view.now.vers.now) memo.old.keys }
+    ensures lower { IfOk result (λ lower. IsTrue lower
+        ↔ Any (IsLowerAt (choice view.now.vers.now) (seen view.now) id) changes.now) }
+    ensures memo { OnOk result (AreOver (choice view.now.vers.now) memo.new.keys) }
+{
+    for change in changes {
+        if is_lower_at(alloc, view, memo, id, change)? {
+            return Ok(true);
+        }
+    }
+    Ok(false)
+}
+
+fn is_about(change: &ElemChange, elem_type: ElemType, name: Name) -> bool
+    ensures { result ≡ ((type_number change.now.elem_type == type_number elem_type) && bytes_eq change.now.name name) }
+{
+    change.elem_type == elem_type && change.name == name
+}
+
+fn is_replacement(change: &ElemChange) -> bool
+    ensures { result ≡ is_replacement change.now.action }
+{
+    match change.action {
+        Action::Replaces { .. } => true,
+        Action::Updates { .. } => false,
+    }
+}
+
+// The first statement about the element.
+fn change_at(changes: &[ElemChange], elem_type: ElemType, name: Name) -> Option<&ElemChange>
+    ensures { option_copied result
+        ≡ find (λ h. (type_number h.elem_type == type_number elem_type) && bytes_eq h.name name) changes.now }
+{
+    changes
+        .iter()
+        .find(|change| is_about(change, elem_type, name))
+}
+
+fn has_replacement(global: &GlobalZone, id: Id, elem_type: ElemType, name: Name) -> bool
+    ensures { result ≡ has_replacement global.now id elem_type name }
+{
+    match change_at(changes_of(global, id), elem_type, name) {
+        Some(change) => is_replacement(change),
+        None => false,
+    }
+}
+
+// Whether this function is a candidate that replaces the element.
+fn has_base(global: &GlobalZone, ids: &IdList, fmid: Option<Id>, change: &ElemChange) -> bool
+    ensures { result ≡ has_base global.now ids.now fmid change.now }
+{
+    match fmid {
+        Some(fmid) => {
+            ids.contains(fmid) && has_replacement(global, fmid, change.elem_type, change.name)
+        }
+        None => false,
+    }
+}
+
+// Whether it updates what the view lacks, and no base comes with it.
+fn is_bare_at(
+    global: &GlobalZone,
+    view: &View<'_, '_>,
+    ids: &IdList,
+    fmid: Option<Id>,
+    change: &ElemChange,
+) -> bool
+    ensures { result ≡ is_bare_at global.now (seen view.now) ids.now fmid change.now }
+{
+    !is_replacement(change)
+        && view.element(change.elem_type, change.name).is_none()
+        && !has_base(global, ids, fmid, change)
+}
+
+/// Whether one of these statements updates what the view lacks, and no base of that comes with its function.
+pub(crate) fn has_bare_update(
+    global: &GlobalZone,
+    view: &View<'_, '_>,
+    ids: &IdList,
+    fmid: Option<Id>,
+    changes: &[ElemChange],
+) -> bool
+    ensures { result ≡ list_any (is_bare_at global.now (seen view.now) ids.now fmid) changes.now }
+{
+    changes
+        .iter()
+        .any(|change| is_bare_at(global, view, ids, fmid, change))
+}

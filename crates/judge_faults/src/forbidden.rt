@@ -1,0 +1,117 @@
+//! NPRE: what a candidate forbids, and the applied functions that forbid it.
+ghost use Rattle.std.specs.Prelude.{◌≡◌, ◌↔◌, [], ◌∷◌, Contains, IsTrue, OnOk, IfOk};
+ghost use Rattle.std.specs.List.{list_any};
+ghost use Rattle.terms.specs.Lookups.{is_applied};
+ghost use Rattle.terms.specs.Choice.{npre_of};
+ghost use Rattle.sysmods.specs.Choices.{choice};
+ghost use Rattle.judge_faults.specs.Forbidders.{forbidders_of, Gains, ForbidsBy, AreForbidders, IsForbidden};
+ghost use Rattle.judge_faults.specs.Views.{seen};
+
+use crate::view::View;
+use fields::Id;
+use std::alloc::{AllocError, Global};
+use std::collections::BTreeMap;
+use sysmods::VerChoice;
+use zones::{Entry, Zone};
+
+/// For each id the applied functions that name it in NPRE.
+pub(crate) type Forbidders = BTreeMap<Id, Vec<Id>>;
+
+/// What it names in NPRE.
+pub(crate) fn npre<'a>(vers: &VerChoice<'a>, id: Id) -> &'a [Id]
+    ensures { result.now ≡ npre_of (choice vers.now) id }
+{
+    match vers.ver(id) {
+        Some(ver) => ver.npre.as_slice(),
+        None => &[],
+    }
+}
+
+fn only(alloc: Global, id: Id) -> Result<Vec<Id>, AllocError>
+    ensures { IfOk result (λ ids. ids.items ≡ id ∷ []) }
+{
+    let mut ids = Vec::new(alloc);
+    ids.push(id)?;
+    Ok(ids)
+}
+
+fn add(alloc: Global, forbidders: &mut Forbidders, named: Id, by: Id) -> Result<(), AllocError>
+    ensures { OnOk result (Gains forbidders.old forbidders.new (λ z y. (z ≡ named) × (y ≡ by))) }
+{
+    if let Some(ids) = forbidders.get_mut(&named) {
+        ids.push(by)?;
+        return Ok(());
+    }
+    forbidders.insert(named, only(alloc, by)?)?;
+    Ok(())
+}
+
+fn add_each(
+    alloc: Global,
+    forbidders: &mut Forbidders,
+    named: &[Id],
+    by: Id,
+) -> Result<(), AllocError>
+    ensures { OnOk result (Gains forbidders.old forbidders.new (λ z y. Contains named.now z × (y ≡ by))) }
+{
+    for id in named {
+        add(alloc, forbidders, *id, by)?;
+    }
+    Ok(())
+}
+
+// Adds what the SYSMOD of the entry names, if it is an applied function.
+fn add_function(
+    alloc: Global,
+    vers: &VerChoice<'_>,
+    entry: &Entry,
+    forbidders: &mut Forbidders,
+) -> Result<(), AllocError>
+    ensures { OnOk result (Gains forbidders.old forbidders.new
+        (ForbidsBy vers.now.global.now (choice vers.now) entry.now)) }
+{
+    if entry.applied.is_some() && vers.global().is_function(entry.id) {
+        add_each(alloc, forbidders, npre(vers, entry.id), entry.id)?;
+    }
+    Ok(())
+}
+
+/// Who forbids whom, of the applied functions.
+pub(crate) fn forbidders(
+    alloc: Global,
+    vers: &VerChoice<'_>,
+    zone: &Zone,
+) -> Result<Forbidders, AllocError>
+    ensures { IfOk result (AreForbidders vers.now.global.now (choice vers.now) zone.now.entries) }
+{
+    let mut forbidders = BTreeMap::new(alloc);
+    for entry in zone.entries() {
+        add_function(alloc, vers, entry, &mut forbidders)?;
+    }
+    Ok(forbidders)
+}
+
+fn any_applied(view: &View<'_, '_>, ids: &[Id]) -> bool
+    ensures { result ≡ list_any (is_applied (seen view.now)) ids.now }
+{
+    ids.iter().any(|id| view.is_applied(*id))
+}
+
+fn any_forbidder(view: &View<'_, '_>, forbidders: &Forbidders, id: Id) -> bool
+    ensures { result ≡ list_any (is_applied (seen view.now)) (forbidders_of forbidders.now id) }
+{
+    match forbidders.get(&id) {
+        Some(ids) => any_applied(view, ids.as_slice()),
+        None => false,
+    }
+}
+
+/// Whether the candidate forbids what is applied in its view, or a function that is applied there forbids it.
+pub(crate) fn is_forbidden(view: &View<'_, '_>, forbidders: &Forbidders, id: Id) -> bool
+    requires { AreForbidders view.now.vers.now.global.now (choice view.now.vers.now) view.now.zone.now.entries
+        forbidders.now }
+    ensures { IsTrue result ↔ IsForbidden view.now.vers.now.global.now (choice view.now.vers.now) (seen view.now) id }
+{
+    view.zone.attest();
+    any_applied(view, npre(view.vers, id)) || any_forbidder(view, forbidders, id)
+}

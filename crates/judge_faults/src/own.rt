@@ -1,0 +1,184 @@
+//! The tests that look at one candidate alone.
+ghost use Rattle.std.specs.Prelude.{◌≡◌, ◌==◌, ◌<◌, ◌&&◌, ◌↔◌, Some, Any, not, IsTrue, IsFalse, IfOk, OnOk};
+ghost use Rattle.std.specs.Prelude.{length, slice_get, option_copied, false};
+ghost use Rattle.std.specs.List.{list_any};
+ghost use Rattle.std.specs.Option.{option_map_or};
+ghost use Rattle.terms.specs.Types.{zone_number};
+ghost use Rattle.terms.specs.Lookups.{changes_of, holds_of, is_applied};
+ghost use Rattle.terms.specs.Tests.{is_bypassed_hold};
+ghost use Rattle.sysmods.specs.Choices.{choice};
+ghost use Rattle.judge_faults.specs.Forbidders.{AreForbidders};
+ghost use Rattle.zones_views.specs.Scopes.{global_of, choice_of, setting_with};
+ghost use Rattle.judge_faults.specs.Overs.{AreOver};
+ghost use Rattle.judge_faults.specs.Own.{IsLowerAt, HasFaults, passes_alone, passes};
+ghost use Rattle.lemmas.specs.Beside.{Beside};
+ghost use Rattle.judge_faults.specs.Views.{seen};
+
+use crate::elements::{has_bare_update, is_foreign, is_lower_somewhere};
+use crate::forbidden::{Forbidders, forbidders, is_forbidden};
+use crate::view::View;
+use cntl::Bypass;
+use fields::{Id, IdList};
+use indexmap::IndexSet;
+use std::alloc::{AllocError, Global};
+use sysmods::GlobalZone;
+use sysmods_records::ElemChange;
+use terms::{HoldKind, ZoneKind};
+use zones::Zone;
+use zones_views::{Scope, is_bypassed_hold, view_deletions};
+
+/// What a candidate fails by itself: a SYSTEM hold (J1) or a USER hold (J2) stands against it, an NPRE forbids it (J3),
+/// it changes an element that another owns (J4) or that a SYSMOD made which it is not over (J5), it updates an element
+/// that is not there (J6), it is accepted where it is not applied (J7), or it has none of these and is deleted (J8).
+#[derive(Clone, Copy)]
+pub(crate) struct OwnFaults {
+    pub(crate) system_held: bool,
+    pub(crate) user_held: bool,
+    pub(crate) forbidden: bool,
+    pub(crate) foreign: bool,
+    pub(crate) lower: bool,
+    pub(crate) bare: bool,
+    pub(crate) unapplied: bool,
+    pub(crate) deleted: bool,
+}
+
+impl OwnFaults {
+    /// Whether it passes J1 to J7.
+    pub(crate) fn passes_alone(self) -> bool
+        ensures { result ≡ passes_alone self }
+    {
+        !self.system_held
+            && !self.user_held
+            && !self.forbidden
+            && !self.foreign
+            && !self.lower
+            && !self.bare
+            && !self.unapplied
+    }
+
+    /// Whether it has none of the faults.
+    pub(crate) fn passes(self) -> bool
+        ensures { result ≡ passes self }
+    {
+        self.passes_alone() && !self.deleted
+    }
+}
+
+/// The element statements of a received SYSMOD.
+pub(crate) fn changes_of(global: &GlobalZone, id: Id) -> &[ElemChange]
+    ensures { result.now ≡ changes_of global.now id }
+{
+    match global.get(id) {
+        Some(sysmod) => sysmod.changes.as_slice(),
+        None => &[],
+    }
+}
+
+// Whether a hold of this kind stands against it.
+fn has_standing_hold(global: &GlobalZone, bypass: &Bypass, kind: HoldKind, id: Id) -> bool
+    ensures { result ≡ list_any (λ h. not (is_bypassed_hold bypass.now h)) (holds_of global.now kind id) }
+{
+    global
+        .holds_of(kind, id)
+        .any(|hold| !is_bypassed_hold(bypass, hold))
+}
+
+// Whether an element that it changes was made by a SYSMOD which it is not over. BYPASS(ID) does not ask.
+fn is_lower(
+    alloc: Global,
+    view: &View<'_, '_>,
+    memo: &mut IndexSet<(Id, Id)>,
+    bypass: &Bypass,
+    id: Id,
+    changes: &[ElemChange],
+) -> Result<bool, AllocError>
+    requires { AreOver (choice view.now.vers.now) memo.old.keys }
+    ensures lower { IfOk result (λ lower. IsTrue lower ↔ (IsFalse bypass.now.same_id
+        × Any (IsLowerAt (choice view.now.vers.now) (seen view.now) id) changes.now)) }
+    ensures memo { OnOk result (AreOver (choice view.now.vers.now) memo.new.keys) }
+{
+    if bypass.same_id {
+        return Ok(false);
+    }
+    is_lower_somewhere(alloc, view, memo, id, changes)
+}
+
+fn has_applied(related: Option<&Zone>, id: Id) -> bool
+    ensures { result ≡ option_map_or (λ target. is_applied target id) (option_copied related.entry) false }
+{
+    match related {
+        Some(target) => target.is_applied(id),
+        None => false,
+    }
+}
+
+// Whether it is accepted and no related target zone has it applied. BYPASS(APPLYCHECK) does not ask.
+fn is_unapplied(zone: &Zone, related: Option<&Zone>, bypass: &Bypass, id: Id) -> bool
+    ensures { result ≡ ((zone_number zone.now.kind == 1) && not bypass.now.applycheck && not
+        (option_map_or (λ target. is_applied target id) (option_copied related.entry) false)) }
+{
+    zone.kind() == ZoneKind::Distribution && !bypass.applycheck && !has_applied(related, id)
+}
+
+// What the candidate fails of J1 to J7, in its view and with what it is known to be over.
+fn own_faults(
+    alloc: Global,
+    scope: &Scope<'_, '_>,
+    related: Option<&Zone>,
+    forbidders: &Forbidders,
+    memo: &mut IndexSet<(Id, Id)>,
+    id: Id,
+) -> Result<OwnFaults, AllocError>
+    requires memo { AreOver (choice_of scope.now) memo.old.keys }
+    requires forbidders { AreForbidders (global_of scope.now) (choice_of scope.now)
+        scope.now.zone.now.entries forbidders.now }
+    ensures faults { IfOk result (HasFaults (setting_with scope.now (option_copied related.entry)) id) }
+    ensures memo { OnOk result (AreOver (choice_of scope.now) memo.new.keys) }
+{
+    let vers = scope.vers;
+    let dels = view_deletions(alloc, vers, scope.ids, id)?;
+    let view = View {
+        vers,
+        dels: dels.as_slice(),
+        zone: scope.zone,
+    };
+    let global = scope.global();
+    let changes = changes_of(global, id);
+    let lower = is_lower(alloc, &view, memo, scope.bypass, id, changes)?;
+    Ok(OwnFaults {
+        system_held: has_standing_hold(global, scope.bypass, HoldKind::System, id),
+        user_held: has_standing_hold(global, scope.bypass, HoldKind::User, id),
+        forbidden: is_forbidden(&view, forbidders, id),
+        foreign: is_foreign(&view, vers.owner(id), changes),
+        lower,
+        bare: has_bare_update(global, &view, scope.ids, vers.fmid(id), changes),
+        unapplied: is_unapplied(scope.zone, related, scope.bypass, id),
+        deleted: false,
+    })
+}
+
+/// What each candidate fails of J1 to J7.
+pub(crate) fn all_faults(
+    alloc: Global,
+    scope: &Scope<'_, '_>,
+    related: Option<&Zone>,
+) -> Result<Vec<OwnFaults>, AllocError>
+    ensures { IfOk result (λ faults. Beside (λ n x own. HasFaults (setting_with scope.now (option_copied
+        related.entry)) x own) scope.now.ids.now faults.items) }
+{
+    let forbidders = forbidders(alloc, scope.vers, scope.zone)?;
+    let mut memo = IndexSet::new(alloc);
+    let mut faults = Vec::new(alloc);
+    for id in scope.ids.as_slice() {
+        faults.push(own_faults(alloc, scope, related, &forbidders, &mut memo, *id)?)?;
+    }
+    Ok(faults)
+}
+
+/// What the candidate at the place fails by itself.
+pub(crate) fn own_at(faults: &[OwnFaults], place: usize) -> OwnFaults
+    requires { place < length faults.now }
+    ensures { slice_get faults.now place ≡ Some result }
+{
+    faults[place]
+}

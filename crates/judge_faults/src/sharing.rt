@@ -1,0 +1,165 @@
+//! Which candidates change an element that they may not share with another candidate.
+ghost use Rattle.std.specs.Prelude.{◌≡◌, ◌↔◌, ◌<◌, ◌^◌, ◌⊎◌, [], ◌∷◌, ◌++◌, ℕ, List, length, IsTrue};
+ghost use Rattle.std.specs.Prelude.{Contains, OnOk, IfOk};
+ghost use Rattle.sysmods.specs.Choices.{choice};
+ghost use Rattle.judge_faults.specs.Claims.{AreGrouped};
+ghost use Rattle.judge_faults.specs.Sharing.{Marks, IsOfPair, IsAgainst, IsAmong, Clashes, ClashesOnOne, AreMarked};
+ghost use Rattle.judge_faults.specs.Sharing.{IsRun, IsClashing};
+
+use crate::chains::{may_not_share, place_in};
+use crate::claims::{Claim, claims_of};
+use crate::own::OwnFaults;
+use fields::Id;
+use indexmap::IndexSet;
+use std::alloc::{AllocError, Global};
+use sysmods::VerChoice;
+
+// Whether no test is needed for the two: they are of one candidate, or both are marked.
+fn is_settled(one: &Claim, other: &Claim, shared: &IndexSet<u32>) -> bool
+    ensures settled { IsTrue result → (one.now.id ≡ other.now.id) ⊎ (Contains shared.now.keys one.now.place
+        × Contains shared.now.keys other.now.place) }
+    ensures own { one.now.id ≡ other.now.id → IsTrue result }
+{
+    one.id == other.id || shared.contains(&one.place) && shared.contains(&other.place)
+}
+
+// Marks two claims on one element if they clash.
+fn mark_pair(
+    alloc: Global,
+    vers: &VerChoice<'_>,
+    one: &Claim,
+    other: &Claim,
+    shared: &mut IndexSet<u32>,
+) -> Result<(), AllocError>
+    ensures { OnOk result (Marks (IsOfPair vers.now.global.now (choice vers.now) one.now other.now) shared.old.keys
+        shared.new.keys) }
+{
+    if is_settled(one, other, shared) {
+        return Ok(());
+    }
+    if may_not_share(alloc, vers, one.id, other.id)? {
+        shared.insert(one.place)?;
+        shared.insert(other.place)?;
+    }
+    Ok(())
+}
+
+// Marks a claim and those of the others that it clashes with.
+fn mark_against(
+    alloc: Global,
+    vers: &VerChoice<'_>,
+    claim: &Claim,
+    others: &[Claim],
+    shared: &mut IndexSet<u32>,
+) -> Result<(), AllocError>
+    ensures { OnOk result (Marks (IsAgainst vers.now.global.now (choice vers.now) claim.now others.now) shared.old.keys
+        shared.new.keys) }
+{
+    for other in others {
+        mark_pair(alloc, vers, claim, other, shared)?;
+    }
+    Ok(())
+}
+
+/// The claims on one element so far. Those of the chain may share it with each other, as each is over those before
+/// it: a claim that is over the last of them is over all. The others are compared one by one.
+#[derive(Drop)]
+struct Claimants {
+    chain: Vec<Claim>,
+    others: Vec<Claim>,
+}
+
+// Takes one more claim in.
+fn take_in(
+    alloc: Global,
+    vers: &VerChoice<'_>,
+    claim: &Claim,
+    claimants: &mut Claimants,
+    shared: &mut IndexSet<u32>,
+) -> Result<(), AllocError>
+    ensures { OnOk result ((claims : List Claim) (before : List ℕ)
+        → AreMarked vers.now.global.now (choice vers.now) claims claimants.old.chain.items claimants.old.others.items
+        before shared.old.keys
+        → AreMarked vers.now.global.now (choice vers.now) (claims ++ claim.now ∷ []) claimants.new.chain.items
+        claimants.new.others.items before shared.new.keys) }
+{
+    let Some(place) = place_in(alloc, vers, claimants.chain.as_slice(), claim)? else {
+        mark_against(alloc, vers, claim, claimants.chain.as_slice(), shared)?;
+        mark_against(alloc, vers, claim, claimants.others.as_slice(), shared)?;
+        claimants.others.push(*claim)?;
+        return Ok(());
+    };
+    mark_against(alloc, vers, claim, claimants.others.as_slice(), shared)?;
+    claimants.chain.insert(place, *claim)?;
+    Ok(())
+}
+
+// Marks the claims on one element that clash.
+fn mark_run(
+    alloc: Global,
+    vers: &VerChoice<'_>,
+    claims: &[Claim],
+    shared: &mut IndexSet<u32>,
+) -> Result<(), AllocError>
+    ensures { OnOk result (Marks (IsAmong (Clashes vers.now.global.now (choice vers.now)) claims.now) shared.old.keys
+        shared.new.keys) }
+{
+    let mut claimants = Claimants {
+        chain: Vec::new(alloc),
+        others: Vec::new(alloc),
+    };
+    for claim in claims {
+        take_in(alloc, vers, claim, &mut claimants, shared)?;
+    }
+    Ok(())
+}
+
+// The end of the claims on one element that begin at the place.
+fn run_end(claims: &[Claim], start: usize) -> usize
+    requires { start < length claims.now }
+    ensures { IsRun claims.now start result }
+{
+    let first = &claims[start];
+    let mut end = start + 1;
+    while end < claims.len() && claims[end].is_beside(first) {
+        end += 1;
+    }
+    end
+}
+
+// Marks the claims that clash.
+fn shared_among(
+    alloc: Global,
+    vers: &VerChoice<'_>,
+    claims: &[Claim],
+) -> Result<IndexSet<u32>, AllocError>
+    requires { AreGrouped claims.now }
+    ensures { IfOk result (λ shared. (n : ℕ) → Contains shared.keys n
+        ↔ IsAmong (ClashesOnOne vers.now.global.now (choice vers.now)) claims.now n) }
+{
+    let mut shared = IndexSet::new(alloc);
+    let mut start = 0;
+    while start < claims.len() {
+        let end = run_end(claims, start);
+        mark_run(alloc, vers, &claims[start..end], &mut shared)?;
+        start = end;
+    }
+    Ok(shared)
+}
+
+/// The places of the candidates that pass by themselves and change an element that they may not share with another
+/// such one.
+pub(crate) fn shared_places(
+    alloc: Global,
+    vers: &VerChoice<'_>,
+    ids: &[Id],
+    faults: &[OwnFaults],
+) -> Result<IndexSet<u32>, AllocError>
+    requires lengths { length faults.now ≡ length ids.now }
+    requires fits { length ids.now < 2 ^ 32 }
+    ensures { IfOk result (λ shared. (n : ℕ) → Contains shared.keys n
+        ↔ IsClashing vers.now.global.now (choice vers.now) ids.now faults.now n) }
+{
+    let claims = claims_of(alloc, vers.global(), ids, faults)?;
+    shared_among(alloc, vers, claims.as_slice())
+}

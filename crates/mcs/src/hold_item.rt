@@ -1,0 +1,76 @@
+//! One statement of a hold file.
+ghost use Rattle.std.specs.Prelude.{◌≡◌, List, All, IfOk, IfErr};
+ghost use Rattle.terms.specs.declared.statement_words.StatementWord.TheVariants as word;
+ghost use Rattle.terms.specs.Records.{IsRecord};
+ghost use Rattle.terms.specs.Statement.{Piece, HasSolid};
+ghost use Rattle.terms.specs.HoldFile.{IsGoodItem};
+ghost use Rattle.rec80.specs.Views.{left_of};
+ghost use Rattle.mcs_statements.specs.KnownWords.{own_list};
+ghost use Rattle.mcs_statements.specs.Holds.{ArePrintable};
+ghost use Rattle.mcs.specs.HoldItems.{item_of, IsSaid, IsSaidError, IsItemError};
+
+use mcs_statements::{
+    Known, Release, StatementError, begun, has_short_comment, no_value, read_hold, read_release,
+};
+use rec80::Group;
+use std::alloc::Global;
+use sysmods_records::Hold;
+use terms::{McCode, StatementWord};
+
+/// An item of a hold file.
+#[derive(Drop)]
+pub enum HoldItem {
+    Hold(Hold),
+    Release(Release),
+}
+
+/// What a `++HOLD` says. Its hold is external.
+fn hold_item(alloc: Global, known: &Known<'_>) -> Result<HoldItem, StatementError>
+    requires { known.now.word ≡ word.Hold }
+    ensures said { (rest : List Piece) → HasSolid (left_of known.now.rest) rest
+        → IfOk result (λ item. IsSaid known.now.word (own_list known.now) rest (item_of item)) }
+    ensures fault { (rest : List Piece) → HasSolid (left_of known.now.rest) rest → ArePrintable rest
+        → IfErr result (IsSaidError known.now.word (own_list known.now) rest) }
+{
+    let hold = match read_hold(alloc, known, false) {
+        Ok(hold) => hold,
+        Err(error) => return Err(no_value(error)),
+    };
+    if !has_short_comment(&hold) {
+        return Err(StatementError::Fault(McCode::Mc6));
+    }
+    Ok(HoldItem::Hold(hold))
+}
+
+/// What a `++RELEASE` says.
+fn release_item(known: &Known<'_>) -> Result<HoldItem, StatementError>
+    requires { known.now.word ≡ word.Release }
+    ensures said { (rest : List Piece) → HasSolid (left_of known.now.rest) rest
+        → IfOk result (λ item. IsSaid known.now.word (own_list known.now) rest (item_of item)) }
+    ensures fault { (rest : List Piece) → HasSolid (left_of known.now.rest) rest
+        → IfErr result (IsSaidError known.now.word (own_list known.now) rest) }
+{
+    match read_release(known) {
+        Ok(release) => Ok(HoldItem::Release(release)),
+        Err(_) => Err(StatementError::Fault(McCode::Mc3)),
+    }
+}
+
+/// What a statement of a hold file says, or its first fault.
+pub(crate) fn read_item(alloc: Global, group: &Group<'_>) -> Result<HoldItem, StatementError>
+    ensures good { IfOk result (λ item. IsGoodItem group.now.records.now (item_of item)) }
+    ensures fault { All IsRecord group.now.records.now → IfErr result (IsItemError group.now.records.now) }
+{
+    let known = match begun(group) {
+        Ok(known) => known,
+        Err(code) => return Err(StatementError::Fault(code)),
+    };
+    if !known.rest.inline.is_empty() {
+        return Err(StatementError::Fault(McCode::Mc4));
+    }
+    match known.word {
+        StatementWord::Hold => hold_item(alloc, &known),
+        StatementWord::Release => release_item(&known),
+        _ => Err(StatementError::Fault(McCode::Mc4)),
+    }
+}

@@ -1,0 +1,362 @@
+//! Operands and command files.
+
+use crate::cards::{Spelled, file, record};
+use cntl::{Bypass, CntlError, Command, Install, Reasons, ReceiveWhat, RestoreList, read_cntl};
+use fields::spelling::cn_text;
+use operands::{flag, ids, one_member, operand, sources};
+use rec80::{Record, Records, Word};
+use std::alloc::{AllocError, Global};
+use std::test::Fail;
+
+/// The operand of this name in the first command.
+fn operand_in<'a>(cards: &'a [Record], name: &[u8]) -> Option<Word<'a>> {
+    let mut commands = Records { all: cards }.commands();
+    let Ok(Some(command)) = commands.next_command() else {
+        return None;
+    };
+    operand(&command.words, name)
+}
+
+/// The ids of the operand.
+fn ids_in(alloc: Global, cards: &[Record], name: &[u8]) -> Spelled {
+    let mut spelled = Spelled::new();
+    let Some(word) = operand_in(cards, name) else {
+        return spelled;
+    };
+    match ids(alloc, &word) {
+        Ok(list) => spelled.put_ids(name, &list),
+        Err(_) => spelled.put(b"bad"),
+    }
+    spelled
+}
+
+fn sources_in(alloc: Global, cards: &[Record], name: &[u8]) -> Spelled {
+    let mut spelled = Spelled::new();
+    let Some(word) = operand_in(cards, name) else {
+        return spelled;
+    };
+    if let Ok(list) = sources(alloc, &word) {
+        for source in list.iter() {
+            spelled.put(source.as_bytes());
+        }
+    }
+    spelled
+}
+
+/// What the operand is without a list, and the only member of its list.
+fn flag_in(cards: &[Record], name: &[u8]) -> Spelled {
+    let mut spelled = Spelled::new();
+    let found = operand_in(cards, name);
+    spelled.put(match flag(&found) {
+        Ok(true) => b"there",
+        Ok(false) => b"none",
+        Err(_) => b"list ",
+    });
+    if let Some(word) = found
+        && let Some(member) = one_member(&word)
+    {
+        spelled.put(member);
+    }
+    spelled
+}
+
+#[test]
+fn operands(rt: HostRuntime) {
+    let cards = [
+        record("APPLY SELECT(UA00002, UA00001) SOURCEID( B A ) CHECK"),
+        record(" GROUP(UA00001,UA00002,UA00001) BDY(T)."),
+    ];
+    let alloc = rt.alloc();
+    assert_eq!(rt;
+        ids_in(alloc, &cards, b"SELECT").text(),
+        "SELECT(UA00001 UA00002 )"
+    );
+    assert_eq!(rt; ids_in(alloc, &cards, b"GROUP").text(), "bad");
+    assert_eq!(rt; sources_in(alloc, &cards, b"SOURCEID").text(), "AB");
+    assert_eq!(rt; flag_in(&cards, b"CHECK").text(), "there");
+    assert_eq!(rt; flag_in(&cards, b"TEXT").text(), "none");
+    assert_eq!(rt; flag_in(&cards, b"GROUP").text(), "list ");
+    assert_eq!(rt; flag_in(&cards, b"BDY").text(), "list T");
+}
+
+/// Two cards, and their commands, or the record and the code of the first fault.
+const FILES: &[[&str; 3]] = &[
+    ["", "", ""],
+    ["SET BDY(GLOBAL).", "", "SET GLOBAL all;"],
+    ["SET BDY(TGT1).", "APPLY CHECK.", "SET TGT1;APPLY CHECK;"],
+    [
+        "APPLY SELECT(UA00002,",
+        "UA00001) PTFS GROUPEXTEND.",
+        "APPLY PTFS EXTEND SELECT(UA00001 UA00002 );",
+    ],
+    [
+        "REJECT SELECT(UA00003 UA00001).",
+        "",
+        "REJECT SELECT(UA00001 UA00003 );",
+    ],
+    ["RECEIVE.", "", "RECEIVE SYSMODS HOLDDATA;"],
+    [
+        "RECEIVE SOURCEID(PUT2401).",
+        "",
+        "RECEIVE SYSMODS HOLDDATA PUT2401;",
+    ],
+    ["RECEIVE SOURCEID(A).", "", "RECEIVE SYSMODS HOLDDATA A;"],
+    [
+        "RECEIVE SOURCEID(PUT2401$).",
+        "",
+        "RECEIVE SYSMODS HOLDDATA PUT2401$;",
+    ],
+    [
+        "RECEIVE SOURCEID(",
+        "PUT2401$RSU2404#PUT2401$RSU2404#PUT2401$RSU2404#PUT2401$RSU2404#).",
+        "RECEIVE SYSMODS HOLDDATA PUT2401$RSU2404#PUT2401$RSU2404#PUT2401$RSU2404#PUT2401$RSU2404#;",
+    ],
+    [
+        "RECEIVE SOURCEID(",
+        "PUT2401$RSU2404#PUT2401$RSU2404#PUT2401$RSU2404#PUT2401$RSU2404#A).",
+        "1 Cn2",
+    ],
+    ["RECEIVE HOLDDATA SYSMODS.", "", "RECEIVE SYSMODS HOLDDATA;"],
+    ["RECEIVE SYSMODS.", "", "RECEIVE SYSMODS;"],
+    ["RECEIVE HOLDDATA.", "", "RECEIVE HOLDDATA;"],
+    [" , RECEIVE /* , */ ,(A).", "", "1 Cn2"],
+    ["RECEIVE SYSMODS SYSMODS.", "", "1 Cn3"],
+    ["RECEIVE SYSMODS(A).", "", "1 Cn2"],
+    ["RECEIVE SOURCEID(A B).", "", "1 Cn2"],
+    ["RECEIVE SELECT(UA00001).", "", "1 Cn2"],
+    ["REJECT SELECT(UA00001).", "REJECT.", "2 Cn2"],
+    ["REJECT SELECT.", "", "1 Cn2"],
+    ["REJECT GROUP(UA00001).", "", "1 Cn2"],
+    ["REJECT SELECT(UA00001) CHECK.", "", "1 Cn2"],
+    ["REJECT SELECT(UA00001) SELECT(UA00002).", "", "1 Cn3"],
+    ["SET BDY(TGT1).", "APPLY!.", "2 Cn2"],
+    ["SET BDY(1).", "", "1 Cn2"],
+    ["SET BDY(A) BDY.", "", "1 Cn3"],
+    ["APPLY CHECK - CHECK.", "", "1 Cn3"],
+    ["APPLY NEW NEW.", "", "1 Cn2"],
+    ["APPLY SELECT(UA00001 UA00001).", "", "1 Cn2"],
+    ["APPLY SELECT(UA0001).", "", "1 Cn2"],
+    ["APPLY SELECT.", "", "1 Cn2"],
+    ["APPLY CHECK(A).", "", "1 Cn2"],
+    ["APPLY(A) CHECK.", "", "1 Cn2"],
+    ["/* between", "*/ APPLY NO.", "2 Cn2"],
+    ["UNDO NO.", "LIST", "1 Cn1"],
+    [".", "", "1 Cn1"],
+    ["(APPLY).", "", "1 Cn1"],
+    ["APPLY. APPLY.", "", "1 Cn5"],
+    ["APPLY.", "/* open", "2 Cn5"],
+    ["APPLY.", "APPLY NO", "2 Cn5"],
+    [
+        "APPLY BYPASS(PRE,REQ IFREQ , ID",
+        "HOLDUSER,HOLDSYSTEM) CHECK.",
+        "APPLY CHECK PRE REQ IFREQ ID HOLDSYSTEM HOLDUSER;",
+    ],
+    [
+        "APPLY BYPASS(HOLDERROR (AA00002,AA00001)",
+        " HOLDSYSTEM(DOC A),HOLDUSER(PRE REQ),PRE HOLDCLASS(C B)).",
+        "APPLY PRE HOLDERROR(AA00001 AA00002 ) HOLDSYSTEM(A DOC ) HOLDUSER(PRE REQ ) HOLDCLASS(B C );",
+    ],
+    ["APPLY BYPASS(PRE PRE).", "", "1 Cn3"],
+    ["APPLY BYPASS(PRE!PRE) NO.", "", "1 Cn3"],
+    ["APPLY BYPASS(PRE,,PRE).", "", "1 Cn3"],
+    ["APPLY BYPASS(PRE) BYPASS(REQ).", "", "1 Cn3"],
+    ["APPLY BYPASS(PRE,,REQ).", "", "1 Cn2"],
+    ["APPLY BYPASS(,PRE).", "", "1 Cn2"],
+    ["APPLY BYPASS(PRE,).", "", "1 Cn2"],
+    ["APPLY BYPASS(HOLDUSER(A)PRE).", "", "1 Cn2"],
+    ["APPLY BYPASS(HOLDERROR(A)).", "", "1 Cn2"],
+    ["APPLY BYPASS(HOLDCLASS).", "", "1 Cn2"],
+    ["APPLY BYPASS(PRE(A)).", "", "1 Cn2"],
+    ["APPLY BYPASS(APPLYCHECK).", "", "1 Cn2"],
+    ["APPLY BYPASS(APPLYCHECK APPLYCHECK).", "", "1 Cn2"],
+    ["APPLY BYPASS.", "BYPASS", "1 Cn2"],
+    ["APPLY BYPASS( ).", "", "1 Cn2"],
+    ["REJECT SELECT(UA00001) BYPASS(PRE PRE).", "", "1 Cn2"],
+    [
+        "SET BDY(DLB1).",
+        "ACCEPT SELECT(UA00024).",
+        "SET DLB1;ACCEPT SELECT(UA00024 );",
+    ],
+    [
+        "ACCEPT SELECT(UA00024)",
+        "BYPASS(APPLYCHECK).",
+        "ACCEPT SELECT(UA00024 ) APPLYCHECK;",
+    ],
+    [
+        "ACCEPT BYPASS(HOLDCLASS(B) PRE",
+        "APPLYCHECK) CHECK.",
+        "ACCEPT CHECK PRE APPLYCHECK HOLDCLASS(B );",
+    ],
+    ["ACCEPT CHECK CHECK.", "", "1 Cn3"],
+    ["ACCEPT BYPASS(APPLYCHECK,,APPLYCHECK).", "", "1 Cn3"],
+    ["ACCEPT BYPASS(APPLYCHECK(A)).", "", "1 Cn2"],
+    ["ACCEPT TEXT.", "", "1 Cn2"],
+    ["LIST.", "LIST TEXT.", "LIST;LIST TEXT;"],
+    ["LIST!.", "", "1 Cn2"],
+    ["!LIST.", "", "1 Cn1"],
+    ["(LIST).", "", "1 Cn1"],
+    ["LIST TEXT TEXT(A).", "", "1 Cn3"],
+    ["LIST TEXT(A).", "", "1 Cn2"],
+    ["LIST CHECK.", "", "1 Cn2"],
+    [
+        "SET BDY(TGT1).",
+        "REPORT ERRSYSMODS.",
+        "SET TGT1;REPORT ERRSYSMODS;",
+    ],
+    ["REPORT.", "", "1 Cn2"],
+    ["REPORT ERRSYSMODS(A).", "", "1 Cn2"],
+    ["REPORT ERRSYSMODS", "ERRSYSMODS.", "1 Cn3"],
+    [
+        "SET BDY(TGT1).",
+        "RESTORE SELECT(HAA1100,UA00017).",
+        "SET TGT1;RESTORE SELECT(HAA1100 UA00017 );",
+    ],
+    [
+        "RESTORE CHECK GROUP(UA00021).",
+        "",
+        "RESTORE CHECK GROUP(UA00021 );",
+    ],
+    ["APPLY.", "RESTORE SELECT(UA00001) GROUP(UA00002).", "2 Cn4"],
+    ["RESTORE.", "", "1 Cn4"],
+    ["RESTORE CHECK NO.", "", "1 Cn4"],
+    ["RESTORE SELECT GROUP(UA00001).", "", "1 Cn4"],
+    ["RESTORE SELECT(UA0001).", "", "1 Cn2"],
+    ["RESTORE GROUP.", "", "1 Cn2"],
+    ["RESTORE SELECT(UA00001) SELECT(UA00002).", "", "1 Cn3"],
+    ["RESTORE SELECT(UA00001) BYPASS(PRE).", "", "1 Cn2"],
+    ["UNDO SELECT(UA00001).", "", "1 Cn1"],
+];
+
+fn put_flag(spelled: &mut Spelled, is_there: bool, word: &[u8]) {
+    if is_there {
+        spelled.put(word);
+    }
+}
+
+fn put_receive(spelled: &mut Spelled, what: &ReceiveWhat) {
+    spelled.put(b"RECEIVE");
+    put_flag(spelled, what.sysmods, b" SYSMODS");
+    put_flag(spelled, what.holddata, b" HOLDDATA");
+    if let Some(source) = what.source {
+        spelled.put(b" ");
+        spelled.put(source.as_bytes());
+    }
+}
+
+fn put_reasons(spelled: &mut Spelled, reasons: &Reasons, name: &[u8]) {
+    put_flag(spelled, !matches!(reasons, Reasons::None), name);
+    if let Reasons::These(list) = reasons {
+        spelled.put(b"(");
+        for reason in list.iter() {
+            spelled.put(reason.as_bytes());
+            spelled.put(b" ");
+        }
+        spelled.put(b")");
+    }
+}
+
+fn put_bypass(spelled: &mut Spelled, bypass: &Bypass) {
+    put_flag(spelled, bypass.pre, b" PRE");
+    put_flag(spelled, bypass.req, b" REQ");
+    put_flag(spelled, bypass.ifreq, b" IFREQ");
+    put_flag(spelled, bypass.same_id, b" ID");
+    put_flag(spelled, bypass.applycheck, b" APPLYCHECK");
+    put_reasons(spelled, &bypass.holderror, b" HOLDERROR");
+    put_reasons(spelled, &bypass.holdsystem, b" HOLDSYSTEM");
+    put_reasons(spelled, &bypass.holduser, b" HOLDUSER");
+    if !bypass.holdclass.is_empty() {
+        spelled.put(b" HOLDCLASS(");
+        for class in bypass.holdclass.iter() {
+            spelled.put(class.as_bytes());
+            spelled.put(b" ");
+        }
+        spelled.put(b")");
+    }
+}
+
+fn put_install(spelled: &mut Spelled, install: &Install) {
+    put_flag(spelled, install.selection.ptfs, b" PTFS");
+    put_flag(spelled, install.selection.groupextend, b" EXTEND");
+    put_flag(spelled, install.check, b" CHECK");
+    spelled.put_ids(b" SELECT", &install.selection.select);
+    put_bypass(spelled, &install.bypass);
+}
+
+fn put_command(spelled: &mut Spelled, command: &Command) {
+    match command {
+        Command::Set(zone) => {
+            spelled.put(b"SET ");
+            spelled.put(zone.as_bytes());
+            put_flag(spelled, zone.is_global(), b" all");
+        }
+        Command::Receive(what) => put_receive(spelled, what),
+        Command::Reject(ids) => {
+            spelled.put(b"REJECT");
+            spelled.put_ids(b" SELECT", ids);
+        }
+        Command::Apply(install) => {
+            spelled.put(b"APPLY");
+            put_install(spelled, install);
+        }
+        Command::Accept(install) => {
+            spelled.put(b"ACCEPT");
+            put_install(spelled, install);
+        }
+        Command::Restore { list, check } => {
+            spelled.put(b"RESTORE");
+            put_flag(spelled, *check, b" CHECK");
+            match list {
+                RestoreList::Select(ids) => spelled.put_ids(b" SELECT", ids),
+                RestoreList::Group(ids) => spelled.put_ids(b" GROUP", ids),
+            }
+        }
+        Command::List { text } => {
+            spelled.put(b"LIST");
+            put_flag(spelled, *text, b" TEXT");
+        }
+        Command::Report => spelled.put(b"REPORT ERRSYSMODS"),
+    }
+    spelled.put(b";");
+}
+
+fn put_commands(spelled: &mut Spelled, commands: &[Command]) {
+    for command in commands {
+        put_command(spelled, command);
+    }
+}
+
+fn put_error(spelled: &mut Spelled, error: CntlError) {
+    match error {
+        CntlError::Memory => spelled.put(b"memory"),
+        CntlError::Fault { number, code } => {
+            spelled.put_digit(number);
+            spelled.put(b" ");
+            spelled.put(cn_text(code));
+        }
+    }
+}
+
+fn commanded(alloc: Global, bytes: &[u8]) -> Spelled {
+    let mut spelled = Spelled::new();
+    match read_cntl(alloc, bytes) {
+        Ok(commands) => put_commands(&mut spelled, commands.as_slice()),
+        Err(error) => put_error(&mut spelled, error),
+    }
+    spelled
+}
+
+fn commanded_by(alloc: Global, cards: &[&str]) -> Result<Spelled, AllocError> {
+    let bytes = file(alloc, cards)?;
+    Ok(commanded(alloc, bytes.as_slice()))
+}
+
+#[test]
+fn command_files(rt: HostRuntime) -> Result<(), Fail> {
+    for [first, second, wanted] in FILES {
+        let spelled = commanded_by(rt.alloc(), &[first, second])?;
+        assert_eq!(rt; spelled.text(), *wanted, "{first}");
+    }
+    assert_eq!(rt; commanded(rt.alloc(), &[]).text(), "");
+    assert_eq!(rt; commanded(rt.alloc(), b"SET").text(), "1 Cn5");
+    Ok(())
+}

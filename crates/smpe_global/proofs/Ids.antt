@@ -1,0 +1,89 @@
+-- Ids that are rejected, one after another.
+use Rattle.std.proofs.Common.{◌≡◌, ◌∙◌, Bool, true, false, not, List, [], ◌∷◌, ◌++◌, map, take, All, sym, ap, subst, Ok}
+use Rattle.std.proofs.Common.{Err, true≢false, if◌then◌else◌, refl, append-nil, arith}
+use Rattle.std.specs.Prelude.{Result, IsOk, OnOk}
+use Rattle.std.specs.List.{list_any}
+use Rattle.std.proofs.lemmas.List.{map-append}
+use Rattle.std.proofs.lemmas.List.Elements.{All-append}
+use Rattle.std.proofs.lemmas.List.Sums.{fold-append}
+use Rattle.indexmap.specs.IndexMap.{IndexMap, values}
+use Rattle.terms.specs.Types.{Text, Id, Global, Zone, NamedZone}
+use Rattle.terms.specs.Lookups.{is_received, is_applied}
+use Rattle.terms.specs.Global.{IsGlobal, RejectFault, Rj1, Rj2, reject, without_sysmod}
+use Rattle.machine.specs.Runs.{Runs}
+use Rattle.machine.specs.Receiving.{global_after}
+use Rattle.machine.proofs.Joined.{runs_append}
+use Rattle.machine.specs.Rejecting.{reject_status, RejectsId}
+use Rattle.report.specs.declared.outcome.Status.{Status}
+use Rattle.report.specs.declared.outcome.Status.TheVariants.{Rejected}
+use Rattle.report.specs.declared.outcome.Line.{Line}
+use Rattle.report.specs.Views.{line_view, status_view}
+use Rattle.sysmods.specs.declared.edit.GlobalEdit.{GlobalEdit}
+use Rattle.sysmods.specs.Edits.{after_edit, after_edits, EachFits}
+use Rattle.smpe_global.specs.Rejections.{AppliesAlike, edits_of, FitsAlways, IsAnswered, AreRejected, IsRejected}
+use Rattle.smpe_global.proofs.Dropping.{edits_make, edits_fit}
+
+-- edits that fit always, fit one after the other
+pub each_fits : (edits : List GlobalEdit) (g : Global) → All FitsAlways edits → EachFits edits g
+each_fits edits g all k edit below at = subst FitsAlways (sym at) (all k edit below) (after_edits (take k edits) g)
+
+-- what REJECT answers, by whether it is received and whether it is applied
+abbrev pub answer : Global → Id → Bool → Bool → Result Global RejectFault
+answer g x received applied = if not received then Err Rj2 else if applied then Err Rj1 else Ok (without_sysmod g x)
+
+module _ {S : Type 0} (zones : IndexMap Text Zone S) (g : Global) (x : Id) where
+  abbrev applied : Bool
+  applied = list_any (λ zone. is_applied zone x) (values zones)
+
+  answered : (named : List NamedZone) → AppliesAlike zones named → (r a : Bool) → is_received g x ≡ r → applied ≡ a
+      → reject g named x ≡ answer g x r a
+  answered named alike r a received is = ap (λ b. answer g x b (list_any (λ z. is_applied z.zone x) named)) received
+      ∙ ap (answer g x r) (alike x ∙ is)
+
+  pub left_in : (edits : List GlobalEdit) (r a : Bool) (why : RejectFault) (status : Status) → is_received g x ≡ r
+      → applied ≡ a → answer g x r a ≡ Err why → status_view status ≡ reject_status (Err why)
+      → IsAnswered zones g x g edits edits status
+  left_in edits r a why status received is answers printed = record {
+    own = [];
+    edits_are = sym (append-nil edits);
+    fits = λ k d below. absurd (omega (arith, below));
+    after = refl;
+    leads = λ named alike. sym (ap (global_after g) (answered named alike r a received is ∙ answers));
+    told = λ named alike. printed ∙ sym (ap reject_status (answered named alike r a received is ∙ answers));
+  }
+
+  pub taken_out : (new : Global) (edits later : List GlobalEdit) → IsGlobal g → is_received g x ≡ true → applied ≡ false
+      → later ≡ edits ++ edits_of g x → new ≡ without_sysmod g x
+      → IsAnswered zones g x new edits later Rejected
+  taken_out new edits later known there free written out = record {
+    own = edits_of g x;
+    edits_are = written;
+    fits = edits_fit g x;
+    after = edits_make g x known ∙ sym out;
+    leads = λ named alike. out ∙ sym (ap (global_after g) (answered named alike true false there free));
+    told = λ named alike. sym (ap reject_status (answered named alike true false there free));
+  }
+
+-- a call that does what it does where it answers Ok
+pub on_ok : {A E : Type 0} (P : Type 0) (r : Result A E) → IsOk r → OnOk r P → P
+on_ok P (Ok a) is done = done
+on_ok P (Err e) is done = absurd (true≢false (sym is))
+
+module _ {S : Type 0} (zones : IndexMap Text Zone S) (g : Global) where
+  -- one id more
+  pub more_rejected : (m new : Global) (ids : List Id) (x : Id) (edits later : List GlobalEdit)
+      (lines printed : List Line)
+      → AreRejected zones g ids m edits lines → IsRejected zones m x new edits later lines printed
+      → AreRejected zones g (ids ++ x ∷ []) new later printed
+  more_rejected m new ids x edits later lines printed front back =
+      let step = back.rejected in
+      let made : AreRejected zones g (ids ++ x ∷ []) new (edits ++ back.own) (lines ++ back.line ∷ []) = record {
+        runs = λ named alike. subst (Runs (RejectsId named) g (ids ++ x ∷ []) new)
+            (sym (map-append line_view lines (back.line ∷ [])))
+            (runs_append (RejectsId named) g m new ids (x ∷ []) (map line_view lines) (line_view back.line ∷ [])
+            (front.runs named alike) (step.runs named alike));
+        fits = All-append FitsAlways edits back.own front.fits step.fits;
+        after = fold-append after_edit g edits back.own ∙ ap (after_edits back.own) front.after ∙ step.after;
+      } in
+      subst (λ es. AreRejected zones g (ids ++ x ∷ []) new es printed) (sym back.edits_are)
+      (subst (AreRejected zones g (ids ++ x ∷ []) new (edits ++ back.own)) (sym back.lines_are) made)

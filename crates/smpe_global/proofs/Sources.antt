@@ -1,0 +1,106 @@
+-- A SYSMOD that gains a source.
+use Rattle.std.proofs.Common.{◌≡◌, ◌∙◌, Bool, true, false, List, [], ◌∷◌, map, find, refl, sym, ap, subst, Option, None}
+use Rattle.std.proofs.Common.{Some, All, Contains, if◌then◌else◌}
+use Rattle.std.specs.Ordering.{nat_cmp}
+use Rattle.std.specs.Cmp.Lexicographic.{slice_cmp, texts_ties}
+use Rattle.std.specs.Option.{option_map}
+use Rattle.std.specs.Str.{bytes_eq}
+use Rattle.std.proofs.lemmas.Cmp.{nat_list_cmp_total}
+use Rattle.std.proofs.lemmas.List.Elements.{All-head, All-tail, All-weaker, All-contains_itself}
+use Rattle.std.proofs.lemmas.List.Folds.{map_fixed}
+use Rattle.lemmas.proofs.Orderings.{Equal_from_is_eq}
+use Rattle.terms.specs.Types.{Text, Id, Sysmod, Global}
+use Rattle.terms.specs.Rising.{Rises}
+use Rattle.terms.specs.Lookups.{sysmod_of}
+use Rattle.terms.specs.Global.{with_source, assign}
+use Rattle.lemmas.proofs.Members.{parts}
+use Rattle.terms.proofs.GlobalLookups.{assigned, sysmod_of_assign}
+use Rattle.lemmas.proofs.Texts.{same_from}
+use Rattle.lemmas.proofs.Searches.{find_passes}
+use Rattle.terms.proofs.RisingLists.{find_there, Splits_around}
+use Rattle.sysmods.specs.declared.edit.GlobalEdit.TheVariants.{ReplaceSources}
+use Rattle.sysmods.specs.Edits.{Fits, EachFits, after_edits}
+use Rattle.smpe_global.specs.Edits.{head_of, source_edits}
+use Rattle.smpe_global.proofs.Fitting.{fits_none, fits_one}
+
+map_same : {X : Type 0} (f h : X → X) (xs : List X) → All (λ x. f x ≡ h x) xs → map f xs ≡ map h xs
+map_same f h [] all = refl
+map_same f h (x ∷ xs) all =
+    let first = All-head (λ y. f y ≡ h y) x xs all in
+    let rest = map_same f h xs (All-tail (λ y. f y ≡ h y) x xs all) in
+    ap (λ y. y ∷ map f xs) first ∙ ap (λ ys. h x ∷ ys) rest
+
+module _ (source : Text) (g : Global) (x : Id) (rises : Rises (slice_cmp nat_cmp) (λ (r : Sysmod). r.id)
+    g.sysmods) where
+  -- a SYSMOD of the id is found by it
+  found : (r : Sysmod) → Contains g.sysmods r → bytes_eq r.id x ≡ true → sysmod_of g x ≡ Some r
+  found r h hit =
+      let p = parts g.sysmods r h in
+      let tie = Equal_from_is_eq (slice_cmp nat_cmp r.id x) (sym (texts_ties r.id x) ∙ hit) in
+      ap (find (λ (y : Sysmod). bytes_eq y.id x)) p.2
+      ∙ find_there nat_list_cmp_total (λ (y : Sysmod). y.id) bytes_eq texts_ties x p.0 p.1 r
+      (Splits_around nat_list_cmp_total (λ (y : Sysmod). y.id) x p.0 p.1 r
+      (subst (Rises (slice_cmp nat_cmp) (λ (y : Sysmod). y.id)) p.2 rises) tie) tie
+
+  -- an id that is not received
+  none_assigned : sysmod_of g x ≡ None → assign g source x ≡ g
+  none_assigned none =
+      ap (λ ss. record g { sysmods = ss })
+      (map_fixed (assigned source x) g.sysmods (All-weaker (Contains g.sysmods) (λ r. assigned source x r ≡ r) each
+      g.sysmods (All-contains_itself g.sysmods)))
+    where
+      each : (r : Sysmod) → Contains g.sysmods r → assigned source x r ≡ r
+      each r h = by (bytes_eq r.id x) refl
+        where
+          by : (b : Bool) → bytes_eq r.id x ≡ b → assigned source x r ≡ r
+          by true e = let there = found r h e in cc
+          by false e = rw e refl
+
+  module _ (s : Sysmod) (there : sysmod_of g x ≡ Some s) where
+    named : bytes_eq s.id x ≡ true
+    named = find_passes (λ (r : Sysmod). bytes_eq r.id x) g.sysmods s there
+
+    -- it alone has its id
+    alone : (r : Sysmod) → Contains g.sysmods r → bytes_eq r.id x ≡ true → r ≡ s
+    alone r h hit = let here = found r h hit in cc
+
+    -- its edit gives it the sources
+    replaced : after_edits (ReplaceSources (head_of (with_source source s)) ∷ []) g ≡ assign g source x
+    replaced =
+        ap (λ ss. record g { sysmods = ss })
+        (map_same (put s.id) (assigned source x) g.sysmods (All-weaker (Contains g.sysmods)
+        (λ r. put s.id r ≡ assigned source x r) each g.sysmods (All-contains_itself g.sysmods)))
+      where
+        put : Id → Sysmod → Sysmod
+        put y r = if bytes_eq r.id y then record r { sources = (with_source source s).sources } else r
+
+        each : (r : Sysmod) → Contains g.sysmods r → put s.id r ≡ assigned source x r
+        each r h = ap (λ y. put y r) (same_from s.id x named) ∙ by (bytes_eq r.id x) refl
+          where
+            by : (b : Bool) → bytes_eq r.id x ≡ b → put x r ≡ assigned source x r
+            by true e = rw (e, alone r h e) refl
+            by false e = rw e refl
+
+    replaced_fits : Fits g (ReplaceSources (head_of (with_source source s)))
+    replaced_fits = All-weaker (Contains g.sysmods) (λ r. r.id ≡ s.id → r.kind ≡ s.kind) each g.sysmods
+        (All-contains_itself g.sysmods)
+      where
+        each : (r : Sysmod) → Contains g.sysmods r → r.id ≡ s.id → r.kind ≡ s.kind
+        each r h same = ap (λ (y : Sysmod). y.kind) (alone r h (ap (λ y. bytes_eq y x) same ∙ named))
+
+  -- what is written of an id leads where it is to lead
+  pub assigned_written : (o : Option Sysmod) → sysmod_of (assign g source x) x ≡ o
+      → EachFits (source_edits o) g × (after_edits (source_edits o) g ≡ assign g source x)
+  assigned_written o is = subst (λ p. EachFits (source_edits p) g
+      × (after_edits (source_edits p) g ≡ assign g source x)) (sym (sysmod_of_assign g source x x) ∙ is)
+      (by (sysmod_of g x) refl)
+    where
+      by : (p : Option Sysmod) → sysmod_of g x ≡ p → EachFits (source_edits (option_map (assigned source x) p)) g
+          × (after_edits (source_edits (option_map (assigned source x) p)) g ≡ assign g source x)
+      by None none = (fits_none g, sym (none_assigned none))
+      by (Some s) there =
+          let same : assigned source x s ≡ with_source source s =
+          ap (λ b. if b then with_source source s else s) (named s there) in
+          subst (λ r. EachFits (source_edits (Some r)) g × (after_edits (source_edits (Some r)) g ≡ assign g source x))
+          (sym same)
+          (fits_one g (ReplaceSources (head_of (with_source source s))) (replaced_fits s there), replaced s there)

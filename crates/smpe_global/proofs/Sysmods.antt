@@ -1,0 +1,51 @@
+-- A SYSMOD that is received or refused.
+use Rattle.std.proofs.Common.{◌≡◌, ◌∙◌, [], ◌∷◌, ◌++◌, refl, sym, ap, subst, Option, None, Some, Ok, Err}
+use Rattle.terms.specs.Types.{Text, Global, Sysmod, ASysmod}
+use Rattle.terms.specs.Global.{IsSysmod, Rc1}
+use Rattle.machine.specs.Outcome.{OfKind, StatusLine}
+use Rattle.machine.specs.Receiving.{TakesItem, sourced, receive_status}
+use Rattle.sysmods_received.specs.declared.faults.ReceiveFault.{ReceiveFault}
+use Rattle.sysmods_received.specs.Refused.{fault_of}
+use Rattle.sysmods.specs.Faults.{IsReceived}
+use Rattle.report.specs.declared.outcome.Line.{Line}
+use Rattle.report.specs.Views.{line_view}
+use Rattle.smpe_global.specs.declared.taken.Taken.{Taken}
+use Rattle.smpe_global.specs.Edits.{answer_of, edits_after}
+use Rattle.smpe_global.specs.Taken.{IsTaken}
+use Rattle.smpe_global.proofs.Fitting.{fits_none, sysmod_fits, sysmod_makes}
+
+module _ (source : Option Text) (g new : Global) (s : Sysmod) (line : Line) (was is : Taken)
+    (told : is.lines.items ≡ was.lines.items ++ line ∷ []) where
+  sysmod_taken : (refused : Option ReceiveFault) → is.edits.items ≡ was.edits.items
+      ++ edits_after refused (sourced source s)
+      → IsSysmod (sourced source s) → IsReceived g (sourced source s) new refused
+      → line_view line ≡ StatusLine s.id (OfKind s.kind) (receive_status (answer_of new refused))
+      → IsTaken (TakesItem source g (ASysmod s)) g new was is
+  sysmod_taken None written known (free, came) printed = record {
+    own = edits_after None (sourced source s);
+    edits_are = written;
+    lines = line ∷ [];
+    lines_are = told;
+    prints = (Ok new, (free, came), refl, ap (λ l. l ∷ []) printed);
+    fits = sysmod_fits g (sourced source s) (free Rc1);
+    after = sysmod_makes g (sourced source s) known ∙ sym came;
+  }
+  sysmod_taken (Some fault) written known (first, same) printed = record {
+    own = [];
+    edits_are = written;
+    lines = line ∷ [];
+    lines_are = told;
+    prints = (Err (fault_of fault), first, same, ap (λ l. l ∷ []) printed);
+    fits = fits_none g;
+    after = sym same;
+  }
+
+  -- with the copy that is written
+  pub copy_taken : (sent copy : Sysmod) (refused : Option ReceiveFault) → sent ≡ sourced source s → copy ≡ sent
+      → is.edits.items ≡ was.edits.items ++ edits_after refused copy → IsSysmod copy → IsReceived g sent new refused
+      → line_view line ≡ StatusLine s.id (OfKind s.kind) (receive_status (answer_of new refused))
+      → IsTaken (TakesItem source g (ASysmod s)) g new was is
+  copy_taken sent copy refused sent_is copy_is written known r printed =
+      let same : copy ≡ sourced source s = copy_is ∙ sent_is in
+      sysmod_taken refused (subst (λ c. is.edits.items ≡ was.edits.items ++ edits_after refused c) same written)
+      (subst IsSysmod same known) (subst (λ c. IsReceived g c new refused) sent_is r) printed

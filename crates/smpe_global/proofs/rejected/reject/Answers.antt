@@ -1,0 +1,22 @@
+use Rattle.std.proofs.Common.{◌∷◌, ◌++◌, [], ◌∙◌, sym, ap, subst, take}
+use Rattle.std.proofs.lemmas.List.{take_more}
+use Rattle.smpe_global.specs.Rejections.{AreRejected}
+use Rattle.smpe_global.proofs.Ids.{each_fits, more_rejected}
+use Rattle.smpe_global.proofs.rejected.reject.Goals as goal
+
+pub loop-id-preserved : goal.loop-id-preserved
+loop-id-preserved c =
+    let at = c.loop-id in
+    let zones = c.args.zones.now in
+    let g = c.args.global.now in
+    let all = c.as_slice-all.result.now in
+    let x = c.id-item.result in
+    let new = c.reject_one.new in
+    subst (λ ids. AreRejected zones g ids new.global new.rejected.edits.items new.rejected.lines.items)
+    (ap (λ y. take at.id-index all ++ y ∷ []) c.id-item.is ∙ sym (take_more all at.id-index x c.loop-id-test.true))
+    (more_rejected zones g at.global new.global (take at.id-index all) x at.rejected.edits.items
+    new.rejected.edits.items at.rejected.lines.items new.rejected.lines.items at.invariant
+    c.in_ok-reject_one.ensures)
+
+pub returns-clause-fits : goal.returns-clause-fits
+returns-clause-fits c = each_fits c.loop-id.rejected.edits.items c.args.global.now c.loop-id.invariant.fits

@@ -1,0 +1,4 @@
+pub mod Edits
+pub mod External
+pub mod Taken
+pub mod Rejections

@@ -1,0 +1,107 @@
+//! `++ASSIGN`: received SYSMODs gain a source.
+ghost use Rattle.std.specs.Prelude.{◌≡◌, ◌++◌, IfOk, OnOk, if◌then◌else◌};
+ghost use Rattle.terms.specs.Lookups.{sysmod_of};
+ghost use Rattle.machine.specs.Outcome.{Assigned, Unknown};
+ghost use Rattle.machine.specs.Receiving.{AssignsId};
+ghost use Rattle.machine.specs.Runs.{Runs};
+ghost use Rattle.report.specs.Views.{status_view};
+ghost use Rattle.smpe_global.specs.Edits.{head_of, source_edits};
+ghost use Rattle.smpe_global.specs.Taken.{IsTaken};
+
+use crate::taken::Taken;
+use fields::{Id, Source};
+use mcs::Assign;
+use report::{Line, Status, place_of};
+use std::alloc::{AllocError, Global};
+use sysmods::{GlobalEdit, GlobalZone};
+use sysmods_records::Sysmod;
+
+/// The SYSMOD with its sources, but without its statements: they stand in rows of their own, which stay.
+fn head_of(alloc: Global, sysmod: &Sysmod) -> Result<Sysmod, AllocError>
+    ensures { IfOk result (λ head. head ≡ head_of sysmod.now) }
+{
+    Ok(Sysmod {
+        id: sysmod.id,
+        kind: sysmod.kind,
+        sources: sysmod.sources.try_clone(alloc)?,
+        vers: Vec::new(alloc),
+        changes: Vec::new(alloc),
+        holds: Vec::new(alloc),
+    })
+}
+
+/// Appends what writes the sources of a received SYSMOD. Of an id that is not received there is nothing.
+fn write_sources(
+    alloc: Global,
+    edits: &mut Vec<GlobalEdit>,
+    global: &GlobalZone,
+    id: Id,
+) -> Result<(), AllocError>
+    ensures { OnOk result (edits.new.items ≡ edits.old.items ++ source_edits (sysmod_of global.now id)) }
+{
+    if let Some(sysmod) = global.get(id) {
+        edits.push(GlobalEdit::ReplaceSources(head_of(alloc, sysmod)?))?;
+    }
+    Ok(())
+}
+
+fn status_of(source: Source, received: bool) -> Status
+    ensures { status_view result ≡ (if received then Assigned source else Unknown) }
+{
+    if received {
+        Status::Assigned(source)
+    } else {
+        Status::Unknown
+    }
+}
+
+fn assign_id(
+    alloc: Global,
+    global: &mut GlobalZone,
+    source: Source,
+    id: Id,
+    taken: &mut Taken,
+) -> Result<(), AllocError>
+    ensures { OnOk result (IsTaken (AssignsId source global.old id) global.old global.new taken.old taken.new) }
+{
+    let place = place_of(global, id);
+    let received = global.assign(source, id)?;
+    write_sources(alloc, &mut taken.edits, global, id)?;
+    taken.lines.push(Line::Status {
+        id,
+        place,
+        status: status_of(source, received),
+    })?;
+    Ok(())
+}
+
+/// Gives the source to one id after the other.
+fn assign_each(
+    alloc: Global,
+    global: &mut GlobalZone,
+    source: Source,
+    ids: &[Id],
+    taken: &mut Taken,
+) -> Result<(), AllocError>
+    ensures { OnOk result (IsTaken (Runs (AssignsId source) global.old ids.now) global.old global.new taken.old
+        taken.new) }
+{
+    for id in ids {
+        assign_id(alloc, global, source, *id, taken)?;
+    }
+    Ok(())
+}
+
+/// Gives the source of an `++ASSIGN` to its ids, in their order.
+pub(crate) fn take_assign(
+    alloc: Global,
+    global: &mut GlobalZone,
+    assign: Assign,
+    taken: &mut Taken,
+) -> Result<(), AllocError>
+    ensures { OnOk result (IsTaken (Runs (AssignsId assign.source) global.old assign.to) global.old global.new taken.old
+        taken.new) }
+{
+    let Assign { source, to } = assign;
+    assign_each(alloc, global, source, to.as_slice(), taken)
+}

@@ -1,0 +1,168 @@
+//! The items of a hold file.
+ghost use Rattle.std.specs.Prelude.{◌≡◌, ◌++◌, All, Bool, false, IfOk, OnOk, map, if◌then◌else◌};
+ghost use Rattle.terms.specs.Types as terms;
+ghost use Rattle.terms.specs.Types.{Global as AGlobal, Release as ARelease};
+ghost use Rattle.terms.specs.Global.{hold_of, marked};
+ghost use Rattle.machine.specs.Outcome.{Held, Replaced};
+ghost use Rattle.machine.specs.Receiving.{TakesHoldItem, release_status};
+ghost use Rattle.machine.specs.Runs.{Runs};
+ghost use Rattle.report.specs.Views.{line_view, status_view};
+ghost use Rattle.sysmods.specs.Edits.{EachFits, after_edits};
+ghost use Rattle.smpe_global.specs.Edits.{release_answer, release_edits};
+ghost use Rattle.smpe_global.specs.External.{IsExternal};
+ghost use Rattle.mcs.specs.HoldItems.{item_of, items};
+ghost use Rattle.smpe_global.specs.Taken.{IsTaken};
+
+use crate::taken::Taken;
+use fields::{Id, Reason};
+use mcs::{HoldItem, Release};
+use report::{Line, Place, Status};
+use std::alloc::{AllocError, Global};
+use sysmods::{GlobalEdit, GlobalZone, Placed, ReleaseError};
+use sysmods_records::Hold;
+use terms::{HoldKind, IdRefusal};
+
+/// A copy of the hold, marked as internal where the one of its key is.
+fn marked_copy(global: &GlobalZone, hold: &Hold) -> Result<Hold, AllocError>
+    ensures { IfOk result (λ copy. copy ≡ marked (hold_of global.now hold.now.id hold.now.kind hold.now.reason)
+        hold.now) }
+{
+    let was_internal = match global.hold_of(hold.id, hold.kind, hold.reason) {
+        Some(old) => old.internal,
+        None => false,
+    };
+    Ok(Hold {
+        id: hold.id,
+        kind: hold.kind,
+        reason: hold.reason,
+        fmid: hold.fmid,
+        class: hold.class,
+        date: hold.date,
+        comment: hold.comment.clone()?,
+        internal: hold.internal || was_internal,
+    })
+}
+
+fn hold_status(placed: Placed, reason: Reason) -> Status
+    ensures { (replaces : Bool) → placed ≡ (if replaces then Placed.Replaced else Placed.New)
+        → status_view result ≡ (if replaces then Replaced reason else Held reason) }
+{
+    match placed {
+        Placed::New => Status::Held(reason),
+        Placed::Replaced => Status::Replaced(reason),
+    }
+}
+
+fn take_hold(global: &mut GlobalZone, hold: Hold, taken: &mut Taken) -> Result<(), AllocError>
+    requires { hold.internal ≡ false }
+    ensures { OnOk result (IsTaken (TakesHoldItem global.old (terms.AHold hold)) global.old global.new taken.old
+        taken.new) }
+{
+    let id = hold.id;
+    let kind = hold.kind;
+    let reason = hold.reason;
+    let copy = marked_copy(global, &hold)?;
+    let placed = global.hold(hold)?;
+    taken.edits.push(GlobalEdit::PutHold(copy))?;
+    taken.lines.push(Line::Status {
+        id,
+        place: Place::Hold(kind),
+        status: hold_status(placed, reason),
+    })?;
+    Ok(())
+}
+
+fn release_status(answer: Result<(), ReleaseError>, reason: Reason) -> Status
+    ensures { (new : AGlobal) (r : ARelease) → r.reason ≡ reason
+        → status_view result ≡ release_status r (release_answer new answer) }
+{
+    match answer {
+        Ok(()) => Status::Released(reason),
+        Err(ReleaseError::NoHold) => Status::Refused(IdRefusal::Rl1),
+        Err(ReleaseError::Internal) => Status::Refused(IdRefusal::Rl2),
+    }
+}
+
+/// Appends what removes a hold that is released.
+fn write_release(
+    edits: &mut Vec<GlobalEdit>,
+    answer: Result<(), ReleaseError>,
+    id: Id,
+    kind: HoldKind,
+    reason: Reason,
+) -> Result<(), AllocError>
+    ensures { OnOk result (edits.new.items ≡ edits.old.items ++ release_edits id kind reason answer) }
+{
+    if answer.is_ok() {
+        edits.push(GlobalEdit::RemoveHold(id, kind, reason))?;
+    }
+    Ok(())
+}
+
+fn take_release(
+    global: &mut GlobalZone,
+    release: Release,
+    taken: &mut Taken,
+) -> Result<(), AllocError>
+    ensures { OnOk result (IsTaken (TakesHoldItem global.old (terms.ARelease release)) global.old global.new taken.old
+        taken.new) }
+{
+    let id = release.id;
+    let kind = release.kind;
+    let reason = release.reason;
+    let answer = global.release(id, kind, reason);
+    write_release(&mut taken.edits, answer, id, kind, reason)?;
+    taken.lines.push(Line::Status {
+        id,
+        place: Place::Hold(kind),
+        status: release_status(answer, reason),
+    })?;
+    Ok(())
+}
+
+fn take_hold_item(
+    global: &mut GlobalZone,
+    item: HoldItem,
+    taken: &mut Taken,
+) -> Result<(), AllocError>
+    requires { IsExternal (item_of item) }
+    ensures { OnOk result (IsTaken (TakesHoldItem global.old (item_of item)) global.old global.new taken.old
+        taken.new) }
+{
+    match item {
+        HoldItem::Hold(hold) => take_hold(global, hold, taken),
+        HoldItem::Release(release) => take_release(global, release, taken),
+    }
+}
+
+fn take_hold_items(
+    global: &mut GlobalZone,
+    found: Vec<HoldItem>,
+    taken: &mut Taken,
+) -> Result<(), AllocError>
+    requires { All IsExternal (items found.items) }
+    ensures { OnOk result (IsTaken (Runs TakesHoldItem global.old (items found.items)) global.old global.new taken.old
+        taken.new) }
+{
+    for item in found {
+        take_hold_item(global, item, taken)?;
+    }
+    Ok(())
+}
+
+/// Takes the items of a hold file, in their order. Where memory runs out, the global zone may have some of them.
+pub fn receive_holds(
+    alloc: Global,
+    global: &mut GlobalZone,
+    found: Vec<HoldItem>,
+) -> Result<Taken, AllocError>
+    requires { All IsExternal (items found.items) }
+    ensures runs { IfOk result (λ t. Runs TakesHoldItem global.old (items found.items) global.new
+        (map line_view t.lines.items)) }
+    ensures fits { IfOk result (λ t. EachFits t.edits.items global.old) }
+    ensures edits { IfOk result (λ t. after_edits t.edits.items global.old ≡ global.new) }
+{
+    let mut taken = Taken::new(alloc);
+    take_hold_items(global, found, &mut taken)?;
+    Ok(taken)
+}

@@ -1,0 +1,125 @@
+//! The items of a PTFIN.
+ghost use Rattle.std.specs.Prelude.{◌≡◌, IfOk, IfSome, OnOk, map};
+ghost use Rattle.terms.specs.Types.{Global as AGlobal, ASysmod};
+ghost use Rattle.terms.specs.Forms.{IsSource};
+ghost use Rattle.machine.specs.Runs.{Runs};
+ghost use Rattle.machine.specs.Receiving.{TakesItem, sourced, receive_status};
+ghost use Rattle.mcs.specs.Files.{item_of, items};
+ghost use Rattle.report.specs.Views.{line_view, status_view};
+ghost use Rattle.sysmods.specs.Edits.{EachFits, after_edits};
+ghost use Rattle.smpe_global.specs.Edits.{answer_of};
+ghost use Rattle.smpe_global.specs.Taken.{IsTaken};
+
+use crate::assign::take_assign;
+use crate::edits::write_received;
+use crate::taken::Taken;
+use fields::Source;
+use mcs::Item;
+use report::{Line, Place, Status};
+use std::alloc::{AllocError, Global};
+use sysmods::{GlobalZone, ReceiveFault};
+use sysmods_records::Sysmod;
+use terms::IdRefusal;
+
+fn with_source(mut sysmod: Sysmod, source: &Option<Source>) -> Result<Sysmod, AllocError>
+    ensures { IfOk result (λ found. found ≡ sourced source.now sysmod) }
+{
+    if let Some(source) = source {
+        sysmod.add_source(*source)?;
+    }
+    Ok(sysmod)
+}
+
+fn status_of(refused: Option<ReceiveFault>) -> Status
+    ensures { (new : AGlobal) → status_view result ≡ receive_status (answer_of new refused) }
+{
+    match refused {
+        None => Status::Received,
+        Some(ReceiveFault::Rc1) => Status::Already,
+        Some(ReceiveFault::Rc2) => Status::Refused(IdRefusal::Rc2),
+        Some(ReceiveFault::Rc3) => Status::Refused(IdRefusal::Rc3),
+        Some(ReceiveFault::Rc4) => Status::Refused(IdRefusal::Rc4),
+    }
+}
+
+/// Receives a SYSMOD, with the source that the command adds. Its copy is for the tables, and is made first: once it is
+/// received, its holds stand among the others.
+fn take_sysmod(
+    alloc: Global,
+    global: &mut GlobalZone,
+    sysmod: Sysmod,
+    source: &Option<Source>,
+    taken: &mut Taken,
+) -> Result<(), AllocError>
+    ensures { OnOk result (IsTaken (TakesItem source.now global.old (ASysmod sysmod)) global.old global.new taken.old
+        taken.new) }
+{
+    let id = sysmod.id;
+    let kind = sysmod.kind;
+    let sysmod = with_source(sysmod, source)?;
+    let copy = sysmod.try_clone(alloc)?;
+    copy.attest();
+    let refused = global.receive(alloc, sysmod)?;
+    write_received(alloc, &mut taken.edits, refused, copy)?;
+    taken.lines.push(Line::Status {
+        id,
+        place: Place::Kind(kind),
+        status: status_of(refused),
+    })?;
+    Ok(())
+}
+
+fn take_item(
+    alloc: Global,
+    global: &mut GlobalZone,
+    item: Item,
+    source: &Option<Source>,
+    taken: &mut Taken,
+) -> Result<(), AllocError>
+    ensures { OnOk result (IsTaken (TakesItem source.now global.old (item_of item)) global.old global.new taken.old
+        taken.new) }
+{
+    match item {
+        Item::Sysmod(sysmod) => take_sysmod(alloc, global, sysmod, source, taken),
+        Item::Assign(assign) => take_assign(alloc, global, assign, taken),
+    }
+}
+
+fn take_items(
+    alloc: Global,
+    global: &mut GlobalZone,
+    found: Vec<Item>,
+    source: &Option<Source>,
+    taken: &mut Taken,
+) -> Result<(), AllocError>
+    ensures { OnOk result (IsTaken (Runs (TakesItem source.now) global.old (items found.items)) global.old global.new
+        taken.old taken.new) }
+{
+    for item in found {
+        take_item(alloc, global, item, source, taken)?;
+    }
+    Ok(())
+}
+
+/// Takes the items in, in their order, and adds the source to each SYSMOD that is received. Where memory runs out, the
+/// global zone may have some of them.
+pub fn receive(
+    alloc: Global,
+    global: &mut GlobalZone,
+    found: Vec<Item>,
+    source: Option<Source>,
+) -> Result<Taken, AllocError>
+    ensures runs { IfOk result (λ t. Runs (TakesItem source) global.old (items found.items) global.new
+        (map line_view t.lines.items)) }
+    ensures fits { IfOk result (λ t. EachFits t.edits.items global.old) }
+    ensures edits { IfOk result (λ t. after_edits t.edits.items global.old ≡ global.new) }
+    ensures form { IfSome source IsSource }
+{
+    prove!(match &source {
+        Some(source) => !source.as_bytes().is_empty(),
+        None => true,
+    });
+    let mut taken = Taken::new(alloc);
+    take_items(alloc, global, found, &source, &mut taken)?;
+    Ok(taken)
+}

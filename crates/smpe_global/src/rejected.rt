@@ -1,0 +1,96 @@
+//! REJECT: ids taken out of the global zone, or refused.
+ghost use Rattle.std.specs.Prelude.{◌≡◌, List, IfOk, OnOk, map};
+ghost use Rattle.std.specs.List.{list_any};
+ghost use Rattle.std.specs.Str.{bytes_eq};
+ghost use Rattle.indexmap.specs.IndexMap.{values, IsUnique};
+ghost use Rattle.terms.specs.Types.{NamedZone};
+ghost use Rattle.terms.specs.Lookups.{is_applied};
+ghost use Rattle.machine.specs.Runs.{Runs};
+ghost use Rattle.machine.specs.Rejecting.{RejectsId};
+ghost use Rattle.report.specs.Views.{line_view};
+ghost use Rattle.sysmods.specs.Edits.{EachFits, after_edits};
+ghost use Rattle.smpe_global.specs.Rejections.{AppliesAlike, IsAnswered, IsRejected};
+
+use crate::removals::write_rejected;
+use fields::{Id, IdList, ZoneName};
+use indexmap::IndexMap;
+use report::{Line, Status, place_of};
+use std::alloc::{AllocError, Global};
+use sysmods::{GlobalEdit, GlobalZone};
+use terms::IdRefusal;
+use zones::Zone;
+
+/// What a REJECT writes, the first edit first, and its lines.
+#[derive(Drop)]
+pub struct Rejected {
+    pub edits: Vec<GlobalEdit>,
+    pub lines: Vec<Line>,
+}
+
+/// Whether some zone has it applied.
+fn is_applied(zones: &IndexMap<ZoneName, Zone>, id: Id) -> bool
+    ensures { result ≡ list_any (λ zone. is_applied zone id) (values zones.now) }
+{
+    zones.values().any(|zone| zone.is_applied(id))
+}
+
+/// Takes a SYSMOD out of the global zone, or refuses it.
+fn take_out(
+    global: &mut GlobalZone,
+    zones: &IndexMap<ZoneName, Zone>,
+    id: Id,
+    edits: &mut Vec<GlobalEdit>,
+) -> Result<Status, AllocError>
+    ensures { IfOk result (IsAnswered zones.now global.old id global.new edits.old.items edits.new.items) }
+{
+    if !global.is_received(id) {
+        return Ok(Status::Refused(IdRefusal::Rj2));
+    }
+    if is_applied(zones, id) {
+        return Ok(Status::Refused(IdRefusal::Rj1));
+    }
+    write_rejected(edits, global, id)?;
+    let _ = global.reject(id);
+    Ok(Status::Rejected)
+}
+
+fn reject_one(
+    global: &mut GlobalZone,
+    zones: &IndexMap<ZoneName, Zone>,
+    id: Id,
+    rejected: &mut Rejected,
+) -> Result<(), AllocError>
+    ensures { OnOk result (IsRejected zones.now global.old id global.new rejected.old.edits.items
+        rejected.new.edits.items rejected.old.lines.items rejected.new.lines.items) }
+{
+    let place = place_of(global, id);
+    let status = take_out(global, zones, id, &mut rejected.edits)?;
+    rejected.lines.push(Line::Status { id, place, status })?;
+    Ok(())
+}
+
+/// Rejects the ids, in their order, each unless it is applied in one of the zones. Where memory runs out, some may be
+/// gone.
+pub fn reject(
+    alloc: Global,
+    global: &mut GlobalZone,
+    zones: &IndexMap<ZoneName, Zone>,
+    ids: &IdList,
+) -> Result<Rejected, AllocError>
+    ensures runs { IfOk result (λ r. (named : List NamedZone) → AppliesAlike zones.now named
+        → Runs (RejectsId named) global.old ids.now global.new (map line_view r.lines.items)) }
+    ensures fits { IfOk result (λ r. EachFits r.edits.items global.old) }
+    ensures edits { IfOk result (λ r. after_edits r.edits.items global.old ≡ global.new) }
+    ensures names { IsUnique bytes_eq zones.now }
+{
+    prove!(zones.len() < usize::MAX);
+    let mut rejected = Rejected {
+        edits: Vec::new(alloc),
+        lines: Vec::new(alloc),
+    };
+    let all = ids.as_slice();
+    for id in all {
+        reject_one(global, zones, *id, &mut rejected)?;
+    }
+    Ok(rejected)
+}

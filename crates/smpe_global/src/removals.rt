@@ -1,0 +1,38 @@
+//! The edits by which the tables follow.
+ghost use Rattle.std.specs.Prelude.{◌≡◌, ◌++◌, map, filter, OnOk};
+ghost use Rattle.terms.specs.declared.kinds.HoldKind.TheVariants.{System};
+ghost use Rattle.terms.specs.Lookups.{holds_of};
+ghost use Rattle.smpe_global.specs.Rejections.{removal, edits_of};
+
+use fields::Id;
+use std::alloc::AllocError;
+use sysmods::{GlobalEdit, GlobalZone};
+use terms::HoldKind;
+
+fn append_hold_removals(
+    edits: &mut Vec<GlobalEdit>,
+    global: &GlobalZone,
+    id: Id,
+) -> Result<(), AllocError>
+    ensures { OnOk result (edits.new.items ≡ edits.old.items
+        ++ map removal (filter (λ h. h.internal) (holds_of global.now System id))) }
+{
+    for hold in global.holds_of(HoldKind::System, id) {
+        if hold.internal {
+            edits.push(GlobalEdit::RemoveHold(hold.id, hold.kind, hold.reason))?;
+        }
+    }
+    Ok(())
+}
+
+/// Appends what takes a SYSMOD and the internal holds on it out of the tables.
+pub(crate) fn write_rejected(
+    edits: &mut Vec<GlobalEdit>,
+    global: &GlobalZone,
+    id: Id,
+) -> Result<(), AllocError>
+    ensures { OnOk result (edits.new.items ≡ edits.old.items ++ edits_of global.now id) }
+{
+    edits.push(GlobalEdit::RemoveSysmod(id))?;
+    append_hold_removals(edits, global, id)
+}

@@ -1,3 +1,0 @@
-pub mod Dropping
-pub mod Ids
-pub mod Zones

@@ -1,8 +1,0 @@
-use Rattle.std.proofs.Common.{take}
-use Rattle.smpe_reject.specs.Rejections.{AreRejected}
-use Rattle.smpe_reject.proofs.rejected.reject.Given as goal
-
--- the ids so far
-abbrev pub invariant-loop-id : goal.invariant-loop-id
-invariant-loop-id l = AreRejected l.zones l.initial.global (take l.id-index l.all) l.global l.rejected.edits.items
-    l.rejected.lines.items

@@ -1,0 +1,3 @@
+pub mod Editing
+pub mod InTurn
+pub mod Turning

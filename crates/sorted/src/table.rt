@@ -1,0 +1,129 @@
+//! Items in the order of their keys, no key twice.
+ghost use Rattle.std.specs.Prelude.{◌≡◌, ◌<◌, ◌↔◌, ◌++◌, [], ◌∷◌, IsTrue, All, IfOk};
+ghost use Rattle.std.specs.Prelude.{IfSome, IfNone, OnOk, OnErr, List, IsPermutation, find, option_copied};
+ghost use Rattle.std.specs.Prelude.{if◌then◌else◌};
+ghost use Rattle.std.specs.Ordering.{is_lt};
+ghost use Rattle.terms.specs.Rising.{Rises, with_item};
+ghost use Rattle.sorted.specs.Edits.{edited};
+
+use crate::copies::{TryClone, copied};
+use crate::edits::{Edit, edited};
+use crate::keyed::{Keyed, are_rising, place, stands_last};
+use std::alloc::{AllocError, Global};
+use std::marker::Model;
+
+/// Items that rise by their keys, no key twice. A contract sees them as their list.
+#[derive(Drop)]
+pub struct Table<T: Keyed + Drop> {
+    items: Vec<T>,
+}
+
+impl<T: Keyed + Drop> Model for Table<T> {
+    ghost use Rattle.std.specs.Prelude.{List};
+    ghost use Rattle.terms.specs.Rising.{Rises};
+
+    ghost Value = { List T };
+
+    ghost view = { λ a. a.items.items };
+
+    ghost invariant = { λ a. Rises T.Key.cmp T.key_of a.items.items };
+}
+
+impl<T: Keyed + Drop> Table<T> {
+    pub fn new(alloc: Global) -> Self
+        ensures { result ≡ [] }
+    {
+        Table {
+            items: Vec::new(alloc),
+        }
+    }
+
+    /// The table of these items, if no two of them have one key. It sorts them.
+    pub fn from_vec(mut items: Vec<T>) -> Option<Self>
+        ensures same { IfSome result (λ table. IsPermutation items.items table) }
+        ensures rising { IfSome result (λ table. Rises T.Key.cmp T.key_of table) }
+        ensures none { IfNone result
+            ((other : List T) → IsPermutation items.items other → ¬ Rises T.Key.cmp T.key_of other) }
+    {
+        items.sort_unstable_by_key(|item| item.key());
+        if !are_rising(items.as_slice()) {
+            return None;
+        }
+        Some(Table { items })
+    }
+
+    pub fn into_vec(self) -> Vec<T>
+        ensures items { result.items ≡ self }
+        ensures rising { Rises T.Key.cmp T.key_of result.items }
+    {
+        self.items
+    }
+
+    pub fn as_slice(&self) -> &[T]
+        ensures items { result.now ≡ self.now }
+        ensures rising { Rises T.Key.cmp T.key_of result.now }
+    {
+        self.items.as_slice()
+    }
+
+    pub fn get(&self, key: T::Key) -> Option<&T>
+        ensures { option_copied result ≡ find (λ x. T.Key.eq (T.key_of x) key) self.now }
+    {
+        match place(self.items.as_slice(), key) {
+            Ok(place) => Some(&self.items[place]),
+            Err(_) => None,
+        }
+    }
+
+    /// The item comes in at its place, where it takes the place of one of its key.
+    pub fn put(&mut self, item: T) -> Result<(), AllocError>
+        ensures ok { OnOk result (self.new ≡ with_item T.Key.cmp T.key_of self.old item) }
+        ensures err { OnErr result (self.new ≡ self.old) }
+    {
+        match place(self.items.as_slice(), item.key()) {
+            Ok(place) => {
+                self.items[place] = item;
+                Ok(())
+            }
+            Err(place) => {
+                self.items.insert(place, item)?;
+                Ok(())
+            }
+        }
+    }
+
+    /// Adds an item whose key is behind all others, and answers whether it is.
+    pub fn push_last(&mut self, item: T) -> Result<bool, AllocError>
+        ensures fits { IfOk result
+            (λ fits. IsTrue fits
+            ↔ All (λ x. IsTrue (is_lt (T.Key.cmp (T.key_of x) (T.key_of item)))) self.old) }
+        ensures ok { IfOk result
+            (λ fits. self.new ≡ (if fits then self.old ++ item ∷ [] else self.old)) }
+        ensures err { OnErr result (self.new ≡ self.old) }
+    {
+        let fits = stands_last(self.items.as_slice(), item.key());
+        if fits {
+            self.items.push(item)?;
+        }
+        Ok(fits)
+    }
+}
+
+impl<T: Keyed + TryClone> Table<T> {
+    pub fn try_clone(&self, alloc: Global) -> Result<Self, AllocError>
+        ensures { IfOk result (λ copy. copy ≡ self.now) }
+    {
+        Ok(Table {
+            items: copied(alloc, self.items.as_slice())?,
+        })
+    }
+
+    /// The table after these edits. It goes over the items once.
+    pub fn edited(&self, alloc: Global, edits: &Table<Edit<T, T::Key>>) -> Result<Self, AllocError>
+        ensures { IfOk result (λ new. new ≡ edited T.Key.cmp T.key_of self.now edits.now) }
+    {
+        Ok(Table {
+            items: edited(alloc, self.items.as_slice(), edits.as_slice())?,
+        })
+    }
+}

@@ -1,0 +1,76 @@
+//! Whether two entries or two elements are the same.
+ghost use Rattle.std.specs.Prelude.{◌≡◌, ◌↔◌, IsTrue, Some, option_copied};
+
+use crate::entries::{Element, Entry};
+use fields::IdList;
+
+/// Whether the two are one entry.
+pub fn is_same_entry(a: &Entry, b: &Entry) -> bool
+    ensures { IsTrue result ↔ (a.now ≡ b.now) }
+{
+    has_same_state(a, b) && has_same_lists(a, b)
+}
+
+fn has_same_state(a: &Entry, b: &Entry) -> bool
+    ensures { IsTrue result
+        ↔ (a.now.id ≡ b.now.id) × (a.now.applied ≡ b.now.applied) × (a.now.delby ≡ b.now.delby) }
+{
+    a.id == b.id && a.applied == b.applied && a.delby == b.delby
+}
+
+fn has_same_lists(a: &Entry, b: &Entry) -> bool
+    ensures { IsTrue result ↔ (a.now.supby ≡ b.now.supby) × (a.now.waived ≡ b.now.waived) }
+{
+    same_ids(&a.supby, &b.supby) && same_ids(&a.waived, &b.waived)
+}
+
+fn same_ids(a: &IdList, b: &IdList) -> bool
+    ensures { IsTrue result ↔ (a.now ≡ b.now) }
+{
+    a.as_slice() == b.as_slice()
+}
+
+/// Whether the two are one element, or none.
+pub fn is_there(a: Option<&Element>, b: Option<&Element>) -> bool
+    ensures { IsTrue result ↔ (option_copied a.entry ≡ option_copied b.entry) }
+{
+    match a {
+        Some(element) => is_element(element, b),
+        None => b.is_none(),
+    }
+}
+
+/// Whether the element is there, and is the same.
+pub fn is_element(a: &Element, b: Option<&Element>) -> bool
+    ensures { IsTrue result ↔ (Some a.now ≡ option_copied b.entry) }
+{
+    match b {
+        Some(element) => is_same_element(a, element),
+        None => false,
+    }
+}
+
+fn is_same_element(a: &Element, b: &Element) -> bool
+    ensures { IsTrue result ↔ (a.now ≡ b.now) }
+{
+    has_same_names(a, b) && has_same_owner(a, b) && has_same_text(a, b)
+}
+
+fn has_same_names(a: &Element, b: &Element) -> bool
+    ensures { IsTrue result ↔ (a.now.elem_type ≡ b.now.elem_type) × (a.now.name ≡ b.now.name)
+        × (a.now.distlib ≡ b.now.distlib) × (a.now.syslib ≡ b.now.syslib) }
+{
+    a.elem_type == b.elem_type && a.name == b.name && a.distlib == b.distlib && a.syslib == b.syslib
+}
+
+fn has_same_owner(a: &Element, b: &Element) -> bool
+    ensures { IsTrue result ↔ (a.now.fmid ≡ b.now.fmid) × (a.now.rmid ≡ b.now.rmid) × (a.now.umids ≡ b.now.umids) }
+{
+    a.fmid == b.fmid && a.rmid == b.rmid && same_ids(&a.umids, &b.umids)
+}
+
+fn has_same_text(a: &Element, b: &Element) -> bool
+    ensures { IsTrue result ↔ (a.now.text ≡ b.now.text) }
+{
+    a.text.as_slice() == b.text.as_slice()
+}

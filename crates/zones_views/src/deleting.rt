@@ -1,0 +1,85 @@
+//! What SYSMODs name in DELETE, and a candidate's view of a zone.
+ghost use Rattle.std.specs.Prelude.{◌≡◌, ◌++◌, [], ◌∷◌, IfOk, OnOk, filter};
+ghost use Rattle.terms.specs.Choice.{del_of};
+ghost use Rattle.terms.specs.Lookups.{is_in};
+ghost use Rattle.terms.specs.Over.{chain};
+ghost use Rattle.terms.specs.Deleted.{deletions, view};
+ghost use Rattle.sysmods.specs.Choices.{choice};
+
+use crate::less::zone_less;
+use fields::{Id, IdList};
+use std::alloc::{AllocError, Global};
+use sysmods::VerChoice;
+use zones::Zone;
+
+/// What these SYSMODs name in DELETE, in their order.
+pub fn deletions(alloc: Global, vers: &VerChoice<'_>, ids: &[Id]) -> Result<Vec<Id>, AllocError>
+    ensures { IfOk result (λ dels. dels.items ≡ deletions (choice vers.now) ids.now) }
+{
+    let mut dels = Vec::new(alloc);
+    for id in ids {
+        append_deletions(vers, *id, &mut dels)?;
+    }
+    Ok(dels)
+}
+
+/// What the candidates in the chain of this one name in DELETE: its view is the zone less these.
+pub fn view_deletions(
+    alloc: Global,
+    vers: &VerChoice<'_>,
+    cands: &IdList,
+    id: Id,
+) -> Result<Vec<Id>, AllocError>
+    ensures { IfOk result (λ dels. dels.items ≡ deletions (choice vers.now)
+        (filter (is_in cands.now) (chain vers.now.global.now (choice vers.now) id))) }
+{
+    let mut dels = Vec::new(alloc);
+    for above in vers.chain(id) {
+        append_of_candidate(vers, cands, above, &mut dels)?;
+    }
+    Ok(dels)
+}
+
+/// A candidate's view: the zone without what the DELETEs of candidates in its own chain take out.
+pub fn view(
+    alloc: Global,
+    vers: &VerChoice<'_>,
+    cands: &IdList,
+    zone: &Zone,
+    id: Id,
+) -> Result<Zone, AllocError>
+    ensures { IfOk result (λ seen. seen ≡ view vers.now.global.now (choice vers.now) cands.now zone.now id) }
+{
+    let dels = view_deletions(alloc, vers, cands, id)?;
+    zone_less(alloc, vers, dels.as_slice(), zone)
+}
+
+/// Adds what the SYSMOD names in DELETE.
+pub(crate) fn append_deletions(
+    vers: &VerChoice<'_>,
+    id: Id,
+    dels: &mut Vec<Id>,
+) -> Result<(), AllocError>
+    ensures { OnOk result (dels.new.items ≡ dels.old.items ++ del_of (choice vers.now) id) }
+{
+    match vers.ver(id) {
+        Some(ver) => dels.extend_from_slice(ver.del.as_slice()),
+        None => Ok(()),
+    }
+}
+
+// Adds what it names in DELETE, if it is a candidate.
+fn append_of_candidate(
+    vers: &VerChoice<'_>,
+    cands: &IdList,
+    id: Id,
+    dels: &mut Vec<Id>,
+) -> Result<(), AllocError>
+    ensures { OnOk result (dels.new.items
+        ≡ dels.old.items ++ deletions (choice vers.now) (filter (is_in cands.now) (id ∷ []))) }
+{
+    if cands.contains(id) {
+        append_deletions(vers, id, dels)?;
+    }
+    Ok(())
+}
