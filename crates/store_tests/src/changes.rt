@@ -177,7 +177,7 @@ const BAD: &[&str] = &[
 const WRITTEN: &[&str] = &[
     "DELETE FROM entry WHERE zone = 'TGT1' AND id = 'UAA0001'",
     "DELETE FROM zelem WHERE zone = 'TGT1' AND type = 'MAC' AND name = 'MAC2'",
-    "UPDATE sysmod SET sources = 'PUT2402' WHERE id = 'AAA0003'",
+    "UPDATE sysmod SET sources = 'PUT2401$RSU2404#PUT2401$RSU2404#PUT2401$RSU2404#PUT2401$RSU2404#,PUT2402' WHERE id = 'AAA0003'",
 ];
 
 fn commit_two<S: Alter>(alloc: Global, store: &mut Store<S>) -> Result<(), Fail> {
