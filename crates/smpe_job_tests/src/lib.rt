@@ -3,9 +3,13 @@
 #![tactic(auto)]
 
 #[cfg(test)]
+mod checked;
+#[cfg(test)]
 mod failing;
 #[cfg(test)]
 mod firsts;
+#[cfg(test)]
+mod limited;
 #[cfg(test)]
 mod listings;
 #[cfg(test)]
@@ -18,3 +22,5 @@ mod receives;
 mod tests;
 #[cfg(test)]
 mod words;
+#[cfg(test)]
+mod writers;

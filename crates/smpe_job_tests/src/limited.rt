@@ -1,0 +1,57 @@
+//! A connection whose queries may take so many steps: what was reported is there, and no command is there in part.
+
+use crate::checked::{Ended, check_found, run_over};
+use smpe_play::{FUNCTION_INSTALLED, FUNCTION_RECEIVED, define_both, new_files, opened, play};
+use sqlite::{Alter, Connection};
+use std::alloc::Global;
+use std::test::Fail;
+
+/// The function is installed over the connection, which is given back.
+fn installed<S: Alter + Drop>(alloc: Global, conn: Connection<S>) -> Result<Connection<S>, Fail> {
+    let mut store = opened(alloc, conn)?;
+    define_both(alloc, &mut store)?;
+    play(alloc, &mut store, &FUNCTION_RECEIVED)?;
+    play(alloc, &mut store, &FUNCTION_INSTALLED)?;
+    Ok(store.close())
+}
+
+/// Runs the job over the connection with so many steps for each query.
+fn run_limited<S: Alter + Drop>(
+    alloc: Global,
+    conn: Connection<S>,
+    steps: u64,
+) -> Result<Ended, Fail> {
+    let mut conn = installed(alloc, conn)?;
+    conn.set_step_limit(Some(steps));
+    let mut report = Vec::new(alloc);
+    let (mut conn, how) = run_over(alloc, conn, &mut report)?;
+    conn.set_step_limit(None);
+    check_found(alloc, conn, report.as_slice(), how)?;
+    Ok(how)
+}
+
+#[test]
+fn in_memory(rt: HostRuntime) -> Result<(), Fail> {
+    let alloc = rt.alloc();
+    let mut steps: u64 = 1;
+    for _ in 0..24 {
+        if run_limited(alloc, Connection::open_in_memory(alloc)?, steps)? == Ended::Well {
+            return Ok(());
+        }
+        steps = steps.saturating_mul(2);
+    }
+    Err(Fail::from("the job does not end with sixteen million steps"))
+}
+
+#[test]
+fn over_files(rt: HostRuntime) -> Result<(), Fail> {
+    let alloc = rt.alloc();
+    let mut steps: u64 = 1;
+    for _ in 0..24 {
+        if run_limited(alloc, new_files(alloc)?, steps)? == Ended::Well {
+            return Ok(());
+        }
+        steps = steps.saturating_mul(2);
+    }
+    Err(Fail::from("the job does not end with sixteen million steps"))
+}
