@@ -63,10 +63,12 @@ LEFT JOIN standing ON standing.zone = zone.name AND standing.id = hold.id;
 -- What is not installed in a zone: received, with a ++VER for its SREL, and neither applied nor superseded nor deleted
 -- there, with the number of its open holds and of the ids that it needs and the zone does not supply.
 CREATE TEMP VIEW not_installed AS
-SELECT zone.name AS zone, sysmod.id, sysmod.kind, fmid, sources, coalesce(holds, 0) AS holds,
-  coalesce(unmet, 0) AS unmet
+SELECT zone.name AS zone, sysmod.id, sysmod.kind, fmid, coalesce(sourceids, '') AS sources,
+  coalesce(holds, 0) AS holds, coalesce(unmet, 0) AS unmet
 FROM zone JOIN ver ON ver.srel = zone.srel JOIN sysmod ON sysmod.id = ver.id
 LEFT JOIN entry ON entry.zone = zone.name AND entry.id = sysmod.id
+LEFT JOIN (SELECT id, group_concat(name) AS sourceids FROM (SELECT id, name FROM source ORDER BY id, name)
+  GROUP BY id) AS s ON s.id = sysmod.id
 LEFT JOIN (SELECT zone, id, count(*) AS holds FROM held WHERE open GROUP BY zone, id) AS h
   ON h.zone = zone.name AND h.id = sysmod.id
 LEFT JOIN (SELECT zone, id, count(DISTINCT needed) AS unmet FROM needs WHERE state = 'OPEN' GROUP BY zone, id) AS n

@@ -28,6 +28,10 @@ zone_text name (Code n) = []
 zone_text name Defined = words_line (codes "ZONE" ∷ name ∷ codes "DEFINED" ∷ [])
 zone_text name (NotDefined why) = refused_text why
 
+-- the line of a database that has the tables of this program's schema
+abbrev pub migrated_text : Text
+migrated_text = words_line (codes "SCHEMA" ∷ codes "3" ∷ [])
+
 -- the status of a program that has an answer
 abbrev pub answer_status : machine.Answer → ℕ
 answer_status (Code n) = n

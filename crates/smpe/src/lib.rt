@@ -21,7 +21,7 @@ pub use job::run_job;
 pub use jobs::{Answer, Job, run_jobs};
 pub use law::next_open_finds;
 pub use list_job::list_commands;
-pub use messages::{FAULT_STATUS, Fault, fault_line, zone_line};
+pub use messages::{FAULT_STATUS, Fault, fault_line, migrated_line, zone_line};
 pub use smpe_invocation::{ArgFault, Invocation, invocation};
 pub use smpe_zones::{ZoneError, ZoneFault};
 pub use zone::define_zone;

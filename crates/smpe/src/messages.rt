@@ -4,8 +4,8 @@ ghost use Rattle.report.specs.Sent.{Sent};
 ghost use Rattle.machine.specs.Machine.{Defined, NotDefined};
 ghost use Rattle.smpe_zones.specs.Definitions.{fault_of};
 ghost use Rattle.smpe.specs.Ending.{answer_of};
-ghost use Rattle.smpe.specs.Messages.{answer_status, fault_status, fault_text, job_text, program_line, refused_text};
-ghost use Rattle.smpe.specs.Messages.{store_text, zone_fault_text, zone_text};
+ghost use Rattle.smpe.specs.Messages.{answer_status, fault_status, fault_text, job_text, migrated_text, program_line};
+ghost use Rattle.smpe.specs.Messages.{refused_text, store_text, zone_fault_text, zone_text};
 
 use crate::error::JobError;
 use crate::jobs::Answer;
@@ -61,6 +61,16 @@ pub fn zone_line<W: Sink>(name: ZoneName, answer: &Answer, w: &mut W) -> Result<
         Answer::Defined => write_defined(&name, w),
         Answer::Refused(why) => write_refused(*why, w),
     }
+}
+
+/// Writes the line of a database that has the tables of this program's schema, and answers the program's status.
+pub fn migrated_line<W: Sink>(w: &mut W) -> Result<u8, WriteFault>
+    ensures sends { Sent W.Sink w.old w.new migrated_text }
+    ensures fault { W.has_failed w.new ≡ is_err result }
+    ensures status { IfOk result (λ status. status ≡ 0) }
+{
+    write_all(b"SCHEMA 3\n", w)?;
+    Ok(0)
 }
 
 /// The status of a program that ends with a fault.

@@ -18,6 +18,7 @@ use Rattle.store_schema.specs.Known.{HasOtherNumber, HasNoState, HasOwnTables, t
 use Rattle.store_schema.specs.Stands.{IsSetUp}
 use Rattle.smpe_zones.specs.Kept.{kept}
 use Rattle.store.specs.BadRows.{FoundNoState}
+use Rattle.store_migration.specs.Migrated.{Migrated, Unmigrated}
 use Rattle.store.specs.View.{Tables, Leaves, LeavesFound, IsFound}
 use Rattle.smpe_zones.specs.declared.error.ZoneError.{ZoneError}
 use Rattle.smpe_zones.specs.declared.error.ZoneError.TheVariants as zone
@@ -104,3 +105,13 @@ module _ {H D : Type 0} (host : HostGhosts H D) (g : Ghosts D) where
       × Works h db (λ conn store s. HasDefined g conn store s d defined)
       (λ begun store. TellsNone g begun store defined) after
       × (r ≡ answer_to defined))
+
+  -- The database of this name was opened, taken over to the store's schema or left as it was, and closed; or it was not
+  -- opened.
+  abbrev pub MigratesOver : H → Text → Result (Unit {0}) StoreError → H → Type 0
+  MigratesOver h db (Ok done) after =
+      (conn store : Held D) × (opened : H) × host.opens h db conn opened × Migrated g conn store
+      × host.closes opened store after
+  MigratesOver h db (Err why) after = ((error : Error) × host.refuses h db error after × (why ≡ told error))
+      ⊎ ((conn left : Held D) × (opened : H) × host.opens h db conn opened × Unmigrated g conn left why
+      × host.closes opened left after)

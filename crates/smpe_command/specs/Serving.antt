@@ -10,7 +10,7 @@ use Rattle.report.specs.declared.sink.Sink.{Ghosts as SinkGhosts}
 use Rattle.report.specs.Sent.{Sent}
 use Rattle.smpe_zones.specs.Definitions.{definition}
 use Rattle.smpe_invocation.specs.declared.asked.Invocation.{Invocation}
-use Rattle.smpe_invocation.specs.declared.asked.Invocation.TheVariants.{Zone, Run, List as ListOf}
+use Rattle.smpe_invocation.specs.declared.asked.Invocation.TheVariants.{Zone, Run, List as ListOf, Migrate}
 use Rattle.smpe.specs.declared.error.JobError.{JobError}
 use Rattle.smpe.specs.declared.error.JobError.TheVariants.{Memory, Write}
 use Rattle.smpe.specs.declared.jobs.Answer.{Answer}
@@ -18,10 +18,12 @@ use Rattle.smpe.specs.declared.messages.Fault.{Fault}
 use Rattle.smpe.specs.declared.messages.Fault.TheVariants.{Job}
 use Rattle.smpe.specs.Ending.{answer_of}
 use Rattle.smpe.specs.ListJob.{list_records}
-use Rattle.smpe.specs.Messages.{answer_status, zone_text}
+use Rattle.smpe.specs.Commands.{job_error}
+use Rattle.smpe.specs.Messages.{answer_status, migrated_text, zone_text}
 use Rattle.smpe_command.specs.declared.host.Host.{Ghosts as HostGhosts}
 use Rattle.smpe_command.specs.Reading.{ReadsAll}
-use Rattle.smpe_command.specs.Database.{RunsOver, DefinesOver}
+use Rattle.store_schema.specs.declared.error.StoreError.{StoreError}
+use Rattle.smpe_command.specs.Database.{RunsOver, DefinesOver, MigratesOver}
 
 -- the error of a job is the program's fault
 abbrev pub job_told : Result ℕ JobError → Result ℕ Fault
@@ -35,6 +37,12 @@ module _ {O : Type 0} (sink : SinkGhosts O) (out out' : O) where
       × (0 < length (zone_text name (answer_of answer)) → sink.has_failed out' ≡ is_err r)
       × MatchResult r (λ status. status ≡ answer_status (answer_of answer)) (λ error. error ≡ Write)
   TellsZone name (Err error) r = (r ≡ Err error) × (out' ≡ out)
+
+  -- The line of a database that was taken over goes to the sink, and the status is 0, or a fault as above.
+  abbrev pub TellsMigrated : Result (Unit {0}) StoreError → Result ℕ JobError → Type 0
+  TellsMigrated (Ok done) r = Sent sink out out' migrated_text × (sink.has_failed out' ≡ is_err r)
+      × MatchResult r (λ status. status ≡ 0) (λ error. error ≡ Write)
+  TellsMigrated (Err why) r = (r ≡ Err (job_error why)) × (out' ≡ out)
 
 module _ {H D O : Type 0} (host : HostGhosts H D) (g : Ghosts D) (sink : SinkGhosts O) (h : H) (db : Text) (out : O)
   where
@@ -57,6 +65,10 @@ module _ {H D O : Type 0} (host : HostGhosts H D) (g : Ghosts D) (sink : SinkGho
         ⊎ ((date : Text) × RunsOver host g sink h db
         (RunFiles date (list_records zone) (record { ptfin = []; holds = [] })) out r after out')
 
+    abbrev pub ServesMigrate : Result ℕ JobError → H → O → Type 0
+    ServesMigrate r after out' = (done : Result (Unit {0}) StoreError) × MigratesOver host g h db done after
+        × TellsMigrated sink out out' done r
+
 module _ {H D O : Type 0} (host : HostGhosts H D) (g : Ghosts D) (sink : SinkGhosts O) where
   abbrev pub Serves : H → Invocation → O → Result ℕ Fault → H → O → Type 0
   Serves h (Zone db name kind srel related) out r after out' = (told : Result ℕ JobError)
@@ -67,3 +79,5 @@ module _ {H D O : Type 0} (host : HostGhosts H D) (g : Ghosts D) (sink : SinkGho
       (Some (string_bytes cntl) ∷ option_map string_bytes ptfin ∷ option_map string_bytes hold ∷ []) r after out'
   Serves h (ListOf db zone) out r after out' = (told : Result ℕ JobError)
       × ServesList host g sink h (string_bytes db) out zone told after out' × (r ≡ job_told told)
+  Serves h (Migrate db) out r after out' = (told : Result ℕ JobError)
+      × ServesMigrate host g sink h (string_bytes db) out told after out' × (r ≡ job_told told)

@@ -2,7 +2,7 @@
 ghost use Rattle.std.specs.Prelude.{◌≡◌, IfOk, IfErr};
 ghost use Rattle.machine.specs.Machine.{RunFiles};
 ghost use Rattle.smpe_zones.specs.Definitions.{definition};
-ghost use Rattle.smpe_command.specs.Database.{DefinesOver, FailsToOpen, Opens, RunsOver, answer_to};
+ghost use Rattle.smpe_command.specs.Database.{DefinesOver, FailsToOpen, MigratesOver, Opens, RunsOver, answer_to};
 
 use crate::files::JobFiles;
 use crate::host::Host;
@@ -11,6 +11,7 @@ use report::Sink;
 use smpe::{Answer, JobError, ZoneError, define_zone, run_job};
 use std::alloc::Global;
 use store::{Store, StoreError};
+use store_migration::migrate;
 use terms::ZoneKind;
 
 /// Runs the commands of a command file.
@@ -65,6 +66,26 @@ fn answer(defined: Result<(), ZoneError>) -> Result<Answer, JobError>
         Err(ZoneError::Refused(why)) => Ok(Answer::Refused(why)),
         Err(ZoneError::Store(error)) => Err(JobError::from(error)),
         Err(ZoneError::Memory) => Err(JobError::Memory),
+    }
+}
+
+/// Takes the tables of a database over to the store's schema.
+pub(crate) fn migrate_over<H: Host>(alloc: Global, host: &mut H, db: &str) -> Result<(), StoreError>
+    ensures { MigratesOver H.Host H.Disk.Store host.old db.now result host.new }
+{
+    let conn = match host.open(db) {
+        Ok(conn) => conn,
+        Err(error) => return Err(StoreError::from(error)),
+    };
+    match migrate(alloc, conn) {
+        Ok(store) => {
+            host.close(&mut Some(store.close()));
+            Ok(())
+        }
+        Err((conn, error)) => {
+            host.close(&mut Some(conn));
+            Err(error)
+        }
     }
 }
 

@@ -1,15 +1,16 @@
 //! What is asked for is done.
-ghost use Rattle.std.specs.Prelude.{◌≡◌, [], ◌∷◌, Some, option_map};
+ghost use Rattle.std.specs.Prelude.{◌≡◌, [], ◌∷◌, Some, Ok, option_map};
 ghost use Rattle.std.specs.String.{string_bytes};
 ghost use Rattle.smpe_zones.specs.Definitions.{definition};
-ghost use Rattle.smpe_command.specs.Serving.{Serves, ServesList, ServesRun, ServesZone, TellsZone, job_told};
+ghost use Rattle.smpe_command.specs.Serving.{Serves, ServesList, ServesMigrate, ServesRun, ServesZone};
+ghost use Rattle.smpe_command.specs.Serving.{TellsMigrated, TellsZone, job_told};
 
-use crate::database::{define_over, run_over};
+use crate::database::{define_over, migrate_over, run_over};
 use crate::files::{JobFiles, read_files};
 use crate::host::Host;
 use fields::{Srel, YyDdd, ZoneName};
 use report::Sink;
-use smpe::{Answer, Fault, Invocation, JobError, list_commands, zone_line};
+use smpe::{Answer, Fault, Invocation, JobError, list_commands, migrated_line, zone_line};
 use std::alloc::Global;
 use terms::ZoneKind;
 
@@ -47,6 +48,7 @@ pub(crate) fn served<'a, H: Host, O: Sink>(
             out,
         ),
         Invocation::List { db, zone } => told(list(alloc, host, db.as_str(), *zone, out)),
+        Invocation::Migrate { db } => told(migrate(alloc, host, db.as_str(), out)),
     }
 }
 
@@ -114,4 +116,22 @@ fn list<H: Host, O: Sink>(
         hold: Vec::new(alloc),
     };
     run_over(alloc, host, db, YyDdd::new(2000, 1), &files, out)
+}
+
+fn migrate<H: Host, O: Sink>(
+    alloc: Global,
+    host: &mut H,
+    db: &str,
+    out: &mut O,
+) -> Result<u8, JobError>
+    ensures { ServesMigrate H.Host H.Disk.Store O.Sink host.old db.now out.old result host.new out.new }
+{
+    migrate_over(alloc, host, db)?;
+    migrated_told(out)
+}
+
+fn migrated_told<O: Sink>(out: &mut O) -> Result<u8, JobError>
+    ensures { TellsMigrated O.Sink out.old out.new (Ok tt) result }
+{
+    Ok(migrated_line(out)?)
 }

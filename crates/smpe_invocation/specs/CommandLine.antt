@@ -40,15 +40,20 @@ run_shape = with_options (codes "run")
 abbrev pub list_shape : Shape
 list_shape = with_options (codes "list") (needed (codes "db") ∷ needed (codes "zone") ∷ [])
 
--- `smpe` with one of the three
+-- `migrate --db F`
+abbrev pub migrate_shape : Shape
+migrate_shape = with_options (codes "migrate") (needed (codes "db") ∷ [])
+
+-- `smpe` with one of the four, and `--version`
 abbrev pub smpe : ValueParser → App
 smpe kinds = record {
   top = record (new_app (codes "smpe")).top {
     is_leaf = false;
+    has_version = true;
     subcommand_required = true;
     disable_help_subcommand = true;
   };
-  subs = zone_shape kinds ∷ run_shape ∷ list_shape ∷ [];
+  subs = zone_shape kinds ∷ run_shape ∷ list_shape ∷ migrate_shape ∷ [];
 }
 
 abbrev pub IsCommandLine : App → Type 0

@@ -47,7 +47,12 @@ abbrev pub HasList : List Row → Invocation → Type 0
 HasList rows (asked.List db zone) = HasText (codes "db") rows (string_bytes db) × HasZoneName (codes "zone") rows zone
 HasList rows _ = ⊥
 
+abbrev pub HasMigrate : List Row → Invocation → Type 0
+HasMigrate rows (asked.Migrate db) = HasText (codes "db") rows (string_bytes db)
+HasMigrate rows _ = ⊥
+
 -- the subcommand that is called, with its values
 abbrev pub HasValues : Text × List Row → Invocation → Type 0
 HasValues met invocation = ((met.0 ≡ codes "zone") × HasZone met.1 invocation)
     ⊎ ((met.0 ≡ codes "run") × HasRun met.1 invocation) ⊎ ((met.0 ≡ codes "list") × HasList met.1 invocation)
+    ⊎ ((met.0 ≡ codes "migrate") × HasMigrate met.1 invocation)

@@ -26,4 +26,8 @@ pub enum Invocation {
         db: String,
         zone: ZoneName,
     },
+    /// Take a database of an earlier schema over to the program's own.
+    Migrate {
+        db: String,
+    },
 }

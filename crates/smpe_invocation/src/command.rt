@@ -4,10 +4,13 @@ ghost use Rattle.clap.specs.Words.{app_of, new_app, rule_of, shape_of};
 ghost use Rattle.clap.specs.declared.builder.command.Command.TheViews.{out-Command as fields_of};
 ghost use Rattle.clap.specs.declared.builder.value_parser.ValueParser.{ValueParser};
 ghost use Rattle.smpe_invocation.specs.CommandLine.{IsCommandLine, IsKindParser, kind_option, needed, option};
-ghost use Rattle.smpe_invocation.specs.CommandLine.{list_shape, run_shape, zone_shape};
+ghost use Rattle.smpe_invocation.specs.CommandLine.{list_shape, migrate_shape, run_shape, zone_shape};
 
 use clap::{Arg, Command};
 use std::alloc::{AllocError, Global};
+
+/// What `--version` prints behind the name.
+const VERSION: &str = "1.0.0";
 
 static KINDS: [&str; 2] = ["target", "distribution"];
 
@@ -21,11 +24,13 @@ pub(crate) fn command_line<'a>(alloc: Global) -> Result<Command<'a>, AllocError>
         "Installs service into target and distribution zones",
         "Example: smpe run --db smpe.db --date 2024-05-17 --cntl apply.rec",
     )
+    .version(VERSION)
     .subcommand_required(true)
     .disable_help_subcommand(true)
     .subcommand(zone_command(alloc)?)?
     .subcommand(run_command(alloc)?)?
-    .subcommand(list_command(alloc)?)
+    .subcommand(list_command(alloc)?)?
+    .subcommand(migrate_command(alloc)?)
 }
 
 // A command without options, with a line of what it does and an example.
@@ -82,6 +87,19 @@ fn list_command<'a>(alloc: Global) -> Result<Command<'a>, AllocError>
     )
     .arg(required(alloc, "db", "The database"))?
     .arg(required(alloc, "zone", "The zone, or GLOBAL"))
+}
+
+fn migrate_command<'a>(alloc: Global) -> Result<Command<'a>, AllocError>
+    ensures shape { IfOk result (λ c. shape_of c ≡ migrate_shape) }
+    ensures globals { IfOk result (λ c. (fields_of c).has_globals ≡ false) }
+{
+    command(
+        alloc,
+        "migrate",
+        "Takes a database of an earlier release over to this one",
+        "Example: smpe migrate --db smpe.db",
+    )
+    .arg(required(alloc, "db", "The database, which is best copied before"))
 }
 
 fn kind<'a>(alloc: Global) -> Arg<'a>

@@ -2,7 +2,7 @@
 ghost use Rattle.std.specs.Prelude.{map, option_map, IfOk, IfErr};
 ghost use Rattle.clap.specs.Words.{found_of, rows_of};
 ghost use Rattle.smpe_invocation.specs.Answers.{Excludes, IsMet, IsRead, IsRefused};
-ghost use Rattle.smpe_invocation.specs.Values.{HasList, HasRun, HasZone};
+ghost use Rattle.smpe_invocation.specs.Values.{HasList, HasMigrate, HasRun, HasZone};
 ghost use Rattle.smpe_invocation.specs.declared.asked.Invocation.{Invocation};
 
 use crate::asked::Invocation;
@@ -36,6 +36,8 @@ fn met(alloc: Global, met: Option<(&str, &ArgMatches<'_>)>) -> Result<Invocation
         run(alloc, found)
     } else if name == "list" {
         list(alloc, found)
+    } else if name == "migrate" {
+        migrate(alloc, found)
     } else {
         Err(ArgFault::BadOperand)
     }
@@ -87,4 +89,13 @@ fn list(alloc: Global, found: &ArgMatches<'_>) -> Result<Invocation, ArgFault>
     let zone = zone_name(found, "zone")?;
     let db = text(alloc, found, "db")?;
     Ok(Invocation::List { db, zone })
+}
+
+fn migrate(alloc: Global, found: &ArgMatches<'_>) -> Result<Invocation, ArgFault>
+    ensures ok { IfOk result (HasMigrate (rows_of (found_of found.now))) }
+    ensures err { IfErr result (λ e. Excludes e ((invocation : Invocation)
+        × HasMigrate (rows_of (found_of found.now)) invocation)) }
+{
+    let db = text(alloc, found, "db")?;
+    Ok(Invocation::Migrate { db })
 }

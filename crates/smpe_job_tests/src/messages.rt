@@ -2,7 +2,7 @@
 
 use fields::ZoneName;
 use report::Out;
-use smpe::{Answer, ArgFault, Fault, JobError, ZoneFault, fault_line, zone_line};
+use smpe::{Answer, ArgFault, Fault, JobError, ZoneFault, fault_line, migrated_line, zone_line};
 use smpe_play::compare;
 use std::alloc::Global;
 use std::test::Fail;
@@ -44,6 +44,13 @@ fn zones_have_their_lines(rt: HostRuntime) -> Result<(), Fail> {
         zone_is_told(rt.alloc(), answer, *status, line)?;
     }
     Ok(())
+}
+
+#[test]
+fn a_migration_has_its_line(rt: HostRuntime) -> Result<(), Fail> {
+    let mut bytes: Vec<u8> = Vec::new(rt.alloc());
+    told(migrated_line(&mut Out::new(&mut bytes))?, 0)?;
+    compare(bytes.as_slice(), "SCHEMA 3\n")
 }
 
 fn fault_is_told(alloc: Global, fault: &Fault<'_>, line: &str) -> Result<(), Fail> {

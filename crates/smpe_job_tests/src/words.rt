@@ -34,11 +34,15 @@ const LINES: &[(&str, &str)] = &[
     ),
     ("smpe list --db F --zone TGT1", "F TGT1"),
     ("smpe list --zone=GLOBAL --db F", "F GLOBAL"),
+    ("smpe migrate --db F", "F"),
     ("smpe", "clap"),
     ("smpe --help", "clap"),
+    ("smpe --version", "clap"),
     ("smpe help", "clap"),
     ("smpe list --help", "clap"),
     ("smpe list --db F", "clap"),
+    ("smpe migrate", "clap"),
+    ("smpe migrate --db F --zone TGT1", "clap"),
     ("smpe list --db F --zone TGT1 --date 2024-05-17", "clap"),
     ("smpe zone --db F --name DLB1 --kind distribution", "clap"),
     (
@@ -120,6 +124,7 @@ fn shown(alloc: Global, invocation: &Invocation) -> Result<String, Fail> {
             let zone = std::str::from_utf8(zone.as_bytes())?;
             Ok(format!(in alloc; "{db} {zone}")?)
         }
+        Invocation::Migrate { db } => Ok(format!(in alloc; "{db}")?),
     }
 }
 
@@ -140,4 +145,18 @@ fn words_are_read(rt: HostRuntime) -> Result<(), Fail> {
         compare(got.as_bytes(), wanted)?;
     }
     Ok(())
+}
+
+fn answer_of_clap(alloc: Global, line: &str) -> Result<String, Fail> {
+    let words = words(alloc, line)?;
+    match invocation(alloc, words.as_slice()) {
+        Ok(_) => Err(Fail::new(format_args!("{line} asks for a job"))),
+        Err(fault) => Ok(format!(in alloc; "{fault}")?),
+    }
+}
+
+#[test]
+fn the_version_is_told(rt: HostRuntime) -> Result<(), Fail> {
+    let got = answer_of_clap(rt.alloc(), "smpe --version")?;
+    compare(got.as_bytes(), "smpe 1.0.0\n")
 }

@@ -1,4 +1,4 @@
-//! `smpe`: defines a zone of a database, runs a job over it, or lists a zone.
+//! `smpe`: defines a zone of a database, runs a job over it, lists a zone, or takes the database over to its schema.
 //! What it does is `smpe_command::command`; here is the input and output that it asks for, which is proved safe.
 #![tactic(auto)]
 

@@ -5,4 +5,4 @@ mod Loading
 pub mod NoState
 mod Parts
 pub mod Reopening
-mod ViewLemmas
+pub mod ViewLemmas

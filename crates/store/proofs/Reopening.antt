@@ -1,7 +1,7 @@
 -- A database tells its schema by its own list, so what is opened again is what was kept.
 use Rattle.std.proofs.Common.{◌≡◌, ◌∙◌, ◌+◌, ℕ, List, [], ◌∷◌, true, false, Some, None, Ok, inl, inr, refl, sym, ap}
 use Rattle.std.proofs.Common.{ap₂, subst, arith, length}
-use Rattle.std.specs.Prelude.{IsTrue, filter, slice_get, pos}
+use Rattle.std.specs.Prelude.{IsTrue, filter, map, slice_get, pos}
 use Rattle.std.specs.List.{AllByRecursion, AllZip}
 use Rattle.std.proofs.lemmas.Option.{slice_get_cases}
 use Rattle.sqlite.specs.Store.{Ghosts}
@@ -21,10 +21,13 @@ use Rattle.sqlite_catalog.specs.Listing.{IsSound, IsTableRow, IsIndexRow, IsView
 use Rattle.sqlite_catalog.specs.Listing.{is_table_row, is_index_row, is_view_row}
 use Rattle.sqlite_catalog.proofs.StepLemmas.{same_itself}
 use Rattle.sqlite_trees.specs.Objects.{catalog_tree}
+use Rattle.store_schema.specs.declared.release.Release.{Release}
+use Rattle.store_schema.specs.declared.release.Release.TheVariants.{First, Second, Third}
+use Rattle.store_schema.specs.Earlier.{tables_under, schema_under, IsEarlierStateOf}
 use Rattle.store_schema.specs.Inventory.{Inventory}
 use Rattle.store_schema.specs.Stands.{StandsFor}
-use Rattle.store_schema.specs.Tables.{all_tables, store_schema}
-use Rattle.store.specs.View.{Tables, IsFound, MayLeave, Leaves}
+use Rattle.store_schema.specs.Tables.{index_of, schema_of, store_schema}
+use Rattle.store.specs.View.{Tables, IsFound, IsEarlierFound, MayLeave, Leaves, LeavesEarlier}
 
 -- two lists, each item of which goes with the item of a third at its place
 one_zip : {X Y : Type 0} (R : X → Y → Type 0) → ((x : X) (a b : Y) → R x a → R x b → a ≡ b) → (xs : List X)
@@ -118,23 +121,56 @@ no_rows R [] [] p q = refl
 no_rows R [] (y ∷ ys) p q = absurd q
 no_rows R (x ∷ xs) ys p q = absurd p
 
--- what lists the store's tables lists no other schema
-pub lists_own : (schema : Schema) (db : Trees) → IsSound store_schema db → IsSound schema db → schema ≡ store_schema
-lists_own schema db own other =
+-- what lists tables of one key each lists no other schema
+lists_same : (tables : List Table) (schema : Schema) (db : Trees) → AllByRecursion HasOneKey tables
+    → IsSound (schema_of tables) db → IsSound schema db → schema ≡ schema_of tables
+lists_same tables schema db keys own other =
     let a = other.lists.listed in
     let b = own.lists.listed in
     let objects = db catalog_tree in
-    let tables : schema.tables ≡ all_tables = one_zip IsTableRow one_table (filter is_table_row objects) _ _ a.tables
-    b.tables in
-    let rows = subst (λ ts. AllZip (IsIndexRow ts) (filter is_index_row objects) schema.indexes) tables a.indexes in
-    let keys : AllByRecursion HasOneKey all_tables =
-    (refl, (refl, (refl, (refl, (refl, (refl, (refl, (refl, (refl, tt))))))))) in
-    let indexes : schema.indexes ≡ store_schema.indexes = one_zip (IsIndexRow all_tables)
-    (one_index all_tables b.named keys) (filter is_index_row objects) _ _ rows b.indexes in
+    let same : schema.tables ≡ tables = one_zip IsTableRow one_table (filter is_table_row objects) _ _ a.tables b.tables
+    in
+    let rows = subst (λ ts. AllZip (IsIndexRow ts) (filter is_index_row objects) schema.indexes) same a.indexes in
+    let indexes : schema.indexes ≡ map index_of tables = one_zip (IsIndexRow tables) (one_index tables b.named keys)
+    (filter is_index_row objects) _ _ rows b.indexes in
     let views : schema.views ≡ [] = no_rows IsViewRow (filter is_view_row objects) schema.views b.views a.views in
-    ap (λ ts. record schema { tables = ts }) tables
-    ∙ (ap (λ is. record store_schema { indexes = is; views = schema.views }) indexes
-    ∙ ap (λ vs. record store_schema { views = vs }) views)
+    ap (λ ts. record schema { tables = ts }) same
+    ∙ (ap (λ is. record (schema_of tables) { indexes = is; views = schema.views }) indexes
+    ∙ ap (λ vs. record (schema_of tables) { views = vs }) views)
+
+keys_under : (r : Release) → AllByRecursion HasOneKey (tables_under r)
+keys_under First = (refl, (refl, (refl, (refl, (refl, (refl, (refl, (refl, (refl, tt)))))))))
+keys_under Second = (refl, (refl, (refl, (refl, (refl, (refl, (refl, (refl, (refl, (refl, tt))))))))))
+keys_under Third = (refl, (refl, (refl, (refl, (refl, (refl, (refl, (refl, (refl, (refl, (refl, (refl, (refl, tt)))))))))))))
+
+-- what lists a release's tables lists no other schema
+pub lists_release : (r : Release) (schema : Schema) (db : Trees) → IsSound (schema_under r) db → IsSound schema db
+    → schema ≡ schema_under r
+lists_release r schema db = lists_same (tables_under r) schema db (keys_under r)
+
+lists_own : (schema : Schema) (db : Trees) → IsSound store_schema db → IsSound schema db → schema ≡ store_schema
+lists_own = lists_release Third
+
+-- nor does what lists nothing
+lists_none : (schema : Schema) (db : Trees) → IsSound (schema_of []) db → IsSound schema db → schema ≡ schema_of []
+lists_none schema db = lists_same [] schema db tt
+
+-- what is there of a state, under another list of the same trees
+pub same_state : (i : Inventory) (schema other : Schema) (db : Trees) → IsSound schema db → IsSound other db
+    → IsEarlierStateOf i (record { schema = schema; trees = db })
+    → IsEarlierStateOf i (record { schema = other; trees = db })
+same_state i schema other db sound again is =
+    subst (λ (s : Schema). IsEarlierStateOf i (record { schema = s; trees = db })) (by is) is
+  where
+    -- the schema is that of these tables, and so is the other
+    known : (tables : List Table) → AllByRecursion HasOneKey tables → schema ≡ schema_of tables → schema ≡ other
+    known tables keys own = own ∙ sym (lists_same tables other db keys (subst (λ s. IsSound s db) own sound) again)
+
+    by : IsEarlierStateOf i (record { schema = schema; trees = db }) → schema ≡ other
+    by (inl (inl blank)) = known [] tt blank.0
+    by (inl (inr stands)) = known (tables_under Third) (keys_under Third) stands.tables.schema_is
+    by (inr (inl stands)) = known (tables_under First) (keys_under First) stands.tables.schema_is
+    by (inr (inr stands)) = known (tables_under Second) (keys_under Second) stands.tables.schema_is
 
 -- A connection that shows what a crash of the store may leave finds one of the inventories that a crash may leave. By
 -- sqlite's `next_run` an open shows that, of files that hold what a crash left.
@@ -164,3 +200,12 @@ found_again g h old new i clean tables live same late is_open =
     (subst (IsSound schema) same (live is_open).1) in
     inr (subst (λ trees. StandsFor i (record { schema = schema; trees = trees })) (sym same)
     (subst (λ (s : Schema). StandsFor i (record { schema = s; trees = db })) (sym own) kept))
+
+-- The same behind a migration that failed: it finds what that found.
+pub found_earlier : {S T : Type 0} (g : Ghosts S) (h : Ghosts T) (old : Held S) (new : Held T) (i : Inventory)
+    → LeavesEarlier g old i → IsLive (state h new) → MayLeave g old (state h new).committed.trees
+    → IsEarlierFound h new i
+found_earlier g h old new i leaves live left clean is_open =
+    let db = (state h new).committed.trees in
+    let it = leaves db left in
+    same_state i it.0 (state h new).committed.schema db it.1 (live is_open).1 it.2

@@ -19,7 +19,7 @@ use Rattle.store.specs.View.{Tables, TablesIfOpen, IsFound, MayLeave, Leaves, Le
 use Rattle.store.specs.Writes.{CommitsChange, IsChangeOutcome}
 
 -- the schema that a database with an inventory has
-own_schema : (i : Inventory) (schema : Schema) (db : Trees) → StandsFor i (record { schema = schema; trees = db })
+pub own_schema : (i : Inventory) (schema : Schema) (db : Trees) → StandsFor i (record { schema = schema; trees = db })
     → StandsFor i (record { schema = store_schema; trees = db })
 own_schema i schema db stands =
     subst (λ (s : Schema). StandsFor i (record { schema = s; trees = db })) stands.tables.schema_is stands

@@ -5,4 +5,5 @@ pub mod Changes
 pub mod Commits
 pub mod Loads
 pub mod View
+pub mod Whole
 pub mod Writes

@@ -5,7 +5,8 @@ use Rattle.sqlite.specs.Schema.{Schema}
 use Rattle.sqlite.specs.Tree.{Trees}
 use Rattle.sqlite.specs.Effect.{IsDatabase}
 use Rattle.sqlite.specs.Held.{Held, state}
-use Rattle.sqlite.specs.State.{HasCleanDisk}
+use Rattle.sqlite.specs.State.{HasCleanDisk, IsLive}
+use Rattle.store_schema.specs.Earlier.{IsEarlierStateOf}
 use Rattle.store_schema.specs.Inventory.{Inventory}
 use Rattle.store_schema.specs.Stands.{StandsFor, IsStateOf}
 use Rattle.store_schema.specs.Tables.{store_schema}
@@ -19,6 +20,11 @@ module _ {S : Type 0} (g : Ghosts S) (at : Held S) where
   -- the last commit of a database that may have no tables yet
   abbrev pub IsFound : Inventory → Type 0
   IsFound i = HasCleanDisk (state g at) → IsTrue (state g at).is_open → IsStateOf i (state g at).committed
+
+  -- the same, under the schema of whichever release
+  abbrev pub IsEarlierFound : Inventory → Type 0
+  IsEarlierFound i =
+      HasCleanDisk (state g at) → IsTrue (state g at).is_open → IsEarlierStateOf i (state g at).committed
 
   -- a crash now may leave this
   abbrev pub MayLeave : Trees → Type 0
@@ -37,6 +43,20 @@ module _ {S : Type 0} (g : Ghosts S) (at : Held S) where
       → (schema : Schema) × IsDatabase (record { schema = schema; trees = db })
       × IsStateOf i (record { schema = schema; trees = db })
 
+  -- the same, under the schema of whichever release
+  abbrev pub LeavesEarlier : Inventory → Type 0
+  LeavesEarlier i =
+      (db : Trees) → MayLeave db
+      → (schema : Schema) × IsDatabase (record { schema = schema; trees = db })
+      × IsEarlierStateOf i (record { schema = schema; trees = db })
+
   -- A fault may have shut the connection. Where it has not, the tables stand for the inventory, and a crash leaves it.
   abbrev pub TablesIfOpen : Inventory → Type 0
   TablesIfOpen i = IsTrue (state g at).is_open → Tables i × Leaves (λ c. c ≡ i)
+
+-- The second connection is open and shows what a crash may leave at this moment of the first, which a fault may have
+-- shut. An open shows that, of files that hold what such a crash left: that is sqlite's `next_run`.
+pub record ShowsLeft {S T : Type 0} (g : Ghosts S) (at : Held S) (h : Ghosts T) (again : Held T) : Type 0 where
+  pub live : IsLive (state h again)
+  pub is_open : IsTrue (state h again).is_open
+  pub left : ∥ MayLeave g at (state h again).committed.trees ∥₁

@@ -29,7 +29,7 @@ fn write_edit<S: Alter>(
         GlobalEdit::PutHold(hold) => put_hold(tx, hold),
         GlobalEdit::RemoveHold(id, kind, reason) => remove_hold(tx, *id, *kind, *reason),
         GlobalEdit::InsertSysmod(sysmod) => insert_sysmod(alloc, tx, sysmod),
-        GlobalEdit::ReplaceSources(sysmod) => replace_sources(alloc, tx, sysmod),
+        GlobalEdit::ReplaceSources(sysmod) => replace_sources(tx, sysmod),
         GlobalEdit::RemoveSysmod(id) => remove_sysmod(tx, *id),
     }
 }

@@ -1,45 +1,59 @@
 //! The global zone, from the tables of SYSMODs and of holds.
 
-ghost use Rattle.std.specs.Prelude.{◌≡◌, IfOk, IsErrOf};
+ghost use Rattle.std.specs.Prelude.{◌≡◌, OnOk, IfOk, IsErrOf};
 ghost use Rattle.sqlite.specs.Held.{state};
 ghost use Rattle.sqlite.specs.State.{HasCleanDisk};
 ghost use Rattle.store_rows.specs.Reads.{OnlyReads};
+ghost use Rattle.store_rows.specs.Rows.{Contents, HasContents};
 ghost use Rattle.terms.specs.Types.{a_global};
 ghost use Rattle.terms.specs.Global.{IsGlobal};
+ghost use Rattle.store_schema.specs.Earlier.{schema_under, StandsUnder};
 ghost use Rattle.store_schema.specs.Inventory.{Inventory};
 ghost use Rattle.store_schema.specs.Stands.{StandsFor};
 ghost use Rattle.store_schema.specs.Tables.{store_schema};
+ghost use Rattle.store.specs.Whole.{HoldsLists};
 
 use sqlite::{Alter, Connection};
 use std::alloc::Global;
 use store_holds::load_holds;
 use store_rows::ReadError;
+use store_schema::Release;
 use store_sysmod_loads::load_sysmods;
 use sysmods::GlobalZone;
 use sysmods_records::{Hold, Sysmod};
 
 /// What the tables of the global zone hold, each list in order.
 #[derive(Drop)]
-struct Lists {
-    sysmods: Vec<Sysmod>,
-    holds: Vec<Hold>,
+pub struct Lists {
+    pub sysmods: Vec<Sysmod>,
+    pub holds: Vec<Hold>,
 }
 
-fn load_lists<S: Alter>(alloc: Global, conn: &mut Connection<S>) -> Result<Lists, ReadError>
-    ensures found { HasCleanDisk (state S.Store conn.new) → (i : Inventory) → StandsFor i (state S.Store conn.old).now
+/// The SYSMODs and holds of a database of this release.
+pub fn load_lists<S: Alter>(
+    alloc: Global,
+    conn: &mut Connection<S>,
+    release: Release,
+) -> Result<Lists, ReadError>
+    ensures found { HasCleanDisk (state S.Store conn.new) → (i : Inventory)
+        → StandsUnder release i (state S.Store conn.old).now
         → IfOk result (λ lists. a_global lists.sysmods.items lists.holds.items ≡ i.global) }
     ensures none { HasCleanDisk (state S.Store conn.new) → IsErrOf result ReadError.BadRow → (i : Inventory)
-        → ¬ StandsFor i (state S.Store conn.old).now }
-    ensures reads { OnlyReads S.Store store_schema ReadError.BadRow ReadError.Fault conn.old conn.new result }
+        → ¬ StandsUnder release i (state S.Store conn.old).now }
+    ensures rows { HasCleanDisk (state S.Store conn.new) → (contents : Contents)
+        → HasContents (schema_under release) contents (state S.Store conn.old).now
+        → IfOk result (λ lists. HoldsLists release contents lists.sysmods.items lists.holds.items) }
+    ensures reads { OnlyReads S.Store (schema_under release) ReadError.BadRow ReadError.Fault conn.old conn.new result }
 {
-    let sysmods = load_sysmods(alloc, conn)?;
+    let sysmods = load_sysmods(alloc, conn, release)?;
     let holds = load_holds(alloc, conn)?;
     Ok(Lists { sysmods, holds })
 }
 
 /// The global zone of these, if they are one.
-fn joined(alloc: Global, lists: Lists) -> Result<GlobalZone, ReadError>
+pub fn joined(alloc: Global, lists: Lists) -> Result<GlobalZone, ReadError>
     ensures same { IfOk result (λ global. global ≡ a_global lists.sysmods.items lists.holds.items) }
+    ensures whole { OnOk result (IsGlobal (a_global lists.sysmods.items lists.holds.items)) }
     ensures none { IsErrOf result ReadError.BadRow → ¬ IsGlobal (a_global lists.sysmods.items lists.holds.items) }
     ensures fault { IsErrOf result ReadError.Fault → ⊥ }
 {
@@ -60,6 +74,6 @@ pub(crate) fn load_global<S: Alter>(
         → ¬ StandsFor i (state S.Store conn.old).now }
     ensures reads { OnlyReads S.Store store_schema ReadError.BadRow ReadError.Fault conn.old conn.new result }
 {
-    let lists = load_lists(alloc, conn)?;
+    let lists = load_lists(alloc, conn, Release::Third)?;
     joined(alloc, lists)
 }

@@ -15,6 +15,8 @@ mod open;
 mod write;
 
 pub use change::Change;
+pub use global_load::{Lists, joined, load_lists};
+pub use load::told;
 pub use open::Store;
 pub use store_schema::StoreError;
 pub use store_zone_loads::ZoneHead;

@@ -9,7 +9,7 @@ use crate::open::Store;
 use fields::ZoneName;
 use sqlite::Alter;
 use store_rows::ReadError;
-use store_schema::StoreError;
+use store_schema::{Release, StoreError};
 use store_zone_loads::ZoneHead;
 use sysmods::GlobalZone;
 use zones::Zone;
@@ -25,7 +25,8 @@ fn store_error(error: ReadError) -> StoreError
     }
 }
 
-fn told<T>(read: Result<T, ReadError>) -> Result<T, StoreError>
+/// How an answer of reading is told.
+pub fn told<T>(read: Result<T, ReadError>) -> Result<T, StoreError>
     ensures { result ≡ told read }
 {
     match read {
@@ -50,7 +51,7 @@ impl<S: Alter> Store<S> {
     {
         // So what the connection shows is what it last committed.
         prove!(self.conn.is_autocommit());
-        told(store_zone_loads::load_zone(self.alloc, &mut self.conn, name))
+        told(store_zone_loads::load_zone(self.alloc, &mut self.conn, Release::Third, name))
     }
 
     /// All zones without their entries and elements, rising by name.

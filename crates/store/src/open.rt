@@ -83,6 +83,15 @@ impl<S: Alter> Store<S> {
         }
     }
 
+    /// The store over a connection whose tables are known to be the store's: `open` is for all others. What the tables
+    /// stand for is the caller's to know.
+    pub fn over(alloc: Global, conn: Connection<S>) -> Store<S>
+        requires { conn.in_transaction ≡ false }
+        ensures { result ≡ conn }
+    {
+        Store { conn, alloc }
+    }
+
     /// Makes the change in one transaction. It writes the rows that change, and loads none.
     pub fn commit(&mut self, change: &Change) -> Result<(), StoreError>
         ensures only { OnlyCommits S.Store (calls_of change.now) self.old self.new result }

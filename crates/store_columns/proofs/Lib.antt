@@ -1,3 +1,4 @@
 pub mod PartLemmas
+pub mod Releases
 pub mod TextForms
 mod Found

@@ -1,4 +1,5 @@
 pub mod Texts
+pub mod Selects
 pub mod HoldLemmas
 pub mod HoldLists
 pub mod Comments

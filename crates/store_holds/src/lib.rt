@@ -1,6 +1,7 @@
 //! The table of holds: `++HOLD`s that were received, external ones and those of SYSMODs.
 //! Inside a transaction, a hold that is put in or taken out changes the holds that the tables stand for so, and nothing
-//! else. `load_holds` answers them in their order, and refuses a row only where the rows stand for none.
+//! else. `load_holds` answers them in their order, under the schema of each release, and refuses a row only where the
+//! rows stand for none.
 #![tactic(auto)]
 
 mod comment;

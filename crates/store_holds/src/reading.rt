@@ -12,14 +12,15 @@ ghost use Rattle.sqlite.specs.Values.{or_null};
 ghost use Rattle.store_rows.specs.Reads.{OnlyReads};
 ghost use Rattle.store_rows.specs.Rows.{Contents, HasContents};
 ghost use Rattle.store_schema.specs.Rows.{hold_row};
-ghost use Rattle.store_schema.specs.Tables.{hold as hold_table, store_schema};
+ghost use Rattle.store_schema.specs.declared.release.Release.{Release};
+ghost use Rattle.store_schema.specs.Earlier.{schema_under, StandsUnder};
+ghost use Rattle.store_schema.specs.Tables.{hold as hold_table};
 ghost use Rattle.terms.specs.Forms.{IsReason};
 ghost use Rattle.terms.specs.Global.{hold_cmp};
 ghost use Rattle.terms.specs.Rising.{Rises};
 ghost use Rattle.terms.specs.Types as terms;
 ghost use Rattle.store_schema.specs.Forms.{IsComment, HasHoldForms};
 ghost use Rattle.store_schema.specs.Inventory.{Inventory};
-ghost use Rattle.store_schema.specs.Stands.{StandsFor};
 
 use crate::comment::is_comment;
 use fields::Reason;
@@ -130,6 +131,7 @@ impl FromRow for Holds {
 }
 
 impl Query for Holds {
+    ghost use Rattle.std.specs.Prelude.{⊤};
     ghost use Rattle.store_schema.specs.Tables.{hold};
 
     type Rows = Holds;
@@ -139,6 +141,8 @@ impl Query for Holds {
     ghost at = { 4 };
 
     ghost width = { 0 };
+
+    ghost knows = { λ r. ⊤ };
 
     fn text() -> &'static str {
         "SELECT id, kind, reason, fmid, class, date, comment, internal FROM hold"
@@ -157,19 +161,20 @@ fn by_key(mut holds: Vec<Hold>) -> Vec<Hold>
 
 /// All holds, by id, kind and reason.
 pub fn load_holds<S: Alter>(alloc: Global, conn: &mut Connection<S>) -> Result<Vec<Hold>, ReadError>
-    ensures found { HasCleanDisk (state S.Store conn.new) → (contents : Contents)
-        → HasContents store_schema contents (state S.Store conn.old).now
+    ensures found { HasCleanDisk (state S.Store conn.new) → (r : Release) (contents : Contents)
+        → HasContents (schema_under r) contents (state S.Store conn.old).now
         → IfOk result (λ holds. IsPermutation (map hold_row holds.items) (contents hold_table.tree)) }
-    ensures ordered { HasCleanDisk (state S.Store conn.new) → (i : Inventory) → StandsFor i (state S.Store conn.old).now
-        → IfOk result (λ holds. holds.items ≡ i.global.holds) }
+    ensures ordered { HasCleanDisk (state S.Store conn.new) → (r : Release) (i : Inventory)
+        → StandsUnder r i (state S.Store conn.old).now → IfOk result (λ holds. holds.items ≡ i.global.holds) }
     ensures forms { IfOk result (λ holds. AllByRecursion HasHoldForms holds.items) }
-    ensures none { HasCleanDisk (state S.Store conn.new) → IsErrOf result ReadError.BadRow → (contents : Contents)
-        → HasContents store_schema contents (state S.Store conn.old).now
+    ensures none { HasCleanDisk (state S.Store conn.new) → IsErrOf result ReadError.BadRow → (r : Release)
+        → (contents : Contents) → HasContents (schema_under r) contents (state S.Store conn.old).now
         → (holds : List terms.Hold) → AllByRecursion HasHoldForms holds
         → ¬ IsPermutation (map hold_row holds) (contents hold_table.tree) }
-    ensures no_state { HasCleanDisk (state S.Store conn.new) → IsErrOf result ReadError.BadRow → (i : Inventory)
-        → ¬ StandsFor i (state S.Store conn.old).now }
-    ensures reads { OnlyReads S.Store store_schema ReadError.BadRow ReadError.Fault conn.old conn.new result }
+    ensures no_state { HasCleanDisk (state S.Store conn.new) → IsErrOf result ReadError.BadRow → (r : Release)
+        → (i : Inventory) → ¬ StandsUnder r i (state S.Store conn.old).now }
+    ensures reads { (r : Release) → OnlyReads S.Store (schema_under r) ReadError.BadRow ReadError.Fault conn.old
+        conn.new result }
 {
     let holds = load_listed::<S, Holds>(alloc, conn, &[])?;
     Ok(by_key(holds))

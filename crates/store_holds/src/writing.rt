@@ -100,9 +100,7 @@ pub fn put_hold<S: Alter>(tx: &mut Transaction<'_, S>, hold: &Hold) -> Result<()
     let internal = flag_value(hold.internal);
     put(
         tx,
-        "DELETE FROM hold WHERE id = ?1 AND kind = ?2 AND reason = ?3",
-        &[id, kind, reason],
-        "INSERT INTO hold (id, kind, reason, fmid, class, date, comment, internal) VALUES (?1, ?2, ?3, ?4, ?5, ?6, ?7, ?8)",
+        "INSERT INTO hold (id, kind, reason, fmid, class, date, comment, internal) VALUES (?1, ?2, ?3, ?4, ?5, ?6, ?7, ?8) ON CONFLICT (id, kind, reason) DO UPDATE SET fmid = excluded.fmid, class = excluded.class, date = excluded.date, comment = excluded.comment, internal = excluded.internal",
         &[id, kind, reason, fmid, class, date, comment, internal],
     )
 }

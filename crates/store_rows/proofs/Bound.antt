@@ -1,5 +1,5 @@
 -- What a put and a removal do, told of rows that are equal to those that were bound.
-use Rattle.std.proofs.Common.{◌≡◌, sym, subst, subst₂}
+use Rattle.std.proofs.Common.{◌≡◌, ℕ, take, sym, subst}
 use Rattle.sqlite.specs.Store.{Ghosts}
 use Rattle.sqlite.specs.Held.{Held}
 use Rattle.sqlite.specs.Order.{Row}
@@ -10,9 +10,10 @@ use Rattle.store_rows.specs.Rows.{HasContents, in_table, with_put, with_row, wit
 use Rattle.store_rows.specs.Texts.{SuitColumns}
 
 module _ {S : Type 0} (g : Ghosts S) (old new : Held S) (schema : Schema) (table : Table) where
-  pub as_put : (key k row r : Row) → k ≡ key → r ≡ row → Turns g old new (HasContents schema) (with_put table k r)
-      → Turns g old new (HasContents schema) (with_put table key row)
-  as_put key k row r e f h = subst₂ (λ a b. Turns g old new (HasContents schema) (with_put table a b)) e f h
+  pub as_put : (width : ℕ) (row r : Row) → r ≡ row
+      → Turns g old new (HasContents schema) (with_put table (take width r) r)
+      → Turns g old new (HasContents schema) (with_put table (take width row) row)
+  as_put width row r e h = subst (λ a. Turns g old new (HasContents schema) (with_put table (take width a) a)) e h
 
   pub as_removed : (key k : Row) → k ≡ key → Turns g old new (HasContents schema) (in_table table (without k))
       → Turns g old new (HasContents schema) (in_table table (without key))

@@ -16,3 +16,5 @@ pub mod Selects
 pub mod Causes
 pub mod CallLemmas
 pub mod Typed
+pub mod Unique
+pub mod Upserts

@@ -132,7 +132,7 @@ module _ (shown : Row → Row) (rows : List Row) (numbered : AreNumbered (map (w
   pub keyed : (r : Row) → Has rows r → rowid r ≡ Int (id_in (rowid r))
   keyed r h = int_is (rowid r) (all_has _ numbered.sorted (whole shown r) numbered.keyed (in_order r h))
 
-  same_shown : (a b : Row) → Has rows a → Has rows b → value_cmp (rowid a) (rowid b) ≡ Equal → shown a ≡ shown b
+  pub same_shown : (a b : Row) → Has rows a → Has rows b → value_cmp (rowid a) (rowid b) ≡ Equal → shown a ≡ shown b
   same_shown a b h k tie = let e = tied_same numbered.sorted (whole shown a) (whole shown b) numbered.rise
       (in_order a h) (in_order b k) tie in cc
 

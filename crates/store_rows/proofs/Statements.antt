@@ -1,7 +1,7 @@
 -- What one INSERT or DELETE makes of the trees.
-use Rattle.std.proofs.Common.{◌≡◌, ◌⊎◌, inl, inr, ℕ, ◌/◌, length, ◌-◌, ◌^◌, drop, if◌then◌else◌}
+use Rattle.std.proofs.Common.{◌≡◌, ◌⊎◌, inl, inr, ℕ, ℤ, ◌/◌, length, ◌-◌, ◌^◌, drop, if◌then◌else◌}
 use Rattle.std.proofs.Common.{MatchBool, filter, IsPermutation, List, [], ◌∷◌, ◌++◌, map, slice_get}
-use Rattle.std.proofs.Common.{unwrap_or, Bool, true, false, Some, None, Ok, Err, Result, IsTrue, refl, sym}
+use Rattle.std.proofs.Common.{unwrap_or, Bool, true, false, Option, Some, None, Ok, Err, Result, IsTrue, refl, sym}
 use Rattle.std.proofs.Common.{ap, subst, ◌∙◌, append-nil}
 use Rattle.std.proofs.lemmas.Bool.{cases_Bool, and_parts, not-true}
 use Rattle.std.specs.List.{flat_map, list_all}
@@ -20,12 +20,16 @@ use Rattle.sqlite.specs.Tree.{Trees, put_row}
 use Rattle.sqlite.specs.Table.{Table}
 use Rattle.sqlite.specs.Schema.{Schema}
 use Rattle.sqlite.specs.Source.TheVariants.{Values}
-use Rattle.sqlite.specs.Command.TheVariants.{Insert, Update, Delete}
-use Rattle.sqlite.specs.Edit.{is_taken, put_all, edit_of, are_fresh, Applies}
+use Rattle.sqlite.specs.Command.TheVariants.{Insert, InsertOr, Update, Delete}
+use Rattle.sqlite_schema.specs.declared.command.Conflict.TheVariants.{Abort}
+use Rattle.sqlite_schema.specs.declared.command.Upsert.{Upsert}
+use Rattle.sqlite.specs.Cast.{cast_row}
+use Rattle.sqlite.specs.Edit.{is_taken, put_all, edit_of, with_rowid, are_fresh, Applies}
 use Rattle.sqlite.specs.Rowids.TheVariants.{Chosen, Given, Above}
 use Rattle.sqlite.specs.Effect.{Database, Answers, value_rows}
 use Rattle.sqlite.specs.Does.{Tally, Does}
-use Rattle.sqlite.specs.Rows.{Written, stamped, rowids_for, count_of}
+use Rattle.sqlite.specs.Rows.{Written, Task, stamped, rowids_for, count_of, nothing, Tries, TriesEach}
+use Rattle.sqlite.specs.Rows.{Upserts}
 use Rattle.sqlite.specs.State.{State, HasCleanDisk, mode_of, Writes, Executes, ExecutesInside}
 use Rattle.sqlite.specs.Store.{Ghosts}
 use Rattle.sqlite.specs.Held.{Held, state}
@@ -65,6 +69,23 @@ no_stamps table params none = ap (λ (terms : List Term). params
 pub same_value : {B E : Type 0} {a b : B} → ◌≡◌ {A = Result B E} (Ok a) (Ok b) → a ≡ b
 same_value e = cc
 
+-- what the parts of a statement read
+abbrev pub task_of : Option ℕ → Schema → Table → Row → Task
+task_of limit schema table params = record {
+  limit = limit;
+  keys = Enforced;
+  schema = schema;
+  table = table;
+  params = params;
+}
+
+-- a row that was tried was not refused
+judged : (task : Task) (clauses : List Upsert) (row : Row) (db : Trees) (w : Written)
+    → Tries task Abort clauses row db (Ok w) → Upserts task Abort row db clauses (Ok w)
+judged task clauses row db w (inl big) = absurd (let e = big.1 in cc)
+judged task clauses row db w (inr (None, fits, on)) = on
+judged task clauses row db w (inr (Some why, breaks, refused)) = absurd (let e = refused in cc)
+
 module _ (old new : State) (schema : Schema) (has : old.now.schema ≡ schema) (at : ℕ) (table : Table)
     (found : slice_get schema.tables at ≡ Some table) (text : List ℕ) (params : Row) (count : ℕ) where
   abbrev db : Trees
@@ -102,6 +123,43 @@ module _ (old new : State) (schema : Schema) (has : old.now.schema ≡ schema) (
         subst
             (λ (t : Trees). action.Writes schema Enforced db edit (Ok t))
             (sym (ap (λ (d : Database). d.trees) now ∙ trees)) wrote,
+      )
+
+  -- the one row of the statement is written, with the rowid that comes next, or what ON CONFLICT says is done
+  pub tries : (terms : List Term) (width : ℕ) (clauses : List Upsert) (source : Row) → table.is_counted ≡ false
+      → table.stamps.terms ≡ [] → value_rows params width (length terms / width) terms ≡ source ∷ []
+      → Writes old new None (InsertOr at Abort (Values terms width) clauses) text params count
+      → (w : Written) × (new.now ≡ record { schema = schema; trees = w.trees })
+      × Upserts (task_of old.step_limit schema table params) Abort
+      (with_rowid Chosen (db table.tree) (cast_row table source)) db clauses (Ok w)
+  tries terms width clauses source uncounted timeless one w =
+      let command = InsertOr at Abort (Values terms width) clauses in
+      let task = task_of old.step_limit schema table params in
+      let on_schema = subst (λ s. Does old.step_limit (mode_of old) params (record old.now { schema = s }) text None
+      command (Ok (w.tally, new.now))) has w.changed in
+      let done = went (rw found at on_schema) in
+      let now : new.now ≡ record { schema = schema; trees = done.0.trees } =
+      (ap (λ (p : Tally × Database). p.1) (same_value (went (went done.2).2).2)) in
+      let given = went done.1 in
+      let counter = went given.2 in
+      let written = went counter.2 in
+      let counted = went written.2 in
+      let mid : counted.0 ≡ written.0.0.trees = same_value (not_counted table.is_counted _ _ _ uncounted counted.1) in
+      let trees : done.0.trees ≡ written.0.0.trees = ap (λ (it : Written). it.trees) (same_value counted.2) ∙ mid in
+      let rows : given.0 ≡ source ∷ [] =
+      subst (λ (stamps : Row). given.0 ≡ value_rows stamps width (length terms / width) terms)
+      (no_stamps table params timeless) given.1.1 ∙ one in
+      let each = subst (λ (all : List Row). TriesEach task Abort clauses all (count_of counter.0) (nothing db)
+      (Ok written.0)) rows written.1 in
+      let first = went each in
+      let how : rowids_for table (count_of counter.0) ≡ Chosen =
+      ap (λ b. if b then Above (count_of counter.0) else Chosen) uncounted in
+      let tried = subst (λ ids. Tries task Abort clauses (with_rowid ids (db table.tree) (cast_row table source)) db
+      (Ok first.0)) how first.1 in
+      let last : written.0.0.trees ≡ first.0.trees = ap (λ (p : Written × ℤ). p.0.trees) (same_value first.2) in (
+        first.0,
+        subst (λ (t : Trees). new.now ≡ record { schema = schema; trees = t }) (trees ∙ last) now,
+        judged task clauses _ db first.0 tried,
       )
 
   -- the rows that the query finds are taken out by their rowids

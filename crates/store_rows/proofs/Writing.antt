@@ -49,7 +49,7 @@ use Rattle.store_rows.proofs.ContentsLemmas.{columns_from, meets_from, puts, tak
 
 -- ---- values that their columns keep
 
-cast_null : cast Integer Null ≡ Null
+pub cast_null : cast Integer Null ≡ Null
 unfolding unary
 cast_null = cond_same _ Null
 
@@ -79,6 +79,17 @@ one_row params terms some = rw (div_self some, take_all (length terms) terms (om
 length_terms : (n : ℕ) → length (lit Null ∷ map (col 0) (range_with_len 0 n)) ≡ n + 1
 length_terms n = omega (arith, length-map-range_with_len (col 0) 0 n)
 
+-- the parameters as one row, before its rowid is chosen
+pub source_row : (row : Row) (width : ℕ) → width ≡ length row
+    → value_rows row (width + 1) (length (lit Null ∷ map (col 0) (range_with_len 0 width)) / (width + 1))
+    (lit Null ∷ map (col 0) (range_with_len 0 width)) ≡ (Null ∷ row) ∷ []
+source_row row width e =
+    let terms = lit Null ∷ map (col 0) (range_with_len 0 width) in
+    let long : length terms ≡ width + 1 = length_terms width in
+    ap (λ k. value_rows row k (length terms / k) terms) (sym long) ∙ one_row row terms (omega (arith, long))
+    ∙ ap (λ cells. (Null ∷ cells) ∷ []) (map-map (λ t. eval t (row ∷ [])) (col 0) (range_with_len 0 width)
+    ∙ columns_from row 0 width (omega (arith, e)))
+
 pub put_in : (schema : Schema) (at : ℕ) (table : Table) (sql : List ℕ) (row : Row) (old new : State) (count : ℕ)
     (contents : Contents) → PutsIn schema at table sql → SuitColumns table.columns row
     → HasContents schema contents old.now → Executes sql row old new (Ok count)
@@ -92,11 +103,7 @@ put_in schema at table sql row old new count contents text kept was h =
     row count terms (width + 1) text.uncounted text.timeless w in
     let rows = old.now.trees table.tree in
     let new_row = Int (next_rowid rows) ∷ row in
-    let long : length terms ≡ width + 1 = length_terms width in
-    let source : it.0 ≡ (Null ∷ row) ∷ [] =
-    it.1 ∙ ap (λ k. value_rows row k (length terms / k) terms) (sym long) ∙ one_row row terms (omega (arith, long))
-    ∙ ap (λ cells. (Null ∷ cells) ∷ []) (map-map (λ t. eval t (row ∷ [])) (col 0) (range_with_len 0 width)
-    ∙ columns_from row 0 width (omega (arith, kept_length table.columns row kept))) in
+    let source = it.1 ∙ source_row row width (kept_length table.columns row kept) in
     let news : (edit_of old.now.trees table [] Chosen 0 it.0).news ≡ new_row ∷ [] =
     ap (λ all. (edit_of old.now.trees table [] Chosen 0 all).news) source
     ∙ ap₂ (λ id cells. with_rowid Chosen rows (id ∷ cells) ∷ []) cast_null (kept_cast table.columns row kept) in
@@ -195,7 +202,7 @@ take_out_parent schema at table children sql (k ∷ l ∷ key) old new count con
 
 -- ---- UPDATE
 
-puts_all : (table : Table) (news held rows : List Row) → are_fresh rows news ≡ true → have_rowids news ≡ true
+pub puts_all : (table : Table) (news held rows : List Row) → are_fresh rows news ≡ true → have_rowids news ≡ true
     → AreRows table held rows → AreRows table (map (shown table) news ++ held) (put_all rows news)
 puts_all table [] held rows fresh keyed h = h
 puts_all table (n ∷ news) held rows fresh keyed h =
@@ -232,7 +239,7 @@ updates_free schema tree olds new news free =
     subst (λ b. flat_map (λ child. filter_map (λ ref. work_by 0 tree (pairs olds (new ∷ news)) child ref
     (deed_for Enforced b ref) (parent_key schema.tables ref)) child.references) schema.tables ≡ []) (sym some) free
 
-free_of : (schema : Schema) (table : Table) (db : Trees) → ((olds news : List Row)
+pub free_of : (schema : Schema) (table : Table) (db : Trees) → ((olds news : List Row)
     → works_of_update schema table.tree olds news ≡ []) → (found : List Row)
     → works schema Enforced 0 table.tree (taken_by db (edit_of db table (ids_of found) Given 1 found))
     (edit_of db table (ids_of found) Given 1 found).news ≡ []

@@ -1,5 +1,5 @@
 -- What the calls inside a transaction do.
-use Rattle.std.specs.Prelude.{◌≡◌, IsTrue}
+use Rattle.std.specs.Prelude.{IsTrue}
 use Rattle.sqlite.specs.Store.{Ghosts}
 use Rattle.sqlite.specs.Tree.{Trees}
 use Rattle.sqlite.specs.Schema.{Schema}
@@ -26,18 +26,6 @@ module _ {S : Type 0} (g : Ghosts S) (old new : Held S) where
   abbrev pub Turns : {X : Type 0} → (X → Database → Type 0) → (X → X) → Type 0
   Turns {X} Stands make = HasCleanDisk (state g new) → (x : X) → Stands x (state g old).now
       → Stands (make x) (state g new).now
-
-  -- The last commit stands for what the function makes of what it stood for, and each crash leaves it.
-  pub record HasCommitted {X : Type 0} (Stands : X → Database → Type 0) (make : X → X) : Type 0 where
-    pub stands : HasCleanDisk (state g new) → (x : X) → Holds Stands (state g old) x
-        → Holds Stands (state g new) (make x)
-    pub durable : HasCleanDisk (state g new) → (db : Trees) → (state g new).may_leave db
-        → db ≡ (state g new).committed.trees
-
--- trees that stand for what the function makes of what the last commit stands for
-abbrev pub IsOutcome : {S X : Type 0} → Ghosts S → (X → Database → Type 0) → (X → X) → Held S → Trees → Type 0
-IsOutcome {S} {X} g Stands make old db = (schema : Schema) × ((x : X) → Holds Stands (state g old) x
-    → Stands (make x) (record { schema = schema; trees = db }))
 
 -- trees of a database with Q, if the old one had P
 abbrev pub IsMade : {S : Type 0} → Ghosts S → Held S → (Database → Type 0) → (Database → Type 0) → Trees → Type 0

@@ -1,6 +1,7 @@
 -- What a statement's text means under a schema, where it writes the rows of one table or reads them.
 use Rattle.std.specs.Prelude.{◌≡◌, ◌≢◌, ◌≤◌, ◌+◌, ◌==◌, ◌||◌, ℕ, zero, suc, Bool, true, false, not, pos, negsuc, List}
-use Rattle.std.specs.Prelude.{[], ◌∷◌, map, length, slice_get, Some, None, IfSome, Result, Ok, Err}
+use Rattle.std.specs.Prelude.{[], ◌∷◌, ◌++◌, ◌-◌, map, filter, length, take, replicate, slice_get, Some, None, IfSome}
+use Rattle.std.specs.Prelude.{Result, Ok, Err}
 use Rattle.std.specs.List.{AllByRecursion, list_all, flat_map, filter_map, range_with_len}
 use Rattle.sqlite.specs.declared.types.Value.TheVariants.{Null, Int, Text}
 use Rattle.sqlite.specs.Order.{Row}
@@ -11,13 +12,17 @@ use Rattle.sqlite_value.specs.declared.keys.Key.{Key}
 use Rattle.sqlite.specs.Term.{Term, lit, col, op2}
 use Rattle.sqlite.specs.Query.{Query, inner, end}
 use Rattle.sqlite.specs.Cast.{cast}
+use Rattle.sqlite.specs.Kind.TheVariants as kind
 use Rattle.sqlite.specs.Schema.{Schema}
 use Rattle.sqlite.specs.Table.{Table}
 use Rattle.sqlite_schema.specs.declared.schema.Column.{Column}
+use Rattle.sqlite_value.specs.declared.keys.Order.{Order}
 use Rattle.sqlite_schema.specs.declared.schema.Keys.TheVariants.{Enforced}
 use Rattle.sqlite.specs.Source.TheVariants.{Values}
 use Rattle.sqlite.specs.Command.{Command}
-use Rattle.sqlite.specs.Command.TheVariants.{Select, Insert, Update, Delete}
+use Rattle.sqlite.specs.Command.TheVariants.{Select, Insert, InsertOr, Update, Delete}
+use Rattle.sqlite_schema.specs.declared.command.Conflict.TheVariants.{Abort}
+use Rattle.sqlite_schema.specs.declared.command.Upsert.{Upsert}
 use Rattle.sqlite_schema.specs.Program.{lets_of}
 use Rattle.sqlite_typing.specs.Types.{accepts_program}
 use Rattle.sqlite_resolve.specs.declared.compiled.Compiled.{Compiled}
@@ -26,9 +31,9 @@ use Rattle.sqlite.specs.Listing.{understood, reads_listing}
 use Rattle.sqlite.specs.Given.{IsPlain}
 use Rattle.sqlite.proofs.Callers.{command_of}
 use Rattle.sqlite_rules.specs.Action.{Work, works, work_by, work_for, deed_for, pairs}
-use Rattle.sqlite_schema.specs.Rules.{parent_key}
+use Rattle.sqlite_schema.specs.Rules.{parent_key, guards}
 use Rattle.sqlite_rules.specs.Lists.{Has}
-use Rattle.sqlite_value.specs.Keys.{first_key}
+use Rattle.sqlite_value.specs.Keys.{first_key, plain}
 
 -- each value is one that its column keeps as it is
 abbrev pub SuitColumns : List Column → Row → Type 0
@@ -96,6 +101,50 @@ pub record PutsInPlace (schema : Schema) (at : ℕ) (table : Table) (width : ℕ
             (col 1 0 ∷ col 1 0 ∷ map (col 0) (range_with_len 0 (length table.columns))) [];
       })
   pub plain : IsPlain (understood schema sql)
+  pub narrow : width ≤ length table.columns
+  pub free : (olds news : List Row) → works_of_update schema table.tree olds news ≡ []
+
+-- The row whose rowid follows the parameters keeps its first columns, so many. The others it takes from the row that
+-- follows its rowid, `excluded`.
+abbrev pub excluded : Table → ℕ → Query
+excluded table width =
+    let count = length table.columns in
+    scan_by table.tree (op2 (Compare Eq Binary) (col 1 0) (col 0 count) ∷ [])
+    (col 1 0 ∷ col 1 0 ∷ map (col 1) (range_with_len 1 width)
+    ++ map (col 0) (range_with_len (count + 2 + width) (count - width))) []
+
+-- a key: its columns, and how they compare
+abbrev pub Columns : Type 0
+Columns = List ℕ × Order
+
+-- the first columns, so many, which compare as they are
+abbrev pub first_columns : ℕ → Columns
+first_columns width = (range_with_len 1 width, plain)
+
+-- the keys of which no two rows of the table have the same
+abbrev pub unique_keys : Schema → Table → List Columns
+unique_keys schema table = map {B = Columns} (λ i. (i.columns, i.order)) (filter (λ i. guards i table) schema.indexes)
+
+-- ON CONFLICT with the row that has the first columns of the new one, so many, that row is updated.
+abbrev pub by_key : Table → ℕ → Upsert
+by_key table width = record {
+  target = Some (range_with_len 1 width);
+  update = Some (record { lets = []; body = excluded table width });
+}
+
+-- INSERT of one row, whose columns are the parameters; or an UPDATE of the row that has its first columns, so many.
+-- These are of texts, and no others are unique.
+pub record PutsByKey (schema : Schema) (at : ℕ) (table : Table) (width : ℕ) (sql : List ℕ) : Type 0 where
+  pub there : IsTableOf schema at table
+  pub command : command_of (understood schema sql) ≡ InsertOr at Abort
+      (Values (lit Null ∷ map (col 0) (range_with_len 0 (length table.columns))) (length table.columns + 1))
+      (by_key table width ∷ [])
+  pub plain : IsPlain (understood schema sql)
+  pub uncounted : table.is_counted ≡ false
+  pub timeless : table.stamps.terms ≡ []
+  pub unnamed : table.key ≡ None
+  pub unique : unique_keys schema table ≡ first_columns width ∷ []
+  pub texts : map (λ c. c.kind) (take width table.columns) ≡ replicate width kind.Text
   pub narrow : width ≤ length table.columns
   pub free : (olds news : List Row) → works_of_update schema table.tree olds news ≡ []
 

@@ -10,7 +10,7 @@ ghost use Rattle.store_rows.specs.Calls.{RunsInside};
 ghost use Rattle.store_rows.specs.Inside.{StaysInside, Turns};
 ghost use Rattle.store_rows.specs.Rows.{Contents, HasContents, HaveNone, in_table, with_row, with_put, in_place};
 ghost use Rattle.store_rows.specs.Rows.{without};
-ghost use Rattle.store_rows.specs.Texts.{SuitColumns, PutsIn, PutsInPlace, TakesOut, TakesOutParent};
+ghost use Rattle.store_rows.specs.Texts.{SuitColumns, PutsIn, PutsByKey, PutsInPlace, TakesOut, TakesOutParent};
 
 use sqlite::{Alter, Error, Transaction};
 use sqlite_value::value::ValueRef;
@@ -51,27 +51,24 @@ pub fn remove<S: Alter>(
     Ok(())
 }
 
-/// Puts a row in place of those that have its key, by the texts of `remove` and `insert`. `INSERT OR REPLACE` might
-/// take out the row of another key, whose rowid it gets.
+/// Puts a row, whose columns are the parameters, into the table that the text names. Where a row has its key, that row
+/// is updated and keeps its rowid; `INSERT OR REPLACE` would take it out, and might take out the row of another key,
+/// whose rowid the new one gets.
 pub fn put<S: Alter>(
     tx: &mut Transaction<'_, S>,
-    removes: &str,
-    key: &[ValueRef<'_>],
-    inserts: &str,
+    sql: &str,
     row: &[ValueRef<'_>],
 ) -> Result<(), Error>
     ensures same_reference { tx.new.conn.ghost_name ≡ tx.old.conn.ghost_name }
     ensures inside { StaysInside S.Store tx.old.conn.now tx.new.conn.now }
-    ensures calls { RunsInside S.Store ((removes.now, bound key.now)
-        ∷ (inserts.now, bound row.now) ∷ []) tx.old.conn.now tx.new.conn.now result }
-    ensures ok { OnOk result ((schema : Schema) (at : ℕ) (table : Table)
-        → TakesOut schema at table (length key.now) removes.now → PutsIn schema at table inserts.now
-        → SuitColumns table.columns (bound row.now)
+    ensures calls { RunsInside S.Store ((sql.now, bound row.now) ∷ []) tx.old.conn.now tx.new.conn.now result }
+    ensures ok { OnOk result ((schema : Schema) (at : ℕ) (table : Table) (width : ℕ)
+        → PutsByKey schema at table width sql.now → SuitColumns table.columns (bound row.now)
         → Turns S.Store tx.old.conn.now tx.new.conn.now (HasContents schema)
-        (with_put table (bound key.now) (bound row.now))) }
+        (with_put table (take width (bound row.now)) (bound row.now))) }
 {
-    remove(tx, removes, key)?;
-    insert(tx, inserts, row)
+    tx.execute(sql, row)?;
+    Ok(())
 }
 
 /// Puts the parameters, as the columns of a row, in place of each row of the table that the text

@@ -11,17 +11,20 @@ use Rattle.sqlite.specs.Compile.{table_defined_by}
 use Rattle.sqlite.specs.Change.{created, next_tree, KeepsRows}
 use Rattle.sqlite_catalog.specs.Calls.{CreatesTable}
 use Rattle.sqlite.specs.Does.{Tally, lacks_sequence}
-use Rattle.sqlite.specs.Effect.{Database}
+use Rattle.sqlite.specs.Effect.{Database, IsDatabase}
 use Rattle.sqlite.specs.Store.{Ghosts}
 use Rattle.sqlite.specs.Held.{Held, state}
 use Rattle.sqlite.specs.State.{State, HasCleanDisk, Writes, Executes}
 use Rattle.sqlite.proofs.Callers.{IsPlain, command_of, statement_of, runs_as}
 use Rattle.sqlite_trees.proofs.ListLemmas.{all-append}
+use Rattle.sqlite.specs.Order.{Row}
+use Rattle.std.proofs.lemmas.List.Sorted.{IsPermutation-refl}
+use Rattle.store_rows.proofs.RowLemmas.{none_numbered}
+use Rattle.store_rows.specs.Rows.{AreRows, Contents, HasContents}
 use Rattle.store_rows.specs.Inside.{StaysInside, Leads}
 use Rattle.store_rows.proofs.Statements.{went, same_value}
 use Rattle.store_rows.proofs.InsideLemmas.{leads_then}
 use Rattle.store_schema.specs.Tables.{schema_of}
-use Rattle.store_schema.specs.Create.{IsBlank, HasTables}
 use Rattle.store_schema.specs.Known.{HasRun}
 
 creates_table : (old new : State) (schema : Schema) (text : List ℕ) (table : Table) (count : ℕ)
@@ -29,7 +32,7 @@ creates_table : (old new : State) (schema : Schema) (text : List ℕ) (table : T
     → statement_of text (understood schema text) ≡ text → table_defined_by text ≡ Ok table
     → lacks_sequence (created schema table) ≡ false → Executes text [] old new (Ok count)
     → (new.now.schema ≡ created schema table) × (new.now.trees (next_tree schema) ≡ [])
-    × KeepsRows schema.tables old.now.trees new.now.trees
+    × KeepsRows schema.tables old.now.trees new.now.trees × IsDatabase new.now
 creates_table old new schema text table count has is plain whole defined counted h =
     let w = subst (λ t. Writes old new None CreateTable t [] count) whole
     (runs_as text [] old new schema has CreateTable is plain count h) in
@@ -46,6 +49,7 @@ creates_table old new schema text table count has is plain whole defined counted
       ap (λ (d : Database). d.trees (next_tree schema)) now
           ∙ made.empty,
       subst (λ (d : Database). KeepsRows schema.tables old.now.trees d.trees) (sym now) made.others,
+      w.sound,
     )
 
 -- over these tables, the text makes the next one
@@ -58,40 +62,50 @@ pub record Makes (text : List ℕ) (made : List Table) (next : Table) : Type 0 w
   pub place : next_tree (schema_of made) ≡ next.tree
   pub uncounted : lacks_sequence (schema_of (made ++ next ∷ [])) ≡ false
 
-still_empty : (tables : List Table) (old new : Trees) → KeepsRows tables old new
-    → AllByRecursion (λ t. old t.tree ≡ []) tables → AllByRecursion (λ t. new t.tree ≡ []) tables
-still_empty [] old new kept was = tt
-still_empty (t ∷ ts) old new kept was = (kept.0 ∙ was.0, still_empty ts old new kept.1 was.1)
+pub no_rows : (table : Table) (rows : List Row) → rows ≡ [] → AreRows table [] rows
+no_rows table rows none = record { same = rw none (IsPermutation-refl []); numbered = rw none none_numbered }
 
-makes_table : (text : List ℕ) (made : List Table) (next : Table) → Makes text made next → (old new : State)
-    → HasTables made old.now → HasRun text old new → HasTables (made ++ next ∷ []) new.now
-makes_table text made next m old new was ran =
-    let it = creates_table old new (schema_of made) text (record next { tree = 0 }) ran.0 was.schema m.is m.plain
-    m.whole m.defines (ap lacks_sequence m.makes ∙ m.uncounted) ran.1 in
-    let place : new.now.trees next.tree ≡ [] = subst (λ n. new.now.trees n ≡ []) m.place it.1 in
-    record {
-      schema = it.0 ∙ m.makes;
-      empty = all-append _ made (next ∷ []) (still_empty made old.now.trees new.now.trees it.2 was.empty) (place, tt);
-    }
+still_held : (tables : List Table) (contents : Contents) (old new : Trees) → KeepsRows tables old new
+    → AllByRecursion (λ t. AreRows t (contents t.tree) (old t.tree)) tables
+    → AllByRecursion (λ t. AreRows t (contents t.tree) (new t.tree)) tables
+still_held [] contents old new kept was = tt
+still_held (t ∷ ts) contents old new kept was = (
+  subst (AreRows t (contents t.tree)) (sym kept.0) was.0,
+  still_held ts contents old new kept.1 was.1,
+)
 
--- a text that has run over these tables has made the next one
-pub leads_table : {S : Type 0} (g : Ghosts S) (old new : Held S) (text : List ℕ) (made : List Table) (next : Table)
-    → Makes text made next
-    → (HasCleanDisk (state g new) → HasRun text (state g old) (state g new))
-    → Leads g old new (HasTables made) (HasTables (made ++ next ∷ []))
-leads_table g old new text made next m ran clean was = makes_table text made next m (state g old) (state g new) was
-    (ran clean)
+module _ (text : List ℕ) (made : List Table) (next : Table) (m : Makes text made next) (contents : Contents)
+    (none : contents next.tree ≡ []) where
+  -- a text that has run over these tables has made the next one, which has no rows
+  pub makes_table : (old new : State) → old.now.schema ≡ schema_of made
+      → AllByRecursion (λ t. AreRows t (contents t.tree) (old.now.trees t.tree)) made → HasRun text old new
+      → HasContents (schema_of (made ++ next ∷ [])) contents new.now
+  makes_table old new has was ran =
+      let it = creates_table old new (schema_of made) text (record next { tree = 0 }) ran.0 has m.is m.plain m.whole
+      m.defines (ap lacks_sequence m.makes ∙ m.uncounted) ran.1 in
+      let place : new.now.trees next.tree ≡ [] = subst (λ n. new.now.trees n ≡ []) m.place it.1 in
+      let empty : AreRows next (contents next.tree) (new.now.trees next.tree) =
+      subst (λ held. AreRows next held (new.now.trees next.tree)) (sym none) (no_rows next _ place) in
+      record {
+        schema_is = it.0 ∙ m.makes;
+        sound = it.3;
+        tables = all-append _ made (next ∷ []) (still_held made contents old.now.trees new.now.trees it.2 was)
+            (empty, tt);
+      }
 
--- the same behind what was made before
-pub leads_more : {S : Type 0} (g : Ghosts S) (a b c : Held S) (P : Database → Type 0) (text : List ℕ)
-    (made : List Table) (next : Table) → Makes text made next → StaysInside g b c
-    → Leads g a b P (HasTables made) → (HasCleanDisk (state g c) → HasRun text (state g b) (state g c))
-    → Leads g a c P (HasTables (made ++ next ∷ []))
-leads_more g a b c P text made next m inside one ran = leads_then g a b c P (HasTables made)
-    (HasTables (made ++ next ∷ [])) inside one (leads_table g b c text made next m ran)
+  module _ {S : Type 0} (g : Ghosts S) where
+    pub leads_table : (old new : Held S) → (HasCleanDisk (state g new) → HasRun text (state g old) (state g new))
+        → Leads g old new (HasContents (schema_of made) contents)
+        (HasContents (schema_of (made ++ next ∷ [])) contents)
+    leads_table old new ran clean was = makes_table (state g old) (state g new) was.schema_is was.tables (ran clean)
 
-pub no_table : (db : Database) → IsBlank db → HasTables [] db
-no_table db blank = record { schema = blank; empty = tt }
+    -- the same behind what was made before
+    pub leads_more : (a b c : Held S) (P : Database → Type 0) → StaysInside g b c
+        → Leads g a b P (HasContents (schema_of made) contents)
+        → (HasCleanDisk (state g c) → HasRun text (state g b) (state g c))
+        → Leads g a c P (HasContents (schema_of (made ++ next ∷ [])) contents)
+    leads_more a b c P inside one ran = leads_then g a b c P (HasContents (schema_of made) contents)
+        (HasContents (schema_of (made ++ next ∷ [])) contents) inside one (leads_table b c ran)
 
 -- a fact that follows from one which a premise gives
 pub on_ok_under : {A E : Type 0} (r : Result A E) (D P Q : Type 0) → ((D → P) → Q) → (D → OnOk r P) → OnOk r Q

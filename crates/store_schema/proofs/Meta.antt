@@ -1,7 +1,7 @@
 -- The rows of meta, as a query shows them over any tables.
 use Rattle.std.proofs.Common.{◌≡◌, ◌≢◌, ◌⊎◌, inl, inr, ℕ, ℤ, pos, List, [], ◌∷◌, ◌++◌, map, Bool, true, false, Option}
 use Rattle.std.proofs.Common.{Some, None, Ok, Err, Result, Contains, IsPermutation, IsTrue, IfOk, IfErr, Vec, MatchBool}
-use Rattle.std.proofs.Common.{if◌then◌else◌, codes, refl, sym, ap, ap₂, subst, ◌∙◌}
+use Rattle.std.proofs.Common.{if◌then◌else◌, codes, drop, refl, sym, ap, ap₂, subst, ◌∙◌}
 use Rattle.std.proofs.lemmas.List.Sorted.{IsPermutation-sym}
 use Rattle.std.specs.declared.alloc.Global.{Global}
 use Rattle.sqlite.specs.Command.TheVariants.{Select}
@@ -12,14 +12,19 @@ use Rattle.sqlite.specs.Listing.{understood, reads_listing}
 use Rattle.sqlite.specs.State.{State, IsUnchanged, KeepsCommit, Survives, Shown, CommitsShowing, FailsToQuery}
 use Rattle.sqlite.proofs.Callers.{IsPlain, command_of, reads_as, one_permutation}
 use Rattle.sqlite_tied.specs.Compute.{everything}
-use Rattle.store_schema.specs.Tables.{meta, store_schema}
-use Rattle.store_schema.specs.Known.{select_meta, select_own, GivesOther, IsNumber, HasOtherNumber, HasNoState}
-use Rattle.store_schema.specs.Known.{HasOwnTables}
+use Rattle.store_schema.specs.Tables.{meta, schema_of}
+use Rattle.store_schema.specs.Known.{select_meta, select_own, GivesOther, IsNumber, own_numbers, known_numbers}
+use Rattle.store_schema.specs.Known.{HasNumberBut, HasNoState, HasNoRelease, HasOwnTables, HasTablesUnder}
+use Rattle.store_schema.specs.Earlier.{tables_under, schema_under, number_under, IsEarlierStateOf}
+use Rattle.store_schema.specs.declared.release.Release.{Release}
+use Rattle.store_schema.specs.declared.release.Release.TheVariants.{First, Second, Third}
+use Rattle.sqlite.specs.Command.{Command}
+use Rattle.sqlite.specs.Table.{Table}
 use Rattle.sqlite.specs.Effect.{Database}
 use Rattle.store_schema.specs.Create.{IsBlank}
 use Rattle.store_schema.specs.Inventory.{Inventory}
 use Rattle.store_schema.specs.Stands.{IsStateOf}
-use Rattle.store_schema.specs.Rows.{number_row}
+use Rattle.store_schema.specs.Rows.{setting_row}
 use Rattle.std.specs.List.{Any}
 use Rattle.store_rows.specs.Rows.{shown, AreRows}
 use Rattle.store_rows.specs.Texts.{scan_by}
@@ -62,45 +67,55 @@ own_survives = select_survives select_own [] own_selects
 
 -- ---- what its rows say
 
-pub other_number : (old new : State) (rows : List Row) → Shown select_meta [] old new rows → Any GivesOther rows
-    → HasOtherNumber old
-other_number old new rows h other = record {
+pub other_number : (numbers : List ℤ) (old new : State) (rows : List Row) → Shown select_meta [] old new rows
+    → Any (GivesOther numbers) rows → HasNumberBut numbers old
+other_number numbers old new rows h other = record {
   rows = rows;
-  shown =
-      select_again select_meta [] meta_selects old new rows h;
+  shown = select_again select_meta [] meta_selects old new rows h;
   other = other;
 }
 
 abbrev own_columns : List Term
 own_columns = col 1 0 ∷ col 1 1 ∷ col 1 2 ∷ []
 
-own_is : command_of (understood store_schema select_own) ≡ Select
-    (record { lets = []; body = scan_by 0 [] own_columns [] }) (codes "rowid" ∷ codes "k" ∷ codes "v" ∷ [])
-unfolding understood everything
-own_is = refl
+abbrev own_select : Command
+own_select =
+    Select (record { lets = []; body = scan_by 0 [] own_columns [] }) (codes "rowid" ∷ codes "k" ∷ codes "v" ∷ [])
 
-own_plain : IsPlain (understood store_schema select_own)
+-- whatever tables stand behind meta
+own_is : (more : List Table) → command_of (understood (schema_of (meta ∷ more)) select_own) ≡ own_select
 unfolding understood everything
-own_plain = (refl, refl)
+own_is more = refl
 
-own_unlisted : reads_listing store_schema select_own ≡ false
+own_plain : (more : List Table) → IsPlain (understood (schema_of (meta ∷ more)) select_own)
 unfolding understood everything
-own_unlisted = refl
+own_plain more = (refl, refl)
 
-own_rows : (old new : State) (rows : List Row) → old.now.schema ≡ store_schema → Shown select_own [] old new rows
-    → IsPermutation (map (whole (shown meta)) (old.now.trees 0)) rows
-own_rows old new rows has h =
-    let read = reads_as select_own [] old new store_schema has _ own_is own_plain own_unlisted rows h in
+own_unlisted : (more : List Table) → reads_listing (schema_of (meta ∷ more)) select_own ≡ false
+unfolding understood everything
+own_unlisted more = refl
+
+meta_first : (r : Release) → tables_under r ≡ meta ∷ drop 1 (tables_under r)
+meta_first First = refl
+meta_first Second = refl
+meta_first Third = refl
+
+own_rows : (r : Release) (old new : State) (rows : List Row) → old.now.schema ≡ schema_under r
+    → Shown select_own [] old new rows → IsPermutation (map (whole (shown meta)) (old.now.trees 0)) rows
+own_rows r old new rows has h =
+    let more = drop 1 (tables_under r) in
+    let read = reads_as select_own [] old new (schema_of (meta ∷ more)) (has ∙ ap schema_of (meta_first r)) own_select
+    (own_is more) (own_plain more) (own_unlisted more) rows h in
     rw filter_all at (scans 0 [] own_columns [] old.now.trees [] rows read.answer)
 
-pub own_tables : (old new : State) (rows : List Row) → Shown select_own [] old new rows → old.now.schema ≡ store_schema
-    → IsNumber rows → HasOwnTables old.now
-own_tables old new rows h has one =
+pub known_tables : (r : Release) (old new : State) (rows : List Row) → Shown select_own [] old new rows
+    → IsNumber (number_under r) rows → old.now.schema ≡ schema_under r → HasTablesUnder r old.now
+known_tables r old new rows h one has =
     let row = one.0 in
-    let same = rw one.1 at (own_rows old new rows has h) in
+    let same = rw one.1 at (own_rows r old new rows has h) in
     record {
       schema = has;
-      number = one_setting (pos 1) one.2.0 (old.now.trees 0)
+      number = one_setting (number_under r) one.2.0 (old.now.trees 0)
           (one_permutation row _ (IsPermutation-sym _ _ same) ∙ ap (λ r. r ∷ []) one.2.1);
     }
 
@@ -113,10 +128,10 @@ one_mapped f (x ∷ z ∷ more) y is = absurd (omega (
   ap Rattle.std.proofs.Common.length is,
 ))
 
-is_number : (rows : List Row) → AreRows meta (number_row ∷ []) rows → (found : List Row)
-    → IsPermutation (map (whole (shown meta)) rows) found → IsNumber found
-is_number rows own found same =
-    let one = one_mapped (shown meta) rows number_row (one_permutation number_row _ own.same) in
+is_number : (n : ℤ) (rows : List Row) → AreRows meta (setting_row n ∷ []) rows → (found : List Row)
+    → IsPermutation (map (whole (shown meta)) rows) found → IsNumber n found
+is_number n rows own found same =
+    let one = one_mapped (shown meta) rows (setting_row n) (one_permutation (setting_row n) _ own.same) in
     let keyed = keyed (shown meta) rows own.numbered one.0 (subst (λ l. Has l one.0) (sym one.1) (inl refl)) in
     let row = whole (shown meta) one.0 in (
       row,
@@ -124,10 +139,10 @@ is_number rows own found same =
       (_, ap₂ ◌∷◌ keyed one.2),
     )
 
-pub not_own : (old new : State) (rows : List Row) → Shown select_own [] old new rows
-    → (old.now.schema ≡ store_schema → ¬ IsNumber rows) → ¬ HasOwnTables old.now
-not_own old new rows h none own = none own.schema (is_number (old.now.trees 0) own.number rows
-    (own_rows old new rows own.schema h))
+pub not_known : (r : Release) (old new : State) (rows : List Row) → Shown select_own [] old new rows
+    → ¬ IsNumber (number_under r) rows → ¬ HasTablesUnder r old.now
+not_known r old new rows h none own = none (is_number (number_under r) (old.now.trees 0) own.number rows
+    (own_rows r old new rows own.schema h))
 
 no_state_of : (db : Database) → ¬ IsBlank db → ¬ HasOwnTables db → (i : Inventory) → ¬ IsStateOf i db
 no_state_of db tables none i (inl blank) = tables blank.0
@@ -137,10 +152,32 @@ no_state_of db tables none i (inr stands) = none (record {
 })
 
 pub no_state : (old new : State) (rows : List Row) → Shown select_meta [] old new rows → ¬ IsBlank old.now
-    → ¬ HasOwnTables old.now → ¬ Any GivesOther rows → HasNoState old
+    → ¬ HasOwnTables old.now → ¬ Any (GivesOther own_numbers) rows → HasNoState old
 no_state old new rows h tables none no_other = record {
   none = no_state_of old.now tables none;
   not_own = none;
+  rows = rows;
+  shown = select_again select_meta [] meta_selects old new rows h;
+  no_other = no_other;
+}
+
+no_release_of : (db : Database) → ¬ IsBlank db → ((r : Release) → ¬ HasTablesUnder r db) → (i : Inventory)
+    → ¬ IsEarlierStateOf i db
+no_release_of db tables none i (inl own) = no_state_of db tables (none Third) i own
+no_release_of db tables none i (inr (inl stands)) = none First (record {
+  schema = stands.tables.schema_is;
+  number = stands.tables.tables.0;
+})
+no_release_of db tables none i (inr (inr stands)) = none Second (record {
+  schema = stands.tables.schema_is;
+  number = stands.tables.tables.0;
+})
+
+pub no_release : (old new : State) (rows : List Row) → Shown select_meta [] old new rows → ¬ IsBlank old.now
+    → ((r : Release) → ¬ HasTablesUnder r old.now) → ¬ Any (GivesOther known_numbers) rows → HasNoRelease old
+no_release old new rows h tables none no_other = record {
+  none = no_release_of old.now tables none;
+  not_known = none;
   rows = rows;
   shown = select_again select_meta [] meta_selects old new rows h;
   no_other = no_other;

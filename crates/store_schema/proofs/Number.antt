@@ -1,7 +1,10 @@
 -- The number of the schema: what writing it makes of the empty tables, and what reading it says.
 use Rattle.std.proofs.Common.{◌≡◌, ℕ, List, [], ◌∷◌, codes, pos, IsPermutation, IsTrue, ℤ, map, drop, arith, refl, sym}
-use Rattle.std.proofs.Common.{ap, subst, ◌∙◌}
-use Rattle.std.proofs.lemmas.List.Sorted.{IsPermutation-refl}
+use Rattle.std.proofs.Common.{◌≢◌, ◌==◌, inl, not, true, eq-eqb, true≢false, ap, subst, ◌∙◌}
+use Rattle.std.specs.List.{AllByRecursion, list_all}
+use Rattle.std.proofs.lemmas.Bool.{and_parts, not-true}
+use Rattle.sqlite.specs.Tree.{Trees}
+use Rattle.std.proofs.lemmas.List.Sorted.{IsPermutation-refl, IsPermutation-sym}
 use Rattle.lemmas.proofs.Booleans.{cond_same}
 use Rattle.sqlite.specs.declared.types.Value.TheVariants.{Null, Int, Text}
 use Rattle.sqlite.specs.Ops.{unary}
@@ -20,15 +23,14 @@ use Rattle.sqlite_tied.specs.Compute.{everything}
 use Rattle.terms.specs.Types.{Text as Bytes, Id}
 use Rattle.terms.specs.Over.{Leads}
 use Rattle.terms.specs.Global.{names_for}
-use Rattle.store_schema.specs.Tables.{meta, sysmod, ver, ifreq, hold, elem, zone, entry, zelem, all_tables}
-use Rattle.store_schema.specs.Tables.{store_schema}
+use Rattle.store_schema.specs.Tables.{meta, all_tables, store_schema}
 use Rattle.store_schema.specs.Create.{HasTables}
 use Rattle.store_schema.specs.Inventory.{IsInventory, empty_inventory}
 use Rattle.store_schema.specs.Known.{HasRun}
 use Rattle.store_schema.specs.Stands.{StandsFor}
 use Rattle.store_rows.specs.Numbered.{AreNumbered}
 use Rattle.store_rows.specs.Rows.{shown, AreRows}
-use Rattle.store_rows.proofs.RowLemmas.{whole, none_numbered}
+use Rattle.store_rows.proofs.RowLemmas.{whole, has_permuted}
 use Rattle.store_rows.proofs.Statements.{inserts, puts_one}
 use Rattle.sqlite_trees.proofs.ListLemmas.{map-map}
 use Rattle.sqlite.specs.Order.{Row}
@@ -37,10 +39,10 @@ use Rattle.sqlite.specs.View.{is_int}
 use Rattle.store_schema.specs.Rows.{setting_row, number_row}
 
 abbrev pub insert_meta : List ℕ
-insert_meta = codes "INSERT INTO meta (k, v) VALUES ('schema', 1)"
+insert_meta = codes "INSERT INTO meta (k, v) VALUES ('schema', 3)"
 
 abbrev meta_terms : List Term
-meta_terms = lit Null ∷ lit (Text (codes "schema")) ∷ lit (Int (pos 1)) ∷ []
+meta_terms = lit Null ∷ lit (Text (codes "schema")) ∷ lit (Int (pos 3)) ∷ []
 
 insert_is : command_of (understood store_schema insert_meta) ≡ Insert 0 (Values meta_terms 3)
 unfolding understood everything
@@ -54,9 +56,9 @@ cast_null : cast Integer Null ≡ Null
 unfolding unary
 cast_null = cond_same _ Null
 
-cast_one : cast Integer (Int (pos 1)) ≡ Int (pos 1)
+cast_three : cast Integer (Int (pos 3)) ≡ Int (pos 3)
 unfolding unary
-cast_one = cond_same _ (Int (pos 1))
+cast_three = cond_same _ (Int (pos 3))
 
 one_numbered : (row : Row) → IsTrue (is_int (rowid row)) → AreNumbered (row ∷ [])
 one_numbered row keyed = record {
@@ -66,8 +68,22 @@ one_numbered row keyed = record {
   keyed = (keyed, tt);
 }
 
-no_rows : (table : Table) (rows : List Row) → rows ≡ [] → AreRows table [] rows
-no_rows table rows none = record { same = rw none (IsPermutation-refl []); numbered = rw none none_numbered }
+no_rows_held : (show : Row → Row) (rows : List Row) → IsPermutation [] (map show rows) → rows ≡ []
+no_rows_held show [] same = refl
+no_rows_held show (r ∷ rows) same = absurd (has_permuted (map show (r ∷ rows)) [] (show r)
+    (IsPermutation-sym [] (map show (r ∷ rows)) same) (inl refl))
+
+-- tables other than one that has changed stay empty
+none_there : (tables : List Table) (tree : ℕ) (db next : Trees)
+    → list_all (λ (t : Table). not (t.tree == tree)) tables ≡ true
+    → AllByRecursion (λ t. t.tree ≢ tree → next t.tree ≡ db t.tree) tables
+    → AllByRecursion (λ t. AreRows t [] (db t.tree)) tables → AllByRecursion (λ t. AreRows t [] (next t.tree)) tables
+none_there [] tree db next apart same empty = tt
+none_there (t ∷ ts) tree db next apart same empty =
+    let both = and_parts _ _ apart in (
+      subst (AreRows t []) (sym (same.0 (λ is. true≢false (sym (eq-eqb t.tree tree is) ∙ not-true _ both.0)))) empty.0,
+      none_there ts tree db next both.1 same.1 empty.1,
+    )
 
 -- no SYSMOD names anything
 no_step : (srel : Bytes) (x : Id) (between : List Id) (z : Id)
@@ -108,43 +124,21 @@ pub makes_number : (old new : State) → HasTables all_tables old.now → HasRun
     → StandsFor empty_inventory new.now
 makes_number old new was ran =
     let command = Insert 0 (Values meta_terms 3) in
-    let w = runs_as insert_meta [] old new store_schema was.schema command insert_is insert_plain ran.0 ran.1 in
-    let it = inserts old new store_schema was.schema 0 meta refl
+    let empty : old.now.trees 0 ≡ [] = no_rows_held (shown meta) _ was.tables.0.same in
+    let w = runs_as insert_meta [] old new store_schema was.schema_is command insert_is insert_plain ran.0 ran.1 in
+    let it = inserts old new store_schema was.schema_is 0 meta refl
     (statement_of insert_meta (understood store_schema insert_meta)) [] ran.0 meta_terms 3 refl refl w in
     let row = Int (pos 1) ∷ number_row in
     let is : (edit_of old.now.trees meta [] Chosen 0 it.0).news ≡ row ∷ [] =
-    ap (λ all. (edit_of old.now.trees meta [] Chosen 0 all).news) it.1 ∙ rw (was.empty.0, cast_null, cast_one) refl in
+    ap (λ all. (edit_of old.now.trees meta [] Chosen 0 all).news) it.1 ∙ rw (empty, cast_null, cast_three) refl in
     let put = puts_one store_schema meta old.now.trees new.now.trees it.0 row is it.3 in
-    let others = put.2.tables.1 in
-    let empty = was.empty.1 in
     record {
       tables = record {
         schema_is = it.2;
         sound = w.sound;
         tables = (
-          rw (put.1, was.empty.0) (one_setting (pos 1) (pos 1) (row ∷ []) refl),
-          (
-            no_rows sysmod _ (others.0 (λ e. omega (arith, e)) ∙ empty.0),
-            (
-              no_rows ver _ (others.1.0 (λ e. omega (arith, e)) ∙ empty.1.0),
-              (
-                no_rows ifreq _ (others.1.1.0 (λ e. omega (arith, e)) ∙ empty.1.1.0),
-                (
-                  no_rows hold _ (others.1.1.1.0 (λ e. omega (arith, e)) ∙ empty.1.1.1.0),
-                  (
-                    no_rows elem _ (others.1.1.1.1.0 (λ e. omega (arith, e)) ∙ empty.1.1.1.1.0),
-                    (
-                      no_rows zone _ (others.1.1.1.1.1.0 (λ e. omega (arith, e)) ∙ empty.1.1.1.1.1.0),
-                      (
-                        no_rows entry _ (others.1.1.1.1.1.1.0 (λ e. omega (arith, e)) ∙ empty.1.1.1.1.1.1.0),
-                        (no_rows zelem _ (others.1.1.1.1.1.1.1.0 (λ e. omega (arith, e)) ∙ empty.1.1.1.1.1.1.1.0), tt),
-                      ),
-                    ),
-                  ),
-                ),
-              ),
-            ),
-          ),
+          rw (put.1, empty) (one_setting (pos 3) (pos 1) (row ∷ []) refl),
+          none_there (drop 1 all_tables) 0 old.now.trees new.now.trees refl put.2.tables.1 was.tables.1,
         );
       };
       inventory = empty_is_inventory;

@@ -1,8 +1,8 @@
 -- The rows of a database stand for one inventory at most.
-use Rattle.std.proofs.Common.{◌≡◌, inl, inr, ℕ, List, [], map, IsTrue, AllPairs, arith, sym}
+use Rattle.std.proofs.Common.{◌≡◌, ◌⊎◌, inl, inr, ℕ, List, [], ◌∷◌, ◌++◌, map, length, IsTrue, AllPairs, arith, sym}
 use Rattle.std.proofs.Common.{Option, None, Some, refl, ap, ap₂, subst, ◌∙◌}
 use Rattle.std.specs.Prelude.{IfSome, option_map}
-use Rattle.std.specs.List.{flat_map, enumerate_from}
+use Rattle.std.specs.List.{AllByRecursion, flat_map, enumerate_from}
 use Rattle.std.proofs.lemmas.List.Sorted.{IsPermutation-sym}
 use Rattle.sqlite.specs.declared.types.Value.TheVariants as value
 use Rattle.sqlite.specs.Values.{or_null}
@@ -10,9 +10,9 @@ use Rattle.sqlite.specs.Effect.{Database}
 use Rattle.sqlite.specs.Order.{Row}
 use Rattle.sqlite.specs.Schema.{Schema}
 use Rattle.sqlite.specs.Table.{Table}
-use Rattle.sqlite.specs.Tree.{IsAscending}
+use Rattle.sqlite.specs.Tree.{Trees, IsAscending}
 use Rattle.sqlite_rules.specs.Lists.{Has}
-use Rattle.store_rows.specs.Rows.{AreRows}
+use Rattle.store_rows.specs.Rows.{AreRows, Contents}
 use Rattle.store_rows.proofs.RowLemmas.{has_permuted, mapped, unmapped}
 use Rattle.terms.specs.declared.kinds.Kind.{Kind}
 use Rattle.terms.specs.declared.kinds.ElemType.{ElemType}
@@ -28,12 +28,18 @@ use Rattle.terms.specs.Forms.{IsId}
 use Rattle.store_schema.specs.Forms.{AreSorted, AreRecords, IsTextOf, HasIfForms, HasVerForms, HasActionForms}
 use Rattle.store_schema.specs.Forms.{HasChangeForms, is_change_before, HasSysmodForms, HasEntryForms, HasElementForms}
 use Rattle.store_schema.specs.Forms.{HasAppliedForms}
-use Rattle.store_schema.specs.Inventory.{Inventory, IsInventory, IsZoneNamed}
-use Rattle.store_schema.specs.Rows.{sysmod_row, ver_row, vers_of, ifreq_row, ifreqs_of, hold_row, action_cells}
-use Rattle.store_schema.specs.Rows.{elem_row, elems_of, zone_row, entry_row, entries_of, zelem_row, zelems_of, ids}
-use Rattle.store_schema.specs.Tables.{all_tables}
+use Rattle.store_schema.specs.Inventory.{Inventory, IsInventory, IsZoneNamed, empty_inventory}
+use Rattle.store_schema.specs.Rows.{sysmod_row, source_row, sources_of, ver_row, vers_of, ifreq_row, ifreqs_of}
+use Rattle.store_schema.specs.Rows.{hold_row, action_cells, elem_row, elems_of, zone_row, entry_row, entries_of}
+use Rattle.store_schema.specs.Rows.{zelem_row, zelems_of, ids}
+use Rattle.store_schema.specs.Tables.{ver, ifreq, hold, elem, zone, entry, zelem, source, morever, moreif, chosen}
+use Rattle.store_schema.specs.Tables.{first_tables, second_tables, all_tables}
 use Rattle.store_schema.specs.Create.{IsBlank}
-use Rattle.store_schema.specs.Stands.{StandsFor, HasOneState}
+use Rattle.store_schema.specs.Stands.{rows_of, StandsFor, HasOneState}
+use Rattle.store_schema.specs.Earlier.{first_sysmod_row, first_rows_of, second_rows_of, StandsForFirst, StandsForSecond}
+use Rattle.store_schema.specs.Earlier.{schema_under, StandsUnder, IsEarlierStateOf, HasOneEarlierState}
+use Rattle.store_schema.specs.declared.release.Release.{Release}
+use Rattle.store_schema.specs.declared.release.Release.TheVariants.{First, Second, Third}
 use Rattle.store_schema.proofs.Lists.{same_sorted, lower_once, one_place, has_all, ascending, ascending_by, flat_has}
 use Rattle.store_schema.proofs.Lists.{flat_had, IsLower, numbers_rise, values}
 use Rattle.store_schema.proofs.Spelled.{kind_same, hold_same, type_same, zone_same, or_null_same, flag_same}
@@ -215,7 +221,10 @@ hold_once a b = lower_once hold_cmp_total a b
 -- ---- what the rows of one inventory say of another
 
 record IsWithin (i j : Inventory) : Type 0 where
-  sysmods : (r : Row) → Has (map sysmod_row i.global.sysmods) r → Has (map sysmod_row j.global.sysmods) r
+  sysmods : (s : Sysmod) → Has i.global.sysmods s
+      → (t : Sysmod) × Has j.global.sysmods t × (s.id ≡ t.id) × (s.kind ≡ t.kind)
+  sources : (s t : Sysmod) → Has i.global.sysmods s → Has j.global.sysmods t → s.id ≡ t.id → (name : Text)
+      → Has s.sources name → Has t.sources name
   vers : (r : Row) → Has (flat_map vers_of i.global.sysmods) r → Has (flat_map vers_of j.global.sysmods) r
   ifreqs : (r : Row) → Has (flat_map ifreqs_of i.global.sysmods) r → Has (flat_map ifreqs_of j.global.sysmods) r
   holds : (r : Row) → Has (map hold_row i.global.holds) r → Has (map hold_row j.global.holds) r
@@ -223,25 +232,6 @@ record IsWithin (i j : Inventory) : Type 0 where
   zones : (r : Row) → Has (map zone_row i.zones) r → Has (map zone_row j.zones) r
   entries : (r : Row) → Has (flat_map entries_of i.zones) r → Has (flat_map entries_of j.zones) r
   zelems : (r : Row) → Has (flat_map zelems_of i.zones) r → Has (flat_map zelems_of j.zones) r
-
-both : (table : Table) (held kept rows : List Row) → AreRows table held rows → AreRows table kept rows → (r : Row)
-    → Has held r → Has kept r
-both table held kept rows p q r h = has_permuted _ _ r (IsPermutation-sym _ _ q.same) (has_permuted _ _ r p.same h)
-
-within : (i j : Inventory) (db : Database) → StandsFor i db → StandsFor j db → IsWithin i j
-within i j db p q =
-    let a = p.tables.tables.1 in
-    let b = q.tables.tables.1 in
-    record {
-      sysmods = both _ _ _ _ a.0 b.0;
-      vers = both _ _ _ _ a.1.0 b.1.0;
-      ifreqs = both _ _ _ _ a.1.1.0 b.1.1.0;
-      holds = both _ _ _ _ a.1.1.1.0 b.1.1.1.0;
-      elems = both _ _ _ _ a.1.1.1.1.0 b.1.1.1.1.0;
-      zones = both _ _ _ _ a.1.1.1.1.1.0 b.1.1.1.1.1.0;
-      entries = both _ _ _ _ a.1.1.1.1.1.1.0 b.1.1.1.1.1.1.0;
-      zelems = both _ _ _ _ a.1.1.1.1.1.1.1.0 b.1.1.1.1.1.1.1.0;
-    }
 
 sysmods_rise : (i : Inventory) → IsInventory i → IsAscending (IsBelow (λ (s : Sysmod). s.id)) i.global.sysmods
 sysmods_rise i p = ascending _ _ p.global.sysmods
@@ -255,16 +245,18 @@ forms i p s h = has_all HasSysmodForms i.global.sysmods s p.sysmods h
 vers_rise : (s : Sysmod) → HasSysmodForms s → IsAscending (IsBelow (λ (v : Ver). v.srel)) s.vers
 vers_rise s f = rise_by (λ (v : Ver). v.srel) s.vers f.srels
 
+own : (j : Inventory) → IsInventory j → (s t : Sysmod) → Has j.global.sysmods t → s.id ≡ t.id → (u : Sysmod)
+    → Has j.global.sysmods u → s.id ≡ u.id → u ≡ t
+own j q s t ht same u hu e =
+    one_of_key (λ (x : Sysmod). x.id) j.global.sysmods u t (sysmods_rise j q) hu ht (sym e ∙ same)
+
 -- of SYSMODs with one id in the two inventories, what the first has the second has
 module _ (i j : Inventory) (p : IsInventory i) (q : IsInventory j) (to : IsWithin i j) (s t : Sysmod)
     (hs : Has i.global.sysmods s) (ht : Has j.global.sysmods t) (same : s.id ≡ t.id) where
-  own : (u : Sysmod) → Has j.global.sysmods u → s.id ≡ u.id → u ≡ t
-  own u hu e = one_of_key (λ (x : Sysmod). x.id) j.global.sysmods u t (sysmods_rise j q) hu ht (sym e ∙ same)
-
   ver_found : (v w : Ver) (u : Sysmod) → Has s.vers v → Has j.global.sysmods u → Has u.vers w
       → ver_row s.id v ≡ ver_row u.id w → (x : Ver) × Has t.vers x × HaveOneHead v x
   ver_found v w u hv hu hw e =
-      let is : u ≡ t = own u hu cc in
+      let is : u ≡ t = own j q s t ht same u hu cc in
       let a = has_all (HasVerForms s.kind s.id) s.vers v (forms i p s hs).vers hv in
       let b = has_all (HasVerForms u.kind u.id) u.vers w (forms j q u hu).vers hw in
       (w, subst (λ (x : Sysmod). Has x.vers w) is hw, one_head s.kind u.kind s.id u.id v w a b e)
@@ -281,7 +273,7 @@ module _ (i j : Inventory) (p : IsInventory i) (q : IsInventory j) (to : IsWithi
       → Has j.global.sysmods u → Has u.vers x → Has (enumerate_from 1 x.ifs) g
       → ifreq_row s.id v.srel f ≡ ifreq_row u.id x.srel g → Has (enumerate_from 1 w.ifs) f
   if_found v w x u f g hv hw srel hf hu hx hg e =
-      let is : u ≡ t = own u hu cc in
+      let is : u ≡ t = own j q s t ht same u hu cc in
       let there : Has t.vers x = subst (λ (y : Sysmod). Has y.vers x) is hx in
       let one : x ≡ w = one_of_key (λ (y : Ver). y.srel) t.vers x w (vers_rise t (forms j q t ht)) there hw cc in
       let a = has_all (HasIfForms s.id) v.ifs f.1 (has_all (HasVerForms s.kind s.id) s.vers v (forms i p s hs).vers
@@ -307,7 +299,7 @@ module _ (i j : Inventory) (p : IsInventory i) (q : IsInventory j) (to : IsWithi
   change_found : (c d : Change) (u : Sysmod) → Has s.changes c → Has j.global.sysmods u → Has u.changes d
       → elem_row s.id c ≡ elem_row u.id d → Has t.changes c
   change_found c d u hc hu hd e =
-      let is : u ≡ t = own u hu cc in
+      let is : u ≡ t = own j q s t ht same u hu cc in
       let a = has_all (HasChangeForms s.kind) s.changes c (forms i p s hs).changes hc in
       let b = has_all (HasChangeForms u.kind) u.changes d (forms j q u hu).changes hd in
       let equal : c ≡ d = change_is s.kind u.kind s.id u.id c d a b e in
@@ -334,18 +326,21 @@ module _ (i j : Inventory) (p : IsInventory i) (q : IsInventory j) (to : IsWithi
       let ifs : v.ifs ≡ w.ifs = sym (values 1 v.ifs) ∙ ap (map (λ (f : ℕ × IfReq). f.1)) listed ∙ values 1 w.ifs in
       subst (Has t.vers) (sym (ver_is v w it.2 ifs)) it.1
 
+  sources_same : s.sources ≡ t.sources
+  sources_same = same_sorted (λ a b. IsTrue (is_before a b)) before_once _ _
+      (ascending _ _ (forms i p s hs).sources.rising) (ascending _ _ (forms j q t ht).sources.rising)
+      (to.sources s t hs ht same) (from.sources t s ht hs (sym same))
+
   changes_same : s.changes ≡ t.changes
   changes_same = same_sorted (λ a b. IsTrue (is_change_before a b)) change_once _ _
       (ascending _ _ (forms i p s hs).elements) (ascending _ _ (forms j q t ht).elements)
       (change_in i j p q to s t hs ht same) (change_in j i q p from t s ht hs (sym same))
 
 module _ (i j : Inventory) (p : IsInventory i) (q : IsInventory j) (to : IsWithin i j) (from : IsWithin j i) where
-  sysmod_found : (s t : Sysmod) → Has i.global.sysmods s → Has j.global.sysmods t → sysmod_row s ≡ sysmod_row t → s ≡ t
-  sysmod_found s t hs ht e =
-      let id : s.id ≡ t.id = cc in
-      let kind : s.kind ≡ t.kind = kind_same s.kind t.kind cc in
-      let sources : s.sources ≡ t.sources = ids_same s.sources t.sources (sources_are_words _ (forms i p s hs).sources)
-      (sources_are_words _ (forms j q t ht).sources) cc in
+  sysmod_found : (s t : Sysmod) → Has i.global.sysmods s → Has j.global.sysmods t → s.id ≡ t.id → s.kind ≡ t.kind
+      → s ≡ t
+  sysmod_found s t hs ht id kind =
+      let sources : s.sources ≡ t.sources = sources_same i j p q to from s t hs ht id in
       let vers : s.vers ≡ t.vers = same_sorted (IsBelow (λ (v : Ver). v.srel)) (below_once (λ (v : Ver). v.srel)) _ _
       (vers_rise s (forms i p s hs)) (vers_rise t (forms j q t ht))
       (ver_kept i j p q to from s t hs ht id) (ver_kept j i q p from to t s ht hs (sym id)) in
@@ -361,9 +356,8 @@ module _ (i j : Inventory) (p : IsInventory i) (q : IsInventory j) (to : IsWithi
 
   sysmod_kept : (s : Sysmod) → Has i.global.sysmods s → Has j.global.sysmods s
   sysmod_kept s hs =
-      let it = unmapped sysmod_row j.global.sysmods _ (to.sysmods (sysmod_row s)
-      (mapped sysmod_row i.global.sysmods s hs)) in
-      subst (Has j.global.sysmods) (sym (sysmod_found s it.0 hs it.1 it.2)) it.1
+      let it = to.sysmods s hs in
+      subst (Has j.global.sysmods) (sym (sysmod_found s it.0 hs it.1 it.2 it.3)) it.1
 
   hold_kept : (h : Hold) → Has i.global.holds h → Has j.global.holds h
   hold_kept h there =
@@ -440,12 +434,8 @@ module _ (i j : Inventory) (p : IsInventory i) (q : IsInventory j) (to : IsWithi
       let it = unmapped zone_row j.zones _ (to.zones (zone_row y) (mapped zone_row i.zones y hy)) in
       subst (Has j.zones) (sym (zone_found y it.0 hy it.1 it.2)) it.1
 
-one_inventory : (db : Database) (i j : Inventory) → StandsFor i db → StandsFor j db → i ≡ j
-one_inventory db i j si sj =
-    let p = si.inventory in
-    let q = sj.inventory in
-    let to = within i j db si sj in
-    let from = within j i db sj si in
+one_inventory : (i j : Inventory) → IsInventory i → IsInventory j → IsWithin i j → IsWithin j i → i ≡ j
+one_inventory i j p q to from =
     let sysmods : i.global.sysmods ≡ j.global.sysmods =
     same_sorted (IsBelow (λ (s : Sysmod). s.id)) (below_once (λ (s : Sysmod). s.id)) _ _ (sysmods_rise i p)
     (sysmods_rise j q) (sysmod_kept i j p q to from) (sysmod_kept j i q p from to) in
@@ -459,12 +449,170 @@ one_inventory db i j si sj =
     ∙ ap (λ x. record i { global = record { sysmods = j.global.sysmods; holds = x } }) holds
     ∙ ap (λ x. record j { zones = x }) zones
 
-not_blank : (db : Database) (i : Inventory) → StandsFor i db → ¬ IsBlank db
-not_blank db i s blank = absurd (let none : [] ≡ all_tables =
-    ap (λ (x : Schema). x.tables) (sym blank ∙ s.tables.schema_is) in cc)
+-- ---- the tables of a database
+
+-- each row of these tables by one account is one by the other
+abbrev AreAmong : List Table → Contents → Contents → Type 0
+AreAmong tables c d = AllByRecursion (λ t. (r : Row) → Has (c t.tree) r → Has (d t.tree) r) tables
+
+among : (tables : List Table) (c d : Contents) (db : Trees)
+    → AllByRecursion (λ t. AreRows t (c t.tree) (db t.tree)) tables
+    → AllByRecursion (λ t. AreRows t (d t.tree) (db t.tree)) tables → AreAmong tables c d
+among [] c d db p q = tt
+among (t ∷ ts) c d db p q = (
+  λ r h. has_permuted _ _ r (IsPermutation-sym _ _ q.0.same) (has_permuted _ _ r p.0.same h),
+  among ts c d db p.1 q.1,
+)
+
+front : (c d : Contents) (xs ys : List Table) → AreAmong (xs ++ ys) c d → AreAmong xs c d
+front c d [] ys h = tt
+front c d (x ∷ xs) ys h = (h.0, front c d xs ys h.1)
+
+back : (c d : Contents) (xs ys : List Table) → AreAmong (xs ++ ys) c d → AreAmong ys c d
+back c d [] ys h = h
+back c d (x ∷ xs) ys h = back c d xs ys h.1
+
+-- what all releases hold alike
+abbrev shared_tables : List Table
+shared_tables = ver ∷ ifreq ∷ hold ∷ elem ∷ zone ∷ entry ∷ zelem ∷ []
+
+module _ (i j : Inventory) (p : IsInventory i) (q : IsInventory j)
+    (shared : AreAmong shared_tables (rows_of i) (rows_of j)) where
+  -- the sources in a table of their own
+  within : ((r : Row) → Has (map sysmod_row i.global.sysmods) r → Has (map sysmod_row j.global.sysmods) r)
+      → ((r : Row) → Has (flat_map sources_of i.global.sysmods) r → Has (flat_map sources_of j.global.sysmods) r)
+      → IsWithin i j
+  within sysmods sources = record {
+    sysmods = λ s hs.
+        let there = sysmods (sysmod_row s) (mapped sysmod_row i.global.sysmods s hs) in
+        let it = unmapped sysmod_row j.global.sysmods _ there in (it.0, it.1, cc, kind_same s.kind it.0.kind cc);
+    sources = λ s t hs ht same name hn.
+        let found = flat_had sources_of j.global.sysmods _ (sources (source_row s.id name)
+        (flat_has sources_of i.global.sysmods s _ hs (mapped (source_row s.id) s.sources name hn))) in
+        let it = unmapped (source_row found.0.id) found.0.sources (source_row s.id name) found.2 in
+        let is : found.0 ≡ t = own j q s t ht same found.0 found.1 cc in
+        let equal : it.0 ≡ name = cc in
+        subst (λ (x : Sysmod). Has x.sources name) is (subst (Has found.0.sources) equal it.1);
+    vers = shared.0;
+    ifreqs = shared.1.0;
+    holds = shared.1.1.0;
+    elems = shared.1.1.1.0;
+    zones = shared.1.1.1.1.0;
+    entries = shared.1.1.1.1.1.0;
+    zelems = shared.1.1.1.1.1.1.0;
+  }
+
+  -- the sources in the row of the SYSMOD
+  within_first :
+      ((r : Row) → Has (map first_sysmod_row i.global.sysmods) r → Has (map first_sysmod_row j.global.sysmods) r)
+      → IsWithin i j
+  within_first sysmods = record {
+    sysmods = λ s hs. let it = found s hs in (it.0, it.1, cc, kind_same s.kind it.0.kind cc);
+    sources = λ s t hs ht same name hn.
+        let it = found s hs in
+        let is : it.0 ≡ t = own j q s t ht same it.0 it.1 cc in
+        let equal : s.sources ≡ it.0.sources = ids_same s.sources it.0.sources
+        (sources_are_words _ (forms i p s hs).sources) (sources_are_words _ (forms j q it.0 it.1).sources) cc in
+        subst (λ (x : Sysmod). Has x.sources name) is (subst (λ l. Has l name) equal hn);
+    vers = shared.0;
+    ifreqs = shared.1.0;
+    holds = shared.1.1.0;
+    elems = shared.1.1.1.0;
+    zones = shared.1.1.1.1.0;
+    entries = shared.1.1.1.1.1.0;
+    zelems = shared.1.1.1.1.1.1.0;
+  }
+    where
+      found : (s : Sysmod) → Has i.global.sysmods s
+          → (t : Sysmod) × Has j.global.sysmods t × (first_sysmod_row s ≡ first_sysmod_row t)
+      found s hs = unmapped first_sysmod_row j.global.sysmods _
+          (sysmods (first_sysmod_row s) (mapped first_sysmod_row i.global.sysmods s hs))
+
+-- ---- one state
+
+same_third : (db : Database) (i j : Inventory) → StandsFor i db → StandsFor j db → IsWithin i j
+same_third db i j p q =
+    let all = among all_tables (rows_of i) (rows_of j) db.trees p.tables.tables q.tables.tables in
+    let more = source ∷ morever ∷ moreif ∷ chosen ∷ [] in
+    within i j p.inventory q.inventory (front (rows_of i) (rows_of j) shared_tables more all.1.1) all.1.0
+    (back (rows_of i) (rows_of j) shared_tables more all.1.1).0
+
+same_second : (db : Database) (i j : Inventory) → StandsForSecond i db → StandsForSecond j db → IsWithin i j
+same_second db i j p q =
+    let c = second_rows_of i in
+    let d = second_rows_of j in
+    let all = among second_tables c d db.trees p.tables.tables q.tables.tables in
+    within i j p.inventory q.inventory (front c d shared_tables (source ∷ []) all.1.1) all.1.0
+    (back c d shared_tables (source ∷ []) all.1.1).0
+
+same_first : (db : Database) (i j : Inventory) → StandsForFirst i db → StandsForFirst j db → IsWithin i j
+same_first db i j p q =
+    let all = among first_tables (first_rows_of i) (first_rows_of j) db.trees p.tables.tables q.tables.tables in
+    within_first i j p.inventory q.inventory all.1.1 all.1.0
+
+one_under : (r : Release) (db : Database) (i j : Inventory) → StandsUnder r i db → StandsUnder r j db → i ≡ j
+one_under First db i j p q =
+    one_inventory i j p.inventory q.inventory (same_first db i j p q) (same_first db j i q p)
+one_under Second db i j p q =
+    one_inventory i j p.inventory q.inventory (same_second db i j p q) (same_second db j i q p)
+one_under Third db i j p q =
+    one_inventory i j p.inventory q.inventory (same_third db i j p q) (same_third db j i q p)
+
+-- ---- one release
+
+pub schema_of_release : (r : Release) (db : Database) (i : Inventory) → StandsUnder r i db → db.schema ≡ schema_under r
+schema_of_release First db i p = p.tables.schema_is
+schema_of_release Second db i p = p.tables.schema_is
+schema_of_release Third db i p = p.tables.schema_is
+
+-- the releases differ in how many tables there are
+pub one_release : (r s : Release) → schema_under r ≡ schema_under s → r ≡ s
+one_release First First e = refl
+one_release Second Second e = refl
+one_release Third Third e = refl
+one_release First Second e = absurd (omega (arith, ap (λ (x : Schema). length x.tables) e))
+one_release First Third e = absurd (omega (arith, ap (λ (x : Schema). length x.tables) e))
+one_release Second First e = absurd (omega (arith, ap (λ (x : Schema). length x.tables) e))
+one_release Second Third e = absurd (omega (arith, ap (λ (x : Schema). length x.tables) e))
+one_release Third First e = absurd (omega (arith, ap (λ (x : Schema). length x.tables) e))
+one_release Third Second e = absurd (omega (arith, ap (λ (x : Schema). length x.tables) e))
+
+not_blank : (r : Release) (db : Database) → db.schema ≡ schema_under r → ¬ IsBlank db
+not_blank First db is blank = absurd (omega (arith, ap (λ (x : Schema). length x.tables) (sym blank ∙ is)))
+not_blank Second db is blank = absurd (omega (arith, ap (λ (x : Schema). length x.tables) (sym blank ∙ is)))
+not_blank Third db is blank = absurd (omega (arith, ap (λ (x : Schema). length x.tables) (sym blank ∙ is)))
+
+-- no tables, or those of a release
+abbrev pub StandsSomehow : Inventory → Database → Type 0
+StandsSomehow i db = (IsBlank db × (i ≡ empty_inventory)) ⊎ ((r : Release) × StandsUnder r i db)
+
+pub release_by_state : (db : Database) (i : Inventory) → IsEarlierStateOf i db → StandsSomehow i db
+release_by_state db i (inl (inl blank)) = inl blank
+release_by_state db i (inl (inr stands)) = inr (Third, stands)
+release_by_state db i (inr (inl stands)) = inr (First, stands)
+release_by_state db i (inr (inr stands)) = inr (Second, stands)
+
+-- what the tables of a release stand for, they stand for under it
+pub stands_under : (r : Release) (db : Database) (i : Inventory) → db.schema ≡ schema_under r → IsEarlierStateOf i db
+    → StandsUnder r i db
+stands_under r db i has state = by (release_by_state db i state)
+  where
+    by : StandsSomehow i db → StandsUnder r i db
+    by (inl blank) = absurd (not_blank r db has blank.0)
+    by (inr it) =
+        let same = one_release it.0 r (sym (schema_of_release it.0 db i it.1) ∙ has) in
+        subst (λ r. StandsUnder r i db) same it.1
+
+one_known : (db : Database) (i j : Inventory) → StandsSomehow i db → StandsSomehow j db → i ≡ j
+one_known db i j (inl p) (inl q) = p.1 ∙ sym q.1
+one_known db i j (inl p) (inr q) = absurd (not_blank q.0 db (schema_of_release q.0 db j q.1) p.0)
+one_known db i j (inr p) (inl q) = absurd (not_blank p.0 db (schema_of_release p.0 db i p.1) q.0)
+one_known db i j (inr p) (inr q) =
+    let same = one_release p.0 q.0 (sym (schema_of_release p.0 db i p.1) ∙ schema_of_release q.0 db j q.1) in
+    one_under q.0 db i j (subst (λ r. StandsUnder r i db) same p.1) q.1
+
+pub one_earlier_state : HasOneEarlierState
+one_earlier_state db i j p q = one_known db i j (release_by_state db i p) (release_by_state db j q)
 
 pub one_state : HasOneState
-one_state db i j (inl p) (inl q) = p.1 ∙ sym q.1
-one_state db i j (inl p) (inr q) = absurd (not_blank db j q p.0)
-one_state db i j (inr p) (inl q) = absurd (not_blank db i p q.0)
-one_state db i j (inr p) (inr q) = one_inventory db i j p q
+one_state db i j p q = one_earlier_state db i j (inl p) (inl q)

@@ -1,6 +1,7 @@
 -- What the texts mean: each makes its table over those before it.
-use Rattle.std.proofs.Common.{List, ℕ, [], ◌∷◌, codes, refl}
-use Rattle.store_schema.specs.Tables.{meta, sysmod, ver, ifreq, hold, elem, zone, entry, zelem}
+use Rattle.std.proofs.Common.{List, ℕ, [], ◌∷◌, ◌++◌, codes, refl}
+use Rattle.store_schema.specs.Tables.{meta, sysmod, ver, ifreq, hold, elem, zone, entry, zelem, source, morever}
+use Rattle.store_schema.specs.Tables.{moreif, chosen, first_tables, second_tables}
 use Rattle.store_schema.proofs.Making.{Makes}
 use Rattle.sqlite.specs.Listing.{understood}
 use Rattle.sqlite_tied.specs.Compute.{everything}
@@ -131,6 +132,66 @@ create_zelem = codes "CREATE TABLE zelem (zone TEXT NOT NULL, type TEXT NOT NULL
 pub makes_zelem : Makes create_zelem (meta ∷ sysmod ∷ ver ∷ ifreq ∷ hold ∷ elem ∷ zone ∷ entry ∷ []) zelem
 unfolding understood everything
 makes_zelem = record {
+  is = refl;
+  plain = (refl, refl);
+  whole = refl;
+  defines = refl;
+  makes = refl;
+  place = refl;
+  uncounted = refl;
+}
+
+abbrev pub create_source : List ℕ
+create_source = codes "CREATE TABLE source (id TEXT NOT NULL, name TEXT NOT NULL, PRIMARY KEY (id, name), FOREIGN KEY (id) REFERENCES sysmod (id) ON DELETE CASCADE) STRICT"
+
+pub makes_source : Makes create_source first_tables source
+unfolding understood everything
+makes_source = record {
+  is = refl;
+  plain = (refl, refl);
+  whole = refl;
+  defines = refl;
+  makes = refl;
+  place = refl;
+  uncounted = refl;
+}
+
+abbrev pub create_morever : List ℕ
+create_morever = codes "CREATE TABLE morever (id TEXT NOT NULL, srel TEXT NOT NULL, n INTEGER NOT NULL, fmid TEXT, pre TEXT NOT NULL, req TEXT NOT NULL, sup TEXT NOT NULL, PRIMARY KEY (id, srel, n), FOREIGN KEY (id) REFERENCES sysmod (id) ON DELETE CASCADE) STRICT"
+
+pub makes_morever : Makes create_morever second_tables morever
+unfolding understood everything
+makes_morever = record {
+  is = refl;
+  plain = (refl, refl);
+  whole = refl;
+  defines = refl;
+  makes = refl;
+  place = refl;
+  uncounted = refl;
+}
+
+abbrev pub create_moreif : List ℕ
+create_moreif = codes "CREATE TABLE moreif (id TEXT NOT NULL, srel TEXT NOT NULL, v INTEGER NOT NULL, n INTEGER NOT NULL, fmid TEXT NOT NULL, req TEXT NOT NULL, PRIMARY KEY (id, srel, v, n), FOREIGN KEY (id) REFERENCES sysmod (id) ON DELETE CASCADE) STRICT"
+
+pub makes_moreif : Makes create_moreif (second_tables ++ morever ∷ []) moreif
+unfolding understood everything
+makes_moreif = record {
+  is = refl;
+  plain = (refl, refl);
+  whole = refl;
+  defines = refl;
+  makes = refl;
+  place = refl;
+  uncounted = refl;
+}
+
+abbrev pub create_chosen : List ℕ
+create_chosen = codes "CREATE TABLE chosen (zone TEXT NOT NULL, id TEXT NOT NULL, n INTEGER NOT NULL, PRIMARY KEY (zone, id), FOREIGN KEY (zone) REFERENCES zone (name)) STRICT"
+
+pub makes_chosen : Makes create_chosen (second_tables ++ morever ∷ moreif ∷ []) chosen
+unfolding understood everything
+makes_chosen = record {
   is = refl;
   plain = (refl, refl);
   whole = refl;

@@ -1,5 +1,5 @@
 -- What is found in a database that has tables already.
-use Rattle.std.specs.Prelude.{◌≡◌, ◌≢◌, ℕ, ℤ, List, [], ◌∷◌, codes, pos, Ok}
+use Rattle.std.specs.Prelude.{◌≡◌, ℕ, ℤ, List, [], ◌∷◌, Contains, codes, pos, Ok}
 use Rattle.std.specs.List.{Any}
 use Rattle.sqlite.specs.declared.error.Error.{Error}
 use Rattle.sqlite.specs.declared.error.Error.TheVariants.{SqliteFailure}
@@ -11,10 +11,13 @@ use Rattle.sqlite.specs.State.{State, Shown, Executes}
 use Rattle.store_rows.specs.Rows.{AreRows}
 use Rattle.store_schema.specs.declared.error.StoreError.{StoreError}
 use Rattle.store_schema.specs.declared.error.StoreError.TheVariants.{Fault, Memory}
-use Rattle.store_schema.specs.Tables.{meta, store_schema}
+use Rattle.store_schema.specs.Tables.{meta}
 use Rattle.store_schema.specs.Inventory.{Inventory}
 use Rattle.store_schema.specs.Stands.{IsStateOf}
-use Rattle.store_schema.specs.Rows.{setting_row, number_row}
+use Rattle.store_schema.specs.Rows.{setting_row}
+use Rattle.store_schema.specs.Earlier.{schema_under, number_under, IsEarlierStateOf}
+use Rattle.store_schema.specs.declared.release.Release.{Release}
+use Rattle.store_schema.specs.declared.release.Release.TheVariants.{Third}
 
 -- how an error of the database is told
 abbrev pub told : Error → StoreError
@@ -30,11 +33,11 @@ select_meta = codes "SELECT k, v FROM meta"
 abbrev pub Gives : ℤ → Row → Type 0
 Gives n row = row ≡ setting_row n
 
--- it gives `schema` a number that is not 1
-abbrev pub GivesOther : Row → Type 0
-GivesOther row = (n : ℤ) × Gives n row × (n ≢ pos 1)
+-- it gives `schema` a number that is none of these
+abbrev pub GivesOther : List ℤ → Row → Type 0
+GivesOther numbers row = (n : ℤ) × Gives n row × ¬ Contains numbers n
 
--- the query for all that the store's own meta holds
+-- the query for all that the meta of a release holds
 abbrev pub select_own : List ℕ
 select_own = codes "SELECT rowid, k, v FROM meta"
 
@@ -42,20 +45,38 @@ select_own = codes "SELECT rowid, k, v FROM meta"
 abbrev pub GivesOwn : ℤ → Row → Type 0
 GivesOwn n row = (id : ℤ) × (row ≡ Int id ∷ setting_row n)
 
--- the rows are one that gives it the number 1
-abbrev pub IsNumber : List Row → Type 0
-IsNumber rows = (row : Row) × (rows ≡ row ∷ []) × GivesOwn (pos 1) row
+-- the rows are one that gives it this number
+abbrev pub IsNumber : ℤ → List Row → Type 0
+IsNumber n rows = (row : Row) × (rows ≡ row ∷ []) × GivesOwn n row
 
--- The tables are another schema's: by their own meaning of the query, meta gives `schema` another number.
-pub record HasOtherNumber (at : State) : Type 0 where
+-- the number of the store's schema, and those of all releases
+abbrev pub own_numbers : List ℤ
+own_numbers = pos 3 ∷ []
+
+abbrev pub known_numbers : List ℤ
+known_numbers = pos 1 ∷ pos 2 ∷ pos 3 ∷ []
+
+-- By their own meaning of the query, meta gives `schema` a number that is none of these.
+pub record HasNumberBut (numbers : List ℤ) (at : State) : Type 0 where
   pub rows : List Row
   pub shown : Shown select_meta [] at at rows
-  pub other : Any GivesOther rows
+  pub other : Any (GivesOther numbers) rows
 
--- the tables are the store's, and so is their number
-pub record HasOwnTables (db : Database) : Type 0 where
-  pub schema : db.schema ≡ store_schema
-  pub number : AreRows meta (number_row ∷ []) (db.trees meta.tree)
+-- the tables are another schema's than the store's, or than any release's
+abbrev pub HasOtherNumber : State → Type 0
+HasOtherNumber = HasNumberBut own_numbers
+
+abbrev pub HasUnknownNumber : State → Type 0
+HasUnknownNumber = HasNumberBut known_numbers
+
+-- the tables are those of the release, and so is their number
+pub record HasTablesUnder (r : Release) (db : Database) : Type 0 where
+  pub schema : db.schema ≡ schema_under r
+  pub number : AreRows meta (setting_row (number_under r) ∷ []) (db.trees meta.tree)
+
+-- those of the store
+abbrev pub HasOwnTables : Database → Type 0
+HasOwnTables = HasTablesUnder Third
 
 -- There are tables and they are not the store's, though meta gives `schema` no other number. They stand for no state.
 pub record HasNoState (at : State) : Type 0 where
@@ -63,7 +84,15 @@ pub record HasNoState (at : State) : Type 0 where
   pub not_own : ¬ HasOwnTables at.now
   pub rows : List Row
   pub shown : Shown select_meta [] at at rows
-  pub no_other : ¬ Any GivesOther rows
+  pub no_other : ¬ Any (GivesOther own_numbers) rows
+
+-- There are tables and they are no release's, though meta gives `schema` no number but theirs. They stand for no state.
+pub record HasNoRelease (at : State) : Type 0 where
+  pub none : (i : Inventory) → ¬ IsEarlierStateOf i at.now
+  pub not_known : (r : Release) → ¬ HasTablesUnder r at.now
+  pub rows : List Row
+  pub shown : Shown select_meta [] at at rows
+  pub no_other : ¬ Any (GivesOther known_numbers) rows
 
 -- the text ran and gave a count
 abbrev pub HasRun : List ℕ → State → State → Type 0

@@ -1,4 +1,5 @@
 pub mod Create
+pub mod Earlier
 pub mod Forms
 pub mod Inventory
 pub mod Known

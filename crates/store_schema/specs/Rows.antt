@@ -26,10 +26,14 @@ abbrev pub setting_row : ℤ → Row
 setting_row n = value.Text (codes "schema") ∷ value.Int n ∷ []
 
 abbrev pub number_row : Row
-number_row = setting_row (pos 1)
+number_row = setting_row (pos 3)
 
+-- the column of the sources stays empty, since they have a table of their own
 abbrev pub sysmod_row : Sysmod → Row
-sysmod_row s = value.Text s.id ∷ value.Text (kind_text s.kind) ∷ ids s.sources ∷ []
+sysmod_row s = value.Text s.id ∷ value.Text (kind_text s.kind) ∷ ids [] ∷ []
+
+abbrev pub source_row : Id → Text → Row
+source_row x name = value.Text x ∷ value.Text name ∷ []
 
 abbrev pub ver_row : Id → Ver → Row
 ver_row x v =
@@ -71,6 +75,9 @@ zelem_row zone e =
     ∷ ids e.umids ∷ value.Text e.distlib ∷ value.Text e.syslib ∷ records e.text ∷ []
 
 -- the rows of a SYSMOD in the tables that refer to it; the ++IFs of a ++VER count from 1
+abbrev pub sources_of : Sysmod → List Row
+sources_of s = map (source_row s.id) s.sources
+
 abbrev pub vers_of : Sysmod → List Row
 vers_of s = map (ver_row s.id) s.vers
 

@@ -6,13 +6,15 @@ use Rattle.sqlite.specs.Tree.{Trees}
 use Rattle.sqlite.specs.Table.{Table}
 use Rattle.sqlite.specs.Effect.{Database}
 use Rattle.store_rows.specs.Rows.{Contents, HasContents}
-use Rattle.store_schema.specs.Tables.{meta, sysmod, ver, ifreq, hold, elem, zone, entry, zelem, store_schema}
+use Rattle.store_schema.specs.Tables.{meta, sysmod, ver, ifreq, hold, elem, zone, entry, zelem, source, morever}
+use Rattle.store_schema.specs.Tables.{moreif, chosen, store_schema}
 use Rattle.store_schema.specs.Create.{IsBlank}
 use Rattle.store_schema.specs.Inventory.{Inventory, IsInventory, empty_inventory}
 use Rattle.store_schema.specs.Rows.{number_row, sysmod_row, vers_of, ifreqs_of, hold_row, elems_of, zone_row}
-use Rattle.store_schema.specs.Rows.{entries_of, zelems_of}
+use Rattle.store_schema.specs.Rows.{entries_of, zelems_of, sources_of}
 
--- what each table holds: the schema's number, and the rows of the inventory
+-- what each table holds: the schema's number, and the rows of the inventory. No SYSMOD has more than one ++VER of an
+-- SREL, so that rows of `morever`, `moreif` and `chosen` stand for nothing.
 abbrev pub tables_of : Inventory → List (Table × List Row)
 tables_of i =
     (meta, number_row ∷ [])
@@ -24,6 +26,10 @@ tables_of i =
     ∷ (zone, map zone_row i.zones)
     ∷ (entry, flat_map entries_of i.zones)
     ∷ (zelem, flat_map zelems_of i.zones)
+    ∷ (source, flat_map sources_of i.global.sysmods)
+    ∷ (morever, [])
+    ∷ (moreif, [])
+    ∷ (chosen, [])
     ∷ []
 
 -- the rows of the table that has the tree

@@ -1,4 +1,4 @@
--- The nine tables of the store.
+-- The tables of the store, in the order in which they are made.
 use Rattle.std.specs.Prelude.{◌+◌, true, false, [], ◌∷◌, None, map, codes, List, ℕ}
 use Rattle.sqlite.specs.Collation.TheVariants.{Binary}
 use Rattle.sqlite.specs.declared.types.Value.TheVariants.{Null}
@@ -127,6 +127,32 @@ zelem = table_of (codes "zelem") 16
     ∷ filled (codes "syslib") Text ∷ filled (codes "text") Blob ∷ [])
     (1 ∷ 2 ∷ 3 ∷ []) (refers_to (codes "zone") (codes "name") NoAction ∷ [])
 
+-- the sources of SYSMODs
+abbrev pub source : Table
+source = table_of (codes "source") 18
+    (filled (codes "id") Text ∷ filled (codes "name") Text ∷ [])
+    (1 ∷ 2 ∷ []) (refers_to (codes "sysmod") (codes "id") Cascade ∷ [])
+
+-- a SYSMOD's further ++VERs of one SREL, which count from 2
+abbrev pub morever : Table
+morever = table_of (codes "morever") 20
+    (filled (codes "id") Text ∷ filled (codes "srel") Text ∷ filled (codes "n") Integer ∷ optional (codes "fmid") Text
+    ∷ filled (codes "pre") Text ∷ filled (codes "req") Text ∷ filled (codes "sup") Text ∷ [])
+    (1 ∷ 2 ∷ 3 ∷ []) (refers_to (codes "sysmod") (codes "id") Cascade ∷ [])
+
+-- the ++IFs of these, of the ++VER that `v` counts
+abbrev pub moreif : Table
+moreif = table_of (codes "moreif") 22
+    (filled (codes "id") Text ∷ filled (codes "srel") Text ∷ filled (codes "v") Integer ∷ filled (codes "n") Integer
+    ∷ filled (codes "fmid") Text ∷ filled (codes "req") Text ∷ [])
+    (1 ∷ 2 ∷ 3 ∷ 4 ∷ []) (refers_to (codes "sysmod") (codes "id") Cascade ∷ [])
+
+-- by which ++VER of the zone's SREL an entry was installed, where it was not the first
+abbrev pub chosen : Table
+chosen = table_of (codes "chosen") 24
+    (filled (codes "zone") Text ∷ filled (codes "id") Text ∷ filled (codes "n") Integer ∷ [])
+    (1 ∷ 2 ∷ []) (refers_to (codes "zone") (codes "name") NoAction ∷ [])
+
 -- the index that its PRIMARY KEY makes
 abbrev pub index_of : Table → Index
 index_of table = automatic table 0 table.primary (table.tree + 1)
@@ -138,11 +164,18 @@ schema_of tables = record { tables = tables; indexes = map index_of tables; view
 abbrev pub global_tables : List Table
 global_tables = sysmod ∷ ver ∷ ifreq ∷ hold ∷ elem ∷ []
 
-abbrev pub zone_tables : List Table
-zone_tables = zone ∷ entry ∷ zelem ∷ []
+-- the tables of schema 1
+abbrev pub first_tables : List Table
+first_tables = meta ∷ sysmod ∷ ver ∷ ifreq ∷ hold ∷ elem ∷ zone ∷ entry ∷ zelem ∷ []
 
+-- the tables of schema 2
+abbrev pub second_tables : List Table
+second_tables = meta ∷ sysmod ∷ ver ∷ ifreq ∷ hold ∷ elem ∷ zone ∷ entry ∷ zelem ∷ source ∷ []
+
+-- those of schema 3, which is the store's
 abbrev pub all_tables : List Table
-all_tables = meta ∷ sysmod ∷ ver ∷ ifreq ∷ hold ∷ elem ∷ zone ∷ entry ∷ zelem ∷ []
+all_tables =
+    meta ∷ sysmod ∷ ver ∷ ifreq ∷ hold ∷ elem ∷ zone ∷ entry ∷ zelem ∷ source ∷ morever ∷ moreif ∷ chosen ∷ []
 
 abbrev pub store_schema : Schema
 store_schema = schema_of all_tables

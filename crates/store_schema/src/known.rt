@@ -1,124 +1,20 @@
 //! The tables that a database has already.
 
-ghost use Rattle.std.specs.Prelude.{◌≡◌, ◌↔◌, ℤ, false, [], codes, pos, IsTrue, OnOk, OnErr, IfOk, IfSome, IfNone};
-ghost use Rattle.std.specs.Prelude.{IsErrOf};
-ghost use Rattle.std.specs.List.{Any};
+ghost use Rattle.std.specs.Prelude.{◌≡◌, false, IsTrue, OnOk, OnErr, IsErrOf};
 ghost use Rattle.sqlite.specs.Held.{state};
-ghost use Rattle.sqlite.specs.State.{HasCleanDisk, IsLive, IsUnchanged, KeepsCommit, Shown, Survives};
+ghost use Rattle.sqlite.specs.State.{HasCleanDisk, IsLive, IsUnchanged, KeepsCommit, Survives};
 ghost use Rattle.store_schema.specs.Create.{IsBlank};
 ghost use Rattle.store_schema.specs.Inventory.{Inventory};
 ghost use Rattle.store_rows.specs.Inside.{Holds};
-ghost use Rattle.store_schema.specs.Known.{select_meta, select_own, Gives, GivesOther, GivesOwn, IsNumber};
-ghost use Rattle.store_schema.specs.Known.{HasOtherNumber, HasNoState};
-ghost use Rattle.store_schema.specs.Known.{HasOwnTables};
+ghost use Rattle.store_schema.specs.Known.{HasOtherNumber, HasNoState, HasOwnTables};
 ghost use Rattle.store_schema.specs.Stands.{StandsFor, IsStateOf, IsSetUp};
 
 use crate::error::StoreError;
-use crate::tables::{create, is_blank, is_ours};
-use sqlite::{Alter, Connection, Error, Row};
-use sqlite_value::value::ValueRef;
+use crate::numbers::{check_number, has_other_number, meta_rows};
+use crate::release::Release;
+use crate::tables::{create, is_blank, is_schema_under};
+use sqlite::{Alter, Connection};
 use std::alloc::Global;
-
-/// What `meta` says, whatever the other tables are.
-fn meta_rows<S: Alter>(conn: &mut Connection<S>) -> Result<Vec<Row>, Error>
-    ensures shown { HasCleanDisk (state S.Store conn.new) → IfOk result
-        (λ rows. Shown select_meta [] (state S.Store conn.old) (state S.Store conn.new) rows.items) }
-    ensures same { HasCleanDisk (state S.Store conn.new) → OnOk result
-        (IsUnchanged (state S.Store conn.old) (state S.Store conn.new)) }
-    ensures kept { HasCleanDisk (state S.Store conn.new) → KeepsCommit (state S.Store conn.old)
-        (state S.Store conn.new) }
-    ensures crash { Survives (state S.Store conn.old) (state S.Store conn.new) (λ _. ⊥) }
-    ensures mode { conn.old.in_transaction ≡ false → conn.new.in_transaction ≡ false }
-{
-    conn.query_all("SELECT k, v FROM meta", &[])
-}
-
-/// All rows of the store's own `meta`.
-fn own_rows<S: Alter>(conn: &mut Connection<S>) -> Result<Vec<Row>, Error>
-    ensures shown { HasCleanDisk (state S.Store conn.new) → IfOk result
-        (λ rows. Shown select_own [] (state S.Store conn.old) (state S.Store conn.new) rows.items) }
-    ensures same { HasCleanDisk (state S.Store conn.new) → OnOk result
-        (IsUnchanged (state S.Store conn.old) (state S.Store conn.new)) }
-    ensures kept { HasCleanDisk (state S.Store conn.new) → KeepsCommit (state S.Store conn.old)
-        (state S.Store conn.new) }
-    ensures crash { Survives (state S.Store conn.old) (state S.Store conn.new) (λ _. ⊥) }
-    ensures mode { conn.old.in_transaction ≡ false → conn.new.in_transaction ≡ false }
-{
-    conn.query_all("SELECT rowid, k, v FROM meta", &[])
-}
-
-fn is_schema_word(word: &[u8]) -> bool
-    ensures { IsTrue result ↔ (word.now ≡ codes "schema") }
-{
-    word == b"schema".as_slice()
-}
-
-/// The number that a row of `meta` gives to the schema.
-fn number_of(row: &Row) -> Option<i64>
-    ensures some { IfSome result (λ n. Gives n row.now) }
-    ensures none { IfNone result ((n : ℤ) → ¬ Gives n row.now) }
-{
-    if row.column_count() != 2 {
-        return None;
-    }
-    match (row.get_ref(0), row.get_ref(1)) {
-        (Ok(ValueRef::Text(word)), Ok(ValueRef::Int(number))) if is_schema_word(word) => Some(
-            number,
-        ),
-        _ => None,
-    }
-}
-
-/// The number that a row of the store's own `meta` gives to the schema.
-fn own_number_of(row: &Row) -> Option<i64>
-    ensures some { IfSome result (λ n. GivesOwn n row.now) }
-    ensures none { IfNone result ((n : ℤ) → ¬ GivesOwn n row.now) }
-{
-    if row.column_count() != 3 {
-        return None;
-    }
-    match (row.get_ref(0), row.get_ref(1), row.get_ref(2)) {
-        (Ok(ValueRef::Int(_)), Ok(ValueRef::Text(word)), Ok(ValueRef::Int(number)))
-            if is_schema_word(word) => { Some(number) }
-        _ => None,
-    }
-}
-
-fn gives_other_number(row: &Row) -> bool
-    ensures { IsTrue result ↔ GivesOther row.now }
-{
-    match number_of(row) {
-        Some(number) => number != 1,
-        None => false,
-    }
-}
-
-fn gives_own_number(row: &Row) -> bool
-    ensures { IsTrue result ↔ GivesOwn (pos 1) row.now }
-{
-    match own_number_of(row) {
-        Some(number) => number == 1,
-        None => false,
-    }
-}
-
-fn has_other_number(rows: &[Row]) -> bool
-    ensures { IsTrue result ↔ Any GivesOther rows.now }
-{
-    for row in rows {
-        if gives_other_number(row) {
-            return true;
-        }
-    }
-    false
-}
-
-/// Whether `meta` has one row, with the number 1.
-fn is_number(rows: &[Row]) -> bool
-    ensures { IsTrue result ↔ IsNumber rows.now }
-{
-    rows.len() == 1 && gives_own_number(&rows[0])
-}
 
 /// Knows the store's tables by all that they are.
 fn check_own<S: Alter>(alloc: Global, conn: &mut Connection<S>) -> Result<(), StoreError>
@@ -133,14 +29,10 @@ fn check_own<S: Alter>(alloc: Global, conn: &mut Connection<S>) -> Result<(), St
     ensures crash { Survives (state S.Store conn.old) (state S.Store conn.new) (λ _. ⊥) }
     ensures mode { conn.old.in_transaction ≡ false → conn.new.in_transaction ≡ false }
 {
-    if !is_ours(alloc, conn.schema())? {
+    if !is_schema_under(alloc, conn.schema(), Release::Third)? {
         return Err(StoreError::NoState);
     }
-    let rows = own_rows(conn)?;
-    if !is_number(rows.as_slice()) {
-        return Err(StoreError::NoState);
-    }
-    Ok(())
+    check_number(conn, Release::Third)
 }
 
 /// Knows the store's tables by their number, and then by all that they are.
@@ -158,7 +50,7 @@ fn check<S: Alter>(alloc: Global, conn: &mut Connection<S>) -> Result<(), StoreE
     ensures mode { conn.old.in_transaction ≡ false → conn.new.in_transaction ≡ false }
 {
     let rows = meta_rows(conn)?;
-    if has_other_number(rows.as_slice()) {
+    if has_other_number(rows.as_slice(), &[3]) {
         return Err(StoreError::OtherSchema);
     }
     check_own(alloc, conn)

@@ -9,14 +9,16 @@ use Rattle.terms.specs.Types.{Text, Id, IfReq, Ver, Change, Sysmod}
 use Rattle.terms.specs.Lookups.{is_before}
 use Rattle.store_schema.proofs.Lists.{ascending}
 use Rattle.store_schema.proofs.Spelled.{not_before_same}
-use Rattle.store_schema.specs.Rows.{sysmod_row, vers_of, ifreqs_of, elems_of, ifreq_row}
+use Rattle.store_schema.specs.Rows.{sysmod_row, source_row, sources_of, vers_of, ifreqs_of, elems_of, ifreq_row}
+use Rattle.store_schema.specs.Earlier.{first_sysmod_row}
 use Rattle.store_sysmod_loads.specs.declared.flat.HeadRow.{HeadRow}
 use Rattle.store_sysmod_loads.specs.declared.flat.VerRow.{VerRow}
 use Rattle.store_sysmod_loads.specs.declared.flat.IfRow.{IfRow}
 use Rattle.store_sysmod_loads.specs.declared.flat.ElemRow.{ElemRow}
-use Rattle.store_sysmod_loads.specs.Flat.{row_of_head, row_of_ver, row_of_if, row_of_elem}
-use Rattle.store_sysmod_loads.specs.Runs.{StandsApart, parent_of_ver, parent_of_if, parent_of_elem, if_rows, ver_rows}
-use Rattle.store_sysmod_loads.specs.Runs.{elem_rows, HasAllIfs}
+use Rattle.store_sysmod_loads.specs.Flat.{row_of_head, row_of_bare, row_of_source, row_of_ver, row_of_if, row_of_elem}
+use Rattle.store_sysmod_loads.specs.Runs.{StandsApart, parent_of_ver, parent_of_if, parent_of_elem, source_rows}
+use Rattle.store_sysmod_loads.specs.Runs.{if_rows, ver_rows, elem_rows, HasAllIfs}
+use Rattle.store_sysmod_loads.specs.Joined.{bare_of, all_sources}
 use Rattle.store_sysmod_loads.specs.Built.{IsBuilt, IsTaken, AreTaken}
 use Rattle.store_sysmod_loads.specs.Flats.{head_of, ifs_of, all_vers, all_ifs, all_elems}
 
@@ -27,9 +29,23 @@ map_flat : {A B C : Type 0} (g : B → C) (f : A → List B) (h : A → List C) 
 map_flat g f h same [] = refl
 map_flat g f h same (x ∷ xs) = map-append g (f x) (flat_map f xs) ∙ ap₂ ◌++◌ (same x) (map_flat g f h same xs)
 
-pub rows_of_heads : (ss : List Sysmod) → map row_of_head (map head_of ss) ≡ map sysmod_row ss
+pub rows_of_heads : (ss : List Sysmod) → map row_of_head (map head_of ss) ≡ map first_sysmod_row ss
 rows_of_heads [] = refl
-rows_of_heads (s ∷ ss) = ap (λ rows. sysmod_row s ∷ rows) (rows_of_heads ss)
+rows_of_heads (s ∷ ss) = ap (λ rows. first_sysmod_row s ∷ rows) (rows_of_heads ss)
+
+pub rows_of_bare : (ss : List Sysmod) → map row_of_bare (map bare_of (map head_of ss)) ≡ map sysmod_row ss
+rows_of_bare [] = refl
+rows_of_bare (s ∷ ss) = ap (λ rows. sysmod_row s ∷ rows) (rows_of_bare ss)
+
+rows_of_names : (x : Id) (names : List Text) → map row_of_source (source_rows x names) ≡ map (source_row x) names
+rows_of_names x [] = refl
+rows_of_names x (n ∷ names) = ap (λ rows. source_row x n ∷ rows) (rows_of_names x names)
+
+pub rows_of_sources : (ss : List Sysmod) → map row_of_source (all_sources (map head_of ss)) ≡ flat_map sources_of ss
+rows_of_sources [] = refl
+rows_of_sources (s ∷ ss) =
+    map-append row_of_source (source_rows s.id s.sources) (all_sources (map head_of ss))
+    ∙ ap₂ ◌++◌ (rows_of_names s.id s.sources) (rows_of_sources ss)
 
 rows_of_ver_list : (x : Id) (vers : List Ver) → map row_of_ver (ver_rows x vers) ≡ map
     (Rattle.store_schema.specs.Rows.ver_row x) vers
@@ -117,7 +133,7 @@ recursion_flat f Q P each [] h = tt
 recursion_flat f Q P each (x ∷ xs) h = recursion_append P (f x) (flat_map f xs) (each x h.0)
     (recursion_flat f Q P each xs h.1)
 
-stands_apart : {X K : Type 0} (parent : X → K) (k : K) (xs : List X) → AllByRecursion (λ x. parent x ≢ k) xs
+pub stands_apart : {X K : Type 0} (parent : X → K) (k : K) (xs : List X) → AllByRecursion (λ x. parent x ≢ k) xs
     → StandsApart parent k xs
 stands_apart parent k [] h begins = begins
 stands_apart parent k (x ∷ xs) h begins = h.0 begins
@@ -142,7 +158,7 @@ if_ids x (v ∷ vers) =
     (recursion_weaker (λ r. parent_of_if r ≡ (x, v.srel)) (λ r. r.id ≡ x) (λ r e. ap (λ (k : Id × Text). k.0) e) _
     (if_parents x v.srel 1 v.ifs)) (if_ids x vers)
 
-other_by : (x y z : Id) → y ≡ z → z ≢ x → y ≢ x
+pub other_by : (x y z : Id) → y ≡ z → z ≢ x → y ≢ x
 other_by x y z e other same = other (sym e ∙ same)
 
 -- the ++IFs of one release stand apart from those of others, and of other SYSMODs

@@ -4,5 +4,7 @@ pub mod Exact
 pub mod RunLemmas
 pub mod FlatLemmas
 pub mod RiseLemmas
-pub mod Chain
+pub mod PartLemmas
 pub mod Standing
+pub mod JoinLemmas
+pub mod Later

@@ -21,13 +21,18 @@ use Rattle.terms.specs.contracts.kinds.ElemTypeOrd.TheImpl as type_order
 use Rattle.terms.proofs.ElementOrder.{cmp_keys}
 use Rattle.store_schema.proofs.Lists.{ascending}
 use Rattle.store_sysmod_loads.specs.declared.flat.HeadRow.{HeadRow}
+use Rattle.store_sysmod_loads.specs.declared.flat.BareHead.{BareHead}
+use Rattle.store_sysmod_loads.specs.declared.flat.SourceRow.{SourceRow}
 use Rattle.store_sysmod_loads.specs.declared.flat.VerRow.{VerRow}
 use Rattle.store_sysmod_loads.specs.declared.flat.IfRow.{IfRow}
 use Rattle.store_sysmod_loads.specs.declared.flat.ElemRow.{ElemRow}
-use Rattle.store_sysmod_loads.specs.Runs.{if_rows, ver_rows, elem_rows}
+use Rattle.store_sysmod_loads.specs.Flat.{HasHeadForms}
+use Rattle.store_sysmod_loads.specs.Runs.{source_rows, if_rows, ver_rows, elem_rows}
+use Rattle.store_sysmod_loads.specs.Joined.{bare_of, all_sources}
 use Rattle.store_sysmod_loads.specs.Built.{IsBuilt}
-use Rattle.store_sysmod_loads.specs.Flats.{head_of, ifs_of, all_vers, all_ifs, all_elems, AreFormed}
+use Rattle.store_sysmod_loads.specs.Flats.{head_of, ifs_of, all_vers, all_ifs, all_elems, AreWhole}
 use Rattle.store_sysmod_loads.proofs.FlatLemmas.{recursion_flat, ver_parents, elem_parents, if_ids, BelowId}
+use Rattle.store_sysmod_loads.proofs.JoinLemmas.{source_parents, BelowHead}
 
 asc_append : {X : Type 0} (R : X → X → Type 0) (xs ys : List X) → IsAscending R xs → IsAscending R ys
     → AllByRecursion (λ x. AllByRecursion (R x) ys) xs → IsAscending R (xs ++ ys)
@@ -89,10 +94,10 @@ module _ {A B K : Type 0} (order : K → K → Ordering) (f : A → List B) (id_
       asc_append Low (f x) (flat_map f xs) (of_one (id_of x) (f x) (each x) subs.0) (asc_flat each xs up.1 subs.1)
       (recursion_weaker (λ b. parent b ≡ id_of x) (λ b. AllByRecursion (Low b) (flat_map f xs)) behind (f x) (each x))
 
-pub ids_up : (ss : List Sysmod) → AreFormed ss → IsAscending BelowId ss
+pub ids_up : (ss : List Sysmod) → AreWhole ss → IsAscending BelowId ss
 ids_up ss h = ascending BelowId ss h.ids
 
-pub heads_rise : (ss : List Sysmod) → AreFormed ss → Rises (slice_cmp nat_cmp) (λ (h : HeadRow). h.id) (map head_of ss)
+pub heads_rise : (ss : List Sysmod) → AreWhole ss → Rises (slice_cmp nat_cmp) (λ (h : HeadRow). h.id) (map head_of ss)
 heads_rise ss h = pairs_from _ (map head_of ss) (asc_map head_of (λ (a b : HeadRow). IsTrue (is_before a.id b.id)) ss
     (ids_up ss h))
 
@@ -101,14 +106,35 @@ pub ids_rise : (ss : List Sysmod) → Rises (slice_cmp nat_cmp) (λ (h : HeadRow
 ids_rise ss h = pairs_from _ ss (Rattle.store_schema.proofs.Lists.ascending_by head_of
     (λ (a b : HeadRow). IsTrue (is_before a.id b.id)) ss (ascending _ (map head_of ss) h))
 
-abbrev pub ver_key_cmp : Id × Text → Id × Text → Ordering
-ver_key_cmp a b = ordering_then (slice_cmp nat_cmp a.0 b.0) (slice_cmp nat_cmp a.1 b.1)
+pub bare_rise : (ss : List Sysmod) → AreWhole ss
+    → Rises (slice_cmp nat_cmp) (λ (h : BareHead). h.id) (map bare_of (map head_of ss))
+bare_rise ss h = pairs_from _ (map bare_of (map head_of ss))
+    (asc_map bare_of (λ (a b : BareHead). IsTrue (is_before a.id b.id)) (map head_of ss)
+    (ascending BelowHead (map head_of ss) (heads_rise ss h)))
+
+-- by the id, and then by the name or the SREL
+abbrev pub text_key_cmp : Id × Text → Id × Text → Ordering
+text_key_cmp a b = ordering_then (slice_cmp nat_cmp a.0 b.0) (slice_cmp nat_cmp a.1 b.1)
+
+names_up : (h : HeadRow) → HasHeadForms h → IsAscending (λ (a b : SourceRow). IsTrue (is_before a.name b.name))
+    (source_rows h.id h.sources)
+names_up h forms = asc_map _ (λ (a b : SourceRow). IsTrue (is_before a.name b.name)) h.sources
+    (ascending _ h.sources forms.1.rising)
+
+pub sources_rise : (ss : List Sysmod) → AreWhole ss → AllByRecursion HasHeadForms (map head_of ss)
+    → Rises text_key_cmp (λ (r : SourceRow). (r.id, r.name)) (all_sources (map head_of ss))
+sources_rise ss h forms =
+    pairs_from _ (all_sources (map head_of ss))
+    (asc_flat (slice_cmp nat_cmp) (λ (h : HeadRow). source_rows h.id h.sources) (λ (h : HeadRow). h.id)
+    (λ (r : SourceRow). r.id) (λ (r : SourceRow). r.name) (λ h. source_parents h.id h.sources) (map head_of ss)
+    (ascending BelowHead (map head_of ss) (heads_rise ss h))
+    (recursion_weaker HasHeadForms _ names_up (map head_of ss) forms))
 
 vers_up : (s : Sysmod) → IsBuilt s → IsAscending (λ (a b : VerRow). IsTrue (is_before a.ver.srel b.ver.srel))
     (ver_rows s.id s.vers)
 vers_up s h = asc_map _ (λ (a b : VerRow). IsTrue (is_before a.ver.srel b.ver.srel)) s.vers (ascending _ s.vers h.srels)
 
-pub vers_rise : (ss : List Sysmod) → AreFormed ss → Rises ver_key_cmp (λ (r : VerRow). (r.id, r.ver.srel)) (all_vers ss)
+pub vers_rise : (ss : List Sysmod) → AreWhole ss → Rises text_key_cmp (λ (r : VerRow). (r.id, r.ver.srel)) (all_vers ss)
 vers_rise ss h =
     pairs_from _ (all_vers ss)
     (asc_flat (slice_cmp nat_cmp) (λ (s : Sysmod). ver_rows s.id s.vers) (λ (s : Sysmod). s.id) (λ (r : VerRow). r.id)
@@ -151,7 +177,7 @@ sysmod_ifs_up s h =
     (λ (r : IfRow). r.number)
     (λ v. if_releases s.id v.srel 1 v.ifs) s.vers (ascending _ s.vers h.srels) (all_up s.id s.vers)
 
-pub ifs_rise : (ss : List Sysmod) → AreFormed ss → Rises if_key_cmp (λ (r : IfRow). (r.id, (r.srel, r.number)))
+pub ifs_rise : (ss : List Sysmod) → AreWhole ss → Rises if_key_cmp (λ (r : IfRow). (r.id, (r.srel, r.number)))
     (all_ifs ss)
 ifs_rise ss h =
     pairs_from _ (all_ifs ss)
@@ -170,7 +196,7 @@ elems_up : (s : Sysmod) → IsBuilt s → IsAscending (λ (a b : ElemRow).
     (elem_rows s.id s.changes)
 elems_up s h = asc_map _ _ s.changes (ascending _ s.changes h.changes)
 
-pub elems_rise : (ss : List Sysmod) → AreFormed ss → Rises elem_key_cmp
+pub elems_rise : (ss : List Sysmod) → AreWhole ss → Rises elem_key_cmp
     (λ (r : ElemRow). (r.id, (r.change.elem_type, r.change.name))) (all_elems ss)
 elems_rise ss h =
     pairs_from _ (all_elems ss)

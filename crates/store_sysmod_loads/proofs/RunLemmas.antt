@@ -3,17 +3,54 @@ use Rattle.std.proofs.Common.{◌≡◌, ℕ, ◌+◌, List, [], ◌∷◌, ◌+
 use Rattle.std.proofs.Common.{sym, ap, subst, ◌∙◌}
 use Rattle.std.specs.Prelude.{IfSome, option_to_list}
 use Rattle.terms.specs.Types.{Text, Id, IfReq, Ver, Change}
+use Rattle.store_sysmod_loads.specs.declared.flat.SourceRow.{SourceRow}
 use Rattle.store_sysmod_loads.specs.declared.flat.VerRow.{VerRow}
 use Rattle.store_sysmod_loads.specs.declared.flat.IfRow.{IfRow}
 use Rattle.store_sysmod_loads.specs.declared.flat.ElemRow.{ElemRow}
-use Rattle.store_sysmod_loads.specs.Runs.{Begins, StandsApart, parent_of_ver, parent_of_if, parent_of_elem, if_rows}
-use Rattle.store_sysmod_loads.specs.Runs.{ver_rows, elem_rows, HasIfs, HasAllIfs, HasVers, HasChanges}
+use Rattle.store_sysmod_loads.specs.Runs.{Begins, StandsApart, parent_of_source, parent_of_ver, parent_of_if}
+use Rattle.store_sysmod_loads.specs.Runs.{parent_of_elem, source_rows, if_rows, ver_rows, elem_rows, HasIfs, HasAllIfs}
+use Rattle.store_sysmod_loads.specs.Runs.{HasVers, HasChanges}
 
 pub popped : {X K : Type 0} (parent : X → K) (k : K) (old new : List X) (r : Option X) → Begins parent k old
     → old ≡ option_to_list r ++ new → IfSome r (λ row. (old ≡ row ∷ new) × (parent row ≡ k))
 popped parent k [] new r h e = absurd h
 popped parent k (x ∷ old) new None h e = tt
 popped parent k (x ∷ old) new (Some row) h e = let first : x ≡ row = cc in (e, ap parent (sym first) ∙ h)
+
+-- ---- sources
+
+-- the rows begin with those of these sources, whether they rise or not
+abbrev pub AreNamed : Id → List SourceRow → List Text → List SourceRow → Type 0
+AreNamed x rows names rest = (rows ≡ source_rows x names ++ rest) × StandsApart parent_of_source x rest
+
+source_rows_more : (x : Id) (names : List Text) (name : Text)
+    → source_rows x (names ++ name ∷ []) ≡ source_rows x names ++ source_rows x (name ∷ [])
+source_rows_more x [] name = refl
+source_rows_more x (n ∷ names) name = ap (λ rows. source_rows x (n ∷ []) ++ rows) (source_rows_more x names name)
+
+pub sources_told : (x : Id) (old : List SourceRow) (names : List Text) (row : SourceRow) (rows new : List SourceRow)
+    → old ≡ source_rows x names ++ rows → rows ≡ row ∷ new → row.id ≡ x
+    → old ≡ source_rows x (names ++ row.name ∷ []) ++ new
+sources_told x old names row rows new told is id =
+    let one : row ≡ record { id = x; name = row.name } = ap (λ y. record row { id = y }) id in
+    told ∙ ap (λ r. source_rows x names ++ r) (is ∙ ap (λ r. r ∷ new) one)
+    ∙ sym (append_assoc (source_rows x names) (source_rows x (row.name ∷ [])) new)
+    ∙ ap (λ r. r ++ new) (sym (source_rows_more x names row.name))
+
+pub sources_step : (x : Id) (row : SourceRow) (new : List SourceRow) (names : List Text) (rest : List SourceRow)
+    → row.id ≡ x → AreNamed x (row ∷ new) names rest → (left : List Text) × (names ≡ row.name ∷ left)
+    × AreNamed x new left rest
+sources_step x row new [] rest id h = absurd (h.1 (subst (Begins parent_of_source x) h.0 id))
+sources_step x row new (n ∷ names) rest id h =
+    let e = h.0 in
+    let head : row ≡ record { id = x; name = n } = cc in
+    let tail : new ≡ source_rows x names ++ rest = cc in
+    (names, ap (λ r. r ∷ names) (sym (ap (λ (r : SourceRow). r.name) head)), (tail, h.1))
+
+pub sources_end : (x : Id) (rows : List SourceRow) (names : List Text) (rest : List SourceRow)
+    → StandsApart parent_of_source x rows → AreNamed x rows names rest → (names ≡ []) × (rest ≡ rows)
+sources_end x rows [] rest apart h = (refl, sym h.0)
+sources_end x rows (n ∷ names) rest apart h = absurd (apart (subst (Begins parent_of_source x) (sym h.0) refl))
 
 -- ---- ++IFs
 

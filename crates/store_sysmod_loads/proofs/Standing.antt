@@ -3,6 +3,7 @@ use Rattle.std.proofs.Common.{get_or, ◌≡◌, ℕ, ◌+◌, List, [], ◌∷�
 use Rattle.std.specs.List.{AllByRecursion}
 use Rattle.std.proofs.lemmas.List.Elements.{recursion_from_All}
 use Rattle.std.proofs.lemmas.List.Sorted.{IsPermutation-refl}
+use Rattle.sqlite.specs.Effect.{Database}
 use Rattle.terms.specs.declared.kinds.Kind.{Kind}
 use Rattle.terms.specs.declared.kinds.Kind.TheVariants.{Function, Ptf, Apar, Usermod}
 use Rattle.terms.specs.Types.{Text, Id, IfReq, Ver, Action, Replaces, Updates, Change, Sysmod}
@@ -10,11 +11,15 @@ use Rattle.terms.specs.Forms.{IsId, IsSrel}
 use Rattle.terms.specs.Global.{IsSysmod}
 use Rattle.store_schema.specs.Forms.{HasSysmodForms, HasVerForms, HasIfForms, HasChangeForms, HasActionForms}
 use Rattle.store_schema.specs.Inventory.{Inventory, IsInventory}
-use Rattle.store_schema.specs.Stands.{rows_of}
-use Rattle.store_sysmod_loads.specs.Flat.{HasHeadForms, HasVerRowForms, HasIfRowForms, HasElemRowForms}
+use Rattle.store_schema.specs.Earlier.{HasShortSources, StandsUnder}
+use Rattle.store_schema.specs.declared.release.Release.{Release}
+use Rattle.store_schema.specs.declared.release.Release.TheVariants.{First, Second, Third}
+use Rattle.store_columns.proofs.Releases.{rows_under}
+use Rattle.store_sysmod_loads.specs.Flat.{HasHeadForms, HasShortForms, HasFormsUnder, HasVerRowForms, HasIfRowForms}
+use Rattle.store_sysmod_loads.specs.Flat.{HasElemRowForms}
 use Rattle.store_sysmod_loads.specs.Runs.{if_rows, ver_rows, elem_rows}
 use Rattle.store_sysmod_loads.specs.Built.{MayDo, IsBuilt}
-use Rattle.store_sysmod_loads.specs.Flats.{head_of, ifs_of, AreFormed, AreRowsOf}
+use Rattle.store_sysmod_loads.specs.Flats.{head_of, ifs_of, AreWhole, AreFormed, AreRowsOf}
 use Rattle.store_sysmod_loads.proofs.FlatLemmas.{recursion_flat}
 
 heads_formed : (ss : List Sysmod) → AllByRecursion HasSysmodForms ss → AllByRecursion HasHeadForms (map head_of ss)
@@ -90,12 +95,23 @@ all_built : (ss : List Sysmod) → AllByRecursion HasSysmodForms ss → AllByRec
 all_built [] h k = tt
 all_built (s ∷ ss) h k = (is_built s h.0 k.0, all_built ss h.1 k.1)
 
-pub inventory_formed : (i : Inventory) → IsInventory i → AreFormed i.global.sysmods
-inventory_formed i h =
+inventory_whole : (i : Inventory) → IsInventory i → AreWhole i.global.sysmods
+inventory_whole i h =
+    let ss = i.global.sysmods in
+    record {
+      built = all_built ss (recursion_from_All HasSysmodForms ss h.sysmods) (recursion_from_All IsSysmod ss
+          h.global.formed);
+      ids = h.global.sysmods;
+      none_carried = recursion_from_All (λ (s : Sysmod). s.holds ≡ []) ss h.global.none_carried;
+    }
+
+inventory_formed : (r : Release) (i : Inventory) → IsInventory i
+    → AllByRecursion (HasFormsUnder r) (map head_of i.global.sysmods) → AreFormed r i.global.sysmods
+inventory_formed r i h heads =
     let ss = i.global.sysmods in
     let forms = recursion_from_All HasSysmodForms ss h.sysmods in
     record {
-      heads = heads_formed ss forms;
+      heads = heads;
       vers = recursion_flat (λ (s : Sysmod). ver_rows s.id s.vers) HasSysmodForms HasVerRowForms
           (λ s f. vers_formed s.kind s.id s.vers f.id (recursion_from_All (HasVerForms s.kind s.id) s.vers f.vers)) ss
           forms;
@@ -105,15 +121,45 @@ inventory_formed i h =
       elems = recursion_flat (λ (s : Sysmod). elem_rows s.id s.changes) HasSysmodForms HasElemRowForms
           (λ s f. elems_formed s.kind s.id s.changes f.id (recursion_from_All (HasChangeForms s.kind) s.changes
           f.changes)) ss forms;
-      built = all_built ss forms (recursion_from_All IsSysmod ss h.global.formed);
-      ids = h.global.sysmods;
-      none_carried = recursion_from_All (λ (s : Sysmod). s.holds ≡ []) ss h.global.none_carried;
+      whole = inventory_whole i h;
     }
 
-pub inventory_rows : (i : Inventory) → AreRowsOf i.global.sysmods (rows_of i)
-inventory_rows i = record {
+short_formed : (ss : List Sysmod) → AllByRecursion HasSysmodForms ss → AllByRecursion HasShortSources ss
+    → AllByRecursion HasShortForms (map head_of ss)
+short_formed [] h short = tt
+short_formed (s ∷ ss) h short = (((h.0.id, h.0.sources), short.0), short_formed ss h.1 short.1)
+
+pub stands_formed : (r : Release) (i : Inventory) (db : Database) → StandsUnder r i db → AreFormed r i.global.sysmods
+stands_formed First i db h =
+    let ss = i.global.sysmods in
+    inventory_formed First i h.inventory (short_formed ss (recursion_from_All HasSysmodForms ss h.inventory.sysmods)
+    (recursion_from_All HasShortSources ss h.sources))
+stands_formed Second i db h =
+    let ss = i.global.sysmods in
+    inventory_formed Second i h.inventory (heads_formed ss (recursion_from_All HasSysmodForms ss h.inventory.sysmods))
+stands_formed Third i db h =
+    let ss = i.global.sysmods in
+    inventory_formed Third i h.inventory (heads_formed ss (recursion_from_All HasSysmodForms ss h.inventory.sysmods))
+
+pub inventory_rows : (r : Release) (i : Inventory) → AreRowsOf r i.global.sysmods (rows_under r i)
+inventory_rows First i = record {
   heads = IsPermutation-refl _;
   vers = IsPermutation-refl _;
   ifs = IsPermutation-refl _;
   elems = IsPermutation-refl _;
+  no_more = tt;
+}
+inventory_rows Second i = record {
+  heads = (IsPermutation-refl _, IsPermutation-refl _);
+  vers = IsPermutation-refl _;
+  ifs = IsPermutation-refl _;
+  elems = IsPermutation-refl _;
+  no_more = tt;
+}
+inventory_rows Third i = record {
+  heads = (IsPermutation-refl _, IsPermutation-refl _);
+  vers = IsPermutation-refl _;
+  ifs = IsPermutation-refl _;
+  elems = IsPermutation-refl _;
+  no_more = (refl, refl);
 }

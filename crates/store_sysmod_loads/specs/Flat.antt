@@ -1,22 +1,53 @@
 -- The rows of the tables of SYSMODs, and the forms that one row shows by itself.
-use Rattle.std.specs.Prelude.{◌≡◌, [], ◌∷◌}
+use Rattle.std.specs.Prelude.{◌≡◌, ◌≤◌, List, [], ◌∷◌, length, All}
 use Rattle.sqlite.specs.declared.types.Value.TheVariants as value
 use Rattle.sqlite.specs.Order.{Row}
 use Rattle.terms.specs.declared.kinds.Kind.TheVariants.{Function, Ptf}
 use Rattle.terms.specs.Forms.{IsId, IsSource, IsSrel}
 use Rattle.terms.specs.Spelling.{kind_text}
+use Rattle.terms.specs.Types.{Text}
 use Rattle.store_schema.specs.Forms.{AreSorted, HasVerForms, HasIfForms, HasChangeForms}
-use Rattle.store_schema.specs.Rows.{ids, ver_row, ifreq_row, elem_row}
+use Rattle.store_schema.specs.Rows.{ids, source_row, ver_row, ifreq_row, elem_row}
+use Rattle.store_schema.specs.declared.release.Release.{Release}
+use Rattle.store_schema.specs.declared.release.Release.TheVariants.{First}
 use Rattle.store_sysmod_loads.specs.declared.flat.HeadRow.{HeadRow}
+use Rattle.store_sysmod_loads.specs.declared.flat.BareHead.{BareHead}
+use Rattle.store_sysmod_loads.specs.declared.flat.SourceRow.{SourceRow}
 use Rattle.store_sysmod_loads.specs.declared.flat.VerRow.{VerRow}
 use Rattle.store_sysmod_loads.specs.declared.flat.IfRow.{IfRow}
 use Rattle.store_sysmod_loads.specs.declared.flat.ElemRow.{ElemRow}
 
+-- with its sources, as under schema 1
 abbrev pub row_of_head : HeadRow → Row
 row_of_head h = value.Text h.id ∷ value.Text (kind_text h.kind) ∷ ids h.sources ∷ []
 
+-- without them
+abbrev pub row_of_bare : BareHead → Row
+row_of_bare h = value.Text h.id ∷ value.Text (kind_text h.kind) ∷ ids [] ∷ []
+
+abbrev pub row_of_source : SourceRow → Row
+row_of_source r = source_row r.id r.name
+
+abbrev pub HasBareForms : BareHead → Type 0
+HasBareForms h = IsId h.id
+
+abbrev pub HasSourceForms : SourceRow → Type 0
+HasSourceForms r = IsId r.id × IsSource r.name
+
 abbrev pub HasHeadForms : HeadRow → Type 0
 HasHeadForms h = IsId h.id × AreSorted IsSource h.sources
+
+-- the sources of schema 1
+abbrev pub AreShort : List Text → Type 0
+AreShort names = All (λ name. length name ≤ 8) names
+
+abbrev pub HasShortForms : HeadRow → Type 0
+HasShortForms h = HasHeadForms h × AreShort h.sources
+
+-- the forms of a head under the schema
+abbrev pub HasFormsUnder : Release → HeadRow → Type 0
+HasFormsUnder First h = HasShortForms h
+HasFormsUnder _ h = HasHeadForms h
 
 abbrev pub row_of_ver : VerRow → Row
 row_of_ver r = ver_row r.id r.ver

@@ -6,13 +6,16 @@ use Rattle.std.specs.Cmp.Lexicographic.{slice_cmp}
 use Rattle.terms.specs.Types.{Id, Ver, Sysmod}
 use Rattle.terms.specs.Rising.{Rises}
 use Rattle.store_rows.specs.Rows.{Contents}
-use Rattle.store_schema.specs.Rows.{sysmod_row, vers_of, ifreqs_of, elems_of}
-use Rattle.store_schema.specs.Tables.{sysmod, ver, ifreq, elem}
+use Rattle.store_schema.specs.Rows.{sysmod_row, sources_of, vers_of, ifreqs_of, elems_of}
+use Rattle.store_schema.specs.Earlier.{first_sysmod_row}
+use Rattle.store_schema.specs.Tables.{sysmod, source, ver, ifreq, elem, morever, moreif}
+use Rattle.store_schema.specs.declared.release.Release.{Release}
+use Rattle.store_schema.specs.declared.release.Release.TheVariants.{First, Third}
 use Rattle.store_sysmod_loads.specs.declared.flat.HeadRow.{HeadRow}
 use Rattle.store_sysmod_loads.specs.declared.flat.VerRow.{VerRow}
 use Rattle.store_sysmod_loads.specs.declared.flat.IfRow.{IfRow}
 use Rattle.store_sysmod_loads.specs.declared.flat.ElemRow.{ElemRow}
-use Rattle.store_sysmod_loads.specs.Flat.{HasHeadForms, HasVerRowForms, HasIfRowForms, HasElemRowForms}
+use Rattle.store_sysmod_loads.specs.Flat.{HasFormsUnder, HasVerRowForms, HasIfRowForms, HasElemRowForms}
 use Rattle.store_sysmod_loads.specs.Runs.{if_rows, ver_rows, elem_rows}
 use Rattle.store_sysmod_loads.specs.Built.{IsBuilt}
 
@@ -31,19 +34,36 @@ all_ifs sysmods = flat_map (λ s. ifs_of s.id s.vers) sysmods
 abbrev pub all_elems : List Sysmod → List ElemRow
 all_elems sysmods = flat_map (λ s. elem_rows s.id s.changes) sysmods
 
--- The SYSMODs have the forms that their rows show and those that are seen of each as a whole. They rise by their ids.
-pub record AreFormed (sysmods : List Sysmod) : Type 0 where
-  pub heads : AllByRecursion HasHeadForms (map head_of sysmods)
-  pub vers : AllByRecursion HasVerRowForms (all_vers sysmods)
-  pub ifs : AllByRecursion HasIfRowForms (all_ifs sysmods)
-  pub elems : AllByRecursion HasElemRowForms (all_elems sysmods)
+-- What is seen of the SYSMODs as a whole. They rise by their ids.
+pub record AreWhole (sysmods : List Sysmod) : Type 0 where
   pub built : AllByRecursion IsBuilt sysmods
   pub ids : Rises (slice_cmp nat_cmp) (λ s. s.id) sysmods
   pub none_carried : AllByRecursion (λ s. s.holds ≡ []) sysmods
 
+-- The SYSMODs have the forms that their rows show under the schema, and those that are seen of each as a whole.
+pub record AreFormed (release : Release) (sysmods : List Sysmod) : Type 0 where
+  pub heads : AllByRecursion (HasFormsUnder release) (map head_of sysmods)
+  pub vers : AllByRecursion HasVerRowForms (all_vers sysmods)
+  pub ifs : AllByRecursion HasIfRowForms (all_ifs sysmods)
+  pub elems : AllByRecursion HasElemRowForms (all_elems sysmods)
+  pub whole : AreWhole sysmods
+
+-- what the tables hold of SYSMODs but their statements: under schema 1 each row has the sources, later they have a
+-- table of their own
+abbrev pub AreHeadRowsOf : Release → List Sysmod → Contents → Type 0
+AreHeadRowsOf First sysmods contents = IsPermutation (map first_sysmod_row sysmods) (contents sysmod.tree)
+AreHeadRowsOf _ sysmods contents = IsPermutation (map sysmod_row sysmods) (contents sysmod.tree)
+    × IsPermutation (flat_map sources_of sysmods) (contents source.tree)
+
+-- the tables of schema 3 for further ++VERs of one SREL hold nothing
+abbrev pub HoldNoMore : Release → Contents → Type 0
+HoldNoMore Third contents = (contents morever.tree ≡ []) × (contents moreif.tree ≡ [])
+HoldNoMore _ contents = Unit {0}
+
 -- the tables hold the rows of the SYSMODs, in any order, and no others
-pub record AreRowsOf (sysmods : List Sysmod) (contents : Contents) : Type 0 where
-  pub heads : IsPermutation (map sysmod_row sysmods) (contents sysmod.tree)
+pub record AreRowsOf (release : Release) (sysmods : List Sysmod) (contents : Contents) : Type 0 where
+  pub heads : AreHeadRowsOf release sysmods contents
   pub vers : IsPermutation (flat_map vers_of sysmods) (contents ver.tree)
   pub ifs : IsPermutation (flat_map ifreqs_of sysmods) (contents ifreq.tree)
   pub elems : IsPermutation (flat_map elems_of sysmods) (contents elem.tree)
+  pub no_more : HoldNoMore release contents

@@ -2,6 +2,8 @@
 use Rattle.std.specs.Prelude.{◌≡◌, ℕ, ◌+◌, List, [], ◌∷◌, ◌++◌, map}
 use Rattle.std.specs.List.{AllByRecursion}
 use Rattle.terms.specs.Types.{Text, Id, IfReq, Ver, Change}
+use Rattle.terms.specs.Lookups.{IsRising}
+use Rattle.store_sysmod_loads.specs.declared.flat.SourceRow.{SourceRow}
 use Rattle.store_sysmod_loads.specs.declared.flat.VerRow.{VerRow}
 use Rattle.store_sysmod_loads.specs.declared.flat.IfRow.{IfRow}
 use Rattle.store_sysmod_loads.specs.declared.flat.ElemRow.{ElemRow}
@@ -15,6 +17,9 @@ abbrev pub StandsApart : {X K : Type 0} → (X → K) → K → List X → Type 
 StandsApart parent k xs = ¬ Begins parent k xs
 
 -- the parents of rows
+abbrev pub parent_of_source : SourceRow → Id
+parent_of_source r = r.id
+
 abbrev pub parent_of_ver : VerRow → Id
 parent_of_ver r = r.id
 
@@ -23,6 +28,10 @@ parent_of_if r = (r.id, r.srel)
 
 abbrev pub parent_of_elem : ElemRow → Id
 parent_of_elem r = r.id
+
+-- the rows of sources
+abbrev pub source_rows : Id → List Text → List SourceRow
+source_rows x names = map (λ name. record { id = x; name = name }) names
 
 -- the rows of the ++IFs of a ++VER, whose numbers begin with n
 abbrev pub if_rows : Id → Text → ℕ → List IfReq → List IfRow
@@ -39,6 +48,10 @@ ver_rows x vers = map (λ (v : Ver). record { id = x; ver = record v { ifs = [] 
 
 abbrev pub elem_rows : Id → List Change → List ElemRow
 elem_rows x changes = map (λ (c : Change). record { id = x; change = c }) changes
+
+-- The rows begin with those of these sources, and the rest with another's. They rise.
+abbrev pub HasSources : Id → List SourceRow → List Text → List SourceRow → Type 0
+HasSources x rows names rest = (rows ≡ source_rows x names ++ rest) × StandsApart parent_of_source x rest × IsRising names
 
 -- the rows begin with those of these ++IFs, and the rest with another's
 abbrev pub HasIfs : Id → Text → ℕ → List IfRow → List IfReq → List IfRow → Type 0

@@ -1,6 +1,6 @@
 //! SYSMODs put together of their rows.
 
-ghost use Rattle.std.specs.Prelude.{◌≡◌, ◌↔◌, List, [], ◌∷◌, All, IsTrue, IfOk, IfSome, IfNone, IsErrOf};
+ghost use Rattle.std.specs.Prelude.{◌≡◌, ◌↔◌, List, [], ◌∷◌, All, IsTrue, IfOk, IsErrOf};
 ghost use Rattle.terms.specs.Types.{Sysmod as SysmodTerm};
 ghost use Rattle.store_schema.specs.Forms.{VerSuitsKind};
 ghost use Rattle.store_sysmod_loads.specs.declared.flat.VerRow.{VerRow as VerLine};
@@ -10,7 +10,7 @@ ghost use Rattle.store_sysmod_loads.specs.Runs.{AreBare};
 ghost use Rattle.store_sysmod_loads.specs.Built.{MayDo, IsBuilt, sysmod_from, IsTaken, AreTaken};
 
 use crate::flat::{ElemRow, HeadRow, IfRow, VerRow};
-use crate::gathering::{take_changes, take_vers};
+use crate::gathering::{next_of, take_changes, take_vers};
 use sorted::are_rising;
 use std::alloc::Global;
 use std::collections::VecDeque;
@@ -108,14 +108,6 @@ fn take_sysmod(
     let found = take_vers(alloc, vers, ifs, head.id)?;
     let changes = take_changes(alloc, elems, head.id)?;
     built(alloc, head, found, changes)
-}
-
-/// The next row.
-fn next_of<T: Drop>(rows: &mut VecDeque<T>) -> Option<T>
-    ensures some { IfSome result (λ row. rows.old.items ≡ row ∷ rows.new.items) }
-    ensures none { IfNone result (rows.old.items ≡ []) }
-{
-    rows.pop_front()
 }
 
 /// The SYSMODs whose rows these are.

@@ -1,25 +1,28 @@
 //! Columns whose values depend on others of the row.
 
-ghost use Rattle.std.specs.Prelude.{◌≡◌, ◌≢◌, ℕ, List, [], ◌∷◌, Option, pos, IfOk, IfSome, IfNone, IsErrOf};
+ghost use Rattle.std.specs.Prelude.{◌≡◌, ◌≢◌, ◌≤◌, ◌↔◌, ℕ, List, [], ◌∷◌, Option, pos, length, IsTrue, IfOk, IfSome};
+ghost use Rattle.std.specs.Prelude.{IfNone, IsErrOf};
 ghost use Rattle.sqlite.specs.declared.types.Value.TheVariants.{Int};
 ghost use Rattle.sqlite.specs.Order.{column};
 ghost use Rattle.sqlite.specs.Values.{or_null};
 ghost use Rattle.sqlite.specs.declared.types.Value.TheVariants.{Text};
 ghost use Rattle.terms.specs.declared.kinds.Kind.TheVariants.{Ptf};
-ghost use Rattle.terms.specs.Forms.{IsId};
+ghost use Rattle.terms.specs.Forms.{IsId, IsSource};
 ghost use Rattle.terms.specs.Types.{Action as ActionTerm};
-ghost use Rattle.store_schema.specs.Forms.{AreOthers, AreRecords, IsTextOf, TakesUpdates, HasActionForms};
+ghost use Rattle.store_schema.specs.Forms.{AreSorted, AreOthers, AreRecords, IsTextOf, TakesUpdates, HasActionForms};
 ghost use Rattle.store_schema.specs.Rows.{ids, records, action_cells};
 ghost use Rattle.terms.specs.Texts.{IsUpdate};
 ghost use Rattle.sysmods_records.specs.Views.{action_of};
+ghost use Rattle.store_sysmod_loads.specs.Flat.{AreShort};
 
-use fields::{Id, IdList, Name};
+use fields::{Id, IdList, Name, Source, SourceList};
 use sqlite::Row;
 use std::alloc::Global;
 use store_columns::{
     element_text_in, flag_in, ids_in, is_updated, optional_id_in, optional_name_in, records_in,
+    sources_in,
 };
-use store_rows::{ReadError, whole};
+use store_rows::{ReadError, text, whole};
 use sysmods_records::Action;
 use terms::ElemType;
 use text80::{Line, TextError, Update};
@@ -50,6 +53,50 @@ pub(crate) fn other_in(row: &Row, at: usize, id: Id) -> Option<Option<Id>>
         return None;
     }
     Some(other)
+}
+
+/// The name of a source.
+pub(crate) fn source_in(row: &Row, at: usize) -> Option<Source>
+    ensures some { IfSome result (λ name. (column row.now at ≡ Text name) × IsSource name) }
+    ensures none { IfNone result ((name : List ℕ) → IsSource name → column row.now at ≢ Text name) }
+{
+    Source::read(text(row, at)?)
+}
+
+/// Whether the column says that there is no source.
+pub(crate) fn is_bare(row: &Row, at: usize) -> bool
+    ensures { IsTrue result ↔ (column row.now at ≡ ids []) }
+{
+    match text(row, at) {
+        Some(text) => text.is_empty(),
+        None => false,
+    }
+}
+
+fn is_short(name: Source) -> bool
+    ensures { IsTrue result ↔ (length name ≤ 8) }
+{
+    name.as_bytes().len() <= 8
+}
+
+fn are_short(names: &[Source]) -> bool
+    ensures { IsTrue result ↔ AreShort names.now }
+{
+    names.iter().all(|name| is_short(*name))
+}
+
+/// The sources of schema 1, which had 8 characters at most.
+pub(crate) fn short_sources_in(alloc: Global, row: &Row, at: usize) -> Result<SourceList, ReadError>
+    ensures some { IfOk result (λ names. (column row.now at ≡ ids names) × AreSorted IsSource names × AreShort names) }
+    ensures none { IsErrOf result ReadError.BadRow → (names : List (List ℕ)) → AreSorted IsSource names
+        → AreShort names → column row.now at ≢ ids names }
+    ensures fault { IsErrOf result ReadError.Fault → ⊥ }
+{
+    let names = sources_in(alloc, row, at)?;
+    if !are_short(names.as_slice()) {
+        return Err(ReadError::BadRow);
+    }
+    Ok(names)
 }
 
 /// A number that counts.

@@ -1,6 +1,6 @@
 //! The rows of the tables of SYSMODs, each as what it says by itself.
 
-use fields::{Id, SourceList, Srel};
+use fields::{Id, Source, SourceList, Srel};
 use sorted::Keyed;
 use sysmods_records::{ElemChange, IfReq, Ver};
 use terms::Kind;
@@ -21,6 +21,20 @@ impl Keyed for HeadRow {
     fn key(&self) -> Id {
         self.id
     }
+}
+
+/// A SYSMOD without its statements and its sources.
+#[derive(Drop)]
+pub(crate) struct BareHead {
+    pub id: Id,
+    pub kind: Kind,
+}
+
+/// A source of the SYSMOD.
+#[derive(Drop)]
+pub(crate) struct SourceRow {
+    pub id: Id,
+    pub name: Source,
 }
 
 /// A `++VER` of the SYSMOD without its `++IF`s.

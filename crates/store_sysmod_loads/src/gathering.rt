@@ -1,13 +1,13 @@
 //! The statements of a SYSMOD, taken off the front of rows that are sorted.
 
-ghost use Rattle.std.specs.Prelude.{◌≡◌, ◌↔◌, List, ◌∷◌, IsTrue, IfOk, IfSome, IfNone, IsErrOf};
+ghost use Rattle.std.specs.Prelude.{◌≡◌, ◌↔◌, List, [], ◌∷◌, IsTrue, IfOk, IfSome, IfNone, IsErrOf};
 ghost use Rattle.terms.specs.Types as terms;
 ghost use Rattle.store_sysmod_loads.specs.declared.flat.VerRow.{VerRow as VerLine};
 ghost use Rattle.store_sysmod_loads.specs.declared.flat.IfRow.{IfRow as IfLine};
 ghost use Rattle.store_sysmod_loads.specs.declared.flat.ElemRow.{ElemRow as ElemLine};
 ghost use Rattle.store_sysmod_loads.specs.Runs.{AreBare, Begins, StandsApart, HasIfs, HasVers, HasChanges};
 
-use crate::flat::{ElemRow, IfRow, VerRow};
+use crate::flat::{ElemRow, IfRow, SourceRow, VerRow};
 use fields::{Id, Srel};
 use sorted::Keyed;
 use std::alloc::{AllocError, Global};
@@ -23,6 +23,18 @@ pub(crate) trait Child: Drop {
 
     fn is_of(&self, parent: Self::Parent) -> bool
         ensures { IsTrue result ↔ (parent_of self.now ≡ parent) };
+}
+
+impl Child for SourceRow {
+    ghost use Rattle.store_sysmod_loads.specs.Runs.{parent_of_source};
+
+    type Parent = Id;
+
+    ghost parent_of = { parent_of_source };
+
+    fn is_of(&self, parent: Id) -> bool {
+        self.id == parent
+    }
 }
 
 impl Child for VerRow {
@@ -61,6 +73,14 @@ impl Child for ElemRow {
     }
 }
 
+/// Takes the first row.
+pub(crate) fn next_of<T: Drop>(rows: &mut VecDeque<T>) -> Option<T>
+    ensures some { IfSome result (λ row. rows.old.items ≡ row ∷ rows.new.items) }
+    ensures none { IfNone result (rows.old.items ≡ []) }
+{
+    rows.pop_front()
+}
+
 /// Whether the first row is of the parent.
 fn begins<T: Child>(rows: &VecDeque<T>, parent: T::Parent) -> bool
     ensures { IsTrue result ↔ Begins T.parent_of parent rows.now.items }
@@ -72,7 +92,7 @@ fn begins<T: Child>(rows: &VecDeque<T>, parent: T::Parent) -> bool
 }
 
 /// Takes the first row, if it is of the parent.
-fn pop_of<T: Child>(rows: &mut VecDeque<T>, parent: T::Parent) -> Option<T>
+pub(crate) fn pop_of<T: Child>(rows: &mut VecDeque<T>, parent: T::Parent) -> Option<T>
     ensures some { IfSome result (λ row. (rows.old.items ≡ row ∷ rows.new.items) × (T.parent_of row ≡ parent)) }
     ensures none { IfNone result ((rows.new.items ≡ rows.old.items) × StandsApart T.parent_of parent rows.old.items) }
 {

@@ -1,12 +1,14 @@
-//! The SYSMODs of the global zone, from the tables that hold them.
+//! The SYSMODs of the global zone, from the tables that hold them under a release of the schema.
 //! `load_sysmods` answers those of the inventory that stands for the rows; `BadRow` comes only where none does. Seen in
-//! the code alone: four queries, four sorts and one pass.
+//! the code alone: a query and a sort of each table, and one pass over what they have.
 #![tactic(auto)]
 
 mod building;
 mod cells;
 mod flat;
 mod gathering;
+mod heads;
+mod joining;
 mod listed;
 mod load;
 mod loading;

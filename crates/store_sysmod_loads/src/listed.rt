@@ -1,13 +1,14 @@
 //! The tables of SYSMODs.
 
-use crate::flat::{ElemRow, HeadRow, IfRow, VerRow};
+use crate::flat::{BareHead, ElemRow, HeadRow, IfRow, SourceRow, VerRow};
 use crate::loading::Listed;
-use crate::reading::{Elems, Heads, Ifs, Vers};
-use fields::{Id, Name, Srel};
-use store_columns::Query;
+use crate::reading::{BareHeads, Elems, Heads, Ifs, Sources, Vers};
+use fields::{Id, Name, Source, Srel};
+use store_columns::{Query, Refused, Unread};
 use terms::ElemType;
 
 impl Query for Heads {
+    ghost use Rattle.std.specs.Prelude.{⊤};
     ghost use Rattle.store_schema.specs.Tables.{sysmod};
 
     type Rows = Heads;
@@ -17,6 +18,8 @@ impl Query for Heads {
     ghost at = { 1 };
 
     ghost width = { 0 };
+
+    ghost knows = { λ r. ⊤ };
 
     fn text() -> &'static str {
         "SELECT id, kind, sources FROM sysmod"
@@ -37,7 +40,75 @@ impl Listed for Heads {
     ghost whole = { refl };
 }
 
+impl Query for BareHeads {
+    ghost use Rattle.std.specs.Prelude.{⊤};
+    ghost use Rattle.store_schema.specs.Tables.{sysmod};
+
+    type Rows = BareHeads;
+
+    ghost table = { sysmod };
+
+    ghost at = { 1 };
+
+    ghost width = { 0 };
+
+    ghost knows = { λ r. ⊤ };
+
+    fn text() -> &'static str {
+        "SELECT id, kind, sources FROM sysmod"
+    }
+}
+
+impl Listed for BareHeads {
+    ghost use Rattle.std.specs.Prelude.{refl};
+
+    type Key = Id;
+
+    ghost key_of = { λ row. row.id };
+
+    fn key(item: &BareHead) -> Id {
+        item.id
+    }
+
+    ghost whole = { refl };
+}
+
+impl Query for Sources {
+    ghost use Rattle.std.specs.Prelude.{◌≢◌};
+    ghost use Rattle.store_schema.specs.declared.release.Release.TheVariants.{First};
+    ghost use Rattle.store_schema.specs.Tables.{source};
+
+    type Rows = Sources;
+
+    ghost table = { source };
+
+    ghost at = { 9 };
+
+    ghost width = { 0 };
+
+    ghost knows = { λ r. r ≢ First };
+
+    fn text() -> &'static str {
+        "SELECT id, name FROM source"
+    }
+}
+
+impl Listed for Sources {
+    ghost use Rattle.std.specs.Prelude.{refl};
+
+    type Key = (Id, Source);
+
+    ghost key_of = { λ row. (row.id, row.name) };
+
+    fn key(item: &SourceRow) -> (Id, Source) {
+        (item.id, item.name)
+    }
+
+    ghost whole = { refl };
+}
+
 impl Query for Vers {
+    ghost use Rattle.std.specs.Prelude.{⊤};
     ghost use Rattle.store_schema.specs.Tables.{ver};
 
     type Rows = Vers;
@@ -47,6 +118,8 @@ impl Query for Vers {
     ghost at = { 2 };
 
     ghost width = { 0 };
+
+    ghost knows = { λ r. ⊤ };
 
     fn text() -> &'static str {
         "SELECT id, srel, fmid, pre, req, sup, npre, del FROM ver"
@@ -68,6 +141,7 @@ impl Listed for Vers {
 }
 
 impl Query for Ifs {
+    ghost use Rattle.std.specs.Prelude.{⊤};
     ghost use Rattle.store_schema.specs.Tables.{ifreq};
 
     type Rows = Ifs;
@@ -77,6 +151,8 @@ impl Query for Ifs {
     ghost at = { 3 };
 
     ghost width = { 0 };
+
+    ghost knows = { λ r. ⊤ };
 
     fn text() -> &'static str {
         "SELECT id, srel, n, fmid, req FROM ifreq"
@@ -98,6 +174,7 @@ impl Listed for Ifs {
 }
 
 impl Query for Elems {
+    ghost use Rattle.std.specs.Prelude.{⊤};
     ghost use Rattle.store_schema.specs.Tables.{elem};
 
     type Rows = Elems;
@@ -107,6 +184,8 @@ impl Query for Elems {
     ghost at = { 5 };
 
     ghost width = { 0 };
+
+    ghost knows = { λ r. ⊤ };
 
     fn text() -> &'static str {
         "SELECT id, type, name, upd, distlib, syslib, text FROM elem"
@@ -125,4 +204,58 @@ impl Listed for Elems {
     }
 
     ghost whole = { refl };
+}
+
+/// Further `++VER`s of one SREL.
+pub(crate) struct MoreVers;
+
+impl Query for MoreVers {
+    ghost use Rattle.std.specs.Prelude.{◌≡◌};
+    ghost use Rattle.store_schema.specs.declared.release.Release.TheVariants.{Third};
+    ghost use Rattle.store_schema.specs.Tables.{morever};
+
+    type Rows = Refused;
+
+    ghost table = { morever };
+
+    ghost at = { 10 };
+
+    ghost width = { 0 };
+
+    ghost knows = { λ r. r ≡ Third };
+
+    fn text() -> &'static str {
+        "SELECT id, srel, n, fmid, pre, req, sup FROM morever"
+    }
+}
+
+impl Unread for MoreVers {
+    ghost refused = { λ item none. none };
+}
+
+/// The `++IF`s of further `++VER`s.
+pub(crate) struct MoreIfs;
+
+impl Query for MoreIfs {
+    ghost use Rattle.std.specs.Prelude.{◌≡◌};
+    ghost use Rattle.store_schema.specs.declared.release.Release.TheVariants.{Third};
+    ghost use Rattle.store_schema.specs.Tables.{moreif};
+
+    type Rows = Refused;
+
+    ghost table = { moreif };
+
+    ghost at = { 11 };
+
+    ghost width = { 0 };
+
+    ghost knows = { λ r. r ≡ Third };
+
+    fn text() -> &'static str {
+        "SELECT id, srel, v, n, fmid, req FROM moreif"
+    }
+}
+
+impl Unread for MoreIfs {
+    ghost refused = { λ item none. none };
 }

@@ -6,7 +6,8 @@ ghost use Rattle.sqlite.specs.Held.{state};
 ghost use Rattle.sqlite.specs.State.{HasCleanDisk};
 ghost use Rattle.store_rows.specs.Reads.{OnlyReads};
 ghost use Rattle.store_rows.specs.Rows.{Contents, HasContents};
-ghost use Rattle.store_schema.specs.Tables.{store_schema};
+ghost use Rattle.store_schema.specs.declared.release.Release.{Release};
+ghost use Rattle.store_schema.specs.Earlier.{schema_under};
 ghost use Rattle.terms.specs.Rising.{Rises};
 
 use sqlite::{Alter, Connection};
@@ -43,20 +44,21 @@ pub(crate) fn load_sorted<S: Alter, T: Listed>(
     alloc: Global,
     conn: &mut Connection<S>,
 ) -> Result<Vec<<T::Rows as FromRow>::Item>, ReadError>
-    ensures found { HasCleanDisk (state S.Store conn.new) → (contents : Contents)
-        → HasContents store_schema contents (state S.Store conn.old).now
+    ensures found { HasCleanDisk (state S.Store conn.new) → (r : Release) → T.knows r → (contents : Contents)
+        → HasContents (schema_under r) contents (state S.Store conn.old).now
         → IfOk result (λ items. IsPermutation (map T.Rows.row_of items.items) (contents T.table.tree)) }
     ensures forms { IfOk result (λ items. AllByRecursion T.Rows.has_form items.items) }
-    ensures only { HasCleanDisk (state S.Store conn.new) → (contents : Contents)
-        → HasContents store_schema contents (state S.Store conn.old).now
+    ensures only { HasCleanDisk (state S.Store conn.new) → (r : Release) → T.knows r → (contents : Contents)
+        → HasContents (schema_under r) contents (state S.Store conn.old).now
         → IfOk result (λ items. (xs : List T.Rows.Item) → AllByRecursion T.Rows.has_form xs
         → Rises T.Key.cmp T.key_of xs → IsPermutation (map T.Rows.row_of xs) (contents T.table.tree)
         → items.items ≡ xs) }
-    ensures none { HasCleanDisk (state S.Store conn.new) → IsErrOf result ReadError.BadRow → (contents : Contents)
-        → HasContents store_schema contents (state S.Store conn.old).now
+    ensures none { HasCleanDisk (state S.Store conn.new) → IsErrOf result ReadError.BadRow → (r : Release)
+        → T.knows r → (contents : Contents) → HasContents (schema_under r) contents (state S.Store conn.old).now
         → (xs : List T.Rows.Item) → AllByRecursion T.Rows.has_form xs → ¬ IsPermutation (map T.Rows.row_of xs)
         (contents T.table.tree) }
-    ensures reads { OnlyReads S.Store store_schema ReadError.BadRow ReadError.Fault conn.old conn.new result }
+    ensures reads { (r : Release) → T.knows r
+        → OnlyReads S.Store (schema_under r) ReadError.BadRow ReadError.Fault conn.old conn.new result }
 {
     let items = load_listed::<S, T>(alloc, conn, &[])?;
     Ok(sorted::<T>(items))

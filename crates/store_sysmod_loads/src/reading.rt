@@ -2,33 +2,37 @@
 
 ghost use Rattle.std.specs.Prelude.{◌≡◌, ◌≢◌, IfOk, IsErrOf};
 ghost use Rattle.store_sysmod_loads.specs.declared.flat.HeadRow.{HeadRow as AHeadRow};
+ghost use Rattle.store_sysmod_loads.specs.declared.flat.BareHead.{BareHead as ABareHead};
+ghost use Rattle.store_sysmod_loads.specs.declared.flat.SourceRow.{SourceRow as ASourceRow};
 ghost use Rattle.store_sysmod_loads.specs.declared.flat.VerRow.{VerRow as AVerRow};
 ghost use Rattle.store_sysmod_loads.specs.declared.flat.IfRow.{IfRow as AIfRow};
 ghost use Rattle.store_sysmod_loads.specs.declared.flat.ElemRow.{ElemRow as AElemRow};
 
-use crate::cells::{action_in, number_in, other_in, others_in};
-use crate::flat::{ElemRow, HeadRow, IfRow, VerRow};
+use crate::cells::{
+    action_in, is_bare, number_in, other_in, others_in, short_sources_in, source_in,
+};
+use crate::flat::{BareHead, ElemRow, HeadRow, IfRow, SourceRow, VerRow};
 use sqlite::Row;
 use std::alloc::Global;
-use store_columns::{elem_type_in, id_in, kind_in, name_in, sources_in, srel_in};
+use store_columns::{elem_type_in, id_in, kind_in, name_in, srel_in};
 use store_rows::{FromRow, ReadError};
 use sysmods_records::{ElemChange, IfReq, Ver};
 
-/// Reads SYSMODs.
+/// Reads SYSMODs with their sources, as schema 1 has them.
 pub(crate) struct Heads;
 
 impl FromRow for Heads {
-    ghost use Rattle.store_sysmod_loads.specs.Flat.{row_of_head, HasHeadForms};
+    ghost use Rattle.store_sysmod_loads.specs.Flat.{row_of_head, HasShortForms};
 
     type Item = HeadRow;
 
     ghost row_of = { row_of_head };
 
-    ghost has_form = { HasHeadForms };
+    ghost has_form = { HasShortForms };
 
     fn read(alloc: Global, row: &Row) -> Result<HeadRow, ReadError>
-        ensures read { IfOk result (λ item. (row.now ≡ row_of_head item) × HasHeadForms item) }
-        ensures none { IsErrOf result ReadError.BadRow → (item : AHeadRow) → HasHeadForms item
+        ensures read { IfOk result (λ item. (row.now ≡ row_of_head item) × HasShortForms item) }
+        ensures none { IsErrOf result ReadError.BadRow → (item : AHeadRow) → HasShortForms item
             → row.now ≢ row_of_head item }
         ensures fault { IsErrOf result ReadError.Fault → ⊥ }
     {
@@ -41,8 +45,73 @@ impl FromRow for Heads {
         let Some(kind) = kind_in(row, 1) else {
             return Err(ReadError::BadRow);
         };
-        let sources = sources_in(alloc, row, 2)?;
+        let sources = short_sources_in(alloc, row, 2)?;
         Ok(HeadRow { id, kind, sources })
+    }
+}
+
+/// Reads SYSMODs without their sources.
+pub(crate) struct BareHeads;
+
+impl FromRow for BareHeads {
+    ghost use Rattle.store_sysmod_loads.specs.Flat.{row_of_bare, HasBareForms};
+
+    type Item = BareHead;
+
+    ghost row_of = { row_of_bare };
+
+    ghost has_form = { HasBareForms };
+
+    fn read(alloc: Global, row: &Row) -> Result<BareHead, ReadError>
+        ensures read { IfOk result (λ item. (row.now ≡ row_of_bare item) × HasBareForms item) }
+        ensures none { IsErrOf result ReadError.BadRow → (item : ABareHead) → HasBareForms item
+            → row.now ≢ row_of_bare item }
+        ensures fault { IsErrOf result ReadError.Fault → ⊥ }
+    {
+        if row.column_count() != 3 {
+            return Err(ReadError::BadRow);
+        }
+        let Some(id) = id_in(row, 0) else {
+            return Err(ReadError::BadRow);
+        };
+        let Some(kind) = kind_in(row, 1) else {
+            return Err(ReadError::BadRow);
+        };
+        if !is_bare(row, 2) {
+            return Err(ReadError::BadRow);
+        }
+        Ok(BareHead { id, kind })
+    }
+}
+
+/// Reads sources.
+pub(crate) struct Sources;
+
+impl FromRow for Sources {
+    ghost use Rattle.store_sysmod_loads.specs.Flat.{row_of_source, HasSourceForms};
+
+    type Item = SourceRow;
+
+    ghost row_of = { row_of_source };
+
+    ghost has_form = { HasSourceForms };
+
+    fn read(alloc: Global, row: &Row) -> Result<SourceRow, ReadError>
+        ensures read { IfOk result (λ item. (row.now ≡ row_of_source item) × HasSourceForms item) }
+        ensures none { IsErrOf result ReadError.BadRow → (item : ASourceRow) → HasSourceForms item
+            → row.now ≢ row_of_source item }
+        ensures fault { IsErrOf result ReadError.Fault → ⊥ }
+    {
+        if row.column_count() != 2 {
+            return Err(ReadError::BadRow);
+        }
+        let Some(id) = id_in(row, 0) else {
+            return Err(ReadError::BadRow);
+        };
+        let Some(name) = source_in(row, 1) else {
+            return Err(ReadError::BadRow);
+        };
+        Ok(SourceRow { id, name })
     }
 }
 

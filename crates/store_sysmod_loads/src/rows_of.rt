@@ -1,28 +1,31 @@
 //! All rows of SYSMODs, and the SYSMODs that they are.
 
-ghost use Rattle.std.specs.Prelude.{◌≡◌, List, IfOk, IsErrOf};
-ghost use Rattle.sqlite.specs.Held.{state};
-ghost use Rattle.sqlite.specs.State.{HasCleanDisk};
-ghost use Rattle.store_rows.specs.Reads.{OnlyReads};
-ghost use Rattle.store_rows.specs.Rows.{Contents, HasContents};
-ghost use Rattle.store_schema.specs.Tables.{store_schema};
+ghost use Rattle.std.specs.Prelude.{◌≡◌, List, map, IfOk, IsErrOf, IsPermutation};
+ghost use Rattle.std.specs.List.{AllByRecursion};
+ghost use Rattle.store_schema.specs.declared.release.Release.{Release as ARelease};
+ghost use Rattle.store_schema.specs.Tables.{ver, ifreq, elem};
 ghost use Rattle.terms.specs.Types.{Sysmod as SysmodTerm};
+ghost use Rattle.store_sysmod_loads.specs.Flat.{row_of_ver, row_of_if, row_of_elem, HasVerRowForms, HasIfRowForms};
+ghost use Rattle.store_sysmod_loads.specs.Flat.{HasElemRowForms};
 ghost use Rattle.store_sysmod_loads.specs.Runs.{AreBare};
-ghost use Rattle.store_sysmod_loads.specs.Flats.{AreFormed, AreRowsOf};
+ghost use Rattle.store_sysmod_loads.specs.Flats.{all_vers, all_ifs, all_elems, AreWhole, AreFormed, AreRowsOf};
 ghost use Rattle.store_sysmod_loads.specs.Gathered.{HaveForms, HoldRows, HasRows, IsGathered};
+ghost use Rattle.store_sysmod_loads.specs.Parts.{LoadsPart};
 
 use crate::building::assemble;
 use crate::flat::{ElemRow, HeadRow, IfRow, VerRow};
+use crate::heads::load_heads;
 use crate::loading::load_sorted;
-use crate::reading::{Elems, Heads, Ifs, Vers};
+use crate::reading::{Elems, Ifs, Vers};
 use sorted::are_rising;
 use sqlite::{Alter, Connection};
 use std::alloc::Global;
 use std::collections::VecDeque;
 use store_rows::ReadError;
+use store_schema::Release;
 use sysmods_records::Sysmod;
 
-/// The rows of the four tables, each by their keys.
+/// The rows of SYSMODs and of their statements, each by their keys.
 #[derive(Drop)]
 pub(crate) struct FlatRows {
     pub heads: Vec<HeadRow>,
@@ -31,27 +34,46 @@ pub(crate) struct FlatRows {
     pub elems: Vec<ElemRow>,
 }
 
+fn load_vers<S: Alter>(alloc: Global, conn: &mut Connection<S>) -> Result<Vec<VerRow>, ReadError>
+    ensures part { (r : ARelease) → LoadsPart S.Store r
+        (λ rows contents. IsPermutation (map row_of_ver rows.items) (contents ver.tree))
+        (λ rows sysmods. rows.items ≡ all_vers sysmods) conn.old conn.new result }
+    ensures forms { IfOk result (λ rows. AllByRecursion HasVerRowForms rows.items) }
+{
+    load_sorted::<S, Vers>(alloc, conn)
+}
+
+fn load_ifs<S: Alter>(alloc: Global, conn: &mut Connection<S>) -> Result<Vec<IfRow>, ReadError>
+    ensures part { (r : ARelease) → LoadsPart S.Store r
+        (λ rows contents. IsPermutation (map row_of_if rows.items) (contents ifreq.tree))
+        (λ rows sysmods. rows.items ≡ all_ifs sysmods) conn.old conn.new result }
+    ensures forms { IfOk result (λ rows. AllByRecursion HasIfRowForms rows.items) }
+{
+    load_sorted::<S, Ifs>(alloc, conn)
+}
+
+fn load_elems<S: Alter>(alloc: Global, conn: &mut Connection<S>) -> Result<Vec<ElemRow>, ReadError>
+    ensures part { (r : ARelease) → LoadsPart S.Store r
+        (λ rows contents. IsPermutation (map row_of_elem rows.items) (contents elem.tree))
+        (λ rows sysmods. rows.items ≡ all_elems sysmods) conn.old conn.new result }
+    ensures forms { IfOk result (λ rows. AllByRecursion HasElemRowForms rows.items) }
+{
+    load_sorted::<S, Elems>(alloc, conn)
+}
+
+/// All rows of SYSMODs, in the tables of the release.
 pub(crate) fn load_rows<S: Alter>(
     alloc: Global,
     conn: &mut Connection<S>,
+    release: Release,
 ) -> Result<FlatRows, ReadError>
-    ensures found { HasCleanDisk (state S.Store conn.new) → (contents : Contents)
-        → HasContents store_schema contents (state S.Store conn.old).now
-        → IfOk result (λ rows. HoldRows rows contents) }
-    ensures forms { IfOk result HaveForms }
-    ensures only { HasCleanDisk (state S.Store conn.new) → (contents : Contents)
-        → HasContents store_schema contents (state S.Store conn.old).now
-        → IfOk result (λ rows. (sysmods : List SysmodTerm) → AreFormed sysmods → AreRowsOf sysmods contents
-        → HasRows rows sysmods) }
-    ensures none { HasCleanDisk (state S.Store conn.new) → IsErrOf result ReadError.BadRow → (contents : Contents)
-        → HasContents store_schema contents (state S.Store conn.old).now
-        → (sysmods : List SysmodTerm) → AreFormed sysmods → ¬ AreRowsOf sysmods contents }
-    ensures reads { OnlyReads S.Store store_schema ReadError.BadRow ReadError.Fault conn.old conn.new result }
+    ensures part { LoadsPart S.Store release (HoldRows release) HasRows conn.old conn.new result }
+    ensures forms { IfOk result (HaveForms release) }
 {
-    let heads = load_sorted::<S, Heads>(alloc, conn)?;
-    let vers = load_sorted::<S, Vers>(alloc, conn)?;
-    let ifs = load_sorted::<S, Ifs>(alloc, conn)?;
-    let elems = load_sorted::<S, Elems>(alloc, conn)?;
+    let heads = load_heads(alloc, conn, release)?;
+    let vers = load_vers(alloc, conn)?;
+    let ifs = load_ifs(alloc, conn)?;
+    let elems = load_elems(alloc, conn)?;
     Ok(FlatRows {
         heads,
         vers,
@@ -64,9 +86,9 @@ pub(crate) fn load_rows<S: Alter>(
 pub(crate) fn gathered(alloc: Global, rows: FlatRows) -> Result<Vec<Sysmod>, ReadError>
     requires { AreBare rows.vers.items }
     ensures taken { IfOk result (λ sysmods. IsGathered rows sysmods.items) }
-    ensures only { IfOk result (λ sysmods. (others : List SysmodTerm) → AreFormed others → HasRows rows others
+    ensures only { IfOk result (λ sysmods. (others : List SysmodTerm) → AreWhole others → HasRows rows others
         → others ≡ sysmods.items) }
-    ensures none { IsErrOf result ReadError.BadRow → (others : List SysmodTerm) → AreFormed others
+    ensures none { IsErrOf result ReadError.BadRow → (others : List SysmodTerm) → AreWhole others
         → ¬ HasRows rows others }
     ensures fault { IsErrOf result ReadError.Fault → ⊥ }
 {
@@ -80,4 +102,18 @@ pub(crate) fn gathered(alloc: Global, rows: FlatRows) -> Result<Vec<Sysmod>, Rea
         VecDeque::from(rows.ifs),
         VecDeque::from(rows.elems),
     )
+}
+
+/// The SYSMODs whose rows the tables of the release hold.
+pub(crate) fn load_gathered<S: Alter>(
+    alloc: Global,
+    conn: &mut Connection<S>,
+    release: Release,
+) -> Result<Vec<Sysmod>, ReadError>
+    ensures part { LoadsPart S.Store release (λ sysmods contents. AreRowsOf release sysmods.items contents)
+        (λ sysmods others. others ≡ sysmods.items) conn.old conn.new result }
+    ensures forms { IfOk result (λ sysmods. AreFormed release sysmods.items) }
+{
+    let rows = load_rows(alloc, conn, release)?;
+    gathered(alloc, rows)
 }

@@ -80,21 +80,9 @@ module _ {S : Type 0} (g : Ghosts S) where
       → RunsInside g ((text, r) ∷ []) a b q → RunsInside g ((text, row) ∷ []) a b q
   runs_key text row r a b q is h = subst (λ p. RunsInside g ((text, p) ∷ []) a b q) is h
 
-  -- one that ran, and more of them
-  pub runs_next : {Y : Type 0} (call : Call) (more : List Call) (a b c : Held S) (r : Result Y Error)
-      → StaysInside g a b → StaysInside g b c → RunsInside g (call ∷ []) a b {X = Unit} (Ok (tt {0}))
-      → RunsInside g more b c r → RunsInside g (call ∷ more) a c r
-  runs_next call more a b c r one two first then =
-      runs_then g (call ∷ []) more a b c (Ok (tt {0})) (tt {0}) r one two refl first then
-
   -- some that ran, and more of them
   pub runs_rest : {Y : Type 0} (xs ys : List Call) (a b c : Held S) (r : Result Y Error) → StaysInside g a b
       → StaysInside g b c → RunsInside g xs a b {X = Unit} (Ok (tt {0})) → RunsInside g ys b c r
       → RunsInside g (xs ++ ys) a c r
   runs_rest xs ys a b c r one two first then =
       runs_then g xs ys a b c (Ok (tt {0})) (tt {0}) r one two refl first then
-
-  -- those that put these rows
-  pub runs_rows : {X : Type 0} (text : List ℕ) (xs ys : List Row) (a b : Held S) (r : Result X Error) → xs ≡ ys
-      → RunsInside g (puts text xs) a b r → RunsInside g (puts text ys) a b r
-  runs_rows text xs ys a b r is h = subst (λ l. RunsInside g (puts text l) a b r) is h

@@ -4,4 +4,6 @@ pub mod Adding
 pub mod Calling
 pub mod Calls
 pub mod Partings
+pub mod KeyLemmas
 pub mod SysmodLemmas
+pub mod Steps

@@ -15,7 +15,7 @@ use Rattle.store_rows.proofs.Parts.{moved_front}
 
 module _ {A B : Type 0} (f : A → List B) where
   -- of two tests each item passes one
-  parted : (p q : A → Bool) (xs : List A) → ((x : A) → Has xs x → q x ≡ not (p x))
+  pub parted : (p q : A → Bool) (xs : List A) → ((x : A) → Has xs x → q x ≡ not (p x))
       → IsPermutation (flat_map f (filter p xs) ++ flat_map f (filter q xs)) (flat_map f xs)
   parted p q [] other = IsPermutation-refl []
   parted p q (x ∷ xs) other = go (p x) refl (parted p q xs (λ y h. other y (inr h)))

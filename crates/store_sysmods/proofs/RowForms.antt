@@ -9,8 +9,8 @@ use Rattle.terms.specs.Types.{Text, Id, Action, Replaces, Updates, Ver, IfReq, C
 use Rattle.terms.specs.Spelling.{kind_text, type_text}
 use Rattle.store_rows.specs.Texts.{SuitColumns}
 use Rattle.store_rows.proofs.Values.{kept_optional, kept_whole, bound_optional}
-use Rattle.store_schema.specs.Rows.{flag, records, action_cells, sysmod_row, ver_row, ifreq_row, elem_row}
-use Rattle.store_schema.specs.Tables.{sysmod, ver, ifreq, elem}
+use Rattle.store_schema.specs.Rows.{flag, records, action_cells, sysmod_row, source_row, ver_row, ifreq_row, elem_row}
+use Rattle.store_schema.specs.Tables.{sysmod, ver, ifreq, elem, source}
 use Rattle.store_sysmods.specs.Actions.{is_update, distlib_of, syslib_of, lines_of}
 
 -- their columns keep them
@@ -19,6 +19,9 @@ kept_ver id v = (refl, (refl, (kept_optional v.fmid, (refl, (refl, (refl, (refl,
 
 pub kept_ifreq : (id : Id) (srel : Text) (i : ℕ × IfReq) → SuitColumns ifreq.columns (ifreq_row id srel i)
 kept_ifreq id srel i = (refl, (refl, (kept_whole (pos i.0), (refl, (refl, tt)))))
+
+pub kept_source : (id : Id) (name : Text) → SuitColumns source.columns (source_row id name)
+kept_source id name = (refl, (refl, tt))
 
 pub kept_sysmod : (s : Sysmod) → SuitColumns sysmod.columns (sysmod_row s)
 kept_sysmod s = (refl, (refl, (refl, tt)))
@@ -56,10 +59,15 @@ pub ifreq_bound : (id srel function req : Text) (number : ℤ) (n : ℕ) (x : Id
     (n, i)
 ifreq_bound id srel function req number n x other i is_id is_srel is_number is_function is_req = cc
 
+-- and for a source
+pub source_bound : (id name : Text) (x : Id) (source : Text) → id ≡ x → name ≡ source
+    → value.Text id ∷ value.Text name ∷ [] ≡ source_row x source
+source_bound id name x source is_id is_name = cc
+
 -- and for a SYSMOD
-pub sysmod_bound : (id kind sources : Text) (s : Sysmod) → id ≡ s.id → kind ≡ kind_text s.kind
-    → sources ≡ join_with_byte 44 s.sources → value.Text id ∷ value.Text kind ∷ value.Text sources ∷ [] ≡ sysmod_row s
-sysmod_bound id kind sources s is_id is_kind is_sources = cc
+pub sysmod_bound : (id kind : Text) (s : Sysmod) → id ≡ s.id → kind ≡ kind_text s.kind
+    → value.Text id ∷ value.Text kind ∷ value.Text [] ∷ [] ≡ sysmod_row s
+sysmod_bound id kind s is_id is_kind = cc
 
 -- what an element statement does, as its columns
 cells_are : (a : Action) → flag (is_update a) ∷ or_null value.Text (distlib_of a) ∷ or_null value.Text (syslib_of a) ∷

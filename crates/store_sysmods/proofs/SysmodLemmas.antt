@@ -1,35 +1,89 @@
 -- What the tables hold when a SYSMOD comes, goes, or has other sources.
-use Rattle.std.proofs.Common.{◌≡◌, inl, inr, List, [], ◌∷◌, ◌++◌, map, filter, Bool, true, false, not, if◌then◌else◌}
-use Rattle.std.proofs.Common.{IsPermutation, Ordering, Less, Equal, Greater, refl, sym, ap, ap₂, subst, ◌∙◌}
+use Rattle.std.proofs.Common.{◌≡◌, inl, inr, arith, List, [], ◌∷◌, ◌++◌, append-nil, map, filter, length, Bool, true}
+use Rattle.std.proofs.Common.{false, not, if◌then◌else◌, IsPermutation, Ordering, Less, Equal, Greater, refl, sym, ap}
+use Rattle.std.proofs.Common.{ap₂, subst, ◌∙◌}
 use Rattle.std.specs.List.{AllByRecursion, flat_map, enumerate_from}
-use Rattle.std.specs.Prelude.{All, find, is_some}
+use Rattle.std.specs.Prelude.{find, is_some}
 use Rattle.std.specs.Ordering.{is_lt, is_eq, nat_cmp, ordering_reverse}
 use Rattle.std.specs.Cmp.Lexicographic.{slice_cmp}
 use Rattle.std.specs.Str.{bytes_eq}
 use Rattle.std.proofs.lemmas.Cmp.{nat_list_cmp_total}
 use Rattle.std.proofs.lemmas.Map.Text.{is_eq-slice_cmp}
 use Rattle.std.proofs.lemmas.List.Concat.{flat_map_single}
-use Rattle.std.proofs.lemmas.List.Elements.{All-head, All-tail}
-use Rattle.std.proofs.lemmas.List.Sorted.{IsPermutation-refl}
-use Rattle.sqlite.specs.declared.types.Value.TheVariants.{Text}
+use Rattle.std.proofs.lemmas.List.Sorted.{IsPermutation-sym}
+use Rattle.sqlite.specs.declared.types.Value.TheVariants as value
 use Rattle.sqlite.specs.Effect.{Database}
 use Rattle.sqlite.specs.Order.{Row}
+use Rattle.sqlite.specs.Table.{Table}
 use Rattle.sqlite_rules.specs.Lists.{Has}
-use Rattle.terms.specs.Types.{Id, Sysmod}
-use Rattle.terms.specs.Spelling.{kind_text}
+use Rattle.sqlite_rules.proofs.ListLemmas.{has_left, has_kept}
+use Rattle.terms.specs.Types.{Text, Id, Sysmod}
 use Rattle.terms.specs.Global.{with_sysmod}
 use Rattle.terms.specs.Lookups.{is_received}
 use Rattle.lemmas.proofs.Texts.{same_from}
 use Rattle.sysmods_records.specs.Edited.{with_sources, less_sysmod}
-use Rattle.store_rows.specs.Rows.{has_key, without, in_place, in_table, HasContents}
+use Rattle.store_rows.specs.Rows.{Contents, has_key, without, HasContents}
 use Rattle.store_rows.proofs.Keys.{equals, and_true}
 use Rattle.store_rows.proofs.ContentsLemmas.{permuted}
+use Rattle.store_rows.proofs.RowLemmas.{same_rows}
 use Rattle.store_schema.specs.Inventory.{Inventory}
-use Rattle.store_schema.specs.Rows.{ids, sysmod_row, ver_row, vers_of, ifreq_row, ifreqs_of, elem_row, elems_of}
+use Rattle.store_schema.specs.Rows.{sysmod_row, source_row, sources_of, ver_row, vers_of, ifreq_row, ifreqs_of}
+use Rattle.store_schema.specs.Rows.{elem_row, elems_of}
 use Rattle.store_schema.specs.Stands.{rows_of}
-use Rattle.store_schema.specs.Tables.{store_schema, sysmod}
-use Rattle.store_sysmods.specs.Sysmods.{with_sysmod_rows, without_sysmod_rows, sysmod_key}
-use Rattle.store_sysmods.proofs.Partings.{between, all_map, all_flat, without_items, flat_kept}
+use Rattle.store_schema.specs.Tables.{store_schema, meta, sysmod, ver, ifreq, hold, elem, zone, entry, zelem, source}
+use Rattle.store_schema.specs.Tables.{morever, moreif, chosen}
+use Rattle.store_sysmods.specs.Sysmods.{with_sysmod_rows, without_sysmod_rows, with_source_rows, sysmod_key}
+use Rattle.store_sysmods.proofs.KeyLemmas.{at_most_one, has_sysmod}
+use Rattle.store_sysmods.proofs.Partings.{parted, between, all_map, all_flat, without_items, flat_kept}
+
+-- the tables that hold no rows of SYSMODs
+abbrev other_tables : List Table
+other_tables = meta ∷ hold ∷ zone ∷ entry ∷ zelem ∷ morever ∷ moreif ∷ chosen ∷ []
+
+-- The tables hold the rows of SYSMODs in another order, and in the other tables the same.
+permuted_sysmods : (c d : Contents) (db : Database) → AllByRecursion (λ t. d t.tree ≡ c t.tree) other_tables
+    → IsPermutation (d sysmod.tree) (c sysmod.tree) → IsPermutation (d source.tree) (c source.tree)
+    → IsPermutation (d ver.tree) (c ver.tree) → IsPermutation (d ifreq.tree) (c ifreq.tree)
+    → IsPermutation (d elem.tree) (c elem.tree) → HasContents store_schema c db → HasContents store_schema d db
+permuted_sysmods c d db others on_sysmod on_source on_ver on_ifreq on_elem =
+    let at_hold = others.1 in
+    let at_zone = at_hold.1 in
+    let at_entry = at_zone.1 in
+    let at_zelem = at_entry.1 in
+    let at_morever = at_zelem.1 in
+    let at_moreif = at_morever.1 in
+    let at_chosen = at_moreif.1 in
+    permuted store_schema c d db (
+      same_rows others.0,
+      (
+        on_sysmod,
+        (
+          on_ver,
+          (
+            on_ifreq,
+            (
+              same_rows at_hold.0,
+              (
+                on_elem,
+                (
+                  same_rows at_zone.0,
+                  (
+                    same_rows at_entry.0,
+                    (
+                      same_rows at_zelem.0,
+                      (
+                        on_source,
+                        (same_rows at_morever.0, (same_rows at_moreif.0, (same_rows at_chosen.0, tt))),
+                      ),
+                    ),
+                  ),
+                ),
+              ),
+            ),
+          ),
+        ),
+      ),
+    )
 
 -- ---- a SYSMOD comes
 
@@ -82,39 +136,23 @@ module _ (i : Inventory) (s : Sysmod) where
       subst (λ l. IsPermutation l (sysmod_row s ∷ map sysmod_row all)) (flat_map_single sysmod_row new)
       (subst (λ l. IsPermutation (flat_map own_row new) (sysmod_row s ∷ l)) (flat_map_single sysmod_row all)
       (rows_between own_row none)) in
-      permuted store_schema (with_sysmod_rows s (rows_of i))
-      (rows_of (record i { global = with_sysmod i.global s })) db (
-        IsPermutation-refl _,
-        (
-          own,
-          (
-            rows_between vers_of none,
-            (
-              rows_between ifreqs_of none,
-              (
-                IsPermutation-refl _,
-                (
-                  rows_between elems_of none,
-                  (
-                    IsPermutation-refl _,
-                    (IsPermutation-refl _, (IsPermutation-refl _, tt)),
-                  ),
-                ),
-              ),
-            ),
-          ),
-        ),
-      )
+      permuted_sysmods (with_sysmod_rows s (rows_of i))
+      (rows_of (record i { global = with_sysmod i.global s })) db
+      (refl, (refl, (refl, (refl, (refl, (refl, (refl, (refl, tt)))))))) own (rows_between sources_of none)
+      (rows_between vers_of none) (rows_between ifreqs_of none) (rows_between elems_of none)
 
 -- ---- a SYSMOD goes
 
 -- whatever its other cells are
-begins : (id x : Id) (cells : Row) → has_key (sysmod_key id) (Text x ∷ cells) ≡ bytes_eq x id
+begins : (id x : Id) (cells : Row) → has_key (sysmod_key id) (value.Text x ∷ cells) ≡ bytes_eq x id
 begins id x cells = and_true _ ∙ equals x id
 
 module _ (id : Id) where
   abbrev IsOf : Sysmod → Row → Type 0
   IsOf s r = has_key (sysmod_key id) r ≡ bytes_eq s.id id
+
+  pub own_sources : (s : Sysmod) → AllByRecursion (IsOf s) (sources_of s)
+  own_sources s = all_map (IsOf s) (source_row s.id) (λ name. begins id s.id []) s.sources
 
   own_vers : (s : Sysmod) → AllByRecursion (IsOf s) (vers_of s)
   own_vers s = all_map (IsOf s) (ver_row s.id) (λ v. begins id s.id []) s.vers
@@ -130,9 +168,6 @@ module _ (id : Id) where
       → flat_map f (filter (λ s. not (bytes_eq s.id id)) ss) ≡ without (sysmod_key id) (flat_map f ss)
   left_in f own ss = without_items f (λ s. bytes_eq s.id id) (has_key (sysmod_key id)) own ss
 
-  same_rows : {xs ys : List Row} → xs ≡ ys → IsPermutation xs ys
-  same_rows {xs} e = subst (IsPermutation xs) e (IsPermutation-refl xs)
-
   pub sysmod_removed : (i : Inventory) (db : Database) → HasContents store_schema (without_sysmod_rows id (rows_of i))
       db → HasContents store_schema (rows_of (record i { global = less_sysmod id i.global })) db
   sysmod_removed i db =
@@ -141,29 +176,10 @@ module _ (id : Id) where
       let own : map sysmod_row left ≡ without (sysmod_key id) (map sysmod_row all) =
       sym (flat_map_single sysmod_row left) ∙ left_in own_row (λ s. (begins id s.id [], tt)) all
       ∙ ap (without (sysmod_key id)) (flat_map_single sysmod_row all) in
-      permuted store_schema (without_sysmod_rows id (rows_of i))
-      (rows_of (record i { global = less_sysmod id i.global })) db (
-        IsPermutation-refl _,
-        (
-          same_rows own,
-          (
-            same_rows (left_in vers_of own_vers all),
-            (
-              same_rows (left_in ifreqs_of own_ifreqs all),
-              (
-                IsPermutation-refl _,
-                (
-                  same_rows (left_in elems_of own_elems all),
-                  (
-                    IsPermutation-refl _,
-                    (IsPermutation-refl _, (IsPermutation-refl _, tt)),
-                  ),
-                ),
-              ),
-            ),
-          ),
-        ),
-      )
+      permuted_sysmods (without_sysmod_rows id (rows_of i)) (rows_of (record i { global = less_sysmod id i.global })) db
+      (refl, (refl, (refl, (refl, (refl, (refl, (refl, (refl, tt)))))))) (same_rows own)
+      (same_rows (left_in sources_of own_sources all)) (same_rows (left_in vers_of own_vers all))
+      (same_rows (left_in ifreqs_of own_ifreqs all)) (same_rows (left_in elems_of own_elems all))
 
 -- ---- a SYSMOD has other sources
 
@@ -171,56 +187,98 @@ module _ (s : Sysmod) where
   abbrev sourced : Sysmod → Sysmod
   sourced r = if bytes_eq r.id s.id then record r { sources = s.sources } else r
 
-  kept_rows : (f : Sysmod → List Row) → ((r : Sysmod) → f (record r { sources = s.sources }) ≡ f r) → (r : Sysmod)
-      → f (sourced r) ≡ f r
-  kept_rows f same r = go (bytes_eq r.id s.id)
+  -- rows that do not tell sources
+  kept_rows : (f : Sysmod → List Row) → ((r : Sysmod) → f (record r { sources = s.sources }) ≡ f r)
+      → (ss : List Sysmod) → flat_map f (map sourced ss) ≡ flat_map f ss
+  kept_rows f same = flat_kept f sourced (λ r. go r (bytes_eq r.id s.id))
     where
-      go : (b : Bool) → f (if b then record r { sources = s.sources } else r) ≡ f r
-      go true = same r
-      go false = refl
+      go : (r : Sysmod) (b : Bool) → f (if b then record r { sources = s.sources } else r) ≡ f r
+      go r true = same r
+      go r false = refl
 
-  one_replaced : (r : Sysmod) → (r.id ≡ s.id → r.kind ≡ s.kind)
-      → sysmod_row (sourced r) ≡ (if has_key (sysmod_key s.id) (sysmod_row r) then sysmod_row s else sysmod_row r)
-  one_replaced r kind = rw (begins s.id r.id (Text (kind_text r.kind) ∷ ids r.sources ∷ []))
-      (go (bytes_eq r.id s.id) refl)
+  abbrev is_it : Sysmod → Bool
+  is_it r = bytes_eq r.id s.id
+
+  -- those of each SYSMOD of the id are the new ones, and the others are kept
+  new_sources : (ss : List Sysmod) → flat_map sources_of (filter is_it (map sourced ss))
+      ≡ flat_map (λ r. sources_of s) (filter is_it ss)
+  new_sources [] = refl
+  new_sources (r ∷ ss) = go (is_it r) refl (new_sources ss)
     where
-      go : (b : Bool) → bytes_eq r.id s.id ≡ b → sysmod_row (if b then record r { sources = s.sources } else r)
-          ≡ (if b then sysmod_row s else sysmod_row r)
-      go true e = let same = same_from r.id s.id e in ap₂ (λ x k. Text x ∷ Text (kind_text k) ∷ ids s.sources ∷ []) same
-          (kind same)
-      go false e = refl
+      go : (b : Bool) → is_it r ≡ b
+          → flat_map sources_of (filter is_it (map sourced ss)) ≡ flat_map (λ r. sources_of s) (filter is_it ss)
+          → flat_map sources_of (filter is_it (map sourced (r ∷ ss)))
+          ≡ flat_map (λ r. sources_of s) (filter is_it (r ∷ ss))
+      go true e later =
+          let own : map (source_row r.id) s.sources ≡ sources_of s =
+          ap (λ x. map (source_row x) s.sources) (same_from r.id s.id e) in
+          rw (e, e) (ap₂ ◌++◌ own later)
+      go false e later = rw (e, e) later
 
-  all_replaced : (ss : List Sysmod) → All (λ r. r.id ≡ s.id → r.kind ≡ s.kind) ss
-      → map sysmod_row (map sourced ss) ≡ in_place (sysmod_key s.id) (sysmod_row s) (map sysmod_row ss)
-  all_replaced [] kinds = refl
-  all_replaced (r ∷ ss) kinds =
-      ap₂ ◌∷◌ (one_replaced r (All-head (λ r. r.id ≡ s.id → r.kind ≡ s.kind) r ss kinds))
-      (all_replaced ss (All-tail (λ r. r.id ≡ s.id → r.kind ≡ s.kind) r ss kinds))
+  old_sources : (ss : List Sysmod) → flat_map sources_of (filter (λ r. not (is_it r)) (map sourced ss))
+      ≡ flat_map sources_of (filter (λ r. not (is_it r)) ss)
+  old_sources [] = refl
+  old_sources (r ∷ ss) = go (is_it r) refl (old_sources ss)
+    where
+      go : (b : Bool) → is_it r ≡ b
+          → flat_map sources_of (filter (λ r. not (is_it r)) (map sourced ss))
+          ≡ flat_map sources_of (filter (λ r. not (is_it r)) ss)
+          → flat_map sources_of (filter (λ r. not (is_it r)) (map sourced (r ∷ ss)))
+          ≡ flat_map sources_of (filter (λ r. not (is_it r)) (r ∷ ss))
+      go true e later = rw (e, e) later
+      go false e later = rw (e, e) (ap (λ rows. sources_of r ++ rows) later)
 
-  pub sources_replaced : (i : Inventory) (db : Database) → All (λ r. r.id ≡ s.id → r.kind ≡ s.kind) i.global.sysmods
-      → HasContents store_schema (in_table sysmod (in_place (sysmod_key s.id) (sysmod_row s)) (rows_of i)) db
-      → HasContents store_schema (rows_of (record i { global = with_sources s.id s.sources i.global })) db
-  sources_replaced i db kinds =
-      let all = i.global.sysmods in
-      let kept = λ (f : Sysmod → List Row) (same : (r : Sysmod) → f (record r { sources = s.sources }) ≡ f r).
-      same_rows s.id (flat_kept f sourced (kept_rows f same) all) in
-      permuted store_schema (in_table sysmod (in_place (sysmod_key s.id) (sysmod_row s)) (rows_of i))
-      (rows_of (record i { global = with_sources s.id s.sources i.global })) db (
-        IsPermutation-refl _,
-        (
-          same_rows s.id (all_replaced all kinds),
-          (
-            kept vers_of (λ r. refl),
-            (
-              kept ifreqs_of (λ r. refl),
-              (
-                IsPermutation-refl _,
-                (
-                  kept elems_of (λ r. refl),
-                  (IsPermutation-refl _, (IsPermutation-refl _, (IsPermutation-refl _, tt))),
-                ),
-              ),
-            ),
-          ),
-        ),
-      )
+  own_rows : (ss : List Sysmod)
+      → filter (has_key (sysmod_key s.id)) (map sysmod_row ss) ≡ map sysmod_row (filter is_it ss)
+  own_rows [] = refl
+  own_rows (r ∷ ss) = go (is_it r) refl (own_rows ss)
+    where
+      go : (b : Bool) → is_it r ≡ b
+          → filter (has_key (sysmod_key s.id)) (map sysmod_row ss) ≡ map sysmod_row (filter is_it ss)
+          → filter (has_key (sysmod_key s.id)) (map sysmod_row (r ∷ ss)) ≡ map sysmod_row (filter is_it (r ∷ ss))
+      go true e later = rw (begins s.id r.id [], e) (ap (λ rows. sysmod_row r ∷ rows) later)
+      go false e later = rw (begins s.id r.id [], e) later
+
+  module _ (i : Inventory) (db : Database)
+      (held : HasContents store_schema (with_source_rows s (rows_of i)) db) where
+    abbrev all_of : List Sysmod
+    all_of = i.global.sysmods
+
+    -- where no SYSMOD has the id, there are no sources,
+    no_sources : filter is_it all_of ≡ [] → (names : List Text) → s.sources ≡ names → sources_of s ≡ []
+    no_sources none [] is = ap (map (source_row s.id)) is
+    no_sources none (name ∷ names) is =
+        let there : Has (sources_of s) (source_row s.id name) =
+        subst (λ l. Has (map (source_row s.id) l) (source_row s.id name)) (sym is) (inl refl) in
+        let its = has_sysmod (with_source_rows s (rows_of i)) db held s.id (value.Text name ∷ [])
+        (has_left (sources_of s) _ (source_row s.id name) there) in
+        absurd (subst (λ l. Has l its.0) (own_rows all_of ∙ ap (map sysmod_row) none)
+        (has_kept (has_key (sysmod_key s.id)) (map sysmod_row all_of) its.0 its.1 its.2))
+
+    -- and no more than one has it
+    one_has : (l : List Sysmod) → filter is_it all_of ≡ l → flat_map (λ r. sources_of s) l ≡ sources_of s
+    one_has [] is = sym (no_sources is s.sources refl)
+    one_has (r ∷ []) is = append-nil (sources_of s)
+    one_has (q ∷ r ∷ rest) is =
+        let few = at_most_one (with_source_rows s (rows_of i)) db held s.id in
+        let two = ap length (own_rows all_of ∙ ap (map sysmod_row) is) in
+        absurd (omega (arith, few, two))
+
+    pub sources_replaced : HasContents store_schema
+        (rows_of (record i { global = with_sources s.id s.sources i.global })) db
+    sources_replaced =
+        let parts : flat_map sources_of (filter is_it (map sourced all_of))
+        ++ flat_map sources_of (filter (λ r. not (is_it r)) (map sourced all_of))
+        ≡ sources_of s ++ without (sysmod_key s.id) (flat_map sources_of all_of) =
+        ap₂ ◌++◌ (new_sources all_of ∙ one_has (filter is_it all_of) refl)
+        (old_sources all_of ∙ left_in s.id sources_of (own_sources s.id) all_of) in
+        let sources = subst (IsPermutation (flat_map sources_of (map sourced all_of))) parts
+        (IsPermutation-sym _ _ (parted sources_of is_it (λ r. not (is_it r)) (map sourced all_of) (λ r h. refl))) in
+        let own : map sysmod_row (map sourced all_of) ≡ map sysmod_row all_of =
+        sym (flat_map_single sysmod_row (map sourced all_of)) ∙ kept_rows own_row (λ r. refl) all_of
+        ∙ flat_map_single sysmod_row all_of in
+        permuted_sysmods (with_source_rows s (rows_of i))
+        (rows_of (record i { global = with_sources s.id s.sources i.global })) db
+        (refl, (refl, (refl, (refl, (refl, (refl, (refl, (refl, tt)))))))) (same_rows own) sources
+        (same_rows (kept_rows vers_of (λ r. refl) all_of)) (same_rows (kept_rows ifreqs_of (λ r. refl) all_of))
+        (same_rows (kept_rows elems_of (λ r. refl) all_of)) held

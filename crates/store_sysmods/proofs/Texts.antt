@@ -1,15 +1,17 @@
 -- What the texts mean.
-use Rattle.std.proofs.Common.{List, [], ◌∷◌, inl, inr, refl, arith}
+use Rattle.std.proofs.Common.{inl, inr, refl, arith}
 use Rattle.sqlite.specs.Listing.{understood}
 use Rattle.sqlite_tied.specs.Compute.{everything}
 use Rattle.sqlite_schema.specs.Names.{same_name}
 use Rattle.sqlite_value.specs.Keys.{joined}
-use Rattle.sqlite.specs.Table.{Table}
-use Rattle.store_rows.specs.Texts.{PutsIn, PutsInPlace, TakesOut, TakesOutParent, IsCascade}
+use Rattle.sqlite_rules.proofs.ListLemmas.{has_got}
+use Rattle.store_rows.specs.Texts.{PutsIn, TakesOut, TakesOutParent, IsCascade}
 use Rattle.store_rows.proofs.Parents.{if_set_off}
-use Rattle.store_schema.specs.Tables.{store_schema, sysmod, ver, ifreq, elem}
-use Rattle.store_sysmods.specs.Calls.{insert_ver, insert_ifreq, insert_elem, insert_sysmod, replace_sysmod}
-use Rattle.store_sysmods.specs.Calls.{delete_vers, delete_ifreqs, delete_elems, delete_sysmod}
+use Rattle.store_schema.specs.Tables.{store_schema, sysmod, ver, ifreq, elem, source, morever, moreif}
+use Rattle.store_sysmods.specs.Calls.{insert_source, insert_ver, insert_ifreq, insert_elem, insert_sysmod}
+use Rattle.store_sysmods.specs.Calls.{delete_vers, delete_ifreqs, delete_elems, delete_sources, delete_morevers}
+use Rattle.store_sysmods.specs.Calls.{delete_moreifs, delete_sysmod}
+use Rattle.store_sysmods.specs.Sysmods.{sysmod_children}
 
 pub puts_ver : PutsIn store_schema 2 ver insert_ver
 unfolding understood everything
@@ -51,6 +53,16 @@ puts_sysmod = record {
   timeless = refl;
 }
 
+pub puts_source : PutsIn store_schema 9 source insert_source
+unfolding understood everything
+puts_source = record {
+  there = record { found = refl; alone = refl };
+  command = refl;
+  plain = (refl, refl);
+  uncounted = refl;
+  timeless = refl;
+}
+
 pub takes_vers : TakesOut store_schema 2 ver 1 delete_vers
 unfolding understood everything same_name joined
 takes_vers = record {
@@ -81,18 +93,35 @@ takes_elems = record {
   free = λ olds. refl;
 }
 
-pub replaces_sysmod : PutsInPlace store_schema 1 sysmod 1 replace_sysmod
+pub takes_sources : TakesOut store_schema 9 source 1 delete_sources
 unfolding understood everything same_name joined
-replaces_sysmod = record {
+takes_sources = record {
   there = record { found = refl; alone = refl };
   command = refl;
   plain = (refl, refl);
   narrow = omega arith;
-  free = λ olds news. refl;
+  free = λ olds. refl;
 }
 
-abbrev pub sysmod_children : List Table
-sysmod_children = ver ∷ ifreq ∷ elem ∷ []
+pub takes_morevers : TakesOut store_schema 10 morever 1 delete_morevers
+unfolding understood everything same_name joined
+takes_morevers = record {
+  there = record { found = refl; alone = refl };
+  command = refl;
+  plain = (refl, refl);
+  narrow = omega arith;
+  free = λ olds. refl;
+}
+
+pub takes_moreifs : TakesOut store_schema 11 moreif 1 delete_moreifs
+unfolding understood everything same_name joined
+takes_moreifs = record {
+  there = record { found = refl; alone = refl };
+  command = refl;
+  plain = (refl, refl);
+  narrow = omega arith;
+  free = λ olds. refl;
+}
 
 pub takes_sysmod : TakesOutParent store_schema 1 sysmod sysmod_children delete_sysmod
 unfolding understood everything same_name joined
@@ -102,10 +131,22 @@ takes_sysmod = record {
   plain = (refl, refl);
   narrow = omega arith;
   children_there = (
-    (inr (inr (inl refl)), (λ e. omega (arith, e)), omega arith),
+    (has_got store_schema.tables 2 ver refl, (λ e. omega (arith, e)), omega arith),
     (
-      (inr (inr (inr (inl refl))), (λ e. omega (arith, e)), omega arith),
-      ((inr (inr (inr (inr (inr (inl refl))))), (λ e. omega (arith, e)), omega arith), tt),
+      (has_got store_schema.tables 3 ifreq refl, (λ e. omega (arith, e)), omega arith),
+      (
+        (has_got store_schema.tables 5 elem refl, (λ e. omega (arith, e)), omega arith),
+        (
+          (has_got store_schema.tables 9 source refl, (λ e. omega (arith, e)), omega arith),
+          (
+            (has_got store_schema.tables 10 morever refl, (λ e. omega (arith, e)), omega arith),
+            (
+              (has_got store_schema.tables 11 moreif refl, (λ e. omega (arith, e)), omega arith),
+              tt,
+            ),
+          ),
+        ),
+      ),
     ),
   );
   acts = λ olds.
@@ -134,5 +175,58 @@ takes_sysmod = record {
         shallow = refl;
         moves = refl;
       }) in
-      (tt, (tt, ((on_ver, tt), ((on_ifreq, tt), (tt, ((on_elem, tt), (tt, ((tt, tt), ((tt, tt), tt)))))))));
+      let on_source = set_off _ _ (record {
+        child = inr (inr (inr (inl refl)));
+        columns = refl;
+        places = refl;
+        collation = refl;
+        shallow = refl;
+        moves = refl;
+      }) in
+      let on_morever = set_off _ _ (record {
+        child = inr (inr (inr (inr (inl refl))));
+        columns = refl;
+        places = refl;
+        collation = refl;
+        shallow = refl;
+        moves = refl;
+      }) in
+      let on_moreif = set_off _ _ (record {
+        child = inr (inr (inr (inr (inr (inl refl)))));
+        columns = refl;
+        places = refl;
+        collation = refl;
+        shallow = refl;
+        moves = refl;
+      }) in (
+        tt,
+        (
+          tt,
+          (
+            (on_ver, tt),
+            (
+              (on_ifreq, tt),
+              (
+                tt,
+                (
+                  (on_elem, tt),
+                  (
+                    tt,
+                    (
+                      (tt, tt),
+                      (
+                        (tt, tt),
+                        (
+                          (on_source, tt),
+                          ((on_morever, tt), ((on_moreif, tt), ((tt, tt), tt))),
+                        ),
+                      ),
+                    ),
+                  ),
+                ),
+              ),
+            ),
+          ),
+        ),
+      );
 }

@@ -12,9 +12,9 @@ use Rattle.sysmods_records.specs.Edited.{with_sources, less_sysmod}
 use Rattle.store_rows.specs.Inside.{Leads, Turns}
 use Rattle.store_rows.specs.Rows.{Contents, HasContents, in_table, with_row, without}
 use Rattle.store_schema.specs.Inventory.{Inventory}
-use Rattle.store_schema.specs.Rows.{sysmod_row, vers_of, ifreqs_of, elems_of}
+use Rattle.store_schema.specs.Rows.{sysmod_row, sources_of, vers_of, ifreqs_of, elems_of}
 use Rattle.store_schema.specs.Stands.{rows_of}
-use Rattle.store_schema.specs.Tables.{sysmod, ver, ifreq, elem, store_schema}
+use Rattle.store_schema.specs.Tables.{sysmod, ver, ifreq, elem, source, morever, moreif, store_schema}
 
 -- these rows too
 abbrev pub with_rows : List Row → List Row → List Row
@@ -24,22 +24,34 @@ with_rows news rows = news ++ rows
 abbrev pub Adds : {S : Type 0} → Ghosts S → Held S → Held S → Table → List Row → Type 0
 Adds g old new table news = Turns g old new (HasContents store_schema) (in_table table (with_rows news))
 
--- the four tables hold the rows of the SYSMOD too
+-- the tables hold the rows of the SYSMOD too
 abbrev pub with_sysmod_rows : Sysmod → Contents → Contents
 with_sysmod_rows s contents =
     in_table elem (with_rows (elems_of s)) (in_table ifreq (with_rows (ifreqs_of s))
-    (in_table ver (with_rows (vers_of s)) (in_table sysmod (with_row (sysmod_row s)) contents)))
+    (in_table ver (with_rows (vers_of s)) (in_table source (with_rows (sources_of s))
+    (in_table sysmod (with_row (sysmod_row s)) contents))))
 
 -- the first column of the SYSMOD's rows
 abbrev pub sysmod_key : Id → Row
 sysmod_key id = value.Text id ∷ []
 
--- the four tables hold no rows of the SYSMOD
+-- The rows of the SYSMOD's sources take the place of those that the table holds.
+abbrev pub with_source_rows : Sysmod → Contents → Contents
+with_source_rows s contents =
+    in_table source (with_rows (sources_of s)) (in_table source (without (sysmod_key s.id)) contents)
+
+-- the tables that refer to the one of SYSMODs
+abbrev pub sysmod_children : List Table
+sysmod_children = ver ∷ ifreq ∷ elem ∷ source ∷ morever ∷ moreif ∷ []
+
+-- these tables hold no rows of the SYSMOD
+abbrev pub without_rows : List Table → Id → Contents → Contents
+without_rows [] id contents = contents
+without_rows (t ∷ tables) id contents = without_rows tables id (in_table t (without (sysmod_key id)) contents)
+
+-- no table holds rows of the SYSMOD
 abbrev pub without_sysmod_rows : Id → Contents → Contents
-without_sysmod_rows id contents =
-    let key = sysmod_key id in
-    in_table sysmod (without key) (in_table elem (without key)
-    (in_table ifreq (without key) (in_table ver (without key) contents)))
+without_sysmod_rows id contents = in_table sysmod (without (sysmod_key id)) (without_rows sysmod_children id contents)
 
 -- where the tables held an inventory's rows, and its global zone fits, they hold those of the inventory with the new
 -- one

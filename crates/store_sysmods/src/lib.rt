@@ -1,11 +1,12 @@
-//! The tables of received SYSMODs: their rows, and those of their `++VER`s, `++IF`s and element
-//! statements.
+//! The tables of received SYSMODs: their rows, and those of their sources, `++VER`s, `++IF`s and
+//! element statements.
 //! Inside a transaction, inserting a SYSMOD, replacing its sources and removing it change the SYSMODs that the tables
 //! stand for so, and nothing else.
 #![tactic(auto)]
 
 mod elem;
 mod ifreq;
+mod source;
 mod sysmod;
 mod ver;
 

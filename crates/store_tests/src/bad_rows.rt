@@ -29,13 +29,14 @@ const SYSMODS: &[&str] = &[
     "UPDATE sysmod SET kind = 'ptf' WHERE id = 'UAA0001'",
     "UPDATE sysmod SET kind = 'FUNCTIONS' WHERE id = 'UAA0001'",
     "UPDATE sysmod SET kind = '' WHERE id = 'UAA0001'",
-    "UPDATE sysmod SET sources = 'PUT2402,PUT2401' WHERE id = 'UAA0001'",
-    "UPDATE sysmod SET sources = 'PUT2401,PUT2401' WHERE id = 'UAA0001'",
-    "UPDATE sysmod SET sources = 'PUT2401$RSU2404#PUT2401$RSU2404#PUT2401$RSU2404#PUT2401$RSU2404#A' WHERE id = 'UAA0001'",
-    "UPDATE sysmod SET sources = 'put2401' WHERE id = 'UAA0001'",
-    "UPDATE sysmod SET sources = 'PUT2401,' WHERE id = 'UAA0001'",
-    "UPDATE sysmod SET sources = ',PUT2401' WHERE id = 'UAA0001'",
+    "UPDATE sysmod SET sources = 'PUT2401' WHERE id = 'UAA0001'",
     "UPDATE sysmod SET sources = ' ' WHERE id = 'UAA0001'",
+    "UPDATE source SET name = 'put2401' WHERE id = 'UAA0001'",
+    "UPDATE source SET name = '' WHERE id = 'UAA0001'",
+    "UPDATE source SET name = 'PUT2401,PUT2402' WHERE id = 'UAA0001'",
+    "UPDATE source SET name = 'PUT2401$RSU2404#PUT2401$RSU2404#PUT2401$RSU2404#PUT2401$RSU2404#A' WHERE id = 'UAA0001'",
+    "INSERT INTO morever (id, srel, n, fmid, pre, req, sup) VALUES ('UAA0001', 'Z038', 2, 'HAA1200', '', '', '')",
+    "INSERT INTO moreif (id, srel, v, n, fmid, req) VALUES ('UAA0001', 'Z038', 2, 1, 'HCC1100', 'UCC0001')",
     "DELETE FROM ver WHERE id = 'AAA0003'",
 ];
 
@@ -199,6 +200,7 @@ const BETWEEN: &[&str] = &[
 
 /// The zone TGT1, its entries and its elements.
 const ZONE: &[&str] = &[
+    "INSERT INTO chosen (zone, id, n) VALUES ('TGT1', 'UAA0001', 2)",
     "UPDATE zone SET kind = 'TARGET' WHERE name = 'TGT1'",
     "UPDATE zone SET kind = 'dlib' WHERE name = 'TGT1'",
     "UPDATE zone SET kind = '' WHERE name = 'TGT1'",
@@ -321,16 +323,18 @@ const COMMENTS: &[&str] = &[
 const META: &[&str] = &[
     "DELETE FROM meta",
     "UPDATE meta SET k = 'Schema'",
-    "INSERT INTO meta (k, v) VALUES ('other', 1)",
+    "INSERT INTO meta (k, v) VALUES ('other', 3)",
     "DROP TABLE zelem",
-    "DROP TABLE meta; CREATE VIEW meta AS SELECT 'schema' AS k, 1 AS v",
-    "DROP TABLE meta; CREATE TABLE meta (k TEXT, v INTEGER); INSERT INTO meta (k, v) VALUES ('schema', 1)",
-    "DROP TABLE meta; CREATE TABLE meta (w TEXT, v INTEGER, k TEXT); INSERT INTO meta (k, v) VALUES ('schema', 1)",
+    "DROP TABLE meta; CREATE VIEW meta AS SELECT 'schema' AS k, 3 AS v",
+    "DROP TABLE meta; CREATE TABLE meta (k TEXT, v INTEGER); INSERT INTO meta (k, v) VALUES ('schema', 3)",
+    "DROP TABLE meta; CREATE TABLE meta (w TEXT, v INTEGER, k TEXT); INSERT INTO meta (k, v) VALUES ('schema', 3)",
 ];
 
-/// Another number, whatever the tables are.
+/// Another number, whatever the tables are: those of earlier schemas too.
 const NUMBERS: &[&str] = &[
+    "UPDATE meta SET v = 1",
     "UPDATE meta SET v = 2",
+    "UPDATE meta SET v = 4",
     "UPDATE meta SET v = 2; DROP TABLE zelem",
     "DROP TABLE meta; CREATE VIEW meta AS SELECT 'schema' AS k, 2 AS v",
     "DROP TABLE meta; CREATE TABLE meta (w TEXT, v INTEGER, k TEXT); INSERT INTO meta (k, v) VALUES ('schema', 2)",
@@ -339,7 +343,7 @@ const NUMBERS: &[&str] = &[
 /// No number that can be asked for: there is no `meta`, or it has not both columns.
 const NUMBERLESS: &[&str] = &[
     "DROP TABLE meta",
-    "DROP TABLE meta; CREATE VIEW meta AS SELECT 'schema' AS name, 1 AS v",
+    "DROP TABLE meta; CREATE VIEW meta AS SELECT 'schema' AS name, 3 AS v",
     "DROP TABLE meta; CREATE TABLE meta (name TEXT, number INTEGER)",
 ];
 

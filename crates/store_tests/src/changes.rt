@@ -49,7 +49,7 @@ fn commit_all<S: Alter>(alloc: Global, store: &mut Store<S>) -> Result<(), Fail>
 }
 
 const LEFT: &str =
-    "SELECT id || ' ' || sources FROM sysmod UNION ALL SELECT id || ' ' || reason FROM hold UNION ALL SELECT zone || ' ' || id FROM entry UNION ALL SELECT zone || ' ' || name FROM zelem WHERE type = 'MAC' ORDER BY 1";
+    "SELECT id || ' ' || kind FROM sysmod UNION ALL SELECT id || ' ' || name FROM source UNION ALL SELECT id || ' ' || reason FROM hold UNION ALL SELECT zone || ' ' || id FROM entry UNION ALL SELECT zone || ' ' || name FROM zelem WHERE type = 'MAC' ORDER BY 1";
 
 /// What is left of the known rows.
 fn left<S: Alter + Drop>(alloc: Global, conn: Connection<S>) -> Result<String, Fail> {
@@ -63,7 +63,7 @@ fn rows_go_and_are_replaced(rt: HostRuntime) -> Result<(), Fail> {
     let conn = Connection::open_in_memory(rt.alloc())?;
     assert_eq!(rt;
         left(rt.alloc(), conn)?.as_str(),
-        "AAA0003 PUT2401$RSU2404#PUT2401$RSU2404#PUT2401$RSU2404#PUT2401$RSU2404#,PUT2402\nDLB1 HAA1100\nDLB1 MAC1\nHAA1100 \nHAA1200 PUT2401,SMCREC01\nTGT1 AAA0001\nTGT1 HAA1000\nTGT1 HAA1100\nTGT1 MAC1\nUAA0001 AAA0009\nUAA0001 ACTION\nUAA0001 DOC\nUAA0001 PUT2401\n"
+        "AAA0003 APAR\nAAA0003 PUT2401$RSU2404#PUT2401$RSU2404#PUT2401$RSU2404#PUT2401$RSU2404#\nAAA0003 PUT2402\nDLB1 HAA1100\nDLB1 MAC1\nHAA1100 FUNCTION\nHAA1200 FUNCTION\nHAA1200 PUT2401\nHAA1200 SMCREC01\nTGT1 AAA0001\nTGT1 HAA1000\nTGT1 HAA1100\nTGT1 MAC1\nUAA0001 AAA0009\nUAA0001 ACTION\nUAA0001 DOC\nUAA0001 PTF\nUAA0001 PUT2401\n"
     );
     Ok(())
 }
@@ -163,6 +163,7 @@ fn other_rows_stay(rt: HostRuntime) -> Result<(), Fail> {
 /// Edits of a row in each table, after which the rows stand for no state.
 const BAD: &[&str] = &[
     "UPDATE sysmod SET kind = 'ptf' WHERE id = 'UAA0001'",
+    "UPDATE source SET name = 'put2401' WHERE id = 'UAA0001'",
     "UPDATE ver SET pre = 'LLL0001' WHERE id = 'UAA0001' AND srel = 'Z038'",
     "DELETE FROM ver WHERE id = 'AAA0003'",
     "UPDATE ifreq SET n = 3 WHERE n = 2",
@@ -177,7 +178,8 @@ const BAD: &[&str] = &[
 const WRITTEN: &[&str] = &[
     "DELETE FROM entry WHERE zone = 'TGT1' AND id = 'UAA0001'",
     "DELETE FROM zelem WHERE zone = 'TGT1' AND type = 'MAC' AND name = 'MAC2'",
-    "UPDATE sysmod SET sources = 'PUT2401$RSU2404#PUT2401$RSU2404#PUT2401$RSU2404#PUT2401$RSU2404#,PUT2402' WHERE id = 'AAA0003'",
+    "INSERT INTO source (id, name) VALUES ('AAA0003', 'PUT2402')",
+    "INSERT INTO source (id, name) VALUES ('AAA0003', 'PUT2401$RSU2404#PUT2401$RSU2404#PUT2401$RSU2404#PUT2401$RSU2404#')",
 ];
 
 fn commit_two<S: Alter>(alloc: Global, store: &mut Store<S>) -> Result<(), Fail> {

@@ -13,10 +13,18 @@ use store::Store;
 use store_schema::StoreError;
 use text80::RECORD;
 
+/// The sources of the SYSMODs, of which each has a row.
+pub(crate) const SOURCES: &[&str] = &[
+    "INSERT INTO source (id, name) VALUES ('HAA1200', 'PUT2401')",
+    "INSERT INTO source (id, name) VALUES ('HAA1200', 'SMCREC01')",
+    "INSERT INTO source (id, name) VALUES ('UAA0001', 'PUT2401')",
+];
+
+/// All other rows.
 const ROWS: &[&str] = &[
     "INSERT INTO sysmod (id, kind, sources) VALUES ('HAA1100', 'FUNCTION', '')",
-    "INSERT INTO sysmod (id, kind, sources) VALUES ('HAA1200', 'FUNCTION', 'PUT2401,SMCREC01')",
-    "INSERT INTO sysmod (id, kind, sources) VALUES ('UAA0001', 'PTF', 'PUT2401')",
+    "INSERT INTO sysmod (id, kind, sources) VALUES ('HAA1200', 'FUNCTION', '')",
+    "INSERT INTO sysmod (id, kind, sources) VALUES ('UAA0001', 'PTF', '')",
     "INSERT INTO sysmod (id, kind, sources) VALUES ('AAA0003', 'APAR', '')",
     "INSERT INTO sysmod (id, kind, sources) VALUES ('LLL0001', 'USERMOD', '')",
     "INSERT INTO ver (id, srel, fmid, pre, req, sup, npre, del) VALUES ('HAA1100', 'Z038', NULL, '', '', '', '', '')",
@@ -128,12 +136,19 @@ pub(crate) fn doubled<S: Alter>(
     Ok(())
 }
 
-/// Writes the rows into tables that are empty.
-fn fill_rows<S: Alter>(conn: &mut Connection<S>) -> Result<(), Fail> {
-    for row in ROWS {
-        run(conn, row, &[])?;
+/// Runs the statements, each of which must change some row.
+pub(crate) fn run_all<S: Alter>(conn: &mut Connection<S>, all: &[&str]) -> Result<(), Fail> {
+    for sql in all {
+        run(conn, sql, &[])?;
     }
     Ok(())
+}
+
+/// Writes into tables that are empty all rows but those of sources.
+pub(crate) fn fill_first<S: Alter>(alloc: Global, conn: &mut Connection<S>) -> Result<(), Fail> {
+    run_all(conn, ROWS)?;
+    fill_texts(alloc, conn)?;
+    run(conn, ELEMENTS, &[])
 }
 
 /// Gives the element statements their texts.
@@ -188,9 +203,8 @@ pub(crate) fn filled<S: Alter + Drop>(
     conn: Connection<S>,
 ) -> Result<Connection<S>, Fail> {
     let mut conn = opened(alloc, conn)?.close();
-    fill_rows(&mut conn)?;
-    fill_texts(alloc, &mut conn)?;
-    run(&mut conn, ELEMENTS, &[])?;
+    fill_first(alloc, &mut conn)?;
+    run_all(&mut conn, SOURCES)?;
     Ok(conn)
 }
 

@@ -1,5 +1,5 @@
-//! Tests of stores: what is committed is loaded again, rows that stand for no state are told, and a
-//! commit leaves the other rows alone.
+//! Tests of stores: what is committed is loaded again, rows that stand for no state are told, a commit leaves the other
+//! rows alone, and a database of an earlier schema is taken over.
 #![tactic(auto)]
 
 #[cfg(test)]
@@ -8,5 +8,7 @@ mod bad_rows;
 mod changes;
 #[cfg(test)]
 mod known;
+#[cfg(test)]
+mod migration;
 #[cfg(test)]
 mod round_trip;

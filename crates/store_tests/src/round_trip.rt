@@ -11,8 +11,10 @@ use sysmods_records::Hold;
 use zones::{TryClone, Zone, ZoneDelta};
 
 /// All rows of all tables.
-const TABLES: [&str; 8] = [
+const TABLES: [&str; 10] = [
+    "SELECT k || '/' || v FROM meta ORDER BY k",
     "SELECT id || '/' || kind || '/' || sources FROM sysmod ORDER BY id",
+    "SELECT id || '/' || name FROM source ORDER BY id, name",
     "SELECT id || '/' || srel || '/' || ifnull(fmid, '-') || '/' || pre || '/' || req || '/' || sup || '/' || npre || '/' || del FROM ver ORDER BY id, srel",
     "SELECT id || '/' || srel || '/' || n || '/' || fmid || '/' || req FROM ifreq ORDER BY id, srel, n",
     "SELECT id || '/' || type || '/' || name || '/' || upd || '/' || ifnull(distlib, '-') || '/' || ifnull(syslib, '-') || '/' || hex(text) FROM elem ORDER BY id, type, name",

@@ -6,3 +6,5 @@ pub mod Heads
 pub mod Entries
 pub mod Elements
 pub mod Relations
+pub mod Standing
+pub mod ByRelease

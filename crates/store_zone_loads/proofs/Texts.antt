@@ -1,28 +1,39 @@
--- What the texts mean.
-use Rattle.std.proofs.Common.{ℕ, List, codes, refl, arith}
+-- What the texts mean, under each schema that has their tables.
+use Rattle.std.proofs.Common.{◌≡◌, ◌++◌, ℕ, List, codes, refl, arith}
 use Rattle.sqlite.specs.Listing.{understood}
+use Rattle.sqlite.specs.Table.{Table}
 use Rattle.std.proofs.Math.Dec.{lit≤}
 use Rattle.sqlite_tied.specs.Compute.{everything}
 use Rattle.store_rows.specs.Selects.{IsSelect}
 use Rattle.store_rows.proofs.Typed.{none_typed, one_typed}
 use Rattle.store_rows.specs.Texts.{Suits, IsTableOf, ReadsRows}
-use Rattle.store_schema.specs.Tables.{store_schema, zone, entry, zelem}
+use Rattle.store_columns.proofs.Releases.{under_each, under_third}
+use Rattle.store_schema.specs.declared.release.Release.{Release}
+use Rattle.store_schema.specs.declared.release.Release.TheVariants.{First, Second, Third}
+use Rattle.store_schema.specs.Earlier.{schema_under}
+use Rattle.store_schema.specs.Tables.{zone, entry, zelem, chosen, first_tables, schema_of, store_schema}
 
-pub has_zone : IsTableOf store_schema 6 zone
-has_zone = record { found = refl; alone = refl }
+pub has_zone : (r : Release) → IsTableOf (schema_under r) 6 zone
+has_zone First = record { found = refl; alone = refl }
+has_zone Second = record { found = refl; alone = refl }
+has_zone Third = record { found = refl; alone = refl }
 
-pub has_entry : IsTableOf store_schema 7 entry
-has_entry = record { found = refl; alone = refl }
+pub has_entry : (r : Release) → IsTableOf (schema_under r) 7 entry
+has_entry First = record { found = refl; alone = refl }
+has_entry Second = record { found = refl; alone = refl }
+has_entry Third = record { found = refl; alone = refl }
 
-pub has_zelem : IsTableOf store_schema 8 zelem
-has_zelem = record { found = refl; alone = refl }
+pub has_zelem : (r : Release) → IsTableOf (schema_under r) 8 zelem
+has_zelem First = record { found = refl; alone = refl }
+has_zelem Second = record { found = refl; alone = refl }
+has_zelem Third = record { found = refl; alone = refl }
 
 abbrev pub select_head : List ℕ
 select_head = codes "SELECT name, kind, srel, related FROM zone WHERE name = ?1"
 
-pub reads_head : ReadsRows store_schema zone 1 select_head
+head_first : (more : List Table) → ReadsRows (schema_of (first_tables ++ more)) zone 1 select_head
 unfolding understood everything
-reads_head = record {
+head_first more = record {
   names = _;
   order = _;
   command = refl;
@@ -30,9 +41,12 @@ reads_head = record {
   unlisted = refl;
   whole = lit≤ tt;
   given = refl;
-  typed = one_typed (Suits store_schema select_head) (λ t. refl);
+  typed = one_typed (Suits (schema_of (first_tables ++ more)) select_head) (λ t. refl);
   narrow = omega arith;
 }
+
+pub reads_head : (r : Release) → ReadsRows (schema_under r) zone 1 select_head
+reads_head = under_each (λ schema. ReadsRows schema zone 1 select_head) head_first
 
 pub selects_head : IsSelect select_head
 unfolding everything
@@ -41,9 +55,9 @@ selects_head = refl
 abbrev pub select_heads : List ℕ
 select_heads = codes "SELECT name, kind, srel, related FROM zone ORDER BY name"
 
-pub reads_heads : ReadsRows store_schema zone 0 select_heads
+heads_first : (more : List Table) → ReadsRows (schema_of (first_tables ++ more)) zone 0 select_heads
 unfolding understood everything
-reads_heads = record {
+heads_first more = record {
   names = _;
   order = _;
   command = refl;
@@ -51,9 +65,12 @@ reads_heads = record {
   unlisted = refl;
   whole = lit≤ tt;
   given = refl;
-  typed = none_typed (Suits store_schema select_heads) refl;
+  typed = none_typed (Suits (schema_of (first_tables ++ more)) select_heads) refl;
   narrow = omega arith;
 }
+
+pub reads_heads : (r : Release) → ReadsRows (schema_under r) zone 0 select_heads
+reads_heads = under_each (λ schema. ReadsRows schema zone 0 select_heads) heads_first
 
 pub selects_heads : IsSelect select_heads
 unfolding everything
@@ -62,9 +79,9 @@ selects_heads = refl
 abbrev pub select_entries : List ℕ
 select_entries = codes "SELECT zone, id, date, supby, delby, waived FROM entry WHERE zone = ?1 ORDER BY id"
 
-pub reads_entries : ReadsRows store_schema entry 1 select_entries
+entries_first : (more : List Table) → ReadsRows (schema_of (first_tables ++ more)) entry 1 select_entries
 unfolding understood everything
-reads_entries = record {
+entries_first more = record {
   names = _;
   order = _;
   command = refl;
@@ -72,9 +89,12 @@ reads_entries = record {
   unlisted = refl;
   whole = lit≤ tt;
   given = refl;
-  typed = one_typed (Suits store_schema select_entries) (λ t. refl);
+  typed = one_typed (Suits (schema_of (first_tables ++ more)) select_entries) (λ t. refl);
   narrow = omega arith;
 }
+
+pub reads_entries : (r : Release) → ReadsRows (schema_under r) entry 1 select_entries
+reads_entries = under_each (λ schema. ReadsRows schema entry 1 select_entries) entries_first
 
 pub selects_entries : IsSelect select_entries
 unfolding everything
@@ -83,9 +103,9 @@ selects_entries = refl
 abbrev pub select_elements : List ℕ
 select_elements = codes "SELECT zone, type, name, fmid, rmid, umid, distlib, syslib, text FROM zelem WHERE zone = ?1 ORDER BY type, name"
 
-pub reads_elements : ReadsRows store_schema zelem 1 select_elements
+elements_first : (more : List Table) → ReadsRows (schema_of (first_tables ++ more)) zelem 1 select_elements
 unfolding understood everything
-reads_elements = record {
+elements_first more = record {
   names = _;
   order = _;
   command = refl;
@@ -93,10 +113,42 @@ reads_elements = record {
   unlisted = refl;
   whole = lit≤ tt;
   given = refl;
-  typed = one_typed (Suits store_schema select_elements) (λ t. refl);
+  typed = one_typed (Suits (schema_of (first_tables ++ more)) select_elements) (λ t. refl);
   narrow = omega arith;
 }
+
+pub reads_elements : (r : Release) → ReadsRows (schema_under r) zelem 1 select_elements
+reads_elements = under_each (λ schema. ReadsRows schema zelem 1 select_elements) elements_first
 
 pub selects_elements : IsSelect select_elements
 unfolding everything
 selects_elements = refl
+
+-- ---- a table of schema 3 alone
+
+abbrev pub select_chosen : List ℕ
+select_chosen = codes "SELECT zone, id, n FROM chosen WHERE zone = ?1"
+
+chosen_third : ReadsRows store_schema chosen 1 select_chosen
+unfolding understood everything
+chosen_third = record {
+  names = _;
+  order = _;
+  command = refl;
+  plain = (refl, refl);
+  unlisted = refl;
+  whole = lit≤ tt;
+  given = refl;
+  typed = one_typed (Suits store_schema select_chosen) (λ t. refl);
+  narrow = omega arith;
+}
+
+pub reads_chosen : (r : Release) → r ≡ Third → ReadsRows (schema_under r) chosen 1 select_chosen
+reads_chosen = under_third (λ schema. ReadsRows schema chosen 1 select_chosen) chosen_third
+
+pub has_chosen : (r : Release) → r ≡ Third → IsTableOf (schema_under r) 12 chosen
+has_chosen = under_third (λ schema. IsTableOf schema 12 chosen) (record { found = refl; alone = refl })
+
+pub selects_chosen : IsSelect select_chosen
+unfolding everything
+selects_chosen = refl

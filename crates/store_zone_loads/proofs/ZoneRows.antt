@@ -20,14 +20,12 @@ use Rattle.terms.specs.Types.{Text, Zone, NamedZone}
 use Rattle.terms.specs.Lookups.{is_before}
 use Rattle.lemmas.proofs.Each.{recursion_weaker}
 use Rattle.store_schema.proofs.OneState.{IsBelow}
+use Rattle.store_zone_loads.specs.Held.{name_key}
 use Rattle.store_schema.proofs.Spelled.{not_before_same}
 
 -- the zone of a name, among these
 abbrev pub zone_among : List NamedZone → Text → Option Zone
 zone_among zones name = option_map (λ z. z.zone) (find (λ z. bytes_eq z.name name) zones)
-
-abbrev pub name_key : Text → Row
-name_key name = value.Text name ∷ []
 
 pub first_cell : (name other : Text) (cells : Row) → has_key (name_key name) (value.Text other ∷ cells) ≡ bytes_eq other
     name

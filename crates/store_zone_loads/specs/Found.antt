@@ -1,23 +1,15 @@
 -- What is found of the zones of an inventory.
-use Rattle.std.specs.Prelude.{◌≡◌, ◌==◌, List, [], All, IsTrue, find, Option, is_some, option_map}
-use Rattle.std.specs.Option.{option_map_or}
+use Rattle.std.specs.Prelude.{◌≡◌, ◌==◌, List, All, IsTrue, find, Option, is_some, option_map}
 use Rattle.std.specs.Str.{bytes_eq}
 use Rattle.terms.specs.declared.kinds.ZoneKind.{ZoneKind}
 use Rattle.terms.specs.Lookups.{has_content, waives_applied}
-use Rattle.terms.specs.Types.{Text, zone_number, Entry, Element, Zone, NamedZone}
+use Rattle.terms.specs.Types.{Text, zone_number, Entry, Zone, NamedZone}
 use Rattle.store_schema.specs.Inventory.{Inventory}
 use Rattle.store_zone_loads.specs.declared.head.ZoneHead.{ZoneHead}
 
 -- the zone of this name
 abbrev pub zone_in : Inventory → Text → Option Zone
 zone_in i name = option_map (λ z. z.zone) (find (λ z. bytes_eq z.name name) i.zones)
-
--- its entries and its elements, none where there is no zone
-abbrev pub entries_in : Inventory → Text → List Entry
-entries_in i name = option_map_or (λ z. z.entries) (zone_in i name) []
-
-abbrev pub elements_in : Inventory → Text → List Element
-elements_in i name = option_map_or (λ z. z.elements) (zone_in i name) []
 
 -- all of a zone but its entries and elements
 abbrev pub head_in : Text → Zone → ZoneHead

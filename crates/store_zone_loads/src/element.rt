@@ -1,15 +1,15 @@
 //! The table of element entries.
 
-ghost use Rattle.std.specs.Prelude.{◌≡◌, ◌≢◌, IfOk, IsErrOf};
+ghost use Rattle.std.specs.Prelude.{◌≡◌, ◌≢◌, List, IfOk, IsErrOf};
 ghost use Rattle.sqlite.specs.Held.{state};
 ghost use Rattle.sqlite.specs.State.{HasCleanDisk};
 ghost use Rattle.store_rows.specs.Reads.{OnlyReads};
+ghost use Rattle.store_rows.specs.Rows.{Contents, HasContents};
 ghost use Rattle.terms.specs.Types.{Element as ElementTerm};
-ghost use Rattle.store_schema.specs.Inventory.{Inventory};
-ghost use Rattle.store_schema.specs.Stands.{StandsFor};
-ghost use Rattle.store_schema.specs.Tables.{store_schema};
+ghost use Rattle.store_schema.specs.declared.release.Release.{Release};
+ghost use Rattle.store_schema.specs.Earlier.{schema_under};
 ghost use Rattle.store_zone_loads.specs.declared.rows.ZoneRow.{ZoneRow as AZoneRow};
-ghost use Rattle.store_zone_loads.specs.Found.{elements_in};
+ghost use Rattle.store_zone_loads.specs.Held.{HoldsElements};
 
 use crate::rows::{ZoneRow, zone_table};
 use fields::ZoneName;
@@ -83,6 +83,7 @@ impl FromRow for Elements {
 }
 
 impl Query for Elements {
+    ghost use Rattle.std.specs.Prelude.{⊤};
     ghost use Rattle.store_schema.specs.Tables.{zelem};
 
     type Rows = Elements;
@@ -92,6 +93,8 @@ impl Query for Elements {
     ghost at = { 8 };
 
     ghost width = { 1 };
+
+    ghost knows = { λ r. ⊤ };
 
     fn text() -> &'static str {
         "SELECT zone, type, name, fmid, rmid, umid, distlib, syslib, text FROM zelem WHERE zone = ?1 ORDER BY type, name"
@@ -104,11 +107,14 @@ pub(crate) fn load_elements<S: Alter>(
     conn: &mut Connection<S>,
     name: &ZoneName,
 ) -> Result<Table<Element>, ReadError>
-    ensures found { HasCleanDisk (state S.Store conn.new) → (i : Inventory) → StandsFor i (state S.Store conn.old).now
-        → IfOk result (λ elements. elements ≡ elements_in i name.now) }
-    ensures none { HasCleanDisk (state S.Store conn.new) → IsErrOf result ReadError.BadRow → (i : Inventory)
-        → ¬ StandsFor i (state S.Store conn.old).now }
-    ensures reads { OnlyReads S.Store store_schema ReadError.BadRow ReadError.Fault conn.old conn.new result }
+    ensures found { HasCleanDisk (state S.Store conn.new) → (r : Release) (contents : Contents)
+        → HasContents (schema_under r) contents (state S.Store conn.old).now
+        → IfOk result (HoldsElements contents name.now) }
+    ensures none { HasCleanDisk (state S.Store conn.new) → IsErrOf result ReadError.BadRow → (r : Release)
+        → (contents : Contents) → HasContents (schema_under r) contents (state S.Store conn.old).now
+        → (elements : List ElementTerm) → ¬ HoldsElements contents name.now elements }
+    ensures reads { (r : Release) → OnlyReads S.Store (schema_under r) ReadError.BadRow ReadError.Fault conn.old
+        conn.new result }
 {
     let rows = load_listed::<S, Elements>(alloc, conn, &[ValueRef::Text(name.as_bytes())])?;
     zone_table(alloc, rows)

@@ -1,19 +1,19 @@
 //! The table of SYSMOD entries.
 
-ghost use Rattle.std.specs.Prelude.{◌≡◌, ◌≢◌, Option, IfSome, IfNone, IfOk, IsErrOf, option_map};
+ghost use Rattle.std.specs.Prelude.{◌≡◌, ◌≢◌, List, Option, IfSome, IfNone, IfOk, IsErrOf, option_map};
 ghost use Rattle.sqlite.specs.declared.types.Value.TheVariants.{Text};
 ghost use Rattle.sqlite.specs.Held.{state};
 ghost use Rattle.sqlite.specs.Order.{column};
 ghost use Rattle.sqlite.specs.State.{HasCleanDisk};
 ghost use Rattle.sqlite.specs.Values.{or_null};
 ghost use Rattle.store_rows.specs.Reads.{OnlyReads};
+ghost use Rattle.store_rows.specs.Rows.{Contents, HasContents};
 ghost use Rattle.terms.specs.Types.{Applied as AppliedTerm, Entry as EntryTerm};
 ghost use Rattle.store_schema.specs.Forms.{HasAppliedForms};
-ghost use Rattle.store_schema.specs.Inventory.{Inventory};
-ghost use Rattle.store_schema.specs.Stands.{StandsFor};
-ghost use Rattle.store_schema.specs.Tables.{store_schema};
+ghost use Rattle.store_schema.specs.declared.release.Release.{Release};
+ghost use Rattle.store_schema.specs.Earlier.{schema_under};
 ghost use Rattle.store_zone_loads.specs.declared.rows.ZoneRow.{ZoneRow as AZoneRow};
-ghost use Rattle.store_zone_loads.specs.Found.{entries_in};
+ghost use Rattle.store_zone_loads.specs.Held.{HoldsEntries};
 
 use crate::rows::{ZoneRow, zone_table};
 use fields::ZoneName;
@@ -86,6 +86,7 @@ fn applied_in(row: &Row, at: usize) -> Option<Option<Applied>>
 }
 
 impl Query for Entries {
+    ghost use Rattle.std.specs.Prelude.{⊤};
     ghost use Rattle.store_schema.specs.Tables.{entry};
 
     type Rows = Entries;
@@ -95,6 +96,8 @@ impl Query for Entries {
     ghost at = { 7 };
 
     ghost width = { 1 };
+
+    ghost knows = { λ r. ⊤ };
 
     fn text() -> &'static str {
         "SELECT zone, id, date, supby, delby, waived FROM entry WHERE zone = ?1 ORDER BY id"
@@ -107,11 +110,14 @@ pub(crate) fn load_entries<S: Alter>(
     conn: &mut Connection<S>,
     name: &ZoneName,
 ) -> Result<Table<Entry>, ReadError>
-    ensures found { HasCleanDisk (state S.Store conn.new) → (i : Inventory) → StandsFor i (state S.Store conn.old).now
-        → IfOk result (λ entries. entries ≡ entries_in i name.now) }
-    ensures none { HasCleanDisk (state S.Store conn.new) → IsErrOf result ReadError.BadRow → (i : Inventory)
-        → ¬ StandsFor i (state S.Store conn.old).now }
-    ensures reads { OnlyReads S.Store store_schema ReadError.BadRow ReadError.Fault conn.old conn.new result }
+    ensures found { HasCleanDisk (state S.Store conn.new) → (r : Release) (contents : Contents)
+        → HasContents (schema_under r) contents (state S.Store conn.old).now
+        → IfOk result (HoldsEntries contents name.now) }
+    ensures none { HasCleanDisk (state S.Store conn.new) → IsErrOf result ReadError.BadRow → (r : Release)
+        → (contents : Contents) → HasContents (schema_under r) contents (state S.Store conn.old).now
+        → (entries : List EntryTerm) → ¬ HoldsEntries contents name.now entries }
+    ensures reads { (r : Release) → OnlyReads S.Store (schema_under r) ReadError.BadRow ReadError.Fault conn.old
+        conn.new result }
 {
     let rows = load_listed::<S, Entries>(alloc, conn, &[ValueRef::Text(name.as_bytes())])?;
     zone_table(alloc, rows)

@@ -1,16 +1,18 @@
 //! The table of zones.
 
-ghost use Rattle.std.specs.Prelude.{◌≡◌, ◌≢◌, ◌==◌, Option, map, option_map, IfOk, OnErr, IsErrOf};
+ghost use Rattle.std.specs.Prelude.{◌≡◌, ◌≢◌, ◌==◌, List, Option, map, IfOk, OnErr, IsErrOf};
 ghost use Rattle.std.specs.Option.{option_to_list};
 ghost use Rattle.sqlite.specs.Held.{state};
 ghost use Rattle.sqlite.specs.State.{HasCleanDisk};
 ghost use Rattle.store_rows.specs.Reads.{OnlyReads};
+ghost use Rattle.store_rows.specs.Rows.{Contents, HasContents};
+ghost use Rattle.store_schema.specs.declared.release.Release.{Release};
+ghost use Rattle.store_schema.specs.Earlier.{schema_under, StandsUnder};
 ghost use Rattle.store_schema.specs.Inventory.{Inventory};
-ghost use Rattle.store_schema.specs.Stands.{StandsFor};
-ghost use Rattle.store_schema.specs.Tables.{store_schema};
 ghost use Rattle.terms.specs.Types.{zone_number};
 ghost use Rattle.store_zone_loads.specs.declared.head.ZoneHead.{ZoneHead as AZoneHead};
-ghost use Rattle.store_zone_loads.specs.Found.{head_of, head_in, zone_in};
+ghost use Rattle.store_zone_loads.specs.Found.{head_of};
+ghost use Rattle.store_zone_loads.specs.Held.{HoldsHead, HoldsHeads};
 ghost use Rattle.store_zone_loads.specs.Related.{AreRelated};
 
 use crate::related::only_related;
@@ -112,6 +114,7 @@ impl FromRow for Heads {
 struct AllHeads;
 
 impl Query for AllHeads {
+    ghost use Rattle.std.specs.Prelude.{⊤};
     ghost use Rattle.store_schema.specs.Tables.{zone};
 
     type Rows = Heads;
@@ -122,6 +125,8 @@ impl Query for AllHeads {
 
     ghost width = { 0 };
 
+    ghost knows = { λ r. ⊤ };
+
     fn text() -> &'static str {
         "SELECT name, kind, srel, related FROM zone ORDER BY name"
     }
@@ -131,6 +136,7 @@ impl Query for AllHeads {
 struct NamedHeads;
 
 impl Query for NamedHeads {
+    ghost use Rattle.std.specs.Prelude.{⊤};
     ghost use Rattle.store_schema.specs.Tables.{zone};
 
     type Rows = Heads;
@@ -140,6 +146,8 @@ impl Query for NamedHeads {
     ghost at = { 6 };
 
     ghost width = { 1 };
+
+    ghost knows = { λ r. ⊤ };
 
     fn text() -> &'static str {
         "SELECT name, kind, srel, related FROM zone WHERE name = ?1"
@@ -164,11 +172,14 @@ pub(crate) fn zone_head<S: Alter>(
     conn: &mut Connection<S>,
     name: &ZoneName,
 ) -> Result<Option<ZoneHead>, ReadError>
-    ensures found { HasCleanDisk (state S.Store conn.new) → (i : Inventory) → StandsFor i (state S.Store conn.old).now
-        → IfOk result (λ head. head ≡ option_map (head_in name.now) (zone_in i name.now)) }
-    ensures none { HasCleanDisk (state S.Store conn.new) → IsErrOf result ReadError.BadRow → (i : Inventory)
-        → ¬ StandsFor i (state S.Store conn.old).now }
-    ensures reads { OnlyReads S.Store store_schema ReadError.BadRow ReadError.Fault conn.old conn.new result }
+    ensures found { HasCleanDisk (state S.Store conn.new) → (r : Release) (contents : Contents)
+        → HasContents (schema_under r) contents (state S.Store conn.old).now
+        → IfOk result (HoldsHead contents name.now) }
+    ensures none { HasCleanDisk (state S.Store conn.new) → IsErrOf result ReadError.BadRow → (r : Release)
+        → (contents : Contents) → HasContents (schema_under r) contents (state S.Store conn.old).now
+        → (head : Option AZoneHead) → ¬ HoldsHead contents name.now head }
+    ensures reads { (r : Release) → OnlyReads S.Store (schema_under r) ReadError.BadRow ReadError.Fault conn.old
+        conn.new result }
 {
     let heads = load_listed::<S, NamedHeads>(alloc, conn, &[ValueRef::Text(name.as_bytes())])?;
     at_most_one(heads.as_slice())
@@ -180,12 +191,19 @@ pub fn zone_heads<S: Alter>(
     alloc: Global,
     conn: &mut Connection<S>,
 ) -> Result<Vec<ZoneHead>, ReadError>
-    ensures found { HasCleanDisk (state S.Store conn.new) → (i : Inventory) → StandsFor i (state S.Store conn.old).now
-        → IfOk result (λ heads. heads.items ≡ map head_of i.zones) }
+    ensures rows { HasCleanDisk (state S.Store conn.new) → (r : Release) (contents : Contents)
+        → HasContents (schema_under r) contents (state S.Store conn.old).now
+        → IfOk result (λ heads. HoldsHeads contents heads.items) }
+    ensures no_rows { HasCleanDisk (state S.Store conn.new) → IsErrOf result ReadError.BadRow → (r : Release)
+        → (contents : Contents) → HasContents (schema_under r) contents (state S.Store conn.old).now
+        → (heads : List AZoneHead) → ¬ HoldsHeads contents heads }
+    ensures found { HasCleanDisk (state S.Store conn.new) → (r : Release) (i : Inventory)
+        → StandsUnder r i (state S.Store conn.old).now → IfOk result (λ heads. heads.items ≡ map head_of i.zones) }
+    ensures none { HasCleanDisk (state S.Store conn.new) → IsErrOf result ReadError.BadRow → (r : Release)
+        → (i : Inventory) → ¬ StandsUnder r i (state S.Store conn.old).now }
     ensures related { IfOk result (λ heads. AreRelated heads.items) }
-    ensures none { HasCleanDisk (state S.Store conn.new) → IsErrOf result ReadError.BadRow → (i : Inventory)
-        → ¬ StandsFor i (state S.Store conn.old).now }
-    ensures reads { OnlyReads S.Store store_schema ReadError.BadRow ReadError.Fault conn.old conn.new result }
+    ensures reads { (r : Release) → OnlyReads S.Store (schema_under r) ReadError.BadRow ReadError.Fault conn.old
+        conn.new result }
 {
     let heads = load_listed::<S, AllHeads>(alloc, conn, &[])?;
     let sorted = table_of(heads)?;
@@ -207,11 +225,13 @@ pub fn zone_names<S: Alter>(
     alloc: Global,
     conn: &mut Connection<S>,
 ) -> Result<Vec<ZoneName>, ReadError>
-    ensures found { HasCleanDisk (state S.Store conn.new) → (i : Inventory) → StandsFor i (state S.Store conn.old).now
+    ensures found { HasCleanDisk (state S.Store conn.new) → (r : Release) (i : Inventory)
+        → StandsUnder r i (state S.Store conn.old).now
         → IfOk result (λ names. names.items ≡ map (λ z. z.name) i.zones) }
-    ensures none { HasCleanDisk (state S.Store conn.new) → IsErrOf result ReadError.BadRow → (i : Inventory)
-        → ¬ StandsFor i (state S.Store conn.old).now }
-    ensures reads { OnlyReads S.Store store_schema ReadError.BadRow ReadError.Fault conn.old conn.new result }
+    ensures none { HasCleanDisk (state S.Store conn.new) → IsErrOf result ReadError.BadRow → (r : Release)
+        → (i : Inventory) → ¬ StandsUnder r i (state S.Store conn.old).now }
+    ensures reads { (r : Release) → OnlyReads S.Store (schema_under r) ReadError.BadRow ReadError.Fault conn.old
+        conn.new result }
 {
     let heads = zone_heads(alloc, conn)?;
     Ok(names_of(alloc, heads.as_slice())?)

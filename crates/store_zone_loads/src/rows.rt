@@ -27,8 +27,8 @@ fn without_zone<T: Drop>(alloc: Global, rows: Vec<ZoneRow<T>>) -> Result<Vec<T>,
 
 /// The items by their keys, if no two have one.
 pub(crate) fn table_of<T: Keyed + Drop>(items: Vec<T>) -> Result<Table<T>, ReadError>
-    ensures only { IfOk result (λ table. (xs : List T) → IsPermutation items.items xs → Rises T.Key.cmp T.key_of xs
-        → table ≡ xs) }
+    ensures same { IfOk result (λ table. IsPermutation items.items table) }
+    ensures rise { IfOk result (λ table. Rises T.Key.cmp T.key_of table) }
     ensures none { IsErrOf result ReadError.BadRow → (xs : List T) → IsPermutation items.items xs
         → ¬ Rises T.Key.cmp T.key_of xs }
     ensures fault { IsErrOf result ReadError.Fault → ⊥ }
@@ -44,8 +44,8 @@ pub(crate) fn zone_table<T: Keyed + Drop>(
     alloc: Global,
     rows: Vec<ZoneRow<T>>,
 ) -> Result<Table<T>, ReadError>
-    ensures only { IfOk result (λ table. (xs : List T) → IsPermutation (map (λ row. row.item) rows.items) xs
-        → Rises T.Key.cmp T.key_of xs → table ≡ xs) }
+    ensures same { IfOk result (λ table. IsPermutation (map (λ row. row.item) rows.items) table) }
+    ensures rise { IfOk result (λ table. Rises T.Key.cmp T.key_of table) }
     ensures none { IsErrOf result ReadError.BadRow → (xs : List T)
         → IsPermutation (map (λ row. row.item) rows.items) xs → ¬ Rises T.Key.cmp T.key_of xs }
     ensures fault { IsErrOf result ReadError.Fault → ⊥ }

@@ -4,11 +4,11 @@ use Rattle.sqlite.specs.Listing.{understood}
 use Rattle.sqlite_tied.specs.Compute.{everything}
 use Rattle.sqlite_schema.specs.Names.{same_name}
 use Rattle.sqlite_value.specs.Keys.{joined}
-use Rattle.store_rows.specs.Texts.{PutsIn, TakesOut}
+use Rattle.store_rows.specs.Texts.{PutsIn, PutsByKey, TakesOut}
 use Rattle.store_schema.specs.Tables.{store_schema, zone, entry, zelem}
-use Rattle.store_zones.specs.Calls.{insert_entry, delete_entry, insert_element, delete_element, insert_zone}
+use Rattle.store_zones.specs.Calls.{put_entry, delete_entry, put_element, delete_element, insert_zone}
 
-pub puts_entry : PutsIn store_schema 7 entry insert_entry
+pub puts_entry : PutsByKey store_schema 7 entry 2 put_entry
 unfolding understood everything
 puts_entry = record {
   there = record { found = refl; alone = refl };
@@ -16,6 +16,11 @@ puts_entry = record {
   plain = (refl, refl);
   uncounted = refl;
   timeless = refl;
+  unnamed = refl;
+  unique = refl;
+  texts = refl;
+  narrow = omega arith;
+  free = λ olds news. refl;
 }
 
 pub takes_entry : TakesOut store_schema 7 entry 2 delete_entry
@@ -28,7 +33,7 @@ takes_entry = record {
   free = λ olds. refl;
 }
 
-pub puts_element : PutsIn store_schema 8 zelem insert_element
+pub puts_element : PutsByKey store_schema 8 zelem 3 put_element
 unfolding understood everything
 puts_element = record {
   there = record { found = refl; alone = refl };
@@ -36,6 +41,11 @@ puts_element = record {
   plain = (refl, refl);
   uncounted = refl;
   timeless = refl;
+  unnamed = refl;
+  unique = refl;
+  texts = refl;
+  narrow = omega arith;
+  free = λ olds news. refl;
 }
 
 pub takes_element : TakesOut store_schema 8 zelem 3 delete_element

@@ -98,7 +98,7 @@ module _ (i j : Inventory) (global : j.global ≡ i.global) (zones : map zone_ro
               IsPermutation-refl _,
               (
                 IsPermutation-refl _,
-                (IsPermutation-refl _, (IsPermutation-refl _, (entries, (IsPermutation-refl _, tt)))),
+                (IsPermutation-refl _, (IsPermutation-refl _, (entries, (IsPermutation-refl _, (IsPermutation-refl _, (IsPermutation-refl _, (IsPermutation-refl _, (IsPermutation-refl _, tt)))))))),
               ),
             ),
           ),
@@ -120,7 +120,7 @@ module _ (i j : Inventory) (global : j.global ≡ i.global) (zones : map zone_ro
               IsPermutation-refl _,
               (
                 IsPermutation-refl _,
-                (IsPermutation-refl _, (IsPermutation-refl _, (IsPermutation-refl _, (elements, tt)))),
+                (IsPermutation-refl _, (IsPermutation-refl _, (IsPermutation-refl _, (elements, (IsPermutation-refl _, (IsPermutation-refl _, (IsPermutation-refl _, (IsPermutation-refl _, tt)))))))),
               ),
             ),
           ),
@@ -246,7 +246,7 @@ module _ (global : terms.Global) (zone : NamedZone) where
                 IsPermutation-refl _,
                 (
                   IsPermutation-refl _,
-                  (zones, (IsPermutation-refl _, (IsPermutation-refl _, tt))),
+                  (zones, (IsPermutation-refl _, (IsPermutation-refl _, (IsPermutation-refl _, (IsPermutation-refl _, (IsPermutation-refl _, (IsPermutation-refl _, tt))))))),
                 ),
               ),
             ),

@@ -11,14 +11,14 @@ use Rattle.store_zones.specs.Keys.{entry_key, element_key}
 abbrev pub insert_zone : List ℕ
 insert_zone = codes "INSERT INTO zone (name, kind, srel, related) VALUES (?1, ?2, ?3, ?4)"
 
-abbrev pub insert_entry : List ℕ
-insert_entry = codes "INSERT INTO entry (zone, id, date, supby, delby, waived) VALUES (?1, ?2, ?3, ?4, ?5, ?6)"
+abbrev pub put_entry : List ℕ
+put_entry = codes "INSERT INTO entry (zone, id, date, supby, delby, waived) VALUES (?1, ?2, ?3, ?4, ?5, ?6) ON CONFLICT (zone, id) DO UPDATE SET date = excluded.date, supby = excluded.supby, delby = excluded.delby, waived = excluded.waived"
 
 abbrev pub delete_entry : List ℕ
 delete_entry = codes "DELETE FROM entry WHERE zone = ?1 AND id = ?2"
 
-abbrev pub insert_element : List ℕ
-insert_element = codes "INSERT INTO zelem (zone, type, name, fmid, rmid, umid, distlib, syslib, text) VALUES (?1, ?2, ?3, ?4, ?5, ?6, ?7, ?8, ?9)"
+abbrev pub put_element : List ℕ
+put_element = codes "INSERT INTO zelem (zone, type, name, fmid, rmid, umid, distlib, syslib, text) VALUES (?1, ?2, ?3, ?4, ?5, ?6, ?7, ?8, ?9) ON CONFLICT (zone, type, name) DO UPDATE SET fmid = excluded.fmid, rmid = excluded.rmid, umid = excluded.umid, distlib = excluded.distlib, syslib = excluded.syslib, text = excluded.text"
 
 abbrev pub delete_element : List ℕ
 delete_element = codes "DELETE FROM zelem WHERE zone = ?1 AND type = ?2 AND name = ?3"
@@ -31,15 +31,14 @@ zone_calls zone = (insert_zone, zone_row zone) ∷ []
 
 -- an entry of the zone of this name is put in the place of the one of its id
 abbrev pub put_entry_calls : Text → Entry → List Call
-put_entry_calls zone e = (delete_entry, entry_key zone e.id) ∷ (insert_entry, entry_row zone e) ∷ []
+put_entry_calls zone e = (put_entry, entry_row zone e) ∷ []
 
 abbrev pub remove_entry_calls : Text → Id → List Call
 remove_entry_calls zone id = (delete_entry, entry_key zone id) ∷ []
 
 -- an element of the zone of this name is put in the place of the one of its type and name
 abbrev pub put_element_calls : Text → Element → List Call
-put_element_calls zone e =
-    (delete_element, element_key zone e.elem_type e.name) ∷ (insert_element, zelem_row zone e) ∷ []
+put_element_calls zone e = (put_element, zelem_row zone e) ∷ []
 
 abbrev pub remove_element_calls : Text → ElemType → Text → List Call
 remove_element_calls zone type name = (delete_element, element_key zone type name) ∷ []

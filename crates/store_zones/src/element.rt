@@ -71,9 +71,7 @@ fn put_row<S: Alter>(
     let text = ValueRef::Blob(text);
     put(
         tx,
-        "DELETE FROM zelem WHERE zone = ?1 AND type = ?2 AND name = ?3",
-        &[zone, elem_type, name],
-        "INSERT INTO zelem (zone, type, name, fmid, rmid, umid, distlib, syslib, text) VALUES (?1, ?2, ?3, ?4, ?5, ?6, ?7, ?8, ?9)",
+        "INSERT INTO zelem (zone, type, name, fmid, rmid, umid, distlib, syslib, text) VALUES (?1, ?2, ?3, ?4, ?5, ?6, ?7, ?8, ?9) ON CONFLICT (zone, type, name) DO UPDATE SET fmid = excluded.fmid, rmid = excluded.rmid, umid = excluded.umid, distlib = excluded.distlib, syslib = excluded.syslib, text = excluded.text",
         &[
             zone, elem_type, name, fmid, rmid, umids, distlib, syslib, text,
         ],

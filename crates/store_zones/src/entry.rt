@@ -63,9 +63,7 @@ fn put_row<S: Alter>(
     let waived = ValueRef::Text(waived);
     put(
         tx,
-        "DELETE FROM entry WHERE zone = ?1 AND id = ?2",
-        &[zone, id],
-        "INSERT INTO entry (zone, id, date, supby, delby, waived) VALUES (?1, ?2, ?3, ?4, ?5, ?6)",
+        "INSERT INTO entry (zone, id, date, supby, delby, waived) VALUES (?1, ?2, ?3, ?4, ?5, ?6) ON CONFLICT (zone, id) DO UPDATE SET date = excluded.date, supby = excluded.supby, delby = excluded.delby, waived = excluded.waived",
         &[zone, id, date, supby, delby, waived],
     )
 }

@@ -1,7 +1,7 @@
 use Rattle.std.proofs.Common.{[], ◌∷◌, Some, option_map, sym, subst}
 use Rattle.std.specs.String.{string_bytes}
 use Rattle.smpe_zones.specs.Definitions.{definition}
-use Rattle.smpe_command.specs.Serving.{Serves, ServesList, ServesRun, ServesZone}
+use Rattle.smpe_command.specs.Serving.{Serves, ServesList, ServesMigrate, ServesRun, ServesZone}
 use Rattle.smpe_command.proofs.jobs.served.Goals as goal
 
 pub returns-in-Zone : goal.returns-in-Zone
@@ -38,4 +38,15 @@ returns-in-List g c =
       subst (λ db. ServesList g.H.Host g.H.Disk.Store g.O.Sink c.args.host.now db c.args.out.now w.zone c.list.result
           c.list.new.host c.list.new.out) c.as_str-in-List.ensures.value c.list.ensures,
       c.told-in-List.ensures,
+    )
+
+pub returns-in-Migrate : goal.returns-in-Migrate
+returns-in-Migrate g c =
+    let w = c.in-Migrate in
+    subst (λ asked. Serves g.H.Host g.H.Disk.Store g.O.Sink c.args.host.now asked c.args.out.now
+    c.told-in-Migrate.result c.migrate.new.host c.migrate.new.out) (sym w.is) (
+      c.migrate.result,
+      subst (λ db. ServesMigrate g.H.Host g.H.Disk.Store g.O.Sink c.args.host.now db c.args.out.now c.migrate.result
+          c.migrate.new.host c.migrate.new.out) c.as_str-in-Migrate.ensures.value c.migrate.ensures,
+      c.told-in-Migrate.ensures,
     )

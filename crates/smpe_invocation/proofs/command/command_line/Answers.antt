@@ -11,6 +11,7 @@ returns c =
     let start : app_of c.disable_help_subcommand.result
     ≡ record {
       top = record (new_app (codes "smpe")).top {
+        has_version = true;
         subcommand_required = true;
         disable_help_subcommand = true;
       };
@@ -19,17 +20,28 @@ returns c =
     ap app_of_fields c.disable_help_subcommand.ensures
     ∙ ap (λ (f : Command-F Command). app_of_fields (record f { disable_help_subcommand = true }))
     c.subcommand_required.ensures
-    ∙ ap (λ (a : App). record a { top = record a.top { subcommand_required = true; disable_help_subcommand = true } })
-    c.command.ensures.app in
+    ∙ ap (λ (f : Command-F Command). app_of_fields (record f {
+      subcommand_required = true;
+      disable_help_subcommand = true;
+    })) c.version.ensures
+    ∙ ap (λ (a : App). record a {
+      top = record a.top {
+        has_version = true;
+        subcommand_required = true;
+        disable_help_subcommand = true;
+      };
+    }) c.command.ensures.app in
     let zone = c.in_ok-zone_command.ensures.shape in
     let first = c.in_ok-subcommand.ensures.shape c.in_ok-zone_command.ensures.globals ∙ ap₂ with_subcommand start zone.2
     in
     let second = c.in_ok-subcommand-2.ensures.shape c.in_ok-run_command.ensures.globals
     ∙ ap₂ with_subcommand first c.in_ok-run_command.ensures.shape in
-    IfOk-weaker c.subcommand-3.result _ _
+    let third = c.in_ok-subcommand-3.ensures.shape c.in_ok-list_command.ensures.globals
+    ∙ ap₂ with_subcommand second c.in_ok-list_command.ensures.shape in
+    IfOk-weaker c.subcommand-4.result _ _
     (λ new added. (
       zone.0,
       zone.1,
-      added.shape c.in_ok-list_command.ensures.globals
-          ∙ ap₂ with_subcommand second c.in_ok-list_command.ensures.shape,
-    )) c.subcommand-3.ensures
+      added.shape c.in_ok-migrate_command.ensures.globals
+          ∙ ap₂ with_subcommand third c.in_ok-migrate_command.ensures.shape,
+    )) c.subcommand-4.ensures

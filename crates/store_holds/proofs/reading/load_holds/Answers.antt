@@ -6,31 +6,32 @@ use Rattle.store_rows.specs.declared.error.ReadError.TheVariants.{BadRow, Fault}
 use Rattle.store_rows.proofs.RowLemmas.{has_permuted}
 use Rattle.store_schema.specs.Forms.{HasHoldForms}
 use Rattle.store_schema.specs.Rows.{hold_row}
-use Rattle.store_schema.specs.Stands.{rows_of}
-use Rattle.store_schema.specs.Tables.{store_schema}
+use Rattle.store_schema.specs.Earlier.{schema_under}
+use Rattle.store_columns.proofs.Releases.{rows_under, stands_rows, stands_inventory}
 use Rattle.store_holds.proofs.HoldLists.{holds_formed, holds_rows}
 use Rattle.store_holds.proofs.reading.load_holds.Goals as goal
 
 pub returns-in_err-holds-clause-none : goal.returns-in_err-holds-clause-none
-returns-in_err-holds-clause-none g c clean bad contents was holds forms same =
+returns-in_err-holds-clause-none g c clean bad r contents was holds forms same =
     let failed : IsErrOf c.load_listed.result BadRow = search rules in
-    c.load_listed.ensures.none clean failed refl contents was holds forms same
+    c.load_listed.ensures.none clean failed refl r tt contents was holds forms same
 
 pub returns-in_err-holds-clause-no_state : goal.returns-in_err-holds-clause-no_state
-returns-in_err-holds-clause-no_state g c clean bad i stands =
+returns-in_err-holds-clause-no_state g c clean bad r i stands =
     let failed : IsErrOf c.load_listed.result BadRow = search rules in
-    c.load_listed.ensures.none clean failed refl (rows_of i) stands.tables i.global.holds
-    (holds_formed i stands.inventory) (holds_rows i)
+    c.load_listed.ensures.none clean failed refl r tt (rows_under r i) (stands_rows r i _ stands) i.global.holds
+    (holds_formed i (stands_inventory r i _ stands)) (holds_rows r i)
 
 pub returns-clause-found : goal.returns-clause-found
-returns-clause-found g c clean contents was =
+returns-clause-found g c clean r contents was =
     IsPermutation-trans _ _ _ (IsPermutation-map hold_row _ _ (IsPermutation-sym _ _ c.by_key.ensures.same))
-    (c.in_ok-holds.ensures.found clean refl contents was)
+    (c.in_ok-holds.ensures.found clean refl r tt contents was)
 
 pub returns-clause-ordered : goal.returns-clause-ordered
-returns-clause-ordered g c clean i stands =
-    c.by_key.ensures.only i.global.holds (c.in_ok-holds.ensures.only clean refl (rows_of i) stands.tables i.global.holds
-    (holds_formed i stands.inventory) (holds_rows i)) stands.inventory.global.holds
+returns-clause-ordered g c clean r i stands =
+    let inventory = stands_inventory r i _ stands in
+    c.by_key.ensures.only i.global.holds (c.in_ok-holds.ensures.only clean refl r tt (rows_under r i)
+    (stands_rows r i _ stands) i.global.holds (holds_formed i inventory) (holds_rows r i)) inventory.global.holds
 
 pub returns-clause-forms : goal.returns-clause-forms
 returns-clause-forms g c =
@@ -40,11 +41,11 @@ returns-clause-forms g c =
     (has_permuted new old x (IsPermutation-sym _ _ c.by_key.ensures.same) there))
 
 pub returns-in_err-holds-clause-reads : goal.returns-in_err-holds-clause-reads
-returns-in_err-holds-clause-reads g c =
-    reads_err g.S.Store store_schema BadRow Fault c.args.conn.now c.load_listed.new.conn c.load_listed.result _
-    (search rules) (λ bad. search rules) (λ failed. search rules) (c.load_listed.ensures.reads refl tt)
+returns-in_err-holds-clause-reads g c r =
+    reads_err g.S.Store (schema_under r) BadRow Fault c.args.conn.now c.load_listed.new.conn c.load_listed.result _
+    (search rules) (λ bad. search rules) (λ failed. search rules) (c.load_listed.ensures.reads refl tt r tt)
 
 pub returns-clause-reads : goal.returns-clause-reads
-returns-clause-reads g c =
-    reads_more g.S.Store store_schema BadRow Fault c.args.conn.now c.load_listed.new.conn c.load_listed.result
-    c.in_ok-holds.holds _ c.in_ok-holds.was (search rules) (c.load_listed.ensures.reads refl tt)
+returns-clause-reads g c r =
+    reads_more g.S.Store (schema_under r) BadRow Fault c.args.conn.now c.load_listed.new.conn c.load_listed.result
+    c.in_ok-holds.holds _ c.in_ok-holds.was (search rules) (c.load_listed.ensures.reads refl tt r tt)

@@ -12,7 +12,7 @@ use Rattle.store_holds.specs.Calls.{put_hold_calls}
 use Rattle.store_holds.specs.Keys.{hold_key}
 use Rattle.sysmods_records.specs.contracts.hold.Hold.{the_view}
 use Rattle.store_holds.proofs.HoldLemmas.{kept_hold}
-use Rattle.store_holds.proofs.Texts.{takes_hold, puts_hold}
+use Rattle.store_holds.proofs.Texts.{puts_hold}
 use Rattle.store_holds.proofs.writing.put_hold.Goals as goal
 
 pub returns-clause-ok : goal.returns-clause-ok
@@ -33,7 +33,7 @@ returns-clause-ok g c =
     ) at c.put.ensures.ok in
     subst (λ h. OnOk c.put.result (Turns g.S.Store c.args.tx.now.conn.now c.put.new.tx.conn.now
     (HasContents store_schema) (with_put hold (hold_key h) (hold_row h)))) c.hold.view_is
-    (on_ok c.put.result _ _ (λ ran. ran store_schema 4 hold takes_hold puts_hold (kept_hold (the_view fields))) put)
+    (on_ok c.put.result _ _ (λ ran. ran store_schema 4 hold 3 puts_hold (kept_hold (the_view fields))) put)
 
 pub returns-clause-calls : goal.returns-clause-calls
 returns-clause-calls g c =

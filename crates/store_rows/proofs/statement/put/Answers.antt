@@ -1,29 +1,29 @@
-use Rattle.std.proofs.Common.{[], ◌∷◌, rules}
+use Rattle.std.proofs.Common.{Ok}
+use Rattle.sqlite.specs.Held.{state}
 use Rattle.sqlite.specs.Values.{bound}
-use Rattle.store_rows.specs.Rows.{HasContents, in_table, with_row, without}
-use Rattle.store_rows.proofs.InsideLemmas.{on_ok, turns_then}
-use Rattle.store_rows.proofs.CallLemmas.{runs_then, runs_err, follows_err}
+use Rattle.store_rows.proofs.Statements.{ran_inside}
+use Rattle.store_rows.proofs.Upserts.{put_by_key}
+use Rattle.store_rows.proofs.CallLemmas.{one_call, follows_ok, follows_err}
 use Rattle.store_rows.proofs.statement.put.Goals as goal
 
 pub returns-clause-ok : goal.returns-clause-ok
-returns-clause-ok g c =
-    on_ok c.insert.result _ _ (λ inserted schema at table takes puts kept.
-    turns_then g.S.Store c.args.tx.now.conn.now c.remove.new.tx.conn.now c.insert.new.tx.conn.now (HasContents schema)
-    (in_table table (without (bound c.args.key.now))) (in_table table (with_row (bound c.args.row.now)))
-    c.insert.ensures.inside (c.in_ok-remove.ensures.ok schema at table takes) (inserted schema at table puts kept))
-    c.insert.ensures.ok
+returns-clause-ok g c schema at table width text kept clean contents was =
+    let old = c.args.tx.now.conn.now in
+    let new = c.execute.new.self.conn.now in
+    let count = c.in_ok-execute.field-0 in
+    let ran = ran_inside g.S.Store old new c.args.sql.now (bound c.args.row.now) c.execute.result
+    c.execute.ensures.ended c.execute.ensures.runs clean count c.in_ok-execute.was in
+    put_by_key schema at table width c.args.sql.now (bound c.args.row.now) (state g.S.Store old)
+    (state g.S.Store new) count contents text kept was ran
 
 pub returns-clause-calls : goal.returns-clause-calls
 returns-clause-calls g c =
-    runs_then g.S.Store ((c.args.removes.now, bound c.args.key.now) ∷ [])
-    ((c.args.inserts.now, bound c.args.row.now) ∷ []) c.args.tx.now.conn.now c.remove.new.tx.conn.now
-    c.insert.new.tx.conn.now c.remove.result _ c.insert.result c.remove.ensures.inside c.insert.ensures.inside
-    c.in_ok-remove.was c.remove.ensures.calls
-    c.insert.ensures.calls
+    one_call g.S.Store c.args.tx.now.conn.now c.execute.new.self.conn.now c.args.sql.now (bound c.args.row.now)
+    c.execute.result (Ok (tt {0})) c.execute.ensures.runs
+    (follows_ok c.execute.result _ (tt {0}) c.in_ok-execute.was)
 
-pub returns-in_err-remove-clause-calls : goal.returns-in_err-remove-clause-calls
-returns-in_err-remove-clause-calls g c =
-    runs_err g.S.Store ((c.args.removes.now, bound c.args.key.now) ∷ [])
-    ((c.args.inserts.now, bound c.args.row.now) ∷ []) c.args.tx.now.conn.now c.remove.new.tx.conn.now c.remove.result
-    c.from_residual.result (search rules)
-    (follows_err c.remove.result _ _ c.in_err-remove.was c.from_residual.ensures.1) c.remove.ensures.calls
+pub returns-in_err-execute-clause-calls : goal.returns-in_err-execute-clause-calls
+returns-in_err-execute-clause-calls g c =
+    one_call g.S.Store c.args.tx.now.conn.now c.execute.new.self.conn.now c.args.sql.now (bound c.args.row.now)
+    c.execute.result c.from_residual.result c.execute.ensures.runs
+    (follows_err c.execute.result _ _ c.in_err-execute.was c.from_residual.ensures.1)

@@ -1,14 +1,14 @@
 use Rattle.std.proofs.Common.{sym, subst, arith}
 use Rattle.sqlite.specs.Held.{state}
 use Rattle.sqlite.specs.State.{HasCleanDisk}
-use Rattle.store_schema.specs.Known.{HasOwnTables}
+use Rattle.store_schema.specs.Known.{HasOwnTables, own_numbers}
 use Rattle.store_schema.proofs.Meta.{other_number, no_state, not_both}
 use Rattle.store_schema.proofs.known.check.Goals as goal
 
 pub returns-then-has_other_number-clause-other : goal.returns-then-has_other_number-clause-other
 returns-then-has_other_number-clause-other g c clean is =
-    other_number (state g.S.Store c.args.conn.now) (state g.S.Store c.meta_rows.new.conn) c.in_ok-rows.rows.items
-    (c.in_ok-rows.ensures.shown clean)
+    other_number own_numbers (state g.S.Store c.args.conn.now) (state g.S.Store c.meta_rows.new.conn)
+    c.in_ok-rows.rows.items (c.in_ok-rows.ensures.shown clean)
     (rw c.as_slice.ensures.value at (c.has_other_number.ensures.0 c.if-has_other_number.true))
 
 pub returns-clause-none : goal.returns-clause-none

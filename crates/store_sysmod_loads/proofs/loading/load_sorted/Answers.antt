@@ -7,15 +7,15 @@ use Rattle.store_rows.proofs.RowLemmas.{has_permuted}
 use Rattle.store_sysmod_loads.proofs.loading.load_sorted.Goals as goal
 
 pub returns-in_err-items-clause-none : goal.returns-in_err-items-clause-none
-returns-in_err-items-clause-none g c clean bad contents was xs forms same =
+returns-in_err-items-clause-none g c clean bad r known contents was xs forms same =
     let failed : IsErrOf c.load_listed.result BadRow = search rules in
-    c.load_listed.ensures.none clean failed (sym g.met.T.Listed.whole) contents was xs forms same
+    c.load_listed.ensures.none clean failed (sym g.met.T.Listed.whole) r known contents was xs forms same
 
 pub returns-clause-found : goal.returns-clause-found
-returns-clause-found g c clean contents was =
+returns-clause-found g c clean r known contents was =
     IsPermutation-trans _ _ _ (IsPermutation-map g.T.Rows.FromRow.row_of _ _
     (IsPermutation-sym _ _ c.sorted.ensures.same))
-    (c.in_ok-items.ensures.found clean (sym g.met.T.Listed.whole) contents was)
+    (c.in_ok-items.ensures.found clean (sym g.met.T.Listed.whole) r known contents was)
 
 pub returns-clause-forms : goal.returns-clause-forms
 returns-clause-forms g c =
@@ -25,18 +25,18 @@ returns-clause-forms g c =
     c.in_ok-items.ensures.forms (has_permuted new old x (IsPermutation-sym _ _ c.sorted.ensures.same) there))
 
 pub returns-clause-only : goal.returns-clause-only
-returns-clause-only g c clean contents was xs forms rises same =
-    c.sorted.ensures.only xs (c.in_ok-items.ensures.only clean (sym g.met.T.Listed.whole) contents was xs forms same)
+returns-clause-only g c clean r known contents was xs forms rises same =
+    c.sorted.ensures.only xs (c.in_ok-items.ensures.only clean (sym g.met.T.Listed.whole) r known contents was xs forms same)
     rises
 
 pub returns-in_err-items-clause-reads : goal.returns-in_err-items-clause-reads
-returns-in_err-items-clause-reads g c =
+returns-in_err-items-clause-reads g c r known =
     reads_err g.S.Store _ _ _ c.args.conn.now c.load_listed.new.conn c.load_listed.result _ (search rules)
     (λ bad. search rules) (λ failed. search rules)
-    (c.load_listed.ensures.reads (sym g.met.T.Listed.whole) tt)
+    (c.load_listed.ensures.reads (sym g.met.T.Listed.whole) tt r known)
 
 pub returns-clause-reads : goal.returns-clause-reads
-returns-clause-reads g c =
+returns-clause-reads g c r known =
     reads_more g.S.Store _ _ _ c.args.conn.now c.load_listed.new.conn c.load_listed.result c.in_ok-items.items _
     c.in_ok-items.was (λ failed. search rules)
-    (c.load_listed.ensures.reads (sym g.met.T.Listed.whole) tt)
+    (c.load_listed.ensures.reads (sym g.met.T.Listed.whole) tt r known)

@@ -31,9 +31,11 @@ returns-clause-taken c =
         ifs = sym c.from-3.ensures.0 ∙ flat.ifs_are;
         elems = sym c.from-4.ensures.0 ∙ flat.elems_are;
       };
-      built = flat.built;
-      ids = ids_rise sysmods.items (subst (λ (hs : List HeadRow). Rises (slice_cmp nat_cmp) (λ h. h.id) hs) heads up);
-      none_carried = flat.none_carried;
+      whole = record {
+        built = flat.built;
+        ids = ids_rise sysmods.items (subst (λ (hs : List HeadRow). Rises (slice_cmp nat_cmp) (λ h. h.id) hs) heads up);
+        none_carried = flat.none_carried;
+      };
     }) c.assemble.ensures.taken
 
 pub returns-clause-only : goal.returns-clause-only

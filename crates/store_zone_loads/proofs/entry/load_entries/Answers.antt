@@ -1,49 +1,45 @@
 use Rattle.std.proofs.Common.{IsErrOf, map, refl, rules}
 use Rattle.store_rows.proofs.Queries.{reads_err, reads_more}
-use Rattle.store_rows.proofs.InsideLemmas.{if_ok}
+use Rattle.store_rows.proofs.InsideLemmas.{if_ok_both}
 use Rattle.store_rows.specs.declared.error.ReadError.TheVariants.{BadRow}
-use Rattle.store_schema.specs.Stands.{rows_of}
-use Rattle.store_zone_loads.specs.Found.{entries_in}
-use Rattle.store_zone_loads.proofs.InZone.{with_zone, without_zone}
-use Rattle.store_zone_loads.proofs.Entries.{entry_forms, entry_rows, entries_rise}
+use Rattle.store_schema.specs.Rows.{entry_row}
+use Rattle.store_zone_loads.specs.Read.{HasEntryRowForms}
+use Rattle.store_zone_loads.proofs.InZone.{with_zone, without_zone, items_held, rows_held, forms_held}
+use Rattle.store_zone_loads.proofs.Entries.{meets_entry}
 use Rattle.store_zone_loads.proofs.entry.load_entries.Goals as goal
 
 pub returns-in_err-rows-clause-none : goal.returns-in_err-rows-clause-none
-returns-in_err-rows-clause-none g c clean bad i stands =
+returns-in_err-rows-clause-none g c clean bad r contents was xs held =
     let name = c.args.name.now in
     let failed : IsErrOf c.load_listed.result BadRow = search rules in
-    c.load_listed.ensures.none clean failed refl (rows_of i) stands.tables (map (with_zone name) (entries_in i name))
-    (entry_forms i stands.inventory name)
-    (entry_rows i stands.inventory name c.as_bytes.result.now c.as_bytes.ensures.same)
+    c.load_listed.ensures.none clean failed refl r tt contents was (map (with_zone name) xs)
+    (forms_held _ entry_row HasEntryRowForms _ _ contents name xs held)
+    (rows_held _ entry_row HasEntryRowForms _ _ contents name c.as_bytes.result.now c.as_bytes.ensures.same xs held)
 
 pub returns-clause-found : goal.returns-clause-found
-returns-clause-found g c clean i stands =
+returns-clause-found g c clean r contents was =
     let name = c.args.name.now in
-    let own = entries_in i name in
-    let rows = c.in_ok-rows.ensures.only clean refl (rows_of i) stands.tables (map (with_zone name) own)
-    (entry_forms i stands.inventory name)
-    (entry_rows i stands.inventory name c.as_bytes.result.now c.as_bytes.ensures.same) in
-    if_ok c.zone_table.result _ _ (λ table only. only own (without_zone name c.in_ok-rows.rows.items own rows)
-    (entries_rise i stands.inventory name)) c.zone_table.ensures.only
+    let rows = c.in_ok-rows.rows.items in
+    if_ok_both c.zone_table.result _ _ _ (λ table same rise.
+    items_held _ entry_row HasEntryRowForms _ _ meets_entry contents name c.as_bytes.result.now c.as_bytes.ensures.same
+    rows table (c.in_ok-rows.ensures.found clean refl r tt contents was) c.in_ok-rows.ensures.forms same
+    rise) c.zone_table.ensures.same c.zone_table.ensures.rise
 
 pub returns-clause-none : goal.returns-clause-none
-returns-clause-none g c clean bad i stands =
+returns-clause-none g c clean bad r contents was xs held =
     let name = c.args.name.now in
-    let own = entries_in i name in
-    let rows = c.in_ok-rows.ensures.only clean refl (rows_of i) stands.tables (map (with_zone name) own)
-    (entry_forms i stands.inventory name)
-    (entry_rows i stands.inventory name c.as_bytes.result.now c.as_bytes.ensures.same) in
-    c.zone_table.ensures.none bad own (without_zone name c.in_ok-rows.rows.items own rows)
-    (entries_rise i stands.inventory name)
+    let rows = c.in_ok-rows.ensures.only clean refl r tt contents was (map (with_zone name) xs)
+    (forms_held _ entry_row HasEntryRowForms _ _ contents name xs held)
+    (rows_held _ entry_row HasEntryRowForms _ _ contents name c.as_bytes.result.now c.as_bytes.ensures.same xs held) in
+    c.zone_table.ensures.none bad xs (without_zone name c.in_ok-rows.rows.items xs rows)
+    held.rise
 
 pub returns-in_err-rows-clause-reads : goal.returns-in_err-rows-clause-reads
-returns-in_err-rows-clause-reads g c =
+returns-in_err-rows-clause-reads g c r =
     reads_err g.S.Store _ _ _ c.args.conn.now c.load_listed.new.conn c.load_listed.result _ (search rules)
-    (λ bad. search rules) (λ failed. search rules)
-    (c.load_listed.ensures.reads refl ((_, refl), tt))
+    (λ bad. search rules) (λ failed. search rules) (c.load_listed.ensures.reads refl ((_, refl), tt) r tt)
 
 pub returns-clause-reads : goal.returns-clause-reads
-returns-clause-reads g c =
+returns-clause-reads g c r =
     reads_more g.S.Store _ _ _ c.args.conn.now c.load_listed.new.conn c.load_listed.result c.in_ok-rows.rows _
-    c.in_ok-rows.was c.zone_table.ensures.fault
-    (c.load_listed.ensures.reads refl ((_, refl), tt))
+    c.in_ok-rows.was c.zone_table.ensures.fault (c.load_listed.ensures.reads refl ((_, refl), tt) r tt)

@@ -1,17 +1,16 @@
-use Rattle.std.proofs.Common.{◌≡◌, [], ◌∷◌, OnOk, ap₂, subst, subst₂, sym, ap, ◌∙◌}
+use Rattle.std.proofs.Common.{◌≡◌, [], ◌∷◌, OnOk, subst, sym, ap, ◌∙◌}
 use Rattle.std.specs.List.{join_with_byte}
 use Rattle.terms.specs.Types.{Entry}
-use Rattle.sqlite.specs.declared.types.Value.TheVariants.{Text}
 use Rattle.store_rows.specs.Calls.{RunsInside}
 use Rattle.store_rows.specs.Inside.{Turns}
 use Rattle.store_rows.specs.Rows.{HasContents, with_put}
 use Rattle.store_rows.proofs.InsideLemmas.{on_ok}
 use Rattle.store_schema.specs.Rows.{entry_row}
 use Rattle.store_schema.specs.Tables.{store_schema, entry}
-use Rattle.store_zones.specs.Calls.{put_entry_calls, delete_entry, insert_entry}
+use Rattle.store_zones.specs.Calls.{put_entry_calls, put_entry}
 use Rattle.store_zones.specs.Keys.{entry_key}
 use Rattle.zones.specs.contracts.entries.Entry.{the_view}
-use Rattle.store_zones.proofs.Texts.{takes_entry, puts_entry}
+use Rattle.store_zones.proofs.Texts.{puts_entry}
 use Rattle.store_zones.proofs.RowForms.{kept_entry, entry_bound}
 use Rattle.store_rows.proofs.Bound.{as_put, kept_as}
 use Rattle.store_zones.proofs.entry.put_row.Goals as goal
@@ -21,7 +20,6 @@ returns-clause-ok g c =
     let e = the_view c.entry.inside in
     let view : e ≡ c.args.entry.now = c.entry.view_is in
     let zone = c.args.zone.now in
-    let key = ap₂ (λ z i. Text z ∷ Text i ∷ []) c.as_bytes.ensures.same c.as_bytes-2.ensures.same in
     let row = entry_bound c.as_bytes.result.now c.as_bytes-2.result.now c.args.supby.now c.args.waived.now
     c.date_value-date.result c.id_value-delby.result zone e c.as_bytes.ensures.same c.as_bytes-2.ensures.same
     c.date_value-date.ensures (c.requires.supby ∙ sym (ap (λ (x : Entry). join_with_byte 44 x.supby) view))
@@ -29,9 +27,8 @@ returns-clause-ok g c =
     subst (λ (x : Entry). OnOk c.put.result (Turns g.S.Store c.args.tx.now.conn.now c.put.new.tx.conn.now
     (HasContents store_schema) (with_put entry (entry_key zone x.id) (entry_row zone x)))) view
     (on_ok c.put.result _ _ (λ ran.
-    as_put g.S.Store c.args.tx.now.conn.now c.put.new.tx.conn.now store_schema entry (entry_key zone e.id) _
-    (entry_row zone e) _ key row
-    (ran store_schema 7 entry takes_entry puts_entry (kept_as entry (entry_row zone e) _ row (kept_entry zone e))))
+    as_put g.S.Store c.args.tx.now.conn.now c.put.new.tx.conn.now store_schema entry 2 (entry_row zone e) _ row
+    (ran store_schema 7 entry 2 puts_entry (kept_as entry (entry_row zone e) _ row (kept_entry zone e))))
     c.put.ensures.ok)
 
 pub returns-clause-calls : goal.returns-clause-calls
@@ -39,12 +36,11 @@ returns-clause-calls g c =
     let e = the_view c.entry.inside in
     let view : e ≡ c.args.entry.now = c.entry.view_is in
     let zone = c.args.zone.now in
-    let key = ap₂ (λ z i. Text z ∷ Text i ∷ []) c.as_bytes.ensures.same c.as_bytes-2.ensures.same in
     let row = entry_bound c.as_bytes.result.now c.as_bytes-2.result.now c.args.supby.now c.args.waived.now
     c.date_value-date.result c.id_value-delby.result zone e c.as_bytes.ensures.same c.as_bytes-2.ensures.same
     c.date_value-date.ensures (c.requires.supby ∙ sym (ap (λ (x : Entry). join_with_byte 44 x.supby) view))
     c.id_value-delby.ensures (c.requires.waived ∙ sym (ap (λ (x : Entry). join_with_byte 44 x.waived) view)) in
     subst (λ (x : Entry). RunsInside g.S.Store (put_entry_calls zone x) c.args.tx.now.conn.now c.put.new.tx.conn.now
     c.put.result) view
-    (subst₂ (λ k r. RunsInside g.S.Store ((delete_entry, k) ∷ (insert_entry, r) ∷ []) c.args.tx.now.conn.now
-    c.put.new.tx.conn.now c.put.result) key row c.put.ensures.calls)
+    (subst (λ r. RunsInside g.S.Store ((put_entry, r) ∷ []) c.args.tx.now.conn.now c.put.new.tx.conn.now c.put.result)
+    row c.put.ensures.calls)

@@ -3,4 +3,9 @@ use Rattle.store_sysmod_loads.proofs.Exact.{exact_elem}
 use Rattle.store_sysmod_loads.proofs.listed.ElemsQuery.text.Goals as goal
 
 pub returns : goal.returns
-returns c = record { reads = reads_elems; there = elems_there; selects = selects_elems; exact = exact_elem }
+returns c = record {
+  reads = λ r known. reads_elems r;
+  there = λ r known. elems_there r;
+  selects = selects_elems;
+  exact = exact_elem;
+}

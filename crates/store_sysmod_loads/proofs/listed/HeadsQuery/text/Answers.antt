@@ -3,4 +3,9 @@ use Rattle.store_sysmod_loads.proofs.Exact.{exact_head}
 use Rattle.store_sysmod_loads.proofs.listed.HeadsQuery.text.Goals as goal
 
 pub returns : goal.returns
-returns c = record { reads = reads_heads; there = heads_there; selects = selects_heads; exact = exact_head }
+returns c = record {
+  reads = λ r known. reads_heads r;
+  there = λ r known. heads_there r;
+  selects = selects_heads;
+  exact = exact_head;
+}

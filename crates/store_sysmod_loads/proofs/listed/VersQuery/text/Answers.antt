@@ -3,4 +3,9 @@ use Rattle.store_sysmod_loads.proofs.Exact.{exact_ver}
 use Rattle.store_sysmod_loads.proofs.listed.VersQuery.text.Goals as goal
 
 pub returns : goal.returns
-returns c = record { reads = reads_vers; there = vers_there; selects = selects_vers; exact = exact_ver }
+returns c = record {
+  reads = λ r known. reads_vers r;
+  there = λ r known. vers_there r;
+  selects = selects_vers;
+  exact = exact_ver;
+}

@@ -3,4 +3,9 @@ use Rattle.store_zone_loads.proofs.Elements.{exact_element}
 use Rattle.store_zone_loads.proofs.element.ElementsQuery.text.Goals as goal
 
 pub returns : goal.returns
-returns c = record { reads = reads_elements; there = has_zelem; selects = selects_elements; exact = exact_element }
+returns c = record {
+  reads = λ r known. reads_elements r;
+  there = λ r known. has_zelem r;
+  selects = selects_elements;
+  exact = exact_element;
+}

@@ -3,4 +3,9 @@ use Rattle.store_zone_loads.proofs.Entries.{exact_entry}
 use Rattle.store_zone_loads.proofs.entry.EntriesQuery.text.Goals as goal
 
 pub returns : goal.returns
-returns c = record { reads = reads_entries; there = has_entry; selects = selects_entries; exact = exact_entry }
+returns c = record {
+  reads = λ r known. reads_entries r;
+  there = λ r known. has_entry r;
+  selects = selects_entries;
+  exact = exact_entry;
+}

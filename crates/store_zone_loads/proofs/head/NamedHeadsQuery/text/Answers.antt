@@ -3,4 +3,9 @@ use Rattle.store_zone_loads.proofs.Heads.{exact_head}
 use Rattle.store_zone_loads.proofs.head.NamedHeadsQuery.text.Goals as goal
 
 pub returns : goal.returns
-returns c = record { reads = reads_head; there = has_zone; selects = selects_head; exact = exact_head }
+returns c = record {
+  reads = λ r known. reads_head r;
+  there = λ r known. has_zone r;
+  selects = selects_head;
+  exact = exact_head;
+}

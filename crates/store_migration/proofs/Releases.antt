@@ -1,0 +1,117 @@
+-- What is told of a database of a release.
+use Rattle.std.proofs.Common.{◌≡◌, ◌⊎◌, ◌<◌, ℕ, List, [], length, inl, inr, Bool, true, false, Ok, Err, Result}
+use Rattle.std.proofs.Common.{arith, refl, sym, ap, subst, ◌∙◌, true≢false}
+use Rattle.sqlite.specs.declared.error.Error.{Error}
+use Rattle.sqlite.specs.declared.error.Error.TheVariants.{SqliteFailure}
+use Rattle.sqlite.specs.declared.error.ErrorCode.TheVariants.{OutOfMemory}
+use Rattle.sqlite.specs.Effect.{Database}
+use Rattle.sqlite.specs.Listing.{understood, listing_schema}
+use Rattle.sqlite.specs.Schema.{Schema}
+use Rattle.sqlite.specs.State.{State, Shown}
+use Rattle.sqlite.specs.Order.{Row}
+use Rattle.sqlite_resolve.specs.declared.compiled.Compiled.{Compiled}
+use Rattle.sqlite_resolve.specs.declared.error.CompileError.{CompileError}
+use Rattle.sqlite_tied.specs.Compute.{everything}
+use Rattle.store_schema.specs.declared.error.StoreError.TheVariants.{Fault, Memory}
+use Rattle.store_schema.specs.declared.release.Release.{Release}
+use Rattle.store_schema.specs.declared.release.Release.TheVariants.{First, Second, Third}
+use Rattle.store_schema.specs.Create.{IsBlank}
+use Rattle.store_schema.specs.Earlier.{schema_under, StandsUnder, IsEarlierStateOf}
+use Rattle.store_schema.specs.Inventory.{Inventory}
+use Rattle.store_schema.specs.Known.{select_meta, told}
+use Rattle.store_schema.specs.Stands.{IsStateOf}
+use Rattle.store_schema.specs.Tables.{schema_of}
+
+-- how many tables it has, by which schemas are told apart
+size : Release → ℕ
+size First = 9
+size Second = 10
+size Third = 13
+
+sized : (r : Release) → length (schema_under r).tables ≡ size r
+unfolding size
+sized First = refl
+sized Second = refl
+sized Third = refl
+
+by_size : (r s : Release) → size r ≡ size s → r ≡ s
+unfolding size
+by_size First First e = refl
+by_size First Second e = absurd (omega (arith, e))
+by_size First Third e = absurd (omega (arith, e))
+by_size Second First e = absurd (omega (arith, e))
+by_size Second Second e = refl
+by_size Second Third e = absurd (omega (arith, e))
+by_size Third First e = absurd (omega (arith, e))
+by_size Third Second e = absurd (omega (arith, e))
+by_size Third Third e = refl
+
+some_tables : (r : Release) → 0 < size r
+unfolding size
+some_tables First = omega arith
+some_tables Second = omega arith
+some_tables Third = omega arith
+
+same_release : (r s : Release) → schema_under r ≡ schema_under s → r ≡ s
+same_release r s same = by_size r s (sym (sized r) ∙ (ap (λ (x : Schema). length x.tables) same ∙ sized s))
+
+pub only_third : (r : Release) → schema_under r ≡ schema_under Third → r ≡ Third
+only_third r = same_release r Third
+
+pub not_blank : (r : Release) (db : Database) → db.schema ≡ schema_under r → IsBlank db → ⊥
+not_blank r db own blank =
+    let none : size r ≡ 0 = sym (sized r) ∙ (sym (ap (λ (x : Schema). length x.tables) own)
+    ∙ ap (λ (x : Schema). length x.tables) blank) in
+    omega (arith, some_tables r, none)
+
+pub is_earlier : (r : Release) (i : Inventory) (db : Database) → StandsUnder r i db → IsEarlierStateOf i db
+is_earlier First i db stands = inr (inl stands)
+is_earlier Second i db stands = inr (inr stands)
+is_earlier Third i db stands = inl (inr stands)
+
+-- a state is that of tables that are not there, or of one release's
+abbrev IsOfSome : Inventory → Database → Type 0
+IsOfSome i db = IsBlank db ⊎ ((r : Release) × StandsUnder r i db × (db.schema ≡ schema_under r))
+
+of_some : (i : Inventory) (db : Database) → IsEarlierStateOf i db → IsOfSome i db
+of_some i db (inl (inl blank)) = inl blank.0
+of_some i db (inl (inr stands)) = inr (Third, stands, stands.tables.schema_is)
+of_some i db (inr (inl stands)) = inr (First, stands, stands.tables.schema_is)
+of_some i db (inr (inr stands)) = inr (Second, stands, stands.tables.schema_is)
+
+-- under the schema of a release it is of that release
+pub of_release : (r : Release) (i : Inventory) (db : Database) → db.schema ≡ schema_under r → IsEarlierStateOf i db
+    → StandsUnder r i db
+of_release r i db own is = elim (of_some i db is) [
+  | inl blank ↦ absurd (not_blank r db own blank)
+  | inr it ↦ subst (λ s. StandsUnder s i db) (same_release it.0 r (sym it.2 ∙ own)) it.1
+]
+
+pub of_blank : (i : Inventory) (db : Database) → IsBlank db → IsEarlierStateOf i db → IsStateOf i db
+of_blank i db blank (inl is) = is
+of_blank i db blank (inr (inl stands)) = absurd (not_blank First db stands.tables.schema_is blank)
+of_blank i db blank (inr (inr stands)) = absurd (not_blank Second db stands.tables.schema_is blank)
+
+-- ---- a database without tables
+
+has_failed : Result Compiled CompileError → Bool
+has_failed (Ok c) = false
+has_failed (Err e) = true
+
+unread : has_failed (understood (schema_of []) select_meta) ≡ true
+unfolding has_failed understood listing_schema everything
+unread = refl
+
+-- it has no meta to ask
+pub shows_none : (at : State) (rows : List Row) → IsBlank at.now → Shown select_meta [] at at rows → ⊥
+unfolding Shown has_failed
+shows_none at rows blank h =
+    let read : has_failed (understood (schema_of []) select_meta) ≡ false =
+    ap has_failed (subst (λ (s : Schema). understood s select_meta ≡ Ok h.0) blank h.1.is) in
+    true≢false (sym unread ∙ read)
+
+-- ---- how an error is told
+
+pub told_is : (e : Error) → (told e ≡ Memory) ⊎ (told e ≡ Fault)
+told_is (SqliteFailure OutOfMemory) = inl refl
+told_is _ = inr refl

@@ -1,0 +1,37 @@
+use Rattle.std.proofs.Common.{◌≡◌, OnOk, arith, rules, sym, subst}
+use Rattle.sqlite.specs.Effect.{Database}
+use Rattle.sqlite.specs.Held.{state}
+use Rattle.sqlite.specs.State.{HasCleanDisk, Survives}
+use Rattle.store_rows.proofs.InsideLemmas.{on_ok}
+use Rattle.store_migration.specs.TakenOver.{Takes, IsTaken}
+use Rattle.store_migration.proofs.Committed.{crash_leaves}
+use Rattle.store_migration.proofs.taking.take_over.Goals as goal
+
+pub returns-clause-made : goal.returns-clause-made
+returns-clause-made g c clean =
+    let s = g.S.Store in
+    let was = (state s c.args.conn.now).now in
+    let takes = Takes c.args.release c.args.heads.now was in
+    let last = state s c.write.new.tx.conn.now in
+    let last_now = c.commit.new.self.0 in
+    let begun = c.transaction-tx.ensures.begun in
+    let written = rw begun at c.in_ok-write.ensures.ok in
+    let same : last_now ≡ c.conn-2-1.given.0 = search rules in
+    subst (λ h. HasCleanDisk (state s h) → OnOk c.commit.result (takes (state s h).committed)) same
+    (λ late.
+    let before : HasCleanDisk last = omega (arith, late, c.commit.ensures.survives.clean) in
+    on_ok c.commit.result _ _ (λ it. subst (λ (db : Database). takes db) (sym it.1.committed_is) (written before))
+    (c.commit.ensures.ok late)) clean
+
+pub returns-clause-crash : goal.returns-clause-crash
+returns-clause-crash g c =
+    let s = g.S.Store in
+    let old = c.args.conn.now in
+    let last = c.write.new.tx.conn.now in
+    let last_now = c.commit.new.self.0 in
+    let begun = c.transaction-tx.ensures.begun in
+    let inside = rw begun at c.write.ensures.inside in
+    let written = rw begun at c.in_ok-write.ensures.ok in
+    let same : last_now ≡ c.conn-2-1.given.0 = search rules in
+    subst (λ h. Survives (state s old) (state s h) (IsTaken c.args.release c.args.heads.now (state s old).now)) same
+    (crash_leaves s old last last_now c.args.release c.args.heads.now inside written c.commit.ensures.survives)

@@ -1,0 +1,45 @@
+-- What is read of the tables of a release, before they become the store's.
+use Rattle.std.specs.Prelude.{◌≡◌, List, map, Vec, Result, IfOk, OnOk, IsErrOf}
+use Rattle.std.specs.declared.alloc.Global.{Global as AnyGlobal}
+use Rattle.sqlite.specs.Effect.{IsDatabase}
+use Rattle.sqlite.specs.Store.{Ghosts}
+use Rattle.sqlite.specs.Held.{Held, state}
+use Rattle.sqlite.specs.State.{HasCleanDisk}
+use Rattle.store_rows.specs.declared.error.ReadError.{ReadError}
+use Rattle.store_rows.specs.declared.error.ReadError.TheVariants as read
+use Rattle.store_rows.specs.Reads.{OnlyReads}
+use Rattle.store_rows.specs.Rows.{Contents, HasContents}
+use Rattle.terms.specs.Types.{NamedZone}
+use Rattle.store_schema.specs.declared.release.Release.{Release}
+use Rattle.store_schema.specs.Earlier.{schema_under, StandsUnder}
+use Rattle.store_schema.specs.Inventory.{Inventory}
+use Rattle.store_schema.specs.Known.{HasTablesUnder}
+use Rattle.store_migration.specs.declared.head.Head.{Head}
+use Rattle.store_migration.specs.TakenOver.{heads_under}
+use Rattle.store_zone_loads.specs.declared.head.ZoneHead.{ZoneHead}
+use Rattle.store_zone_loads.specs.Found.{head_of}
+use Rattle.store_zone_loads.specs.Held.{HoldsHeads}
+use Rattle.store_migration.specs.Migrated.{HasRowids}
+use Rattle.store.specs.Whole.{HoldsZones}
+
+-- An answer has the SYSMODs whose sources are moved, and the tables stand for an inventory. Bad rows stand for none.
+pub record Checks {S : Type 0} (g : Ghosts S) (release : Release) (old new : Held S)
+    (result : Result (Vec Head AnyGlobal) ReadError) : Type 0 where
+  pub found : HasCleanDisk (state g new) → (i : Inventory) → StandsUnder release i (state g old).now
+      → IfOk result (λ heads. heads.items ≡ heads_under release i)
+  pub none : HasCleanDisk (state g new) → IsErrOf result read.BadRow → (i : Inventory)
+      → ¬ StandsUnder release i (state g old).now
+  pub stood : HasCleanDisk (state g new) → OnOk result (IsDatabase (state g old).now
+      → HasTablesUnder release (state g old).now → HasRowids (state g old).now
+      → (i : Inventory) × StandsUnder release i (state g old).now)
+  pub reads : OnlyReads g (schema_under release) read.BadRow read.Fault old new result
+
+-- The zones of these heads were read, one after the other.
+pub record ChecksZones {S X : Type 0} (g : Ghosts S) (release : Release) (heads : List ZoneHead) (old new : Held S)
+    (result : Result X ReadError) : Type 0 where
+  pub none : HasCleanDisk (state g new) → IsErrOf result read.BadRow → (i : Inventory) → heads ≡ map head_of i.zones
+      → ¬ StandsUnder release i (state g old).now
+  pub rows : HasCleanDisk (state g new) → OnOk result ((contents : Contents)
+      → HasContents (schema_under release) contents (state g old).now → HoldsHeads contents heads
+      → (zones : List NamedZone) × HoldsZones release contents zones)
+  pub reads : OnlyReads g (schema_under release) read.BadRow read.Fault old new result

@@ -1,0 +1,4 @@
+pub mod Moved
+pub mod TakenOver
+pub mod Checked
+pub mod Migrated

@@ -1,0 +1,110 @@
+//! All rows of a release's tables, read to know that they stand for a state.
+
+ghost use Rattle.std.specs.Prelude.{◌≡◌, List, Some, OnOk, IfOk, IsErrOf, IsSome, IsTrue};
+ghost use Rattle.sqlite.specs.Held.{state};
+ghost use Rattle.sqlite.specs.State.{HasCleanDisk};
+ghost use Rattle.store_rows.specs.Reads.{OnlyReads};
+ghost use Rattle.store_rows.specs.Rows.{Contents, HasContents};
+ghost use Rattle.store_schema.specs.Earlier.{schema_under, StandsUnder};
+ghost use Rattle.store_schema.specs.Inventory.{Inventory};
+ghost use Rattle.store_migration.specs.TakenOver.{heads_under};
+ghost use Rattle.store_zone_loads.specs.Found.{zone_in};
+ghost use Rattle.store_zone_loads.specs.Held.{HoldsUnder};
+ghost use Rattle.terms.specs.Types as terms;
+ghost use Rattle.store_migration.specs.Checked.{Checks, ChecksZones};
+ghost use Rattle.store.specs.Whole.{HoldsGlobal, HoldsZones};
+
+use crate::head::{Head, heads_of};
+use fields::ZoneName;
+use sqlite::{Alter, Connection};
+use std::alloc::Global;
+use store::{joined, load_lists};
+use store_rows::ReadError;
+use store_schema::Release;
+use store_zone_loads::{ZoneHead, load_zone, zone_heads};
+
+// The global zone is let go, but for what is moved.
+fn check_global<S: Alter>(
+    alloc: Global,
+    conn: &mut Connection<S>,
+    release: Release,
+) -> Result<Vec<Head>, ReadError>
+    ensures found { HasCleanDisk (state S.Store conn.new) → (i : Inventory)
+        → StandsUnder release i (state S.Store conn.old).now
+        → IfOk result (λ heads. heads.items ≡ heads_under release i) }
+    ensures none { HasCleanDisk (state S.Store conn.new) → IsErrOf result ReadError.BadRow → (i : Inventory)
+        → ¬ StandsUnder release i (state S.Store conn.old).now }
+    ensures rows { HasCleanDisk (state S.Store conn.new) → OnOk result ((contents : Contents)
+        → HasContents (schema_under release) contents (state S.Store conn.old).now
+        → (global : terms.Global) × HoldsGlobal release contents global) }
+    ensures reads { OnlyReads S.Store (schema_under release) ReadError.BadRow ReadError.Fault conn.old conn.new result }
+{
+    let lists = load_lists(alloc, conn, release)?;
+    let heads = heads_of(alloc, release, lists.sysmods.as_slice())?;
+    joined(alloc, lists)?;
+    Ok(heads)
+}
+
+fn check_zone<S: Alter>(
+    alloc: Global,
+    conn: &mut Connection<S>,
+    release: Release,
+    name: ZoneName,
+) -> Result<(), ReadError>
+    ensures none { HasCleanDisk (state S.Store conn.new) → IsErrOf result ReadError.BadRow → (i : Inventory)
+        → IsSome (zone_in i name) → ¬ StandsUnder release i (state S.Store conn.old).now }
+    ensures rows { HasCleanDisk (state S.Store conn.new) → OnOk result ((contents : Contents)
+        → HasContents (schema_under release) contents (state S.Store conn.old).now
+        → (zone : terms.Zone) × HoldsUnder release contents name (Some zone)) }
+    ensures reads { OnlyReads S.Store (schema_under release) ReadError.BadRow ReadError.Fault conn.old conn.new result }
+{
+    match load_zone(alloc, conn, release, name)? {
+        Some(_zone) => Ok(()),
+        None => Err(ReadError::BadRow),
+    }
+}
+
+fn check_each<S: Alter>(
+    alloc: Global,
+    conn: &mut Connection<S>,
+    release: Release,
+    heads: &[ZoneHead],
+) -> Result<(), ReadError>
+    ensures { (HasCleanDisk (state S.Store conn.old) → IsTrue (state S.Store conn.old).is_open)
+        → ChecksZones S.Store release heads.now conn.old conn.new result }
+{
+    for head in heads {
+        check_zone(alloc, conn, release, head.name)?;
+    }
+    Ok(())
+}
+
+// One zone after the other.
+fn check_zones<S: Alter>(
+    alloc: Global,
+    conn: &mut Connection<S>,
+    release: Release,
+) -> Result<(), ReadError>
+    ensures none { HasCleanDisk (state S.Store conn.new) → IsErrOf result ReadError.BadRow → (i : Inventory)
+        → ¬ StandsUnder release i (state S.Store conn.old).now }
+    ensures rows { HasCleanDisk (state S.Store conn.new) → OnOk result ((contents : Contents)
+        → HasContents (schema_under release) contents (state S.Store conn.old).now
+        → (zones : List terms.NamedZone) × HoldsZones release contents zones) }
+    ensures reads { OnlyReads S.Store (schema_under release) ReadError.BadRow ReadError.Fault conn.old conn.new result }
+{
+    let heads = zone_heads(alloc, conn)?;
+    check_each(alloc, conn, release, heads.as_slice())
+}
+
+/// Reads all rows, and answers what is moved of them.
+pub(crate) fn check_all<S: Alter>(
+    alloc: Global,
+    conn: &mut Connection<S>,
+    release: Release,
+) -> Result<Vec<Head>, ReadError>
+    ensures { Checks S.Store release conn.old conn.new result }
+{
+    let heads = check_global(alloc, conn, release)?;
+    check_zones(alloc, conn, release)?;
+    Ok(heads)
+}

@@ -1,0 +1,54 @@
+//! SYSMODs as their own rows have them.
+
+ghost use Rattle.std.specs.Prelude.{◌≡◌, map, IfOk};
+ghost use Rattle.store_migration.specs.Moved.{head_of as the_head};
+ghost use Rattle.store_migration.specs.TakenOver.{moved_heads};
+
+use fields::{Id, SourceList};
+use std::alloc::{AllocError, Global};
+use store_schema::Release;
+use sysmods_records::Sysmod;
+use terms::Kind;
+
+/// A SYSMOD as its own row of schema 1 has it.
+#[derive(Drop)]
+pub struct Head {
+    pub id: Id,
+    pub kind: Kind,
+    pub sources: SourceList,
+}
+
+fn head_of(alloc: Global, sysmod: &Sysmod) -> Result<Head, AllocError>
+    ensures { IfOk result (λ head. head ≡ the_head sysmod.now) }
+{
+    Ok(Head {
+        id: sysmod.id,
+        kind: sysmod.kind,
+        sources: sysmod.sources.try_clone(alloc)?,
+    })
+}
+
+fn all_heads(alloc: Global, sysmods: &[Sysmod]) -> Result<Vec<Head>, AllocError>
+    ensures { IfOk result (λ heads. heads.items ≡ map the_head sysmods.now) }
+{
+    let mut heads = Vec::with_capacity(alloc, sysmods.len())?;
+    for sysmod in sysmods {
+        let head = head_of(alloc, sysmod)?;
+        heads.push(head)?;
+    }
+    Ok(heads)
+}
+
+/// What is moved of all SYSMODs, which these are, where the tables are those of the release.
+pub fn heads_of(
+    alloc: Global,
+    release: Release,
+    sysmods: &[Sysmod],
+) -> Result<Vec<Head>, AllocError>
+    ensures { IfOk result (λ heads. heads.items ≡ moved_heads release sysmods.now) }
+{
+    match release {
+        Release::First => all_heads(alloc, sysmods),
+        _ => Ok(Vec::new(alloc)),
+    }
+}

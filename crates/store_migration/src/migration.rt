@@ -1,0 +1,60 @@
+//! The tables of an earlier schema, taken over to the store's.
+
+ghost use Rattle.std.specs.Prelude.{◌≡◌, false, IfOk, IfErr};
+ghost use Rattle.sqlite.specs.Held.{state};
+ghost use Rattle.sqlite.specs.State.{IsLive};
+ghost use Rattle.store_migration.specs.Migrated.{Migrated, Unmigrated, Migrates};
+
+use crate::check::check_all;
+use crate::taking::take_over;
+use sqlite::{Alter, Connection};
+use std::alloc::Global;
+use store::{Store, told};
+use store_schema::{Release, StoreError, release_of, set_up};
+
+/// What an open connection shows is a database. The call does nothing.
+fn attest<S: Alter>(conn: &Connection<S>)
+    ensures { IsLive (state S.Store conn.now) }
+{
+    let _ = conn.schema();
+}
+
+/// Reads all rows, and then writes.
+fn migrated<S: Alter>(alloc: Global, conn: &mut Connection<S>) -> Result<(), StoreError>
+    requires { conn.old.in_transaction ≡ false }
+    ensures { Migrates S.Store conn.old conn.new result }
+{
+    // So what the connection shows is what it last committed.
+    prove!(conn.is_autocommit());
+    attest(conn);
+    let Some(release) = release_of(alloc, conn)? else {
+        return set_up(alloc, conn);
+    };
+    let heads = told(check_all(alloc, conn, release))?;
+    match release {
+        Release::Third => Ok(()),
+        _ => {
+            take_over(conn, release, heads.as_slice())?;
+            Ok(())
+        }
+    }
+}
+
+/// Takes the tables of an earlier schema over to the store's, in one transaction, and makes them in a database that has
+/// none. Before that all rows are read, those of one zone at a time, so that bad ones stay as they are. Like
+/// `Store::open` it hands the connection back with its error.
+pub fn migrate<S: Alter>(
+    alloc: Global,
+    mut conn: Connection<S>,
+) -> Result<Store<S>, (Connection<S>, StoreError)>
+    requires { conn.in_transaction ≡ false }
+    ensures ok { IfOk result (Migrated S.Store conn) }
+    ensures err { IfErr result (λ e. Unmigrated S.Store conn e.0 e.1) }
+{
+    // So what the connection shows is what it last committed.
+    prove!(conn.is_autocommit());
+    match migrated(alloc, &mut conn) {
+        Ok(()) => Ok(Store::over(alloc, conn)),
+        Err(error) => Err((conn, error)),
+    }
+}

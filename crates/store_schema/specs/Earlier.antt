@@ -1,0 +1,100 @@
+-- What the tables of earlier schemas stand for. They are read to be migrated, and for nothing else.
+use Rattle.std.specs.Prelude.{◌≡◌, ◌≤◌, ◌⊎◌, ℤ, List, [], ◌∷◌, map, length, pos, All}
+use Rattle.std.specs.List.{flat_map}
+use Rattle.sqlite.specs.declared.types.Value.TheVariants as value
+use Rattle.sqlite.specs.Order.{Row}
+use Rattle.sqlite.specs.Table.{Table}
+use Rattle.sqlite.specs.Schema.{Schema}
+use Rattle.sqlite.specs.Effect.{Database}
+use Rattle.terms.specs.Types.{Sysmod}
+use Rattle.terms.specs.Spelling.{kind_text}
+use Rattle.store_rows.specs.Rows.{Contents, HasContents}
+use Rattle.store_schema.specs.Tables.{meta, sysmod, ver, ifreq, hold, elem, zone, entry, zelem, source, schema_of}
+use Rattle.store_schema.specs.Tables.{morever, moreif, chosen, first_tables, second_tables, all_tables}
+use Rattle.store_schema.specs.Inventory.{Inventory, IsInventory}
+use Rattle.store_schema.specs.Rows.{setting_row, ids, sysmod_row, vers_of, ifreqs_of, hold_row, elems_of, zone_row}
+use Rattle.store_schema.specs.Rows.{entries_of, zelems_of, sources_of}
+use Rattle.store_schema.specs.Stands.{rows_in, StandsFor, IsStateOf}
+use Rattle.store_schema.specs.declared.release.Release.{Release}
+use Rattle.store_schema.specs.declared.release.Release.TheVariants.{First, Second, Third}
+
+-- Under schema 1 the sources of a SYSMOD stand in its row, joined by commas.
+abbrev pub first_sysmod_row : Sysmod → Row
+first_sysmod_row s = value.Text s.id ∷ value.Text (kind_text s.kind) ∷ ids s.sources ∷ []
+
+abbrev pub first_rows_of : Inventory → Contents
+first_rows_of i = rows_in (
+    (meta, setting_row (pos 1) ∷ [])
+    ∷ (sysmod, map first_sysmod_row i.global.sysmods)
+    ∷ (ver, flat_map vers_of i.global.sysmods)
+    ∷ (ifreq, flat_map ifreqs_of i.global.sysmods)
+    ∷ (hold, map hold_row i.global.holds)
+    ∷ (elem, flat_map elems_of i.global.sysmods)
+    ∷ (zone, map zone_row i.zones)
+    ∷ (entry, flat_map entries_of i.zones)
+    ∷ (zelem, flat_map zelems_of i.zones)
+    ∷ [])
+
+-- and had 8 characters at most
+abbrev pub HasShortSources : Sysmod → Type 0
+HasShortSources s = All (λ name. length name ≤ 8) s.sources
+
+-- The tables are those of schema 1, and hold the rows of the inventory.
+pub record StandsForFirst (i : Inventory) (db : Database) : Type 0 where
+  pub tables : HasContents (schema_of first_tables) (first_rows_of i) db
+  pub inventory : IsInventory i
+  pub sources : All HasShortSources i.global.sysmods
+
+-- Under schema 2 the sources have a table of their own, as they have today.
+abbrev pub second_rows_of : Inventory → Contents
+second_rows_of i = rows_in (
+    (meta, setting_row (pos 2) ∷ [])
+    ∷ (sysmod, map sysmod_row i.global.sysmods)
+    ∷ (ver, flat_map vers_of i.global.sysmods)
+    ∷ (ifreq, flat_map ifreqs_of i.global.sysmods)
+    ∷ (hold, map hold_row i.global.holds)
+    ∷ (elem, flat_map elems_of i.global.sysmods)
+    ∷ (zone, map zone_row i.zones)
+    ∷ (entry, flat_map entries_of i.zones)
+    ∷ (zelem, flat_map zelems_of i.zones)
+    ∷ (source, flat_map sources_of i.global.sysmods)
+    ∷ [])
+
+-- The tables are those of schema 2, and hold the rows of the inventory.
+pub record StandsForSecond (i : Inventory) (db : Database) : Type 0 where
+  pub tables : HasContents (schema_of second_tables) (second_rows_of i) db
+  pub inventory : IsInventory i
+
+-- the tables of a release
+abbrev pub tables_under : Release → List Table
+tables_under First = first_tables
+tables_under Second = second_tables
+tables_under Third = all_tables
+
+-- the tables of the store that it lacks
+abbrev pub missing_tables : Release → List Table
+missing_tables First = source ∷ morever ∷ moreif ∷ chosen ∷ []
+missing_tables Second = morever ∷ moreif ∷ chosen ∷ []
+missing_tables Third = []
+
+-- the schema of a release, and its number
+abbrev pub schema_under : Release → Schema
+schema_under r = schema_of (tables_under r)
+
+abbrev pub number_under : Release → ℤ
+number_under First = pos 1
+number_under Second = pos 2
+number_under Third = pos 3
+
+abbrev pub StandsUnder : Release → Inventory → Database → Type 0
+StandsUnder First = StandsForFirst
+StandsUnder Second = StandsForSecond
+StandsUnder Third = StandsFor
+
+-- what the database stands for, under whichever schema its tables are
+abbrev pub IsEarlierStateOf : Inventory → Database → Type 0
+IsEarlierStateOf i db = IsStateOf i db ⊎ StandsForFirst i db ⊎ StandsForSecond i db
+
+-- A database has one state at most, also under earlier schemas.
+abbrev pub HasOneEarlierState : Type 0
+HasOneEarlierState = (db : Database) (i j : Inventory) → IsEarlierStateOf i db → IsEarlierStateOf j db → i ≡ j

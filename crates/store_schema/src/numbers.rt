@@ -1,0 +1,141 @@
+//! The number that `meta` gives to the schema.
+
+ghost use Rattle.std.specs.Prelude.{◌≡◌, ◌↔◌, ℤ, false, [], codes, IsTrue, OnOk, IfOk, IfSome, IfNone, IsErrOf};
+ghost use Rattle.std.specs.List.{Any};
+ghost use Rattle.sqlite.specs.Held.{state};
+ghost use Rattle.sqlite.specs.State.{HasCleanDisk, IsUnchanged, KeepsCommit, Shown, Survives};
+ghost use Rattle.store_schema.specs.Earlier.{schema_under, number_under};
+ghost use Rattle.store_schema.specs.Known.{select_meta, select_own, Gives, GivesOther, GivesOwn, IsNumber};
+ghost use Rattle.store_schema.specs.Known.{HasTablesUnder};
+
+use crate::error::StoreError;
+use crate::release::Release;
+use sqlite::{Alter, Connection, Error, Row};
+use sqlite_value::value::ValueRef;
+
+/// What `meta` says, whatever the other tables are.
+pub(crate) fn meta_rows<S: Alter>(conn: &mut Connection<S>) -> Result<Vec<Row>, Error>
+    ensures shown { HasCleanDisk (state S.Store conn.new) → IfOk result
+        (λ rows. Shown select_meta [] (state S.Store conn.old) (state S.Store conn.new) rows.items) }
+    ensures same { HasCleanDisk (state S.Store conn.new) → OnOk result
+        (IsUnchanged (state S.Store conn.old) (state S.Store conn.new)) }
+    ensures kept { HasCleanDisk (state S.Store conn.new) → KeepsCommit (state S.Store conn.old)
+        (state S.Store conn.new) }
+    ensures crash { Survives (state S.Store conn.old) (state S.Store conn.new) (λ _. ⊥) }
+    ensures mode { conn.old.in_transaction ≡ false → conn.new.in_transaction ≡ false }
+{
+    conn.query_all("SELECT k, v FROM meta", &[])
+}
+
+/// All rows of the `meta` of a release.
+fn own_rows<S: Alter>(conn: &mut Connection<S>) -> Result<Vec<Row>, Error>
+    ensures shown { HasCleanDisk (state S.Store conn.new) → IfOk result
+        (λ rows. Shown select_own [] (state S.Store conn.old) (state S.Store conn.new) rows.items) }
+    ensures same { HasCleanDisk (state S.Store conn.new) → OnOk result
+        (IsUnchanged (state S.Store conn.old) (state S.Store conn.new)) }
+    ensures kept { HasCleanDisk (state S.Store conn.new) → KeepsCommit (state S.Store conn.old)
+        (state S.Store conn.new) }
+    ensures crash { Survives (state S.Store conn.old) (state S.Store conn.new) (λ _. ⊥) }
+    ensures mode { conn.old.in_transaction ≡ false → conn.new.in_transaction ≡ false }
+{
+    conn.query_all("SELECT rowid, k, v FROM meta", &[])
+}
+
+fn is_schema_word(word: &[u8]) -> bool
+    ensures { IsTrue result ↔ (word.now ≡ codes "schema") }
+{
+    word == b"schema".as_slice()
+}
+
+/// The number that a row of `meta` gives to the schema.
+fn number_of(row: &Row) -> Option<i64>
+    ensures some { IfSome result (λ n. Gives n row.now) }
+    ensures none { IfNone result ((n : ℤ) → ¬ Gives n row.now) }
+{
+    if row.column_count() != 2 {
+        return None;
+    }
+    match (row.get_ref(0), row.get_ref(1)) {
+        (Ok(ValueRef::Text(word)), Ok(ValueRef::Int(number))) if is_schema_word(word) => Some(
+            number,
+        ),
+        _ => None,
+    }
+}
+
+/// The number that a row of the `meta` of a release gives to the schema.
+fn own_number_of(row: &Row) -> Option<i64>
+    ensures some { IfSome result (λ n. GivesOwn n row.now) }
+    ensures none { IfNone result ((n : ℤ) → ¬ GivesOwn n row.now) }
+{
+    if row.column_count() != 3 {
+        return None;
+    }
+    match (row.get_ref(0), row.get_ref(1), row.get_ref(2)) {
+        (Ok(ValueRef::Int(_)), Ok(ValueRef::Text(word)), Ok(ValueRef::Int(number)))
+            if is_schema_word(word) => { Some(number) }
+        _ => None,
+    }
+}
+
+fn gives_other_number(row: &Row, numbers: &[i64]) -> bool
+    ensures { IsTrue result ↔ GivesOther numbers.now row.now }
+{
+    match number_of(row) {
+        Some(number) => !numbers.contains(&number),
+        None => false,
+    }
+}
+
+fn gives_own_number(row: &Row, release: Release) -> bool
+    ensures { IsTrue result ↔ GivesOwn (number_under release) row.now }
+{
+    match own_number_of(row) {
+        Some(number) => number == release.number(),
+        None => false,
+    }
+}
+
+/// Whether a row gives a number that is none of these.
+pub(crate) fn has_other_number(rows: &[Row], numbers: &[i64]) -> bool
+    ensures { IsTrue result ↔ Any (GivesOther numbers.now) rows.now }
+{
+    for row in rows {
+        if gives_other_number(row, numbers) {
+            return true;
+        }
+    }
+    false
+}
+
+/// Whether `meta` has one row, with the number of the release.
+fn is_number(rows: &[Row], release: Release) -> bool
+    ensures { IsTrue result ↔ IsNumber (number_under release) rows.now }
+{
+    rows.len() == 1 && gives_own_number(&rows[0], release)
+}
+
+/// Knows the number of a release, where the tables are its own.
+pub(crate) fn check_number<S: Alter>(
+    conn: &mut Connection<S>,
+    release: Release,
+) -> Result<(), StoreError>
+    ensures known { HasCleanDisk (state S.Store conn.new) → OnOk result
+        ((state S.Store conn.old).now.schema ≡ schema_under release
+        → HasTablesUnder release (state S.Store conn.old).now) }
+    ensures none { HasCleanDisk (state S.Store conn.new) → IsErrOf result StoreError.NoState
+        → ¬ HasTablesUnder release (state S.Store conn.old).now }
+    ensures which { IsErrOf result StoreError.OtherSchema → ⊥ }
+    ensures same { HasCleanDisk (state S.Store conn.new) → OnOk result
+        (IsUnchanged (state S.Store conn.old) (state S.Store conn.new)) }
+    ensures kept { HasCleanDisk (state S.Store conn.new) → KeepsCommit (state S.Store conn.old)
+        (state S.Store conn.new) }
+    ensures crash { Survives (state S.Store conn.old) (state S.Store conn.new) (λ _. ⊥) }
+    ensures mode { conn.old.in_transaction ≡ false → conn.new.in_transaction ≡ false }
+{
+    let rows = own_rows(conn)?;
+    if !is_number(rows.as_slice(), release) {
+        return Err(StoreError::NoState);
+    }
+    Ok(())
+}

@@ -1,0 +1,90 @@
+//! The release that the tables of a database are of, earlier ones too.
+
+ghost use Rattle.std.specs.Prelude.{◌≡◌, false, OnOk, IfOk, IfSome, IfNone, IsErrOf};
+ghost use Rattle.sqlite.specs.Held.{state};
+ghost use Rattle.sqlite.specs.State.{HasCleanDisk, IsUnchanged, KeepsCommit, Survives};
+ghost use Rattle.store_schema.specs.Create.{IsBlank};
+ghost use Rattle.store_schema.specs.Known.{HasUnknownNumber, HasNoRelease, HasTablesUnder};
+ghost use Rattle.store_schema.specs.declared.release.Release.{Release as ReleaseOf};
+
+use crate::error::StoreError;
+use crate::numbers::{check_number, has_other_number, meta_rows};
+use crate::release::Release;
+use crate::tables::{is_blank, release_with};
+use sqlite::{Alter, Connection};
+use std::alloc::Global;
+
+/// Knows the tables of a release by all that they are.
+fn release_by_tables<S: Alter>(
+    alloc: Global,
+    conn: &mut Connection<S>,
+) -> Result<Release, StoreError>
+    ensures known { HasCleanDisk (state S.Store conn.new) → IfOk result
+        (λ release. HasTablesUnder release (state S.Store conn.old).now) }
+    ensures none { HasCleanDisk (state S.Store conn.new) → IsErrOf result StoreError.NoState
+        → (release : ReleaseOf) → ¬ HasTablesUnder release (state S.Store conn.old).now }
+    ensures which { IsErrOf result StoreError.OtherSchema → ⊥ }
+    ensures same { HasCleanDisk (state S.Store conn.new) → OnOk result
+        (IsUnchanged (state S.Store conn.old) (state S.Store conn.new)) }
+    ensures kept { HasCleanDisk (state S.Store conn.new) → KeepsCommit (state S.Store conn.old)
+        (state S.Store conn.new) }
+    ensures crash { Survives (state S.Store conn.old) (state S.Store conn.new) (λ _. ⊥) }
+    ensures mode { conn.old.in_transaction ≡ false → conn.new.in_transaction ≡ false }
+{
+    let Some(release) = release_with(alloc, conn.schema())? else {
+        return Err(StoreError::NoState);
+    };
+    check_number(conn, release)?;
+    Ok(release)
+}
+
+/// The same, once no number of another release is found.
+fn known_release<S: Alter>(alloc: Global, conn: &mut Connection<S>) -> Result<Release, StoreError>
+    ensures known { HasCleanDisk (state S.Store conn.new) → IfOk result
+        (λ release. HasTablesUnder release (state S.Store conn.old).now) }
+    ensures other { HasCleanDisk (state S.Store conn.new) → IsErrOf result StoreError.OtherSchema
+        → HasUnknownNumber (state S.Store conn.old) }
+    ensures none { HasCleanDisk (state S.Store conn.new) → IsErrOf result StoreError.NoState
+        → ¬ IsBlank (state S.Store conn.old).now → HasNoRelease (state S.Store conn.old) }
+    ensures same { HasCleanDisk (state S.Store conn.new) → OnOk result
+        (IsUnchanged (state S.Store conn.old) (state S.Store conn.new)) }
+    ensures kept { HasCleanDisk (state S.Store conn.new) → KeepsCommit (state S.Store conn.old)
+        (state S.Store conn.new) }
+    ensures crash { Survives (state S.Store conn.old) (state S.Store conn.new) (λ _. ⊥) }
+    ensures mode { conn.old.in_transaction ≡ false → conn.new.in_transaction ≡ false }
+{
+    let rows = meta_rows(conn)?;
+    if has_other_number(rows.as_slice(), &[1, 2, 3]) {
+        return Err(StoreError::OtherSchema);
+    }
+    release_by_tables(alloc, conn)
+}
+
+/// The release that the tables are of, and none where there are no tables. It changes nothing. `OtherSchema` is for a
+/// number that no release has, `NoState` for any other tables.
+pub fn release_of<S: Alter>(
+    alloc: Global,
+    conn: &mut Connection<S>,
+) -> Result<Option<Release>, StoreError>
+    requires { conn.old.in_transaction ≡ false }
+    ensures blank { IfOk result (λ found. IfNone found
+        (IsBlank (state S.Store conn.old).now × (conn.new ≡ conn.old))) }
+    ensures known { HasCleanDisk (state S.Store conn.new) → IfOk result (λ found. IfSome found
+        (λ release. HasTablesUnder release (state S.Store conn.old).now)) }
+    ensures other { HasCleanDisk (state S.Store conn.new) → IsErrOf result StoreError.OtherSchema
+        → HasUnknownNumber (state S.Store conn.old) }
+    ensures none { HasCleanDisk (state S.Store conn.new) → IsErrOf result StoreError.NoState
+        → HasNoRelease (state S.Store conn.old) }
+    ensures same { HasCleanDisk (state S.Store conn.new) → IfOk result (λ found. IfSome found
+        (λ _. IsUnchanged (state S.Store conn.old) (state S.Store conn.new))) }
+    ensures kept { HasCleanDisk (state S.Store conn.new) → KeepsCommit (state S.Store conn.old)
+        (state S.Store conn.new) }
+    ensures crash { Survives (state S.Store conn.old) (state S.Store conn.new) (λ _. ⊥) }
+    ensures mode { conn.new.in_transaction ≡ false }
+{
+    if is_blank(conn.schema()) {
+        return Ok(None);
+    }
+    let release = known_release(alloc, conn)?;
+    Ok(Some(release))
+}

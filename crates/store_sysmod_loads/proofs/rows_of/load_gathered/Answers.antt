@@ -1,0 +1,54 @@
+use Rattle.std.proofs.Common.{◌≡◌, [], List, IsPermutation, map, rules, ap, subst, ◌∙◌}
+use Rattle.std.specs.List.{AllByRecursion}
+use Rattle.lemmas.proofs.Each.{recursion_weaker}
+use Rattle.store_rows.proofs.InsideLemmas.{if_ok}
+use Rattle.store_schema.specs.Tables.{ver, ifreq, elem}
+use Rattle.store_sysmod_loads.specs.declared.flat.HeadRow.{HeadRow}
+use Rattle.store_sysmod_loads.specs.Flat.{row_of_ver, row_of_if, row_of_elem, HasFormsUnder, HasVerRowForms}
+use Rattle.store_sysmod_loads.specs.Flat.{HasIfRowForms, HasElemRowForms}
+use Rattle.store_sysmod_loads.specs.Gathered.{HoldHeads}
+use Rattle.store_sysmod_loads.proofs.FlatLemmas.{rows_of_vers, rows_of_ifs, rows_of_elems}
+use Rattle.store_sysmod_loads.proofs.Later.{heads_held}
+use Rattle.store_sysmod_loads.proofs.PartLemmas.{part_err, part_more}
+use Rattle.store_sysmod_loads.proofs.rows_of.load_gathered.Goals as goal
+
+pub gathered-requires : goal.gathered-requires
+gathered-requires g c = recursion_weaker HasVerRowForms (λ r. r.ver.ifs ≡ []) (λ r h. h.2) c.in_ok-rows.rows.vers.items
+    c.in_ok-rows.ensures.forms.vers
+
+pub returns-in_err-rows-clause-part : goal.returns-in_err-rows-clause-part
+returns-in_err-rows-clause-part g c =
+    part_err (search rules) (λ bad. search rules) (λ failed. search rules) c.load_rows.ensures.part
+
+pub returns-clause-part : goal.returns-clause-part
+returns-clause-part g c =
+    let r = c.args.release in
+    part_more c.gathered.result c.in_ok-rows.was
+    (if_ok c.gathered.result _ _ (λ sysmods told contents held.
+    let ss = sysmods.items in
+    record {
+      heads = heads_held r ss contents (subst (λ (heads : List HeadRow). HoldHeads r heads contents) told.rows_are.heads
+          held.heads);
+      vers = subst (λ rows. IsPermutation rows (contents ver.tree))
+          (ap (map row_of_ver) told.rows_are.vers ∙ rows_of_vers ss) held.vers;
+      ifs = subst (λ rows. IsPermutation rows (contents ifreq.tree))
+          (ap (map row_of_if) told.rows_are.ifs ∙ rows_of_ifs ss) held.ifs;
+      elems = subst (λ rows. IsPermutation rows (contents elem.tree))
+          (ap (map row_of_elem) told.rows_are.elems ∙ rows_of_elems ss) held.elems;
+      no_more = held.no_more;
+    }) c.gathered.ensures.taken)
+    (if_ok c.gathered.result _ _ (λ sysmods only ss formed has. only ss formed.whole has) c.gathered.ensures.only)
+    (λ bad ss formed has. c.gathered.ensures.none bad ss formed.whole has)
+    c.gathered.ensures.fault
+    c.load_rows.ensures.part
+
+pub returns-clause-forms : goal.returns-clause-forms
+returns-clause-forms g c =
+    let forms = c.in_ok-rows.ensures.forms in
+    if_ok c.gathered.result _ _ (λ sysmods told. record {
+      heads = subst (AllByRecursion (HasFormsUnder c.args.release)) told.rows_are.heads forms.heads;
+      vers = subst (AllByRecursion HasVerRowForms) told.rows_are.vers forms.vers;
+      ifs = subst (AllByRecursion HasIfRowForms) told.rows_are.ifs forms.ifs;
+      elems = subst (AllByRecursion HasElemRowForms) told.rows_are.elems forms.elems;
+      whole = told.whole;
+    }) c.gathered.ensures.taken

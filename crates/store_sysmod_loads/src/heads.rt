@@ -1,0 +1,109 @@
+//! SYSMODs without their statements, under each schema.
+
+ghost use Rattle.std.specs.Prelude.{◌≡◌, ◌≢◌, ⊤, map, IfOk, IsPermutation};
+ghost use Rattle.std.specs.List.{AllByRecursion};
+ghost use Rattle.store_schema.specs.declared.release.Release.{Release as ARelease};
+ghost use Rattle.store_schema.specs.declared.release.Release.TheVariants.{First, Third};
+ghost use Rattle.store_schema.specs.Tables.{sysmod, source};
+ghost use Rattle.store_sysmod_loads.specs.Flat.{row_of_bare, row_of_source, HasBareForms, HasSourceForms};
+ghost use Rattle.store_sysmod_loads.specs.Flat.{HasHeadForms, HasShortForms, HasFormsUnder};
+ghost use Rattle.store_sysmod_loads.specs.Flats.{head_of, HoldNoMore};
+ghost use Rattle.store_sysmod_loads.specs.Gathered.{HoldHeads};
+ghost use Rattle.store_sysmod_loads.specs.Joined.{bare_of, all_sources};
+ghost use Rattle.store_sysmod_loads.specs.Parts.{LoadsPart};
+
+use crate::flat::{BareHead, HeadRow, SourceRow};
+use crate::joining::joined;
+use crate::listed::{MoreIfs, MoreVers};
+use crate::loading::load_sorted;
+use crate::reading::{BareHeads, Heads, Sources};
+use sqlite::{Alter, Connection};
+use std::alloc::Global;
+use std::collections::VecDeque;
+use store_columns::refuse_rows;
+use store_rows::ReadError;
+use store_schema::Release;
+
+/// The heads of schema 1, whose rows have the sources.
+fn load_with_sources<S: Alter>(
+    alloc: Global,
+    conn: &mut Connection<S>,
+) -> Result<Vec<HeadRow>, ReadError>
+    ensures part { LoadsPart S.Store First (λ heads contents. HoldHeads First heads.items contents)
+        (λ heads sysmods. heads.items ≡ map head_of sysmods) conn.old conn.new result }
+    ensures forms { IfOk result (λ heads. AllByRecursion HasShortForms heads.items) }
+{
+    load_sorted::<S, Heads>(alloc, conn)
+}
+
+fn load_bare<S: Alter>(alloc: Global, conn: &mut Connection<S>) -> Result<Vec<BareHead>, ReadError>
+    ensures part { (r : ARelease) → r ≢ First → LoadsPart S.Store r
+        (λ heads contents. IsPermutation (map row_of_bare heads.items) (contents sysmod.tree))
+        (λ heads sysmods. heads.items ≡ map bare_of (map head_of sysmods)) conn.old conn.new result }
+    ensures forms { IfOk result (λ heads. AllByRecursion HasBareForms heads.items) }
+{
+    load_sorted::<S, BareHeads>(alloc, conn)
+}
+
+fn load_sources<S: Alter>(
+    alloc: Global,
+    conn: &mut Connection<S>,
+) -> Result<Vec<SourceRow>, ReadError>
+    ensures part { (r : ARelease) → r ≢ First → LoadsPart S.Store r
+        (λ rows contents. IsPermutation (map row_of_source rows.items) (contents source.tree))
+        (λ rows sysmods. rows.items ≡ all_sources (map head_of sysmods)) conn.old conn.new result }
+    ensures forms { IfOk result (λ rows. AllByRecursion HasSourceForms rows.items) }
+{
+    load_sorted::<S, Sources>(alloc, conn)
+}
+
+/// The heads and their sources, each from a table of its own.
+fn load_joined<S: Alter>(alloc: Global, conn: &mut Connection<S>) -> Result<Vec<HeadRow>, ReadError>
+    ensures part { (r : ARelease) → r ≢ First → LoadsPart S.Store r
+        (λ heads contents. HoldHeads r heads.items contents)
+        (λ heads sysmods. heads.items ≡ map head_of sysmods) conn.old conn.new result }
+    ensures forms { IfOk result (λ heads. AllByRecursion HasHeadForms heads.items) }
+{
+    let bare = load_bare(alloc, conn)?;
+    let sources = load_sources(alloc, conn)?;
+    joined(alloc, VecDeque::from(bare), VecDeque::from(sources))
+}
+
+/// Refuses rows of further `++VER`s of one SREL.
+fn refuse_more<S: Alter>(alloc: Global, conn: &mut Connection<S>) -> Result<(), ReadError>
+    ensures part { LoadsPart S.Store Third (λ done contents. HoldNoMore Third contents) (λ done sysmods. ⊤) conn.old
+        conn.new result }
+{
+    refuse_rows::<S, MoreVers>(alloc, conn, &[])?;
+    refuse_rows::<S, MoreIfs>(alloc, conn, &[])
+}
+
+/// The heads of schema 3, where no SYSMOD has more.
+fn load_latest<S: Alter>(alloc: Global, conn: &mut Connection<S>) -> Result<Vec<HeadRow>, ReadError>
+    ensures part { LoadsPart S.Store Third
+        (λ heads contents. HoldHeads Third heads.items contents × HoldNoMore Third contents)
+        (λ heads sysmods. heads.items ≡ map head_of sysmods) conn.old conn.new result }
+    ensures forms { IfOk result (λ heads. AllByRecursion HasHeadForms heads.items) }
+{
+    let heads = load_joined(alloc, conn)?;
+    refuse_more(alloc, conn)?;
+    Ok(heads)
+}
+
+/// The heads, with their sources.
+pub(crate) fn load_heads<S: Alter>(
+    alloc: Global,
+    conn: &mut Connection<S>,
+    release: Release,
+) -> Result<Vec<HeadRow>, ReadError>
+    ensures part { LoadsPart S.Store release
+        (λ heads contents. HoldHeads release heads.items contents × HoldNoMore release contents)
+        (λ heads sysmods. heads.items ≡ map head_of sysmods) conn.old conn.new result }
+    ensures forms { IfOk result (λ heads. AllByRecursion (HasFormsUnder release) heads.items) }
+{
+    match release {
+        Release::First => load_with_sources(alloc, conn),
+        Release::Second => load_joined(alloc, conn),
+        Release::Third => load_latest(alloc, conn),
+    }
+}

@@ -1,0 +1,68 @@
+//! Heads of SYSMODs joined with their sources, which stand in a table of their own.
+
+ghost use Rattle.std.specs.Prelude.{◌≡◌, List, IfOk, IsErrOf};
+ghost use Rattle.terms.specs.Types as terms;
+ghost use Rattle.store_sysmod_loads.specs.declared.flat.HeadRow.{HeadRow as HeadLine};
+ghost use Rattle.store_sysmod_loads.specs.declared.flat.SourceRow.{SourceRow as SourceLine};
+ghost use Rattle.store_sysmod_loads.specs.Runs.{HasSources};
+ghost use Rattle.store_sysmod_loads.specs.Joined.{AreJoined};
+
+use crate::flat::{BareHead, HeadRow, SourceRow};
+use crate::gathering::{next_of, pop_of};
+use fields::{Id, SourceList};
+use std::alloc::Global;
+use std::collections::VecDeque;
+use store_rows::ReadError;
+
+/// Takes the sources of a SYSMOD, which rise.
+fn take_sources(
+    alloc: Global,
+    rows: &mut VecDeque<SourceRow>,
+    id: Id,
+) -> Result<SourceList, ReadError>
+    ensures taken { IfOk result (λ names. HasSources id rows.old.items names rows.new.items) }
+    ensures only { IfOk result (λ names. (others : List terms.Text) (rest : List SourceLine)
+        → HasSources id rows.old.items others rest → (others ≡ names) × (rest ≡ rows.new.items)) }
+    ensures none { IsErrOf result ReadError.BadRow → (others : List terms.Text) (rest : List SourceLine)
+        → ¬ HasSources id rows.old.items others rest }
+    ensures fault { IsErrOf result ReadError.Fault → ⊥ }
+{
+    let mut names = SourceList::new(alloc);
+    while let Some(row) = pop_of(rows, id) {
+        if !names.push_last(row.name)? {
+            return Err(ReadError::BadRow);
+        }
+    }
+    Ok(names)
+}
+
+/// The heads with their sources, all of which are taken.
+pub(crate) fn joined(
+    alloc: Global,
+    mut bare: VecDeque<BareHead>,
+    mut sources: VecDeque<SourceRow>,
+) -> Result<Vec<HeadRow>, ReadError>
+    ensures joined { IfOk result (λ heads. AreJoined bare.items sources.items heads.items) }
+    ensures only { IfOk result (λ heads. (others : List HeadLine) → AreJoined bare.items sources.items others
+        → others ≡ heads.items) }
+    ensures none { IsErrOf result ReadError.BadRow → (others : List HeadLine)
+        → ¬ AreJoined bare.items sources.items others }
+    ensures fault { IsErrOf result ReadError.Fault → ⊥ }
+{
+    let mut heads = Vec::new(alloc);
+    while let Some(head) = next_of(&mut bare) {
+        let names = take_sources(alloc, &mut sources, head.id)?;
+        let whole = HeadRow {
+            id: head.id,
+            kind: head.kind,
+            sources: names,
+        };
+        if heads.push(whole).is_err() {
+            return Err(ReadError::Memory);
+        }
+    }
+    if !sources.is_empty() {
+        return Err(ReadError::BadRow);
+    }
+    Ok(heads)
+}

@@ -1,0 +1,287 @@
+//! Databases of earlier schemas: taken over whole, or left as they are.
+
+ghost use Rattle.std.specs.Prelude.{IsTrue};
+
+use crate::known::{SOURCES, again, close, files, fill_first, filled, run_all};
+use crate::round_trip::all_lines;
+use sqlite::{Alter, Connection, Files, Options};
+use sqlite_disk::{Crash, Disk, Fuse, Memory};
+use std::alloc::Global;
+use std::test::Fail;
+use store_migration::migrate;
+use store_schema::StoreError;
+
+/// The tables of schema 1, as the first release made them.
+const FIRST: &str =
+    "CREATE TABLE meta (k TEXT NOT NULL, v INTEGER NOT NULL, PRIMARY KEY (k)) STRICT; \
+    CREATE TABLE sysmod (id TEXT NOT NULL, kind TEXT NOT NULL, sources TEXT NOT NULL, PRIMARY KEY (id)) STRICT; \
+    CREATE TABLE ver (id TEXT NOT NULL, srel TEXT NOT NULL, fmid TEXT, pre TEXT NOT NULL, req TEXT NOT NULL, \
+    sup TEXT NOT NULL, npre TEXT NOT NULL, del TEXT NOT NULL, PRIMARY KEY (id, srel), \
+    FOREIGN KEY (id) REFERENCES sysmod (id) ON DELETE CASCADE) STRICT; \
+    CREATE TABLE ifreq (id TEXT NOT NULL, srel TEXT NOT NULL, n INTEGER NOT NULL, fmid TEXT NOT NULL, \
+    req TEXT NOT NULL, PRIMARY KEY (id, srel, n), \
+    FOREIGN KEY (id) REFERENCES sysmod (id) ON DELETE CASCADE) STRICT; \
+    CREATE TABLE hold (id TEXT NOT NULL, kind TEXT NOT NULL, reason TEXT NOT NULL, fmid TEXT NOT NULL, class TEXT, \
+    date TEXT, comment TEXT, internal INTEGER NOT NULL, PRIMARY KEY (id, kind, reason)) STRICT; \
+    CREATE TABLE elem (id TEXT NOT NULL, type TEXT NOT NULL, name TEXT NOT NULL, upd INTEGER NOT NULL, distlib TEXT, \
+    syslib TEXT, text BLOB NOT NULL, PRIMARY KEY (id, type, name), \
+    FOREIGN KEY (id) REFERENCES sysmod (id) ON DELETE CASCADE) STRICT; \
+    CREATE TABLE zone (name TEXT NOT NULL, kind TEXT NOT NULL, srel TEXT NOT NULL, related TEXT, \
+    PRIMARY KEY (name)) STRICT; \
+    CREATE TABLE entry (zone TEXT NOT NULL, id TEXT NOT NULL, date TEXT, supby TEXT NOT NULL, delby TEXT, \
+    waived TEXT NOT NULL, PRIMARY KEY (zone, id), FOREIGN KEY (zone) REFERENCES zone (name)) STRICT; \
+    CREATE TABLE zelem (zone TEXT NOT NULL, type TEXT NOT NULL, name TEXT NOT NULL, fmid TEXT NOT NULL, \
+    rmid TEXT NOT NULL, umid TEXT NOT NULL, distlib TEXT NOT NULL, syslib TEXT NOT NULL, text BLOB NOT NULL, \
+    PRIMARY KEY (zone, type, name), FOREIGN KEY (zone) REFERENCES zone (name)) STRICT; \
+    INSERT INTO meta (k, v) VALUES ('schema', 1)";
+
+/// What schema 2 has besides.
+const SECOND: &str =
+    "CREATE TABLE source (id TEXT NOT NULL, name TEXT NOT NULL, PRIMARY KEY (id, name), \
+    FOREIGN KEY (id) REFERENCES sysmod (id) ON DELETE CASCADE) STRICT; \
+    UPDATE meta SET v = 2";
+
+/// The sources under schema 1, joined in a column.
+const JOINED: &[&str] = &[
+    "UPDATE sysmod SET sources = 'PUT2401,SMCREC01' WHERE id = 'HAA1200'",
+    "UPDATE sysmod SET sources = 'PUT2401' WHERE id = 'UAA0001'",
+];
+
+/// The known rows under schema 1.
+fn first<S: Alter + Drop>(alloc: Global, mut conn: Connection<S>) -> Result<Connection<S>, Fail> {
+    conn.execute_batch(FIRST)?;
+    fill_first(alloc, &mut conn)?;
+    run_all(&mut conn, JOINED)?;
+    Ok(conn)
+}
+
+/// The known rows under schema 2.
+fn second<S: Alter + Drop>(alloc: Global, mut conn: Connection<S>) -> Result<Connection<S>, Fail> {
+    conn.execute_batch(FIRST)?;
+    conn.execute_batch(SECOND)?;
+    fill_first(alloc, &mut conn)?;
+    run_all(&mut conn, SOURCES)?;
+    Ok(conn)
+}
+
+/// The connection behind a migration, and how it ended.
+fn migrated<S: Alter + Drop>(
+    alloc: Global,
+    conn: Connection<S>,
+) -> Result<(Connection<S>, Option<StoreError>), Fail> {
+    if !conn.is_autocommit() {
+        return Err(Fail::from("a transaction is under way"));
+    }
+    match migrate(alloc, conn) {
+        Ok(store) => Ok((store.close(), None)),
+        Err((conn, error)) => Ok((conn, Some(error))),
+    }
+}
+
+/// All rows behind a migration that must go well.
+fn rows_taken<S: Alter + Drop>(alloc: Global, conn: Connection<S>) -> Result<String, Fail> {
+    let (mut conn, fault) = migrated(alloc, conn)?;
+    if fault.is_some() {
+        return Err(Fail::from("migrate"));
+    }
+    all_lines(alloc, &mut conn)
+}
+
+/// All rows that the store itself writes.
+fn own_rows(alloc: Global) -> Result<String, Fail> {
+    let mut conn = filled(alloc, Connection::open_in_memory(alloc)?)?;
+    all_lines(alloc, &mut conn)
+}
+
+#[test]
+fn earlier_rows_become_the_stores_own(rt: HostRuntime) -> Result<(), Fail> {
+    let alloc = rt.alloc();
+    let wanted = own_rows(alloc)?;
+    let of_first = rows_taken(alloc, first(alloc, Connection::open_in_memory(alloc)?)?)?;
+    let of_second = rows_taken(alloc, second(alloc, Connection::open_in_memory(alloc)?)?)?;
+    let of_own = rows_taken(alloc, filled(alloc, Connection::open_in_memory(alloc)?)?)?;
+    assert_eq!(rt;
+        ("schema 1", of_first.as_str()),
+        ("schema 1", wanted.as_str())
+    );
+    assert_eq!(rt;
+        ("schema 2", of_second.as_str()),
+        ("schema 2", wanted.as_str())
+    );
+    assert_eq!(rt;
+        ("schema 3", of_own.as_str()),
+        ("schema 3", wanted.as_str())
+    );
+    Ok(())
+}
+
+#[test]
+fn a_blank_database_gets_tables(rt: HostRuntime) -> Result<(), Fail> {
+    let alloc = rt.alloc();
+    let rows = rows_taken(alloc, Connection::open_in_memory(alloc)?)?;
+    assert_eq!(rt; rows.as_str(), "schema/3\n");
+    Ok(())
+}
+
+#[test]
+fn files_are_closed_and_opened_between(rt: HostRuntime) -> Result<(), Fail> {
+    let alloc = rt.alloc();
+    let wanted = own_rows(alloc)?;
+    let fresh = files(alloc, Memory::new(alloc), Memory::new(alloc))?;
+    let (conn, fault) = migrated(alloc, again(alloc, first(alloc, fresh)?)?)?;
+    assert_eq!(rt; fault, None);
+    let (mut conn, fault) = migrated(alloc, again(alloc, conn)?)?;
+    assert_eq!(rt; fault, None);
+    assert_eq!(rt; all_lines(alloc, &mut conn)?.as_str(), wanted.as_str());
+    Ok(())
+}
+
+/// Edits of a database of schema 1 after which its rows stand for no state, in whatever zone they are.
+const BAD: &[&str] = &[
+    "UPDATE sysmod SET sources = 'PUT240123' WHERE id = 'UAA0001'",
+    "UPDATE sysmod SET sources = 'PUT2402,PUT2401' WHERE id = 'UAA0001'",
+    "UPDATE sysmod SET sources = 'PUT2401,' WHERE id = 'UAA0001'",
+    "UPDATE sysmod SET kind = 'ptf' WHERE id = 'UAA0001'",
+    "UPDATE ver SET pre = 'LLL0001' WHERE id = 'UAA0001' AND srel = 'Z038'",
+    "DELETE FROM ver WHERE id = 'AAA0003'",
+    "UPDATE ifreq SET n = 3 WHERE n = 2",
+    "UPDATE elem SET type = 'mac' WHERE id = 'HAA1100' AND type = 'MAC'",
+    "UPDATE hold SET date = '24000' WHERE kind = 'ERROR'",
+    "UPDATE zone SET kind = 'dlib' WHERE name = 'TGT1'",
+    "UPDATE zone SET related = 'DLB3' WHERE name = 'TGT2'",
+    "UPDATE entry SET date = '' WHERE zone = 'DLB1'",
+    "UPDATE entry SET waived = 'UAA0001' WHERE zone = 'TGT1' AND id = 'HAA1000'",
+    "UPDATE zelem SET fmid = '' WHERE zone = 'DLB1'",
+    "UPDATE zelem SET umid = 'UAA0002,UAA0001' WHERE zone = 'TGT1' AND name = 'MAC2'",
+    "INSERT INTO meta (k, v) VALUES ('other', 1)",
+    "CREATE TABLE other (k TEXT)",
+];
+
+/// Edits after which the number is no release's.
+const UNKNOWN: &[&str] = &["UPDATE meta SET v = 0", "UPDATE meta SET v = 4"];
+
+/// The rows of schema 1, but for sources.
+const LEFT: &str =
+    "SELECT k || ' ' || v FROM meta UNION ALL SELECT id || ' ' || kind || ' ' || sources FROM sysmod UNION ALL SELECT name || ' ' || kind FROM zone UNION ALL SELECT zone || ' ' || id FROM entry ORDER BY 1";
+
+/// What is told of the database with this edit, and whether its rows stay.
+fn told_of(alloc: Global, sql: &str) -> Result<(Option<StoreError>, bool), Fail> {
+    let mut conn = first(alloc, Connection::open_in_memory(alloc)?)?;
+    conn.execute_batch(sql)?;
+    let before = crate::known::lines(alloc, &mut conn, LEFT)?;
+    let (mut conn, fault) = migrated(alloc, conn)?;
+    let after = crate::known::lines(alloc, &mut conn, LEFT)?;
+    Ok((fault, before.as_str() == after.as_str()))
+}
+
+#[test]
+fn other_databases_stay_as_they_are(rt: HostRuntime) -> Result<(), Fail> {
+    for sql in BAD {
+        let told = told_of(rt.alloc(), sql)?;
+        assert_eq!(rt; (*sql, told), (*sql, (Some(StoreError::NoState), true)));
+    }
+    for sql in UNKNOWN {
+        let told = told_of(rt.alloc(), sql)?;
+        assert_eq!(rt; (*sql, told), (*sql, (Some(StoreError::OtherSchema), true)));
+    }
+    Ok(())
+}
+
+/// The file whose disk fails.
+#[derive(Clone, Copy)]
+enum Fused {
+    Log,
+    Database,
+}
+
+/// Migrates over these files, and gives them back as they are, with whether it went well.
+fn migrated_on<D: Disk + Drop>(alloc: Global, files: Files<D>) -> Result<(Files<D>, bool), Fail>
+    requires log { IsTrue (D.Disk.is_usable files.log) }
+    requires db { IsTrue (D.Disk.is_usable files.db) }
+{
+    match Connection::open_files(alloc, files, Options::new(1)) {
+        Ok(conn) => {
+            let (conn, fault) = migrated(alloc, conn)?;
+            Ok((conn.into_store().close(), fault.is_none()))
+        }
+        Err((_error, left)) => Ok((left.into_files(), false)),
+    }
+}
+
+/// The disks come back; a second migration finds all rows, and so do those whom the first one told that it went well.
+fn rows_behind<D: Crash + Drop>(alloc: Global, mut files: Files<D>) -> Result<String, Fail> {
+    files.log.crash();
+    files.db.crash();
+    match Connection::open_files(alloc, files, Options::new(1)) {
+        Ok(conn) => rows_taken(alloc, conn),
+        Err((error, _left)) => Err(Fail::from(error)),
+    }
+}
+
+/// The rows behind a migration over disks of which one fails at the next of so many calls, and whether it went well.
+fn over_fused(alloc: Global, fused: Fused, calls: u64) -> Result<(String, bool), Fail> {
+    let fresh = files(alloc, Memory::new(alloc), Memory::new(alloc))?;
+    let Files { log, db } = close(first(alloc, fresh)?)?;
+    let (in_log, in_db) = match fused {
+        Fused::Log => (calls, u64::MAX),
+        Fused::Database => (u64::MAX, calls),
+    };
+    let log = Fuse::new(log, in_log);
+    let db = Fuse::new(db, in_db);
+    let (files, went_well) = migrated_on(alloc, Files { log, db })?;
+    Ok((rows_behind(alloc, files)?, went_well))
+}
+
+/// The first number of calls behind which other rows are found; none where all is well until no disk fails.
+fn first_other(alloc: Global, fused: Fused) -> Result<Option<u64>, Fail> {
+    let wanted = own_rows(alloc)?;
+    for calls in 0..10_000u64 {
+        let (rows, went_well) = over_fused(alloc, fused, calls)?;
+        if rows.as_str() != wanted.as_str() {
+            return Ok(Some(calls));
+        }
+        if went_well {
+            return Ok(None);
+        }
+    }
+    Err(Fail::from("the migration does not end with ten thousand calls of a disk"))
+}
+
+#[test]
+fn disks_fail_at_each_call(rt: HostRuntime) -> Result<(), Fail> {
+    assert_eq!(rt;
+        ("log", first_other(rt.alloc(), Fused::Log)?),
+        ("log", None)
+    );
+    assert_eq!(rt;
+        ("database", first_other(rt.alloc(), Fused::Database)?),
+        ("database", None)
+    );
+    Ok(())
+}
+
+/// The rows once a migration with so many steps for each query has ended, and another without a limit; and whether the
+/// first went well.
+fn with_limit(alloc: Global, steps: u64) -> Result<(String, bool), Fail> {
+    let mut conn = first(alloc, Connection::open_in_memory(alloc)?)?;
+    conn.set_step_limit(Some(steps));
+    let (mut conn, fault) = migrated(alloc, conn)?;
+    conn.set_step_limit(None);
+    Ok((rows_taken(alloc, conn)?, fault.is_none()))
+}
+
+#[test]
+fn steps_run_out(rt: HostRuntime) -> Result<(), Fail> {
+    let alloc = rt.alloc();
+    let wanted = own_rows(alloc)?;
+    let mut steps = 1_u64;
+    for _ in 0..40 {
+        let (rows, went_well) = with_limit(alloc, steps)?;
+        assert_eq!(rt; (steps, rows.as_str()), (steps, wanted.as_str()));
+        if went_well {
+            return Ok(());
+        }
+        steps = steps.saturating_mul(2);
+    }
+    Err(Fail::from("the migration does not end"))
+}

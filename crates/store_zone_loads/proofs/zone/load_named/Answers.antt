@@ -1,0 +1,72 @@
+use Rattle.std.proofs.Common.{Some, rules, sym, subst, arith}
+use Rattle.sqlite.specs.Held.{state}
+use Rattle.sqlite.specs.State.{HasCleanDisk}
+use Rattle.store_rows.specs.Rows.{HasContents}
+use Rattle.store_schema.specs.Earlier.{schema_under}
+use Rattle.store_zone_loads.specs.Held.{HoldsHead, HoldsZone}
+use Rattle.store_rows.proofs.Queries.{reads_err, reads_more, reads_then}
+use Rattle.store_zone_loads.proofs.Zones.{head_at, is_zone}
+use Rattle.store_zone_loads.proofs.Heads.{head_named}
+use Rattle.store_zone_loads.proofs.zone.load_named.Goals as goal
+
+pub returns-in_err-head-clause-reads : goal.returns-in_err-head-clause-reads
+returns-in_err-head-clause-reads g c r =
+    reads_err g.S.Store _ _ _ c.args.conn.now c.zone_head.new.conn c.zone_head.result _ (search rules)
+    (λ bad. search rules) (λ failed. search rules)
+    (c.zone_head.ensures.reads r)
+
+pub returns-in_err-load_rest-clause-reads : goal.returns-in_err-load_rest-clause-reads
+returns-in_err-load_rest-clause-reads g c r =
+    reads_then g.S.Store _ _ _ c.args.conn.now c.zone_head.new.conn c.load_rest.new.conn c.zone_head.result
+    c.in_ok-head.field-0 _ c.in_ok-head.was (c.zone_head.ensures.reads r)
+    (reads_err g.S.Store _ _ _ c.zone_head.new.conn c.load_rest.new.conn c.load_rest.result _ (search rules)
+    (λ bad. search rules) (λ failed. search rules)
+    (c.load_rest.ensures.reads r))
+
+pub returns-clause-reads : goal.returns-clause-reads
+returns-clause-reads g c r =
+    reads_then g.S.Store _ _ _ c.args.conn.now c.zone_head.new.conn c.load_rest.new.conn c.zone_head.result
+    c.in_ok-head.field-0 _ c.in_ok-head.was (c.zone_head.ensures.reads r)
+    (reads_more g.S.Store _ _ _ c.zone_head.new.conn c.load_rest.new.conn c.load_rest.result c.in_ok-load_rest.field-0 _
+    c.in_ok-load_rest.was (λ failed. search rules) (c.load_rest.ensures.reads r))
+
+pub returns-in_default-clause-reads : goal.returns-in_default-clause-reads
+returns-in_default-clause-reads g c r =
+    reads_more g.S.Store _ _ _ c.args.conn.now c.zone_head.new.conn c.zone_head.result c.in_ok-head.field-0 _
+    c.in_ok-head.was (λ failed. search rules) (c.zone_head.ensures.reads r)
+
+pub returns-in_err-head-clause-none : goal.returns-in_err-head-clause-none
+returns-in_err-head-clause-none g c clean bad r contents was zone held =
+    c.zone_head.ensures.none clean (search rules) r contents was _ (head_at contents c.args.name.now zone held)
+
+pub returns-in_default-clause-found : goal.returns-in_default-clause-found
+returns-in_default-clause-found g c clean r contents was =
+    (subst (HoldsHead contents c.args.name.now) c.in_default.is (c.in_ok-head.ensures.found clean r contents was)).rows
+
+pub returns-clause-found : goal.returns-clause-found
+returns-clause-found g c clean r contents was =
+    let name = c.args.name.now in
+    let head = c.in-Some.head in
+    let before : HasCleanDisk (state g.S.Store c.zone_head.new.conn) =
+    omega (arith, clean, (c.load_rest.ensures.reads r).crash.clean) in
+    let same = (c.in_ok-head.ensures.reads r).same before in
+    let later = subst (HasContents (schema_under r) contents) (sym same.0.now_is) was in
+    let there = subst (HoldsHead contents name) c.in-Some.is (c.in_ok-head.ensures.found before r contents was) in
+    let named = head_named contents name head there in
+    subst (λ n. HoldsZone contents (record { name = n; zone = c.in_ok-load_rest.field-0 })) named
+    (c.in_ok-load_rest.ensures.found clean r contents later
+    (subst (λ n. HoldsHead contents n (Some head)) (sym named) there))
+
+pub returns-in_err-load_rest-clause-none : goal.returns-in_err-load_rest-clause-none
+returns-in_err-load_rest-clause-none g c clean bad r contents was zone held =
+    let name = c.args.name.now in
+    let head = c.in-Some.head in
+    let before : HasCleanDisk (state g.S.Store c.zone_head.new.conn) =
+    omega (arith, clean, (c.load_rest.ensures.reads r).crash.clean) in
+    let same = (c.in_ok-head.ensures.reads r).same before in
+    let later = subst (HasContents (schema_under r) contents) (sym same.0.now_is) was in
+    let there = subst (HoldsHead contents name) c.in-Some.is (c.in_ok-head.ensures.found before r contents was) in
+    let named = head_named contents name head there in
+    let own = is_zone contents name head there zone held in
+    c.load_rest.ensures.none clean (search rules) r contents later
+    (subst (λ n. HoldsHead contents n (Some head)) (sym named) there) own.0 own.1
