@@ -56,7 +56,7 @@ pub(crate) const HOLDS: &[Step] = &[
     },
 ];
 
-/// A source is assigned to received ids alone, and an applied SYSMOD is not rejected.
+/// A source of 64 characters is assigned to received ids alone, and an applied SYSMOD is not rejected.
 pub(crate) const SOURCES_AND_REJECTS: &[Step] = &[
     FUNCTION_RECEIVED,
     FUNCTION_INSTALLED,
@@ -66,8 +66,16 @@ pub(crate) const SOURCES_AND_REJECTS: &[Step] = &[
             "RECEIVE SYSMODS.",
             "REJECT SELECT(HAA1100,UA00024,UA00099).",
         ],
-        ptfin: &[FIX, &["++ASSIGN SOURCEID(SRC1) TO(UA00024,UA00099)."]],
-        report: "SET GLOBAL\nRC 00\nRECEIVE GLOBAL\nUA00024 PTF      RECEIVED\nUA00024 PTF      ASSIGNED SRC1\n\
+        ptfin: &[
+            FIX,
+            &[
+                "++ASSIGN SOURCEID(",
+                "MONTHLY2024SERVICEFORTHEPAYROLLSYSTEMSOFALLTHEBRANCHESINTHENORTH) TO(",
+                "UA00024,UA00099).",
+            ],
+        ],
+        report: "SET GLOBAL\nRC 00\nRECEIVE GLOBAL\nUA00024 PTF      RECEIVED\n\
+            UA00024 PTF      ASSIGNED MONTHLY2024SERVICEFORTHEPAYROLLSYSTEMSOFALLTHEBRANCHESINTHENORTH\n\
             UA00099 -        UNKNOWN\nRC 04\nREJECT GLOBAL\nHAA1100 FUNCTION REFUSED Rj1\n\
             UA00024 PTF      REJECTED\nUA00099 -        REFUSED Rj2\nRC 08\n",
         code: 8,
